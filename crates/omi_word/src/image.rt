@@ -1,0 +1,72 @@
+ghost use Rattle.std.specs.Prelude.{◌≡◌, ◌≤◌, ◌↔◌, length, replicate, IfOk, IsSome, IfSome};
+ghost use Rattle.omi_word.specs.Memory.{after, address_of, word_at, IsWordOf};
+
+use crate::{Op, OutOfMemory, Res};
+use std::alloc::Global;
+use std::marker::Model;
+
+/// The first byte address of an image.
+const FIRST: u64 = 0x10000;
+
+/// A memory of at most 1,048,576 words, seen as the list of them. Word `k` has the byte address `0x10000 + 8k`.
+#[derive(Drop)]
+pub struct Image {
+    words: Vec<u64>,
+}
+
+impl Model for Image {
+    ghost use Rattle.std.specs.Prelude.{List, ℕ, ◌≤◌, length};
+
+    ghost Value = { List ℕ };
+
+    ghost view = { λ a. a.words.items };
+
+    ghost invariant = { λ a. length a.words.items ≤ 1048576 };
+}
+
+impl Image {
+    /// `n` words that are all 0.
+    pub fn zeroed(alloc: Global, n: usize) -> Result<Image, OutOfMemory>
+        requires { n ≤ 1048576 }
+        ensures { IfOk result (λ image. image ≡ replicate n 0) }
+    {
+        let words = vec![in alloc; 0u64; n]?;
+        Ok(Image { words })
+    }
+
+    /// The number of words.
+    pub fn len(&self) -> usize
+        ensures value { result ≡ length self.now }
+        ensures limit { result ≤ 1048576 }
+    {
+        self.words.len()
+    }
+
+    /// The word at a byte address. None where the address is unaligned, below 0x10000 or past the last word.
+    pub fn get(&self, addr: u64) -> Option<u64>
+        ensures found { IsSome result ↔ IsWordOf self.now addr }
+        ensures value { IfSome result (λ word. word ≡ word_at self.now addr) }
+    {
+        if addr < FIRST || addr % 8 != 0 {
+            return None;
+        }
+        let place = ((addr - FIRST) / 8) as usize;
+        if place < self.words.len() {
+            Some(self.words[place])
+        } else {
+            None
+        }
+    }
+
+    /// Makes the operation on its word, and answers the word before. All other words stay.
+    pub fn apply(&mut self, op: Op) -> Res
+        requires { IsWordOf self.old (address_of op) }
+        ensures old { result.old ≡ word_at self.old (address_of op) }
+        ensures after { self.new ≡ after self.old op }
+    {
+        let place = ((op.address() - FIRST) / 8) as usize;
+        let old = self.words[place];
+        self.words[place] = op.left(old);
+        Res { old }
+    }
+}

@@ -1,0 +1,13 @@
+//! Word memory: a list of 64-bit words, and the operations that a step makes on one of them.
+#![tactic(auto)]
+
+mod image;
+mod natives;
+mod op;
+
+pub use image::Image;
+pub use natives::Natives;
+pub use op::{Op, Res};
+
+/// Memory ran out.
+pub type OutOfMemory = std::alloc::AllocError;
