@@ -1,7 +1,11 @@
 -- Word memory: a memory is a list of words, of which word k has the byte address 0x10000 + 8k. An operation finds one word, and leaves a list in which at most that word has changed.
-use Rattle.std.specs.Prelude.{◌≡◌, ◌==◌, ℕ, ◌+◌, ◌-◌, ◌/◌, ◌%◌, ◌^◌, ◌<◌, ◌≤◌, List, length, slice_index, slice_set, if◌then◌else◌}
+use Rattle.std.specs.Prelude.{◌≡◌, ◌==◌, ℕ, ◌+◌, ◌-◌, ◌*◌, ◌/◌, ◌%◌, ◌^◌, ◌<◌, ◌≤◌, List, length, slice_index, slice_set, if◌then◌else◌}
 use Rattle.omi_word.specs.declared.op.Op.{Op}
 use Rattle.omi_word.specs.declared.op.Op.TheVariants.{Load, Store, Cas, Add, Sub}
+
+-- the byte address of a word, by its place in the list
+abbrev pub address_at : ℕ → ℕ
+address_at place = 65536 + 8 * place
 
 -- the byte address of the word that an operation is on
 abbrev pub address_of : Op → ℕ

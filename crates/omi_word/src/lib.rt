@@ -11,3 +11,6 @@ pub use op::{Op, Res};
 
 /// Memory ran out.
 pub type OutOfMemory = std::alloc::AllocError;
+
+#[cfg(test)]
+mod tests;

@@ -1,0 +1,30 @@
+-- How many bytes a core's fields have, and that the core of an image is spelled as its definition says.
+use Rattle.std.proofs.Common.{◌≡◌, ℕ, ◌+◌, ◌*◌, ◌<◌, List, [], ◌∷◌, ◌++◌, length, refl, ap, ◌∙◌, append_assoc, arith, length-append}
+use Rattle.std.specs.List.{flat_map}
+use Rattle.std.proofs.lemmas.List.{append-nil}
+use Rattle.std.proofs.lemmas.List.Sums.{sum_by-cons}
+use Rattle.omi_corefile.specs.declared.segment.Segment.{Segment}
+use Rattle.omi_corefile.specs.Limits.{total_words, first_address}
+use Rattle.omi_corefile.specs.Spelling.{number, numbers, header, segment_bytes, spelling_of, segments_of, core_bytes}
+
+pub length-numbers : (ns : List ℕ) → length (numbers ns) ≡ 8 * length ns
+length-numbers [] = refl
+length-numbers (n ∷ ns) = omega (arith, length-append (number n) (numbers ns), length-numbers ns)
+
+pub length-segments : (ss : List Segment) → length (flat_map segment_bytes ss) ≡ 16 * length ss + 8 * total_words ss
+length-segments [] = refl
+length-segments (s ∷ ss) = omega (arith, length-append (segment_bytes s) (flat_map segment_bytes ss), length-numbers s.words, length-segments ss, sum_by-cons (λ (t : Segment). length t.words) s ss)
+
+pub length-spelling_of : (order : ℕ) (contexts : List ℕ) (segments : List Segment) → length (spelling_of order contexts segments) ≡ 16 + 8 * length contexts + 16 * length segments + 8 * total_words segments
+length-spelling_of order contexts segments = omega (arith, length-append (numbers contexts) (flat_map segment_bytes segments), length-numbers contexts, length-segments segments)
+
+-- one field after another, put at the end
+pub three_fields : (out a b c : List ℕ) → ((out ++ a) ++ b) ++ c ≡ out ++ ((a ++ b) ++ c)
+three_fields out a b c = simp append_assoc
+
+-- an image that has a word gives one segment
+pub one_segment : (contexts words : List ℕ) → 0 < length words → spelling_of 0 contexts (segments_of words) ≡ core_bytes contexts words
+one_segment contexts [] some = absurd (omega (arith, some))
+one_segment contexts (w ∷ ws) some =
+    let front = header 0 (length contexts) 1 ++ numbers contexts in
+    ap (λ (x : List ℕ). front ++ x) (append-nil (number first_address ++ number (length (w ∷ ws)) ++ numbers (w ∷ ws))) ∙ simp append_assoc

@@ -1,0 +1,50 @@
+-- What a core may hold. Each rule is a test that computes, so that a type can keep it.
+use Rattle.std.specs.Prelude.{ℕ, ◌+◌, ◌*◌, ◌^◌, ◌%◌, Bool, true, ◌&&◌, ◌==◌, nat_lt, nat_le, List, [], ◌∷◌, length}
+use Rattle.std.specs.List.{list_all, sum_by}
+use Rattle.omi_corefile.specs.declared.segment.Segment.{Segment}
+
+-- the first address of target memory
+abbrev pub first_address : ℕ
+first_address = 65536
+
+-- the most words in all segments of a core together
+abbrev pub most_words : ℕ
+most_words = 1048576
+
+-- each number is above the one before, and the first is at least `least`
+abbrev pub rises_from : ℕ → List ℕ → Bool
+rises_from least [] = true
+rises_from least (x ∷ xs) = nat_le least x && rises_from (x + 1) xs
+
+-- each number is a word: below 2^64
+abbrev pub are_words : List ℕ → Bool
+are_words xs = list_all (λ x. nat_lt x (2 ^ 64)) xs
+
+-- a start address that is at least `least`
+abbrev pub is_start : ℕ → ℕ → Bool
+is_start least start = start % 8 == 0 && nat_le least start && nat_lt start (2 ^ 47)
+
+-- the address after the last word of a segment
+abbrev pub end_of : ℕ → ℕ → ℕ
+end_of start count = start + 8 * count
+
+-- each segment has a word, and starts above the end of the one before, so that two neighbours have a gap
+abbrev pub rise_apart_from : ℕ → List Segment → Bool
+rise_apart_from least [] = true
+rise_apart_from least (s ∷ ss) = is_start least s.start && nat_lt 0 (length s.words) && are_words s.words && rise_apart_from (end_of s.start (length s.words) + 1) ss
+
+-- the number of words in all segments together
+abbrev pub total_words : List Segment → ℕ
+total_words segments = sum_by (λ s. length s.words) segments
+
+-- at most 64 native ids, which rise strictly
+abbrev pub are_contexts : List ℕ → Bool
+are_contexts contexts = nat_le (length contexts) 64 && rises_from 0 contexts && are_words contexts
+
+-- at most 64 segments from the first address on, with at most `most_words` words
+abbrev pub are_segments : List Segment → Bool
+are_segments segments = nat_le (length segments) 64 && rise_apart_from first_address segments && nat_le (total_words segments) most_words
+
+-- the order, the contexts and the segments of a core
+abbrev pub within_limits : ℕ → List ℕ → List Segment → Bool
+within_limits order contexts segments = order == 0 && are_contexts contexts && are_segments segments

@@ -1,0 +1,44 @@
+-- The bytes of a core file: its fields, one after the other. Each number has its lowest byte first.
+use Rattle.std.specs.Prelude.{◌≡◌, ℕ, List, [], ◌∷◌, ◌++◌, length, codes}
+use Rattle.std.specs.List.{flat_map}
+use Rattle.std.specs.Int.{w16, w32, w64, to_le_bytes}
+use Rattle.omi_corefile.specs.declared.segment.Segment.{Segment}
+use Rattle.omi_corefile.specs.declared.core_image.CoreImage.{CoreImage}
+use Rattle.omi_corefile.specs.Limits.{first_address}
+
+-- eight bytes
+abbrev pub number : ℕ → List ℕ
+number n = to_le_bytes w64 n
+
+-- eight bytes each
+abbrev pub numbers : List ℕ → List ℕ
+numbers ns = flat_map number ns
+
+-- the name of the format, the version, the order, and how many contexts and segments follow
+abbrev pub header : ℕ → ℕ → ℕ → List ℕ
+header order contexts segments = codes "OMPDCOR1" ++ 1 ∷ order ∷ to_le_bytes w16 contexts ++ to_le_bytes w32 segments
+
+-- the start address, the number of words, and the words
+abbrev pub segment_bytes : Segment → List ℕ
+segment_bytes s = number s.start ++ number (length s.words) ++ numbers s.words
+
+-- the header, the native ids, and the segments
+abbrev pub spelling_of : ℕ → List ℕ → List Segment → List ℕ
+spelling_of order contexts segments = header order (length contexts) (length segments) ++ numbers contexts ++ flat_map segment_bytes segments
+
+-- the one spelling of a core
+abbrev pub spelling : CoreImage → List ℕ
+spelling c = spelling_of c.order c.contexts c.segments
+
+-- these bytes are this core
+abbrev pub Core : List ℕ → CoreImage → Type 0
+Core bytes c = bytes ≡ spelling c
+
+-- the segments of an image: all of its words from the first address on, and none where it has no word
+abbrev pub segments_of : List ℕ → List Segment
+segments_of [] = []
+segments_of (word ∷ words) = record { start = first_address; words = word ∷ words } ∷ []
+
+-- the core of an image that has a word: the header, the native ids, the first address, the number of words, and the words
+abbrev pub core_bytes : List ℕ → List ℕ → List ℕ
+core_bytes contexts words = header 0 (length contexts) 1 ++ numbers contexts ++ number first_address ++ number (length words) ++ numbers words

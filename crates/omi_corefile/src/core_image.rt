@@ -1,0 +1,14 @@
+ghost use Rattle.std.specs.Prelude.{IsTrue};
+ghost use Rattle.omi_corefile.specs.Limits.{within_limits};
+
+use crate::SegList;
+use omi_word::Natives;
+
+/// What a core holds. The order is that of the bytes of a word: 0 for the lowest first. The contexts are the native ids of the threads that had begun.
+#[derive(Drop)]
+pub struct CoreImage {
+    pub order: u8,
+    pub contexts: Natives,
+    pub segments: SegList,
+    ghost limits: { IsTrue (within_limits order contexts segments) },
+}

@@ -1,0 +1,88 @@
+ghost use Rattle.std.specs.Prelude.{◌≡◌, ◌≤◌, ◌<◌, ◌++◌, length, IsTrue, OnOk, IfOk};
+ghost use Rattle.omi_corefile.specs.Limits.{rises_from};
+ghost use Rattle.omi_corefile.specs.Spelling.{Core, spelling, spelling_of, header, numbers, segment_bytes, segments_of, core_bytes};
+ghost use Rattle.std.specs.List.{flat_map};
+
+use crate::{CoreImage, OutOfMemory, SegList, Segment, core_of};
+use omi_word::{Image, Natives};
+use std::alloc::Global;
+
+/// Adds eight bytes for each number.
+fn put_numbers(out: &mut Vec<u8>, list: &Natives) -> Result<(), OutOfMemory>
+    ensures { OnOk result (out.new.items ≡ out.old.items ++ numbers list.now) }
+{
+    for at in 0..list.len() {
+        out.extend_from_slice(&list.get(at).to_le_bytes())?;
+    }
+    Ok(())
+}
+
+/// Adds the bytes of a segment.
+fn put_segment(out: &mut Vec<u8>, segment: &Segment) -> Result<(), OutOfMemory>
+    ensures { OnOk result (out.new.items ≡ out.old.items ++ segment_bytes segment.now) }
+{
+    out.extend_from_slice(&segment.start.to_le_bytes())?;
+    out.extend_from_slice(&(segment.words.len() as u64).to_le_bytes())?;
+    put_numbers(out, &segment.words)?;
+    Ok(())
+}
+
+/// Adds the bytes of each segment.
+fn put_segments(out: &mut Vec<u8>, list: &SegList) -> Result<(), OutOfMemory>
+    ensures { OnOk result (out.new.items ≡ out.old.items ++ flat_map segment_bytes list.now) }
+{
+    for at in 0..list.len() {
+        put_segment(out, list.get(at))?;
+    }
+    Ok(())
+}
+
+/// Adds the header of a core with so many contexts and segments.
+fn put_header(out: &mut Vec<u8>, order: u8, contexts: u16, segments: u32) -> Result<(), OutOfMemory>
+    ensures { OnOk result (out.new.items ≡ out.old.items ++ header order contexts segments) }
+{
+    out.extend_from_slice(b"OMPDCOR1")?;
+    out.push(1)?;
+    out.push(order)?;
+    out.extend_from_slice(&contexts.to_le_bytes())?;
+    out.extend_from_slice(&segments.to_le_bytes())
+}
+
+/// The number of bytes of a core.
+fn len_of(c: &CoreImage) -> usize
+    ensures { result ≡ length (spelling c.now) }
+{
+    let mut len = 16 + 8 * c.contexts.len();
+    for at in 0..c.segments.len() {
+        len += 16 + 8 * c.segments.get(at).words.len();
+    }
+    len
+}
+
+/// The bytes of a core, as the room for them is taken once.
+pub fn encode(alloc: Global, c: &CoreImage) -> Result<Vec<u8>, OutOfMemory>
+    ensures { IfOk result (λ bytes. Core bytes.items c.now) }
+{
+    let mut out = Vec::with_capacity(alloc, len_of(c))?;
+    let contexts = c.contexts.len() as u16;
+    let segments = c.segments.len() as u32;
+    put_header(&mut out, c.order, contexts, segments)?;
+    put_numbers(&mut out, &c.contexts)?;
+    put_segments(&mut out, &c.segments)?;
+    Ok(out)
+}
+
+/// The bytes of the core that holds an image and the native ids of the threads that have begun, in the order 0.
+pub fn core_bytes_of(
+    alloc: Global,
+    image: &Image,
+    contexts: &Natives,
+) -> Result<Vec<u8>, OutOfMemory>
+    requires rising { IsTrue (rises_from 0 contexts.now) }
+    requires count { length contexts.now ≤ 64 }
+    ensures spelled { IfOk result (λ bytes. bytes.items ≡ spelling_of 0 contexts.now (segments_of image.now)) }
+    ensures value { 0 < length image.now → IfOk result (λ bytes. bytes.items ≡ core_bytes contexts.now image.now) }
+{
+    let core = core_of(alloc, image, contexts, 0)?;
+    encode(alloc, &core)
+}

@@ -1,0 +1,74 @@
+ghost use Rattle.std.specs.Prelude.{◌≡◌, ◌≤◌, length, IsTrue, IfOk};
+ghost use Rattle.omi_corefile.specs.Limits.{rises_from, are_words, are_segments};
+ghost use Rattle.omi_corefile.specs.Spelling.{segments_of};
+
+use crate::{CoreImage, OutOfMemory, SegList, Segment};
+use omi_word::{Image, Natives};
+use std::alloc::Global;
+
+/// The byte address of an image's first word.
+const FIRST: u64 = 0x10000;
+
+/// The words of an image, as a list.
+fn words_of(alloc: Global, image: &Image) -> Result<Natives, OutOfMemory>
+    ensures value { IfOk result (λ words. words ≡ image.now) }
+    ensures fit { IfOk result (λ words. IsTrue (are_words words)) }
+    ensures few { length image.now ≤ 1048576 }
+{
+    let mut words = Natives::new(alloc);
+    for at in 0..image.len() {
+        let word = image.get(FIRST + 8 * at as u64).unwrap();
+        words.push(word)?;
+    }
+    Ok(words)
+}
+
+/// The same list again.
+fn same(alloc: Global, list: &Natives) -> Result<Natives, OutOfMemory>
+    ensures value { IfOk result (λ copy. copy ≡ list.now) }
+    ensures fit { IfOk result (λ copy. IsTrue (are_words copy)) }
+{
+    let mut copy = Natives::new(alloc);
+    for at in 0..list.len() {
+        let number = *list.get(at);
+        copy.push(number)?;
+    }
+    Ok(copy)
+}
+
+/// The segments of an image.
+fn segments(alloc: Global, image: &Image) -> Result<SegList, OutOfMemory>
+    ensures value { IfOk result (λ segments. segments ≡ segments_of image.now) }
+    ensures limits { IfOk result (λ segments. IsTrue (are_segments segments)) }
+{
+    let words = words_of(alloc, image)?;
+    let mut segments = SegList::new(alloc);
+    if words.len() > 0 {
+        let start = FIRST;
+        segments.push(Segment { start, words })?;
+    }
+    Ok(segments)
+}
+
+/// The core that holds an image and the native ids of the threads that have begun.
+pub fn core_of(
+    alloc: Global,
+    image: &Image,
+    contexts: &Natives,
+    order: u8,
+) -> Result<CoreImage, OutOfMemory>
+    requires rising { IsTrue (rises_from 0 contexts.now) }
+    requires count { length contexts.now ≤ 64 }
+    requires little { order ≡ 0 }
+    ensures order { IfOk result (λ c. c.order ≡ order) }
+    ensures contexts { IfOk result (λ c. c.contexts ≡ contexts.now) }
+    ensures segments { IfOk result (λ c. c.segments ≡ segments_of image.now) }
+{
+    let contexts = same(alloc, contexts)?;
+    let segments = segments(alloc, image)?;
+    Ok(CoreImage {
+        order,
+        contexts,
+        segments,
+    })
+}

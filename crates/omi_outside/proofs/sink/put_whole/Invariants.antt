@@ -1,0 +1,13 @@
+use Rattle.std.proofs.Common.{length, ◌-◌, ◌≡◌, ◌≤◌, take}
+use Rattle.omi_outside.specs.Outside.{put_on}
+use Rattle.omi_outside.proofs.sink.put_whole.Given as goal
+
+abbrev pub invariant-loop-at : goal.invariant-loop-at
+invariant-loop-at g l = record {
+  so_far : g.K.Sink.told l.out ≡ put_on (g.K.Sink.told l.fn.out) (take l.at l.bytes);
+  later : g.K.Sink.faults l.fn.out ≤ g.K.Sink.faults l.out;
+  within : l.at ≤ length l.bytes;
+}
+
+abbrev pub decreases-loop-at : goal.decreases-loop-at
+decreases-loop-at g l = length l.bytes - l.at

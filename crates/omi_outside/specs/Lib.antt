@@ -1,0 +1,4 @@
+pub mod Memory
+pub mod Outside
+pub mod Status
+pub mod Whole

@@ -1,0 +1,18 @@
+-- What files in memory hold under a name, and what they tell of it: always their bytes, or that there is no such file.
+use Rattle.std.specs.Prelude.{ℕ, List, Option, Some, String, Vec}
+use Rattle.std.specs.Option.{option_map}
+use Rattle.std.specs.declared.alloc.Global.{Global}
+use Rattle.std.specs.BTreeMap.{BTreeMap, get_by_text}
+use Rattle.omi_outside.specs.Outside.{Told}
+
+-- names, each with the bytes under it
+abbrev pub Held : Type 0
+Held = BTreeMap (String Global) (Vec ℕ Global)
+
+-- the bytes under a name, where there is such a file
+abbrev pub content_of : Held → List ℕ → Option (List ℕ)
+content_of held name = option_map (λ bytes. bytes.items) (get_by_text held name)
+
+-- what is told of a name
+abbrev pub told_by : Held → List ℕ → Told
+told_by held name = Some (content_of held name)

@@ -1,0 +1,44 @@
+-- What the outside tells of its bytes, what a call changes of that, and when a call may fail.
+use Rattle.std.specs.Prelude.{◌≡◌, ◌⊎◌, ℕ, ◌+◌, ◌-◌, ◌^◌, ◌≤◌, min, List, ◌++◌, length, take, Option, Some, None}
+
+-- What is told of one name: nothing (None), that there is no such file (Some None), or its bytes.
+abbrev pub Told : Type 0
+Told = Option (Option (List ℕ))
+
+-- The length of a file, 0 where there is none.
+abbrev pub content_len : Option (List ℕ) → ℕ
+content_len None = 0
+content_len (Some bytes) = length bytes
+
+-- What is told of a name once it holds these bytes. An untold name stays untold.
+abbrev pub holding : Told → List ℕ → Told
+holding None bytes = None
+holding (Some _) bytes = Some (Some bytes)
+
+-- What is told of a name once these bytes were added at its end.
+abbrev pub extended : Told → List ℕ → Told
+extended None bytes = None
+extended (Some None) bytes = Some (Some bytes)
+extended (Some (Some old)) bytes = Some (Some (old ++ bytes))
+
+-- The file is as before, or holds a prefix of these bytes.
+abbrev pub IsPartly : Told → Told → List ℕ → Type 0
+IsPartly old new bytes = (new ≡ old) ⊎ ((n : ℕ) × (new ≡ holding old (take n bytes)))
+
+-- What a sink tells once these bytes were put. An untold sink stays untold.
+abbrev pub put_on : Option (List ℕ) → List ℕ → Option (List ℕ)
+put_on None bytes = None
+put_on (Some old) bytes = Some (old ++ bytes)
+
+-- A prefix of these bytes was put. Where nothing was, it is the one of length 0.
+abbrev pub IsPartlyPut : List ℕ → Option (List ℕ) → Option (List ℕ) → Type 0
+IsPartlyPut bytes old new = (n : ℕ) × (new ≡ put_on old (take n bytes))
+
+-- A count of faults rose, or stands at the greatest number of 64 bits.
+abbrev pub Rose : ℕ → ℕ → Type 0
+Rose before now = min (before + 1) (2 ^ 64 - 1) ≤ now
+
+-- A count of faults never falls, and a failure comes only where it rose.
+pub record HasCause (before now : ℕ) (failure : Type 0) : Type 0 where
+  pub later : before ≤ now
+  pub failed : failure → Rose before now

@@ -1,0 +1,100 @@
+ghost use Rattle.std.specs.Prelude.{◌≡◌, ◌≢◌, ◌<◌, ◌≤◌, List, ℕ, length, take, IfOk, OnOk, IsErrOf, Option, Some, None, vec_len};
+ghost use Rattle.omi_outside.specs.Outside.{holding, HasCause, IsPartly};
+ghost use Rattle.omi_outside.specs.declared.files.Refused.{Refused};
+ghost use Rattle.omi_outside.specs.declared.whole.ReadError.TheVariants.{OutOfMemory as NoMemory, Failed as ReadFailed};
+ghost use Rattle.omi_outside.specs.Whole.{read_error_of};
+
+use crate::{Failed, Files, Refused};
+use std::alloc::{AllocError, Global};
+
+/// The greatest number of bytes that are asked for or handed over at a time.
+pub const PIECE: usize = 4096;
+
+/// Why a file wasn't read whole.
+#[derive(Clone, Copy, Debug, PartialEq, Eq)]
+pub enum ReadError {
+    /// There is no file of this name.
+    NoFile,
+    /// A fault, which the files counted.
+    Failed,
+    /// Memory ran out.
+    OutOfMemory,
+}
+
+impl From<AllocError> for ReadError {
+    ghost from_gives = { λ _ e. e ≡ NoMemory };
+
+    fn from(_: AllocError) -> ReadError {
+        ReadError::OutOfMemory
+    }
+}
+
+impl From<Failed> for ReadError {
+    ghost from_gives = { λ _ e. e ≡ ReadFailed };
+
+    fn from(_: Failed) -> ReadError {
+        ReadError::Failed
+    }
+}
+
+impl From<Refused> for ReadError {
+    ghost from_gives = { λ refused e. e ≡ read_error_of refused };
+
+    fn from(refused: Refused) -> ReadError {
+        match refused {
+            Refused::Failed => ReadError::Failed,
+            Refused::OutOfMemory => ReadError::OutOfMemory,
+        }
+    }
+}
+
+/// The first `most` bytes of a file, or all of them where it has fewer. At most 4,096 are asked for
+/// at a time.
+pub fn read_whole<F: Files>(
+    alloc: Global,
+    files: &mut F,
+    name: &str,
+    most: u64,
+) -> Result<Vec<u8>, ReadError>
+    ensures bytes { (content : Option (List ℕ)) → F.told files.old name.now ≡ Some content
+        → IfOk result (λ whole. (bytes : List ℕ) × (content ≡ Some bytes) × (whole.items ≡ take most bytes)) }
+    ensures no_file { (content : Option (List ℕ)) → F.told files.old name.now ≡ Some content
+        → IsErrOf result ReadError.NoFile → content ≡ None }
+    ensures length { IfOk result (λ whole. vec_len whole ≤ most) }
+    ensures same { F.told files.new ≡ F.told files.old }
+    ensures cause { HasCause (F.reads files.old) (F.reads files.new) (IsErrOf result ReadError.Failed) }
+    ensures writes { F.writes files.new ≡ F.writes files.old }
+{
+    let Some(size) = files.size(name)? else {
+        return Err(ReadError::NoFile);
+    };
+    let wanted = size.min(most);
+    let mut whole = Vec::new(alloc);
+    let mut piece = [0u8; PIECE];
+    let mut at: u64 = 0;
+    while at < wanted {
+        let room = (wanted - at).min(PIECE as u64) as usize;
+        let count = files.read_at(name, at, &mut piece[..room])?;
+        whole.extend_from_slice(&piece[..count])?;
+        at += count as u64;
+    }
+    Ok(whole)
+}
+
+/// Creates the name, and appends the bytes in pieces of 4,096, of which the last may be shorter.
+pub fn write_whole<F: Files>(files: &mut F, name: &str, bytes: &[u8]) -> Result<(), Refused>
+    ensures written { OnOk result (F.told files.new name.now ≡ holding (F.told files.old name.now) bytes.now) }
+    ensures partly { IsPartly (F.told files.old name.now) (F.told files.new name.now) bytes.now }
+    ensures others { (other : List ℕ) → other ≢ name.now → F.told files.new other ≡ F.told files.old other }
+    ensures cause { HasCause (F.writes files.old) (F.writes files.new) (IsErrOf result Refused.Failed) }
+    ensures reads { F.reads files.new ≡ F.reads files.old }
+{
+    files.create(name)?;
+    let mut at = 0;
+    while at < bytes.len() {
+        let end = at + (bytes.len() - at).min(PIECE);
+        files.append(name, &bytes[at..end])?;
+        at = end;
+    }
+    Ok(())
+}
