@@ -1,0 +1,36 @@
+-- A team is kept as a column of tasks and a column of threads, of 64 places each.
+use Rattle.std.specs.Prelude.{◌≡◌, ℕ, ◌-◌, ◌≤◌, List, [], ◌∷◌, ◌++◌, length, drop, replicate}
+use Rattle.omi_model.specs.declared.id.Tid.{Tid}
+
+-- the members at two columns
+abbrev pub members : List Tid → List ℕ → List (Tid × ℕ)
+members [] ys = []
+members (x ∷ xs) [] = []
+members (x ∷ xs) (y ∷ ys) = (x, y) ∷ members xs ys
+
+abbrev pub tasks_of : List (Tid × ℕ) → List Tid
+tasks_of [] = []
+tasks_of (m ∷ ms) = m.0 ∷ tasks_of ms
+
+abbrev pub threads_of : List (Tid × ℕ) → List ℕ
+threads_of [] = []
+threads_of (m ∷ ms) = m.1 ∷ threads_of ms
+
+-- the task that fills the places past the length
+abbrev pub no_task : Tid
+no_task = record { 0 = record { creator = 0; slot = 0; generation = 0 } }
+
+-- filled up to 64 places
+abbrev pub padded : {A : Type 0} → A → List A → List A
+padded filler xs = xs ++ replicate (64 - length xs) filler
+
+-- a column of 64 places of which the first `len` are used
+pub record IsColumn {A : Type 0} (filler : A) (len : ℕ) (xs : List A) : Type 0 where
+  pub whole : length xs ≡ 64
+  pub rest : drop len xs ≡ replicate (64 - len) filler
+
+-- two columns of which the first `len` places are used
+pub record AreColumns (len : ℕ) (xs : List Tid) (ys : List ℕ) : Type 0 where
+  pub limit : len ≤ 64
+  pub tasks : IsColumn no_task len xs
+  pub threads : IsColumn 0 len ys

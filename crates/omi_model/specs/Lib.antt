@@ -1,0 +1,12 @@
+pub mod Columns
+pub mod ColumnLemmas
+pub mod TeamBack
+pub mod Numbers
+pub mod Put
+pub mod Items
+pub mod State
+pub mod Visible
+pub mod WellFormed
+pub mod Opening
+pub mod Rules
+pub mod Reached

@@ -1,0 +1,41 @@
+-- Replacing one place of a function, and the slots in which objects live.
+use Rattle.std.specs.Prelude.{◌≡◌, ◌==◌, ℕ, ◌+◌, ◌&&◌, Bool, Option, Some, None, if◌then◌else◌}
+use Rattle.std.specs.Option.{option_map}
+use Rattle.omi_model.specs.declared.id.Id.{Id}
+
+-- the function with one place replaced
+abbrev pub put : {A : Type 0} → (ℕ → A) → ℕ → A → ℕ → A
+put m i x = λ j. if j == i then x else m j
+
+-- a slot for objects: how many generations it has had, and the object that lives in it
+pub record Slot (A : Type 0) : Type 0 where
+  pub generations : ℕ
+  pub live : Option A
+
+-- all slots, by creator and number
+abbrev pub Slots : Type 0 → Type 0
+Slots A = ℕ → ℕ → Slot A
+
+-- a slot that has had no object
+abbrev pub unused : {A : Type 0} → Slot A
+unused = record { generations = 0; live = None }
+
+-- one object, in the first slot of thread 0
+abbrev pub first_alone : {A : Type 0} → A → Slots A
+first_alone x = λ c k. if c == 0 && k == 0 then record { generations = 1; live = Some x } else unused
+
+-- the object of a generation, where it is live
+abbrev pub found : {A : Type 0} → ℕ → Slot A → Option A
+found g slot = if slot.generations == g + 1 then slot.live else None
+
+-- the live object of a name
+abbrev pub named : {A : Type 0} → Slots A → Id → Option A
+named slots n = found n.generation (slots n.creator n.slot)
+
+-- a slot whose object is changed
+abbrev pub changed : {A : Type 0} → (A → A) → Slot A → Slot A
+changed f slot = record { generations = slot.generations; live = option_map f slot.live }
+
+-- the object of a name is changed, and every other slot stays
+abbrev pub on : {A : Type 0} → Slots A → Id → (A → A) → Slots A
+on slots n f = put slots n.creator (put (slots n.creator) n.slot (changed f (slots n.creator n.slot)))

@@ -1,0 +1,14 @@
+//! The abstract machine of OpenMP regions and tasks: named objects, the to-do list of each task, and the events
+//! that change a state. `specs/` has the machine; the types here name its objects and events.
+#![tactic(auto)]
+
+mod event;
+mod events;
+mod id;
+mod team;
+
+pub use event::Event;
+pub use events::EventList;
+pub use id::{Id, Rid, Tid};
+pub use omi_word::OutOfMemory;
+pub use team::Team;

@@ -1,0 +1,9 @@
+-- What an error says, where it is a fault of the text.
+use Rattle.omi_script.specs.declared.fault.ScriptFault.{ScriptFault}
+use Rattle.omi_script.specs.declared.fault.ScriptError.{ScriptError}
+use Rattle.omi_script.specs.declared.fault.ScriptError.TheVariants.{Fault, OutOfMemory}
+
+-- a fact of the fault, where the error is one. Want of memory says nothing
+abbrev pub IfFault : (ScriptFault → Type 0) → ScriptError → Type 0
+IfFault P (Fault fault) = P fault
+IfFault P OutOfMemory = Unit {0}

@@ -1,0 +1,14 @@
+pub mod Faults
+pub mod FaultTexts
+pub mod Names
+pub mod Ranges
+pub mod Reach
+pub mod Program
+pub mod Bodies
+pub mod Lines
+pub mod Numbers
+pub mod Shapes
+pub mod Script
+pub mod Grammar
+pub mod Small
+pub mod Fault

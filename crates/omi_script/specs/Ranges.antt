@@ -1,0 +1,48 @@
+-- The ranges of the numbers in a program.
+use Rattle.std.specs.Prelude.{ℕ, Bool, true, ◌&&◌, nat_le, ◌^◌, ◌-◌, List, length, Option, Some, None}
+use Rattle.std.specs.List.{list_all}
+use Rattle.omi_script.specs.Names.{is_within}
+use Rattle.omi_script.specs.declared.env.Env.{Env}
+use Rattle.omi_script.specs.declared.statement.Sched.{Sched}
+use Rattle.omi_script.specs.declared.statement.Stmt.{Stmt}
+use Rattle.omi_script.specs.declared.statement.Stmt.TheVariants.{Parallel, Task, Taskwait, Taskyield, Barrier, Critical, Call, Only, Repeat, SetNumThreads, SetDynamic, SetMaxActive, SetSchedule, SetDevice, Tool, Work}
+
+-- a team's size, as it is asked for: 1 to 64
+abbrev pub is_size : ℕ → Bool
+is_size n = is_within 1 64 n
+
+-- the kind is one of static, dynamic, guided and auto
+abbrev pub is_schedule : Sched → Bool
+is_schedule s = is_within 1 4 s.kind
+
+-- 1 to 4 sizes
+abbrev pub are_sizes : List ℕ → Bool
+are_sizes ns = is_within 1 4 (length ns) && list_all is_size ns
+
+-- the head of a program: the fields of an `Env` that have a range smaller than their type's
+abbrev pub is_env : Env → Bool
+is_env e = are_sizes e.nthreads && is_schedule e.sched && nat_le 1 e.procs
+
+-- the size after `num`, if one is given
+abbrev pub is_given_size : Option ℕ → Bool
+is_given_size None = true
+is_given_size (Some n) = is_size n
+
+-- each number of a statement is in its range
+abbrev pub is_in_range : Stmt → Bool
+is_in_range (Parallel f num) = is_given_size num
+is_in_range (Task f undeferred is_final) = true
+is_in_range Taskwait = true
+is_in_range Taskyield = true
+is_in_range Barrier = true
+is_in_range (Critical k f) = nat_le k 7
+is_in_range (Call f) = true
+is_in_range (Only m f) = nat_le m 63
+is_in_range (Repeat n f) = nat_le n 1000
+is_in_range (SetNumThreads n) = is_size n
+is_in_range (SetDynamic b) = true
+is_in_range (SetMaxActive n) = nat_le n 255
+is_in_range (SetSchedule s) = is_schedule s
+is_in_range (SetDevice n) = nat_le n 255
+is_in_range (Tool x) = nat_le x (2 ^ 64 - 1)
+is_in_range Work = true

@@ -1,0 +1,49 @@
+ghost use Rattle.std.specs.Prelude.{◌≡◌, ◌≤◌, ◌<◌, ◌^◌, true, IfSome, IfNone, length};
+ghost use Rattle.std.specs.List.{list_all};
+ghost use Rattle.omi_script.specs.Names.{is_digit};
+ghost use Rattle.omi_script.specs.Numbers.{is_decimal, number_of, value_of};
+
+fn is_digit_byte(b: u8) -> bool
+    ensures { result ≡ is_digit b }
+{
+    b'0' <= b && b <= b'9'
+}
+
+fn are_digits(word: &[u8]) -> bool
+    ensures { result ≡ list_all is_digit word.now }
+{
+    word.iter().all(|b| is_digit_byte(*b))
+}
+
+fn is_number(word: &[u8]) -> bool
+    ensures { result ≡ is_decimal word.now }
+{
+    !word.is_empty() && are_digits(word) && (word.len() == 1 || word[0] != b'0')
+}
+
+/// What digits stand for. None where it does not fit.
+fn value(word: &[u8]) -> Option<u64>
+    requires digits { list_all is_digit word.now ≡ true }
+    requires some { 0 < length word.now }
+    ensures some { IfSome result (λ n. n ≡ value_of word.now) }
+    ensures none { IfNone result (2 ^ 64 ≤ value_of word.now) }
+{
+    match str::from_utf8(word) {
+        Ok(text) => text.parse::<u64>().ok(),
+        Err(_) => None,
+    }
+}
+
+/// The decimal number that a word is, without a leading 0 but for 0 itself. None also where it isn't in the range.
+pub fn number(word: &[u8], least: u64, most: u64) -> Option<u64>
+    ensures value { result ≡ number_of least most word.now }
+    ensures in_range { IfSome result (λ n. (least ≤ n) × (n ≤ most)) }
+{
+    if !is_number(word) {
+        return None;
+    }
+    match value(word) {
+        Some(n) if least <= n && n <= most => Some(n),
+        _ => None,
+    }
+}

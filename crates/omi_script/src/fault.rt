@@ -1,0 +1,102 @@
+ghost use Rattle.std.specs.Prelude.{◌≡◌};
+ghost use Rattle.omi_script.specs.Faults.{number_of_fault};
+ghost use Rattle.omi_script.specs.FaultTexts.{text_of_fault};
+ghost use Rattle.omi_script.specs.declared.fault.ScriptError.TheVariants.{OutOfMemory};
+
+use std::alloc::{AllocError, AllocFailed};
+use thiserror::Error;
+
+/// What is wrong with a line of a script.
+#[derive(Clone, Copy, Debug, PartialEq, Eq)]
+pub enum Why {
+    /// A byte that is neither text nor blank.
+    NotText,
+    /// None of the shapes that are allowed at the line's place.
+    UnknownWord,
+    /// A word that isn't a number in its range, where one has to stand.
+    BadNumber,
+    /// No name, or the name of no function that is closed above.
+    UnknownName,
+    /// A head line or a function name for the second time.
+    Repeated,
+    /// A task over a function that reaches a barrier.
+    BarrierInTask,
+    /// An `only` or `critical` of a function that reaches a barrier.
+    BarrierNested,
+    /// Too many functions or statements, too deep, or too long.
+    OverLimit,
+    /// No function `main`.
+    NoMain,
+    /// The text ends inside a function.
+    Unclosed,
+}
+
+impl Why {
+    /// The fault's number, 1 to 10.
+    pub fn number(&self) -> u8
+        ensures { result ≡ number_of_fault self.now }
+    {
+        match self {
+            Why::NotText => 1,
+            Why::UnknownWord => 2,
+            Why::BadNumber => 3,
+            Why::UnknownName => 4,
+            Why::Repeated => 5,
+            Why::BarrierInTask => 6,
+            Why::BarrierNested => 7,
+            Why::OverLimit => 8,
+            Why::NoMain => 9,
+            Why::Unclosed => 10,
+        }
+    }
+
+    /// The fault's name.
+    pub fn text(&self) -> &'static str
+        ensures { result.now ≡ text_of_fault self.now }
+    {
+        match self {
+            Why::NotText => "NotText",
+            Why::UnknownWord => "UnknownWord",
+            Why::BadNumber => "BadNumber",
+            Why::UnknownName => "UnknownName",
+            Why::Repeated => "Repeated",
+            Why::BarrierInTask => "BarrierInTask",
+            Why::BarrierNested => "BarrierNested",
+            Why::OverLimit => "OverLimit",
+            Why::NoMain => "NoMain",
+            Why::Unclosed => "Unclosed",
+        }
+    }
+}
+
+/// The first faulty line of a script, counted from 1, and its least fault. Line 0 names no line.
+#[derive(Clone, Copy, Debug, PartialEq, Eq)]
+pub struct ScriptFault {
+    pub line: u32,
+    pub why: Why,
+}
+
+/// Why there is no program.
+#[derive(Debug, Drop, Error)]
+pub enum ScriptError {
+    #[error("line {}: {}", .0.line, .0.why.text())]
+    Fault(ScriptFault),
+    #[error("out of memory")]
+    OutOfMemory,
+}
+
+impl From<AllocError> for ScriptError {
+    ghost from_gives = { λ _ e. e ≡ OutOfMemory };
+
+    fn from(_e: AllocError) -> ScriptError {
+        ScriptError::OutOfMemory
+    }
+}
+
+impl<T: Drop> From<AllocFailed<T>> for ScriptError {
+    ghost from_gives = { λ _ e. e ≡ OutOfMemory };
+
+    fn from(_e: AllocFailed<T>) -> ScriptError {
+        ScriptError::OutOfMemory
+    }
+}

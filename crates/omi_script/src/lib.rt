@@ -1,0 +1,32 @@
+//! Workload scripts: the text of a program for simulated OpenMP threads, and the program that it says.
+#![tactic(auto)]
+
+mod decimal;
+mod env;
+mod fault;
+mod function;
+mod line;
+mod lines;
+mod name;
+mod numbers;
+mod pieces;
+mod program;
+mod reader;
+mod script;
+mod statement;
+
+pub use decimal::number;
+pub use env::Env;
+pub use fault::{ScriptError, ScriptFault, Why};
+pub use function::{Func, FuncList};
+pub use name::Name;
+pub use numbers::NumList;
+pub use program::Program;
+pub use reader::{one_reading, parse};
+pub use statement::{Sched, Stmt, StmtList};
+
+/// Memory ran out.
+pub type OutOfMemory = std::alloc::AllocError;
+
+#[cfg(test)]
+mod tests;

@@ -1,0 +1,108 @@
+ghost use Rattle.std.specs.Prelude.{◌≡◌, ◌<◌, ◌++◌, ◌∷◌, [], length, slice_get, Some, OnOk, OnErr};
+
+use crate::OutOfMemory;
+use std::alloc::Global;
+use std::marker::Model;
+
+/// A schedule: its kind (1 static, 2 dynamic, 3 guided, 4 auto) and its chunk size.
+#[derive(Clone, Copy, Debug, PartialEq, Eq)]
+pub struct Sched {
+    pub kind: u8,
+    pub chunk: u16,
+}
+
+/// A statement. `f` is the number of a function.
+#[derive(Clone, Copy, Debug, PartialEq, Eq)]
+pub enum Stmt {
+    /// A parallel region over `f`, with the clause `num_threads` where `num` is given.
+    Parallel {
+        f: u8,
+        num: Option<u8>,
+    },
+    /// An explicit task over `f`. `undeferred` is `if 0`, and `is_final` is `final 1`.
+    Task {
+        f: u8,
+        undeferred: bool,
+        is_final: bool,
+    },
+    Taskwait,
+    Taskyield,
+    Barrier,
+    /// A critical region over `f`, under lock `k`.
+    Critical {
+        k: u8,
+        f: u8,
+    },
+    /// A plain call of `f`.
+    Call {
+        f: u8,
+    },
+    /// A call of `f` by the thread with number `m` in its team.
+    Only {
+        m: u8,
+        f: u8,
+    },
+    /// `n` calls of `f`, one after another.
+    Repeat {
+        n: u16,
+        f: u8,
+    },
+    SetNumThreads(u8),
+    SetDynamic(bool),
+    SetMaxActive(u8),
+    SetSchedule(Sched),
+    SetDevice(u8),
+    /// Stores a word for a tool at the task.
+    Tool(u64),
+    Work,
+}
+
+/// The statements of a function.
+#[derive(Drop)]
+pub struct StmtList {
+    items: Vec<Stmt>,
+}
+
+impl Model for StmtList {
+    ghost use Rattle.std.specs.Prelude.{List};
+    ghost use Rattle.omi_script.specs.declared.statement.Stmt.{Stmt};
+
+    ghost Value = { List Stmt };
+
+    ghost view = { λ a. a.items.items };
+}
+
+impl StmtList {
+    /// An empty list, which keeps the allocator.
+    pub fn new(alloc: Global) -> StmtList
+        ensures { result ≡ [] }
+    {
+        StmtList {
+            items: Vec::new(alloc),
+        }
+    }
+
+    /// The number of statements.
+    pub fn len(&self) -> usize
+        ensures { result ≡ length self.now }
+    {
+        self.items.len()
+    }
+
+    /// The statement at a place, counted from 0.
+    pub fn get(&self, at: usize) -> &Stmt
+        requires { at < length self.now }
+        ensures { slice_get self.now at ≡ Some result.now }
+    {
+        &self.items[at]
+    }
+
+    /// Adds a statement at the end.
+    pub fn push(&mut self, e: Stmt) -> Result<(), OutOfMemory>
+        ensures added { OnOk result (self.new ≡ self.old ++ e ∷ []) }
+        ensures refused { OnErr result (self.new ≡ self.old) }
+    {
+        self.items.push(e)?;
+        Ok(())
+    }
+}

@@ -1,0 +1,9 @@
+pub mod Alone
+pub mod Opens
+pub mod Small
+pub mod Moves
+pub mod Accepted
+pub mod Shown
+pub mod Runs
+pub mod Stopping
+pub mod Left

@@ -1,0 +1,70 @@
+use Rattle.std.proofs.Common.{◌≡◌, ◌≢◌, ◌<◌, ◌≤◌, ◌+◌, ℕ, List, [], ◌∷◌, ◌++◌, length, length-append, min, ap, ap₂, subst, sym, ◌∙◌, arith, refl, vec_len}
+use Rattle.omi_word.specs.declared.op.Op.{Op}
+use Rattle.omi_word.specs.Memory.{address_of, word_at, IsWordOf}
+use Rattle.omi_word.specs.Memory.{after as word_after}
+use Rattle.omi_script.specs.Bodies.{body_of}
+use Rattle.omi_script.specs.declared.statement.Stmt.{Stmt}
+use Rattle.omi_model.specs.declared.event.Event.{Event}
+use Rattle.omi_model.specs.State.{State}
+use Rattle.omi_top.specs.declared.entry.Entry.{Entry}
+use Rattle.omi_top.specs.declared.entry.End.{End}
+use Rattle.omi_top.specs.declared.runner.Counter.{Counter}
+use Rattle.omi_top.specs.declared.runner.Counter.TheVariants.{Over}
+use Rattle.omi_top.specs.OpeningWords.{zeros}
+use Rattle.omi_top.specs.Run.{IsRun}
+use Rattle.omi_top.specs.Runner.{step_at, counter_at, next_of, end_of}
+use Rattle.omi_top.proofs.Runs.{Made, entry_of, made_none, made_more, made_inside, made_run, made_turn, not_over}
+use Rattle.omi_top.proofs.runner.run.Goals as goal
+
+pub loop-turn-init : goal.loop-turn-init
+loop-turn-init c =
+    let p = c.args.p.now in
+    let first : c.at_place-counter.result ≡ counter_at (length (body_of p.funcs p.main)) 0 =
+    c.at_place-counter.ensures ∙ ap (λ (n : ℕ). counter_at n 0) (c.len-count.ensures ∙ ap length c.main_body-body.ensures.value) in
+    record {
+      made =
+          rw (first, c.in_ok-entries.ensures.items)
+          (subst (λ (ws : List ℕ). Made p (zeros 6630) (body_of p.funcs p.main) [] ws (counter_at (length (body_of p.funcs p.main)) 0)) (sym c.requires.opening) (made_none p c.requires.small));
+      count = c.in_ok-entries.ensures.len;
+      room = c.in_ok-entries.ensures.exact;
+    }
+
+pub apply-found-requires : goal.apply-found-requires
+apply-found-requires c =
+    let p = c.args.p.now in
+    let body : List Stmt = body_of p.funcs p.main in
+    let made = c.loop-turn.invariant.made in
+    let len : length body ≡ c.len-count.result = sym (c.len-count.ensures ∙ ap length c.main_body-body.ensures.value) in
+    let goes_on : c.loop-turn.counter ≢ Over =
+    not_over p (zeros 6630) body c.loop-turn.entries.items c.loop-turn.image c.loop-turn.counter made (omega (arith, len, c.loop-turn.invariant.count)) in
+    let step : c.step_of-op.result ≡ step_at body c.loop-turn.counter = c.step_of-op.ensures ∙ ap (λ (b : List Stmt). step_at b c.loop-turn.counter) c.main_body-body.ensures.value in
+    subst (λ (made : Op × Event). IsWordOf c.loop-turn.image (address_of made.0)) (sym step)
+    (made_inside p (zeros 6630) body c.loop-turn.entries.items c.loop-turn.image c.loop-turn.counter c.requires.small.statements goes_on made)
+
+pub loop-turn-preserved : goal.loop-turn-preserved
+loop-turn-preserved c =
+    let p = c.args.p.now in
+    let body : List Stmt = body_of p.funcs p.main in
+    let so_far = c.loop-turn.invariant.made in
+    let len : c.len-count.result ≡ length body = c.len-count.ensures ∙ ap length c.main_body-body.ensures.value in
+    let step : c.step_of-op.result ≡ step_at body c.loop-turn.counter = c.step_of-op.ensures ∙ ap (λ (b : List Stmt). step_at b c.loop-turn.counter) c.main_body-body.ensures.value in
+    record {
+      made = made_turn p (zeros 6630) body c.loop-turn.entries.items c.loop-turn.image c.loop-turn.counter c.append.new.entries.items c.apply-found.new.self c.following-counter.result c.step_of-op.result c.apply-found.result.old
+          c.requires.small.statements (omega (arith, len, c.loop-turn.invariant.count)) so_far step c.apply-found.ensures.old c.append.ensures.added c.apply-found.ensures.after
+          (c.following-counter.ensures ∙ ap (λ (n : ℕ). next_of n c.loop-turn.counter) len);
+      count = omega (arith, ap length c.append.ensures.added, length-append c.loop-turn.entries.items (entry_of_turn c.step_of-op.result c.apply-found.result.old ∷ []), c.loop-turn.invariant.count);
+      room = c.append.ensures.room ∙ c.loop-turn.invariant.room;
+    }
+  where
+    entry_of_turn : Op × Event → ℕ → Entry
+    entry_of_turn made old = record { op = made.0; old = old; event = made.1 }
+
+pub returns : goal.returns
+returns c =
+    let p = c.args.p.now in
+    let body : List Stmt = body_of p.funcs p.main in
+    let len : c.len-count.result ≡ length body = c.len-count.ensures ∙ ap length c.main_body-body.ensures.value in
+    let all : length c.loop-turn.entries.items ≡ min (length body + 5) c.args.budget = omega (arith, len, c.loop-turn.invariant.count) in
+    let ended : c.end.result ≡ end_of c.args.budget (length body + 5) = c.end.ensures ∙ ap (λ (n : ℕ). end_of c.args.budget (n + 5)) len in
+    subst (λ (e : End). (s : State) × IsRun p c.args.budget c.loop-turn.entries.items e c.loop-turn.image s) (sym ended)
+    (made_run p c.loop-turn.entries.items c.loop-turn.image c.loop-turn.counter c.args.budget c.requires.small c.loop-turn.invariant.made all)

@@ -1,0 +1,23 @@
+use Rattle.std.proofs.Common.{◌≡◌, ◌∙◌, List, ℕ, take, string_bytes, sym}
+use Rattle.std.proofs.lemmas.Result.{err_from_is_err_and}
+use Rattle.omi_top.proofs.Stopping.{refused_answered, partly_answered, done_answered}
+use Rattle.omi_top.proofs.stop.stop.Goals as goal
+
+pub returns-in_err-p-clause-answer : goal.returns-in_err-p-clause-answer
+returns-in_err-p-clause-answer g c = λ content told.
+    let p = err_from_is_err_and c.from_residual-in_err-p.result c.from_residual-in_err-p.ensures.1 in
+    let read = c.in_ok-bytes.ensures.bytes content told in
+    rw (p.1, p.2) (refused_answered c.args.budget content c.deref.result.now read.0 c.in_err-p.field-0.0 _ read.1 (c.deref.ensures.value ∙ read.2) c.in_err-p.ensures.refused)
+
+pub returns-in_err-write_whole-clause-answer : goal.returns-in_err-write_whole-clause-answer
+returns-in_err-write_whole-clause-answer g c = λ content told.
+    let p = err_from_is_err_and c.from_residual-in_err-write_whole.result c.from_residual-in_err-write_whole.ensures.1 in
+    let read = c.in_ok-bytes.ensures.bytes content told in
+    rw (p.1, p.2) (partly_answered c.args.budget content c.deref.result.now read.0 c.in_ok-image.image.items (string_bytes c.in_ok-image.text) c.in_ok-p.p c.in_err-write_whole.field-0.0 _ _
+    read.1 (c.deref.ensures.value ∙ read.2) c.in_ok-p.ensures.accepted c.in_ok-image.ensures (rw (← c.deref-2.ensures.value) c.in_err-write_whole.ensures.partly))
+
+pub returns-clause-answer : goal.returns-clause-answer
+returns-clause-answer g c = λ content told.
+    let read = c.in_ok-bytes.ensures.bytes content told in
+    done_answered c.args.budget content c.deref.result.now read.0 c.in_ok-image.image.items c.in_ok-image.text c.in_ok-p.p _ _
+    read.1 (c.deref.ensures.value ∙ read.2) c.in_ok-p.ensures.accepted c.in_ok-image.ensures (rw (← c.deref-2.ensures.value) c.in_ok-write_whole.ensures.written)

@@ -1,0 +1,100 @@
+-- What a command is to answer, by what is told of the file that it reads, and what a call leaves.
+use Rattle.std.specs.Prelude.{◌≡◌, ◌⊎◌, ℕ, List, [], ◌∷◌, length, take, Option, Some, None, Result, Ok, Err, String, string_bytes, ⊤}
+use Rattle.std.specs.declared.alloc.Global.{Global}
+use Rattle.omi_outside.specs.Outside.{Told, holding, IsPartly, IsPartlyPut, put_on}
+use Rattle.omi_outside.specs.declared.status.Status.{Status}
+use Rattle.omi_outside.specs.declared.status.Status.TheVariants as status
+use Rattle.omi_corefile.specs.Spelling.{core_bytes}
+use Rattle.omi_script.specs.Grammar.{Grammar, Refused}
+use Rattle.omi_script.specs.declared.fault.ScriptFault.{ScriptFault}
+use Rattle.omi_script.specs.declared.program.Program.{Program}
+use Rattle.omi_model.specs.State.{State}
+use Rattle.omi_top.specs.declared.entry.Entry.{Entry}
+use Rattle.omi_top.specs.declared.entry.End.{End}
+use Rattle.omi_top.specs.declared.refusal.Refusal.{Refusal}
+use Rattle.omi_top.specs.declared.refusal.Refusal.TheVariants as refusal
+use Rattle.omi_top.specs.Codes.{native_id}
+use Rattle.omi_top.specs.Command.{Command, Stop, Faulty}
+use Rattle.omi_top.specs.Lines.{run_text}
+use Rattle.omi_top.specs.Refusal.{line_of, status_of}
+use Rattle.omi_top.specs.Run.{IsRun}
+
+-- a run of the program, whose last words are this core, and whose events and end are this text
+pub record IsStopped (p : Program) (budget : ℕ) (core text : List ℕ) : Type 0 where
+  pub entries : List Entry
+  pub end : End
+  pub words : List ℕ
+  pub state : State
+  pub run : IsRun p budget entries end words state
+  pub core_is : core ≡ core_bytes (native_id 0 ∷ []) words
+  pub text_is : text ≡ run_text entries end
+
+-- the answer to a command: a refusal, or the bytes of a core and a text
+pub data Answer : Type 0 where
+  Refuses : (refusal : Refusal) → Answer
+  Gives : (core text : List ℕ) → Answer
+
+-- an answer of `stop`, by the content of the script's file: none, a text that the grammar refuses, or a program
+abbrev pub IsStopAnswer : ℕ → Option (List ℕ) → Answer → Type 0
+IsStopAnswer budget None (Refuses r) = r ≡ refusal.NoFile
+IsStopAnswer budget None (Gives core text) = ⊥
+IsStopAnswer budget (Some bytes) (Refuses r) = (fault : ScriptFault) × Refused bytes fault × (r ≡ refusal.Script fault)
+IsStopAnswer budget (Some bytes) (Gives core text) = (p : Program) × Grammar bytes p × IsStopped p budget core text
+
+-- an answer of a command, by the content of the file that it reads
+abbrev pub IsAnswer : Command → Option (List ℕ) → Answer → Type 0
+IsAnswer (Stop budget script core) content answer = IsStopAnswer budget content answer
+IsAnswer Faulty content (Refuses r) = r ≡ refusal.Usage
+IsAnswer Faulty content (Gives core text) = ⊥
+
+-- a fault before anything is written, and one while the core is written
+abbrev pub IsEarly : Refusal → Type 0
+IsEarly refusal.ReadFault = ⊤
+IsEarly refusal.OutOfMemory = ⊤
+IsEarly r = ⊥
+
+abbrev pub IsLate : Refusal → Type 0
+IsLate refusal.WriteFault = ⊤
+IsLate refusal.OutOfMemory = ⊤
+IsLate r = ⊥
+
+-- What a command gave, and what it left of the file that it writes: the answer and the core; the answer's refusal; or a fault, before the core or within it.
+abbrev pub IsAnswered : (Answer → Type 0) → Result (String Global) Refusal → Told → Told → Type 0
+IsAnswered P (Ok text) old new = (core : List ℕ) × P (Gives core (string_bytes text)) × (new ≡ holding old core)
+IsAnswered P (Err r) old new =
+    (P (Refuses r) × (new ≡ old))
+    ⊎ ((IsEarly r × (new ≡ old)) ⊎ (IsLate r × (core : List ℕ) × (text : List ℕ) × P (Gives core text) × IsPartly old new core))
+
+-- a line is put whole, or not at all; None is a refusal that prints nothing
+abbrev pub IsSaid : Option (List ℕ) → Option (List ℕ) → Option (List ℕ) → Type 0
+IsSaid None old new = new ≡ old
+IsSaid (Some line) old new = (new ≡ old) ⊎ (new ≡ put_on old line)
+
+-- the file and the output after a fault: an answer's core is partly written and its text partly put
+abbrev pub IsPartlyDone : (Answer → Type 0) → Told → Told → Option (List ℕ) → Option (List ℕ) → Type 0
+IsPartlyDone P old new out after = (core : List ℕ) × (text : List ℕ) × P (Gives core text) × IsPartly old new core × IsPartlyPut text out after
+
+-- a refusal with this status is the answer, nothing is written, and its line is said
+abbrev pub IsRefused : List ℕ → (Answer → Type 0) → Status → Told → Told → Option (List ℕ) → Option (List ℕ) → Type 0
+IsRefused name P status old new out after = (r : Refusal) × (status_of r ≡ status) × P (Refuses r) × (new ≡ old) × IsSaid (line_of name r) out after
+
+-- What a call with this status leaves of the file that it writes and of the output, where the file that it reads has this name.
+abbrev pub IsLeft : List ℕ → (Answer → Type 0) → Status → Told → Told → Option (List ℕ) → Option (List ℕ) → Type 0
+IsLeft name P status.Success old new out after = (core : List ℕ) × (text : List ℕ) × P (Gives core text) × (new ≡ holding old core) × (after ≡ put_on out text)
+IsLeft name P status.Usage old new out after = IsRefused name P status.Usage old new out after
+IsLeft name P status.NoFile old new out after = IsRefused name P status.NoFile old new out after
+IsLeft name P status.Script old new out after = IsRefused name P status.Script old new out after
+IsLeft name P status.ReadFault old new out after = (new ≡ old) × IsSaid (line_of name refusal.ReadFault) out after
+IsLeft name P status.WriteFault old new out after = IsPartlyDone P old new out after
+IsLeft name P status.OutOfMemory old new out after = ((new ≡ old) × (after ≡ out)) ⊎ IsPartlyDone P old new out after
+IsLeft name P other old new out after = ⊥
+
+-- a fault of the outside before the command answers, or want of memory
+abbrev pub IsFaultStatus : Status → Type 0
+IsFaultStatus status.ReadFault = ⊤
+IsFaultStatus status.OutOfMemory = ⊤
+IsFaultStatus other = ⊥
+
+-- a status comes exactly where a fact holds, but for a fault of reading and for want of memory
+abbrev pub ComesWhere : Status → Status → Type 0 → Type 0
+ComesWhere status result fact = (result ≡ status → fact) × (fact → (result ≡ status) ⊎ IsFaultStatus result)

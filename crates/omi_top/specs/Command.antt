@@ -1,0 +1,29 @@
+-- What a command line asks for.
+use Rattle.std.specs.Prelude.{◌≡◌, ℕ, List, [], ◌∷◌, Option, Some, None, if◌then◌else◌, codes, bytes_eq}
+use Rattle.std.specs.Option.{option_map_or}
+use Rattle.omi_script.specs.Numbers.{number_of}
+
+-- a command of the program, or words that are none
+pub data Command : Type 0 where
+  Stop : (steps : ℕ) (script core : List ℕ) → Command
+  Faulty : Command
+
+-- `stop STEPS SCRIPT CORE`, with STEPS 0 to 1,000,000
+abbrev pub command_of : List (List ℕ) → Command
+command_of (verb ∷ steps ∷ script ∷ core ∷ []) =
+    if bytes_eq verb (codes "stop") then option_map_or (λ n. Stop n script core) (number_of 0 1000000 steps) Faulty else Faulty
+command_of words = Faulty
+
+-- the name of the file that a command reads, and of the one that it writes
+abbrev pub read_name : Command → List ℕ
+read_name (Stop steps script core) = script
+read_name Faulty = []
+
+abbrev pub written_name : Command → List ℕ
+written_name (Stop steps script core) = core
+written_name Faulty = []
+
+-- a command writes the file of this name
+abbrev pub Writes : Command → List ℕ → Type 0
+Writes (Stop steps script core) name = name ≡ core
+Writes Faulty name = ⊥

@@ -1,0 +1,13 @@
+pub mod Layout
+pub mod Tables
+pub mod OpeningWords
+pub mod Codes
+pub mod Shows
+pub mod Steps
+pub mod Run
+pub mod Lines
+pub mod Runner
+pub mod Command
+pub mod Asked
+pub mod Refusal
+pub mod Answer

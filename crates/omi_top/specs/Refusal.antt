@@ -1,0 +1,45 @@
+-- Why a command ends without an answer, what it prints then, and what the program ends with.
+use Rattle.std.specs.Prelude.{ℕ, List, [], ◌∷◌, ◌++◌, Option, Some, None, codes}
+use Rattle.std.specs.Fmt.{decimal}
+use Rattle.omi_script.specs.Faults.{number_of_fault}
+use Rattle.omi_script.specs.FaultTexts.{text_of_fault}
+use Rattle.omi_script.specs.declared.fault.ScriptFault.{ScriptFault}
+use Rattle.omi_script.specs.declared.fault.ScriptError.{ScriptError}
+use Rattle.omi_script.specs.declared.fault.ScriptError.TheVariants as error
+use Rattle.omi_outside.specs.declared.files.Refused.{Refused}
+use Rattle.omi_outside.specs.declared.files.Refused.TheVariants as refused
+use Rattle.omi_outside.specs.declared.status.Status.{Status}
+use Rattle.omi_outside.specs.declared.status.Status.TheVariants as status
+use Rattle.omi_top.specs.declared.refusal.Refusal.{Refusal}
+use Rattle.omi_top.specs.declared.refusal.Refusal.TheVariants as refusal
+
+-- what a refused write, and a script's error, are handed on as
+abbrev pub refusal_of_write : Refused → Refusal
+refusal_of_write refused.Failed = refusal.WriteFault
+refusal_of_write refused.OutOfMemory = refusal.OutOfMemory
+
+abbrev pub refusal_of_script : ScriptError → Refusal
+refusal_of_script (error.Fault fault) = refusal.Script fault
+refusal_of_script error.OutOfMemory = refusal.OutOfMemory
+
+-- the status of a refusal
+abbrev pub status_of : Refusal → Status
+status_of refusal.Usage = status.Usage
+status_of refusal.NoFile = status.NoFile
+status_of refusal.ReadFault = status.ReadFault
+status_of refusal.WriteFault = status.WriteFault
+status_of (refusal.Script fault) = status.Script
+status_of refusal.OutOfMemory = status.OutOfMemory
+
+-- line, number and name of a fault of a script
+abbrev pub fault_line : ScriptFault → List ℕ
+fault_line fault = codes "script " ++ (decimal fault.line ++ (codes " " ++ (decimal (number_of_fault fault.why) ++ (codes " " ++ (text_of_fault fault.why ++ 10 ∷ [])))))
+
+-- the line that a refusal prints, where the command reads the file of this name
+abbrev pub line_of : List ℕ → Refusal → Option (List ℕ)
+line_of name refusal.Usage = Some (codes "usage" ++ 10 ∷ [])
+line_of name refusal.NoFile = Some (codes "no file " ++ (name ++ 10 ∷ []))
+line_of name refusal.ReadFault = Some (codes "read fault " ++ (name ++ 10 ∷ []))
+line_of name (refusal.Script fault) = Some (fault_line fault)
+line_of name refusal.WriteFault = None
+line_of name refusal.OutOfMemory = None

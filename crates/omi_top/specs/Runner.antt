@@ -1,0 +1,67 @@
+-- The steps that the runner makes, one after another: the statements of `main`, then the end of the initial task. Each is an operation and the event that it commits.
+use Rattle.std.specs.Prelude.{◌<◌, ◌==◌, ℕ, ◌+◌, ◌-◌, Bool, nat_lt, nat_le, List, slice_index_or, ⊤, if◌then◌else◌}
+use Rattle.omi_word.specs.declared.op.Op.{Op}
+use Rattle.omi_word.specs.declared.op.Op.TheVariants as op
+use Rattle.omi_word.specs.Memory.{address_at}
+use Rattle.omi_script.specs.declared.statement.Stmt.{Stmt}
+use Rattle.omi_script.specs.declared.statement.Stmt.TheVariants as stmt
+use Rattle.omi_model.specs.declared.event.Event.{Event}
+use Rattle.omi_model.specs.declared.event.Event.TheVariants as event
+use Rattle.omi_model.specs.Numbers.{dyn_var, nthreads_var, flag, wait_barrier_implicit_parallel}
+use Rattle.omi_top.specs.declared.entry.End.{End}
+use Rattle.omi_top.specs.declared.entry.End.TheVariants as end
+use Rattle.omi_top.specs.declared.runner.Counter.{Counter}
+use Rattle.omi_top.specs.declared.runner.Counter.TheVariants as counter
+
+-- a load of the native id of thread 0
+abbrev pub own_load : Op
+own_load = op.Load 0x10388
+
+-- a statement
+abbrev pub statement_step : Stmt → Op × Event
+statement_step (stmt.SetNumThreads n) = (op.Store 0x10a40 n, event.Set nthreads_var n)
+statement_step (stmt.SetDynamic b) = (op.Store 0x10a00 (flag b), event.Set dyn_var (flag b))
+statement_step s = (own_load, event.Work)
+
+-- the step at a counter
+abbrev pub step_at : List Stmt → Counter → Op × Event
+step_at body (counter.Statement at) = statement_step (slice_index_or body at stmt.Work)
+step_at body counter.Show = (op.Store 0x10398 wait_barrier_implicit_parallel, event.State wait_barrier_implicit_parallel 0)
+step_at body counter.Arrive = (op.Add 0x103f0 1, event.Arrive)
+step_at body counter.Release = (op.Store 0x103e8 1, event.Release)
+step_at body counter.Pass = (op.Load 0x103e8, event.Pass)
+step_at body counter.Done = (own_load, event.Done)
+step_at body counter.Over = (own_load, event.Done)
+
+-- the counter of a place among so many statements, where the end stands behind the last one
+abbrev pub counter_at : ℕ → ℕ → Counter
+counter_at count at = if nat_lt at count then counter.Statement at else counter.Show
+
+-- the counter behind a counter
+abbrev pub next_of : ℕ → Counter → Counter
+next_of count (counter.Statement at) = counter_at count (at + 1)
+next_of count counter.Show = counter.Arrive
+next_of count counter.Arrive = counter.Release
+next_of count counter.Release = counter.Pass
+next_of count counter.Pass = counter.Done
+next_of count counter.Done = counter.Over
+next_of count counter.Over = counter.Over
+
+-- how many steps are left
+abbrev pub left_at : ℕ → Counter → ℕ
+left_at count (counter.Statement at) = count - at + 5
+left_at count counter.Show = 5
+left_at count counter.Arrive = 4
+left_at count counter.Release = 3
+left_at count counter.Pass = 2
+left_at count counter.Done = 1
+left_at count counter.Over = 0
+
+-- a counter that stands on a statement stands on one of them
+abbrev pub IsAt : ℕ → Counter → Type 0
+IsAt count (counter.Statement at) = at < count
+IsAt count other = ⊤
+
+-- why a run of a budget ends, where the program has so many steps
+abbrev pub end_of : ℕ → ℕ → End
+end_of budget all = if nat_le all budget then end.Done else end.Steps

@@ -1,0 +1,16 @@
+//! All that the program `ompdi` does: a command line, files to read, files to write, and where to print.
+#![tactic(auto)]
+
+mod command;
+mod entry;
+mod lines;
+mod opening;
+mod refusal;
+mod runner;
+mod stop;
+mod tables;
+mod top;
+
+pub use entry::{End, Entry};
+pub use refusal::Refusal;
+pub use top::run_top;

@@ -1,0 +1,80 @@
+ghost use Rattle.std.specs.Prelude.{◌≡◌, IfOk, None};
+ghost use Rattle.std.specs.Option.{option_map};
+ghost use Rattle.omi_top.specs.declared.refusal.Refusal.TheVariants.{OutOfMemory};
+ghost use Rattle.omi_top.specs.Refusal.{refusal_of_write, refusal_of_script, status_of};
+
+use omi_outside::{Refused, Status};
+use omi_script::{ScriptError, ScriptFault};
+use std::alloc::{AllocError, AllocFailed};
+
+/// Why a command ends without an answer.
+#[derive(Clone, Copy)]
+pub enum Refusal {
+    /// The words of the command line are refused.
+    Usage,
+    /// There is no file of the name that is read.
+    NoFile,
+    /// A read of this file failed.
+    ReadFault,
+    /// A write of a file failed.
+    WriteFault,
+    /// The grammar of scripts refuses the script.
+    Script(ScriptFault),
+    /// Memory ran out.
+    OutOfMemory,
+}
+
+impl From<AllocError> for Refusal {
+    ghost from_gives = { λ _ e. e ≡ OutOfMemory };
+
+    fn from(_: AllocError) -> Refusal {
+        Refusal::OutOfMemory
+    }
+}
+
+impl<T: Drop> From<AllocFailed<T>> for Refusal {
+    ghost from_gives = { λ _ e. e ≡ OutOfMemory };
+
+    fn from(_: AllocFailed<T>) -> Refusal {
+        Refusal::OutOfMemory
+    }
+}
+
+// What is handed on from `Refused` is always the refusal of a write.
+impl From<Refused> for Refusal {
+    ghost from_gives = { λ refused e. e ≡ refusal_of_write refused };
+
+    fn from(refused: Refused) -> Refusal {
+        match refused {
+            Refused::Failed => Refusal::WriteFault,
+            Refused::OutOfMemory => Refusal::OutOfMemory,
+        }
+    }
+}
+
+impl From<ScriptError> for Refusal {
+    ghost from_gives = { λ error e. e ≡ refusal_of_script error };
+
+    fn from(error: ScriptError) -> Refusal {
+        match error {
+            ScriptError::Fault(fault) => Refusal::Script(fault),
+            ScriptError::OutOfMemory => Refusal::OutOfMemory,
+        }
+    }
+}
+
+impl Refusal {
+    /// What the program ends with.
+    pub fn status(&self) -> Status
+        ensures { result ≡ status_of self.now }
+    {
+        match self {
+            Refusal::Usage => Status::Usage,
+            Refusal::NoFile => Status::NoFile,
+            Refusal::ReadFault => Status::ReadFault,
+            Refusal::WriteFault => Status::WriteFault,
+            Refusal::Script(_) => Status::Script,
+            Refusal::OutOfMemory => Status::OutOfMemory,
+        }
+    }
+}

@@ -1,0 +1,178 @@
+ghost use Rattle.std.specs.Prelude.{◌≡◌, ◌<◌, ◌≤◌, ◌+◌, ◌++◌, ◌∷◌, [], ℕ, List, IsTrue, IfOk, length, vec_len, vec_capacity};
+ghost use Rattle.std.specs.List.{list_all};
+ghost use Rattle.omi_word.specs.Memory.{address_of, IsWordOf, word_at, after as word_after};
+ghost use Rattle.omi_script.specs.Small.{is_small_statement};
+
+use crate::entry::{End, Entry};
+use crate::tables::{
+    ARRIVED, DYN_VAR, DYNAMIC, NATIVE, NTHREADS, NTHREADS_VAR, RELEASED, STATE,
+    WAIT_BARRIER_IMPLICIT_PARALLEL,
+};
+use omi_model::Event;
+use omi_script::{Program, Stmt, StmtList};
+use omi_word::{Image, Op, OutOfMemory};
+use std::alloc::Global;
+
+/// What thread 0 does next: a statement of `main` by its place, or a part of the program's end.
+#[derive(Clone, Copy)]
+pub enum Counter {
+    Statement(usize),
+    Show,
+    Arrive,
+    Release,
+    Pass,
+    Done,
+    Over,
+}
+
+ghost use Rattle.omi_script.specs.Bodies.{body_of};
+ghost use Rattle.omi_script.specs.Small.{IsSmall};
+ghost use Rattle.omi_model.specs.State.{State};
+ghost use Rattle.omi_top.specs.OpeningWords.{opening_words};
+ghost use Rattle.omi_top.specs.Runner.{statement_step, step_at, counter_at, next_of, end_of, IsAt};
+ghost use Rattle.omi_top.specs.Run.{IsRun};
+
+/// The operation and the event of a statement.
+fn of_statement(statement: &Stmt) -> (Op, Event)
+    requires { IsTrue (is_small_statement statement.now) }
+    ensures { result ≡ statement_step statement.now }
+{
+    match statement {
+        Stmt::SetNumThreads(n) => {
+            let value = u64::from(*n);
+            (
+                Op::Store {
+                    at: NTHREADS,
+                    new: value,
+                },
+                Event::Set {
+                    icv: NTHREADS_VAR,
+                    value,
+                },
+            )
+        }
+        Stmt::SetDynamic(b) => {
+            let value = u64::from(*b);
+            (
+                Op::Store {
+                    at: DYNAMIC,
+                    new: value,
+                },
+                Event::Set {
+                    icv: DYN_VAR,
+                    value,
+                },
+            )
+        }
+        Stmt::Work => (Op::Load { at: NATIVE }, Event::Work),
+        _ => unreachable!(),
+    }
+}
+
+/// The operation and the event at a counter.
+fn step_of(body: &StmtList, counter: Counter) -> (Op, Event)
+    requires small { IsTrue (list_all is_small_statement body.now) }
+    requires at { IsAt (length body.now) counter }
+    ensures { result ≡ step_at body.now counter }
+{
+    match counter {
+        Counter::Statement(at) => of_statement(body.get(at)),
+        Counter::Show => (
+            Op::Store {
+                at: STATE,
+                new: u64::from(WAIT_BARRIER_IMPLICIT_PARALLEL),
+            },
+            Event::State {
+                state: WAIT_BARRIER_IMPLICIT_PARALLEL,
+                wait: 0,
+            },
+        ),
+        Counter::Arrive => (Op::Add { at: ARRIVED, by: 1 }, Event::Arrive),
+        Counter::Release => (
+            Op::Store {
+                at: RELEASED,
+                new: 1,
+            },
+            Event::Release,
+        ),
+        Counter::Pass => (Op::Load { at: RELEASED }, Event::Pass),
+        Counter::Done | Counter::Over => (Op::Load { at: NATIVE }, Event::Done),
+    }
+}
+
+/// The counter of a place among the statements of `main`.
+fn at_place(count: usize, at: usize) -> Counter
+    ensures { result ≡ counter_at count at }
+{
+    if at < count {
+        Counter::Statement(at)
+    } else {
+        Counter::Show
+    }
+}
+
+/// The counter behind a counter.
+fn following(count: usize, counter: Counter) -> Counter
+    requires { IsAt count counter }
+    ensures { result ≡ next_of count counter }
+{
+    match counter {
+        Counter::Statement(at) => at_place(count, at + 1),
+        Counter::Show => Counter::Arrive,
+        Counter::Arrive => Counter::Release,
+        Counter::Release => Counter::Pass,
+        Counter::Pass => Counter::Done,
+        Counter::Done | Counter::Over => Counter::Over,
+    }
+}
+
+/// The statements of `main`.
+fn main_body(p: &Program) -> &StmtList
+    ensures value { result.now ≡ body_of p.now.funcs p.now.main }
+    ensures few { length result.now ≤ 4096 }
+{
+    &p.funcs.get(p.main as usize).body
+}
+
+/// Adds an entry, for which there is room.
+fn append(entries: &mut Vec<Entry>, op: Op, old: u64, event: Event)
+    requires { vec_len entries.old < vec_capacity entries.old }
+    ensures added { entries.new.items ≡ entries.old.items ++ record { op = op; old = old; event = event } ∷ [] }
+    ensures room { vec_capacity entries.new ≡ vec_capacity entries.old }
+{
+    entries.push_reserved(Entry { op, old, event });
+}
+
+/// Why a run ends, where the program has so many steps.
+fn end(budget: u64, all: u64) -> End
+    ensures { result ≡ end_of budget all }
+{
+    if all <= budget { End::Done } else { End::Steps }
+}
+
+/// Runs the program from its opening words for at most `budget` steps, and answers the steps. The room for them is
+/// taken before the first.
+pub fn run(
+    alloc: Global,
+    p: &Program,
+    image: &mut Image,
+    budget: u64,
+) -> Result<(Vec<Entry>, End), OutOfMemory>
+    requires small { IsSmall p.now }
+    requires opening { image.old ≡ opening_words p.now }
+    ensures { IfOk result (λ made. (s : State) × IsRun p.now budget made.0.items made.1 image.new s) }
+{
+    let body = main_body(p);
+    let count = body.len();
+    let all = count as u64 + 5;
+    let most = all.min(budget) as usize;
+    let mut entries = Vec::with_capacity(alloc, most)?;
+    let mut counter = at_place(count, 0);
+    for _turn in 0..most {
+        let (op, event) = step_of(body, counter);
+        let found = image.apply(op);
+        append(&mut entries, op, found.old, event);
+        counter = following(count, counter);
+    }
+    Ok((entries, end(budget, all)))
+}

@@ -1,0 +1,90 @@
+ghost use Rattle.std.specs.Prelude.{◌≡◌, ◌≢◌, ◌⊎◌, ◌≤◌, List, ℕ, Option, Some, IfOk, IfErr, IsErrOf, take, string_bytes};
+ghost use Rattle.omi_outside.specs.Outside.{HasCause};
+ghost use Rattle.omi_script.specs.Grammar.{Grammar, Refused};
+ghost use Rattle.omi_script.specs.Small.{IsSmall};
+ghost use Rattle.omi_script.specs.declared.fault.ScriptFault.{ScriptFault};
+ghost use Rattle.omi_top.specs.Answer.{IsAnswered, IsEarly, IsStopAnswer, IsStopped};
+
+use crate::Refusal;
+use crate::lines::text_of;
+use crate::opening::opening_image;
+use crate::runner::run;
+use omi_corefile::core_bytes_of;
+use omi_outside::{Files, ReadError, read_whole, write_whole};
+use omi_script::{Program, parse};
+use omi_word::{Natives, OutOfMemory};
+use std::alloc::Global;
+
+/// The most bytes that are read of a script: one more than a script may have.
+const SCRIPT_LIMIT: u64 = 65_537;
+
+/// Reads a script's file.
+fn load<F: Files>(alloc: Global, name: &str, files: &mut F) -> Result<Vec<u8>, Refusal>
+    ensures bytes { (content : Option (List ℕ)) → F.told files.old name.now ≡ Some content
+        → IfOk result (λ whole. (bytes : List ℕ) × (content ≡ Some bytes) × (whole.items ≡ take 65537 bytes)) }
+    ensures no_file { (content : Option (List ℕ)) → F.told files.old name.now ≡ Some content
+        → IfErr result (λ r. (r ≡ Refusal.NoFile × content ≡ None) ⊎ IsEarly r) }
+    ensures kind { IfErr result (λ r. (r ≡ Refusal.NoFile) ⊎ IsEarly r) }
+    ensures cause { HasCause (F.reads files.old) (F.reads files.new) (IsErrOf result Refusal.ReadFault) }
+    ensures same { F.told files.new ≡ F.told files.old }
+    ensures writes { F.writes files.new ≡ F.writes files.old }
+{
+    match read_whole(alloc, files, name, SCRIPT_LIMIT) {
+        Ok(bytes) => Ok(bytes),
+        Err(ReadError::NoFile) => Err(Refusal::NoFile),
+        Err(ReadError::Failed) => Err(Refusal::ReadFault),
+        Err(ReadError::OutOfMemory) => Err(Refusal::OutOfMemory),
+    }
+}
+
+/// The program of a script.
+fn program(alloc: Global, bytes: &[u8]) -> Result<Program, Refusal>
+    ensures accepted { IfOk result (λ p. Grammar bytes.now p) }
+    ensures small { IfOk result (λ p. IsSmall p) }
+    ensures refused { IfErr result (λ r. ((fault : ScriptFault) × Refused bytes.now fault × (r ≡ Refusal.Script fault)) ⊎ (r ≡ Refusal.OutOfMemory)) }
+{
+    match parse(alloc, bytes) {
+        Ok(p) => Ok(p),
+        Err(error) => Err(error.into()),
+    }
+}
+
+/// Runs a program, and answers the bytes of its core and what it prints.
+fn stopped(alloc: Global, p: &Program, budget: u64) -> Result<(Vec<u8>, String), OutOfMemory>
+    requires { IsSmall p.now }
+    ensures { IfOk result (λ made. IsStopped p.now budget made.0.items (string_bytes made.1)) }
+{
+    let mut image = opening_image(alloc, p)?;
+    let (entries, end) = run(alloc, p, &mut image, budget)?;
+    let mut contexts = Natives::new(alloc);
+    contexts.push(1000)?;
+    let core = core_bytes_of(alloc, &image, &contexts)?;
+    let text = text_of(alloc, &entries, end)?;
+    Ok((core, text))
+}
+
+/// Runs the program of a script for at most `budget` steps, writes its core, and answers what it prints.
+pub fn stop<F: Files, W: Files>(
+    alloc: Global,
+    budget: u64,
+    script: &str,
+    core: &str,
+    files: &mut F,
+    dest: &mut W,
+) -> Result<String, Refusal>
+    ensures answer { (content : Option (List ℕ)) → F.told files.old script.now ≡ Some content
+        → IsAnswered (IsStopAnswer budget content) result (W.told dest.old core.now) (W.told dest.new core.now) }
+    ensures usage { result ≢ Err Refusal.Usage }
+    ensures read { HasCause (F.reads files.old) (F.reads files.new) (IsErrOf result Refusal.ReadFault) }
+    ensures write { HasCause (W.writes dest.old) (W.writes dest.new) (IsErrOf result Refusal.WriteFault) }
+    ensures files_told { F.told files.new ≡ F.told files.old }
+    ensures files_writes { F.writes files.new ≡ F.writes files.old }
+    ensures dest_reads { W.reads dest.new ≡ W.reads dest.old }
+    ensures others { (other : List ℕ) → other ≢ core.now → W.told dest.new other ≡ W.told dest.old other }
+{
+    let bytes = load(alloc, script, files)?;
+    let p = program(alloc, &bytes)?;
+    let (image, text) = stopped(alloc, &p, budget)?;
+    write_whole(dest, core, &image)?;
+    Ok(text)
+}
