@@ -1,12 +1,12 @@
 -- The state in which a program starts: thread 0 runs the initial task, member 0 of the initial region, and the other threads have not begun.
-use Rattle.std.specs.Prelude.{◌==◌, ℕ, ◌+◌, ◌-◌, ◌*◌, Bool, true, false, List, [], ◌∷◌, Option, Some, None, if◌then◌else◌}
+use Rattle.std.specs.Prelude.{◌==◌, ℕ, ◌+◌, ◌-◌, ◌*◌, true, false, [], ◌∷◌, Some, None, if◌then◌else◌}
 use Rattle.omi_script.specs.Bodies.{body_of}
 use Rattle.omi_script.specs.declared.env.Env.{Env}
 use Rattle.omi_script.specs.declared.program.Program.{Program}
 use Rattle.omi_model.specs.declared.id.Tid.{Tid}
 use Rattle.omi_model.specs.declared.id.Rid.{Rid}
 use Rattle.omi_model.specs.Numbers.{work_serial, idle}
-use Rattle.omi_model.specs.Items.{Place, of_main, of_worker}
+use Rattle.omi_model.specs.Items.{of_main, of_worker}
 use Rattle.omi_model.specs.Put.{first_alone}
 use Rattle.omi_model.specs.State.{State, Thread, Region, Task, Variables, Own, Begun}
 

@@ -1,5 +1,5 @@
 -- The event rules: when an event of a thread is legal besides its to-do list, and what it changes. All that a rule doesn't name stays.
-use Rattle.std.specs.Prelude.{◌≡◌, ◌==◌, ◌≤◌, ℕ, ◌+◌, true, false, not, List, [], ◌∷◌, slice_index, slice_set, Option, Some, None, IsSome, IfSome, All, ⊤, if◌then◌else◌}
+use Rattle.std.specs.Prelude.{◌≡◌, ◌==◌, ◌≤◌, ℕ, ◌+◌, true, false, not, List, [], ◌∷◌, slice_index, slice_set, Some, IsSome, All, ⊤, if◌then◌else◌}
 use Rattle.std.specs.Option.{option_map_or}
 use Rattle.omi_model.specs.declared.event.Event.{Event}
 use Rattle.omi_model.specs.declared.event.Event.TheVariants as event
@@ -8,7 +8,7 @@ use Rattle.omi_model.specs.declared.id.Rid.{Rid}
 use Rattle.omi_model.specs.Numbers.{dyn_var, nthreads_var}
 use Rattle.omi_model.specs.Put.{put, on}
 use Rattle.omi_model.specs.Items.{Item, take}
-use Rattle.omi_model.specs.State.{State, Thread, Region, Task, Variables, Finished, region_of, task_of, current_task}
+use Rattle.omi_model.specs.State.{State, Thread, Region, Task, Variables, Finished, region_of, current_task}
 
 -- changes of one thread, of one task, of one region
 abbrev pub on_thread : State → ℕ → (Thread → Thread) → State

@@ -1,5 +1,5 @@
 -- The state of an OpenMP program: threads, live regions and tasks by name, locks and global variables. It has no address, offset or counter of the runtime.
-use Rattle.std.specs.Prelude.{ℕ, Bool, List, Option, Some, None}
+use Rattle.std.specs.Prelude.{ℕ, Bool, List, Option}
 use Rattle.std.specs.Option.{option_and_then}
 use Rattle.omi_script.specs.declared.env.Env.{Env}
 use Rattle.omi_script.specs.declared.statement.Sched.{Sched}

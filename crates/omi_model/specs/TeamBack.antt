@@ -1,5 +1,5 @@
 -- What is seen of a team gives its fields back.
-use Rattle.std.proofs.Common.{◌≡◌, ℕ, take, length}
+use Rattle.std.proofs.Common.{◌≡◌, take, length}
 use Rattle.omi_model.specs.Columns.{members, AreColumns, no_task, padded, tasks_of, threads_of}
 use Rattle.omi_model.specs.ColumnLemmas.{length-view, tasks_column, threads_column}
 use Rattle.omi_model.specs.declared.team.Team.TheInside.{Inside}

@@ -1,5 +1,5 @@
 -- What a tool may be shown of a state.
-use Rattle.std.specs.Prelude.{◌≡◌, Bool, true, false, Some, IsSome, All, MatchBool, ⊤}
+use Rattle.std.specs.Prelude.{◌≡◌, Some, IsSome, All, MatchBool, ⊤}
 use Rattle.omi_model.specs.declared.id.Tid.{Tid}
 use Rattle.omi_model.specs.declared.id.Rid.{Rid}
 use Rattle.omi_model.specs.State.{State, Region, Task, Phase, Deferred, NotBegun, Begun, Finished, region_of, task_of}

@@ -1,10 +1,10 @@
 -- A well-formed state: what is visible names only what is visible, and its numbers are in range.
-use Rattle.std.specs.Prelude.{◌≡◌, ℕ, zero, suc, ◌<◌, ◌≤◌, true, Option, Some, None, List, length, All, Contains}
+use Rattle.std.specs.Prelude.{◌≡◌, ℕ, zero, suc, ◌<◌, ◌≤◌, true, Option, Some, None, length, All, Contains}
 use Rattle.std.specs.Option.{option_and_then}
 use Rattle.omi_model.specs.declared.id.Tid.{Tid}
 use Rattle.omi_model.specs.declared.id.Rid.{Rid}
 use Rattle.omi_model.specs.Numbers.{states}
-use Rattle.omi_model.specs.State.{State, Region, Task, Variables, region_of, task_of, scheduling_of, enclosing_of}
+use Rattle.omi_model.specs.State.{State, Region, Task, Variables, task_of, scheduling_of, enclosing_of}
 use Rattle.omi_model.specs.Visible.{IsVisibleRegion, IsVisibleTask}
 
 -- where so many steps of a chain lead

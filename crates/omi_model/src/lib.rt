@@ -5,10 +5,17 @@
 mod event;
 mod events;
 mod id;
+mod rows;
 mod team;
+mod view;
 
 pub use event::Event;
 pub use events::EventList;
 pub use id::{Id, Rid, Tid};
 pub use omi_word::OutOfMemory;
+pub use rows::{MemberRows, RegionRows, TaskRows, ThreadRows};
 pub use team::Team;
+pub use view::{HeadRow, MemberRow, RegionRow, TaskRow, ThreadPart, ThreadRow, View};
+
+#[cfg(test)]
+mod tests;

@@ -1,5 +1,5 @@
 -- Which texts are in the grammar and which are refused, from the script that they are.
-use Rattle.std.proofs.Common.{◌≡◌, ℕ, true, List, [], ◌∷◌, Some, None, refl, sym, ap, ◌∙◌}
+use Rattle.std.proofs.Common.{◌⊎◌, inl, inr, Option, ◌≡◌, ℕ, true, List, [], ◌∷◌, Some, None, refl, sym, ap, ◌∙◌}
 use Rattle.std.specs.List.{list_all}
 use Rattle.omi_script.specs.declared.script.Script.{Script}
 use Rattle.omi_script.specs.declared.env.Env.{Env}
@@ -9,7 +9,7 @@ use Rattle.omi_script.specs.Script.{script_of}
 use Rattle.omi_script.specs.Grammar.{Grammar, Refused, IsProgramOf, AreEqual, env_of, main_name}
 use Rattle.omi_script.specs.Bodies.{body_of}
 use Rattle.omi_script.specs.Small.{IsSmall, is_sound, is_small_statement}
-use Rattle.omi_script.proofs.SoundLemmas.{sound_statements}
+use Rattle.omi_script.proofs.SoundLemmas.{sound_statements, sound_program, sound_of}
 
 -- the program of the script that a text is
 pub Grammar-from_script : (bytes : List ℕ) (s : Script) (p : Program) → script_of bytes ≡ Some s → IsProgramOf s p → Grammar bytes p
@@ -46,3 +46,16 @@ AreEqual-from_Grammar bytes p q g h =
       funcs = g.program.funcs ∙ ap (λ (s : Script). record { name = main_name; body = s.body } ∷ []) e ∙ sym h.program.funcs;
       main = g.program.main ∙ sym h.program.main;
     }
+
+sound_program_of : (s : Script) → is_sound s ≡ true → (p : Program) × IsProgramOf s p
+sound_program_of s h = (record { threads = 1; env = env_of s; funcs = record { name = main_name; body = s.body } ∷ []; main = 0; accepted = sound_program s h }, record { threads = refl; env = refl; funcs = refl; main = refl })
+
+-- a text is a program or is refused
+pub program_or_refused : (bytes : List ℕ) → ((p : Program) × Grammar bytes p) ⊎ Refused bytes (record { line = 0; why = UnknownWord })
+program_or_refused bytes = by_script (script_of bytes) refl
+  where
+    by_script : (o : Option Script) → script_of bytes ≡ o → ((p : Program) × Grammar bytes p) ⊎ Refused bytes (record { line = 0; why = UnknownWord })
+    by_script None e = inr (Refused-from_none bytes e)
+    by_script (Some s) e =
+        let made = sound_program_of s (sound_of bytes s e) in
+        inl (made.0, Grammar-from_script bytes s made.0 e made.1)

@@ -3,3 +3,6 @@ pub mod NumberLemmas
 pub mod LineLemmas
 pub mod SoundLemmas
 pub mod GrammarLemmas
+pub mod Conjunctions
+pub mod RuleLemmas
+mod Examples

@@ -20,6 +20,7 @@ use Rattle.omi_script.specs.Small.{is_small_statement, is_small_allowed, is_soun
 use Rattle.omi_script.specs.Program.{is_program, are_functions}
 use Rattle.omi_script.specs.declared.function.Func.{Func}
 use Rattle.omi_script.specs.Grammar.{env_of, main_name}
+use Rattle.omi_script.proofs.Conjunctions.{and_left, and_right, and_true}
 use Rattle.omi_script.proofs.PieceLemmas.{items_step}
 
 -- the value of an option passes a test, if it is there
@@ -110,14 +111,6 @@ all_sound : (wss : List (List (List ℕ))) → list_all is_sound_line (filter_ma
 all_sound [] = refl
 all_sound (ws ∷ wss) = onto_sound (said_by ws) (filter_map said_by wss) (said_sound ws) (all_sound wss)
 
-and_left : (a b : Bool) → (a && b) ≡ true → a ≡ true
-and_left true b h = refl
-and_left false b h = h
-
-and_right : (a b : Bool) → (a && b) ≡ true → b ≡ true
-and_right true b h = h
-and_right false b h = absurd (cc)
-
 statement_onto : (s : Stmt) (o : Option (List Stmt)) → is_small_allowed s ≡ true → passes (list_all is_small_allowed) o ≡ true → passes (list_all is_small_allowed) (option_map (λ body. s ∷ body) o) ≡ true
 statement_onto s None h k = refl
 statement_onto s (Some body) h k = ap (λ b. b && list_all is_small_allowed body) h ∙ k
@@ -190,9 +183,6 @@ readable_sound false o h = refl
 -- a text that is a script is one that meets the rules of a program
 pub script_sound : (bytes : List ℕ) → passes is_sound (script_of bytes) ≡ true
 script_sound bytes = readable_sound (is_readable bytes) _ (limit_sound (script_of_lines (said_in bytes)) (lines_sound (said_in bytes) (all_sound (map words (lines bytes)))))
-
-and_true : (a b : Bool) → a ≡ true → b ≡ true → (a && b) ≡ true
-and_true a b h k = ap (λ x. x && b) h ∙ k
 
 -- a statement of the small grammar may stand in the first function
 allowed_from_small : (t : Stmt) → is_small_allowed t ≡ true → is_allowed [] t ≡ true

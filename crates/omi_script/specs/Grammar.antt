@@ -1,6 +1,5 @@
 -- Which texts are which programs, and which are refused.
 use Rattle.std.specs.Prelude.{◌≡◌, ℕ, List, [], ◌∷◌, ◌++◌, replicate, Some, true, false, codes}
-use Rattle.omi_script.specs.Bodies.{body_of}
 use Rattle.omi_script.specs.Script.{script_of}
 use Rattle.omi_script.specs.declared.env.Env.{Env}
 use Rattle.omi_script.specs.declared.name.Name.{Name}

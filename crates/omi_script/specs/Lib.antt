@@ -12,3 +12,5 @@ pub mod Script
 pub mod Grammar
 pub mod Small
 pub mod Fault
+pub mod Rules
+pub mod Separators

@@ -6,31 +6,31 @@ use Rattle.omi_script.specs.declared.statement.Stmt.{Stmt}
 use Rattle.omi_script.specs.declared.statement.Stmt.TheVariants.{Parallel, Task, Barrier, Critical, Call, Only, Repeat}
 
 -- what is known of a function: whether it reaches a barrier, and how deep its parallel regions are nested
-pub record Reached : Type 0 where
+pub record Reach : Type 0 where
   pub barrier : Bool
   pub depth : ℕ
 
 -- the function with a number, of those that are closed
-abbrev pub reached_at : List Reached → ℕ → Reached
-reached_at above f = slice_index_or above f (record { barrier = false; depth = 0 })
+abbrev pub reach_at : List Reach → ℕ → Reach
+reach_at above f = slice_index_or above f (record { barrier = false; depth = 0 })
 
 -- a statement reaches a barrier: it is one, or it has the same thread run a function that does
-abbrev pub reaches_barrier : List Reached → Stmt → Bool
+abbrev pub reaches_barrier : List Reach → Stmt → Bool
 reaches_barrier above Barrier = true
-reaches_barrier above (Call f) = (reached_at above f).barrier
-reaches_barrier above (Only m f) = (reached_at above f).barrier
-reaches_barrier above (Critical k f) = (reached_at above f).barrier
-reaches_barrier above (Repeat n f) = (reached_at above f).barrier
+reaches_barrier above (Call f) = (reach_at above f).barrier
+reaches_barrier above (Only m f) = (reach_at above f).barrier
+reaches_barrier above (Critical k f) = (reach_at above f).barrier
+reaches_barrier above (Repeat n f) = (reach_at above f).barrier
 reaches_barrier above _ = false
 
 -- how deep a statement nests parallel regions
-abbrev pub depth_of : List Reached → Stmt → ℕ
-depth_of above (Parallel f num) = (reached_at above f).depth + 1
-depth_of above (Task f undeferred is_final) = (reached_at above f).depth
-depth_of above (Call f) = (reached_at above f).depth
-depth_of above (Only m f) = (reached_at above f).depth
-depth_of above (Critical k f) = (reached_at above f).depth
-depth_of above (Repeat n f) = (reached_at above f).depth
+abbrev pub depth_of : List Reach → Stmt → ℕ
+depth_of above (Parallel f num) = (reach_at above f).depth + 1
+depth_of above (Task f undeferred is_final) = (reach_at above f).depth
+depth_of above (Call f) = (reach_at above f).depth
+depth_of above (Only m f) = (reach_at above f).depth
+depth_of above (Critical k f) = (reach_at above f).depth
+depth_of above (Repeat n f) = (reach_at above f).depth
 depth_of above _ = 0
 
 -- the greatest of the numbers
@@ -39,20 +39,20 @@ greatest [] = 0
 greatest (n ∷ ns) = max n (greatest ns)
 
 -- what a function reaches by its statements
-abbrev pub reached_by : List Reached → List Stmt → Reached
-reached_by above body = record { barrier = list_any (reaches_barrier above) body; depth = greatest (map (depth_of above) body) }
+abbrev pub reach_of : List Reach → List Stmt → Reach
+reach_of above body = record { barrier = list_any (reaches_barrier above) body; depth = greatest (map (depth_of above) body) }
 
 -- the function is closed above
-abbrev pub is_above : List Reached → ℕ → Bool
+abbrev pub is_above : List Reach → ℕ → Bool
 is_above above f = nat_lt f (length above)
 
 -- the function is closed above, and reaches no barrier
-abbrev pub is_above_without_barrier : List Reached → ℕ → Bool
-is_above_without_barrier above f = is_above above f && not (reached_at above f).barrier
+abbrev pub is_above_without_barrier : List Reach → ℕ → Bool
+is_above_without_barrier above f = is_above above f && not (reach_at above f).barrier
 
 -- a statement names only what it may: functions above, for `task`, `only` and `critical` without a barrier, for `parallel` of a depth below 15
-abbrev pub names_rightly : List Reached → Stmt → Bool
-names_rightly above (Parallel f num) = is_above above f && nat_lt (reached_at above f).depth 15
+abbrev pub names_rightly : List Reach → Stmt → Bool
+names_rightly above (Parallel f num) = is_above above f && nat_lt (reach_at above f).depth 15
 names_rightly above (Task f undeferred is_final) = is_above_without_barrier above f
 names_rightly above (Critical k f) = is_above_without_barrier above f
 names_rightly above (Only m f) = is_above_without_barrier above f
@@ -61,10 +61,10 @@ names_rightly above (Repeat n f) = is_above above f
 names_rightly above _ = true
 
 -- a statement may stand in a function
-abbrev pub is_allowed : List Reached → Stmt → Bool
+abbrev pub is_allowed : List Reach → Stmt → Bool
 is_allowed above s = is_in_range s && names_rightly above s
 
 -- each statement of each function may stand where it does
-abbrev pub are_allowed : List Reached → List (List Stmt) → Bool
+abbrev pub are_allowed : List Reach → List (List Stmt) → Bool
 are_allowed above [] = true
-are_allowed above (body ∷ bodies) = list_all (is_allowed above) body && are_allowed (above ++ reached_by above body ∷ []) bodies
+are_allowed above (body ∷ bodies) = list_all (is_allowed above) body && are_allowed (above ++ reach_of above body ∷ []) bodies

@@ -22,7 +22,7 @@ pub use function::{Func, FuncList};
 pub use name::Name;
 pub use numbers::NumList;
 pub use program::Program;
-pub use reader::{one_reading, parse};
+pub use reader::{one_reading, parse, program_rules};
 pub use statement::{Sched, Stmt, StmtList};
 
 /// Memory ran out.

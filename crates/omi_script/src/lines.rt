@@ -2,7 +2,7 @@ ghost use Rattle.std.specs.Prelude.{◌≡◌, ◌∷◌, [], IfOk, MatchOption}
 
 use crate::OutOfMemory;
 use crate::line::{Line, said};
-use crate::pieces::cut_line;
+use crate::pieces::{Separator, cut};
 use std::alloc::Global;
 use std::marker::Model;
 
@@ -38,7 +38,7 @@ impl<'a> Lines<'a> {
         ensures { IfOk result (λ next. MatchOption next (self.old ≡ []) (λ line. self.old ≡ line ∷ self.new)) }
     {
         'bytes: while !self.rest.is_empty() {
-            let (line, rest) = cut_line(self.rest);
+            let (line, rest) = cut(Separator::LineFeed, self.rest);
             self.rest = rest;
             if let Some(line) = said(alloc, line)? {
                 return Ok(Some(line));

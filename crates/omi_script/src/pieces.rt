@@ -1,20 +1,38 @@
 ghost use Rattle.std.specs.Prelude.{◌≡◌, ◌+◌, ◌<◌, ◌≤◌, [], ◌∷◌, length, take, drop, IfSome, IfNone, option_copied};
 ghost use Rattle.std.specs.List.{before_first, after_first, list_all, position, position_or_len, slice_split};
-ghost use Rattle.omi_script.specs.Lines.{is_line_feed, is_blank, is_text, words};
+ghost use Rattle.omi_script.specs.Lines.{is_blank, is_text, words};
 ghost use Rattle.omi_script.specs.Numbers.{is_comma, items_left};
+ghost use Rattle.omi_script.specs.Separators.{separates};
 
 use std::marker::Model;
 
-fn is_blank_byte(b: u8) -> bool
-    ensures { result ≡ is_blank b }
-{
-    b == b' ' || b == b'\t' || b == b'\r'
+/// What stands between the pieces of a text.
+#[derive(Clone, Copy, Debug)]
+pub enum Separator {
+    /// A line feed stands between lines.
+    LineFeed,
+    /// A space, a tab or a carriage return stands between words.
+    Blank,
+    /// A comma stands between the numbers of a list.
+    Comma,
+}
+
+impl Separator {
+    fn is(self, b: u8) -> bool
+        ensures { result ≡ separates self b }
+    {
+        match self {
+            Separator::LineFeed => b == b'\n',
+            Separator::Blank => b == b' ' || b == b'\t' || b == b'\r',
+            Separator::Comma => b == b',',
+        }
+    }
 }
 
 fn is_text_byte(b: u8) -> bool
     ensures { result ≡ is_text b }
 {
-    b == b'\n' || is_blank_byte(b) || (b'!' <= b && b <= b'~')
+    Separator::LineFeed.is(b) || Separator::Blank.is(b) || (b'!' <= b && b <= b'~')
 }
 
 /// Whether a script may have these bytes.
@@ -24,49 +42,20 @@ pub fn are_text(bytes: &[u8]) -> bool
     bytes.iter().all(|b| is_text_byte(*b))
 }
 
-fn first_line_feed(bytes: &[u8]) -> Option<usize>
-    ensures { result ≡ position is_line_feed bytes.now }
+/// The place of the first separator.
+fn first(separator: Separator, bytes: &[u8]) -> Option<usize>
+    ensures { result ≡ position (separates separator) bytes.now }
 {
-    bytes.iter().position(|b| *b == b'\n')
+    bytes.iter().position(|b| separator.is(*b))
 }
 
-/// The place of the first line feed, or the length.
+/// The place of the first separator, or the length.
 #[tactic(auto, using(crate::proofs::PieceLemmas::first_place))]
-fn line_end(bytes: &[u8]) -> usize
-    ensures place { result ≡ position_or_len is_line_feed bytes.now }
+fn end(separator: Separator, bytes: &[u8]) -> usize
+    ensures place { result ≡ position_or_len (separates separator) bytes.now }
     ensures within { result ≤ length bytes.now }
 {
-    first_line_feed(bytes).unwrap_or(bytes.len())
-}
-
-fn first_blank(bytes: &[u8]) -> Option<usize>
-    ensures { result ≡ position is_blank bytes.now }
-{
-    bytes.iter().position(|b| is_blank_byte(*b))
-}
-
-/// The place of the first blank, or the length.
-#[tactic(auto, using(crate::proofs::PieceLemmas::first_place))]
-fn word_end(bytes: &[u8]) -> usize
-    ensures place { result ≡ position_or_len is_blank bytes.now }
-    ensures within { result ≤ length bytes.now }
-{
-    first_blank(bytes).unwrap_or(bytes.len())
-}
-
-fn first_comma(bytes: &[u8]) -> Option<usize>
-    ensures { result ≡ position is_comma bytes.now }
-{
-    bytes.iter().position(|b| *b == b',')
-}
-
-/// The place of the first comma, or the length.
-#[tactic(auto, using(crate::proofs::PieceLemmas::first_place))]
-fn item_end(bytes: &[u8]) -> usize
-    ensures place { result ≡ position_or_len is_comma bytes.now }
-    ensures within { result ≤ length bytes.now }
-{
-    first_comma(bytes).unwrap_or(bytes.len())
+    first(separator, bytes).unwrap_or(bytes.len())
 }
 
 /// What stands before a place, and what after it.
@@ -79,20 +68,12 @@ fn cut_at(bytes: &[u8], at: usize) -> (&[u8], &[u8])
     (&bytes[..at], &bytes[after..])
 }
 
-/// What stands before the first line feed, and what after it.
-pub fn cut_line(bytes: &[u8]) -> (&[u8], &[u8])
-    ensures first { result.0.now ≡ before_first is_line_feed bytes.now }
-    ensures rest { result.1.now ≡ after_first is_line_feed bytes.now }
+/// What stands before the first separator, and what after it.
+pub fn cut(separator: Separator, bytes: &[u8]) -> (&[u8], &[u8])
+    ensures first { result.0.now ≡ before_first (separates separator) bytes.now }
+    ensures rest { result.1.now ≡ after_first (separates separator) bytes.now }
 {
-    cut_at(bytes, line_end(bytes))
-}
-
-/// What stands before the first blank, and what after it.
-fn cut_word(bytes: &[u8]) -> (&[u8], &[u8])
-    ensures first { result.0.now ≡ before_first is_blank bytes.now }
-    ensures rest { result.1.now ≡ after_first is_blank bytes.now }
-{
-    cut_at(bytes, word_end(bytes))
+    cut_at(bytes, end(separator, bytes))
 }
 
 /// What stands before the first comma, and, if there is one, what after it.
@@ -100,7 +81,7 @@ fn cut_word(bytes: &[u8]) -> (&[u8], &[u8])
 pub fn cut_item(bytes: &[u8]) -> (&[u8], Option<&[u8]>)
     ensures { slice_split is_comma bytes.now ≡ result.0.now ∷ items_left (option_copied result.1) }
 {
-    let at = item_end(bytes);
+    let at = end(Separator::Comma, bytes);
     let (item, rest) = cut_at(bytes, at);
     (item, if at < bytes.len() { Some(rest) } else { None })
 }
@@ -114,7 +95,7 @@ fn next_word(line: &[u8]) -> Option<(&[u8], &[u8])>
 {
     let mut rest = line;
     while !rest.is_empty() {
-        let (word, after) = cut_word(rest);
+        let (word, after) = cut(Separator::Blank, rest);
         if !word.is_empty() {
             return Some((word, after));
         }

@@ -1,14 +1,16 @@
-ghost use Rattle.std.specs.Prelude.{◌≡◌, ℕ, List, IfOk, IfErr, IfSome, IsTrue};
+ghost use Rattle.std.specs.Prelude.{◌≡◌, ◌⊎◌, ℕ, List, IfOk, IfErr, IfSome, IsTrue};
 ghost use Rattle.omi_script.specs.declared.fault.ScriptFault.{ScriptFault};
 ghost use Rattle.omi_script.specs.declared.program.Program.{Program};
+ghost use Rattle.omi_script.specs.declared.fault.Why.TheVariants.{UnknownWord};
 ghost use Rattle.omi_script.specs.Fault.{IfFault};
 ghost use Rattle.omi_script.specs.Script.{script_of};
 ghost use Rattle.omi_script.specs.Grammar.{main_name, IsProgramOf, Grammar, Refused, AreEqual};
+ghost use Rattle.omi_script.specs.Rules.{Rules};
 ghost use Rattle.omi_script.specs.Small.{is_sound, IsSmall};
 
 use crate::lines::Lines;
 use crate::pieces::are_text;
-use crate::script::{Script, whole};
+use crate::script::{Script, script_of_lines};
 use crate::{
     Env, Func, FuncList, Name, OutOfMemory, Program, Sched, ScriptError, ScriptFault, Why,
 };
@@ -63,7 +65,7 @@ fn script_in(alloc: Global, bytes: &[u8]) -> Result<Option<Script>, OutOfMemory>
         return Ok(None);
     }
     let mut lines = Lines::new(bytes);
-    match whole(alloc, &mut lines)? {
+    match script_of_lines(alloc, &mut lines)? {
         Some(script) if script.body.len() <= MAX_STATEMENTS => Ok(Some(script)),
         _ => Ok(None),
     }
@@ -84,8 +86,15 @@ pub fn parse(alloc: Global, bytes: &[u8]) -> Result<Program, ScriptError>
     }
 }
 
-/// No text is two programs, and none that is a program is refused.
+/// Each text is one program or is refused, and not both.
 pub fn one_reading()
+    ensures some { (bytes : List ℕ) →
+        ((p : Program) × Grammar bytes p) ⊎ Refused bytes (record { line = 0; why = UnknownWord }) }
     ensures one { (bytes : List ℕ) (p q : Program) → Grammar bytes p → Grammar bytes q → AreEqual p q }
     ensures apart { (bytes : List ℕ) (p : Program) (fault : ScriptFault) → Grammar bytes p → Refused bytes fault → ⊥ }
+{}
+
+/// Each program meets the rules of the language.
+pub fn program_rules()
+    ensures { (p : Program) → Rules p }
 {}

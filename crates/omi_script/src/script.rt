@@ -107,7 +107,7 @@ fn behind_sizes(
 }
 
 /// The script that lines are.
-pub fn whole(alloc: Global, lines: &mut Lines) -> Result<Option<Script>, OutOfMemory>
+pub fn script_of_lines(alloc: Global, lines: &mut Lines) -> Result<Option<Script>, OutOfMemory>
     ensures { IfOk result (λ script. script ≡ script_of_lines lines.old) }
 {
     match lines.next(alloc)? {

@@ -106,6 +106,9 @@ fn accepted(rt: HostRuntime) {
     );
 }
 
+/// A value that threads may share and move.
+fn crosses_threads<T: Send + Sync>(_value: &T) {}
+
 #[test]
 fn defaults(rt: HostRuntime) -> Result<(), Fail> {
     let p = parse(rt.alloc(), b"func main\nwork\nend\n")?;
@@ -115,6 +118,7 @@ fn defaults(rt: HostRuntime) -> Result<(), Fail> {
     assert_eq!(rt; p.env.sched, Sched { kind: 1, chunk: 0 });
     assert_eq!(rt; p.env.device, 0);
     assert_eq!(rt; p.env.procs, 4);
+    crosses_threads(&p);
     Ok(())
 }
 

@@ -37,7 +37,7 @@ use Rattle.omi_top.proofs.Alone.{Now, state_at, task_at, words_at}
 use Rattle.omi_top.proofs.Moves.{Moves, statement_moves, at_show, at_arrive, at_release, at_pass, at_done, at_end, show_moves, arrive_moves, release_moves, pass_moves, done_moves}
 use Rattle.omi_top.proofs.Small.{all_at}
 use Rattle.omi_top.proofs.Shown.{shows, counts}
-use Rattle.omi_top.proofs.Accepted.{nthreads_some, nthreads_few}
+use Rattle.omi_script.proofs.RuleLemmas.{Rules-from_accepted}
 
 -- one step more at the end
 pub Steps-push : (words : List ℕ) (s : State) (es : List Entry) (mid : List ℕ) (t : State) (e : Entry) → Steps words s es mid t → IsStep mid t e
@@ -279,13 +279,13 @@ pub made_none : (p : Program) → IsSmall p → Made p (zeros 6630) (body_of p.f
 made_none p small = go p.env.nthreads refl
   where
     go : (ns : List ℕ) → p.env.nthreads ≡ ns → Made p (zeros 6630) (body_of p.funcs p.main) [] (opening_words p) (counter_at (length (body_of p.funcs p.main)) 0)
-    go [] is = absurd (omega (arith, nthreads_some p.threads p.env p.funcs p.main p.accepted, ap length is))
+    go [] is = absurd (omega (arith, (Rules-from_accepted p).count.0, ap length is))
     go (head ∷ others) is =
         let now : Now = opening_now p head others in
         let stands : now ≡ stand (body_of p.funcs p.main) (counter_at (length (body_of p.funcs p.main)) 0) now = stand_opening (body_of p.funcs p.main) now refl in
         record {
           now = now;
-          few = omega (arith, nthreads_few p.threads p.env p.funcs p.main p.accepted, ap length is);
+          few = omega (arith, (Rules-from_accepted p).count.1, ap length is);
           steps = (refl, sym (opens_state p head others is small.debug ∙ ap (state_at p) stands));
           words_are = opens_words p head others is ∙ ap (λ (v : Now). words_at p v (zeros 6630)) stands;
           history = history_opening (length (body_of p.funcs p.main));

@@ -14,3 +14,6 @@ mod top;
 pub use entry::{End, Entry};
 pub use refusal::Refusal;
 pub use top::run_top;
+
+#[cfg(test)]
+mod tests;

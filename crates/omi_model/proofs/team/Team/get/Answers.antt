@@ -1,4 +1,4 @@
-use Rattle.std.proofs.Common.{arith, ap, sym, ◌∙◌, subst, length, slice_get, ◌≡◌, ◌<◌, Some, List, ℕ, get_or}
+use Rattle.std.proofs.Common.{arith, ap, sym, ◌∙◌, subst, length, slice_get, ◌≡◌, Some, List, ℕ, get_or}
 use Rattle.omi_model.specs.declared.id.Tid.{Tid}
 use Rattle.omi_model.specs.Columns.{no_task}
 use Rattle.omi_model.specs.ColumnLemmas.{length-view, member_at}

@@ -1,4 +1,4 @@
-use Rattle.std.proofs.Common.{arith, ap, sym, ◌∙◌, length, ◌≡◌, ◌<◌, ◌≤◌, ◌++◌, ◌∷◌, [], List, ℕ}
+use Rattle.std.proofs.Common.{arith, ap, sym, ◌∙◌, length, ◌<◌, ◌++◌, ◌∷◌, [], List, ℕ}
 use Rattle.omi_model.specs.declared.id.Tid.{Tid}
 use Rattle.omi_model.specs.Columns.{no_task}
 use Rattle.omi_model.specs.ColumnLemmas.{length-view, member_pushed, column_more}

@@ -4,7 +4,7 @@ use lib.Pointwise.{pointwise}
 use Rattle.omi_model.specs.contracts.id.TidPartialEq.TheImpl as tid
 use Rattle.omi_model.specs.declared.id.Tid.{Tid}
 use Rattle.omi_model.specs.declared.team.Team.TheInside.{Inside}
-use Rattle.omi_model.specs.Columns.{AreColumns, no_task, padded, tasks_of, threads_of}
+use Rattle.omi_model.specs.Columns.{no_task, padded, tasks_of, threads_of}
 use Rattle.omi_model.specs.TeamBack.{team_back}
 use Rattle.omi_model.proofs.team.TeamPartialEq.eq.Goals as goal
 

@@ -1,0 +1,52 @@
+use crate::{Event, EventList, Id, Rid, Team, Tid};
+use std::mem::size_of;
+use std::test::Fail;
+
+/// A task of thread 1.
+fn task(slot: u16) -> Tid {
+    Tid(Id {
+        creator: 1,
+        slot,
+        generation: 7,
+    })
+}
+
+#[test]
+fn a_team_in_place(rt: HostRuntime) {
+    let mut team = Team::new();
+    assert_eq!(rt; team.len(), 0);
+    team.push(task(3), 0);
+    team.push(task(5), 9);
+    assert_eq!(rt; team.len(), 2);
+    assert_eq!(rt; team.get(0), (task(3), 0));
+    assert_eq!(rt; team.get(1), (task(5), 9));
+    let mut other = Team::new();
+    other.push(task(3), 0);
+    assert!(rt; team != other);
+    other.push(task(5), 9);
+    assert!(rt; team == other);
+}
+
+#[test]
+fn an_event_has_at_most_640_bytes(rt: HostRuntime) {
+    assert!(rt; size_of::<Event>() <= 640);
+}
+
+#[test]
+fn a_list_of_events(rt: HostRuntime) -> Result<(), Fail> {
+    let mut events = EventList::new(rt.alloc());
+    let region = Rid(Id {
+        creator: 0,
+        slot: 1,
+        generation: 0,
+    });
+    events.push((4, 0, Event::Join { region }))?;
+    events.push((5, 1, Event::Work))?;
+    let copy = events.same(rt.alloc())?;
+    assert_eq!(rt; copy.len(), 2);
+    let first = *copy.get(0);
+    assert_eq!(rt; first, (4, 0, Event::Join { region }));
+    let last = *events.get(1);
+    assert_eq!(rt; last, (5, 1, Event::Work));
+    Ok(())
+}
