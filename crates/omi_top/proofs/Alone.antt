@@ -1,9 +1,8 @@
 -- A run of one thread, in closed form: what changes in it, and the state and the words that have these values.
-use Rattle.std.proofs.Common.{◌≡◌, ◌==◌, ◌&&◌, ℕ, ◌+◌, Bool, true, false, List, [], ◌∷◌, ◌++◌, length, Option, Some, None, if◌then◌else◌, refl, sym, ap, ◌∙◌, eqb-true}
+use Rattle.std.proofs.Common.{◌≡◌, ◌==◌, ◌&&◌, ℕ, Bool, true, false, List, [], ◌∷◌, ◌++◌, length, Some, if◌then◌else◌, refl, eqb-true}
 use mathlib.Core.Path.{fun_ext}
 use Rattle.std.specs.Prelude.{slice_index}
 use Rattle.omi_script.specs.declared.program.Program.{Program}
-use Rattle.omi_model.specs.declared.id.Id.{Id}
 use Rattle.omi_model.specs.Numbers.{flag}
 use Rattle.omi_model.specs.Items.{Item}
 use Rattle.omi_model.specs.Put.{Slot, put, on, first_alone, unused}

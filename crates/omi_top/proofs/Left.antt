@@ -1,5 +1,5 @@
 -- What a command's result and its printing say of the whole call.
-use Rattle.std.proofs.Common.{◌≡◌, ◌⊎◌, inl, inr, ℕ, List, [], length, take, Option, Some, None, Result, Ok, Err, String, string_bytes, refl, sym, ◌∙◌, ap, subst, arith, take_all}
+use Rattle.std.proofs.Common.{◌≡◌, ◌⊎◌, inl, inr, ℕ, List, length, Option, Some, None, Ok, Err, String, string_bytes, refl, sym, ◌∙◌, ap, subst, arith, take_all}
 use Rattle.std.specs.declared.alloc.Global.{Global}
 use Rattle.omi_outside.specs.Outside.{Told, holding, IsPartly, IsPartlyPut, put_on}
 use Rattle.omi_outside.proofs.Held.{put_none}
@@ -9,7 +9,7 @@ use Rattle.omi_script.specs.Grammar.{Grammar, Refused}
 use Rattle.omi_script.specs.declared.fault.ScriptFault.{ScriptFault}
 use Rattle.omi_script.specs.declared.program.Program.{Program}
 use Rattle.omi_top.specs.Command.{Command, Stop, Faulty}
-use Rattle.omi_top.specs.Answer.{Answer, Refuses, Gives, IsAnswer, IsStopAnswer, IsAnswered, IsLeft, IsSaid, IsPartlyDone, IsFaultStatus, IsStopped, ComesWhere}
+use Rattle.omi_top.specs.Answer.{Answer, Refuses, IsAnswer, IsStopAnswer, IsAnswered, IsLeft, IsSaid, IsFaultStatus, IsStopped, ComesWhere}
 use Rattle.omi_top.specs.Refusal.{line_of, status_of}
 use Rattle.omi_top.specs.declared.refusal.Refusal.{Refusal}
 use Rattle.omi_top.specs.declared.refusal.Refusal.TheVariants as refusal

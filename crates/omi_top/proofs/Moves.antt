@@ -1,9 +1,8 @@
 -- Each step of the runner: from words and a state in closed form, its operation and its event lead to words and a state in closed form.
-use Rattle.std.proofs.Common.{◌≡◌, ◌==◌, ◌<◌, ◌≤◌, ℕ, ◌+◌, Bool, true, false, not, List, [], ◌∷◌, ◌++◌, length, get_or, set, Option, Some, None, if◌then◌else◌, refl, sym, ap, ◌∙◌, arith, length-append, lit<, lit≤, inl, inr, eq-eqb}
-use Rattle.std.specs.Prelude.{slice_index, IsTrue, is_some}
+use Rattle.std.proofs.Common.{◌≡◌, ◌==◌, ◌<◌, ℕ, ◌+◌, Bool, true, false, List, [], ◌∷◌, get_or, set, Option, Some, None, if◌then◌else◌, refl, ap, ◌∙◌, arith, length-append, lit<, lit≤, inl, eq-eqb}
+use Rattle.std.specs.Prelude.{IsTrue, is_some}
 use Rattle.std.specs.Option.{option_map_or}
 use Rattle.std.proofs.lemmas.List.Elements.{All-from_recursion}
-use Rattle.std.proofs.lemmas.List.{set-append_left}
 use Rattle.omi_word.specs.declared.op.Op.{Op}
 use Rattle.omi_word.specs.declared.op.Op.TheVariants as op
 use Rattle.omi_word.specs.Memory.{address_at, address_of, word_at, after as word_after, IsWordOf}
@@ -17,10 +16,9 @@ use Rattle.omi_model.specs.declared.event.Event.TheVariants as event
 use Rattle.omi_model.specs.Numbers.{flag}
 use Rattle.omi_model.specs.Items.{Item, Do, Show, Arrive, Tasks, Release, Pass, Done, take}
 use Rattle.omi_model.specs.State.{State, Thread, Region, Task, Finished}
-use Rattle.omi_model.specs.Rules.{Legal, after, on_task, effect, with_list, with_variable}
+use Rattle.omi_model.specs.Rules.{after, on_task, effect, with_list, with_variable}
 use Rattle.omi_model.specs.Put.{Slots, put, on, first_alone}
 use Rattle.omi_model.specs.Opening.{initial_task, waiting_worker}
-use Rattle.omi_top.specs.declared.entry.Entry.{Entry}
 use Rattle.omi_top.specs.Steps.{IsStep, IsOwn}
 use Rattle.omi_top.specs.Runner.{statement_step}
 use Rattle.omi_top.proofs.Alone.{Now, state_at, thread_at, region_at, task_at, words_at, filled_at, length-filled_at, put_first, on_alone, alone_live}

@@ -2,7 +2,6 @@
 use Rattle.std.proofs.Common.{◌≡◌, ℕ, ◌+◌, ◌-◌, ◌<◌, ◌≤◌, List, [], ◌∷◌, ◌++◌, length, get_or, take, set, replicate, suc, refl, sym, ap, ◌∙◌, arith, length-take-le, append_assoc}
 use Rattle.std.proofs.lemmas.List.{set-append_right, take_more}
 use Rattle.std.proofs.lemmas.Option.{get_or_from_slice_get, slice_get_read}
-use Rattle.omi_script.specs.declared.program.Program.{Program}
 use Rattle.omi_top.specs.declared.tables.TheConstants.{TABLES}
 use Rattle.omi_top.specs.Tables.{tables}
 

@@ -1,10 +1,10 @@
 -- A run in the making: the steps so far, and the values that they lead to.
-use Rattle.std.proofs.Common.{◌≡◌, ◌==◌, ◌≢◌, ◌<◌, ◌≤◌, ℕ, zero, suc, ◌+◌, ◌-◌, ◌⊎◌, Bool, true, false, List, [], ◌∷◌, ◌++◌, length, get_or, drop, nat_lt, if◌then◌else◌, refl, sym, ap, ap₂, subst, ◌∙◌, arith, length-append, ltb-true, ltb-false, min, lit<, leb-false, nat_le}
+use Rattle.std.proofs.Common.{◌≡◌, ◌≢◌, ◌<◌, ◌≤◌, ℕ, suc, ◌+◌, ◌-◌, Bool, true, false, List, [], ◌∷◌, ◌++◌, length, get_or, drop, nat_lt, if◌then◌else◌, refl, sym, ap, ap₂, subst, ◌∙◌, arith, length-append, ltb-true, ltb-false, min, lit<, leb-false, nat_le}
 use Rattle.std.specs.Prelude.{IsTrue, slice_index, Contains}
 use Rattle.std.proofs.Math.Seq.{drop-cons}
 use Rattle.std.proofs.lemmas.Bool.{leb-true}
 use Rattle.std.proofs.Math.ListN.{drop_of_length-le}
-use Rattle.std.specs.List.{list_all, AllByRecursion}
+use Rattle.std.specs.List.{list_all}
 use Rattle.omi_word.specs.declared.op.Op.{Op}
 use Rattle.omi_word.specs.Memory.{address_of, word_at, after as word_after, IsWordOf}
 use Rattle.omi_script.specs.Bodies.{body_of}
@@ -19,7 +19,7 @@ use Rattle.omi_model.specs.Opening.{opening, opening_task, exit_frame}
 use Rattle.omi_model.specs.Put.{first_alone}
 use Rattle.omi_model.specs.Reached.{Leads}
 use Rattle.omi_model.specs.Rules.{after}
-use Rattle.omi_model.specs.State.{State, Task}
+use Rattle.omi_model.specs.State.{State}
 use Rattle.omi_top.specs.declared.entry.Entry.{Entry}
 use Rattle.omi_top.specs.declared.runner.Counter.{Counter}
 use Rattle.omi_top.specs.declared.runner.Counter.TheVariants as counter
@@ -30,10 +30,9 @@ use Rattle.omi_top.specs.OpeningWords.{opening_words, zeros, runtime_record, thr
 use Rattle.omi_top.specs.Runner.{statement_step, step_at, counter_at, next_of, left_at, IsAt, end_of}
 use Rattle.omi_top.specs.Run.{GoesOn, IsEnded, IsRun, Counts}
 use Rattle.omi_top.specs.Shows.{Shows}
-use Rattle.omi_top.specs.declared.entry.End.{End}
 use Rattle.omi_top.specs.declared.entry.End.TheVariants as end
 use Rattle.omi_top.specs.Steps.{IsStep, Steps, events_of}
-use Rattle.omi_top.proofs.Alone.{Now, state_at, task_at, words_at}
+use Rattle.omi_top.proofs.Alone.{Now, state_at, words_at}
 use Rattle.omi_top.proofs.Moves.{Moves, statement_moves, at_show, at_arrive, at_release, at_pass, at_done, at_end, show_moves, arrive_moves, release_moves, pass_moves, done_moves}
 use Rattle.omi_top.proofs.Small.{all_at}
 use Rattle.omi_top.proofs.Shown.{shows, counts}

@@ -1,25 +1,23 @@
 -- The words of a run in closed form show its state.
-use Rattle.std.proofs.Common.{◌≡◌, ◌==◌, ◌<◌, ◌≤◌, ℕ, zero, suc, ◌+◌, ◌*◌, ◌&&◌, Bool, true, false, List, [], ◌∷◌, ◌++◌, length, take, get_or, Option, Some, None, refl, sym, ap, subst, ◌∙◌, arith, lit<, lit≤, if◌then◌else◌, length-append}
-use Rattle.std.specs.Prelude.{slice_get, slice_index, All, Contains, IsTrue, IsSome, sum}
-use Rattle.std.specs.Option.{option_and_then}
+use Rattle.std.proofs.Common.{◌≡◌, ◌==◌, ◌<◌, ◌≤◌, ℕ, zero, suc, ◌+◌, ◌*◌, ◌&&◌, Bool, true, false, List, [], ◌∷◌, length, Some, None, refl, sym, ap, subst, ◌∙◌, arith, lit≤, if◌then◌else◌}
+use Rattle.std.specs.Prelude.{slice_get, slice_index, Contains, IsSome, sum}
 use Rattle.std.proofs.lemmas.List.Elements.{All-from_recursion}
 use Rattle.std.proofs.lemmas.Option.{get_or_from_slice_get, slice_get_within}
 use Rattle.omi_script.specs.Small.{IsSmall}
 use Rattle.omi_script.specs.declared.program.Program.{Program}
 use Rattle.omi_script.specs.declared.statement.Sched.{Sched}
 use Rattle.omi_model.specs.declared.id.Tid.{Tid}
-use Rattle.omi_model.specs.declared.id.Rid.{Rid}
 use Rattle.omi_model.specs.Numbers.{states}
-use Rattle.omi_model.specs.Put.{Slot, first_alone, found, named, unused}
-use Rattle.omi_model.specs.State.{State, Thread, Region, Task, region_of, task_of, enclosing_of, scheduling_of}
+use Rattle.omi_model.specs.Put.{first_alone, found, unused}
+use Rattle.omi_model.specs.State.{State, Region, Task, task_of}
 use Rattle.omi_model.specs.Opening.{initial_task, initial_region}
 use Rattle.omi_model.specs.Visible.{IsVisibleRegion, IsVisibleTask}
-use Rattle.omi_model.specs.WellFormed.{IsWellFormed, IsRegionRight, IsTaskRight, IsMember, HasBegun, AreInRange}
+use Rattle.omi_model.specs.WellFormed.{IsWellFormed, IsRegionRight, IsTaskRight, IsMember, HasBegun}
 use Rattle.omi_top.specs.Layout as layout
 use Rattle.omi_top.specs.Run.{Counts}
 use Rattle.omi_top.specs.Shows.{Shows, ShowsGlobals, ShowsLife, ShowsThread, ShowsRegion, ShowsTask, ShowsSlot, Stands}
 use Rattle.omi_top.specs.OpeningWords.{zeros}
-use Rattle.omi_top.proofs.Alone.{Now, state_at, thread_at, region_at, task_at, words_at, alone_live}
+use Rattle.omi_top.proofs.Alone.{Now, state_at, region_at, task_at, words_at, alone_live}
 
 -- what is found of the object that is alone is that object, in its own place
 alone_named : {A : Type 0} (x y : A) (c k g : ℕ) → found g (first_alone x c k) ≡ Some y → (c ≡ 0) × (k ≡ 0) × (x ≡ y)

@@ -1,5 +1,5 @@
 -- The exits of `stop`: what each result is an answer to.
-use Rattle.std.proofs.Common.{◌≡◌, ◌⊎◌, ◌<◌, ◌≤◌, ◌&&◌, inl, inr, ℕ, Bool, true, false, List, [], length, take, Option, Some, None, Result, Ok, Err, String, string_bytes, if◌then◌else◌, refl, sym, ◌∙◌, ap, subst, arith, take_all, length-take-le, leb-false}
+use Rattle.std.proofs.Common.{◌≡◌, ◌⊎◌, ◌<◌, ◌&&◌, inl, inr, ℕ, Bool, true, false, List, length, take, Option, Some, None, Ok, Err, String, string_bytes, if◌then◌else◌, refl, sym, ◌∙◌, ap, subst, arith, take_all, length-take-le, leb-false}
 use Rattle.std.specs.Prelude.{nat_le}
 use Rattle.std.specs.Option.{option_and_then}
 use Rattle.std.specs.List.{list_all}
@@ -10,11 +10,10 @@ use Rattle.omi_outside.specs.declared.files.Refused.{Refused as RefusedWrite}
 use Rattle.omi_outside.specs.declared.files.Refused.TheVariants as refused
 use Rattle.omi_script.specs.Grammar.{Grammar, Refused}
 use Rattle.omi_script.specs.Lines.{is_text}
-use Rattle.omi_script.specs.Script.{is_readable, within_limit, script_of_lines, script_of}
+use Rattle.omi_script.specs.Script.{within_limit, script_of_lines, script_of}
 use Rattle.omi_script.specs.Shapes.{said_in}
 use Rattle.omi_script.specs.declared.fault.ScriptFault.{ScriptFault}
 use Rattle.omi_script.specs.declared.program.Program.{Program}
-use Rattle.omi_script.specs.declared.script.Script.{Script}
 use Rattle.omi_top.specs.Answer.{Gives, IsAnswered, IsEarly, IsLate, IsStopAnswer, IsStopped}
 use Rattle.omi_top.specs.Refusal.{refusal_of_write}
 use Rattle.omi_top.specs.declared.refusal.Refusal.{Refusal}

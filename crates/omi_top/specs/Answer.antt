@@ -1,5 +1,5 @@
 -- What a command is to answer, by what is told of the file that it reads, and what a call leaves.
-use Rattle.std.specs.Prelude.{◌≡◌, ◌⊎◌, ℕ, List, [], ◌∷◌, length, take, Option, Some, None, Result, Ok, Err, String, string_bytes, ⊤}
+use Rattle.std.specs.Prelude.{◌≡◌, ◌⊎◌, ℕ, List, [], ◌∷◌, Option, Some, None, Result, Ok, Err, String, string_bytes, ⊤}
 use Rattle.std.specs.declared.alloc.Global.{Global}
 use Rattle.omi_outside.specs.Outside.{Told, holding, IsPartly, IsPartlyPut, put_on}
 use Rattle.omi_outside.specs.declared.status.Status.{Status}

@@ -1,7 +1,6 @@
 -- The layout of the records in family 0 with one thread: where each arena begins, how long its records are, and where each field stands in its record. All numbers are in words.
 use Rattle.std.specs.Prelude.{ℕ, ◌+◌, ◌*◌}
 use Rattle.omi_word.specs.Memory.{address_at}
-use Rattle.omi_model.specs.declared.id.Id.{Id}
 use Rattle.omi_model.specs.declared.id.Rid.{Rid}
 use Rattle.omi_model.specs.declared.id.Tid.{Tid}
 

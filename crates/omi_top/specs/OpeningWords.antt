@@ -1,9 +1,9 @@
 -- The words in which a program of one thread starts.
-use Rattle.std.specs.Prelude.{ℕ, ◌-◌, List, [], ◌∷◌, ◌++◌, length, replicate, slice_index}
+use Rattle.std.specs.Prelude.{ℕ, List, [], ◌∷◌, ◌++◌, length, replicate, slice_index}
 use Rattle.omi_script.specs.declared.program.Program.{Program}
 use Rattle.omi_model.specs.Numbers.{flag, work_serial}
 use Rattle.omi_model.specs.Opening.{exit_frame, initial_region, initial_task}
-use Rattle.omi_top.specs.Layout.{thread_address, region_address, task_address, regions_per_thread, tasks_per_thread, region_size, task_size}
+use Rattle.omi_top.specs.Layout.{thread_address, region_address, task_address}
 use Rattle.omi_top.specs.Tables.{tables}
 use Rattle.omi_top.specs.Codes.{function_code, schedule_code, native_id}
 

@@ -1,8 +1,7 @@
 -- The steps that the runner makes, one after another: the statements of `main`, then the end of the initial task. Each is an operation and the event that it commits.
-use Rattle.std.specs.Prelude.{◌<◌, ◌==◌, ℕ, ◌+◌, ◌-◌, Bool, nat_lt, nat_le, List, slice_index_or, ⊤, if◌then◌else◌}
+use Rattle.std.specs.Prelude.{◌<◌, ℕ, ◌+◌, ◌-◌, nat_lt, nat_le, List, slice_index_or, ⊤, if◌then◌else◌}
 use Rattle.omi_word.specs.declared.op.Op.{Op}
 use Rattle.omi_word.specs.declared.op.Op.TheVariants as op
-use Rattle.omi_word.specs.Memory.{address_at}
 use Rattle.omi_script.specs.declared.statement.Stmt.{Stmt}
 use Rattle.omi_script.specs.declared.statement.Stmt.TheVariants as stmt
 use Rattle.omi_model.specs.declared.event.Event.{Event}

@@ -7,7 +7,7 @@ use Rattle.omi_model.specs.declared.event.Event.{Event}
 use Rattle.omi_model.specs.declared.event.Event.TheVariants as event
 use Rattle.omi_model.specs.declared.id.Tid.{Tid}
 use Rattle.omi_model.specs.Numbers.{dyn_var}
-use Rattle.omi_model.specs.State.{State, Task, current_task}
+use Rattle.omi_model.specs.State.{State, Task}
 use Rattle.omi_model.specs.Rules.{Legal, after, OfCurrent}
 use Rattle.omi_top.specs.Layout as layout
 use Rattle.omi_top.specs.declared.entry.Entry.{Entry}

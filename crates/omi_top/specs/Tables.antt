@@ -1,5 +1,5 @@
 -- The words in front of the records: the symbol table, the entry point words and the layout table.
-use Rattle.std.specs.Prelude.{ℕ, ◌-◌, ◌*◌, List, [], ◌∷◌, ◌++◌, length, take, drop, replicate, codes}
+use Rattle.std.specs.Prelude.{ℕ, ◌-◌, List, [], ◌∷◌, ◌++◌, length, take, drop, replicate, codes}
 use Rattle.std.specs.Int.{from_le_bytes, w64}
 use Rattle.omi_word.specs.Memory.{address_at}
 use Rattle.omi_top.specs.Layout.{runtime_place, thread_place, region_place, task_place, thread_size, region_size, task_size, regions_per_thread, tasks_per_thread}

@@ -1,6 +1,7 @@
 use crate::run_top;
 use omi_outside::{Call, MemFiles, MemSink, NeverFiles, NeverSink, Status};
 use std::alloc::{AllocError, Global};
+use std::process::Abort;
 use std::test::Fail;
 
 /// An empty program, and one that changes two variables.
@@ -227,133 +228,105 @@ fn failing_appends_leave_a_prefix(rt: HostRuntime) -> Result<(), Fail> {
     Ok(())
 }
 
+/// A line over a script, of which the first call of a kind may fail, ends with this status and this line, and writes
+/// nothing. The status stays where the line can't be put.
+fn expect_refusal(
+    rt: &impl Abort,
+    alloc: Global,
+    line: &[&str],
+    failing: Option<Call>,
+    script: &str,
+    status: Status,
+    text: &str,
+) -> Result<(), AllocError> {
+    let reads = first_of(alloc, failing)?;
+    let done = call(alloc, line, script, reads, Vec::new(alloc), Vec::new(alloc))?;
+    assert_eq!(rt; done.status, status);
+    assert_eq!(rt; done.out.bytes(), text.as_bytes());
+    assert!(rt; done.dest.bytes("c").is_none());
+    let reads = first_of(alloc, failing)?;
+    let first_put = vec![in alloc; 1u64]?;
+    let silent = call(alloc, line, script, reads, Vec::new(alloc), first_put)?;
+    assert_eq!(rt; silent.status, status);
+    assert_eq!(rt; silent.out.bytes(), b"".as_slice());
+    Ok(())
+}
+
 #[test]
-fn faults_and_refusals(rt: HostRuntime) -> Result<(), Fail> {
+fn files_that_are_missing_or_fail(rt: HostRuntime) -> Result<(), Fail> {
     let alloc = rt.alloc();
-    // The line, the call of `files` that fails, the script, the status and what is printed.
-    let table = [
-        (
-            ["stop", "0", "gone", "c"],
-            None,
-            EMPTY,
-            Status::NoFile,
-            "no file gone\n",
-        ),
-        (
-            ["stop", "0", "", "c"],
-            None,
-            EMPTY,
-            Status::NoFile,
-            "no file \n",
-        ),
-        (
-            ["stop", "0", "s", "c"],
-            Some(Call::Size),
-            EMPTY,
-            Status::ReadFault,
-            "read fault s\n",
-        ),
-        (
-            ["stop", "0", "s", "c"],
-            Some(Call::ReadAt),
-            EMPTY,
-            Status::ReadFault,
-            "read fault s\n",
-        ),
-        (
-            ["stop", "0", "s", "c"],
-            None,
-            "",
-            Status::Script,
-            "script 0 2 UnknownWord\n",
-        ),
-        (
-            ["stop", "0", "s", "c"],
-            None,
-            "threads 2\nfunc main\nend\n",
-            Status::Script,
-            "script 0 2 UnknownWord\n",
-        ),
-        (
-            ["stop", "1000001", "s", "c"],
-            None,
-            EMPTY,
-            Status::Usage,
-            "usage\n",
-        ),
-        (
-            ["stop", "01", "s", "c"],
-            None,
-            EMPTY,
-            Status::Usage,
-            "usage\n",
-        ),
-        (
-            ["stop", "", "s", "c"],
-            None,
-            EMPTY,
-            Status::Usage,
-            "usage\n",
-        ),
-        (
-            ["fly", "0", "s", "c"],
-            None,
-            EMPTY,
-            Status::Usage,
-            "usage\n",
-        ),
-    ];
-    for (line, failing, script, status, text) in table {
-        let reads = first_of(alloc, failing)?;
-        let done = call(
-            alloc,
-            &line,
-            script,
-            reads,
-            Vec::new(alloc),
-            Vec::new(alloc),
-        )?;
-        assert_eq!(rt; done.status, status);
-        assert_eq!(rt; done.out.bytes(), text.as_bytes());
-        assert_eq!(rt; done.dest.bytes("c"), None);
-        // The status stays where the line can't be put.
-        let reads = first_of(alloc, failing)?;
-        let silent = call(
-            alloc,
-            &line,
-            script,
-            reads,
-            Vec::new(alloc),
-            vec![in alloc; 1]?,
-        )?;
-        assert_eq!(rt; silent.status, status);
-        assert_eq!(rt; silent.out.bytes(), b"".as_slice());
+    let gone = ["stop", "0", "gone", "c"];
+    expect_refusal(
+        &rt,
+        alloc,
+        &gone,
+        None,
+        EMPTY,
+        Status::NoFile,
+        "no file gone\n",
+    )?;
+    let empty = ["stop", "0", "", "c"];
+    expect_refusal(
+        &rt,
+        alloc,
+        &empty,
+        None,
+        EMPTY,
+        Status::NoFile,
+        "no file \n",
+    )?;
+    let line = ["stop", "0", "s", "c"];
+    expect_refusal(
+        &rt,
+        alloc,
+        &line,
+        Some(Call::Size),
+        EMPTY,
+        Status::ReadFault,
+        "read fault s\n",
+    )?;
+    expect_refusal(
+        &rt,
+        alloc,
+        &line,
+        Some(Call::ReadAt),
+        EMPTY,
+        Status::ReadFault,
+        "read fault s\n",
+    )?;
+    Ok(())
+}
+
+#[test]
+fn texts_that_are_refused(rt: HostRuntime) -> Result<(), Fail> {
+    let alloc = rt.alloc();
+    let line = ["stop", "0", "s", "c"];
+    let refusal = "script 0 2 UnknownWord\n";
+    for script in [
+        "",
+        "threads 2\nfunc main\nend\n",
+        "func main\nset_num_threads 65\nend\n",
+    ] {
+        expect_refusal(&rt, alloc, &line, None, script, Status::Script, refusal)?;
     }
     Ok(())
 }
 
 #[test]
-fn other_lines_are_refused(rt: HostRuntime) -> Result<(), Fail> {
+fn lines_that_are_refused(rt: HostRuntime) -> Result<(), Fail> {
     let alloc = rt.alloc();
-    let lines = [
-        ["stop", "0", "s"].as_slice(),
-        ["stop"].as_slice(),
-        [].as_slice(),
-        ["stop", "0", "s", "c", "d"].as_slice(),
-        ["show", "s"].as_slice(),
-    ];
-    for line in lines {
-        let done = call(
-            alloc,
-            line,
-            EMPTY,
-            Vec::new(alloc),
-            Vec::new(alloc),
-            Vec::new(alloc),
-        )?;
-        assert_eq!(rt; done.status, Status::Usage);
-        assert_eq!(rt; done.out.bytes(), b"usage\n".as_slice());
+    for steps in ["1000001", "01", "", "+1", "x", "18446744073709551616"] {
+        let line = ["stop", steps, "s", "c"];
+        expect_refusal(&rt, alloc, &line, None, EMPTY, Status::Usage, "usage\n")?;
     }
+    let unknown = ["fly", "0", "s", "c"];
+    expect_refusal(&rt, alloc, &unknown, None, EMPTY, Status::Usage, "usage\n")?;
+    let short = ["stop", "0", "s"];
+    expect_refusal(&rt, alloc, &short, None, EMPTY, Status::Usage, "usage\n")?;
+    let long = ["stop", "0", "s", "c", "d"];
+    expect_refusal(&rt, alloc, &long, None, EMPTY, Status::Usage, "usage\n")?;
+    let none: [&str; 0] = [];
+    expect_refusal(&rt, alloc, &none, None, EMPTY, Status::Usage, "usage\n")?;
     Ok(())
 }
 

@@ -1,6 +1,4 @@
-use Rattle.std.proofs.Common.{◌≡◌, ◌++◌, ℕ, List, ap, ap₂, ◌∙◌, sym, refl, append_assoc}
-use Rattle.omi_top.specs.OpeningWords.{filled_words}
-use Rattle.omi_top.proofs.Opens.{tables_are}
+use Rattle.std.proofs.Common.{refl}
 use Rattle.omi_top.proofs.opening.filled.Goals as goal
 
 pub returns : goal.returns

@@ -1,6 +1,6 @@
-use Rattle.std.proofs.Common.{◌≡◌, ◌<◌, ◌≤◌, ◌-◌, ℕ, List, ◌++◌, length, take, set, get_or, replicate, ap, ◌∙◌, sym, arith, take_all}
+use Rattle.std.proofs.Common.{◌≡◌, ◌<◌, ◌≤◌, ◌-◌, ℕ, List, ◌++◌, length, take, set, replicate, ap, ◌∙◌, arith, take_all}
 use Rattle.omi_word.proofs.Addresses.{place-address}
-use Rattle.omi_top.specs.OpeningWords.{filled_words, zeros}
+use Rattle.omi_top.specs.OpeningWords.{zeros}
 use Rattle.omi_top.proofs.Opens.{filled_more, read_word}
 use Rattle.omi_top.proofs.opening.opening_image.Goals as goal
 

@@ -1,4 +1,4 @@
-use Rattle.std.proofs.Common.{◌≡◌, ℕ, ◌-◌, ◌≤◌, List, ◌++◌, length, take, replicate}
+use Rattle.std.proofs.Common.{◌≡◌, ◌-◌, ◌++◌, length, take, replicate}
 use Rattle.omi_top.proofs.opening.opening_image.Given as goal
 
 abbrev pub invariant-loop-at : goal.invariant-loop-at

@@ -1,19 +1,17 @@
-use Rattle.std.proofs.Common.{◌≡◌, ◌≢◌, ◌<◌, ◌≤◌, ◌+◌, ℕ, List, [], ◌∷◌, ◌++◌, length, length-append, min, ap, ap₂, subst, sym, ◌∙◌, arith, refl, vec_len}
+use Rattle.std.proofs.Common.{◌≡◌, ◌≢◌, ◌+◌, ℕ, List, [], ◌∷◌, length, length-append, min, ap, subst, sym, ◌∙◌, arith}
 use Rattle.omi_word.specs.declared.op.Op.{Op}
-use Rattle.omi_word.specs.Memory.{address_of, word_at, IsWordOf}
-use Rattle.omi_word.specs.Memory.{after as word_after}
+use Rattle.omi_word.specs.Memory.{address_of, IsWordOf}
 use Rattle.omi_script.specs.Bodies.{body_of}
 use Rattle.omi_script.specs.declared.statement.Stmt.{Stmt}
 use Rattle.omi_model.specs.declared.event.Event.{Event}
 use Rattle.omi_model.specs.State.{State}
 use Rattle.omi_top.specs.declared.entry.Entry.{Entry}
 use Rattle.omi_top.specs.declared.entry.End.{End}
-use Rattle.omi_top.specs.declared.runner.Counter.{Counter}
 use Rattle.omi_top.specs.declared.runner.Counter.TheVariants.{Over}
 use Rattle.omi_top.specs.OpeningWords.{zeros}
 use Rattle.omi_top.specs.Run.{IsRun}
 use Rattle.omi_top.specs.Runner.{step_at, counter_at, next_of, end_of}
-use Rattle.omi_top.proofs.Runs.{Made, entry_of, made_none, made_more, made_inside, made_run, made_turn, not_over}
+use Rattle.omi_top.proofs.Runs.{Made, made_none, made_inside, made_run, made_turn, not_over}
 use Rattle.omi_top.proofs.runner.run.Goals as goal
 
 pub loop-turn-init : goal.loop-turn-init

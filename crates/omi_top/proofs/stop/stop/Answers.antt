@@ -1,4 +1,4 @@
-use Rattle.std.proofs.Common.{◌≡◌, ◌∙◌, List, ℕ, take, string_bytes, sym}
+use Rattle.std.proofs.Common.{◌∙◌, string_bytes}
 use Rattle.std.proofs.lemmas.Result.{err_from_is_err_and}
 use Rattle.omi_top.proofs.Stopping.{refused_answered, partly_answered, done_answered}
 use Rattle.omi_top.proofs.stop.stop.Goals as goal

@@ -1,8 +1,7 @@
-use Rattle.std.proofs.Common.{◌≡◌, ◌∙◌, ◌⊎◌, List, ℕ, Option, Some, map, string_bytes, ap, subst, sym}
-use Rattle.omi_outside.specs.declared.status.Status.TheVariants.{Success}
+use Rattle.std.proofs.Common.{◌≡◌, ◌∙◌, Some, ap, subst}
 use Rattle.omi_top.specs.Asked.{asked}
 use Rattle.omi_top.specs.Answer.{IsAnswer, IsLeft}
-use Rattle.omi_top.specs.Command.{Command, Stop, command_of, read_name, written_name}
+use Rattle.omi_top.specs.Command.{Command, Stop, read_name, written_name}
 use Rattle.omi_top.proofs.Left.{no_file, script, success}
 use Rattle.omi_top.proofs.top.run_top.Goals as goal
 
