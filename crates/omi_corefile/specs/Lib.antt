@@ -1,2 +1,5 @@
+pub mod Faults
 pub mod Limits
+pub mod Outcomes
+pub mod Refusals
 pub mod Spelling

@@ -1,5 +1,5 @@
 -- What a core may hold. Each rule is a test that computes, so that a type can keep it.
-use Rattle.std.specs.Prelude.{ℕ, ◌+◌, ◌*◌, ◌^◌, ◌%◌, Bool, true, ◌&&◌, ◌==◌, nat_lt, nat_le, List, [], ◌∷◌, length}
+use Rattle.std.specs.Prelude.{ℕ, ◌+◌, ◌*◌, ◌^◌, ◌%◌, Bool, true, ◌&&◌, ◌==◌, nat_lt, nat_le, List, [], ◌∷◌, length, Option, None, Some}
 use Rattle.std.specs.List.{list_all, sum_by}
 use Rattle.omi_corefile.specs.declared.segment.Segment.{Segment}
 
@@ -48,3 +48,8 @@ are_segments segments = nat_le (length segments) 64 && rise_apart_from first_add
 -- the order, the contexts and the segments of a core
 abbrev pub within_limits : ℕ → List ℕ → List Segment → Bool
 within_limits order contexts segments = order == 0 && are_contexts contexts && are_segments segments
+
+-- the least native id that may follow one, if any
+abbrev pub least_after : Option ℕ → ℕ
+least_after None = 0
+least_after (Some id) = id + 1

@@ -10,5 +10,5 @@ pub struct CoreImage {
     pub order: u8,
     pub contexts: Natives,
     pub segments: SegList,
-    ghost limits: { IsTrue (within_limits order contexts segments) },
+    pub ghost limits: { IsTrue (within_limits order contexts segments) },
 }

@@ -59,7 +59,7 @@ fn len_of(c: &CoreImage) -> usize
     len
 }
 
-/// The bytes of a core, as the room for them is taken once.
+/// The bytes of a core. Room for all of them is taken once.
 pub fn encode(alloc: Global, c: &CoreImage) -> Result<Vec<u8>, OutOfMemory>
     ensures { IfOk result (λ bytes. Core bytes.items c.now) }
 {

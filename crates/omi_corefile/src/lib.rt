@@ -2,12 +2,20 @@
 #![tactic(auto)]
 
 mod core_image;
+mod decoding;
 mod encoding;
+mod fault;
+mod fields;
+mod judging;
+mod laws;
 mod making;
 mod segment;
 
 pub use core_image::CoreImage;
+pub use decoding::decode;
 pub use encoding::{core_bytes_of, encode};
+pub use fault::{CoreError, CoreFault};
+pub use laws::{fronts_and_tails, one_answer, one_spelling};
 pub use making::core_of;
 pub use segment::{SegList, Segment};
 

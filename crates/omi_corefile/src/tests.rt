@@ -1,5 +1,6 @@
 use super::*;
 use omi_word::{Image, Natives, Op};
+use std::alloc::{AllocError, Global};
 use std::test::*;
 
 /// The core of the words 1, 2^63 and 0x0102030405060708, and of the context 1000, written out by hand.
@@ -45,5 +46,266 @@ fn no_words(rt: HostRuntime) -> Result<(), Fail> {
     let contexts = Natives::new(rt.alloc());
     let bytes = core_bytes_of(rt.alloc(), &image, &contexts)?;
     assert_eq!(rt; bytes.as_slice(), NOTHING.as_slice());
+    Ok(())
+}
+
+#[test]
+fn read_again(rt: HostRuntime) -> Result<(), Fail> {
+    let core = decode(rt.alloc(), &THREE_WORDS)?;
+    assert_eq!(rt; core.order, 0);
+    assert_eq!(rt; core.contexts.len(), 1);
+    assert_eq!(rt; *core.contexts.get(0), 1000);
+    assert_eq!(rt; core.segments.len(), 1);
+    let segment = core.segments.get(0);
+    assert_eq!(rt; segment.start, 0x10000);
+    assert_eq!(rt; segment.words.len(), 3);
+    assert_eq!(rt; *segment.words.get(0), 1);
+    assert_eq!(rt; *segment.words.get(1), 1 << 63);
+    assert_eq!(rt; *segment.words.get(2), 0x0102030405060708);
+    Ok(())
+}
+
+/// The file is refused with this fault at this place.
+fn is_refused(alloc: Global, bytes: &[u8], place: u64, fault: CoreFault) -> bool {
+    match decode(alloc, bytes) {
+        Err(CoreError::Fault { at, why }) => at == place && why == fault,
+        _ => false,
+    }
+}
+
+#[test]
+fn truncated(rt: HostRuntime) {
+    for missing in 1..10 {
+        let len = 64 - missing;
+        let at = len as u64;
+        assert!(rt; is_refused(rt.alloc(), &THREE_WORDS[..len], at, CoreFault::Short(at)));
+    }
+    assert!(rt; is_refused(rt.alloc(), b"", 0, CoreFault::Short(0)));
+}
+
+#[test]
+fn one_byte_more(rt: HostRuntime) -> Result<(), Fail> {
+    let mut bytes = Vec::from_slice(rt.alloc(), &THREE_WORDS)?;
+    bytes.push(0)?;
+    assert!(rt; is_refused(rt.alloc(), &bytes, 64, CoreFault::Trailing(64)));
+    Ok(())
+}
+
+/// Files that end in their headers, each with its fault and the fault's place.
+const HEADERS: [(&[u8], u64, CoreFault); 16] = [
+    (b"OMPDCOR2", 0, CoreFault::BadMagic),
+    (b"XMPDCOR", 7, CoreFault::Short(7)),
+    (b"OMPDCOR1", 8, CoreFault::Short(8)),
+    (b"OMPDCOR1\x00", 8, CoreFault::Version(0)),
+    (b"OMPDCOR1\x02\x01", 8, CoreFault::Version(2)),
+    (b"OMPDCOR1\x01", 9, CoreFault::Short(9)),
+    (b"OMPDCOR1\x01\x01", 9, CoreFault::Order(1)),
+    (b"OMPDCOR1\x01\xff\x00", 9, CoreFault::Order(255)),
+    (b"OMPDCOR1\x01\x00\x41", 11, CoreFault::Short(11)),
+    (b"OMPDCOR1\x01\x00\x41\x00", 10, CoreFault::BadContext(10)),
+    (b"OMPDCOR1\x01\x00\x00\x01", 10, CoreFault::BadContext(10)),
+    (
+        b"OMPDCOR1\x01\x00\x40\x00\x41\x00\x00",
+        15,
+        CoreFault::Short(15),
+    ),
+    (
+        b"OMPDCOR1\x01\x00\x40\x00\x41\x00\x00\x00",
+        12,
+        CoreFault::SegmentOrder(12),
+    ),
+    (
+        b"OMPDCOR1\x01\x00\x40\x00\x00\x00\x00\x01",
+        12,
+        CoreFault::SegmentOrder(12),
+    ),
+    (
+        b"OMPDCOR1\x01\x00\x40\x00\x40\x00\x00\x00",
+        16,
+        CoreFault::Short(16),
+    ),
+    (
+        b"OMPDCOR1\x01\x00\x00\x00\x40\x00\x00\x00",
+        16,
+        CoreFault::Short(16),
+    ),
+];
+
+#[test]
+fn headers(rt: HostRuntime) {
+    for (bytes, at, why) in HEADERS {
+        assert!(rt; is_refused(rt.alloc(), bytes, at, why), "{why:?}");
+    }
+}
+
+/// A file with these counts, and these numbers after its header.
+fn file(alloc: Global, contexts: u8, segments: u8, numbers: &[u64]) -> Result<Vec<u8>, AllocError> {
+    let mut bytes = Vec::from_slice(alloc, b"OMPDCOR1\x01\x00")?;
+    bytes.extend_from_slice(&[contexts, 0, segments, 0, 0, 0])?;
+    for number in numbers {
+        bytes.extend_from_slice(&number.to_le_bytes())?;
+    }
+    Ok(bytes)
+}
+
+const MAX: u64 = u64::MAX;
+
+const FIRST: u64 = 0x10000;
+
+const LAST: u64 = (1 << 47) - 8;
+
+/// Files that are cores: the counts of contexts and segments, and the numbers after the header.
+const GOOD: [(u8, u8, &[u64]); 5] = [
+    (2, 0, &[5, 6]),
+    (2, 0, &[0, MAX]),
+    (0, 1, &[FIRST, 1, 7]),
+    (0, 1, &[LAST, 1, 7]),
+    (0, 2, &[FIRST, 1, 7, 0x10010, 1, 8]),
+];
+
+/// Files with a fault after the header, and the fault's place.
+const BAD: [(u8, u8, &[u64], u64, CoreFault); 21] = [
+    (2, 0, &[5, 5], 24, CoreFault::BadContext(24)),
+    (3, 0, &[5, 6, 2], 32, CoreFault::BadContext(32)),
+    (2, 0, &[MAX, 0], 24, CoreFault::BadContext(24)),
+    (2, 0, &[MAX, MAX], 24, CoreFault::BadContext(24)),
+    (2, 0, &[7], 24, CoreFault::Short(24)),
+    (0, 1, &[0xfff8, 1, 7], 16, CoreFault::SegmentOrder(16)),
+    (0, 1, &[0x10004, 1, 7], 16, CoreFault::SegmentOrder(16)),
+    (0, 1, &[1 << 47, 1, 7], 16, CoreFault::SegmentOrder(16)),
+    (0, 1, &[MAX - 7], 16, CoreFault::SegmentOrder(16)),
+    (
+        0,
+        2,
+        &[FIRST, 1, 7, 0x10008, 1, 8],
+        40,
+        CoreFault::SegmentOrder(40),
+    ),
+    (
+        0,
+        2,
+        &[FIRST, 1, 7, FIRST, 1, 8],
+        40,
+        CoreFault::SegmentOrder(40),
+    ),
+    (
+        0,
+        2,
+        &[FIRST, 2, 7, 7, 0x10010, 1, 8],
+        48,
+        CoreFault::SegmentOrder(48),
+    ),
+    (
+        0,
+        2,
+        &[LAST, 1, 7, LAST + 16],
+        40,
+        CoreFault::SegmentOrder(40),
+    ),
+    (0, 1, &[FIRST, 0], 24, CoreFault::SegmentOrder(24)),
+    (0, 1, &[FIRST, 1048576], 32, CoreFault::Short(32)),
+    (0, 1, &[FIRST, 1048577], 24, CoreFault::TooLarge(1048577)),
+    (0, 1, &[FIRST, MAX], 24, CoreFault::TooLarge(MAX)),
+    (
+        0,
+        2,
+        &[FIRST, 2, 7, 7, 0x20000, 1048574],
+        64,
+        CoreFault::Short(64),
+    ),
+    (
+        0,
+        2,
+        &[FIRST, 2, 7, 7, 0x20000, 1048575],
+        56,
+        CoreFault::TooLarge(1048575),
+    ),
+    (0, 1, &[FIRST, 1, 7, 9], 40, CoreFault::Trailing(40)),
+    (0, 0, &[9], 16, CoreFault::Trailing(16)),
+];
+
+#[test]
+fn good_numbers(rt: HostRuntime) -> Result<(), Fail> {
+    for (contexts, segments, numbers) in GOOD {
+        let bytes = file(rt.alloc(), contexts, segments, numbers)?;
+        assert!(rt; decode(rt.alloc(), &bytes).is_ok(), "{numbers:?}");
+    }
+    Ok(())
+}
+
+#[test]
+fn bad_numbers(rt: HostRuntime) -> Result<(), Fail> {
+    for (contexts, segments, numbers, at, why) in BAD {
+        let bytes = file(rt.alloc(), contexts, segments, numbers)?;
+        assert!(rt; is_refused(rt.alloc(), &bytes, at, why), "{numbers:?}");
+    }
+    Ok(())
+}
+
+#[test]
+fn most_contexts(rt: HostRuntime) -> Result<(), Fail> {
+    let mut ids = Vec::new(rt.alloc());
+    for at in 0..64u64 {
+        ids.push(3 * at)?;
+    }
+    let bytes = file(rt.alloc(), 64, 0, &ids)?;
+    let core = decode(rt.alloc(), &bytes)?;
+    assert_eq!(rt; core.contexts.len(), 64);
+    assert_eq!(rt; *core.contexts.get(63), 189);
+    Ok(())
+}
+
+#[test]
+fn most_segments(rt: HostRuntime) -> Result<(), Fail> {
+    let mut numbers = Vec::new(rt.alloc());
+    for at in 0..64u64 {
+        numbers.extend_from_slice(&[0x10000 + 16 * at, 1, at])?;
+    }
+    let bytes = file(rt.alloc(), 0, 64, &numbers)?;
+    let core = decode(rt.alloc(), &bytes)?;
+    assert_eq!(rt; core.segments.len(), 64);
+    assert_eq!(rt; core.segments.get(63).start, 0x103f0);
+    let again = encode(rt.alloc(), &core)?;
+    assert_eq!(rt; again.as_slice(), bytes.as_slice());
+    Ok(())
+}
+
+#[test]
+fn most_words(rt: HostRuntime) -> Result<(), Fail> {
+    let numbers = vec![in rt.alloc(); 9u64; 1048576]?;
+    let mut bytes = file(rt.alloc(), 0, 1, &[0x10000, 1048576])?;
+    for number in &numbers {
+        bytes.extend_from_slice(&number.to_le_bytes())?;
+    }
+    let core = decode(rt.alloc(), &bytes)?;
+    assert_eq!(rt; core.segments.len(), 1);
+    assert_eq!(rt; core.segments.get(0).words.len(), 1048576);
+    Ok(())
+}
+
+/// The faults in the order of their numbers, with their names.
+const NAMES: [(CoreFault, &str); 8] = [
+    (CoreFault::BadMagic, "BadMagic"),
+    (CoreFault::Version(2), "Version"),
+    (CoreFault::Order(1), "Order"),
+    (CoreFault::Short(3), "Short"),
+    (CoreFault::TooLarge(3), "TooLarge"),
+    (CoreFault::SegmentOrder(3), "SegmentOrder"),
+    (CoreFault::BadContext(3), "BadContext"),
+    (CoreFault::Trailing(3), "Trailing"),
+];
+
+#[test]
+fn names(rt: HostRuntime) -> Result<(), Fail> {
+    for (before, (fault, name)) in NAMES.into_iter().enumerate() {
+        assert_eq!(rt; fault.number() as usize, before + 1);
+        assert_eq!(rt; fault.text(), name);
+    }
+    let error = CoreError::Fault {
+        at: 3,
+        why: CoreFault::Short(3),
+    };
+    let text = format!(in rt.alloc(); "{error}")?;
+    assert_eq!(rt; text.as_str(), "no core: Short(3) at 3");
     Ok(())
 }

@@ -10,3 +10,4 @@ pub mod WellFormed
 pub mod Opening
 pub mod Rules
 pub mod Reached
+pub mod Views
