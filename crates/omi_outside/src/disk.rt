@@ -1,5 +1,5 @@
 // The thin edge over real files and standard output. It tells no bytes, and counts each fault.
-ghost use Rattle.std.specs.Prelude.{◌≤◌, IfOk, None, length};
+ghost use Rattle.std.specs.Prelude.{◌≡◌, ◌≤◌, IfOk, List, None, length, ℕ};
 
 use crate::{Failed, Files, Refused, Sink};
 use std::fs::{OpenFile, OpenOptions};
@@ -25,7 +25,11 @@ pub struct DiskFiles<R: fs::Files + AllocGlobal + Drop> {
 
 impl<R: fs::Files + AllocGlobal + Drop> DiskFiles<R> {
     /// No file is open, and both counts are 0.
-    pub fn new(rt: R) -> DiskFiles<R> {
+    pub fn new(rt: R) -> DiskFiles<R>
+        ensures told { (name : List ℕ) → ⟦<DiskFiles<R> as Files>⟧.told result name ≡ None }
+        ensures reads { ⟦<DiskFiles<R> as Files>⟧.reads result ≡ 0 }
+        ensures writes { ⟦<DiskFiles<R> as Files>⟧.writes result ≡ 0 }
+    {
         DiskFiles {
             rt,
             open: None,
@@ -133,7 +137,10 @@ pub struct StdSink<R: Print + Drop> {
 
 impl<R: Print + Drop> StdSink<R> {
     /// The count is 0.
-    pub fn new(rt: R) -> StdSink<R> {
+    pub fn new(rt: R) -> StdSink<R>
+        ensures told { ⟦<StdSink<R> as Sink>⟧.told result ≡ None }
+        ensures faults { ⟦<StdSink<R> as Sink>⟧.faults result ≡ 0 }
+    {
         StdSink { rt, faults: 0 }
     }
 }

@@ -1,0 +1,12 @@
+pub mod Added
+pub mod Answered
+pub mod Digits
+pub mod Splits
+pub mod Hyphens
+pub mod Matches
+pub mod Rows
+pub mod Rules
+pub mod Sees
+pub mod Shown
+pub mod Steps
+pub mod Textual

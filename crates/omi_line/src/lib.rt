@@ -1,0 +1,17 @@
+//! Command lines: how a list of words is split into positional words and options, and how a text is
+//! a number.
+#![tactic(auto)]
+
+mod line;
+mod numbers;
+mod text;
+
+pub use line::{Line, LineError, split};
+pub use numbers::number;
+pub use text::{Text, TextList};
+
+/// Memory ran out.
+pub type OutOfMemory = std::alloc::AllocError;
+
+#[cfg(test)]
+mod tests;
