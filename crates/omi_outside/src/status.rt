@@ -24,6 +24,8 @@ pub enum Status {
     Incompatible,
     /// Memory ran out.
     OutOfMemory,
+    /// What is asked for isn't built yet.
+    NotBuilt,
 }
 
 impl Status {
@@ -42,6 +44,7 @@ impl Status {
             Status::Damaged => 7,
             Status::Incompatible => 8,
             Status::OutOfMemory => 9,
+            Status::NotBuilt => 10,
         }
     }
 }

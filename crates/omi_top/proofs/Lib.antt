@@ -7,3 +7,8 @@ pub mod Shown
 pub mod Runs
 pub mod Stopping
 pub mod Left
+pub mod LeftByStop
+pub mod Plain
+pub mod Showing
+pub mod Looked
+pub mod LeftByShow

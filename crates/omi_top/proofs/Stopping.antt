@@ -1,9 +1,9 @@
 -- The exits of `stop`: what each result is an answer to.
-use Rattle.std.proofs.Common.{◌≡◌, ◌⊎◌, ◌<◌, ◌&&◌, inl, inr, ℕ, Bool, true, false, List, length, take, Option, Some, None, Ok, Err, String, string_bytes, if◌then◌else◌, refl, sym, ◌∙◌, ap, subst, arith, take_all, length-take-le, leb-false}
+use Rattle.std.proofs.Common.{◌≡◌, ◌⊎◌, ◌<◌, ◌&&◌, inl, inr, ℕ, Bool, true, false, List, length, take, Option, Some, None, Ok, Err, if◌then◌else◌, refl, sym, ◌∙◌, ap, subst, arith, take_all, length-take-le, leb-false}
 use Rattle.std.specs.Prelude.{nat_le}
 use Rattle.std.specs.Option.{option_and_then}
 use Rattle.std.specs.List.{list_all}
-use Rattle.std.specs.declared.alloc.Global.{Global}
+use Rattle.std.specs.Global.{Vec}
 use Rattle.std.proofs.lemmas.Bool.{leb-true}
 use Rattle.omi_outside.specs.Outside.{Told, holding, IsPartly}
 use Rattle.omi_outside.specs.declared.files.Refused.{Refused as RefusedWrite}
@@ -60,9 +60,9 @@ refused_answered budget content whole bytes r old is read cause =
 
 -- the answer of a program's run
 stop_answer : (budget : ℕ) (content : Option (List ℕ)) (whole bytes core text : List ℕ) (p : Program) → content ≡ Some bytes → whole ≡ take 65537 bytes
-    → Grammar whole p → IsStopped p budget core text → IsStopAnswer budget content (Gives core text)
+    → Grammar whole p → IsStopped p budget core text → IsStopAnswer budget content (Gives (Some core) text)
 stop_answer budget content whole bytes core text p is read grammar stopped =
-    subst (λ (c : Option (List ℕ)). IsStopAnswer budget c (Gives core text)) (sym is) (p, front_grammar bytes p (subst (λ (xs : List ℕ). Grammar xs p) read grammar), stopped)
+    subst (λ (c : Option (List ℕ)). IsStopAnswer budget c (Gives (Some core) text)) (sym is) (p, front_grammar bytes p (subst (λ (xs : List ℕ). Grammar xs p) read grammar), stopped)
 
 late : (r : RefusedWrite) → IsLate (refusal_of_write r)
 late refused.Failed = tt
@@ -72,10 +72,10 @@ late refused.OutOfMemory = tt
 pub partly_answered : (budget : ℕ) (content : Option (List ℕ)) (whole bytes core text : List ℕ) (p : Program) (r : RefusedWrite) (old new : Told) → content ≡ Some bytes → whole ≡ take 65537 bytes
     → Grammar whole p → IsStopped p budget core text → IsPartly old new core → IsAnswered (IsStopAnswer budget content) (Err (refusal_of_write r)) old new
 partly_answered budget content whole bytes core text p r old new is read grammar stopped partly =
-    inr (inr (late r, core, text, stop_answer budget content whole bytes core text p is read grammar stopped, partly))
+    inr (inr (late r, Some core, text, stop_answer budget content whole bytes core text p is read grammar stopped, partly))
 
 -- the core is written, and the text is handed up
-pub done_answered : (budget : ℕ) (content : Option (List ℕ)) (whole bytes core : List ℕ) (text : String Global) (p : Program) (old new : Told) → content ≡ Some bytes → whole ≡ take 65537 bytes
-    → Grammar whole p → IsStopped p budget core (string_bytes text) → new ≡ holding old core → IsAnswered (IsStopAnswer budget content) (Ok text) old new
+pub done_answered : (budget : ℕ) (content : Option (List ℕ)) (whole bytes core : List ℕ) (text : Vec ℕ) (p : Program) (old new : Told) → content ≡ Some bytes → whole ≡ take 65537 bytes
+    → Grammar whole p → IsStopped p budget core text.items → new ≡ holding old core → IsAnswered (IsStopAnswer budget content) (Ok text) old new
 done_answered budget content whole bytes core text p old new is read grammar stopped held =
-    (core, stop_answer budget content whole bytes core (string_bytes text) p is read grammar stopped, held)
+    (Some core, stop_answer budget content whole bytes core text.items p is read grammar stopped, held)

@@ -1,10 +1,11 @@
 -- What a command is to answer, by what is told of the file that it reads, and what a call leaves.
-use Rattle.std.specs.Prelude.{◌≡◌, ◌⊎◌, ℕ, List, [], ◌∷◌, Option, Some, None, Result, Ok, Err, String, string_bytes, ⊤}
-use Rattle.std.specs.declared.alloc.Global.{Global}
+use Rattle.std.specs.Prelude.{◌≡◌, ◌⊎◌, ℕ, List, [], ◌∷◌, Option, Some, None, Result, Ok, Err, ⊤}
+use Rattle.std.specs.Global.{Vec}
 use Rattle.omi_outside.specs.Outside.{Told, holding, IsPartly, IsPartlyPut, put_on}
 use Rattle.omi_outside.specs.declared.status.Status.{Status}
 use Rattle.omi_outside.specs.declared.status.Status.TheVariants as status
-use Rattle.omi_corefile.specs.Spelling.{core_bytes}
+use Rattle.omi_corefile.specs.Spelling.{Core, core_bytes}
+use Rattle.omi_corefile.specs.declared.core_image.CoreImage.{CoreImage}
 use Rattle.omi_script.specs.Grammar.{Grammar, Refused}
 use Rattle.omi_script.specs.declared.fault.ScriptFault.{ScriptFault}
 use Rattle.omi_script.specs.declared.program.Program.{Program}
@@ -14,8 +15,10 @@ use Rattle.omi_top.specs.declared.entry.End.{End}
 use Rattle.omi_top.specs.declared.refusal.Refusal.{Refusal}
 use Rattle.omi_top.specs.declared.refusal.Refusal.TheVariants as refusal
 use Rattle.omi_top.specs.Codes.{native_id}
-use Rattle.omi_top.specs.Command.{Command, Stop, Faulty}
+use Rattle.omi_top.specs.Command.{Command, Stop, Show, Faulty}
+use Rattle.omi_text.specs.Report.{report}
 use Rattle.omi_top.specs.Lines.{run_text}
+use Rattle.omi_top.specs.LookView.{IsPlain, look_view}
 use Rattle.omi_top.specs.Refusal.{line_of, status_of}
 use Rattle.omi_top.specs.Run.{IsRun}
 
@@ -29,21 +32,37 @@ pub record IsStopped (p : Program) (budget : ℕ) (core text : List ℕ) : Type 
   pub core_is : core ≡ core_bytes (native_id 0 ∷ []) words
   pub text_is : text ≡ run_text entries end
 
--- the answer to a command: a refusal, or the bytes of a core and a text
+-- the answer to a command: a refusal, or the bytes of the core that it writes, if it writes one, and a text
 pub data Answer : Type 0 where
   Refuses : (refusal : Refusal) → Answer
-  Gives : (core text : List ℕ) → Answer
+  Gives : (core : Option (List ℕ)) (text : List ℕ) → Answer
 
 -- an answer of `stop`, by the content of the script's file: none, a text that the grammar refuses, or a program
 abbrev pub IsStopAnswer : ℕ → Option (List ℕ) → Answer → Type 0
 IsStopAnswer budget None (Refuses r) = r ≡ refusal.NoFile
 IsStopAnswer budget None (Gives core text) = ⊥
 IsStopAnswer budget (Some bytes) (Refuses r) = (fault : ScriptFault) × Refused bytes fault × (r ≡ refusal.Script fault)
-IsStopAnswer budget (Some bytes) (Gives core text) = (p : Program) × Grammar bytes p × IsStopped p budget core text
+IsStopAnswer budget (Some bytes) (Gives None text) = ⊥
+IsStopAnswer budget (Some bytes) (Gives (Some core) text) = (p : Program) × Grammar bytes p × IsStopped p budget core text
+
+-- a file is a plain core with these words
+pub record IsPlainCore (bytes words : List ℕ) : Type 0 where
+  pub core : CoreImage
+  pub spelled : Core bytes core
+  pub plain : IsPlain core words
+
+-- an answer of `show`, by the content of the core's file: none, a plain core, or anything else
+abbrev pub IsShowAnswer : Option (List ℕ) → Answer → Type 0
+IsShowAnswer None (Refuses r) = r ≡ refusal.NoFile
+IsShowAnswer None (Gives core text) = ⊥
+IsShowAnswer (Some bytes) (Refuses r) = ((words : List ℕ) → IsPlainCore bytes words → ⊥) × (r ≡ refusal.NotBuilt)
+IsShowAnswer (Some bytes) (Gives None text) = (words : List ℕ) × IsPlainCore bytes words × (text ≡ report (look_view words))
+IsShowAnswer (Some bytes) (Gives (Some core) text) = ⊥
 
 -- an answer of a command, by the content of the file that it reads
 abbrev pub IsAnswer : Command → Option (List ℕ) → Answer → Type 0
 IsAnswer (Stop budget script core) content answer = IsStopAnswer budget content answer
+IsAnswer (Show core) content answer = IsShowAnswer content answer
 IsAnswer Faulty content (Refuses r) = r ≡ refusal.Usage
 IsAnswer Faulty content (Gives core text) = ⊥
 
@@ -58,12 +77,21 @@ IsLate refusal.WriteFault = ⊤
 IsLate refusal.OutOfMemory = ⊤
 IsLate r = ⊥
 
+-- the file holds what a command writes, or a part of it. A command that writes nothing leaves it.
+abbrev pub Holds : Option (List ℕ) → Told → Told → Type 0
+Holds None old new = new ≡ old
+Holds (Some core) old new = new ≡ holding old core
+
+abbrev pub HoldsPart : Option (List ℕ) → Told → Told → Type 0
+HoldsPart None old new = new ≡ old
+HoldsPart (Some core) old new = IsPartly old new core
+
 -- What a command gave, and what it left of the file that it writes: the answer and the core; the answer's refusal; or a fault, before the core or within it.
-abbrev pub IsAnswered : (Answer → Type 0) → Result (String Global) Refusal → Told → Told → Type 0
-IsAnswered P (Ok text) old new = (core : List ℕ) × P (Gives core (string_bytes text)) × (new ≡ holding old core)
+abbrev pub IsAnswered : (Answer → Type 0) → Result (Vec ℕ) Refusal → Told → Told → Type 0
+IsAnswered P (Ok text) old new = (core : Option (List ℕ)) × P (Gives core text.items) × Holds core old new
 IsAnswered P (Err r) old new =
     (P (Refuses r) × (new ≡ old))
-    ⊎ ((IsEarly r × (new ≡ old)) ⊎ (IsLate r × (core : List ℕ) × (text : List ℕ) × P (Gives core text) × IsPartly old new core))
+    ⊎ ((IsEarly r × (new ≡ old)) ⊎ (IsLate r × (core : Option (List ℕ)) × (text : List ℕ) × P (Gives core text) × HoldsPart core old new))
 
 -- a line is put whole, or not at all; None is a refusal that prints nothing
 abbrev pub IsSaid : Option (List ℕ) → Option (List ℕ) → Option (List ℕ) → Type 0
@@ -72,7 +100,7 @@ IsSaid (Some line) old new = (new ≡ old) ⊎ (new ≡ put_on old line)
 
 -- the file and the output after a fault: an answer's core is partly written and its text partly put
 abbrev pub IsPartlyDone : (Answer → Type 0) → Told → Told → Option (List ℕ) → Option (List ℕ) → Type 0
-IsPartlyDone P old new out after = (core : List ℕ) × (text : List ℕ) × P (Gives core text) × IsPartly old new core × IsPartlyPut text out after
+IsPartlyDone P old new out after = (core : Option (List ℕ)) × (text : List ℕ) × P (Gives core text) × HoldsPart core old new × IsPartlyPut text out after
 
 -- a refusal with this status is the answer, nothing is written, and its line is said
 abbrev pub IsRefused : List ℕ → (Answer → Type 0) → Status → Told → Told → Option (List ℕ) → Option (List ℕ) → Type 0
@@ -80,10 +108,11 @@ IsRefused name P status old new out after = (r : Refusal) × (status_of r ≡ st
 
 -- What a call with this status leaves of the file that it writes and of the output, where the file that it reads has this name.
 abbrev pub IsLeft : List ℕ → (Answer → Type 0) → Status → Told → Told → Option (List ℕ) → Option (List ℕ) → Type 0
-IsLeft name P status.Success old new out after = (core : List ℕ) × (text : List ℕ) × P (Gives core text) × (new ≡ holding old core) × (after ≡ put_on out text)
+IsLeft name P status.Success old new out after = (core : Option (List ℕ)) × (text : List ℕ) × P (Gives core text) × Holds core old new × (after ≡ put_on out text)
 IsLeft name P status.Usage old new out after = IsRefused name P status.Usage old new out after
 IsLeft name P status.NoFile old new out after = IsRefused name P status.NoFile old new out after
 IsLeft name P status.Script old new out after = IsRefused name P status.Script old new out after
+IsLeft name P status.NotBuilt old new out after = IsRefused name P status.NotBuilt old new out after
 IsLeft name P status.ReadFault old new out after = (new ≡ old) × IsSaid (line_of name refusal.ReadFault) out after
 IsLeft name P status.WriteFault old new out after = IsPartlyDone P old new out after
 IsLeft name P status.OutOfMemory old new out after = ((new ≡ old) × (after ≡ out)) ⊎ IsPartlyDone P old new out after

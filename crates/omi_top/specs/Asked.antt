@@ -1,14 +1,16 @@
 -- A request of the program as a command.
 use Rattle.std.specs.Prelude.{◌≤◌, ⊤}
-use Rattle.omi_top.specs.Command.{Command, Stop, Faulty}
+use Rattle.omi_top.specs.Command.{Command, Stop, Show, Faulty}
 use Rattle.omi_top.specs.declared.command.Request.{Request}
 use Rattle.omi_top.specs.declared.command.Request.TheVariants as request
 
 abbrev pub asked : Request → Command
 asked (request.Stop steps script core) = Stop steps script.now core.now
+asked (request.Show core) = Show core.now
 asked request.Faulty = Faulty
 
 -- the number of steps is in its range
 abbrev pub IsBounded : Request → Type 0
 IsBounded (request.Stop steps script core) = steps ≤ 1000000
+IsBounded (request.Show core) = ⊤
 IsBounded request.Faulty = ⊤

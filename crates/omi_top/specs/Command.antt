@@ -6,24 +6,29 @@ use Rattle.omi_script.specs.Numbers.{number_of}
 -- a command of the program, or words that are none
 pub data Command : Type 0 where
   Stop : (steps : ℕ) (script core : List ℕ) → Command
+  Show : (core : List ℕ) → Command
   Faulty : Command
 
--- `stop STEPS SCRIPT CORE`, with STEPS 0 to 1,000,000
+-- `stop STEPS SCRIPT CORE`, with STEPS 0 to 1,000,000, or `show CORE`
 abbrev pub command_of : List (List ℕ) → Command
 command_of (verb ∷ steps ∷ script ∷ core ∷ []) =
     if bytes_eq verb (codes "stop") then option_map_or (λ n. Stop n script core) (number_of 0 1000000 steps) Faulty else Faulty
+command_of (verb ∷ core ∷ []) = if bytes_eq verb (codes "show") then Show core else Faulty
 command_of words = Faulty
 
 -- the name of the file that a command reads, and of the one that it writes
 abbrev pub read_name : Command → List ℕ
 read_name (Stop steps script core) = script
+read_name (Show core) = core
 read_name Faulty = []
 
 abbrev pub written_name : Command → List ℕ
 written_name (Stop steps script core) = core
+written_name (Show core) = []
 written_name Faulty = []
 
 -- a command writes the file of this name
 abbrev pub Writes : Command → List ℕ → Type 0
 Writes (Stop steps script core) name = name ≡ core
+Writes (Show core) name = ⊥
 Writes Faulty name = ⊥

@@ -6,6 +6,7 @@ pub mod Shows
 pub mod Steps
 pub mod Run
 pub mod Lines
+pub mod LookView
 pub mod Runner
 pub mod Command
 pub mod Asked

@@ -29,6 +29,7 @@ status_of refusal.NoFile = status.NoFile
 status_of refusal.ReadFault = status.ReadFault
 status_of refusal.WriteFault = status.WriteFault
 status_of (refusal.Script fault) = status.Script
+status_of refusal.NotBuilt = status.NotBuilt
 status_of refusal.OutOfMemory = status.OutOfMemory
 
 -- line, number and name of a fault of a script
@@ -41,5 +42,6 @@ line_of name refusal.Usage = Some (codes "usage" ++ 10 ∷ [])
 line_of name refusal.NoFile = Some (codes "no file " ++ (name ++ 10 ∷ []))
 line_of name refusal.ReadFault = Some (codes "read fault " ++ (name ++ 10 ∷ []))
 line_of name (refusal.Script fault) = Some (fault_line fault)
+line_of name refusal.NotBuilt = Some (codes "not built" ++ 10 ∷ [])
 line_of name refusal.WriteFault = None
 line_of name refusal.OutOfMemory = None

@@ -15,6 +15,9 @@ pub enum Request<'a> {
         script: &'a str,
         core: &'a str,
     },
+    Show {
+        core: &'a str,
+    },
     Faulty,
 }
 
@@ -34,6 +37,9 @@ pub fn request_of(words: &Vec<String>) -> Request<'_>
                 None => Request::Faulty,
             }
         }
+        [verb, core] if verb.as_str() == "show" => Request::Show {
+            core: core.as_str(),
+        },
         _ => Request::Faulty,
     }
 }
@@ -44,6 +50,7 @@ pub fn input_name(request: Request<'_>) -> &str
 {
     match request {
         Request::Stop { script, .. } => script,
+        Request::Show { core } => core,
         Request::Faulty => "",
     }
 }

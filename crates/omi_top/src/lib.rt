@@ -4,9 +4,12 @@
 mod command;
 mod entry;
 mod lines;
+mod load;
+mod look;
 mod opening;
 mod refusal;
 mod runner;
+mod show;
 mod stop;
 mod tables;
 mod top;
@@ -15,5 +18,7 @@ pub use entry::{End, Entry};
 pub use refusal::Refusal;
 pub use top::run_top;
 
+#[cfg(test)]
+mod show_tests;
 #[cfg(test)]
 mod tests;

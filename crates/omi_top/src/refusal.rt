@@ -20,6 +20,8 @@ pub enum Refusal {
     WriteFault,
     /// The grammar of scripts refuses the script.
     Script(ScriptFault),
+    /// The file is no plain core, and `show` reads no other yet.
+    NotBuilt,
     /// Memory ran out.
     OutOfMemory,
 }
@@ -74,6 +76,7 @@ impl Refusal {
             Refusal::ReadFault => Status::ReadFault,
             Refusal::WriteFault => Status::WriteFault,
             Refusal::Script(_) => Status::Script,
+            Refusal::NotBuilt => Status::NotBuilt,
             Refusal::OutOfMemory => Status::OutOfMemory,
         }
     }

@@ -7,35 +7,17 @@ ghost use Rattle.omi_top.specs.Answer.{IsAnswered, IsEarly, IsStopAnswer, IsStop
 
 use crate::Refusal;
 use crate::lines::text_of;
+use crate::load::load;
 use crate::opening::opening_image;
 use crate::runner::run;
 use omi_corefile::core_bytes_of;
-use omi_outside::{Files, ReadError, read_whole, write_whole};
+use omi_outside::{Files, write_whole};
 use omi_script::{Program, parse};
 use omi_word::{Natives, OutOfMemory};
 use std::alloc::Global;
 
 /// The most bytes that are read of a script: one more than a script may have.
 const SCRIPT_LIMIT: u64 = 65_537;
-
-/// Reads a script's file.
-fn load<F: Files>(alloc: Global, name: &str, files: &mut F) -> Result<Vec<u8>, Refusal>
-    ensures bytes { (content : Option (List ℕ)) → F.told files.old name.now ≡ Some content
-        → IfOk result (λ whole. (bytes : List ℕ) × (content ≡ Some bytes) × (whole.items ≡ take 65537 bytes)) }
-    ensures no_file { (content : Option (List ℕ)) → F.told files.old name.now ≡ Some content
-        → IfErr result (λ r. (r ≡ Refusal.NoFile × content ≡ None) ⊎ IsEarly r) }
-    ensures kind { IfErr result (λ r. (r ≡ Refusal.NoFile) ⊎ IsEarly r) }
-    ensures cause { HasCause (F.reads files.old) (F.reads files.new) (IsErrOf result Refusal.ReadFault) }
-    ensures same { F.told files.new ≡ F.told files.old }
-    ensures writes { F.writes files.new ≡ F.writes files.old }
-{
-    match read_whole(alloc, files, name, SCRIPT_LIMIT) {
-        Ok(bytes) => Ok(bytes),
-        Err(ReadError::NoFile) => Err(Refusal::NoFile),
-        Err(ReadError::Failed) => Err(Refusal::ReadFault),
-        Err(ReadError::OutOfMemory) => Err(Refusal::OutOfMemory),
-    }
-}
 
 /// The program of a script.
 fn program(alloc: Global, bytes: &[u8]) -> Result<Program, Refusal>
@@ -71,7 +53,7 @@ pub fn stop<F: Files, W: Files>(
     core: &str,
     files: &mut F,
     dest: &mut W,
-) -> Result<String, Refusal>
+) -> Result<Vec<u8>, Refusal>
     ensures answer { (content : Option (List ℕ)) → F.told files.old script.now ≡ Some content
         → IsAnswered (IsStopAnswer budget content) result (W.told dest.old core.now) (W.told dest.new core.now) }
     ensures usage { result ≢ Err Refusal.Usage }
@@ -82,9 +64,9 @@ pub fn stop<F: Files, W: Files>(
     ensures dest_reads { W.reads dest.new ≡ W.reads dest.old }
     ensures others { (other : List ℕ) → other ≢ core.now → W.told dest.new other ≡ W.told dest.old other }
 {
-    let bytes = load(alloc, script, files)?;
+    let bytes = load(alloc, script, SCRIPT_LIMIT, files)?;
     let p = program(alloc, &bytes)?;
     let (image, text) = stopped(alloc, &p, budget)?;
     write_whole(dest, core, &image)?;
-    Ok(text)
+    Ok(text.into_bytes())
 }

@@ -5,9 +5,9 @@ use std::process::Abort;
 use std::test::Fail;
 
 /// An empty program, and one that changes two variables.
-const EMPTY: &str = "func main\nend\n";
+pub const EMPTY: &str = "func main\nend\n";
 
-const CHANGED: &str =
+pub const CHANGED: &str =
     "threads 1\nenv num_threads 4,2\nfunc main\nset_num_threads 3\nset_dynamic 1\nwork\nend\n";
 
 const CHANGED_LINES: &str = "1 t0 set nthreads-var 3
@@ -21,7 +21,7 @@ const CHANGED_LINES: &str = "1 t0 set nthreads-var 3
 end steps 8 events 8 by done
 ";
 
-fn words(alloc: Global, line: &[&str]) -> Result<Vec<String>, AllocError> {
+pub fn words(alloc: Global, line: &[&str]) -> Result<Vec<String>, AllocError> {
     let mut words = Vec::new(alloc);
     for word in line {
         words.push(String::from_str(alloc, word)?)?;
@@ -31,14 +31,14 @@ fn words(alloc: Global, line: &[&str]) -> Result<Vec<String>, AllocError> {
 
 /// What a call made and left.
 #[derive(Drop)]
-struct Done {
-    status: Status,
-    dest: MemFiles,
-    out: MemSink,
+pub struct Done {
+    pub status: Status,
+    pub dest: MemFiles,
+    pub out: MemSink,
 }
 
 /// Runs a line over a script, with calls that are to fail.
-fn call(
+pub fn call(
     alloc: Global,
     line: &[&str],
     script: &str,

@@ -1,16 +1,22 @@
-ghost use Rattle.std.specs.Prelude.{◌≡◌, ◌≢◌, ◌⊎◌, ◌↔◌, ◌≤◌, ◌^◌, List, ℕ, Option, Some, None, IfOk, IsErrOf, map, string_bytes};
+ghost use Rattle.std.specs.Prelude.{◌≡◌, ◌≢◌, ◌⊎◌, ◌↔◌, ◌≤◌, ◌^◌, ◌∷◌, [], List, ℕ, Option, Some, None, IfOk, IsErrOf, map, string_bytes};
 ghost use Rattle.std.specs.Option.{option_map};
 ghost use Rattle.omi_outside.specs.Outside.{HasCause, Rose, IsPartlyPut, holding, put_on};
 ghost use Rattle.omi_script.specs.Grammar.{Grammar, Refused as RefusedScript};
 ghost use Rattle.omi_script.specs.declared.fault.ScriptFault.{ScriptFault};
 ghost use Rattle.omi_script.specs.declared.program.Program.{Program};
-ghost use Rattle.omi_top.specs.Command.{Command, Stop, Faulty, command_of, read_name, written_name, Writes};
+ghost use Rattle.omi_top.specs.Command.{Command, Stop, Show, Faulty, command_of, read_name, written_name, Writes};
 ghost use Rattle.omi_top.specs.Asked.{asked, IsBounded};
-ghost use Rattle.omi_top.specs.Answer.{IsAnswer, IsAnswered, IsStopped, IsSaid, IsLeft, ComesWhere};
+ghost use Rattle.omi_top.specs.Answer.{IsAnswer, IsAnswered, IsPlainCore, IsStopped, IsSaid, IsLeft, ComesWhere};
+ghost use Rattle.omi_top.specs.LookView.{look_view};
 ghost use Rattle.omi_top.specs.Refusal.{line_of as refusal_line, status_of};
+ghost use Rattle.omi_top.specs.Shows.{Shows};
+ghost use Rattle.omi_model.specs.State.{State};
+ghost use Rattle.omi_model.specs.Views.{IsViewOf};
+ghost use Rattle.omi_text.specs.Report.{report as report_of};
 
 use crate::Refusal;
 use crate::command::{Request, input_name, request_of};
+use crate::show::show;
 use crate::stop::stop;
 use omi_outside::{Files, Refused, Sink, Status, put_whole};
 use std::alloc::{AllocError, Global};
@@ -21,7 +27,7 @@ fn perform<F: Files, W: Files>(
     request: Request<'_>,
     files: &mut F,
     dest: &mut W,
-) -> Result<String, Refusal>
+) -> Result<Vec<u8>, Refusal>
     requires { IsBounded request }
     ensures answer { (content : Option (List ℕ)) → F.told files.old (read_name (asked request.entry)) ≡ Some content
         → IsAnswered (IsAnswer (asked request.entry) content) result (W.told dest.old (written_name (asked request.entry))) (W.told dest.new (written_name (asked request.entry))) }
@@ -40,6 +46,7 @@ fn perform<F: Files, W: Files>(
             script,
             core,
         } => stop(alloc, steps, script, core, files, dest),
+        Request::Show { core } => show(alloc, core, files),
         Request::Faulty => Err(Refusal::Usage),
     }
 }
@@ -68,6 +75,7 @@ fn line_of(
             let text = fault.why.text();
             format!(in alloc; "script {line} {number} {text}\n")?
         }
+        Refusal::NotBuilt => String::from_str(alloc, "not built\n")?,
         Refusal::WriteFault | Refusal::OutOfMemory => return Ok(None),
     };
     Ok(Some(line))
@@ -86,13 +94,13 @@ fn refuse<K: Sink>(alloc: Global, request: Request<'_>, refusal: Refusal, out: &
 }
 
 /// Puts the text of an answer.
-fn print<K: Sink>(text: &str, out: &mut K) -> Status
+fn print<K: Sink>(text: &[u8], out: &mut K) -> Status
     ensures success { result ≡ Status.Success → K.told out.new ≡ put_on (K.told out.old) text.now }
     ensures partly { IsPartlyPut text.now (K.told out.old) (K.told out.new) }
     ensures status { (result ≡ Status.Success) ⊎ ((result ≡ Status.WriteFault) ⊎ (result ≡ Status.OutOfMemory)) }
     ensures cause { HasCause (K.faults out.old) (K.faults out.new) (result ≡ Status.WriteFault) }
 {
-    match put_whole(out, text.as_bytes()) {
+    match put_whole(out, text) {
         Ok(()) => Status::Success,
         Err(Refused::Failed) => Status::WriteFault,
         Err(Refused::OutOfMemory) => Status::OutOfMemory,
@@ -121,14 +129,14 @@ fn carry_out<F: Files, W: Files, K: Sink>(
     ensures others { (other : List ℕ) → (Writes (asked request.entry) other → ⊥) → W.told dest.new other ≡ W.told dest.old other }
 {
     match perform(alloc, request, files, dest) {
-        Ok(text) => print(text.as_str(), out),
+        Ok(text) => print(&text, out),
         Err(refusal) => refuse(alloc, request, refusal, out),
     }
 }
 
 /// All that the program does with the words behind its name: `stop STEPS SCRIPT CORE` runs the program of a script
-/// for at most STEPS steps, writes its core and prints its events. It reads from `files` alone, writes to `dest` alone
-/// and prints to `out`.
+/// for at most STEPS steps, writes its core and prints its events; `show CORE` prints the report of a core. It reads
+/// from `files` alone, writes to `dest` alone and prints to `out`.
 pub fn run_top<F: Files, W: Files, K: Sink>(
     alloc: Global,
     words: &Vec<String>,
@@ -152,6 +160,18 @@ pub fn run_top<F: Files, W: Files, K: Sink>(
         → F.told files.old script ≡ Some (Some bytes) → result ≡ Status.Success
         → (p : Program) × (written : List ℕ) × (text : List ℕ) × Grammar bytes p × IsStopped p budget written text
         × (W.told dest.new core ≡ holding (W.told dest.old core) written) × (K.told out.new ≡ put_on (K.told out.old) text) }
+
+    // The same of the core's file, for `show`: there is none, or it is no plain core, exactly where the status says so.
+    ensures no_core { (core : List ℕ) (content : Option (List ℕ)) → command_of (map string_bytes words.now.items) ≡ Show core
+        → F.told files.old core ≡ Some content → ComesWhere Status.NoFile result (content ≡ None) }
+    ensures not_built { (core bytes : List ℕ) → command_of (map string_bytes words.now.items) ≡ Show core
+        → F.told files.old core ≡ Some (Some bytes) → ComesWhere Status.NotBuilt result ((plain : List ℕ) → IsPlainCore bytes plain → ⊥) }
+
+    // With success what is put is the report of the core's words: of each state that they show, exactly its view.
+    ensures report { (core bytes : List ℕ) → command_of (map string_bytes words.now.items) ≡ Show core
+        → F.told files.old core ≡ Some (Some bytes) → result ≡ Status.Success
+        → (plain : List ℕ) × IsPlainCore bytes plain × (K.told out.new ≡ put_on (K.told out.old) (report_of (look_view plain)))
+        × ((s : State) → Shows plain s → IsViewOf s (1000 ∷ []) (look_view plain)) }
 
     // What is left of the core and of the output with every status.
     ensures left { (content : Option (List ℕ)) → F.told files.old (read_name (command_of (map string_bytes words.now.items))) ≡ Some content

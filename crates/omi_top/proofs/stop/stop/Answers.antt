@@ -1,5 +1,7 @@
-use Rattle.std.proofs.Common.{◌∙◌, string_bytes}
+use Rattle.std.proofs.Common.{ℕ, sym, subst, ◌∙◌, string_bytes}
+use Rattle.std.specs.Global.{Vec}
 use Rattle.std.proofs.lemmas.Result.{err_from_is_err_and}
+use Rattle.omi_top.specs.Answer.{IsStopped}
 use Rattle.omi_top.proofs.Stopping.{refused_answered, partly_answered, done_answered}
 use Rattle.omi_top.proofs.stop.stop.Goals as goal
 
@@ -19,5 +21,5 @@ returns-in_err-write_whole-clause-answer g c = λ content told.
 pub returns-clause-answer : goal.returns-clause-answer
 returns-clause-answer g c = λ content told.
     let read = c.in_ok-bytes.ensures.bytes content told in
-    done_answered c.args.budget content c.deref.result.now read.0 c.in_ok-image.image.items c.in_ok-image.text c.in_ok-p.p _ _
-    read.1 (c.deref.ensures.value ∙ read.2) c.in_ok-p.ensures.accepted c.in_ok-image.ensures (rw (← c.deref-2.ensures.value) c.in_ok-write_whole.ensures.written)
+    done_answered c.args.budget content c.deref.result.now read.0 c.in_ok-image.image.items c.into_bytes.result c.in_ok-p.p _ _
+    read.1 (c.deref.ensures.value ∙ read.2) c.in_ok-p.ensures.accepted (subst (λ (v : Vec ℕ). IsStopped c.in_ok-p.p c.args.budget c.in_ok-image.image.items v.items) (sym c.into_bytes.ensures.value) c.in_ok-image.ensures) (rw (← c.deref-2.ensures.value) c.in_ok-write_whole.ensures.written)

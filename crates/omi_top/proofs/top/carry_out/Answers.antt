@@ -7,7 +7,7 @@ use Rattle.omi_top.proofs.top.carry_out.Goals as goal
 pub returns-in-Ok-clause-left : goal.returns-in-Ok-clause-left
 returns-in-Ok-clause-left g c = λ content told.
     ok_left (read_name (asked c.args.request)) (IsAnswer (asked c.args.request) content) c.in-Ok.text _ _ c.print.result (g.K.Sink.told c.args.out.now) (g.K.Sink.told c.print.new.out)
-    (c.in-Ok.ensures.answer content told) c.print.ensures.status (λ done. rw (← c.as_str.ensures.value) (c.print.ensures.success done)) (rw (← c.as_str.ensures.value) c.print.ensures.partly)
+    (c.in-Ok.ensures.answer content told) c.print.ensures.status (λ done. rw (← c.deref.ensures.value) (c.print.ensures.success done)) (rw (← c.deref.ensures.value) c.print.ensures.partly)
 
 pub returns-in-Err-clause-left : goal.returns-in-Err-clause-left
 returns-in-Err-clause-left g c = λ content told.

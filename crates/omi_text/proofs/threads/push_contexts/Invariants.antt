@@ -1,0 +1,9 @@
+use Rattle.std.proofs.Common.{◌≡◌, ◌++◌, drop}
+use Rattle.std.specs.Prelude.{string_bytes}
+use Rattle.std.specs.List.{flat_map}
+use Rattle.omi_text.specs.Threads.{context_line}
+use Rattle.omi_text.proofs.threads.push_contexts.Given as goal
+
+-- the lines so far, and those of the rows that are left
+abbrev pub invariant-loop-at : goal.invariant-loop-at
+invariant-loop-at l = string_bytes l.text ++ flat_map context_line (drop l.at l.rows) ≡ string_bytes l.fn.text ++ flat_map context_line l.rows

@@ -1,0 +1,9 @@
+pub mod Numbers
+pub mod Lines
+pub mod Names
+pub mod Ids
+pub mod Head
+pub mod Threads
+pub mod Regions
+pub mod Tasks
+pub mod Report

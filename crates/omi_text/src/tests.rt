@@ -1,0 +1,376 @@
+use super::*;
+use crate::names::kind_name;
+use omi_model::{
+    HeadRow, Id, MemberRow, MemberRows, RegionRow, RegionRows, Rid, TaskRow, TaskRows, ThreadPart,
+    ThreadRow, ThreadRows, Tid, View,
+};
+use omi_script::NumList;
+use std::alloc::{AllocError, Global};
+use std::test::*;
+
+fn task(creator: u8, slot: u16) -> Tid {
+    Tid(Id {
+        creator,
+        slot,
+        generation: 0,
+    })
+}
+
+fn region(creator: u8, slot: u16) -> Rid {
+    Rid(Id {
+        creator,
+        slot,
+        generation: 0,
+    })
+}
+
+fn numbers(alloc: Global, given: &[u64]) -> Result<NumList, AllocError> {
+    let mut list = NumList::new(alloc);
+    for n in given {
+        list.push(*n)?;
+    }
+    Ok(list)
+}
+
+/// A view with no rows.
+fn bare(alloc: Global, threads: u8, debug: u64) -> View {
+    View {
+        head: HeadRow {
+            version: 201811,
+            threads,
+            debug,
+            procs: 4,
+            max_active: 8,
+        },
+        threads: ThreadRows::new(alloc),
+        regions: RegionRows::new(alloc),
+        tasks: TaskRows::new(alloc),
+    }
+}
+
+/// The row of a thread with its native id.
+fn thread(
+    thread: u8,
+    state: Option<(u32, u64)>,
+    number: Option<u64>,
+    current: Option<Tid>,
+) -> ThreadRow {
+    ThreadRow {
+        native: 1000 + u64::from(thread),
+        found: Some(ThreadPart {
+            thread,
+            state,
+            number,
+            current,
+        }),
+    }
+}
+
+/// The row of the initial region, whose function has this address.
+fn initial_region(alloc: Global, func: u64) -> Result<RegionRow, AllocError> {
+    let mut members = MemberRows::new(alloc);
+    members.push(MemberRow {
+        thread: 0,
+        task: task(0, 0),
+    })?;
+    Ok(RegionRow {
+        region: region(0, 0),
+        func,
+        levels: 0,
+        active: 0,
+        size: 1,
+        enclosing: None,
+        members,
+    })
+}
+
+/// The row of the initial task, whose function has this address.
+fn initial_task(func: u64, enter: u64, dyn_var: u64, nthreads: NumList) -> TaskRow {
+    TaskRow {
+        task: task(0, 0),
+        thread: 0,
+        implicit: 1,
+        region: region(0, 0),
+        func,
+        generating: None,
+        scheduling: None,
+        exit: 0x7f00000fffc0,
+        enter,
+        tool: 0,
+        dyn_var,
+        nthreads,
+        sched: 1,
+        device: 0,
+        final_task: 0,
+    }
+}
+
+/// The report of a program of one thread at its initial task.
+fn alone(
+    alloc: Global,
+    debug: u64,
+    state: Option<(u32, u64)>,
+    dyn_var: u64,
+    nthreads: &[u64],
+) -> Result<Vec<u8>, AllocError> {
+    let mut view = bare(alloc, 1, debug);
+    view.threads
+        .push(thread(0, state, Some(0), Some(task(0, 0))))?;
+    view.regions.push(initial_region(alloc, 0x400000)?)?;
+    let list = numbers(alloc, nthreads)?;
+    view.tasks.push(initial_task(0x400000, 0, dyn_var, list))?;
+    report_text(alloc, &view)
+}
+
+const EMPTY_RUN: &str = "ompd 201811 threads 1 debug enabled
+icv num-procs-var=4 max-active-levels-var=8
+thread 0 native 1000 state work_serial wait 0 thread-num-var=0 current k0.0.0
+region r0.0.0 function 0x400000 levels-var=0 active-levels-var=0 team-size-var=1 enclosing none
+member 0 thread 0 task k0.0.0
+task k0.0.0 thread 0 kind implicit region r0.0.0 function 0x400000 generating none scheduling none exit 0x7f00000fffc0 enter 0x0 tool 0
+icv dyn-var=0 nthreads-var=1 run-sched-var=static,0 default-device-var=0 final-task-var=0 implicit-task-var=1
+";
+
+#[test]
+fn an_empty_run(rt: HostRuntime) -> Result<(), Fail> {
+    let text = alone(rt.alloc(), 1, Some((0, 0)), 0, &[1])?;
+    assert_eq!(rt; text.as_slice(), EMPTY_RUN.as_bytes());
+    Ok(())
+}
+
+const CHANGED_HEAD: &str = "ompd 201811 threads 1 debug enabled
+icv num-procs-var=4 max-active-levels-var=8
+thread 0 native 1000 state wait_barrier_implicit_parallel wait 0 thread-num-var=0 current k0.0.0
+region r0.0.0 function 0x400000 levels-var=0 active-levels-var=0 team-size-var=1 enclosing none
+member 0 thread 0 task k0.0.0
+task k0.0.0 thread 0 kind implicit region r0.0.0 function 0x400000 generating none scheduling none exit 0x7f00000fffc0 enter 0x0 tool 0
+icv dyn-var=1 nthreads-var=3,2 run-sched-var=static,0 default-device-var=0 final-task-var=0 implicit-task-var=1
+";
+
+#[test]
+fn a_list_with_a_changed_head(rt: HostRuntime) -> Result<(), Fail> {
+    let text = alone(rt.alloc(), 1, Some((0x11, 0)), 1, &[3, 2])?;
+    assert_eq!(rt; text.as_slice(), CHANGED_HEAD.as_bytes());
+    Ok(())
+}
+
+const UNTRACKED: &str = "ompd 201811 threads 1 debug disabled
+icv num-procs-var=4 max-active-levels-var=8
+thread 0 native 1000 state untracked wait 0 thread-num-var=0 current k0.0.0
+region r0.0.0 function 0x400000 levels-var=0 active-levels-var=0 team-size-var=1 enclosing none
+member 0 thread 0 task k0.0.0
+task k0.0.0 thread 0 kind implicit region r0.0.0 function 0x400000 generating none scheduling none exit 0x7f00000fffc0 enter 0x0 tool 0
+icv dyn-var=0 nthreads-var=1 run-sched-var=static,0 default-device-var=0 final-task-var=0 implicit-task-var=1
+";
+
+#[test]
+fn states_are_not_kept(rt: HostRuntime) -> Result<(), Fail> {
+    let text = alone(rt.alloc(), 0, None, 0, &[1])?;
+    assert_eq!(rt; text.as_slice(), UNTRACKED.as_bytes());
+    Ok(())
+}
+
+/// A region of the function at 0x400000 inside r0.0.0 or r0.1.0, with no members yet.
+fn inner_region(alloc: Global, slot: u16, levels: u64, size: u64, around: Rid) -> RegionRow {
+    RegionRow {
+        region: region(0, slot),
+        func: 0x400000,
+        levels,
+        active: 1,
+        size,
+        enclosing: Some(around),
+        members: MemberRows::new(alloc),
+    }
+}
+
+const COMMIT: &str = "ompd 201811 threads 2 debug enabled
+icv num-procs-var=4 max-active-levels-var=8
+thread 0 native 1000 state overhead wait 0 thread-num-var=0 current k0.1.0
+thread 1 native 1001 state idle wait 0 thread-num-var=none current none
+region r0.0.0 function 0x400010 levels-var=0 active-levels-var=0 team-size-var=1 enclosing none
+member 0 thread 0 task k0.0.0
+region r0.1.0 function 0x400000 levels-var=1 active-levels-var=1 team-size-var=2 enclosing r0.0.0
+member 0 thread 0 task k0.1.0
+member 1 thread 1 task k0.2.0
+task k0.1.0 thread 0 kind implicit region r0.1.0 function 0x400000 generating k0.0.0 scheduling k0.0.0 exit 0x7f00000fff80 enter 0x0 tool 0
+icv dyn-var=0 nthreads-var=2 run-sched-var=static,0 default-device-var=0 final-task-var=0 implicit-task-var=1
+task k0.0.0 thread 0 kind implicit region r0.0.0 function 0x400010 generating none scheduling none exit 0x7f00000fffc0 enter 0x7f00000fffa0 tool 0
+icv dyn-var=0 nthreads-var=2 run-sched-var=static,0 default-device-var=0 final-task-var=0 implicit-task-var=1
+";
+
+#[test]
+fn the_commit(rt: HostRuntime) -> Result<(), Fail> {
+    let alloc = rt.alloc();
+    let mut view = bare(alloc, 2, 1);
+    view.threads
+        .push(thread(0, Some((0x101, 0)), Some(0), Some(task(0, 1))))?;
+    view.threads.push(thread(1, Some((0x100, 0)), None, None))?;
+    view.regions.push(initial_region(alloc, 0x400010)?)?;
+    let mut row = inner_region(alloc, 1, 1, 2, region(0, 0));
+    row.members.push(MemberRow {
+        thread: 0,
+        task: task(0, 1),
+    })?;
+    row.members.push(MemberRow {
+        thread: 1,
+        task: task(0, 2),
+    })?;
+    view.regions.push(row)?;
+    let mut row = initial_task(0x400000, 0, 0, numbers(alloc, &[2])?);
+    row.task = task(0, 1);
+    row.region = region(0, 1);
+    row.generating = Some(task(0, 0));
+    row.scheduling = Some(task(0, 0));
+    row.exit = 0x7f00000fff80;
+    view.tasks.push(row)?;
+    let list = numbers(alloc, &[2])?;
+    view.tasks
+        .push(initial_task(0x400010, 0x7f00000fffa0, 0, list))?;
+    let text = report_text(alloc, &view)?;
+    assert_eq!(rt; text.as_slice(), COMMIT.as_bytes());
+    Ok(())
+}
+
+/// A task of thread 1, made by a task and run on top of another.
+fn chained(
+    alloc: Global,
+    name: Tid,
+    implicit: u64,
+    part_of: Rid,
+    generating: Tid,
+    scheduling: Option<Tid>,
+) -> Result<TaskRow, AllocError> {
+    Ok(TaskRow {
+        task: name,
+        thread: 1,
+        implicit,
+        region: part_of,
+        func: 0x400000,
+        generating: Some(generating),
+        scheduling,
+        exit: 0x7f00001fff40,
+        enter: 0,
+        tool: 0,
+        dyn_var: 0,
+        nthreads: numbers(alloc, &[2])?,
+        sched: 1,
+        device: 0,
+        final_task: 0,
+    })
+}
+
+const CHAIN: &str = "ompd 201811 threads 2 debug enabled
+icv num-procs-var=4 max-active-levels-var=8
+task k1.0.0 thread 1 kind implicit region r1.0.0 function 0x400000 generating k0.3.0 scheduling k0.3.0 exit 0x7f00001fff40 enter 0x0 tool 0
+icv dyn-var=0 nthreads-var=2 run-sched-var=static,0 default-device-var=0 final-task-var=0 implicit-task-var=1
+task k0.3.0 thread 1 kind explicit region r0.1.0 function 0x400010 generating k0.1.0 scheduling k0.2.0 exit 0x7f00001fff80 enter 0x7f00001fff60 tool 0
+icv dyn-var=0 nthreads-var=2 run-sched-var=static,0 default-device-var=0 final-task-var=0 implicit-task-var=0
+task k0.2.0 thread 1 kind implicit region r0.1.0 function 0x400030 generating k0.0.0 scheduling none exit 0x7f00001fffc0 enter 0x0 tool 0
+icv dyn-var=0 nthreads-var=2 run-sched-var=static,0 default-device-var=0 final-task-var=0 implicit-task-var=1
+";
+
+#[test]
+fn a_nested_chain(rt: HostRuntime) -> Result<(), Fail> {
+    let alloc = rt.alloc();
+    let mut view = bare(alloc, 2, 1);
+    let row = chained(
+        alloc,
+        task(1, 0),
+        1,
+        region(1, 0),
+        task(0, 3),
+        Some(task(0, 3)),
+    )?;
+    view.tasks.push(row)?;
+    let mut row = chained(
+        alloc,
+        task(0, 3),
+        0,
+        region(0, 1),
+        task(0, 1),
+        Some(task(0, 2)),
+    )?;
+    row.func = 0x400010;
+    row.exit = 0x7f00001fff80;
+    row.enter = 0x7f00001fff60;
+    view.tasks.push(row)?;
+    let mut row = chained(alloc, task(0, 2), 1, region(0, 1), task(0, 0), None)?;
+    row.func = 0x400030;
+    row.exit = 0x7f00001fffc0;
+    view.tasks.push(row)?;
+    let text = report_text(alloc, &view)?;
+    assert_eq!(rt; text.as_slice(), CHAIN.as_bytes());
+    Ok(())
+}
+
+const STRANGE: &str = "ompd 18446744073709551615 threads 3 debug enabled
+icv num-procs-var=4 max-active-levels-var=8
+native 7 none
+thread 2 native 1002 state 0x22 wait 9 thread-num-var=5 current k255.65535.4294967295
+region r0.2.0 function 0x400000 levels-var=2 active-levels-var=1 team-size-var=1 enclosing r0.1.0
+member 0 thread 0 task k0.3.0
+task k0.0.0 thread 0 kind implicit region r0.0.0 function 0xffffffffffffffff generating none scheduling none exit 0x7f00000fffc0 enter 0xabcdef tool 18446744073709551615
+icv dyn-var=2 nthreads-var=1,64,3,2 run-sched-var=5,7 default-device-var=4 final-task-var=3 implicit-task-var=1
+";
+
+/// Values that a damaged core may hold: a state and a schedule kind that no table lists, and a context of no thread. The
+/// region is one at the limit of active levels.
+#[test]
+fn strange_values(rt: HostRuntime) -> Result<(), Fail> {
+    let alloc = rt.alloc();
+    let mut view = bare(alloc, 3, 2);
+    view.head.version = u64::MAX;
+    view.threads.push(ThreadRow {
+        native: 7,
+        found: None,
+    })?;
+    let greatest = Tid(Id {
+        creator: 255,
+        slot: 65535,
+        generation: 4294967295,
+    });
+    view.threads
+        .push(thread(2, Some((0x22, 9)), Some(5), Some(greatest)))?;
+    let mut row = inner_region(alloc, 2, 2, 1, region(0, 1));
+    row.members.push(MemberRow {
+        thread: 0,
+        task: task(0, 3),
+    })?;
+    view.regions.push(row)?;
+    let mut row = initial_task(u64::MAX, 0xabcdef, 2, numbers(alloc, &[1, 64, 3, 2])?);
+    row.tool = u64::MAX;
+    row.sched = 7 * 8 + 5;
+    row.device = 4;
+    row.final_task = 3;
+    view.tasks.push(row)?;
+    let text = report_text(alloc, &view)?;
+    assert_eq!(rt; text.as_slice(), STRANGE.as_bytes());
+    Ok(())
+}
+
+const STATES: [(u32, &str); 9] = [
+    (0x000, "work_serial"),
+    (0x001, "work_parallel"),
+    (0x011, "wait_barrier_implicit_parallel"),
+    (0x014, "wait_barrier_explicit"),
+    (0x020, "wait_taskwait"),
+    (0x021, "wait_taskgroup"),
+    (0x042, "wait_critical"),
+    (0x100, "idle"),
+    (0x101, "overhead"),
+];
+
+const KINDS: [(u64, &str); 4] = [(1, "static"), (2, "dynamic"), (3, "guided"), (4, "auto")];
+
+#[test]
+fn names(rt: HostRuntime) {
+    for (state, name) in STATES {
+        assert!(rt; state_name(state) == Some(name), "state {state}");
+    }
+    assert!(rt; state_name(0x102).is_none());
+    for (kind, name) in KINDS {
+        assert!(rt; kind_name(kind) == Some(name), "kind {kind}");
+    }
+    assert!(rt; kind_name(0).is_none());
+    assert!(rt; kind_name(5).is_none());
+}

@@ -1,0 +1,53 @@
+-- The test for a plain core: its parts, and the comparison of its tables word by word.
+use Rattle.std.proofs.Common.{◌≡◌, ◌==◌, ◌<◌, ◌≤◌, ◌&&◌, ℕ, suc, ◌+◌, Bool, true, false, List, [], ◌∷◌, ◌++◌, length, take, refl, sym, ap, ap₂, subst, ◌∙◌, arith}
+use Rattle.std.specs.Prelude.{slice_index, IsTrue, nat_le, bytes_eq}
+use Rattle.std.specs.List.{list_all}
+use Rattle.std.proofs.Math.Seq.{take-suc}
+use Rattle.std.proofs.lemmas.Bool.{leb-true}
+use Rattle.std.proofs.lemmas.List.{get_or-take}
+use Rattle.std.proofs.lemmas.Slice.Eq.{bytes_eq-Decides}
+use Rattle.omi_script.proofs.Conjunctions.{and_left, and_right}
+use Rattle.omi_top.specs.Layout as layout
+use Rattle.omi_top.specs.Tables.{tables}
+use Rattle.omi_top.specs.LookView.{is_plain, plain_words, task_word}
+
+module _ (words : List ℕ) where
+  abbrev long : Bool
+  long = nat_le layout.image_words (length words)
+
+  abbrev tabled : Bool
+  tabled = bytes_eq (take 99 words) tables
+
+  abbrev placed : Bool
+  placed = list_all (λ (x : ℕ × ℕ). slice_index words x.0 == x.1) plain_words
+
+  abbrev some : Bool
+  some = nat_le 1 (task_word words layout.nthn)
+
+  abbrev few : Bool
+  few = nat_le (task_word words layout.nthn) 4
+
+  pub plain_placed : IsTrue (is_plain words) → placed ≡ true
+  plain_placed plain = and_right (long && tabled) placed (and_left (long && tabled && placed) some (and_left (long && tabled && placed && some) few plain))
+
+  pub plain_few : IsTrue (is_plain words) → task_word words layout.nthn ≤ 4
+  plain_few plain = leb-true (task_word words layout.nthn) 4 (and_right (long && tabled && placed && some) few plain)
+
+-- two lists that begin alike and have the same next word begin alike for one word more
+pub one_more : (xs ys : List ℕ) (n : ℕ) → n < length xs → n < length ys → take n xs ≡ take n ys → slice_index xs n ≡ slice_index ys n → take (n + 1) xs ≡ take (n + 1) ys
+one_more xs ys n in_xs in_ys before here =
+    let next : n + 1 ≡ suc n = omega arith in
+    subst (λ (k : ℕ). take k xs ≡ take k ys) (sym next)
+    (take-suc xs n 0 in_xs ∙ ap₂ (λ (l : List ℕ) (x : ℕ). l ++ x ∷ []) before here ∙ sym (take-suc ys n 0 in_ys))
+
+-- a front that has another word is not the list
+pub other_front : (xs ys : List ℕ) (n k : ℕ) → k < n → (slice_index xs k ≡ slice_index ys k → ⊥) → false ≡ bytes_eq (take n xs) ys
+other_front xs ys n k within other = go (bytes_eq (take n xs) ys) refl
+  where
+    go : (b : Bool) → bytes_eq (take n xs) ys ≡ b → false ≡ bytes_eq (take n xs) ys
+    go false is = sym is
+    go true is = absurd (other (sym (get_or-take n xs k 0 within) ∙ ap (λ (l : List ℕ). slice_index l k) ((bytes_eq-Decides (take n xs) ys).0 is)))
+
+-- and one that is the list compares equal
+pub same_front : (xs ys : List ℕ) (n : ℕ) → take n xs ≡ ys → true ≡ bytes_eq (take n xs) ys
+same_front xs ys n is = sym ((bytes_eq-Decides (take n xs) ys).1 is)

@@ -1,0 +1,80 @@
+ghost use Rattle.std.specs.Prelude.{◌≡◌, ◌≢◌, ◌⊎◌, ◌<◌, List, ℕ, Option, Some, None, IfOk, IfErr, IfSome, IsErrOf, length, take};
+ghost use Rattle.omi_outside.specs.Outside.{HasCause, Told};
+ghost use Rattle.omi_corefile.specs.Spelling.{Core};
+ghost use Rattle.omi_corefile.specs.declared.core_image.CoreImage.{CoreImage};
+ghost use Rattle.omi_text.specs.Report.{report};
+ghost use Rattle.omi_top.specs.Answer.{IsAnswered, IsPlainCore, IsShowAnswer};
+ghost use Rattle.omi_top.specs.LookView.{IsPlain, look_view};
+
+use crate::Refusal;
+use crate::load::load;
+use crate::look::{is_plain_core, look};
+use omi_corefile::{CoreError, CoreImage, decode};
+use omi_outside::Files;
+use omi_text::report_text;
+use omi_word::Natives;
+use std::alloc::Global;
+
+/// The most bytes that are read of a core: one more than a core may have.
+const CORE_LIMIT: u64 = 8_390_161;
+
+/// The byte address of a plain core's first word.
+const FIRST: u64 = 0x10000;
+
+/// The core of a file's bytes.
+fn core(alloc: Global, bytes: &[u8]) -> Result<CoreImage, Refusal>
+    ensures core { IfOk result (λ c. Core bytes.now c) }
+    ensures refused { IfErr result (λ r. (((c : CoreImage) → Core bytes.now c → ⊥) × (r ≡ Refusal.NotBuilt)) ⊎ (r ≡ Refusal.OutOfMemory)) }
+{
+    match decode(alloc, bytes) {
+        Ok(core) => Ok(core),
+        Err(CoreError::Fault { .. }) => Err(Refusal::NotBuilt),
+        Err(CoreError::OutOfMemory) => Err(Refusal::OutOfMemory),
+    }
+}
+
+/// The words of a plain core.
+fn plain_words(core: &CoreImage) -> Option<&Natives>
+    ensures found { IfSome result (λ words. IsPlain core.now words.now) }
+    ensures none { result ≡ None → (words : List ℕ) → IsPlain core.now words → ⊥ }
+{
+    if core.order != 0
+        || core.contexts.len() != 1
+        || *core.contexts.get(0) != 1000
+        || core.segments.len() != 1
+    {
+        return None;
+    }
+    let segment = core.segments.get(0);
+    if segment.start != FIRST || !is_plain_core(&segment.words) {
+        return None;
+    }
+    Some(&segment.words)
+}
+
+/// The report of the core that a file's bytes spell.
+fn reported(alloc: Global, bytes: &[u8]) -> Result<Vec<u8>, Refusal>
+    ensures report { IfOk result (λ text. (words : List ℕ) × IsPlainCore bytes.now words × (text.items ≡ report (look_view words))) }
+    ensures refused { IfErr result (λ r. (((words : List ℕ) → IsPlainCore bytes.now words → ⊥) × (r ≡ Refusal.NotBuilt)) ⊎ (r ≡ Refusal.OutOfMemory)) }
+{
+    let core = core(alloc, bytes)?;
+    let Some(words) = plain_words(&core) else {
+        return Err(Refusal::NotBuilt);
+    };
+    let view = look(alloc, words)?;
+    let text = report_text(alloc, &view)?;
+    Ok(text)
+}
+
+/// Reads a core, and answers its report.
+pub fn show<F: Files>(alloc: Global, core: &str, files: &mut F) -> Result<Vec<u8>, Refusal>
+    ensures answer { (content : Option (List ℕ)) (old : Told) → F.told files.old core.now ≡ Some content → IsAnswered (IsShowAnswer content) result old old }
+    ensures usage { result ≢ Err Refusal.Usage }
+    ensures write { result ≢ Err Refusal.WriteFault }
+    ensures read { HasCause (F.reads files.old) (F.reads files.new) (IsErrOf result Refusal.ReadFault) }
+    ensures files_told { F.told files.new ≡ F.told files.old }
+    ensures files_writes { F.writes files.new ≡ F.writes files.old }
+{
+    let bytes = load(alloc, core, CORE_LIMIT, files)?;
+    reported(alloc, &bytes)
+}
