@@ -12,6 +12,8 @@ use Rattle.omi_script.specs.Numbers.{number_of, sizes_of}
 use Rattle.omi_script.specs.Reach.{are_allowed}
 use Rattle.omi_script.specs.Program.{is_program}
 use Rattle.omi_script.specs.Script.{script_of}
+use Rattle.omi_script.specs.Canonical.{statement_words, line_text}
+use Rattle.std.specs.Fmt.{decimal}
 
 -- lines and words
 lines_two : lines (codes "a\n\nb\n") ≡ codes "a" ∷ [] ∷ codes "b" ∷ []
@@ -123,6 +125,23 @@ made_main_elsewhere = refl
 made_with_17_threads : is_program 17 made_env made 3 ≡ false
 unfolding made made_env name
 made_with_17_threads = refl
+
+-- words of statements in the canonical text
+print_task : statement_words made (Task 0 true false) ≡ codes "task" ∷ codes "leaf" ∷ codes "if" ∷ codes "0" ∷ []
+unfolding made name
+print_task = refl
+
+print_final_task : statement_words made (Task 1 false true) ≡ codes "task" ∷ codes "node" ∷ codes "final" ∷ codes "1" ∷ []
+unfolding made name
+print_final_task = refl
+
+print_parallel : statement_words made (Parallel 2 (Some 4)) ≡ codes "parallel" ∷ codes "team" ∷ codes "num" ∷ decimal 4 ∷ []
+unfolding made name
+print_parallel = refl
+
+print_line : line_text (codes "critical" ∷ codes "7" ∷ codes "leaf" ∷ []) ≡ codes "critical 7 leaf\n"
+unfolding line_text
+print_line = refl
 
 -- whole texts
 script_short : script_of (codes "# one\r\nenv num_threads 4,2\nfunc main\n  work\nend") ≡ Some (record { nthreads = 4 ∷ 2 ∷ []; body = Work ∷ [] })

@@ -5,4 +5,14 @@ pub mod SoundLemmas
 pub mod GrammarLemmas
 pub mod Conjunctions
 pub mod RuleLemmas
+pub mod SmallLemmas
+pub mod WorkloadLemmas
+pub mod SayingLemmas
+pub mod PlaceLemmas
+pub mod NamingLemmas
+pub mod SoundPlaces
+pub mod SoundLines
+pub mod SoundVerdicts
+pub mod SoundPrograms
 mod Examples
+mod WorkloadExamples

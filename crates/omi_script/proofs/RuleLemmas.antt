@@ -21,7 +21,7 @@ within least most n h = (leb-true least n (and_left (nat_le least n) (nat_le n m
 size_at : (ns : List ℕ) → list_all is_size ns ≡ true → (k : ℕ) → k < length ns → (1 ≤ slice_index ns k) × (slice_index ns k ≤ 64)
 size_at ns h k l = within 1 64 (slice_index ns k) (AllPass-from_list_all is_size ns h k 0 l)
 
-main_within : (funcs : List Func) (main : ℕ) → is_main funcs main ≡ true → main < length funcs
+pub main_within : (funcs : List Func) (main : ℕ) → is_main funcs main ≡ true → main < length funcs
 main_within funcs main h =
     ⊎_elim
     (λ l. l)

@@ -38,7 +38,7 @@ within_guard false true = refl
 within_guard false false = refl
 
 -- a number lies in its range
-number_within : (least most : ℕ) (word : List ℕ) → passes (is_within least most) (number_of least most word) ≡ true
+pub number_within : (least most : ℕ) (word : List ℕ) → passes (is_within least most) (number_of least most word) ≡ true
 number_within least most word = passes-guard (is_within least most) (is_decimal word && is_within least most (value_of word)) (value_of word) ∙ within_guard (is_decimal word) (is_within least most (value_of word))
 
 both_sizes : (n : Option ℕ) (o : Option (List ℕ)) → passes is_size n ≡ true → passes (list_all is_size) o ≡ true → passes (list_all is_size) (option_and_then (λ m. option_map (λ ms. m ∷ ms) o) n) ≡ true
@@ -63,7 +63,7 @@ sizes_guard (Some ns) h k = passes-guard are_sizes (nat_le (length ns) 4) ns ∙
     guard_three a true c h k = ap (λ x. (x && true) && c) h ∙ k
     guard_three a false c h k = refl
 
-sizes_sound : (word : List ℕ) → passes are_sizes (sizes_of word) ≡ true
+pub sizes_sound : (word : List ℕ) → passes are_sizes (sizes_of word) ≡ true
 sizes_sound word =
     sizes_guard (numbers_of 1 64 word)
     (ap (λ ps. passes (λ ns. nat_le 1 (length ns)) (each_of (map (number_of 1 64) ps))) (items_step word) ∙ one_more (number_of 1 64 (before_first is_comma word)) (each_of (map (number_of 1 64) (if ltb (position_or_len is_comma word) (length word) then slice_split is_comma (after_first is_comma word) else []))))

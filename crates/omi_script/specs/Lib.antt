@@ -14,3 +14,8 @@ pub mod Small
 pub mod Fault
 pub mod Rules
 pub mod Separators
+pub mod Canonical
+pub mod Sayings
+pub mod Place
+pub mod LineFaults
+pub mod Workload

@@ -1,8 +1,9 @@
 -- The programs of the small grammar: one thread, the defaults, and three kinds of statements.
-use Rattle.std.specs.Prelude.{◌≡◌, Bool, true, false, ◌&&◌, nat_le, length, IsTrue}
+use Rattle.std.specs.Prelude.{◌≡◌, ℕ, Bool, true, false, not, ◌&&◌, ◌==◌, nat_le, length, IsTrue}
 use Rattle.std.specs.List.{list_all}
 use Rattle.omi_script.specs.Ranges.{is_in_range, are_sizes}
 use Rattle.omi_script.specs.Bodies.{body_of}
+use Rattle.omi_script.specs.declared.env.Env.{Env}
 use Rattle.omi_script.specs.declared.statement.Stmt.{Stmt}
 use Rattle.omi_script.specs.declared.statement.Stmt.TheVariants.{SetNumThreads, SetDynamic, Work}
 use Rattle.omi_script.specs.declared.script.Script.{Script}
@@ -22,6 +23,10 @@ is_small_allowed s = is_small_statement s && is_in_range s
 -- a script that meets the rules of a program
 abbrev pub is_sound : Script → Bool
 is_sound s = are_sizes s.nthreads && list_all is_small_allowed s.body && nat_le (length s.body) 4096
+
+-- one thread, and the defaults but for nthreads-var
+abbrev pub has_defaults : ℕ → Env → Bool
+has_defaults threads e = threads == 1 && not e.dynamic && e.max_active == 8 && e.sched.kind == 1 && e.sched.chunk == 0 && e.device == 0 && e.debug && e.procs == 4
 
 -- one thread, the defaults, and no other statements in `main`
 pub record IsSmall (p : Program) : Type 0 where

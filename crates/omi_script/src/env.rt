@@ -1,4 +1,7 @@
-use crate::{NumList, Sched};
+ghost use Rattle.std.specs.Prelude.{◌≡◌, IfOk};
+
+use crate::{NumList, OutOfMemory, Sched};
+use std::alloc::Global;
 
 /// The initial values of the internal control variables, and what else stands before the first function.
 #[derive(Drop)]
@@ -17,4 +20,21 @@ pub struct Env {
     pub debug: bool,
     /// The number of processors, at least 1.
     pub procs: u16,
+}
+
+impl Env {
+    /// An equal head.
+    pub fn same(&self, alloc: Global) -> Result<Env, OutOfMemory>
+        ensures { IfOk result (λ env. env ≡ self.now) }
+    {
+        Ok(Env {
+            nthreads: self.nthreads.same(alloc)?,
+            dynamic: self.dynamic,
+            max_active: self.max_active,
+            sched: self.sched,
+            device: self.device,
+            debug: self.debug,
+            procs: self.procs,
+        })
+    }
 }

@@ -1,4 +1,4 @@
-ghost use Rattle.std.specs.Prelude.{◌≡◌, ◌<◌, ◌++◌, ◌∷◌, [], length, slice_get, Some, OnOk, OnErr};
+ghost use Rattle.std.specs.Prelude.{◌≡◌, ◌<◌, ◌++◌, ◌∷◌, [], length, slice_get, Some, OnOk, OnErr, IfOk};
 
 use crate::{Name, OutOfMemory, StmtList};
 use std::alloc::Global;
@@ -9,6 +9,18 @@ use std::marker::Model;
 pub struct Func {
     pub name: Name,
     pub body: StmtList,
+}
+
+impl Func {
+    /// An equal function.
+    pub fn same(&self, alloc: Global) -> Result<Func, OutOfMemory>
+        ensures { IfOk result (λ f. f ≡ self.now) }
+    {
+        Ok(Func {
+            name: self.name,
+            body: self.body.same(alloc)?,
+        })
+    }
 }
 
 /// The functions of a script, numbered from 0 in the order of the text.
@@ -58,5 +70,23 @@ impl FuncList {
     {
         self.items.push(e)?;
         Ok(())
+    }
+
+    /// The functions in order.
+    pub fn as_slice(&self) -> &[Func]
+        ensures { result.now ≡ self.now }
+    {
+        &self.items
+    }
+
+    /// An equal list.
+    pub fn same(&self, alloc: Global) -> Result<FuncList, OutOfMemory>
+        ensures { IfOk result (λ list. list ≡ self.now) }
+    {
+        let mut list = FuncList::new(alloc);
+        for f in &self.items {
+            list.push(f.same(alloc)?)?;
+        }
+        Ok(list)
     }
 }

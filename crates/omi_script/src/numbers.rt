@@ -54,6 +54,21 @@ impl NumList {
         self.items.push(e)?;
         Ok(())
     }
+
+    /// The elements in order.
+    pub fn as_slice(&self) -> &[u64]
+        ensures { result.now ≡ self.now }
+    {
+        &self.items
+    }
+
+    /// An equal list.
+    pub fn same(&self, alloc: Global) -> Result<NumList, OutOfMemory>
+        ensures { IfOk result (λ list. list ≡ self.now) }
+    {
+        let items = Vec::from_slice(alloc, &self.items)?;
+        Ok(NumList { items })
+    }
 }
 
 /// The numbers that commas join. None where a piece is no number in the range.

@@ -1,7 +1,8 @@
 ghost use Rattle.std.specs.Prelude.{IsTrue};
 ghost use Rattle.omi_script.specs.Program.{is_program};
 
-use crate::{Env, FuncList};
+use crate::{Env, FuncList, OutOfMemory};
+use std::alloc::Global;
 
 /// What a script says. `main` is the number of the function with the name `main`.
 #[derive(Drop)]
@@ -13,4 +14,23 @@ pub struct Program {
     pub main: u8,
     /// Every rule of the language but for the size of a text.
     pub ghost accepted: { IsTrue (is_program threads env funcs main) },
+}
+
+impl Program {
+    ghost use Rattle.std.specs.Prelude.{IfOk};
+    ghost use Rattle.omi_script.specs.Grammar.{AreEqual};
+
+    /// An equal program.
+    pub fn same(&self, alloc: Global) -> Result<Program, OutOfMemory>
+        ensures { IfOk result (λ p. AreEqual p self.now) }
+    {
+        let env = self.env.same(alloc)?;
+        let funcs = self.funcs.same(alloc)?;
+        Ok(Program {
+            threads: self.threads,
+            env,
+            funcs,
+            main: self.main,
+        })
+    }
 }

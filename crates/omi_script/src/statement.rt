@@ -1,4 +1,4 @@
-ghost use Rattle.std.specs.Prelude.{◌≡◌, ◌<◌, ◌++◌, ◌∷◌, [], length, slice_get, Some, OnOk, OnErr};
+ghost use Rattle.std.specs.Prelude.{◌≡◌, ◌<◌, ◌++◌, ◌∷◌, [], length, slice_get, Some, OnOk, OnErr, IfOk};
 
 use crate::OutOfMemory;
 use std::alloc::Global;
@@ -104,5 +104,20 @@ impl StmtList {
     {
         self.items.push(e)?;
         Ok(())
+    }
+
+    /// The statements in order.
+    pub fn as_slice(&self) -> &[Stmt]
+        ensures { result.now ≡ self.now }
+    {
+        &self.items
+    }
+
+    /// An equal list.
+    pub fn same(&self, alloc: Global) -> Result<StmtList, OutOfMemory>
+        ensures { IfOk result (λ list. list ≡ self.now) }
+    {
+        let items = Vec::from_slice(alloc, &self.items)?;
+        Ok(StmtList { items })
     }
 }

@@ -264,3 +264,44 @@ fn faults(rt: HostRuntime) {
     assert_eq!(rt; Why::Unclosed.number(), 10);
     assert_eq!(rt; Why::Unclosed.text(), "Unclosed");
 }
+
+#[test]
+fn same(rt: HostRuntime) -> Result<(), Fail> {
+    let alloc = rt.alloc();
+    let text = b"env num_threads 4,2\nfunc main\nset_num_threads 3\nwork\nend\n";
+    let copy = parse(alloc, text)?.same(alloc)?;
+    assert_eq!(rt; copy.threads, 1);
+    assert_eq!(rt; copy.main, 0);
+    assert_eq!(rt; copy.env.procs, 4);
+    assert_eq!(rt; copy.env.nthreads.len(), 2);
+    assert_eq!(rt; *copy.env.nthreads.get(0), 4);
+    assert_eq!(rt; *copy.env.nthreads.get(1), 2);
+    assert_eq!(rt; copy.funcs.len(), 1);
+    let main = copy.funcs.get(0);
+    assert_eq!(rt; main.name.len, 4);
+    assert_eq!(rt; main.name.bytes[..5], b"main\0"[..]);
+    assert_eq!(rt;
+        *main.body.as_slice(),
+        [Stmt::SetNumThreads(3), Stmt::Work][..]
+    );
+    Ok(())
+}
+
+#[test]
+fn small(rt: HostRuntime) -> Result<(), Fail> {
+    let p = parse(rt.alloc(), b"func main\nset_dynamic 1\nwork\nend\n")?;
+    assert!(rt; is_small(&p));
+    Ok(())
+}
+
+#[test]
+fn printed(rt: HostRuntime) -> Result<(), Fail> {
+    let alloc = rt.alloc();
+    let script =
+        b"env num_threads 4,2\n# one\nfunc main\nset_num_threads 3\n\tset_dynamic 1\nwork\nend";
+    let text = print(alloc, &parse(alloc, script)?)?;
+    let canonical =
+        b"threads 1\nenv num_threads 4,2\nenv dynamic false\nenv max_active_levels 8\nenv schedule static,0\nenv device 0\nenv debug enabled\nenv procs 4\nfunc main\n  set_num_threads 3\n  set_dynamic 1\n  work\nend\n";
+    assert_eq!(rt; text[..], canonical[..]);
+    Ok(())
+}

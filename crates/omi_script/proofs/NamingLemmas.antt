@@ -1,0 +1,53 @@
+-- What a statement without a fault may name, and names from their bytes.
+use Rattle.std.proofs.Common.{◌≡◌, ℕ, ◌<◌, Bool, true, false, not, cond, List, length, Option, Some, None, refl, sym, ap, ◌∙◌, arith}
+use Rattle.std.specs.Prelude.{nat_le, nat_lt, position}
+use Rattle.std.specs.List.{position_or_len}
+use Rattle.std.proofs.lemmas.Bool.{lt-ltb, ltb-true, leb-false}
+use Rattle.omi_script.specs.Reach.{Reach, reach_at, is_above, names_rightly}
+use Rattle.omi_script.specs.LineFaults.{is_task_with_barrier, nests_barrier, is_too_deep}
+use Rattle.omi_script.specs.declared.statement.Stmt.{Stmt}
+use Rattle.omi_script.specs.declared.statement.Stmt.TheVariants.{Parallel, Task, Taskwait, Taskyield, Barrier, Critical, Call, Only, Repeat, SetNumThreads, SetDynamic, SetMaxActive, SetSchedule, SetDevice, Tool, Work}
+use Rattle.omi_script.proofs.Conjunctions.{and_true}
+use Rattle.omi_script.proofs.SayingLemmas.{named_by}
+
+-- a place that is found is one of the list
+pub position_within : {A : Type 0} (p : A → Bool) (xs : List A) (f : ℕ) → position p xs ≡ Some f → f < length xs
+position_within p xs f e = by_test (nat_lt (position_or_len p xs) (length xs)) refl
+  where
+    by_test : (b : Bool) → nat_lt (position_or_len p xs) (length xs) ≡ b → f < length xs
+    by_test true h =
+        let found : Some (position_or_len p xs) ≡ Some f = sym (ap (λ b. cond b (Some (position_or_len p xs)) None) h) ∙ e in
+        let same : position_or_len p xs ≡ f = cc found in
+        let within : position_or_len p xs < length xs = ltb-true (position_or_len p xs) (length xs) h in
+        omega arith
+    by_test false h =
+        let found : None ≡ Some f = sym (ap (λ b. cond b (Some (position_or_len p xs)) None) h) ∙ e in
+        absurd (cc found)
+
+-- the function that is named, if one is, is one of the first n
+abbrev pub IsBelow : ℕ → Option ℕ → Type 0
+IsBelow n None = Unit {0}
+IsBelow n (Some f) = f < n
+
+-- a depth that isn't 15 or more
+not_deep : (d : ℕ) → nat_le 15 d ≡ false → nat_lt d 15 ≡ true
+not_deep d h = let l : d < 15 = leb-false 15 d h in lt-ltb d 15 l
+
+-- a statement without a fault names what it may
+pub rightly_named : (above : List Reach) (s : Stmt) → IsBelow (length above) (named_by s) → is_task_with_barrier above s ≡ false → nests_barrier above s ≡ false → is_too_deep above s ≡ false → names_rightly above s ≡ true
+rightly_named above (Parallel f num) l a b c = and_true (is_above above f) (nat_lt (reach_at above f).depth 15) (lt-ltb f (length above) l) (not_deep (reach_at above f).depth c)
+rightly_named above (Task f undeferred is_final) l a b c = and_true (is_above above f) (not (reach_at above f).barrier) (lt-ltb f (length above) l) (ap not a)
+rightly_named above (Critical k f) l a b c = and_true (is_above above f) (not (reach_at above f).barrier) (lt-ltb f (length above) l) (ap not b)
+rightly_named above (Only m f) l a b c = and_true (is_above above f) (not (reach_at above f).barrier) (lt-ltb f (length above) l) (ap not b)
+rightly_named above (Call f) l a b c = lt-ltb f (length above) l
+rightly_named above (Repeat n f) l a b c = lt-ltb f (length above) l
+rightly_named above Taskwait l a b c = refl
+rightly_named above Taskyield l a b c = refl
+rightly_named above Barrier l a b c = refl
+rightly_named above (SetNumThreads n) l a b c = refl
+rightly_named above (SetDynamic x) l a b c = refl
+rightly_named above (SetMaxActive n) l a b c = refl
+rightly_named above (SetSchedule x) l a b c = refl
+rightly_named above (SetDevice n) l a b c = refl
+rightly_named above (Tool x) l a b c = refl
+rightly_named above Work l a b c = refl
