@@ -107,7 +107,7 @@ abbrev after_segments : Header → List ℕ → List Segment × List ℕ → Ste
 after_segments counts contexts segments = Ok (record { order = counts.order; contexts = contexts; segments = segments.0 }, segments.1)
 
 -- nothing follows the last segment
-abbrev ended : ℕ → Parts × List ℕ → Result Parts Refusal
+abbrev pub ended : ℕ → Parts × List ℕ → Result Parts Refusal
 ended len parts = cond (eqb (length parts.1) 0) (Ok parts.0) (Err (trailing len parts.1))
 
 -- these parts keep the limits, and are spelled so

@@ -28,3 +28,7 @@ one_segment contexts [] some = absurd (omega (arith, some))
 one_segment contexts (w ∷ ws) some =
     let front = header 0 (length contexts) 1 ++ numbers contexts in
     ap (λ (x : List ℕ). front ++ x) (append-nil (number first_address ++ number (length (w ∷ ws)) ++ numbers (w ∷ ws))) ∙ simp append_assoc
+
+pub segments_of_some : (words : List ℕ) → 0 < length words → segments_of words ≡ record { start = first_address; words = words } ∷ []
+segments_of_some [] some = absurd (omega (arith, some))
+segments_of_some (w ∷ ws) some = refl

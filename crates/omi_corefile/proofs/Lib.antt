@@ -6,3 +6,4 @@ pub mod Numbers
 pub mod Readings
 pub mod RowLaws
 pub mod Rows
+pub mod Fronts

@@ -42,3 +42,9 @@ segments_of (word ∷ words) = record { start = first_address; words = word ∷ 
 -- the core of an image that has a word: the header, the native ids, the first address, the number of words, and the words
 abbrev pub core_bytes : List ℕ → List ℕ → List ℕ
 core_bytes contexts words = header 0 (length contexts) 1 ++ numbers contexts ++ number first_address ++ number (length words) ++ numbers words
+
+-- the core holds an image: it has these contexts, and these words as its one segment, from the first address on
+pub record HoldsImage (contexts words : List ℕ) (c : CoreImage) : Type 0 where
+  pub order : c.order ≡ 0
+  pub contexts_are : c.contexts ≡ contexts
+  pub segments : c.segments ≡ record { start = first_address; words = words } ∷ []

@@ -4,7 +4,7 @@ ghost use Rattle.omi_corefile.specs.Limits.{within_limits};
 use crate::SegList;
 use omi_word::Natives;
 
-/// What a core holds. The order is that of the bytes of a word: 0 for the lowest first. The contexts are the native ids of the threads that had begun.
+/// What a core holds. The order is that of the bytes of a word: 0 for the lowest first. The contexts are the native ids of threads, which rise.
 #[derive(Drop)]
 pub struct CoreImage {
     pub order: u8,

@@ -1,6 +1,7 @@
 ghost use Rattle.std.specs.Prelude.{◌≡◌, ◌≤◌, ◌<◌, ◌++◌, length, IsTrue, OnOk, IfOk};
 ghost use Rattle.omi_corefile.specs.Limits.{rises_from};
-ghost use Rattle.omi_corefile.specs.Spelling.{Core, spelling, spelling_of, header, numbers, segment_bytes, segments_of, core_bytes};
+ghost use Rattle.omi_corefile.specs.Spelling.{Core, spelling, spelling_of, header, numbers, segment_bytes, segments_of, core_bytes, HoldsImage};
+ghost use Rattle.omi_corefile.specs.declared.core_image.CoreImage.{CoreImage};
 ghost use Rattle.std.specs.List.{flat_map};
 
 use crate::{CoreImage, OutOfMemory, SegList, Segment, core_of};
@@ -72,7 +73,7 @@ pub fn encode(alloc: Global, c: &CoreImage) -> Result<Vec<u8>, OutOfMemory>
     Ok(out)
 }
 
-/// The bytes of the core that holds an image and the native ids of the threads that have begun, in the order 0.
+/// The bytes of the core that holds an image and the native ids of threads as its contexts, in the order 0.
 pub fn core_bytes_of(
     alloc: Global,
     image: &Image,
@@ -82,6 +83,7 @@ pub fn core_bytes_of(
     requires count { length contexts.now ≤ 64 }
     ensures spelled { IfOk result (λ bytes. bytes.items ≡ spelling_of 0 contexts.now (segments_of image.now)) }
     ensures value { 0 < length image.now → IfOk result (λ bytes. bytes.items ≡ core_bytes contexts.now image.now) }
+    ensures core { 0 < length image.now → IfOk result (λ bytes. (c : CoreImage) × Core bytes.items c × HoldsImage contexts.now image.now c) }
 {
     let core = core_of(alloc, image, contexts, 0)?;
     encode(alloc, &core)

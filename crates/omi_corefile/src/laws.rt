@@ -4,7 +4,7 @@ ghost use Rattle.std.specs.Prelude.{◌≡◌, ℕ, ◌<◌, List, ◌++◌, len
 ghost use Rattle.omi_corefile.specs.declared.core_image.CoreImage.{CoreImage};
 ghost use Rattle.omi_corefile.specs.declared.fault.CoreFault.{CoreFault};
 ghost use Rattle.omi_corefile.specs.Spelling.{Core, spelling};
-ghost use Rattle.omi_corefile.specs.Refusals.{AreBytes, CoreRefused};
+ghost use Rattle.omi_corefile.specs.Refusals.{AreBytes, CoreRefused, reading};
 ghost use Rattle.omi_corefile.specs.Outcomes.{IsCore, IsRefused};
 
 /// Each file is a core or has a fault, never both, and no two faults.
@@ -28,4 +28,10 @@ pub fn fronts_and_tails()
         → CoreRefused (take n (spelling c)) n (CoreFault.Short n) }
     ensures trailing { (c : CoreImage) (more : List ℕ) → 0 < length more
         → CoreRefused (spelling c ++ more) (length (spelling c)) (CoreFault.Trailing (length (spelling c))) }
+{}
+
+/// A core has at most 8,390,160 bytes, so that one byte more of a longer file tells what the file is: the first
+/// 8,390,161 bytes are read as the whole file is, with the same fault at the same place.
+pub fn front_enough()
+    ensures { (bytes : List ℕ) → reading (take 8390161 bytes) ≡ reading bytes }
 {}

@@ -50,7 +50,7 @@ fn segments(alloc: Global, image: &Image) -> Result<SegList, OutOfMemory>
     Ok(segments)
 }
 
-/// The core that holds an image and the native ids of the threads that have begun. An image without words gives no segment.
+/// The core that holds an image and the native ids of threads as its contexts. An image without words gives no segment.
 pub fn core_of(
     alloc: Global,
     image: &Image,
