@@ -11,3 +11,4 @@ pub mod Opening
 pub mod Rules
 pub mod Reached
 pub mod Views
+pub mod OpeningView

@@ -52,7 +52,7 @@ pub record Variables : Type 0 where
   pub schedule : Sched
   pub device : ℕ
 
--- a task. `thread` and `number` (in the team) are set once it starts; `place` is that of a deferred task.
+-- a task. `thread` and `number` (in the team) are those of an implicit task from the fork on, and are set once an explicit task starts; `place` is that of a deferred task.
 pub record Task : Type 0 where
   pub implicit : Bool
   pub region : Rid

@@ -1,5 +1,5 @@
--- The contents of the report of a state, for contexts in their order: apart from any memory, and determined by the state. Function addresses and schedules stand in it as they print.
-use Rattle.std.specs.Prelude.{◌≡◌, ◌<◌, ◌⊎◌, ◌&&◌, ℕ, ◌+◌, ◌-◌, ◌*◌, Bool, nat_le, nat_lt, List, [], ◌∷◌, ◌++◌, length, map, Option, Some, None, Contains, ⊤, if◌then◌else◌}
+-- The contents of the report of a state, for contexts in their order, apart from any memory. A state has at most one, as a law says. A function stands in it as its entry address, and a schedule as its chunk times 8 plus its kind.
+use Rattle.std.specs.Prelude.{◌≡◌, ◌<◌, ◌⊎◌, ◌&&◌, ℕ, ◌+◌, ◌-◌, ◌*◌, nat_le, nat_lt, List, [], ◌∷◌, ◌++◌, length, map, Option, Some, None, Contains, ⊤, if◌then◌else◌}
 use Rattle.std.specs.Option.{option_map}
 use Rattle.std.specs.List.{filter_map}
 use Rattle.omi_script.specs.declared.statement.Sched.{Sched}
@@ -11,7 +11,6 @@ use Rattle.omi_model.specs.declared.view.HeadRow.{HeadRow}
 use Rattle.omi_model.specs.declared.view.ThreadRow.{ThreadRow}
 use Rattle.omi_model.specs.declared.view.ThreadPart.{ThreadPart}
 use Rattle.omi_model.specs.declared.view.RegionRow.{RegionRow}
-use Rattle.omi_model.specs.declared.view.MemberRow.{MemberRow}
 use Rattle.omi_model.specs.declared.view.TaskRow.{TaskRow}
 use Rattle.omi_model.specs.Numbers.{flag}
 use Rattle.omi_model.specs.State.{State, Region, Task, region_of, task_of, current_task, enclosing_of}

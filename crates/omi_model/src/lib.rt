@@ -5,6 +5,7 @@
 mod event;
 mod events;
 mod id;
+mod laws;
 mod rows;
 mod team;
 mod view;
@@ -12,6 +13,7 @@ mod view;
 pub use event::Event;
 pub use events::EventList;
 pub use id::{Id, Rid, Tid};
+pub use laws::one_view;
 pub use omi_word::OutOfMemory;
 pub use rows::{MemberRows, RegionRows, TaskRows, ThreadRows};
 pub use team::Team;
