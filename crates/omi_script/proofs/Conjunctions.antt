@@ -1,5 +1,5 @@
--- A test made of two tests.
-use Rattle.std.proofs.Common.{◌≡◌, Bool, true, false, ◌&&◌, refl, ap, ◌∙◌}
+-- A test made of other tests.
+use Rattle.std.proofs.Common.{◌≡◌, Bool, true, false, not, ◌&&◌, refl, ap, ◌∙◌}
 
 pub and_left : (a b : Bool) → (a && b) ≡ true → a ≡ true
 and_left true b h = refl
@@ -11,3 +11,7 @@ and_right false b h = absurd (cc)
 
 pub and_true : (a b : Bool) → a ≡ true → b ≡ true → (a && b) ≡ true
 and_true a b h k = ap (λ x. x && b) h ∙ k
+
+pub not_so : (b : Bool) → not b ≡ true → b ≡ false
+not_so true h = absurd (cc)
+not_so false h = refl

@@ -11,7 +11,6 @@ use Rattle.omi_script.specs.Names.{is_name_text, are_distinct}
 use Rattle.omi_script.specs.Numbers.{number_of, sizes_of}
 use Rattle.omi_script.specs.Reach.{are_allowed}
 use Rattle.omi_script.specs.Program.{is_program}
-use Rattle.omi_script.specs.Script.{script_of}
 use Rattle.omi_script.specs.Canonical.{statement_words, line_text}
 use Rattle.std.specs.Fmt.{decimal}
 
@@ -142,13 +141,3 @@ print_parallel = refl
 print_line : line_text (codes "critical" ∷ codes "7" ∷ codes "leaf" ∷ []) ≡ codes "critical 7 leaf\n"
 unfolding line_text
 print_line = refl
-
--- whole texts
-script_short : script_of (codes "# one\r\nenv num_threads 4,2\nfunc main\n  work\nend") ≡ Some (record { nthreads = 4 ∷ 2 ∷ []; body = Work ∷ [] })
-script_short = refl
-
-script_behind_end : script_of (codes "func main\nend\nwork\n") ≡ None
-script_behind_end = refl
-
-script_twice : script_of (codes "threads 1\nthreads 1\nfunc main\nend\n") ≡ None
-script_twice = refl

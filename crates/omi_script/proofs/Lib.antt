@@ -1,18 +1,30 @@
 pub mod PieceLemmas
 pub mod NumberLemmas
 pub mod LineLemmas
-pub mod SoundLemmas
-pub mod GrammarLemmas
+pub mod RangeLemmas
 pub mod Conjunctions
 pub mod RuleLemmas
-pub mod SmallLemmas
 pub mod WorkloadLemmas
 pub mod SayingLemmas
+pub mod ShapeLemmas
 pub mod PlaceLemmas
 pub mod NamingLemmas
 pub mod SoundPlaces
 pub mod SoundLines
 pub mod SoundVerdicts
 pub mod SoundPrograms
+pub mod CanonicalLines
+pub mod CanonicalNumbers
+pub mod CanonicalSayings
+pub mod CanonicalSteps
+pub mod CanonicalNames
+pub mod CanonicalStatements
+pub mod CanonicalFunctions
+pub mod CanonicalHeads
+pub mod CanonicalPrograms
+pub mod ReachLemmas
+pub mod ReadingLemmas
+pub mod JudgeLemmas
+pub mod EndLemmas
 mod Examples
 mod WorkloadExamples

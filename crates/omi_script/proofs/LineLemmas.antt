@@ -1,37 +1,41 @@
--- What a text says, by its first line.
-use Rattle.std.proofs.Common.{◌≡◌, ℕ, suc, arith, false, List, [], ◌∷◌, map, length, refl, sym, ap, ◌∙◌, ⊎_elim, if◌then◌else◌, ◌==◌}
+-- The lines of a text, by the first.
+use Rattle.std.proofs.Common.{◌≡◌, ℕ, ◌<◌, ◌+◌, suc, true, false, List, [], ◌∷◌, length, refl, sym, ap, ◌∙◌, arith, ⊎_elim, if◌then◌else◌, ◌==◌}
 use Rattle.std.proofs.lemmas.Bool.{cases_lt}
 use Rattle.std.proofs.lemmas.Bool.Decides.{nat_tests}
-use Rattle.std.specs.List.{position_or_len, before_first, after_first, slice_split, filter_map, cons_option}
-use Rattle.omi_script.specs.declared.line.Line.{Line}
-use Rattle.omi_script.specs.Lines.{is_line_feed, words, without_last_empty}
-use Rattle.omi_script.specs.Shapes.{said_by, said_in}
+use Rattle.std.proofs.lemmas.List.{length-drop}
+use Rattle.std.specs.List.{position_or_len, before_first, after_first, slice_split}
+use Rattle.omi_script.specs.Lines.{is_line_feed, lines, without_last_empty}
 use Rattle.omi_script.proofs.PieceLemmas.{cut_last, cut_first}
 
--- what pieces say
-abbrev said_of : List (List ℕ) → List Line
-said_of pieces = filter_map said_by (map words pieces)
+not_zero : (n : ℕ) → 0 < n → (n == 0) ≡ false
+not_zero n l = grind (arith, nat_tests)
 
-said_of_step : (piece : List ℕ) (pieces : List (List ℕ)) → said_of (piece ∷ pieces) ≡ cons_option (said_by (words piece)) (said_of pieces)
-said_of_step piece pieces = refl
+-- a piece that others stand behind is a line
+piece_onto : (piece : List ℕ) (first : List ℕ) (more pieces : List (List ℕ)) → pieces ≡ first ∷ more → without_last_empty (piece ∷ pieces) ≡ piece ∷ without_last_empty pieces
+piece_onto piece first more pieces e = ap (λ ps. without_last_empty (piece ∷ ps)) e ∙ sym (ap (λ ps. piece ∷ without_last_empty ps) e)
 
-is_zero-suc : (n : ℕ) → (suc n == 0) ≡ false
-is_zero-suc n = grind (arith, nat_tests)
+some_piece : (xs : List ℕ) → (first : List ℕ) × (more : List (List ℕ)) × (slice_split is_line_feed xs ≡ first ∷ more)
+some_piece xs =
+    ⊎_elim
+    (λ h. (before_first is_line_feed xs, slice_split is_line_feed (after_first is_line_feed xs), cut_first is_line_feed xs h))
+    (λ h. (xs, [], (cut_last is_line_feed xs h).0))
+    (cases_lt (position_or_len is_line_feed xs) (length xs))
 
--- a last empty piece says nothing
-said_of-without_last_empty : (pieces : List (List ℕ)) → said_of (without_last_empty pieces) ≡ said_of pieces
-said_of-without_last_empty [] = refl
-said_of-without_last_empty ([] ∷ []) = refl
-said_of-without_last_empty ((x ∷ xs) ∷ []) = ap (λ b. said_of (if b then [] else (x ∷ xs) ∷ [])) (is_zero-suc (length xs))
-said_of-without_last_empty (piece ∷ next ∷ pieces) =
-    said_of_step piece (without_last_empty (next ∷ pieces)) ∙ ap (cons_option (said_by (words piece))) (said_of-without_last_empty (next ∷ pieces)) ∙ sym (said_of_step piece (next ∷ pieces))
-
--- what a text says, by its first line
-pub said_step : (bytes : List ℕ) → said_in bytes ≡ cons_option (said_by (words (before_first is_line_feed bytes))) (said_in (after_first is_line_feed bytes))
-said_step bytes =
-    said_of-without_last_empty (slice_split is_line_feed bytes)
-    ∙ ⊎_elim
-    (λ h. ap said_of (cut_first is_line_feed bytes h) ∙ said_of_step (before_first is_line_feed bytes) (slice_split is_line_feed (after_first is_line_feed bytes)) ∙ ap (cons_option (said_by (words (before_first is_line_feed bytes)))) (sym (said_of-without_last_empty (slice_split is_line_feed (after_first is_line_feed bytes)))))
+-- the lines of a text that is not empty, by the first
+pub lines_step : (bytes : List ℕ) → 0 < length bytes → lines bytes ≡ before_first is_line_feed bytes ∷ lines (after_first is_line_feed bytes)
+lines_step bytes some =
+    ⊎_elim
+    (λ h. let next = some_piece (after_first is_line_feed bytes) in
+    ap without_last_empty (cut_first is_line_feed bytes h) ∙ piece_onto (before_first is_line_feed bytes) next.0 next.1 (slice_split is_line_feed (after_first is_line_feed bytes)) next.2)
     (λ h. let e = cut_last is_line_feed bytes h in
-    ap said_of e.0 ∙ said_of_step bytes [] ∙ sym (ap (λ w. cons_option (said_by (words w)) (said_in (after_first is_line_feed bytes))) e.1 ∙ ap (λ a. cons_option (said_by (words bytes)) (said_in a)) e.2))
+    ap without_last_empty e.0 ∙ ap (λ b. if b then [] else bytes ∷ []) (not_zero (length bytes) some) ∙ sym (ap (λ w. w ∷ lines (after_first is_line_feed bytes)) e.1 ∙ ap (λ a. bytes ∷ lines a) e.2))
     (cases_lt (position_or_len is_line_feed bytes) (length bytes))
+
+-- an empty text has no line
+pub lines_none : (bytes : List ℕ) → (length bytes == 0) ≡ true → lines bytes ≡ []
+lines_none [] e = refl
+lines_none (b ∷ bs) e = let no = not_zero (suc (length bs)) (omega arith) in absurd (cc (no, e))
+
+-- what stands after the first line is shorter
+pub after_shorter : (bytes : List ℕ) → 0 < length bytes → length (after_first is_line_feed bytes) < length bytes
+after_shorter bytes some = let e = length-drop (position_or_len is_line_feed bytes + 1) bytes in omega arith

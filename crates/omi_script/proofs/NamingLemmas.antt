@@ -1,8 +1,9 @@
 -- What a statement without a fault may name, and names from their bytes.
-use Rattle.std.proofs.Common.{◌≡◌, ℕ, ◌<◌, Bool, true, false, not, cond, List, length, Option, Some, None, refl, sym, ap, ◌∙◌, arith}
+use Rattle.std.proofs.Common.{◌≡◌, ℕ, ◌<◌, ◌-◌, Bool, true, false, not, cond, List, length, drop, replicate, Option, Some, None, refl, sym, ap, ◌∙◌, arith}
 use Rattle.std.specs.Prelude.{nat_le, nat_lt, position}
 use Rattle.std.specs.List.{position_or_len}
 use Rattle.std.proofs.lemmas.Bool.{lt-ltb, ltb-true, leb-false}
+use Rattle.std.proofs.lemmas.List.{drop-replicate}
 use Rattle.omi_script.specs.Reach.{Reach, reach_at, is_above, names_rightly}
 use Rattle.omi_script.specs.LineFaults.{is_task_with_barrier, nests_barrier, is_too_deep}
 use Rattle.omi_script.specs.declared.statement.Stmt.{Stmt}
@@ -51,3 +52,7 @@ rightly_named above (SetSchedule x) l a b c = refl
 rightly_named above (SetDevice n) l a b c = refl
 rightly_named above (Tool x) l a b c = refl
 rightly_named above Work l a b c = refl
+
+-- what stands behind the first bytes of 32 zeros
+pub zeros_behind : (n : ℕ) → drop {A = ℕ} n (replicate 32 0) ≡ replicate (32 - n) 0
+zeros_behind n = drop-replicate n 32 0

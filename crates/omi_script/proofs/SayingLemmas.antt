@@ -8,10 +8,9 @@ use Rattle.omi_script.specs.declared.statement.Stmt.TheVariants.{Parallel, Task,
 use Rattle.omi_script.specs.Names.{is_within}
 use Rattle.omi_script.specs.Numbers.{is_comma, number_of, sizes_of}
 use Rattle.omi_script.specs.Ranges.{are_sizes, is_schedule, is_in_range}
-use Rattle.omi_script.specs.Shapes.{begins_comment}
-use Rattle.omi_script.specs.Sayings.{Heads, HeadLine, Saying, Silent, Head, Function, Statement, End, kind_of, one_of, has_gap, threads_line, num_threads_line, dynamic_line, max_active_line, schedule_line, device_line, debug_line, procs_line, pair_line, env_line, plain, over, task_line, saying_of_one, saying_of_two, saying_of_three, saying_of_four, saying_of_six, saying_of_words, saying_of}
+use Rattle.omi_script.specs.Sayings.{begins_comment, Heads, HeadLine, Saying, Silent, Head, Function, Statement, End, kind_of, one_of, has_gap, threads_line, num_threads_line, dynamic_line, max_active_line, schedule_line, device_line, debug_line, procs_line, pair_line, env_line, plain, over, task_line, saying_of_one, saying_of_two, saying_of_three, saying_of_four, saying_of_six, saying_of_words, saying_of}
 use Rattle.omi_script.proofs.Conjunctions.{and_left, and_right, and_true}
-use Rattle.omi_script.proofs.SoundLemmas.{passes, number_within, sizes_sound}
+use Rattle.omi_script.proofs.RangeLemmas.{passes, number_within, sizes_sound}
 
 -- head lines whose numbers are in their ranges
 abbrev pub is_heads : Heads → Bool

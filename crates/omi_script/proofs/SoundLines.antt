@@ -27,7 +27,7 @@ zeros (suc n) = zeros n
 text_name_of : (w : List ℕ) → text_of (name_of w) ≡ w
 text_name_of w = take-append_seam w (replicate (32 - length w) 0)
 
-short : (w : List ℕ) → is_name_text w ≡ true → nat_le (length w) 32 ≡ true
+pub short : (w : List ℕ) → is_name_text w ≡ true → nat_le (length w) 32 ≡ true
 short [] h = refl
 short (b ∷ bs) h = let l : length bs ≤ 31 = leb-true (length bs) 31 (and_right (begins_name b && list_all continues_name bs) (nat_le (length bs) 31) h) in le-leb (suc (length bs)) 32 (omega arith)
 
@@ -49,11 +49,12 @@ pub yes : (b : Bool) → not b ≡ false → b ≡ true
 yes true h = refl
 yes false h = absurd (cc)
 
-left_false : (a b : Bool) → (a || b) ≡ false → a ≡ false
+-- neither part passes
+pub left_false : (a b : Bool) → (a || b) ≡ false → a ≡ false
 left_false true b e = absurd (cc)
 left_false false b e = refl
 
-right_false : (a b : Bool) → (a || b) ≡ false → b ≡ false
+pub right_false : (a b : Bool) → (a || b) ≡ false → b ≡ false
 right_false true b e = absurd (cc)
 right_false false b e = e
 

@@ -17,10 +17,11 @@ use Rattle.omi_script.specs.Program.{are_functions, is_main, is_program}
 use Rattle.omi_script.specs.Sayings.{Heads}
 use Rattle.omi_script.specs.Place.{Place, is_called, statements_above}
 use Rattle.omi_script.specs.LineFaults.{has_end_fault, least}
-use Rattle.omi_script.specs.Workload.{Accepts, verdict, threads_of, env_of, IsProgramOf, Grammar, Refused}
+use Rattle.omi_script.specs.Grammar.{threads_of, env_of, IsProgramOf, Grammar, Refused}
+use Rattle.omi_script.specs.Workload.{Accepts, verdict}
 use Rattle.omi_script.proofs.Conjunctions.{and_left, and_right, and_true}
 use Rattle.omi_script.proofs.RuleLemmas.{main_within}
-use Rattle.omi_script.proofs.SoundLemmas.{passes}
+use Rattle.omi_script.proofs.RangeLemmas.{passes}
 use Rattle.omi_script.proofs.SayingLemmas.{is_heads}
 use Rattle.omi_script.proofs.PlaceLemmas.{step}
 use Rattle.omi_script.proofs.SoundPlaces.{IsSoundPlace}
@@ -64,7 +65,7 @@ found_first p (x ∷ xs) h = by_test (found_first p xs) (p x) refl
     by_test rest true e = ap (λ b. option_map_or p (cond b (Some x) (find p xs)) false) e ∙ e
     by_test rest false e = ap (λ b. option_map_or p (cond b (Some x) (find p xs)) false) e ∙ rest (sym (ap (λ b. b || list_any p xs) e) ∙ h)
 
-any_nil : (p : Func → Bool) (xs : List Func) → list_any p (xs ++ []) ≡ list_any p xs
+pub any_nil : (p : Func → Bool) (xs : List Func) → list_any p (xs ++ []) ≡ list_any p xs
 any_nil p [] = refl
 any_nil p (x ∷ xs) = ap (λ b. p x || b) (any_nil p xs)
 
@@ -73,7 +74,7 @@ closed_none None h = refl
 closed_none (Some f) h = absurd (cc)
 
 -- the number of `main`
-main_found : (fs : List Func) → list_any (is_called (codes "main")) fs ≡ true → (m : ℕ) × (is_main fs m ≡ true) × (Some m ≡ position (is_called (codes "main")) fs)
+pub main_found : (fs : List Func) → list_any (is_called (codes "main")) fs ≡ true → (m : ℕ) × (is_main fs m ≡ true) × (Some m ≡ position (is_called (codes "main")) fs)
 main_found fs h =
     let p : Func → Bool = is_called (codes "main") in
     let m : ℕ = position_or_len p fs in
@@ -81,9 +82,9 @@ main_found fs h =
     let within : nat_lt m (length fs) ≡ true = lt-ltb m (length fs) (main_within fs m main) in
     (m, main, sym (ap (λ b. cond b (Some m) None) within))
 
--- the program of a place that keeps the rules
-program_of : (place : Place) → IsSoundPlace place → least (has_end_fault place) ≡ None → (p : Program) × IsProgramOf place p
-program_of place s e =
+-- what an end without a fault says: no function is open, and one is called `main`
+end_facts : (place : Place) → least (has_end_fault place) ≡ None → (place.opened ≡ None) × (list_any (is_called (codes "main")) place.closed ≡ true)
+end_facts place e =
     let has : Why → Bool = has_end_fault place in
     let to9 : find has (NoMain ∷ Unclosed ∷ []) ≡ None = e in
     let f9 = step has NoMain (Unclosed ∷ []) to9 in
@@ -91,7 +92,16 @@ program_of place s e =
     let none : place.opened ≡ None = closed_none place.opened f10.0 in
     let some : list_any (is_called (codes "main")) place.closed ≡ true =
     sym (any_nil (is_called (codes "main")) place.closed) ∙ sym (ap (λ o. list_any (is_called (codes "main")) (place.closed ++ option_to_list o)) none) ∙ yes (list_any (is_called (codes "main")) (place.closed ++ option_to_list place.opened)) f9.0 in
-    let main = main_found place.closed some in
+    (none, some)
+
+-- the program of a place that keeps the rules does too
+pub rules_of : (place : Place) → IsSoundPlace place → least (has_end_fault place) ≡ None → (main : ℕ) → Some main ≡ position (is_called (codes "main")) place.closed → is_program (threads_of place.heads) (env_of place.heads) place.closed main ≡ true
+rules_of place s e main at =
+    let end = end_facts place e in
+    let none : place.opened ≡ None = end.0 in
+    let found = main_found place.closed end.1 in
+    let same : main ≡ found.0 = let both : Some main ≡ Some found.0 = at ∙ sym found.2 in cc both in
+    let is_called_main : is_main place.closed main ≡ true = ap (is_main place.closed) same ∙ found.1 in
     let total : statements_above place ≡ sum_by (λ (g : Func). length g.body) place.closed + 0 = ap (λ o. sum_by (λ (g : Func). length g.body) place.closed + option_map_or (λ (g : Func). length g.body) o 0) none in
     let few : nat_le (length place.closed) 64 ≡ true = le-leb (length place.closed) 64 s.count in
     let small : sum_by (λ (g : Func). length g.body) place.closed ≤ 4096 = omega (arith, total, s.statements) in
@@ -102,11 +112,15 @@ program_of place s e =
     (and_true (nat_le (length place.closed) 64) (nat_le (sum_by (λ (g : Func). length g.body) place.closed) 4096) few limit) s.names) s.distinct in
     let t : Bool = is_within 1 16 (threads_of place.heads) in
     let v : Bool = is_env (env_of place.heads) in
-    let rules : is_program (threads_of place.heads) (env_of place.heads) place.closed main.0 ≡ true =
-    and_true (t && v && are_functions place.closed && is_main place.closed main.0) (are_allowed [] (map (λ (g : Func). g.body) place.closed))
-    (and_true (t && v && are_functions place.closed) (is_main place.closed main.0)
-    (and_true (t && v) (are_functions place.closed) (and_true t v (threads_sound place.heads s.heads) (env_sound place.heads s.heads)) functions) main.1) s.allowed in
-    (record { threads = threads_of place.heads; env = env_of place.heads; funcs = place.closed; main = main.0; accepted = rules }, record { threads = refl; env = refl; funcs = refl; main = main.2 })
+    and_true (t && v && are_functions place.closed && is_main place.closed main) (are_allowed [] (map (λ (g : Func). g.body) place.closed))
+    (and_true (t && v && are_functions place.closed) (is_main place.closed main)
+    (and_true (t && v) (are_functions place.closed) (and_true t v (threads_sound place.heads s.heads) (env_sound place.heads s.heads)) functions) is_called_main) s.allowed
+
+-- the program of a place that keeps the rules
+program_of : (place : Place) → IsSoundPlace place → least (has_end_fault place) ≡ None → (p : Program) × IsProgramOf place p
+program_of place s e =
+    let main = main_found place.closed (end_facts place e).1 in
+    (record { threads = threads_of place.heads; env = env_of place.heads; funcs = place.closed; main = main.0; accepted = rules_of place s e main.0 main.2 }, record { threads = refl; env = refl; funcs = refl; main = main.2 })
 
 -- each text is a program or has a fault
 pub workload_or_refused : (bytes : List ℕ) → ((p : Program) × Grammar bytes p) ⊎ ((fault : ScriptFault) × Refused bytes fault)

@@ -10,7 +10,8 @@ use Rattle.omi_script.specs.Lines.{lines}
 use Rattle.omi_script.specs.Sayings.{Heads}
 use Rattle.omi_script.specs.Place.{Place, first_place, name_of}
 use Rattle.omi_script.specs.LineFaults.{has_fault, least}
-use Rattle.omi_script.specs.Workload.{Verdict, Accepts, Refuses, judge, verdict, env_of}
+use Rattle.omi_script.specs.Grammar.{env_of}
+use Rattle.omi_script.specs.Workload.{Verdict, Accepts, Refuses, judge, verdict}
 
 -- the verdict: this line has this fault
 refuses : ℕ → Why → Verdict

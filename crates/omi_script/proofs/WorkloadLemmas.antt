@@ -3,9 +3,9 @@ use Rattle.std.proofs.Common.{◌≡◌, ◌⊎◌, inl, inr, ℕ, List, Some, r
 use Rattle.std.specs.Prelude.{position, codes}
 use Rattle.omi_script.specs.declared.fault.ScriptFault.{ScriptFault}
 use Rattle.omi_script.specs.declared.program.Program.{Program}
-use Rattle.omi_script.specs.Grammar.{AreEqual}
 use Rattle.omi_script.specs.Place.{Place, is_called}
-use Rattle.omi_script.specs.Workload.{Verdict, Accepts, Refuses, verdict, threads_of, env_of, Grammar, Refused}
+use Rattle.omi_script.specs.Grammar.{AreEqual, threads_of, env_of, Grammar, Refused}
+use Rattle.omi_script.specs.Workload.{Verdict, Accepts, Refuses, verdict}
 
 same_place : (bytes : List ℕ) (a b : Place) → verdict bytes ≡ Accepts a → verdict bytes ≡ Accepts b → a ≡ b
 same_place bytes a b e f = cc

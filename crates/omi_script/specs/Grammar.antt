@@ -1,39 +1,45 @@
--- Which texts are which programs, and which are refused.
-use Rattle.std.specs.Prelude.{◌≡◌, ℕ, List, [], ◌∷◌, ◌++◌, replicate, Some, true, false, codes}
-use Rattle.omi_script.specs.Script.{script_of}
+-- The workload language: which texts are which programs, and which are refused, at which line and why.
+use Rattle.std.specs.Prelude.{◌≡◌, ℕ, true, false, List, [], ◌∷◌, position, codes, Some, unwrap_or}
+use Rattle.omi_script.specs.Sayings.{Heads}
+use Rattle.omi_script.specs.Place.{Place, is_called}
+use Rattle.omi_script.specs.Workload.{Accepts, Refuses, verdict}
 use Rattle.omi_script.specs.declared.env.Env.{Env}
-use Rattle.omi_script.specs.declared.name.Name.{Name}
 use Rattle.omi_script.specs.declared.fault.ScriptFault.{ScriptFault}
-use Rattle.omi_script.specs.declared.fault.Why.TheVariants.{UnknownWord}
-use Rattle.omi_script.specs.declared.script.Script.{Script}
 use Rattle.omi_script.specs.declared.program.Program.{Program}
 
--- the name `main`
-abbrev pub main_name : Name
-main_name = record { len = 4; bytes = codes "main" ++ replicate 28 0 }
+-- the number of threads, 1 by default
+abbrev pub threads_of : Heads → ℕ
+threads_of h = unwrap_or h.threads 1
 
--- the head of a script's program: its nthreads-var, and the defaults of all else
-abbrev pub env_of : Script → Env
-env_of s = record { nthreads = s.nthreads; dynamic = false; max_active = 8; sched = record { kind = 1; chunk = 0 }; device = 0; debug = true; procs = 4 }
+-- the head of a program, with the default of each line that is not there. By default nthreads-var has the number of threads as its one element
+abbrev pub env_of : Heads → Env
+env_of h =
+    record {
+      nthreads = unwrap_or h.nthreads (threads_of h ∷ []);
+      dynamic = unwrap_or h.dynamic false;
+      max_active = unwrap_or h.max_active 8;
+      sched = unwrap_or h.sched (record { kind = 1; chunk = 0 });
+      device = unwrap_or h.device 0;
+      debug = unwrap_or h.debug true;
+      procs = unwrap_or h.procs 4;
+    }
 
--- the program of a script: one thread, and the one function `main`
-pub record IsProgramOf (s : Script) (p : Program) : Type 0 where
-  pub threads : p.threads ≡ 1
-  pub env : p.env ≡ env_of s
-  pub funcs : p.funcs ≡ record { name = main_name; body = s.body } ∷ []
-  pub main : p.main ≡ 0
+-- the program of the lines that lead to a place
+pub record IsProgramOf (place : Place) (p : Program) : Type 0 where
+  pub threads : p.threads ≡ threads_of place.heads
+  pub env : p.env ≡ env_of place.heads
+  pub funcs : p.funcs ≡ place.closed
+  pub main : Some p.main ≡ position (is_called (codes "main")) place.closed
 
--- the text is the program: the text is a script, and the program is that script's
+-- the text is the program
 pub record Grammar (bytes : List ℕ) (p : Program) : Type 0 where
-  pub script : Script
-  pub says : script_of bytes ≡ Some script
-  pub program : IsProgramOf script p
+  pub place : Place
+  pub says : verdict bytes ≡ Accepts place
+  pub program : IsProgramOf place p
 
--- the text is no program. The small grammar names no line
+-- the text is no program: this is its first faulty line, counted from 1, and the least fault of that line
 pub record Refused (bytes : List ℕ) (fault : ScriptFault) : Type 0 where
-  pub line : fault.line ≡ 0
-  pub why : fault.why ≡ UnknownWord
-  pub none : (p : Program) → Grammar bytes p → ⊥
+  pub says : verdict bytes ≡ Refuses fault
 
 -- two programs have equal fields
 pub record AreEqual (p q : Program) : Type 0 where

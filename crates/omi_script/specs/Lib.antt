@@ -7,8 +7,6 @@ pub mod Program
 pub mod Bodies
 pub mod Lines
 pub mod Numbers
-pub mod Shapes
-pub mod Script
 pub mod Grammar
 pub mod Small
 pub mod Fault
@@ -19,3 +17,9 @@ pub mod Sayings
 pub mod Place
 pub mod LineFaults
 pub mod Workload
+pub mod ShapeSayings
+pub mod Widths
+pub mod ReadHeads
+pub mod SayingFaults
+pub mod Counts
+pub mod ReadPlaces

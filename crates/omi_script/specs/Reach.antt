@@ -14,7 +14,7 @@ pub record Reach : Type 0 where
 abbrev pub reach_at : List Reach → ℕ → Reach
 reach_at above f = slice_index_or above f (record { barrier = false; depth = 0 })
 
--- a statement reaches a barrier: it is one, or it has the same thread run a function that does
+-- a statement reaches a barrier: it is one, or it is `call`, `only`, `critical` or `repeat` of a function that does
 abbrev pub reaches_barrier : List Reach → Stmt → Bool
 reaches_barrier above Barrier = true
 reaches_barrier above (Call f) = (reach_at above f).barrier

@@ -1,8 +1,7 @@
 -- What a line says, by its first word, its count of words and its fixed words. Whether its numbers lie in their ranges, and what its names stand for, is judged apart.
-use Rattle.std.specs.Prelude.{ℕ, Bool, true, false, ◌&&◌, ◌==◌, List, [], ◌∷◌, length, Option, Some, None, option_map, option_and_then, is_some, if◌then◌else◌, bytes_eq, codes}
+use Rattle.std.specs.Prelude.{ℕ, Bool, true, false, ◌&&◌, ◌==◌, List, [], ◌∷◌, length, Option, Some, None, option_map, option_and_then, is_some, slice_index, if◌then◌else◌, bytes_eq, codes}
 use Rattle.std.specs.List.{list_any, slice_split}
 use Rattle.omi_script.specs.Numbers.{is_comma, number_of, sizes_of}
-use Rattle.omi_script.specs.Shapes.{begins_comment}
 use Rattle.omi_script.specs.declared.statement.Sched.{Sched}
 use Rattle.omi_script.specs.declared.statement.Stmt.{Stmt}
 use Rattle.omi_script.specs.declared.statement.Stmt.TheVariants.{Parallel, Task, Taskwait, Taskyield, Barrier, Critical, Call, Only, Repeat, SetNumThreads, SetDynamic, SetMaxActive, SetSchedule, SetDevice, Tool, Work}
@@ -170,6 +169,10 @@ saying_of_words (w1 ∷ w2 ∷ w3 ∷ []) = saying_of_three w1 w2 w3
 saying_of_words (w1 ∷ w2 ∷ w3 ∷ w4 ∷ []) = saying_of_four w1 w2 w3 w4
 saying_of_words (w1 ∷ w2 ∷ w3 ∷ w4 ∷ w5 ∷ w6 ∷ []) = saying_of_six w1 w2 w3 w4 w5 w6
 saying_of_words _ = None
+
+-- the word begins with `#`
+abbrev pub begins_comment : List ℕ → Bool
+begins_comment word = slice_index word 0 == 35
 
 -- what a line's words say. Without words, or where the first begins with `#`, they say nothing
 abbrev pub saying_of : List (List ℕ) → Option Saying

@@ -3,7 +3,7 @@ ghost use Rattle.std.specs.List.{list_all};
 ghost use Rattle.omi_script.specs.Names.{is_digit};
 ghost use Rattle.omi_script.specs.Numbers.{is_decimal, number_of, value_of};
 
-fn is_digit_byte(b: u8) -> bool
+pub fn is_digit_byte(b: u8) -> bool
     ensures { result ≡ is_digit b }
 {
     b'0' <= b && b <= b'9'
@@ -45,5 +45,25 @@ pub fn number(word: &[u8], least: u64, most: u64) -> Option<u64>
     match value(word) {
         Some(n) if least <= n && n <= most => Some(n),
         _ => None,
+    }
+}
+
+/// A number that fits in a byte.
+pub fn number_u8(word: &[u8], least: u8, most: u8) -> Option<u8>
+    ensures { result ≡ number_of least most word.now }
+{
+    match number(word, least as u64, most as u64) {
+        Some(n) => Some(n as u8),
+        None => None,
+    }
+}
+
+/// A number that fits in two bytes.
+pub fn number_u16(word: &[u8], least: u16, most: u16) -> Option<u16>
+    ensures { result ≡ number_of least most word.now }
+{
+    match number(word, least as u64, most as u64) {
+        Some(n) => Some(n as u16),
+        None => None,
     }
 }

@@ -1,7 +1,9 @@
 ghost use Rattle.std.specs.Prelude.{◌≡◌};
 ghost use Rattle.omi_script.specs.Faults.{number_of_fault};
 ghost use Rattle.omi_script.specs.FaultTexts.{text_of_fault};
+ghost use Rattle.omi_script.specs.declared.fault.LineError.TheVariants.{OutOfMemory as NoMemory};
 ghost use Rattle.omi_script.specs.declared.fault.ScriptError.TheVariants.{OutOfMemory};
+ghost use Rattle.omi_script.specs.Fault.{error_at};
 
 use std::alloc::{AllocError, AllocFailed};
 use thiserror::Error;
@@ -69,7 +71,7 @@ impl Why {
     }
 }
 
-/// The first faulty line of a script, counted from 1, and its least fault. Line 0 names no line.
+/// The first faulty line of a script, counted from 1, and its least fault. The end of the text is one past the last line.
 #[derive(Clone, Copy, Debug, PartialEq, Eq)]
 pub struct ScriptFault {
     pub line: u32,
@@ -83,6 +85,41 @@ pub enum ScriptError {
     Fault(ScriptFault),
     #[error("out of memory")]
     OutOfMemory,
+}
+
+/// Why a reader does not go on behind a line.
+#[derive(Drop)]
+pub enum LineError {
+    Fault(Why),
+    OutOfMemory,
+}
+
+impl LineError {
+    /// The error of the line with a number.
+    pub fn at(self, line: u32) -> ScriptError
+        ensures { result ≡ error_at line self }
+    {
+        match self {
+            LineError::Fault(why) => ScriptError::Fault(ScriptFault { line, why }),
+            LineError::OutOfMemory => ScriptError::OutOfMemory,
+        }
+    }
+}
+
+impl From<AllocError> for LineError {
+    ghost from_gives = { λ _ e. e ≡ NoMemory };
+
+    fn from(_e: AllocError) -> LineError {
+        LineError::OutOfMemory
+    }
+}
+
+impl<T: Drop> From<AllocFailed<T>> for LineError {
+    ghost from_gives = { λ _ e. e ≡ NoMemory };
+
+    fn from(_e: AllocFailed<T>) -> LineError {
+        LineError::OutOfMemory
+    }
 }
 
 impl From<AllocError> for ScriptError {

@@ -1,10 +1,11 @@
-ghost use Rattle.std.specs.Prelude.{◌≡◌, ◌∷◌, [], ◌++◌, take, flat_map, IfOk, OnOk, codes};
+ghost use Rattle.std.specs.Prelude.{◌≡◌, ◌≤◌, true, ◌∷◌, [], ◌++◌, length, take, flat_map, IfOk, OnOk, codes};
 ghost use Rattle.std.specs.Fmt.{decimal};
-ghost use Rattle.omi_script.specs.Names.{text_of};
 ghost use Rattle.omi_script.specs.Canonical.{kind_name as kind_text, truth_word, debug_word, flag_word, name_at, listed_behind, list_text, setting_words, task_words, schedule_text, statement_words, line_text, env_words, last_head_words, head_words, statement_text, function_text, canonical};
-ghost use Rattle.std.specs.List.{join_with_byte};
+ghost use Rattle.omi_script.specs.Grammar.{Grammar};
+ghost use Rattle.omi_script.specs.Widths.{has_chunk, has_widths, HasHeadWidths};
+ghost use Rattle.std.specs.List.{list_all, join_with_byte};
 
-use crate::{Env, Func, FuncList, Name, NumList, OutOfMemory, Program, Sched, Stmt};
+use crate::{Env, Func, FuncList, NumList, OutOfMemory, Program, Sched, Stmt};
 use std::alloc::Global;
 
 fn kind_name(kind: u8) -> &'static [u8]
@@ -36,25 +37,13 @@ fn flag(b: bool) -> &'static [u8]
     if b { b"1" } else { b"0" }
 }
 
-/// The bytes of a name.
-fn name_text(name: &Name) -> &[u8]
-    ensures { result.now ≡ text_of name.now }
-{
-    let len = usize::from(name.len);
-    if len < 32 {
-        &name.bytes[..len]
-    } else {
-        &name.bytes
-    }
-}
-
 /// The name of the function with a number, none past the last.
 fn name_of(funcs: &FuncList, f: u8) -> &[u8]
     ensures { result.now ≡ name_at funcs.now f }
 {
     let at = usize::from(f);
     if at < funcs.len() {
-        name_text(&funcs.get(at).name)
+        funcs.get(at).name.text()
     } else {
         &[]
     }
@@ -144,7 +133,8 @@ fn push_task(
 
 /// Adds a schedule as two words.
 fn push_kind_and_chunk(alloc: Global, text: &mut Vec<u8>, sched: Sched) -> Result<(), OutOfMemory>
-    ensures { OnOk result (text.new.items ≡ text.old.items ++ (kind_text sched.kind ++ 32 ∷ decimal sched.chunk)) }
+    ensures words { OnOk result (text.new.items ≡ text.old.items ++ (kind_text sched.kind ++ 32 ∷ decimal sched.chunk)) }
+    ensures chunk { sched.chunk ≤ 65535 }
 {
     text.extend_from_slice(kind_name(sched.kind))?;
     push_number(alloc, text, b" ", sched.chunk.into())
@@ -152,7 +142,8 @@ fn push_kind_and_chunk(alloc: Global, text: &mut Vec<u8>, sched: Sched) -> Resul
 
 /// Adds the words of a statement that names no function.
 fn push_setting(alloc: Global, text: &mut Vec<u8>, s: &Stmt) -> Result<(), OutOfMemory>
-    ensures { OnOk result (text.new.items ≡ text.old.items ++ join_with_byte 32 (setting_words s.now)) }
+    ensures words { OnOk result (text.new.items ≡ text.old.items ++ join_with_byte 32 (setting_words s.now)) }
+    ensures widths { OnOk result (has_chunk s.now ≡ true) }
 {
     match *s {
         Stmt::Taskwait => text.extend_from_slice(b"taskwait"),
@@ -179,7 +170,8 @@ fn push_words(
     funcs: &FuncList,
     s: &Stmt,
 ) -> Result<(), OutOfMemory>
-    ensures { OnOk result (text.new.items ≡ text.old.items ++ join_with_byte 32 (statement_words funcs.now s.now)) }
+    ensures words { OnOk result (text.new.items ≡ text.old.items ++ join_with_byte 32 (statement_words funcs.now s.now)) }
+    ensures widths { OnOk result (has_chunk s.now ≡ true) }
 {
     match *s {
         Stmt::Parallel { f, num: None } => push_name(text, b"parallel ", funcs, f),
@@ -208,7 +200,8 @@ fn push_statement(
     funcs: &FuncList,
     s: &Stmt,
 ) -> Result<(), OutOfMemory>
-    ensures { OnOk result (text.new.items ≡ text.old.items ++ statement_text funcs.now s.now) }
+    ensures line { OnOk result (text.new.items ≡ text.old.items ++ statement_text funcs.now s.now) }
+    ensures widths { OnOk result (has_chunk s.now ≡ true) }
 {
     text.extend_from_slice(b"  ")?;
     push_words(alloc, text, funcs, s)?;
@@ -222,7 +215,8 @@ fn push_body(
     funcs: &FuncList,
     body: &[Stmt],
 ) -> Result<(), OutOfMemory>
-    ensures { OnOk result (text.new.items ≡ text.old.items ++ flat_map (statement_text funcs.now) body.now) }
+    ensures lines { OnOk result (text.new.items ≡ text.old.items ++ flat_map (statement_text funcs.now) body.now) }
+    ensures widths { OnOk result (list_all has_chunk body.now ≡ true) }
 {
     for s in body {
         push_statement(alloc, text, funcs, s)?;
@@ -238,10 +232,11 @@ fn push_function(
     funcs: &FuncList,
     f: &Func,
 ) -> Result<(), OutOfMemory>
-    ensures { OnOk result (text.new.items ≡ text.old.items ++ function_text funcs.now f.now) }
+    ensures lines { OnOk result (text.new.items ≡ text.old.items ++ function_text funcs.now f.now) }
+    ensures widths { OnOk result (has_widths f.now ≡ true) }
 {
     text.extend_from_slice(b"func ")?;
-    text.extend_from_slice(name_text(&f.name))?;
+    text.extend_from_slice(f.name.text())?;
     text.extend_from_slice(b"\n")?;
     push_body(alloc, text, funcs, f.body.as_slice())?;
     text.extend_from_slice(b"end\n")
@@ -249,7 +244,8 @@ fn push_function(
 
 /// Adds all functions.
 fn push_functions(alloc: Global, text: &mut Vec<u8>, funcs: &FuncList) -> Result<(), OutOfMemory>
-    ensures { OnOk result (text.new.items ≡ text.old.items ++ flat_map (function_text funcs.now) funcs.now) }
+    ensures lines { OnOk result (text.new.items ≡ text.old.items ++ flat_map (function_text funcs.now) funcs.now) }
+    ensures widths { OnOk result (list_all has_widths funcs.now ≡ true) }
 {
     for f in funcs.as_slice() {
         push_function(alloc, text, funcs, f)?;
@@ -293,7 +289,8 @@ fn push_sizes(alloc: Global, text: &mut Vec<u8>, list: &NumList) -> Result<(), O
 
 /// Adds the head line of run-sched-var.
 fn push_schedule(alloc: Global, text: &mut Vec<u8>, sched: Sched) -> Result<(), OutOfMemory>
-    ensures { OnOk result (text.new.items ≡ text.old.items ++ line_text (env_words (codes "schedule") (schedule_text sched))) }
+    ensures line { OnOk result (text.new.items ≡ text.old.items ++ line_text (env_words (codes "schedule") (schedule_text sched))) }
+    ensures chunk { sched.chunk ≤ 65535 }
 {
     let mut value = Vec::from_slice(alloc, kind_name(sched.kind))?;
     push_number(alloc, &mut value, b",", sched.chunk.into())?;
@@ -311,28 +308,36 @@ fn push_threads(alloc: Global, text: &mut Vec<u8>, threads: u8) -> Result<(), Ou
 
 /// Adds the last four head lines.
 fn push_last_head(alloc: Global, text: &mut Vec<u8>, env: &Env) -> Result<(), OutOfMemory>
-    ensures { OnOk result (text.new.items ≡ text.old.items ++ flat_map line_text (last_head_words env.now)) }
+    ensures lines { OnOk result (text.new.items ≡ text.old.items ++ flat_map line_text (last_head_words env.now)) }
+    ensures chunk { OnOk result (env.now.sched.chunk ≤ 65535) }
+    ensures device { OnOk result (env.now.device ≤ 255) }
+    ensures procs { OnOk result (env.now.procs ≤ 65535) }
 {
     push_schedule(alloc, text, env.sched)?;
-    push_env_number(alloc, text, b"device", env.device.into())?;
+    let device = env.device;
+    push_env_number(alloc, text, b"device", device.into())?;
     push_env(text, b"debug", debug(env.debug))?;
-    push_env_number(alloc, text, b"procs", env.procs.into())
+    let procs = env.procs;
+    push_env_number(alloc, text, b"procs", procs.into())
 }
 
 /// Adds the head lines.
 fn push_head(alloc: Global, text: &mut Vec<u8>, threads: u8, env: &Env) -> Result<(), OutOfMemory>
-    ensures { OnOk result (text.new.items ≡ text.old.items ++ flat_map line_text (head_words threads env.now)) }
+    ensures lines { OnOk result (text.new.items ≡ text.old.items ++ flat_map line_text (head_words threads env.now)) }
+    ensures widths { OnOk result (HasHeadWidths env.now) }
 {
     push_threads(alloc, text, threads)?;
     push_sizes(alloc, text, &env.nthreads)?;
     push_env(text, b"dynamic", truth(env.dynamic))?;
-    push_env_number(alloc, text, b"max_active_levels", env.max_active.into())?;
+    let max_active = env.max_active;
+    push_env_number(alloc, text, b"max_active_levels", max_active.into())?;
     push_last_head(alloc, text, env)
 }
 
 /// The canonical text of a program: all eight head lines, then each function with its statements.
 pub fn print(alloc: Global, p: &Program) -> Result<Vec<u8>, OutOfMemory>
-    ensures { IfOk result (λ text. text.items ≡ canonical p.now) }
+    ensures text { IfOk result (λ text. text.items ≡ canonical p.now) }
+    ensures again { IfOk result (λ text. length text.items ≤ 65536 → Grammar text.items p.now) }
 {
     let mut text = Vec::new(alloc);
     push_head(alloc, &mut text, p.threads, &p.env)?;

@@ -1,10 +1,9 @@
 ghost use Rattle.std.specs.Prelude.{◌≡◌, ◌⊎◌, ℕ, List};
 ghost use Rattle.omi_script.specs.declared.fault.ScriptFault.{ScriptFault};
 ghost use Rattle.omi_script.specs.declared.program.Program.{Program};
-ghost use Rattle.omi_script.specs.Grammar.{AreEqual};
-ghost use Rattle.omi_script.specs.Workload.{Grammar, Refused};
+ghost use Rattle.omi_script.specs.Grammar.{AreEqual, Grammar, Refused};
 
-/// Each text is one program of the whole workload language or has one fault, and not both.
+/// Each text is one program or has one fault, and not both.
 pub fn one_verdict()
     ensures some { (bytes : List ℕ) → ((p : Program) × Grammar bytes p) ⊎ ((fault : ScriptFault) × Refused bytes fault) }
     ensures one { (bytes : List ℕ) (p q : Program) → Grammar bytes p → Grammar bytes q → AreEqual p q }

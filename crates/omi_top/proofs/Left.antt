@@ -1,12 +1,11 @@
 -- What a command's result and its printing say of the whole call.
-use Rattle.std.proofs.Common.{◌≡◌, ◌⊎◌, inl, inr, ℕ, List, length, Option, Some, None, Ok, Err, refl, sym, ◌∙◌, ap, subst, arith, take_all}
+use Rattle.std.proofs.Common.{◌≡◌, ◌⊎◌, inl, inr, ℕ, List, Option, Some, None, Ok, Err, refl, sym, subst}
 use Rattle.std.specs.Global.{Vec}
-use Rattle.omi_outside.specs.Outside.{Told, holding, IsPartlyPut, put_on}
-use Rattle.omi_outside.proofs.Held.{put_none}
+use Rattle.omi_outside.specs.Outside.{Told, IsPartlyPut, put_on}
 use Rattle.omi_outside.specs.declared.status.Status.{Status}
 use Rattle.omi_outside.specs.declared.status.Status.TheVariants as status
 use Rattle.omi_top.specs.Command.{Command, Stop, Show, Faulty}
-use Rattle.omi_top.specs.Answer.{Answer, Refuses, IsAnswer, IsStopAnswer, IsShowAnswer, IsAnswered, Holds, HoldsPart, IsLeft, IsSaid}
+use Rattle.omi_top.specs.Answer.{Answer, Refuses, IsAnswer, IsStopAnswer, IsShowAnswer, IsAnswered, IsLeft, IsSaid}
 use Rattle.omi_top.specs.Refusal.{line_of, status_of}
 use Rattle.omi_top.specs.declared.refusal.Refusal.{Refusal}
 use Rattle.omi_top.specs.declared.refusal.Refusal.TheVariants as refusal
@@ -23,24 +22,32 @@ stop_proper : (budget : ℕ) (content : Option (List ℕ)) (r : Refusal) → IsF
 stop_proper budget None refusal.ReadFault fault is = cc
 stop_proper budget None refusal.WriteFault fault is = cc
 stop_proper budget None refusal.OutOfMemory fault is = cc
-stop_proper budget (Some bytes) refusal.ReadFault fault (f, why, is) = cc
-stop_proper budget (Some bytes) refusal.WriteFault fault (f, why, is) = cc
-stop_proper budget (Some bytes) refusal.OutOfMemory fault (f, why, is) = cc
+stop_proper budget (Some bytes) refusal.ReadFault fault (inl (f, why, is)) = cc
+stop_proper budget (Some bytes) refusal.ReadFault fault (inr (other, is)) = cc
+stop_proper budget (Some bytes) refusal.WriteFault fault (inl (f, why, is)) = cc
+stop_proper budget (Some bytes) refusal.WriteFault fault (inr (other, is)) = cc
+stop_proper budget (Some bytes) refusal.OutOfMemory fault (inl (f, why, is)) = cc
+stop_proper budget (Some bytes) refusal.OutOfMemory fault (inr (other, is)) = cc
 stop_proper budget content refusal.Usage fault is = fault
 stop_proper budget content refusal.NoFile fault is = fault
 stop_proper budget content (refusal.Script f) fault is = fault
+stop_proper budget content (refusal.Core at why) fault is = fault
 stop_proper budget content refusal.NotBuilt fault is = fault
 
 show_proper : (content : Option (List ℕ)) (r : Refusal) → IsFault r → IsShowAnswer content (Refuses r) → ⊥
 show_proper None refusal.ReadFault fault is = cc
 show_proper None refusal.WriteFault fault is = cc
 show_proper None refusal.OutOfMemory fault is = cc
-show_proper (Some bytes) refusal.ReadFault fault (why, is) = cc
-show_proper (Some bytes) refusal.WriteFault fault (why, is) = cc
-show_proper (Some bytes) refusal.OutOfMemory fault (why, is) = cc
+show_proper (Some bytes) refusal.ReadFault fault (inl (at, why, refused, is)) = cc
+show_proper (Some bytes) refusal.ReadFault fault (inr (other, is)) = cc
+show_proper (Some bytes) refusal.WriteFault fault (inl (at, why, refused, is)) = cc
+show_proper (Some bytes) refusal.WriteFault fault (inr (other, is)) = cc
+show_proper (Some bytes) refusal.OutOfMemory fault (inl (at, why, refused, is)) = cc
+show_proper (Some bytes) refusal.OutOfMemory fault (inr (other, is)) = cc
 show_proper content refusal.Usage fault is = fault
 show_proper content refusal.NoFile fault is = fault
 show_proper content (refusal.Script f) fault is = fault
+show_proper content (refusal.Core at why) fault is = fault
 show_proper content refusal.NotBuilt fault is = fault
 
 proper : (command : Command) (content : Option (List ℕ)) (r : Refusal) → IsFault r → IsAnswer command content (Refuses r) → ⊥
@@ -52,16 +59,12 @@ proper Faulty content refusal.OutOfMemory fault is = cc
 proper Faulty content refusal.Usage fault is = fault
 proper Faulty content refusal.NoFile fault is = fault
 proper Faulty content (refusal.Script f) fault is = fault
+proper Faulty content (refusal.Core at why) fault is = fault
 proper Faulty content refusal.NotBuilt fault is = fault
 
 -- printing ended well, with a fault, or for want of memory
 abbrev pub IsPrinting : Status → Type 0
 IsPrinting s = (s ≡ status.Success) ⊎ ((s ≡ status.WriteFault) ⊎ (s ≡ status.OutOfMemory))
-
--- a core that is held is partly held
-held_partly : (core : Option (List ℕ)) (old new : Told) → Holds core old new → HoldsPart core old new
-held_partly None old new held = held
-held_partly (Some core) old new held = inr (length core, held ∙ ap (holding old) (sym (take_all (length core) core (omega arith))))
 
 -- after a text and an end of its printing
 pub ok_left : (name : List ℕ) (P : Answer → Type 0) (text : Vec ℕ) (old new : Told) (s : Status) (out after : Option (List ℕ))
@@ -70,13 +73,9 @@ pub ok_left : (name : List ℕ) (P : Answer → Type 0) (text : Vec ℕ) (old ne
 ok_left name P text old new s out after (core, is, held) (inl e) put partly =
     subst (λ (x : Status). IsLeft name P x old new out after) (sym e) (core, text.items, is, held, put e)
 ok_left name P text old new s out after (core, is, held) (inr (inl e)) put partly =
-    subst (λ (x : Status). IsLeft name P x old new out after) (sym e) (core, text.items, is, held_partly core old new held, partly)
+    subst (λ (x : Status). IsLeft name P x old new out after) (sym e) (core, text.items, is, inr (held, partly))
 ok_left name P text old new s out after (core, is, held) (inr (inr e)) put partly =
-    subst (λ (x : Status). IsLeft name P x old new out after) (sym e) (inr (core, text.items, is, held_partly core old new held, partly))
-
--- nothing of a text is put
-nothing_put : (text : List ℕ) (out after : Option (List ℕ)) → after ≡ out → IsPartlyPut text out after
-nothing_put text out after same = (0, same ∙ put_none out)
+    subst (λ (x : Status). IsLeft name P x old new out after) (sym e) (inr (core, text.items, is, inr (held, partly)))
 
 -- after a refusal
 pub err_left : (name : List ℕ) (command : Command) (content : Option (List ℕ)) (r : Refusal) (old new : Told) (out after : Option (List ℕ))
@@ -90,6 +89,9 @@ err_left name command content refusal.NoFile old new out after (inr (inr (late, 
 err_left name command content (refusal.Script f) old new out after (inl (is, same)) said = (refusal.Script f, refl, is, same, said)
 err_left name command content (refusal.Script f) old new out after (inr (inl (early, same))) said = absurd early
 err_left name command content (refusal.Script f) old new out after (inr (inr (late, core, text, is, partly))) said = absurd late
+err_left name command content (refusal.Core at why) old new out after (inl (is, same)) said = (refusal.Core at why, refl, is, same, said)
+err_left name command content (refusal.Core at why) old new out after (inr (inl (early, same))) said = absurd early
+err_left name command content (refusal.Core at why) old new out after (inr (inr (late, core, text, is, partly))) said = absurd late
 err_left name command content refusal.NotBuilt old new out after (inl (is, same)) said = (refusal.NotBuilt, refl, is, same, said)
 err_left name command content refusal.NotBuilt old new out after (inr (inl (early, same))) said = absurd early
 err_left name command content refusal.NotBuilt old new out after (inr (inr (late, core, text, is, partly))) said = absurd late
@@ -98,7 +100,7 @@ err_left name command content refusal.ReadFault old new out after (inr (inl (ear
 err_left name command content refusal.ReadFault old new out after (inr (inr (late, core, text, is, partly))) said = absurd late
 err_left name command content refusal.WriteFault old new out after (inl (is, same)) said = absurd (proper command content refusal.WriteFault tt is)
 err_left name command content refusal.WriteFault old new out after (inr (inl (early, same))) said = absurd early
-err_left name command content refusal.WriteFault old new out after (inr (inr (late, core, text, is, partly))) said = (core, text, is, partly, nothing_put text out after said)
+err_left name command content refusal.WriteFault old new out after (inr (inr (late, core, text, is, partly))) said = (core, text, is, inl (partly, said))
 err_left name command content refusal.OutOfMemory old new out after (inl (is, same)) said = inl (same, said)
 err_left name command content refusal.OutOfMemory old new out after (inr (inl (early, same))) said = inl (same, said)
-err_left name command content refusal.OutOfMemory old new out after (inr (inr (late, core, text, is, partly))) said = inr (core, text, is, partly, nothing_put text out after said)
+err_left name command content refusal.OutOfMemory old new out after (inr (inr (late, core, text, is, partly))) said = inr (core, text, is, inl (partly, said))

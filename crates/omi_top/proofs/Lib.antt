@@ -3,12 +3,13 @@ pub mod Opens
 pub mod Small
 pub mod Moves
 pub mod Accepted
+pub mod Plain
 pub mod Shown
 pub mod Runs
 pub mod Stopping
+pub mod Statuses
 pub mod Left
 pub mod LeftByStop
-pub mod Plain
 pub mod Showing
 pub mod Looked
 pub mod LeftByShow

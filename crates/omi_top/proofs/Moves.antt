@@ -118,92 +118,93 @@ statement_moves p rest v (stmt.Tool x) more small = absurd (cc)
 abbrev pub at_show : Now → Now
 at_show v = record v { state = 0; arrived = 0; released = 0; list = Show 17 0 ∷ Arrive ∷ Tasks 17 ∷ Release ∷ Pass ∷ Done ∷ [] }
 
-abbrev pub at_arrive : Now → Now
-at_arrive v = record v { state = 17; arrived = 0; released = 0; list = Arrive ∷ Tasks 17 ∷ Release ∷ Pass ∷ Done ∷ [] }
+-- behind it, thread 0 has the state that it showed last
+abbrev pub at_arrive : ℕ → Now → Now
+at_arrive state v = record v { state = state; arrived = 0; released = 0; list = Arrive ∷ Tasks 17 ∷ Release ∷ Pass ∷ Done ∷ [] }
 
-abbrev pub at_release : Now → Now
-at_release v = record v { state = 17; arrived = 1; released = 0; list = Tasks 17 ∷ Release ∷ Pass ∷ Done ∷ [] }
+abbrev pub at_release : ℕ → Now → Now
+at_release state v = record v { state = state; arrived = 1; released = 0; list = Tasks 17 ∷ Release ∷ Pass ∷ Done ∷ [] }
 
-abbrev pub at_pass : Now → Now
-at_pass v = record v { state = 17; arrived = 1; released = 1; list = Pass ∷ Done ∷ [] }
+abbrev pub at_pass : ℕ → Now → Now
+at_pass state v = record v { state = state; arrived = 1; released = 1; list = Pass ∷ Done ∷ [] }
 
-abbrev pub at_done : Now → Now
-at_done v = record v { state = 17; arrived = 1; released = 1; list = Done ∷ [] }
+abbrev pub at_done : ℕ → Now → Now
+at_done state v = record v { state = state; arrived = 1; released = 1; list = Done ∷ [] }
 
-abbrev pub at_end : Now → Now
-at_end v = record v { state = 17; arrived = 1; released = 1; list = [] }
+abbrev pub at_end : ℕ → Now → Now
+at_end state v = record v { state = state; arrived = 1; released = 1; list = [] }
 
-pub show_moves : (p : Program) (rest : List ℕ) (v : Now) → Moves p rest (at_show v) (op.Store 0x10398 17, event.State 17 0) (at_arrive v)
+pub show_moves : (p : Program) (rest : List ℕ) (v : Now) → Moves p rest (at_show v) (op.Store 0x10398 17, event.State 17 0) (at_arrive 17 v)
 show_moves p rest v = record {
   step = λ old found. record { inside = inside p (at_show v) rest 115 (lit< tt); found = found; commits = (17, refl); legal = record { allowed = refl; holds = tt } };
   words = refl;
   state =
-      ap (λ (s : State). effect s 0 (event.State 17 0)) (listed p (at_show v) (at_arrive v).list)
-      ∙ with_thread p (record (at_show v) { list = (at_arrive v).list }) (thread_at (at_arrive v));
+      ap (λ (s : State). effect s 0 (event.State 17 0)) (listed p (at_show v) (at_arrive 17 v).list)
+      ∙ with_thread p (record (at_show v) { list = (at_arrive 17 v).list }) (thread_at (at_arrive 17 v));
 }
 
-pub arrive_moves : (p : Program) (rest : List ℕ) (v : Now) → Moves p rest (at_arrive v) (op.Add 0x103f0 1, event.Arrive) (at_release v)
-arrive_moves p rest v = record {
+pub arrive_moves : (p : Program) (rest : List ℕ) (state : ℕ) (v : Now) → Moves p rest (at_arrive state v) (op.Add 0x103f0 1, event.Arrive) (at_release state v)
+arrive_moves p rest state v = record {
   step = λ old found. record {
-    inside = inside p (at_arrive v) rest 126 (lit< tt);
+    inside = inside p (at_arrive state v) rest 126 (lit< tt);
     found = found;
-    commits = (task_at p (at_arrive v), refl, (1, refl));
-    legal = record { allowed = refl; holds = (task_at p (at_arrive v), refl, refl) };
+    commits = (task_at p (at_arrive state v), refl, (1, refl));
+    legal = record { allowed = refl; holds = (task_at p (at_arrive state v), refl, refl) };
   };
   words = refl;
   state =
-      ap (λ (s : State). effect s 0 event.Arrive) (listed p (at_arrive v) (at_release v).list)
-      ∙ with_region p (record (at_arrive v) { list = (at_release v).list }) (λ r. record r { arrivals = set r.arrivals 0 (get_or r.arrivals 0 0 + 1) });
+      ap (λ (s : State). effect s 0 event.Arrive) (listed p (at_arrive state v) (at_release state v).list)
+      ∙ with_region p (record (at_arrive state v) { list = (at_release state v).list }) (λ r. record r { arrivals = set r.arrivals 0 (get_or r.arrivals 0 0 + 1) });
 }
 
-pub release_moves : (p : Program) (rest : List ℕ) (v : Now) → Moves p rest (at_release v) (op.Store 0x103e8 1, event.Release) (at_pass v)
-release_moves p rest v = record {
+pub release_moves : (p : Program) (rest : List ℕ) (state : ℕ) (v : Now) → Moves p rest (at_release state v) (op.Store 0x103e8 1, event.Release) (at_pass state v)
+release_moves p rest state v = record {
   step = λ old found. record {
-    inside = inside p (at_release v) rest 125 (lit< tt);
+    inside = inside p (at_release state v) rest 125 (lit< tt);
     found = found;
-    commits = (task_at p (at_release v), refl, (1, refl));
+    commits = (task_at p (at_release state v), refl, (1, refl));
     legal = record {
       allowed = refl;
       holds = (
-        task_at p (at_release v),
-        region_at p (at_release v),
+        task_at p (at_release state v),
+        region_at p (at_release state v),
         refl,
         refl,
         record {
           first = refl;
           arrived = All-from_recursion (λ (n : ℕ). n ≡ 1) (1 ∷ []) (refl, tt);
-          finished = λ c k t lives explicit here. alone_explicit p v c k t lives explicit;
+          finished = λ c k t lives explicit here. alone_explicit c k t lives explicit;
         },
       );
     };
   };
   words = refl;
   state =
-      ap (λ (s : State). effect s 0 event.Release) (listed p (at_release v) (at_pass v).list)
-      ∙ with_region p (record (at_release v) { list = (at_pass v).list }) (λ r. record r { released = r.released + 1 });
+      ap (λ (s : State). effect s 0 event.Release) (listed p (at_release state v) (at_pass state v).list)
+      ∙ with_region p (record (at_release state v) { list = (at_pass state v).list }) (λ r. record r { released = r.released + 1 });
 }
   where
-    alone_explicit : (p : Program) (v : Now) (c k : ℕ) (t : Task) → (first_alone (task_at p (at_release v)) c k).live ≡ Some t → t.implicit ≡ false → t.phase ≡ Finished
-    alone_explicit p v c k t lives explicit =
-        let same = alone_live (task_at p (at_release v)) t c k lives in
+    alone_explicit : (c k : ℕ) (t : Task) → (first_alone (task_at p (at_release state v)) c k).live ≡ Some t → t.implicit ≡ false → t.phase ≡ Finished
+    alone_explicit c k t lives explicit =
+        let same = alone_live (task_at p (at_release state v)) t c k lives in
         let implicit : true ≡ t.implicit = ap (λ (u : Task). u.implicit) same.2 in
         absurd (cc)
 
-pub pass_moves : (p : Program) (rest : List ℕ) (v : Now) → Moves p rest (at_pass v) (op.Load 0x103e8, event.Pass) (at_done v)
-pass_moves p rest v = record {
+pub pass_moves : (p : Program) (rest : List ℕ) (state : ℕ) (v : Now) → Moves p rest (at_pass state v) (op.Load 0x103e8, event.Pass) (at_done state v)
+pass_moves p rest state v = record {
   step = λ old found. record {
-    inside = inside p (at_pass v) rest 125 (lit< tt);
+    inside = inside p (at_pass state v) rest 125 (lit< tt);
     found = found;
-    commits = (task_at p (at_pass v), refl, refl);
-    legal = record { allowed = refl; holds = (task_at p (at_pass v), region_at p (at_pass v), refl, refl, lit≤ tt) };
+    commits = (task_at p (at_pass state v), refl, refl);
+    legal = record { allowed = refl; holds = (task_at p (at_pass state v), region_at p (at_pass state v), refl, refl, lit≤ tt) };
   };
   words = refl;
-  state = listed p (at_pass v) (at_done v).list;
+  state = listed p (at_pass state v) (at_done state v).list;
 }
 
-pub done_moves : (p : Program) (rest : List ℕ) (v : Now) → Moves p rest (at_done v) (op.Load 0x10388, event.Done) (at_end v)
-done_moves p rest v = record {
-  step = λ old found. record { inside = inside p (at_done v) rest 113 (lit< tt); found = found; commits = own; legal = record { allowed = refl; holds = refl } };
+pub done_moves : (p : Program) (rest : List ℕ) (state : ℕ) (v : Now) → Moves p rest (at_done state v) (op.Load 0x10388, event.Done) (at_end state v)
+done_moves p rest state v = record {
+  step = λ old found. record { inside = inside p (at_done state v) rest 113 (lit< tt); found = found; commits = own; legal = record { allowed = refl; holds = refl } };
   words = refl;
-  state = listed p (at_done v) (at_end v).list;
+  state = listed p (at_done state v) (at_end state v).list;
 }

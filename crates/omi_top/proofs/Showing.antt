@@ -7,11 +7,17 @@ use Rattle.omi_outside.specs.Outside.{Told}
 use Rattle.omi_corefile.specs.Spelling.{Core, spelling}
 use Rattle.omi_corefile.specs.declared.core_image.CoreImage.{CoreImage}
 use Rattle.omi_corefile.proofs.Bounds.{bounds}
+use Rattle.omi_corefile.specs.Limits.{first_address}
+use Rattle.omi_corefile.specs.Outcomes.{IsFaultOf}
+use Rattle.omi_corefile.specs.declared.segment.Segment.{Segment}
+use Rattle.omi_corefile.specs.declared.fault.CoreError.{CoreError}
+use Rattle.omi_corefile.specs.declared.fault.CoreError.TheVariants as error
 use Rattle.omi_corefile.proofs.FileLaws.{core_unique}
+use Rattle.omi_corefile.proofs.Fronts.{front_enough}
 use Rattle.omi_corefile.proofs.Lengths.{length-spelling_of}
-use Rattle.omi_text.specs.Report.{report}
-use Rattle.omi_top.specs.Answer.{IsAnswered, IsEarly, IsPlainCore, IsShowAnswer}
-use Rattle.omi_top.specs.LookView.{IsPlain, look_view}
+use Rattle.omi_top.specs.Answer.{Answer, Refuses, Gives, IsAnswered, IsEarly, IsPlainCore, IsOtherCore, IsShowAnswer}
+use Rattle.omi_top.specs.LookView.{IsPlain}
+use Rattle.omi_top.specs.Refusal.{refusal_of_core}
 use Rattle.omi_top.specs.declared.refusal.Refusal.{Refusal}
 use Rattle.omi_top.specs.declared.refusal.Refusal.TheVariants as refusal
 
@@ -35,41 +41,49 @@ front_core bytes c is = go (nat_le (length bytes) 8390161) refl
         let short = core_short (take 8390161 bytes) c is in
         absurd (omega (arith, front, short))
 
-core_front : (bytes : List ℕ) (c : CoreImage) → Core bytes c → Core (take 8390161 bytes) c
-core_front bytes c is = let short = core_short bytes c is in take_all 8390161 bytes (omega (arith, short)) ∙ is
-
-front_plain : (bytes words : List ℕ) → IsPlainCore (take 8390161 bytes) words → IsPlainCore bytes words
-front_plain bytes words p = record { core = p.core; spelled = front_core bytes p.core p.spelled; plain = p.plain }
-
-plain_front : (bytes words : List ℕ) → IsPlainCore bytes words → IsPlainCore (take 8390161 bytes) words
-plain_front bytes words p = record { core = p.core; spelled = core_front bytes p.core p.spelled; plain = p.plain }
-
 -- a list of one element
 pub alone_in : {A : Type 0} (xs : List A) (x : A) → length xs ≡ 1 → slice_get xs 0 ≡ Some x → xs ≡ x ∷ []
 alone_in [] x one here = absurd (omega (arith, one))
 alone_in (y ∷ []) x one here = cc
 alone_in (y ∷ z ∷ xs) x one here = absurd (omega (arith, one))
 
--- a core whose words are none of a plain core
-pub not_plain : (bytes : List ℕ) (c : CoreImage) → Core bytes c → ((words : List ℕ) → IsPlain c words → ⊥) → (words : List ℕ) → IsPlainCore bytes words → ⊥
-not_plain bytes c is none words p = none words (subst (λ (d : CoreImage). IsPlain d words) (sym (core_unique bytes c p.core is p.spelled)) p.plain)
+-- a file is one core, and a plain core has one list of words
+pub one_plain : (bytes words others : List ℕ) → IsPlainCore bytes words → IsPlainCore bytes others → words ≡ others
+one_plain bytes words others p q =
+    let same : p.core ≡ q.core = core_unique bytes p.core q.core p.spelled q.spelled in
+    let segments : record { start = first_address; words = words } ∷ [] ≡ record { start = first_address; words = others } ∷ [] = sym p.plain.segments ∙ ap (λ (c : CoreImage). c.segments) same ∙ q.plain.segments in
+    ap first_words segments
+  where
+    first_words : List Segment → List ℕ
+    first_words [] = []
+    first_words (s ∷ ss) = s.words
 
--- what is no core is no plain core
-abbrev IsRefusal : List ℕ → Refusal → Type 0
-IsRefusal bytes r = (((words : List ℕ) → IsPlainCore bytes words → ⊥) × (r ≡ refusal.NotBuilt)) ⊎ (r ≡ refusal.OutOfMemory)
+pub plain_not_other : (bytes words : List ℕ) → IsPlainCore bytes words → IsOtherCore bytes → ⊥
+plain_not_other bytes words p q = q.other words (subst (λ (c : CoreImage). IsPlain c words) (core_unique bytes p.core q.core p.spelled q.spelled) p.plain)
 
-pub no_core : (bytes : List ℕ) (r : Refusal) → (((c : CoreImage) → Core bytes c → ⊥) × (r ≡ refusal.NotBuilt)) ⊎ (r ≡ refusal.OutOfMemory) → IsRefusal bytes r
-no_core bytes r (inl (none, is)) = inl ((λ words p. none p.core p.spelled), is)
-no_core bytes r (inr is) = inr is
+-- the answer to the first 8,390,161 bytes is the answer to the file
+pub front_answered : (bytes : List ℕ) (answer : Answer) → IsShowAnswer (Some (take 8390161 bytes)) answer → IsShowAnswer (Some bytes) answer
+front_answered bytes (Refuses r) (inl (at, why, refused, same)) = inl (at, why, sym (front_enough bytes) ∙ refused, same)
+front_answered bytes (Refuses r) (inr (other, same)) = inr (record { core = other.core; spelled = front_core bytes other.core other.spelled; other = other.other }, same)
+front_answered bytes (Gives None text) (words, plain, same) = (words, record { core = plain.core; spelled = front_core bytes plain.core plain.spelled; plain = plain.plain }, same)
+front_answered bytes (Gives (Some core) text) is = is
+
+-- the error of reading a core as an answer
+pub core_refused : (bytes : List ℕ) (e : CoreError) → IsFaultOf bytes e → IsShowAnswer (Some bytes) (Refuses (refusal_of_core e)) ⊎ (refusal_of_core e ≡ refusal.OutOfMemory)
+core_refused bytes (error.Fault at why) fault = inl (inl (at, why, fault, refl))
+core_refused bytes error.OutOfMemory fault = inr refl
 
 -- the answer, from the bytes that were read
 pub show_answered : (content : Option (List ℕ)) (whole bytes : List ℕ) (result : Result (Vec ℕ) Refusal) (old : Told) → content ≡ Some bytes → whole ≡ take 8390161 bytes
-    → IfOk result (λ text. (words : List ℕ) × IsPlainCore whole words × (text.items ≡ report (look_view words))) → IfErr result (IsRefusal whole) → IsAnswered (IsShowAnswer content) result old old
+    → IfOk result (λ text. IsShowAnswer (Some whole) (Gives None text.items)) → IfErr result (λ r. IsShowAnswer (Some whole) (Refuses r) ⊎ (r ≡ refusal.OutOfMemory)) → IsAnswered (IsShowAnswer content) result old old
 show_answered content whole bytes result old is read accepted refused =
     subst (λ (c : Option (List ℕ)). IsAnswered (IsShowAnswer c) result old old) (sym is) (go result accepted refused)
   where
-    go : (r : Result (Vec ℕ) Refusal) → IfOk r (λ text. (words : List ℕ) × IsPlainCore whole words × (text.items ≡ report (look_view words))) → IfErr r (IsRefusal whole)
+    answered : (answer : Answer) → IsShowAnswer (Some whole) answer → IsShowAnswer (Some bytes) answer
+    answered answer said = front_answered bytes answer (subst (λ (xs : List ℕ). IsShowAnswer (Some xs) answer) read said)
+
+    go : (r : Result (Vec ℕ) Refusal) → IfOk r (λ text. IsShowAnswer (Some whole) (Gives None text.items)) → IfErr r (λ e. IsShowAnswer (Some whole) (Refuses e) ⊎ (e ≡ refusal.OutOfMemory))
         → IsAnswered (IsShowAnswer (Some bytes)) r old old
-    go (Ok text) (words, plain, same) refused = (None, (words, front_plain bytes words (subst (λ (xs : List ℕ). IsPlainCore xs words) read plain), same), refl)
-    go (Err r) accepted (inl (none, why)) = inl (((λ words p. none words (subst (λ (xs : List ℕ). IsPlainCore xs words) (sym read) (plain_front bytes words p))), why), refl)
-    go (Err r) accepted (inr why) = inr (inl (subst (λ (x : Refusal). IsEarly x) (sym why) tt, refl))
+    go (Ok text) said refused = (None, answered (Gives None text.items) said, refl)
+    go (Err r) said (inl refuses) = inl (answered (Refuses r) refuses, refl)
+    go (Err r) said (inr memory) = inr (inl (subst (λ (x : Refusal). IsEarly x) (sym memory) tt, refl))

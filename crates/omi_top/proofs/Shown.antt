@@ -1,11 +1,12 @@
 -- The words of a run in closed form show its state.
 use Rattle.std.proofs.Common.{◌≡◌, ◌==◌, ◌<◌, ◌≤◌, ℕ, zero, suc, ◌+◌, ◌*◌, ◌&&◌, Bool, true, false, List, [], ◌∷◌, length, Some, None, refl, sym, ap, subst, ◌∙◌, arith, lit≤, if◌then◌else◌}
-use Rattle.std.specs.Prelude.{slice_get, slice_index, Contains, IsSome, sum}
+use Rattle.std.specs.Prelude.{slice_get, slice_index, Contains, IsSome, IsTrue, sum}
+use Rattle.std.proofs.lemmas.List.{length-append, length-replicate}
 use Rattle.std.proofs.lemmas.List.Elements.{All-from_recursion}
 use Rattle.std.proofs.lemmas.Option.{get_or_from_slice_get, slice_get_within}
 use Rattle.omi_script.specs.Small.{IsSmall}
 use Rattle.omi_script.specs.declared.program.Program.{Program}
-use Rattle.omi_script.specs.declared.statement.Sched.{Sched}
+use Rattle.omi_script.proofs.RuleLemmas.{Rules-from_accepted}
 use Rattle.omi_model.specs.declared.id.Tid.{Tid}
 use Rattle.omi_model.specs.Numbers.{states}
 use Rattle.omi_model.specs.Put.{first_alone, found, unused}
@@ -17,7 +18,9 @@ use Rattle.omi_top.specs.Layout as layout
 use Rattle.omi_top.specs.Run.{Counts}
 use Rattle.omi_top.specs.Shows.{Shows, ShowsGlobals, ShowsLife, ShowsThread, ShowsRegion, ShowsTask, ShowsSlot, Stands}
 use Rattle.omi_top.specs.OpeningWords.{zeros}
-use Rattle.omi_top.proofs.Alone.{Now, state_at, region_at, task_at, words_at, alone_live}
+use Rattle.omi_top.specs.LookView.{is_plain, task_word}
+use Rattle.omi_top.proofs.Plain.{plain_from}
+use Rattle.omi_top.proofs.Alone.{Now, state_at, region_at, task_at, filled_at, words_at, alone_live}
 
 -- what is found of the object that is alone is that object, in its own place
 alone_named : {A : Type 0} (x y : A) (c k g : ℕ) → found g (first_alone x c k) ≡ Some y → (c ≡ 0) × (k ≡ 0) × (x ≡ y)
@@ -90,14 +93,8 @@ module _ (p : Program) (v : Now) (small : IsSmall p) (few : length v.others ≤ 
     scheduling = λ k is. absurd (cc);
     begun = begun;
     ends = (0, refl);
-    variables = record { some = omega arith; few = omega arith; kind_from = kind 1 (lit≤ tt); kind_to = to_kind 1 (lit≤ tt) };
+    variables = record { some = omega arith; few = omega arith; kind_from = (Rules-from_accepted p).schedule.0; kind_to = (Rules-from_accepted p).schedule.1 };
   }
-    where
-      kind : (k : ℕ) → 1 ≤ k → 1 ≤ p.env.sched.kind
-      kind k h = let is : p.env.sched.kind ≡ 1 = ap (λ (x : Sched). x.kind) small.schedule in omega arith
-
-      to_kind : (k : ℕ) → 1 ≤ k → p.env.sched.kind ≤ 4
-      to_kind k h = let is : p.env.sched.kind ≡ 1 = ap (λ (x : Sched). x.kind) small.schedule in omega arith
 
   well_formed : IsWellFormed s
   well_formed = record {
@@ -164,7 +161,8 @@ module _ (p : Program) (v : Now) (small : IsSmall p) (few : length v.others ≤ 
   shows = record {
     well_formed = well_formed;
     one_thread = small.threads;
-    tables = refl;
+    symbols = refl;
+    layout_table = refl;
     regions_within = λ c k x is. let here = alone_live (region_at p v) x c k is in (omega (arith, small.threads, here.0), omega (arith, here.1));
     tasks_within = λ c k x is. let here = alone_live (task_at p v) x c k is in (omega (arith, small.threads, here.0), omega (arith, here.1));
     globals = globals;
@@ -183,6 +181,13 @@ module _ (p : Program) (v : Now) (small : IsSmall p) (few : length v.others ≤ 
       task_in : {c k : ℕ} {t : Task} → (c ≡ 0) × (k ≡ 0) × (task_at p v ≡ t) → ShowsTask ws (layout.task_place c k) t
       task_in {c} {k} {t} (at_c, at_k, same) =
           subst (λ (d : ℕ). ShowsTask ws (layout.task_place d k) t) (sym at_c) (subst (λ (j : ℕ). ShowsTask ws (layout.task_place 0 j) t) (sym at_k) (subst (λ (q : Task). ShowsTask ws 310 q) same task_shown))
+
+  -- they are those of a plain core
+  pub plain : IsTrue (is_plain ws)
+  plain =
+      let many : length ws ≡ 336 + length (zeros 6630) = length-append (filled_at p v) (zeros 6630) in
+      let elements : task_word ws layout.nthn ≡ suc (length v.others) = refl in
+      plain_from ws (omega (arith, many, length-replicate {A = ℕ} 6630 0)) refl refl refl (omega (arith, elements)) (omega (arith, elements, few))
 
   -- and count its arrivals and releases
   pub counts : Counts ws s

@@ -1,68 +1,84 @@
 -- The exits of `stop`: what each result is an answer to.
-use Rattle.std.proofs.Common.{◌≡◌, ◌⊎◌, ◌<◌, ◌&&◌, inl, inr, ℕ, Bool, true, false, List, length, take, Option, Some, None, Ok, Err, if◌then◌else◌, refl, sym, ◌∙◌, ap, subst, arith, take_all, length-take-le, leb-false}
-use Rattle.std.specs.Prelude.{nat_le}
-use Rattle.std.specs.Option.{option_and_then}
-use Rattle.std.specs.List.{list_all}
+use Rattle.std.proofs.Common.{◌≡◌, ◌⊎◌, ◌<◌, inl, inr, ℕ, Bool, true, false, List, [], ◌∷◌, length, take, Option, Some, None, Ok, Err, if◌then◌else◌, refl, sym, ◌∙◌, ap, subst, arith, take_all, length-take-le, leb-false}
+use Rattle.std.specs.Prelude.{nat_le, IsTrue, Result}
 use Rattle.std.specs.Global.{Vec}
 use Rattle.std.proofs.lemmas.Bool.{leb-true}
 use Rattle.omi_outside.specs.Outside.{Told, holding, IsPartly}
 use Rattle.omi_outside.specs.declared.files.Refused.{Refused as RefusedWrite}
 use Rattle.omi_outside.specs.declared.files.Refused.TheVariants as refused
+use Rattle.omi_script.specs.Fault.{IfFault}
 use Rattle.omi_script.specs.Grammar.{Grammar, Refused}
-use Rattle.omi_script.specs.Lines.{is_text}
-use Rattle.omi_script.specs.Script.{within_limit, script_of_lines, script_of}
-use Rattle.omi_script.specs.Shapes.{said_in}
-use Rattle.omi_script.specs.declared.fault.ScriptFault.{ScriptFault}
+use Rattle.omi_script.specs.Lines.{lines}
+use Rattle.omi_script.specs.Place.{first_place}
+use Rattle.omi_script.specs.Small.{IsSmall}
+use Rattle.omi_script.specs.Workload.{Refuses as RefusesText, judge, verdict}
+use Rattle.omi_script.specs.declared.fault.ScriptError.{ScriptError}
+use Rattle.omi_script.specs.declared.fault.ScriptError.TheVariants as error
+use Rattle.omi_script.specs.declared.fault.Why.TheVariants.{OverLimit}
 use Rattle.omi_script.specs.declared.program.Program.{Program}
-use Rattle.omi_top.specs.Answer.{Gives, IsAnswered, IsEarly, IsLate, IsStopAnswer, IsStopped}
-use Rattle.omi_top.specs.Refusal.{refusal_of_write}
+use Rattle.omi_corefile.specs.Spelling.{Core, HoldsImage, core_bytes}
+use Rattle.omi_corefile.specs.declared.core_image.CoreImage.{CoreImage}
+use Rattle.omi_top.specs.LookView.{is_plain}
+use Rattle.omi_model.specs.State.{State}
+use Rattle.omi_top.specs.Answer.{Answer, Refuses, Gives, IsAnswered, IsEarly, IsLate, IsStopAnswer, IsStopped}
+use Rattle.omi_top.specs.Lines.{run_text}
+use Rattle.omi_top.specs.Run.{IsRun}
+use Rattle.omi_top.specs.declared.entry.Entry.{Entry}
+use Rattle.omi_top.specs.declared.entry.End.{End}
+use Rattle.omi_top.proofs.Plain.{plain_long}
+use Rattle.omi_top.specs.Refusal.{refusal_of_write, refusal_of_script}
 use Rattle.omi_top.specs.declared.refusal.Refusal.{Refusal}
 use Rattle.omi_top.specs.declared.refusal.Refusal.TheVariants as refusal
 
--- a text of more than 65,536 bytes is no script
-too_long : (bytes : List ℕ) → 65536 < length bytes → script_of bytes ≡ None
+-- a text of more than 65,536 bytes is refused for its length
+too_long : (bytes : List ℕ) → 65536 < length bytes → verdict bytes ≡ RefusesText (record { line = 1; why = OverLimit })
 too_long bytes long = go (nat_le (length bytes) 65536) refl
   where
-    go : (b : Bool) → nat_le (length bytes) 65536 ≡ b → (if b && list_all is_text bytes then option_and_then within_limit (script_of_lines (said_in bytes)) else None) ≡ None
-    go true e = absurd (omega (arith, leb-true (length bytes) 65536 e))
+    go : (b : Bool) → nat_le (length bytes) 65536 ≡ b → (if b then judge 1 first_place (lines bytes) else RefusesText (record { line = 1; why = OverLimit })) ≡ RefusesText (record { line = 1; why = OverLimit })
+    go true e = absurd (omega (arith, long, leb-true (length bytes) 65536 e))
     go false e = refl
 
--- the first 65,537 bytes say whether a text is a script, and which
-front_script : (bytes : List ℕ) → script_of (take 65537 bytes) ≡ script_of bytes
-front_script bytes = go (nat_le (length bytes) 65537) refl
+-- the first 65,537 bytes of a text have the verdict of the text
+front_verdict : (bytes : List ℕ) → verdict (take 65537 bytes) ≡ verdict bytes
+front_verdict bytes = go (nat_le (length bytes) 65537) refl
   where
-    go : (b : Bool) → nat_le (length bytes) 65537 ≡ b → script_of (take 65537 bytes) ≡ script_of bytes
-    go true e = ap script_of (take_all 65537 bytes (leb-true (length bytes) 65537 e))
+    go : (b : Bool) → nat_le (length bytes) 65537 ≡ b → verdict (take 65537 bytes) ≡ verdict bytes
+    go true e = ap verdict (take_all 65537 bytes (leb-true (length bytes) 65537 e))
     go false e =
         let long : 65537 < length bytes = leb-false (length bytes) 65537 e in
         let front : length (take 65537 bytes) ≡ 65537 = length-take-le 65537 bytes (omega arith) in
         too_long (take 65537 bytes) (omega arith) ∙ sym (too_long bytes (omega arith))
 
 front_grammar : (bytes : List ℕ) (p : Program) → Grammar (take 65537 bytes) p → Grammar bytes p
-front_grammar bytes p g = record { script = g.script; says = sym (front_script bytes) ∙ g.says; program = g.program }
+front_grammar bytes p g = record { place = g.place; says = sym (front_verdict bytes) ∙ g.says; program = g.program }
 
-front_refused : (bytes : List ℕ) (fault : ScriptFault) → Refused (take 65537 bytes) fault → Refused bytes fault
-front_refused bytes fault r = record {
-  line = r.line;
-  why = r.why;
-  none = λ p g. r.none p (record { script = g.script; says = front_script bytes ∙ g.says; program = g.program });
-}
+-- the answer to the first 65,537 bytes is the answer to the text
+front_answered : (budget : ℕ) (bytes : List ℕ) (answer : Answer) → IsStopAnswer budget (Some (take 65537 bytes)) answer → IsStopAnswer budget (Some bytes) answer
+front_answered budget bytes (Refuses r) (inl (fault, why, same)) = inl (fault, record { says = sym (front_verdict bytes) ∙ why.says }, same)
+front_answered budget bytes (Refuses r) (inr (other, same)) = inr (record { program = other.program; says = front_grammar bytes other.program other.says; other = other.other }, same)
+front_answered budget bytes (Gives None text) is = is
+front_answered budget bytes (Gives (Some core) text) (p, grammar, small, stopped) = (p, front_grammar bytes p grammar, small, stopped)
+
+-- the answer, from the bytes that were read
+read_answered : (budget : ℕ) (content : Option (List ℕ)) (whole bytes : List ℕ) (answer : Answer) → content ≡ Some bytes → whole ≡ take 65537 bytes → IsStopAnswer budget (Some whole) answer → IsStopAnswer budget content answer
+read_answered budget content whole bytes answer is read said =
+    subst (λ (c : Option (List ℕ)). IsStopAnswer budget c answer) (sym is) (front_answered budget bytes answer (subst (λ (xs : List ℕ). IsStopAnswer budget (Some xs) answer) read said))
+
+-- the error of reading a script as an answer
+pub script_refused : (bytes : List ℕ) (e : ScriptError) → IfFault (Refused bytes) e → (budget : ℕ) → IsStopAnswer budget (Some bytes) (Refuses (refusal_of_script e)) ⊎ (refusal_of_script e ≡ refusal.OutOfMemory)
+script_refused bytes (error.Fault fault) why budget = inl (inl (fault, why, refl))
+script_refused bytes error.OutOfMemory why budget = inr refl
 
 -- the script is refused, or memory ran out
 pub refused_answered : (budget : ℕ) (content : Option (List ℕ)) (whole bytes : List ℕ) (r : Refusal) (old : Told) → content ≡ Some bytes → whole ≡ take 65537 bytes
-    → ((fault : ScriptFault) × Refused whole fault × (r ≡ refusal.Script fault)) ⊎ (r ≡ refusal.OutOfMemory) → IsAnswered (IsStopAnswer budget content) (Err r) old old
-refused_answered budget content whole bytes r old is read cause =
-    subst (λ (c : Option (List ℕ)). IsAnswered (IsStopAnswer budget c) (Err r) old old) (sym is) (go cause)
-  where
-    go : ((fault : ScriptFault) × Refused whole fault × (r ≡ refusal.Script fault)) ⊎ (r ≡ refusal.OutOfMemory) → IsAnswered (IsStopAnswer budget (Some bytes)) (Err r) old old
-    go (inl (fault, why, same)) = inl ((fault, front_refused bytes fault (subst (λ (xs : List ℕ). Refused xs fault) read why), same), refl)
-    go (inr same) = inr (inl (subst (λ (x : Refusal). IsEarly x) (sym same) tt, refl))
+    → IsStopAnswer budget (Some whole) (Refuses r) ⊎ (r ≡ refusal.OutOfMemory) → IsAnswered (IsStopAnswer budget content) (Err r) old old
+refused_answered budget content whole bytes r old is read (inl refuses) = inl (read_answered budget content whole bytes (Refuses r) is read refuses, refl)
+refused_answered budget content whole bytes r old is read (inr same) = inr (inl (subst (λ (x : Refusal). IsEarly x) (sym same) tt, refl))
 
 -- the answer of a program's run
 stop_answer : (budget : ℕ) (content : Option (List ℕ)) (whole bytes core text : List ℕ) (p : Program) → content ≡ Some bytes → whole ≡ take 65537 bytes
-    → Grammar whole p → IsStopped p budget core text → IsStopAnswer budget content (Gives (Some core) text)
-stop_answer budget content whole bytes core text p is read grammar stopped =
-    subst (λ (c : Option (List ℕ)). IsStopAnswer budget c (Gives (Some core) text)) (sym is) (p, front_grammar bytes p (subst (λ (xs : List ℕ). Grammar xs p) read grammar), stopped)
+    → Grammar whole p → IsSmall p → IsStopped p budget core text → IsStopAnswer budget content (Gives (Some core) text)
+stop_answer budget content whole bytes core text p is read grammar small stopped = read_answered budget content whole bytes (Gives (Some core) text) is read (p, grammar, small, stopped)
 
 late : (r : RefusedWrite) → IsLate (refusal_of_write r)
 late refused.Failed = tt
@@ -70,12 +86,69 @@ late refused.OutOfMemory = tt
 
 -- the core is partly written
 pub partly_answered : (budget : ℕ) (content : Option (List ℕ)) (whole bytes core text : List ℕ) (p : Program) (r : RefusedWrite) (old new : Told) → content ≡ Some bytes → whole ≡ take 65537 bytes
-    → Grammar whole p → IsStopped p budget core text → IsPartly old new core → IsAnswered (IsStopAnswer budget content) (Err (refusal_of_write r)) old new
-partly_answered budget content whole bytes core text p r old new is read grammar stopped partly =
-    inr (inr (late r, Some core, text, stop_answer budget content whole bytes core text p is read grammar stopped, partly))
+    → Grammar whole p → IsSmall p → IsStopped p budget core text → IsPartly old new core → IsAnswered (IsStopAnswer budget content) (Err (refusal_of_write r)) old new
+partly_answered budget content whole bytes core text p r old new is read grammar small stopped partly =
+    inr (inr (late r, Some core, text, stop_answer budget content whole bytes core text p is read grammar small stopped, partly))
 
 -- the core is written, and the text is handed up
 pub done_answered : (budget : ℕ) (content : Option (List ℕ)) (whole bytes core : List ℕ) (text : Vec ℕ) (p : Program) (old new : Told) → content ≡ Some bytes → whole ≡ take 65537 bytes
-    → Grammar whole p → IsStopped p budget core text.items → new ≡ holding old core → IsAnswered (IsStopAnswer budget content) (Ok text) old new
-done_answered budget content whole bytes core text p old new is read grammar stopped held =
-    (Some core, stop_answer budget content whole bytes core text.items p is read grammar stopped, held)
+    → Grammar whole p → IsSmall p → IsStopped p budget core text.items → new ≡ holding old core → IsAnswered (IsStopAnswer budget content) (Ok text) old new
+done_answered budget content whole bytes core text p old new is read grammar small stopped held =
+    (Some core, stop_answer budget content whole bytes core text.items p is read grammar small stopped, held)
+
+-- a run that was made, with its core and its text
+pub made_stopped : (p : Program) (budget : ℕ) (entries : List Entry) (end : End) (words contexts core text : List ℕ) → (s : State) × IsRun p budget entries end words s → IsTrue (is_plain words) → contexts ≡ 1000 ∷ []
+    → (0 < length words → core ≡ core_bytes contexts words) → (0 < length words → (c : CoreImage) × Core core c × HoldsImage contexts words c) → text ≡ run_text entries end → IsStopped p budget core text
+made_stopped p budget entries end words contexts core text (s, run) plain are bytes image lines =
+    let some : 0 < length words = omega (arith, plain_long words plain) in
+    let (c, spelled, holds) = image some in
+    record {
+      entries = entries;
+      end = end;
+      words = words;
+      state = s;
+      run = run;
+      core_is = bytes some ∙ ap (λ (ids : List ℕ). core_bytes ids words) are;
+      plain = record { core = c; spelled = spelled; plain = record { order = holds.order; contexts = holds.contexts_are ∙ are; segments = holds.segments; plain = plain } };
+      text_is = lines;
+    }
+
+-- a refusal of the words, or a fault of files
+abbrev is_outside : Refusal → Bool
+is_outside refusal.Usage = true
+is_outside refusal.ReadFault = true
+is_outside refusal.WriteFault = true
+is_outside r = false
+
+abbrev ends_outside : Result (Vec ℕ) Refusal → Bool
+ends_outside (Ok text) = false
+ends_outside (Err r) = is_outside r
+
+-- a script's refusal is none of these
+pub never_outside : (budget : ℕ) (bytes : List ℕ) (r s : Refusal) → IsStopAnswer budget (Some bytes) (Refuses r) ⊎ (r ≡ refusal.OutOfMemory) → is_outside s ≡ true → (let ended : Refusal → Result (Vec ℕ) Refusal = λ x. Err x in ended r ≡ ended s) → ⊥
+never_outside budget bytes r s said outside is =
+    let same : is_outside r ≡ is_outside s = ap ends_outside is in
+    let inside : is_outside r ≡ false = kind said in
+    let both : false ≡ true = sym inside ∙ same ∙ outside in
+    cc both
+  where
+    kind : IsStopAnswer budget (Some bytes) (Refuses r) ⊎ (r ≡ refusal.OutOfMemory) → is_outside r ≡ false
+    kind (inl (inl (fault, why, same))) = ap is_outside same
+    kind (inl (inr (other, same))) = ap is_outside same
+    kind (inr same) = ap is_outside same
+
+-- what a refused write is handed on as: never a refusal of the words or a fault of reading, and a fault of writing where the write failed
+abbrev pub handed_on : RefusedWrite → Result (Vec ℕ) Refusal
+handed_on e = Err (refusal_of_write e)
+
+pub never_usage : (e : RefusedWrite) → handed_on e ≡ Err refusal.Usage → ⊥
+never_usage refused.Failed is = cc
+never_usage refused.OutOfMemory is = cc
+
+pub never_read_fault : (e : RefusedWrite) → handed_on e ≡ Err refusal.ReadFault → ⊥
+never_read_fault refused.Failed is = cc
+never_read_fault refused.OutOfMemory is = cc
+
+pub write_failed : (e : RefusedWrite) → handed_on e ≡ Err refusal.WriteFault → e ≡ refused.Failed
+write_failed refused.Failed is = refl
+write_failed refused.OutOfMemory is = absurd (cc)

@@ -5,11 +5,16 @@ use Rattle.omi_outside.specs.Outside.{Told, holding, IsPartly, IsPartlyPut, put_
 use Rattle.omi_outside.specs.declared.status.Status.{Status}
 use Rattle.omi_outside.specs.declared.status.Status.TheVariants as status
 use Rattle.omi_corefile.specs.Spelling.{Core, core_bytes}
+use Rattle.omi_corefile.specs.Refusals.{CoreRefused}
 use Rattle.omi_corefile.specs.declared.core_image.CoreImage.{CoreImage}
+use Rattle.omi_corefile.specs.declared.fault.CoreFault.{CoreFault}
 use Rattle.omi_script.specs.Grammar.{Grammar, Refused}
+use Rattle.omi_script.specs.Small.{IsSmall}
 use Rattle.omi_script.specs.declared.fault.ScriptFault.{ScriptFault}
 use Rattle.omi_script.specs.declared.program.Program.{Program}
 use Rattle.omi_model.specs.State.{State}
+use Rattle.omi_model.specs.Views.{IsViewOf}
+use Rattle.omi_model.specs.declared.view.View.{View}
 use Rattle.omi_top.specs.declared.entry.Entry.{Entry}
 use Rattle.omi_top.specs.declared.entry.End.{End}
 use Rattle.omi_top.specs.declared.refusal.Refusal.{Refusal}
@@ -22,7 +27,19 @@ use Rattle.omi_top.specs.LookView.{IsPlain, look_view}
 use Rattle.omi_top.specs.Refusal.{line_of, status_of}
 use Rattle.omi_top.specs.Run.{IsRun}
 
--- a run of the program, whose last words are this core, and whose events and end are this text
+-- a file is a plain core with these words
+pub record IsPlainCore (bytes words : List ℕ) : Type 0 where
+  pub core : CoreImage
+  pub spelled : Core bytes core
+  pub plain : IsPlain core words
+
+-- a file is a core, and none that `show` reads yet
+pub record IsOtherCore (bytes : List ℕ) : Type 0 where
+  pub core : CoreImage
+  pub spelled : Core bytes core
+  pub other : (words : List ℕ) → IsPlain core words → ⊥
+
+-- a run of the program, whose last words are this core, and whose events and end are this text. The core is plain, so that `show` reads it
 pub record IsStopped (p : Program) (budget : ℕ) (core text : List ℕ) : Type 0 where
   pub entries : List Entry
   pub end : End
@@ -30,6 +47,7 @@ pub record IsStopped (p : Program) (budget : ℕ) (core text : List ℕ) : Type 
   pub state : State
   pub run : IsRun p budget entries end words state
   pub core_is : core ≡ core_bytes (native_id 0 ∷ []) words
+  pub plain : IsPlainCore core words
   pub text_is : text ≡ run_text entries end
 
 -- the answer to a command: a refusal, or the bytes of the core that it writes, if it writes one, and a text
@@ -37,25 +55,25 @@ pub data Answer : Type 0 where
   Refuses : (refusal : Refusal) → Answer
   Gives : (core : Option (List ℕ)) (text : List ℕ) → Answer
 
--- an answer of `stop`, by the content of the script's file: none, a text that the grammar refuses, or a program
+-- a text is a program, and none that `stop` runs yet
+pub record IsOtherProgram (bytes : List ℕ) : Type 0 where
+  pub program : Program
+  pub says : Grammar bytes program
+  pub other : IsSmall program → ⊥
+
+-- an answer of `stop`, by the content of the script's file: none, a text that the grammar refuses, another program, or a small one
 abbrev pub IsStopAnswer : ℕ → Option (List ℕ) → Answer → Type 0
 IsStopAnswer budget None (Refuses r) = r ≡ refusal.NoFile
 IsStopAnswer budget None (Gives core text) = ⊥
-IsStopAnswer budget (Some bytes) (Refuses r) = (fault : ScriptFault) × Refused bytes fault × (r ≡ refusal.Script fault)
+IsStopAnswer budget (Some bytes) (Refuses r) = ((fault : ScriptFault) × Refused bytes fault × (r ≡ refusal.Script fault)) ⊎ (IsOtherProgram bytes × (r ≡ refusal.NotBuilt))
 IsStopAnswer budget (Some bytes) (Gives None text) = ⊥
-IsStopAnswer budget (Some bytes) (Gives (Some core) text) = (p : Program) × Grammar bytes p × IsStopped p budget core text
+IsStopAnswer budget (Some bytes) (Gives (Some core) text) = (p : Program) × Grammar bytes p × IsSmall p × IsStopped p budget core text
 
--- a file is a plain core with these words
-pub record IsPlainCore (bytes words : List ℕ) : Type 0 where
-  pub core : CoreImage
-  pub spelled : Core bytes core
-  pub plain : IsPlain core words
-
--- an answer of `show`, by the content of the core's file: none, a plain core, or anything else
+-- an answer of `show`, by the content of the core's file: none, bytes that are no core, another core, or a plain core
 abbrev pub IsShowAnswer : Option (List ℕ) → Answer → Type 0
 IsShowAnswer None (Refuses r) = r ≡ refusal.NoFile
 IsShowAnswer None (Gives core text) = ⊥
-IsShowAnswer (Some bytes) (Refuses r) = ((words : List ℕ) → IsPlainCore bytes words → ⊥) × (r ≡ refusal.NotBuilt)
+IsShowAnswer (Some bytes) (Refuses r) = ((at : ℕ) × (why : CoreFault) × CoreRefused bytes at why × (r ≡ refusal.Core at why)) ⊎ (IsOtherCore bytes × (r ≡ refusal.NotBuilt))
 IsShowAnswer (Some bytes) (Gives None text) = (words : List ℕ) × IsPlainCore bytes words × (text ≡ report (look_view words))
 IsShowAnswer (Some bytes) (Gives (Some core) text) = ⊥
 
@@ -98,9 +116,9 @@ abbrev pub IsSaid : Option (List ℕ) → Option (List ℕ) → Option (List ℕ
 IsSaid None old new = new ≡ old
 IsSaid (Some line) old new = (new ≡ old) ⊎ (new ≡ put_on old line)
 
--- the file and the output after a fault: an answer's core is partly written and its text partly put
+-- the file and the output after a fault: an answer's core is partly written and nothing put, or the core is whole and its text partly put
 abbrev pub IsPartlyDone : (Answer → Type 0) → Told → Told → Option (List ℕ) → Option (List ℕ) → Type 0
-IsPartlyDone P old new out after = (core : Option (List ℕ)) × (text : List ℕ) × P (Gives core text) × HoldsPart core old new × IsPartlyPut text out after
+IsPartlyDone P old new out after = (core : Option (List ℕ)) × (text : List ℕ) × P (Gives core text) × ((HoldsPart core old new × (after ≡ out)) ⊎ (Holds core old new × IsPartlyPut text out after))
 
 -- a refusal with this status is the answer, nothing is written, and its line is said
 abbrev pub IsRefused : List ℕ → (Answer → Type 0) → Status → Told → Told → Option (List ℕ) → Option (List ℕ) → Type 0
@@ -112,6 +130,7 @@ IsLeft name P status.Success old new out after = (core : Option (List ℕ)) × (
 IsLeft name P status.Usage old new out after = IsRefused name P status.Usage old new out after
 IsLeft name P status.NoFile old new out after = IsRefused name P status.NoFile old new out after
 IsLeft name P status.Script old new out after = IsRefused name P status.Script old new out after
+IsLeft name P status.Core old new out after = IsRefused name P status.Core old new out after
 IsLeft name P status.NotBuilt old new out after = IsRefused name P status.NotBuilt old new out after
 IsLeft name P status.ReadFault old new out after = (new ≡ old) × IsSaid (line_of name refusal.ReadFault) out after
 IsLeft name P status.WriteFault old new out after = IsPartlyDone P old new out after
@@ -127,3 +146,11 @@ IsFaultStatus other = ⊥
 -- a status comes exactly where a fact holds, but for a fault of reading and for want of memory
 abbrev pub ComesWhere : Status → Status → Type 0 → Type 0
 ComesWhere status result fact = (result ≡ status → fact) × (fact → (result ≡ status) ⊎ IsFaultStatus result)
+
+-- what `show` makes of the core that a run left: it puts the report of the run's state, unless a file or the output fails or memory runs out
+abbrev pub IsShownAgain : State → Status → Option (List ℕ) → Option (List ℕ) → Type 0
+IsShownAgain s status.Success out after = (v : View) × IsViewOf s (native_id 0 ∷ []) v × (after ≡ put_on out (report v))
+IsShownAgain s status.ReadFault out after = ⊤
+IsShownAgain s status.WriteFault out after = ⊤
+IsShownAgain s status.OutOfMemory out after = ⊤
+IsShownAgain s other out after = ⊥

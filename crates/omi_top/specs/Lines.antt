@@ -1,25 +1,13 @@
 -- What a run prints: a line for each event, and the end line.
-use Rattle.std.specs.Prelude.{◌==◌, ℕ, ◌+◌, List, [], ◌∷◌, ◌++◌, length, codes, if◌then◌else◌}
+use Rattle.std.specs.Prelude.{◌==◌, ℕ, ◌+◌, List, [], ◌∷◌, ◌++◌, length, codes, unwrap_or, if◌then◌else◌}
 use Rattle.std.specs.Fmt.{decimal}
 use Rattle.omi_model.specs.declared.event.Event.{Event}
 use Rattle.omi_model.specs.declared.event.Event.TheVariants as event
-use Rattle.omi_model.specs.Numbers.{work_serial, work_parallel, wait_barrier_implicit_parallel, wait_barrier_explicit, wait_taskwait, wait_taskgroup, wait_critical, idle, overhead, dyn_var, nthreads_var}
+use Rattle.omi_model.specs.Numbers.{dyn_var, nthreads_var}
+use Rattle.omi_text.specs.Names.{name_in, states}
 use Rattle.omi_top.specs.declared.entry.Entry.{Entry}
 use Rattle.omi_top.specs.declared.entry.End.{End}
 use Rattle.omi_top.specs.declared.entry.End.TheVariants as end
-
--- the name of a state, none of a number that is no state
-abbrev pub state_name : ℕ → List ℕ
-state_name state =
-    if state == work_serial then codes "work_serial"
-    else (if state == work_parallel then codes "work_parallel"
-    else (if state == wait_barrier_implicit_parallel then codes "wait_barrier_implicit_parallel"
-    else (if state == wait_barrier_explicit then codes "wait_barrier_explicit"
-    else (if state == wait_taskwait then codes "wait_taskwait"
-    else (if state == wait_taskgroup then codes "wait_taskgroup"
-    else (if state == wait_critical then codes "wait_critical"
-    else (if state == idle then codes "idle"
-    else (if state == overhead then codes "overhead" else []))))))))
 
 -- the name of a control variable that a statement of this stage sets
 abbrev pub variable_name : ℕ → List ℕ
@@ -27,7 +15,7 @@ variable_name icv = if icv == dyn_var then codes "dyn-var" else (if icv == nthre
 
 -- the text of an event. An event that no run of this stage commits has none.
 abbrev pub event_text : Event → List ℕ
-event_text (event.State state wait) = codes "state " ++ (state_name state ++ (codes " " ++ decimal wait))
+event_text (event.State state wait) = codes "state " ++ (unwrap_or (name_in states state) [] ++ (codes " " ++ decimal wait))
 event_text event.Arrive = codes "arrive"
 event_text event.Release = codes "release"
 event_text event.Pass = codes "pass"

@@ -1,5 +1,5 @@
 -- What a plain look at the words of a plain core gives: the contents of its report, read from the fields alone.
-use Rattle.std.specs.Prelude.{◌≡◌, ◌==◌, ◌&&◌, ℕ, ◌+◌, ◌/◌, ◌%◌, Bool, nat_le, List, [], ◌∷◌, length, take, slice_index, bytes_eq, IsTrue, Some, None, if◌then◌else◌}
+use Rattle.std.specs.Prelude.{◌≡◌, ◌==◌, ◌&&◌, ℕ, ◌+◌, ◌/◌, ◌%◌, Bool, nat_le, List, [], ◌∷◌, length, take, slice_index, IsTrue, Some, None, if◌then◌else◌}
 use Rattle.std.specs.List.{list_all}
 use Rattle.omi_corefile.specs.Limits.{first_address}
 use Rattle.omi_corefile.specs.declared.core_image.CoreImage.{CoreImage}
@@ -10,7 +10,7 @@ use Rattle.omi_model.specs.declared.view.RegionRow.{RegionRow}
 use Rattle.omi_model.specs.declared.view.TaskRow.{TaskRow}
 use Rattle.omi_model.specs.Opening.{initial_task, initial_region}
 use Rattle.omi_top.specs.Layout as layout
-use Rattle.omi_top.specs.Tables.{tables}
+use Rattle.omi_top.specs.Tables.{has_tables}
 
 -- a word of the runtime record, of thread 0, of r0.0.0 and of k0.0.0
 abbrev pub runtime_word : List ℕ → ℕ → ℕ
@@ -33,10 +33,10 @@ plain_words =
     ∷ (layout.task_place 0 0 + layout.generating, 0) ∷ (layout.task_place 0 0 + layout.scheduling, 0)
     ∷ (layout.region_place 0 0 + layout.region_life, 1) ∷ (layout.region_place 0 0 + layout.enclosing, 0) ∷ (layout.region_place 0 0 + layout.size, 1) ∷ (layout.region_place 0 0 + layout.team, layout.task_address initial_task) ∷ []
 
--- the words of a plain core: at least those of the layout, with its tables in front
+-- the words of a plain core: at least those of the layout, with its symbol table and its layout table
 abbrev pub is_plain : List ℕ → Bool
 is_plain words =
-    nat_le layout.image_words (length words) && bytes_eq (take 99 words) tables && list_all (λ x. slice_index words x.0 == x.1) plain_words
+    nat_le layout.image_words (length words) && has_tables words && list_all (λ x. slice_index words x.0 == x.1) plain_words
     && nat_le 1 (task_word words layout.nthn) && nat_le (task_word words layout.nthn) 4
 
 -- a core is plain, with these words: its one context is 1000, and its one segment begins at the first address

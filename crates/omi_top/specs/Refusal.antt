@@ -6,6 +6,10 @@ use Rattle.omi_script.specs.FaultTexts.{text_of_fault}
 use Rattle.omi_script.specs.declared.fault.ScriptFault.{ScriptFault}
 use Rattle.omi_script.specs.declared.fault.ScriptError.{ScriptError}
 use Rattle.omi_script.specs.declared.fault.ScriptError.TheVariants as error
+use Rattle.omi_corefile.specs.Faults.{number_of, text_of}
+use Rattle.omi_corefile.specs.declared.fault.CoreFault.{CoreFault}
+use Rattle.omi_corefile.specs.declared.fault.CoreError.{CoreError}
+use Rattle.omi_corefile.specs.declared.fault.CoreError.TheVariants as core
 use Rattle.omi_outside.specs.declared.files.Refused.{Refused}
 use Rattle.omi_outside.specs.declared.files.Refused.TheVariants as refused
 use Rattle.omi_outside.specs.declared.status.Status.{Status}
@@ -13,7 +17,7 @@ use Rattle.omi_outside.specs.declared.status.Status.TheVariants as status
 use Rattle.omi_top.specs.declared.refusal.Refusal.{Refusal}
 use Rattle.omi_top.specs.declared.refusal.Refusal.TheVariants as refusal
 
--- what a refused write, and a script's error, are handed on as
+-- what a refused write, and the error of a script or of a core, are handed on as
 abbrev pub refusal_of_write : Refused → Refusal
 refusal_of_write refused.Failed = refusal.WriteFault
 refusal_of_write refused.OutOfMemory = refusal.OutOfMemory
@@ -22,6 +26,10 @@ abbrev pub refusal_of_script : ScriptError → Refusal
 refusal_of_script (error.Fault fault) = refusal.Script fault
 refusal_of_script error.OutOfMemory = refusal.OutOfMemory
 
+abbrev pub refusal_of_core : CoreError → Refusal
+refusal_of_core (core.Fault at why) = refusal.Core at why
+refusal_of_core core.OutOfMemory = refusal.OutOfMemory
+
 -- the status of a refusal
 abbrev pub status_of : Refusal → Status
 status_of refusal.Usage = status.Usage
@@ -29,6 +37,7 @@ status_of refusal.NoFile = status.NoFile
 status_of refusal.ReadFault = status.ReadFault
 status_of refusal.WriteFault = status.WriteFault
 status_of (refusal.Script fault) = status.Script
+status_of (refusal.Core at why) = status.Core
 status_of refusal.NotBuilt = status.NotBuilt
 status_of refusal.OutOfMemory = status.OutOfMemory
 
@@ -36,12 +45,17 @@ status_of refusal.OutOfMemory = status.OutOfMemory
 abbrev pub fault_line : ScriptFault → List ℕ
 fault_line fault = codes "script " ++ (decimal fault.line ++ (codes " " ++ (decimal (number_of_fault fault.why) ++ (codes " " ++ (text_of_fault fault.why ++ 10 ∷ [])))))
 
+-- place, number and name of a fault of a core
+abbrev pub core_fault_line : ℕ → CoreFault → List ℕ
+core_fault_line at why = codes "core " ++ (decimal at ++ (codes " " ++ (decimal (number_of why) ++ (codes " " ++ (text_of why ++ 10 ∷ [])))))
+
 -- the line that a refusal prints, where the command reads the file of this name
 abbrev pub line_of : List ℕ → Refusal → Option (List ℕ)
 line_of name refusal.Usage = Some (codes "usage" ++ 10 ∷ [])
 line_of name refusal.NoFile = Some (codes "no file " ++ (name ++ 10 ∷ []))
 line_of name refusal.ReadFault = Some (codes "read fault " ++ (name ++ 10 ∷ []))
 line_of name (refusal.Script fault) = Some (fault_line fault)
+line_of name (refusal.Core at why) = Some (core_fault_line at why)
 line_of name refusal.NotBuilt = Some (codes "not built" ++ 10 ∷ [])
 line_of name refusal.WriteFault = None
 line_of name refusal.OutOfMemory = None

@@ -1,5 +1,5 @@
 -- The steps that the runner makes, one after another: the statements of `main`, then the end of the initial task. Each is an operation and the event that it commits.
-use Rattle.std.specs.Prelude.{◌<◌, ℕ, ◌+◌, ◌-◌, nat_lt, nat_le, List, slice_index_or, ⊤, if◌then◌else◌}
+use Rattle.std.specs.Prelude.{◌<◌, ℕ, Bool, ◌+◌, ◌-◌, nat_lt, nat_le, List, slice_index_or, ⊤, if◌then◌else◌}
 use Rattle.omi_word.specs.declared.op.Op.{Op}
 use Rattle.omi_word.specs.declared.op.Op.TheVariants as op
 use Rattle.omi_script.specs.declared.statement.Stmt.{Stmt}
@@ -32,29 +32,33 @@ step_at body counter.Pass = (op.Load 0x103e8, event.Pass)
 step_at body counter.Done = (own_load, event.Done)
 step_at body counter.Over = (own_load, event.Done)
 
+-- the counter behind the last statement. A state is shown only where states are kept
+abbrev pub ending : Bool → Counter
+ending kept = if kept then counter.Show else counter.Arrive
+
 -- the counter of a place among so many statements, where the end stands behind the last one
-abbrev pub counter_at : ℕ → ℕ → Counter
-counter_at count at = if nat_lt at count then counter.Statement at else counter.Show
+abbrev pub counter_at : Bool → ℕ → ℕ → Counter
+counter_at kept count at = if nat_lt at count then counter.Statement at else ending kept
 
 -- the counter behind a counter
-abbrev pub next_of : ℕ → Counter → Counter
-next_of count (counter.Statement at) = counter_at count (at + 1)
-next_of count counter.Show = counter.Arrive
-next_of count counter.Arrive = counter.Release
-next_of count counter.Release = counter.Pass
-next_of count counter.Pass = counter.Done
-next_of count counter.Done = counter.Over
-next_of count counter.Over = counter.Over
+abbrev pub next_of : Bool → ℕ → Counter → Counter
+next_of kept count (counter.Statement at) = counter_at kept count (at + 1)
+next_of kept count counter.Show = counter.Arrive
+next_of kept count counter.Arrive = counter.Release
+next_of kept count counter.Release = counter.Pass
+next_of kept count counter.Pass = counter.Done
+next_of kept count counter.Done = counter.Over
+next_of kept count counter.Over = counter.Over
 
 -- how many steps are left
-abbrev pub left_at : ℕ → Counter → ℕ
-left_at count (counter.Statement at) = count - at + 5
-left_at count counter.Show = 5
-left_at count counter.Arrive = 4
-left_at count counter.Release = 3
-left_at count counter.Pass = 2
-left_at count counter.Done = 1
-left_at count counter.Over = 0
+abbrev pub left_at : Bool → ℕ → Counter → ℕ
+left_at kept count (counter.Statement at) = count - at + (4 + flag kept)
+left_at kept count counter.Show = 5
+left_at kept count counter.Arrive = 4
+left_at kept count counter.Release = 3
+left_at kept count counter.Pass = 2
+left_at kept count counter.Done = 1
+left_at kept count counter.Over = 0
 
 -- a counter that stands on a statement stands on one of them
 abbrev pub IsAt : ℕ → Counter → Type 0

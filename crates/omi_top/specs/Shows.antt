@@ -1,5 +1,5 @@
 -- A memory of this layout shows a state: where the words of its records stand for what a tool may be shown of the state. Nothing is said of other words.
-use Rattle.std.specs.Prelude.{◌≡◌, ◌<◌, ◌≤◌, ℕ, ◌+◌, ◌*◌, true, List, length, take, slice_get, Some, None}
+use Rattle.std.specs.Prelude.{◌≡◌, ◌<◌, ◌≤◌, ℕ, ◌+◌, ◌*◌, true, List, length, take, drop, slice_get, Some, None}
 use Rattle.omi_model.specs.declared.id.Rid.{Rid}
 use Rattle.omi_model.specs.declared.id.Tid.{Tid}
 use Rattle.omi_model.specs.Numbers.{flag}
@@ -8,7 +8,8 @@ use Rattle.omi_model.specs.State.{State, Thread, Region, Task}
 use Rattle.omi_model.specs.Visible.{IsVisibleRegion, IsVisibleTask}
 use Rattle.omi_model.specs.WellFormed.{IsWellFormed}
 use Rattle.omi_top.specs.Layout as layout
-use Rattle.omi_top.specs.Tables.{tables}
+use Rattle.omi_top.specs.Tables.{symbol_table}
+use Rattle.omi_top.specs.Tables as tables
 use Rattle.omi_top.specs.Codes.{region_code, task_code, function_code, state_code, schedule_code, native_id}
 
 -- this word stands at a place
@@ -75,7 +76,8 @@ AreWithin {A} slots threads per_thread = (c k : ℕ) (x : A) → (slots c k).liv
 pub record Shows (words : List ℕ) (s : State) : Type 0 where
   pub well_formed : IsWellFormed s
   pub one_thread : s.count ≡ 1
-  pub tables : take 99 words ≡ tables
+  pub symbols : take 41 words ≡ symbol_table
+  pub layout_table : take 56 (drop 43 words) ≡ tables.layout_table
   pub regions_within : AreWithin s.regions s.count layout.regions_per_thread
   pub tasks_within : AreWithin s.tasks s.count layout.tasks_per_thread
   pub globals : ShowsGlobals words s

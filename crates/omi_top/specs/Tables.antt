@@ -1,5 +1,5 @@
 -- The words in front of the records: the symbol table, the entry point words and the layout table.
-use Rattle.std.specs.Prelude.{ℕ, ◌-◌, List, [], ◌∷◌, ◌++◌, length, take, drop, replicate, codes}
+use Rattle.std.specs.Prelude.{ℕ, Bool, ◌&&◌, bytes_eq, ◌-◌, List, [], ◌∷◌, ◌++◌, length, take, drop, replicate, codes}
 use Rattle.std.specs.Int.{from_le_bytes, w64}
 use Rattle.omi_word.specs.Memory.{address_at}
 use Rattle.omi_top.specs.Layout.{runtime_place, thread_place, region_place, task_place, thread_size, region_size, task_size, regions_per_thread, tasks_per_thread}
@@ -31,6 +31,10 @@ layout_table =
     (1 ∷ address_at runtime_place ∷ 13 ∷ address_at (thread_place 0) ∷ thread_size ∷ 1 ∷ address_at (region_place 0 0) ∷ region_size ∷ regions_per_thread ∷ address_at (task_place 0 0) ∷ task_size ∷ tasks_per_thread ∷ [])
     ++ (0 ∷ 1 ∷ 2 ∷ 3 ∷ 4 ∷ 5 ∷ []) ++ (0 ∷ 1 ∷ 2 ∷ 3 ∷ 4 ∷ 5 ∷ []) ++ (0 ∷ 1 ∷ 2 ∷ 3 ∷ 4 ∷ 5 ∷ 6 ∷ 7 ∷ 8 ∷ 9 ∷ 10 ∷ 11 ∷ [])
     ++ (0 ∷ 1 ∷ 2 ∷ 3 ∷ 4 ∷ 5 ∷ 6 ∷ 7 ∷ 8 ∷ 9 ∷ 10 ∷ 11 ∷ 12 ∷ 13 ∷ 14 ∷ 15 ∷ 16 ∷ 17 ∷ 18 ∷ 22 ∷ [])
+
+-- the words have this symbol table and this layout table at their places. Nothing is said of the entry point words between them
+abbrev pub has_tables : List ℕ → Bool
+has_tables words = bytes_eq (take 41 words) symbol_table && bytes_eq (take 56 (drop 43 words)) layout_table
 
 -- all words in front of the records, 99 of them
 abbrev pub tables : List ℕ

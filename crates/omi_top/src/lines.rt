@@ -1,28 +1,11 @@
 ghost use Rattle.std.specs.Prelude.{◌≡◌, ◌++◌, ◌≤◌, IfOk, OnOk, string_bytes};
-ghost use Rattle.omi_top.specs.Lines.{state_name as state_text, variable_name as variable_text, event_text, event_line, event_lines, end_word, end_line, run_text};
+ghost use Rattle.omi_top.specs.Lines.{variable_name as variable_text, event_text, event_line, event_lines, end_word, end_line, run_text};
 
 use crate::entry::{End, Entry};
 use omi_model::Event;
+use omi_text::state_name;
 use std::alloc::{AllocError, Global};
 use std::fmt::Write;
-
-/// The name of a state.
-fn state_name(state: u32) -> &'static str
-    ensures { result.now ≡ state_text state }
-{
-    match state {
-        0x000 => "work_serial",
-        0x001 => "work_parallel",
-        0x011 => "wait_barrier_implicit_parallel",
-        0x014 => "wait_barrier_explicit",
-        0x020 => "wait_taskwait",
-        0x021 => "wait_taskgroup",
-        0x042 => "wait_critical",
-        0x100 => "idle",
-        0x101 => "overhead",
-        _ => "",
-    }
-}
 
 /// The name of a control variable that a statement of this stage sets.
 fn variable_name(icv: u32) -> &'static str
@@ -41,7 +24,7 @@ fn push_event(text: &mut String, event: &Event) -> Result<(), AllocError>
 {
     match event {
         Event::State { state, wait } => {
-            let name = state_name(*state);
+            let name = state_name(*state).unwrap_or("");
             write!(text, "state {name} {wait}")
         }
         Event::Set { icv, value } => {

@@ -1,6 +1,6 @@
-ghost use Rattle.std.specs.Prelude.{◌≡◌, ◌==◌, ◌<◌, ◌≤◌, ℕ, length, take, slice_index, bytes_eq, IfOk, IsTrue};
+ghost use Rattle.std.specs.Prelude.{◌≡◌, ◌==◌, ◌<◌, ◌≤◌, ◌+◌, ℕ, length, take, drop, slice_index, bytes_eq, IfOk, IsTrue};
 ghost use Rattle.std.specs.List.{list_all};
-ghost use Rattle.omi_top.specs.Tables.{tables};
+ghost use Rattle.omi_top.specs.Tables.{has_tables};
 ghost use Rattle.omi_top.specs.LookView.{is_plain, task_word, look_head, look_thread, look_region, look_nthreads, look_task, look_view, plain_words};
 
 use crate::tables::{IMAGE_WORDS, TABLES};
@@ -19,15 +19,18 @@ const FIRST: Id = Id {
     generation: 0,
 };
 
-/// The words that a plain core has, beside its tables.
+/// The words that a plain core has, beside its tables: each place and the word there.
 const PLAIN: [(usize, u64); 11] = [
+    // Thread 0: its life and its current task.
     (112, 1),
     (114, 0x109b0),
+    // k0.0.0: its life, region, thread, generating and scheduling task.
     (310, 1),
     (312, 0x103b0),
     (313, 0x10380),
     (315, 0),
     (316, 0),
+    // r0.0.0: its life, enclosing region, team size and first member.
     (118, 1),
     (120, 0),
     (122, 1),
@@ -136,17 +139,26 @@ fn task(alloc: Global, words: &Natives) -> Result<TaskRow, OutOfMemory>
     })
 }
 
-/// The tables of the layout stand in front.
-fn has_tables(words: &Natives) -> bool
-    requires { 99 ≤ length words.now }
-    ensures { result ≡ bytes_eq (take 99 words.now) tables }
+/// These words stand from a place on.
+fn has_words(words: &Natives, from: usize, these: &[u64]) -> bool
+    requires within { from + length these.now ≤ 99 }
+    requires long { 99 ≤ length words.now }
+    ensures { result ≡ bytes_eq (take (length these.now) (drop from words.now)) these.now }
 {
-    for at in 0..99usize {
-        if word(words, at) != TABLES[at] {
+    for at in 0..these.len() {
+        if word(words, from + at) != these[at] {
             return false;
         }
     }
     true
+}
+
+/// The symbol table and the layout table stand at their places.
+fn has_tables(words: &Natives) -> bool
+    requires { 99 ≤ length words.now }
+    ensures { result ≡ has_tables words.now }
+{
+    has_words(words, 0, &TABLES[..41]) && has_words(words, 43, &TABLES[43..])
 }
 
 /// The words that a plain core has stand at their places.

@@ -1,8 +1,9 @@
 ghost use Rattle.std.specs.Prelude.{◌≡◌, IfOk, None};
 ghost use Rattle.std.specs.Option.{option_map};
 ghost use Rattle.omi_top.specs.declared.refusal.Refusal.TheVariants.{OutOfMemory};
-ghost use Rattle.omi_top.specs.Refusal.{refusal_of_write, refusal_of_script, status_of};
+ghost use Rattle.omi_top.specs.Refusal.{refusal_of_write, refusal_of_script, refusal_of_core, status_of};
 
+use omi_corefile::{CoreError, CoreFault};
 use omi_outside::{Refused, Status};
 use omi_script::{ScriptError, ScriptFault};
 use std::alloc::{AllocError, AllocFailed};
@@ -20,7 +21,9 @@ pub enum Refusal {
     WriteFault,
     /// The grammar of scripts refuses the script.
     Script(ScriptFault),
-    /// The file is no plain core, and `show` reads no other yet.
+    /// The grammar of core files refuses the core, at this place.
+    Core(u64, CoreFault),
+    /// The program is none that `stop` runs yet, or the core is none that `show` reads yet.
     NotBuilt,
     /// Memory ran out.
     OutOfMemory,
@@ -65,6 +68,17 @@ impl From<ScriptError> for Refusal {
     }
 }
 
+impl From<CoreError> for Refusal {
+    ghost from_gives = { λ error e. e ≡ refusal_of_core error };
+
+    fn from(error: CoreError) -> Refusal {
+        match error {
+            CoreError::Fault { at, why } => Refusal::Core(at, why),
+            CoreError::OutOfMemory => Refusal::OutOfMemory,
+        }
+    }
+}
+
 impl Refusal {
     /// What the program ends with.
     pub fn status(&self) -> Status
@@ -76,6 +90,7 @@ impl Refusal {
             Refusal::ReadFault => Status::ReadFault,
             Refusal::WriteFault => Status::WriteFault,
             Refusal::Script(_) => Status::Script,
+            Refusal::Core(_, _) => Status::Core,
             Refusal::NotBuilt => Status::NotBuilt,
             Refusal::OutOfMemory => Status::OutOfMemory,
         }

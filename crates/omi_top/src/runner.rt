@@ -31,6 +31,7 @@ ghost use Rattle.omi_model.specs.State.{State};
 ghost use Rattle.omi_top.specs.OpeningWords.{opening_words};
 ghost use Rattle.omi_top.specs.Runner.{statement_step, step_at, counter_at, next_of, end_of, IsAt};
 ghost use Rattle.omi_top.specs.Run.{IsRun};
+ghost use Rattle.omi_top.specs.LookView.{is_plain};
 
 /// The operation and the event of a statement.
 fn of_statement(statement: &Stmt) -> (Op, Event)
@@ -100,24 +101,26 @@ fn step_of(body: &StmtList, counter: Counter) -> (Op, Event)
     }
 }
 
-/// The counter of a place among the statements of `main`.
-fn at_place(count: usize, at: usize) -> Counter
-    ensures { result ≡ counter_at count at }
+/// The counter of a place among the statements of `main`. A state is shown at the end only where states are kept.
+fn at_place(count: usize, at: usize, kept: bool) -> Counter
+    ensures { result ≡ counter_at kept count at }
 {
     if at < count {
         Counter::Statement(at)
-    } else {
+    } else if kept {
         Counter::Show
+    } else {
+        Counter::Arrive
     }
 }
 
 /// The counter behind a counter.
-fn following(count: usize, counter: Counter) -> Counter
+fn following(count: usize, counter: Counter, kept: bool) -> Counter
     requires { IsAt count counter }
-    ensures { result ≡ next_of count counter }
+    ensures { result ≡ next_of kept count counter }
 {
     match counter {
-        Counter::Statement(at) => at_place(count, at + 1),
+        Counter::Statement(at) => at_place(count, at + 1, kept),
         Counter::Show => Counter::Arrive,
         Counter::Arrive => Counter::Release,
         Counter::Release => Counter::Pass,
@@ -160,19 +163,21 @@ pub fn run(
 ) -> Result<(Vec<Entry>, End), OutOfMemory>
     requires small { IsSmall p.now }
     requires opening { image.old ≡ opening_words p.now }
-    ensures { IfOk result (λ made. (s : State) × IsRun p.now budget made.0.items made.1 image.new s) }
+    ensures run { IfOk result (λ made. (s : State) × IsRun p.now budget made.0.items made.1 image.new s) }
+    ensures plain { IfOk result (λ made. IsTrue (is_plain image.new)) }
 {
     let body = main_body(p);
     let count = body.len();
-    let all = count as u64 + 5;
+    let kept = p.env.debug;
+    let all = count as u64 + 4 + u64::from(kept);
     let most = all.min(budget) as usize;
     let mut entries = Vec::with_capacity(alloc, most)?;
-    let mut counter = at_place(count, 0);
+    let mut counter = at_place(count, 0, kept);
     for _turn in 0..most {
         let (op, event) = step_of(body, counter);
         let found = image.apply(op);
         append(&mut entries, op, found.old, event);
-        counter = following(count, counter);
+        counter = following(count, counter, kept);
     }
     Ok((entries, end(budget, all)))
 }

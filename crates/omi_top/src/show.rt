@@ -1,15 +1,12 @@
 ghost use Rattle.std.specs.Prelude.{◌≡◌, ◌≢◌, ◌⊎◌, ◌<◌, List, ℕ, Option, Some, None, IfOk, IfErr, IfSome, IsErrOf, length, take};
 ghost use Rattle.omi_outside.specs.Outside.{HasCause, Told};
-ghost use Rattle.omi_corefile.specs.Spelling.{Core};
-ghost use Rattle.omi_corefile.specs.declared.core_image.CoreImage.{CoreImage};
-ghost use Rattle.omi_text.specs.Report.{report};
-ghost use Rattle.omi_top.specs.Answer.{IsAnswered, IsPlainCore, IsShowAnswer};
-ghost use Rattle.omi_top.specs.LookView.{IsPlain, look_view};
+ghost use Rattle.omi_top.specs.Answer.{Refuses, Gives, IsAnswered, IsShowAnswer};
+ghost use Rattle.omi_top.specs.LookView.{IsPlain};
 
 use crate::Refusal;
 use crate::load::load;
 use crate::look::{is_plain_core, look};
-use omi_corefile::{CoreError, CoreImage, decode};
+use omi_corefile::{CoreImage, decode};
 use omi_outside::Files;
 use omi_text::report_text;
 use omi_word::Natives;
@@ -20,18 +17,6 @@ const CORE_LIMIT: u64 = 8_390_161;
 
 /// The byte address of a plain core's first word.
 const FIRST: u64 = 0x10000;
-
-/// The core of a file's bytes.
-fn core(alloc: Global, bytes: &[u8]) -> Result<CoreImage, Refusal>
-    ensures core { IfOk result (λ c. Core bytes.now c) }
-    ensures refused { IfErr result (λ r. (((c : CoreImage) → Core bytes.now c → ⊥) × (r ≡ Refusal.NotBuilt)) ⊎ (r ≡ Refusal.OutOfMemory)) }
-{
-    match decode(alloc, bytes) {
-        Ok(core) => Ok(core),
-        Err(CoreError::Fault { .. }) => Err(Refusal::NotBuilt),
-        Err(CoreError::OutOfMemory) => Err(Refusal::OutOfMemory),
-    }
-}
 
 /// The words of a plain core.
 fn plain_words(core: &CoreImage) -> Option<&Natives>
@@ -54,10 +39,10 @@ fn plain_words(core: &CoreImage) -> Option<&Natives>
 
 /// The report of the core that a file's bytes spell.
 fn reported(alloc: Global, bytes: &[u8]) -> Result<Vec<u8>, Refusal>
-    ensures report { IfOk result (λ text. (words : List ℕ) × IsPlainCore bytes.now words × (text.items ≡ report (look_view words))) }
-    ensures refused { IfErr result (λ r. (((words : List ℕ) → IsPlainCore bytes.now words → ⊥) × (r ≡ Refusal.NotBuilt)) ⊎ (r ≡ Refusal.OutOfMemory)) }
+    ensures report { IfOk result (λ text. IsShowAnswer (Some bytes.now) (Gives None text.items)) }
+    ensures refused { IfErr result (λ r. IsShowAnswer (Some bytes.now) (Refuses r) ⊎ (r ≡ Refusal.OutOfMemory)) }
 {
-    let core = core(alloc, bytes)?;
+    let core = decode(alloc, bytes)?;
     let Some(words) = plain_words(&core) else {
         return Err(Refusal::NotBuilt);
     };

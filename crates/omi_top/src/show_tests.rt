@@ -1,5 +1,5 @@
 use crate::run_top;
-use crate::tests::{CHANGED, Done, EMPTY, call, words};
+use crate::tests::{CHANGED, Done, EMPTY, UNTRACKED, call, words};
 use omi_outside::{Call, MemFiles, MemSink, Status};
 use std::alloc::{AllocError, Global};
 use std::process::Abort;
@@ -22,6 +22,40 @@ region r0.0.0 function 0x400000 levels-var=0 active-levels-var=0 team-size-var=1
 member 0 thread 0 task k0.0.0
 task k0.0.0 thread 0 kind implicit region r0.0.0 function 0x400000 generating none scheduling none exit 0x7f00000fffc0 enter 0x0 tool 0
 icv dyn-var=1 nthreads-var=3,2 run-sched-var=static,0 default-device-var=0 final-task-var=0 implicit-task-var=1
+";
+
+/// The reports of a finished run whose states are not kept, and of the opening words where every head line is given.
+const NOT_KEPT: &str = "ompd 201811 threads 1 debug disabled
+icv num-procs-var=4 max-active-levels-var=8
+thread 0 native 1000 state untracked wait 0 thread-num-var=0 current k0.0.0
+region r0.0.0 function 0x400000 levels-var=0 active-levels-var=0 team-size-var=1 enclosing none
+member 0 thread 0 task k0.0.0
+task k0.0.0 thread 0 kind implicit region r0.0.0 function 0x400000 generating none scheduling none exit 0x7f00000fffc0 enter 0x0 tool 0
+icv dyn-var=0 nthreads-var=1 run-sched-var=static,0 default-device-var=0 final-task-var=0 implicit-task-var=1
+";
+
+const HEADS: &str = "threads 1
+env num_threads 5,6,7
+env dynamic true
+env max_active_levels 0
+env schedule guided,7
+env device 9
+env debug enabled
+env procs 65535
+func other
+  work
+end
+func main
+end
+";
+
+const HEADS_SHOWN: &str = "ompd 201811 threads 1 debug enabled
+icv num-procs-var=65535 max-active-levels-var=0
+thread 0 native 1000 state work_serial wait 0 thread-num-var=0 current k0.0.0
+region r0.0.0 function 0x400010 levels-var=0 active-levels-var=0 team-size-var=1 enclosing none
+member 0 thread 0 task k0.0.0
+task k0.0.0 thread 0 kind implicit region r0.0.0 function 0x400010 generating none scheduling none exit 0x7f00000fffc0 enter 0x0 tool 0
+icv dyn-var=1 nthreads-var=5,6,7 run-sched-var=guided,7 default-device-var=9 final-task-var=0 implicit-task-var=1
 ";
 
 /// The report of a core whose one context is the native id of no thread.
@@ -98,6 +132,13 @@ fn reports_of_stopped_runs(rt: HostRuntime) -> Result<(), Fail> {
     expect(&rt, alloc, &opening, Status::Success, OPENING)?;
     let finished = core_of(alloc, "1000", CHANGED)?;
     expect(&rt, alloc, &finished, Status::Success, FINISHED)?;
+    let untracked = core_of(alloc, "1000", UNTRACKED)?;
+    expect(&rt, alloc, &untracked, Status::Success, NOT_KEPT)?;
+    let heads = core_of(alloc, "0", HEADS)?;
+    expect(&rt, alloc, &heads, Status::Success, HEADS_SHOWN)?;
+    // The entry point words, from place 41 on, are no part of the tables.
+    let entry = with_byte(alloc, &opening, 40 + 8 * 41, 3)?;
+    expect(&rt, alloc, &entry, Status::Success, OPENING)?;
     // Place 113 is the native id of thread 0.
     let unknown = with_byte(alloc, &opening, 40 + 8 * 113, 0)?;
     expect(&rt, alloc, &unknown, Status::Success, UNKNOWN)?;
@@ -109,8 +150,8 @@ fn cores_that_are_not_plain(rt: HostRuntime) -> Result<(), Fail> {
     let alloc = rt.alloc();
     let core = core_of(alloc, "0", EMPTY)?;
     let text = "not built\n";
-    // The version, the order, the context, the start address, a word of the tables, and the words of a plain core.
-    for at in [8, 9, 16, 24, 26, 40, 40 + 8 * 98] {
+    // The context, the start address, words of both tables, and the words of a plain core.
+    for at in [16, 26, 40, 40 + 8 * 98] {
         let other = with_byte(alloc, &core, at, 3)?;
         expect(&rt, alloc, &other, Status::NotBuilt, text)?;
     }
@@ -122,18 +163,42 @@ fn cores_that_are_not_plain(rt: HostRuntime) -> Result<(), Fail> {
         let other = with_byte(alloc, &core, 40 + 8 * 321, count)?;
         expect(&rt, alloc, &other, Status::NotBuilt, text)?;
     }
-    for length in [0, 16, 40, 55_767] {
-        expect(
-            &rt,
-            alloc,
-            &core[..length.min(core.len())],
-            Status::NotBuilt,
-            text,
-        )?;
+    Ok(())
+}
+
+#[test]
+fn bytes_that_are_no_core(rt: HostRuntime) -> Result<(), Fail> {
+    let alloc = rt.alloc();
+    let core = core_of(alloc, "0", EMPTY)?;
+    for (at, byte, text) in [
+        (0, b'o', "core 0 1 BadMagic\n"),
+        (8, 2, "core 8 2 Version\n"),
+        (9, 1, "core 9 3 Order\n"),
+        (10, 65, "core 10 7 BadContext\n"),
+        (12, 65, "core 12 6 SegmentOrder\n"),
+        (24, 4, "core 24 6 SegmentOrder\n"),
+        (35, 1, "core 32 5 TooLarge\n"),
+    ] {
+        let other = with_byte(alloc, &core, at, byte)?;
+        expect(&rt, alloc, &other, Status::Core, text)?;
     }
+    Ok(())
+}
+
+#[test]
+fn cores_that_are_cut_or_too_long(rt: HostRuntime) -> Result<(), Fail> {
+    let alloc = rt.alloc();
+    let core = core_of(alloc, "0", EMPTY)?;
+    assert_eq!(rt; core.len(), 55_768);
+    for missing in 1..10usize {
+        let length = core.len() - missing;
+        let text = format!(in alloc; "core {length} 4 Short\n")?;
+        expect(&rt, alloc, &core[..length], Status::Core, &text)?;
+    }
+    expect(&rt, alloc, b"", Status::Core, "core 0 4 Short\n")?;
     let mut longer = with_byte(alloc, &core, 0, b'O')?;
     longer.push(0)?;
-    expect(&rt, alloc, &longer, Status::NotBuilt, text)?;
+    expect(&rt, alloc, &longer, Status::Core, "core 55768 8 Trailing\n")?;
     Ok(())
 }
 

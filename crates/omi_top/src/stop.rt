@@ -1,9 +1,8 @@
 ghost use Rattle.std.specs.Prelude.{◌≡◌, ◌≢◌, ◌⊎◌, ◌≤◌, List, ℕ, Option, Some, IfOk, IfErr, IsErrOf, take, string_bytes};
 ghost use Rattle.omi_outside.specs.Outside.{HasCause};
-ghost use Rattle.omi_script.specs.Grammar.{Grammar, Refused};
+ghost use Rattle.omi_script.specs.Grammar.{Grammar};
 ghost use Rattle.omi_script.specs.Small.{IsSmall};
-ghost use Rattle.omi_script.specs.declared.fault.ScriptFault.{ScriptFault};
-ghost use Rattle.omi_top.specs.Answer.{IsAnswered, IsEarly, IsStopAnswer, IsStopped};
+ghost use Rattle.omi_top.specs.Answer.{Refuses, IsAnswered, IsEarly, IsStopAnswer, IsStopped};
 
 use crate::Refusal;
 use crate::lines::text_of;
@@ -12,23 +11,24 @@ use crate::opening::opening_image;
 use crate::runner::run;
 use omi_corefile::core_bytes_of;
 use omi_outside::{Files, write_whole};
-use omi_script::{Program, parse};
+use omi_script::{Program, is_small, parse};
 use omi_word::{Natives, OutOfMemory};
 use std::alloc::Global;
 
 /// The most bytes that are read of a script: one more than a script may have.
 const SCRIPT_LIMIT: u64 = 65_537;
 
-/// The program of a script.
+/// The small program of a script.
 fn program(alloc: Global, bytes: &[u8]) -> Result<Program, Refusal>
     ensures accepted { IfOk result (λ p. Grammar bytes.now p) }
     ensures small { IfOk result (λ p. IsSmall p) }
-    ensures refused { IfErr result (λ r. ((fault : ScriptFault) × Refused bytes.now fault × (r ≡ Refusal.Script fault)) ⊎ (r ≡ Refusal.OutOfMemory)) }
+    ensures refused { (budget : ℕ) → IfErr result (λ r. IsStopAnswer budget (Some bytes.now) (Refuses r) ⊎ (r ≡ Refusal.OutOfMemory)) }
 {
-    match parse(alloc, bytes) {
-        Ok(p) => Ok(p),
-        Err(error) => Err(error.into()),
+    let p = parse(alloc, bytes)?;
+    if !is_small(&p) {
+        return Err(Refusal::NotBuilt);
     }
+    Ok(p)
 }
 
 /// Runs a program, and answers the bytes of its core and what it prints.

@@ -10,6 +10,9 @@ pub const EMPTY: &str = "func main\nend\n";
 pub const CHANGED: &str =
     "threads 1\nenv num_threads 4,2\nfunc main\nset_num_threads 3\nset_dynamic 1\nwork\nend\n";
 
+/// The empty program, with states that are not kept.
+pub const UNTRACKED: &str = "env debug disabled\nfunc main\nend\n";
+
 const CHANGED_LINES: &str = "1 t0 set nthreads-var 3
 2 t0 set dyn-var 1
 3 t0 work
@@ -301,14 +304,67 @@ fn files_that_are_missing_or_fail(rt: HostRuntime) -> Result<(), Fail> {
 fn texts_that_are_refused(rt: HostRuntime) -> Result<(), Fail> {
     let alloc = rt.alloc();
     let line = ["stop", "0", "s", "c"];
-    let refusal = "script 0 2 UnknownWord\n";
-    for script in [
-        "",
-        "threads 2\nfunc main\nend\n",
-        "func main\nset_num_threads 65\nend\n",
+    for (script, text) in [
+        ("", "script 1 9 NoMain\n"),
+        ("func main\ntask g\nend\n", "script 2 4 UnknownName\n"),
+        (
+            "func b\nbarrier\nend\nfunc main\ntask b\nend\n",
+            "script 5 6 BarrierInTask\n",
+        ),
+        (
+            "func b\nbarrier\nend\nfunc main\nonly 0 b\nend\n",
+            "script 5 7 BarrierNested\n",
+        ),
+        (
+            "func main\nset_num_threads 65\nend\n",
+            "script 2 3 BadNumber\n",
+        ),
     ] {
-        expect_refusal(&rt, alloc, &line, None, script, Status::Script, refusal)?;
+        expect_refusal(&rt, alloc, &line, None, script, Status::Script, text)?;
     }
+    Ok(())
+}
+
+#[test]
+fn programs_that_are_not_built(rt: HostRuntime) -> Result<(), Fail> {
+    let alloc = rt.alloc();
+    let line = ["stop", "0", "s", "c"];
+    for script in [
+        "threads 2\nfunc main\nend\n",
+        "func main\ntool 1\nend\n",
+        "func a\nbarrier\nend\nfunc main\nend\n",
+        "func a\nend\nfunc main\nwork\ncall a\nend\n",
+    ] {
+        expect_refusal(
+            &rt,
+            alloc,
+            &line,
+            None,
+            script,
+            Status::NotBuilt,
+            "not built\n",
+        )?;
+    }
+    Ok(())
+}
+
+#[test]
+fn an_untracked_run(rt: HostRuntime) -> Result<(), Fail> {
+    let alloc = rt.alloc();
+    let line = ["stop", "1000", "s", "c"];
+    let done = call(
+        alloc,
+        &line,
+        UNTRACKED,
+        Vec::new(alloc),
+        Vec::new(alloc),
+        Vec::new(alloc),
+    )?;
+    assert_eq!(rt; done.status, Status::Success);
+    assert_eq!(rt;
+        done.out.bytes(),
+        b"1 t0 arrive\n2 t0 release\n3 t0 pass\n4 t0 done\nend steps 4 events 4 by done\n".as_slice()
+    );
     Ok(())
 }
 

@@ -1,12 +1,15 @@
-ghost use Rattle.std.specs.Prelude.{◌≡◌, ◌≢◌, ◌⊎◌, ◌↔◌, ◌≤◌, ◌^◌, ◌∷◌, [], List, ℕ, Option, Some, None, IfOk, IsErrOf, map, string_bytes};
+ghost use Rattle.std.specs.Prelude.{◌≡◌, ◌≢◌, ◌⊎◌, ◌↔◌, ◌≤◌, ◌^◌, ◌∷◌, ◌++◌, [], codes, List, ℕ, Option, Some, None, IfOk, IsErrOf, map, string_bytes};
 ghost use Rattle.std.specs.Option.{option_map};
 ghost use Rattle.omi_outside.specs.Outside.{HasCause, Rose, IsPartlyPut, holding, put_on};
+ghost use Rattle.omi_corefile.specs.Refusals.{CoreRefused};
+ghost use Rattle.omi_corefile.specs.declared.fault.CoreFault.{CoreFault};
 ghost use Rattle.omi_script.specs.Grammar.{Grammar, Refused as RefusedScript};
+ghost use Rattle.omi_script.specs.Small.{IsSmall};
 ghost use Rattle.omi_script.specs.declared.fault.ScriptFault.{ScriptFault};
 ghost use Rattle.omi_script.specs.declared.program.Program.{Program};
 ghost use Rattle.omi_top.specs.Command.{Command, Stop, Show, Faulty, command_of, read_name, written_name, Writes};
 ghost use Rattle.omi_top.specs.Asked.{asked, IsBounded};
-ghost use Rattle.omi_top.specs.Answer.{IsAnswer, IsAnswered, IsPlainCore, IsStopped, IsSaid, IsLeft, ComesWhere};
+ghost use Rattle.omi_top.specs.Answer.{IsAnswer, IsAnswered, IsPlainCore, IsOtherCore, IsOtherProgram, IsStopped, IsSaid, IsLeft, ComesWhere, IsShownAgain};
 ghost use Rattle.omi_top.specs.LookView.{look_view};
 ghost use Rattle.omi_top.specs.Refusal.{line_of as refusal_line, status_of};
 ghost use Rattle.omi_top.specs.Shows.{Shows};
@@ -75,6 +78,11 @@ fn line_of(
             let text = fault.why.text();
             format!(in alloc; "script {line} {number} {text}\n")?
         }
+        Refusal::Core(at, why) => {
+            let number = why.number();
+            let text = why.text();
+            format!(in alloc; "core {at} {number} {text}\n")?
+        }
         Refusal::NotBuilt => String::from_str(alloc, "not built\n")?,
         Refusal::WriteFault | Refusal::OutOfMemory => return Ok(None),
     };
@@ -118,6 +126,7 @@ fn carry_out<F: Files, W: Files, K: Sink>(
     requires { IsBounded request }
     ensures usage { result ≡ Status.Usage → asked request.entry ≡ Faulty }
     ensures faulty { asked request.entry ≡ Faulty → result ≡ Status.Usage }
+    ensures said { asked request.entry ≡ Faulty → IsSaid (Some (codes "usage" ++ 10 ∷ [])) (K.told out.old) (K.told out.new) }
     ensures read_fault { result ≡ Status.ReadFault → Rose (F.reads files.old) (F.reads files.new) }
     ensures write_fault { result ≡ Status.WriteFault → Rose (W.writes dest.old) (W.writes dest.new) ⊎ Rose (K.faults out.old) (K.faults out.new) }
     ensures left { (content : Option (List ℕ)) → F.told files.old (read_name (asked request.entry)) ≡ Some content
@@ -146,32 +155,44 @@ pub fn run_top<F: Files, W: Files, K: Sink>(
 ) -> Status
     // The causes for which no bytes need be told.
     ensures usage { (result ≡ Status.Usage) ↔ (command_of (map string_bytes words.now.items) ≡ Faulty) }
+    ensures usage_line { command_of (map string_bytes words.now.items) ≡ Faulty → IsSaid (Some (codes "usage" ++ 10 ∷ [])) (K.told out.old) (K.told out.new) }
     ensures read_fault { result ≡ Status.ReadFault → Rose (F.reads files.old) (F.reads files.new) }
     ensures write_fault { result ≡ Status.WriteFault → Rose (W.writes dest.old) (W.writes dest.new) ⊎ Rose (K.faults out.old) (K.faults out.new) }
 
-    // Where the script's file is told: there is none, or the grammar refuses it, exactly where the status says so.
+    // Where the script's file is told: there is none, the grammar refuses it, or it is a program that `stop` doesn't run yet,
+    // exactly where the status says so.
     ensures no_file { (budget : ℕ) (script core : List ℕ) (content : Option (List ℕ)) → command_of (map string_bytes words.now.items) ≡ Stop budget script core
         → F.told files.old script ≡ Some content → ComesWhere Status.NoFile result (content ≡ None) }
     ensures script { (budget : ℕ) (script core bytes : List ℕ) → command_of (map string_bytes words.now.items) ≡ Stop budget script core
         → F.told files.old script ≡ Some (Some bytes) → ComesWhere Status.Script result ((fault : ScriptFault) × RefusedScript bytes fault) }
+    ensures other_program { (budget : ℕ) (script core bytes : List ℕ) → command_of (map string_bytes words.now.items) ≡ Stop budget script core
+        → F.told files.old script ≡ Some (Some bytes) → ComesWhere Status.NotBuilt result (IsOtherProgram bytes) }
 
     // With success the core is that of the last words of a run, and what is put is that run's events and its end.
     ensures success { (budget : ℕ) (script core bytes : List ℕ) → command_of (map string_bytes words.now.items) ≡ Stop budget script core
         → F.told files.old script ≡ Some (Some bytes) → result ≡ Status.Success
-        → (p : Program) × (written : List ℕ) × (text : List ℕ) × Grammar bytes p × IsStopped p budget written text
+        → (p : Program) × (written : List ℕ) × (text : List ℕ) × Grammar bytes p × IsSmall p × IsStopped p budget written text
         × (W.told dest.new core ≡ holding (W.told dest.old core) written) × (K.told out.new ≡ put_on (K.told out.old) text) }
 
-    // The same of the core's file, for `show`: there is none, or it is no plain core, exactly where the status says so.
+    // The same of the core's file, for `show`: there is none, the grammar of core files refuses it, or it is a core that is
+    // not plain, exactly where the status says so.
     ensures no_core { (core : List ℕ) (content : Option (List ℕ)) → command_of (map string_bytes words.now.items) ≡ Show core
         → F.told files.old core ≡ Some content → ComesWhere Status.NoFile result (content ≡ None) }
-    ensures not_built { (core bytes : List ℕ) → command_of (map string_bytes words.now.items) ≡ Show core
-        → F.told files.old core ≡ Some (Some bytes) → ComesWhere Status.NotBuilt result ((plain : List ℕ) → IsPlainCore bytes plain → ⊥) }
+    ensures core { (core bytes : List ℕ) → command_of (map string_bytes words.now.items) ≡ Show core
+        → F.told files.old core ≡ Some (Some bytes) → ComesWhere Status.Core result ((at : ℕ) × (why : CoreFault) × CoreRefused bytes at why) }
+    ensures other_core { (core bytes : List ℕ) → command_of (map string_bytes words.now.items) ≡ Show core
+        → F.told files.old core ≡ Some (Some bytes) → ComesWhere Status.NotBuilt result (IsOtherCore bytes) }
 
     // With success what is put is the report of the core's words: of each state that they show, exactly its view.
     ensures report { (core bytes : List ℕ) → command_of (map string_bytes words.now.items) ≡ Show core
         → F.told files.old core ≡ Some (Some bytes) → result ≡ Status.Success
         → (plain : List ℕ) × IsPlainCore bytes plain × (K.told out.new ≡ put_on (K.told out.old) (report_of (look_view plain)))
         × ((s : State) → Shows plain s → IsViewOf s (1000 ∷ []) (look_view plain)) }
+
+    // Of the core that `stop` wrote, `show` puts the report of the state that the run's events reach: it has one view alone.
+    ensures shown_again { (core bytes : List ℕ) → command_of (map string_bytes words.now.items) ≡ Show core
+        → F.told files.old core ≡ Some (Some bytes) → (p : Program) (budget : ℕ) (text : List ℕ) → (run : IsStopped p budget bytes text)
+        → IsShownAgain run.state result (K.told out.old) (K.told out.new) }
 
     // What is left of the core and of the output with every status.
     ensures left { (content : Option (List ℕ)) → F.told files.old (read_name (command_of (map string_bytes words.now.items))) ≡ Some content

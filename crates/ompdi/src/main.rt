@@ -1,7 +1,7 @@
 // The program: `run_top` over real files and standard output.
 #![tactic(auto)]
 
-use omi_outside::{DiskFiles, StdSink};
+use omi_outside::{DiskFiles, Status, StdSink};
 use omi_top::run_top;
 use std::process::ExitCode;
 use std::{env, io};
@@ -17,8 +17,14 @@ fn words_of(rt: &HostRuntime) -> io::Result<Vec<String>> {
 
 fn main(rt: HostRuntime) -> io::Result<ExitCode> {
     let alloc = rt.alloc();
-    // Words that can't be read make no command line.
-    let words = words_of(&rt).unwrap_or(Vec::new(alloc));
+    let words = match words_of(&rt) {
+        Ok(words) => words,
+        Err(e) if e.kind() == io::ErrorKind::OutOfMemory => {
+            return Ok(ExitCode::from(Status::OutOfMemory.code()));
+        }
+        // Words that can't be read make no command line.
+        Err(_) => Vec::new(alloc),
+    };
     let mut files = DiskFiles::new(rt.clone()?);
     let mut dest = DiskFiles::new(rt.clone()?);
     let mut out = StdSink::new(rt.clone()?);

@@ -1,25 +1,65 @@
-use Rattle.std.proofs.Common.{ℕ, sym, subst, ◌∙◌, string_bytes}
+use Rattle.std.proofs.Common.{ℕ, Err, refl, arith, ap, sym, subst, ◌∙◌, string_bytes}
 use Rattle.std.specs.Global.{Vec}
 use Rattle.std.proofs.lemmas.Result.{err_from_is_err_and}
 use Rattle.omi_top.specs.Answer.{IsStopped}
-use Rattle.omi_top.proofs.Stopping.{refused_answered, partly_answered, done_answered}
+use Rattle.omi_top.specs.declared.refusal.Refusal.TheVariants as refusal
+use Rattle.omi_top.proofs.Stopping.{refused_answered, partly_answered, done_answered, never_outside, never_usage, never_read_fault, write_failed}
 use Rattle.omi_top.proofs.stop.stop.Goals as goal
 
 pub returns-in_err-p-clause-answer : goal.returns-in_err-p-clause-answer
 returns-in_err-p-clause-answer g c = λ content told.
     let p = err_from_is_err_and c.from_residual-in_err-p.result c.from_residual-in_err-p.ensures.1 in
     let read = c.in_ok-bytes.ensures.bytes content told in
-    rw (p.1, p.2) (refused_answered c.args.budget content c.deref.result.now read.0 c.in_err-p.field-0.0 _ read.1 (c.deref.ensures.value ∙ read.2) c.in_err-p.ensures.refused)
+    rw (p.1, p.2) (refused_answered c.args.budget content c.deref.result.now read.0 c.in_err-p.field-0.0 _ read.1 (c.deref.ensures.value ∙ read.2) (c.in_err-p.ensures.refused c.args.budget))
 
 pub returns-in_err-write_whole-clause-answer : goal.returns-in_err-write_whole-clause-answer
 returns-in_err-write_whole-clause-answer g c = λ content told.
     let p = err_from_is_err_and c.from_residual-in_err-write_whole.result c.from_residual-in_err-write_whole.ensures.1 in
     let read = c.in_ok-bytes.ensures.bytes content told in
     rw (p.1, p.2) (partly_answered c.args.budget content c.deref.result.now read.0 c.in_ok-image.image.items (string_bytes c.in_ok-image.text) c.in_ok-p.p c.in_err-write_whole.field-0.0 _ _
-    read.1 (c.deref.ensures.value ∙ read.2) c.in_ok-p.ensures.accepted c.in_ok-image.ensures (rw (← c.deref-2.ensures.value) c.in_err-write_whole.ensures.partly))
+    read.1 (c.deref.ensures.value ∙ read.2) c.in_ok-p.ensures.accepted c.in_ok-p.ensures.small c.in_ok-image.ensures (rw (← c.deref-2.ensures.value) c.in_err-write_whole.ensures.partly))
 
 pub returns-clause-answer : goal.returns-clause-answer
 returns-clause-answer g c = λ content told.
     let read = c.in_ok-bytes.ensures.bytes content told in
     done_answered c.args.budget content c.deref.result.now read.0 c.in_ok-image.image.items c.into_bytes.result c.in_ok-p.p _ _
-    read.1 (c.deref.ensures.value ∙ read.2) c.in_ok-p.ensures.accepted (subst (λ (v : Vec ℕ). IsStopped c.in_ok-p.p c.args.budget c.in_ok-image.image.items v.items) (sym c.into_bytes.ensures.value) c.in_ok-image.ensures) (rw (← c.deref-2.ensures.value) c.in_ok-write_whole.ensures.written)
+    read.1 (c.deref.ensures.value ∙ read.2) c.in_ok-p.ensures.accepted c.in_ok-p.ensures.small (subst (λ (v : Vec ℕ). IsStopped c.in_ok-p.p c.args.budget c.in_ok-image.image.items v.items) (sym c.into_bytes.ensures.value) c.in_ok-image.ensures) (rw (← c.deref-2.ensures.value) c.in_ok-write_whole.ensures.written)
+
+pub returns-in_err-write_whole-clause-usage : goal.returns-in_err-write_whole-clause-usage
+returns-in_err-write_whole-clause-usage g c =
+    let p = err_from_is_err_and c.from_residual-in_err-write_whole.result c.from_residual-in_err-write_whole.ensures.1 in
+    rw (p.1, p.2) (never_usage c.in_err-write_whole.field-0.0)
+
+pub returns-in_err-write_whole-clause-read : goal.returns-in_err-write_whole-clause-read
+returns-in_err-write_whole-clause-read g c =
+    let p = err_from_is_err_and c.from_residual-in_err-write_whole.result c.from_residual-in_err-write_whole.ensures.1 in
+    record { later = c.in_ok-bytes.ensures.cause.later; failed = rw (p.1, p.2) (λ is. absurd (never_read_fault c.in_err-write_whole.field-0.0 is)) }
+
+pub returns-in_err-write_whole-clause-write : goal.returns-in_err-write_whole-clause-write
+returns-in_err-write_whole-clause-write g c =
+    let p = err_from_is_err_and c.from_residual-in_err-write_whole.result c.from_residual-in_err-write_whole.ensures.1 in
+    record {
+      later = c.in_err-write_whole.ensures.cause.later;
+      failed = rw (p.1, p.2) (λ is. c.in_err-write_whole.ensures.cause.failed (ap Err (write_failed c.in_err-write_whole.field-0.0 is)));
+    }
+
+pub returns-in_err-p-clause-usage : goal.returns-in_err-p-clause-usage
+returns-in_err-p-clause-usage g c =
+    let p = err_from_is_err_and c.from_residual-in_err-p.result c.from_residual-in_err-p.ensures.1 in
+    rw (p.1, p.2) (never_outside c.args.budget c.deref.result.now c.in_err-p.field-0.0 refusal.Usage (c.in_err-p.ensures.refused c.args.budget) refl)
+
+pub returns-in_err-p-clause-read : goal.returns-in_err-p-clause-read
+returns-in_err-p-clause-read g c =
+    let p = err_from_is_err_and c.from_residual-in_err-p.result c.from_residual-in_err-p.ensures.1 in
+    record {
+      later = c.in_ok-bytes.ensures.cause.later;
+      failed = rw (p.1, p.2) (λ is. absurd (never_outside c.args.budget c.deref.result.now c.in_err-p.field-0.0 refusal.ReadFault (c.in_err-p.ensures.refused c.args.budget) refl is));
+    }
+
+pub returns-in_err-p-clause-write : goal.returns-in_err-p-clause-write
+returns-in_err-p-clause-write g c =
+    let p = err_from_is_err_and c.from_residual-in_err-p.result c.from_residual-in_err-p.ensures.1 in
+    record {
+      later = omega arith;
+      failed = rw (p.1, p.2) (λ is. absurd (never_outside c.args.budget c.deref.result.now c.in_err-p.field-0.0 refusal.WriteFault (c.in_err-p.ensures.refused c.args.budget) refl is));
+    }

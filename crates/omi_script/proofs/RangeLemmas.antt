@@ -1,0 +1,56 @@
+-- Numbers that a word says lie in their ranges.
+use Rattle.std.proofs.Common.{◌≡◌, ℕ, Bool, true, false, cond, ltb, ◌&&◌, List, [], ◌∷◌, map, length, Option, Some, None, refl, ap, ◌∙◌, if◌then◌else◌, arith}
+use Rattle.std.proofs.lemmas.Bool.Decides.{nat_tests}
+use Rattle.std.specs.List.{list_all, slice_split, before_first, after_first, position_or_len}
+use Rattle.std.specs.Option.{option_map_or, option_map, option_and_then}
+use Rattle.std.specs.Prelude.{nat_le}
+use Rattle.omi_script.specs.Names.{is_within}
+use Rattle.omi_script.specs.Numbers.{number_of, numbers_of, sizes_of, each_of, is_decimal, value_of, is_comma}
+use Rattle.omi_script.specs.Ranges.{is_size, are_sizes}
+use Rattle.omi_script.proofs.PieceLemmas.{items_step}
+
+-- the value of an option passes a test, if it is there
+abbrev pub passes : {A : Type 0} → (A → Bool) → Option A → Bool
+passes p o = option_map_or p o true
+
+passes-guard : {A : Type 0} (p : A → Bool) (b : Bool) (x : A) → passes p (if b then Some x else None) ≡ cond b (p x) true
+passes-guard p true x = refl
+passes-guard p false x = refl
+
+within_guard : (p q : Bool) → cond (p && q) q true ≡ true
+within_guard true true = refl
+within_guard true false = refl
+within_guard false true = refl
+within_guard false false = refl
+
+-- a number lies in its range
+pub number_within : (least most : ℕ) (word : List ℕ) → passes (is_within least most) (number_of least most word) ≡ true
+number_within least most word = passes-guard (is_within least most) (is_decimal word && is_within least most (value_of word)) (value_of word) ∙ within_guard (is_decimal word) (is_within least most (value_of word))
+
+both_sizes : (n : Option ℕ) (o : Option (List ℕ)) → passes is_size n ≡ true → passes (list_all is_size) o ≡ true → passes (list_all is_size) (option_and_then (λ m. option_map (λ ms. m ∷ ms) o) n) ≡ true
+both_sizes None o h k = refl
+both_sizes (Some m) None h k = refl
+both_sizes (Some m) (Some ms) h k = ap (λ b. b && list_all is_size ms) h ∙ k
+
+each_sizes : (pieces : List (List ℕ)) → passes (list_all is_size) (each_of (map (number_of 1 64) pieces)) ≡ true
+each_sizes [] = refl
+each_sizes (w ∷ pieces) = both_sizes (number_of 1 64 w) (each_of (map (number_of 1 64) pieces)) (number_within 1 64 w) (each_sizes pieces)
+
+one_more : (n : Option ℕ) (o : Option (List ℕ)) → passes (λ ns. nat_le 1 (length ns)) (option_and_then (λ m. option_map (λ ms. m ∷ ms) o) n) ≡ true
+one_more None o = refl
+one_more (Some m) None = refl
+one_more (Some m) (Some ms) = grind (arith, nat_tests)
+
+sizes_guard : (o : Option (List ℕ)) → passes (λ ns. nat_le 1 (length ns)) o ≡ true → passes (list_all is_size) o ≡ true → passes are_sizes (option_and_then (λ ns. if nat_le (length ns) 4 then Some ns else None) o) ≡ true
+sizes_guard None h k = refl
+sizes_guard (Some ns) h k = passes-guard are_sizes (nat_le (length ns) 4) ns ∙ guard_three (nat_le 1 (length ns)) (nat_le (length ns) 4) (list_all is_size ns) h k
+  where
+    guard_three : (a b c : Bool) → a ≡ true → c ≡ true → cond b ((a && b) && c) true ≡ true
+    guard_three a true c h k = ap (λ x. (x && true) && c) h ∙ k
+    guard_three a false c h k = refl
+
+pub sizes_sound : (word : List ℕ) → passes are_sizes (sizes_of word) ≡ true
+sizes_sound word =
+    sizes_guard (numbers_of 1 64 word)
+    (ap (λ ps. passes (λ ns. nat_le 1 (length ns)) (each_of (map (number_of 1 64) ps))) (items_step word) ∙ one_more (number_of 1 64 (before_first is_comma word)) (each_of (map (number_of 1 64) (if ltb (position_or_len is_comma word) (length word) then slice_split is_comma (after_first is_comma word) else []))))
+    (each_sizes (slice_split is_comma word))
