@@ -4,7 +4,7 @@ use Rattle.std.specs.Global.{Vec}
 use Rattle.omi_outside.specs.Outside.{Told, IsPartlyPut, put_on}
 use Rattle.omi_outside.specs.declared.status.Status.{Status}
 use Rattle.omi_outside.specs.declared.status.Status.TheVariants as status
-use Rattle.omi_top.specs.Command.{Command, Stop, Show, Faulty}
+use Rattle.omi_top.specs.Command.{Command, Stop, Show, Faulty, read_name, written_name}
 use Rattle.omi_top.specs.Answer.{Answer, Refuses, IsAnswer, IsStopAnswer, IsShowAnswer, IsAnswered, IsLeft, IsSaid}
 use Rattle.omi_top.specs.Refusal.{line_of, status_of}
 use Rattle.omi_top.specs.declared.refusal.Refusal.{Refusal}
@@ -104,3 +104,10 @@ err_left name command content refusal.WriteFault old new out after (inr (inr (la
 err_left name command content refusal.OutOfMemory old new out after (inl (is, same)) said = inl (same, said)
 err_left name command content refusal.OutOfMemory old new out after (inr (inl (early, same))) said = inl (same, said)
 err_left name command content refusal.OutOfMemory old new out after (inr (inr (late, core, text, is, partly))) said = inr (core, text, is, inl (partly, said))
+
+-- What a request leaves is what its command leaves.
+pub left_by : (asked command : Command) (content : Option (List ℕ)) (s : Status) (files old new : List ℕ → Told) (out after : Option (List ℕ)) → asked ≡ command → files (read_name command) ≡ Some content
+    → ((c : Option (List ℕ)) → files (read_name asked) ≡ Some c → IsLeft (read_name asked) (IsAnswer asked c) s (old (written_name asked)) (new (written_name asked)) out after)
+    → IsLeft (read_name command) (IsAnswer command content) s (old (written_name command)) (new (written_name command)) out after
+left_by asked command content s files old new out after is told left =
+    subst (λ (k : Command). files (read_name k) ≡ Some content → IsLeft (read_name k) (IsAnswer k content) s (old (written_name k)) (new (written_name k)) out after) is (left content) told

@@ -51,7 +51,7 @@ alone_in (y ∷ z ∷ xs) x one here = absurd (omega (arith, one))
 pub one_plain : (bytes words others : List ℕ) → IsPlainCore bytes words → IsPlainCore bytes others → words ≡ others
 one_plain bytes words others p q =
     let same : p.core ≡ q.core = core_unique bytes p.core q.core p.spelled q.spelled in
-    let segments : record { start = first_address; words = words } ∷ [] ≡ record { start = first_address; words = others } ∷ [] = sym p.plain.segments ∙ ap (λ (c : CoreImage). c.segments) same ∙ q.plain.segments in
+    let segments : record { start = first_address; words = words } ∷ [] ≡ record { start = first_address; words = others } ∷ [] = sym p.plain.image.segments ∙ ap (λ (c : CoreImage). c.segments) same ∙ q.plain.image.segments in
     ap first_words segments
   where
     first_words : List Segment → List ℕ

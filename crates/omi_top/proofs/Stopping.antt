@@ -109,7 +109,7 @@ made_stopped p budget entries end words contexts core text (s, run) plain are by
       state = s;
       run = run;
       core_is = bytes some ∙ ap (λ (ids : List ℕ). core_bytes ids words) are;
-      plain = record { core = c; spelled = spelled; plain = record { order = holds.order; contexts = holds.contexts_are ∙ are; segments = holds.segments; plain = plain } };
+      plain = record { core = c; spelled = spelled; plain = record { image = record { order = holds.order; contexts_are = holds.contexts_are ∙ are; segments = holds.segments }; plain = plain } };
       text_is = lines;
     }
 

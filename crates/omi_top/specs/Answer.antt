@@ -154,3 +154,9 @@ IsShownAgain s status.ReadFault out after = ⊤
 IsShownAgain s status.WriteFault out after = ⊤
 IsShownAgain s status.OutOfMemory out after = ⊤
 IsShownAgain s other out after = ⊥
+
+-- no command of this stage judges the records or the layout of a core, so the statuses of these two never come
+abbrev pub IsBuilt : Status → Type 0
+IsBuilt status.Damaged = ⊥
+IsBuilt status.Incompatible = ⊥
+IsBuilt other = ⊤

@@ -1,7 +1,7 @@
 -- What a plain look at the words of a plain core gives: the contents of its report, read from the fields alone.
-use Rattle.std.specs.Prelude.{◌≡◌, ◌==◌, ◌&&◌, ℕ, ◌+◌, ◌/◌, ◌%◌, Bool, nat_le, List, [], ◌∷◌, length, take, slice_index, IsTrue, Some, None, if◌then◌else◌}
+use Rattle.std.specs.Prelude.{◌==◌, ◌&&◌, ℕ, ◌+◌, ◌/◌, ◌%◌, Bool, nat_le, List, [], ◌∷◌, length, take, slice_index, IsTrue, Some, None, if◌then◌else◌}
 use Rattle.std.specs.List.{list_all}
-use Rattle.omi_corefile.specs.Limits.{first_address}
+use Rattle.omi_corefile.specs.Spelling.{HoldsImage}
 use Rattle.omi_corefile.specs.declared.core_image.CoreImage.{CoreImage}
 use Rattle.omi_model.specs.declared.view.View.{View}
 use Rattle.omi_model.specs.declared.view.HeadRow.{HeadRow}
@@ -39,11 +39,9 @@ is_plain words =
     nat_le layout.image_words (length words) && has_tables words && list_all (λ x. slice_index words x.0 == x.1) plain_words
     && nat_le 1 (task_word words layout.nthn) && nat_le (task_word words layout.nthn) 4
 
--- a core is plain, with these words: its one context is 1000, and its one segment begins at the first address
+-- a core is plain, with these words: it holds them as an image with the one context 1000, and they are those of a plain core
 pub record IsPlain (c : CoreImage) (words : List ℕ) : Type 0 where
-  pub order : c.order ≡ 0
-  pub contexts : c.contexts ≡ 1000 ∷ []
-  pub segments : c.segments ≡ record { start = first_address; words = words } ∷ []
+  pub image : HoldsImage (1000 ∷ []) words c
   pub plain : IsTrue (is_plain words)
 
 abbrev pub look_head : List ℕ → HeadRow

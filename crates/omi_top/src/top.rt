@@ -9,7 +9,7 @@ ghost use Rattle.omi_script.specs.declared.fault.ScriptFault.{ScriptFault};
 ghost use Rattle.omi_script.specs.declared.program.Program.{Program};
 ghost use Rattle.omi_top.specs.Command.{Command, Stop, Show, Faulty, command_of, read_name, written_name, Writes};
 ghost use Rattle.omi_top.specs.Asked.{asked, IsBounded};
-ghost use Rattle.omi_top.specs.Answer.{IsAnswer, IsAnswered, IsPlainCore, IsOtherCore, IsOtherProgram, IsStopped, IsSaid, IsLeft, ComesWhere, IsShownAgain};
+ghost use Rattle.omi_top.specs.Answer.{IsAnswer, IsAnswered, IsPlainCore, IsOtherCore, IsOtherProgram, IsStopped, IsSaid, IsLeft, ComesWhere, IsShownAgain, IsBuilt};
 ghost use Rattle.omi_top.specs.LookView.{look_view};
 ghost use Rattle.omi_top.specs.Refusal.{line_of as refusal_line, status_of};
 ghost use Rattle.omi_top.specs.Shows.{Shows};
@@ -124,6 +124,7 @@ fn carry_out<F: Files, W: Files, K: Sink>(
     out: &mut K,
 ) -> Status
     requires { IsBounded request }
+    ensures built { IsBuilt result }
     ensures usage { result ≡ Status.Usage → asked request.entry ≡ Faulty }
     ensures faulty { asked request.entry ≡ Faulty → result ≡ Status.Usage }
     ensures said { asked request.entry ≡ Faulty → IsSaid (Some (codes "usage" ++ 10 ∷ [])) (K.told out.old) (K.told out.new) }
@@ -154,6 +155,7 @@ pub fn run_top<F: Files, W: Files, K: Sink>(
     out: &mut K,
 ) -> Status
     // The causes for which no bytes need be told.
+    ensures built { IsBuilt result }
     ensures usage { (result ≡ Status.Usage) ↔ (command_of (map string_bytes words.now.items) ≡ Faulty) }
     ensures usage_line { command_of (map string_bytes words.now.items) ≡ Faulty → IsSaid (Some (codes "usage" ++ 10 ∷ [])) (K.told out.old) (K.told out.new) }
     ensures read_fault { result ≡ Status.ReadFault → Rose (F.reads files.old) (F.reads files.new) }
