@@ -95,15 +95,15 @@ Reads-header len contexts segments few_contexts few_segments =
 -- ---- the whole file
 
 -- what follows a header
-abbrev after_header : ℕ → Header × List ℕ → Step Parts
+abbrev pub after_header : ℕ → Header × List ℕ → Step Parts
 after_header len counts = contexts_at len counts.0.contexts counts.1 >>= λ contexts. segments_at len counts.0.segments contexts.1 >>= λ segments. Ok (record { order = counts.0.order; contexts = contexts.0; segments = segments.0 }, segments.1)
 
 -- what follows the contexts
-abbrev after_contexts : ℕ → Header → List ℕ × List ℕ → Step Parts
+abbrev pub after_contexts : ℕ → Header → List ℕ × List ℕ → Step Parts
 after_contexts len counts contexts = segments_at len counts.segments contexts.1 >>= λ segments. Ok (record { order = counts.order; contexts = contexts.0; segments = segments.0 }, segments.1)
 
 -- what follows the segments
-abbrev after_segments : Header → List ℕ → List Segment × List ℕ → Step Parts
+abbrev pub after_segments : Header → List ℕ → List Segment × List ℕ → Step Parts
 after_segments counts contexts segments = Ok (record { order = counts.order; contexts = contexts; segments = segments.0 }, segments.1)
 
 -- nothing follows the last segment

@@ -1,3 +1,4 @@
+pub mod BadFieldLaws
 pub mod Bounds
 pub mod FileLaws
 pub mod Lengths

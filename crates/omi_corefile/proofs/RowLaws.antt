@@ -78,10 +78,10 @@ Reads-words len words all =
 
 -- ---- native ids
 
-abbrev IsId : ℕ → ℕ → Type 0
+abbrev pub IsId : ℕ → ℕ → Type 0
 IsId least id = (least ≤ id) × (id < 2 ^ 64)
 
-abbrev least_then : ℕ → ℕ → ℕ
+abbrev pub least_then : ℕ → ℕ → ℕ
 least_then least id = id + 1
 
 id_taken : (len least : ℕ) (bytes : List ℕ) (x : ℕ × List ℕ) → AreBytes bytes → id_at len least bytes ≡ Ok x → Takes bytes (number x.0) x.1 × IsId least x.0
@@ -90,7 +90,7 @@ id_taken len least bytes x are e =
     let taken = number_taken w64 (2 ^ 64) width64 len bytes x are went.0 in
     (taken.0, (leb-true least x.0 went.1, taken.1))
 
-Reads-id : (len least id : ℕ) → IsId least id → Reads len (id_at len least) (number id) id
+pub Reads-id : (len least id : ℕ) → IsId least id → Reads len (id_at len least) (number id) id
 Reads-id len least id good =
     Reads-judged len (leb least) (λ n at. BadContext at) (place len) (number_at w64 len) (number id) id (Reads-number w64 (2 ^ 64) width64 len id good.1) (le-leb least id good.0)
 
@@ -100,7 +100,7 @@ ids-good least (id ∷ ids) good =
     let others = ids-good (id + 1) ids good.1 in
     (and_from (leb least id) (rises_from (id + 1) ids) (le-leb least id good.0.0) others.0, and_from (ltb id (2 ^ 64)) (are_words ids) (lt-ltb id (2 ^ 64) good.0.1) others.1)
 
-good-ids : (least : ℕ) (ids : List ℕ) → IsTrue (rises_from least ids) → IsTrue (are_words ids) → AreGood IsId least_then least ids
+pub good-ids : (least : ℕ) (ids : List ℕ) → IsTrue (rises_from least ids) → IsTrue (are_words ids) → AreGood IsId least_then least ids
 good-ids least [] rise all = tt
 good-ids least (id ∷ ids) rise all =
     let r = and_parts (leb least id) (rises_from (id + 1) ids) rise in
@@ -119,7 +119,7 @@ Reads-contexts len ids rise all =
 
 -- ---- segments
 
-abbrev IsSegment : Left → Segment → Type 0
+abbrev pub IsSegment : Left → Segment → Type 0
 IsSegment left s = IsTrue (is_start left.0 s.start) × (0 < length s.words) × (length s.words ≤ left.1) × IsTrue (are_words s.words) × (length s.words < 2 ^ 64)
 
 -- a start address is a word
@@ -149,7 +149,7 @@ segment_taken len left bytes x are e =
     let made : Segment × List ℕ = (record { start = a.0.0; words = c.0.0 }, c.0.1) in
     subst (λ (y : Segment × List ℕ). Takes bytes (segment_bytes y.0) y.1 × IsSegment left y.0) {x = made} (ok_is made x c.2) (spelled, (start_judged.1, some, fit, words_are.2, below))
 
-Reads-segment : (len : ℕ) (left : Left) (s : Segment) → IsSegment left s → Reads len (segment_at len left) (segment_bytes s) s
+pub Reads-segment : (len : ℕ) (left : Left) (s : Segment) → IsSegment left s → Reads len (segment_at len left) (segment_bytes s) s
 unfolding segment_at
 Reads-segment len left s good =
     let count : ℕ = length s.words in
@@ -168,7 +168,7 @@ segments-good left (s ∷ ss) good =
     let rise = and_from (is_start left.0 s.start && ltb 0 (length s.words) && are_words s.words) (rise_apart_from (end_of s.start (length s.words) + 1) ss) (and_from (is_start left.0 s.start && ltb 0 (length s.words)) (are_words s.words) (and_from (is_start left.0 s.start) (ltb 0 (length s.words)) good.0.0 (lt-ltb 0 (length s.words) good.0.1)) good.0.3) others.0 in
     (rise, omega (arith, sum_by-cons (λ (t : Segment). length t.words) s ss, others.1, good.0.2))
 
-good-segments : (left : Left) (ss : List Segment) → left.1 < 2 ^ 64 → IsTrue (rise_apart_from left.0 ss) → total_words ss ≤ left.1 → AreGood IsSegment left_after left ss
+pub good-segments : (left : Left) (ss : List Segment) → left.1 < 2 ^ 64 → IsTrue (rise_apart_from left.0 ss) → total_words ss ≤ left.1 → AreGood IsSegment left_after left ss
 good-segments left [] small rise fit = tt
 good-segments left (s ∷ ss) small rise fit =
     let a = and_parts (is_start left.0 s.start && ltb 0 (length s.words) && are_words s.words) (rise_apart_from (end_of s.start (length s.words) + 1) ss) rise in

@@ -1,3 +1,4 @@
+pub mod BadFields
 pub mod Faults
 pub mod Limits
 pub mod Outcomes

@@ -1,11 +1,15 @@
 //! Laws of the format. Each is a function that does nothing, whose clauses hold of all files and cores.
 
-ghost use Rattle.std.specs.Prelude.{◌≡◌, ℕ, ◌<◌, List, ◌++◌, length, take, ◌⊎◌};
+ghost use Rattle.std.specs.Prelude.{◌≡◌, ◌≢◌, ℕ, ◌+◌, ◌*◌, ◌^◌, ◌<◌, ◌≤◌, List, [], ◌∷◌, ◌++◌, length, take, ◌⊎◌, codes};
+ghost use Rattle.std.specs.Int.{w16, w32, to_le_bytes};
 ghost use Rattle.omi_corefile.specs.declared.core_image.CoreImage.{CoreImage};
 ghost use Rattle.omi_corefile.specs.declared.fault.CoreFault.{CoreFault};
-ghost use Rattle.omi_corefile.specs.Spelling.{Core, spelling};
+ghost use Rattle.omi_corefile.specs.Spelling.{Core, spelling, number};
 ghost use Rattle.omi_corefile.specs.Refusals.{AreBytes, CoreRefused, reading};
 ghost use Rattle.omi_corefile.specs.Outcomes.{IsCore, IsRefused};
+ghost use Rattle.omi_corefile.specs.Limits.{most_words, total_words};
+ghost use Rattle.omi_corefile.specs.BadFields.{IsFaultAt, id_place, start_place, count_place, NeverStarts};
+ghost use Rattle.omi_corefile.specs.declared.segment.Segment.{Segment};
 
 /// Each file is a core or has a fault, never both, and no two faults.
 pub fn one_answer()
@@ -34,4 +38,41 @@ pub fn fronts_and_tails()
 /// 8,390,161 bytes are read as the whole file is, with the same fault at the same place.
 pub fn front_enough()
     ensures { (bytes : List ℕ) → reading (take 8390161 bytes) ≡ reading bytes }
+{}
+
+/// Each field of a core is judged, and judged once it is whole: where a file spells a core up to a field and holds a bad
+/// value there, it is refused with that field's fault, at the field's place, whatever follows. What stands in front of a
+/// field has one fault at most, so the first bad field is the one that is told.
+pub fn bad_fields()
+    // The header.
+    ensures magic { (c : CoreImage) (name : List ℕ) → length name ≡ 8 → name ≢ codes "OMPDCOR1"
+        → IsFaultAt c 0 name CoreFault.BadMagic }
+    ensures version { (c : CoreImage) (v : ℕ) → v ≢ 1 → IsFaultAt c 8 (v ∷ []) (CoreFault.Version v) }
+    ensures order { (c : CoreImage) (b : ℕ) → b ≢ 0 → IsFaultAt c 9 (b ∷ []) (CoreFault.Order b) }
+    ensures context_count { (c : CoreImage) (n : ℕ) → 64 < n → n < 2 ^ 16
+        → IsFaultAt c 10 (to_le_bytes w16 n) (CoreFault.BadContext 10) }
+    ensures segment_count { (c : CoreImage) (n : ℕ) → 64 < n → n < 2 ^ 32
+        → IsFaultAt c 12 (to_le_bytes w32 n) (CoreFault.SegmentOrder 12) }
+
+    // A native id that isn't above the one before.
+    ensures id { (c : CoreImage) (before after : List ℕ) (last id n : ℕ)
+        → c.contexts ≡ before ++ last ∷ id ∷ after → n ≤ last
+        → let at = id_place (length before + 1) in IsFaultAt c at (number n) (CoreFault.BadContext at) }
+
+    // A start address that no segment has, or that isn't above the end of the segment before.
+    ensures start { (c : CoreImage) (before after : List Segment) (s : Segment) (n : ℕ)
+        → c.segments ≡ before ++ s ∷ after → n < 2 ^ 64 → NeverStarts n
+        → let at = start_place c before in IsFaultAt c at (number n) (CoreFault.SegmentOrder at) }
+    ensures touching { (c : CoreImage) (before after : List Segment) (last s : Segment) (n : ℕ)
+        → c.segments ≡ before ++ last ∷ s ∷ after → n ≤ last.start + 8 * length last.words
+        → let at = start_place c (before ++ last ∷ []) in
+        IsFaultAt c at (number n) (CoreFault.SegmentOrder at) }
+
+    // A segment of no words, and one of more words than the limit of all segments leaves.
+    ensures no_words { (c : CoreImage) (before after : List Segment) (s : Segment)
+        → c.segments ≡ before ++ s ∷ after
+        → let at = count_place c before in IsFaultAt c at (number 0) (CoreFault.SegmentOrder at) }
+    ensures too_large { (c : CoreImage) (before after : List Segment) (s : Segment) (n : ℕ)
+        → c.segments ≡ before ++ s ∷ after → n < 2 ^ 64 → most_words < total_words before + n
+        → IsFaultAt c (count_place c before) (number n) (CoreFault.TooLarge n) }
 {}

@@ -15,7 +15,7 @@ pub use core_image::CoreImage;
 pub use decoding::decode;
 pub use encoding::{core_bytes_of, encode};
 pub use fault::{CoreError, CoreFault};
-pub use laws::{front_enough, fronts_and_tails, one_answer, one_spelling};
+pub use laws::{bad_fields, front_enough, fronts_and_tails, one_answer, one_spelling};
 pub use making::core_of;
 pub use segment::{SegList, Segment};
 
