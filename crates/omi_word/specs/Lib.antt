@@ -1,1 +1,2 @@
+-- The definition to believe: word memory and its operations.
 pub mod Memory

@@ -1,11 +1,12 @@
 -- Word memory: a memory is a list of words, of which word k has the byte address 0x10000 + 8k. An operation finds one word, and leaves a list in which at most that word has changed.
 use Rattle.std.specs.Prelude.{◌≡◌, ◌==◌, ℕ, ◌+◌, ◌-◌, ◌*◌, ◌/◌, ◌%◌, ◌^◌, ◌<◌, ◌≤◌, List, length, slice_index, slice_set, if◌then◌else◌}
+use Rattle.omi_word.specs.declared.limits.TheConstants.{FIRST_ADDRESS}
 use Rattle.omi_word.specs.declared.op.Op.{Op}
 use Rattle.omi_word.specs.declared.op.Op.TheVariants.{Load, Store, Cas, Add, Sub}
 
 -- the byte address of a word, by its place in the list
 abbrev pub address_at : ℕ → ℕ
-address_at place = 65536 + 8 * place
+address_at place = FIRST_ADDRESS + 8 * place
 
 -- the byte address of the word that an operation is on
 abbrev pub address_of : Op → ℕ
@@ -25,12 +26,12 @@ left_of (Sub at by) before = (before + (2 ^ 64 - by)) % 2 ^ 64
 
 -- the place in the list of the word at an address
 abbrev pub place_of : ℕ → ℕ
-place_of address = (address - 65536) / 8
+place_of address = (address - FIRST_ADDRESS) / 8
 
 -- a word stands at this address
 pub record IsWordOf (words : List ℕ) (address : ℕ) : Type 0 where
   pub aligned : address % 8 ≡ 0
-  pub above : 65536 ≤ address
+  pub above : FIRST_ADDRESS ≤ address
   pub below : place_of address < length words
 
 -- the word at an address

@@ -1,12 +1,10 @@
+// A memory of words, and an operation on one of them.
 ghost use Rattle.std.specs.Prelude.{◌≡◌, ◌≤◌, ◌↔◌, length, replicate, IfOk, IsSome, IfSome};
 ghost use Rattle.omi_word.specs.Memory.{after, address_of, word_at, IsWordOf};
 
-use crate::{Op, OutOfMemory, Res};
+use crate::{FIRST_ADDRESS, MOST_WORDS, Op, OutOfMemory, Res};
 use std::alloc::Global;
 use std::marker::Model;
-
-/// The first byte address of an image.
-const FIRST: u64 = 0x10000;
 
 /// A memory of at most 1,048,576 words, seen as the list of them. Word `k` has the byte address `0x10000 + 8k`.
 #[derive(Drop)]
@@ -16,18 +14,19 @@ pub struct Image {
 
 impl Model for Image {
     ghost use Rattle.std.specs.Prelude.{List, ℕ, ◌≤◌, length};
+    ghost use Rattle.omi_word.specs.declared.limits.TheConstants.{MOST_WORDS};
 
     ghost Value = { List ℕ };
 
     ghost view = { λ a. a.words.items };
 
-    ghost invariant = { λ a. length a.words.items ≤ 1048576 };
+    ghost invariant = { λ a. length a.words.items ≤ MOST_WORDS };
 }
 
 impl Image {
     /// `n` words that are all 0.
     pub fn zeroed(alloc: Global, n: usize) -> Result<Image, OutOfMemory>
-        requires { n ≤ 1048576 }
+        requires { n ≤ MOST_WORDS }
         ensures { IfOk result (λ image. image ≡ replicate n 0) }
     {
         let words = vec![in alloc; 0u64; n]?;
@@ -37,7 +36,7 @@ impl Image {
     /// The number of words.
     pub fn len(&self) -> usize
         ensures value { result ≡ length self.now }
-        ensures limit { result ≤ 1048576 }
+        ensures limit { result ≤ MOST_WORDS }
     {
         self.words.len()
     }
@@ -47,10 +46,10 @@ impl Image {
         ensures found { IsSome result ↔ IsWordOf self.now addr }
         ensures value { IfSome result (λ word. word ≡ word_at self.now addr) }
     {
-        if addr < FIRST || addr % 8 != 0 {
+        if addr < FIRST_ADDRESS || addr % 8 != 0 {
             return None;
         }
-        let place = ((addr - FIRST) / 8) as usize;
+        let place = ((addr - FIRST_ADDRESS) / 8) as usize;
         if place < self.words.len() {
             Some(self.words[place])
         } else {
@@ -64,7 +63,7 @@ impl Image {
         ensures old { result.old ≡ word_at self.old (address_of op) }
         ensures after { self.new ≡ after self.old op }
     {
-        let place = ((op.address() - FIRST) / 8) as usize;
+        let place = ((op.address() - FIRST_ADDRESS) / 8) as usize;
         let old = self.words[place];
         self.words[place] = op.left(old);
         Res { old }

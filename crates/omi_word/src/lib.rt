@@ -2,10 +2,12 @@
 #![tactic(auto)]
 
 mod image;
+mod limits;
 mod natives;
 mod op;
 
 pub use image::Image;
+pub use limits::{FIRST_ADDRESS, MOST_WORDS};
 pub use natives::Natives;
 pub use op::{Op, Res};
 

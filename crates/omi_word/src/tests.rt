@@ -1,3 +1,4 @@
+// Examples of operations, and the edges of an image.
 use crate::{Image, Natives, Op};
 use std::test::Fail;
 
