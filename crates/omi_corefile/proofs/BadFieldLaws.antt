@@ -12,7 +12,9 @@ use Rattle.omi_corefile.specs.declared.segment.Segment.{Segment}
 use Rattle.omi_corefile.specs.declared.core_image.CoreImage.{CoreImage}
 use Rattle.omi_corefile.specs.declared.fault.CoreFault.{CoreFault}
 use Rattle.omi_corefile.specs.declared.fault.CoreFault.TheVariants.{BadMagic, Version, Order, SegmentOrder, BadContext, TooLarge}
-use Rattle.omi_corefile.specs.Limits.{first_address, most_words, is_start, end_of, total_words}
+use Rattle.omi_corefile.specs.Limits.{is_start, end_of, total_words}
+use Rattle.omi_word.specs.declared.limits.TheConstants.{FIRST_ADDRESS}
+use Rattle.omi_corefile.specs.declared.limits.TheConstants.{MOST_CONTEXTS, MOST_SEGMENTS, MOST_SEGMENT_WORDS}
 use Rattle.omi_corefile.specs.Spelling.{number, numbers, header, segment_bytes, spelling}
 use Rattle.omi_corefile.specs.BadFields.{IsFaultAt, id_place, start_place, count_place, NeverStarts}
 use Rattle.omi_corefile.specs.Refusals.{Refusal, Step, ◌>>=◌, place, magic_at, byte_at, number_at, judged, version_at, order_at, context_count_at, segment_count_at, id_at, contexts_at, start_at, word_count_at, words_at, row_at, Left, left_after, segment_at, segments_at, Header, header_at, Parts, parts_at, reading}
@@ -72,7 +74,7 @@ bad_magic c name len other =
     let text : List ℕ = name ++ bytes in
     let long : ltb (length text) 8 ≡ false = le-ltb _ _ (omega (arith, length-append name bytes)) in
     let differs : starts_with nat_eq text (codes "OMPDCOR1") ≡ false =
-        false_from_ne_true _ (λ same. other (sym (same_text (codes "OMPDCOR1") (take 8 text) (sym same) ∙ take_at name bytes 8 len))) in
+    false_from_ne_true _ (λ same. other (sym (same_text (codes "OMPDCOR1") (take 8 text) (sym same) ∙ take_at name bytes 8 len))) in
     let failed : magic_at (length text) text ≡ Err (0, BadMagic) = rw (long, differs) refl in
     header_failed text (0, BadMagic) (bind_failed (magic_at (length text) text) (after_magic (length text)) (0, BadMagic) failed))
 
@@ -109,7 +111,7 @@ above n most over = false_from_ne_true (leb n most) (λ within. omega (arith, le
 zero_order : (c : CoreImage) (P : ℕ → Type 0) → P 0 → P c.order
 zero_order c P p = subst P (sym (bounds c).order_is) p
 
-pub bad_context_count : (c : CoreImage) (n : ℕ) → 64 < n → n < 2 ^ 16 → IsFaultAt c 10 (to_le_bytes w16 n) (BadContext 10)
+pub bad_context_count : (c : CoreImage) (n : ℕ) → MOST_CONTEXTS < n → n < 2 ^ 16 → IsFaultAt c 10 (to_le_bytes w16 n) (BadContext 10)
 unfolding after_magic
 bad_context_count c n over below =
     let front : List ℕ = codes "OMPDCOR1" ++ 1 ∷ 0 ∷ [] in
@@ -121,27 +123,27 @@ bad_context_count c n over below =
     let len : ℕ = length (front ++ rest) in
     named_failed (1 ∷ 0 ∷ rest) (10, BadContext 10)
     (bind_failed (context_count_at len rest) _ (10, BadContext 10)
-    (field_bad w16 (2 ^ 16) width16 (λ m. leb m 64) (λ m at. BadContext at) len 10 n bytes below (above n 64 over) (place_behind front rest))))
+    (field_bad w16 (2 ^ 16) width16 (λ m. leb m MOST_CONTEXTS) (λ m at. BadContext at) len 10 n bytes below (above n MOST_CONTEXTS over) (place_behind front rest))))
 
-pub bad_segment_count : (c : CoreImage) (n : ℕ) → 64 < n → n < 2 ^ 32 → IsFaultAt c 12 (to_le_bytes w32 n) (SegmentOrder 12)
+pub bad_segment_count : (c : CoreImage) (n : ℕ) → MOST_SEGMENTS < n → n < 2 ^ 32 → IsFaultAt c 12 (to_le_bytes w32 n) (SegmentOrder 12)
 unfolding after_magic
 bad_segment_count c n over below =
     let contexts : ℕ = length c.contexts in
     let front : List ℕ = codes "OMPDCOR1" ++ 1 ∷ 0 ∷ to_le_bytes w16 contexts in
     let behind : List ℕ = to_le_bytes w32 (length c.segments) ++ numbers c.contexts ++ flat_map segment_bytes c.segments in
     let spelled : spelling c ≡ front ++ behind = ap (λ (o : ℕ). header o contexts (length c.segments) ++ numbers c.contexts ++ flat_map segment_bytes c.segments) (bounds c).order_is in
-    let few : contexts ≤ 64 = (bounds c).few_contexts in
+    let few : contexts ≤ MOST_CONTEXTS = (bounds c).few_contexts in
     fault_at c front behind (to_le_bytes w32 n) 12 (SegmentOrder 12) spelled refl
     (λ bytes.
     let rest : List ℕ = to_le_bytes w32 n ++ bytes in
     let len : ℕ = length (front ++ rest) in
     let counted : context_count_at len (to_le_bytes w16 contexts ++ rest) ≡ Ok (contexts, rest) =
-        (Reads-judged len (λ m. leb m 64) (λ m at. BadContext at) (place len) (number_at w16 len) (to_le_bytes w16 contexts) contexts (Reads-number w16 (2 ^ 16) width16 len contexts (omega (arith, few))) (le-leb contexts 64 few)).whole rest in
+    (Reads-judged len (λ m. leb m MOST_CONTEXTS) (λ m at. BadContext at) (place len) (number_at w16 len) (to_le_bytes w16 contexts) contexts (Reads-number w16 (2 ^ 16) width16 len contexts (omega (arith, few))) (le-leb contexts MOST_CONTEXTS few)).whole rest in
     let segments_next : ℕ × List ℕ → Step Header = λ contexts. segment_count_at len contexts.1 >>= λ segments. Ok (record { order = 0; contexts = contexts.0; segments = segments.0 }, segments.1) in
     named_failed (1 ∷ 0 ∷ to_le_bytes w16 contexts ++ rest) (12, SegmentOrder 12)
     (bind_again (context_count_at len (to_le_bytes w16 contexts ++ rest)) segments_next (contexts, rest) counted
     ∙ bind_failed (segment_count_at len rest) _ (12, SegmentOrder 12)
-    (field_bad w32 (2 ^ 32) width32 (λ m. leb m 64) (λ m at. SegmentOrder at) len 12 n bytes below (above n 64 over) (place_behind front rest))))
+    (field_bad w32 (2 ^ 32) width32 (λ m. leb m MOST_SEGMENTS) (λ m at. SegmentOrder at) len 12 n bytes below (above n MOST_SEGMENTS over) (place_behind front rest))))
 
 -- ---- a row
 
@@ -204,10 +206,10 @@ bad_id c before after last id n are low =
     let front : List ℕ = header_of c ++ numbers ids in
     let segments : List ℕ = flat_map segment_bytes c.segments in
     let whole : spelling c ≡ front ++ (numbers (id ∷ after) ++ segments) =
-        spelled c
-        ∙ ap (λ (xs : List ℕ). header_of c ++ (xs ++ segments)) (ap numbers split ∙ flat_map-append number ids (id ∷ after))
-        ∙ ap (λ (xs : List ℕ). header_of c ++ xs) (append_assoc (numbers ids) (numbers (id ∷ after)) segments)
-        ∙ sym (append_assoc (header_of c) (numbers ids) (numbers (id ∷ after) ++ segments)) in
+    spelled c
+    ∙ ap (λ (xs : List ℕ). header_of c ++ (xs ++ segments)) (ap numbers split ∙ flat_map-append number ids (id ∷ after))
+    ∙ ap (λ (xs : List ℕ). header_of c ++ xs) (append_assoc (numbers ids) (numbers (id ∷ after)) segments)
+    ∙ sym (append_assoc (header_of c) (numbers ids) (numbers (id ∷ after) ++ segments)) in
     let so_long : length front ≡ at = omega (arith, length-append (header_of c) (numbers ids), length-numbers ids, length-append before (last ∷ [])) in
     let good : AreGood IsId least_then 0 ids = good_front IsId least_then 0 ids (id ∷ after) (subst (AreGood IsId least_then 0) split (good-ids 0 c.contexts (bounds c).contexts_rise (bounds c).contexts_are_words)) in
     let last_good : last < 2 ^ 64 = last_is_word before 0 good in
@@ -219,9 +221,9 @@ bad_id c before after last id n are low =
     let least : state_after least_then 0 ids ≡ last + 1 = state_after-push least_then 0 before last in
     let too_low : leb (state_after least_then 0 ids) n ≡ false = above (state_after least_then 0 ids) n (omega (arith, least)) in
     let failed : id_at len (state_after least_then 0 ids) rest ≡ Err (at, BadContext at) =
-        field_bad w64 (2 ^ 64) width64 (leb (state_after least_then 0 ids)) (λ m at. BadContext at) len at n bytes (omega (arith, low, last_good)) too_low here in
+    field_bad w64 (2 ^ 64) width64 (leb (state_after least_then 0 ids)) (λ m at. BadContext at) len at n bytes (omega (arith, low, last_good)) too_low here in
     let row : row_at (id_at len) least_then (length (ids ++ id ∷ after)) 0 (numbers ids ++ rest) ≡ Err (at, BadContext at) =
-        row_failed len IsId (id_at len) least_then number (Reads-id len) 0 ids after id rest (at, BadContext at) good failed in
+    row_failed len IsId (id_at len) least_then number (Reads-id len) 0 ids after id rest (at, BadContext at) good failed in
     let counted : contexts_at len (length c.contexts) (numbers ids ++ rest) ≡ Err (at, BadContext at) = ap (λ (xs : List ℕ). contexts_at len (length xs) (numbers ids ++ rest)) split ∙ row in
     let joined : front ++ rest ≡ header_of c ++ (numbers ids ++ rest) = append_assoc (header_of c) (numbers ids) rest in
     ap reading joined ∙ contexts_failed c (numbers ids ++ rest) (at, BadContext at) (ap (λ (text : List ℕ). contexts_at (length text) (length c.contexts) (numbers ids ++ rest)) (sym joined) ∙ counted))
@@ -238,7 +240,7 @@ contexts_of c = header_of c ++ numbers c.contexts
 
 -- the state that the segments before one leave: the least start address, and the room for words
 abbrev left_behind : List Segment → Left
-left_behind before = state_after left_after (first_address, most_words) before
+left_behind before = state_after left_after (FIRST_ADDRESS, MOST_SEGMENT_WORDS) before
 
 segments_failed : (c : CoreImage) (rest : List ℕ) (r : Refusal) → (let bytes = contexts_of c ++ rest in segments_at (length bytes) (length c.segments) rest ≡ Err r → reading bytes ≡ Err r)
 unfolding parts_at reading
@@ -256,8 +258,8 @@ segments_failed c rest r e =
     ∙ bind_failed (segments_at len (length c.segments) rest) (after_segments counts c.contexts) r e)
 
 -- the segments of a core are good, each by those before it
-segments_are_good : (c : CoreImage) → AreGood IsSegment left_after (first_address, most_words) c.segments
-segments_are_good c = good-segments (first_address, most_words) c.segments (omega arith) (bounds c).segments_rise (bounds c).few_words
+segments_are_good : (c : CoreImage) → AreGood IsSegment left_after (FIRST_ADDRESS, MOST_SEGMENT_WORDS) c.segments
+segments_are_good c = good-segments (FIRST_ADDRESS, MOST_SEGMENT_WORDS) c.segments (omega arith) (bounds c).segments_rise (bounds c).few_words
 
 -- a file that spells a core up to a segment is refused where the segment is
 segment_failed : (c : CoreImage) (before after : List Segment) (s : Segment) (field : List ℕ) (at : ℕ) (why : CoreFault) (front : List ℕ) → c.segments ≡ before ++ s ∷ after
@@ -269,10 +271,10 @@ segment_failed c before after s field at why front are failed bytes =
     let len : ℕ = length text in
     let joined : (contexts_of c ++ flat_map segment_bytes before) ++ rest ≡ text = append_assoc (contexts_of c) (flat_map segment_bytes before) rest in
     let here : place len rest ≡ start_place c before =
-        omega (arith, length-append (contexts_of c) (flat_map segment_bytes before ++ rest), length-append (flat_map segment_bytes before) rest, length-append (header_of c) (numbers c.contexts), length-numbers c.contexts, length-segments before) in
-    let good : AreGood IsSegment left_after (first_address, most_words) before = good_front IsSegment left_after (first_address, most_words) before (s ∷ after) (subst (AreGood IsSegment left_after (first_address, most_words)) are (segments_are_good c)) in
-    let row : row_at (segment_at len) left_after (length (before ++ s ∷ after)) (first_address, most_words) (flat_map segment_bytes before ++ rest) ≡ Err (at, why) =
-        row_failed {S = Left} len IsSegment (segment_at len) left_after segment_bytes (Reads-segment len) (first_address, most_words) before after s rest (at, why) good (failed len bytes here) in
+    omega (arith, length-append (contexts_of c) (flat_map segment_bytes before ++ rest), length-append (flat_map segment_bytes before) rest, length-append (header_of c) (numbers c.contexts), length-numbers c.contexts, length-segments before) in
+    let good : AreGood IsSegment left_after (FIRST_ADDRESS, MOST_SEGMENT_WORDS) before = good_front IsSegment left_after (FIRST_ADDRESS, MOST_SEGMENT_WORDS) before (s ∷ after) (subst (AreGood IsSegment left_after (FIRST_ADDRESS, MOST_SEGMENT_WORDS)) are (segments_are_good c)) in
+    let row : row_at (segment_at len) left_after (length (before ++ s ∷ after)) (FIRST_ADDRESS, MOST_SEGMENT_WORDS) (flat_map segment_bytes before ++ rest) ≡ Err (at, why) =
+    row_failed {S = Left} len IsSegment (segment_at len) left_after segment_bytes (Reads-segment len) (FIRST_ADDRESS, MOST_SEGMENT_WORDS) before after s rest (at, why) good (failed len bytes here) in
     ap reading joined ∙ segments_failed c (flat_map segment_bytes before ++ rest) (at, why)
     (ap (λ (xs : List Segment). segments_at len (length xs) (flat_map segment_bytes before ++ rest)) are ∙ row)
 
@@ -321,16 +323,16 @@ least_rises left (s ∷ ss) good =
 pub bad_start : (c : CoreImage) (before after : List Segment) (s : Segment) (n : ℕ) → c.segments ≡ before ++ s ∷ after → n < 2 ^ 64 → NeverStarts n
     → (let at = start_place c before in IsFaultAt c at (number n) (SegmentOrder at))
 bad_start c before after s n are below never =
-    let good = good_front IsSegment left_after (first_address, most_words) before (s ∷ after) (subst (AreGood IsSegment left_after (first_address, most_words)) are (segments_are_good c)) in
+    let good = good_front IsSegment left_after (FIRST_ADDRESS, MOST_SEGMENT_WORDS) before (s ∷ after) (subst (AreGood IsSegment left_after (FIRST_ADDRESS, MOST_SEGMENT_WORDS)) are (segments_are_good c)) in
     start_refused c before after s n are below
     (false_from_ne_true (is_start (left_behind before).0 n) (λ e.
     let kept = allowed_of (left_behind before).0 n e in
     elim never [
       | inl odd ↦ odd kept.aligned
       | inr other ↦ elim other [
-          | inl low ↦ omega (arith, low, kept.high, least_rises (first_address, most_words) before good)
-          | inr high ↦ omega (arith, high, kept.low)
-        ]
+        | inl low ↦ omega (arith, low, kept.high, least_rises (FIRST_ADDRESS, MOST_SEGMENT_WORDS) before good)
+        | inr high ↦ omega (arith, high, kept.low)
+      ]
     ]))
 
 pub touching : (c : CoreImage) (before after : List Segment) (last s : Segment) (n : ℕ) → c.segments ≡ before ++ last ∷ s ∷ after → n ≤ last.start + 8 * length last.words
@@ -338,14 +340,14 @@ pub touching : (c : CoreImage) (before after : List Segment) (last s : Segment) 
 touching c before after last s n are low =
     let ss : List Segment = before ++ last ∷ [] in
     let split : c.segments ≡ ss ++ s ∷ after = are ∙ sym (append_assoc before (last ∷ []) (s ∷ after)) in
-    let good = good_front IsSegment left_after (first_address, most_words) ss (s ∷ after) (subst (AreGood IsSegment left_after (first_address, most_words)) split (segments_are_good c)) in
-    let small = last_small before (first_address, most_words) (omega arith) good in
-    let least : left_behind ss ≡ left_after (left_behind before) last = state_after-push left_after (first_address, most_words) before last in
+    let good = good_front IsSegment left_after (FIRST_ADDRESS, MOST_SEGMENT_WORDS) ss (s ∷ after) (subst (AreGood IsSegment left_after (FIRST_ADDRESS, MOST_SEGMENT_WORDS)) split (segments_are_good c)) in
+    let small = last_small before (FIRST_ADDRESS, MOST_SEGMENT_WORDS) (omega arith) good in
+    let least : left_behind ss ≡ left_after (left_behind before) last = state_after-push left_after (FIRST_ADDRESS, MOST_SEGMENT_WORDS) before last in
     let behind : (left_behind ss).0 ≡ end_of last.start (length last.words) + 1 = ap (λ (left : Left). left.0) least in
     start_refused c ss after s n split (omega (arith, low, small.0, small.1))
     (false_from_ne_true (is_start (left_behind ss).0 n) (λ e. omega (arith, (allowed_of (left_behind ss).0 n e).high, behind, low)))
   where
-    last_small : (xs : List Segment) (left : Left) → left.1 ≤ most_words → AreGood IsSegment left_after left (xs ++ last ∷ []) → (last.start < 2 ^ 47) × (length last.words ≤ most_words)
+    last_small : (xs : List Segment) (left : Left) → left.1 ≤ MOST_SEGMENT_WORDS → AreGood IsSegment left_after left (xs ++ last ∷ []) → (last.start < 2 ^ 47) × (length last.words ≤ MOST_SEGMENT_WORDS)
     last_small [] left room good = ((allowed_of left.0 last.start good.0.0).low, omega (arith, good.0.2, room))
     last_small (x ∷ xs) left room good = last_small xs (left_after left x) (omega (arith, room)) good.1
 
@@ -371,18 +373,18 @@ count_refused c before after s n why are below bad told =
     let front : List ℕ = upto ++ number s.start in
     let behind : List ℕ = (number (length s.words) ++ numbers s.words) ++ flat_map segment_bytes after in
     let whole : spelling c ≡ front ++ behind =
-        spelled_from c before (s ∷ after) are
-        ∙ ap (λ (xs : List ℕ). upto ++ xs) (ap (λ (xs : List ℕ). xs ++ flat_map segment_bytes after) (append_assoc (number s.start) (number (length s.words)) (numbers s.words)) ∙ append_assoc (number s.start) (number (length s.words) ++ numbers s.words) (flat_map segment_bytes after))
-        ∙ sym (append_assoc upto (number s.start) behind) in
+    spelled_from c before (s ∷ after) are
+    ∙ ap (λ (xs : List ℕ). upto ++ xs) (ap (λ (xs : List ℕ). xs ++ flat_map segment_bytes after) (append_assoc (number s.start) (number (length s.words)) (numbers s.words)) ∙ append_assoc (number s.start) (number (length s.words) ++ numbers s.words) (flat_map segment_bytes after))
+    ∙ sym (append_assoc upto (number s.start) behind) in
     let so_long : length front ≡ at = omega (arith, length-append upto (number s.start), start_front c before) in
-    let start_good : IsTrue (is_start (left_behind before).0 s.start) = last_start before after s (first_address, most_words) (subst (AreGood IsSegment left_after (first_address, most_words)) are (segments_are_good c)) in
+    let start_good : IsTrue (is_start (left_behind before).0 s.start) = last_start before after s (FIRST_ADDRESS, MOST_SEGMENT_WORDS) (subst (AreGood IsSegment left_after (FIRST_ADDRESS, MOST_SEGMENT_WORDS)) are (segments_are_good c)) in
     let start_low = (allowed_of (left_behind before).0 s.start start_good).low in
     fault_at c front behind (number n) at why whole so_long
     (λ bytes. ap reading (append_assoc upto (number s.start) (number n ++ bytes)) ∙ segment_failed c before after s (number n) at why (number s.start) are
     (λ len bytes here.
     let rest : List ℕ = number n ++ bytes in
     let started : start_at len (left_behind before).0 (number s.start ++ rest) ≡ Ok (s.start, rest) =
-        (Reads-judged len (is_start (left_behind before).0) (λ m at. SegmentOrder at) (place len) (number_at w64 len) (number s.start) s.start (Reads-number w64 (2 ^ 64) width64 len s.start (omega (arith, start_low))) start_good).whole rest in
+    (Reads-judged len (is_start (left_behind before).0) (λ m at. SegmentOrder at) (place len) (number_at w64 len) (number s.start) s.start (Reads-number w64 (2 ^ 64) width64 len s.start (omega (arith, start_low))) start_good).whole rest in
     let next : ℕ × List ℕ → Step Segment = λ start. word_count_at len (left_behind before).1 start.1 >>= λ count. words_at len count.0 count.1 >>= λ words. Ok (record { start = start.0; words = words.0 }, words.1) in
     let there : place len rest ≡ at = omega (arith, here, length-append (number s.start) rest) in
     bind_again (start_at len (left_behind before).0 (number s.start ++ rest)) next (s.start, rest) started
@@ -392,7 +394,7 @@ count_refused c before after s n why are below bad told =
 pub no_words : (c : CoreImage) (before after : List Segment) (s : Segment) → c.segments ≡ before ++ s ∷ after → (let at = count_place c before in IsFaultAt c at (number 0) (SegmentOrder at))
 no_words c before after s are = count_refused c before after s 0 (SegmentOrder (count_place c before)) are (omega arith) refl refl
 
-pub too_large : (c : CoreImage) (before after : List Segment) (s : Segment) (n : ℕ) → c.segments ≡ before ++ s ∷ after → n < 2 ^ 64 → most_words < total_words before + n
+pub too_large : (c : CoreImage) (before after : List Segment) (s : Segment) (n : ℕ) → c.segments ≡ before ++ s ∷ after → n < 2 ^ 64 → MOST_SEGMENT_WORDS < total_words before + n
     → IsFaultAt c (count_place c before) (number n) (TooLarge n)
 too_large c before after s n are below over =
     let within = sum_by-append (λ (t : Segment). length t.words) before (s ∷ after) in
@@ -400,5 +402,5 @@ too_large c before after s n are below over =
     let some : n ≢ 0 = λ none. omega (arith, over, none, total, (bounds c).few_words) in
     let not_zero : eqb n 0 ≡ false = ne_eqb n 0 some in
     count_refused c before after s n (TooLarge n) are below
-    (false_from_ne_true (ltb 0 n && leb n (left_behind before).1) (λ e. omega (arith, leb-true n (left_behind before).1 (and_parts (ltb 0 n) (leb n (left_behind before).1) e).1, room_left (first_address, most_words) before, over, total, (bounds c).few_words)))
+    (false_from_ne_true (ltb 0 n && leb n (left_behind before).1) (λ e. omega (arith, leb-true n (left_behind before).1 (and_parts (ltb 0 n) (leb n (left_behind before).1) e).1, room_left (FIRST_ADDRESS, MOST_SEGMENT_WORDS) before, over, total, (bounds c).few_words)))
     (rw not_zero refl)

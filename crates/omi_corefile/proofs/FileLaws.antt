@@ -13,7 +13,9 @@ use Rattle.omi_corefile.specs.declared.fault.CoreFault.TheVariants.{Version, Ord
 use Rattle.omi_corefile.specs.declared.fault.CoreError.{CoreError}
 use Rattle.omi_corefile.specs.declared.fault.CoreError.TheVariants.{Fault, OutOfMemory}
 use Rattle.omi_corefile.specs.Outcomes.{Fails, UnlessMemory, IsCore, IsRefused}
-use Rattle.omi_corefile.specs.Limits.{first_address, most_words, rises_from, are_words, rise_apart_from, total_words, are_contexts, are_segments, within_limits}
+use Rattle.omi_corefile.specs.Limits.{rises_from, are_words, rise_apart_from, total_words, are_contexts, are_segments, within_limits}
+use Rattle.omi_word.specs.declared.limits.TheConstants.{FIRST_ADDRESS}
+use Rattle.omi_corefile.specs.declared.limits.TheConstants.{MOST_CONTEXTS, MOST_SEGMENTS, MOST_SEGMENT_WORDS}
 use Rattle.omi_corefile.specs.Spelling.{numbers, header, segment_bytes, spelling_of, spelling, Core}
 use Rattle.omi_corefile.specs.Refusals.{Refusal, Step, ◌>>=◌, AreBytes, number_at, byte_at, magic_at, version_at, order_at, context_count_at, segment_count_at, contexts_at, segments_at, Header, header_at, place, short, trailing, Parts, parts_at, reading, CoreRefused}
 use Rattle.omi_corefile.proofs.Bounds.{Bounds, bounds}
@@ -27,8 +29,8 @@ use Rattle.omi_corefile.proofs.RowLaws.{contexts_taken, Reads-contexts, segments
 pub record TakesHeader (bytes : List ℕ) (counts : Header) (rest : List ℕ) : Type 0 where
   pub taken : Takes bytes (header counts.order counts.contexts counts.segments) rest
   pub order_is : counts.order ≡ 0
-  pub few_contexts : counts.contexts ≤ 64
-  pub few_segments : counts.segments ≤ 64
+  pub few_contexts : counts.contexts ≤ MOST_CONTEXTS
+  pub few_segments : counts.segments ≤ MOST_SEGMENTS
 
 pub header_taken : (len : ℕ) (bytes : List ℕ) (x : Header × List ℕ) → AreBytes bytes → header_at len bytes ≡ Ok x → TakesHeader bytes x.0 x.1
 unfolding header_at
@@ -43,9 +45,9 @@ header_taken len bytes x are e =
     let version_is = byte_taken len a.0 b.0 magic_is.rest_are_bytes version_judged.0 in
     let order_judged = judged_taken (λ v. eqb v 0) (λ v at. Order v) (place len b.0.1) (byte_at len b.0.1) c.0 c.1 in
     let order_was = byte_taken len b.0.1 c.0 version_is.rest_are_bytes order_judged.0 in
-    let contexts_judged = judged_taken (λ n. leb n 64) (λ n at. BadContext at) (place len c.0.1) (number_at w16 len c.0.1) d.0 d.1 in
+    let contexts_judged = judged_taken (λ n. leb n MOST_CONTEXTS) (λ n at. BadContext at) (place len c.0.1) (number_at w16 len c.0.1) d.0 d.1 in
     let contexts_are = number_taken w16 (2 ^ 16) width16 len c.0.1 d.0 order_was.rest_are_bytes contexts_judged.0 in
-    let segments_judged = judged_taken (λ n. leb n 64) (λ n at. SegmentOrder at) (place len d.0.1) (number_at w32 len d.0.1) f.0 f.1 in
+    let segments_judged = judged_taken (λ n. leb n MOST_SEGMENTS) (λ n at. SegmentOrder at) (place len d.0.1) (number_at w32 len d.0.1) f.0 f.1 in
     let segments_are = number_taken w32 (2 ^ 32) width32 len d.0.1 f.0 contexts_are.0.rest_are_bytes segments_judged.0 in
     let one_version : Takes a.0 (1 ∷ []) b.0.1 = subst (λ (v : ℕ). Takes a.0 (v ∷ []) b.0.1) (eqb-true b.0.0 1 version_judged.1) version_is in
     let upto_version = Takes-then bytes (codes "OMPDCOR1") a.0 (1 ∷ []) b.0.1 magic_is one_version in
@@ -56,8 +58,8 @@ header_taken len bytes x are e =
     subst (λ (y : Header × List ℕ). TakesHeader bytes y.0 y.1) {x = made} (ok_is made x f.2) (record {
       taken = whole;
       order_is = eqb-true c.0.0 0 order_judged.1;
-      few_contexts = leb-true d.0.0 64 contexts_judged.1;
-      few_segments = leb-true f.0.0 64 segments_judged.1;
+      few_contexts = leb-true d.0.0 MOST_CONTEXTS contexts_judged.1;
+      few_segments = leb-true f.0.0 MOST_SEGMENTS segments_judged.1;
     })
 
 -- fewer bytes than the name of the format has
@@ -65,15 +67,15 @@ magic_short : (len : ℕ) (bytes : List ℕ) → length bytes < 8 → magic_at l
 unfolding magic_at
 magic_short len bytes below = let too_short = lt-ltb (length bytes) 8 below in rw too_short refl
 
-pub Reads-header : (len contexts segments : ℕ) → contexts ≤ 64 → segments ≤ 64 → Reads len (header_at len) (header 0 contexts segments) (record { order = 0; contexts = contexts; segments = segments })
+pub Reads-header : (len contexts segments : ℕ) → contexts ≤ MOST_CONTEXTS → segments ≤ MOST_SEGMENTS → Reads len (header_at len) (header 0 contexts segments) (record { order = 0; contexts = contexts; segments = segments })
 unfolding header_at
 Reads-header len contexts segments few_contexts few_segments =
     let made : ℕ → ℕ → ℕ → Header = λ o c s. record { order = o; contexts = c; segments = s } in
     let name : List ℕ = codes "OMPDCOR1" in
     let version_is = Reads-judged len (λ v. eqb v 1) (λ v at. Version v) (place len) (byte_at len) (1 ∷ []) 1 (Reads-byte len 1) refl in
     let order_is = Reads-judged len (λ b. eqb b 0) (λ b at. Order b) (place len) (byte_at len) (0 ∷ []) 0 (Reads-byte len 0) refl in
-    let contexts_are = Reads-judged len (λ n. leb n 64) (λ n at. BadContext at) (place len) (number_at w16 len) (to_le_bytes w16 contexts) contexts (Reads-number w16 (2 ^ 16) width16 len contexts (omega arith)) (le-leb contexts 64 few_contexts) in
-    let segments_are = Reads-judged len (λ n. leb n 64) (λ n at. SegmentOrder at) (place len) (number_at w32 len) (to_le_bytes w32 segments) segments (Reads-number w32 (2 ^ 32) width32 len segments (omega arith)) (le-leb segments 64 few_segments) in
+    let contexts_are = Reads-judged len (λ n. leb n MOST_CONTEXTS) (λ n at. BadContext at) (place len) (number_at w16 len) (to_le_bytes w16 contexts) contexts (Reads-number w16 (2 ^ 16) width16 len contexts (omega arith)) (le-leb contexts MOST_CONTEXTS few_contexts) in
+    let segments_are = Reads-judged len (λ n. leb n MOST_SEGMENTS) (λ n at. SegmentOrder at) (place len) (number_at w32 len) (to_le_bytes w32 segments) segments (Reads-number w32 (2 ^ 32) width32 len segments (omega arith)) (le-leb segments MOST_SEGMENTS few_segments) in
     let from_segments = Reads-map len (segment_count_at len) (made 0 contexts) (to_le_bytes w32 segments) segments segments_are in
     let from_contexts = Reads-then len (context_count_at len) (λ (c : ℕ) bytes. segment_count_at len bytes >>= λ s. Ok (made 0 c s.0, s.1)) (to_le_bytes w16 contexts) (to_le_bytes w32 segments) contexts (made 0 contexts segments) contexts_are from_segments in
     let from_order = Reads-then len (order_at len) (λ (o : ℕ) bytes. context_count_at len bytes >>= λ c. segment_count_at len c.1 >>= λ s. Ok (made o c.0 s.0, s.1)) (0 ∷ []) (to_le_bytes w16 contexts ++ to_le_bytes w32 segments) 0 (made 0 contexts segments) order_is from_contexts in
@@ -120,8 +122,8 @@ TakesParts bytes x = IsTrue (within_limits x.0.order x.0.contexts x.0.segments) 
 
 within : (order : ℕ) (contexts : List ℕ) (segments : List Segment) → Bounds order contexts segments → IsTrue (within_limits order contexts segments)
 within order contexts segments b =
-    let contexts_are = and_from (leb (length contexts) 64 && rises_from 0 contexts) (are_words contexts) (and_from (leb (length contexts) 64) (rises_from 0 contexts) (le-leb (length contexts) 64 b.few_contexts) b.contexts_rise) b.contexts_are_words in
-    let segments_are = and_from (leb (length segments) 64 && rise_apart_from first_address segments) (leb (total_words segments) most_words) (and_from (leb (length segments) 64) (rise_apart_from first_address segments) (le-leb (length segments) 64 b.few_segments) b.segments_rise) (le-leb (total_words segments) 1048576 b.few_words) in
+    let contexts_are = and_from (leb (length contexts) MOST_CONTEXTS && rises_from 0 contexts) (are_words contexts) (and_from (leb (length contexts) MOST_CONTEXTS) (rises_from 0 contexts) (le-leb (length contexts) MOST_CONTEXTS b.few_contexts) b.contexts_rise) b.contexts_are_words in
+    let segments_are = and_from (leb (length segments) MOST_SEGMENTS && rise_apart_from FIRST_ADDRESS segments) (leb (total_words segments) MOST_SEGMENT_WORDS) (and_from (leb (length segments) MOST_SEGMENTS) (rise_apart_from FIRST_ADDRESS segments) (le-leb (length segments) MOST_SEGMENTS b.few_segments) b.segments_rise) (le-leb (total_words segments) MOST_SEGMENT_WORDS b.few_words) in
     let order_is : eqb order 0 ≡ true = ap (λ (n : ℕ). eqb n 0) b.order_is in
     and_from (eqb order 0 && are_contexts contexts) (are_segments segments) (and_from (eqb order 0) (are_contexts contexts) order_is contexts_are) segments_are
 

@@ -8,6 +8,7 @@ use Rattle.std.proofs.lemmas.List.{take-append-drop, take-append-le, drop-append
 use Rattle.omi_corefile.specs.declared.segment.Segment.{Segment}
 use Rattle.omi_corefile.specs.declared.fault.CoreFault.{CoreFault}
 use Rattle.omi_corefile.specs.declared.fault.CoreFault.TheVariants.{BadMagic, Version, Order, Trailing, TooLarge, SegmentOrder, BadContext}
+use Rattle.omi_corefile.specs.declared.limits.TheConstants.{MOST_BYTES, MOST_CONTEXTS, MOST_SEGMENTS}
 use Rattle.omi_corefile.specs.Limits.{is_start}
 use Rattle.omi_corefile.specs.Refusals.{Refusal, Step, ◌>>=◌, place, byte_at, number_at, judged, magic_at, id_at, row_at, contexts_at, words_at, Left, left_after, segment_at, segments_at, Header, header_at, Parts, parts_at, reading}
 use Rattle.omi_corefile.proofs.FileLaws.{ended}
@@ -160,7 +161,7 @@ magic_then After more tail (Err e) whole f g same then = ap (λ y. y >>= g) same
 
 -- a header, with few contexts and segments
 abbrev Few : ℕ → Header → ℕ → Type 0
-Few more counts k = (counts.contexts ≤ 64) × (counts.segments ≤ 64) × (more ≤ k)
+Few more counts k = (counts.contexts ≤ MOST_CONTEXTS) × (counts.segments ≤ MOST_SEGMENTS) × (more ≤ k)
 
 same_header : (len more : ℕ) (front tail : List ℕ) → 16 + more ≤ length front → Same (Few more) tail (header_at len front) (header_at (len + length tail) (front ++ tail))
 unfolding header_at
@@ -172,10 +173,10 @@ same_header len more front tail long =
     (λ version b b_long. same_then (Allowed (λ v. eqb v 0) (6 + more)) (Few more) tail _ _ _ _
     (same_judged (λ v. eqb v 0) (λ v at. Order v) _ _ (6 + more) tail _ _ (same_place len b tail) (same_byte len other (6 + more) b tail (omega (arith, b_long.1))))
     (λ order c c_long. same_then (Allowed (λ n. nat_le n 64) (4 + more)) (Few more) tail _ _ _ _
-    (same_field w16 (λ n. nat_le n 64) (λ n at. BadContext at) len (4 + more) c tail (omega (arith, c_long.1)))
+    (same_field w16 (λ n. nat_le n MOST_CONTEXTS) (λ n at. BadContext at) len (4 + more) c tail (omega (arith, c_long.1)))
     (λ contexts d d_long. same_then (Allowed (λ n. nat_le n 64) more) (Few more) tail _ _ _ _
-    (same_field w32 (λ n. nat_le n 64) (λ n at. SegmentOrder at) len more d tail (omega (arith, d_long.1)))
-    (λ segments e e_long. (refl, (leb-true contexts 64 d_long.0, leb-true segments 64 e_long.0, e_long.1)))))))
+    (same_field w32 (λ n. nat_le n MOST_SEGMENTS) (λ n at. SegmentOrder at) len more d tail (omega (arith, d_long.1)))
+    (λ segments e e_long. (refl, (leb-true contexts MOST_CONTEXTS d_long.0, leb-true segments MOST_SEGMENTS e_long.0, e_long.1)))))))
 
 same_parts : (len more : ℕ) (front tail : List ℕ) → 8390160 + more ≤ length front → Same (Leaves more) tail (parts_at len front) (parts_at (len + length tail) (front ++ tail))
 unfolding parts_at
@@ -186,7 +187,7 @@ same_parts len more front tail long =
     (λ segments c left. (refl, left))))
 
 -- what a front of more bytes than a core can have is, the whole is
-front_tells : (front tail : List ℕ) → 8390161 ≤ length front → reading front ≡ reading (front ++ tail)
+front_tells : (front tail : List ℕ) → MOST_BYTES + 1 ≤ length front → reading front ≡ reading (front ++ tail)
 unfolding reading
 front_tells front tail long =
     go (parts_at (length front) front) (parts_at (length front + length tail) (front ++ tail)) (same_parts (length front) 1 front tail (omega (arith, long)))
@@ -200,12 +201,12 @@ front_tells front tail long =
         rw (same.0, here, there) (ap (λ (at : ℕ). Err (at, Trailing at)) (same_place (length front) x.1 tail))
 
 -- the first 8,390,161 bytes of a file tell what the file is
-pub front_enough : (bytes : List ℕ) → reading (take 8390161 bytes) ≡ reading bytes
-front_enough bytes = go (nat_le (length bytes) 8390161) refl
+pub front_enough : (bytes : List ℕ) → reading (take (MOST_BYTES + 1) bytes) ≡ reading bytes
+front_enough bytes = go (nat_le (length bytes) (MOST_BYTES + 1)) refl
   where
-    go : (b : Bool) → nat_le (length bytes) 8390161 ≡ b → reading (take 8390161 bytes) ≡ reading bytes
-    go true e = ap reading (take_all 8390161 bytes (leb-true (length bytes) 8390161 e))
+    go : (b : Bool) → nat_le (length bytes) (MOST_BYTES + 1) ≡ b → reading (take (MOST_BYTES + 1) bytes) ≡ reading bytes
+    go true e = ap reading (take_all (MOST_BYTES + 1) bytes (leb-true (length bytes) (MOST_BYTES + 1) e))
     go false e =
-        let long : 8390161 < length bytes = leb-false (length bytes) 8390161 e in
-        let front : length (take 8390161 bytes) ≡ 8390161 = length-take-le 8390161 bytes (omega arith) in
-        front_tells (take 8390161 bytes) (drop 8390161 bytes) (omega (arith, front)) ∙ ap reading (take-append-drop 8390161 bytes)
+        let long : MOST_BYTES + 1 < length bytes = leb-false (length bytes) (MOST_BYTES + 1) e in
+        let front : length (take (MOST_BYTES + 1) bytes) ≡ MOST_BYTES + 1 = length-take-le (MOST_BYTES + 1) bytes (omega arith) in
+        front_tells (take (MOST_BYTES + 1) bytes) (drop (MOST_BYTES + 1) bytes) (omega (arith, front)) ∙ ap reading (take-append-drop (MOST_BYTES + 1) bytes)

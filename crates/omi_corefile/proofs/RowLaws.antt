@@ -8,7 +8,9 @@ use Rattle.std.proofs.lemmas.List.Concat.{flat_map-cons}
 use Rattle.std.proofs.lemmas.List.Sums.{sum_by-cons}
 use Rattle.omi_corefile.specs.declared.segment.Segment.{Segment}
 use Rattle.omi_corefile.specs.declared.fault.CoreFault.TheVariants.{SegmentOrder, TooLarge, BadContext}
-use Rattle.omi_corefile.specs.Limits.{first_address, most_words, rises_from, are_words, is_start, end_of, rise_apart_from, total_words}
+use Rattle.omi_corefile.specs.Limits.{rises_from, are_words, is_start, end_of, rise_apart_from, total_words}
+use Rattle.omi_word.specs.declared.limits.TheConstants.{FIRST_ADDRESS}
+use Rattle.omi_corefile.specs.declared.limits.TheConstants.{MOST_SEGMENT_WORDS}
 use Rattle.omi_corefile.specs.Spelling.{number, numbers, segment_bytes}
 use Rattle.omi_corefile.specs.Refusals.{Step, ◌>>=◌, AreBytes, number_at, row_at, id_at, contexts_at, words_at, start_at, word_count_at, Left, left_after, segment_at, segments_at, place}
 use Rattle.omi_corefile.proofs.Numbers.{bind_ok, ok_is, Takes, Takes-then, width64, number_taken, judged_taken}
@@ -177,12 +179,12 @@ good-segments left (s ∷ ss) small rise fit =
     let total : length s.words + total_words ss ≤ left.1 = omega (arith, sum_by-cons (λ (t : Segment). length t.words) s ss) in
     ((c.0, ltb-true 0 (length s.words) c.1, omega (arith, total), b.1, omega (arith, total)), good-segments (left_after left s) ss (omega arith) a.1 (omega (arith, total)))
 
-pub segments_taken : (len count : ℕ) (bytes : List ℕ) (x : List Segment × List ℕ) → AreBytes bytes → segments_at len count bytes ≡ Ok x → Takes bytes (flat_map segment_bytes x.0) x.1 × (length x.0 ≡ count) × IsTrue (rise_apart_from first_address x.0) × (total_words x.0 ≤ most_words)
+pub segments_taken : (len count : ℕ) (bytes : List ℕ) (x : List Segment × List ℕ) → AreBytes bytes → segments_at len count bytes ≡ Ok x → Takes bytes (flat_map segment_bytes x.0) x.1 × (length x.0 ≡ count) × IsTrue (rise_apart_from FIRST_ADDRESS x.0) × (total_words x.0 ≤ MOST_SEGMENT_WORDS)
 segments_taken len count bytes x are e =
-    let row = row_taken {S = Left} IsSegment (segment_at len) left_after segment_bytes (segment_taken len) count (first_address, most_words) bytes x are e in
-    let good = segments-good (first_address, most_words) x.0 row.good in
+    let row = row_taken {S = Left} IsSegment (segment_at len) left_after segment_bytes (segment_taken len) count (FIRST_ADDRESS, MOST_SEGMENT_WORDS) bytes x are e in
+    let good = segments-good (FIRST_ADDRESS, MOST_SEGMENT_WORDS) x.0 row.good in
     (row.taken, row.so_many, good.0, good.1)
 
-pub Reads-segments : (len : ℕ) (ss : List Segment) → IsTrue (rise_apart_from first_address ss) → total_words ss ≤ most_words → Reads len (segments_at len (length ss)) (flat_map segment_bytes ss) ss
+pub Reads-segments : (len : ℕ) (ss : List Segment) → IsTrue (rise_apart_from FIRST_ADDRESS ss) → total_words ss ≤ MOST_SEGMENT_WORDS → Reads len (segments_at len (length ss)) (flat_map segment_bytes ss) ss
 Reads-segments len ss rise fit =
-    Reads-row {S = Left} len IsSegment (segment_at len) left_after segment_bytes (Reads-segment len) (first_address, most_words) ss (good-segments (first_address, most_words) ss (omega arith) rise fit)
+    Reads-row {S = Left} len IsSegment (segment_at len) left_after segment_bytes (Reads-segment len) (FIRST_ADDRESS, MOST_SEGMENT_WORDS) ss (good-segments (FIRST_ADDRESS, MOST_SEGMENT_WORDS) ss (omega arith) rise fit)

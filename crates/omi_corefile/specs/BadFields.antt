@@ -3,7 +3,8 @@ use Rattle.std.specs.Prelude.{◌≡◌, ◌⊎◌, ◌≢◌, ◌<◌, ◌≤�
 use Rattle.omi_corefile.specs.declared.segment.Segment.{Segment}
 use Rattle.omi_corefile.specs.declared.core_image.CoreImage.{CoreImage}
 use Rattle.omi_corefile.specs.declared.fault.CoreFault.{CoreFault}
-use Rattle.omi_corefile.specs.Limits.{first_address, total_words}
+use Rattle.omi_corefile.specs.Limits.{total_words}
+use Rattle.omi_word.specs.declared.limits.TheConstants.{FIRST_ADDRESS}
 use Rattle.omi_corefile.specs.Spelling.{spelling}
 use Rattle.omi_corefile.specs.Refusals.{CoreRefused}
 
@@ -25,4 +26,4 @@ count_place c before = start_place c before + 8
 
 -- no segment of any core starts at this address
 abbrev pub NeverStarts : ℕ → Type 0
-NeverStarts n = (n % 8 ≢ 0) ⊎ ((n < first_address) ⊎ (2 ^ 47 ≤ n))
+NeverStarts n = (n % 8 ≢ 0) ⊎ ((n < FIRST_ADDRESS) ⊎ (2 ^ 47 ≤ n))

@@ -1,6 +1,10 @@
-pub mod BadFields
-pub mod Faults
+-- The definitions to believe, in reading order: what a core may hold, its bytes, how a file is read and refused, and the
+-- numbers and names of the faults.
 pub mod Limits
-pub mod Outcomes
-pub mod Refusals
 pub mod Spelling
+pub mod Refusals
+pub mod Faults
+-- What a field that holds a bad value is, for the law on such fields.
+pub mod BadFields
+-- What a reading function of the code answers beside what reading gives.
+pub mod Outcomes

@@ -1,15 +1,9 @@
 -- What a core may hold. Each rule is a test that computes, so that a type can keep it.
 use Rattle.std.specs.Prelude.{ℕ, ◌+◌, ◌*◌, ◌^◌, ◌%◌, Bool, true, ◌&&◌, ◌==◌, nat_lt, nat_le, List, [], ◌∷◌, length, Option, None, Some}
 use Rattle.std.specs.List.{list_all, sum_by}
+use Rattle.omi_word.specs.declared.limits.TheConstants.{FIRST_ADDRESS}
+use Rattle.omi_corefile.specs.declared.limits.TheConstants.{MOST_CONTEXTS, MOST_SEGMENTS, MOST_SEGMENT_WORDS}
 use Rattle.omi_corefile.specs.declared.segment.Segment.{Segment}
-
--- the first address of target memory
-abbrev pub first_address : ℕ
-first_address = 65536
-
--- the most words in all segments of a core together
-abbrev pub most_words : ℕ
-most_words = 1048576
 
 -- each number is above the one before, and the first is at least `least`
 abbrev pub rises_from : ℕ → List ℕ → Bool
@@ -37,13 +31,13 @@ rise_apart_from least (s ∷ ss) = is_start least s.start && nat_lt 0 (length s.
 abbrev pub total_words : List Segment → ℕ
 total_words segments = sum_by (λ s. length s.words) segments
 
--- at most 64 native ids, which rise strictly
+-- few enough native ids, which rise strictly
 abbrev pub are_contexts : List ℕ → Bool
-are_contexts contexts = nat_le (length contexts) 64 && rises_from 0 contexts && are_words contexts
+are_contexts contexts = nat_le (length contexts) MOST_CONTEXTS && rises_from 0 contexts && are_words contexts
 
--- at most 64 segments from the first address on, with at most `most_words` words
+-- few enough segments from the first address on, with few enough words
 abbrev pub are_segments : List Segment → Bool
-are_segments segments = nat_le (length segments) 64 && rise_apart_from first_address segments && nat_le (total_words segments) most_words
+are_segments segments = nat_le (length segments) MOST_SEGMENTS && rise_apart_from FIRST_ADDRESS segments && nat_le (total_words segments) MOST_SEGMENT_WORDS
 
 -- the order, the contexts and the segments of a core
 abbrev pub within_limits : ℕ → List ℕ → List Segment → Bool

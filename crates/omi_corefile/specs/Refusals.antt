@@ -5,7 +5,9 @@ use Rattle.std.specs.Int.{Width, w16, w32, w64, byte_len, from_le_bytes}
 use Rattle.omi_corefile.specs.declared.segment.Segment.{Segment}
 use Rattle.omi_corefile.specs.declared.fault.CoreFault.{CoreFault}
 use Rattle.omi_corefile.specs.declared.fault.CoreFault.TheVariants.{BadMagic, Version, Order, Short, TooLarge, SegmentOrder, BadContext, Trailing}
-use Rattle.omi_corefile.specs.Limits.{first_address, most_words, is_start, end_of}
+use Rattle.omi_corefile.specs.Limits.{is_start, end_of}
+use Rattle.omi_word.specs.declared.limits.TheConstants.{FIRST_ADDRESS}
+use Rattle.omi_corefile.specs.declared.limits.TheConstants.{MOST_CONTEXTS, MOST_SEGMENTS, MOST_SEGMENT_WORDS}
 
 -- a place and what is wrong there
 abbrev pub Refusal : Type 0
@@ -53,13 +55,13 @@ version_at len bytes = judged (λ v. v == 1) (λ v at. Version v) (place len byt
 abbrev pub order_at : ℕ → List ℕ → Step ℕ
 order_at len bytes = judged (λ b. b == 0) (λ b at. Order b) (place len bytes) (byte_at len bytes)
 
--- at most 64 contexts
+-- no more contexts than a core has
 abbrev pub context_count_at : ℕ → List ℕ → Step ℕ
-context_count_at len bytes = judged (λ n. nat_le n 64) (λ n at. BadContext at) (place len bytes) (number_at w16 len bytes)
+context_count_at len bytes = judged (λ n. nat_le n MOST_CONTEXTS) (λ n at. BadContext at) (place len bytes) (number_at w16 len bytes)
 
--- at most 64 segments
+-- no more segments than a core has
 abbrev pub segment_count_at : ℕ → List ℕ → Step ℕ
-segment_count_at len bytes = judged (λ n. nat_le n 64) (λ n at. SegmentOrder at) (place len bytes) (number_at w32 len bytes)
+segment_count_at len bytes = judged (λ n. nat_le n MOST_SEGMENTS) (λ n at. SegmentOrder at) (place len bytes) (number_at w32 len bytes)
 
 -- a native id is at least `least`
 abbrev pub id_at : ℕ → ℕ → List ℕ → Step ℕ
@@ -107,7 +109,7 @@ left_after left s = (end_of s.start (length s.words) + 1, left.1 - length s.word
 
 -- so many segments
 abbrev pub segments_at : ℕ → ℕ → List ℕ → Step (List Segment)
-segments_at len count bytes = row_at (segment_at len) left_after count (first_address, most_words) bytes
+segments_at len count bytes = row_at (segment_at len) left_after count (FIRST_ADDRESS, MOST_SEGMENT_WORDS) bytes
 
 -- what a header says: the order, and how many contexts and segments follow
 pub record Header : Type 0 where

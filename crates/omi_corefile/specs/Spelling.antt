@@ -4,7 +4,7 @@ use Rattle.std.specs.List.{flat_map}
 use Rattle.std.specs.Int.{w16, w32, w64, to_le_bytes}
 use Rattle.omi_corefile.specs.declared.segment.Segment.{Segment}
 use Rattle.omi_corefile.specs.declared.core_image.CoreImage.{CoreImage}
-use Rattle.omi_corefile.specs.Limits.{first_address}
+use Rattle.omi_word.specs.declared.limits.TheConstants.{FIRST_ADDRESS}
 
 -- eight bytes
 abbrev pub number : ℕ → List ℕ
@@ -37,14 +37,14 @@ Core bytes c = bytes ≡ spelling c
 -- the segments of an image: all of its words from the first address on, and none where it has no word
 abbrev pub segments_of : List ℕ → List Segment
 segments_of [] = []
-segments_of (word ∷ words) = record { start = first_address; words = word ∷ words } ∷ []
+segments_of (word ∷ words) = record { start = FIRST_ADDRESS; words = word ∷ words } ∷ []
 
 -- the core of an image that has a word: the header, the native ids, the first address, the number of words, and the words
 abbrev pub core_bytes : List ℕ → List ℕ → List ℕ
-core_bytes contexts words = header 0 (length contexts) 1 ++ numbers contexts ++ number first_address ++ number (length words) ++ numbers words
+core_bytes contexts words = header 0 (length contexts) 1 ++ numbers contexts ++ number FIRST_ADDRESS ++ number (length words) ++ numbers words
 
 -- the core holds an image: it has these contexts, and these words as its one segment, from the first address on
 pub record HoldsImage (contexts words : List ℕ) (c : CoreImage) : Type 0 where
   pub order : c.order ≡ 0
   pub contexts_are : c.contexts ≡ contexts
-  pub segments : c.segments ≡ record { start = first_address; words = words } ∷ []
+  pub segments : c.segments ≡ record { start = FIRST_ADDRESS; words = words } ∷ []

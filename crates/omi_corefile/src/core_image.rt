@@ -1,3 +1,5 @@
+//! What a core holds.
+
 ghost use Rattle.std.specs.Prelude.{IsTrue};
 ghost use Rattle.omi_corefile.specs.Limits.{within_limits};
 

@@ -1,3 +1,5 @@
+//! Reading a core from its bytes.
+
 ghost use Rattle.std.specs.Prelude.{◌≡◌, ◌≤◌, ◌<◌, ◌^◌, ℕ, length, IfOk, IfErr, Ok, Err};
 ghost use Rattle.omi_corefile.specs.Refusals.{words_at, contexts_at, segment_at, segments_at, header_at, reading, CoreRefused};
 ghost use Rattle.omi_corefile.specs.Outcomes.{Gives, UnlessMemory, IsFaultOf};
@@ -8,15 +10,9 @@ ghost use Rattle.omi_corefile.specs.declared.fault.CoreFault.{CoreFault};
 use crate::fault::{CoreError, CoreFault};
 use crate::fields::{magic, number64, place};
 use crate::judging::{context_count, id, order, segment_count, start, version, word_count};
-use crate::{CoreImage, SegList, Segment};
-use omi_word::Natives;
+use crate::{CoreImage, MOST_SEGMENT_WORDS, SegList, Segment};
+use omi_word::{FIRST_ADDRESS, Natives};
 use std::alloc::Global;
-
-/// The first address of target memory.
-const FIRST: u64 = 0x10000;
-
-/// The most words in all segments of a core together.
-const MOST_WORDS: u64 = 1_048_576;
 
 /// What a header says: the order, and how many contexts and segments follow.
 #[derive(Clone, Copy)]
@@ -110,8 +106,8 @@ fn segments(
     ensures { Gives (λ x. (x.0, x.1.now)) result (segments_at len count bytes.now) }
 {
     let mut segments = SegList::new(alloc);
-    let mut least = FIRST;
-    let mut room = MOST_WORDS;
+    let mut least = FIRST_ADDRESS;
+    let mut room = MOST_SEGMENT_WORDS;
     let mut rest = bytes;
     for _ in 0..count {
         let (segment, after) = segment(alloc, len, least, room, rest)?;

@@ -1,10 +1,12 @@
+//! Writing the bytes of a core.
+
 ghost use Rattle.std.specs.Prelude.{◌≡◌, ◌≤◌, ◌<◌, ◌++◌, length, IsTrue, OnOk, IfOk};
 ghost use Rattle.omi_corefile.specs.Limits.{rises_from};
 ghost use Rattle.omi_corefile.specs.Spelling.{Core, spelling, spelling_of, header, numbers, segment_bytes, segments_of, core_bytes, HoldsImage};
 ghost use Rattle.omi_corefile.specs.declared.core_image.CoreImage.{CoreImage};
 ghost use Rattle.std.specs.List.{flat_map};
 
-use crate::{CoreImage, OutOfMemory, SegList, Segment, core_of};
+use crate::{CoreImage, MOST_CONTEXTS, OutOfMemory, SegList, Segment, core_of};
 use omi_word::{Image, Natives};
 use std::alloc::Global;
 
@@ -80,7 +82,7 @@ pub fn core_bytes_of(
     contexts: &Natives,
 ) -> Result<Vec<u8>, OutOfMemory>
     requires rising { IsTrue (rises_from 0 contexts.now) }
-    requires count { length contexts.now ≤ 64 }
+    requires count { length contexts.now ≤ MOST_CONTEXTS }
     ensures spelled { IfOk result (λ bytes. bytes.items ≡ spelling_of 0 contexts.now (segments_of image.now)) }
     ensures value { 0 < length image.now → IfOk result (λ bytes. bytes.items ≡ core_bytes contexts.now image.now) }
     ensures core { 0 < length image.now → IfOk result (λ bytes. (c : CoreImage) × Core bytes.items c × HoldsImage contexts.now image.now c) }

@@ -1,3 +1,5 @@
+//! The faults of core files, with their numbers and names.
+
 ghost use Rattle.std.specs.Prelude.{◌≡◌};
 ghost use Rattle.omi_corefile.specs.Faults.{number_of, text_of};
 ghost use Rattle.omi_corefile.specs.declared.fault.CoreError.TheVariants.{OutOfMemory as memory};

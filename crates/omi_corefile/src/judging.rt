@@ -7,6 +7,7 @@ ghost use Rattle.omi_corefile.specs.Outcomes.{Gives};
 
 use crate::fault::{CoreError, CoreFault};
 use crate::fields::{byte, number16, number32, number64, place};
+use crate::{MOST_CONTEXTS, MOST_SEGMENTS};
 
 /// The version, which is 1.
 pub fn version(len: usize, bytes: &[u8]) -> Result<(u8, &[u8]), CoreError>
@@ -34,26 +35,26 @@ pub fn order(len: usize, bytes: &[u8]) -> Result<(u8, &[u8]), CoreError>
     Ok((order, rest))
 }
 
-/// The number of contexts, at most 64.
+/// The number of contexts, at most `MOST_CONTEXTS`.
 pub fn context_count(len: usize, bytes: &[u8]) -> Result<(u16, &[u8]), CoreError>
     ensures { Gives (λ x. (x.0, x.1.now)) result (context_count_at len bytes.now) }
 {
     let at = place(len, bytes);
     let (count, rest) = number16(len, bytes)?;
-    if count > 64 {
+    if count > MOST_CONTEXTS {
         let why = CoreFault::BadContext(at);
         return Err(CoreError::Fault { at, why });
     }
     Ok((count, rest))
 }
 
-/// The number of segments, at most 64.
+/// The number of segments, at most `MOST_SEGMENTS`.
 pub fn segment_count(len: usize, bytes: &[u8]) -> Result<(u32, &[u8]), CoreError>
     ensures { Gives (λ x. (x.0, x.1.now)) result (segment_count_at len bytes.now) }
 {
     let at = place(len, bytes);
     let (count, rest) = number32(len, bytes)?;
-    if count > 64 {
+    if count > MOST_SEGMENTS {
         let why = CoreFault::SegmentOrder(at);
         return Err(CoreError::Fault { at, why });
     }

@@ -7,7 +7,8 @@ ghost use Rattle.omi_corefile.specs.declared.fault.CoreFault.{CoreFault};
 ghost use Rattle.omi_corefile.specs.Spelling.{Core, spelling, number};
 ghost use Rattle.omi_corefile.specs.Refusals.{AreBytes, CoreRefused, reading};
 ghost use Rattle.omi_corefile.specs.Outcomes.{IsCore, IsRefused};
-ghost use Rattle.omi_corefile.specs.Limits.{most_words, total_words};
+ghost use Rattle.omi_corefile.specs.Limits.{total_words};
+ghost use Rattle.omi_corefile.specs.declared.limits.TheConstants.{MOST_BYTES, MOST_CONTEXTS, MOST_SEGMENTS, MOST_SEGMENT_WORDS};
 ghost use Rattle.omi_corefile.specs.BadFields.{IsFaultAt, id_place, start_place, count_place, NeverStarts};
 ghost use Rattle.omi_corefile.specs.declared.segment.Segment.{Segment};
 
@@ -34,10 +35,10 @@ pub fn fronts_and_tails()
         → CoreRefused (spelling c ++ more) (length (spelling c)) (CoreFault.Trailing (length (spelling c))) }
 {}
 
-/// A core has at most 8,390,160 bytes, so that one byte more of a longer file tells what the file is: the first
-/// 8,390,161 bytes are read as the whole file is, with the same fault at the same place.
+/// A core has at most `MOST_BYTES`, so that one byte more of a longer file tells what the file is: so many bytes are read
+/// as the whole file is, with the same fault at the same place.
 pub fn front_enough()
-    ensures { (bytes : List ℕ) → reading (take 8390161 bytes) ≡ reading bytes }
+    ensures { (bytes : List ℕ) → reading (take (MOST_BYTES + 1) bytes) ≡ reading bytes }
 {}
 
 /// Each field of a core is judged, and judged once it is whole: where a file spells a core up to a field and holds a bad
@@ -49,9 +50,9 @@ pub fn bad_fields()
         → IsFaultAt c 0 name CoreFault.BadMagic }
     ensures version { (c : CoreImage) (v : ℕ) → v ≢ 1 → IsFaultAt c 8 (v ∷ []) (CoreFault.Version v) }
     ensures order { (c : CoreImage) (b : ℕ) → b ≢ 0 → IsFaultAt c 9 (b ∷ []) (CoreFault.Order b) }
-    ensures context_count { (c : CoreImage) (n : ℕ) → 64 < n → n < 2 ^ 16
+    ensures context_count { (c : CoreImage) (n : ℕ) → MOST_CONTEXTS < n → n < 2 ^ 16
         → IsFaultAt c 10 (to_le_bytes w16 n) (CoreFault.BadContext 10) }
-    ensures segment_count { (c : CoreImage) (n : ℕ) → 64 < n → n < 2 ^ 32
+    ensures segment_count { (c : CoreImage) (n : ℕ) → MOST_SEGMENTS < n → n < 2 ^ 32
         → IsFaultAt c 12 (to_le_bytes w32 n) (CoreFault.SegmentOrder 12) }
 
     // A native id that isn't above the one before.
@@ -73,6 +74,6 @@ pub fn bad_fields()
         → c.segments ≡ before ++ s ∷ after
         → let at = count_place c before in IsFaultAt c at (number 0) (CoreFault.SegmentOrder at) }
     ensures too_large { (c : CoreImage) (before after : List Segment) (s : Segment) (n : ℕ)
-        → c.segments ≡ before ++ s ∷ after → n < 2 ^ 64 → most_words < total_words before + n
+        → c.segments ≡ before ++ s ∷ after → n < 2 ^ 64 → MOST_SEGMENT_WORDS < total_words before + n
         → IsFaultAt c (count_place c before) (number n) (CoreFault.TooLarge n) }
 {}

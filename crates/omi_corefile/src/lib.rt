@@ -8,6 +8,7 @@ mod fault;
 mod fields;
 mod judging;
 mod laws;
+mod limits;
 mod making;
 mod segment;
 
@@ -16,6 +17,7 @@ pub use decoding::decode;
 pub use encoding::{core_bytes_of, encode};
 pub use fault::{CoreError, CoreFault};
 pub use laws::{bad_fields, front_enough, fronts_and_tails, one_answer, one_spelling};
+pub use limits::{MOST_BYTES, MOST_CONTEXTS, MOST_SEGMENT_WORDS, MOST_SEGMENTS};
 pub use making::core_of;
 pub use segment::{SegList, Segment};
 

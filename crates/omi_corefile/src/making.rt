@@ -1,23 +1,22 @@
+//! Making a core of the words of an image.
+
 ghost use Rattle.std.specs.Prelude.{◌≡◌, ◌≤◌, length, IsTrue, IfOk};
 ghost use Rattle.omi_corefile.specs.Limits.{rises_from, are_words, are_segments};
 ghost use Rattle.omi_corefile.specs.Spelling.{segments_of};
 
-use crate::{CoreImage, OutOfMemory, SegList, Segment};
-use omi_word::{Image, Natives};
+use crate::{CoreImage, MOST_CONTEXTS, OutOfMemory, SegList, Segment};
+use omi_word::{FIRST_ADDRESS, Image, MOST_WORDS, Natives};
 use std::alloc::Global;
-
-/// The byte address of an image's first word.
-const FIRST: u64 = 0x10000;
 
 /// The words of an image, as a list.
 fn words_of(alloc: Global, image: &Image) -> Result<Natives, OutOfMemory>
     ensures value { IfOk result (λ words. words ≡ image.now) }
     ensures fit { IfOk result (λ words. IsTrue (are_words words)) }
-    ensures few { length image.now ≤ 1048576 }
+    ensures few { length image.now ≤ MOST_WORDS }
 {
     let mut words = Natives::new(alloc);
     for at in 0..image.len() {
-        let word = image.get(FIRST + 8 * at as u64).unwrap();
+        let word = image.get(FIRST_ADDRESS + 8 * at as u64).unwrap();
         words.push(word)?;
     }
     Ok(words)
@@ -44,7 +43,7 @@ fn segments(alloc: Global, image: &Image) -> Result<SegList, OutOfMemory>
     let words = words_of(alloc, image)?;
     let mut segments = SegList::new(alloc);
     if words.len() > 0 {
-        let start = FIRST;
+        let start = FIRST_ADDRESS;
         segments.push(Segment { start, words })?;
     }
     Ok(segments)
@@ -58,7 +57,7 @@ pub fn core_of(
     order: u8,
 ) -> Result<CoreImage, OutOfMemory>
     requires rising { IsTrue (rises_from 0 contexts.now) }
-    requires count { length contexts.now ≤ 64 }
+    requires count { length contexts.now ≤ MOST_CONTEXTS }
     requires little { order ≡ 0 }
     ensures order { IfOk result (λ c. c.order ≡ order) }
     ensures contexts { IfOk result (λ c. c.contexts ≡ contexts.now) }

@@ -1,3 +1,5 @@
+//! A run of words in memory, and the list of them.
+
 ghost use Rattle.std.specs.Prelude.{◌≡◌, ◌<◌, ◌++◌, ◌∷◌, [], length, slice_get, Some, OnOk, OnErr};
 
 use crate::OutOfMemory;

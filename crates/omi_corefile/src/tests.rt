@@ -1,5 +1,7 @@
+//! Worked files: each field at its limits, each fault at its place, and the greatest core.
+
 use super::*;
-use omi_word::{Image, Natives, Op};
+use omi_word::{FIRST_ADDRESS, Image, Natives, Op};
 use std::alloc::{AllocError, Global};
 use std::test::*;
 
@@ -17,7 +19,7 @@ const NOTHING: [u8; 16] = [79, 77, 80, 68, 67, 79, 82, 49, 1, 0, 0, 0, 0, 0, 0, 
 fn three_words(rt: HostRuntime) -> Result<(), Fail> {
     let mut image = Image::zeroed(rt.alloc(), 3)?;
     image.apply(Op::Store {
-        at: 0x10000,
+        at: FIRST_ADDRESS,
         new: 1,
     });
     image.apply(Op::Store {
@@ -57,7 +59,7 @@ fn read_again(rt: HostRuntime) -> Result<(), Fail> {
     assert_eq!(rt; *core.contexts.get(0), 1000);
     assert_eq!(rt; core.segments.len(), 1);
     let segment = core.segments.get(0);
-    assert_eq!(rt; segment.start, 0x10000);
+    assert_eq!(rt; segment.start, FIRST_ADDRESS);
     assert_eq!(rt; segment.words.len(), 3);
     assert_eq!(rt; *segment.words.get(0), 1);
     assert_eq!(rt; *segment.words.get(1), 1 << 63);
@@ -150,17 +152,15 @@ fn file(alloc: Global, contexts: u8, segments: u8, numbers: &[u64]) -> Result<Ve
 
 const MAX: u64 = u64::MAX;
 
-const FIRST: u64 = 0x10000;
-
 const LAST: u64 = (1 << 47) - 8;
 
 /// Files that are cores: the counts of contexts and segments, and the numbers after the header.
 const GOOD: [(u8, u8, &[u64]); 5] = [
     (2, 0, &[5, 6]),
     (2, 0, &[0, MAX]),
-    (0, 1, &[FIRST, 1, 7]),
+    (0, 1, &[FIRST_ADDRESS, 1, 7]),
     (0, 1, &[LAST, 1, 7]),
-    (0, 2, &[FIRST, 1, 7, 0x10010, 1, 8]),
+    (0, 2, &[FIRST_ADDRESS, 1, 7, 0x10010, 1, 8]),
 ];
 
 /// Files with a fault after the header, and the fault's place.
@@ -177,21 +177,21 @@ const BAD: [(u8, u8, &[u64], u64, CoreFault); 21] = [
     (
         0,
         2,
-        &[FIRST, 1, 7, 0x10008, 1, 8],
+        &[FIRST_ADDRESS, 1, 7, 0x10008, 1, 8],
         40,
         CoreFault::SegmentOrder(40),
     ),
     (
         0,
         2,
-        &[FIRST, 1, 7, FIRST, 1, 8],
+        &[FIRST_ADDRESS, 1, 7, FIRST_ADDRESS, 1, 8],
         40,
         CoreFault::SegmentOrder(40),
     ),
     (
         0,
         2,
-        &[FIRST, 2, 7, 7, 0x10010, 1, 8],
+        &[FIRST_ADDRESS, 2, 7, 7, 0x10010, 1, 8],
         48,
         CoreFault::SegmentOrder(48),
     ),
@@ -202,25 +202,31 @@ const BAD: [(u8, u8, &[u64], u64, CoreFault); 21] = [
         40,
         CoreFault::SegmentOrder(40),
     ),
-    (0, 1, &[FIRST, 0], 24, CoreFault::SegmentOrder(24)),
-    (0, 1, &[FIRST, 1048576], 32, CoreFault::Short(32)),
-    (0, 1, &[FIRST, 1048577], 24, CoreFault::TooLarge(1048577)),
-    (0, 1, &[FIRST, MAX], 24, CoreFault::TooLarge(MAX)),
+    (0, 1, &[FIRST_ADDRESS, 0], 24, CoreFault::SegmentOrder(24)),
+    (0, 1, &[FIRST_ADDRESS, 1048576], 32, CoreFault::Short(32)),
+    (
+        0,
+        1,
+        &[FIRST_ADDRESS, 1048577],
+        24,
+        CoreFault::TooLarge(1048577),
+    ),
+    (0, 1, &[FIRST_ADDRESS, MAX], 24, CoreFault::TooLarge(MAX)),
     (
         0,
         2,
-        &[FIRST, 2, 7, 7, 0x20000, 1048574],
+        &[FIRST_ADDRESS, 2, 7, 7, 0x20000, 1048574],
         64,
         CoreFault::Short(64),
     ),
     (
         0,
         2,
-        &[FIRST, 2, 7, 7, 0x20000, 1048575],
+        &[FIRST_ADDRESS, 2, 7, 7, 0x20000, 1048575],
         56,
         CoreFault::TooLarge(1048575),
     ),
-    (0, 1, &[FIRST, 1, 7, 9], 40, CoreFault::Trailing(40)),
+    (0, 1, &[FIRST_ADDRESS, 1, 7, 9], 40, CoreFault::Trailing(40)),
     (0, 0, &[9], 16, CoreFault::Trailing(16)),
 ];
 
@@ -259,7 +265,7 @@ fn most_contexts(rt: HostRuntime) -> Result<(), Fail> {
 fn most_segments(rt: HostRuntime) -> Result<(), Fail> {
     let mut numbers = Vec::new(rt.alloc());
     for at in 0..64u64 {
-        numbers.extend_from_slice(&[0x10000 + 16 * at, 1, at])?;
+        numbers.extend_from_slice(&[FIRST_ADDRESS + 16 * at, 1, at])?;
     }
     let bytes = file(rt.alloc(), 0, 64, &numbers)?;
     let core = decode(rt.alloc(), &bytes)?;
@@ -273,7 +279,7 @@ fn most_segments(rt: HostRuntime) -> Result<(), Fail> {
 #[test]
 fn most_words(rt: HostRuntime) -> Result<(), Fail> {
     let numbers = vec![in rt.alloc(); 9u64; 1048576]?;
-    let mut bytes = file(rt.alloc(), 0, 1, &[0x10000, 1048576])?;
+    let mut bytes = file(rt.alloc(), 0, 1, &[FIRST_ADDRESS, 1048576])?;
     for number in &numbers {
         bytes.extend_from_slice(&number.to_le_bytes())?;
     }

@@ -1,4 +1,5 @@
-// A memory of words, and an operation on one of them.
+//! A memory of words, and an operation on one of them.
+
 ghost use Rattle.std.specs.Prelude.{◌≡◌, ◌≤◌, ◌↔◌, length, replicate, IfOk, IsSome, IfSome};
 ghost use Rattle.omi_word.specs.Memory.{after, address_of, word_at, IsWordOf};
 

@@ -1,4 +1,5 @@
-// A list of words.
+//! A list of words.
+
 ghost use Rattle.std.specs.Prelude.{◌≡◌, ◌<◌, ◌++◌, ◌∷◌, [], length, slice_get, Some, OnOk, OnErr};
 
 use crate::OutOfMemory;

@@ -1,4 +1,5 @@
-// The operations on one word.
+//! The operations on one word.
+
 ghost use Rattle.std.specs.Prelude.{◌≡◌};
 ghost use Rattle.omi_word.specs.Memory.{address_of, left_of};
 

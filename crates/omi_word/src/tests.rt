@@ -1,4 +1,5 @@
-// Examples of operations, and the edges of an image.
+//! Examples of operations, and the edges of an image.
+
 use crate::{Image, Natives, Op};
 use std::test::Fail;
 
