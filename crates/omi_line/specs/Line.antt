@@ -1,5 +1,7 @@
 -- How the words of a command line are split into positional words and the values of options.
-use Rattle.std.specs.Prelude.{ℕ, List, [], ◌∷◌, ◌++◌, Option, Some, None, is_some, option_and_then, if◌then◌else◌}
+use Rattle.std.specs.Prelude.{ℕ, IfSome, List, [], ◌∷◌, ◌++◌, Option, Some, None, is_some, option_and_then, if◌then◌else◌}
+use Rattle.std.specs.List.{All}
+use Rattle.std.specs.Str.{IsUtf8}
 use Rattle.omi_line.specs.Word.{Name, Kind, Seed, Break, Count, Layout, Positional, Rest, Given, Named, Refused, kind_of, begins_with_hyphen}
 use Rattle.omi_line.specs.declared.line.Line.{Line}
 
@@ -46,3 +48,11 @@ split_from (word ∷ rest) None line = split_word (kind_of word) word rest (spli
 -- the line that the words make, where they aren't refused
 abbrev pub split_of : List (List ℕ) → Option Line
 split_of words = split_from words None empty_line
+
+-- each positional word is text, and so is each value that is there
+pub record IsText (line : Line) : Type 0 where
+  pub words : All IsUtf8 line.words
+  pub seed : IfSome line.seed IsUtf8
+  pub on : IfSome line.on IsUtf8
+  pub count : IfSome line.count IsUtf8
+  pub layout : IfSome line.layout IsUtf8

@@ -1,13 +1,13 @@
+//! Splitting the words of a command line.
+
 ghost use Rattle.std.specs.Prelude.{◌≡◌, [], IfOk, IsErrOf, Some, None, codes, false, map};
 ghost use Rattle.std.specs.Prelude.{option_map, string_bytes, unwrap_or};
-ghost use Rattle.std.specs.List.{All};
-ghost use Rattle.std.specs.Str.{IsUtf8};
 ghost use Rattle.clap.specs.Words.{app_of, first_value, found_of, matched_of, raw_values, rule_of};
 ghost use Rattle.clap.specs.Words.{kind_of as error_kind};
 ghost use Rattle.omi_line.specs.declared.line.LineError.TheVariants.{OutOfMemory as NoMemory};
 ghost use Rattle.omi_line.specs.Command.{bare_app, line_app, option_rule, words_rule};
 ghost use Rattle.omi_line.specs.Hyphen.{gives_hyphen, is_named};
-ghost use Rattle.omi_line.specs.Line.{split_of};
+ghost use Rattle.omi_line.specs.Line.{IsText, split_of};
 ghost use Rattle.omi_line.specs.LineError.{line_error_of};
 ghost use Rattle.omi_line.specs.Word.{kind_of};
 
@@ -163,8 +163,8 @@ fn words_of(alloc: Global, matches: &ArgMatches<'_>) -> Result<TextList, OutOfMe
 /// `--seed=5` or `--seed 5`. After the first `--` all words are positional.
 pub fn split(alloc: Global, words: &Vec<String>) -> Result<Line, LineError>
     ensures line { IfOk result (λ line. split_of (map string_bytes words.now.items) ≡ Some line) }
-    // A positional word is text, as the words are.
-    ensures text { IfOk result (λ line. All IsUtf8 line.words) }
+    // Positional words and values are text, as the words are.
+    ensures text { IfOk result (λ line. IsText line) }
     ensures usage { IsErrOf result LineError.Usage → split_of (map string_bytes words.now.items) ≡ None }
 {
     if has_hyphen_value(words) {

@@ -1,3 +1,5 @@
+//! Worked command lines, at each rule.
+
 use super::*;
 use std::alloc::Global;
 use std::fmt::Write;

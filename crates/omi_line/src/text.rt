@@ -1,3 +1,5 @@
+//! A text, and a list of texts, that contracts see as lists.
+
 ghost use Rattle.std.specs.Prelude.{◌≡◌, ◌<◌, ◌++◌, ◌∷◌, [], length, slice_get, Some, IfOk, OnOk, OnErr};
 
 use crate::OutOfMemory;
