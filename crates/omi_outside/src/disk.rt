@@ -140,6 +140,7 @@ impl<R: Print + Drop> StdSink<R> {
     pub fn new(rt: R) -> StdSink<R>
         ensures told { ⟦<StdSink<R> as Sink>⟧.told result ≡ None }
         ensures faults { ⟦<StdSink<R> as Sink>⟧.faults result ≡ 0 }
+        ensures wants { ⟦<StdSink<R> as Sink>⟧.wants result ≡ 0 }
     {
         StdSink { rt, faults: 0 }
     }
@@ -149,6 +150,8 @@ impl<R: Print + Drop> Sink for StdSink<R> {
     ghost told = { λ _. None };
 
     ghost faults = { λ sink. sink.faults };
+
+    ghost wants = { λ _. 0 };
 
     fn put(&mut self, bytes: &[u8]) -> Result<(), Refused> {
         match self.rt.write_all(bytes) {

@@ -1,13 +1,14 @@
-use Rattle.std.proofs.Common.{◌+◌, arith}
+use Rattle.std.proofs.Common.{rules, ◌+◌, arith}
 use Rattle.omi_outside.proofs.Held.{put_more, put_none}
 use Rattle.omi_outside.proofs.sink.put_whole.Goals as goal
 
 pub loop-at-init : goal.loop-at-init
-loop-at-init g c = record { so_far = put_none _; later = omega arith; within = omega arith }
+loop-at-init g c = record { so_far = put_none _; faults = search rules; wants = search rules; within = omega arith }
 
 pub loop-at-preserved : goal.loop-at-preserved
 loop-at-preserved g c = record {
   so_far = put_more _ _ _ c.args.bytes.now c.loop-at.at (c.loop-at.at + c.min.result) (omega arith) c.loop-at.invariant.so_far c.in_ok-put.ensures.added;
-  later = omega arith;
+  faults = search rules;
+  wants = search rules;
   within = omega arith;
 }

@@ -5,7 +5,8 @@ use Rattle.omi_outside.proofs.sink.put_whole.Given as goal
 abbrev pub invariant-loop-at : goal.invariant-loop-at
 invariant-loop-at g l = record {
   so_far : g.K.Sink.told l.out ≡ put_on (g.K.Sink.told l.fn.out) (take l.at l.bytes);
-  later : g.K.Sink.faults l.fn.out ≤ g.K.Sink.faults l.out;
+  faults : g.K.Sink.faults l.out ≡ g.K.Sink.faults l.fn.out;
+  wants : g.K.Sink.wants l.out ≡ g.K.Sink.wants l.fn.out;
   within : l.at ≤ length l.bytes;
 }
 
