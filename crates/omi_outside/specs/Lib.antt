@@ -1,3 +1,4 @@
+pub mod Failing
 pub mod Memory
 pub mod Outside
 pub mod Status

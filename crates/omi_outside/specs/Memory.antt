@@ -4,6 +4,8 @@ use Rattle.std.specs.Option.{option_map}
 use Rattle.std.specs.declared.alloc.Global.{Global}
 use Rattle.std.specs.BTreeMap.{BTreeMap, get_by_text}
 use Rattle.omi_outside.specs.Outside.{Told}
+use Rattle.omi_outside.specs.declared.memory.MemFiles.{MemFiles}
+use Rattle.omi_outside.specs.declared.sink.MemSink.{MemSink}
 
 -- names, each with the bytes under it
 abbrev pub Held : Type 0
@@ -16,3 +18,23 @@ content_of held name = option_map (λ bytes. bytes.items) (get_by_text held name
 -- what is told of a name
 abbrev pub told_by : Held → List ℕ → Told
 told_by held name = Some (content_of held name)
+
+-- what a form in memory tells of its names, and how often its reads and its writes have failed
+abbrev pub told_of : MemFiles → List ℕ → Told
+told_of files = told_by files.held
+
+abbrev pub read_faults : MemFiles → ℕ
+read_faults files = files.reads
+
+abbrev pub write_faults : MemFiles → ℕ
+write_faults files = files.writes
+
+-- the same of a sink in memory, with its puts that were refused for want of memory
+abbrev pub put_bytes : MemSink → Option (List ℕ)
+put_bytes sink = Some sink.bytes.items
+
+abbrev pub put_faults : MemSink → ℕ
+put_faults sink = sink.faults
+
+abbrev pub put_wants : MemSink → ℕ
+put_wants sink = sink.wants

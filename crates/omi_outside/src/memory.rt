@@ -1,7 +1,10 @@
-ghost use Rattle.std.specs.Prelude.{◌≡◌, ◌≢◌, ◌+◌, ◌<◌, ◌≤◌, List, ℕ, length, take, drop, OnOk, OnErr, Some, None};
+ghost use Rattle.std.specs.Prelude.{◌≡◌, ◌≢◌, ◌+◌, ◌<◌, ◌≤◌, List, ℕ, ◌↔◌, length, take, drop, IsTrue, IfOk, OnOk, OnErr, IsErr, IsErrOf, [], Option, Some, None};
+ghost use Rattle.std.specs.List.{Contains};
 ghost use Rattle.std.specs.Option.{option_map};
-ghost use Rattle.omi_outside.specs.Outside.{content_len, extended};
-ghost use Rattle.omi_outside.specs.Memory.{content_of, told_by};
+ghost use Rattle.omi_outside.specs.Outside.{content_len, holding, extended, HasCause};
+ghost use Rattle.omi_outside.specs.Failing.{calls_made, failing_calls, IsCalled, IsNotCalled, IsToFail};
+ghost use Rattle.omi_outside.specs.Memory.{content_of, told_by, told_of, read_faults, write_faults};
+ghost use Rattle.omi_outside.specs.declared.memory.Call.{Call};
 
 use crate::{Failed, Files, OutOfMemory, Refused};
 use std::alloc::Global;
@@ -43,6 +46,8 @@ impl MemFiles {
         ensures told { (name : List ℕ) → ⟦<MemFiles as Files>⟧.told result name ≡ Some None }
         ensures reads { ⟦<MemFiles as Files>⟧.reads result ≡ 0 }
         ensures writes { ⟦<MemFiles as Files>⟧.writes result ≡ 0 }
+        ensures none_made { (call : Call) → calls_made result call ≡ 0 }
+        ensures list { failing_calls result ≡ failing.items }
     {
         MemFiles {
             alloc,
@@ -66,6 +71,7 @@ impl MemFiles {
         ensures refused { OnErr result (⟦<MemFiles as Files>⟧.told self.new ≡ ⟦<MemFiles as Files>⟧.told self.old) }
         ensures reads { ⟦<MemFiles as Files>⟧.reads self.new ≡ ⟦<MemFiles as Files>⟧.reads self.old }
         ensures writes { ⟦<MemFiles as Files>⟧.writes self.new ≡ ⟦<MemFiles as Files>⟧.writes self.old }
+        ensures no_call { IsNotCalled self.old self.new }
     {
         hold(self.alloc, &mut self.held, name, bytes)
     }
@@ -82,7 +88,9 @@ impl MemFiles {
 }
 
 /// Whether the call of this kind and number is to fail.
-fn is_failing(failing: &[(Call, u64)], call: Call, number: u64) -> bool {
+fn is_failing(failing: &[(Call, u64)], call: Call, number: u64) -> bool
+    ensures { IsTrue result ↔ Contains failing.now (call, number) }
+{
     failing.contains(&(call, number))
 }
 
@@ -150,13 +158,24 @@ fn extend(
 }
 
 impl Files for MemFiles {
-    ghost told = { λ files. told_by files.held };
+    ghost told = { told_of };
 
-    ghost reads = { λ files. files.reads };
+    ghost reads = { read_faults };
 
-    ghost writes = { λ files. files.writes };
+    ghost writes = { write_faults };
 
-    fn size(&mut self, name: &str) -> Result<Option<u64>, Refused> {
+    fn size(&mut self, name: &str) -> Result<Option<u64>, Refused>
+        // It fails exactly where it was told to.
+        ensures called { IsCalled Call.Size self.old self.new }
+        ensures fails { IsErrOf result Refused.Failed ↔ IsToFail Call.Size self.new }
+
+        // What each form says.
+        ensures length { (content : Option (List ℕ)) → told_of self.old name.now ≡ Some content
+            → IfOk result (λ size. size ≡ option_map length content) }
+        ensures same { told_of self.new ≡ told_of self.old }
+        ensures cause { HasCause (read_faults self.old) (read_faults self.new) (IsErrOf result Refused.Failed) }
+        ensures writes { write_faults self.new ≡ write_faults self.old }
+    {
         self.made.size = self.made.size.saturating_add(1);
         if is_failing(&self.failing, Call::Size, self.made.size) {
             self.reads = self.reads.saturating_add(1);
@@ -165,7 +184,23 @@ impl Files for MemFiles {
         Ok(size_of_file(&self.held, name))
     }
 
-    fn read_at(&mut self, name: &str, at: u64, to: &mut [u8]) -> Result<usize, Failed> {
+    fn read_at(&mut self, name: &str, at: u64, to: &mut [u8]) -> Result<usize, Failed>
+        requires room { 0 < length to.old }
+        requires within { (content : Option (List ℕ)) → told_of self.old name.now ≡ Some content
+            → at < content_len content }
+        // It fails exactly where it was told to.
+        ensures called { IsCalled Call.ReadAt self.old self.new }
+        ensures fails { IsErr result ↔ IsToFail Call.ReadAt self.new }
+
+        // What each form says.
+        ensures count { IfOk result (λ count. (0 < count) × (count ≤ length to.new)) }
+        ensures bytes { (bytes : List ℕ) → told_of self.old name.now ≡ Some (Some bytes)
+            → IfOk result (λ count.
+            (at + count ≤ length bytes) × (take count to.new ≡ take count (drop at bytes))) }
+        ensures same { told_of self.new ≡ told_of self.old }
+        ensures cause { HasCause (read_faults self.old) (read_faults self.new) (IsErr result) }
+        ensures writes { write_faults self.new ≡ write_faults self.old }
+    {
         self.made.read_at = self.made.read_at.saturating_add(1);
         if is_failing(&self.failing, Call::ReadAt, self.made.read_at) {
             self.reads = self.reads.saturating_add(1);
@@ -174,7 +209,18 @@ impl Files for MemFiles {
         Ok(read_file(&self.held, name, at, to))
     }
 
-    fn create(&mut self, name: &str) -> Result<(), Refused> {
+    fn create(&mut self, name: &str) -> Result<(), Refused>
+        // It fails exactly where it was told to.
+        ensures called { IsCalled Call.Create self.old self.new }
+        ensures fails { IsErrOf result Refused.Failed ↔ IsToFail Call.Create self.new }
+
+        // What each form says.
+        ensures made { OnOk result (told_of self.new name.now ≡ holding (told_of self.old name.now) []) }
+        ensures refused { OnErr result (told_of self.new ≡ told_of self.old) }
+        ensures others { (other : List ℕ) → other ≢ name.now → told_of self.new other ≡ told_of self.old other }
+        ensures cause { HasCause (write_faults self.old) (write_faults self.new) (IsErrOf result Refused.Failed) }
+        ensures reads { read_faults self.new ≡ read_faults self.old }
+    {
         self.made.create = self.made.create.saturating_add(1);
         if is_failing(&self.failing, Call::Create, self.made.create) {
             self.writes = self.writes.saturating_add(1);
@@ -183,7 +229,18 @@ impl Files for MemFiles {
         Ok(hold(self.alloc, &mut self.held, name, &[])?)
     }
 
-    fn append(&mut self, name: &str, bytes: &[u8]) -> Result<(), Refused> {
+    fn append(&mut self, name: &str, bytes: &[u8]) -> Result<(), Refused>
+        // It fails exactly where it was told to.
+        ensures called { IsCalled Call.Append self.old self.new }
+        ensures fails { IsErrOf result Refused.Failed ↔ IsToFail Call.Append self.new }
+
+        // What each form says.
+        ensures added { OnOk result (told_of self.new name.now ≡ extended (told_of self.old name.now) bytes.now) }
+        ensures refused { OnErr result (told_of self.new ≡ told_of self.old) }
+        ensures others { (other : List ℕ) → other ≢ name.now → told_of self.new other ≡ told_of self.old other }
+        ensures cause { HasCause (write_faults self.old) (write_faults self.new) (IsErrOf result Refused.Failed) }
+        ensures reads { read_faults self.new ≡ read_faults self.old }
+    {
         self.made.append = self.made.append.saturating_add(1);
         if is_failing(&self.failing, Call::Append, self.made.append) {
             self.writes = self.writes.saturating_add(1);

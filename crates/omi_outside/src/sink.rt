@@ -1,4 +1,6 @@
-ghost use Rattle.std.specs.Prelude.{◌≡◌, List, ℕ, ◌≤◌, ◌++◌, [], take, OnOk, OnErr, IfErr, IsErr, IsErrOf, Option, Some};
+ghost use Rattle.std.specs.Prelude.{◌≡◌, ◌↔◌, List, ℕ, ◌≤◌, ◌++◌, [], take, OnOk, OnErr, IfErr, IsErr, IsErrOf, Option, Some};
+ghost use Rattle.omi_outside.specs.Failing.{puts_made, failing_puts, IsPut, IsPutToFail};
+ghost use Rattle.omi_outside.specs.Memory.{put_bytes, put_faults, put_wants};
 ghost use Rattle.omi_outside.specs.Outside.{put_on, HasCause, IsPartlyPut};
 
 use crate::Refused;
@@ -46,6 +48,8 @@ impl MemSink {
         ensures told { ⟦<MemSink as Sink>⟧.told result ≡ Some [] }
         ensures faults { ⟦<MemSink as Sink>⟧.faults result ≡ 0 }
         ensures wants { ⟦<MemSink as Sink>⟧.wants result ≡ 0 }
+        ensures none_made { puts_made result ≡ 0 }
+        ensures list { failing_puts result ≡ failing.items }
     {
         MemSink {
             bytes: Vec::new(alloc),
@@ -82,13 +86,27 @@ fn add(held: &mut Vec<u8>, wants: &mut u64, bytes: &[u8]) -> Result<(), Refused>
 }
 
 impl Sink for MemSink {
-    ghost told = { λ sink. Some sink.bytes.items };
+    ghost told = { put_bytes };
 
-    ghost faults = { λ sink. sink.faults };
+    ghost faults = { put_faults };
 
-    ghost wants = { λ sink. sink.wants };
+    ghost wants = { put_wants };
 
-    fn put(&mut self, bytes: &[u8]) -> Result<(), Refused> {
+    fn put(&mut self, bytes: &[u8]) -> Result<(), Refused>
+        // It fails exactly where it was told to.
+        ensures put { IsPut self.old self.new }
+        ensures fails { IsErrOf result Refused.Failed ↔ IsPutToFail self.new }
+
+        // What each form says.
+        ensures added { OnOk result (put_bytes self.new ≡ put_on (put_bytes self.old) bytes.now) }
+        ensures refused { OnErr result (put_bytes self.new ≡ put_bytes self.old) }
+        ensures cause { HasCause (put_faults self.old) (put_faults self.new) (IsErrOf result Refused.Failed) }
+        ensures want { HasCause (put_wants self.old) (put_wants self.new) (IsErrOf result Refused.OutOfMemory) }
+        ensures ok_faults { OnOk result (put_faults self.new ≡ put_faults self.old) }
+        ensures ok_wants { OnOk result (put_wants self.new ≡ put_wants self.old) }
+        ensures failed_wants { IsErrOf result Refused.Failed → put_wants self.new ≡ put_wants self.old }
+        ensures want_faults { IsErrOf result Refused.OutOfMemory → put_faults self.new ≡ put_faults self.old }
+    {
         self.made = self.made.saturating_add(1);
         if self.failing.contains(&self.made) {
             self.faults = self.faults.saturating_add(1);
