@@ -1,9 +1,10 @@
 -- What is told of a name while a file is written in pieces.
-use Rattle.std.proofs.Common.{◌≡◌, ℕ, ◌+◌, ◌-◌, ◌≤◌, List, ◌++◌, Option, Some, None, length, min, take, drop, refl, sym, ◌∙◌, ap, take-add, append_assoc, [], take_all, arith}
+use Rattle.std.proofs.Common.{◌≡◌, ℕ, ◌*◌, ◌<◌, ◌+◌, ◌-◌, ◌≤◌, List, ◌++◌, Option, Some, None, length, min, take, drop, refl, sym, ◌∙◌, ap, take-add, append_assoc, [], take_all, arith}
 use Rattle.std.specs.Option.{option_map}
 use Rattle.std.proofs.lemmas.Grind.{common_steps}
 use Rattle.std.proofs.lemmas.List.{take-append-le, append-nil}
 use Rattle.omi_outside.specs.Outside.{Told, holding, extended, put_on}
+use Rattle.omi_outside.specs.declared.limits.TheConstants.{PIECE}
 
 pub extended-holding : (told : Told) (front more : List ℕ) → extended (holding told front) more ≡ holding told (front ++ more)
 extended-holding None front more = refl
@@ -54,3 +55,8 @@ put_more before now after bytes at end within so_far added =
     added ∙ ap (λ told. put_on told (take (end - at) (drop at bytes))) so_far
     ∙ put_on-put_on before (take at bytes) (take (end - at) (drop at bytes))
     ∙ ap (put_on before) (sym (take-add at (end - at) bytes) ∙ ap (λ (n : ℕ). take n bytes) is_end)
+
+-- one piece more
+pub next_piece : (len at end : ℕ) → at < len → (count : ℕ) × (at ≡ min len (count * PIECE))
+    → end ≡ min (len - at) PIECE → (count : ℕ) × (at + end ≡ min len (count * PIECE))
+next_piece len at end inside (count, is) is_end = (count + 1, omega (arith, inside, is, is_end))

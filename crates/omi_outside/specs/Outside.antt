@@ -1,5 +1,6 @@
 -- What the outside tells of its bytes, what a call changes of that, and when a call may fail.
-use Rattle.std.specs.Prelude.{◌≡◌, ◌⊎◌, ℕ, ◌+◌, ◌-◌, ◌^◌, ◌≤◌, min, List, ◌++◌, length, take, Option, Some, None}
+use Rattle.std.specs.Prelude.{◌≡◌, ◌⊎◌, ℕ, ◌+◌, ◌-◌, ◌^◌, ◌*◌, ◌<◌, ◌≤◌, min, List, ◌++◌, length, take, Option, Some, None}
+use Rattle.omi_outside.specs.declared.limits.TheConstants.{PIECE}
 
 -- What is told of one name: nothing (None), that there is no such file (Some None), or its bytes.
 abbrev pub Told : Type 0
@@ -21,18 +22,33 @@ extended None bytes = None
 extended (Some None) bytes = Some (Some bytes)
 extended (Some (Some old)) bytes = Some (Some (old ++ bytes))
 
--- The file is as before, or holds a prefix of these bytes.
+-- The first pieces of some bytes. Each piece has 4,096 bytes, but the last may be shorter.
+abbrev pub pieces : ℕ → List ℕ → List ℕ
+pieces count bytes = take (count * PIECE) bytes
+
+-- The file is as before, or holds the first pieces of these bytes.
 abbrev pub IsPartly : Told → Told → List ℕ → Type 0
-IsPartly old new bytes = (new ≡ old) ⊎ ((n : ℕ) × (new ≡ holding old (take n bytes)))
+IsPartly old new bytes = (new ≡ old) ⊎ ((count : ℕ) × (new ≡ holding old (pieces count bytes)))
+
+-- The file is as before, or holds whole pieces of these bytes, and not all of the bytes.
+abbrev pub IsCut : Told → Told → List ℕ → Type 0
+IsCut old new bytes =
+    (new ≡ old)
+    ⊎ ((count : ℕ) × (count * PIECE < length bytes) × (new ≡ holding old (pieces count bytes)))
 
 -- What a sink tells once these bytes were put. An untold sink stays untold.
 abbrev pub put_on : Option (List ℕ) → List ℕ → Option (List ℕ)
 put_on None bytes = None
 put_on (Some old) bytes = Some (old ++ bytes)
 
--- A prefix of these bytes was put. Where nothing was, it is the one of length 0.
+-- The first pieces of these bytes were put. Where nothing was, they are no pieces.
 abbrev pub IsPartlyPut : List ℕ → Option (List ℕ) → Option (List ℕ) → Type 0
-IsPartlyPut bytes old new = (n : ℕ) × (new ≡ put_on old (take n bytes))
+IsPartlyPut bytes old new = (count : ℕ) × (new ≡ put_on old (pieces count bytes))
+
+-- Whole pieces of these bytes were put, and not all of the bytes.
+abbrev pub IsPutCut : List ℕ → Option (List ℕ) → Option (List ℕ) → Type 0
+IsPutCut bytes old new =
+    (count : ℕ) × (count * PIECE < length bytes) × (new ≡ put_on old (pieces count bytes))
 
 -- A count of faults rose, or stands at the greatest number of 64 bits.
 abbrev pub Rose : ℕ → ℕ → Type 0

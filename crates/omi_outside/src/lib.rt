@@ -5,6 +5,7 @@
 mod disk;
 mod files;
 mod gate;
+mod limits;
 mod memory;
 mod sink;
 mod status;
@@ -13,6 +14,7 @@ mod whole;
 pub use disk::{DiskFiles, StdSink};
 pub use files::{Failed, Files, Refused};
 pub use gate::{FreeGate, Gate};
+pub use limits::PIECE;
 pub use memory::{Call, MemFiles, NeverFiles};
 pub use sink::{MemSink, NeverSink, Sink, put_whole};
 pub use status::Status;

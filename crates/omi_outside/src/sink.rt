@@ -1,10 +1,9 @@
 ghost use Rattle.std.specs.Prelude.{◌≡◌, ◌↔◌, List, ℕ, ◌≤◌, ◌++◌, [], take, OnOk, OnErr, IfErr, IsErr, IsErrOf, Option, Some};
 ghost use Rattle.omi_outside.specs.Failing.{puts_made, failing_puts, IsPut, IsPutToFail};
 ghost use Rattle.omi_outside.specs.Memory.{put_bytes, put_faults, put_wants};
-ghost use Rattle.omi_outside.specs.Outside.{put_on, HasCause, IsPartlyPut};
+ghost use Rattle.omi_outside.specs.Outside.{put_on, HasCause, IsPartlyPut, IsPutCut};
 
-use crate::Refused;
-use crate::whole::PIECE;
+use crate::{PIECE, Refused};
 use std::alloc::Global;
 
 /// Where a program prints. An implementation may leave the bytes untold.
@@ -160,6 +159,7 @@ impl Sink for NeverSink {
 pub fn put_whole<K: Sink>(out: &mut K, bytes: &[u8]) -> Result<(), Refused>
     ensures put { OnOk result (K.told out.new ≡ put_on (K.told out.old) bytes.now) }
     ensures partly { IsPartlyPut bytes.now (K.told out.old) (K.told out.new) }
+    ensures cut { OnErr result (IsPutCut bytes.now (K.told out.old) (K.told out.new)) }
 
     // Each refusal is counted, and a count rises by its own refusals alone.
     ensures cause { HasCause (K.faults out.old) (K.faults out.new) (IsErrOf result Refused.Failed) }

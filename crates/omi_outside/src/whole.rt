@@ -1,14 +1,11 @@
-ghost use Rattle.std.specs.Prelude.{◌≡◌, ◌≢◌, ◌<◌, ◌≤◌, List, ℕ, length, take, IfOk, OnOk, IsErrOf, Option, Some, None, vec_len};
-ghost use Rattle.omi_outside.specs.Outside.{holding, HasCause, IsPartly};
+ghost use Rattle.std.specs.Prelude.{◌≡◌, ◌≢◌, ◌<◌, ◌≤◌, List, ℕ, length, take, IfOk, OnOk, OnErr, IsErrOf, Option, Some, None, vec_len};
+ghost use Rattle.omi_outside.specs.Outside.{holding, HasCause, IsPartly, IsCut};
 ghost use Rattle.omi_outside.specs.declared.files.Refused.{Refused};
 ghost use Rattle.omi_outside.specs.declared.whole.ReadError.TheVariants.{OutOfMemory as NoMemory, Failed as ReadFailed};
 ghost use Rattle.omi_outside.specs.Whole.{read_error_of};
 
-use crate::{Failed, Files, Refused};
+use crate::{Failed, Files, PIECE, Refused};
 use std::alloc::{AllocError, Global};
-
-/// The greatest number of bytes that are asked for or handed over at a time.
-pub const PIECE: usize = 4096;
 
 /// Why a file wasn't read whole.
 #[derive(Clone, Copy, Debug, PartialEq, Eq)]
@@ -85,6 +82,7 @@ pub fn read_whole<F: Files>(
 pub fn write_whole<F: Files>(files: &mut F, name: &str, bytes: &[u8]) -> Result<(), Refused>
     ensures written { OnOk result (F.told files.new name.now ≡ holding (F.told files.old name.now) bytes.now) }
     ensures partly { IsPartly (F.told files.old name.now) (F.told files.new name.now) bytes.now }
+    ensures cut { OnErr result (IsCut (F.told files.old name.now) (F.told files.new name.now) bytes.now) }
     ensures others { (other : List ℕ) → other ≢ name.now → F.told files.new other ≡ F.told files.old other }
     ensures cause { HasCause (F.writes files.old) (F.writes files.new) (IsErrOf result Refused.Failed) }
     ensures reads { F.reads files.new ≡ F.reads files.old }

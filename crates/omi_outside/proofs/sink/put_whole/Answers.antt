@@ -1,9 +1,9 @@
 use Rattle.std.proofs.Common.{rules, ◌+◌, arith}
-use Rattle.omi_outside.proofs.Held.{put_more, put_none}
+use Rattle.omi_outside.proofs.Held.{put_more, put_none, next_piece}
 use Rattle.omi_outside.proofs.sink.put_whole.Goals as goal
 
 pub loop-at-init : goal.loop-at-init
-loop-at-init g c = record { so_far = put_none _; faults = search rules; wants = search rules; within = omega arith }
+loop-at-init g c = record { so_far = put_none _; faults = search rules; wants = search rules; within = omega arith; pieces = (0, omega arith) }
 
 pub loop-at-preserved : goal.loop-at-preserved
 loop-at-preserved g c = record {
@@ -11,4 +11,5 @@ loop-at-preserved g c = record {
   faults = search rules;
   wants = search rules;
   within = omega arith;
+  pieces = next_piece _ _ _ (omega arith) c.loop-at.invariant.pieces c.min.ensures;
 }

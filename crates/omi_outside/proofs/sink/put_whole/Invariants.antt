@@ -1,4 +1,5 @@
-use Rattle.std.proofs.Common.{length, ◌-◌, ◌≡◌, ◌≤◌, take}
+use Rattle.std.proofs.Common.{length, min, ◌*◌, ℕ, ◌-◌, ◌≡◌, ◌≤◌, take}
+use Rattle.omi_outside.specs.declared.limits.TheConstants.{PIECE}
 use Rattle.omi_outside.specs.Outside.{put_on}
 use Rattle.omi_outside.proofs.sink.put_whole.Given as goal
 
@@ -8,6 +9,7 @@ invariant-loop-at g l = record {
   faults : g.K.Sink.faults l.out ≡ g.K.Sink.faults l.fn.out;
   wants : g.K.Sink.wants l.out ≡ g.K.Sink.wants l.fn.out;
   within : l.at ≤ length l.bytes;
+  pieces : (count : ℕ) × (l.at ≡ min (length l.bytes) (count * PIECE));
 }
 
 abbrev pub decreases-loop-at : goal.decreases-loop-at

@@ -1,5 +1,5 @@
 use Rattle.std.proofs.Common.{rules, ◌+◌, arith}
-use Rattle.omi_outside.proofs.Held.{held_more}
+use Rattle.omi_outside.proofs.Held.{held_more, next_piece}
 use Rattle.omi_outside.proofs.whole.write_whole.Goals as goal
 
 pub loop-at-preserved : goal.loop-at-preserved
@@ -9,4 +9,5 @@ loop-at-preserved g c = record {
   later = omega arith;
   reads = search rules;
   within = omega arith;
+  pieces = next_piece _ _ _ (omega arith) c.loop-at.invariant.pieces c.min.ensures;
 }

@@ -1,4 +1,5 @@
-use Rattle.std.proofs.Common.{length, ◌-◌, ◌≡◌, ◌≢◌, ◌≤◌, List, ℕ, take}
+use Rattle.std.proofs.Common.{length, min, ◌*◌, ℕ, ◌-◌, ◌≡◌, ◌≢◌, ◌≤◌, List, take}
+use Rattle.omi_outside.specs.declared.limits.TheConstants.{PIECE}
 use Rattle.omi_outside.specs.Outside.{holding}
 use Rattle.omi_outside.proofs.whole.write_whole.Given as goal
 
@@ -9,6 +10,7 @@ invariant-loop-at g l = record {
   later : g.F.Files.writes l.fn.files ≤ g.F.Files.writes l.files;
   reads : g.F.Files.reads l.files ≡ g.F.Files.reads l.fn.files;
   within : l.at ≤ length l.bytes;
+  pieces : (count : ℕ) × (l.at ≡ min (length l.bytes) (count * PIECE));
 }
 
 abbrev pub decreases-loop-at : goal.decreases-loop-at
