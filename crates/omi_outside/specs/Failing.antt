@@ -1,10 +1,10 @@
 -- Which calls of the forms in memory fail: those that a list has, by the number of the call among the calls of its kind.
 use Rattle.std.specs.Prelude.{◌≡◌, ◌≢◌, ℕ, ◌+◌, ◌-◌, ◌^◌, min, List}
 use Rattle.std.specs.List.{Contains}
-use Rattle.omi_outside.specs.declared.memory.Call.{Call}
-use Rattle.omi_outside.specs.declared.memory.Call.TheVariants.{Size, ReadAt, Create, Append}
-use Rattle.omi_outside.specs.declared.memory.MemFiles.{MemFiles}
-use Rattle.omi_outside.specs.declared.sink.MemSink.{MemSink}
+use Rattle.omi_outside.specs.declared.memory_files.Call.{Call}
+use Rattle.omi_outside.specs.declared.memory_files.Call.TheVariants.{Size, ReadAt, Create, Append}
+use Rattle.omi_outside.specs.declared.memory_files.MemFiles.{MemFiles}
+use Rattle.omi_outside.specs.declared.memory_sink.MemSink.{MemSink}
 
 -- The number of the next call. It stays at the greatest number of 64 bits.
 abbrev pub next_number : ℕ → ℕ

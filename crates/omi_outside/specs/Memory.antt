@@ -4,8 +4,8 @@ use Rattle.std.specs.Option.{option_map}
 use Rattle.std.specs.declared.alloc.Global.{Global}
 use Rattle.std.specs.BTreeMap.{BTreeMap, get_by_text}
 use Rattle.omi_outside.specs.Outside.{Told}
-use Rattle.omi_outside.specs.declared.memory.MemFiles.{MemFiles}
-use Rattle.omi_outside.specs.declared.sink.MemSink.{MemSink}
+use Rattle.omi_outside.specs.declared.memory_files.MemFiles.{MemFiles}
+use Rattle.omi_outside.specs.declared.memory_sink.MemSink.{MemSink}
 
 -- names, each with the bytes under it
 abbrev pub Held : Type 0

@@ -1,3 +1,4 @@
+// Named files, and what each call of them changes.
 ghost use Rattle.std.specs.Prelude.{◌≡◌, ◌≢◌, ◌+◌, ◌<◌, ◌≤◌, List, ℕ, length, take, drop, IfOk, OnOk, OnErr, IsErr, IsErrOf, Option, Some, []};
 ghost use Rattle.std.specs.Option.{option_map};
 ghost use Rattle.omi_outside.specs.Outside.{Told, content_len, holding, extended, HasCause};

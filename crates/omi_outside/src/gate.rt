@@ -1,3 +1,4 @@
+// Where a test holds a worker.
 /// A test's hold on a worker.
 pub trait Gate: Sync {
     /// Called before step number `step` of thread number `thread`. It always returns.

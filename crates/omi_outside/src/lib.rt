@@ -1,24 +1,31 @@
-//! The outside of a program: named files and a sink, what they tell of their bytes, and a count of
+//! The outside of a program: named files and a sink, what they tell of their bytes, and counts of
 //! their faults.
 #![tactic(auto)]
 
+mod contents;
 mod disk;
 mod files;
 mod gate;
 mod limits;
-mod memory;
+mod memory_files;
+mod memory_sink;
+mod never;
+mod output;
 mod sink;
 mod status;
 mod whole;
 
-pub use disk::{DiskFiles, StdSink};
+pub use disk::DiskFiles;
 pub use files::{Failed, Files, Refused};
 pub use gate::{FreeGate, Gate};
 pub use limits::PIECE;
-pub use memory::{Call, MemFiles, NeverFiles};
-pub use sink::{MemSink, NeverSink, Sink, put_whole};
+pub use memory_files::{Call, MemFiles};
+pub use memory_sink::MemSink;
+pub use never::{NeverFiles, NeverSink};
+pub use output::StdSink;
+pub use sink::Sink;
 pub use status::Status;
-pub use whole::{ReadError, read_whole, write_whole};
+pub use whole::{ReadError, put_whole, read_whole, write_whole};
 
 /// Memory ran out.
 pub type OutOfMemory = std::alloc::AllocError;

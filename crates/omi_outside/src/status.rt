@@ -1,3 +1,4 @@
+// What a program ends with.
 ghost use Rattle.std.specs.Prelude.{◌≡◌};
 ghost use Rattle.omi_outside.specs.Status.{code_of};
 

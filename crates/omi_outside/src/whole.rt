@@ -1,10 +1,11 @@
+// Whole files and whole texts, piece by piece.
 ghost use Rattle.std.specs.Prelude.{◌≡◌, ◌≢◌, ◌<◌, ◌≤◌, List, ℕ, length, take, IfOk, OnOk, OnErr, IsErrOf, Option, Some, None, vec_len};
-ghost use Rattle.omi_outside.specs.Outside.{holding, HasCause, IsPartly, IsCut};
+ghost use Rattle.omi_outside.specs.Outside.{holding, put_on, HasCause, IsPartly, IsCut, IsPartlyPut, IsPutCut};
 ghost use Rattle.omi_outside.specs.declared.files.Refused.{Refused};
 ghost use Rattle.omi_outside.specs.declared.whole.ReadError.TheVariants.{OutOfMemory as NoMemory, Failed as ReadFailed};
 ghost use Rattle.omi_outside.specs.Whole.{read_error_of};
 
-use crate::{Failed, Files, PIECE, Refused};
+use crate::{Failed, Files, PIECE, Refused, Sink};
 use std::alloc::{AllocError, Global};
 
 /// Why a file wasn't read whole.
@@ -92,6 +93,29 @@ pub fn write_whole<F: Files>(files: &mut F, name: &str, bytes: &[u8]) -> Result<
     while at < bytes.len() {
         let end = at + (bytes.len() - at).min(PIECE);
         files.append(name, &bytes[at..end])?;
+        at = end;
+    }
+    Ok(())
+}
+
+/// Puts the bytes in pieces of 4,096, of which the last may be shorter.
+pub fn put_whole<K: Sink>(out: &mut K, bytes: &[u8]) -> Result<(), Refused>
+    ensures put { OnOk result (K.told out.new ≡ put_on (K.told out.old) bytes.now) }
+    ensures partly { IsPartlyPut bytes.now (K.told out.old) (K.told out.new) }
+    ensures cut { OnErr result (IsPutCut bytes.now (K.told out.old) (K.told out.new)) }
+
+    // Each refusal is counted, and a count rises by its own refusals alone.
+    ensures cause { HasCause (K.faults out.old) (K.faults out.new) (IsErrOf result Refused.Failed) }
+    ensures want { HasCause (K.wants out.old) (K.wants out.new) (IsErrOf result Refused.OutOfMemory) }
+    ensures ok_faults { OnOk result (K.faults out.new ≡ K.faults out.old) }
+    ensures ok_wants { OnOk result (K.wants out.new ≡ K.wants out.old) }
+    ensures failed_wants { IsErrOf result Refused.Failed → K.wants out.new ≡ K.wants out.old }
+    ensures want_faults { IsErrOf result Refused.OutOfMemory → K.faults out.new ≡ K.faults out.old }
+{
+    let mut at = 0;
+    while at < bytes.len() {
+        let end = at + (bytes.len() - at).min(PIECE);
+        out.put(&bytes[at..end])?;
         at = end;
     }
     Ok(())

@@ -1,5 +1,5 @@
 use Rattle.std.proofs.Common.{rules, ◌≡◌, List, ℕ, arith, ap, ◌∙◌, Some, Option, sym}
-use Rattle.omi_outside.proofs.Held.{read_all, read_more}
+use Rattle.omi_outside.proofs.Pieces.{read_all, read_more}
 use Rattle.omi_outside.proofs.whole.read_whole.Goals as goal
 
 pub loop-at-preserved : goal.loop-at-preserved

@@ -1,5 +1,5 @@
 use Rattle.std.proofs.Common.{rules, ◌+◌, arith}
-use Rattle.omi_outside.proofs.Held.{held_more, next_piece}
+use Rattle.omi_outside.proofs.Pieces.{held_more, next_piece}
 use Rattle.omi_outside.proofs.whole.write_whole.Goals as goal
 
 pub loop-at-preserved : goal.loop-at-preserved

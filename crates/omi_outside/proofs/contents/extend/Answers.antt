@@ -2,7 +2,7 @@ use Rattle.std.proofs.Common.{arith, ◌≡◌, List, ℕ}
 use Rattle.std.proofs.lemmas.Map.Text.{text_keys}
 use Rattle.omi_outside.specs.Memory.{told_by}
 use Rattle.omi_outside.proofs.Refusals.{on_err}
-use Rattle.omi_outside.proofs.memory.extend.Goals as goal
+use Rattle.omi_outside.proofs.contents.extend.Goals as goal
 
 pub returns-in-Some-clause-others : goal.returns-in-Some-clause-others
 returns-in-Some-clause-others c = λ other ne. grind (arith, text_keys)

@@ -1,7 +1,7 @@
 use Rattle.std.proofs.Common.{length, min, ◌*◌, ℕ, ◌-◌, ◌≡◌, ◌≤◌, take}
 use Rattle.omi_outside.specs.declared.limits.TheConstants.{PIECE}
 use Rattle.omi_outside.specs.Outside.{put_on}
-use Rattle.omi_outside.proofs.sink.put_whole.Given as goal
+use Rattle.omi_outside.proofs.whole.put_whole.Given as goal
 
 abbrev pub invariant-loop-at : goal.invariant-loop-at
 invariant-loop-at g l = record {

@@ -1,11 +1,13 @@
+// Files in memory which fail at the calls that a list has.
 ghost use Rattle.std.specs.Prelude.{◌≡◌, ◌≢◌, ◌+◌, ◌<◌, ◌≤◌, List, ℕ, ◌↔◌, length, take, drop, IsTrue, IfOk, OnOk, OnErr, IsErr, IsErrOf, [], Option, Some, None};
 ghost use Rattle.std.specs.List.{Contains};
 ghost use Rattle.std.specs.Option.{option_map};
 ghost use Rattle.omi_outside.specs.Outside.{content_len, holding, extended, HasCause};
 ghost use Rattle.omi_outside.specs.Failing.{calls_made, failing_calls, IsCalled, IsNotCalled, IsToFail};
-ghost use Rattle.omi_outside.specs.Memory.{content_of, told_by, told_of, read_faults, write_faults};
-ghost use Rattle.omi_outside.specs.declared.memory.Call.{Call};
+ghost use Rattle.omi_outside.specs.Memory.{told_of, read_faults, write_faults};
+ghost use Rattle.omi_outside.specs.declared.memory_files.Call.{Call};
 
+use crate::contents::{extend, hold, read_file, size_of_file};
 use crate::{Failed, Files, OutOfMemory, Refused};
 use std::alloc::Global;
 use std::collections::BTreeMap;
@@ -92,69 +94,6 @@ fn is_failing(failing: &[(Call, u64)], call: Call, number: u64) -> bool
     ensures { IsTrue result ↔ Contains failing.now (call, number) }
 {
     failing.contains(&(call, number))
-}
-
-/// The length of a file.
-fn size_of_file(held: &BTreeMap<String, Vec<u8>>, name: &str) -> Option<u64>
-    ensures { result ≡ option_map length (content_of held.now name.now) }
-{
-    match held.get(name) {
-        Some(bytes) => Some(bytes.len() as u64),
-        None => None,
-    }
-}
-
-/// Fills a front of `to` from a file that is there.
-fn read_file(held: &BTreeMap<String, Vec<u8>>, name: &str, at: u64, to: &mut [u8]) -> usize
-    requires room { 0 < length to.old }
-    requires within { at < content_len (content_of held.now name.now) }
-    ensures count { (0 < result) × (result ≤ length to.new) }
-    ensures bytes { (bytes : List ℕ) → content_of held.now name.now ≡ Some bytes
-        → (at + result ≤ length bytes) × (take result to.new ≡ take result (drop at bytes)) }
-{
-    match held.get(name) {
-        Some(bytes) => {
-            let at = at as usize;
-            let count = to.len().min(bytes.len() - at);
-            to[..count].copy_from_slice(&bytes[at..at + count]);
-            count
-        }
-        None => unreachable!(),
-    }
-}
-
-/// Makes the name hold these bytes.
-fn hold(
-    alloc: Global,
-    held: &mut BTreeMap<String, Vec<u8>>,
-    name: &str,
-    bytes: &[u8],
-) -> Result<(), OutOfMemory>
-    ensures made { OnOk result (told_by held.new name.now ≡ Some (Some bytes.now)) }
-    ensures others { (other : List ℕ) → other ≢ name.now → told_by held.new other ≡ told_by held.old other }
-    ensures refused { OnErr result (told_by held.new ≡ told_by held.old) }
-{
-    let name = String::from_str(alloc, name)?;
-    let bytes = bytes.to_vec(alloc)?;
-    held.insert(name, bytes)?;
-    Ok(())
-}
-
-/// Adds bytes at the end of a file.
-fn extend(
-    alloc: Global,
-    held: &mut BTreeMap<String, Vec<u8>>,
-    name: &str,
-    bytes: &[u8],
-) -> Result<(), OutOfMemory>
-    ensures added { OnOk result (told_by held.new name.now ≡ extended (told_by held.old name.now) bytes.now) }
-    ensures others { (other : List ℕ) → other ≢ name.now → told_by held.new other ≡ told_by held.old other }
-    ensures refused { OnErr result (told_by held.new ≡ told_by held.old) }
-{
-    match held.get_mut(name) {
-        Some(file) => file.extend_from_slice(bytes),
-        None => hold(alloc, held, name, bytes),
-    }
 }
 
 impl Files for MemFiles {
@@ -246,68 +185,6 @@ impl Files for MemFiles {
             self.writes = self.writes.saturating_add(1);
             return Err(Refused::Failed);
         }
-        Ok(extend(self.alloc, &mut self.held, name, bytes)?)
-    }
-}
-
-/// Files in memory without faults: both counts are always 0.
-#[derive(Drop)]
-pub struct NeverFiles {
-    alloc: Global,
-    held: BTreeMap<String, Vec<u8>>,
-}
-
-impl NeverFiles {
-    /// No files.
-    pub fn new(alloc: Global) -> NeverFiles
-        ensures { (name : List ℕ) → ⟦<NeverFiles as Files>⟧.told result name ≡ Some None }
-    {
-        NeverFiles {
-            alloc,
-            held: BTreeMap::new(alloc),
-        }
-    }
-
-    /// Makes a name hold these bytes.
-    pub fn put(&mut self, name: &str, bytes: &[u8]) -> Result<(), OutOfMemory>
-        ensures put { OnOk result (⟦<NeverFiles as Files>⟧.told self.new name.now ≡ Some (Some bytes.now)) }
-        ensures others { (other : List ℕ) → other ≢ name.now → ⟦<NeverFiles as Files>⟧.told self.new other ≡ ⟦<NeverFiles as Files>⟧.told self.old other }
-        ensures refused { OnErr result (⟦<NeverFiles as Files>⟧.told self.new ≡ ⟦<NeverFiles as Files>⟧.told self.old) }
-    {
-        hold(self.alloc, &mut self.held, name, bytes)
-    }
-
-    /// The bytes of a name, where there is such a file.
-    pub fn bytes(&self, name: &str) -> Option<&[u8]>
-        ensures { Some (option_map (λ bytes. bytes.now) result) ≡ ⟦<NeverFiles as Files>⟧.told self.now name.now }
-    {
-        match self.held.get(name) {
-            Some(bytes) => Some(bytes.as_slice()),
-            None => None,
-        }
-    }
-}
-
-impl Files for NeverFiles {
-    ghost told = { λ files. told_by files.held };
-
-    ghost reads = { λ _. 0 };
-
-    ghost writes = { λ _. 0 };
-
-    fn size(&mut self, name: &str) -> Result<Option<u64>, Refused> {
-        Ok(size_of_file(&self.held, name))
-    }
-
-    fn read_at(&mut self, name: &str, at: u64, to: &mut [u8]) -> Result<usize, Failed> {
-        Ok(read_file(&self.held, name, at, to))
-    }
-
-    fn create(&mut self, name: &str) -> Result<(), Refused> {
-        Ok(hold(self.alloc, &mut self.held, name, &[])?)
-    }
-
-    fn append(&mut self, name: &str, bytes: &[u8]) -> Result<(), Refused> {
         Ok(extend(self.alloc, &mut self.held, name, bytes)?)
     }
 }

@@ -1,6 +1,6 @@
 use Rattle.std.proofs.Common.{rules, ◌+◌, arith}
-use Rattle.omi_outside.proofs.Held.{put_more, put_none, next_piece}
-use Rattle.omi_outside.proofs.sink.put_whole.Goals as goal
+use Rattle.omi_outside.proofs.Pieces.{put_more, put_none, next_piece}
+use Rattle.omi_outside.proofs.whole.put_whole.Goals as goal
 
 pub loop-at-init : goal.loop-at-init
 loop-at-init g c = record { so_far = put_none _; faults = search rules; wants = search rules; within = omega arith; pieces = (0, omega arith) }

@@ -1,6 +1,6 @@
 use Rattle.std.proofs.Common.{arith}
 use Rattle.std.proofs.lemmas.Map.Text.{text_keys}
-use Rattle.omi_outside.proofs.memory.hold.Goals as goal
+use Rattle.omi_outside.proofs.contents.hold.Goals as goal
 
 pub returns-clause-others : goal.returns-clause-others
 returns-clause-others c = λ other ne. grind (arith, text_keys)
