@@ -67,47 +67,47 @@ abbrev pub IsPrinting : Status → Type 0
 IsPrinting s = (s ≡ status.Success) ⊎ ((s ≡ status.WriteFault) ⊎ (s ≡ status.OutOfMemory))
 
 -- after a text and an end of its printing
-pub ok_left : (name : List ℕ) (P : Answer → Type 0) (text : Vec ℕ) (old new : Told) (s : Status) (out after : Option (List ℕ))
+pub ok_left : (name : List ℕ) (P : Answer → Type 0) (text : Vec ℕ) (old new : Told) (s : Status) (counted : Type 0) (out after : Option (List ℕ))
     → IsAnswered P (Ok text) old new → IsPrinting s → (s ≡ status.Success → after ≡ put_on out text.items) → IsPartlyPut text.items out after
-    → IsLeft name P s old new out after
-ok_left name P text old new s out after (core, is, held) (inl e) put partly =
-    subst (λ (x : Status). IsLeft name P x old new out after) (sym e) (core, text.items, is, held, put e)
-ok_left name P text old new s out after (core, is, held) (inr (inl e)) put partly =
-    subst (λ (x : Status). IsLeft name P x old new out after) (sym e) (core, text.items, is, inr (held, partly))
-ok_left name P text old new s out after (core, is, held) (inr (inr e)) put partly =
-    subst (λ (x : Status). IsLeft name P x old new out after) (sym e) (inr (core, text.items, is, inr (held, partly)))
+    → IsLeft name P s old new counted out after
+ok_left name P text old new s counted out after (core, is, held) (inl e) put partly =
+    subst (λ (x : Status). IsLeft name P x old new counted out after) (sym e) (core, text.items, is, held, put e)
+ok_left name P text old new s counted out after (core, is, held) (inr (inl e)) put partly =
+    subst (λ (x : Status). IsLeft name P x old new counted out after) (sym e) (core, text.items, is, inr (held, partly))
+ok_left name P text old new s counted out after (core, is, held) (inr (inr e)) put partly =
+    subst (λ (x : Status). IsLeft name P x old new counted out after) (sym e) (inr (core, text.items, is, inr (held, partly)))
 
 -- after a refusal
-pub err_left : (name : List ℕ) (command : Command) (content : Option (List ℕ)) (r : Refusal) (old new : Told) (out after : Option (List ℕ))
-    → IsAnswered (IsAnswer command content) (Err r) old new → IsSaid (line_of name r) out after → IsLeft name (IsAnswer command content) (status_of r) old new out after
-err_left name command content refusal.Usage old new out after (inl (is, same)) said = (refusal.Usage, refl, is, same, said)
-err_left name command content refusal.Usage old new out after (inr (inl (early, same))) said = absurd early
-err_left name command content refusal.Usage old new out after (inr (inr (late, core, text, is, partly))) said = absurd late
-err_left name command content refusal.NoFile old new out after (inl (is, same)) said = (refusal.NoFile, refl, is, same, said)
-err_left name command content refusal.NoFile old new out after (inr (inl (early, same))) said = absurd early
-err_left name command content refusal.NoFile old new out after (inr (inr (late, core, text, is, partly))) said = absurd late
-err_left name command content (refusal.Script f) old new out after (inl (is, same)) said = (refusal.Script f, refl, is, same, said)
-err_left name command content (refusal.Script f) old new out after (inr (inl (early, same))) said = absurd early
-err_left name command content (refusal.Script f) old new out after (inr (inr (late, core, text, is, partly))) said = absurd late
-err_left name command content (refusal.Core at why) old new out after (inl (is, same)) said = (refusal.Core at why, refl, is, same, said)
-err_left name command content (refusal.Core at why) old new out after (inr (inl (early, same))) said = absurd early
-err_left name command content (refusal.Core at why) old new out after (inr (inr (late, core, text, is, partly))) said = absurd late
-err_left name command content refusal.NotBuilt old new out after (inl (is, same)) said = (refusal.NotBuilt, refl, is, same, said)
-err_left name command content refusal.NotBuilt old new out after (inr (inl (early, same))) said = absurd early
-err_left name command content refusal.NotBuilt old new out after (inr (inr (late, core, text, is, partly))) said = absurd late
-err_left name command content refusal.ReadFault old new out after (inl (is, same)) said = (same, said)
-err_left name command content refusal.ReadFault old new out after (inr (inl (early, same))) said = (same, said)
-err_left name command content refusal.ReadFault old new out after (inr (inr (late, core, text, is, partly))) said = absurd late
-err_left name command content refusal.WriteFault old new out after (inl (is, same)) said = absurd (proper command content refusal.WriteFault tt is)
-err_left name command content refusal.WriteFault old new out after (inr (inl (early, same))) said = absurd early
-err_left name command content refusal.WriteFault old new out after (inr (inr (late, core, text, is, partly))) said = (core, text, is, inl (partly, said))
-err_left name command content refusal.OutOfMemory old new out after (inl (is, same)) said = inl (same, said)
-err_left name command content refusal.OutOfMemory old new out after (inr (inl (early, same))) said = inl (same, said)
-err_left name command content refusal.OutOfMemory old new out after (inr (inr (late, core, text, is, partly))) said = inr (core, text, is, inl (partly, said))
+pub err_left : (name : List ℕ) (command : Command) (content : Option (List ℕ)) (r : Refusal) (old new : Told) (counted : Type 0) (out after : Option (List ℕ))
+    → IsAnswered (IsAnswer command content) (Err r) old new → IsSaid (line_of name r) counted out after → IsLeft name (IsAnswer command content) (status_of r) old new counted out after
+err_left name command content refusal.Usage old new counted out after (inl (is, same)) said = (refusal.Usage, refl, is, same, said)
+err_left name command content refusal.Usage old new counted out after (inr (inl (early, same))) said = absurd early
+err_left name command content refusal.Usage old new counted out after (inr (inr (late, core, text, is, partly))) said = absurd late
+err_left name command content refusal.NoFile old new counted out after (inl (is, same)) said = (refusal.NoFile, refl, is, same, said)
+err_left name command content refusal.NoFile old new counted out after (inr (inl (early, same))) said = absurd early
+err_left name command content refusal.NoFile old new counted out after (inr (inr (late, core, text, is, partly))) said = absurd late
+err_left name command content (refusal.Script f) old new counted out after (inl (is, same)) said = (refusal.Script f, refl, is, same, said)
+err_left name command content (refusal.Script f) old new counted out after (inr (inl (early, same))) said = absurd early
+err_left name command content (refusal.Script f) old new counted out after (inr (inr (late, core, text, is, partly))) said = absurd late
+err_left name command content (refusal.Core at why) old new counted out after (inl (is, same)) said = (refusal.Core at why, refl, is, same, said)
+err_left name command content (refusal.Core at why) old new counted out after (inr (inl (early, same))) said = absurd early
+err_left name command content (refusal.Core at why) old new counted out after (inr (inr (late, core, text, is, partly))) said = absurd late
+err_left name command content refusal.NotBuilt old new counted out after (inl (is, same)) said = (refusal.NotBuilt, refl, is, same, said)
+err_left name command content refusal.NotBuilt old new counted out after (inr (inl (early, same))) said = absurd early
+err_left name command content refusal.NotBuilt old new counted out after (inr (inr (late, core, text, is, partly))) said = absurd late
+err_left name command content refusal.ReadFault old new counted out after (inl (is, same)) said = (same, said)
+err_left name command content refusal.ReadFault old new counted out after (inr (inl (early, same))) said = (same, said)
+err_left name command content refusal.ReadFault old new counted out after (inr (inr (late, core, text, is, partly))) said = absurd late
+err_left name command content refusal.WriteFault old new counted out after (inl (is, same)) said = absurd (proper command content refusal.WriteFault tt is)
+err_left name command content refusal.WriteFault old new counted out after (inr (inl (early, same))) said = absurd early
+err_left name command content refusal.WriteFault old new counted out after (inr (inr (late, core, text, is, partly))) said = (core, text, is, inl (partly, said))
+err_left name command content refusal.OutOfMemory old new counted out after (inl (is, same)) said = inl (same, said)
+err_left name command content refusal.OutOfMemory old new counted out after (inr (inl (early, same))) said = inl (same, said)
+err_left name command content refusal.OutOfMemory old new counted out after (inr (inr (late, core, text, is, partly))) said = inr (core, text, is, inl (partly, said))
 
 -- What a request leaves is what its command leaves.
-pub left_by : (asked command : Command) (content : Option (List ℕ)) (s : Status) (files old new : List ℕ → Told) (out after : Option (List ℕ)) → asked ≡ command → files (read_name command) ≡ Some content
-    → ((c : Option (List ℕ)) → files (read_name asked) ≡ Some c → IsLeft (read_name asked) (IsAnswer asked c) s (old (written_name asked)) (new (written_name asked)) out after)
-    → IsLeft (read_name command) (IsAnswer command content) s (old (written_name command)) (new (written_name command)) out after
-left_by asked command content s files old new out after is told left =
-    subst (λ (k : Command). files (read_name k) ≡ Some content → IsLeft (read_name k) (IsAnswer k content) s (old (written_name k)) (new (written_name k)) out after) is (left content) told
+pub left_by : (asked command : Command) (content : Option (List ℕ)) (s : Status) (files old new : List ℕ → Told) (counted : Type 0) (out after : Option (List ℕ)) → asked ≡ command → files (read_name command) ≡ Some content
+    → ((c : Option (List ℕ)) → files (read_name asked) ≡ Some c → IsLeft (read_name asked) (IsAnswer asked c) s (old (written_name asked)) (new (written_name asked)) counted out after)
+    → IsLeft (read_name command) (IsAnswer command content) s (old (written_name command)) (new (written_name command)) counted out after
+left_by asked command content s files old new counted out after is told left =
+    subst (λ (k : Command). files (read_name k) ≡ Some content → IsLeft (read_name k) (IsAnswer k content) s (old (written_name k)) (new (written_name k)) counted out after) is (left content) told

@@ -34,10 +34,10 @@ plain_answered : (bytes words : List ℕ) (r : Refusal) → IsPlainCore bytes wo
 plain_answered bytes words r plain (inl (at, why, refused, same)) = plain_not_refused bytes words plain (at, why, refused)
 plain_answered bytes words r plain (inr (other, same)) = plain_not_other bytes words plain other
 
-module _ (name : List ℕ) (old new : Told) (out after : Option (List ℕ)) where
+module _ (name : List ℕ) (old new : Told) (counted : Type 0) (out after : Option (List ℕ)) where
   -- there is no file exactly where the status says so
-  pub no_file : (s : Status) (content : Option (List ℕ)) → IsLeft name (IsShowAnswer content) s old new out after → ComesWhere status.NoFile s (content ≡ None)
-  no_file s content = comes_where name (IsShowAnswer content) old new out after status.NoFile s (content ≡ None) (λ no. no) (λ no. no) (says content) (all content) (none content)
+  pub no_file : (s : Status) (content : Option (List ℕ)) → IsLeft name (IsShowAnswer content) s old new counted out after → ComesWhere status.NoFile s (content ≡ None)
+  no_file s content = comes_where name (IsShowAnswer content) old new counted out after status.NoFile s (content ≡ None) (λ no. no) (λ no. no) (says content) (all content) (none content)
     where
       says : (c : Option (List ℕ)) → RefusesWith (IsShowAnswer c) status.NoFile → c ≡ None
       says None refuses = refl
@@ -53,8 +53,8 @@ module _ (name : List ℕ) (old new : Told) (out after : Option (List ℕ)) wher
       none (Some bytes) missing gives = absurd (cc)
 
   -- the grammar of core files refuses exactly where the status says so
-  pub core : (s : Status) (bytes : List ℕ) → IsLeft name (IsShowAnswer (Some bytes)) s old new out after → ComesWhere status.Core s (HasFault bytes)
-  core s bytes = comes_where name (IsShowAnswer (Some bytes)) old new out after status.Core s (HasFault bytes) (λ no. no) (λ no. no) says all none
+  pub core : (s : Status) (bytes : List ℕ) → IsLeft name (IsShowAnswer (Some bytes)) s old new counted out after → ComesWhere status.Core s (HasFault bytes)
+  core s bytes = comes_where name (IsShowAnswer (Some bytes)) old new counted out after status.Core s (HasFault bytes) (λ no. no) (λ no. no) says all none
     where
       says : RefusesWith (IsShowAnswer (Some bytes)) status.Core → HasFault bytes
       says (r, is, inl (at, why, refused, same)) = (at, why, refused)
@@ -69,8 +69,8 @@ module _ (name : List ℕ) (old new : Told) (out after : Option (List ℕ)) wher
       none fault (Some written, text, is) = is
 
   -- it is a core that is not plain exactly where the status says so
-  pub other_core : (s : Status) (bytes : List ℕ) → IsLeft name (IsShowAnswer (Some bytes)) s old new out after → ComesWhere status.NotBuilt s (IsOtherCore bytes)
-  other_core s bytes = comes_where name (IsShowAnswer (Some bytes)) old new out after status.NotBuilt s (IsOtherCore bytes) (λ no. no) (λ no. no) says all none
+  pub other_core : (s : Status) (bytes : List ℕ) → IsLeft name (IsShowAnswer (Some bytes)) s old new counted out after → ComesWhere status.NotBuilt s (IsOtherCore bytes)
+  other_core s bytes = comes_where name (IsShowAnswer (Some bytes)) old new counted out after status.NotBuilt s (IsOtherCore bytes) (λ no. no) (λ no. no) says all none
     where
       says : RefusesWith (IsShowAnswer (Some bytes)) status.NotBuilt → IsOtherCore bytes
       says (r, is, inl (at, why, refused, same)) = let wrong : status.Core ≡ status.NotBuilt = ap status_of (sym same) ∙ is in absurd (cc)
@@ -85,17 +85,17 @@ module _ (name : List ℕ) (old new : Told) (out after : Option (List ℕ)) wher
       none other (Some written, text, is) = is
 
   -- what success puts
-  pub report_put : (s : Status) (bytes : List ℕ) → s ≡ status.Success → IsLeft name (IsShowAnswer (Some bytes)) s old new out after
+  pub report_put : (s : Status) (bytes : List ℕ) → s ≡ status.Success → IsLeft name (IsShowAnswer (Some bytes)) s old new counted out after
       → (words : List ℕ) × IsPlainCore bytes words × (after ≡ put_on out (report (look_view words))) × ((state : State) → Shows words state → IsViewOf state (1000 ∷ []) (look_view words))
-  report_put s bytes is left = go (subst (λ (x : Status). IsLeft name (IsShowAnswer (Some bytes)) x old new out after) is left)
+  report_put s bytes is left = go (subst (λ (x : Status). IsLeft name (IsShowAnswer (Some bytes)) x old new counted out after) is left)
     where
-      go : IsLeft name (IsShowAnswer (Some bytes)) status.Success old new out after
+      go : IsLeft name (IsShowAnswer (Some bytes)) status.Success old new counted out after
           → (words : List ℕ) × IsPlainCore bytes words × (after ≡ put_on out (report (look_view words))) × ((state : State) → Shows words state → IsViewOf state (1000 ∷ []) (look_view words))
       go (None, text, (words, plain, same), held, put) = (words, plain, put ∙ ap (λ (t : List ℕ). put_on out t) same, λ state shown. looked words state shown plain.plain.plain)
       go (Some core, text, is, held, put) = absurd is
 
   -- what is put of the core that a run left
-  pub shown_again : (s : Status) (bytes : List ℕ) (p : Program) (budget : ℕ) (text : List ℕ) (run : IsStopped p budget bytes text) → IsLeft name (IsShowAnswer (Some bytes)) s old new out after → IsShownAgain run.state s out after
+  pub shown_again : (s : Status) (bytes : List ℕ) (p : Program) (budget : ℕ) (text : List ℕ) (run : IsStopped p budget bytes text) → IsLeft name (IsShowAnswer (Some bytes)) s old new counted out after → IsShownAgain run.state s out after
   shown_again status.Success bytes p budget text run left =
       let (words, plain, put, view) = report_put status.Success bytes refl left in
       let same : run.words ≡ words = one_plain bytes run.words words run.plain plain in

@@ -27,10 +27,10 @@ same_small p q same small = record {
   statements = subst (λ (funcs : List Func). IsTrue (list_all is_small_function funcs)) same.funcs small.statements;
 }
 
-module _ (name : List ℕ) (budget : ℕ) (old new : Told) (out after : Option (List ℕ)) where
+module _ (name : List ℕ) (budget : ℕ) (old new : Told) (counted : Type 0) (out after : Option (List ℕ)) where
   -- there is no file exactly where the status says so
-  pub no_file : (s : Status) (content : Option (List ℕ)) → IsLeft name (IsStopAnswer budget content) s old new out after → ComesWhere status.NoFile s (content ≡ None)
-  no_file s content = comes_where name (IsStopAnswer budget content) old new out after status.NoFile s (content ≡ None) (λ no. no) (λ no. no) (says content) (all content) (none content)
+  pub no_file : (s : Status) (content : Option (List ℕ)) → IsLeft name (IsStopAnswer budget content) s old new counted out after → ComesWhere status.NoFile s (content ≡ None)
+  no_file s content = comes_where name (IsStopAnswer budget content) old new counted out after status.NoFile s (content ≡ None) (λ no. no) (λ no. no) (says content) (all content) (none content)
     where
       says : (c : Option (List ℕ)) → RefusesWith (IsStopAnswer budget c) status.NoFile → c ≡ None
       says None refuses = refl
@@ -46,8 +46,8 @@ module _ (name : List ℕ) (budget : ℕ) (old new : Told) (out after : Option (
       none (Some bytes) missing gives = absurd (cc)
 
   -- the grammar refuses exactly where the status says so
-  pub script : (s : Status) (bytes : List ℕ) → IsLeft name (IsStopAnswer budget (Some bytes)) s old new out after → ComesWhere status.Script s (HasFault bytes)
-  script s bytes = comes_where name (IsStopAnswer budget (Some bytes)) old new out after status.Script s (HasFault bytes) (λ no. no) (λ no. no) says all none
+  pub script : (s : Status) (bytes : List ℕ) → IsLeft name (IsStopAnswer budget (Some bytes)) s old new counted out after → ComesWhere status.Script s (HasFault bytes)
+  script s bytes = comes_where name (IsStopAnswer budget (Some bytes)) old new counted out after status.Script s (HasFault bytes) (λ no. no) (λ no. no) says all none
     where
       says : RefusesWith (IsStopAnswer budget (Some bytes)) status.Script → HasFault bytes
       says (r, is, inl (fault, why, same)) = (fault, why)
@@ -62,8 +62,8 @@ module _ (name : List ℕ) (budget : ℕ) (old new : Told) (out after : Option (
       none (fault, why) (Some core, text, (p, grammar, small, stopped)) = not_both bytes p fault grammar why
 
   -- it is another program exactly where the status says so
-  pub other_program : (s : Status) (bytes : List ℕ) → IsLeft name (IsStopAnswer budget (Some bytes)) s old new out after → ComesWhere status.NotBuilt s (IsOtherProgram bytes)
-  other_program s bytes = comes_where name (IsStopAnswer budget (Some bytes)) old new out after status.NotBuilt s (IsOtherProgram bytes) (λ no. no) (λ no. no) says all none
+  pub other_program : (s : Status) (bytes : List ℕ) → IsLeft name (IsStopAnswer budget (Some bytes)) s old new counted out after → ComesWhere status.NotBuilt s (IsOtherProgram bytes)
+  other_program s bytes = comes_where name (IsStopAnswer budget (Some bytes)) old new counted out after status.NotBuilt s (IsOtherProgram bytes) (λ no. no) (λ no. no) says all none
     where
       says : RefusesWith (IsStopAnswer budget (Some bytes)) status.NotBuilt → IsOtherProgram bytes
       says (r, is, inl (fault, why, same)) = let wrong : status.Script ≡ status.NotBuilt = ap status_of (sym same) ∙ is in absurd (cc)
@@ -78,11 +78,11 @@ module _ (name : List ℕ) (budget : ℕ) (old new : Told) (out after : Option (
       none other (Some core, text, (p, grammar, small, stopped)) = other.other (same_small p other.program (AreEqual-from_workload bytes p other.program grammar other.says) small)
 
   -- what success leaves
-  pub success : (s : Status) (bytes : List ℕ) → s ≡ status.Success → IsLeft name (IsStopAnswer budget (Some bytes)) s old new out after
+  pub success : (s : Status) (bytes : List ℕ) → s ≡ status.Success → IsLeft name (IsStopAnswer budget (Some bytes)) s old new counted out after
       → (p : Program) × (core : List ℕ) × (text : List ℕ) × Grammar bytes p × IsSmall p × IsStopped p budget core text × (new ≡ holding old core) × (after ≡ put_on out text)
-  success s bytes is left = go (subst (λ (x : Status). IsLeft name (IsStopAnswer budget (Some bytes)) x old new out after) is left)
+  success s bytes is left = go (subst (λ (x : Status). IsLeft name (IsStopAnswer budget (Some bytes)) x old new counted out after) is left)
     where
-      go : IsLeft name (IsStopAnswer budget (Some bytes)) status.Success old new out after
+      go : IsLeft name (IsStopAnswer budget (Some bytes)) status.Success old new counted out after
           → (p : Program) × (core : List ℕ) × (text : List ℕ) × Grammar bytes p × IsSmall p × IsStopped p budget core text × (new ≡ holding old core) × (after ≡ put_on out text)
       go (None, text, is, held, put) = absurd is
       go (Some core, text, (p, grammar, small, stopped), held, put) = (p, core, text, grammar, small, stopped, held, put)

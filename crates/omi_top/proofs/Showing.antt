@@ -1,5 +1,5 @@
 -- The exits of `show`: what each result is an answer to.
-use Rattle.std.proofs.Common.{◌≡◌, ◌⊎◌, ◌<◌, ◌≤◌, inl, inr, ℕ, Bool, true, false, List, [], ◌∷◌, length, take, Option, Some, None, Ok, Err, refl, sym, ◌∙◌, ap, subst, arith, take_all, length-take-le, leb-false}
+use Rattle.std.proofs.Common.{◌+◌, ◌≡◌, ◌⊎◌, ◌<◌, ◌≤◌, inl, inr, ℕ, Bool, true, false, List, [], ◌∷◌, length, take, Option, Some, None, Ok, Err, refl, sym, ◌∙◌, ap, subst, arith, take_all, length-take-le, leb-false}
 use Rattle.std.specs.Prelude.{Result, IfOk, IfErr, nat_le, slice_get}
 use Rattle.std.specs.Global.{Vec}
 use Rattle.std.proofs.lemmas.Bool.{leb-true}
@@ -7,7 +7,8 @@ use Rattle.omi_outside.specs.Outside.{Told}
 use Rattle.omi_corefile.specs.Spelling.{Core, spelling}
 use Rattle.omi_corefile.specs.declared.core_image.CoreImage.{CoreImage}
 use Rattle.omi_corefile.proofs.Bounds.{bounds}
-use Rattle.omi_corefile.specs.Limits.{first_address}
+use Rattle.omi_corefile.specs.declared.limits.TheConstants.{MOST_BYTES}
+use Rattle.omi_word.specs.declared.limits.TheConstants.{FIRST_ADDRESS}
 use Rattle.omi_corefile.specs.Outcomes.{IsFaultOf}
 use Rattle.omi_corefile.specs.declared.segment.Segment.{Segment}
 use Rattle.omi_corefile.specs.declared.fault.CoreError.{CoreError}
@@ -30,15 +31,15 @@ core_short bytes c is =
     omega (arith, same, long, b.few_contexts, b.few_segments, b.few_words)
 
 -- so the first 8,390,161 bytes say whether a file is a core, and which
-front_core : (bytes : List ℕ) (c : CoreImage) → Core (take 8390161 bytes) c → Core bytes c
-front_core bytes c is = go (nat_le (length bytes) 8390161) refl
+front_core : (bytes : List ℕ) (c : CoreImage) → Core (take (MOST_BYTES + 1) bytes) c → Core bytes c
+front_core bytes c is = go (nat_le (length bytes) (MOST_BYTES + 1)) refl
   where
-    go : (b : Bool) → nat_le (length bytes) 8390161 ≡ b → Core bytes c
-    go true e = sym (take_all 8390161 bytes (leb-true (length bytes) 8390161 e)) ∙ is
+    go : (b : Bool) → nat_le (length bytes) (MOST_BYTES + 1) ≡ b → Core bytes c
+    go true e = sym (take_all (MOST_BYTES + 1) bytes (leb-true (length bytes) (MOST_BYTES + 1) e)) ∙ is
     go false e =
-        let long : 8390161 < length bytes = leb-false (length bytes) 8390161 e in
-        let front : length (take 8390161 bytes) ≡ 8390161 = length-take-le 8390161 bytes (omega arith) in
-        let short = core_short (take 8390161 bytes) c is in
+        let long : MOST_BYTES + 1 < length bytes = leb-false (length bytes) (MOST_BYTES + 1) e in
+        let front : length (take (MOST_BYTES + 1) bytes) ≡ MOST_BYTES + 1 = length-take-le (MOST_BYTES + 1) bytes (omega arith) in
+        let short = core_short (take (MOST_BYTES + 1) bytes) c is in
         absurd (omega (arith, front, short))
 
 -- a list of one element
@@ -51,7 +52,7 @@ alone_in (y ∷ z ∷ xs) x one here = absurd (omega (arith, one))
 pub one_plain : (bytes words others : List ℕ) → IsPlainCore bytes words → IsPlainCore bytes others → words ≡ others
 one_plain bytes words others p q =
     let same : p.core ≡ q.core = core_unique bytes p.core q.core p.spelled q.spelled in
-    let segments : record { start = first_address; words = words } ∷ [] ≡ record { start = first_address; words = others } ∷ [] = sym p.plain.image.segments ∙ ap (λ (c : CoreImage). c.segments) same ∙ q.plain.image.segments in
+    let segments : record { start = FIRST_ADDRESS; words = words } ∷ [] ≡ record { start = FIRST_ADDRESS; words = others } ∷ [] = sym p.plain.image.segments ∙ ap (λ (c : CoreImage). c.segments) same ∙ q.plain.image.segments in
     ap first_words segments
   where
     first_words : List Segment → List ℕ
@@ -62,7 +63,7 @@ pub plain_not_other : (bytes words : List ℕ) → IsPlainCore bytes words → I
 plain_not_other bytes words p q = q.other words (subst (λ (c : CoreImage). IsPlain c words) (core_unique bytes p.core q.core p.spelled q.spelled) p.plain)
 
 -- the answer to the first 8,390,161 bytes is the answer to the file
-pub front_answered : (bytes : List ℕ) (answer : Answer) → IsShowAnswer (Some (take 8390161 bytes)) answer → IsShowAnswer (Some bytes) answer
+pub front_answered : (bytes : List ℕ) (answer : Answer) → IsShowAnswer (Some (take (MOST_BYTES + 1) bytes)) answer → IsShowAnswer (Some bytes) answer
 front_answered bytes (Refuses r) (inl (at, why, refused, same)) = inl (at, why, sym (front_enough bytes) ∙ refused, same)
 front_answered bytes (Refuses r) (inr (other, same)) = inr (record { core = other.core; spelled = front_core bytes other.core other.spelled; other = other.other }, same)
 front_answered bytes (Gives None text) (words, plain, same) = (words, record { core = plain.core; spelled = front_core bytes plain.core plain.spelled; plain = plain.plain }, same)
@@ -74,7 +75,7 @@ core_refused bytes (error.Fault at why) fault = inl (inl (at, why, fault, refl))
 core_refused bytes error.OutOfMemory fault = inr refl
 
 -- the answer, from the bytes that were read
-pub show_answered : (content : Option (List ℕ)) (whole bytes : List ℕ) (result : Result (Vec ℕ) Refusal) (old : Told) → content ≡ Some bytes → whole ≡ take 8390161 bytes
+pub show_answered : (content : Option (List ℕ)) (whole bytes : List ℕ) (result : Result (Vec ℕ) Refusal) (old : Told) → content ≡ Some bytes → whole ≡ take (MOST_BYTES + 1) bytes
     → IfOk result (λ text. IsShowAnswer (Some whole) (Gives None text.items)) → IfErr result (λ r. IsShowAnswer (Some whole) (Refuses r) ⊎ (r ≡ refusal.OutOfMemory)) → IsAnswered (IsShowAnswer content) result old old
 show_answered content whole bytes result old is read accepted refused =
     subst (λ (c : Option (List ℕ)). IsAnswered (IsShowAnswer c) result old old) (sym is) (go result accepted refused)

@@ -22,9 +22,9 @@ RefusesWith P s = (r : Refusal) × (status_of r ≡ s) × P (Refuses r)
 abbrev pub GivesText : (Answer → Type 0) → Type 0
 GivesText P = (core : Option (List ℕ)) × (text : List ℕ) × P (Gives core text)
 
-module _ (name : List ℕ) (P : Answer → Type 0) (old new : Told) (out after : Option (List ℕ)) where
+module _ (name : List ℕ) (P : Answer → Type 0) (old new : Told) (counted : Type 0) (out after : Option (List ℕ)) where
   -- a fault, a refusal, or a text
-  pub kind : (s : Status) → IsLeft name P s old new out after → IsFaultStatus s ⊎ (RefusesWith P s ⊎ (GivesText P × IsTextStatus s))
+  pub kind : (s : Status) → IsLeft name P s old new counted out after → IsFaultStatus s ⊎ (RefusesWith P s ⊎ (GivesText P × IsTextStatus s))
   kind status.Success (core, text, is, held, put) = inr (inr ((core, text, is), tt))
   kind status.Usage (r, is, answer, same, said) = inr (inl (r, is, answer))
   kind status.NoFile (r, is, answer, same, said) = inr (inl (r, is, answer))
@@ -40,12 +40,12 @@ module _ (name : List ℕ) (P : Answer → Type 0) (old new : Told) (out after :
   -- The status of a refusal comes exactly where a fact holds: such a refusal says the fact, and where the fact holds, each refusal has this status and no text is given.
   pub comes_where : (refused s : Status) (fact : Type 0) → (IsFaultStatus refused → ⊥) → (IsTextStatus refused → ⊥)
       → (RefusesWith P refused → fact) → (fact → (r : Refusal) → P (Refuses r) → status_of r ≡ refused) → (fact → GivesText P → ⊥)
-      → IsLeft name P s old new out after → ComesWhere refused s fact
+      → IsLeft name P s old new counted out after → ComesWhere refused s fact
   comes_where refused s fact no_fault no_text says all none left = (from, to)
     where
       from : s ≡ refused → fact
       from is =
-          elim (kind refused (subst (λ (x : Status). IsLeft name P x old new out after) is left)) [
+          elim (kind refused (subst (λ (x : Status). IsLeft name P x old new counted out after) is left)) [
             | inl fault ↦ absurd (no_fault fault)
             | inr (inl refuses) ↦ says refuses
             | inr (inr gives) ↦ absurd (no_text gives.1)

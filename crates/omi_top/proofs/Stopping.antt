@@ -20,13 +20,13 @@ use Rattle.omi_corefile.specs.Spelling.{Core, HoldsImage, core_bytes}
 use Rattle.omi_corefile.specs.declared.core_image.CoreImage.{CoreImage}
 use Rattle.omi_top.specs.LookView.{is_plain}
 use Rattle.omi_model.specs.State.{State}
-use Rattle.omi_top.specs.Answer.{Answer, Refuses, Gives, IsAnswered, IsEarly, IsLate, IsStopAnswer, IsStopped}
+use Rattle.omi_top.specs.Answer.{Answer, Refuses, Gives, IsAnswered, IsEarly, IsLate, IsStopAnswer, IsStopped, IsUnwritten}
 use Rattle.omi_top.specs.Lines.{run_text}
 use Rattle.omi_top.specs.Run.{IsRun}
 use Rattle.omi_top.specs.declared.entry.Entry.{Entry}
 use Rattle.omi_top.specs.declared.entry.End.{End}
 use Rattle.omi_top.proofs.Plain.{plain_long}
-use Rattle.omi_top.specs.Refusal.{refusal_of_write, refusal_of_script}
+use Rattle.omi_top.specs.Refusal.{refusal_of_write, refusal_of_script, status_of}
 use Rattle.omi_top.specs.declared.refusal.Refusal.{Refusal}
 use Rattle.omi_top.specs.declared.refusal.Refusal.TheVariants as refusal
 
@@ -152,3 +152,8 @@ never_read_fault refused.OutOfMemory is = cc
 pub write_failed : (e : RefusedWrite) → handed_on e ≡ Err refusal.WriteFault → e ≡ refused.Failed
 write_failed refused.Failed is = refl
 write_failed refused.OutOfMemory is = absurd (cc)
+
+-- a refused write is no refusal after which nothing was written
+pub never_unwritten : (r : RefusedWrite) → IsUnwritten (status_of (refusal_of_write r)) → ⊥
+never_unwritten refused.Failed unwritten = unwritten
+never_unwritten refused.OutOfMemory unwritten = unwritten

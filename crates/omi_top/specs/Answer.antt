@@ -1,7 +1,7 @@
 -- What a command is to answer, by what is told of the file that it reads, and what a call leaves.
 use Rattle.std.specs.Prelude.{◌≡◌, ◌⊎◌, ℕ, List, [], ◌∷◌, Option, Some, None, Result, Ok, Err, ⊤}
 use Rattle.std.specs.Global.{Vec}
-use Rattle.omi_outside.specs.Outside.{Told, holding, IsPartly, IsPartlyPut, put_on}
+use Rattle.omi_outside.specs.Outside.{Told, holding, IsPartly, IsPartlyPut, put_on, Rose}
 use Rattle.omi_outside.specs.declared.status.Status.{Status}
 use Rattle.omi_outside.specs.declared.status.Status.TheVariants as status
 use Rattle.omi_corefile.specs.Spelling.{Core, core_bytes}
@@ -111,31 +111,49 @@ IsAnswered P (Err r) old new =
     (P (Refuses r) × (new ≡ old))
     ⊎ ((IsEarly r × (new ≡ old)) ⊎ (IsLate r × (core : Option (List ℕ)) × (text : List ℕ) × P (Gives core text) × HoldsPart core old new))
 
--- a line is put whole, or not at all; None is a refusal that prints nothing
-abbrev pub IsSaid : Option (List ℕ) → Option (List ℕ) → Option (List ℕ) → Type 0
-IsSaid None old new = new ≡ old
-IsSaid (Some line) old new = (new ≡ old) ⊎ (new ≡ put_on old line)
+-- a sink's count of faults rose, or its count of puts that were refused for want of memory
+abbrev pub IsCounted : ℕ → ℕ → ℕ → ℕ → Type 0
+IsCounted faults faults_now wants wants_now = Rose faults faults_now ⊎ Rose wants wants_now
+
+-- A line is put whole; or it isn't put at all, and the sink counted why. None is a refusal that prints nothing.
+abbrev pub IsSaid : Option (List ℕ) → Type 0 → Option (List ℕ) → Option (List ℕ) → Type 0
+IsSaid None counted old new = new ≡ old
+IsSaid (Some line) counted old new = (new ≡ put_on old line) ⊎ ((new ≡ old) × counted)
 
 -- the file and the output after a fault: an answer's core is partly written and nothing put, or the core is whole and its text partly put
 abbrev pub IsPartlyDone : (Answer → Type 0) → Told → Told → Option (List ℕ) → Option (List ℕ) → Type 0
 IsPartlyDone P old new out after = (core : Option (List ℕ)) × (text : List ℕ) × P (Gives core text) × ((HoldsPart core old new × (after ≡ out)) ⊎ (Holds core old new × IsPartlyPut text out after))
 
 -- a refusal with this status is the answer, nothing is written, and its line is said
-abbrev pub IsRefused : List ℕ → (Answer → Type 0) → Status → Told → Told → Option (List ℕ) → Option (List ℕ) → Type 0
-IsRefused name P status old new out after = (r : Refusal) × (status_of r ≡ status) × P (Refuses r) × (new ≡ old) × IsSaid (line_of name r) out after
+abbrev pub IsRefused : List ℕ → (Answer → Type 0) → Status → Told → Told → Type 0 → Option (List ℕ) → Option (List ℕ) → Type 0
+IsRefused name P status old new counted out after =
+    (r : Refusal) × (status_of r ≡ status) × P (Refuses r) × (new ≡ old) × IsSaid (line_of name r) counted out after
 
--- What a call with this status leaves of the file that it writes and of the output, where the file that it reads has this name.
-abbrev pub IsLeft : List ℕ → (Answer → Type 0) → Status → Told → Told → Option (List ℕ) → Option (List ℕ) → Type 0
-IsLeft name P status.Success old new out after = (core : Option (List ℕ)) × (text : List ℕ) × P (Gives core text) × Holds core old new × (after ≡ put_on out text)
-IsLeft name P status.Usage old new out after = IsRefused name P status.Usage old new out after
-IsLeft name P status.NoFile old new out after = IsRefused name P status.NoFile old new out after
-IsLeft name P status.Script old new out after = IsRefused name P status.Script old new out after
-IsLeft name P status.Core old new out after = IsRefused name P status.Core old new out after
-IsLeft name P status.NotBuilt old new out after = IsRefused name P status.NotBuilt old new out after
-IsLeft name P status.ReadFault old new out after = (new ≡ old) × IsSaid (line_of name refusal.ReadFault) out after
-IsLeft name P status.WriteFault old new out after = IsPartlyDone P old new out after
-IsLeft name P status.OutOfMemory old new out after = ((new ≡ old) × (after ≡ out)) ⊎ IsPartlyDone P old new out after
-IsLeft name P other old new out after = ⊥
+-- What a call with this status leaves of the file that it writes and of the output, where the file that it reads has this
+-- name, and where a line that isn't put is counted by the sink.
+abbrev pub IsLeft : List ℕ → (Answer → Type 0) → Status → Told → Told → Type 0 → Option (List ℕ) → Option (List ℕ) → Type 0
+IsLeft name P status.Success old new counted out after =
+    (core : Option (List ℕ)) × (text : List ℕ) × P (Gives core text) × Holds core old new × (after ≡ put_on out text)
+IsLeft name P status.Usage old new counted out after = IsRefused name P status.Usage old new counted out after
+IsLeft name P status.NoFile old new counted out after = IsRefused name P status.NoFile old new counted out after
+IsLeft name P status.Script old new counted out after = IsRefused name P status.Script old new counted out after
+IsLeft name P status.Core old new counted out after = IsRefused name P status.Core old new counted out after
+IsLeft name P status.NotBuilt old new counted out after = IsRefused name P status.NotBuilt old new counted out after
+IsLeft name P status.ReadFault old new counted out after =
+    (new ≡ old) × IsSaid (line_of name refusal.ReadFault) counted out after
+IsLeft name P status.WriteFault old new counted out after = IsPartlyDone P old new out after
+IsLeft name P status.OutOfMemory old new counted out after = ((new ≡ old) × (after ≡ out)) ⊎ IsPartlyDone P old new out after
+IsLeft name P other old new counted out after = ⊥
+
+-- a call with this status wrote nothing
+abbrev pub IsUnwritten : Status → Type 0
+IsUnwritten status.Usage = ⊤
+IsUnwritten status.NoFile = ⊤
+IsUnwritten status.ReadFault = ⊤
+IsUnwritten status.Script = ⊤
+IsUnwritten status.Core = ⊤
+IsUnwritten status.NotBuilt = ⊤
+IsUnwritten other = ⊥
 
 -- a fault of the outside before the command answers, or want of memory
 abbrev pub IsFaultStatus : Status → Type 0

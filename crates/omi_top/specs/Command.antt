@@ -1,5 +1,6 @@
 -- What a command line asks for.
-use Rattle.std.specs.Prelude.{◌≡◌, ℕ, List, [], ◌∷◌, if◌then◌else◌, codes, bytes_eq}
+use Rattle.std.specs.Prelude.{◌≡◌, ℕ, List, [], ◌∷◌, if◌then◌else◌, codes, bytes_eq, map, string_bytes, String, Vec}
+use Rattle.std.specs.declared.alloc.Global.{Global}
 use Rattle.std.specs.Option.{option_map_or}
 use Rattle.omi_script.specs.Numbers.{number_of}
 
@@ -15,6 +16,10 @@ command_of (verb ∷ steps ∷ script ∷ core ∷ []) =
     if bytes_eq verb (codes "stop") then option_map_or (λ n. Stop n script core) (number_of 0 1000000 steps) Faulty else Faulty
 command_of (verb ∷ core ∷ []) = if bytes_eq verb (codes "show") then Show core else Faulty
 command_of words = Faulty
+
+-- the command that the words behind the program's name ask for
+abbrev pub command_in : Vec (String Global) Global → Command
+command_in words = command_of (map string_bytes words.items)
 
 -- the name of the file that a command reads, and of the one that it writes
 abbrev pub read_name : Command → List ℕ

@@ -1,3 +1,5 @@
+//! What a command line asks for.
+
 ghost use Rattle.std.specs.Prelude.{◌≡◌, ◌≤◌, map, string_bytes};
 ghost use Rattle.omi_top.specs.Command.{command_of, read_name};
 ghost use Rattle.omi_top.specs.Asked.{asked, IsBounded};

@@ -1,3 +1,5 @@
+//! The steps of a run, and why it ended.
+
 use omi_model::Event;
 use omi_word::Op;
 

@@ -8,6 +8,7 @@ mod load;
 mod look;
 mod opening;
 mod refusal;
+mod refusal_line;
 mod runner;
 mod show;
 mod stop;
@@ -20,5 +21,7 @@ pub use top::run_top;
 
 #[cfg(test)]
 mod show_tests;
+#[cfg(test)]
+mod size_tests;
 #[cfg(test)]
 mod tests;

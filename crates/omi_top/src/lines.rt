@@ -1,3 +1,5 @@
+//! What a run prints.
+
 ghost use Rattle.std.specs.Prelude.{◌≡◌, ◌++◌, ◌≤◌, IfOk, OnOk, string_bytes};
 ghost use Rattle.omi_top.specs.Lines.{variable_name as variable_text, event_text, event_line, event_lines, end_word, end_line, run_text};
 

@@ -1,3 +1,5 @@
+//! Reading the file that a command reads.
+
 ghost use Rattle.std.specs.Prelude.{◌≡◌, ◌⊎◌, List, ℕ, Option, Some, None, IfOk, IfErr, IsErrOf, take};
 ghost use Rattle.omi_outside.specs.Outside.{HasCause};
 ghost use Rattle.omi_top.specs.Answer.{IsEarly};

@@ -1,3 +1,5 @@
+//! Reading the words of a plain core.
+
 ghost use Rattle.std.specs.Prelude.{◌≡◌, ◌==◌, ◌<◌, ◌≤◌, ◌+◌, ℕ, length, take, drop, slice_index, bytes_eq, IfOk, IsTrue};
 ghost use Rattle.std.specs.List.{list_all};
 ghost use Rattle.omi_top.specs.Tables.{has_tables};

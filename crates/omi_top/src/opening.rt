@@ -1,3 +1,5 @@
+//! The words that a run opens with.
+
 ghost use Rattle.std.specs.Prelude.{◌≡◌, IfOk, slice_index};
 ghost use Rattle.omi_top.specs.Codes.{function_code};
 ghost use Rattle.omi_top.specs.OpeningWords.{filled_words, opening_words, runtime_record, region_record, task_record};

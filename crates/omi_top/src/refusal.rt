@@ -1,3 +1,5 @@
+//! Why a command ends without an answer, and the status of each cause.
+
 ghost use Rattle.std.specs.Prelude.{◌≡◌, IfOk, None};
 ghost use Rattle.std.specs.Option.{option_map};
 ghost use Rattle.omi_top.specs.declared.refusal.Refusal.TheVariants.{OutOfMemory};

@@ -1,3 +1,5 @@
+//! The run of one thread.
+
 ghost use Rattle.std.specs.Prelude.{◌≡◌, ◌<◌, ◌≤◌, ◌+◌, ◌++◌, ◌∷◌, [], ℕ, List, IsTrue, IfOk, length, vec_len, vec_capacity};
 ghost use Rattle.std.specs.List.{list_all};
 ghost use Rattle.omi_word.specs.Memory.{address_of, IsWordOf, word_at, after as word_after};

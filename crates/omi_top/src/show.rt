@@ -1,3 +1,5 @@
+//! The command `show`.
+
 ghost use Rattle.std.specs.Prelude.{◌≡◌, ◌≢◌, ◌⊎◌, ◌<◌, List, ℕ, Option, Some, None, IfOk, IfErr, IfSome, IsErrOf, length, take};
 ghost use Rattle.omi_outside.specs.Outside.{HasCause, Told};
 ghost use Rattle.omi_top.specs.Answer.{Refuses, Gives, IsAnswered, IsShowAnswer};
@@ -6,17 +8,14 @@ ghost use Rattle.omi_top.specs.LookView.{IsPlain};
 use crate::Refusal;
 use crate::load::load;
 use crate::look::{is_plain_core, look};
-use omi_corefile::{CoreImage, decode};
+use omi_corefile::{CoreImage, MOST_BYTES, decode};
 use omi_outside::Files;
 use omi_text::report_text;
-use omi_word::Natives;
+use omi_word::{FIRST_ADDRESS, Natives};
 use std::alloc::Global;
 
 /// The most bytes that are read of a core: one more than a core may have.
-const CORE_LIMIT: u64 = 8_390_161;
-
-/// The byte address of a plain core's first word.
-const FIRST: u64 = 0x10000;
+const CORE_LIMIT: u64 = MOST_BYTES + 1;
 
 /// The words of a plain core.
 fn plain_words(core: &CoreImage) -> Option<&Natives>
@@ -31,7 +30,7 @@ fn plain_words(core: &CoreImage) -> Option<&Natives>
         return None;
     }
     let segment = core.segments.get(0);
-    if segment.start != FIRST || !is_plain_core(&segment.words) {
+    if segment.start != FIRST_ADDRESS || !is_plain_core(&segment.words) {
         return None;
     }
     Some(&segment.words)

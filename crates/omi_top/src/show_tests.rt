@@ -1,3 +1,5 @@
+//! Runs of `show` through the top call, and each of its refusals.
+
 use crate::run_top;
 use crate::tests::{CHANGED, Done, EMPTY, UNTRACKED, call, words};
 use omi_outside::{Call, MemFiles, MemSink, Status};
@@ -6,7 +8,7 @@ use std::process::Abort;
 use std::test::Fail;
 
 /// The report of the opening words, and that of the finished run which changes two variables.
-const OPENING: &str = "ompd 201811 threads 1 debug enabled
+pub const OPENING: &str = "ompd 201811 threads 1 debug enabled
 icv num-procs-var=4 max-active-levels-var=8
 thread 0 native 1000 state work_serial wait 0 thread-num-var=0 current k0.0.0
 region r0.0.0 function 0x400000 levels-var=0 active-levels-var=0 team-size-var=1 enclosing none
@@ -65,7 +67,7 @@ native 1000 none
 ";
 
 /// The core that `stop` writes.
-fn core_of(alloc: Global, steps: &str, script: &str) -> Result<Vec<u8>, AllocError> {
+pub fn core_of(alloc: Global, steps: &str, script: &str) -> Result<Vec<u8>, AllocError> {
     let line = ["stop", steps, "s", "c"];
     let done = call(
         alloc,
@@ -100,7 +102,7 @@ fn show(
 }
 
 /// `show` of these bytes ends with this status and puts this text, and the core that may be written stays.
-fn expect(
+pub fn expect(
     rt: &impl Abort,
     alloc: Global,
     core: &[u8],

@@ -1,8 +1,11 @@
+//! The command `stop`.
+
 ghost use Rattle.std.specs.Prelude.{◌≡◌, ◌≢◌, ◌⊎◌, ◌≤◌, List, ℕ, Option, Some, IfOk, IfErr, IsErrOf, take, string_bytes};
 ghost use Rattle.omi_outside.specs.Outside.{HasCause};
 ghost use Rattle.omi_script.specs.Grammar.{Grammar};
 ghost use Rattle.omi_script.specs.Small.{IsSmall};
-ghost use Rattle.omi_top.specs.Answer.{Refuses, IsAnswered, IsEarly, IsStopAnswer, IsStopped};
+ghost use Rattle.omi_top.specs.Answer.{Refuses, IsAnswered, IsEarly, IsStopAnswer, IsStopped, IsUnwritten};
+ghost use Rattle.omi_top.specs.Refusal.{status_of};
 
 use crate::Refusal;
 use crate::lines::text_of;
@@ -59,6 +62,7 @@ pub fn stop<F: Files, W: Files>(
     ensures usage { result ≢ Err Refusal.Usage }
     ensures read { HasCause (F.reads files.old) (F.reads files.new) (IsErrOf result Refusal.ReadFault) }
     ensures write { HasCause (W.writes dest.old) (W.writes dest.new) (IsErrOf result Refusal.WriteFault) }
+    ensures unwritten { IfErr result (λ r. IsUnwritten (status_of r) → W.told dest.new ≡ W.told dest.old) }
     ensures files_told { F.told files.new ≡ F.told files.old }
     ensures files_writes { F.writes files.new ≡ F.writes files.old }
     ensures dest_reads { W.reads dest.new ≡ W.reads dest.old }

@@ -1,3 +1,5 @@
+//! Runs of `stop` through the top call, and each of its refusals.
+
 use crate::run_top;
 use omi_outside::{Call, MemFiles, MemSink, NeverFiles, NeverSink, Status};
 use std::alloc::{AllocError, Global};
@@ -233,7 +235,7 @@ fn failing_appends_leave_a_prefix(rt: HostRuntime) -> Result<(), Fail> {
 
 /// A line over a script, of which the first call of a kind may fail, ends with this status and this line, and writes
 /// nothing. The status stays where the line can't be put.
-fn expect_refusal(
+pub fn expect_refusal(
     rt: &impl Abort,
     alloc: Global,
     line: &[&str],
@@ -305,8 +307,17 @@ fn texts_that_are_refused(rt: HostRuntime) -> Result<(), Fail> {
     let alloc = rt.alloc();
     let line = ["stop", "0", "s", "c"];
     for (script, text) in [
-        ("", "script 1 9 NoMain\n"),
+        ("func main\nend\n\u{7f}", "script 3 1 NotText\n"),
+        ("func main\nfly\nend\n", "script 2 2 UnknownWord\n"),
+        (
+            "func main\nset_num_threads 65\nend\n",
+            "script 2 3 BadNumber\n",
+        ),
         ("func main\ntask g\nend\n", "script 2 4 UnknownName\n"),
+        (
+            "threads 1\nthreads 1\nfunc main\nend\n",
+            "script 2 5 Repeated\n",
+        ),
         (
             "func b\nbarrier\nend\nfunc main\ntask b\nend\n",
             "script 5 6 BarrierInTask\n",
@@ -315,10 +326,8 @@ fn texts_that_are_refused(rt: HostRuntime) -> Result<(), Fail> {
             "func b\nbarrier\nend\nfunc main\nonly 0 b\nend\n",
             "script 5 7 BarrierNested\n",
         ),
-        (
-            "func main\nset_num_threads 65\nend\n",
-            "script 2 3 BadNumber\n",
-        ),
+        ("", "script 1 9 NoMain\n"),
+        ("func main\n", "script 2 10 Unclosed\n"),
     ] {
         expect_refusal(&rt, alloc, &line, None, script, Status::Script, text)?;
     }

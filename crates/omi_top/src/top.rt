@@ -1,5 +1,7 @@
-ghost use Rattle.std.specs.Prelude.{◌≡◌, ◌≢◌, ◌⊎◌, ◌↔◌, ◌≤◌, ◌^◌, ◌∷◌, ◌++◌, [], codes, List, ℕ, Option, Some, None, IfOk, IsErrOf, map, string_bytes};
-ghost use Rattle.std.specs.Option.{option_map};
+//! The one call that the program makes, with the clause for each of its promises.
+
+ghost use Rattle.std.specs.Prelude.{◌≡◌, ◌≢◌, ◌⊎◌, ◌↔◌, ◌+◌, ◌≤◌, ◌^◌, ◌∷◌, ◌++◌, [], codes, length, List, ℕ, Option, Some, None, IfOk, IfErr, IsErrOf, map, string_bytes};
+ghost use Rattle.std.specs.String.{string_capacity};
 ghost use Rattle.omi_outside.specs.Outside.{HasCause, Rose, IsPartlyPut, holding, put_on};
 ghost use Rattle.omi_corefile.specs.Refusals.{CoreRefused};
 ghost use Rattle.omi_corefile.specs.declared.fault.CoreFault.{CoreFault};
@@ -7,9 +9,10 @@ ghost use Rattle.omi_script.specs.Grammar.{Grammar, Refused as RefusedScript};
 ghost use Rattle.omi_script.specs.Small.{IsSmall};
 ghost use Rattle.omi_script.specs.declared.fault.ScriptFault.{ScriptFault};
 ghost use Rattle.omi_script.specs.declared.program.Program.{Program};
-ghost use Rattle.omi_top.specs.Command.{Command, Stop, Show, Faulty, command_of, read_name, written_name, Writes};
+ghost use Rattle.omi_top.specs.Command.{Command, Stop, Show, Faulty, command_in, read_name, written_name, Writes};
 ghost use Rattle.omi_top.specs.Asked.{asked, IsBounded};
-ghost use Rattle.omi_top.specs.Answer.{IsAnswer, IsAnswered, IsPlainCore, IsOtherCore, IsOtherProgram, IsStopped, IsSaid, IsLeft, ComesWhere, IsShownAgain, IsBuilt};
+ghost use Rattle.omi_top.specs.Answer.{IsAnswer, IsAnswered, IsPlainCore, IsOtherCore, IsOtherProgram, IsStopped, IsSaid, IsCounted, IsLeft, IsUnwritten, ComesWhere, IsShownAgain, IsBuilt};
+ghost use Rattle.omi_top.specs.Codes.{native_id};
 ghost use Rattle.omi_top.specs.LookView.{look_view};
 ghost use Rattle.omi_top.specs.Refusal.{line_of as refusal_line, status_of};
 ghost use Rattle.omi_top.specs.Shows.{Shows};
@@ -19,10 +22,11 @@ ghost use Rattle.omi_text.specs.Report.{report as report_of};
 
 use crate::Refusal;
 use crate::command::{Request, input_name, request_of};
+use crate::refusal_line::{LINE_ROOM, line_of, room_for};
 use crate::show::show;
 use crate::stop::stop;
 use omi_outside::{Files, Refused, Sink, Status, put_whole};
-use std::alloc::{AllocError, Global};
+use std::alloc::Global;
 
 /// Does all but the printing.
 fn perform<F: Files, W: Files>(
@@ -33,11 +37,13 @@ fn perform<F: Files, W: Files>(
 ) -> Result<Vec<u8>, Refusal>
     requires { IsBounded request }
     ensures answer { (content : Option (List ℕ)) → F.told files.old (read_name (asked request.entry)) ≡ Some content
-        → IsAnswered (IsAnswer (asked request.entry) content) result (W.told dest.old (written_name (asked request.entry))) (W.told dest.new (written_name (asked request.entry))) }
+        → IsAnswered (IsAnswer (asked request.entry) content) result
+        (W.told dest.old (written_name (asked request.entry))) (W.told dest.new (written_name (asked request.entry))) }
     ensures usage { IsErrOf result Refusal.Usage → asked request.entry ≡ Faulty }
     ensures faulty { asked request.entry ≡ Faulty → IsErrOf result Refusal.Usage }
     ensures read { HasCause (F.reads files.old) (F.reads files.new) (IsErrOf result Refusal.ReadFault) }
     ensures write { HasCause (W.writes dest.old) (W.writes dest.new) (IsErrOf result Refusal.WriteFault) }
+    ensures unwritten { IfErr result (λ r. IsUnwritten (status_of r) → W.told dest.new ≡ W.told dest.old) }
     ensures files_told { F.told files.new ≡ F.told files.old }
     ensures files_writes { F.writes files.new ≡ F.writes files.old }
     ensures dest_reads { W.reads dest.new ≡ W.reads dest.old }
@@ -54,48 +60,19 @@ fn perform<F: Files, W: Files>(
     }
 }
 
-/// The line that a refusal prints, if any.
-fn line_of(
-    alloc: Global,
-    request: Request<'_>,
-    refusal: Refusal,
-) -> Result<Option<String>, AllocError>
-    ensures { IfOk result (λ line. option_map string_bytes line ≡ refusal_line (read_name (asked request.entry)) refusal) }
-{
-    let line = match refusal {
-        Refusal::Usage => String::from_str(alloc, "usage\n")?,
-        Refusal::NoFile => {
-            let name = input_name(request);
-            format!(in alloc; "no file {name}\n")?
-        }
-        Refusal::ReadFault => {
-            let name = input_name(request);
-            format!(in alloc; "read fault {name}\n")?
-        }
-        Refusal::Script(fault) => {
-            let line = fault.line;
-            let number = fault.why.number();
-            let text = fault.why.text();
-            format!(in alloc; "script {line} {number} {text}\n")?
-        }
-        Refusal::Core(at, why) => {
-            let number = why.number();
-            let text = why.text();
-            format!(in alloc; "core {at} {number} {text}\n")?
-        }
-        Refusal::NotBuilt => String::from_str(alloc, "not built\n")?,
-        Refusal::WriteFault | Refusal::OutOfMemory => return Ok(None),
-    };
-    Ok(Some(line))
-}
-
-/// Puts the line of a refusal. Its status stays where the line can't be put.
-fn refuse<K: Sink>(alloc: Global, request: Request<'_>, refusal: Refusal, out: &mut K) -> Status
+/// Puts the line of a refusal, made in the room that there is for it. Its status stays where the
+/// line can't be put.
+fn refuse<K: Sink>(request: Request<'_>, refusal: Refusal, room: &mut String, out: &mut K) -> Status
+    requires empty { string_bytes room.old ≡ [] }
+    requires enough { length (read_name (asked request)) + LINE_ROOM ≤ string_capacity room.old }
     ensures status { result ≡ status_of refusal }
-    ensures line { IsSaid (refusal_line (read_name (asked request.entry)) refusal) (K.told out.old) (K.told out.new) }
-    ensures later { K.faults out.old ≤ K.faults out.new }
+    ensures line { IsSaid (refusal_line (read_name (asked request.entry)) refusal)
+        (IsCounted (K.faults out.old) (K.faults out.new) (K.wants out.old) (K.wants out.new))
+        (K.told out.old) (K.told out.new) }
+    ensures faults { K.faults out.old ≤ K.faults out.new }
+    ensures wants { K.wants out.old ≤ K.wants out.new }
 {
-    if let Ok(Some(line)) = line_of(alloc, request, refusal) {
+    if let Some(line) = line_of(input_name(request), refusal, room) {
         let _ = out.put(line.as_bytes());
     }
     refusal.status()
@@ -107,6 +84,7 @@ fn print<K: Sink>(text: &[u8], out: &mut K) -> Status
     ensures partly { IsPartlyPut text.now (K.told out.old) (K.told out.new) }
     ensures status { (result ≡ Status.Success) ⊎ ((result ≡ Status.WriteFault) ⊎ (result ≡ Status.OutOfMemory)) }
     ensures cause { HasCause (K.faults out.old) (K.faults out.new) (result ≡ Status.WriteFault) }
+    ensures wants { K.wants out.old ≤ K.wants out.new }
 {
     match put_whole(out, text) {
         Ok(()) => Status::Success,
@@ -115,7 +93,58 @@ fn print<K: Sink>(text: &[u8], out: &mut K) -> Status
     }
 }
 
-/// Does what a request asks for, and prints.
+/// Puts the line of refused words, which needs no memory.
+fn refuse_words<K: Sink>(out: &mut K) -> Status
+    ensures status { result ≡ Status.Usage }
+    ensures line { IsSaid (Some (codes "usage" ++ 10 ∷ []))
+        (IsCounted (K.faults out.old) (K.faults out.new) (K.wants out.old) (K.wants out.new))
+        (K.told out.old) (K.told out.new) }
+    ensures faults { K.faults out.old ≤ K.faults out.new }
+    ensures wants { K.wants out.old ≤ K.wants out.new }
+{
+    let _ = out.put(b"usage\n");
+    Status::Usage
+}
+
+/// Does what a request asks for, and prints. The room is for the line of a refusal.
+fn carry_out_in<F: Files, W: Files, K: Sink>(
+    alloc: Global,
+    request: Request<'_>,
+    room: &mut String,
+    files: &mut F,
+    dest: &mut W,
+    out: &mut K,
+) -> Status
+    requires bounded { IsBounded request }
+    requires empty { string_bytes room.old ≡ [] }
+    requires enough { length (read_name (asked request)) + LINE_ROOM ≤ string_capacity room.old }
+    ensures built { IsBuilt result }
+    ensures usage { result ≡ Status.Usage → asked request.entry ≡ Faulty }
+    ensures read_fault { result ≡ Status.ReadFault → Rose (F.reads files.old) (F.reads files.new) }
+    ensures write_fault { result ≡ Status.WriteFault
+        → Rose (W.writes dest.old) (W.writes dest.new) ⊎ Rose (K.faults out.old) (K.faults out.new) }
+    ensures left { (content : Option (List ℕ)) → F.told files.old (read_name (asked request.entry)) ≡ Some content
+        → IsLeft (read_name (asked request.entry)) (IsAnswer (asked request.entry) content) result
+        (W.told dest.old (written_name (asked request.entry))) (W.told dest.new (written_name (asked request.entry)))
+        (IsCounted (K.faults out.old) (K.faults out.new) (K.wants out.old) (K.wants out.new))
+        (K.told out.old) (K.told out.new) }
+    ensures unwritten { IsUnwritten result → W.told dest.new ≡ W.told dest.old }
+    ensures files_told { F.told files.new ≡ F.told files.old }
+    ensures files_writes { F.writes files.new ≡ F.writes files.old }
+    ensures dest_reads { W.reads dest.new ≡ W.reads dest.old }
+    ensures others { (other : List ℕ) → (Writes (asked request.entry) other → ⊥) → W.told dest.new other ≡ W.told dest.old other }
+    ensures reads { F.reads files.old ≤ F.reads files.new }
+    ensures writes { W.writes dest.old ≤ W.writes dest.new }
+    ensures faults { K.faults out.old ≤ K.faults out.new }
+    ensures wants { K.wants out.old ≤ K.wants out.new }
+{
+    match perform(alloc, request, files, dest) {
+        Ok(text) => print(&text, out),
+        Err(refusal) => refuse(request, refusal, room, out),
+    }
+}
+
+/// Does what a request asks for, and prints. Room for the line of a refusal is taken first.
 fn carry_out<F: Files, W: Files, K: Sink>(
     alloc: Global,
     request: Request<'_>,
@@ -127,26 +156,41 @@ fn carry_out<F: Files, W: Files, K: Sink>(
     ensures built { IsBuilt result }
     ensures usage { result ≡ Status.Usage → asked request.entry ≡ Faulty }
     ensures faulty { asked request.entry ≡ Faulty → result ≡ Status.Usage }
-    ensures said { asked request.entry ≡ Faulty → IsSaid (Some (codes "usage" ++ 10 ∷ [])) (K.told out.old) (K.told out.new) }
+    ensures said { asked request.entry ≡ Faulty
+        → IsSaid (Some (codes "usage" ++ 10 ∷ []))
+        (IsCounted (K.faults out.old) (K.faults out.new) (K.wants out.old) (K.wants out.new))
+        (K.told out.old) (K.told out.new) }
     ensures read_fault { result ≡ Status.ReadFault → Rose (F.reads files.old) (F.reads files.new) }
-    ensures write_fault { result ≡ Status.WriteFault → Rose (W.writes dest.old) (W.writes dest.new) ⊎ Rose (K.faults out.old) (K.faults out.new) }
+    ensures write_fault { result ≡ Status.WriteFault
+        → Rose (W.writes dest.old) (W.writes dest.new) ⊎ Rose (K.faults out.old) (K.faults out.new) }
     ensures left { (content : Option (List ℕ)) → F.told files.old (read_name (asked request.entry)) ≡ Some content
         → IsLeft (read_name (asked request.entry)) (IsAnswer (asked request.entry) content) result
-        (W.told dest.old (written_name (asked request.entry))) (W.told dest.new (written_name (asked request.entry))) (K.told out.old) (K.told out.new) }
+        (W.told dest.old (written_name (asked request.entry))) (W.told dest.new (written_name (asked request.entry)))
+        (IsCounted (K.faults out.old) (K.faults out.new) (K.wants out.old) (K.wants out.new))
+        (K.told out.old) (K.told out.new) }
+    ensures unwritten { IsUnwritten result → W.told dest.new ≡ W.told dest.old }
     ensures files_told { F.told files.new ≡ F.told files.old }
     ensures files_writes { F.writes files.new ≡ F.writes files.old }
     ensures dest_reads { W.reads dest.new ≡ W.reads dest.old }
     ensures others { (other : List ℕ) → (Writes (asked request.entry) other → ⊥) → W.told dest.new other ≡ W.told dest.old other }
+    ensures reads { F.reads files.old ≤ F.reads files.new }
+    ensures writes { W.writes dest.old ≤ W.writes dest.new }
+    ensures faults { K.faults out.old ≤ K.faults out.new }
+    ensures wants { K.wants out.old ≤ K.wants out.new }
 {
-    match perform(alloc, request, files, dest) {
-        Ok(text) => print(&text, out),
-        Err(refusal) => refuse(alloc, request, refusal, out),
+    if let Request::Faulty = request {
+        return refuse_words(out);
+    }
+    match room_for(alloc, input_name(request)) {
+        Ok(mut room) => carry_out_in(alloc, request, &mut room, files, dest, out),
+        Err(_) => Status::OutOfMemory,
     }
 }
 
-/// All that the program does with the words behind its name: `stop STEPS SCRIPT CORE` runs the program of a script
-/// for at most STEPS steps, writes its core and prints its events; `show CORE` prints the report of a core. It reads
-/// from `files` alone, writes to `dest` alone and prints to `out`.
+/// All that the program does with the words behind its name: `stop STEPS SCRIPT CORE` runs the
+/// program of a script for at most STEPS steps, writes its core and prints its events; `show CORE`
+/// prints the report of a core. It reads from `files` alone, writes to `dest` alone and prints to
+/// `out`.
 pub fn run_top<F: Files, W: Files, K: Sink>(
     alloc: Global,
     words: &Vec<String>,
@@ -154,59 +198,90 @@ pub fn run_top<F: Files, W: Files, K: Sink>(
     dest: &mut W,
     out: &mut K,
 ) -> Status
-    // The causes for which no bytes need be told.
+    // The causes for which no bytes need be told. Where the words are refused, that line is put
+    // whole, or the sink counted why not.
     ensures built { IsBuilt result }
-    ensures usage { (result ≡ Status.Usage) ↔ (command_of (map string_bytes words.now.items) ≡ Faulty) }
-    ensures usage_line { command_of (map string_bytes words.now.items) ≡ Faulty → IsSaid (Some (codes "usage" ++ 10 ∷ [])) (K.told out.old) (K.told out.new) }
+    ensures usage { (result ≡ Status.Usage) ↔ (command_in words.now ≡ Faulty) }
+    ensures usage_line { command_in words.now ≡ Faulty
+        → IsSaid (Some (codes "usage" ++ 10 ∷ []))
+        (IsCounted (K.faults out.old) (K.faults out.new) (K.wants out.old) (K.wants out.new))
+        (K.told out.old) (K.told out.new) }
     ensures read_fault { result ≡ Status.ReadFault → Rose (F.reads files.old) (F.reads files.new) }
-    ensures write_fault { result ≡ Status.WriteFault → Rose (W.writes dest.old) (W.writes dest.new) ⊎ Rose (K.faults out.old) (K.faults out.new) }
+    ensures write_fault { result ≡ Status.WriteFault
+        → Rose (W.writes dest.old) (W.writes dest.new) ⊎ Rose (K.faults out.old) (K.faults out.new) }
 
-    // Where the script's file is told: there is none, the grammar refuses it, or it is a program that `stop` doesn't run yet,
-    // exactly where the status says so.
-    ensures no_file { (budget : ℕ) (script core : List ℕ) (content : Option (List ℕ)) → command_of (map string_bytes words.now.items) ≡ Stop budget script core
-        → F.told files.old script ≡ Some content → ComesWhere Status.NoFile result (content ≡ None) }
-    ensures script { (budget : ℕ) (script core bytes : List ℕ) → command_of (map string_bytes words.now.items) ≡ Stop budget script core
-        → F.told files.old script ≡ Some (Some bytes) → ComesWhere Status.Script result ((fault : ScriptFault) × RefusedScript bytes fault) }
-    ensures other_program { (budget : ℕ) (script core bytes : List ℕ) → command_of (map string_bytes words.now.items) ≡ Stop budget script core
-        → F.told files.old script ≡ Some (Some bytes) → ComesWhere Status.NotBuilt result (IsOtherProgram bytes) }
+    // Where the script's file is told: there is none, the grammar refuses it, or it is a program
+    // that `stop` doesn't run yet, exactly where the status says so.
+    ensures no_file { (budget : ℕ) (script core : List ℕ) (content : Option (List ℕ))
+        → command_in words.now ≡ Stop budget script core → F.told files.old script ≡ Some content
+        → ComesWhere Status.NoFile result (content ≡ None) }
+    ensures script { (budget : ℕ) (script core bytes : List ℕ)
+        → command_in words.now ≡ Stop budget script core → F.told files.old script ≡ Some (Some bytes)
+        → ComesWhere Status.Script result ((fault : ScriptFault) × RefusedScript bytes fault) }
+    ensures other_program { (budget : ℕ) (script core bytes : List ℕ)
+        → command_in words.now ≡ Stop budget script core → F.told files.old script ≡ Some (Some bytes)
+        → ComesWhere Status.NotBuilt result (IsOtherProgram bytes) }
 
-    // With success the core is that of the last words of a run, and what is put is that run's events and its end.
-    ensures success { (budget : ℕ) (script core bytes : List ℕ) → command_of (map string_bytes words.now.items) ≡ Stop budget script core
-        → F.told files.old script ≡ Some (Some bytes) → result ≡ Status.Success
-        → (p : Program) × (written : List ℕ) × (text : List ℕ) × Grammar bytes p × IsSmall p × IsStopped p budget written text
-        × (W.told dest.new core ≡ holding (W.told dest.old core) written) × (K.told out.new ≡ put_on (K.told out.old) text) }
+    // With success the core is that of the last words of a run, and what is put is that run's
+    // events and its end.
+    ensures success { (budget : ℕ) (script core bytes : List ℕ)
+        → command_in words.now ≡ Stop budget script core → F.told files.old script ≡ Some (Some bytes)
+        → result ≡ Status.Success
+        → (p : Program) × (written text : List ℕ) × Grammar bytes p × IsSmall p
+        × IsStopped p budget written text
+        × (W.told dest.new core ≡ holding (W.told dest.old core) written)
+        × (K.told out.new ≡ put_on (K.told out.old) text) }
 
-    // The same of the core's file, for `show`: there is none, the grammar of core files refuses it, or it is a core that is
-    // not plain, exactly where the status says so.
-    ensures no_core { (core : List ℕ) (content : Option (List ℕ)) → command_of (map string_bytes words.now.items) ≡ Show core
-        → F.told files.old core ≡ Some content → ComesWhere Status.NoFile result (content ≡ None) }
-    ensures core { (core bytes : List ℕ) → command_of (map string_bytes words.now.items) ≡ Show core
-        → F.told files.old core ≡ Some (Some bytes) → ComesWhere Status.Core result ((at : ℕ) × (why : CoreFault) × CoreRefused bytes at why) }
-    ensures other_core { (core bytes : List ℕ) → command_of (map string_bytes words.now.items) ≡ Show core
-        → F.told files.old core ≡ Some (Some bytes) → ComesWhere Status.NotBuilt result (IsOtherCore bytes) }
+    // The same of the core's file, for `show`: there is none, the grammar of core files refuses
+    // it, or it is a core that is not plain, exactly where the status says so.
+    ensures no_core { (core : List ℕ) (content : Option (List ℕ))
+        → command_in words.now ≡ Show core → F.told files.old core ≡ Some content
+        → ComesWhere Status.NoFile result (content ≡ None) }
+    ensures core { (core bytes : List ℕ)
+        → command_in words.now ≡ Show core → F.told files.old core ≡ Some (Some bytes)
+        → ComesWhere Status.Core result ((at : ℕ) × (why : CoreFault) × CoreRefused bytes at why) }
+    ensures other_core { (core bytes : List ℕ)
+        → command_in words.now ≡ Show core → F.told files.old core ≡ Some (Some bytes)
+        → ComesWhere Status.NotBuilt result (IsOtherCore bytes) }
 
-    // With success what is put is the report of the core's words: of each state that they show, exactly its view.
-    ensures report { (core bytes : List ℕ) → command_of (map string_bytes words.now.items) ≡ Show core
-        → F.told files.old core ≡ Some (Some bytes) → result ≡ Status.Success
-        → (plain : List ℕ) × IsPlainCore bytes plain × (K.told out.new ≡ put_on (K.told out.old) (report_of (look_view plain)))
-        × ((s : State) → Shows plain s → IsViewOf s (1000 ∷ []) (look_view plain)) }
+    // With success what is put is the report of the core's words: of each state that they show,
+    // exactly its view.
+    ensures report { (core bytes : List ℕ)
+        → command_in words.now ≡ Show core → F.told files.old core ≡ Some (Some bytes)
+        → result ≡ Status.Success
+        → (plain : List ℕ) × IsPlainCore bytes plain
+        × (K.told out.new ≡ put_on (K.told out.old) (report_of (look_view plain)))
+        × ((s : State) → Shows plain s → IsViewOf s (native_id 0 ∷ []) (look_view plain)) }
 
-    // Of the core that `stop` wrote, `show` puts the report of the state that the run's events reach: it has one view alone.
-    ensures shown_again { (core bytes : List ℕ) → command_of (map string_bytes words.now.items) ≡ Show core
-        → F.told files.old core ≡ Some (Some bytes) → (p : Program) (budget : ℕ) (text : List ℕ) → (run : IsStopped p budget bytes text)
+    // Of the core that `stop` wrote, `show` puts the report of the state that the run's events
+    // reach: it has one view alone.
+    ensures shown_again { (core bytes : List ℕ)
+        → command_in words.now ≡ Show core → F.told files.old core ≡ Some (Some bytes)
+        → (p : Program) (budget : ℕ) (text : List ℕ) (run : IsStopped p budget bytes text)
         → IsShownAgain run.state result (K.told out.old) (K.told out.new) }
 
     // What is left of the core and of the output with every status.
-    ensures left { (content : Option (List ℕ)) → F.told files.old (read_name (command_of (map string_bytes words.now.items))) ≡ Some content
-        → let command = command_of (map string_bytes words.now.items) in
-        IsLeft (read_name command) (IsAnswer command content) result
-        (W.told dest.old (written_name command)) (W.told dest.new (written_name command)) (K.told out.old) (K.told out.new) }
+    ensures left { (content : Option (List ℕ))
+        → let command = command_in words.now in
+        F.told files.old (read_name command) ≡ Some content
+        → IsLeft (read_name command) (IsAnswer command content) result
+        (W.told dest.old (written_name command)) (W.told dest.new (written_name command))
+        (IsCounted (K.faults out.old) (K.faults out.new) (K.wants out.old) (K.wants out.new))
+        (K.told out.old) (K.told out.new) }
 
-    // What stays.
+    // What stays, whatever is told: after a refusal all that may be written is as before.
+    ensures unwritten { IsUnwritten result → W.told dest.new ≡ W.told dest.old }
     ensures files_told { F.told files.new ≡ F.told files.old }
+    ensures others { (other : List ℕ) → (Writes (command_in words.now) other → ⊥)
+        → W.told dest.new other ≡ W.told dest.old other }
+
+    // No count falls, and those of writes to `files` and of reads from `dest` stay.
+    ensures reads { F.reads files.old ≤ F.reads files.new }
+    ensures writes { W.writes dest.old ≤ W.writes dest.new }
+    ensures faults { K.faults out.old ≤ K.faults out.new }
+    ensures wants { K.wants out.old ≤ K.wants out.new }
     ensures files_writes { F.writes files.new ≡ F.writes files.old }
     ensures dest_reads { W.reads dest.new ≡ W.reads dest.old }
-    ensures others { (other : List ℕ) → (Writes (command_of (map string_bytes words.now.items)) other → ⊥) → W.told dest.new other ≡ W.told dest.old other }
 {
     carry_out(alloc, request_of(words), files, dest, out)
 }

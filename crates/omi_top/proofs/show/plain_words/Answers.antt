@@ -8,7 +8,7 @@ returns-clause-found c = record {
     order = c.if-core-ne0.false;
     contexts_are = alone_in c.args.core.now.contexts c.get.result.now (sym c.len.ensures ∙ c.if-len-ne1.false) c.get.ensures ∙ ap (λ x. x ∷ []) c.if-get-ne1000.false;
     segments = alone_in c.args.core.now.segments c.get-segment.result.now (sym c.len-else-get-ne1000.ensures ∙ c.if-len-ne1-2.false) c.get-segment.ensures
-        ∙ (λ i. record { start = c.if-segment-ne-FIRST.false i; words = c.get-segment.result.now.words } ∷ []);
+        ∙ (λ i. record { start = c.if-segment-ne-FIRST_ADDRESS.false i; words = c.get-segment.result.now.words } ∷ []);
   };
   plain = sym c.is_plain_core.ensures ∙ c.if-not-is_plain_core.false;
 }

@@ -3,7 +3,7 @@ use Rattle.std.specs.Global.{Vec}
 use Rattle.std.proofs.lemmas.Result.{err_from_is_err_and}
 use Rattle.omi_top.specs.Answer.{IsStopped}
 use Rattle.omi_top.specs.declared.refusal.Refusal.TheVariants as refusal
-use Rattle.omi_top.proofs.Stopping.{refused_answered, partly_answered, done_answered, never_outside, never_usage, never_read_fault, write_failed}
+use Rattle.omi_top.proofs.Stopping.{refused_answered, partly_answered, done_answered, never_outside, never_usage, never_read_fault, never_unwritten, write_failed}
 use Rattle.omi_top.proofs.stop.stop.Goals as goal
 
 pub returns-in_err-p-clause-answer : goal.returns-in_err-p-clause-answer
@@ -63,3 +63,8 @@ returns-in_err-p-clause-write g c =
       later = omega arith;
       failed = rw (p.1, p.2) (λ is. absurd (never_outside c.args.budget c.deref.result.now c.in_err-p.field-0.0 refusal.WriteFault (c.in_err-p.ensures.refused c.args.budget) refl is));
     }
+
+pub returns-in_err-write_whole-clause-unwritten : goal.returns-in_err-write_whole-clause-unwritten
+returns-in_err-write_whole-clause-unwritten g c =
+    let p = err_from_is_err_and c.from_residual-in_err-write_whole.result c.from_residual-in_err-write_whole.ensures.1 in
+    rw (p.1, p.2) (λ is. absurd (never_unwritten c.in_err-write_whole.field-0.0 is))

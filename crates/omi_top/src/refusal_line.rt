@@ -1,0 +1,66 @@
+//! The line that a refusal prints, made in room that was taken before a file was touched.
+
+ghost use Rattle.std.specs.Prelude.{◌≡◌, ◌+◌, ◌≤◌, ◌++◌, [], length, string_bytes, IfOk};
+ghost use Rattle.std.specs.String.{string_len, string_capacity};
+ghost use Rattle.std.specs.List.{flat_map, sum_by};
+ghost use Rattle.std.specs.Option.{option_map};
+ghost use Rattle.omi_top.specs.Refusal.{line_of as refusal_line};
+
+use crate::Refusal;
+use itoa::Buffer;
+use std::alloc::{AllocError, Global};
+
+/// The most bytes of a refusal's line besides the name of a file.
+pub const LINE_ROOM: usize = 128;
+
+/// Room for the line of any refusal of a command that reads the file of this name.
+pub fn room_for(alloc: Global, name: &str) -> Result<String, AllocError>
+    ensures empty { IfOk result (λ room. string_bytes room ≡ []) }
+    ensures enough { IfOk result (λ room. length name.now + LINE_ROOM ≤ string_capacity room) }
+{
+    String::with_capacity(alloc, name.len() + LINE_ROOM)
+}
+
+/// Adds pieces of text, for which there is room.
+fn push_all(room: &mut String, pieces: &[&str])
+    requires { string_len room.old + sum_by (λ piece. length piece.now) pieces.now
+        ≤ string_capacity room.old }
+    ensures { string_bytes room.new ≡ string_bytes room.old ++ flat_map (λ piece. piece.now) pieces.now }
+{
+    for piece in pieces {
+        room.push_str(piece).unwrap();
+    }
+}
+
+/// The line of a refusal of a command that reads the file of this name, if it prints one.
+pub fn line_of<'a>(name: &str, refusal: Refusal, room: &'a mut String) -> Option<&'a str>
+    requires empty { string_bytes room.old ≡ [] }
+    requires enough { length name.now + LINE_ROOM ≤ string_capacity room.old }
+    ensures { option_map (λ line. line.now) result ≡ refusal_line name.now refusal }
+{
+    match refusal {
+        Refusal::Usage => return Some("usage\n"),
+        Refusal::NotBuilt => return Some("not built\n"),
+        Refusal::WriteFault | Refusal::OutOfMemory => return None,
+        Refusal::NoFile => push_all(room, &["no file ", name, "\n"]),
+        Refusal::ReadFault => push_all(room, &["read fault ", name, "\n"]),
+        Refusal::Script(fault) => {
+            let mut line = Buffer::new();
+            let mut number = Buffer::new();
+            let line = line.format(fault.line);
+            let number = number.format(fault.why.number());
+            push_all(
+                room,
+                &["script ", line, " ", number, " ", fault.why.text(), "\n"],
+            );
+        }
+        Refusal::Core(at, why) => {
+            let mut place = Buffer::new();
+            let mut number = Buffer::new();
+            let place = place.format(at);
+            let number = number.format(why.number());
+            push_all(room, &["core ", place, " ", number, " ", why.text(), "\n"]);
+        }
+    }
+    Some(room.as_str())
+}
