@@ -11,7 +11,6 @@ use Rattle.omi_script.specs.declared.name.Name.{Name}
 use Rattle.omi_script.specs.declared.statement.Stmt.{Stmt}
 use Rattle.omi_script.specs.Names.{text_of, is_name, is_name_text, are_distinct}
 use Rattle.omi_script.specs.Reach.{Reach, reach_of, is_allowed, are_allowed}
-use Rattle.omi_script.specs.Widths.{has_chunk, has_widths}
 use Rattle.omi_script.specs.Sayings.{Heads, Function, End}
 use Rattle.omi_script.specs.Place.{Place, reaches}
 use Rattle.omi_script.proofs.Conjunctions.{and_left, and_right, and_true}
@@ -33,7 +32,6 @@ pub record AreSound (closed left : List Func) : Type 0 where
   pub named : list_all (λ (f : Func). is_name f.name) (closed ++ left) ≡ true
   pub distinct : are_distinct (names_of (closed ++ left)) ≡ true
   pub allowed : are_allowed (reaches [] closed) (map (λ (f : Func). f.body) left) ≡ true
-  pub widths : list_all has_widths left ≡ true
 
 named_closed : (closed left : List Func) → AreSound closed left → list_all (λ (f : Func). is_name f.name) closed ≡ true
 named_closed closed left s = and_left (list_all (λ (f : Func). is_name f.name) closed) (list_all (λ (f : Func). is_name f.name) left) (sym (list_all-append (λ (f : Func). is_name f.name) closed left) ∙ s.named)
@@ -52,7 +50,6 @@ sound_more closed f left s =
       named = ap (list_all (λ (g : Func). is_name g.name)) (sym same) ∙ s.named;
       distinct = ap (λ fs. are_distinct (names_of fs)) (sym same) ∙ s.distinct;
       allowed = ap (λ rs. are_allowed rs (map (λ (g : Func). g.body) left)) (reaches_more [] closed f) ∙ and_right (list_all (is_allowed above) f.body) (are_allowed (above ++ reach_of above f.body ∷ []) (map (λ (g : Func). g.body) left)) s.allowed;
-      widths = and_right (has_widths f) (list_all has_widths left) s.widths;
     }
 
 -- the line of a function leads inside of it
@@ -74,8 +71,7 @@ func_leads heads closed f left s =
       limit = lt-leb 64 (length closed) (omega (arith, s.count));
     } in
     let step = line_leads place words (joined words) (Function (text_of f.name)) (line_of_words words plain) refl faultless in
-    let wide : length f.name.bytes ≡ 32 = eqb-true (length f.name.bytes) 32 (and_left (length f.name.bytes == 32) (list_all has_chunk f.body) (and_left (has_widths f) (list_all has_widths left) s.widths)) in
-    (step.0, step.1, step.2 ∙ ap (λ (n : Name). inside heads closed n []) (name_of-text_of f.name named wide))
+    (step.0, step.1, step.2 ∙ ap (λ (n : Name). inside heads closed n []) (name_of-text_of f.name named))
 
 -- the line `end` leads behind a function
 end_leads : (heads : Heads) (closed : List Func) (f : Func) → LineLeads (inside heads closed f.name f.body) (joined (codes "end" ∷ [])) (between heads (closed ++ f ∷ []))
@@ -89,11 +85,10 @@ function_leads heads closed f left s =
     let funcs : List Func = closed ++ f ∷ left in
     let above : List Reach = reaches [] closed in
     let allowed : list_all (is_allowed above) f.body ≡ true = and_left (list_all (is_allowed above) f.body) (are_allowed (above ++ reach_of above f.body ∷ []) (map (λ (g : Func). g.body) left)) s.allowed in
-    let chunks : list_all has_chunk f.body ≡ true = and_right (length f.name.bytes == 32) (list_all has_chunk f.body) (and_left (has_widths f) (list_all has_widths left) s.widths) in
     let all : statements_of (closed ++ f ∷ left) ≡ statements_of closed + statements_of (f ∷ left) = sum_by-append (λ (g : Func). length g.body) closed (f ∷ left) in
     let first : statements_of (f ∷ left) ≡ length f.body + statements_of left = sum_by-cons (λ (g : Func). length g.body) f left in
     let none : length {A = Stmt} [] ≡ 0 = refl in
-    let body = body_leads heads closed (f ∷ left) f.name [] f.body (named_closed closed (f ∷ left) s) (distinct_first closed (f ∷ left) s.distinct) allowed chunks (omega (arith, s.statements)) in
+    let body = body_leads heads closed (f ∷ left) f.name [] f.body (named_closed closed (f ∷ left) s) (distinct_first closed (f ∷ left) s.distinct) allowed (omega (arith, s.statements)) in
     let end : LinesLead (inside heads closed f.name f.body) (joined (codes "end" ∷ []) ∷ []) (between heads (closed ++ f ∷ [])) = end_leads heads closed f in
     leads_on (between heads closed) (inside heads closed f.name []) (between heads (closed ++ f ∷ [])) (joined (codes "func" ∷ text_of f.name ∷ [])) (map (statement_line funcs) f.body ++ joined (codes "end" ∷ []) ∷ [])
     (func_leads heads closed f left s)

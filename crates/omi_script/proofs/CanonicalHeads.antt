@@ -9,13 +9,13 @@ use Rattle.omi_script.specs.declared.env.Env.{Env}
 use Rattle.omi_script.specs.declared.statement.Sched.{Sched}
 use Rattle.omi_script.specs.Names.{is_within}
 use Rattle.omi_script.specs.Ranges.{are_sizes, is_schedule, is_env}
-use Rattle.omi_script.specs.Widths.{HasHeadWidths}
 use Rattle.omi_script.specs.Canonical.{kind_name, truth_word, debug_word, list_text, schedule_text, env_words, head_words}
 use Rattle.omi_script.specs.Sayings.{Heads, Head, num_threads_line, dynamic_line, debug_line, schedule_line, pair_line, kind_of, saying_of}
 use Rattle.omi_script.specs.Place.{Place, first_place}
-use Rattle.omi_script.proofs.Conjunctions.{and_left, and_right, and_true}
+use Rattle.omi_script.proofs.Conjunctions.{and_right}
+use Rattle.omi_script.proofs.RangeLemmas.{EnvTests, env_tests}
 use Rattle.omi_script.proofs.CanonicalLines.{is_plain, plain_not_empty, joined, line_of_words}
-use Rattle.omi_script.proofs.CanonicalNumbers.{below_word, up_to, plain-decimal, number_of-decimal, sizes_of-list_text, no_gap-list_text, plain-list_text, kind_of-kind_name, pieces-schedule, plain-schedule_text}
+use Rattle.omi_script.proofs.CanonicalNumbers.{below_word, up_to, plain-decimal, number_of-decimal, sizes_of-list_text, no_gap-list_text, plain-list_text, kind_of-kind_name, pieces-schedule, plain-schedule_text, kind_within, chunk_within, chunk_small, number_up_to-decimal}
 use Rattle.omi_script.proofs.CanonicalSayings.{one_word}
 use Rattle.omi_script.proofs.CanonicalSteps.{LineLeads, LinesLead, line_leads, leads_on}
 use Rattle.omi_script.proofs.CanonicalStatements.{between}
@@ -51,12 +51,12 @@ says_max_active : (n : ℕ) → n < 2 ^ 64 → is_within 0 255 n ≡ true → sa
 says_max_active n l h = ap (λ o. Some (Head (record { stands = λ (g : Heads). is_some g.max_active; adds = option_map (λ m. λ (g : Heads). record g { max_active = Some m }) o }))) (number_of-decimal 0 255 n l h)
 
 -- the line `env schedule KIND,CHUNK`
-says_schedule : (s : Sched) → is_schedule s ≡ true → s.chunk < 2 ^ 64 → is_within 0 65535 s.chunk ≡ true → saying_of (env_words (codes "schedule") (schedule_text s)) ≡ Some (Head (record { stands = λ (h : Heads). is_some h.sched; adds = Some (λ (h : Heads). record h { sched = Some s }) }))
-says_schedule s h l k =
-    ap (λ ps. option_map Head (pair_line ps)) (pieces-schedule s h l)
-    ∙ ap (λ (b : Bool). option_map Head (if b then None else option_map (λ n. schedule_line n (decimal s.chunk)) (kind_of (kind_name s.kind)))) (plain_not_empty (decimal s.chunk) (plain-decimal s.chunk l))
-    ∙ ap (λ o. option_map Head (option_map (λ n. schedule_line n (decimal s.chunk)) o)) (kind_of-kind_name s.kind h)
-    ∙ ap (λ o. Some (Head (record { stands = λ (g : Heads). is_some g.sched; adds = option_map (λ m. λ (g : Heads). record g { sched = Some (record { kind = s.kind; chunk = m }) }) o }))) (number_of-decimal 0 65535 s.chunk l k)
+says_schedule : (s : Sched) → is_schedule s ≡ true → saying_of (env_words (codes "schedule") (schedule_text s)) ≡ Some (Head (record { stands = λ (h : Heads). is_some h.sched; adds = Some (λ (h : Heads). record h { sched = Some s }) }))
+says_schedule s h =
+    ap (λ ps. option_map Head (pair_line ps)) (pieces-schedule s h)
+    ∙ ap (λ (b : Bool). option_map Head (if b then None else option_map (λ n. schedule_line n (decimal s.chunk)) (kind_of (kind_name s.kind)))) (plain_not_empty (decimal s.chunk) (plain-decimal s.chunk (chunk_small s h)))
+    ∙ ap (λ o. option_map Head (option_map (λ n. schedule_line n (decimal s.chunk)) o)) (kind_of-kind_name s.kind (kind_within s h))
+    ∙ ap (λ o. Some (Head (record { stands = λ (g : Heads). is_some g.sched; adds = option_map (λ m. λ (g : Heads). record g { sched = Some (record { kind = s.kind; chunk = m }) }) o }))) (number_up_to-decimal 65535 s.chunk (omega arith) (chunk_within s h))
 
 -- the line `env device N`
 says_device : (n : ℕ) → n < 2 ^ 64 → is_within 0 255 n ≡ true → saying_of (env_words (codes "device") (decimal n)) ≡ Some (Head (record { stands = λ (h : Heads). is_some h.device; adds = Some (λ (h : Heads). record h { device = Some n }) }))
@@ -72,16 +72,18 @@ says_procs : (n : ℕ) → n < 2 ^ 64 → is_within 1 65535 n ≡ true → sayin
 says_procs n l h = ap (λ o. Some (Head (record { stands = λ (g : Heads). is_some g.procs; adds = option_map (λ m. λ (g : Heads). record g { procs = Some m }) o }))) (number_of-decimal 1 65535 n l h)
 
 -- the head lines lead from the first place behind all of them
-pub heads_lead : (threads : ℕ) (e : Env) → is_within 1 16 threads ≡ true → is_env e ≡ true → HasHeadWidths e → LinesLead first_place (map joined (head_words threads e)) (between (heads_of threads e) [])
-heads_lead threads e within env widths =
-    let sizes : are_sizes e.nthreads ≡ true = and_left (are_sizes e.nthreads) (is_schedule e.sched) (and_left (are_sizes e.nthreads && is_schedule e.sched) (nat_le 1 e.procs) env) in
-    let schedule : is_schedule e.sched ≡ true = and_right (are_sizes e.nthreads) (is_schedule e.sched) (and_left (are_sizes e.nthreads && is_schedule e.sched) (nat_le 1 e.procs) env) in
-    let some : nat_le 1 e.procs ≡ true = and_right (are_sizes e.nthreads && is_schedule e.sched) (nat_le 1 e.procs) env in
+pub heads_lead : (threads : ℕ) (e : Env) → is_within 1 16 threads ≡ true → is_env e ≡ true → LinesLead first_place (map joined (head_words threads e)) (between (heads_of threads e) [])
+heads_lead threads e within env =
+    let tests : EnvTests e = env_tests e env in
+    let sizes : are_sizes e.nthreads ≡ true = tests.sizes in
+    let schedule : is_schedule e.sched ≡ true = tests.schedule in
     let small : threads < 2 ^ 64 = below_word 16 threads (omega arith) (and_right (nat_le 1 threads) (nat_le threads 16) within) in
-    let active : is_within 0 255 e.max_active ≡ true = up_to 255 e.max_active (le-leb e.max_active 255 widths.max_active) in
-    let chunk : is_within 0 65535 e.sched.chunk ≡ true = up_to 65535 e.sched.chunk (le-leb e.sched.chunk 65535 widths.chunk) in
-    let device : is_within 0 255 e.device ≡ true = up_to 255 e.device (le-leb e.device 255 widths.device) in
-    let procs : is_within 1 65535 e.procs ≡ true = and_true (nat_le 1 e.procs) (nat_le e.procs 65535) some (le-leb e.procs 65535 widths.procs) in
+    let active : is_within 0 255 e.max_active ≡ true = up_to 255 e.max_active tests.levels in
+    let device : is_within 0 255 e.device ≡ true = up_to 255 e.device tests.device in
+    let procs : is_within 1 65535 e.procs ≡ true = tests.procs in
+    let small_active : e.max_active < 2 ^ 64 = below_word 255 e.max_active (omega arith) tests.levels in
+    let small_device : e.device < 2 ^ 64 = below_word 255 e.device (omega arith) tests.device in
+    let small_procs : e.procs < 2 ^ 64 = below_word 65535 e.procs (omega arith) (and_right (nat_le 1 e.procs) (nat_le e.procs 65535) tests.procs) in
     let h0 : Heads = first_place.heads in
     let h1 : Heads = record h0 { threads = Some threads } in
     let h2 : Heads = record h1 { nthreads = Some e.nthreads } in
@@ -107,15 +109,15 @@ heads_lead threads e within env widths =
     let l3 : LineLeads (between h2 []) (joined w3) (between h3 []) =
     head_leads h2 w3 (λ (h : Heads). is_some h.dynamic) (λ (h : Heads). record h { dynamic = Some e.dynamic }) (one_word (truth_word e.dynamic) (says_dynamic e.dynamic).1) (says_dynamic e.dynamic).0 refl in
     let l4 : LineLeads (between h3 []) (joined w4) (between h4 []) =
-    head_leads h3 w4 (λ (h : Heads). is_some h.max_active) (λ (h : Heads). record h { max_active = Some e.max_active }) (one_word (decimal e.max_active) (plain-decimal e.max_active (omega (arith, widths.max_active)))) (says_max_active e.max_active (omega (arith, widths.max_active)) active) refl in
+    head_leads h3 w4 (λ (h : Heads). is_some h.max_active) (λ (h : Heads). record h { max_active = Some e.max_active }) (one_word (decimal e.max_active) (plain-decimal e.max_active small_active)) (says_max_active e.max_active small_active active) refl in
     let l5 : LineLeads (between h4 []) (joined w5) (between h5 []) =
-    head_leads h4 w5 (λ (h : Heads). is_some h.sched) (λ (h : Heads). record h { sched = Some e.sched }) (one_word (schedule_text e.sched) (plain-schedule_text e.sched schedule (omega (arith, widths.chunk)))) (says_schedule e.sched schedule (omega (arith, widths.chunk)) chunk) refl in
+    head_leads h4 w5 (λ (h : Heads). is_some h.sched) (λ (h : Heads). record h { sched = Some e.sched }) (one_word (schedule_text e.sched) (plain-schedule_text e.sched schedule)) (says_schedule e.sched schedule) refl in
     let l6 : LineLeads (between h5 []) (joined w6) (between h6 []) =
-    head_leads h5 w6 (λ (h : Heads). is_some h.device) (λ (h : Heads). record h { device = Some e.device }) (one_word (decimal e.device) (plain-decimal e.device (omega (arith, widths.device)))) (says_device e.device (omega (arith, widths.device)) device) refl in
+    head_leads h5 w6 (λ (h : Heads). is_some h.device) (λ (h : Heads). record h { device = Some e.device }) (one_word (decimal e.device) (plain-decimal e.device small_device)) (says_device e.device small_device device) refl in
     let l7 : LineLeads (between h6 []) (joined w7) (between h7 []) =
     head_leads h6 w7 (λ (h : Heads). is_some h.debug) (λ (h : Heads). record h { debug = Some e.debug }) (one_word (debug_word e.debug) (says_debug e.debug).1) (says_debug e.debug).0 refl in
     let l8 : LineLeads (between h7 []) (joined w8) (between h8 []) =
-    head_leads h7 w8 (λ (h : Heads). is_some h.procs) (λ (h : Heads). record h { procs = Some e.procs }) (one_word (decimal e.procs) (plain-decimal e.procs (omega (arith, widths.procs)))) (says_procs e.procs (omega (arith, widths.procs)) procs) refl in
+    head_leads h7 w8 (λ (h : Heads). is_some h.procs) (λ (h : Heads). record h { procs = Some e.procs }) (one_word (decimal e.procs) (plain-decimal e.procs small_procs)) (says_procs e.procs small_procs procs) refl in
     let m8 : List (List ℕ) = joined w8 ∷ [] in
     let m7 : List (List ℕ) = joined w7 ∷ m8 in
     let m6 : List (List ℕ) = joined w6 ∷ m7 in

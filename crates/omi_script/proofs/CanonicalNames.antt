@@ -27,7 +27,8 @@ none_among p [] k f e h = absurd (cc)
 none_among p (g ∷ fs) zero f e h = let same : g ≡ f = cc e in sym (ap (λ (x : Func). p (text_of x.name)) same) ∙ left_false (p (text_of g.name)) (list_any p (names_of fs)) h
 none_among p (g ∷ fs) (suc k) f e h = none_among p fs k f e (right_false (p (text_of g.name)) (list_any p (names_of fs)) h)
 
-place_by_name : (fs : List Func) (k : ℕ) (f : Func) → are_distinct (names_of fs) ≡ true → slice_get fs k ≡ Some f → position_or_len (is_called (text_of f.name)) fs ≡ k
+-- the number of a function, by its name
+pub place_by_name : (fs : List Func) (k : ℕ) (f : Func) → are_distinct (names_of fs) ≡ true → slice_get fs k ≡ Some f → position_or_len (is_called (text_of f.name)) fs ≡ k
 place_by_name [] k f d e = absurd (cc)
 place_by_name (g ∷ fs) zero f d e =
     let same : g ≡ f = cc e in
@@ -76,9 +77,29 @@ get_of_first [] gs k f e = absurd (cc)
 get_of_first (g ∷ fs) gs zero f e = e
 get_of_first (g ∷ fs) gs (suc k) f e = get_of_first fs gs k f e
 
+-- the tests of a name, one by one
+pub record NameTests (n : Name) : Type 0 where
+  pub text : is_name_text (text_of n) ≡ true
+  pub size : nat_le n.len 32 ≡ true
+  pub zeros : list_all (λ b. b == 0) (drop n.len n.bytes) ≡ true
+  pub width : (length n.bytes == 32) ≡ true
+
+pub name_tests : (n : Name) → is_name n ≡ true → NameTests n
+name_tests n h =
+    let text : Bool = is_name_text (text_of n) in
+    let size : Bool = nat_le n.len 32 in
+    let zeros : Bool = list_all (λ b. b == 0) (drop n.len n.bytes) in
+    let first : (text && size && zeros) ≡ true = and_left (text && size && zeros) (length n.bytes == 32) h in
+    record {
+      text = and_left text size (and_left (text && size) zeros first);
+      size = and_right text size (and_left (text && size) zeros first);
+      zeros = and_right (text && size) zeros first;
+      width = and_right (text && size && zeros) (length n.bytes == 32) h;
+    }
+
 -- a name's bytes are one
 pub name_text : (n : Name) → is_name n ≡ true → is_name_text (text_of n) ≡ true
-name_text n h = and_left (is_name_text (text_of n)) (nat_le n.len 32) (and_left (is_name_text (text_of n) && nat_le n.len 32) (list_all (λ b. b == 0) (drop n.len n.bytes)) h)
+name_text n h = (name_tests n h).text
 
 -- the function with a number, and its name
 pub get_named : (fs : List Func) (k : ℕ) → k < length fs → list_all (λ (f : Func). is_name f.name) fs ≡ true → (f : Func) × (slice_get fs k ≡ Some f) × (is_name_text (text_of f.name) ≡ true)
@@ -86,19 +107,21 @@ get_named [] k l h = absurd (omega arith)
 get_named (f ∷ fs) zero l h = (f, refl, name_text f.name (and_left (is_name f.name) (list_all (λ (g : Func). is_name g.name) fs) h))
 get_named (f ∷ fs) (suc k) l h = get_named fs k (omega arith) (and_right (is_name f.name) (list_all (λ (g : Func). is_name g.name) fs) h)
 
-zeros_are : (bs : List ℕ) → list_all (λ b. b == 0) bs ≡ true → bs ≡ replicate (length bs) 0
+-- bytes that are all 0
+pub zeros_are : (bs : List ℕ) → list_all (λ b. b == 0) bs ≡ true → bs ≡ replicate (length bs) 0
 zeros_are [] h = refl
 zeros_are (b ∷ bs) h =
     ap (λ x. x ∷ bs) (eqb-true b 0 (and_left (b == 0) (list_all (λ x. x == 0) bs) h)) ∙ ap (λ xs. 0 ∷ xs) (zeros_are bs (and_right (b == 0) (list_all (λ x. x == 0) bs) h))
 
 -- a name is the name of its bytes
-pub name_of-text_of : (n : Name) → is_name n ≡ true → length n.bytes ≡ 32 → name_of (text_of n) ≡ n
-name_of-text_of n h l =
-    let first : (is_name_text (text_of n) && nat_le n.len 32) ≡ true = and_left (is_name_text (text_of n) && nat_le n.len 32) (list_all (λ b. b == 0) (drop n.len n.bytes)) h in
-    let short : n.len ≤ 32 = leb-true n.len 32 (and_right (is_name_text (text_of n)) (nat_le n.len 32) first) in
+pub name_of-text_of : (n : Name) → is_name n ≡ true → name_of (text_of n) ≡ n
+name_of-text_of n h =
+    let tests : NameTests n = name_tests n h in
+    let l : length n.bytes ≡ 32 = eqb-true (length n.bytes) 32 tests.width in
+    let short : n.len ≤ 32 = leb-true n.len 32 tests.size in
     let len : length (text_of n) ≡ n.len = length-take-le n.len n.bytes (omega arith) in
     let left : length (drop n.len n.bytes) ≡ 32 - length (text_of n) = omega (arith, length-drop n.len n.bytes) in
-    let zeros : drop n.len n.bytes ≡ replicate (32 - length (text_of n)) 0 = zeros_are (drop n.len n.bytes) (and_right (is_name_text (text_of n) && nat_le n.len 32) (list_all (λ b. b == 0) (drop n.len n.bytes)) h) ∙ ap (λ k. replicate k 0) left in
+    let zeros : drop n.len n.bytes ≡ replicate (32 - length (text_of n)) 0 = zeros_are (drop n.len n.bytes) tests.zeros ∙ ap (λ k. replicate k 0) left in
     let bytes : text_of n ++ replicate (32 - length (text_of n)) 0 ≡ n.bytes = sym (ap (λ bs. text_of n ++ bs) zeros) ∙ take-append-drop n.len n.bytes in
     let of_len : ℕ → Name = λ k. record { len = k; bytes = text_of n ++ replicate (32 - length (text_of n)) 0 } in
     let of_bytes : List ℕ → Name = λ bs. record { len = n.len; bytes = bs } in

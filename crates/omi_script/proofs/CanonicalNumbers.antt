@@ -134,15 +134,24 @@ plain-kind_name = by_kind (λ k. is_plain (kind_name k) ≡ true) refl refl refl
 chunk_alone : (c : ℕ) → c < 2 ^ 64 → slice_split is_comma (decimal c) ≡ decimal c ∷ []
 chunk_alone c h = slice_split_none is_comma (decimal c) (no_comma c h)
 
+pub kind_within : (s : Sched) → is_schedule s ≡ true → is_within 1 4 s.kind ≡ true
+kind_within s h = and_left (is_within 1 4 s.kind) (nat_le s.chunk 65535) h
+
+pub chunk_within : (s : Sched) → is_schedule s ≡ true → nat_le s.chunk 65535 ≡ true
+chunk_within s h = and_right (is_within 1 4 s.kind) (nat_le s.chunk 65535) h
+
+pub chunk_small : (s : Sched) → is_schedule s ≡ true → s.chunk < 2 ^ 64
+chunk_small s h = below_word 65535 s.chunk (omega arith) (chunk_within s h)
+
 -- a schedule is cut into its kind and its chunk
-pub pieces-schedule : (s : Sched) → is_schedule s ≡ true → s.chunk < 2 ^ 64 → slice_split is_comma (schedule_text s) ≡ kind_name s.kind ∷ decimal s.chunk ∷ []
-pieces-schedule s h l =
+pub pieces-schedule : (s : Sched) → is_schedule s ≡ true → slice_split is_comma (schedule_text s) ≡ kind_name s.kind ∷ decimal s.chunk ∷ []
+pieces-schedule s h =
     by_kind (λ k. slice_split is_comma (kind_name k ++ 44 ∷ decimal s.chunk) ≡ kind_name k ∷ decimal s.chunk ∷ [])
-    (ap (λ ps. codes "static" ∷ ps) (chunk_alone s.chunk l))
-    (ap (λ ps. codes "dynamic" ∷ ps) (chunk_alone s.chunk l))
-    (ap (λ ps. codes "guided" ∷ ps) (chunk_alone s.chunk l))
-    (ap (λ ps. codes "auto" ∷ ps) (chunk_alone s.chunk l))
-    s.kind h
+    (ap (λ ps. codes "static" ∷ ps) (chunk_alone s.chunk (chunk_small s h)))
+    (ap (λ ps. codes "dynamic" ∷ ps) (chunk_alone s.chunk (chunk_small s h)))
+    (ap (λ ps. codes "guided" ∷ ps) (chunk_alone s.chunk (chunk_small s h)))
+    (ap (λ ps. codes "auto" ∷ ps) (chunk_alone s.chunk (chunk_small s h)))
+    s.kind (kind_within s h)
 
 -- words on both sides of a comma are a word
 plain_pair : (v w : List ℕ) → is_plain v ≡ true → is_plain w ≡ true → is_plain (v ++ 44 ∷ w) ≡ true
@@ -151,8 +160,8 @@ plain_pair v w h k =
     (list_all-append is_ink v (44 ∷ w) ∙ and_true (list_all is_ink v) (list_all is_ink w) (and_right (nat_le 1 (length v)) (list_all is_ink v) h) (and_right (nat_le 1 (length w)) (list_all is_ink w) k))
 
 -- a schedule is a word
-pub plain-schedule_text : (s : Sched) → is_schedule s ≡ true → s.chunk < 2 ^ 64 → is_plain (schedule_text s) ≡ true
-plain-schedule_text s h l = plain_pair (kind_name s.kind) (decimal s.chunk) (plain-kind_name s.kind h) (plain-decimal s.chunk l)
+pub plain-schedule_text : (s : Sched) → is_schedule s ≡ true → is_plain (schedule_text s) ≡ true
+plain-schedule_text s h = plain_pair (kind_name s.kind) (decimal s.chunk) (plain-kind_name s.kind (kind_within s h)) (plain-decimal s.chunk (chunk_small s h))
 
 plain-listed : (n : ℕ) (ns : List ℕ) → list_all is_size (n ∷ ns) ≡ true → is_plain (decimal n ++ listed_behind ns) ≡ true
 plain-listed n [] h = ap is_plain (append-nil (decimal n)) ∙ plain-decimal n (size_small n (and_left (is_size n) true h))

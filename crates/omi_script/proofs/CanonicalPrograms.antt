@@ -18,13 +18,12 @@ use Rattle.omi_script.specs.Lines.{lines}
 use Rattle.omi_script.specs.Ranges.{is_env}
 use Rattle.omi_script.specs.Reach.{are_allowed}
 use Rattle.omi_script.specs.Program.{are_functions, is_main}
-use Rattle.omi_script.specs.Widths.{HasHeadWidths, has_widths}
 use Rattle.omi_script.specs.Canonical.{statement_words, line_text, statement_text, function_text, head_words, canonical}
 use Rattle.omi_script.specs.Place.{Place, first_place, is_called}
 use Rattle.omi_script.specs.LineFaults.{has_end_fault, least}
 use Rattle.omi_script.specs.Workload.{Accepts, Refuses, judge, verdict}
 use Rattle.omi_script.specs.Grammar.{Grammar}
-use Rattle.omi_script.proofs.Conjunctions.{and_left, and_right}
+use Rattle.omi_script.proofs.RuleLemmas.{Tests, tests_of, main_at}
 use Rattle.omi_script.proofs.CanonicalLines.{joined, ended, lines-ended}
 use Rattle.omi_script.proofs.CanonicalSteps.{LinesLead, leads_through, judged_accepted, printed_from_leads}
 use Rattle.omi_script.proofs.CanonicalNames.{names_of, position_of}
@@ -66,50 +65,27 @@ canonical-ended p =
     ∙ ap (λ bs. ended (map joined (head_words p.threads p.env)) ++ bs) (functions-ended p.funcs p.funcs)
     ∙ sym (flat_map-append (λ (l : List ℕ). l ++ 10 ∷ []) (map joined (head_words p.threads p.env)) (flat_map (function_lines p.funcs) p.funcs))
 
--- the function with the number of `main`
-main_at : (fs : List Func) (m : ℕ) → is_main fs m ≡ true → (f : Func) × (slice_get fs m ≡ Some f) × (text_of f.name ≡ codes "main")
-main_at fs m h = by_get (slice_get fs m) refl
-  where
-    by_get : (o : Option Func) → slice_get fs m ≡ o → (f : Func) × (slice_get fs m ≡ Some f) × (text_of f.name ≡ codes "main")
-    by_get None e = let no : false ≡ true = sym (ap (λ o. option_map_or (λ (f : Func). bytes_eq (text_of f.name) (codes "main")) o false) e) ∙ h in absurd (cc no)
-    by_get (Some f) e = (f, e, (bytes_eq-Decides (text_of f.name) (codes "main")).0 (sym (ap (λ o. option_map_or (λ (g : Func). bytes_eq (text_of g.name) (codes "main")) o false) e) ∙ h))
-
 -- a function of the list passes where one that is found does
 any_of_get : (p : Func → Bool) (fs : List Func) (k : ℕ) (f : Func) → slice_get fs k ≡ Some f → p f ≡ true → list_any p fs ≡ true
 any_of_get p fs k f e h = list_any_at p fs k f (slice_get_within fs k f e) (ap p (get_or_from_slice_get fs k f f e) ∙ h)
 
 -- the canonical text of a program is the program, where it is no longer than a text may be
-pub canonical_again : (p : Program) → HasHeadWidths p.env → list_all has_widths p.funcs ≡ true → length (canonical p) ≤ 65536 → Grammar (canonical p) p
-canonical_again p head_widths widths short =
-    let threads : Bool = is_within 1 16 p.threads in
-    let env : Bool = is_env p.env in
-    let functions : Bool = are_functions p.funcs in
-    let main : Bool = is_main p.funcs p.main in
-    let allowed : Bool = are_allowed [] (map (λ f. f.body) p.funcs) in
-    let to_main : (threads && env && functions && main) ≡ true = and_left (threads && env && functions && main) allowed p.accepted in
-    let to_functions : (threads && env && functions) ≡ true = and_left (threads && env && functions) main to_main in
-    let to_env : (threads && env) ≡ true = and_left (threads && env) functions to_functions in
-    let of_functions : functions ≡ true = and_right (threads && env) functions to_functions in
-    let few : Bool = nat_le (length p.funcs) 64 in
-    let limit : Bool = nat_le (sum_by (λ f. length f.body) p.funcs) 4096 in
-    let names : Bool = list_all (λ f. is_name f.name) p.funcs in
-    let distinct : Bool = are_distinct (names_of p.funcs) in
-    let to_limit : (few && limit) ≡ true = and_left (few && limit) names (and_left (few && limit && names) distinct of_functions) in
-    let of_distinct : distinct ≡ true = and_right (few && limit && names) distinct of_functions in
+pub canonical_again : (p : Program) → length (canonical p) ≤ 65536 → Grammar (canonical p) p
+canonical_again p short =
+    let tests : Tests p = tests_of p in
     let sound : AreSound [] p.funcs = record {
-      count = leb-true (length p.funcs) 64 (and_left few limit to_limit);
-      statements = leb-true (sum_by (λ f. length f.body) p.funcs) 4096 (and_right few limit to_limit);
-      named = and_right (few && limit) names (and_left (few && limit && names) distinct of_functions);
-      distinct = of_distinct;
-      allowed = and_right (threads && env && functions && main) allowed p.accepted;
-      widths = widths;
+      count = leb-true (length p.funcs) 64 tests.few;
+      statements = leb-true (sum_by (λ f. length f.body) p.funcs) 4096 tests.short;
+      named = tests.names;
+      distinct = tests.distinct;
+      allowed = tests.allowed;
     } in
     let last : Place = between (heads_of p.threads p.env) p.funcs in
     let all : LinesLead first_place (canonical_lines p) last =
     leads_through first_place (between (heads_of p.threads p.env) []) last (map joined (head_words p.threads p.env)) (flat_map (function_lines p.funcs) p.funcs)
-    (heads_lead p.threads p.env (and_left threads env to_env) (and_right threads env to_env) head_widths) (functions_lead (heads_of p.threads p.env) [] p.funcs sound) in
-    let f = main_at p.funcs p.main (and_right (threads && env && functions) main to_main) in
-    let found : position (is_called (codes "main")) p.funcs ≡ Some p.main = sym (ap (λ w. position (is_called w) p.funcs) f.2) ∙ position_of p.funcs p.main f.0 of_distinct f.1 in
+    (heads_lead p.threads p.env tests.threads tests.env) (functions_lead (heads_of p.threads p.env) [] p.funcs sound) in
+    let f = main_at p.funcs p.main tests.main in
+    let found : position (is_called (codes "main")) p.funcs ≡ Some p.main = sym (ap (λ w. position (is_called w) p.funcs) f.2) ∙ position_of p.funcs p.main f.0 tests.distinct f.1 in
     let called : is_called (codes "main") f.0 ≡ true = ap (λ w. bytes_eq w (codes "main")) f.2 in
     let has_main : not (list_any (is_called (codes "main")) (p.funcs ++ [])) ≡ false = ap (λ fs. not (list_any (is_called (codes "main")) fs)) (append-nil p.funcs) ∙ ap not (any_of_get (is_called (codes "main")) p.funcs p.main f.0 f.1 called) in
     let end : least (has_end_fault last) ≡ None = ap (λ b. cond b (Some NoMain) None) has_main in

@@ -12,44 +12,43 @@ use Rattle.omi_script.specs.declared.statement.Stmt.TheVariants.{Parallel, Task,
 use Rattle.omi_script.specs.Names.{is_digit, is_name_text, begins_name, continues_name}
 use Rattle.omi_script.specs.Numbers.{number_of}
 use Rattle.omi_script.specs.Ranges.{is_in_range}
-use Rattle.omi_script.specs.Widths.{has_chunk}
+use Rattle.omi_script.specs.Bodies.{named_by}
 use Rattle.omi_script.specs.Canonical.{kind_name, name_at, statement_words}
 use Rattle.omi_script.specs.Sayings.{StatementLine, Statement, plain, over, saying_of}
 use Rattle.omi_script.specs.ShapeSayings.{over_function}
 use Rattle.omi_script.proofs.Conjunctions.{and_left, and_right, and_true}
-use Rattle.omi_script.proofs.SayingLemmas.{named_by}
 use Rattle.omi_script.proofs.CanonicalLines.{is_ink, is_plain, all_weaker}
-use Rattle.omi_script.proofs.CanonicalNumbers.{below_word, size_small, plain-decimal, number_of-decimal, number_up_to-decimal, kind_of-kind_name, plain-kind_name}
+use Rattle.omi_script.proofs.CanonicalNumbers.{below_word, size_small, plain-decimal, number_of-decimal, number_up_to-decimal, kind_of-kind_name, plain-kind_name, kind_within, chunk_within, chunk_small}
 
 -- the line of a statement: the name of its function, and the statement over that function's number
 abbrev pub line_of_statement : List Func → Stmt → StatementLine
 line_of_statement funcs s = record { name = option_map (name_at funcs) (named_by s); says = Some (over_function s) }
 
 -- the words of a statement say its line
-pub said : (funcs : List Func) (s : Stmt) → is_in_range s ≡ true → has_chunk s ≡ true → saying_of (statement_words funcs s) ≡ Some (Statement (line_of_statement funcs s))
-said funcs (Parallel f None) h k = refl
-said funcs (Parallel f (Some n)) h k = ap (λ o. Some (over (name_at funcs f) (option_map (λ m. λ (g : ℕ). Parallel g (Some m)) o))) (number_of-decimal 1 64 n (size_small n h) h)
-said funcs (Task f false false) h k = refl
-said funcs (Task f true false) h k = refl
-said funcs (Task f false true) h k = refl
-said funcs (Task f true true) h k = refl
-said funcs Taskwait h k = refl
-said funcs Taskyield h k = refl
-said funcs Barrier h k = refl
-said funcs (Critical n f) h k = ap (λ o. Some (over (name_at funcs f) (option_map (λ m. λ (g : ℕ). Critical m g) o))) (number_up_to-decimal 7 n (omega arith) h)
-said funcs (Call f) h k = refl
-said funcs (Only n f) h k = ap (λ o. Some (over (name_at funcs f) (option_map (λ m. λ (g : ℕ). Only m g) o))) (number_up_to-decimal 63 n (omega arith) h)
-said funcs (Repeat n f) h k = ap (λ o. Some (over (name_at funcs f) (option_map (λ m. λ (g : ℕ). Repeat m g) o))) (number_up_to-decimal 1000 n (omega arith) h)
-said funcs (SetNumThreads n) h k = ap (λ o. Some (plain (option_map SetNumThreads o))) (number_of-decimal 1 64 n (size_small n h) h)
-said funcs (SetDynamic false) h k = refl
-said funcs (SetDynamic true) h k = refl
-said funcs (SetMaxActive n) h k = ap (λ o. Some (plain (option_map SetMaxActive o))) (number_up_to-decimal 255 n (omega arith) h)
-said funcs (SetSchedule s) h k =
-    ap (λ o. option_map (λ kind. plain (option_map (λ n. SetSchedule (record { kind = kind; chunk = n })) (number_of 0 65535 (decimal s.chunk)))) o) (kind_of-kind_name s.kind h)
-    ∙ ap (λ o. Some (plain (option_map (λ n. SetSchedule (record { kind = s.kind; chunk = n })) o))) (number_up_to-decimal 65535 s.chunk (omega arith) k)
-said funcs (SetDevice n) h k = ap (λ o. Some (plain (option_map SetDevice o))) (number_up_to-decimal 255 n (omega arith) h)
-said funcs (Tool x) h k = ap (λ o. Some (plain (option_map Tool o))) (number_up_to-decimal 18446744073709551615 x (omega arith) h)
-said funcs Work h k = refl
+pub said : (funcs : List Func) (s : Stmt) → is_in_range s ≡ true → saying_of (statement_words funcs s) ≡ Some (Statement (line_of_statement funcs s))
+said funcs (Parallel f None) h = refl
+said funcs (Parallel f (Some n)) h = ap (λ o. Some (over (name_at funcs f) (option_map (λ m. λ (g : ℕ). Parallel g (Some m)) o))) (number_of-decimal 1 64 n (size_small n h) h)
+said funcs (Task f false false) h = refl
+said funcs (Task f true false) h = refl
+said funcs (Task f false true) h = refl
+said funcs (Task f true true) h = refl
+said funcs Taskwait h = refl
+said funcs Taskyield h = refl
+said funcs Barrier h = refl
+said funcs (Critical n f) h = ap (λ o. Some (over (name_at funcs f) (option_map (λ m. λ (g : ℕ). Critical m g) o))) (number_up_to-decimal 7 n (omega arith) h)
+said funcs (Call f) h = refl
+said funcs (Only n f) h = ap (λ o. Some (over (name_at funcs f) (option_map (λ m. λ (g : ℕ). Only m g) o))) (number_up_to-decimal 63 n (omega arith) h)
+said funcs (Repeat n f) h = ap (λ o. Some (over (name_at funcs f) (option_map (λ m. λ (g : ℕ). Repeat m g) o))) (number_up_to-decimal 1000 n (omega arith) h)
+said funcs (SetNumThreads n) h = ap (λ o. Some (plain (option_map SetNumThreads o))) (number_of-decimal 1 64 n (size_small n h) h)
+said funcs (SetDynamic false) h = refl
+said funcs (SetDynamic true) h = refl
+said funcs (SetMaxActive n) h = ap (λ o. Some (plain (option_map SetMaxActive o))) (number_up_to-decimal 255 n (omega arith) h)
+said funcs (SetSchedule s) h =
+    ap (λ o. option_map (λ kind. plain (option_map (λ n. SetSchedule (record { kind = kind; chunk = n })) (number_of 0 65535 (decimal s.chunk)))) o) (kind_of-kind_name s.kind (kind_within s h))
+    ∙ ap (λ o. Some (plain (option_map (λ n. SetSchedule (record { kind = s.kind; chunk = n })) o))) (number_up_to-decimal 65535 s.chunk (omega arith) (chunk_within s h))
+said funcs (SetDevice n) h = ap (λ o. Some (plain (option_map SetDevice o))) (number_up_to-decimal 255 n (omega arith) h)
+said funcs (Tool x) h = ap (λ o. Some (plain (option_map Tool o))) (number_up_to-decimal 18446744073709551615 x (omega arith) h)
+said funcs Work h = refl
 
 -- one word more
 pub one_word : (a : List ℕ) → is_plain a ≡ true → list_all is_plain (a ∷ []) ≡ true
@@ -59,28 +58,28 @@ two_words : (a b : List ℕ) → is_plain a ≡ true → is_plain b ≡ true →
 two_words a b h k = and_true (is_plain a) (list_all is_plain (b ∷ [])) h (one_word b k)
 
 -- the words of a statement are words, where the name of its function is one
-pub plain_words : (funcs : List Func) (s : Stmt) → is_in_range s ≡ true → has_chunk s ≡ true → IfSome (named_by s) (λ f. is_plain (name_at funcs f) ≡ true) → list_all is_plain (statement_words funcs s) ≡ true
-plain_words funcs (Parallel f None) h k e = one_word (name_at funcs f) e
-plain_words funcs (Parallel f (Some n)) h k e = and_true (is_plain (name_at funcs f)) (list_all is_plain (decimal n ∷ [])) e (one_word (decimal n) (plain-decimal n (size_small n h)))
-plain_words funcs (Task f false false) h k e = one_word (name_at funcs f) e
-plain_words funcs (Task f true false) h k e = one_word (name_at funcs f) e
-plain_words funcs (Task f false true) h k e = one_word (name_at funcs f) e
-plain_words funcs (Task f true true) h k e = one_word (name_at funcs f) e
-plain_words funcs Taskwait h k e = refl
-plain_words funcs Taskyield h k e = refl
-plain_words funcs Barrier h k e = refl
-plain_words funcs (Critical n f) h k e = two_words (decimal n) (name_at funcs f) (plain-decimal n (below_word 7 n (omega arith) h)) e
-plain_words funcs (Call f) h k e = one_word (name_at funcs f) e
-plain_words funcs (Only n f) h k e = two_words (decimal n) (name_at funcs f) (plain-decimal n (below_word 63 n (omega arith) h)) e
-plain_words funcs (Repeat n f) h k e = two_words (decimal n) (name_at funcs f) (plain-decimal n (below_word 1000 n (omega arith) h)) e
-plain_words funcs (SetNumThreads n) h k e = one_word (decimal n) (plain-decimal n (size_small n h))
-plain_words funcs (SetDynamic false) h k e = refl
-plain_words funcs (SetDynamic true) h k e = refl
-plain_words funcs (SetMaxActive n) h k e = one_word (decimal n) (plain-decimal n (below_word 255 n (omega arith) h))
-plain_words funcs (SetSchedule s) h k e = two_words (kind_name s.kind) (decimal s.chunk) (plain-kind_name s.kind h) (plain-decimal s.chunk (below_word 65535 s.chunk (omega arith) k))
-plain_words funcs (SetDevice n) h k e = one_word (decimal n) (plain-decimal n (below_word 255 n (omega arith) h))
-plain_words funcs (Tool x) h k e = one_word (decimal x) (plain-decimal x (below_word 18446744073709551615 x (omega arith) h))
-plain_words funcs Work h k e = refl
+pub plain_words : (funcs : List Func) (s : Stmt) → is_in_range s ≡ true → IfSome (named_by s) (λ f. is_plain (name_at funcs f) ≡ true) → list_all is_plain (statement_words funcs s) ≡ true
+plain_words funcs (Parallel f None) h e = one_word (name_at funcs f) e
+plain_words funcs (Parallel f (Some n)) h e = and_true (is_plain (name_at funcs f)) (list_all is_plain (decimal n ∷ [])) e (one_word (decimal n) (plain-decimal n (size_small n h)))
+plain_words funcs (Task f false false) h e = one_word (name_at funcs f) e
+plain_words funcs (Task f true false) h e = one_word (name_at funcs f) e
+plain_words funcs (Task f false true) h e = one_word (name_at funcs f) e
+plain_words funcs (Task f true true) h e = one_word (name_at funcs f) e
+plain_words funcs Taskwait h e = refl
+plain_words funcs Taskyield h e = refl
+plain_words funcs Barrier h e = refl
+plain_words funcs (Critical n f) h e = two_words (decimal n) (name_at funcs f) (plain-decimal n (below_word 7 n (omega arith) h)) e
+plain_words funcs (Call f) h e = one_word (name_at funcs f) e
+plain_words funcs (Only n f) h e = two_words (decimal n) (name_at funcs f) (plain-decimal n (below_word 63 n (omega arith) h)) e
+plain_words funcs (Repeat n f) h e = two_words (decimal n) (name_at funcs f) (plain-decimal n (below_word 1000 n (omega arith) h)) e
+plain_words funcs (SetNumThreads n) h e = one_word (decimal n) (plain-decimal n (size_small n h))
+plain_words funcs (SetDynamic false) h e = refl
+plain_words funcs (SetDynamic true) h e = refl
+plain_words funcs (SetMaxActive n) h e = one_word (decimal n) (plain-decimal n (below_word 255 n (omega arith) h))
+plain_words funcs (SetSchedule s) h e = two_words (kind_name s.kind) (decimal s.chunk) (plain-kind_name s.kind (kind_within s h)) (plain-decimal s.chunk (chunk_small s h))
+plain_words funcs (SetDevice n) h e = one_word (decimal n) (plain-decimal n (below_word 255 n (omega arith) h))
+plain_words funcs (Tool x) h e = one_word (decimal x) (plain-decimal x (below_word 18446744073709551615 x (omega arith) h))
+plain_words funcs Work h e = refl
 
 begins_continues : (b : ℕ) → begins_name b ≡ true → continues_name b ≡ true
 begins_continues b h = ap (λ t. t || is_digit b) h

@@ -11,17 +11,16 @@ use Rattle.omi_script.specs.declared.statement.Stmt.{Stmt}
 use Rattle.omi_script.specs.declared.statement.Stmt.TheVariants.{Parallel, Task, Taskwait, Taskyield, Barrier, Critical, Call, Only, Repeat, SetNumThreads, SetDynamic, SetMaxActive, SetSchedule, SetDevice, Tool, Work}
 use Rattle.omi_script.specs.Names.{text_of, is_name, are_distinct}
 use Rattle.omi_script.specs.Ranges.{is_in_range}
+use Rattle.omi_script.specs.Bodies.{named_by}
 use Rattle.omi_script.specs.Reach.{Reach, reach_at, is_above, names_rightly, is_allowed}
-use Rattle.omi_script.specs.Widths.{has_chunk}
 use Rattle.omi_script.specs.Canonical.{name_at, statement_words}
 use Rattle.omi_script.specs.Sayings.{Heads, Statement}
 use Rattle.omi_script.specs.ShapeSayings.{over_function}
 use Rattle.omi_script.specs.Place.{Place, number_named, statement_at, reaches}
 use Rattle.omi_script.specs.LineFaults.{is_task_with_barrier, nests_barrier, is_too_deep, says_such}
 use Rattle.omi_script.proofs.Conjunctions.{and_left, and_right, not_so}
-use Rattle.omi_script.proofs.SayingLemmas.{named_by}
 use Rattle.omi_script.proofs.PlaceLemmas.{length-reaches}
-use Rattle.omi_script.proofs.NamingLemmas.{IsBelow}
+use Rattle.omi_script.proofs.NamingLemmas.{IsBelow, named_above, rightly_no_task, rightly_no_nest, rightly_not_deep}
 use Rattle.omi_script.proofs.CanonicalLines.{is_plain, joined, line_indented}
 use Rattle.omi_script.proofs.CanonicalSayings.{line_of_statement, said, plain_words, plain_name}
 use Rattle.omi_script.proofs.CanonicalSteps.{IsFaultless, LineLeads, LinesLead, line_leads, leads_on}
@@ -42,29 +41,6 @@ inside heads closed name done = record { heads = heads; closed = closed; opened 
 -- how many statements the functions have
 abbrev pub statements_of : List Func → ℕ
 statements_of fs = sum_by (λ (f : Func). length f.body) fs
-
--- a statement names a function above
-named_above : (above : List Reach) (s : Stmt) → names_rightly above s ≡ true → IsBelow (length above) (named_by s)
-named_above above (Parallel f num) h = ltb-true f (length above) (and_left (is_above above f) (nat_lt (reach_at above f).depth 15) h)
-named_above above (Task f undeferred is_final) h = ltb-true f (length above) (and_left (is_above above f) (not (reach_at above f).barrier) h)
-named_above above (Critical k f) h = ltb-true f (length above) (and_left (is_above above f) (not (reach_at above f).barrier) h)
-named_above above (Call f) h = ltb-true f (length above) h
-named_above above (Only m f) h = ltb-true f (length above) (and_left (is_above above f) (not (reach_at above f).barrier) h)
-named_above above (Repeat n f) h = ltb-true f (length above) h
-named_above above s h = tt
-
-rightly_no_task : (above : List Reach) (s : Stmt) → names_rightly above s ≡ true → is_task_with_barrier above s ≡ false
-rightly_no_task above (Task f undeferred is_final) h = not_so (reach_at above f).barrier (and_right (is_above above f) (not (reach_at above f).barrier) h)
-rightly_no_task above s h = refl
-
-rightly_no_nest : (above : List Reach) (s : Stmt) → names_rightly above s ≡ true → nests_barrier above s ≡ false
-rightly_no_nest above (Critical k f) h = not_so (reach_at above f).barrier (and_right (is_above above f) (not (reach_at above f).barrier) h)
-rightly_no_nest above (Only m f) h = not_so (reach_at above f).barrier (and_right (is_above above f) (not (reach_at above f).barrier) h)
-rightly_no_nest above s h = refl
-
-rightly_not_deep : (above : List Reach) (s : Stmt) → names_rightly above s ≡ true → is_too_deep above s ≡ false
-rightly_not_deep above (Parallel f num) h = lt-leb 15 (reach_at above f).depth (ltb-true (reach_at above f).depth 15 (and_right (is_above above f) (nat_lt (reach_at above f).depth 15) h))
-rightly_not_deep above s h = refl
 
 -- a statement is its line's statement over the function that it names
 over_its_function : (s : Stmt) → over_function s (unwrap_or (named_by s) 0) ≡ s
@@ -96,9 +72,9 @@ named_first closed more (Some k) named distinct l =
 
 -- the line of a statement leads behind it
 statement_leads : (heads : Heads) (closed more : List Func) (name : Name) (done : List Stmt) (s : Stmt) → list_all (λ (f : Func). is_name f.name) closed ≡ true → are_distinct (names_of closed) ≡ true
-    → is_allowed (reaches [] closed) s ≡ true → has_chunk s ≡ true → statements_of closed + length done < 4096
+    → is_allowed (reaches [] closed) s ≡ true → statements_of closed + length done < 4096
     → LineLeads (inside heads closed name done) (statement_line (closed ++ more) s) (inside heads closed name (done ++ s ∷ []))
-statement_leads heads closed more name done s named distinct allowed chunk room =
+statement_leads heads closed more name done s named distinct allowed room =
     let funcs : List Func = closed ++ more in
     let place : Place = inside heads closed name done in
     let above : List Reach = reaches [] closed in
@@ -118,18 +94,18 @@ statement_leads heads closed more name done s named distinct allowed chunk room 
       no_nest = such nests_barrier (rightly_no_nest above s rightly);
       limit = ap (λ b. b || says_such is_too_deep place (Statement (line_of_statement funcs s))) (lt-leb 4096 (statements_of closed + length done) room) ∙ such is_too_deep (rightly_not_deep above s rightly);
     } in
-    let step = line_leads place (statement_words funcs s) (statement_line funcs s) (Statement (line_of_statement funcs s)) (line_indented (statement_words funcs s) (plain_words funcs s range chunk found.0)) (said funcs s range chunk) faultless in
+    let step = line_leads place (statement_words funcs s) (statement_line funcs s) (Statement (line_of_statement funcs s)) (line_indented (statement_words funcs s) (plain_words funcs s range found.0)) (said funcs s range) faultless in
     (step.0, step.1, step.2 ∙ ap (λ o. record place { opened = option_map (λ t. record { name = name; body = done ++ t ∷ [] }) o }) at)
 
 -- the lines of statements lead behind the last
 pub body_leads : (heads : Heads) (closed more : List Func) (name : Name) (done left : List Stmt) → list_all (λ (f : Func). is_name f.name) closed ≡ true → are_distinct (names_of closed) ≡ true
-    → list_all (is_allowed (reaches [] closed)) left ≡ true → list_all has_chunk left ≡ true → statements_of closed + length done + length left ≤ 4096
+    → list_all (is_allowed (reaches [] closed)) left ≡ true → statements_of closed + length done + length left ≤ 4096
     → LinesLead (inside heads closed name done) (map (statement_line (closed ++ more)) left) (inside heads closed name (done ++ left))
-body_leads heads closed more name done [] named distinct allowed chunks room = ap (inside heads closed name) (sym (append-nil done))
-body_leads heads closed more name done (s ∷ left) named distinct allowed chunks room =
+body_leads heads closed more name done [] named distinct allowed room = ap (inside heads closed name) (sym (append-nil done))
+body_leads heads closed more name done (s ∷ left) named distinct allowed room =
     let above : List Reach = reaches [] closed in
     let longer : length (done ++ s ∷ []) ≡ length done + 1 = length_push done s in
-    let first = statement_leads heads closed more name done s named distinct (and_left (is_allowed above s) (list_all (is_allowed above) left) allowed) (and_left (has_chunk s) (list_all has_chunk left) chunks) (omega arith) in
-    let rest = body_leads heads closed more name (done ++ s ∷ []) left named distinct (and_right (is_allowed above s) (list_all (is_allowed above) left) allowed) (and_right (has_chunk s) (list_all has_chunk left) chunks) (omega arith) in
+    let first = statement_leads heads closed more name done s named distinct (and_left (is_allowed above s) (list_all (is_allowed above) left) allowed) (omega arith) in
+    let rest = body_leads heads closed more name (done ++ s ∷ []) left named distinct (and_right (is_allowed above s) (list_all (is_allowed above) left) allowed) (omega arith) in
     let To : List Stmt → Type 0 = λ b. LinesLead (inside heads closed name (done ++ s ∷ [])) (map (statement_line (closed ++ more)) left) (inside heads closed name b) in
     leads_on (inside heads closed name done) (inside heads closed name (done ++ s ∷ [])) (inside heads closed name (done ++ s ∷ left)) (statement_line (closed ++ more) s) (map (statement_line (closed ++ more)) left) first (subst To (append_assoc done (s ∷ []) left) rest)

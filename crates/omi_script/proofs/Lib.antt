@@ -3,6 +3,7 @@ pub mod NumberLemmas
 pub mod LineLemmas
 pub mod RangeLemmas
 pub mod Conjunctions
+pub mod KnownLemmas
 pub mod RuleLemmas
 pub mod WorkloadLemmas
 pub mod SayingLemmas

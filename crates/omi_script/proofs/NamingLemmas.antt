@@ -2,14 +2,14 @@
 use Rattle.std.proofs.Common.{◌≡◌, ℕ, ◌<◌, ◌-◌, Bool, true, false, not, cond, List, length, drop, replicate, Option, Some, None, refl, sym, ap, ◌∙◌, arith}
 use Rattle.std.specs.Prelude.{nat_le, nat_lt, position}
 use Rattle.std.specs.List.{position_or_len}
-use Rattle.std.proofs.lemmas.Bool.{lt-ltb, ltb-true, leb-false}
+use Rattle.std.proofs.lemmas.Bool.{lt-ltb, ltb-true, leb-false, lt-leb}
 use Rattle.std.proofs.lemmas.List.{drop-replicate}
+use Rattle.omi_script.specs.Bodies.{named_by}
 use Rattle.omi_script.specs.Reach.{Reach, reach_at, is_above, names_rightly}
 use Rattle.omi_script.specs.LineFaults.{is_task_with_barrier, nests_barrier, is_too_deep}
 use Rattle.omi_script.specs.declared.statement.Stmt.{Stmt}
 use Rattle.omi_script.specs.declared.statement.Stmt.TheVariants.{Parallel, Task, Taskwait, Taskyield, Barrier, Critical, Call, Only, Repeat, SetNumThreads, SetDynamic, SetMaxActive, SetSchedule, SetDevice, Tool, Work}
-use Rattle.omi_script.proofs.Conjunctions.{and_true}
-use Rattle.omi_script.proofs.SayingLemmas.{named_by}
+use Rattle.omi_script.proofs.Conjunctions.{and_left, and_right, and_true, not_so}
 
 -- a place that is found is one of the list
 pub position_within : {A : Type 0} (p : A → Bool) (xs : List A) (f : ℕ) → position p xs ≡ Some f → f < length xs
@@ -52,6 +52,32 @@ rightly_named above (SetSchedule x) l a b c = refl
 rightly_named above (SetDevice n) l a b c = refl
 rightly_named above (Tool x) l a b c = refl
 rightly_named above Work l a b c = refl
+
+-- a statement names a function above
+pub named_above : (above : List Reach) (s : Stmt) → names_rightly above s ≡ true → IsBelow (length above) (named_by s)
+named_above above (Parallel f num) h = ltb-true f (length above) (and_left (is_above above f) (nat_lt (reach_at above f).depth 15) h)
+named_above above (Task f undeferred is_final) h = ltb-true f (length above) (and_left (is_above above f) (not (reach_at above f).barrier) h)
+named_above above (Critical k f) h = ltb-true f (length above) (and_left (is_above above f) (not (reach_at above f).barrier) h)
+named_above above (Call f) h = ltb-true f (length above) h
+named_above above (Only m f) h = ltb-true f (length above) (and_left (is_above above f) (not (reach_at above f).barrier) h)
+named_above above (Repeat n f) h = ltb-true f (length above) h
+named_above above s h = tt
+
+-- it makes no task of a function that reaches a barrier
+pub rightly_no_task : (above : List Reach) (s : Stmt) → names_rightly above s ≡ true → is_task_with_barrier above s ≡ false
+rightly_no_task above (Task f undeferred is_final) h = not_so (reach_at above f).barrier (and_right (is_above above f) (not (reach_at above f).barrier) h)
+rightly_no_task above s h = refl
+
+-- it nests no barrier
+pub rightly_no_nest : (above : List Reach) (s : Stmt) → names_rightly above s ≡ true → nests_barrier above s ≡ false
+rightly_no_nest above (Critical k f) h = not_so (reach_at above f).barrier (and_right (is_above above f) (not (reach_at above f).barrier) h)
+rightly_no_nest above (Only m f) h = not_so (reach_at above f).barrier (and_right (is_above above f) (not (reach_at above f).barrier) h)
+rightly_no_nest above s h = refl
+
+-- it nests no region too deep
+pub rightly_not_deep : (above : List Reach) (s : Stmt) → names_rightly above s ≡ true → is_too_deep above s ≡ false
+rightly_not_deep above (Parallel f num) h = lt-leb 15 (reach_at above f).depth (ltb-true (reach_at above f).depth 15 (and_right (is_above above f) (nat_lt (reach_at above f).depth 15) h))
+rightly_not_deep above s h = refl
 
 -- what stands behind the first bytes of 32 zeros
 pub zeros_behind : (n : ℕ) → drop {A = ℕ} n (replicate 32 0) ≡ replicate (32 - n) 0

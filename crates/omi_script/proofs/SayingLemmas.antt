@@ -5,31 +5,27 @@ use Rattle.std.specs.List.{slice_split}
 use Rattle.std.specs.Option.{option_map}
 use Rattle.omi_script.specs.declared.statement.Stmt.{Stmt}
 use Rattle.omi_script.specs.declared.statement.Stmt.TheVariants.{Parallel, Task, Taskwait, Taskyield, Barrier, Critical, Call, Only, Repeat, SetNumThreads, SetDynamic, SetMaxActive, SetSchedule, SetDevice, Tool, Work}
+use Rattle.omi_script.specs.Bodies.{named_by}
 use Rattle.omi_script.specs.Names.{is_within}
 use Rattle.omi_script.specs.Numbers.{is_comma, number_of, sizes_of}
-use Rattle.omi_script.specs.Ranges.{are_sizes, is_schedule, is_in_range}
+use Rattle.omi_script.specs.Ranges.{are_sizes, is_level_count, is_schedule, is_device, is_processor_count, is_in_range}
 use Rattle.omi_script.specs.Sayings.{begins_comment, Heads, HeadLine, Saying, Silent, Head, Function, Statement, End, kind_of, one_of, has_gap, threads_line, num_threads_line, dynamic_line, max_active_line, schedule_line, device_line, debug_line, procs_line, pair_line, env_line, plain, over, task_line, saying_of_one, saying_of_two, saying_of_three, saying_of_four, saying_of_six, saying_of_words, saying_of}
 use Rattle.omi_script.proofs.Conjunctions.{and_left, and_right, and_true}
-use Rattle.omi_script.proofs.RangeLemmas.{passes, number_within, sizes_sound}
+use Rattle.omi_script.proofs.RangeLemmas.{passes, number_within, number_up_to, sizes_sound}
 
 -- head lines whose numbers are in their ranges
-abbrev pub is_heads : Heads → Bool
-is_heads h = passes (is_within 1 16) h.threads && passes are_sizes h.nthreads && passes is_schedule h.sched && passes (nat_le 1) h.procs
-
--- the function that a statement names
-abbrev pub named_by : Stmt → Option ℕ
-named_by (Parallel f num) = Some f
-named_by (Task f undeferred is_final) = Some f
-named_by (Critical k f) = Some f
-named_by (Call f) = Some f
-named_by (Only m f) = Some f
-named_by (Repeat n f) = Some f
-named_by _ = None
+pub record AreInRange (h : Heads) : Type 0 where
+  pub threads : passes (is_within 1 16) h.threads ≡ true
+  pub sizes : passes are_sizes h.nthreads ≡ true
+  pub levels : passes is_level_count h.max_active ≡ true
+  pub schedule : passes is_schedule h.sched ≡ true
+  pub device : passes is_device h.device ≡ true
+  pub procs : passes is_processor_count h.procs ≡ true
 
 -- what a head line adds keeps the ranges
 abbrev pub KeepsRanges : Option (Heads → Heads) → Type 0
 KeepsRanges None = Unit {0}
-KeepsRanges (Some add) = (h : Heads) → is_heads h ≡ true → is_heads (add h) ≡ true
+KeepsRanges (Some add) = (h : Heads) → AreInRange h → AreInRange (add h)
 
 -- a statement over the function f is in range, and names f where its line names a function
 abbrev pub IsGood : Option (List ℕ) → (ℕ → Stmt) → Type 0
@@ -51,67 +47,37 @@ chosen : (b : Bool) (x y : Option Saying) → IsGoodSaying x → IsGoodSaying y 
 chosen true x y h k = h
 chosen false x y h k = k
 
--- four tests, each of which may be renewed
-renew1 : (a b c d e : Bool) → (a && b && c && d) ≡ true → e ≡ true → (e && b && c && d) ≡ true
-renew1 a b c d e h k = ap (λ x. x && b && c && d) (k ∙ four a b c d h) ∙ h
-  where
-    four : (a b c d : Bool) → (a && b && c && d) ≡ true → true ≡ a
-    four true b c d h = refl
-    four false b c d h = absurd (cc)
-
-renew2 : (a b c d e : Bool) → (a && b && c && d) ≡ true → e ≡ true → (a && e && c && d) ≡ true
-renew2 a b c d true h k = go a b c d h
-  where
-    go : (a b c d : Bool) → (a && b && c && d) ≡ true → (a && true && c && d) ≡ true
-    go true true c d h = h
-    go true false c d h = absurd (cc)
-    go false b c d h = absurd (cc)
-renew2 a b c d false h k = absurd (cc)
-
-renew3 : (a b c d e : Bool) → (a && b && c && d) ≡ true → e ≡ true → (a && b && e && d) ≡ true
-renew3 a b c d true h k = go a b c d h
-  where
-    go : (a b c d : Bool) → (a && b && c && d) ≡ true → (a && b && true && d) ≡ true
-    go true true true d h = h
-    go true true false d h = absurd (cc)
-    go true false c d h = absurd (cc)
-    go false b c d h = absurd (cc)
-renew3 a b c d false h k = absurd (cc)
-
-renew4 : (a b c d e : Bool) → (a && b && c && d) ≡ true → e ≡ true → (a && b && c && e) ≡ true
-renew4 a b c d e h k = and_true (a && b && c) e (and_left (a && b && c) d h) k
-
 adds_threads : (o : Option ℕ) → passes (is_within 1 16) o ≡ true → KeepsRanges (option_map (λ n. λ (h : Heads). record h { threads = Some n }) o)
 adds_threads None e = tt
-adds_threads (Some n) e = λ h k. renew1 (passes (is_within 1 16) h.threads) (passes are_sizes h.nthreads) (passes is_schedule h.sched) (passes (nat_le 1) h.procs) (is_within 1 16 n) k e
+adds_threads (Some n) e = λ h k. record { threads = e; sizes = k.sizes; levels = k.levels; schedule = k.schedule; device = k.device; procs = k.procs }
 
 adds_sizes : (o : Option (List ℕ)) → passes are_sizes o ≡ true → KeepsRanges (option_map (λ ns. λ (h : Heads). record h { nthreads = Some ns }) o)
 adds_sizes None e = tt
-adds_sizes (Some ns) e = λ h k. renew2 (passes (is_within 1 16) h.threads) (passes are_sizes h.nthreads) (passes is_schedule h.sched) (passes (nat_le 1) h.procs) (are_sizes ns) k e
+adds_sizes (Some ns) e = λ h k. record { threads = k.threads; sizes = e; levels = k.levels; schedule = k.schedule; device = k.device; procs = k.procs }
 
-adds_schedule : (kind : ℕ) (o : Option ℕ) → is_within 1 4 kind ≡ true → KeepsRanges (option_map (λ n. λ (h : Heads). record h { sched = Some (record { kind = kind; chunk = n }) }) o)
-adds_schedule kind None e = tt
-adds_schedule kind (Some n) e = λ h k. renew3 (passes (is_within 1 16) h.threads) (passes are_sizes h.nthreads) (passes is_schedule h.sched) (passes (nat_le 1) h.procs) (is_within 1 4 kind) k e
+adds_max_active : (o : Option ℕ) → passes is_level_count o ≡ true → KeepsRanges (option_map (λ n. λ (h : Heads). record h { max_active = Some n }) o)
+adds_max_active None e = tt
+adds_max_active (Some n) e = λ h k. record { threads = k.threads; sizes = k.sizes; levels = e; schedule = k.schedule; device = k.device; procs = k.procs }
 
-adds_procs : (o : Option ℕ) → passes (is_within 1 65535) o ≡ true → KeepsRanges (option_map (λ n. λ (h : Heads). record h { procs = Some n }) o)
+adds_schedule : (kind : ℕ) (o : Option ℕ) → is_within 1 4 kind ≡ true → passes (λ n. nat_le n 65535) o ≡ true → KeepsRanges (option_map (λ n. λ (h : Heads). record h { sched = Some (record { kind = kind; chunk = n }) }) o)
+adds_schedule kind None e l = tt
+adds_schedule kind (Some n) e l = λ h k. record { threads = k.threads; sizes = k.sizes; levels = k.levels; schedule = and_true (is_within 1 4 kind) (nat_le n 65535) e l; device = k.device; procs = k.procs }
+
+adds_device : (o : Option ℕ) → passes is_device o ≡ true → KeepsRanges (option_map (λ n. λ (h : Heads). record h { device = Some n }) o)
+adds_device None e = tt
+adds_device (Some n) e = λ h k. record { threads = k.threads; sizes = k.sizes; levels = k.levels; schedule = k.schedule; device = e; procs = k.procs }
+
+adds_procs : (o : Option ℕ) → passes is_processor_count o ≡ true → KeepsRanges (option_map (λ n. λ (h : Heads). record h { procs = Some n }) o)
 adds_procs None e = tt
-adds_procs (Some n) e = λ h k. renew4 (passes (is_within 1 16) h.threads) (passes are_sizes h.nthreads) (passes is_schedule h.sched) (passes (nat_le 1) h.procs) (nat_le 1 n) k (and_left (nat_le 1 n) (nat_le n 65535) e)
-
-adds_max_active : (o : Option ℕ) → KeepsRanges (option_map (λ n. λ (h : Heads). record h { max_active = Some n }) o)
-adds_max_active None = tt
-adds_max_active (Some n) = λ h k. k
-
-adds_device : (o : Option ℕ) → KeepsRanges (option_map (λ n. λ (h : Heads). record h { device = Some n }) o)
-adds_device None = tt
-adds_device (Some n) = λ h k. k
+adds_procs (Some n) e = λ h k. record { threads = k.threads; sizes = k.sizes; levels = k.levels; schedule = k.schedule; device = k.device; procs = e }
 
 adds_dynamic : (o : Option Bool) → IsGoodSaying (option_map Head (option_map dynamic_line o))
 adds_dynamic None = tt
-adds_dynamic (Some b) = λ h k. k
+adds_dynamic (Some b) = λ h k. record { threads = k.threads; sizes = k.sizes; levels = k.levels; schedule = k.schedule; device = k.device; procs = k.procs }
 
 adds_debug : (o : Option Bool) → IsGoodSaying (option_map Head (option_map debug_line o))
 adds_debug None = tt
-adds_debug (Some b) = λ h k. k
+adds_debug (Some b) = λ h k. record { threads = k.threads; sizes = k.sizes; levels = k.levels; schedule = k.schedule; device = k.device; procs = k.procs }
 
 -- the number of a kind
 abbrev is_kind : Option ℕ → Bool
@@ -130,7 +96,7 @@ kind_within word =
 
 pair_of_kind : (o : Option ℕ) (chunk : List ℕ) → is_kind o ≡ true → IsGoodSaying (option_map Head (option_map (λ k. schedule_line k chunk) o))
 pair_of_kind None chunk e = tt
-pair_of_kind (Some k) chunk e = adds_schedule k (number_of 0 65535 chunk) e
+pair_of_kind (Some k) chunk e = adds_schedule k (number_of 0 65535 chunk) e (number_up_to 65535 chunk)
 
 pair_good : (pieces : List (List ℕ)) → IsGoodSaying (option_map Head (pair_line pieces))
 pair_good [] = tt
@@ -146,9 +112,9 @@ env_good : (name value : List ℕ) → IsGoodSaying (option_map Head (env_line n
 env_good name value =
     head_chosen (bytes_eq name (codes "num_threads")) _ _ (head_chosen (has_gap value) None (Some (num_threads_line value)) tt (adds_sizes (sizes_of value) (sizes_sound value)))
     (head_chosen (bytes_eq name (codes "dynamic")) _ _ (adds_dynamic (one_of (codes "true") (codes "false") value))
-    (head_chosen (bytes_eq name (codes "max_active_levels")) (Some (max_active_line value)) _ (adds_max_active (number_of 0 255 value))
+    (head_chosen (bytes_eq name (codes "max_active_levels")) (Some (max_active_line value)) _ (adds_max_active (number_of 0 255 value) (number_up_to 255 value))
     (head_chosen (bytes_eq name (codes "schedule")) _ _ (pair_good (slice_split is_comma value))
-    (head_chosen (bytes_eq name (codes "device")) (Some (device_line value)) _ (adds_device (number_of 0 255 value))
+    (head_chosen (bytes_eq name (codes "device")) (Some (device_line value)) _ (adds_device (number_of 0 255 value) (number_up_to 255 value))
     (head_chosen (bytes_eq name (codes "debug")) _ _ (adds_debug (one_of (codes "enabled") (codes "disabled") value))
     (head_chosen (bytes_eq name (codes "procs")) (Some (procs_line value)) None (adds_procs (number_of 1 65535 value) (number_within 1 65535 value)) tt))))))
 
@@ -169,7 +135,9 @@ task_good name (Some d) (Some l) = λ f. (refl, refl)
 
 schedule_good : (o : Option ℕ) (third : List ℕ) → is_kind o ≡ true → IsGoodSaying (option_map (λ k. plain (option_map (λ n. SetSchedule (record { kind = k; chunk = n })) (number_of 0 65535 third))) o)
 schedule_good None third e = tt
-schedule_good (Some k) third e = plain_good (is_within 0 65535) (number_of 0 65535 third) (λ n. SetSchedule (record { kind = k; chunk = n })) (number_within 0 65535 third) (λ n within. (e, refl))
+schedule_good (Some k) third e =
+    plain_good (λ n. nat_le n 65535) (number_of 0 65535 third) (λ n. SetSchedule (record { kind = k; chunk = n })) (number_up_to 65535 third)
+    (λ n within. (and_true (is_within 1 4 k) (nat_le n 65535) e within, refl))
 
 one_good : (first : List ℕ) → IsGoodSaying (saying_of_one first)
 one_good first =

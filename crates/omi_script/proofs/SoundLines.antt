@@ -3,18 +3,20 @@ use Rattle.std.proofs.Common.{◌≡◌, ℕ, ◌<◌, ◌≤◌, ◌+◌, ◌-�
 use Rattle.std.specs.Prelude.{nat_le, is_some, sum_by}
 use Rattle.std.specs.List.{list_all, list_any}
 use Rattle.std.specs.Option.{option_map_or, option_map, option_and_then, option_to_list}
-use Rattle.std.proofs.lemmas.Bool.{leb-false, leb-true, le-leb}
+use Rattle.std.proofs.lemmas.Bool.{leb-false, leb-true, le-leb, eq-eqb}
+use Rattle.std.proofs.lemmas.List.{length-append, length-replicate}
 use Rattle.std.proofs.Math.Seq.{take-append_seam, drop-append_seam}
 use Rattle.omi_script.specs.declared.function.Func.{Func}
 use Rattle.omi_script.specs.declared.statement.Stmt.{Stmt}
 use Rattle.omi_script.specs.Names.{text_of, is_name, is_name_text, begins_name, continues_name}
+use Rattle.omi_script.specs.Bodies.{named_by}
 use Rattle.omi_script.specs.Ranges.{is_in_range}
 use Rattle.omi_script.specs.Reach.{Reach, is_allowed, names_rightly}
 use Rattle.omi_script.specs.Sayings.{StatementLine, Saying, Silent, Head, Function, Statement, End}
 use Rattle.omi_script.specs.Place.{Place, is_called, name_of, number_named, statement_at, reaches, statements_above, behind_saying, with_statement, may_stand}
 use Rattle.omi_script.specs.LineFaults.{has_bad_number, has_unknown_name, is_repeated, is_task_with_barrier, nests_barrier, is_too_deep, says_such, is_over_limit}
 use Rattle.omi_script.proofs.Conjunctions.{and_right, and_true}
-use Rattle.omi_script.proofs.SayingLemmas.{IsGood, IsGoodLine, IsGoodSaying, named_by}
+use Rattle.omi_script.proofs.SayingLemmas.{IsGood, IsGoodLine, IsGoodSaying}
 use Rattle.omi_script.proofs.PlaceLemmas.{length-reaches}
 use Rattle.omi_script.proofs.NamingLemmas.{IsBelow, position_within, rightly_named}
 use Rattle.omi_script.proofs.SoundPlaces.{IsSoundPlace, IsSoundOpen, head_sound, statement_sound, end_sound}
@@ -33,9 +35,14 @@ short (b ∷ bs) h = let l : length bs ≤ 31 = leb-true (length bs) 31 (and_rig
 
 is_name_of : (w : List ℕ) → is_name_text w ≡ true → is_name (name_of w) ≡ true
 is_name_of w h =
-    and_true (is_name_text (text_of (name_of w)) && nat_le (length w) 32) (list_all (λ b. b == 0) (drop (length w) (w ++ replicate (32 - length w) 0)))
+    let bytes : List ℕ = w ++ replicate (32 - length w) 0 in
+    let few : length w ≤ 32 = leb-true (length w) 32 (short w h) in
+    let width : length bytes ≡ 32 = omega (arith, length-append w (replicate (32 - length w) 0), length-replicate {A = ℕ} (32 - length w) 0) in
+    and_true (is_name_text (text_of (name_of w)) && nat_le (length w) 32 && list_all (λ b. b == 0) (drop (length w) bytes)) (length bytes == 32)
+    (and_true (is_name_text (text_of (name_of w)) && nat_le (length w) 32) (list_all (λ b. b == 0) (drop (length w) bytes))
     (and_true (is_name_text (text_of (name_of w))) (nat_le (length w) 32) (ap is_name_text (text_name_of w) ∙ h) (short w h))
-    (ap (list_all (λ b. b == 0)) (drop-append_seam w (replicate (32 - length w) 0)) ∙ zeros (32 - length w))
+    (ap (list_all (λ b. b == 0)) (drop-append_seam w (replicate (32 - length w) 0)) ∙ zeros (32 - length w)))
+    (eq-eqb (length bytes) 32 width)
 
 pub some_of : {A : Type 0} (o : Option A) → is_some o ≡ true → (x : A) × (o ≡ Some x)
 some_of None h = absurd (cc)

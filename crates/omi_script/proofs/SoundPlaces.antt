@@ -10,7 +10,7 @@ use Rattle.omi_script.specs.Reach.{is_allowed, are_allowed}
 use Rattle.omi_script.specs.Sayings.{Heads}
 use Rattle.omi_script.specs.Place.{Place, is_called, reaches, statements_above, with_statement}
 use Rattle.omi_script.proofs.Conjunctions.{and_left, and_right, and_true}
-use Rattle.omi_script.proofs.SayingLemmas.{is_heads, KeepsRanges}
+use Rattle.omi_script.proofs.SayingLemmas.{AreInRange, KeepsRanges}
 use Rattle.omi_script.proofs.PlaceLemmas.{allowed_more, distinct_more}
 
 -- an open function keeps the rules over those that are closed
@@ -20,7 +20,7 @@ IsSoundOpen closed (Some f) = (length closed < 64) × (is_name f.name ≡ true) 
 
 -- the rules that hold behind lines without faults
 pub record IsSoundPlace (place : Place) : Type 0 where
-  pub heads : is_heads place.heads ≡ true
+  pub heads : AreInRange place.heads
   pub count : length place.closed ≤ 64
   pub names : list_all (λ (f : Func). is_name f.name) place.closed ≡ true
   pub distinct : are_distinct (map (λ (f : Func). text_of f.name) place.closed) ≡ true
@@ -28,7 +28,7 @@ pub record IsSoundPlace (place : Place) : Type 0 where
   pub statements : statements_above place ≤ 4096
   pub open_function : IsSoundOpen place.closed place.opened
 
-heads_kept : (h : Heads) (o : Option (Heads → Heads)) → KeepsRanges o → is_heads h ≡ true → is_heads (option_map_or (λ add. add h) o h) ≡ true
+heads_kept : (h : Heads) (o : Option (Heads → Heads)) → KeepsRanges o → AreInRange h → AreInRange (option_map_or (λ add. add h) o h)
 heads_kept h None k e = e
 heads_kept h (Some add) k e = k h e
 

@@ -11,7 +11,7 @@ use Rattle.omi_script.specs.declared.fault.Why.TheVariants.{NoMain, Unclosed}
 use Rattle.omi_script.specs.declared.function.Func.{Func}
 use Rattle.omi_script.specs.declared.program.Program.{Program}
 use Rattle.omi_script.specs.Names.{is_within, text_of, is_name, are_distinct}
-use Rattle.omi_script.specs.Ranges.{are_sizes, is_schedule, is_env}
+use Rattle.omi_script.specs.Ranges.{are_sizes, is_level_count, is_schedule, is_device, is_processor_count, is_env}
 use Rattle.omi_script.specs.Reach.{are_allowed}
 use Rattle.omi_script.specs.Program.{are_functions, is_main, is_program}
 use Rattle.omi_script.specs.Sayings.{Heads}
@@ -21,8 +21,8 @@ use Rattle.omi_script.specs.Grammar.{threads_of, env_of, IsProgramOf, Grammar, R
 use Rattle.omi_script.specs.Workload.{Accepts, verdict}
 use Rattle.omi_script.proofs.Conjunctions.{and_left, and_right, and_true}
 use Rattle.omi_script.proofs.RuleLemmas.{main_within}
-use Rattle.omi_script.proofs.RangeLemmas.{passes}
-use Rattle.omi_script.proofs.SayingLemmas.{is_heads}
+use Rattle.omi_script.proofs.RangeLemmas.{passes, is_env-from_tests}
+use Rattle.omi_script.proofs.SayingLemmas.{AreInRange}
 use Rattle.omi_script.proofs.PlaceLemmas.{step}
 use Rattle.omi_script.proofs.SoundPlaces.{IsSoundPlace}
 use Rattle.omi_script.proofs.SoundLines.{yes}
@@ -34,27 +34,22 @@ defaulted : {A : Type 0} (p : A → Bool) (o : Option A) (d : A) → passes p o 
 defaulted p None d h k = k
 defaulted p (Some x) d h k = h
 
-threads_sound : (h : Heads) → is_heads h ≡ true → is_within 1 16 (threads_of h) ≡ true
-threads_sound h e =
-    defaulted (is_within 1 16) h.threads 1
-    (and_left (passes (is_within 1 16) h.threads) (passes are_sizes h.nthreads) (and_left (passes (is_within 1 16) h.threads && passes are_sizes h.nthreads) (passes is_schedule h.sched) (and_left (passes (is_within 1 16) h.threads && passes are_sizes h.nthreads && passes is_schedule h.sched) (passes (nat_le 1) h.procs) e))) refl
+threads_sound : (h : Heads) → AreInRange h → is_within 1 16 (threads_of h) ≡ true
+threads_sound h r = defaulted (is_within 1 16) h.threads 1 r.threads refl
 
 one_size : (t : ℕ) → is_within 1 16 t ≡ true → are_sizes (t ∷ []) ≡ true
 one_size t e =
     let most : t ≤ 16 = leb-true t 16 (and_right (nat_le 1 t) (nat_le t 16) e) in
     and_true (is_within 1 64 t) true (and_true (nat_le 1 t) (nat_le t 64) (and_left (nat_le 1 t) (nat_le t 16) e) (le-leb t 64 (omega arith))) refl
 
-env_sound : (h : Heads) → is_heads h ≡ true → is_env (env_of h) ≡ true
-env_sound h e =
-    let a : Bool = passes (is_within 1 16) h.threads in
-    let b : Bool = passes are_sizes h.nthreads in
-    let c : Bool = passes is_schedule h.sched in
-    let d : Bool = passes (nat_le 1) h.procs in
-    let abc : (a && b && c) ≡ true = and_left (a && b && c) d e in
-    let sizes : are_sizes (env_of h).nthreads ≡ true = defaulted are_sizes h.nthreads (threads_of h ∷ []) (and_right a b (and_left (a && b) c abc)) (one_size (threads_of h) (threads_sound h e)) in
-    let schedule : is_schedule (env_of h).sched ≡ true = defaulted is_schedule h.sched (record { kind = 1; chunk = 0 }) (and_right (a && b) c abc) refl in
-    let procs : nat_le 1 (env_of h).procs ≡ true = defaulted (nat_le 1) h.procs 4 (and_right (a && b && c) d e) refl in
-    and_true (are_sizes (env_of h).nthreads && is_schedule (env_of h).sched) (nat_le 1 (env_of h).procs) (and_true (are_sizes (env_of h).nthreads) (is_schedule (env_of h).sched) sizes schedule) procs
+env_sound : (h : Heads) → AreInRange h → is_env (env_of h) ≡ true
+env_sound h r = is_env-from_tests (env_of h) (record {
+  sizes = defaulted are_sizes h.nthreads (threads_of h ∷ []) r.sizes (one_size (threads_of h) (threads_sound h r));
+  levels = defaulted is_level_count h.max_active 8 r.levels refl;
+  schedule = defaulted is_schedule h.sched (record { kind = 1; chunk = 0 }) r.schedule refl;
+  device = defaulted is_device h.device 0 r.device refl;
+  procs = defaulted is_processor_count h.procs 4 r.procs refl;
+})
 
 -- where one passes, the first that is found does
 found_first : (p : Func → Bool) (xs : List Func) → list_any p xs ≡ true → option_map_or p (find p xs) false ≡ true

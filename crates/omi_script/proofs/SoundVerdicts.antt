@@ -67,7 +67,7 @@ judged n place (line ∷ more) out sound e =
     judged (n + 1) (behind place line) more out (behind_sound place line sound u.0) u.1
 
 first_sound : IsSoundPlace first_place
-first_sound = record { heads = refl; count = omega arith; names = refl; distinct = refl; allowed = refl; statements = omega arith; open_function = tt }
+first_sound = record { heads = record { threads = refl; sizes = refl; levels = refl; schedule = refl; device = refl; procs = refl }; count = omega arith; names = refl; distinct = refl; allowed = refl; statements = omega arith; open_function = tt }
 
 -- a text that is accepted leads to a place that keeps the rules, and its end has no fault
 pub accepted_sound : (bytes : List ℕ) (out : Place) → verdict bytes ≡ Accepts out → IsSoundPlace out × (least (has_end_fault out) ≡ None)

@@ -18,7 +18,6 @@ pub mod Place
 pub mod LineFaults
 pub mod Workload
 pub mod ShapeSayings
-pub mod Widths
 pub mod ReadHeads
 pub mod SayingFaults
 pub mod Counts

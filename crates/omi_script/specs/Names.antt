@@ -28,9 +28,13 @@ is_name_text (b ∷ bs) = begins_name b && list_all continues_name bs && nat_le 
 abbrev pub text_of : Name → List ℕ
 text_of n = take n.len n.bytes
 
--- the bytes are a name, and those past them are 0
+-- the bytes are a name, and those past them, up to 32, are 0
 abbrev pub is_name : Name → Bool
-is_name n = is_name_text (text_of n) && nat_le n.len 32 && list_all (λ b. b == 0) (drop n.len n.bytes)
+is_name n =
+    is_name_text (text_of n)
+    && nat_le n.len 32
+    && list_all (λ b. b == 0) (drop n.len n.bytes)
+    && length n.bytes == 32
 
 -- no two of the names are equal
 abbrev pub are_distinct : List (List ℕ) → Bool

@@ -11,17 +11,34 @@ use Rattle.omi_script.specs.declared.statement.Stmt.TheVariants.{Parallel, Task,
 abbrev pub is_size : ℕ → Bool
 is_size n = is_within 1 64 n
 
--- the kind is one of static, dynamic, guided and auto
+-- a number of nested active parallel regions: at most 255
+abbrev pub is_level_count : ℕ → Bool
+is_level_count n = nat_le n 255
+
+-- a device's number: at most 255
+abbrev pub is_device : ℕ → Bool
+is_device n = nat_le n 255
+
+-- the kind is one of static, dynamic, guided and auto, and the chunk at most 65,535
 abbrev pub is_schedule : Sched → Bool
-is_schedule s = is_within 1 4 s.kind
+is_schedule s = is_within 1 4 s.kind && nat_le s.chunk 65535
 
 -- 1 to 4 sizes
 abbrev pub are_sizes : List ℕ → Bool
 are_sizes ns = is_within 1 4 (length ns) && list_all is_size ns
 
--- the head of a program: the fields of an `Env` that have a range smaller than their type's
+-- a number of processors: 1 to 65,535
+abbrev pub is_processor_count : ℕ → Bool
+is_processor_count n = is_within 1 65535 n
+
+-- the head of a program
 abbrev pub is_env : Env → Bool
-is_env e = are_sizes e.nthreads && is_schedule e.sched && nat_le 1 e.procs
+is_env e =
+    are_sizes e.nthreads
+    && is_level_count e.max_active
+    && is_schedule e.sched
+    && is_device e.device
+    && is_processor_count e.procs
 
 -- the size after `num`, if one is given
 abbrev pub is_given_size : Option ℕ → Bool
@@ -41,8 +58,8 @@ is_in_range (Only m f) = nat_le m 63
 is_in_range (Repeat n f) = nat_le n 1000
 is_in_range (SetNumThreads n) = is_size n
 is_in_range (SetDynamic b) = true
-is_in_range (SetMaxActive n) = nat_le n 255
+is_in_range (SetMaxActive n) = is_level_count n
 is_in_range (SetSchedule s) = is_schedule s
-is_in_range (SetDevice n) = nat_le n 255
+is_in_range (SetDevice n) = is_device n
 is_in_range (Tool x) = nat_le x (2 ^ 64 - 1)
 is_in_range Work = true

@@ -1,14 +1,73 @@
--- What a reader of a program may rely on, as plain facts.
-use Rattle.std.specs.Prelude.{ℕ, ◌<◌, ◌≤◌, length, slice_index, sum_by}
+-- The rules of the language as plain facts of a program. Only the size of a text is no matter of a program.
+use Rattle.std.specs.Prelude.{◌≡◌, ℕ, ◌<◌, ◌≤◌, ◌^◌, ◌-◌, Bool, false, IsTrue, List, [], length, drop, replicate, slice_get, slice_index, sum_by, Option, Some, None, codes}
+use Rattle.omi_script.specs.Names.{text_of, is_name_text}
+use Rattle.omi_script.specs.Bodies.{body_of, HasStatement, named_by}
+use Rattle.omi_script.specs.Reach.{Reach, reach_at, reach_of}
+use Rattle.omi_script.specs.Place.{reaches}
+use Rattle.omi_script.specs.Canonical.{name_at}
+use Rattle.omi_script.specs.declared.function.Func.{Func}
+use Rattle.omi_script.specs.declared.name.Name.{Name}
 use Rattle.omi_script.specs.declared.program.Program.{Program}
+use Rattle.omi_script.specs.declared.statement.Sched.{Sched}
+use Rattle.omi_script.specs.declared.statement.Stmt.{Stmt}
+use Rattle.omi_script.specs.declared.statement.Stmt.TheVariants.{Parallel, Task, Critical, Only, Repeat, SetNumThreads, SetMaxActive, SetSchedule, SetDevice, Tool}
 
--- the ranges of a program's numbers
+-- a team's size, as it is asked for
+abbrev pub IsSize : ℕ → Type 0
+IsSize n = (1 ≤ n) × (n ≤ 64)
+
+-- a schedule's kind (1 static, 2 dynamic, 3 guided, 4 auto), and its chunk
+abbrev pub IsSchedule : Sched → Type 0
+IsSchedule s = (1 ≤ s.kind) × (s.kind ≤ 4) × (s.chunk ≤ 65535)
+
+-- the numbers of a statement lie in their ranges
+abbrev pub IsInRange : Stmt → Type 0
+IsInRange (Parallel f (Some n)) = IsSize n
+IsInRange (Critical k f) = k ≤ 7
+IsInRange (Only m f) = m ≤ 63
+IsInRange (Repeat n f) = n ≤ 1000
+IsInRange (SetNumThreads n) = IsSize n
+IsInRange (SetMaxActive n) = n ≤ 255
+IsInRange (SetSchedule s) = IsSchedule s
+IsInRange (SetDevice n) = n ≤ 255
+IsInRange (Tool x) = x ≤ 2 ^ 64 - 1
+IsInRange _ = Unit {0}
+
+-- a name's bytes have the form of one, at most 32, and zeros stand behind them
+pub record IsName (n : Name) : Type 0 where
+  pub form : IsTrue (is_name_text (text_of n))
+  pub size : (1 ≤ n.len) × (n.len ≤ 32)
+  pub width : length n.bytes ≡ 32
+  pub zeros : drop n.len n.bytes ≡ replicate (32 - n.len) 0
+
+-- what the function with a number reaches: whether a barrier, and how deep its parallel regions are nested
+abbrev pub reach_in : List Func → ℕ → Reach
+reach_in funcs f = reach_at (reaches [] funcs) f
+
+-- what holds of every program
 pub record Rules (p : Program) : Type 0 where
+  -- the head
   pub threads : (1 ≤ p.threads) × (p.threads ≤ 16)
   pub count : (1 ≤ length p.env.nthreads) × (length p.env.nthreads ≤ 4)
-  pub sizes : (k : ℕ) → k < length p.env.nthreads → (1 ≤ slice_index p.env.nthreads k) × (slice_index p.env.nthreads k ≤ 64)
-  pub schedule : (1 ≤ p.env.sched.kind) × (p.env.sched.kind ≤ 4)
-  pub procs : 1 ≤ p.env.procs
+  pub sizes : (k : ℕ) → k < length p.env.nthreads → IsSize (slice_index p.env.nthreads k)
+  pub max_active : p.env.max_active ≤ 255
+  pub schedule : IsSchedule p.env.sched
+  pub device : p.env.device ≤ 255
+  pub procs : (1 ≤ p.env.procs) × (p.env.procs ≤ 65535)
+  -- the functions: their counts, their names, and the one called `main`
   pub functions : length p.funcs ≤ 64
   pub statements : sum_by (λ f. length f.body) p.funcs ≤ 4096
+  pub names : (f : ℕ) (g : Func) → slice_get p.funcs f ≡ Some g → IsName g.name
+  pub distinct : (f g : ℕ) → f < length p.funcs → g < length p.funcs → name_at p.funcs f ≡ name_at p.funcs g → f ≡ g
   pub main : p.main < length p.funcs
+  pub called : name_at p.funcs p.main ≡ codes "main"
+  -- each statement of a function f: its numbers, and the function g above f that it names
+  pub ranges : (f : ℕ) (s : Stmt) → HasStatement p.funcs f s → IsInRange s
+  pub above : (f g : ℕ) (s : Stmt) → HasStatement p.funcs f s → named_by s ≡ Some g → g < f
+  -- what a function reaches is what its statements reach
+  pub reach : (f : ℕ) → f < length p.funcs → reach_in p.funcs f ≡ reach_of (reaches [] p.funcs) (body_of p.funcs f)
+  -- no barrier is reached through `task`, `only` and `critical`, and no parallel region is nested too deep
+  pub no_barrier_in_task : (f g : ℕ) (undeferred is_final : Bool) → HasStatement p.funcs f (Task g undeferred is_final) → (reach_in p.funcs g).barrier ≡ false
+  pub no_barrier_in_only : (f m g : ℕ) → HasStatement p.funcs f (Only m g) → (reach_in p.funcs g).barrier ≡ false
+  pub no_barrier_in_critical : (f k g : ℕ) → HasStatement p.funcs f (Critical k g) → (reach_in p.funcs g).barrier ≡ false
+  pub depth : (f g : ℕ) (num : Option ℕ) → HasStatement p.funcs f (Parallel g num) → (reach_in p.funcs g).depth < 15

@@ -1,9 +1,8 @@
-ghost use Rattle.std.specs.Prelude.{◌≡◌, ◌≤◌, true, ◌∷◌, [], ◌++◌, length, take, flat_map, IfOk, OnOk, codes};
+ghost use Rattle.std.specs.Prelude.{◌≡◌, ◌≤◌, ◌∷◌, [], ◌++◌, length, take, flat_map, IfOk, OnOk, codes};
 ghost use Rattle.std.specs.Fmt.{decimal};
 ghost use Rattle.omi_script.specs.Canonical.{kind_name as kind_text, truth_word, debug_word, flag_word, name_at, listed_behind, list_text, setting_words, task_words, schedule_text, statement_words, line_text, env_words, last_head_words, head_words, statement_text, function_text, canonical};
 ghost use Rattle.omi_script.specs.Grammar.{Grammar};
-ghost use Rattle.omi_script.specs.Widths.{has_chunk, has_widths, HasHeadWidths};
-ghost use Rattle.std.specs.List.{list_all, join_with_byte};
+ghost use Rattle.std.specs.List.{join_with_byte};
 
 use crate::{Env, Func, FuncList, NumList, OutOfMemory, Program, Sched, Stmt};
 use std::alloc::Global;
@@ -133,8 +132,7 @@ fn push_task(
 
 /// Adds a schedule as two words.
 fn push_kind_and_chunk(alloc: Global, text: &mut Vec<u8>, sched: Sched) -> Result<(), OutOfMemory>
-    ensures words { OnOk result (text.new.items ≡ text.old.items ++ (kind_text sched.kind ++ 32 ∷ decimal sched.chunk)) }
-    ensures chunk { sched.chunk ≤ 65535 }
+    ensures { OnOk result (text.new.items ≡ text.old.items ++ (kind_text sched.kind ++ 32 ∷ decimal sched.chunk)) }
 {
     text.extend_from_slice(kind_name(sched.kind))?;
     push_number(alloc, text, b" ", sched.chunk.into())
@@ -142,8 +140,7 @@ fn push_kind_and_chunk(alloc: Global, text: &mut Vec<u8>, sched: Sched) -> Resul
 
 /// Adds the words of a statement that names no function.
 fn push_setting(alloc: Global, text: &mut Vec<u8>, s: &Stmt) -> Result<(), OutOfMemory>
-    ensures words { OnOk result (text.new.items ≡ text.old.items ++ join_with_byte 32 (setting_words s.now)) }
-    ensures widths { OnOk result (has_chunk s.now ≡ true) }
+    ensures { OnOk result (text.new.items ≡ text.old.items ++ join_with_byte 32 (setting_words s.now)) }
 {
     match *s {
         Stmt::Taskwait => text.extend_from_slice(b"taskwait"),
@@ -170,8 +167,7 @@ fn push_words(
     funcs: &FuncList,
     s: &Stmt,
 ) -> Result<(), OutOfMemory>
-    ensures words { OnOk result (text.new.items ≡ text.old.items ++ join_with_byte 32 (statement_words funcs.now s.now)) }
-    ensures widths { OnOk result (has_chunk s.now ≡ true) }
+    ensures { OnOk result (text.new.items ≡ text.old.items ++ join_with_byte 32 (statement_words funcs.now s.now)) }
 {
     match *s {
         Stmt::Parallel { f, num: None } => push_name(text, b"parallel ", funcs, f),
@@ -200,8 +196,7 @@ fn push_statement(
     funcs: &FuncList,
     s: &Stmt,
 ) -> Result<(), OutOfMemory>
-    ensures line { OnOk result (text.new.items ≡ text.old.items ++ statement_text funcs.now s.now) }
-    ensures widths { OnOk result (has_chunk s.now ≡ true) }
+    ensures { OnOk result (text.new.items ≡ text.old.items ++ statement_text funcs.now s.now) }
 {
     text.extend_from_slice(b"  ")?;
     push_words(alloc, text, funcs, s)?;
@@ -215,8 +210,7 @@ fn push_body(
     funcs: &FuncList,
     body: &[Stmt],
 ) -> Result<(), OutOfMemory>
-    ensures lines { OnOk result (text.new.items ≡ text.old.items ++ flat_map (statement_text funcs.now) body.now) }
-    ensures widths { OnOk result (list_all has_chunk body.now ≡ true) }
+    ensures { OnOk result (text.new.items ≡ text.old.items ++ flat_map (statement_text funcs.now) body.now) }
 {
     for s in body {
         push_statement(alloc, text, funcs, s)?;
@@ -232,8 +226,7 @@ fn push_function(
     funcs: &FuncList,
     f: &Func,
 ) -> Result<(), OutOfMemory>
-    ensures lines { OnOk result (text.new.items ≡ text.old.items ++ function_text funcs.now f.now) }
-    ensures widths { OnOk result (has_widths f.now ≡ true) }
+    ensures { OnOk result (text.new.items ≡ text.old.items ++ function_text funcs.now f.now) }
 {
     text.extend_from_slice(b"func ")?;
     text.extend_from_slice(f.name.text())?;
@@ -244,8 +237,7 @@ fn push_function(
 
 /// Adds all functions.
 fn push_functions(alloc: Global, text: &mut Vec<u8>, funcs: &FuncList) -> Result<(), OutOfMemory>
-    ensures lines { OnOk result (text.new.items ≡ text.old.items ++ flat_map (function_text funcs.now) funcs.now) }
-    ensures widths { OnOk result (list_all has_widths funcs.now ≡ true) }
+    ensures { OnOk result (text.new.items ≡ text.old.items ++ flat_map (function_text funcs.now) funcs.now) }
 {
     for f in funcs.as_slice() {
         push_function(alloc, text, funcs, f)?;
@@ -289,8 +281,7 @@ fn push_sizes(alloc: Global, text: &mut Vec<u8>, list: &NumList) -> Result<(), O
 
 /// Adds the head line of run-sched-var.
 fn push_schedule(alloc: Global, text: &mut Vec<u8>, sched: Sched) -> Result<(), OutOfMemory>
-    ensures line { OnOk result (text.new.items ≡ text.old.items ++ line_text (env_words (codes "schedule") (schedule_text sched))) }
-    ensures chunk { sched.chunk ≤ 65535 }
+    ensures { OnOk result (text.new.items ≡ text.old.items ++ line_text (env_words (codes "schedule") (schedule_text sched))) }
 {
     let mut value = Vec::from_slice(alloc, kind_name(sched.kind))?;
     push_number(alloc, &mut value, b",", sched.chunk.into())?;
@@ -308,10 +299,7 @@ fn push_threads(alloc: Global, text: &mut Vec<u8>, threads: u8) -> Result<(), Ou
 
 /// Adds the last four head lines.
 fn push_last_head(alloc: Global, text: &mut Vec<u8>, env: &Env) -> Result<(), OutOfMemory>
-    ensures lines { OnOk result (text.new.items ≡ text.old.items ++ flat_map line_text (last_head_words env.now)) }
-    ensures chunk { OnOk result (env.now.sched.chunk ≤ 65535) }
-    ensures device { OnOk result (env.now.device ≤ 255) }
-    ensures procs { OnOk result (env.now.procs ≤ 65535) }
+    ensures { OnOk result (text.new.items ≡ text.old.items ++ flat_map line_text (last_head_words env.now)) }
 {
     push_schedule(alloc, text, env.sched)?;
     let device = env.device;
@@ -323,8 +311,7 @@ fn push_last_head(alloc: Global, text: &mut Vec<u8>, env: &Env) -> Result<(), Ou
 
 /// Adds the head lines.
 fn push_head(alloc: Global, text: &mut Vec<u8>, threads: u8, env: &Env) -> Result<(), OutOfMemory>
-    ensures lines { OnOk result (text.new.items ≡ text.old.items ++ flat_map line_text (head_words threads env.now)) }
-    ensures widths { OnOk result (HasHeadWidths env.now) }
+    ensures { OnOk result (text.new.items ≡ text.old.items ++ flat_map line_text (head_words threads env.now)) }
 {
     push_threads(alloc, text, threads)?;
     push_sizes(alloc, text, &env.nthreads)?;

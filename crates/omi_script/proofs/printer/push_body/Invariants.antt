@@ -1,9 +1,7 @@
-use Rattle.std.proofs.Common.{◌≡◌, true, ◌++◌, take}
+use Rattle.std.proofs.Common.{◌≡◌, ◌++◌, take}
 use Rattle.std.specs.Prelude.{flat_map}
-use Rattle.std.specs.List.{list_all}
-use Rattle.omi_script.specs.Widths.{has_chunk}
 use Rattle.omi_script.specs.Canonical.{statement_text}
 use Rattle.omi_script.proofs.printer.push_body.Given as goal
 
 abbrev pub invariant-loop-s : goal.invariant-loop-s
-invariant-loop-s l = (l.text.items ≡ l.initial.text.items ++ flat_map (statement_text l.funcs) (take l.s-index l.body)) × (list_all has_chunk (take l.s-index l.body) ≡ true)
+invariant-loop-s l = l.text.items ≡ l.initial.text.items ++ flat_map (statement_text l.funcs) (take l.s-index l.body)

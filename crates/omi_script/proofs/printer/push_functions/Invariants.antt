@@ -1,9 +1,7 @@
-use Rattle.std.proofs.Common.{◌≡◌, true, ◌++◌, take}
+use Rattle.std.proofs.Common.{◌≡◌, ◌++◌, take}
 use Rattle.std.specs.Prelude.{flat_map}
-use Rattle.std.specs.List.{list_all}
-use Rattle.omi_script.specs.Widths.{has_widths}
 use Rattle.omi_script.specs.Canonical.{function_text}
 use Rattle.omi_script.proofs.printer.push_functions.Given as goal
 
 abbrev pub invariant-loop-f : goal.invariant-loop-f
-invariant-loop-f l = (l.text.items ≡ l.initial.text.items ++ flat_map (function_text l.funcs) (take l.f-index l.f-items)) × (list_all has_widths (take l.f-index l.f-items) ≡ true)
+invariant-loop-f l = l.text.items ≡ l.initial.text.items ++ flat_map (function_text l.funcs) (take l.f-index l.f-items)
