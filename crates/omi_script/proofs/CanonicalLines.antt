@@ -7,8 +7,8 @@ use Rattle.std.proofs.lemmas.List.{append_assoc}
 use Rattle.std.proofs.lemmas.List.Folds.{list_all-append}
 use Rattle.std.proofs.lemmas.List.Splits.{slice_split_none, slice_split_at}
 use Rattle.std.proofs.lemmas.List.Sums.{AllPass-from_list_all}
+use Rattle.omi_script.specs.Lines.{is_blank, is_line_feed, is_text, lines, without_last_empty, words}
 use Rattle.omi_script.specs.Names.{is_within}
-use Rattle.omi_script.specs.Lines.{is_line_feed, is_blank, is_text, without_last_empty, lines, words}
 use Rattle.omi_script.proofs.Conjunctions.{and_left, and_right, and_true}
 
 -- a byte of a word
@@ -64,7 +64,7 @@ not_zero n h = grind (arith, nat_tests)
 pub plain_not_empty : (w : List ℕ) → is_plain w ≡ true → (length w == 0) ≡ false
 plain_not_empty w h = not_zero (length w) (and_left (nat_le 1 (length w)) (list_all is_ink w) h)
 
--- a word is kept before the words behind it
+-- a word is kept before the words after it
 kept : (w : List ℕ) (pieces : List (List ℕ)) → is_plain w ≡ true → filter (λ (piece : List ℕ). not (length piece == 0)) (w ∷ pieces) ≡ w ∷ filter (λ (piece : List ℕ). not (length piece == 0)) pieces
 kept w pieces h =
     ap (λ b. cond b (w ∷ filter (λ (piece : List ℕ). not (length piece == 0)) pieces) (filter (λ (piece : List ℕ). not (length piece == 0)) pieces))

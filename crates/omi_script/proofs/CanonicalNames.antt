@@ -6,10 +6,11 @@ use Rattle.std.proofs.lemmas.Bool.{lt-ltb, leb-true, eqb-true}
 use Rattle.std.proofs.lemmas.List.{length-drop, take-append-drop, length-take-le}
 use Rattle.std.proofs.lemmas.Option.{slice_get_within}
 use Rattle.std.proofs.lemmas.Slice.Eq.{bytes_eq-Decides}
+use Rattle.omi_script.specs.Names.{are_distinct, is_name, is_name_text, name_of, text_of}
+use Rattle.omi_script.specs.ParserState.{is_called}
 use Rattle.omi_script.specs.declared.function.Func.{Func}
+use Rattle.omi_script.specs.declared.limits.TheConstants.{MAX_NAME}
 use Rattle.omi_script.specs.declared.name.Name.{Name}
-use Rattle.omi_script.specs.Names.{text_of, is_name, is_name_text, are_distinct}
-use Rattle.omi_script.specs.Place.{is_called, name_of}
 use Rattle.omi_script.proofs.Conjunctions.{and_left, and_right, not_so}
 use Rattle.omi_script.proofs.SoundLines.{left_false, right_false}
 
@@ -71,7 +72,7 @@ distinct_first (f ∷ fs) gs d =
     ap (λ b. not b && are_distinct (names_of fs)) (not_any (bytes_eq (text_of f.name)) fs gs (not_so (list_any (bytes_eq (text_of f.name)) (names_of (fs ++ gs))) (and_left rest (are_distinct (names_of (fs ++ gs))) d)))
     ∙ distinct_first fs gs (and_right rest (are_distinct (names_of (fs ++ gs))) d)
 
--- a function of the first ones stands at the same place of all
+-- a function of the first ones stands at the same state of all
 pub get_of_first : (fs gs : List Func) (k : ℕ) (f : Func) → slice_get fs k ≡ Some f → slice_get (fs ++ gs) k ≡ Some f
 get_of_first [] gs k f e = absurd (cc)
 get_of_first (g ∷ fs) gs zero f e = e
@@ -80,21 +81,21 @@ get_of_first (g ∷ fs) gs (suc k) f e = get_of_first fs gs k f e
 -- the tests of a name, one by one
 pub record NameTests (n : Name) : Type 0 where
   pub text : is_name_text (text_of n) ≡ true
-  pub size : nat_le n.len 32 ≡ true
+  pub size : nat_le n.len MAX_NAME ≡ true
   pub zeros : list_all (λ b. b == 0) (drop n.len n.bytes) ≡ true
-  pub width : (length n.bytes == 32) ≡ true
+  pub width : (length n.bytes == MAX_NAME) ≡ true
 
 pub name_tests : (n : Name) → is_name n ≡ true → NameTests n
 name_tests n h =
     let text : Bool = is_name_text (text_of n) in
-    let size : Bool = nat_le n.len 32 in
+    let size : Bool = nat_le n.len MAX_NAME in
     let zeros : Bool = list_all (λ b. b == 0) (drop n.len n.bytes) in
-    let first : (text && size && zeros) ≡ true = and_left (text && size && zeros) (length n.bytes == 32) h in
+    let first : (text && size && zeros) ≡ true = and_left (text && size && zeros) (length n.bytes == MAX_NAME) h in
     record {
       text = and_left text size (and_left (text && size) zeros first);
       size = and_right text size (and_left (text && size) zeros first);
       zeros = and_right (text && size) zeros first;
-      width = and_right (text && size && zeros) (length n.bytes == 32) h;
+      width = and_right (text && size && zeros) (length n.bytes == MAX_NAME) h;
     }
 
 -- a name's bytes are one
@@ -117,12 +118,12 @@ zeros_are (b ∷ bs) h =
 pub name_of-text_of : (n : Name) → is_name n ≡ true → name_of (text_of n) ≡ n
 name_of-text_of n h =
     let tests : NameTests n = name_tests n h in
-    let l : length n.bytes ≡ 32 = eqb-true (length n.bytes) 32 tests.width in
-    let short : n.len ≤ 32 = leb-true n.len 32 tests.size in
+    let l : length n.bytes ≡ MAX_NAME = eqb-true (length n.bytes) MAX_NAME tests.width in
+    let short : n.len ≤ MAX_NAME = leb-true n.len MAX_NAME tests.size in
     let len : length (text_of n) ≡ n.len = length-take-le n.len n.bytes (omega arith) in
-    let left : length (drop n.len n.bytes) ≡ 32 - length (text_of n) = omega (arith, length-drop n.len n.bytes) in
-    let zeros : drop n.len n.bytes ≡ replicate (32 - length (text_of n)) 0 = zeros_are (drop n.len n.bytes) tests.zeros ∙ ap (λ k. replicate k 0) left in
-    let bytes : text_of n ++ replicate (32 - length (text_of n)) 0 ≡ n.bytes = sym (ap (λ bs. text_of n ++ bs) zeros) ∙ take-append-drop n.len n.bytes in
-    let of_len : ℕ → Name = λ k. record { len = k; bytes = text_of n ++ replicate (32 - length (text_of n)) 0 } in
+    let left : length (drop n.len n.bytes) ≡ MAX_NAME - length (text_of n) = omega (arith, length-drop n.len n.bytes) in
+    let zeros : drop n.len n.bytes ≡ replicate (MAX_NAME - length (text_of n)) 0 = zeros_are (drop n.len n.bytes) tests.zeros ∙ ap (λ k. replicate k 0) left in
+    let bytes : text_of n ++ replicate (MAX_NAME - length (text_of n)) 0 ≡ n.bytes = sym (ap (λ bs. text_of n ++ bs) zeros) ∙ take-append-drop n.len n.bytes in
+    let of_len : ℕ → Name = λ k. record { len = k; bytes = text_of n ++ replicate (MAX_NAME - length (text_of n)) 0 } in
     let of_bytes : List ℕ → Name = λ bs. record { len = n.len; bytes = bs } in
     ap of_len len ∙ ap of_bytes bytes

@@ -10,11 +10,14 @@ use Rattle.std.proofs.lemmas.Fmt.{digits_decimal, digits_value-decimal, decimal_
 use Rattle.std.proofs.lemmas.List.{append-nil, length-append}
 use Rattle.std.proofs.lemmas.List.Folds.{list_all-append}
 use Rattle.std.proofs.lemmas.List.Splits.{slice_split_none, slice_split_at}
-use Rattle.omi_script.specs.Names.{is_within, is_digit}
-use Rattle.omi_script.specs.Numbers.{is_decimal, value_of, number_of, each_of, is_comma, numbers_of, sizes_of}
-use Rattle.omi_script.specs.Ranges.{is_size, are_sizes, is_schedule}
-use Rattle.omi_script.specs.Sayings.{kind_of, has_gap}
-use Rattle.omi_script.specs.Canonical.{kind_name, listed_behind, list_text, schedule_text}
+use Rattle.omi_script.specs.Canonical.{kind_text, list_text, listed_behind, schedule_text}
+use Rattle.omi_script.specs.HeadLines.{has_empty_piece}
+use Rattle.omi_script.specs.LineFaults.{least}
+use Rattle.omi_script.specs.Names.{is_digit, is_within}
+use Rattle.omi_script.specs.Numbers.{each_of, is_comma, is_decimal, number_of, numbers_of, sizes_of, value_of}
+use Rattle.omi_script.specs.Ranges.{are_sizes, is_schedule, is_size}
+use Rattle.omi_script.specs.Schedules.{kind_of}
+use Rattle.omi_script.specs.declared.limits.TheConstants.{MAX_CHUNK, MAX_SIZE, MAX_SIZES}
 use Rattle.omi_script.specs.declared.statement.Sched.{Sched}
 use Rattle.omi_script.proofs.Conjunctions.{and_left, and_right, and_true}
 use Rattle.omi_script.proofs.NumberLemmas.{numerals}
@@ -76,7 +79,7 @@ pub below_word : (most n : ℕ) → most < 2 ^ 64 → nat_le n most ≡ true →
 below_word most n h e = let l : n ≤ most = leb-true n most e in omega arith
 
 pub size_small : (n : ℕ) → is_size n ≡ true → n < 2 ^ 64
-size_small n h = below_word 64 n (omega arith) (and_right (nat_le 1 n) (nat_le n 64) h)
+size_small n h = below_word MAX_SIZE n (omega arith) (and_right (nat_le 1 n) (nat_le n MAX_SIZE) h)
 
 -- a list of sizes is cut into its numbers
 pieces-list_text : (n : ℕ) (ns : List ℕ) → list_all is_size (n ∷ ns) ≡ true → slice_split is_comma (decimal n ++ listed_behind ns) ≡ map decimal (n ∷ ns)
@@ -87,22 +90,22 @@ pieces-list_text n (m ∷ ns) h =
 
 pieces_of_sizes : (ns : List ℕ) → are_sizes ns ≡ true → slice_split is_comma (list_text ns) ≡ map decimal ns
 pieces_of_sizes [] h = absurd (cc)
-pieces_of_sizes (n ∷ ns) h = pieces-list_text n ns (and_right (is_within 1 4 (length (n ∷ ns))) (list_all is_size (n ∷ ns)) h)
+pieces_of_sizes (n ∷ ns) h = pieces-list_text n ns (and_right (is_within 1 MAX_SIZES (length (n ∷ ns))) (list_all is_size (n ∷ ns)) h)
 
-each-decimal : (ns : List ℕ) → list_all is_size ns ≡ true → each_of (map (number_of 1 64) (map decimal ns)) ≡ Some ns
+each-decimal : (ns : List ℕ) → list_all is_size ns ≡ true → each_of (map (number_of 1 MAX_SIZE) (map decimal ns)) ≡ Some ns
 each-decimal [] h = refl
 each-decimal (n ∷ ns) h =
     let size : is_size n ≡ true = and_left (is_size n) (list_all is_size ns) h in
-    ap (λ o. option_and_then (λ m. option_map (λ ms. m ∷ ms) (each_of (map (number_of 1 64) (map decimal ns)))) o) (number_of-decimal 1 64 n (size_small n size) size)
+    ap (λ o. option_and_then (λ m. option_map (λ ms. m ∷ ms) (each_of (map (number_of 1 MAX_SIZE) (map decimal ns)))) o) (number_of-decimal 1 MAX_SIZE n (size_small n size) size)
     ∙ ap (option_map (λ ms. n ∷ ms)) (each-decimal ns (and_right (is_size n) (list_all is_size ns) h))
 
 -- a list of sizes is read again
 pub sizes_of-list_text : (ns : List ℕ) → are_sizes ns ≡ true → sizes_of (list_text ns) ≡ Some ns
 sizes_of-list_text ns h =
-    let sizes : list_all is_size ns ≡ true = and_right (is_within 1 4 (length ns)) (list_all is_size ns) h in
-    let few : nat_le (length ns) 4 ≡ true = and_right (nat_le 1 (length ns)) (nat_le (length ns) 4) (and_left (is_within 1 4 (length ns)) (list_all is_size ns) h) in
-    let read : numbers_of 1 64 (list_text ns) ≡ Some ns = ap (λ ps. each_of (map (number_of 1 64) ps)) (pieces_of_sizes ns h) ∙ each-decimal ns sizes in
-    ap (option_and_then (λ ms. if nat_le (length ms) 4 then Some ms else None)) read ∙ ap (λ b. if b then Some ns else None) few
+    let sizes : list_all is_size ns ≡ true = and_right (is_within 1 MAX_SIZES (length ns)) (list_all is_size ns) h in
+    let few : nat_le (length ns) MAX_SIZES ≡ true = and_right (nat_le 1 (length ns)) (nat_le (length ns) MAX_SIZES) (and_left (is_within 1 MAX_SIZES (length ns)) (list_all is_size ns) h) in
+    let read : numbers_of 1 MAX_SIZE (list_text ns) ≡ Some ns = ap (λ ps. each_of (map (number_of 1 MAX_SIZE) ps)) (pieces_of_sizes ns h) ∙ each-decimal ns sizes in
+    ap (option_and_then (λ ms. if nat_le (length ms) MAX_SIZES then Some ms else None)) read ∙ ap (λ b. if b then Some ns else None) few
 
 none_empty : (ns : List ℕ) → list_all is_size ns ≡ true → list_any (λ (piece : List ℕ). length piece == 0) (map decimal ns) ≡ false
 none_empty [] h = refl
@@ -111,8 +114,8 @@ none_empty (n ∷ ns) h =
     ∙ none_empty ns (and_right (is_size n) (list_all is_size ns) h)
 
 -- no piece of a list of sizes is empty
-pub no_gap-list_text : (ns : List ℕ) → are_sizes ns ≡ true → has_gap (list_text ns) ≡ false
-no_gap-list_text ns h = ap (list_any (λ (piece : List ℕ). length piece == 0)) (pieces_of_sizes ns h) ∙ none_empty ns (and_right (is_within 1 4 (length ns)) (list_all is_size ns) h)
+pub no_gap-list_text : (ns : List ℕ) → are_sizes ns ≡ true → has_empty_piece (list_text ns) ≡ false
+no_gap-list_text ns h = ap (list_any (λ (piece : List ℕ). length piece == 0)) (pieces_of_sizes ns h) ∙ none_empty ns (and_right (is_within 1 MAX_SIZES (length ns)) (list_all is_size ns) h)
 
 -- a fact of each kind of a schedule
 by_kind : (P : ℕ → Type 0) → P 1 → P 2 → P 3 → P 4 → (k : ℕ) → is_within 1 4 k ≡ true → P k
@@ -124,29 +127,29 @@ by_kind P a b c d (suc (suc (suc (suc zero)))) h = d
 by_kind P a b c d (suc (suc (suc (suc (suc k))))) h = let l : suc (suc (suc (suc (suc k)))) ≤ 4 = leb-true (suc (suc (suc (suc (suc k))))) 4 (and_right (nat_le 1 (suc (suc (suc (suc (suc k)))))) (nat_le (suc (suc (suc (suc (suc k))))) 4) h) in absurd (omega arith)
 
 -- a schedule's kind is read again
-pub kind_of-kind_name : (k : ℕ) → is_within 1 4 k ≡ true → kind_of (kind_name k) ≡ Some k
-kind_of-kind_name = by_kind (λ k. kind_of (kind_name k) ≡ Some k) refl refl refl refl
+pub kind_of-kind_text : (k : ℕ) → is_within 1 4 k ≡ true → kind_of (kind_text k) ≡ Some k
+kind_of-kind_text = by_kind (λ k. kind_of (kind_text k) ≡ Some k) refl refl refl refl
 
 -- a schedule's kind is a word
-pub plain-kind_name : (k : ℕ) → is_within 1 4 k ≡ true → is_plain (kind_name k) ≡ true
-plain-kind_name = by_kind (λ k. is_plain (kind_name k) ≡ true) refl refl refl refl
+pub plain-kind_text : (k : ℕ) → is_within 1 4 k ≡ true → is_plain (kind_text k) ≡ true
+plain-kind_text = by_kind (λ k. is_plain (kind_text k) ≡ true) refl refl refl refl
 
 chunk_alone : (c : ℕ) → c < 2 ^ 64 → slice_split is_comma (decimal c) ≡ decimal c ∷ []
 chunk_alone c h = slice_split_none is_comma (decimal c) (no_comma c h)
 
 pub kind_within : (s : Sched) → is_schedule s ≡ true → is_within 1 4 s.kind ≡ true
-kind_within s h = and_left (is_within 1 4 s.kind) (nat_le s.chunk 65535) h
+kind_within s h = and_left (is_within 1 4 s.kind) (nat_le s.chunk MAX_CHUNK) h
 
-pub chunk_within : (s : Sched) → is_schedule s ≡ true → nat_le s.chunk 65535 ≡ true
-chunk_within s h = and_right (is_within 1 4 s.kind) (nat_le s.chunk 65535) h
+pub chunk_within : (s : Sched) → is_schedule s ≡ true → nat_le s.chunk MAX_CHUNK ≡ true
+chunk_within s h = and_right (is_within 1 4 s.kind) (nat_le s.chunk MAX_CHUNK) h
 
 pub chunk_small : (s : Sched) → is_schedule s ≡ true → s.chunk < 2 ^ 64
-chunk_small s h = below_word 65535 s.chunk (omega arith) (chunk_within s h)
+chunk_small s h = below_word MAX_CHUNK s.chunk (omega arith) (chunk_within s h)
 
 -- a schedule is cut into its kind and its chunk
-pub pieces-schedule : (s : Sched) → is_schedule s ≡ true → slice_split is_comma (schedule_text s) ≡ kind_name s.kind ∷ decimal s.chunk ∷ []
+pub pieces-schedule : (s : Sched) → is_schedule s ≡ true → slice_split is_comma (schedule_text s) ≡ kind_text s.kind ∷ decimal s.chunk ∷ []
 pieces-schedule s h =
-    by_kind (λ k. slice_split is_comma (kind_name k ++ 44 ∷ decimal s.chunk) ≡ kind_name k ∷ decimal s.chunk ∷ [])
+    by_kind (λ k. slice_split is_comma (kind_text k ++ 44 ∷ decimal s.chunk) ≡ kind_text k ∷ decimal s.chunk ∷ [])
     (ap (λ ps. codes "static" ∷ ps) (chunk_alone s.chunk (chunk_small s h)))
     (ap (λ ps. codes "dynamic" ∷ ps) (chunk_alone s.chunk (chunk_small s h)))
     (ap (λ ps. codes "guided" ∷ ps) (chunk_alone s.chunk (chunk_small s h)))
@@ -161,7 +164,7 @@ plain_pair v w h k =
 
 -- a schedule is a word
 pub plain-schedule_text : (s : Sched) → is_schedule s ≡ true → is_plain (schedule_text s) ≡ true
-plain-schedule_text s h = plain_pair (kind_name s.kind) (decimal s.chunk) (plain-kind_name s.kind (kind_within s h)) (plain-decimal s.chunk (chunk_small s h))
+plain-schedule_text s h = plain_pair (kind_text s.kind) (decimal s.chunk) (plain-kind_text s.kind (kind_within s h)) (plain-decimal s.chunk (chunk_small s h))
 
 plain-listed : (n : ℕ) (ns : List ℕ) → list_all is_size (n ∷ ns) ≡ true → is_plain (decimal n ++ listed_behind ns) ≡ true
 plain-listed n [] h = ap is_plain (append-nil (decimal n)) ∙ plain-decimal n (size_small n (and_left (is_size n) true h))
@@ -172,4 +175,4 @@ plain-listed n (m ∷ ns) h =
 -- a list of sizes is a word
 pub plain-list_text : (ns : List ℕ) → are_sizes ns ≡ true → is_plain (list_text ns) ≡ true
 plain-list_text [] h = absurd (cc)
-plain-list_text (n ∷ ns) h = plain-listed n ns (and_right (is_within 1 4 (length (n ∷ ns))) (list_all is_size (n ∷ ns)) h)
+plain-list_text (n ∷ ns) h = plain-listed n ns (and_right (is_within 1 MAX_SIZES (length (n ∷ ns))) (list_all is_size (n ∷ ns)) h)

@@ -5,10 +5,11 @@ use Rattle.std.specs.List.{list_any}
 use Rattle.std.specs.Option.{option_map_or, option_to_list}
 use Rattle.std.proofs.lemmas.List.Quantifiers.{position-Some}
 use Rattle.omi_script.specs.LineFaults.{has_end_fault, least}
-use Rattle.omi_script.specs.Place.{Place, is_called}
+use Rattle.omi_script.specs.ParserState.{is_called}
 use Rattle.omi_script.specs.declared.fault.Why.{Why}
-use Rattle.omi_script.specs.declared.fault.Why.TheVariants.{NoMain, Unclosed}
 use Rattle.omi_script.specs.declared.function.Func.{Func}
+use Rattle.omi_script.specs.declared.parser.ParserState.{ParserState}
+use Rattle.omi_script.specs.declared.fault.Why.TheVariants.{NoMain, Unclosed}
 use Rattle.omi_script.proofs.SoundPrograms.{any_nil, main_found}
 
 abbrev is_main : Func → Bool
@@ -40,10 +41,10 @@ abbrev least_of_end : Bool → Bool → Option Why
 least_of_end called opened = cond (not called) (Some NoMain) (cond opened (Some Unclosed) None)
 
 -- where no function is open
-pub closed_end : (place : Place) (o : Option ℕ) → place.opened ≡ None → position (is_called (codes "main")) place.closed ≡ o → least (has_end_fault place) ≡ option_map_or (λ m. None) o (Some NoMain)
-closed_end place o none at =
-    ap (λ f. least_of_end (list_any is_main (place.closed ++ option_to_list f)) (is_some f)) none
-    ∙ ap (λ b. least_of_end b false) (any_nil is_main place.closed ∙ called_from_number place.closed o at)
+pub closed_end : (state : ParserState) (o : Option ℕ) → state.opened ≡ None → position (is_called (codes "main")) state.closed ≡ o → least (has_end_fault state) ≡ option_map_or (λ m. None) o (Some NoMain)
+closed_end state o none at =
+    ap (λ f. least_of_end (list_any is_main (state.closed ++ option_to_list f)) (is_some f)) none
+    ∙ ap (λ b. least_of_end b false) (any_nil is_main state.closed ∙ called_from_number state.closed o at)
     ∙ by_number o
   where
     by_number : (o : Option ℕ) → least_of_end (is_some o) false ≡ option_map_or (λ m. None) o (Some NoMain)

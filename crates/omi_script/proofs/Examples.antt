@@ -1,17 +1,18 @@
 -- The definitions at examples that were worked by hand.
 use Rattle.std.proofs.Common.{◌≡◌, ℕ, true, false, List, [], ◌∷◌, ◌++◌, map, replicate, Some, None, refl}
 use Rattle.std.specs.Prelude.{codes}
-use Rattle.omi_script.specs.declared.env.Env.{Env}
-use Rattle.omi_script.specs.declared.name.Name.{Name}
-use Rattle.omi_script.specs.declared.function.Func.{Func}
-use Rattle.omi_script.specs.declared.statement.Stmt.{Stmt}
-use Rattle.omi_script.specs.declared.statement.Stmt.TheVariants.{Parallel, Task, Taskwait, Barrier, Critical, Call, Only, Repeat, Work}
+use Rattle.omi_script.specs.Canonical.{line_text, statement_words}
 use Rattle.omi_script.specs.Lines.{lines, words}
-use Rattle.omi_script.specs.Names.{is_name_text, are_distinct}
+use Rattle.omi_script.specs.Names.{are_distinct, is_name, is_name_text}
 use Rattle.omi_script.specs.Numbers.{number_of, sizes_of}
-use Rattle.omi_script.specs.Reach.{are_allowed}
 use Rattle.omi_script.specs.Program.{is_program}
-use Rattle.omi_script.specs.Canonical.{statement_words, line_text}
+use Rattle.omi_script.specs.Ranges.{is_env, is_in_range}
+use Rattle.omi_script.specs.Reach.{are_allowed}
+use Rattle.omi_script.specs.declared.env.Env.{Env}
+use Rattle.omi_script.specs.declared.function.Func.{Func}
+use Rattle.omi_script.specs.declared.name.Name.{Name}
+use Rattle.omi_script.specs.declared.statement.Stmt.{Stmt}
+use Rattle.omi_script.specs.declared.statement.Stmt.TheVariants.{Parallel, Task, Taskwait, Barrier, Critical, Call, Only, Repeat, SetSchedule, Work}
 use Rattle.std.specs.Fmt.{decimal}
 
 -- lines and words
@@ -121,9 +122,33 @@ made_main_elsewhere : is_program 4 made_env made 2 ≡ false
 unfolding made made_env name
 made_main_elsewhere = refl
 
-made_with_17_threads : is_program 17 made_env made 3 ≡ false
+made_with_65_threads : is_program 65 made_env made 3 ≡ false
 unfolding made made_env name
-made_with_17_threads = refl
+made_with_65_threads = refl
+
+-- numbers out of their ranges, whatever type a field may have
+chunk_70000 : is_env (record made_env { sched = record { kind = 1; chunk = 70000 } }) ≡ false
+unfolding made_env
+chunk_70000 = refl
+
+device_256 : is_env (record made_env { device = 256 }) ≡ false
+unfolding made_env
+device_256 = refl
+
+levels_256 : is_env (record made_env { max_active = 256 }) ≡ false
+unfolding made_env
+levels_256 = refl
+
+procs_65536 : is_env (record made_env { procs = 65536 }) ≡ false
+unfolding made_env
+procs_65536 = refl
+
+set_chunk_70000 : is_in_range (SetSchedule (record { kind = 1; chunk = 70000 })) ≡ false
+set_chunk_70000 = refl
+
+-- a name of 33 bytes
+name_33_bytes : is_name (record { len = 4; bytes = codes "leaf" ++ replicate 29 0 }) ≡ false
+name_33_bytes = refl
 
 -- words of statements in the canonical text
 print_task : statement_words made (Task 0 true false) ≡ codes "task" ∷ codes "leaf" ∷ codes "if" ∷ codes "0" ∷ []

@@ -6,17 +6,15 @@ use Rattle.std.specs.Option.{option_map_or}
 use Rattle.std.proofs.lemmas.List.{length-take-le, length_push, get_or_append_left}
 use Rattle.std.proofs.lemmas.Option.{slice_get-get_or}
 use Rattle.std.proofs.Math.Seq.{get_or-append_seam}
+use Rattle.omi_script.specs.Bodies.{body_of, named_by}
+use Rattle.omi_script.specs.Ranges.{is_in_range}
+use Rattle.omi_script.specs.Reach.{Reach, are_allowed, depth_of, greatest, is_allowed, names_rightly, reach_at, reach_in, reach_of, reaches, reaches_barrier}
 use Rattle.omi_script.specs.declared.function.Func.{Func}
 use Rattle.omi_script.specs.declared.statement.Stmt.{Stmt}
 use Rattle.omi_script.specs.declared.statement.Stmt.TheVariants.{Parallel, Task, Taskwait, Taskyield, Barrier, Critical, Call, Only, Repeat, SetNumThreads, SetDynamic, SetMaxActive, SetSchedule, SetDevice, Tool, Work}
-use Rattle.omi_script.specs.Bodies.{body_of, named_by}
-use Rattle.omi_script.specs.Place.{reaches}
-use Rattle.omi_script.specs.Ranges.{is_in_range}
-use Rattle.omi_script.specs.Reach.{Reach, reach_at, reaches_barrier, depth_of, greatest, reach_of, names_rightly, is_allowed, are_allowed}
-use Rattle.omi_script.specs.Rules.{reach_in}
 use Rattle.omi_script.proofs.Conjunctions.{and_left, and_right}
 use Rattle.omi_script.proofs.NamingLemmas.{IsBelow, named_above}
-use Rattle.omi_script.proofs.PlaceLemmas.{length-reaches}
+use Rattle.omi_script.proofs.StateLemmas.{length-reaches}
 
 -- functions further on change nothing of what is known
 pub reach_kept : (above : List Reach) (fs : List Func) (g : ℕ) → g < length above → reach_at (reaches above fs) g ≡ reach_at above g
@@ -41,7 +39,7 @@ length_first fs f l =
     let known : length (reaches [] (take f fs)) ≡ 0 + length (take f fs) = length-reaches [] (take f fs) in
     omega (arith, length-take-le f fs l)
 
--- the statements of a function may stand behind the functions above it
+-- the statements of a function may stand after the functions above it
 pub allowed_at : (above : List Reach) (fs : List Func) (f : ℕ) (g : Func) → slice_get fs f ≡ Some g → are_allowed above (map (λ (h : Func). h.body) fs) ≡ true → list_all (is_allowed (reaches above (take f fs))) g.body ≡ true
 allowed_at above [] f g e h = absurd (cc)
 allowed_at above (x ∷ fs) zero g e h =
@@ -50,7 +48,7 @@ allowed_at above (x ∷ fs) zero g e h =
 allowed_at above (x ∷ fs) (suc f) g e h =
     allowed_at (above ++ reach_of above x.body ∷ []) fs f g e (and_right (list_all (is_allowed above) x.body) (are_allowed (above ++ reach_of above x.body ∷ []) (map (λ (h : Func). h.body) fs)) h)
 
--- what a function reaches is what its statements reach behind those above it
+-- what a function reaches is what its statements reach after those above it
 reach_of_own : (above : List Reach) (fs : List Func) (f n : ℕ) (g : Func) → slice_get fs f ≡ Some g → n ≡ length above + f → reach_at (reaches above fs) n ≡ reach_of (reaches above (take f fs)) g.body
 reach_of_own above [] f n g e i = absurd (cc)
 reach_of_own above (x ∷ fs) zero n g e i =

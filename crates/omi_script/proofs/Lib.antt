@@ -5,18 +5,18 @@ pub mod RangeLemmas
 pub mod Conjunctions
 pub mod KnownLemmas
 pub mod RuleLemmas
-pub mod WorkloadLemmas
-pub mod SayingLemmas
-pub mod ShapeLemmas
-pub mod PlaceLemmas
+pub mod VerdictLemmas
+pub mod LineRanges
+pub mod PairLemmas
+pub mod StateLemmas
 pub mod NamingLemmas
-pub mod SoundPlaces
+pub mod SoundStates
 pub mod SoundLines
 pub mod SoundVerdicts
 pub mod SoundPrograms
 pub mod CanonicalLines
 pub mod CanonicalNumbers
-pub mod CanonicalSayings
+pub mod CanonicalWords
 pub mod CanonicalSteps
 pub mod CanonicalNames
 pub mod CanonicalStatements
@@ -24,8 +24,8 @@ pub mod CanonicalFunctions
 pub mod CanonicalHeads
 pub mod CanonicalPrograms
 pub mod ReachLemmas
-pub mod ReadingLemmas
+pub mod ParserLemmas
 pub mod JudgeLemmas
 pub mod EndLemmas
 mod Examples
-mod WorkloadExamples
+mod VerdictExamples

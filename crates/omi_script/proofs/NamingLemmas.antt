@@ -5,13 +5,14 @@ use Rattle.std.specs.List.{position_or_len}
 use Rattle.std.proofs.lemmas.Bool.{lt-ltb, ltb-true, leb-false, lt-leb}
 use Rattle.std.proofs.lemmas.List.{drop-replicate}
 use Rattle.omi_script.specs.Bodies.{named_by}
-use Rattle.omi_script.specs.Reach.{Reach, reach_at, is_above, names_rightly}
-use Rattle.omi_script.specs.LineFaults.{is_task_with_barrier, nests_barrier, is_too_deep}
+use Rattle.omi_script.specs.LineFaults.{is_task_with_barrier, is_too_deep, nests_barrier}
+use Rattle.omi_script.specs.Reach.{Reach, is_above, names_rightly, reach_at}
+use Rattle.omi_script.specs.declared.limits.TheConstants.{MAX_DEPTH, MAX_NAME}
 use Rattle.omi_script.specs.declared.statement.Stmt.{Stmt}
 use Rattle.omi_script.specs.declared.statement.Stmt.TheVariants.{Parallel, Task, Taskwait, Taskyield, Barrier, Critical, Call, Only, Repeat, SetNumThreads, SetDynamic, SetMaxActive, SetSchedule, SetDevice, Tool, Work}
 use Rattle.omi_script.proofs.Conjunctions.{and_left, and_right, and_true, not_so}
 
--- a place that is found is one of the list
+-- a state that is found is one of the list
 pub position_within : {A : Type 0} (p : A → Bool) (xs : List A) (f : ℕ) → position p xs ≡ Some f → f < length xs
 position_within p xs f e = by_test (nat_lt (position_or_len p xs) (length xs)) refl
   where
@@ -30,13 +31,13 @@ abbrev pub IsBelow : ℕ → Option ℕ → Type 0
 IsBelow n None = Unit {0}
 IsBelow n (Some f) = f < n
 
--- a depth that isn't 15 or more
-not_deep : (d : ℕ) → nat_le 15 d ≡ false → nat_lt d 15 ≡ true
-not_deep d h = let l : d < 15 = leb-false 15 d h in lt-ltb d 15 l
+-- a depth that isn't the greatest or more
+not_deep : (d : ℕ) → nat_le MAX_DEPTH d ≡ false → nat_lt d MAX_DEPTH ≡ true
+not_deep d h = let l : d < MAX_DEPTH = leb-false MAX_DEPTH d h in lt-ltb d MAX_DEPTH l
 
 -- a statement without a fault names what it may
 pub rightly_named : (above : List Reach) (s : Stmt) → IsBelow (length above) (named_by s) → is_task_with_barrier above s ≡ false → nests_barrier above s ≡ false → is_too_deep above s ≡ false → names_rightly above s ≡ true
-rightly_named above (Parallel f num) l a b c = and_true (is_above above f) (nat_lt (reach_at above f).depth 15) (lt-ltb f (length above) l) (not_deep (reach_at above f).depth c)
+rightly_named above (Parallel f num) l a b c = and_true (is_above above f) (nat_lt (reach_at above f).depth MAX_DEPTH) (lt-ltb f (length above) l) (not_deep (reach_at above f).depth c)
 rightly_named above (Task f undeferred is_final) l a b c = and_true (is_above above f) (not (reach_at above f).barrier) (lt-ltb f (length above) l) (ap not a)
 rightly_named above (Critical k f) l a b c = and_true (is_above above f) (not (reach_at above f).barrier) (lt-ltb f (length above) l) (ap not b)
 rightly_named above (Only m f) l a b c = and_true (is_above above f) (not (reach_at above f).barrier) (lt-ltb f (length above) l) (ap not b)
@@ -55,7 +56,7 @@ rightly_named above Work l a b c = refl
 
 -- a statement names a function above
 pub named_above : (above : List Reach) (s : Stmt) → names_rightly above s ≡ true → IsBelow (length above) (named_by s)
-named_above above (Parallel f num) h = ltb-true f (length above) (and_left (is_above above f) (nat_lt (reach_at above f).depth 15) h)
+named_above above (Parallel f num) h = ltb-true f (length above) (and_left (is_above above f) (nat_lt (reach_at above f).depth MAX_DEPTH) h)
 named_above above (Task f undeferred is_final) h = ltb-true f (length above) (and_left (is_above above f) (not (reach_at above f).barrier) h)
 named_above above (Critical k f) h = ltb-true f (length above) (and_left (is_above above f) (not (reach_at above f).barrier) h)
 named_above above (Call f) h = ltb-true f (length above) h
@@ -76,9 +77,9 @@ rightly_no_nest above s h = refl
 
 -- it nests no region too deep
 pub rightly_not_deep : (above : List Reach) (s : Stmt) → names_rightly above s ≡ true → is_too_deep above s ≡ false
-rightly_not_deep above (Parallel f num) h = lt-leb 15 (reach_at above f).depth (ltb-true (reach_at above f).depth 15 (and_right (is_above above f) (nat_lt (reach_at above f).depth 15) h))
+rightly_not_deep above (Parallel f num) h = lt-leb MAX_DEPTH (reach_at above f).depth (ltb-true (reach_at above f).depth MAX_DEPTH (and_right (is_above above f) (nat_lt (reach_at above f).depth MAX_DEPTH) h))
 rightly_not_deep above s h = refl
 
--- what stands behind the first bytes of 32 zeros
-pub zeros_behind : (n : ℕ) → drop {A = ℕ} n (replicate 32 0) ≡ replicate (32 - n) 0
-zeros_behind n = drop-replicate n 32 0
+-- what stands after the first bytes of zeros
+pub zeros_behind : (n : ℕ) → drop {A = ℕ} n (replicate MAX_NAME 0) ≡ replicate (MAX_NAME - n) 0
+zeros_behind n = drop-replicate n MAX_NAME 0

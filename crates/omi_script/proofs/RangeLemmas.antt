@@ -5,10 +5,12 @@ use Rattle.std.proofs.lemmas.Bool.Decides.{nat_tests}
 use Rattle.std.specs.List.{list_all, slice_split, before_first, after_first, position_or_len}
 use Rattle.std.specs.Option.{option_map_or, option_map, option_and_then}
 use Rattle.std.specs.Prelude.{nat_le}
+use Rattle.omi_script.specs.LineFaults.{least}
 use Rattle.omi_script.specs.Names.{is_within}
-use Rattle.omi_script.specs.Numbers.{number_of, numbers_of, sizes_of, each_of, is_decimal, value_of, is_comma}
-use Rattle.omi_script.specs.Ranges.{is_size, are_sizes, is_level_count, is_schedule, is_device, is_processor_count, is_env}
+use Rattle.omi_script.specs.Numbers.{each_of, is_comma, is_decimal, number_of, numbers_of, sizes_of, value_of}
+use Rattle.omi_script.specs.Ranges.{are_sizes, is_device, is_env, is_level_count, is_processor_count, is_schedule, is_size}
 use Rattle.omi_script.specs.declared.env.Env.{Env}
+use Rattle.omi_script.specs.declared.limits.TheConstants.{MAX_SIZE, MAX_SIZES}
 use Rattle.omi_script.proofs.Conjunctions.{and_left, and_right, and_true}
 use Rattle.omi_script.proofs.PieceLemmas.{items_step}
 
@@ -47,18 +49,18 @@ both_sizes None o h k = refl
 both_sizes (Some m) None h k = refl
 both_sizes (Some m) (Some ms) h k = ap (λ b. b && list_all is_size ms) h ∙ k
 
-each_sizes : (pieces : List (List ℕ)) → passes (list_all is_size) (each_of (map (number_of 1 64) pieces)) ≡ true
+each_sizes : (pieces : List (List ℕ)) → passes (list_all is_size) (each_of (map (number_of 1 MAX_SIZE) pieces)) ≡ true
 each_sizes [] = refl
-each_sizes (w ∷ pieces) = both_sizes (number_of 1 64 w) (each_of (map (number_of 1 64) pieces)) (number_within 1 64 w) (each_sizes pieces)
+each_sizes (w ∷ pieces) = both_sizes (number_of 1 MAX_SIZE w) (each_of (map (number_of 1 MAX_SIZE) pieces)) (number_within 1 MAX_SIZE w) (each_sizes pieces)
 
 one_more : (n : Option ℕ) (o : Option (List ℕ)) → passes (λ ns. nat_le 1 (length ns)) (option_and_then (λ m. option_map (λ ms. m ∷ ms) o) n) ≡ true
 one_more None o = refl
 one_more (Some m) None = refl
 one_more (Some m) (Some ms) = grind (arith, nat_tests)
 
-sizes_guard : (o : Option (List ℕ)) → passes (λ ns. nat_le 1 (length ns)) o ≡ true → passes (list_all is_size) o ≡ true → passes are_sizes (option_and_then (λ ns. if nat_le (length ns) 4 then Some ns else None) o) ≡ true
+sizes_guard : (o : Option (List ℕ)) → passes (λ ns. nat_le 1 (length ns)) o ≡ true → passes (list_all is_size) o ≡ true → passes are_sizes (option_and_then (λ ns. if nat_le (length ns) MAX_SIZES then Some ns else None) o) ≡ true
 sizes_guard None h k = refl
-sizes_guard (Some ns) h k = passes-guard are_sizes (nat_le (length ns) 4) ns ∙ guard_three (nat_le 1 (length ns)) (nat_le (length ns) 4) (list_all is_size ns) h k
+sizes_guard (Some ns) h k = passes-guard are_sizes (nat_le (length ns) MAX_SIZES) ns ∙ guard_three (nat_le 1 (length ns)) (nat_le (length ns) MAX_SIZES) (list_all is_size ns) h k
   where
     guard_three : (a b c : Bool) → a ≡ true → c ≡ true → cond b ((a && b) && c) true ≡ true
     guard_three a true c h k = ap (λ x. (x && true) && c) h ∙ k
@@ -66,8 +68,8 @@ sizes_guard (Some ns) h k = passes-guard are_sizes (nat_le (length ns) 4) ns ∙
 
 pub sizes_sound : (word : List ℕ) → passes are_sizes (sizes_of word) ≡ true
 sizes_sound word =
-    sizes_guard (numbers_of 1 64 word)
-    (ap (λ ps. passes (λ ns. nat_le 1 (length ns)) (each_of (map (number_of 1 64) ps))) (items_step word) ∙ one_more (number_of 1 64 (before_first is_comma word)) (each_of (map (number_of 1 64) (if ltb (position_or_len is_comma word) (length word) then slice_split is_comma (after_first is_comma word) else []))))
+    sizes_guard (numbers_of 1 MAX_SIZE word)
+    (ap (λ ps. passes (λ ns. nat_le 1 (length ns)) (each_of (map (number_of 1 MAX_SIZE) ps))) (items_step word) ∙ one_more (number_of 1 MAX_SIZE (before_first is_comma word)) (each_of (map (number_of 1 MAX_SIZE) (if ltb (position_or_len is_comma word) (length word) then slice_split is_comma (after_first is_comma word) else []))))
     (each_sizes (slice_split is_comma word))
 
 -- the tests of a head, one by one

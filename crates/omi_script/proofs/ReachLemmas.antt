@@ -3,18 +3,17 @@ use Rattle.std.proofs.Common.{◌≡◌, ℕ, ◌<◌, ◌≤◌, ◌+◌, List,
 use Rattle.std.proofs.lemmas.Bool.{cases_lt}
 use Rattle.std.proofs.lemmas.List.{take_more, map-append, get_or_append_left, get_or_past}
 use Rattle.std.proofs.Math.Seq.{get_or-append_seam}
+use Rattle.omi_script.specs.Reach.{Reach, depth_of, greatest, reach_at, reach_of, reaches}
 use Rattle.omi_script.specs.declared.function.Func.{Func}
 use Rattle.omi_script.specs.declared.statement.Stmt.{Stmt}
 use Rattle.omi_script.specs.declared.statement.Stmt.TheVariants.{Parallel, Task, Taskwait, Taskyield, Barrier, Critical, Call, Only, Repeat, SetNumThreads, SetDynamic, SetMaxActive, SetSchedule, SetDevice, Tool, Work}
-use Rattle.omi_script.specs.Reach.{Reach, reach_at, depth_of, greatest, reach_of}
-use Rattle.omi_script.specs.Place.{reaches}
-use Rattle.omi_script.proofs.PlaceLemmas.{reaches_more}
+use Rattle.omi_script.proofs.StateLemmas.{reaches_more}
 
 greatest_append : (ns : List ℕ) (n : ℕ) → greatest (ns ++ n ∷ []) ≡ max (greatest ns) n
 greatest_append [] n = omega arith
 greatest_append (m ∷ ns) n = let e : greatest (ns ++ n ∷ []) ≡ max (greatest ns) n = greatest_append ns n in omega arith
 
--- the greatest depth of statements up to a place, and of the next
+-- the greatest depth of statements up to a state, and of the next
 pub greatest_more : (g : Stmt → ℕ) (xs : List Stmt) (i : ℕ) (d : Stmt) → i < length xs → greatest (map g (take (i + 1) xs)) ≡ max (greatest (map g (take i xs))) (g (get_or xs i d))
 greatest_more g xs i d l = ap (λ ys. greatest (map g ys)) (take_more xs i d l) ∙ ap greatest (map-append g (take i xs) (get_or xs i d ∷ [])) ∙ greatest_append (map g (take i xs)) (g (get_or xs i d))
 

@@ -1,39 +1,40 @@
 -- The plain facts of a program, from the test that its type keeps.
-use Rattle.std.proofs.Common.{◌≡◌, ℕ, ◌<◌, ◌≤◌, ◌-◌, zero, suc, Bool, true, false, ◌&&◌, ◌==◌, List, [], length, drop, map, replicate, Option, Some, None, refl, sym, ap, ◌∙◌, subst, ⊎_elim, arith, get_or, take}
+use Rattle.std.proofs.Common.{◌≡◌, ℕ, ◌<◌, ◌≤◌, ◌-◌, zero, suc, Bool, true, false, ◌&&◌, List, [], length, drop, map, replicate, Option, Some, None, refl, sym, ap, ◌∙◌, subst, ⊎_elim, arith, get_or, take}
 use Rattle.std.proofs.lemmas.Bool.{cases_lt, leb-true, ltb-true, eqb-true}
-use Rattle.std.proofs.lemmas.List.{length-drop, length-take-le}
+use Rattle.std.proofs.lemmas.List.{length-drop}
 use Rattle.std.proofs.lemmas.Option.{slice_get_past, slice_get_within, get_or_from_slice_get, slice_get-get_or}
 use Rattle.std.proofs.lemmas.List.Sums.{AllPass-from_list_all}
 use Rattle.std.proofs.lemmas.Slice.Eq.{bytes_eq-Decides}
 use Rattle.std.specs.Prelude.{nat_le, nat_lt, slice_get, slice_index, sum_by, bytes_eq, codes, not}
 use Rattle.std.specs.List.{list_all, position_or_len}
 use Rattle.std.specs.Option.{option_map_or}
-use Rattle.omi_script.specs.declared.program.Program.{Program}
+use Rattle.omi_script.specs.Bodies.{HasStatement, name_at, named_by}
+use Rattle.omi_script.specs.LineFaults.{least}
+use Rattle.omi_script.specs.Names.{are_distinct, is_name, is_name_text, is_within, text_of}
+use Rattle.omi_script.specs.ParserState.{is_called}
+use Rattle.omi_script.specs.Program.{are_functions, is_main}
+use Rattle.omi_script.specs.Ranges.{is_env, is_in_range, is_schedule, is_size}
+use Rattle.omi_script.specs.Reach.{Reach, are_allowed, is_above, is_allowed, names_rightly, reach_at, reach_in, reaches}
+use Rattle.omi_script.specs.Rules.{IsInRange, IsName, IsSchedule, IsSize, Rules}
 use Rattle.omi_script.specs.declared.function.Func.{Func}
+use Rattle.omi_script.specs.declared.limits.TheConstants.{MAX_CHUNK, MAX_DEPTH, MAX_DEVICE, MAX_FUNCTIONS, MAX_LEVELS, MAX_LOCK, MAX_MEMBER, MAX_NAME, MAX_PROCS, MAX_REPEATS, MAX_SIZE, MAX_SIZES, MAX_STATEMENTS, MAX_THREADS}
 use Rattle.omi_script.specs.declared.name.Name.{Name}
+use Rattle.omi_script.specs.declared.program.Program.{Program}
 use Rattle.omi_script.specs.declared.statement.Sched.{Sched}
 use Rattle.omi_script.specs.declared.statement.Stmt.{Stmt}
 use Rattle.omi_script.specs.declared.statement.Stmt.TheVariants.{Parallel, Task, Taskwait, Taskyield, Barrier, Critical, Call, Only, Repeat, SetNumThreads, SetDynamic, SetMaxActive, SetSchedule, SetDevice, Tool, Work}
-use Rattle.omi_script.specs.Bodies.{body_of, HasStatement, named_by}
-use Rattle.omi_script.specs.Canonical.{name_at}
-use Rattle.omi_script.specs.Names.{is_within, text_of, is_name, is_name_text, are_distinct}
-use Rattle.omi_script.specs.Place.{reaches, is_called}
-use Rattle.omi_script.specs.Ranges.{is_size, are_sizes, is_schedule, is_env, is_in_range}
-use Rattle.omi_script.specs.Reach.{Reach, reach_at, is_above, names_rightly, is_allowed, are_allowed}
-use Rattle.omi_script.specs.Program.{are_functions, is_main}
-use Rattle.omi_script.specs.Rules.{IsSize, IsSchedule, IsInRange, IsName, reach_in, Rules}
 use Rattle.omi_script.proofs.Conjunctions.{and_left, and_right, not_so}
 use Rattle.omi_script.proofs.RangeLemmas.{EnvTests, env_tests}
 use Rattle.omi_script.proofs.NamingLemmas.{IsBelow, named_above}
 use Rattle.omi_script.proofs.CanonicalNames.{NameTests, name_tests, zeros_are, place_by_name}
-use Rattle.omi_script.proofs.KnownLemmas.{reach_kept, reach_first, allowed_at, same_reach, length_first}
+use Rattle.omi_script.proofs.KnownLemmas.{reach_first, allowed_at, same_reach, length_first}
 
 -- the tests of a program, one by one
 pub record Tests (p : Program) : Type 0 where
-  pub threads : is_within 1 16 p.threads ≡ true
+  pub threads : is_within 1 MAX_THREADS p.threads ≡ true
   pub env : is_env p.env ≡ true
-  pub few : nat_le (length p.funcs) 64 ≡ true
-  pub short : nat_le (sum_by (λ f. length f.body) p.funcs) 4096 ≡ true
+  pub few : nat_le (length p.funcs) MAX_FUNCTIONS ≡ true
+  pub short : nat_le (sum_by (λ f. length f.body) p.funcs) MAX_STATEMENTS ≡ true
   pub names : list_all (λ f. is_name f.name) p.funcs ≡ true
   pub distinct : are_distinct (map (λ f. text_of f.name) p.funcs) ≡ true
   pub main : is_main p.funcs p.main ≡ true
@@ -41,7 +42,7 @@ pub record Tests (p : Program) : Type 0 where
 
 pub tests_of : (p : Program) → Tests p
 tests_of p =
-    let threads : Bool = is_within 1 16 p.threads in
+    let threads : Bool = is_within 1 MAX_THREADS p.threads in
     let env : Bool = is_env p.env in
     let functions : Bool = are_functions p.funcs in
     let main : Bool = is_main p.funcs p.main in
@@ -50,8 +51,8 @@ tests_of p =
     let to_functions : (threads && env && functions) ≡ true = and_left (threads && env && functions) main to_main in
     let to_env : (threads && env) ≡ true = and_left (threads && env) functions to_functions in
     let of_functions : functions ≡ true = and_right (threads && env) functions to_functions in
-    let few : Bool = nat_le (length p.funcs) 64 in
-    let short : Bool = nat_le (sum_by (λ f. length f.body) p.funcs) 4096 in
+    let few : Bool = nat_le (length p.funcs) MAX_FUNCTIONS in
+    let short : Bool = nat_le (sum_by (λ f. length f.body) p.funcs) MAX_STATEMENTS in
     let names : Bool = list_all (λ f. is_name f.name) p.funcs in
     let distinct : Bool = are_distinct (map (λ f. text_of f.name) p.funcs) in
     let to_names : (few && short && names) ≡ true = and_left (few && short && names) distinct of_functions in
@@ -71,29 +72,29 @@ within : (least most n : ℕ) → is_within least most n ≡ true → (least ≤
 within least most n h = (leb-true least n (and_left (nat_le least n) (nat_le n most) h), leb-true n most (and_right (nat_le least n) (nat_le n most) h))
 
 size_at : (ns : List ℕ) → list_all is_size ns ≡ true → (k : ℕ) → k < length ns → IsSize (slice_index ns k)
-size_at ns h k l = within 1 64 (slice_index ns k) (AllPass-from_list_all is_size ns h k 0 l)
+size_at ns h k l = within 1 MAX_SIZE (slice_index ns k) (AllPass-from_list_all is_size ns h k 0 l)
 
 IsSchedule-from_test : (s : Sched) → is_schedule s ≡ true → IsSchedule s
 IsSchedule-from_test s h =
-    let kind = within 1 4 s.kind (and_left (is_within 1 4 s.kind) (nat_le s.chunk 65535) h) in
-    (kind.0, kind.1, leb-true s.chunk 65535 (and_right (is_within 1 4 s.kind) (nat_le s.chunk 65535) h))
+    let kind = within 1 4 s.kind (and_left (is_within 1 4 s.kind) (nat_le s.chunk MAX_CHUNK) h) in
+    (kind.0, kind.1, leb-true s.chunk MAX_CHUNK (and_right (is_within 1 4 s.kind) (nat_le s.chunk MAX_CHUNK) h))
 
 IsInRange-from_test : (s : Stmt) → is_in_range s ≡ true → IsInRange s
 IsInRange-from_test (Parallel f None) h = tt
-IsInRange-from_test (Parallel f (Some n)) h = within 1 64 n h
+IsInRange-from_test (Parallel f (Some n)) h = within 1 MAX_SIZE n h
 IsInRange-from_test (Task f undeferred is_final) h = tt
 IsInRange-from_test Taskwait h = tt
 IsInRange-from_test Taskyield h = tt
 IsInRange-from_test Barrier h = tt
-IsInRange-from_test (Critical k f) h = leb-true k 7 h
+IsInRange-from_test (Critical k f) h = leb-true k MAX_LOCK h
 IsInRange-from_test (Call f) h = tt
-IsInRange-from_test (Only m f) h = leb-true m 63 h
-IsInRange-from_test (Repeat n f) h = leb-true n 1000 h
-IsInRange-from_test (SetNumThreads n) h = within 1 64 n h
+IsInRange-from_test (Only m f) h = leb-true m MAX_MEMBER h
+IsInRange-from_test (Repeat n f) h = leb-true n MAX_REPEATS h
+IsInRange-from_test (SetNumThreads n) h = within 1 MAX_SIZE n h
 IsInRange-from_test (SetDynamic b) h = tt
-IsInRange-from_test (SetMaxActive n) h = leb-true n 255 h
+IsInRange-from_test (SetMaxActive n) h = leb-true n MAX_LEVELS h
 IsInRange-from_test (SetSchedule s) h = IsSchedule-from_test s h
-IsInRange-from_test (SetDevice n) h = leb-true n 255 h
+IsInRange-from_test (SetDevice n) h = leb-true n MAX_DEVICE h
 IsInRange-from_test (Tool x) h = leb-true x 18446744073709551615 h
 IsInRange-from_test Work h = tt
 
@@ -104,11 +105,11 @@ some_byte (suc n) bytes h = omega arith
 IsName-from_test : (n : Name) → is_name n ≡ true → IsName n
 IsName-from_test n h =
     let tests : NameTests n = name_tests n h in
-    let width : length n.bytes ≡ 32 = eqb-true (length n.bytes) 32 tests.width in
-    let left : length (drop n.len n.bytes) ≡ 32 - n.len = omega (arith, length-drop n.len n.bytes) in
+    let width : length n.bytes ≡ MAX_NAME = eqb-true (length n.bytes) MAX_NAME tests.width in
+    let left : length (drop n.len n.bytes) ≡ MAX_NAME - n.len = omega (arith, length-drop n.len n.bytes) in
     record {
       form = tests.text;
-      size = (some_byte n.len n.bytes tests.text, leb-true n.len 32 tests.size);
+      size = (some_byte n.len n.bytes tests.text, leb-true n.len MAX_NAME tests.size);
       width = width;
       zeros = zeros_are (drop n.len n.bytes) tests.zeros ∙ ap (λ k. replicate k 0) left;
     }
@@ -157,7 +158,7 @@ statement_in fs f s (k, e) = by_get (slice_get fs f) refl
     by_get (Some g) is = (g, is, (k, sym (ap (λ o. slice_get (option_map_or (λ (h : Func). h.body) o []) k) is) ∙ e))
     by_get None is = let no : None ≡ Some s = sym (ap (λ o. slice_get (option_map_or (λ (h : Func). h.body) o []) k) is) ∙ e in absurd (cc no)
 
--- a statement may stand behind the functions above its own
+-- a statement may stand after the functions above its own
 allowed_in : (fs : List Func) (f : ℕ) (s : Stmt) → are_allowed [] (map (λ (g : Func). g.body) fs) ≡ true → HasStatement fs f s → (f < length fs) × (is_allowed (reaches [] (take f fs)) s ≡ true)
 allowed_in fs f s h has =
     let at = statement_in fs f s has in
@@ -184,11 +185,11 @@ no_barrier_in fs f g s h has names test =
     let above : List Reach = reaches [] (take f fs) in
     ap (λ (r : Reach). r.barrier) (above_in fs f g s h has names).1 ∙ not_so (reach_at above g).barrier (and_right (is_above above g) (not (reach_at above g).barrier) test)
 
-not_too_deep_in : (fs : List Func) (f g : ℕ) (num : Option ℕ) → are_allowed [] (map (λ (h : Func). h.body) fs) ≡ true → HasStatement fs f (Parallel g num) → (reach_in fs g).depth < 15
+not_too_deep_in : (fs : List Func) (f g : ℕ) (num : Option ℕ) → are_allowed [] (map (λ (h : Func). h.body) fs) ≡ true → HasStatement fs f (Parallel g num) → (reach_in fs g).depth < MAX_DEPTH
 not_too_deep_in fs f g num h has =
     let above : List Reach = reaches [] (take f fs) in
     let same : (reach_in fs g).depth ≡ (reach_at above g).depth = ap (λ (r : Reach). r.depth) (above_in fs f g (Parallel g num) h has refl).1 in
-    let less : (reach_at above g).depth < 15 = ltb-true (reach_at above g).depth 15 (and_right (is_above above g) (nat_lt (reach_at above g).depth 15) (rightly_in fs f (Parallel g num) h has)) in
+    let less : (reach_at above g).depth < MAX_DEPTH = ltb-true (reach_at above g).depth MAX_DEPTH (and_right (is_above above g) (nat_lt (reach_at above g).depth MAX_DEPTH) (rightly_in fs f (Parallel g num) h has)) in
     omega arith
 
 -- each program meets the rules
@@ -197,15 +198,15 @@ Rules-from_accepted p =
     let tests : Tests p = tests_of p in
     let env : EnvTests p.env = env_tests p.env tests.env in
     record {
-      threads = within 1 16 p.threads tests.threads;
-      count = within 1 4 (length p.env.nthreads) (and_left (is_within 1 4 (length p.env.nthreads)) (list_all is_size p.env.nthreads) env.sizes);
-      sizes = size_at p.env.nthreads (and_right (is_within 1 4 (length p.env.nthreads)) (list_all is_size p.env.nthreads) env.sizes);
-      max_active = leb-true p.env.max_active 255 env.levels;
+      threads = within 1 MAX_THREADS p.threads tests.threads;
+      count = within 1 MAX_SIZES (length p.env.nthreads) (and_left (is_within 1 MAX_SIZES (length p.env.nthreads)) (list_all is_size p.env.nthreads) env.sizes);
+      sizes = size_at p.env.nthreads (and_right (is_within 1 MAX_SIZES (length p.env.nthreads)) (list_all is_size p.env.nthreads) env.sizes);
+      max_active = leb-true p.env.max_active MAX_LEVELS env.levels;
       schedule = IsSchedule-from_test p.env.sched env.schedule;
-      device = leb-true p.env.device 255 env.device;
-      procs = within 1 65535 p.env.procs env.procs;
-      functions = leb-true (length p.funcs) 64 tests.few;
-      statements = leb-true (sum_by (λ f. length f.body) p.funcs) 4096 tests.short;
+      device = leb-true p.env.device MAX_DEVICE env.device;
+      procs = within 1 MAX_PROCS p.env.procs env.procs;
+      functions = leb-true (length p.funcs) MAX_FUNCTIONS tests.few;
+      statements = leb-true (sum_by (λ f. length f.body) p.funcs) MAX_STATEMENTS tests.short;
       names = λ f g e. IsName-from_test g.name (passes_at (λ (h : Func). is_name h.name) p.funcs f g tests.names e);
       distinct = λ f g l m e. same_number p.funcs f g tests.distinct l m e;
       main = main_within p.funcs p.main tests.main;

@@ -1,9 +1,14 @@
--- The statements of functions, and the functions that they name.
+-- Functions by their numbers: their names, their statements, and the functions that those name.
 use Rattle.std.specs.Prelude.{◌≡◌, ℕ, List, [], slice_get, Option, Some, None}
 use Rattle.std.specs.Option.{option_map_or}
+use Rattle.omi_script.specs.Names.{text_of}
 use Rattle.omi_script.specs.declared.function.Func.{Func}
 use Rattle.omi_script.specs.declared.statement.Stmt.{Stmt}
 use Rattle.omi_script.specs.declared.statement.Stmt.TheVariants.{Parallel, Task, Critical, Call, Only, Repeat}
+
+-- the name of the function with a number, none past the last
+abbrev pub name_at : List Func → ℕ → List ℕ
+name_at funcs f = option_map_or (λ g. text_of g.name) (slice_get funcs f) []
 
 -- the statements of the function with a number, none past the last
 abbrev pub body_of : List Func → ℕ → List Stmt

@@ -1,9 +1,10 @@
 -- The one canonical text of a program: all eight head lines, then each function, with one space between words.
-use Rattle.std.specs.Prelude.{ℕ, Bool, true, false, ◌==◌, List, [], ◌∷◌, ◌++◌, flat_map, slice_get, Some, None, if◌then◌else◌, codes}
+use Rattle.std.specs.Prelude.{ℕ, Bool, true, false, List, [], ◌∷◌, ◌++◌, flat_map, Some, None, unwrap_or, codes}
 use Rattle.std.specs.List.{join_with_byte}
-use Rattle.std.specs.Option.{option_map_or}
 use Rattle.std.specs.Fmt.{decimal}
 use Rattle.omi_script.specs.Names.{text_of}
+use Rattle.omi_script.specs.Bodies.{name_at}
+use Rattle.omi_script.specs.Schedules.{schedule_kinds, name_in}
 use Rattle.omi_script.specs.declared.env.Env.{Env}
 use Rattle.omi_script.specs.declared.function.Func.{Func}
 use Rattle.omi_script.specs.declared.program.Program.{Program}
@@ -11,13 +12,9 @@ use Rattle.omi_script.specs.declared.statement.Sched.{Sched}
 use Rattle.omi_script.specs.declared.statement.Stmt.{Stmt}
 use Rattle.omi_script.specs.declared.statement.Stmt.TheVariants.{Parallel, Task, Taskwait, Taskyield, Barrier, Critical, Call, Only, Repeat, SetNumThreads, SetDynamic, SetMaxActive, SetSchedule, SetDevice, Tool, Work}
 
--- a schedule's kind, 1 to 4, as a word
-abbrev pub kind_name : ℕ → List ℕ
-kind_name kind =
-    if kind == 1 then codes "static"
-    else (if kind == 2 then codes "dynamic"
-    else (if kind == 3 then codes "guided"
-    else codes "auto"))
+-- a schedule's kind as a word
+abbrev pub kind_text : ℕ → List ℕ
+kind_text kind = unwrap_or (name_in schedule_kinds kind) []
 
 -- the value of `env dynamic`
 abbrev pub truth_word : Bool → List ℕ
@@ -34,10 +31,6 @@ abbrev pub flag_word : Bool → List ℕ
 flag_word true = codes "1"
 flag_word false = codes "0"
 
--- the name of the function with a number, none past the last
-abbrev pub name_at : List Func → ℕ → List ℕ
-name_at funcs f = option_map_or (λ g. text_of g.name) (slice_get funcs f) []
-
 -- numbers behind the first, each behind a comma
 abbrev pub listed_behind : List ℕ → List ℕ
 listed_behind ns = flat_map (λ n. 44 ∷ decimal n) ns
@@ -49,7 +42,7 @@ list_text (n ∷ ns) = decimal n ++ listed_behind ns
 
 -- a schedule as one word
 abbrev pub schedule_text : Sched → List ℕ
-schedule_text s = kind_name s.kind ++ 44 ∷ decimal s.chunk
+schedule_text s = kind_text s.kind ++ 44 ∷ decimal s.chunk
 
 -- the words of a statement that names no function
 abbrev pub setting_words : Stmt → List (List ℕ)
@@ -59,7 +52,7 @@ setting_words Barrier = codes "barrier" ∷ []
 setting_words (SetNumThreads n) = codes "set_num_threads" ∷ decimal n ∷ []
 setting_words (SetDynamic b) = codes "set_dynamic" ∷ flag_word b ∷ []
 setting_words (SetMaxActive n) = codes "set_max_active_levels" ∷ decimal n ∷ []
-setting_words (SetSchedule s) = codes "set_schedule" ∷ kind_name s.kind ∷ decimal s.chunk ∷ []
+setting_words (SetSchedule s) = codes "set_schedule" ∷ kind_text s.kind ∷ decimal s.chunk ∷ []
 setting_words (SetDevice n) = codes "set_default_device" ∷ decimal n ∷ []
 setting_words (Tool x) = codes "tool" ∷ decimal x ∷ []
 setting_words Work = codes "work" ∷ []

@@ -1,24 +1,28 @@
-pub mod Faults
-pub mod FaultTexts
+-- What the language is, in reading order: from a text to its verdict, and from a verdict to a program.
+pub mod Lines
 pub mod Names
+pub mod Numbers
+pub mod Schedules
+pub mod HeadLines
+pub mod StatementLines
+pub mod Line
+pub mod Constructs
+pub mod ParserState
 pub mod Ranges
 pub mod Reach
+pub mod LineFaults
+pub mod Faults
+pub mod Verdict
+pub mod Grammar
+-- What a program is, its rules as plain facts, its canonical text, and the programs that are built today.
 pub mod Program
 pub mod Bodies
-pub mod Lines
-pub mod Numbers
-pub mod Grammar
-pub mod Small
-pub mod Fault
 pub mod Rules
-pub mod Separators
 pub mod Canonical
-pub mod Sayings
-pub mod Place
-pub mod LineFaults
-pub mod Workload
-pub mod ShapeSayings
-pub mod ReadHeads
-pub mod SayingFaults
+pub mod Small
+pub mod Errors
+-- Glue of private functions: nothing that a reader has to believe.
+pub mod Separators
+pub mod SaidFaults
 pub mod Counts
-pub mod ReadPlaces
+pub mod ParserAnswers

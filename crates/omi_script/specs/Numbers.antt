@@ -2,6 +2,7 @@
 use Rattle.std.specs.Prelude.{ℕ, Bool, not, ◌&&◌, ◌||◌, nat_le, slice_index, ◌+◌, ◌-◌, ◌*◌, ◌==◌, List, [], ◌∷◌, length, map, Option, Some, None, option_and_then, option_map, if◌then◌else◌}
 use Rattle.std.specs.List.{list_all, slice_split}
 use Rattle.omi_script.specs.Names.{is_within, is_digit}
+use Rattle.omi_script.specs.declared.limits.TheConstants.{MAX_SIZE, MAX_SIZES}
 
 -- the word is a number
 abbrev pub is_decimal : List ℕ → Bool
@@ -36,6 +37,6 @@ items_left (Some rest) = slice_split is_comma rest
 abbrev pub numbers_of : ℕ → ℕ → List ℕ → Option (List ℕ)
 numbers_of least most word = each_of (map (number_of least most) (slice_split is_comma word))
 
--- the element list of nthreads-var: 1 to 4 numbers, each 1 to 64
+-- the element list of nthreads-var: 1 to `MAX_SIZES` numbers, each 1 to `MAX_SIZE`
 abbrev pub sizes_of : List ℕ → Option (List ℕ)
-sizes_of word = option_and_then (λ ns. if nat_le (length ns) 4 then Some ns else None) (numbers_of 1 64 word)
+sizes_of word = option_and_then (λ ns. if nat_le (length ns) MAX_SIZES then Some ns else None) (numbers_of 1 MAX_SIZE word)

@@ -5,31 +5,32 @@ use Rattle.omi_script.specs.Names.{is_within}
 use Rattle.omi_script.specs.declared.env.Env.{Env}
 use Rattle.omi_script.specs.declared.statement.Sched.{Sched}
 use Rattle.omi_script.specs.declared.statement.Stmt.{Stmt}
+use Rattle.omi_script.specs.declared.limits.TheConstants.{MAX_SIZE, MAX_SIZES, MAX_LEVELS, MAX_DEVICE, MAX_CHUNK, MAX_PROCS, MAX_LOCK, MAX_MEMBER, MAX_REPEATS}
 use Rattle.omi_script.specs.declared.statement.Stmt.TheVariants.{Parallel, Task, Taskwait, Taskyield, Barrier, Critical, Call, Only, Repeat, SetNumThreads, SetDynamic, SetMaxActive, SetSchedule, SetDevice, Tool, Work}
 
--- a team's size, as it is asked for: 1 to 64
+-- a team's size, as it is asked for
 abbrev pub is_size : ℕ → Bool
-is_size n = is_within 1 64 n
+is_size n = is_within 1 MAX_SIZE n
 
--- a number of nested active parallel regions: at most 255
+-- a number of nested active parallel regions
 abbrev pub is_level_count : ℕ → Bool
-is_level_count n = nat_le n 255
+is_level_count n = nat_le n MAX_LEVELS
 
--- a device's number: at most 255
+-- a device's number
 abbrev pub is_device : ℕ → Bool
-is_device n = nat_le n 255
+is_device n = nat_le n MAX_DEVICE
 
--- the kind is one of static, dynamic, guided and auto, and the chunk at most 65,535
+-- the kind is one of static, dynamic, guided and auto, and the chunk not too large
 abbrev pub is_schedule : Sched → Bool
-is_schedule s = is_within 1 4 s.kind && nat_le s.chunk 65535
+is_schedule s = is_within 1 4 s.kind && nat_le s.chunk MAX_CHUNK
 
--- 1 to 4 sizes
+-- the element list of nthreads-var
 abbrev pub are_sizes : List ℕ → Bool
-are_sizes ns = is_within 1 4 (length ns) && list_all is_size ns
+are_sizes ns = is_within 1 MAX_SIZES (length ns) && list_all is_size ns
 
--- a number of processors: 1 to 65,535
+-- a number of processors
 abbrev pub is_processor_count : ℕ → Bool
-is_processor_count n = is_within 1 65535 n
+is_processor_count n = is_within 1 MAX_PROCS n
 
 -- the head of a program
 abbrev pub is_env : Env → Bool
@@ -52,10 +53,10 @@ is_in_range (Task f undeferred is_final) = true
 is_in_range Taskwait = true
 is_in_range Taskyield = true
 is_in_range Barrier = true
-is_in_range (Critical k f) = nat_le k 7
+is_in_range (Critical k f) = nat_le k MAX_LOCK
 is_in_range (Call f) = true
-is_in_range (Only m f) = nat_le m 63
-is_in_range (Repeat n f) = nat_le n 1000
+is_in_range (Only m f) = nat_le m MAX_MEMBER
+is_in_range (Repeat n f) = nat_le n MAX_REPEATS
 is_in_range (SetNumThreads n) = is_size n
 is_in_range (SetDynamic b) = true
 is_in_range (SetMaxActive n) = is_level_count n

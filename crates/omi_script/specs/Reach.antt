@@ -2,6 +2,8 @@
 use Rattle.std.specs.Prelude.{ℕ, Bool, true, false, not, ◌&&◌, nat_lt, ◌+◌, max, List, [], ◌∷◌, ◌++◌, length, slice_index_or, map}
 use Rattle.std.specs.List.{list_all, list_any}
 use Rattle.omi_script.specs.Ranges.{is_in_range}
+use Rattle.omi_script.specs.declared.function.Func.{Func}
+use Rattle.omi_script.specs.declared.limits.TheConstants.{MAX_DEPTH}
 use Rattle.omi_script.specs.declared.statement.Stmt.{Stmt}
 use Rattle.omi_script.specs.declared.statement.Stmt.TheVariants.{Parallel, Task, Barrier, Critical, Call, Only, Repeat}
 
@@ -42,6 +44,15 @@ greatest (n ∷ ns) = max n (greatest ns)
 abbrev pub reach_of : List Reach → List Stmt → Reach
 reach_of above body = record { barrier = list_any (reaches_barrier above) body; depth = greatest (map (depth_of above) body) }
 
+-- what is known of functions, from what is known of those above them
+abbrev pub reaches : List Reach → List Func → List Reach
+reaches above [] = above
+reaches above (f ∷ fs) = reaches (above ++ reach_of above f.body ∷ []) fs
+
+-- what the function with a number reaches
+abbrev pub reach_in : List Func → ℕ → Reach
+reach_in funcs f = reach_at (reaches [] funcs) f
+
 -- the function is closed above
 abbrev pub is_above : List Reach → ℕ → Bool
 is_above above f = nat_lt f (length above)
@@ -50,9 +61,9 @@ is_above above f = nat_lt f (length above)
 abbrev pub is_above_without_barrier : List Reach → ℕ → Bool
 is_above_without_barrier above f = is_above above f && not (reach_at above f).barrier
 
--- a statement names only what it may: functions above, for `task`, `only` and `critical` without a barrier, for `parallel` of a depth below 15
+-- a statement names only what it may: functions above, for `task`, `only` and `critical` without a barrier, for `parallel` of a depth below the greatest
 abbrev pub names_rightly : List Reach → Stmt → Bool
-names_rightly above (Parallel f num) = is_above above f && nat_lt (reach_at above f).depth 15
+names_rightly above (Parallel f num) = is_above above f && nat_lt (reach_at above f).depth MAX_DEPTH
 names_rightly above (Task f undeferred is_final) = is_above_without_barrier above f
 names_rightly above (Critical k f) = is_above_without_barrier above f
 names_rightly above (Only m f) = is_above_without_barrier above f

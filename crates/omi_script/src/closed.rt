@@ -1,7 +1,10 @@
+//! The functions whose `end` was read, and what each of them reaches.
 ghost use Rattle.std.specs.Prelude.{◌≡◌, ◌≤◌, ◌++◌, ◌∷◌, [], length, IfOk};
 ghost use Rattle.std.specs.List.{list_any, position};
-ghost use Rattle.omi_script.specs.Place.{is_called, reaches};
+ghost use Rattle.omi_script.specs.ParserState.{is_called};
+ghost use Rattle.omi_script.specs.Reach.{reaches};
 
+use crate::limits::MAX_FUNCTIONS;
 use crate::reach::{Reach, reach_of};
 use crate::{Func, FuncList, OutOfMemory};
 use std::alloc::Global;
@@ -17,7 +20,7 @@ pub struct Closed {
 impl Model for Closed {
     ghost use Rattle.std.specs.Prelude.{◌≡◌, List, []};
     ghost use Rattle.omi_script.specs.declared.function.Func.{Func};
-    ghost use Rattle.omi_script.specs.Place.{reaches};
+    ghost use Rattle.omi_script.specs.Reach.{reaches};
 
     ghost Value = { List Func };
 
@@ -55,7 +58,7 @@ impl Closed {
     /// The number of the function with a name.
     #[tactic(auto, using(crate::proofs::NamingLemmas::position_within))]
     pub fn number_of(&self, name: &[u8]) -> Option<u8>
-        requires { length self.now ≤ 64 }
+        requires { length self.now ≤ MAX_FUNCTIONS }
         ensures { result ≡ position (is_called name.now) self.now }
     {
         match self.index_of(name) {

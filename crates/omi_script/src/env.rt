@@ -1,12 +1,14 @@
+//! The head of a program.
 ghost use Rattle.std.specs.Prelude.{◌≡◌, IfOk};
 
 use crate::{NumList, OutOfMemory, Sched};
 use std::alloc::Global;
 
-/// The initial values of the internal control variables, and what else stands before the first function.
+/// The initial values of the internal control variables, and what else stands before the first
+/// function.
 #[derive(Drop)]
 pub struct Env {
-    /// nthreads-var: 1 to 4 numbers, each 1 to 64.
+    /// nthreads-var: 1 to `MAX_SIZES` numbers, each 1 to `MAX_SIZE`.
     pub nthreads: NumList,
     /// dyn-var.
     pub dynamic: bool,

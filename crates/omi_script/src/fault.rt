@@ -1,9 +1,9 @@
+//! What is wrong with a script, and where.
 ghost use Rattle.std.specs.Prelude.{◌≡◌};
-ghost use Rattle.omi_script.specs.Faults.{number_of_fault};
-ghost use Rattle.omi_script.specs.FaultTexts.{text_of_fault};
+ghost use Rattle.omi_script.specs.Faults.{number_of_fault, text_of_fault};
 ghost use Rattle.omi_script.specs.declared.fault.LineError.TheVariants.{OutOfMemory as NoMemory};
 ghost use Rattle.omi_script.specs.declared.fault.ScriptError.TheVariants.{OutOfMemory};
-ghost use Rattle.omi_script.specs.Fault.{error_at};
+ghost use Rattle.omi_script.specs.Errors.{error_at};
 
 use std::alloc::{AllocError, AllocFailed};
 use thiserror::Error;
@@ -71,7 +71,8 @@ impl Why {
     }
 }
 
-/// The first faulty line of a script, counted from 1, and its least fault. The end of the text is one past the last line.
+/// The first faulty line of a script, counted from 1, and its least fault. The end of the text is
+/// one past the last line.
 #[derive(Clone, Copy, Debug, PartialEq, Eq)]
 pub struct ScriptFault {
     pub line: u32,

@@ -1,3 +1,4 @@
+//! Functions, and lists of them.
 ghost use Rattle.std.specs.Prelude.{◌≡◌, ◌<◌, ◌++◌, ◌∷◌, [], length, slice_get, Some, OnOk, OnErr, IfOk};
 
 use crate::{Name, OutOfMemory, StmtList};

@@ -1,55 +1,49 @@
-//! Workload scripts: the text of a program for simulated OpenMP threads, and the program that it says.
+//! Workload scripts: the text of a program for simulated OpenMP threads, and the program that it
+//! says.
 #![tactic(auto)]
 
 mod closed;
-mod decimal;
 mod env;
 mod fault;
 mod function;
-mod headings;
-mod heads;
+mod head;
+mod head_lines;
+pub mod limits;
+mod line;
 mod name;
-mod nesting;
+mod number_list;
 mod numbers;
+mod parser;
 mod pieces;
-mod place;
 mod printer;
 mod program;
 mod reach;
 mod reader;
-mod shape;
+mod schedule;
 mod small;
 mod statement;
-mod statements;
+mod statement_faults;
+mod statement_lines;
 mod verdicts;
 
-pub use decimal::number;
 pub use env::Env;
 pub use fault::{ScriptError, ScriptFault, Why};
 pub use function::{Func, FuncList};
 pub use name::Name;
-pub use numbers::NumList;
+pub use number_list::NumList;
+pub use numbers::number;
 pub use printer::print;
 pub use program::Program;
 pub use reader::{parse, program_rules};
+pub use schedule::{kind_name, kind_number};
 pub use small::is_small;
-pub use statement::{Sched, Stmt, StmtList};
+pub use statement::{Construct, Sched, Stmt, StmtList};
 pub use verdicts::one_verdict;
 
 /// Memory ran out.
 pub type OutOfMemory = std::alloc::AllocError;
 
 #[cfg(test)]
-mod canonical_tests;
-#[cfg(test)]
-mod limit_tests;
-#[cfg(test)]
-mod number_tests;
-#[cfg(test)]
-mod print_tests;
-#[cfg(test)]
-mod refusal_tests;
+mod row_tests;
 #[cfg(test)]
 mod tests;
-#[cfg(test)]
-mod verdict_tests;

@@ -1,15 +1,16 @@
+//! Names of functions.
 ghost use Rattle.std.specs.Prelude.{◌≡◌, ◌≤◌, ◌-◌, ◌++◌, length, replicate, Some, None, if◌then◌else◌};
 ghost use Rattle.std.specs.List.{list_all};
-ghost use Rattle.omi_script.specs.Names.{begins_name, continues_name, is_digit, is_name_text, text_of};
-ghost use Rattle.omi_script.specs.Place.{name_of};
+ghost use Rattle.omi_script.specs.Names.{begins_name, continues_name, is_digit, is_name_text, name_of, text_of};
 
-use crate::decimal::is_digit_byte;
+use crate::limits::MAX_NAME;
+use crate::numbers::is_digit_byte;
 
 /// A function's name: its first `len` bytes. In a program the bytes past them are 0.
 #[derive(Clone, Copy, Debug, PartialEq, Eq)]
 pub struct Name {
     pub len: u8,
-    pub bytes: [u8; 32],
+    pub bytes: [u8; MAX_NAME],
 }
 
 fn begins_name(b: u8) -> bool
@@ -34,18 +35,20 @@ fn is_name_text(word: &[u8]) -> bool
     ensures { result ≡ is_name_text word.now }
 {
     match word {
-        [first, rest @ ..] => begins_name(*first) && all_continue_name(rest) && rest.len() <= 31,
+        [first, rest @ ..] => begins_name(*first)
+            && all_continue_name(rest)
+            && rest.len() < MAX_NAME,
         [] => false,
     }
 }
 
 /// The bytes with zeros behind them.
 #[tactic(auto, using(crate::proofs::NamingLemmas::zeros_behind))]
-fn padded(word: &[u8]) -> [u8; 32]
-    requires { length word.now ≤ 32 }
-    ensures { result ≡ word.now ++ replicate (32 - length word.now) 0 }
+fn padded(word: &[u8]) -> [u8; MAX_NAME]
+    requires { length word.now ≤ MAX_NAME }
+    ensures { result ≡ word.now ++ replicate (MAX_NAME - length word.now) 0 }
 {
-    let mut bytes = [0; 32];
+    let mut bytes = [0; MAX_NAME];
     bytes[..word.len()].copy_from_slice(word);
     bytes
 }
@@ -68,10 +71,10 @@ impl Name {
     /// The bytes of the name.
     pub fn text(&self) -> &[u8]
         ensures text { result.now ≡ text_of self.now }
-        ensures width { length self.now.bytes ≡ 32 }
+        ensures width { length self.now.bytes ≡ MAX_NAME }
     {
         let len = usize::from(self.len);
-        if len < 32 {
+        if len < MAX_NAME {
             &self.bytes[..len]
         } else {
             &self.bytes

@@ -1,104 +1,71 @@
-ghost use Rattle.std.specs.Prelude.{◌≡◌, ◌<◌, ◌++◌, ◌∷◌, [], length, slice_get, Some, OnOk, OnErr, IfOk};
-ghost use Rattle.omi_script.specs.Numbers.{numbers_of, sizes_of};
+//! Words that are numbers.
+ghost use Rattle.std.specs.Prelude.{◌≡◌, ◌≤◌, ◌<◌, ◌^◌, true, IfSome, IfNone, length};
+ghost use Rattle.std.specs.List.{list_all};
+ghost use Rattle.omi_script.specs.Names.{is_digit};
+ghost use Rattle.omi_script.specs.Numbers.{is_decimal, number_of, value_of};
 
-use crate::OutOfMemory;
-use crate::decimal::number;
-use crate::pieces::cut_item;
-use std::alloc::Global;
-use std::marker::Model;
-
-/// The elements of nthreads-var, or of another list of numbers.
-#[derive(Drop)]
-pub struct NumList {
-    items: Vec<u64>,
-}
-
-impl Model for NumList {
-    ghost use Rattle.std.specs.Prelude.{List, ℕ};
-
-    ghost Value = { List ℕ };
-
-    ghost view = { λ a. a.items.items };
-}
-
-impl NumList {
-    /// An empty list, which keeps the allocator.
-    pub fn new(alloc: Global) -> NumList
-        ensures { result ≡ [] }
-    {
-        NumList {
-            items: Vec::new(alloc),
-        }
-    }
-
-    /// The number of elements.
-    pub fn len(&self) -> usize
-        ensures { result ≡ length self.now }
-    {
-        self.items.len()
-    }
-
-    /// The element at a place, counted from 0.
-    pub fn get(&self, at: usize) -> &u64
-        requires { at < length self.now }
-        ensures { slice_get self.now at ≡ Some result.now }
-    {
-        &self.items[at]
-    }
-
-    /// Adds an element at the end.
-    pub fn push(&mut self, e: u64) -> Result<(), OutOfMemory>
-        ensures added { OnOk result (self.new ≡ self.old ++ e ∷ []) }
-        ensures refused { OnErr result (self.new ≡ self.old) }
-    {
-        self.items.push(e)?;
-        Ok(())
-    }
-
-    /// The elements in order.
-    pub fn as_slice(&self) -> &[u64]
-        ensures { result.now ≡ self.now }
-    {
-        &self.items
-    }
-
-    /// An equal list.
-    pub fn same(&self, alloc: Global) -> Result<NumList, OutOfMemory>
-        ensures { IfOk result (λ list. list ≡ self.now) }
-    {
-        let items = Vec::from_slice(alloc, &self.items)?;
-        Ok(NumList { items })
-    }
-}
-
-/// The numbers that commas join. None where a piece is no number in the range.
-fn numbers(
-    alloc: Global,
-    word: &[u8],
-    least: u64,
-    most: u64,
-) -> Result<Option<NumList>, OutOfMemory>
-    ensures { IfOk result (λ list. list ≡ numbers_of least most word.now) }
+pub fn is_digit_byte(b: u8) -> bool
+    ensures { result ≡ is_digit b }
 {
-    let mut list = NumList::new(alloc);
-    let mut left = Some(word);
-    while let Some(items) = left {
-        let (item, rest) = cut_item(items);
-        let Some(n) = number(item, least, most) else {
-            return Ok(None);
-        };
-        list.push(n)?;
-        left = rest;
-    }
-    Ok(Some(list))
+    b'0' <= b && b <= b'9'
 }
 
-/// The element list of nthreads-var, 1 to 4 numbers of 1 to 64. None where the word is no such list.
-pub fn sizes(alloc: Global, word: &[u8]) -> Result<Option<NumList>, OutOfMemory>
-    ensures { IfOk result (λ list. list ≡ sizes_of word.now) }
+fn are_digits(word: &[u8]) -> bool
+    ensures { result ≡ list_all is_digit word.now }
 {
-    match numbers(alloc, word, 1, 64)? {
-        Some(list) if list.len() <= 4 => Ok(Some(list)),
-        _ => Ok(None),
+    word.iter().all(|b| is_digit_byte(*b))
+}
+
+fn is_number(word: &[u8]) -> bool
+    ensures { result ≡ is_decimal word.now }
+{
+    !word.is_empty() && are_digits(word) && (word.len() == 1 || word[0] != b'0')
+}
+
+/// What digits stand for. None where it does not fit.
+fn value(word: &[u8]) -> Option<u64>
+    requires digits { list_all is_digit word.now ≡ true }
+    requires some { 0 < length word.now }
+    ensures some { IfSome result (λ n. n ≡ value_of word.now) }
+    ensures none { IfNone result (2 ^ 64 ≤ value_of word.now) }
+{
+    match str::from_utf8(word) {
+        Ok(text) => text.parse::<u64>().ok(),
+        Err(_) => None,
+    }
+}
+
+/// The decimal number that a word is, without a leading 0 but for 0 itself. None also where it
+/// isn't in the range.
+pub fn number(word: &[u8], least: u64, most: u64) -> Option<u64>
+    ensures value { result ≡ number_of least most word.now }
+    ensures in_range { IfSome result (λ n. (least ≤ n) × (n ≤ most)) }
+{
+    if !is_number(word) {
+        return None;
+    }
+    match value(word) {
+        Some(n) if least <= n && n <= most => Some(n),
+        _ => None,
+    }
+}
+
+/// A number that fits in a byte.
+pub fn number_u8(word: &[u8], least: u8, most: u8) -> Option<u8>
+    ensures { result ≡ number_of least most word.now }
+{
+    match number(word, least as u64, most as u64) {
+        Some(n) => Some(n as u8),
+        None => None,
+    }
+}
+
+/// A number that fits in two bytes.
+pub fn number_u16(word: &[u8], least: u16, most: u16) -> Option<u16>
+    ensures { result ≡ number_of least most word.now }
+{
+    match number(word, least as u64, most as u64) {
+        Some(n) => Some(n as u16),
+        None => None,
     }
 }

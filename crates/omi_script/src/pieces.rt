@@ -1,3 +1,4 @@
+//! Texts cut into lines, lines into words, and lists into their elements.
 ghost use Rattle.std.specs.Prelude.{◌≡◌, ◌+◌, ◌<◌, ◌≤◌, [], ◌∷◌, length, take, drop, IfSome, IfNone, option_copied};
 ghost use Rattle.std.specs.List.{before_first, after_first, list_all, position, position_or_len, slice_split};
 ghost use Rattle.omi_script.specs.Lines.{is_blank, is_text, words};
@@ -102,6 +103,35 @@ fn next_word(line: &[u8]) -> Option<(&[u8], &[u8])>
         rest = after;
     }
     None
+}
+
+/// A word of a line.
+#[derive(Drop)]
+pub struct Word<'a> {
+    bytes: &'a [u8],
+}
+
+impl<'a> Model for Word<'a> {
+    ghost use Rattle.std.specs.Prelude.{List, ℕ};
+
+    ghost Value = { List ℕ };
+
+    ghost view = { λ a. a.bytes.now };
+}
+
+impl<'a> Word<'a> {
+    pub fn new(bytes: &'a [u8]) -> Word<'a>
+        ensures { result ≡ bytes.now }
+    {
+        Word { bytes }
+    }
+
+    /// The bytes of the word.
+    pub fn bytes(&self) -> &'a [u8]
+        ensures { result.now ≡ self.now }
+    {
+        self.bytes
+    }
 }
 
 /// The words of a line that are not read yet.

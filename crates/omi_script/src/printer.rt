@@ -1,20 +1,23 @@
+//! The canonical text of a program.
 ghost use Rattle.std.specs.Prelude.{◌≡◌, ◌≤◌, ◌∷◌, [], ◌++◌, length, take, flat_map, IfOk, OnOk, codes};
 ghost use Rattle.std.specs.Fmt.{decimal};
-ghost use Rattle.omi_script.specs.Canonical.{kind_name as kind_text, truth_word, debug_word, flag_word, name_at, listed_behind, list_text, setting_words, task_words, schedule_text, statement_words, line_text, env_words, last_head_words, head_words, statement_text, function_text, canonical};
+ghost use Rattle.omi_script.specs.Canonical.{kind_text, truth_word, debug_word, flag_word, listed_behind, list_text, setting_words, task_words, schedule_text, statement_words, line_text, env_words, last_head_words, head_words, statement_text, function_text, canonical};
+ghost use Rattle.omi_script.specs.Bodies.{name_at};
 ghost use Rattle.omi_script.specs.Grammar.{Grammar};
 ghost use Rattle.std.specs.List.{join_with_byte};
 
+use crate::limits::MAX_BYTES;
+use crate::schedule::kind_name;
 use crate::{Env, Func, FuncList, NumList, OutOfMemory, Program, Sched, Stmt};
 use std::alloc::Global;
 
-fn kind_name(kind: u8) -> &'static [u8]
+/// The name of a kind, none for a number that is no kind's.
+fn kind_text(kind: u8) -> &'static [u8]
     ensures { result.now ≡ kind_text kind }
 {
-    match kind {
-        1 => b"static",
-        2 => b"dynamic",
-        3 => b"guided",
-        _ => b"auto",
+    match kind_name(kind.into()) {
+        Some(name) => name.as_bytes(),
+        None => &[],
     }
 }
 
@@ -74,7 +77,8 @@ fn push_counted(
     funcs: &FuncList,
     f: u8,
 ) -> Result<(), OutOfMemory>
-    ensures { OnOk result (text.new.items ≡ text.old.items ++ (word.now ++ (decimal n ++ (codes " " ++ name_at funcs.now f)))) }
+    ensures { OnOk result (text.new.items
+        ≡ text.old.items ++ (word.now ++ (decimal n ++ (codes " " ++ name_at funcs.now f)))) }
 {
     push_number(alloc, text, word, n)?;
     push_name(text, b" ", funcs, f)
@@ -118,7 +122,8 @@ fn push_task(
     undeferred: bool,
     is_final: bool,
 ) -> Result<(), OutOfMemory>
-    ensures { OnOk result (text.new.items ≡ text.old.items ++ join_with_byte 32 (task_words name.now undeferred is_final)) }
+    ensures { OnOk result (text.new.items
+        ≡ text.old.items ++ join_with_byte 32 (task_words name.now undeferred is_final)) }
 {
     text.extend_from_slice(b"task ")?;
     text.extend_from_slice(name)?;
@@ -132,15 +137,17 @@ fn push_task(
 
 /// Adds a schedule as two words.
 fn push_kind_and_chunk(alloc: Global, text: &mut Vec<u8>, sched: Sched) -> Result<(), OutOfMemory>
-    ensures { OnOk result (text.new.items ≡ text.old.items ++ (kind_text sched.kind ++ 32 ∷ decimal sched.chunk)) }
+    ensures { OnOk result (text.new.items
+        ≡ text.old.items ++ (kind_text sched.kind ++ 32 ∷ decimal sched.chunk)) }
 {
-    text.extend_from_slice(kind_name(sched.kind))?;
+    text.extend_from_slice(kind_text(sched.kind))?;
     push_number(alloc, text, b" ", sched.chunk.into())
 }
 
 /// Adds the words of a statement that names no function.
 fn push_setting(alloc: Global, text: &mut Vec<u8>, s: &Stmt) -> Result<(), OutOfMemory>
-    ensures { OnOk result (text.new.items ≡ text.old.items ++ join_with_byte 32 (setting_words s.now)) }
+    ensures { OnOk result (text.new.items
+        ≡ text.old.items ++ join_with_byte 32 (setting_words s.now)) }
 {
     match *s {
         Stmt::Taskwait => text.extend_from_slice(b"taskwait"),
@@ -167,7 +174,8 @@ fn push_words(
     funcs: &FuncList,
     s: &Stmt,
 ) -> Result<(), OutOfMemory>
-    ensures { OnOk result (text.new.items ≡ text.old.items ++ join_with_byte 32 (statement_words funcs.now s.now)) }
+    ensures { OnOk result (text.new.items
+        ≡ text.old.items ++ join_with_byte 32 (statement_words funcs.now s.now)) }
 {
     match *s {
         Stmt::Parallel { f, num: None } => push_name(text, b"parallel ", funcs, f),
@@ -210,7 +218,8 @@ fn push_body(
     funcs: &FuncList,
     body: &[Stmt],
 ) -> Result<(), OutOfMemory>
-    ensures { OnOk result (text.new.items ≡ text.old.items ++ flat_map (statement_text funcs.now) body.now) }
+    ensures { OnOk result (text.new.items
+        ≡ text.old.items ++ flat_map (statement_text funcs.now) body.now) }
 {
     for s in body {
         push_statement(alloc, text, funcs, s)?;
@@ -237,7 +246,8 @@ fn push_function(
 
 /// Adds all functions.
 fn push_functions(alloc: Global, text: &mut Vec<u8>, funcs: &FuncList) -> Result<(), OutOfMemory>
-    ensures { OnOk result (text.new.items ≡ text.old.items ++ flat_map (function_text funcs.now) funcs.now) }
+    ensures { OnOk result (text.new.items
+        ≡ text.old.items ++ flat_map (function_text funcs.now) funcs.now) }
 {
     for f in funcs.as_slice() {
         push_function(alloc, text, funcs, f)?;
@@ -248,7 +258,8 @@ fn push_functions(alloc: Global, text: &mut Vec<u8>, funcs: &FuncList) -> Result
 /// Adds a head line `env NAME VALUE`.
 #[tactic(auto, unfolding(crate::specs::Canonical::line_text))]
 fn push_env(text: &mut Vec<u8>, name: &[u8], value: &[u8]) -> Result<(), OutOfMemory>
-    ensures { OnOk result (text.new.items ≡ text.old.items ++ line_text (env_words name.now value.now)) }
+    ensures { OnOk result (text.new.items
+        ≡ text.old.items ++ line_text (env_words name.now value.now)) }
 {
     text.extend_from_slice(b"env ")?;
     text.extend_from_slice(name)?;
@@ -264,7 +275,8 @@ fn push_env_number(
     name: &[u8],
     n: u64,
 ) -> Result<(), OutOfMemory>
-    ensures { OnOk result (text.new.items ≡ text.old.items ++ line_text (env_words name.now (decimal n))) }
+    ensures { OnOk result (text.new.items
+        ≡ text.old.items ++ line_text (env_words name.now (decimal n))) }
 {
     let digits = format!(in alloc; "{n}")?;
     push_env(text, name, digits.as_bytes())
@@ -272,7 +284,8 @@ fn push_env_number(
 
 /// Adds the head line of nthreads-var.
 fn push_sizes(alloc: Global, text: &mut Vec<u8>, list: &NumList) -> Result<(), OutOfMemory>
-    ensures { OnOk result (text.new.items ≡ text.old.items ++ line_text (env_words (codes "num_threads") (list_text list.now))) }
+    ensures { OnOk result (text.new.items
+        ≡ text.old.items ++ line_text (env_words (codes "num_threads") (list_text list.now))) }
 {
     let mut sizes = Vec::new(alloc);
     push_list(alloc, &mut sizes, list.as_slice())?;
@@ -281,9 +294,10 @@ fn push_sizes(alloc: Global, text: &mut Vec<u8>, list: &NumList) -> Result<(), O
 
 /// Adds the head line of run-sched-var.
 fn push_schedule(alloc: Global, text: &mut Vec<u8>, sched: Sched) -> Result<(), OutOfMemory>
-    ensures { OnOk result (text.new.items ≡ text.old.items ++ line_text (env_words (codes "schedule") (schedule_text sched))) }
+    ensures { OnOk result (text.new.items
+        ≡ text.old.items ++ line_text (env_words (codes "schedule") (schedule_text sched))) }
 {
-    let mut value = Vec::from_slice(alloc, kind_name(sched.kind))?;
+    let mut value = Vec::from_slice(alloc, kind_text(sched.kind))?;
     push_number(alloc, &mut value, b",", sched.chunk.into())?;
     push_env(text, b"schedule", &value)
 }
@@ -291,7 +305,8 @@ fn push_schedule(alloc: Global, text: &mut Vec<u8>, sched: Sched) -> Result<(), 
 /// Adds the head line of the number of threads.
 #[tactic(auto, unfolding(crate::specs::Canonical::line_text))]
 fn push_threads(alloc: Global, text: &mut Vec<u8>, threads: u8) -> Result<(), OutOfMemory>
-    ensures { OnOk result (text.new.items ≡ text.old.items ++ line_text (codes "threads" ∷ decimal threads ∷ [])) }
+    ensures { OnOk result (text.new.items
+        ≡ text.old.items ++ line_text (codes "threads" ∷ decimal threads ∷ [])) }
 {
     push_number(alloc, text, b"threads ", threads.into())?;
     text.extend_from_slice(b"\n")
@@ -299,7 +314,8 @@ fn push_threads(alloc: Global, text: &mut Vec<u8>, threads: u8) -> Result<(), Ou
 
 /// Adds the last four head lines.
 fn push_last_head(alloc: Global, text: &mut Vec<u8>, env: &Env) -> Result<(), OutOfMemory>
-    ensures { OnOk result (text.new.items ≡ text.old.items ++ flat_map line_text (last_head_words env.now)) }
+    ensures { OnOk result (text.new.items
+        ≡ text.old.items ++ flat_map line_text (last_head_words env.now)) }
 {
     push_schedule(alloc, text, env.sched)?;
     let device = env.device;
@@ -311,7 +327,8 @@ fn push_last_head(alloc: Global, text: &mut Vec<u8>, env: &Env) -> Result<(), Ou
 
 /// Adds the head lines.
 fn push_head(alloc: Global, text: &mut Vec<u8>, threads: u8, env: &Env) -> Result<(), OutOfMemory>
-    ensures { OnOk result (text.new.items ≡ text.old.items ++ flat_map line_text (head_words threads env.now)) }
+    ensures { OnOk result (text.new.items
+        ≡ text.old.items ++ flat_map line_text (head_words threads env.now)) }
 {
     push_threads(alloc, text, threads)?;
     push_sizes(alloc, text, &env.nthreads)?;
@@ -324,7 +341,7 @@ fn push_head(alloc: Global, text: &mut Vec<u8>, threads: u8, env: &Env) -> Resul
 /// The canonical text of a program: all eight head lines, then each function with its statements.
 pub fn print(alloc: Global, p: &Program) -> Result<Vec<u8>, OutOfMemory>
     ensures text { IfOk result (λ text. text.items ≡ canonical p.now) }
-    ensures again { IfOk result (λ text. length text.items ≤ 65536 → Grammar text.items p.now) }
+    ensures again { IfOk result (λ text. length text.items ≤ MAX_BYTES → Grammar text.items p.now) }
 {
     let mut text = Vec::new(alloc);
     push_head(alloc, &mut text, p.threads, &p.env)?;

@@ -1,3 +1,4 @@
+//! Programs.
 ghost use Rattle.std.specs.Prelude.{IsTrue};
 ghost use Rattle.omi_script.specs.Program.{is_program};
 
@@ -7,7 +8,7 @@ use std::alloc::Global;
 /// What a script says. `main` is the number of the function with the name `main`.
 #[derive(Drop)]
 pub struct Program {
-    /// The number of threads, 1 to 16.
+    /// The number of threads, 1 to `MAX_THREADS`.
     pub threads: u8,
     pub env: Env,
     pub funcs: FuncList,

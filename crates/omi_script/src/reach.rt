@@ -1,3 +1,4 @@
+//! What a function reaches: barriers, and nested parallel regions.
 ghost use Rattle.std.specs.Prelude.{◌≡◌, ◌+◌, ◌≤◌, ℕ, length, map};
 ghost use Rattle.std.specs.List.{list_any};
 ghost use Rattle.omi_script.specs.Reach.{reach_at, reaches_barrier, depth_of, greatest, reach_of};
@@ -86,7 +87,8 @@ fn any_barrier(above: &[Reach], body: &[Stmt]) -> bool
     body.iter().any(|s| reaches_barrier(above, s))
 }
 
-/// What a function with these statements reaches, from what those above it reach. None is deeper than there are functions, so that each depth fits.
+/// What a function with these statements reaches, from what those above it reach. None is deeper
+/// than there are functions, so that each depth fits.
 pub fn reach_of(above: &[Reach], body: &[Stmt]) -> Reach
     requires { (f : ℕ) → (reach_at above.now f).depth ≤ length above.now }
     ensures { result ≡ reach_of above.now body.now }

@@ -1,3 +1,4 @@
+//! The programs that are built today.
 ghost use Rattle.std.specs.Prelude.{◌≡◌, ◌↔◌, IsTrue};
 ghost use Rattle.std.specs.List.{list_all};
 ghost use Rattle.omi_script.specs.Small.{is_small_statement, is_small_function, IsSmall};
@@ -25,7 +26,8 @@ fn are_small(funcs: &FuncList) -> bool
     funcs.as_slice().iter().all(|f| is_small_function(f))
 }
 
-/// Whether a program has one thread, and in each function no other statements than `set_num_threads`, `set_dynamic` and `work`.
+/// Whether a program has one thread, and in each function no other statements than
+/// `set_num_threads`, `set_dynamic` and `work`.
 pub fn is_small(p: &Program) -> bool
     ensures { IsTrue result ↔ IsSmall p.now }
 {

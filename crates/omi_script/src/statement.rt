@@ -1,4 +1,6 @@
+//! Statements, and lists of them.
 ghost use Rattle.std.specs.Prelude.{◌≡◌, ◌<◌, ◌++◌, ◌∷◌, [], length, slice_get, Some, OnOk, OnErr, IfOk};
+ghost use Rattle.omi_script.specs.Constructs.{over};
 
 use crate::OutOfMemory;
 use std::alloc::Global;
@@ -55,6 +57,46 @@ pub enum Stmt {
     /// Stores a word for a tool at the task.
     Tool(u64),
     Work,
+}
+
+/// A statement over a function, but for that function.
+#[derive(Clone, Copy, Debug, PartialEq, Eq)]
+pub enum Construct {
+    /// `parallel F` or `parallel F num N`
+    Parallel { num: Option<u8> },
+    /// `task F`, with `if 0` where it is undeferred, and `final 1` where it is final.
+    Task { undeferred: bool, is_final: bool },
+    /// `critical K F`
+    Critical { k: u8 },
+    /// `call F`
+    Call,
+    /// `only M F`
+    Only { m: u8 },
+    /// `repeat N F`
+    Repeat { n: u16 },
+}
+
+impl Construct {
+    /// The statement over the function with a number.
+    pub fn over(self, f: u8) -> Stmt
+        ensures { result ≡ over self f }
+    {
+        match self {
+            Construct::Parallel { num } => Stmt::Parallel { f, num },
+            Construct::Task {
+                undeferred,
+                is_final,
+            } => Stmt::Task {
+                f,
+                undeferred,
+                is_final,
+            },
+            Construct::Critical { k } => Stmt::Critical { k, f },
+            Construct::Call => Stmt::Call { f },
+            Construct::Only { m } => Stmt::Only { m, f },
+            Construct::Repeat { n } => Stmt::Repeat { n, f },
+        }
+    }
 }
 
 /// The statements of a function.

@@ -1,178 +1,187 @@
+//! Each public call once on its happy path, and each limit on both sides.
 use super::*;
+use crate::limits::{MAX_BYTES, MAX_DEPTH, MAX_FUNCTIONS, MAX_STATEMENTS};
+use crate::row_tests::{accepts, refuses};
 use std::alloc::Global;
-use std::process::Abort;
 use std::test::Fail;
 
-/// The text is the program with these elements of nthreads-var and these statements of `main`.
-fn accepts(
-    rt: &impl Abort,
-    alloc: Global,
-    text: &[u8],
-    nthreads: &[u64],
-    body: &[Stmt],
-    note: &str,
-) {
-    let Ok(p) = parse(alloc, text) else {
-        panic!(rt; "no program: {note}");
-    };
-    assert_eq!(rt; p.threads, 1, "{note}");
-    assert_eq!(rt; p.main, 0, "{note}");
-    assert_eq!(rt; p.env.nthreads.len(), nthreads.len(), "{note}");
-    for (i, n) in nthreads.iter().enumerate() {
-        assert!(rt; i < p.env.nthreads.len());
-        assert_eq!(rt; *p.env.nthreads.get(i), *n, "{note}");
-    }
-    assert_eq!(rt; p.funcs.len(), 1, "{note}");
-    let main = p.funcs.get(0);
-    assert_eq!(rt; main.name.len, 4, "{note}");
-    assert_eq!(rt; main.name.bytes[..5], b"main\0"[..], "{note}");
-    assert_eq!(rt; main.body.len(), body.len(), "{note}");
-    for (i, s) in body.iter().enumerate() {
-        assert!(rt; i < main.body.len());
-        assert_eq!(rt; *main.body.get(i), *s, "{note}");
-    }
-}
+/// Texts, each with its canonical text.
+const CANONICAL: [(&str, &str); 5] = [
+    // each head line and each statement, in the canonical spelling
+    (
+        "threads 16\nenv num_threads 4,2\nenv dynamic true\nenv max_active_levels 3\nenv schedule guided,7\nenv device 1\nenv debug disabled\nenv procs 8\nfunc leaf\n  work\nend\nfunc main\n  parallel leaf\n  parallel leaf num 4\n  task leaf\n  task leaf if 0\n  task leaf final 1\n  task leaf if 0 final 1\n  taskwait\n  taskyield\n  barrier\n  critical 7 leaf\n  call leaf\n  only 63 leaf\n  repeat 1000 leaf\n  set_num_threads 64\n  set_dynamic 1\n  set_max_active_levels 255\n  set_schedule auto 65535\n  set_default_device 255\n  tool 18446744073709551615\n  work\nend\n",
+        "threads 16\nenv num_threads 4,2\nenv dynamic true\nenv max_active_levels 3\nenv schedule guided,7\nenv device 1\nenv debug disabled\nenv procs 8\nfunc leaf\n  work\nend\nfunc main\n  parallel leaf\n  parallel leaf num 4\n  task leaf\n  task leaf if 0\n  task leaf final 1\n  task leaf if 0 final 1\n  taskwait\n  taskyield\n  barrier\n  critical 7 leaf\n  call leaf\n  only 63 leaf\n  repeat 1000 leaf\n  set_num_threads 64\n  set_dynamic 1\n  set_max_active_levels 255\n  set_schedule auto 65535\n  set_default_device 255\n  tool 18446744073709551615\n  work\nend\n",
+    ),
+    // clauses that are left out
+    (
+        "func f\nend\nfunc main\ntask f if 1\ntask f final 0\ntask f if 0 final 0\ntask f if 1 final 1\nend",
+        "threads 1\nenv num_threads 1\nenv dynamic false\nenv max_active_levels 8\nenv schedule static,0\nenv device 0\nenv debug enabled\nenv procs 4\nfunc f\nend\nfunc main\n  task f\n  task f\n  task f if 0\n  task f final 1\nend\n",
+    ),
+    // nthreads-var is the number of threads
+    (
+        "threads 4\nfunc main\nend\n",
+        "threads 4\nenv num_threads 4\nenv dynamic false\nenv max_active_levels 8\nenv schedule static,0\nenv device 0\nenv debug enabled\nenv procs 4\nfunc main\nend\n",
+    ),
+    // head lines in any order
+    (
+        "env procs 8\nenv debug disabled\n# one\nenv device 2\nenv schedule dynamic,1\nenv max_active_levels 0\nenv dynamic true\nenv num_threads 64,1\nthreads 2\nfunc main\nend\n",
+        "threads 2\nenv num_threads 64,1\nenv dynamic true\nenv max_active_levels 0\nenv schedule dynamic,1\nenv device 2\nenv debug disabled\nenv procs 8\nfunc main\nend\n",
+    ),
+    // a chain of ten tasks, as a user would write it
+    (
+        "# a chain of ten tasks\nthreads 8\nenv num_threads 4,2\n\nfunc t0\n\twork\nend\nfunc t1\n task  t0\n taskwait\nend\nfunc t2\n task t1 if 1\n taskwait\nend\nfunc t3\n task t2\n taskwait\nend\nfunc t4\n task t3\n taskwait\nend\nfunc t5\n task t4\n taskwait\nend\nfunc t6\n task t5\n taskwait\nend\nfunc t7\n task t6\n taskwait\nend\nfunc t8\n task t7\n taskwait\nend\nfunc t9\n task t8\n taskwait\nend\n# four chains by each thread of an inner region\nfunc spawn\n task t9\nend\nfunc inner\n repeat 4 spawn\nend\nfunc outer\n parallel inner\nend\nfunc main\n parallel outer\nend",
+        "threads 8\nenv num_threads 4,2\nenv dynamic false\nenv max_active_levels 8\nenv schedule static,0\nenv device 0\nenv debug enabled\nenv procs 4\nfunc t0\n  work\nend\nfunc t1\n  task t0\n  taskwait\nend\nfunc t2\n  task t1\n  taskwait\nend\nfunc t3\n  task t2\n  taskwait\nend\nfunc t4\n  task t3\n  taskwait\nend\nfunc t5\n  task t4\n  taskwait\nend\nfunc t6\n  task t5\n  taskwait\nend\nfunc t7\n  task t6\n  taskwait\nend\nfunc t8\n  task t7\n  taskwait\nend\nfunc t9\n  task t8\n  taskwait\nend\nfunc spawn\n  task t9\nend\nfunc inner\n  repeat 4 spawn\nend\nfunc outer\n  parallel inner\nend\nfunc main\n  parallel outer\nend\n",
+    ),
+];
 
 #[test]
-fn accepted(rt: HostRuntime) {
+fn canonical(rt: HostRuntime) -> Result<(), Fail> {
     let alloc = rt.alloc();
-    let row: [Stmt; 0] = [];
-    accepts(&rt, alloc, b"func main\nend\n", &[1], &row, "nothing to do");
-    accepts(
-        &rt,
-        alloc,
-        b"func main\nend",
-        &[1],
-        &row,
-        "no last line feed",
-    );
-    accepts(
-        &rt,
-        alloc,
-        b"threads 1\nfunc main\nend\n",
-        &[1],
-        &row,
-        "one head line",
-    );
-    accepts(
-        &rt,
-        alloc,
-        b"threads 1\nenv num_threads 4,2\nfunc main\nend\n",
-        &[4, 2],
-        &row,
-        "both head lines",
-    );
-    accepts(
-        &rt,
-        alloc,
-        b"env num_threads 64,1,2,3\nthreads 1\nfunc main\nend\n",
-        &[64, 1, 2, 3],
-        &row,
-        "threads behind env",
-    );
-    accepts(
-        &rt,
-        alloc,
-        b"# a comment\n\n \t\r\nfunc\tmain\r\n # end\nend\r\n\n#",
-        &[1],
-        &row,
-        "lines that say nothing",
-    );
-    accepts(
-        &rt,
-        alloc,
-        b"env num_threads 3\nfunc main\n  set_num_threads 64\n  work\n  set_dynamic 1\n  set_dynamic 0\n  set_num_threads 1\nend\n",
-        &[3],
-        &[
-            Stmt::SetNumThreads(64),
-            Stmt::Work,
-            Stmt::SetDynamic(true),
-            Stmt::SetDynamic(false),
-            Stmt::SetNumThreads(1),
-        ],
-        "each kind of statement",
-    );
+    for (text, canonical) in CANONICAL {
+        let printed = print(alloc, &parse(alloc, text.as_bytes())?)?;
+        assert_eq!(rt; printed[..], *canonical.as_bytes(), "{text}");
+    }
+    Ok(())
 }
 
 /// A value that threads may share and move.
 fn crosses_threads<T: Send + Sync>(_value: &T) {}
 
 #[test]
-fn defaults(rt: HostRuntime) -> Result<(), Fail> {
-    let p = parse(rt.alloc(), b"func main\nwork\nend\n")?;
-    assert!(rt; !p.env.dynamic);
-    assert!(rt; p.env.debug);
-    assert_eq!(rt; p.env.max_active, 8);
-    assert_eq!(rt; p.env.sched, Sched { kind: 1, chunk: 0 });
-    assert_eq!(rt; p.env.device, 0);
-    assert_eq!(rt; p.env.procs, 4);
+fn programs(rt: HostRuntime) -> Result<(), Fail> {
+    let alloc = rt.alloc();
+    let text = b"env num_threads 4,2\nfunc f\nend\nfunc main\nset_num_threads 3\ncall f\nend\n";
+    let p = parse(alloc, text)?.same(alloc)?;
     crosses_threads(&p);
+    assert_eq!(rt; p.threads, 1);
+    assert_eq!(rt; p.main, 1);
+    assert_eq!(rt; *p.env.nthreads.as_slice(), [4, 2][..]);
+    assert_eq!(rt; p.env.sched, Sched { kind: 1, chunk: 0 });
+    assert_eq!(rt; p.env.procs, 4);
+    assert_eq!(rt; p.funcs.len(), 2);
+    let main = p.funcs.get(1);
+    assert_eq!(rt; main.name.bytes[..5], b"main\0"[..]);
+    assert_eq!(rt;
+        *main.body.as_slice(),
+        [Stmt::SetNumThreads(3), Stmt::Call { f: 0 }][..]
+    );
+    assert!(rt; !is_small(&p));
     Ok(())
 }
 
 #[test]
-fn numbers(rt: HostRuntime) {
-    assert_eq!(rt; number(b"0", 0, 10), Some(0));
+fn words(rt: HostRuntime) {
     assert_eq!(rt; number(b"10", 0, 10), Some(10));
     assert_eq!(rt; number(b"11", 0, 10), None);
-    assert_eq!(rt; number(b"9", 10, 20), None);
-    assert_eq!(rt; number(b"007", 0, 10), None);
-    assert_eq!(rt; number(b"", 0, 10), None);
-    assert_eq!(rt; number(b"-1", 0, 10), None);
-    assert_eq!(rt; number(b"1x", 0, 10), None);
     assert_eq!(rt;
         number(b"18446744073709551615", 0, u64::MAX),
         Some(u64::MAX)
     );
-    assert_eq!(rt; number(b"18446744073709551616", 0, u64::MAX), None);
-}
-
-#[test]
-fn faults(rt: HostRuntime) {
+    assert_eq!(rt; kind_name(3), Some("guided"));
+    assert_eq!(rt; kind_name(5), None);
+    assert_eq!(rt; kind_number(b"auto"), Some(4));
     assert_eq!(rt; Why::NotText.number(), 1);
-    assert_eq!(rt; Why::UnknownWord.number(), 2);
-    assert_eq!(rt; Why::UnknownWord.text(), "UnknownWord");
-    assert_eq!(rt; Why::Unclosed.number(), 10);
     assert_eq!(rt; Why::Unclosed.text(), "Unclosed");
 }
 
+/// A text, then the same piece so many times, and an end.
+fn repeated(
+    alloc: Global,
+    start: &str,
+    piece: &str,
+    count: usize,
+    end: &str,
+) -> Result<String, OutOfMemory> {
+    let mut text = String::from_str(alloc, start)?;
+    for _ in 0..count {
+        text.push_str(piece)?;
+    }
+    text.push_str(end)?;
+    Ok(text)
+}
+
 #[test]
-fn same(rt: HostRuntime) -> Result<(), Fail> {
+fn sizes_of_texts(rt: HostRuntime) -> Result<(), Fail> {
     let alloc = rt.alloc();
-    let text = b"env num_threads 4,2\nfunc main\nset_num_threads 3\nwork\nend\n";
-    let copy = parse(alloc, text)?.same(alloc)?;
-    assert_eq!(rt; copy.threads, 1);
-    assert_eq!(rt; copy.main, 0);
-    assert_eq!(rt; copy.env.procs, 4);
-    assert_eq!(rt; copy.env.nthreads.len(), 2);
-    assert_eq!(rt; *copy.env.nthreads.get(0), 4);
-    assert_eq!(rt; *copy.env.nthreads.get(1), 2);
-    assert_eq!(rt; copy.funcs.len(), 1);
-    let main = copy.funcs.get(0);
-    assert_eq!(rt; main.name.len, 4);
-    assert_eq!(rt; main.name.bytes[..5], b"main\0"[..]);
-    assert_eq!(rt;
-        *main.body.as_slice(),
-        [Stmt::SetNumThreads(3), Stmt::Work][..]
+    let end = "\nfunc main\nend\n";
+    let text = repeated(alloc, "", "#", MAX_BYTES - 15, end)?;
+    assert_eq!(rt; text.len(), MAX_BYTES);
+    accepts(&rt, alloc, text.as_bytes(), "a text of the greatest size");
+    let text = repeated(alloc, "", "#", MAX_BYTES - 14, "\nfunc main\nend\n")?;
+    refuses(
+        &rt,
+        alloc,
+        text.as_bytes(),
+        1,
+        Why::OverLimit,
+        "a byte more",
+    );
+    let text = repeated(alloc, "func main\n", " work", 10_000, "")?;
+    refuses(
+        &rt,
+        alloc,
+        text.as_bytes(),
+        2,
+        Why::UnknownWord,
+        "10,000 words",
     );
     Ok(())
 }
 
-#[test]
-fn small(rt: HostRuntime) -> Result<(), Fail> {
-    let p = parse(rt.alloc(), b"func main\nset_dynamic 1\nwork\nend\n")?;
-    assert!(rt; is_small(&p));
-    Ok(())
+/// Functions `f0`, `f1` and so on, each with a line over the number of the one above, and a
+/// `main` with this statement.
+fn functions(alloc: Global, line: &str, count: usize, last: &str) -> Result<String, OutOfMemory> {
+    let mut text = String::from_str(alloc, "func f0\nend\n")?;
+    for above in 0..count {
+        let below = above.saturating_add(1);
+        text.push_str(&format!(in alloc; "func f{below}\n{line}{above}\nend\n")?)?;
+    }
+    text.push_str(&format!(in alloc; "func main\n{last}\nend\n")?)?;
+    Ok(text)
 }
 
 #[test]
-fn printed(rt: HostRuntime) -> Result<(), Fail> {
+fn counts(rt: HostRuntime) -> Result<(), Fail> {
     let alloc = rt.alloc();
-    let script =
-        b"env num_threads 4,2\n# one\nfunc main\nset_num_threads 3\n\tset_dynamic 1\nwork\nend";
-    let text = print(alloc, &parse(alloc, script)?)?;
-    let canonical =
-        b"threads 1\nenv num_threads 4,2\nenv dynamic false\nenv max_active_levels 8\nenv schedule static,0\nenv device 0\nenv debug enabled\nenv procs 4\nfunc main\n  set_num_threads 3\n  set_dynamic 1\n  work\nend\n";
-    assert_eq!(rt; text[..], canonical[..]);
+    let text = functions(alloc, "call f", MAX_FUNCTIONS - 2, "work")?;
+    accepts(&rt, alloc, text.as_bytes(), "the most functions");
+    let text = functions(alloc, "call f", MAX_FUNCTIONS - 1, "work")?;
+    refuses(
+        &rt,
+        alloc,
+        text.as_bytes(),
+        192,
+        Why::OverLimit,
+        "one function more",
+    );
+    let start = "func f\nwork\nend\nfunc main\n";
+    let text = repeated(alloc, start, "work\n", MAX_STATEMENTS - 1, "end\n")?;
+    accepts(&rt, alloc, text.as_bytes(), "the most statements");
+    let text = repeated(alloc, start, "work\n", MAX_STATEMENTS, "end\n")?;
+    refuses(
+        &rt,
+        alloc,
+        text.as_bytes(),
+        4_100,
+        Why::OverLimit,
+        "one statement more",
+    );
+    Ok(())
+}
+
+/// Statements that are as deep as the function that they name.
+const AS_DEEP: [&str; 5] = ["call", "task", "only 0", "critical 0", "repeat 0"];
+
+#[test]
+fn depths(rt: HostRuntime) -> Result<(), Fail> {
+    let alloc = rt.alloc();
+    for word in AS_DEEP {
+        let last = format!(in alloc; "{word} f{MAX_DEPTH}")?;
+        let text = functions(alloc, "parallel f", MAX_DEPTH, &last)?;
+        accepts(&rt, alloc, text.as_bytes(), word);
+        let last = format!(in alloc; "{last}\nend\nfunc over\nparallel main num 2")?;
+        let text = functions(alloc, "parallel f", MAX_DEPTH, &last)?;
+        refuses(&rt, alloc, text.as_bytes(), 52, Why::OverLimit, word);
+    }
     Ok(())
 }

@@ -1,14 +1,14 @@
 use Rattle.std.proofs.Common.{◌≡◌, ◌+◌, ◌≤◌, length}
 use Rattle.omi_script.specs.Lines.{lines}
-use Rattle.omi_script.specs.ReadPlaces.{place_of}
-use Rattle.omi_script.specs.Workload.{judge, verdict}
+use Rattle.omi_script.specs.Verdict.{judge, verdict}
+use Rattle.omi_script.specs.declared.limits.TheConstants.{MAX_BYTES}
 use Rattle.omi_script.proofs.reader.parse.Given as goal
 
--- the lines that are left are judged at the place that the reader came to, and each has a byte at least
+-- the lines that are left are judged in the state that the parser came to, and each has a byte at least
 abbrev pub invariant-lines : goal.invariant-lines
 invariant-lines l = record {
-  judged : judge l.number (place_of l.place) (lines l.rest) ≡ verdict l.bytes;
-  room : l.number + length l.rest ≤ 65537;
+  judged : judge l.number l.parser.state (lines l.rest) ≡ verdict l.bytes;
+  room : l.number + length l.rest ≤ MAX_BYTES + 1;
 }
 
 abbrev pub decreases-lines : goal.decreases-lines

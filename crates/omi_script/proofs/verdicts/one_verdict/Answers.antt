@@ -1,4 +1,4 @@
-use Rattle.omi_script.proofs.WorkloadLemmas.{AreEqual-from_workload, same_fault, not_both}
+use Rattle.omi_script.proofs.VerdictLemmas.{AreEqual-from_workload, same_fault, not_both}
 use Rattle.omi_script.proofs.SoundPrograms.{workload_or_refused}
 use Rattle.omi_script.proofs.verdicts.one_verdict.Goals as goal
 

@@ -1,6 +1,5 @@
 use Rattle.std.proofs.Common.{◌++◌, ◌∷◌, [], ◌∙◌, sym, ap}
-use Rattle.omi_script.specs.Place.{reaches}
-use Rattle.omi_script.specs.Reach.{reach_of}
+use Rattle.omi_script.specs.Reach.{reach_of, reaches}
 use Rattle.omi_script.proofs.ReachLemmas.{shallow_closed, known_more}
 use Rattle.omi_script.proofs.closed.Closed.with.Goals as goal
 
