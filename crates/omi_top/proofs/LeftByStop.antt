@@ -8,7 +8,7 @@ use Rattle.std.specs.List.{list_all}
 use Rattle.omi_script.specs.Grammar.{AreEqual, Grammar, Refused}
 use Rattle.omi_script.specs.Small.{IsSmall, is_small_function}
 use Rattle.omi_script.specs.declared.function.Func.{Func}
-use Rattle.omi_script.proofs.WorkloadLemmas.{AreEqual-from_workload, not_both}
+use Rattle.omi_script.proofs.VerdictLemmas.{AreEqual-from_workload, not_both}
 use Rattle.omi_script.specs.declared.fault.ScriptFault.{ScriptFault}
 use Rattle.omi_script.specs.declared.program.Program.{Program}
 use Rattle.omi_top.specs.declared.refusal.Refusal.{Refusal}

@@ -6,12 +6,12 @@ use Rattle.std.proofs.lemmas.Bool.{leb-true}
 use Rattle.omi_outside.specs.Outside.{Told, holding, IsPartly}
 use Rattle.omi_outside.specs.declared.files.Refused.{Refused as RefusedWrite}
 use Rattle.omi_outside.specs.declared.files.Refused.TheVariants as refused
-use Rattle.omi_script.specs.Fault.{IfFault}
+use Rattle.omi_script.specs.Errors.{IfFault}
 use Rattle.omi_script.specs.Grammar.{Grammar, Refused}
 use Rattle.omi_script.specs.Lines.{lines}
-use Rattle.omi_script.specs.Place.{first_place}
+use Rattle.omi_script.specs.ParserState.{first_state}
 use Rattle.omi_script.specs.Small.{IsSmall}
-use Rattle.omi_script.specs.Workload.{Refuses as RefusesText, judge, verdict}
+use Rattle.omi_script.specs.Verdict.{Refuses as RefusesText, judge, verdict}
 use Rattle.omi_script.specs.declared.fault.ScriptError.{ScriptError}
 use Rattle.omi_script.specs.declared.fault.ScriptError.TheVariants as error
 use Rattle.omi_script.specs.declared.fault.Why.TheVariants.{OverLimit}
@@ -34,7 +34,7 @@ use Rattle.omi_top.specs.declared.refusal.Refusal.TheVariants as refusal
 too_long : (bytes : List ℕ) → 65536 < length bytes → verdict bytes ≡ RefusesText (record { line = 1; why = OverLimit })
 too_long bytes long = go (nat_le (length bytes) 65536) refl
   where
-    go : (b : Bool) → nat_le (length bytes) 65536 ≡ b → (if b then judge 1 first_place (lines bytes) else RefusesText (record { line = 1; why = OverLimit })) ≡ RefusesText (record { line = 1; why = OverLimit })
+    go : (b : Bool) → nat_le (length bytes) 65536 ≡ b → (if b then judge 1 first_state (lines bytes) else RefusesText (record { line = 1; why = OverLimit })) ≡ RefusesText (record { line = 1; why = OverLimit })
     go true e = absurd (omega (arith, long, leb-true (length bytes) 65536 e))
     go false e = refl
 
@@ -50,7 +50,7 @@ front_verdict bytes = go (nat_le (length bytes) 65537) refl
         too_long (take 65537 bytes) (omega arith) ∙ sym (too_long bytes (omega arith))
 
 front_grammar : (bytes : List ℕ) (p : Program) → Grammar (take 65537 bytes) p → Grammar bytes p
-front_grammar bytes p g = record { place = g.place; says = sym (front_verdict bytes) ∙ g.says; program = g.program }
+front_grammar bytes p g = record { state = g.state; says = sym (front_verdict bytes) ∙ g.says; program = g.program }
 
 -- the answer to the first 65,537 bytes is the answer to the text
 front_answered : (budget : ℕ) (bytes : List ℕ) (answer : Answer) → IsStopAnswer budget (Some (take 65537 bytes)) answer → IsStopAnswer budget (Some bytes) answer

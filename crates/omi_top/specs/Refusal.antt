@@ -1,8 +1,7 @@
 -- Why a command ends without an answer, what it prints then, and what the program ends with.
 use Rattle.std.specs.Prelude.{ℕ, List, [], ◌∷◌, ◌++◌, Option, Some, None, codes}
 use Rattle.std.specs.Fmt.{decimal}
-use Rattle.omi_script.specs.Faults.{number_of_fault}
-use Rattle.omi_script.specs.FaultTexts.{text_of_fault}
+use Rattle.omi_script.specs.Faults.{number_of_fault, text_of_fault}
 use Rattle.omi_script.specs.declared.fault.ScriptFault.{ScriptFault}
 use Rattle.omi_script.specs.declared.fault.ScriptError.{ScriptError}
 use Rattle.omi_script.specs.declared.fault.ScriptError.TheVariants as error
