@@ -2,7 +2,7 @@
 use Rattle.std.specs.Prelude.{◌≡◌, ◌⊎◌, ℕ, ◌+◌, ◌-◌, ◌^◌, ◌*◌, ◌<◌, ◌≤◌, min, List, ◌++◌, length, take, Option, Some, None}
 use Rattle.omi_outside.specs.declared.limits.TheConstants.{PIECE}
 
--- What is told of one name: nothing (None), that there is no such file (Some None), or its bytes.
+-- Files. What is told of one name: nothing (None), that there is no such file (Some None), or its bytes.
 abbrev pub Told : Type 0
 Told = Option (Option (List ℕ))
 
@@ -36,7 +36,7 @@ IsCut old new bytes =
     (new ≡ old)
     ⊎ ((count : ℕ) × (count * PIECE < length bytes) × (new ≡ holding old (pieces count bytes)))
 
--- What a sink tells once these bytes were put. An untold sink stays untold.
+-- Sinks. What is told once these bytes were put. An untold sink stays untold.
 abbrev pub put_on : Option (List ℕ) → List ℕ → Option (List ℕ)
 put_on None bytes = None
 put_on (Some old) bytes = Some (old ++ bytes)
@@ -50,11 +50,15 @@ abbrev pub IsPutCut : List ℕ → Option (List ℕ) → Option (List ℕ) → T
 IsPutCut bytes old new =
     (count : ℕ) × (count * PIECE < length bytes) × (new ≡ put_on old (pieces count bytes))
 
--- A count of faults rose, or stands at the greatest number of 64 bits.
-abbrev pub Rose : ℕ → ℕ → Type 0
-Rose before now = min (before + 1) (2 ^ 64 - 1) ≤ now
+-- A count after one more. It stays at the greatest number of 64 bits.
+abbrev pub one_more : ℕ → ℕ
+one_more count = min (count + 1) (2 ^ 64 - 1)
 
--- A count of faults never falls, and a failure comes only where it rose.
+-- A count rose, or stands at the greatest number of 64 bits.
+abbrev pub Rose : ℕ → ℕ → Type 0
+Rose before now = one_more before ≤ now
+
+-- A count never falls, and a failure comes only where it rose.
 pub record HasCause (before now : ℕ) (failure : Type 0) : Type 0 where
   pub later : before ≤ now
   pub failed : failure → Rose before now

@@ -45,7 +45,8 @@ pub fn hold(
     bytes: &[u8],
 ) -> Result<(), OutOfMemory>
     ensures made { OnOk result (told_by held.new name.now ≡ Some (Some bytes.now)) }
-    ensures others { (other : List ℕ) → other ≢ name.now → told_by held.new other ≡ told_by held.old other }
+    ensures others { (other : List ℕ) → other ≢ name.now
+        → told_by held.new other ≡ told_by held.old other }
     ensures refused { OnErr result (told_by held.new ≡ told_by held.old) }
 {
     let name = String::from_str(alloc, name)?;
@@ -61,8 +62,10 @@ pub fn extend(
     name: &str,
     bytes: &[u8],
 ) -> Result<(), OutOfMemory>
-    ensures added { OnOk result (told_by held.new name.now ≡ extended (told_by held.old name.now) bytes.now) }
-    ensures others { (other : List ℕ) → other ≢ name.now → told_by held.new other ≡ told_by held.old other }
+    ensures added { OnOk result (told_by held.new name.now
+        ≡ extended (told_by held.old name.now) bytes.now) }
+    ensures others { (other : List ℕ) → other ≢ name.now
+        → told_by held.new other ≡ told_by held.old other }
     ensures refused { OnErr result (told_by held.new ≡ told_by held.old) }
 {
     match held.get_mut(name) {

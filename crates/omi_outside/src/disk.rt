@@ -1,9 +1,11 @@
-// The thin edge over real files and standard output. It tells no bytes, and counts each fault.
-ghost use Rattle.std.specs.Prelude.{◌≡◌, ◌≤◌, IfOk, List, None, length, ℕ};
+// The thin edge over real files. It tells no bytes, and counts each fault. Each call of the system
+// stands in one place.
+ghost use Rattle.std.specs.Prelude.{◌≡◌, ◌≤◌, IfOk, IsErr, List, None, length, ℕ};
+ghost use Rattle.omi_outside.specs.Outside.{HasCause};
 
-use crate::{Failed, Files, Refused, Sink};
+use crate::{Failed, Files, Refused};
 use std::fs::{OpenFile, OpenOptions};
-use std::io::{Read, Seek, SeekFrom, Write};
+use std::io::{ErrorKind, Read, Seek, SeekFrom, Write};
 use std::{fs, io};
 
 /// A file that is open, and its name.
@@ -13,12 +15,16 @@ struct Opened<F> {
     file: F,
 }
 
-/// Real files. The file that `size` found last stays open, and `read_at` reads no other: a read of
-/// another name is a fault, and so is one past the file's end.
+/// Real files. Two of them stay open: the one that `size` found last, from which alone `read_at`
+/// reads, and the one that is written, from its `create` to its last `append`. So while a file is
+/// read or written, its name is looked up once.
+///
+/// A read of another name than that of `size` is a fault, and so is one past the file's end.
 #[derive(Drop)]
 pub struct DiskFiles<R: fs::Files + AllocGlobal + Drop> {
     rt: R,
-    open: Option<Opened<R::File>>,
+    read: Option<Opened<R::File>>,
+    written: Option<Opened<R::File>>,
     reads: u64,
     writes: u64,
 }
@@ -32,38 +38,104 @@ impl<R: fs::Files + AllocGlobal + Drop> DiskFiles<R> {
     {
         DiskFiles {
             rt,
-            open: None,
+            read: None,
+            written: None,
             reads: 0,
             writes: 0,
         }
     }
+
+    /// Has the system hand the file that was written last to its device, so that a fault which is
+    /// told only then is told. It does nothing where no file was written, and where the file is one
+    /// that can't be handed over, as a pipe.
+    pub fn sync(&mut self) -> Result<(), Failed>
+        ensures cause { HasCause (⟦<DiskFiles<R> as Files>⟧.writes self.old)
+            (⟦<DiskFiles<R> as Files>⟧.writes self.new) (IsErr result) }
+        ensures reads { ⟦<DiskFiles<R> as Files>⟧.reads self.new
+            ≡ ⟦<DiskFiles<R> as Files>⟧.reads self.old }
+    {
+        let synced = match &self.written {
+            Some(opened) => opened.file.sync_all(),
+            None => Ok(()),
+        };
+        match synced {
+            Ok(()) => Ok(()),
+            Err(e) if e.kind() == ErrorKind::InvalidInput => Ok(()),
+            Err(_) => {
+                self.writes = self.writes.saturating_add(1);
+                Err(Failed)
+            }
+        }
+    }
 }
 
-/// The length of an open file.
-fn open_len<F: Seek>(file: &mut F) -> io::Result<u64> {
-    file.seek(SeekFrom::End(0))
+/// Opens a file to read it, and answers its length too. None where there is no such file: the name
+/// isn't there, or a part of its path is no folder.
+fn open_to_read<R: fs::Files>(rt: &R, name: &str) -> io::Result<Option<(R::File, u64)>> {
+    match fs::open(rt, name) {
+        Ok(mut file) => {
+            let len = file.seek(SeekFrom::End(0))?;
+            Ok(Some((file, len)))
+        }
+        Err(e) => match e.kind() {
+            ErrorKind::NotFound | ErrorKind::NotADirectory => Ok(None),
+            _ => Err(e),
+        },
+    }
 }
 
-/// Reads from a place on until `to` is full or the file ends, and answers how many bytes.
+/// Reads from a place on until `to` is full or the file ends, and answers how many bytes. A read
+/// that was interrupted is made again.
 fn read_open<F: Read + Seek>(file: &mut F, at: u64, to: &mut [u8]) -> io::Result<usize>
     ensures { IfOk result (λ count. count ≤ length to.new) }
 {
     file.seek(SeekFrom::Start(at))?;
     let mut count = 0;
-    while count < to.len() {
-        let more = file.read(&mut to[count..])?;
-        if more == 0 {
+    for _ in 0..u64::MAX {
+        if count == to.len() {
             break;
         }
-        count += more;
+        match file.read(&mut to[count..]) {
+            Ok(0) => break,
+            Ok(more) => count += more,
+            Err(e) if e.kind() == ErrorKind::Interrupted => {}
+            Err(e) => return Err(e),
+        }
     }
     Ok(count)
 }
 
-/// Opens the file at its end and writes all the bytes.
-fn append_to<R: fs::Files>(rt: &R, name: &str, bytes: &[u8]) -> io::Result<()> {
-    let mut file = OpenOptions::new().append(true).open(rt, name)?;
-    file.write_all(bytes)
+/// The file to add to: the one that was written last, if this is its name, or else one that is
+/// opened at its end, and made where it isn't there.
+fn open_to_append<R: fs::Files + AllocGlobal>(
+    rt: &R,
+    last: Option<Opened<R::File>>,
+    name: &str,
+) -> Result<Opened<R::File>, Refused> {
+    if let Some(opened) = last {
+        if opened.name.as_str() == name {
+            return Ok(opened);
+        }
+    }
+    let kept = String::from_str(rt.alloc(), name)?;
+    match OpenOptions::new().append(true).create(true).open(rt, name) {
+        Ok(file) => Ok(Opened { name: kept, file }),
+        Err(_) => Err(Refused::Failed),
+    }
+}
+
+/// Adds bytes to the file of this name, and answers it, still open.
+fn append_to<R: fs::Files + AllocGlobal>(
+    rt: &R,
+    last: Option<Opened<R::File>>,
+    name: &str,
+    bytes: &[u8],
+) -> Result<Opened<R::File>, Refused> {
+    let mut opened = open_to_append(rt, last, name)?;
+    match opened.file.write_all(bytes) {
+        Ok(()) => Ok(opened),
+        Err(_) => Err(Refused::Failed),
+    }
 }
 
 impl<R: fs::Files + AllocGlobal + Drop> Files for DiskFiles<R> {
@@ -74,20 +146,14 @@ impl<R: fs::Files + AllocGlobal + Drop> Files for DiskFiles<R> {
     ghost writes = { λ files. files.writes };
 
     fn size(&mut self, name: &str) -> Result<Option<u64>, Refused> {
-        self.open = None;
+        self.read = None;
         let kept = String::from_str(self.rt.alloc(), name)?;
-        match fs::open(&self.rt, name) {
-            Ok(mut file) => match open_len(&mut file) {
-                Ok(len) => {
-                    self.open = Some(Opened { name: kept, file });
-                    Ok(Some(len))
-                }
-                Err(_) => {
-                    self.reads = self.reads.saturating_add(1);
-                    Err(Refused::Failed)
-                }
-            },
-            Err(e) if e.kind() == io::ErrorKind::NotFound => Ok(None),
+        match open_to_read(&self.rt, name) {
+            Ok(Some((file, len))) => {
+                self.read = Some(Opened { name: kept, file });
+                Ok(Some(len))
+            }
+            Ok(None) => Ok(None),
             Err(_) => {
                 self.reads = self.reads.saturating_add(1);
                 Err(Refused::Failed)
@@ -96,7 +162,7 @@ impl<R: fs::Files + AllocGlobal + Drop> Files for DiskFiles<R> {
     }
 
     fn read_at(&mut self, name: &str, at: u64, to: &mut [u8]) -> Result<usize, Failed> {
-        if let Some(opened) = &mut self.open
+        if let Some(opened) = &mut self.read
             && opened.name.as_str() == name
             && let Ok(count) = read_open(&mut opened.file, at, to)
             && count > 0
@@ -108,8 +174,13 @@ impl<R: fs::Files + AllocGlobal + Drop> Files for DiskFiles<R> {
     }
 
     fn create(&mut self, name: &str) -> Result<(), Refused> {
+        self.written = None;
+        let kept = String::from_str(self.rt.alloc(), name)?;
         match fs::create(&self.rt, name) {
-            Ok(_) => Ok(()),
+            Ok(file) => {
+                self.written = Some(Opened { name: kept, file });
+                Ok(())
+            }
             Err(_) => {
                 self.writes = self.writes.saturating_add(1);
                 Err(Refused::Failed)
@@ -118,12 +189,17 @@ impl<R: fs::Files + AllocGlobal + Drop> Files for DiskFiles<R> {
     }
 
     fn append(&mut self, name: &str, bytes: &[u8]) -> Result<(), Refused> {
-        match append_to(&self.rt, name, bytes) {
-            Ok(()) => Ok(()),
-            Err(_) => {
+        let last = self.written.take();
+        match append_to(&self.rt, last, name, bytes) {
+            Ok(opened) => {
+                self.written = Some(opened);
+                Ok(())
+            }
+            Err(Refused::Failed) => {
                 self.writes = self.writes.saturating_add(1);
                 Err(Refused::Failed)
             }
+            Err(Refused::OutOfMemory) => Err(Refused::OutOfMemory),
         }
     }
 }

@@ -49,7 +49,8 @@ pub trait Files {
 
     /// The length of a file in bytes, or None where there is no file of this name.
     fn size(&mut self, name: &str) -> Result<Option<u64>, Refused>
-        ensures length { (content : Option (List ℕ)) → told self.old name.now ≡ Some content → IfOk result (λ size. size ≡ option_map length content) }
+        ensures length { (content : Option (List ℕ)) → told self.old name.now ≡ Some content
+            → IfOk result (λ size. size ≡ option_map length content) }
         ensures same { told self.new ≡ told self.old }
         ensures cause { HasCause (reads self.old) (reads self.new) (IsErrOf result Refused.Failed) }
         ensures writes { writes self.new ≡ writes self.old };
@@ -57,10 +58,12 @@ pub trait Files {
     /// Fills a front of `to` with the file's bytes from place `at` on, and answers how many bytes.
     fn read_at(&mut self, name: &str, at: u64, to: &mut [u8]) -> Result<usize, Failed>
         requires room { 0 < length to.old }
-        requires within { (content : Option (List ℕ)) → told self.old name.now ≡ Some content → at < content_len content }
+        requires within { (content : Option (List ℕ)) → told self.old name.now ≡ Some content
+            → at < content_len content }
         ensures count { IfOk result (λ count. (0 < count) × (count ≤ length to.new)) }
         ensures bytes { (bytes : List ℕ) → told self.old name.now ≡ Some (Some bytes)
-            → IfOk result (λ count. (at + count ≤ length bytes) × (take count to.new ≡ take count (drop at bytes))) }
+            → IfOk result (λ count. (at + count ≤ length bytes)
+            × (take count to.new ≡ take count (drop at bytes))) }
         ensures same { told self.new ≡ told self.old }
         ensures cause { HasCause (reads self.old) (reads self.new) (IsErr result) }
         ensures writes { writes self.new ≡ writes self.old };
@@ -69,15 +72,20 @@ pub trait Files {
     fn create(&mut self, name: &str) -> Result<(), Refused>
         ensures made { OnOk result (told self.new name.now ≡ holding (told self.old name.now) []) }
         ensures refused { OnErr result (told self.new ≡ told self.old) }
-        ensures others { (other : List ℕ) → other ≢ name.now → told self.new other ≡ told self.old other }
-        ensures cause { HasCause (writes self.old) (writes self.new) (IsErrOf result Refused.Failed) }
+        ensures others { (other : List ℕ) → other ≢ name.now
+            → told self.new other ≡ told self.old other }
+        ensures cause { HasCause (writes self.old) (writes self.new)
+            (IsErrOf result Refused.Failed) }
         ensures reads { reads self.new ≡ reads self.old };
 
     /// Adds the bytes at the end of a file. A name that isn't there is made.
     fn append(&mut self, name: &str, bytes: &[u8]) -> Result<(), Refused>
-        ensures added { OnOk result (told self.new name.now ≡ extended (told self.old name.now) bytes.now) }
+        ensures added { OnOk result (told self.new name.now
+            ≡ extended (told self.old name.now) bytes.now) }
         ensures refused { OnErr result (told self.new ≡ told self.old) }
-        ensures others { (other : List ℕ) → other ≢ name.now → told self.new other ≡ told self.old other }
-        ensures cause { HasCause (writes self.old) (writes self.new) (IsErrOf result Refused.Failed) }
+        ensures others { (other : List ℕ) → other ≢ name.now
+            → told self.new other ≡ told self.old other }
+        ensures cause { HasCause (writes self.old) (writes self.new)
+            (IsErrOf result Refused.Failed) }
         ensures reads { reads self.new ≡ reads self.old };
 }

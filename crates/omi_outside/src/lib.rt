@@ -31,4 +31,8 @@ pub use whole::{ReadError, put_whole, read_whole, write_whole};
 pub type OutOfMemory = std::alloc::AllocError;
 
 #[cfg(test)]
+mod edge_tests;
+#[cfg(test)]
+mod stand_in;
+#[cfg(test)]
 mod tests;

@@ -45,9 +45,9 @@ impl MemFiles {
     /// No files. `failing` lists the calls that are to fail, each by its number among the calls of
     /// its kind, from 1.
     pub fn new(alloc: Global, failing: Vec<(Call, u64)>) -> MemFiles
-        ensures told { (name : List ℕ) → ⟦<MemFiles as Files>⟧.told result name ≡ Some None }
-        ensures reads { ⟦<MemFiles as Files>⟧.reads result ≡ 0 }
-        ensures writes { ⟦<MemFiles as Files>⟧.writes result ≡ 0 }
+        ensures told { (name : List ℕ) → told_of result name ≡ Some None }
+        ensures reads { read_faults result ≡ 0 }
+        ensures writes { write_faults result ≡ 0 }
         ensures none_made { (call : Call) → calls_made result call ≡ 0 }
         ensures list { failing_calls result ≡ failing.items }
     {
@@ -68,11 +68,14 @@ impl MemFiles {
 
     /// Makes a name hold these bytes. It counts as no call, and fails only for want of memory.
     pub fn put(&mut self, name: &str, bytes: &[u8]) -> Result<(), OutOfMemory>
-        ensures put { OnOk result (⟦<MemFiles as Files>⟧.told self.new name.now ≡ Some (Some bytes.now)) }
-        ensures others { (other : List ℕ) → other ≢ name.now → ⟦<MemFiles as Files>⟧.told self.new other ≡ ⟦<MemFiles as Files>⟧.told self.old other }
-        ensures refused { OnErr result (⟦<MemFiles as Files>⟧.told self.new ≡ ⟦<MemFiles as Files>⟧.told self.old) }
-        ensures reads { ⟦<MemFiles as Files>⟧.reads self.new ≡ ⟦<MemFiles as Files>⟧.reads self.old }
-        ensures writes { ⟦<MemFiles as Files>⟧.writes self.new ≡ ⟦<MemFiles as Files>⟧.writes self.old }
+        ensures put { OnOk result (told_of self.new name.now ≡ Some (Some bytes.now)) }
+        ensures refused { OnErr result (told_of self.new ≡ told_of self.old) }
+        ensures others { (other : List ℕ) → other ≢ name.now
+            → told_of self.new other ≡ told_of self.old other }
+
+        // What stays.
+        ensures reads { read_faults self.new ≡ read_faults self.old }
+        ensures writes { write_faults self.new ≡ write_faults self.old }
         ensures no_call { IsNotCalled self.old self.new }
     {
         hold(self.alloc, &mut self.held, name, bytes)
@@ -80,7 +83,7 @@ impl MemFiles {
 
     /// The bytes of a name, where there is such a file.
     pub fn bytes(&self, name: &str) -> Option<&[u8]>
-        ensures { Some (option_map (λ bytes. bytes.now) result) ≡ ⟦<MemFiles as Files>⟧.told self.now name.now }
+        ensures { Some (option_map (λ bytes. bytes.now) result) ≡ told_of self.now name.now }
     {
         match self.held.get(name) {
             Some(bytes) => Some(bytes.as_slice()),
@@ -112,7 +115,8 @@ impl Files for MemFiles {
         ensures length { (content : Option (List ℕ)) → told_of self.old name.now ≡ Some content
             → IfOk result (λ size. size ≡ option_map length content) }
         ensures same { told_of self.new ≡ told_of self.old }
-        ensures cause { HasCause (read_faults self.old) (read_faults self.new) (IsErrOf result Refused.Failed) }
+        ensures cause { HasCause (read_faults self.old) (read_faults self.new)
+            (IsErrOf result Refused.Failed) }
         ensures writes { write_faults self.new ≡ write_faults self.old }
     {
         self.made.size = self.made.size.saturating_add(1);
@@ -154,10 +158,13 @@ impl Files for MemFiles {
         ensures fails { IsErrOf result Refused.Failed ↔ IsToFail Call.Create self.new }
 
         // What each form says.
-        ensures made { OnOk result (told_of self.new name.now ≡ holding (told_of self.old name.now) []) }
+        ensures made { OnOk result (told_of self.new name.now
+            ≡ holding (told_of self.old name.now) []) }
         ensures refused { OnErr result (told_of self.new ≡ told_of self.old) }
-        ensures others { (other : List ℕ) → other ≢ name.now → told_of self.new other ≡ told_of self.old other }
-        ensures cause { HasCause (write_faults self.old) (write_faults self.new) (IsErrOf result Refused.Failed) }
+        ensures others { (other : List ℕ) → other ≢ name.now
+            → told_of self.new other ≡ told_of self.old other }
+        ensures cause { HasCause (write_faults self.old) (write_faults self.new)
+            (IsErrOf result Refused.Failed) }
         ensures reads { read_faults self.new ≡ read_faults self.old }
     {
         self.made.create = self.made.create.saturating_add(1);
@@ -174,10 +181,13 @@ impl Files for MemFiles {
         ensures fails { IsErrOf result Refused.Failed ↔ IsToFail Call.Append self.new }
 
         // What each form says.
-        ensures added { OnOk result (told_of self.new name.now ≡ extended (told_of self.old name.now) bytes.now) }
+        ensures added { OnOk result (told_of self.new name.now
+            ≡ extended (told_of self.old name.now) bytes.now) }
         ensures refused { OnErr result (told_of self.new ≡ told_of self.old) }
-        ensures others { (other : List ℕ) → other ≢ name.now → told_of self.new other ≡ told_of self.old other }
-        ensures cause { HasCause (write_faults self.old) (write_faults self.new) (IsErrOf result Refused.Failed) }
+        ensures others { (other : List ℕ) → other ≢ name.now
+            → told_of self.new other ≡ told_of self.old other }
+        ensures cause { HasCause (write_faults self.old) (write_faults self.new)
+            (IsErrOf result Refused.Failed) }
         ensures reads { read_faults self.new ≡ read_faults self.old }
     {
         self.made.append = self.made.append.saturating_add(1);

@@ -21,9 +21,9 @@ pub struct MemSink {
 impl MemSink {
     /// Nothing is put yet. `failing` lists the puts that are to fail, each by its number from 1.
     pub fn new(alloc: Global, failing: Vec<u64>) -> MemSink
-        ensures told { ⟦<MemSink as Sink>⟧.told result ≡ Some [] }
-        ensures faults { ⟦<MemSink as Sink>⟧.faults result ≡ 0 }
-        ensures wants { ⟦<MemSink as Sink>⟧.wants result ≡ 0 }
+        ensures told { put_bytes result ≡ Some [] }
+        ensures faults { put_faults result ≡ 0 }
+        ensures wants { put_wants result ≡ 0 }
         ensures none_made { puts_made result ≡ 0 }
         ensures list { failing_puts result ≡ failing.items }
     {
@@ -38,7 +38,7 @@ impl MemSink {
 
     /// The bytes put so far.
     pub fn bytes(&self) -> &[u8]
-        ensures { ⟦<MemSink as Sink>⟧.told self.now ≡ Some result.now }
+        ensures { put_bytes self.now ≡ Some result.now }
     {
         &self.bytes
     }
@@ -59,12 +59,16 @@ impl Sink for MemSink {
         // What each form says.
         ensures added { OnOk result (put_bytes self.new ≡ put_on (put_bytes self.old) bytes.now) }
         ensures refused { OnErr result (put_bytes self.new ≡ put_bytes self.old) }
-        ensures cause { HasCause (put_faults self.old) (put_faults self.new) (IsErrOf result Refused.Failed) }
-        ensures want { HasCause (put_wants self.old) (put_wants self.new) (IsErrOf result Refused.OutOfMemory) }
+        ensures cause { HasCause (put_faults self.old) (put_faults self.new)
+            (IsErrOf result Refused.Failed) }
+        ensures want { HasCause (put_wants self.old) (put_wants self.new)
+            (IsErrOf result Refused.OutOfMemory) }
         ensures ok_faults { OnOk result (put_faults self.new ≡ put_faults self.old) }
         ensures ok_wants { OnOk result (put_wants self.new ≡ put_wants self.old) }
-        ensures failed_wants { IsErrOf result Refused.Failed → put_wants self.new ≡ put_wants self.old }
-        ensures want_faults { IsErrOf result Refused.OutOfMemory → put_faults self.new ≡ put_faults self.old }
+        ensures failed_wants { IsErrOf result Refused.Failed
+            → put_wants self.new ≡ put_wants self.old }
+        ensures want_faults { IsErrOf result Refused.OutOfMemory
+            → put_faults self.new ≡ put_faults self.old }
     {
         self.made = self.made.saturating_add(1);
         if self.failing.contains(&self.made) {

@@ -28,16 +28,21 @@ impl NeverFiles {
 
     /// Makes a name hold these bytes.
     pub fn put(&mut self, name: &str, bytes: &[u8]) -> Result<(), OutOfMemory>
-        ensures put { OnOk result (⟦<NeverFiles as Files>⟧.told self.new name.now ≡ Some (Some bytes.now)) }
-        ensures others { (other : List ℕ) → other ≢ name.now → ⟦<NeverFiles as Files>⟧.told self.new other ≡ ⟦<NeverFiles as Files>⟧.told self.old other }
-        ensures refused { OnErr result (⟦<NeverFiles as Files>⟧.told self.new ≡ ⟦<NeverFiles as Files>⟧.told self.old) }
+        ensures put { OnOk result (⟦<NeverFiles as Files>⟧.told self.new name.now
+            ≡ Some (Some bytes.now)) }
+        ensures others { (other : List ℕ) → other ≢ name.now
+            → ⟦<NeverFiles as Files>⟧.told self.new other
+            ≡ ⟦<NeverFiles as Files>⟧.told self.old other }
+        ensures refused { OnErr result (⟦<NeverFiles as Files>⟧.told self.new
+            ≡ ⟦<NeverFiles as Files>⟧.told self.old) }
     {
         hold(self.alloc, &mut self.held, name, bytes)
     }
 
     /// The bytes of a name, where there is such a file.
     pub fn bytes(&self, name: &str) -> Option<&[u8]>
-        ensures { Some (option_map (λ bytes. bytes.now) result) ≡ ⟦<NeverFiles as Files>⟧.told self.now name.now }
+        ensures { Some (option_map (λ bytes. bytes.now) result)
+            ≡ ⟦<NeverFiles as Files>⟧.told self.now name.now }
     {
         match self.held.get(name) {
             Some(bytes) => Some(bytes.as_slice()),

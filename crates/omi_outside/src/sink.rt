@@ -21,10 +21,13 @@ pub trait Sink {
         ensures refused { OnErr result (told self.new ≡ told self.old) }
 
         // Each refusal is counted, and a count rises by its own refusals alone.
-        ensures cause { HasCause (faults self.old) (faults self.new) (IsErrOf result Refused.Failed) }
-        ensures want { HasCause (wants self.old) (wants self.new) (IsErrOf result Refused.OutOfMemory) }
+        ensures cause { HasCause (faults self.old) (faults self.new)
+            (IsErrOf result Refused.Failed) }
+        ensures want { HasCause (wants self.old) (wants self.new)
+            (IsErrOf result Refused.OutOfMemory) }
         ensures ok_faults { OnOk result (faults self.new ≡ faults self.old) }
         ensures ok_wants { OnOk result (wants self.new ≡ wants self.old) }
         ensures failed_wants { IsErrOf result Refused.Failed → wants self.new ≡ wants self.old }
-        ensures want_faults { IsErrOf result Refused.OutOfMemory → faults self.new ≡ faults self.old };
+        ensures want_faults { IsErrOf result Refused.OutOfMemory
+            → faults self.new ≡ faults self.old };
 }

@@ -1,9 +1,7 @@
+// Tests of the forms in memory: a happy path of each, and a call that fails in mid-stream.
 use super::*;
 use std::alloc::Global;
-use std::fmt::Display;
-use std::io::{self, Print};
 use std::test::Fail;
-use std::{env, fs, process};
 
 /// 5,000 bytes, which are two pieces, the first of 4,096. The byte at place `k` is `k % 251`.
 fn two_pieces(alloc: Global) -> Result<Vec<u8>, OutOfMemory> {
@@ -115,59 +113,5 @@ fn forms_without_faults(rt: HostRuntime) -> Result<(), Fail> {
         Status::Success
     );
     pass_step(&FreeGate);
-    Ok(())
-}
-
-#[test]
-fn real_files(rt: HostRuntime) -> Result<(), Fail> {
-    let file = format!(in rt.alloc(); "omi-outside-{}", process::id(rt.process()))?;
-    let path = env::temp_dir(&rt)?.join(rt.alloc(), file.as_str())?;
-    let name = path.as_str();
-    let bytes = two_pieces(rt.alloc())?;
-    let mut files = DiskFiles::new(rt.clone()?);
-    assert_eq!(rt; files.size(name), Ok(None));
-    assert_eq!(rt; write_whole(&mut files, name, &bytes), Ok(()));
-    let whole = read_whole(rt.alloc(), &mut files, name, u64::MAX);
-    let mut piece = [0u8; 4];
-    let other = files.read_at("other", 0, &mut piece);
-    let past = files.read_at(name, 5000, &mut piece);
-    let last = files.read_at(name, 4998, &mut piece);
-    let append = files.append("", b"x");
-    let create = files.create("");
-    fs::remove_file(&rt, name)?;
-    assert_eq!(rt; whole.ok().ok_or("refused")?.as_slice(), bytes.as_slice());
-    assert_eq!(rt; (other, past), (Err(Failed), Err(Failed)));
-    assert_eq!(rt; (last, piece.get(..2)), (Ok(2), bytes.get(4998..)));
-    assert_eq!(rt;
-        (append, create),
-        (Err(Refused::Failed), Err(Refused::Failed))
-    );
-    Ok(())
-}
-
-/// An output that is closed.
-#[derive(Drop)]
-struct Closed;
-
-impl Print for Closed {
-    fn print<D: Display + Drop>(&self, _: D) -> io::Result<()> {
-        Err(io::Error::from(io::ErrorKind::BrokenPipe))
-    }
-
-    fn println<D: Display + Drop>(&self, _: D) -> io::Result<()> {
-        Err(io::Error::from(io::ErrorKind::BrokenPipe))
-    }
-
-    fn write_all(&self, _: &[u8]) -> io::Result<()> {
-        Err(io::Error::from(io::ErrorKind::BrokenPipe))
-    }
-}
-
-#[test]
-fn real_output(rt: HostRuntime) -> Result<(), Fail> {
-    let mut out = StdSink::new(rt.clone()?);
-    assert_eq!(rt; put_whole(&mut out, b"put by a test\n"), Ok(()));
-    let mut closed = StdSink::new(Closed);
-    assert_eq!(rt; put_whole(&mut closed, b"x"), Err(Refused::Failed));
     Ok(())
 }

@@ -47,7 +47,7 @@ impl From<Refused> for ReadError {
 }
 
 /// The first `most` bytes of a file, or all of them where it has fewer. At most 4,096 are asked for
-/// at a time.
+/// at a time. Room is taken once, for as many bytes as are wanted by the size that the files tell.
 pub fn read_whole<F: Files>(
     alloc: Global,
     files: &mut F,
@@ -55,19 +55,21 @@ pub fn read_whole<F: Files>(
     most: u64,
 ) -> Result<Vec<u8>, ReadError>
     ensures bytes { (content : Option (List ℕ)) → F.told files.old name.now ≡ Some content
-        → IfOk result (λ whole. (bytes : List ℕ) × (content ≡ Some bytes) × (whole.items ≡ take most bytes)) }
+        → IfOk result (λ whole. (bytes : List ℕ) × (content ≡ Some bytes)
+        × (whole.items ≡ take most bytes)) }
     ensures no_file { (content : Option (List ℕ)) → F.told files.old name.now ≡ Some content
         → IsErrOf result ReadError.NoFile → content ≡ None }
     ensures length { IfOk result (λ whole. vec_len whole ≤ most) }
     ensures same { F.told files.new ≡ F.told files.old }
-    ensures cause { HasCause (F.reads files.old) (F.reads files.new) (IsErrOf result ReadError.Failed) }
+    ensures cause { HasCause (F.reads files.old) (F.reads files.new)
+        (IsErrOf result ReadError.Failed) }
     ensures writes { F.writes files.new ≡ F.writes files.old }
 {
     let Some(size) = files.size(name)? else {
         return Err(ReadError::NoFile);
     };
     let wanted = size.min(most);
-    let mut whole = Vec::new(alloc);
+    let mut whole = Vec::with_capacity(alloc, wanted as usize)?;
     let mut piece = [0u8; PIECE];
     let mut at: u64 = 0;
     while at < wanted {
@@ -81,11 +83,15 @@ pub fn read_whole<F: Files>(
 
 /// Creates the name, and appends the bytes in pieces of 4,096, of which the last may be shorter.
 pub fn write_whole<F: Files>(files: &mut F, name: &str, bytes: &[u8]) -> Result<(), Refused>
-    ensures written { OnOk result (F.told files.new name.now ≡ holding (F.told files.old name.now) bytes.now) }
+    ensures written { OnOk result (F.told files.new name.now
+        ≡ holding (F.told files.old name.now) bytes.now) }
     ensures partly { IsPartly (F.told files.old name.now) (F.told files.new name.now) bytes.now }
-    ensures cut { OnErr result (IsCut (F.told files.old name.now) (F.told files.new name.now) bytes.now) }
-    ensures others { (other : List ℕ) → other ≢ name.now → F.told files.new other ≡ F.told files.old other }
-    ensures cause { HasCause (F.writes files.old) (F.writes files.new) (IsErrOf result Refused.Failed) }
+    ensures cut { OnErr result (IsCut (F.told files.old name.now)
+        (F.told files.new name.now) bytes.now) }
+    ensures others { (other : List ℕ) → other ≢ name.now
+        → F.told files.new other ≡ F.told files.old other }
+    ensures cause { HasCause (F.writes files.old) (F.writes files.new)
+        (IsErrOf result Refused.Failed) }
     ensures reads { F.reads files.new ≡ F.reads files.old }
 {
     files.create(name)?;
@@ -106,7 +112,8 @@ pub fn put_whole<K: Sink>(out: &mut K, bytes: &[u8]) -> Result<(), Refused>
 
     // Each refusal is counted, and a count rises by its own refusals alone.
     ensures cause { HasCause (K.faults out.old) (K.faults out.new) (IsErrOf result Refused.Failed) }
-    ensures want { HasCause (K.wants out.old) (K.wants out.new) (IsErrOf result Refused.OutOfMemory) }
+    ensures want { HasCause (K.wants out.old) (K.wants out.new)
+        (IsErrOf result Refused.OutOfMemory) }
     ensures ok_faults { OnOk result (K.faults out.new ≡ K.faults out.old) }
     ensures ok_wants { OnOk result (K.wants out.new ≡ K.wants out.old) }
     ensures failed_wants { IsErrOf result Refused.Failed → K.wants out.new ≡ K.wants out.old }
