@@ -2,6 +2,8 @@
 -- statuses.
 pub mod Outside
 pub mod Status
+-- To be believed of real files: the two counts.
+pub mod Disk
 -- To be believed of the forms in memory alone: what they tell, and which calls fail.
 pub mod Memory
 pub mod Failing

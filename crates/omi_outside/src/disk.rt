@@ -1,6 +1,7 @@
 // The thin edge over real files. It tells no bytes, and counts each fault. Each call of the system
 // stands in one place.
-ghost use Rattle.std.specs.Prelude.{◌≡◌, ◌≤◌, IfOk, IsErr, List, None, length, ℕ};
+ghost use Rattle.std.specs.Prelude.{◌≡◌, ◌≤◌, IfOk, OnOk, IsErr, List, None, length, ℕ};
+ghost use Rattle.omi_outside.specs.Disk.{disk_read_faults, disk_write_faults};
 ghost use Rattle.omi_outside.specs.Outside.{HasCause};
 
 use crate::{Failed, Files, Refused};
@@ -33,8 +34,8 @@ impl<R: fs::Files + AllocGlobal + Drop> DiskFiles<R> {
     /// No file is open, and both counts are 0.
     pub fn new(rt: R) -> DiskFiles<R>
         ensures told { (name : List ℕ) → ⟦<DiskFiles<R> as Files>⟧.told result name ≡ None }
-        ensures reads { ⟦<DiskFiles<R> as Files>⟧.reads result ≡ 0 }
-        ensures writes { ⟦<DiskFiles<R> as Files>⟧.writes result ≡ 0 }
+        ensures reads { disk_read_faults result ≡ 0 }
+        ensures writes { disk_write_faults result ≡ 0 }
     {
         DiskFiles {
             rt,
@@ -49,10 +50,10 @@ impl<R: fs::Files + AllocGlobal + Drop> DiskFiles<R> {
     /// told only then is told. It does nothing where no file was written, and where the file is one
     /// that can't be handed over, as a pipe.
     pub fn sync(&mut self) -> Result<(), Failed>
-        ensures cause { HasCause (⟦<DiskFiles<R> as Files>⟧.writes self.old)
-            (⟦<DiskFiles<R> as Files>⟧.writes self.new) (IsErr result) }
-        ensures reads { ⟦<DiskFiles<R> as Files>⟧.reads self.new
-            ≡ ⟦<DiskFiles<R> as Files>⟧.reads self.old }
+        ensures cause { HasCause (disk_write_faults self.old) (disk_write_faults self.new)
+            (IsErr result) }
+        ensures no_fault { OnOk result (disk_write_faults self.new ≡ disk_write_faults self.old) }
+        ensures reads { disk_read_faults self.new ≡ disk_read_faults self.old }
     {
         let synced = match &self.written {
             Some(opened) => opened.file.sync_all(),
@@ -141,9 +142,9 @@ fn append_to<R: fs::Files + AllocGlobal>(
 impl<R: fs::Files + AllocGlobal + Drop> Files for DiskFiles<R> {
     ghost told = { λ _ _. None };
 
-    ghost reads = { λ files. files.reads };
+    ghost reads = { disk_read_faults };
 
-    ghost writes = { λ files. files.writes };
+    ghost writes = { disk_write_faults };
 
     fn size(&mut self, name: &str) -> Result<Option<u64>, Refused> {
         self.read = None;

@@ -2,6 +2,7 @@
 #![tactic(auto)]
 
 ghost use Rattle.std.specs.Prelude.{◌≡◌, ◌≢◌, ◌⊎◌};
+ghost use Rattle.omi_outside.specs.Disk.{disk_write_faults as write_faults};
 ghost use Rattle.omi_outside.specs.Outside.{Rose};
 
 use omi_outside::{DiskFiles, Status, StdSink};
@@ -22,10 +23,14 @@ fn words_of(rt: &HostRuntime) -> io::Result<Vec<String>> {
 /// The status of a command that ended with this one. Where it did all that it is for, what it wrote
 /// is handed to its device, and a fault that is told only then is a fault of writing.
 fn handed_over<R: Files + AllocGlobal + Drop>(status: Status, dest: &mut DiskFiles<R>) -> Status
-    ensures success { status ≡ Status.Success → (result ≡ Status.Success) ⊎ ((result ≡ Status.WriteFault)
-        × Rose (⟦<DiskFiles<R> as omi_outside::Files>⟧.writes dest.old)
-        (⟦<DiskFiles<R> as omi_outside::Files>⟧.writes dest.new)) }
     ensures other { status ≢ Status.Success → result ≡ status }
+    ensures success { status ≡ Status.Success
+        → (result ≡ Status.Success) ⊎ (result ≡ Status.WriteFault) }
+
+    // No fault goes untold, and none is told that wasn't counted.
+    ensures no_fault { result ≡ Status.Success → write_faults dest.new ≡ write_faults dest.old }
+    ensures fault { status ≡ Status.Success → result ≡ Status.WriteFault
+        → Rose (write_faults dest.old) (write_faults dest.new) }
 {
     if status != Status::Success {
         return status;
@@ -36,19 +41,19 @@ fn handed_over<R: Files + AllocGlobal + Drop>(status: Status, dest: &mut DiskFil
     }
 }
 
-fn main(rt: HostRuntime) -> io::Result<ExitCode> {
+fn main(rt: HostRuntime) -> ExitCode {
     let alloc = rt.alloc();
     let words = match words_of(&rt) {
         Ok(words) => words,
         Err(e) if e.kind() == io::ErrorKind::OutOfMemory => {
-            return Ok(ExitCode::from(Status::OutOfMemory.code()));
+            return ExitCode::from(Status::OutOfMemory.code());
         }
         // Words that can't be read make no command line.
         Err(_) => Vec::new(alloc),
     };
-    let mut files = DiskFiles::new(rt.clone()?);
-    let mut dest = DiskFiles::new(rt.clone()?);
-    let mut out = StdSink::new(rt.clone()?);
+    let mut files = DiskFiles::new(&rt);
+    let mut dest = DiskFiles::new(&rt);
+    let mut out = StdSink::new(&rt);
     let status = run_top(alloc, &words, &mut files, &mut dest, &mut out);
-    Ok(ExitCode::from(handed_over(status, &mut dest).code()))
+    ExitCode::from(handed_over(status, &mut dest).code())
 }

@@ -1,0 +1,9 @@
+-- How often the calls of real files have failed.
+use Rattle.std.specs.Prelude.{ℕ}
+use Rattle.omi_outside.specs.declared.disk.DiskFiles.{DiskFiles}
+
+abbrev pub disk_read_faults : {R S T : Type 0} → DiskFiles R S T → ℕ
+disk_read_faults files = files.reads
+
+abbrev pub disk_write_faults : {R S T : Type 0} → DiskFiles R S T → ℕ
+disk_write_faults files = files.writes
