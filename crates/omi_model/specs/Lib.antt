@@ -1,14 +1,25 @@
+-- The abstract machine, to be believed, in reading order: numbers and names of OpenMP; objects by name, and the state; to-do
+-- lists; the event rules by concern, and all of them; the states that events reach.
+pub mod Numbers
+pub mod Put
+pub mod Fresh
+pub mod State
+pub mod Rows
+pub mod Lists
+pub mod Opening
+pub mod Changes
+pub mod Teams
+pub mod Barriers
+pub mod Tasking
+pub mod Settings
+pub mod Rules
+pub mod Reached
+-- What may be shown of a state, when a state is well formed, and what a report says of it.
+pub mod Visible
+pub mod WellFormed
+pub mod Views
+pub mod OpeningView
+-- How a team is kept in place, which its type needs.
 pub mod Columns
 pub mod ColumnLemmas
 pub mod TeamBack
-pub mod Numbers
-pub mod Put
-pub mod Items
-pub mod State
-pub mod Visible
-pub mod WellFormed
-pub mod Opening
-pub mod Rules
-pub mod Reached
-pub mod Views
-pub mod OpeningView

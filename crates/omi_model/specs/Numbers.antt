@@ -40,6 +40,15 @@ dyn_var = 1
 abbrev pub nthreads_var : ℕ
 nthreads_var = 2
 
+abbrev pub run_sched_var : ℕ
+run_sched_var = 3
+
+abbrev pub default_device_var : ℕ
+default_device_var = 4
+
+abbrev pub max_active_levels_var : ℕ
+max_active_levels_var = 7
+
 -- a flag as a word
 abbrev pub flag : Bool → ℕ
 flag true = 1

@@ -6,9 +6,11 @@ use Rattle.omi_script.specs.declared.program.Program.{Program}
 use Rattle.omi_model.specs.declared.id.Tid.{Tid}
 use Rattle.omi_model.specs.declared.id.Rid.{Rid}
 use Rattle.omi_model.specs.Numbers.{work_serial, idle}
-use Rattle.omi_model.specs.Items.{of_main, of_worker}
+use Rattle.omi_model.specs.declared.claim.Claim.TheVariants.{Own}
+use Rattle.omi_model.specs.declared.progress.Progress.TheVariants.{Begun}
+use Rattle.omi_model.specs.Rows.{of_main, of_worker}
 use Rattle.omi_model.specs.Put.{first_alone}
-use Rattle.omi_model.specs.State.{State, Thread, Region, Task, Variables, Own, Begun}
+use Rattle.omi_model.specs.State.{State, Thread, Region, Task, Variables}
 
 -- the exit frame of a thread's task, where so many tasks are on the thread's chain, this one included
 abbrev pub exit_frame : ℕ → ℕ → ℕ
@@ -61,9 +63,9 @@ opening_task p = record {
   variables = variables_of p.env;
   final = false;
   tool = 0;
-  phase = Begun;
+  progress = Begun;
   place = 0;
-  list = of_main (record { debug = p.env.debug; number = 0 }) (body_of p.funcs p.main);
+  list = of_main (record { debug = p.env.debug; number = 0; level = 0; final = false }) (body_of p.funcs p.main);
 }
 
 -- the opening state

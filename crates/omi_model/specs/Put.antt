@@ -1,4 +1,4 @@
--- Replacing one place of a function, and the slots in which objects live.
+-- The slots in which objects live, and what changes one of them.
 use Rattle.std.specs.Prelude.{◌==◌, ℕ, ◌+◌, ◌&&◌, Option, Some, None, if◌then◌else◌}
 use Rattle.std.specs.Option.{option_map}
 use Rattle.omi_model.specs.declared.id.Id.{Id}
@@ -32,10 +32,14 @@ found g slot = if slot.generations == g + 1 then slot.live else None
 abbrev pub named : {A : Type 0} → Slots A → Id → Option A
 named slots n = found n.generation (slots n.creator n.slot)
 
--- a slot whose object is changed
-abbrev pub changed : {A : Type 0} → (A → A) → Slot A → Slot A
-changed f slot = record { generations = slot.generations; live = option_map f slot.live }
+-- a slot whose object of a generation is changed. A stale generation changes nothing.
+abbrev pub changed : {A : Type 0} → ℕ → (A → A) → Slot A → Slot A
+changed g f slot = if slot.generations == g + 1 then record { generations = slot.generations; live = option_map f slot.live } else slot
 
 -- the object of a name is changed, and every other slot stays
 abbrev pub on : {A : Type 0} → Slots A → Id → (A → A) → Slots A
-on slots n f = put slots n.creator (put (slots n.creator) n.slot (changed f (slots n.creator n.slot)))
+on slots n f = put slots n.creator (put (slots n.creator) n.slot (changed n.generation f (slots n.creator n.slot)))
+
+-- an object begins under a name, and every other slot stays
+abbrev pub made : {A : Type 0} → Slots A → Id → A → Slots A
+made slots n x = put slots n.creator (put (slots n.creator) n.slot (record { generations = n.generation + 1; live = Some x }))

@@ -1,16 +1,21 @@
 -- The state that events reach, each legal in the state before it.
-use Rattle.std.specs.Prelude.{◌≡◌, ℕ, List, [], ◌∷◌}
+use Rattle.std.specs.Prelude.{◌≡◌, ℕ, List, [], ◌∷◌, Some}
 use Rattle.omi_script.specs.declared.program.Program.{Program}
 use Rattle.omi_model.specs.declared.event.Event.{Event}
 use Rattle.omi_model.specs.State.{State}
 use Rattle.omi_model.specs.Rules.{Legal, after}
 use Rattle.omi_model.specs.Opening.{opening}
 
+-- an event of a thread leads from one state to the next
+pub record Step (p : Program) (s : State) (i : ℕ) (e : Event) (next : State) : Type 0 where
+  pub legal : Legal p s i e
+  pub after_is : after p s i e ≡ Some next
+
 -- from one state, these events of threads lead to another
-abbrev pub Leads : State → List (ℕ × Event) → State → Type 0
-Leads s [] t = t ≡ s
-Leads s (x ∷ xs) t = Legal s x.0 x.1 × Leads (after s x.0 x.1) xs t
+abbrev pub Leads : Program → State → List (ℕ × Event) → State → Type 0
+Leads p s [] t = t ≡ s
+Leads p s (x ∷ xs) t = (next : State) × Step p s x.0 x.1 next × Leads p next xs t
 
 -- from the opening state of a program, these events reach this state
 abbrev pub Reached : Program → List (ℕ × Event) → State → Type 0
-Reached p events s = Leads (opening p) events s
+Reached p events s = Leads p (opening p) events s

@@ -1,96 +1,113 @@
--- The event rules: when an event of a thread is legal besides its to-do list, and what it changes. All that a rule doesn't name stays.
-use Rattle.std.specs.Prelude.{◌≡◌, ◌==◌, ◌≤◌, ℕ, ◌+◌, true, false, not, List, [], ◌∷◌, slice_index, slice_set, Some, IsSome, All, ⊤, if◌then◌else◌}
-use Rattle.std.specs.Option.{option_map_or}
+-- The event rules: when an event of a thread is legal besides its place in the to-do list, and the state after it. What an event changes stands in the file of its concern; all else stays.
+use Rattle.std.specs.Prelude.{◌≡◌, ◌<◌, ℕ, List, Option, Some, None, ⊤}
+use Rattle.std.specs.Option.{option_and_then}
+use Rattle.omi_script.specs.declared.program.Program.{Program}
 use Rattle.omi_model.specs.declared.event.Event.{Event}
 use Rattle.omi_model.specs.declared.event.Event.TheVariants as event
-use Rattle.omi_model.specs.declared.id.Tid.{Tid}
-use Rattle.omi_model.specs.declared.id.Rid.{Rid}
-use Rattle.omi_model.specs.Numbers.{dyn_var, nthreads_var}
-use Rattle.omi_model.specs.Put.{put, on}
-use Rattle.omi_model.specs.Items.{Item, take}
-use Rattle.omi_model.specs.State.{State, Thread, Region, Task, Variables, Finished, region_of, current_task}
+use Rattle.omi_model.specs.declared.item.Item.{Item}
+use Rattle.omi_model.specs.declared.item.Item.TheVariants as item
+use Rattle.omi_model.specs.Barriers.{MayArrive, arrived, MayRelease, released, MayPass}
+use Rattle.omi_model.specs.Changes.{OfCurrent, OfCurrentRegion, by_current, by_region, list_of, with_list, encounter}
+use Rattle.omi_model.specs.Fresh.{IsFresh}
+use Rattle.omi_model.specs.Lists.{take_item, stays}
+use Rattle.omi_model.specs.Settings.{with_state, entered, left, with_set, with_tool, with_lock}
+use Rattle.omi_model.specs.State.{State}
+use Rattle.omi_model.specs.Tasking.{IsTaken, deferred, started_now, MayStart, started, started_alone, MayFinish, finished, AreChildrenFinished}
+use Rattle.omi_model.specs.Teams.{MayBegin, begun, MayOffer, offered, wanted_size, wanting, MayAsk, asked, MayFork, forked, MayBeginTask, task_begun, MayEnd, task_ended, MayJoin, joined}
 
--- changes of one thread, of one task, of one region
-abbrev pub on_thread : State → ℕ → (Thread → Thread) → State
-on_thread s i f = record s { threads = put s.threads i (f (s.threads i)) }
+-- What has to hold for an event of a thread that takes an item. An event without a rule is never legal: records are not given back.
+abbrev pub Rule : State → ℕ → Event → Item → Type 0
+Rule s i event.Begin x = MayBegin (s.threads i)
+Rule s i event.Offer x = MayOffer (s.threads i)
+Rule s i (event.Want n) (item.Want num) = OfCurrentRegion s i (λ k t r. n ≡ wanted_size s t r num)
+Rule s i (event.Want n) x = ⊥
+Rule s i (event.Ask w got) x = MayAsk s i w got
+Rule s i (event.Fork region team) x = OfCurrentRegion s i (λ k t r. MayFork s i region team)
+Rule s i (event.ImplicitBegin task) x = MayBeginTask s i task
+Rule s i (event.State state wait) x = ⊤
+Rule s i event.Enter x = OfCurrent s i (λ k t. ⊤)
+Rule s i event.Leave x = OfCurrent s i (λ k t. ⊤)
+Rule s i event.Arrive x = OfCurrentRegion s i (λ k t r. MayArrive t)
+Rule s i event.Release x = OfCurrentRegion s i (λ k t r. MayRelease s t r)
+Rule s i event.Pass x = OfCurrentRegion s i (λ k t r. MayPass t r)
+Rule s i (event.ImplicitEnd task) x = OfCurrentRegion s i (λ k t r. MayEnd task k t)
+Rule s i (event.Join region) x = OfCurrentRegion s i (λ k t r. MayJoin region t r)
+Rule s i (event.FreeTask task) x = ⊥
+Rule s i (event.FreeRegion region) x = ⊥
+Rule s i (event.Seen j) x = OfCurrent s i (λ k t. IsTaken s i t.region j)
+Rule s i (event.Defer task) x = OfCurrent s i (λ k t. IsFresh s.tasks i task.0)
+Rule s i (event.StartNow task) x = OfCurrent s i (λ k t. IsFresh s.tasks i task.0)
+Rule s i (event.Start task) x = OfCurrent s i (MayStart s task x)
+Rule s i (event.Finish task) x = OfCurrent s i (MayFinish task)
+Rule s i event.WaitDone x = OfCurrent s i (λ k t. AreChildrenFinished s k)
+Rule s i event.Yield x = ⊤
+Rule s i (event.Set icv value) x = OfCurrent s i (λ k t. ⊤)
+Rule s i (event.SetTool y) x = OfCurrent s i (λ k t. ⊤)
+Rule s i (event.Lock k) x = s.locks k ≡ None
+Rule s i (event.Unlock k) x = s.locks k ≡ Some i
+Rule s i event.Work x = ⊤
+Rule s i (event.Call f) x = ⊤
+Rule s i event.Skip x = ⊤
+Rule s i event.Ret x = ⊤
+Rule s i event.Done x = i ≡ 0
 
-abbrev pub on_task : State → Tid → (Task → Task) → State
-on_task s k f = record s { tasks = on s.tasks k.0 f }
+-- What an event of a thread makes of a state in which the list has moved on. An event that takes no item of its kind makes none.
+abbrev pub effect : Program → State → ℕ → Event → Item → Option State
+effect p s i event.Begin x = Some (begun s i)
+effect p s i event.Offer x = Some (offered s i)
+effect p s i (event.Want n) x = Some (wanting s i n)
+effect p s i (event.Ask w got) x = Some (asked s i w got)
+effect p s i (event.Fork region team) (item.Fork f) = by_region s i (forked p s i region team f)
+effect p s i (event.Fork region team) x = None
+effect p s i (event.ImplicitBegin task) x = Some (task_begun s i task)
+effect p s i (event.State state wait) x = Some (with_state s i state wait)
+effect p s i event.Enter x = by_current s i (entered s)
+effect p s i event.Leave x = by_current s i (left s)
+effect p s i event.Arrive x = by_current s i (λ k t. arrived s t)
+effect p s i event.Release x = by_current s i (λ k t. released s t)
+effect p s i event.Pass x = Some s
+effect p s i (event.ImplicitEnd task) x = by_current s i (task_ended s i)
+effect p s i (event.Join region) x = by_region s i (joined s i)
+effect p s i (event.FreeTask task) x = None
+effect p s i (event.FreeRegion region) x = None
+effect p s i (event.Seen j) x = Some s
+effect p s i (event.Defer task) (item.Defer seen f final) = by_current s i (deferred p s task f final seen)
+effect p s i (event.Defer task) x = None
+effect p s i (event.StartNow task) (item.Defer seen f final) = by_current s i (started_now p s i task f final)
+effect p s i (event.StartNow task) (item.StartNow f final) = by_current s i (started_now p s i task f final)
+effect p s i (event.StartNow task) x = None
+effect p s i (event.Start task) (item.Tasks state) = by_current s i (started s i task)
+effect p s i (event.Start task) item.OneTask = by_current s i (started_alone s i task)
+effect p s i (event.Start task) x = None
+effect p s i (event.Finish task) x = by_current s i (finished s i)
+effect p s i event.WaitDone x = Some s
+effect p s i event.Yield x = Some s
+effect p s i (event.Set icv value) x = with_set s i icv value
+effect p s i (event.SetTool y) x = by_current s i (λ k t. with_tool s y k)
+effect p s i (event.Lock k) x = Some (with_lock s k (Some i))
+effect p s i (event.Unlock k) x = Some (with_lock s k None)
+effect p s i event.Work x = Some s
+effect p s i (event.Call f) x = Some s
+effect p s i event.Skip x = Some s
+effect p s i event.Ret x = Some s
+effect p s i event.Done x = Some s
 
-abbrev pub on_region : State → Rid → (Region → Region) → State
-on_region s n f = record s { regions = on s.regions n.0 f }
+-- the item that an event of a thread takes, and what stands behind it
+abbrev pub taken_by : Program → State → ℕ → Event → Option (Item × List Item)
+taken_by p s i e = take_item p (encounter s i) e (list_of s i)
 
--- the current task of a thread is changed
-abbrev pub on_current : State → ℕ → (Task → Task) → State
-on_current s i f = option_map_or (λ k. on_task s k f) (s.threads i).current s
+-- An event of a thread is legal: it is one of the program's threads, its list allows the event, and the event's rule holds.
+pub record Legal (p : Program) (s : State) (i : ℕ) (e : Event) : Type 0 where
+  pub known : i < s.count
+  pub item : Item
+  pub behind : List Item
+  pub taken : taken_by p s i e ≡ Some (item, behind)
+  pub rule : Rule s i e item
 
--- the region of the current task is changed, by the task
-abbrev pub on_current_region : State → ℕ → (Task → Region → Region) → State
-on_current_region s i f = option_map_or (λ t. on_region s t.region (f t)) (current_task s i) s
+-- the state after an event: first the list moves on, and then the event has its effect
+abbrev pub moved : Program → State → ℕ → Event → Item × List Item → Option State
+moved p s i e x = effect p (with_list s i (stays (encounter s i) e x.0 x.1)) i e x.0
 
--- the list that allows a thread's events: that of its current task, else its own
-abbrev pub list_of : State → ℕ → List Item
-list_of s i = option_map_or (λ t. t.list) (current_task s i) (s.threads i).list
-
-abbrev pub with_list : State → ℕ → List Item → State
-with_list s i list = option_map_or (λ k. on_task s k (λ t. record t { list = list })) (s.threads i).current (on_thread s i (λ h. record h { list = list }))
-
--- a list with another head
-abbrev pub with_head : ℕ → List ℕ → List ℕ
-with_head x [] = []
-with_head x (y ∷ ys) = x ∷ ys
-
--- the variable with this number has this word
-abbrev pub with_variable : ℕ → ℕ → Variables → Variables
-with_variable icv value v =
-    if icv == dyn_var then record v { dynamic = not (value == 0) }
-    else (if icv == nthreads_var then record v { nthreads = with_head value v.nthreads } else v)
-
--- each member has arrived at the barrier that is not yet released
-abbrev pub HaveArrived : Region → Type 0
-HaveArrived r = All (λ n. n ≡ r.released + 1) r.arrivals
-
--- no explicit task of a region is unfinished
-abbrev pub AreFinished : State → Rid → Type 0
-AreFinished s n = (c k : ℕ) (t : Task) → (s.tasks c k).live ≡ Some t → t.implicit ≡ false → t.region ≡ n → t.phase ≡ Finished
-
--- member 0 may release the barrier of its region
-pub record MayRelease (s : State) (t : Task) (r : Region) : Type 0 where
-  pub first : t.number ≡ 0
-  pub arrived : HaveArrived r
-  pub finished : AreFinished s t.region
-
--- a fact of the current task of a thread, and one of it and its region
-abbrev pub OfCurrent : State → ℕ → (Task → Type 0) → Type 0
-OfCurrent s i P = (t : Task) × (current_task s i ≡ Some t) × P t
-
-abbrev pub OfCurrentRegion : State → ℕ → (Task → Region → Type 0) → Type 0
-OfCurrentRegion s i P = (t : Task) × (r : Region) × (current_task s i ≡ Some t) × (region_of s t.region ≡ Some r) × P t r
-
--- what has to hold for an event of a thread besides its to-do list. Events whose rule is not built are not legal.
-abbrev pub Holds : State → ℕ → Event → Type 0
-Holds s i (event.State state wait) = ⊤
-Holds s i event.Arrive = OfCurrent s i (λ t. t.implicit ≡ true)
-Holds s i event.Release = OfCurrentRegion s i (MayRelease s)
-Holds s i event.Pass = OfCurrentRegion s i (λ t r. slice_index r.arrivals t.number ≤ r.released)
-Holds s i (event.Set icv value) = ⊤
-Holds s i event.Work = ⊤
-Holds s i event.Done = i ≡ 0
-Holds s i e = ⊥
-
--- what an event of a thread changes, besides its to-do list
-abbrev pub effect : State → ℕ → Event → State
-effect s i (event.State state wait) = on_thread s i (λ h. record h { state = state; wait = wait })
-effect s i event.Arrive = on_current_region s i (λ t r. record r { arrivals = slice_set r.arrivals t.number (slice_index r.arrivals t.number + 1) })
-effect s i event.Release = on_current_region s i (λ t r. record r { released = r.released + 1 })
-effect s i (event.Set icv value) = on_current s i (λ t. record t { variables = with_variable icv value t.variables })
-effect s i e = s
-
--- an event of a thread is legal
-pub record Legal (s : State) (i : ℕ) (e : Event) : Type 0 where
-  pub allowed : IsSome (take e (list_of s i))
-  pub holds : Holds s i e
-
--- the state after an event
-abbrev pub after : State → ℕ → Event → State
-after s i e = effect (option_map_or (with_list s i) (take e (list_of s i)) s) i e
+-- the state after an event of a thread, which each legal event has
+abbrev pub after : Program → State → ℕ → Event → Option State
+after p s i e = option_and_then (moved p s i e) (taken_by p s i e)

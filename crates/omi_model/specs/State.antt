@@ -5,21 +5,10 @@ use Rattle.omi_script.specs.declared.env.Env.{Env}
 use Rattle.omi_script.specs.declared.statement.Sched.{Sched}
 use Rattle.omi_model.specs.declared.id.Tid.{Tid}
 use Rattle.omi_model.specs.declared.id.Rid.{Rid}
-use Rattle.omi_model.specs.Items.{Item}
+use Rattle.omi_model.specs.declared.claim.Claim.{Claim}
+use Rattle.omi_model.specs.declared.item.Item.{Item}
+use Rattle.omi_model.specs.declared.progress.Progress.{Progress}
 use Rattle.omi_model.specs.Put.{Slots, named}
-
--- who may use a thread for a team: itself, anybody, or the thread that claimed it
-pub data Claim : Type 0 where
-  Own : Claim
-  Free : Claim
-  By : (thread : ℕ) → Claim
-
--- how far a task has come. An explicit task may be deferred, an implicit one not begun.
-pub data Phase : Type 0 where
-  Deferred : Phase
-  NotBegun : Phase
-  Begun : Phase
-  Finished : Phase
 
 -- a thread. `wanted` and `asks` are those of a fork in the making; `list` is the list of a worker that has no task.
 pub record Thread : Type 0 where
@@ -66,7 +55,7 @@ pub record Task : Type 0 where
   pub variables : Variables
   pub final : Bool
   pub tool : ℕ
-  pub phase : Phase
+  pub progress : Progress
   pub place : ℕ
   pub list : List Item
 

@@ -2,7 +2,9 @@
 use Rattle.std.specs.Prelude.{◌≡◌, Some, IsSome, All, MatchBool, ⊤}
 use Rattle.omi_model.specs.declared.id.Tid.{Tid}
 use Rattle.omi_model.specs.declared.id.Rid.{Rid}
-use Rattle.omi_model.specs.State.{State, Region, Task, Phase, Deferred, NotBegun, Begun, Finished, region_of, task_of}
+use Rattle.omi_model.specs.State.{State, Region, Task, region_of, task_of}
+use Rattle.omi_model.specs.declared.progress.Progress.{Progress}
+use Rattle.omi_model.specs.declared.progress.Progress.TheVariants.{Deferred, NotBegun, Begun, Finished}
 
 -- a live region whose team's tasks are all live
 pub record IsVisibleRegion (s : State) (n : Rid) : Type 0 where
@@ -11,7 +13,7 @@ pub record IsVisibleRegion (s : State) (n : Rid) : Type 0 where
   pub team : All (λ m. IsSome (task_of s m.0)) region.team
 
 -- a task that has begun or finished
-abbrev pub HasStarted : Phase → Type 0
+abbrev pub HasStarted : Progress → Type 0
 HasStarted Deferred = ⊥
 HasStarted NotBegun = ⊥
 HasStarted Begun = ⊤
@@ -21,4 +23,4 @@ HasStarted Finished = ⊤
 pub record IsVisibleTask (s : State) (k : Tid) : Type 0 where
   pub task : Task
   pub live : task_of s k ≡ Some task
-  pub shown : MatchBool task.implicit (IsVisibleRegion s task.region) (HasStarted task.phase)
+  pub shown : MatchBool task.implicit (IsVisibleRegion s task.region) (HasStarted task.progress)

@@ -4,7 +4,7 @@ use mathlib.Core.Path.{fun_ext}
 use Rattle.std.specs.Prelude.{slice_index}
 use Rattle.omi_script.specs.declared.program.Program.{Program}
 use Rattle.omi_model.specs.Numbers.{flag}
-use Rattle.omi_model.specs.Items.{Item}
+use Rattle.omi_model.specs.declared.item.Item.{Item}
 use Rattle.omi_model.specs.Put.{Slot, put, on, first_alone, unused}
 use Rattle.omi_model.specs.State.{State, Thread, Region, Task}
 use Rattle.omi_model.specs.Opening.{opening, opening_region, opening_task, initial_thread, waiting_worker, initial_task, exit_frame}

@@ -14,11 +14,12 @@ use Rattle.omi_script.specs.declared.statement.Stmt.{Stmt}
 use Rattle.omi_script.specs.declared.statement.Stmt.TheVariants as stmt
 use Rattle.omi_model.specs.declared.event.Event.{Event}
 use Rattle.omi_model.specs.declared.event.Event.TheVariants as event
-use Rattle.omi_model.specs.Items.{Item, Do, run, end_of_member, Done}
+use Rattle.omi_model.specs.declared.item.Item.{Item}
+use Rattle.omi_model.specs.declared.item.Item.TheVariants as item
+use Rattle.omi_model.specs.Rows.{body_items, end_of_member}
 use Rattle.omi_model.specs.Opening.{opening, opening_task, exit_frame}
 use Rattle.omi_model.specs.Put.{first_alone}
 use Rattle.omi_model.specs.Reached.{Leads}
-use Rattle.omi_model.specs.Rules.{after}
 use Rattle.omi_model.specs.State.{State}
 use Rattle.omi_top.specs.declared.entry.Entry.{Entry}
 use Rattle.omi_top.specs.declared.runner.Counter.{Counter}
@@ -40,18 +41,17 @@ use Rattle.omi_top.proofs.Shown.{shows, counts, plain}
 use Rattle.omi_script.proofs.RuleLemmas.{Rules-from_accepted}
 
 -- one step more at the end
-pub Steps-push : (words : List ℕ) (s : State) (es : List Entry) (mid : List ℕ) (t : State) (e : Entry) → Steps words s es mid t → IsStep mid t e
-    → Steps words s (es ++ e ∷ []) (word_after mid e.op) (after t 0 e.event)
-Steps-push words s [] mid t e (same, is) step =
-    subst (λ (m : List ℕ). Steps words s (e ∷ []) (word_after m e.op) (after t 0 e.event)) (sym same)
-    (subst (λ (u : State). Steps words s (e ∷ []) (word_after words e.op) (after u 0 e.event)) (sym is)
-    (subst (λ (m : List ℕ). IsStep m s e) same (subst (λ (u : State). IsStep mid u e) is step), (refl, refl)))
-Steps-push words s (x ∷ es) mid t e (first, more) step = (first, Steps-push (word_after words x.op) (after s 0 x.event) es mid t e more step)
+pub Steps-push : (p : Program) (words : List ℕ) (s : State) (es : List Entry) (mid : List ℕ) (t : State) (e : Entry) (next : State) → Steps p words s es mid t → IsStep p mid t e next
+    → Steps p words s (es ++ e ∷ []) (word_after mid e.op) next
+Steps-push p words s [] mid t e next (same, is) step =
+    subst (λ (m : List ℕ). Steps p words s (e ∷ []) (word_after m e.op) next) (sym same)
+    (next, subst (λ (m : List ℕ). IsStep p m s e next) same (subst (λ (u : State). IsStep p mid u e next) is step), (refl, refl))
+Steps-push p words s (x ∷ es) mid t e next (on, first, more) step = (on, first, Steps-push p (word_after words x.op) on es mid t e next more step)
 
 -- the events of steps lead as the steps do
-pub steps_lead : (words : List ℕ) (s : State) (es : List Entry) (last : List ℕ) (t : State) → Steps words s es last t → Leads s (events_of es) t
-steps_lead words s [] last t (same, is) = is
-steps_lead words s (e ∷ es) last t (first, more) = (first.legal, steps_lead (word_after words e.op) (after s 0 e.event) es last t more)
+pub steps_lead : (p : Program) (words : List ℕ) (s : State) (es : List Entry) (last : List ℕ) (t : State) → Steps p words s es last t → Leads p s (events_of es) t
+steps_lead p words s [] last t (same, is) = is
+steps_lead p words s (e ∷ es) last t (next, first, more) = (next, first.commit, steps_lead p (word_after words e.op) next es last t more)
 
 -- the state of thread 0 at the end of its task: it waits at the barrier where states are kept, and else it shows what it did
 abbrev pub waiting : Bool → ℕ
@@ -60,11 +60,11 @@ waiting false = 0
 
 -- the items of the end
 abbrev end_items : Bool → List Item
-end_items kept = end_of_member (record { debug = kept; number = 0 }) (Done ∷ [])
+end_items kept = end_of_member (record { debug = kept; number = 0; level = 0; final = false }) (item.Done ∷ [])
 
 -- the values with which the runner stands at a counter
 abbrev pub stand : Bool → List Stmt → Counter → Now → Now
-stand kept body (counter.Statement at) v = record v { state = 0; arrived = 0; released = 0; list = run (drop at body) (end_items kept) }
+stand kept body (counter.Statement at) v = record v { state = 0; arrived = 0; released = 0; list = body_items (drop at body) (end_items kept) }
 stand kept body counter.Show v = at_show v
 stand kept body counter.Arrive v = at_arrive (waiting kept) v
 stand kept body counter.Release v = at_release (waiting kept) v
@@ -78,7 +78,7 @@ stand_ending true body w = refl
 stand_ending false body w = refl
 
 -- at a place among the statements stands its statement, and behind the last one the end
-stand_at : (kept : Bool) (body : List Stmt) (at : ℕ) (w : Now) → w ≡ record w { state = 0; arrived = 0; released = 0; list = run (drop at body) (end_items kept) }
+stand_at : (kept : Bool) (body : List Stmt) (at : ℕ) (w : Now) → w ≡ record w { state = 0; arrived = 0; released = 0; list = body_items (drop at body) (end_items kept) }
     → w ≡ stand kept body (counter_at kept (length body) at) w
 stand_at kept body at w is = go (nat_lt at (length body)) refl
   where
@@ -86,7 +86,7 @@ stand_at kept body at w is = go (nat_lt at (length body)) refl
     go true e = is
     go false e =
         let past : drop at body ≡ [] = drop_of_length-le body (ltb-false at (length body) e) in
-        is ∙ ap (λ (rest : List Stmt). record w { state = 0; arrived = 0; released = 0; list = run rest (end_items kept) }) past ∙ stand_ending kept body w
+        is ∙ ap (λ (rest : List Stmt). record w { state = 0; arrived = 0; released = 0; list = body_items rest (end_items kept) }) past ∙ stand_ending kept body w
 
 -- the step at a statement leads to the counter behind it
 statement_on : (p : Program) (rest : List ℕ) (kept : Bool) (body : List Stmt) (at : ℕ) (v : Now) → IsTrue (list_all is_small_statement body) → at < length body
@@ -94,11 +94,11 @@ statement_on : (p : Program) (rest : List ℕ) (kept : Bool) (body : List Stmt) 
 statement_on p rest kept body at v small within =
     let s : Stmt = get_or body at stmt.Work in
     let base : Now = record v { state = 0; arrived = 0; released = 0 } in
-    let more : List Item = run (drop (at + 1) body) (end_items kept) in
+    let more : List Item = body_items (drop (at + 1) body) (end_items kept) in
     let moved = statement_moves p rest base s more (all_at is_small_statement body at stmt.Work small within) in
     let next_at : suc at ≡ at + 1 = omega arith in
-    let list : run (drop at body) (end_items kept) ≡ Do s ∷ more =
-    ap (λ (ss : List Stmt). run ss (end_items kept)) (drop-cons body at stmt.Work within) ∙ ap (λ (k : ℕ). run (s ∷ drop k body) (end_items kept)) next_at in (
+    let list : body_items (drop at body) (end_items kept) ≡ item.Do s ∷ more =
+    ap (λ (ss : List Stmt). body_items ss (end_items kept)) (drop-cons body at stmt.Work within) ∙ ap (λ (k : ℕ). body_items (s ∷ drop k body) (end_items kept)) next_at in (
       moved.0,
       subst (λ (to : Now). Moves p rest (stand kept body (counter.Statement at) v) (statement_step s) to) (stand_at kept body (at + 1) moved.0 moved.2)
           (subst (λ (items : List Item). Moves p rest (record base { list = items }) (statement_step s) moved.0) (sym list) moved.1),
@@ -131,7 +131,7 @@ History at es = GoesOn es
 pub record Made (p : Program) (rest : List ℕ) (body : List Stmt) (es : List Entry) (words : List ℕ) (at : Counter) : Type 0 where
   pub now : Now
   pub few : length now.others ≤ 3
-  pub steps : Steps (opening_words p) (opening p) es words (state_at p (stand p.env.debug body at now))
+  pub steps : Steps p (opening_words p) (opening p) es words (state_at p (stand p.env.debug body at now))
   pub words_are : words ≡ words_at p (stand p.env.debug body at now) rest
   pub history : History at es
   pub count : length es + left_at p.env.debug (length body) at ≡ length body + (4 + flag p.env.debug)
@@ -256,14 +256,13 @@ pub made_more : (p : Program) (rest : List ℕ) (body : List Stmt) (es : List En
 made_more p rest body es words at small goes_on made =
     let moved = moves_on p rest p.env.debug body at made.now small made.stands made.may_show goes_on in
     let e : Entry = entry_of words (step_at body at) in
-    let step : IsStep words (state_at p (stand p.env.debug body at made.now)) e =
-    subst (λ (ws : List ℕ). IsStep ws (state_at p (stand p.env.debug body at made.now)) (entry_of ws (step_at body at))) (sym made.words_are) (moved.1.step _ refl) in
-    let steps : Steps (opening_words p) (opening p) (es ++ e ∷ []) (word_after words e.op) (after (state_at p (stand p.env.debug body at made.now)) 0 e.event) =
-    Steps-push (opening_words p) (opening p) es words (state_at p (stand p.env.debug body at made.now)) e made.steps step in
+    let next : State = state_at p (stand p.env.debug body (next_of p.env.debug (length body) at) moved.0) in
+    let step : IsStep p words (state_at p (stand p.env.debug body at made.now)) e next =
+    subst (λ (ws : List ℕ). IsStep p ws (state_at p (stand p.env.debug body at made.now)) (entry_of ws (step_at body at)) next) (sym made.words_are) (moved.1.step _ refl) in
     record {
       now = moved.0;
       few = subst (λ (os : List ℕ). length os ≤ 3) (sym moved.2) made.few;
-      steps = subst (λ (s : State). Steps (opening_words p) (opening p) (es ++ e ∷ []) (word_after words e.op) s) moved.1.state steps;
+      steps = Steps-push p (opening_words p) (opening p) es words (state_at p (stand p.env.debug body at made.now)) e next made.steps step;
       words_are = ap (λ (ws : List ℕ). word_after ws (step_at body at).0) made.words_are ∙ moved.1.words;
       history = history_more p.env.debug body at es words goes_on made.history;
       count = omega (arith, made.count, left_fewer p.env.debug (length body) at made.stands goes_on, length-append es (e ∷ []));
@@ -288,7 +287,7 @@ made_turn p rest body es words at es' words' at' made old small few so_far step 
 
 -- the values at the opening
 abbrev pub opening_now : Program → ℕ → List ℕ → Now
-opening_now p head others = record { state = 0; dynamic = p.env.dynamic; head = head; others = others; arrived = 0; released = 0; list = run (body_of p.funcs p.main) (end_items p.env.debug) }
+opening_now p head others = record { state = 0; dynamic = p.env.dynamic; head = head; others = others; arrived = 0; released = 0; list = body_items (body_of p.funcs p.main) (end_items p.env.debug) }
 
 opens_state : (p : Program) (head : ℕ) (others : List ℕ) → p.env.nthreads ≡ head ∷ others → opening p ≡ state_at p (opening_now p head others)
 opens_state p head others nthreads =
@@ -400,7 +399,7 @@ made_run p es words at budget small made len =
       state_at p v,
       record {
         steps = made.steps;
-        reached = steps_lead (opening_words p) (opening p) es words (state_at p v) made.steps;
+        reached = steps_lead p (opening_words p) (opening p) es words (state_at p v) made.steps;
         ended = ends p (zeros 6630) body es words at budget made len;
         shows = subst (λ (ws : List ℕ). Shows ws (state_at p v)) (sym made.words_are) (shows p v small few (known_state p.env.debug body at made.now));
         counts = subst (λ (ws : List ℕ). Counts ws (state_at p v)) (sym made.words_are) (counts p v small few (known_state p.env.debug body at made.now));

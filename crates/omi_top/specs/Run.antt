@@ -32,7 +32,7 @@ Counts words s = (n : Rid) → (seen : IsVisibleRegion s n)
 
 -- a run of so many steps, unless the program is done before
 pub record IsRun (p : Program) (budget : ℕ) (es : List Entry) (end : End) (words : List ℕ) (s : State) : Type 0 where
-  pub steps : Steps (opening_words p) (opening p) es words s
+  pub steps : Steps p (opening_words p) (opening p) es words s
   pub reached : Reached p (events_of es) s
   pub ended : IsEnded budget es end
   pub shows : Shows words s

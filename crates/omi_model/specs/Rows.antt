@@ -1,0 +1,120 @@
+-- Rows: the events of each statement in their order, as items of a to-do list. A list holds statements and items; a statement at its head is replaced by its row once an event of the row comes.
+use Rattle.std.specs.Prelude.{ℕ, zero, suc, ◌+◌, ◌*◌, ◌==◌, ◌||◌, Bool, true, false, List, [], ◌∷◌, Option, if◌then◌else◌}
+use Rattle.omi_script.specs.Bodies.{body_of}
+use Rattle.omi_script.specs.declared.program.Program.{Program}
+use Rattle.omi_script.specs.declared.statement.Sched.{Sched}
+use Rattle.omi_script.specs.declared.statement.Stmt.{Stmt}
+use Rattle.omi_script.specs.declared.statement.Stmt.TheVariants as stmt
+use Rattle.omi_model.specs.declared.item.Item.{Item}
+use Rattle.omi_model.specs.declared.item.Item.TheVariants as item
+use Rattle.omi_model.specs.Numbers.{work_serial, work_parallel, wait_barrier_implicit_parallel, wait_barrier_explicit, wait_taskwait, wait_critical, idle, overhead, dyn_var, nthreads_var, run_sched_var, default_device_var, max_active_levels_var, flag}
+
+-- What a row sees of the task that encounters the statement, when it is opened: whether states are kept, the task's number in its team, the level of its region, and its final flag.
+pub record Encounter : Type 0 where
+  pub debug : Bool
+  pub number : ℕ
+  pub level : ℕ
+  pub final : Bool
+
+-- ---- parts of rows, in front of a rest
+
+-- a state item, which is there only where states are kept
+abbrev pub shown : Encounter → ℕ → ℕ → List Item → List Item
+shown at state wait rest = if at.debug then item.State state wait ∷ rest else rest
+
+-- the state of a thread that works: work_serial at level 0, work_parallel at any other
+abbrev pub work_state : ℕ → ℕ
+work_state level = if level == 0 then work_serial else work_parallel
+
+abbrev pub working : Encounter → List Item → List Item
+working at rest = shown at (work_state at.level) 0 rest
+
+-- the statements of a body
+abbrev pub body_items : List Stmt → List Item → List Item
+body_items [] rest = rest
+body_items (s ∷ ss) rest = item.Do s ∷ body_items ss rest
+
+-- the statements of a function
+abbrev pub function_items : Program → ℕ → List Item → List Item
+function_items p f rest = body_items (body_of p.funcs f) rest
+
+-- a barrier that waits in this state: the member arrives, runs deferred tasks, and passes; member 0 releases it before
+abbrev pub barrier_items : Encounter → ℕ → List Item → List Item
+barrier_items at state rest =
+    shown at state 0 (item.Arrive ∷ item.Tasks state ∷ (if at.number == 0 then item.Release ∷ item.Pass ∷ rest else item.Pass ∷ rest))
+
+-- the end of a member: it waits at the implicit barrier
+abbrev pub end_of_member : Encounter → List Item → List Item
+end_of_member at rest = barrier_items at wait_barrier_implicit_parallel rest
+
+-- a call of a function
+abbrev pub call_items : Program → ℕ → List Item → List Item
+call_items p f rest = function_items p f (item.Ret ∷ rest)
+
+-- ---- rows
+
+-- the first item of a statement's row
+abbrev pub first_of : Encounter → Stmt → Item
+first_of at (stmt.Parallel f num) = item.Enter
+first_of at (stmt.Task f undeferred final) = item.Enter
+first_of at stmt.Taskwait = item.Enter
+first_of at stmt.Taskyield = item.Enter
+first_of at stmt.Barrier = item.Enter
+first_of at (stmt.Critical k f) = item.Enter
+first_of at (stmt.Call f) = item.Call f
+first_of at (stmt.Only m f) = if at.number == m then item.Call f else item.Skip
+first_of at (stmt.Repeat zero f) = item.Skip
+first_of at (stmt.Repeat (suc n) f) = item.Call f
+first_of at (stmt.SetNumThreads n) = item.Set nthreads_var n
+first_of at (stmt.SetDynamic b) = item.Set dyn_var (flag b)
+first_of at (stmt.SetMaxActive m) = item.Set max_active_levels_var m
+first_of at (stmt.SetSchedule s) = item.Set run_sched_var (s.chunk * 8 + s.kind)
+first_of at (stmt.SetDevice d) = item.Set default_device_var d
+first_of at (stmt.Tool x) = item.SetTool x
+first_of at stmt.Work = item.Work
+
+-- what stands behind the first item of a statement's row
+abbrev pub behind : Program → Encounter → Stmt → List Item → List Item
+behind p at (stmt.Parallel f num) rest =
+    shown at overhead 0 (item.Want num ∷ item.Asks ∷ item.Fork f ∷ working at (item.Leave ∷ rest))
+behind p at (stmt.Task f undeferred final) rest =
+    (if undeferred || at.final then item.StartNow f (final || at.final) else item.Defer 0 f (final || at.final)) ∷ item.Leave ∷ rest
+behind p at stmt.Taskwait rest =
+    shown at wait_taskwait 0 (item.Tasks wait_taskwait ∷ item.WaitDone ∷ working at (item.Leave ∷ rest))
+behind p at stmt.Taskyield rest = item.OneTask ∷ item.Yield ∷ item.Leave ∷ rest
+behind p at stmt.Barrier rest = barrier_items at wait_barrier_explicit (working at (item.Leave ∷ rest))
+behind p at (stmt.Critical k f) rest =
+    shown at wait_critical (k + 1) (item.Lock k ∷ working at (item.Leave ∷ item.Call f ∷ call_items p f (item.Unlock k ∷ rest)))
+behind p at (stmt.Call f) rest = call_items p f rest
+behind p at (stmt.Only m f) rest = if at.number == m then call_items p f rest else rest
+behind p at (stmt.Repeat zero f) rest = rest
+behind p at (stmt.Repeat (suc n) f) rest = call_items p f (item.Do (stmt.Repeat n f) ∷ rest)
+behind p at (stmt.SetNumThreads n) rest = rest
+behind p at (stmt.SetDynamic b) rest = rest
+behind p at (stmt.SetMaxActive m) rest = rest
+behind p at (stmt.SetSchedule s) rest = rest
+behind p at (stmt.SetDevice d) rest = rest
+behind p at (stmt.Tool x) rest = rest
+behind p at stmt.Work rest = rest
+
+-- ---- first lists
+
+-- the initial task: `main`, the end of member 0, and the end of the program
+abbrev pub of_main : Encounter → List Stmt → List Item
+of_main at body = body_items body (end_of_member at (item.Done ∷ []))
+
+-- a worker that has not begun
+abbrev pub of_worker : List Item
+of_worker = item.Begin ∷ item.Offer ∷ item.Serve ∷ []
+
+-- the last event of a member: member 0 joins the others, and another one ends
+abbrev pub last_of_member : ℕ → Item
+last_of_member number = if number == 0 then item.Join else item.ImplicitEnd
+
+-- a member of the team of a parallel region over a function
+abbrev pub of_member : Program → Encounter → ℕ → List Item
+of_member p at f = working at (function_items p f (end_of_member at (last_of_member at.number ∷ [])))
+
+-- an explicit task over a function
+abbrev pub of_task : Program → ℕ → List Item
+of_task p f = function_items p f (item.Finish ∷ [])
