@@ -1,4 +1,4 @@
--- What is told of a name while a file is written in pieces.
+-- What is told while a file is read or written, and a text put, in pieces.
 use Rattle.std.proofs.Common.{◌≡◌, ℕ, ◌*◌, ◌<◌, ◌+◌, ◌-◌, ◌≤◌, List, ◌++◌, Option, Some, None, length, min, take, drop, refl, sym, ◌∙◌, ap, take-add, append_assoc, [], take_all, arith}
 use Rattle.std.specs.Option.{option_map}
 use Rattle.std.proofs.lemmas.Grind.{common_steps}
@@ -31,11 +31,17 @@ read_all (Some bytes) whole size most wanted at is_size is_wanted is_at so_far =
     let size_is : size ≡ length bytes = cc in
     (bytes, refl, so_far bytes refl ∙ taken bytes at most (omega arith))
 
+-- what is told of a name stays where all that is told does
+pub still_told : (before now : List ℕ → Told) (name : List ℕ) (told : Told) → now ≡ before
+    → before name ≡ told → now name ≡ told
+still_told before now name told same is = ap (λ t. t name) same ∙ is
+
 -- one piece more was read
-pub read_more : (bytes front piece rest : List ℕ) (at count : ℕ) → count ≤ length piece → front ≡ take at bytes
-    → take count piece ≡ take count (drop at bytes) → front ++ take count (piece ++ rest) ≡ take (at + count) bytes
-read_more bytes front piece rest at count fits so_far read =
-    ap (λ (l : List ℕ). front ++ l) (take-append-le count piece rest fits ∙ read)
+pub read_more : (bytes front after piece rest : List ℕ) (at count : ℕ) → count ≤ length piece
+    → after ≡ front ++ take count (piece ++ rest) → front ≡ take at bytes
+    → take count piece ≡ take count (drop at bytes) → after ≡ take (at + count) bytes
+read_more bytes front after piece rest at count fits added so_far read =
+    added ∙ ap (λ (l : List ℕ). front ++ l) (take-append-le count piece rest fits ∙ read)
     ∙ ap (λ (l : List ℕ). l ++ take count (drop at bytes)) so_far ∙ sym (take-add at count bytes)
 
 -- a sink that was given no bytes is as before

@@ -1,14 +1,14 @@
 use Rattle.std.proofs.Common.{rules, ◌≡◌, List, ℕ, arith, ap, ◌∙◌, Some, Option, sym}
-use Rattle.omi_outside.proofs.Pieces.{read_all, read_more}
+use Rattle.omi_outside.proofs.Pieces.{read_all, read_more, still_told}
 use Rattle.omi_outside.proofs.whole.read_whole.Goals as goal
 
 pub loop-at-preserved : goal.loop-at-preserved
 loop-at-preserved g c = record {
   so_far = λ bytes told.
-      let now : g.F.Files.told c.loop-at.files c.args.name.now ≡ Some (Some bytes) = ap (λ t. t c.args.name.now) c.loop-at.invariant.same ∙ told in
-      c.in_ok-extend_from_slice.ensures.items
-      ∙ read_more bytes _ c.read_at.new.to _ c.loop-at.at c.in_ok-count.count c.in_ok-count.ensures.count.1
-      (c.loop-at.invariant.so_far bytes told) (c.in_ok-count.ensures.bytes bytes now).1;
+      let now : g.F.Files.told c.loop-at.files c.args.name.now ≡ Some (Some bytes) =
+      still_told _ _ c.args.name.now _ c.loop-at.invariant.same told in
+      read_more bytes _ _ c.read_at.new.to _ c.loop-at.at c.in_ok-count.count c.in_ok-count.ensures.count.1
+      c.in_ok-extend_from_slice.ensures.items (c.loop-at.invariant.so_far bytes told) (c.in_ok-count.ensures.bytes bytes now).1;
   same = search rules;
   later = omega arith;
   writes = search rules;
