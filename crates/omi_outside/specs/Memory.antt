@@ -1,5 +1,5 @@
--- What the forms in memory tell: of a name always its bytes, or that there is no such file; and their
--- counts.
+-- What the forms in memory tell: of a name always its bytes, or that there is no such file; and
+-- their counts.
 use Rattle.std.specs.Prelude.{ℕ, List, Option, Some, String, Vec}
 use Rattle.std.specs.Option.{option_map}
 use Rattle.std.specs.declared.alloc.Global.{Global}

@@ -2,7 +2,8 @@
 use Rattle.std.specs.Prelude.{◌≡◌, ◌⊎◌, ℕ, ◌+◌, ◌-◌, ◌^◌, ◌*◌, ◌<◌, ◌≤◌, min, List, ◌++◌, length, take, Option, Some, None}
 use Rattle.omi_outside.specs.declared.limits.TheConstants.{PIECE}
 
--- Files. What is told of one name: nothing (None), that there is no such file (Some None), or its bytes.
+-- Files. What is told of one name: nothing (None), that there is no such file (Some None), or its
+-- bytes.
 abbrev pub Told : Type 0
 Told = Option (Option (List ℕ))
 
@@ -22,7 +23,7 @@ extended None bytes = None
 extended (Some None) bytes = Some (Some bytes)
 extended (Some (Some old)) bytes = Some (Some (old ++ bytes))
 
--- The first pieces of some bytes. Each piece has 4,096 bytes, but the last may be shorter.
+-- The first pieces of some bytes. Each piece has PIECE bytes, but the last may be shorter.
 abbrev pub pieces : ℕ → List ℕ → List ℕ
 pieces count bytes = take (count * PIECE) bytes
 

@@ -103,8 +103,8 @@ fn forbidden_files_are_there(rt: HostRuntime) -> Result<(), Fail> {
     let mut files = DiskFiles::new(rt.clone()?);
     assert_eq!(rt; write_whole(&mut files, name, b"x"), Ok(()));
     fs::set_permissions(&rt, name, Permissions::from_mode(0))?;
-    // Who may open every file, as root, has no forbidden one: then the answers are not looked at. The
-    // stand-in's test of PermissionDenied holds for everybody.
+    // Who may open every file, as root, has no forbidden one: then the answers are not looked at.
+    // The stand-in's test of PermissionDenied holds for everybody.
     let forbidden = fs::open(&rt, name).is_err();
     let size = files.size(name);
     let written = DiskFiles::new(rt.clone()?).append(name, b"y");

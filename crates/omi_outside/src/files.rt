@@ -51,6 +51,8 @@ pub trait Files {
     fn size(&mut self, name: &str) -> Result<Option<u64>, Refused>
         ensures length { (content : Option (List ℕ)) → told self.old name.now ≡ Some content
             → IfOk result (λ size. size ≡ option_map length content) }
+
+        // No bytes change. A fault is counted as one of reading.
         ensures same { told self.new ≡ told self.old }
         ensures cause { HasCause (reads self.old) (reads self.new) (IsErrOf result Refused.Failed) }
         ensures writes { writes self.new ≡ writes self.old };
@@ -60,31 +62,41 @@ pub trait Files {
         requires room { 0 < length to.old }
         requires within { (content : Option (List ℕ)) → told self.old name.now ≡ Some content
             → at < content_len content }
+
+        // At least one byte is read, and what is read is what the file holds there.
         ensures count { IfOk result (λ count. (0 < count) × (count ≤ length to.new)) }
         ensures bytes { (bytes : List ℕ) → told self.old name.now ≡ Some (Some bytes)
             → IfOk result (λ count. (at + count ≤ length bytes)
             × (take count to.new ≡ take count (drop at bytes))) }
+
+        // No bytes change. A fault is counted as one of reading.
         ensures same { told self.new ≡ told self.old }
         ensures cause { HasCause (reads self.old) (reads self.new) (IsErr result) }
         ensures writes { writes self.new ≡ writes self.old };
 
     /// Makes the name hold no bytes, whether it was there or not.
     fn create(&mut self, name: &str) -> Result<(), Refused>
+        // This name alone changes, and none where the call is refused.
         ensures made { OnOk result (told self.new name.now ≡ holding (told self.old name.now) []) }
         ensures refused { OnErr result (told self.new ≡ told self.old) }
         ensures others { (other : List ℕ) → other ≢ name.now
             → told self.new other ≡ told self.old other }
+
+        // A fault is counted as one of writing.
         ensures cause { HasCause (writes self.old) (writes self.new)
             (IsErrOf result Refused.Failed) }
         ensures reads { reads self.new ≡ reads self.old };
 
     /// Adds the bytes at the end of a file. A name that isn't there is made.
     fn append(&mut self, name: &str, bytes: &[u8]) -> Result<(), Refused>
+        // This name alone changes, and none where the call is refused.
         ensures added { OnOk result (told self.new name.now
             ≡ extended (told self.old name.now) bytes.now) }
         ensures refused { OnErr result (told self.new ≡ told self.old) }
         ensures others { (other : List ℕ) → other ≢ name.now
             → told self.new other ≡ told self.old other }
+
+        // A fault is counted as one of writing.
         ensures cause { HasCause (writes self.old) (writes self.new)
             (IsErrOf result Refused.Failed) }
         ensures reads { reads self.new ≡ reads self.old };

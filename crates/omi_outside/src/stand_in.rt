@@ -1,5 +1,5 @@
-// Stand-ins for the system's files and output, which take few bytes a call, are interrupted and fail.
-// The bytes go to real files.
+// Stand-ins for the system's files and output, which take few bytes a call, are interrupted and
+// fail. The bytes go to real files.
 use super::*;
 use std::alloc::{Allocator, Global};
 use std::cell::Cell;
@@ -20,8 +20,8 @@ pub fn letters(alloc: Global, count: u32) -> Result<Vec<u8>, OutOfMemory> {
     Ok(bytes)
 }
 
-/// Which calls fail: an open or a sync of any kind, and a read or a write by its number from 1. At 0
-/// none does.
+/// Which calls fail: an open or a sync of any kind, and a read or a write by its number from 1. At
+/// 0 none does.
 #[derive(Clone, Copy)]
 struct Failing {
     open: Option<ErrorKind>,

@@ -46,8 +46,9 @@ impl From<Refused> for ReadError {
     }
 }
 
-/// The first `most` bytes of a file, or all of them where it has fewer. At most 4,096 are asked for
-/// at a time. Room is taken once, for as many bytes as are wanted by the size that the files tell.
+/// The first `most` bytes of a file, or all of them where it has fewer. At most `PIECE` bytes are
+/// asked for at a time. Room is taken once, for as many bytes as are wanted by the size that the
+/// files tell.
 pub fn read_whole<F: Files>(
     alloc: Global,
     files: &mut F,
@@ -60,6 +61,8 @@ pub fn read_whole<F: Files>(
     ensures no_file { (content : Option (List ℕ)) → F.told files.old name.now ≡ Some content
         → IsErrOf result ReadError.NoFile → content ≡ None }
     ensures length { IfOk result (λ whole. vec_len whole ≤ most) }
+
+    // No bytes change. A fault is counted as one of reading.
     ensures same { F.told files.new ≡ F.told files.old }
     ensures cause { HasCause (F.reads files.old) (F.reads files.new)
         (IsErrOf result ReadError.Failed) }
@@ -81,15 +84,20 @@ pub fn read_whole<F: Files>(
     Ok(whole)
 }
 
-/// Creates the name, and appends the bytes in pieces of 4,096, of which the last may be shorter.
+/// Creates the name, and appends the bytes in pieces of `PIECE` bytes, of which the last may be
+/// shorter.
 pub fn write_whole<F: Files>(files: &mut F, name: &str, bytes: &[u8]) -> Result<(), Refused>
     ensures written { OnOk result (F.told files.new name.now
         ≡ holding (F.told files.old name.now) bytes.now) }
+
+    // What is left where the call is refused, too. No other name changes.
     ensures partly { IsPartly (F.told files.old name.now) (F.told files.new name.now) bytes.now }
     ensures cut { OnErr result (IsCut (F.told files.old name.now)
         (F.told files.new name.now) bytes.now) }
     ensures others { (other : List ℕ) → other ≢ name.now
         → F.told files.new other ≡ F.told files.old other }
+
+    // A fault is counted as one of writing.
     ensures cause { HasCause (F.writes files.old) (F.writes files.new)
         (IsErrOf result Refused.Failed) }
     ensures reads { F.reads files.new ≡ F.reads files.old }
@@ -104,9 +112,11 @@ pub fn write_whole<F: Files>(files: &mut F, name: &str, bytes: &[u8]) -> Result<
     Ok(())
 }
 
-/// Puts the bytes in pieces of 4,096, of which the last may be shorter.
+/// Puts the bytes in pieces of `PIECE` bytes, of which the last may be shorter.
 pub fn put_whole<K: Sink>(out: &mut K, bytes: &[u8]) -> Result<(), Refused>
     ensures put { OnOk result (K.told out.new ≡ put_on (K.told out.old) bytes.now) }
+
+    // What is left where the call is refused, too.
     ensures partly { IsPartlyPut bytes.now (K.told out.old) (K.told out.new) }
     ensures cut { OnErr result (IsPutCut bytes.now (K.told out.old) (K.told out.new)) }
 
