@@ -22,7 +22,7 @@ pub use limits::PIECE;
 pub use memory_files::{Call, MemFiles};
 pub use memory_sink::MemSink;
 pub use never::{NeverFiles, NeverSink};
-pub use output::StdSink;
+pub use output::{StdSink, hold_standard};
 pub use sink::Sink;
 pub use status::Status;
 pub use whole::{ReadError, put_whole, read_whole, write_whole};

@@ -2,6 +2,26 @@
 ghost use Rattle.std.specs.Prelude.{◌≡◌, None};
 
 use crate::{Refused, Sink};
+use std::fs;
+use std::os::fd::AsRawFd;
+
+/// The greatest descriptor of standard input, output and error.
+const LAST_STANDARD: i32 = 2;
+
+/// Takes the least descriptor that is free, if it is one of standard input, output and error. A
+/// program that was started with some of them closed would get one for a file that it opens, and
+/// would print into that file. So it calls this three times before it opens any, and keeps what it
+/// gets. A put to a descriptor that was taken so is a fault.
+pub fn hold_standard<R: fs::Files>(rt: &R) -> Option<R::File>
+where
+    R::File: AsRawFd,
+{
+    let file = fs::open(rt, "/").ok()?;
+    if file.as_raw_fd() > LAST_STANDARD {
+        return None;
+    }
+    Some(file)
+}
 
 /// Standard output.
 #[derive(Drop)]

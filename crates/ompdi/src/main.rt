@@ -5,7 +5,7 @@ ghost use Rattle.std.specs.Prelude.{◌≡◌, ◌≢◌, ◌⊎◌};
 ghost use Rattle.omi_outside.specs.Disk.{disk_write_faults as write_faults};
 ghost use Rattle.omi_outside.specs.Outside.{Rose};
 
-use omi_outside::{DiskFiles, Status, StdSink};
+use omi_outside::{DiskFiles, Status, StdSink, hold_standard};
 use omi_top::run_top;
 use std::fs::Files;
 use std::process::ExitCode;
@@ -42,6 +42,8 @@ fn handed_over<R: Files + AllocGlobal + Drop>(status: Status, dest: &mut DiskFil
 }
 
 fn main(rt: HostRuntime) -> ExitCode {
+    // While these are held, no file gets a descriptor of standard output.
+    let _held = (hold_standard(&rt), hold_standard(&rt), hold_standard(&rt));
     let alloc = rt.alloc();
     let words = match words_of(&rt) {
         Ok(words) => words,
