@@ -1,0 +1,28 @@
+-- What callbacks may tell of a target: the order of a word's bytes, its words and its symbols.
+use Rattle.std.specs.Prelude.{◌==◌, ℕ, ◌%◌, List, Option, None, if◌then◌else◌}
+use Rattle.std.specs.Int.{w64, from_le_bytes, from_be_bytes}
+use Rattle.omi_calls.specs.declared.callbacks.Sizes.{Sizes}
+
+-- the word at each address at which one stands
+abbrev pub Words : Type 0
+Words = ℕ → Option ℕ
+
+-- the address of each symbol that there is
+abbrev pub Symbols : Type 0
+Symbols = List ℕ → Option ℕ
+
+-- each part is told or untold, but for the sizes of the basic types, which always are
+pub record Told : Type 0 where
+  -- 0 where the lowest byte of a word comes first, 1 where the highest does
+  pub order : Option ℕ
+  pub words : Option Words
+  pub symbols : Option Symbols
+  pub sizes : Sizes
+
+-- the word at an address, which is a multiple of 8
+abbrev pub word_at : Words → ℕ → Option ℕ
+word_at words addr = if addr % 8 == 0 then words addr else None
+
+-- the number of eight bytes in this order
+abbrev pub number_of : ℕ → List ℕ → ℕ
+number_of order bytes = if order == 0 then from_le_bytes w64 bytes else from_be_bytes w64 bytes
