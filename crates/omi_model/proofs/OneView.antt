@@ -7,7 +7,8 @@ use Rattle.omi_model.specs.declared.id.Tid.{Tid}
 use Rattle.omi_model.specs.declared.view.View.{View}
 use Rattle.omi_model.specs.declared.view.RegionRow.{RegionRow}
 use Rattle.omi_model.specs.declared.view.TaskRow.{TaskRow}
-use Rattle.omi_model.specs.State.{State, Task, region_of}
+use Rattle.omi_model.specs.State.{State, region_of}
+use Rattle.omi_model.specs.declared.task.Task.{Task}
 use Rattle.omi_model.specs.Views.{AreRegions, IsChain, AreChains, IsViewOf, region_row, task_row, thread_with}
 use Rattle.omi_model.proofs.InOrder.{AreAmong, same_rows}
 

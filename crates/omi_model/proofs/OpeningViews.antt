@@ -8,7 +8,9 @@ use Rattle.omi_script.specs.declared.program.Program.{Program}
 use Rattle.omi_script.proofs.RuleLemmas.{Rules-from_accepted}
 use Rattle.omi_model.specs.declared.id.Rid.{Rid}
 use Rattle.omi_model.specs.declared.view.RegionRow.{RegionRow}
-use Rattle.omi_model.specs.State.{Region, Task, region_of, current_task, enclosing_of}
+use Rattle.omi_model.specs.State.{region_of, current_task, enclosing_of}
+use Rattle.omi_model.specs.declared.region.Region.{Region}
+use Rattle.omi_model.specs.declared.task.Task.{Task}
 use Rattle.omi_model.specs.WellFormed.{along}
 use Rattle.omi_model.specs.Opening.{opening, opening_region, opening_task, initial_region}
 use Rattle.omi_model.specs.OpeningView.{opening_view}

@@ -3,7 +3,9 @@ use Rattle.std.specs.Prelude.{◌≡◌, ◌≤◌, ℕ, ◌+◌, true, false, s
 use Rattle.omi_model.specs.declared.id.Rid.{Rid}
 use Rattle.omi_model.specs.declared.progress.Progress.TheVariants.{Finished}
 use Rattle.omi_model.specs.Changes.{on_region}
-use Rattle.omi_model.specs.State.{State, Region, Task}
+use Rattle.omi_model.specs.State.{State}
+use Rattle.omi_model.specs.declared.region.Region.{Region}
+use Rattle.omi_model.specs.declared.task.Task.{Task}
 
 -- A member arrives in its implicit task.
 abbrev pub MayArrive : Task → Type 0

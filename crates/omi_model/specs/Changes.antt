@@ -5,8 +5,11 @@ use Rattle.omi_model.specs.declared.id.Tid.{Tid}
 use Rattle.omi_model.specs.declared.id.Rid.{Rid}
 use Rattle.omi_model.specs.declared.item.Item.{Item}
 use Rattle.omi_model.specs.Put.{put, on}
-use Rattle.omi_model.specs.Rows.{Encounter}
-use Rattle.omi_model.specs.State.{State, Thread, Region, Task, region_of, task_of, current_task}
+use Rattle.omi_model.specs.declared.encounter.Encounter.{Encounter}
+use Rattle.omi_model.specs.State.{State, region_of, task_of, current_task}
+use Rattle.omi_model.specs.declared.thread.Thread.{Thread}
+use Rattle.omi_model.specs.declared.region.Region.{Region}
+use Rattle.omi_model.specs.declared.task.Task.{Task}
 
 -- changes of one thread, of one task, of one region
 abbrev pub on_thread : State → ℕ → (Thread → Thread) → State
@@ -49,8 +52,8 @@ level_of s n = option_map_or (λ r. r.levels) (region_of s n) 0
 
 -- what a row sees of the task that encounters a statement. A worker without a task encounters none.
 abbrev pub encounter_by : State → Option Task → Encounter
-encounter_by s None = record { debug = s.environment.debug; number = 0; level = 0; final = false }
-encounter_by s (Some t) = record { debug = s.environment.debug; number = t.number; level = level_of s t.region; final = t.final }
+encounter_by s None = record { debug = s.environment.debug; number = 0; level = 0; is_final = false }
+encounter_by s (Some t) = record { debug = s.environment.debug; number = t.number; level = level_of s t.region; is_final = t.is_final }
 
 abbrev pub encounter : State → ℕ → Encounter
 encounter s i = encounter_by s (current_task s i)

@@ -14,6 +14,8 @@ pub mod Tasking
 pub mod Settings
 pub mod Rules
 pub mod Reached
+-- What the plain program keeps of a state.
+pub mod Kept
 -- What may be shown of a state, when a state is well formed, and what a report says of it.
 pub mod Visible
 pub mod WellFormed

@@ -6,7 +6,8 @@ use Rattle.omi_model.specs.declared.item.Item.TheVariants as item
 use Rattle.omi_model.specs.declared.event.Event.{Event}
 use Rattle.omi_model.specs.declared.event.Event.TheVariants as event
 use Rattle.omi_model.specs.Numbers.{idle}
-use Rattle.omi_model.specs.Rows.{Encounter, shown, first_of, behind}
+use Rattle.omi_model.specs.declared.encounter.Encounter.{Encounter}
+use Rattle.omi_model.specs.Rows.{shown, first_of, behind}
 
 -- the head of a list and what stands behind it, once a statement is replaced by its row
 abbrev pub opened : Program → Encounter → Item → List Item → Item × List Item

@@ -10,7 +10,11 @@ use Rattle.omi_model.specs.declared.claim.Claim.TheVariants.{Own}
 use Rattle.omi_model.specs.declared.progress.Progress.TheVariants.{Begun}
 use Rattle.omi_model.specs.Rows.{of_main, of_worker}
 use Rattle.omi_model.specs.Put.{first_alone}
-use Rattle.omi_model.specs.State.{State, Thread, Region, Task, Variables}
+use Rattle.omi_model.specs.State.{State}
+use Rattle.omi_model.specs.declared.thread.Thread.{Thread}
+use Rattle.omi_model.specs.declared.region.Region.{Region}
+use Rattle.omi_model.specs.declared.task.Task.{Task}
+use Rattle.omi_model.specs.declared.task.Variables.{Variables}
 
 -- the exit frame of a thread's task, where so many tasks are on the thread's chain, this one included
 abbrev pub exit_frame : ℕ → ℕ → ℕ
@@ -61,11 +65,11 @@ opening_task p = record {
   exit = exit_frame 0 1;
   enter = 0;
   variables = variables_of p.env;
-  final = false;
+  is_final = false;
   tool = 0;
   progress = Begun;
   place = 0;
-  list = of_main (record { debug = p.env.debug; number = 0; level = 0; final = false }) (body_of p.funcs p.main);
+  list = of_main (record { debug = p.env.debug; number = 0; level = 0; is_final = false }) (body_of p.funcs p.main);
 }
 
 -- the opening state

@@ -2,15 +2,11 @@
 use Rattle.std.specs.Prelude.{◌==◌, ℕ, ◌+◌, ◌&&◌, Option, Some, None, if◌then◌else◌}
 use Rattle.std.specs.Option.{option_map}
 use Rattle.omi_model.specs.declared.id.Id.{Id}
+use Rattle.omi_model.specs.declared.slot.Slot.{Slot}
 
 -- the function with one place replaced
 abbrev pub put : {A : Type 0} → (ℕ → A) → ℕ → A → ℕ → A
 put m i x = λ j. if j == i then x else m j
-
--- a slot for objects: how many generations it has had, and the object that lives in it
-pub record Slot (A : Type 0) : Type 0 where
-  pub generations : ℕ
-  pub live : Option A
 
 -- all slots, by creator and number
 abbrev pub Slots : Type 0 → Type 0

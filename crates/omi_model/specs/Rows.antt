@@ -5,16 +5,10 @@ use Rattle.omi_script.specs.declared.program.Program.{Program}
 use Rattle.omi_script.specs.declared.statement.Sched.{Sched}
 use Rattle.omi_script.specs.declared.statement.Stmt.{Stmt}
 use Rattle.omi_script.specs.declared.statement.Stmt.TheVariants as stmt
+use Rattle.omi_model.specs.declared.encounter.Encounter.{Encounter}
 use Rattle.omi_model.specs.declared.item.Item.{Item}
 use Rattle.omi_model.specs.declared.item.Item.TheVariants as item
 use Rattle.omi_model.specs.Numbers.{work_serial, work_parallel, wait_barrier_implicit_parallel, wait_barrier_explicit, wait_taskwait, wait_critical, idle, overhead, dyn_var, nthreads_var, run_sched_var, default_device_var, max_active_levels_var, flag}
-
--- What a row sees of the task that encounters the statement, when it is opened: whether states are kept, the task's number in its team, the level of its region, and its final flag.
-pub record Encounter : Type 0 where
-  pub debug : Bool
-  pub number : ℕ
-  pub level : ℕ
-  pub final : Bool
 
 -- ---- parts of rows, in front of a rest
 
@@ -78,7 +72,7 @@ abbrev pub behind : Program → Encounter → Stmt → List Item → List Item
 behind p at (stmt.Parallel f num) rest =
     shown at overhead 0 (item.Want num ∷ item.Asks ∷ item.Fork f ∷ working at (item.Leave ∷ rest))
 behind p at (stmt.Task f undeferred final) rest =
-    (if undeferred || at.final then item.StartNow f (final || at.final) else item.Defer 0 f (final || at.final)) ∷ item.Leave ∷ rest
+    (if undeferred || at.is_final then item.StartNow f (final || at.is_final) else item.Defer 0 f (final || at.is_final)) ∷ item.Leave ∷ rest
 behind p at stmt.Taskwait rest =
     shown at wait_taskwait 0 (item.Tasks wait_taskwait ∷ item.WaitDone ∷ working at (item.Leave ∷ rest))
 behind p at stmt.Taskyield rest = item.OneTask ∷ item.Yield ∷ item.Leave ∷ rest

@@ -4,7 +4,9 @@ use Rattle.std.specs.Option.{option_and_then, option_map}
 use Rattle.omi_model.specs.Changes.{on_thread, on_task, by_current}
 use Rattle.omi_model.specs.Numbers.{dyn_var, nthreads_var, run_sched_var, default_device_var, max_active_levels_var}
 use Rattle.omi_model.specs.Put.{put}
-use Rattle.omi_model.specs.State.{State, Task, Variables, task_of}
+use Rattle.omi_model.specs.State.{State, task_of}
+use Rattle.omi_model.specs.declared.task.Task.{Task}
+use Rattle.omi_model.specs.declared.task.Variables.{Variables}
 use Rattle.omi_model.specs.declared.id.Tid.{Tid}
 
 -- the thread shows a state and a wait id

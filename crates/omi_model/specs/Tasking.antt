@@ -10,7 +10,8 @@ use Rattle.omi_model.specs.Changes.{on_task, with_current, encounter}
 use Rattle.omi_model.specs.Numbers.{wait_taskwait}
 use Rattle.omi_model.specs.Put.{made}
 use Rattle.omi_model.specs.Rows.{of_task, working}
-use Rattle.omi_model.specs.State.{State, Task, task_of}
+use Rattle.omi_model.specs.State.{State, task_of}
+use Rattle.omi_model.specs.declared.task.Task.{Task}
 use Rattle.omi_model.specs.Teams.{exit_below}
 
 -- ---- seen, defer, start_now
@@ -38,7 +39,7 @@ deferred_task p k t f is_final place = record {
   exit = 0;
   enter = 0;
   variables = t.variables;
-  final = is_final;
+  is_final = is_final;
   tool = 0;
   progress = Deferred;
   place = place;

@@ -11,7 +11,11 @@ use Rattle.omi_model.specs.Fresh.{IsFresh, AreDistinct}
 use Rattle.omi_model.specs.Opening.{exit_frame}
 use Rattle.omi_model.specs.Put.{Slots, made}
 use Rattle.omi_model.specs.Rows.{of_member}
-use Rattle.omi_model.specs.State.{State, Thread, Region, Task, Variables, task_of}
+use Rattle.omi_model.specs.State.{State, task_of}
+use Rattle.omi_model.specs.declared.thread.Thread.{Thread}
+use Rattle.omi_model.specs.declared.region.Region.{Region}
+use Rattle.omi_model.specs.declared.task.Task.{Task}
+use Rattle.omi_model.specs.declared.task.Variables.{Variables}
 
 -- ---- begin, offer
 
@@ -123,11 +127,11 @@ member_task p region k t r f number thread = record {
   exit = if number == 0 then exit_below t else exit_frame thread 1;
   enter = 0;
   variables = inherited t.variables;
-  final = false;
+  is_final = false;
   tool = 0;
   progress = if number == 0 then Begun else NotBegun;
   place = 0;
-  list = of_member p (record { debug = p.env.debug; number = number; level = r.levels + 1; final = false }) f;
+  list = of_member p (record { debug = p.env.debug; number = number; level = r.levels + 1; is_final = false }) f;
 }
 
 -- the tasks of members, of which the first has this number

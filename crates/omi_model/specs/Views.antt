@@ -13,7 +13,9 @@ use Rattle.omi_model.specs.declared.view.ThreadPart.{ThreadPart}
 use Rattle.omi_model.specs.declared.view.RegionRow.{RegionRow}
 use Rattle.omi_model.specs.declared.view.TaskRow.{TaskRow}
 use Rattle.omi_model.specs.Numbers.{flag}
-use Rattle.omi_model.specs.State.{State, Region, Task, region_of, task_of, current_task, enclosing_of}
+use Rattle.omi_model.specs.State.{State, region_of, task_of, current_task, enclosing_of}
+use Rattle.omi_model.specs.declared.region.Region.{Region}
+use Rattle.omi_model.specs.declared.task.Task.{Task}
 use Rattle.omi_model.specs.WellFormed.{along}
 
 -- the entry address of a function, by its number
@@ -73,7 +75,7 @@ task_row i k t = record {
   nthreads = t.variables.nthreads;
   sched = schedule_number t.variables.schedule;
   device = t.variables.device;
-  final_task = flag t.final;
+  final_task = flag t.is_final;
 }
 
 -- the order of names: creator, then slot, then generation

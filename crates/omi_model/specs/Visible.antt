@@ -2,7 +2,9 @@
 use Rattle.std.specs.Prelude.{◌≡◌, Some, IsSome, All, MatchBool, ⊤}
 use Rattle.omi_model.specs.declared.id.Tid.{Tid}
 use Rattle.omi_model.specs.declared.id.Rid.{Rid}
-use Rattle.omi_model.specs.State.{State, Region, Task, region_of, task_of}
+use Rattle.omi_model.specs.State.{State, region_of, task_of}
+use Rattle.omi_model.specs.declared.region.Region.{Region}
+use Rattle.omi_model.specs.declared.task.Task.{Task}
 use Rattle.omi_model.specs.declared.progress.Progress.{Progress}
 use Rattle.omi_model.specs.declared.progress.Progress.TheVariants.{Deferred, NotBegun, Begun, Finished}
 

@@ -4,7 +4,10 @@ use Rattle.std.specs.Option.{option_and_then}
 use Rattle.omi_model.specs.declared.id.Tid.{Tid}
 use Rattle.omi_model.specs.declared.id.Rid.{Rid}
 use Rattle.omi_model.specs.Numbers.{states}
-use Rattle.omi_model.specs.State.{State, Region, Task, Variables, task_of, scheduling_of, enclosing_of}
+use Rattle.omi_model.specs.State.{State, task_of, scheduling_of, enclosing_of}
+use Rattle.omi_model.specs.declared.region.Region.{Region}
+use Rattle.omi_model.specs.declared.task.Task.{Task}
+use Rattle.omi_model.specs.declared.task.Variables.{Variables}
 use Rattle.omi_model.specs.Visible.{IsVisibleRegion, IsVisibleTask}
 
 -- where so many steps of a chain lead

@@ -3,26 +3,41 @@
 #![tactic(auto)]
 
 mod claim;
+mod encounter;
 mod event;
 mod events;
 mod id;
 mod item;
+mod item_list;
 mod laws;
+mod looking;
 mod progress;
+mod region;
 mod rows;
+mod slot;
+mod state;
+mod task;
 mod team;
+mod thread;
 mod view;
 
 pub use claim::Claim;
+pub use encounter::Encounter;
 pub use event::Event;
 pub use events::EventList;
 pub use id::{Id, Rid, Tid};
 pub use item::Item;
+pub use item_list::ItemList;
 pub use laws::one_view;
 pub use omi_word::OutOfMemory;
 pub use progress::Progress;
-pub use rows::{MemberRows, RegionRows, TaskRows, ThreadRows};
+pub use region::Region;
+pub use rows::{MemberRows, RegionRows, Rows, TaskRows, ThreadRows};
+pub use slot::Slot;
+pub use state::State;
+pub use task::{Task, Variables};
 pub use team::Team;
+pub use thread::Thread;
 pub use view::{HeadRow, MemberRow, RegionRow, TaskRow, ThreadPart, ThreadRow, View};
 
 #[cfg(test)]

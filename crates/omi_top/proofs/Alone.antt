@@ -5,8 +5,12 @@ use Rattle.std.specs.Prelude.{slice_index}
 use Rattle.omi_script.specs.declared.program.Program.{Program}
 use Rattle.omi_model.specs.Numbers.{flag}
 use Rattle.omi_model.specs.declared.item.Item.{Item}
-use Rattle.omi_model.specs.Put.{Slot, put, on, first_alone, unused}
-use Rattle.omi_model.specs.State.{State, Thread, Region, Task}
+use Rattle.omi_model.specs.Put.{put, on, first_alone, unused}
+use Rattle.omi_model.specs.declared.slot.Slot.{Slot}
+use Rattle.omi_model.specs.State.{State}
+use Rattle.omi_model.specs.declared.thread.Thread.{Thread}
+use Rattle.omi_model.specs.declared.region.Region.{Region}
+use Rattle.omi_model.specs.declared.task.Task.{Task}
 use Rattle.omi_model.specs.Opening.{opening, opening_region, opening_task, initial_thread, waiting_worker, initial_task, exit_frame}
 use Rattle.omi_top.specs.Tables.{tables}
 use Rattle.omi_top.specs.Codes.{function_code, schedule_code}

@@ -14,8 +14,11 @@ use Rattle.omi_model.specs.declared.view.ThreadPart.{ThreadPart}
 use Rattle.omi_model.specs.declared.view.RegionRow.{RegionRow}
 use Rattle.omi_model.specs.declared.view.TaskRow.{TaskRow}
 use Rattle.omi_model.specs.Numbers.{flag, states}
-use Rattle.omi_model.specs.Put.{Slot, Slots, named, found}
-use Rattle.omi_model.specs.State.{State, Region, Task, region_of, task_of, current_task, enclosing_of}
+use Rattle.omi_model.specs.Put.{Slots, named, found}
+use Rattle.omi_model.specs.declared.slot.Slot.{Slot}
+use Rattle.omi_model.specs.State.{State, region_of, task_of, current_task, enclosing_of}
+use Rattle.omi_model.specs.declared.region.Region.{Region}
+use Rattle.omi_model.specs.declared.task.Task.{Task}
 use Rattle.omi_model.specs.Opening.{initial_task, initial_region}
 use Rattle.omi_model.specs.Visible.{IsVisibleRegion, IsVisibleTask}
 use Rattle.omi_model.specs.Views.{IsViewOf, AreRegions, AreChains, IsChain, IsReported, head_row, thread_row, thread_part, thread_with, region_row, task_row}
@@ -310,7 +313,7 @@ module _ (words : List ℕ) (s : State) (shown : Shows words s) (plain : IsTrue 
     nthreads = nthreads_is i;
     sched = is_word words 322 (t.variables.schedule.chunk * 8 + t.variables.schedule.kind) task_shown.schedule i;
     device = is_word words 323 t.variables.device task_shown.device i;
-    final_task = is_word words 324 (flag t.final) task_shown.final i;
+    final_task = is_word words 324 (flag t.is_final) task_shown.final i;
   }
 
   -- the region that thread 0 reports is the initial region alone

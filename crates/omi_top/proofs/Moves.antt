@@ -22,7 +22,10 @@ use Rattle.omi_model.specs.Changes.{OfCurrent, encounter, on_task, with_list}
 use Rattle.omi_model.specs.Lists.{stays}
 use Rattle.omi_model.specs.Reached.{Step}
 use Rattle.omi_model.specs.Rules.{Rule, effect, moved, taken_by}
-use Rattle.omi_model.specs.State.{State, Thread, Region, Task}
+use Rattle.omi_model.specs.State.{State}
+use Rattle.omi_model.specs.declared.thread.Thread.{Thread}
+use Rattle.omi_model.specs.declared.region.Region.{Region}
+use Rattle.omi_model.specs.declared.task.Task.{Task}
 use Rattle.omi_model.specs.Put.{Slots, put, on, first_alone}
 use Rattle.omi_model.specs.Opening.{initial_task, waiting_worker}
 use Rattle.omi_top.specs.Steps.{IsStep, IsOwn}

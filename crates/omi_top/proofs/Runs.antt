@@ -60,7 +60,7 @@ waiting false = 0
 
 -- the items of the end
 abbrev end_items : Bool → List Item
-end_items kept = end_of_member (record { debug = kept; number = 0; level = 0; final = false }) (item.Done ∷ [])
+end_items kept = end_of_member (record { debug = kept; number = 0; level = 0; is_final = false }) (item.Done ∷ [])
 
 -- the values with which the runner stands at a counter
 abbrev pub stand : Bool → List Stmt → Counter → Now → Now

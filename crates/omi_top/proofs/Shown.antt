@@ -10,7 +10,9 @@ use Rattle.omi_script.proofs.RuleLemmas.{Rules-from_accepted}
 use Rattle.omi_model.specs.declared.id.Tid.{Tid}
 use Rattle.omi_model.specs.Numbers.{states}
 use Rattle.omi_model.specs.Put.{first_alone, found, unused}
-use Rattle.omi_model.specs.State.{State, Region, Task, task_of}
+use Rattle.omi_model.specs.State.{State, task_of}
+use Rattle.omi_model.specs.declared.region.Region.{Region}
+use Rattle.omi_model.specs.declared.task.Task.{Task}
 use Rattle.omi_model.specs.Opening.{initial_task, initial_region}
 use Rattle.omi_model.specs.Visible.{IsVisibleRegion, IsVisibleTask}
 use Rattle.omi_model.specs.WellFormed.{IsWellFormed, IsRegionRight, IsTaskRight, IsMember, HasBegun}

@@ -3,8 +3,12 @@ use Rattle.std.specs.Prelude.{◌≡◌, ◌<◌, ◌≤◌, ℕ, ◌+◌, ◌*�
 use Rattle.omi_model.specs.declared.id.Rid.{Rid}
 use Rattle.omi_model.specs.declared.id.Tid.{Tid}
 use Rattle.omi_model.specs.Numbers.{flag}
-use Rattle.omi_model.specs.Put.{Slot, Slots}
-use Rattle.omi_model.specs.State.{State, Thread, Region, Task}
+use Rattle.omi_model.specs.Put.{Slots}
+use Rattle.omi_model.specs.declared.slot.Slot.{Slot}
+use Rattle.omi_model.specs.State.{State}
+use Rattle.omi_model.specs.declared.thread.Thread.{Thread}
+use Rattle.omi_model.specs.declared.region.Region.{Region}
+use Rattle.omi_model.specs.declared.task.Task.{Task}
 use Rattle.omi_model.specs.Visible.{IsVisibleRegion, IsVisibleTask}
 use Rattle.omi_model.specs.WellFormed.{IsWellFormed}
 use Rattle.omi_top.specs.Layout as layout
@@ -59,7 +63,7 @@ pub record ShowsTask (words : List ℕ) (place : ℕ) (t : Task) : Type 0 where
   pub nthreads_length : Stands words (place + layout.nthn) (length t.variables.nthreads)
   pub schedule : Stands words (place + layout.sched) (schedule_code t.variables.schedule)
   pub device : Stands words (place + layout.device) t.variables.device
-  pub final : Stands words (place + layout.final) (flag t.final)
+  pub final : Stands words (place + layout.final) (flag t.is_final)
   pub tool : Stands words (place + layout.tool) t.tool
   pub nthreads : (j n : ℕ) → slice_get t.variables.nthreads j ≡ Some n → Stands words (place + layout.nth + j) n
 

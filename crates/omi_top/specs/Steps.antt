@@ -8,7 +8,8 @@ use Rattle.omi_model.specs.declared.event.Event.{Event}
 use Rattle.omi_model.specs.declared.event.Event.TheVariants as event
 use Rattle.omi_model.specs.declared.id.Tid.{Tid}
 use Rattle.omi_model.specs.Numbers.{dyn_var}
-use Rattle.omi_model.specs.State.{State, Task}
+use Rattle.omi_model.specs.State.{State}
+use Rattle.omi_model.specs.declared.task.Task.{Task}
 use Rattle.omi_model.specs.Changes.{OfCurrent}
 use Rattle.omi_model.specs.Reached.{Step}
 use Rattle.omi_top.specs.Layout as layout

@@ -1,0 +1,82 @@
+//! The state of the machine, as the plain program keeps it.
+
+ghost use Rattle.std.specs.Prelude.{◌≡◌, ◌<◌, unwrap_or};
+ghost use Rattle.std.specs.Option.{option_map};
+ghost use Rattle.omi_model.specs.Kept.{slots_of, state_of};
+ghost use Rattle.omi_model.specs.Put.{named, unused};
+ghost use Rattle.omi_model.specs.State.{current_task, region_of, task_of};
+
+use crate::{Id, Region, Rid, Rows, Slot, Task, Thread, Tid};
+use omi_script::Env;
+
+/// A state: the program's environment, the number of threads, max-active-levels-var, the holder of each lock, the threads,
+/// and the regions and tasks in the slots of their creators. The state of the machine that it means is `specs/Kept.antt`'s.
+#[derive(Drop)]
+pub struct State {
+    pub(crate) environment: Env,
+    pub(crate) max_active: u64,
+    pub(crate) locks: Rows<Option<u8>>,
+    pub(crate) threads: Rows<Thread>,
+    pub(crate) regions: Rows<Rows<Slot<Region>>>,
+    pub(crate) tasks: Rows<Rows<Slot<Task>>>,
+}
+
+/// A slot that is kept.
+fn slot_in<T>(slots: &Rows<Rows<Slot<T>>>, n: Id) -> Option<&Slot<T>>
+    ensures { unwrap_or (option_map (λ slot. slot.now) result) unused
+        ≡ slots_of slots.now n.creator n.slot }
+{
+    slots.find(n.creator as usize)?.find(n.slot as usize)
+}
+
+/// The object of a name, where it is live.
+fn live_in<T>(slots: &Rows<Rows<Slot<T>>>, n: Id) -> Option<&T>
+    ensures { option_map (λ x. x.now) result ≡ named (slots_of slots.now) n }
+{
+    match slot_in(slots, n) {
+        Some(slot) if slot.generations == n.generation as u64 + 1 => slot.live.as_ref(),
+        _ => None,
+    }
+}
+
+impl State {
+    /// The number of threads.
+    pub fn count(&self) -> usize
+        ensures { result ≡ (state_of self.now).count }
+    {
+        self.threads.len()
+    }
+
+    /// The live region of a name.
+    pub fn region_of(&self, n: Rid) -> Option<&Region>
+        ensures { option_map (λ r. r.now) result ≡ region_of (state_of self.now) n }
+    {
+        live_in(&self.regions, n.0)
+    }
+
+    /// The live task of a name.
+    pub fn task_of(&self, k: Tid) -> Option<&Task>
+        ensures { option_map (λ t. t.now) result ≡ task_of (state_of self.now) k }
+    {
+        live_in(&self.tasks, k.0)
+    }
+
+    /// A thread.
+    pub fn thread(&self, i: usize) -> &Thread
+        requires { i < (state_of self.now).count }
+        ensures { result.now ≡ (state_of self.now).threads i }
+    {
+        self.threads.get(i)
+    }
+
+    /// The current task of a thread.
+    pub fn current_task(&self, i: usize) -> Option<&Task>
+        requires { i < (state_of self.now).count }
+        ensures { option_map (λ t. t.now) result ≡ current_task (state_of self.now) i }
+    {
+        match self.thread(i).current {
+            Some(k) => self.task_of(k),
+            None => None,
+        }
+    }
+}

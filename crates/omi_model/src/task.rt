@@ -1,0 +1,34 @@
+//! A task of the machine, with its data environment.
+
+use crate::{ItemList, Progress, Rid, Tid};
+use omi_script::{NumList, Sched};
+
+/// The internal control variables of a task's data environment.
+#[derive(Drop)]
+pub struct Variables {
+    pub dynamic: bool,
+    pub nthreads: NumList,
+    pub schedule: Sched,
+    pub device: u64,
+}
+
+/// A task. `thread` and `number` (in the team) are those of an implicit task from the fork on, and are set once an explicit
+/// task starts; `place` is that of a deferred task; `exit` and `enter` are frame addresses.
+#[derive(Drop)]
+pub struct Task {
+    pub implicit: bool,
+    pub region: Rid,
+    pub thread: u8,
+    pub number: u64,
+    pub generating: Option<Tid>,
+    pub scheduling: Option<Tid>,
+    pub function: u8,
+    pub exit: u64,
+    pub enter: u64,
+    pub variables: Variables,
+    pub is_final: bool,
+    pub tool: u64,
+    pub progress: Progress,
+    pub place: u8,
+    pub list: ItemList,
+}
