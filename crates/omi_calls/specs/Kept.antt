@@ -19,7 +19,8 @@ TakesAll takes = (bytes : List ℕ) → IsEightBytes bytes → takes bytes
 
 -- the conversion answers the number of eight bytes in this order
 abbrev pub GivesNumbers : (List ℕ → ℕ → Type 0) → ℕ → Type 0
-GivesNumbers gives order = (bytes : List ℕ) (n : ℕ) → IsEightBytes bytes → gives bytes n → n ≡ number_of order bytes
+GivesNumbers gives order =
+    (bytes : List ℕ) (n : ℕ) → IsEightBytes bytes → gives bytes n → n ≡ number_of order bytes
 
 -- the order is 0 or 1, and is the one that is told
 pub record IsOrderOf (told : Told) (order : ℕ) : Type 0 where
@@ -27,7 +28,8 @@ pub record IsOrderOf (told : Told) (order : ℕ) : Type 0 where
   pub agrees : (other : ℕ) → told.order ≡ Some other → other ≡ order
 
 -- what a table knows of its parts
-pub record KeepsTable (told : Told) (takes : List ℕ → Type 0) (gives : List ℕ → ℕ → Type 0) (order : ℕ) : Type 0 where
+pub record KeepsTable (told : Told) (takes : List ℕ → Type 0) (gives : List ℕ → ℕ → Type 0)
+    (order : ℕ) : Type 0 where
   pub is_order : IsOrderOf told order
   pub takes_all : TakesAll takes
   pub gives_numbers : GivesNumbers gives order

@@ -41,9 +41,9 @@ pub struct Sizes {
 
 /// What a debugger does for a tool: it reads the target's memory and knows its symbols.
 ///
-/// An implementation may tell the order of the bytes of a word, the words and the symbols, or leave
-/// each of them untold; the clauses on what a call answers of them then say nothing. No call changes
-/// what is told.
+/// An implementation may tell the order of the bytes of a word, the words and the symbols, or
+/// leave each of them untold; the clauses on what a call answers of them then say nothing. No call
+/// changes what is told.
 pub trait Callbacks {
     /// What is told of the target.
     ghost told: { Self → Told };

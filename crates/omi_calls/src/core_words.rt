@@ -21,7 +21,8 @@ fn segment_word(segment: &Segment, addr: u64) -> Option<u64>
     }
 }
 
-/// The word of a core at a byte address. None where the address is unaligned or no word stands there.
+/// The word of a core at a byte address. None where the address is unaligned or no word stands
+/// there.
 pub fn core_word(core: &CoreImage, addr: u64) -> Option<u64>
     ensures { result ≡ word_at (words_of core.now.segments) addr }
 {

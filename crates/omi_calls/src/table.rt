@@ -58,7 +58,8 @@ impl<C: Callbacks, F: ToHost> Model for Table<C, F> {
 
     ghost view = { λ a. record { calls = a.calls; order = a.order; to_host = a.to_host } };
 
-    ghost invariant = { λ a. KeepsTable (C.told a.calls) (F.takes a.to_host) (F.gives a.to_host) a.order };
+    ghost invariant = { λ a. KeepsTable (C.told a.calls) (F.takes a.to_host)
+        (F.gives a.to_host) a.order };
 }
 
 /// The number of eight bytes, by a conversion that answers it.

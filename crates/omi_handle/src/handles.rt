@@ -3,7 +3,7 @@
 ghost use Rattle.std.specs.Prelude.{◌≡◌, ◌≢◌, ℕ, ◌+◌, ◌-◌, ◌^◌, ◌<◌, ◌≤◌, Some, None, IsOk, IfOk, OnOk, OnErr, is_some};
 ghost use Rattle.std.specs.Bool.{OnFalse};
 ghost use Rattle.std.specs.FinMap.{empty, get, insert, remove};
-ghost use Rattle.omi_handle.specs.declared.handle.Held.{Held as AHeld};
+ghost use Rattle.omi_handle.specs.declared.handle.Held.{Held};
 ghost use Rattle.omi_handle.specs.Entries.{held_by};
 
 use crate::{Held, OutOfMemory};
@@ -75,7 +75,7 @@ impl Handles {
         ensures added { IfOk result (λ pair. self.new.held ≡ insert self.old.held pair h) }
         ensures unheld { IfOk result (λ pair. get self.old.held pair ≡ None) }
         ensures found { IfOk result (λ pair. get self.new.held pair ≡ Some h) }
-        ensures kept { (pair : ℕ × ℕ) (held : AHeld) → get self.old.held pair ≡ Some held
+        ensures kept { (pair : ℕ × ℕ) (held : Held) → get self.old.held pair ≡ Some held
             → get self.new.held pair ≡ Some held }
         ensures refused_held { OnErr result (self.new.held ≡ self.old.held) }
         ensures refused_made { OnErr result (self.new.made ≡ self.old.made) }
@@ -95,7 +95,8 @@ impl Handles {
         held_under(&self.entries, key, serial)
     }
 
-    /// Lets go of the pair. False exactly where it was released or never made; nothing changes then.
+    /// Lets go of the pair. False exactly where it was released or never made; then nothing
+    /// changes.
     pub fn release(&mut self, key: u64, serial: u64) -> bool
         ensures answer { result ≡ is_some (get self.old.held (key, serial)) }
         ensures removed { self.new.held ≡ remove self.old.held (key, serial) }

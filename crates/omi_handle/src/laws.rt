@@ -3,7 +3,7 @@
 
 ghost use Rattle.std.specs.Prelude.{◌≡◌, ◌≢◌, ℕ, List, Some, AllPairs};
 ghost use Rattle.std.specs.FinMap.{get};
-ghost use Rattle.omi_handle.specs.declared.handle.Held.{Held as AHeld};
+ghost use Rattle.omi_handle.specs.declared.handle.Held.{Held};
 ghost use Rattle.omi_handle.specs.Ledger.{Ledger};
 ghost use Rattle.omi_handle.specs.History.{Deed, StandsAt, IsUnreleased, given};
 
@@ -12,8 +12,8 @@ ghost use Rattle.omi_handle.specs.History.{Deed, StandsAt, IsUnreleased, given};
 pub fn given_once()
     ensures once { (deeds : List Deed) (ledger : Ledger) → StandsAt deeds ledger
         → AllPairs (λ later earlier. later ≢ earlier) (given deeds) }
-    ensures kept { (deeds : List Deed) (ledger : Ledger) (pair : ℕ × ℕ) (h : AHeld)
+    ensures kept { (deeds : List Deed) (ledger : Ledger) (pair : ℕ × ℕ) (h : Held)
         → StandsAt deeds ledger → IsUnreleased deeds pair h → get ledger.held pair ≡ Some h }
-    ensures released { (deeds : List Deed) (ledger : Ledger) (pair : ℕ × ℕ) (h : AHeld)
+    ensures released { (deeds : List Deed) (ledger : Ledger) (pair : ℕ × ℕ) (h : Held)
         → StandsAt deeds ledger → get ledger.held pair ≡ Some h → IsUnreleased deeds pair h }
 {}

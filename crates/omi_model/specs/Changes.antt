@@ -32,12 +32,17 @@ by_current s i f = option_and_then (λ k. option_map (f k) (task_of s k)) (s.thr
 abbrev pub by_region : State → ℕ → (Tid → Task → Region → State) → Option State
 by_region s i f = option_and_then (λ k. option_and_then (λ t. option_map (f k t) (region_of s t.region)) (task_of s k)) (s.threads i).current
 
+-- a task is the current one of a thread, and live
+pub record IsCurrent (s : State) (i : ℕ) (k : Tid) (t : Task) : Type 0 where
+  pub name : (s.threads i).current ≡ Some k
+  pub live : task_of s k ≡ Some t
+
 -- a fact of the current task of a thread, and one of it and its region
 abbrev pub OfCurrent : State → ℕ → (Tid → Task → Type 0) → Type 0
-OfCurrent s i P = (k : Tid) × (t : Task) × ((s.threads i).current ≡ Some k) × (task_of s k ≡ Some t) × P k t
+OfCurrent s i P = (k : Tid) × (t : Task) × IsCurrent s i k t × P k t
 
 abbrev pub OfCurrentRegion : State → ℕ → (Tid → Task → Region → Type 0) → Type 0
-OfCurrentRegion s i P = (k : Tid) × (t : Task) × (r : Region) × ((s.threads i).current ≡ Some k) × (task_of s k ≡ Some t) × (region_of s t.region ≡ Some r) × P k t r
+OfCurrentRegion s i P = (k : Tid) × (t : Task) × (r : Region) × IsCurrent s i k t × (region_of s t.region ≡ Some r) × P k t r
 
 -- the list that allows a thread's events: that of its current task, else its own
 abbrev pub list_of : State → ℕ → List Item

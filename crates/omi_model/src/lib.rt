@@ -2,6 +2,7 @@
 //! that change a state. `specs/` has the machine; the types here name its objects and events.
 #![tactic(auto)]
 
+mod barrier_rules;
 mod claim;
 mod encounter;
 mod event;
@@ -16,6 +17,7 @@ mod region;
 mod rows;
 mod slot;
 mod state;
+mod taken;
 mod task;
 mod team;
 mod thread;

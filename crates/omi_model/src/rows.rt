@@ -46,6 +46,13 @@ impl<T> Rows<T> {
         &self.items[at]
     }
 
+    /// All elements.
+    pub fn as_slice(&self) -> &[T]
+        ensures { result.now ≡ self.now }
+    {
+        &self.items
+    }
+
     /// The element at a place, where there is one.
     pub fn find(&self, at: usize) -> Option<&T>
         ensures { option_map (λ e. e.now) result ≡ slice_get self.now at }

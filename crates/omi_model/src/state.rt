@@ -1,12 +1,16 @@
 //! The state of the machine, as the plain program keeps it.
 
-ghost use Rattle.std.specs.Prelude.{◌≡◌, ◌<◌, unwrap_or};
+ghost use Rattle.std.specs.Prelude.{◌≡◌, ◌<◌, IfSome, None, Some, unwrap_or};
 ghost use Rattle.std.specs.Option.{option_map};
+ghost use Rattle.omi_model.specs.Changes.{IsCurrent, encounter, level_of, list_of};
 ghost use Rattle.omi_model.specs.Kept.{slots_of, state_of};
+ghost use Rattle.omi_model.specs.declared.id.Tid.{Tid};
+ghost use Rattle.omi_model.specs.declared.region.Region.{Region};
+ghost use Rattle.omi_model.specs.declared.task.Task.{Task};
 ghost use Rattle.omi_model.specs.Put.{named, unused};
 ghost use Rattle.omi_model.specs.State.{current_task, region_of, task_of};
 
-use crate::{Id, Region, Rid, Rows, Slot, Task, Thread, Tid};
+use crate::{Encounter, Id, ItemList, Region, Rid, Rows, Slot, Task, Thread, Tid};
 use omi_script::Env;
 
 /// A state: the program's environment, the number of threads, max-active-levels-var, the holder of each lock, the threads,
@@ -77,6 +81,74 @@ impl State {
         match self.thread(i).current {
             Some(k) => self.task_of(k),
             None => None,
+        }
+    }
+
+    /// The current task of a thread by name, where it has one that is live.
+    pub(crate) fn current(&self, i: usize) -> Option<(Tid, &Task)>
+        requires { i < (state_of self.now).count }
+        ensures found { IfSome result (λ x. IsCurrent (state_of self.now) i x.0 x.1.now) }
+        ensures none { result ≡ None → (k : Tid) (t : Task) → IsCurrent (state_of self.now) i k t → ⊥ }
+    {
+        let k = self.thread(i).current?;
+        let t = self.task_of(k)?;
+        Some((k, t))
+    }
+
+    /// The current task of a thread and its region, where both are live.
+    pub(crate) fn current_region(&self, i: usize) -> Option<(Tid, &Task, &Region)>
+        requires { i < (state_of self.now).count }
+        ensures found { IfSome result (λ x.
+            IsCurrent (state_of self.now) i x.0 x.1.now
+            × (region_of (state_of self.now) x.1.now.region ≡ Some x.2.now)) }
+        ensures none { result ≡ None → (k : Tid) (t : Task) (r : Region)
+            → IsCurrent (state_of self.now) i k t → region_of (state_of self.now) t.region ≡ Some r → ⊥ }
+    {
+        let (k, t) = self.current(i)?;
+        let r = self.region_of(t.region)?;
+        Some((k, t, r))
+    }
+
+    /// What a row sees of the task that a thread runs.
+    pub(crate) fn encounter(&self, i: usize) -> Encounter
+        requires { i < (state_of self.now).count }
+        ensures { result ≡ encounter (state_of self.now) i }
+    {
+        let debug = self.environment.debug;
+        match self.current_task(i) {
+            Some(t) => Encounter {
+                debug,
+                number: t.number,
+                level: self.level_of(t.region),
+                is_final: t.is_final,
+            },
+            None => Encounter {
+                debug,
+                number: 0,
+                level: 0,
+                is_final: false,
+            },
+        }
+    }
+
+    /// The level of a region, 0 where it isn't live.
+    fn level_of(&self, n: Rid) -> u64
+        ensures { result ≡ level_of (state_of self.now) n }
+    {
+        match self.region_of(n) {
+            Some(r) => r.levels,
+            None => 0,
+        }
+    }
+
+    /// The list that allows a thread's events.
+    pub(crate) fn list_of(&self, i: usize) -> &ItemList
+        requires { i < (state_of self.now).count }
+        ensures { result.now ≡ list_of (state_of self.now) i }
+    {
+        match self.current_task(i) {
+            Some(t) => &t.list,
+            None => &self.thread(i).list,
         }
     }
 }

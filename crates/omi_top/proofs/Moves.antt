@@ -77,7 +77,7 @@ commits_to p v e x more w taken gone rule done = record {
 
 -- the current task of thread 0, and its region
 current : (p : Program) (v : Now) → OfCurrent (state_at p v) 0 (λ k t. ⊤)
-current p v = (initial_task, task_at p v, refl, refl, tt)
+current p v = (initial_task, task_at p v, record { name = refl; live = refl }, tt)
 
 -- statements
 pub work_moves : (p : Program) (rest : List ℕ) (v : Now) (more : List Item) → Moves p rest (record v { list = item.Do stmt.Work ∷ more }) (op.Load 0x10388, event.Work) (record v { list = more })
@@ -192,9 +192,9 @@ arrive_moves p rest state v = record {
   step = λ old found. record {
     inside = inside p (at_arrive state v) rest 126 (lit< tt);
     found = found;
-    commits = (initial_task, task_at p (at_arrive state v), refl, refl, (1, refl));
+    commits = (initial_task, task_at p (at_arrive state v), record { name = refl; live = refl }, (1, refl));
     commit = commits_to p (at_arrive state v) event.Arrive item.Arrive (at_release state v).list (at_release state v) refl refl
-        (initial_task, task_at p (at_arrive state v), region_at p (at_arrive state v), refl, refl, refl, refl)
+        (initial_task, task_at p (at_arrive state v), region_at p (at_arrive state v), record { name = refl; live = refl }, refl, refl)
         (ap (λ (s : State). Some s) (with_region p (record (at_arrive state v) { list = (at_release state v).list }) (λ r. record r { arrivals = set r.arrivals 0 (get_or r.arrivals 0 0 + 1) })));
   };
   words = refl;
@@ -205,13 +205,12 @@ release_moves p rest state v = record {
   step = λ old found. record {
     inside = inside p (at_release state v) rest 125 (lit< tt);
     found = found;
-    commits = (initial_task, task_at p (at_release state v), refl, refl, (1, refl));
+    commits = (initial_task, task_at p (at_release state v), record { name = refl; live = refl }, (1, refl));
     commit = commits_to p (at_release state v) event.Release item.Release (at_pass state v).list (at_pass state v) refl refl (
       initial_task,
       task_at p (at_release state v),
       region_at p (at_release state v),
-      refl,
-      refl,
+      record { name = refl; live = refl },
       refl,
       record {
         first = refl;
@@ -235,9 +234,9 @@ pass_moves p rest state v = record {
   step = λ old found. record {
     inside = inside p (at_pass state v) rest 125 (lit< tt);
     found = found;
-    commits = (initial_task, task_at p (at_pass state v), refl, refl, refl);
+    commits = (initial_task, task_at p (at_pass state v), record { name = refl; live = refl }, refl);
     commit = commits_to p (at_pass state v) event.Pass item.Pass (at_done state v).list (at_done state v) refl refl
-        (initial_task, task_at p (at_pass state v), region_at p (at_pass state v), refl, refl, refl, lit≤ tt) refl;
+        (initial_task, task_at p (at_pass state v), region_at p (at_pass state v), record { name = refl; live = refl }, refl, lit≤ tt) refl;
   };
   words = refl;
 }
