@@ -48,16 +48,21 @@ impl Callbacks for OneBigWord {
     }
 }
 
-/// The words at two addresses, read through a table.
-fn two_words<C: Callbacks + Drop, F: ToHost>(
+/// What a table answers: the words at two addresses, and then the place of a symbol `b`.
+#[derive(Clone, Copy, Debug, PartialEq, Eq)]
+struct Answers {
+    first: Result<Option<u64>, CallbackFailed>,
+    second: Result<Option<u64>, CallbackFailed>,
+    place: Place,
+}
+
+/// Asks a table over these callbacks.
+fn ask<C: Callbacks + Drop, F: ToHost>(
     calls: C,
     order: u8,
     to_host: F,
     addresses: (u64, u64),
-) -> (
-    Result<Option<u64>, CallbackFailed>,
-    Result<Option<u64>, CallbackFailed>,
-)
+) -> Answers
     requires order { IsOrderOf (C.told calls) order }
     requires takes { TakesAll (F.takes to_host) }
     requires gives { GivesNumbers (F.gives to_host) order }
@@ -65,7 +70,12 @@ fn two_words<C: Callbacks + Drop, F: ToHost>(
     let mut table = Table::new(calls, order, to_host);
     let first = table.word(addresses.0);
     let second = table.word(addresses.1);
-    (first, second)
+    let place = table.symbol_addr_lookup("b");
+    Answers {
+        first,
+        second,
+        place,
+    }
 }
 
 /// Callbacks over a core with these words from 0x10000 on. The calls of these numbers fail.
@@ -87,17 +97,11 @@ fn calls_over(alloc: Global, words: &[u64], failing: &[u64]) -> Result<MemCalls,
     Ok(MemCalls::over(core, failing.to_vec(alloc)?))
 }
 
-/// The two words of a memory at two addresses.
-fn two_little_words(
-    calls: MemCalls,
-    addresses: (u64, u64),
-) -> (
-    Result<Option<u64>, CallbackFailed>,
-    Result<Option<u64>, CallbackFailed>,
-)
+/// Asks a table over a core.
+fn ask_core(calls: MemCalls, addresses: (u64, u64)) -> Answers
     requires { (told_of calls).order ≡ Some 0 }
 {
-    two_words(
+    ask(
         calls,
         0,
         |bytes: [u8; 8]| -> u64
@@ -109,7 +113,7 @@ fn two_little_words(
 
 #[test]
 fn words_with_the_highest_byte_first(rt: HostRuntime) -> Result<(), Fail> {
-    let (first, second) = two_words(
+    let answers = ask(
         OneBigWord,
         1,
         |bytes: [u8; 8]| -> u64
@@ -117,8 +121,9 @@ fn words_with_the_highest_byte_first(rt: HostRuntime) -> Result<(), Fail> {
         { u64::from_be_bytes(bytes) },
         (0x10000, 0x10008),
     );
-    assert_eq!(rt; first, Ok(Some(0x0102030405060708)));
-    assert_eq!(rt; second, Ok(None));
+    assert_eq!(rt; answers.first, Ok(Some(0x0102030405060708)));
+    assert_eq!(rt; answers.second, Ok(None));
+    assert_eq!(rt; answers.place, Place::NoSuch);
     Ok(())
 }
 
@@ -126,12 +131,12 @@ fn words_with_the_highest_byte_first(rt: HostRuntime) -> Result<(), Fail> {
 fn words_with_the_lowest_byte_first(rt: HostRuntime) -> Result<(), Fail> {
     let words = [0x0807060504030201, 5];
     let calls = calls_over(rt.alloc(), &words, &[])?;
-    let (first, second) = two_little_words(calls, (0x10000, 0x10008));
-    assert_eq!(rt; first, Ok(Some(0x0807060504030201)));
-    assert_eq!(rt; second, Ok(Some(5)));
+    let answers = ask_core(calls, (0x10000, 0x10008));
+    assert_eq!(rt; answers.first, Ok(Some(0x0807060504030201)));
+    assert_eq!(rt; answers.second, Ok(Some(5)));
     let calls = calls_over(rt.alloc(), &words, &[])?;
-    let (unaligned, past) = two_little_words(calls, (0x10004, 0x10010));
-    assert_eq!(rt; (unaligned, past), (Ok(None), Ok(None)));
+    let answers = ask_core(calls, (0x10004, 0x10010));
+    assert_eq!(rt; (answers.first, answers.second), (Ok(None), Ok(None)));
     let mut calls = calls_over(rt.alloc(), &words, &[])?;
     let mut bytes = [0u8; 8];
     assert_eq!(rt; calls.read_memory(0x10000, &mut bytes), Got::Bytes);
@@ -185,8 +190,21 @@ fn calls_fail_by_their_numbers(rt: HostRuntime) -> Result<(), Fail> {
     assert_eq!(rt; calls.read_memory(0x10000, &mut bytes), Got::Failed);
     assert_eq!(rt; calls.symbol_addr_lookup("b"), Place::NoSuch);
     assert_eq!(rt; calls.read_memory(0x10000, &mut bytes), Got::Bytes);
-    let calls = calls_over(rt.alloc(), &[7], &[1])?;
-    let (failed, word) = two_little_words(calls, (0x10000, 0x10000));
-    assert_eq!(rt; (failed, word), (Err(CallbackFailed), Ok(Some(7))));
+    Ok(())
+}
+
+#[test]
+fn a_table_makes_one_call_for_each_answer(rt: HostRuntime) -> Result<(), Fail> {
+    let at = (0x10000, 0x10000);
+    let word = Ok(Some(7));
+    let failed = Err(CallbackFailed);
+    let answers = ask_core(calls_over(rt.alloc(), &[7], &[1])?, at);
+    assert_eq!(rt; (answers.first, answers.second), (failed, word));
+    let answers = ask_core(calls_over(rt.alloc(), &[7], &[2])?, at);
+    assert_eq!(rt; (answers.first, answers.second), (word, failed));
+    let answers = ask_core(calls_over(rt.alloc(), &[7], &[3])?, at);
+    assert_eq!(rt; (answers.second, answers.place), (word, Place::Failed));
+    let answers = ask_core(calls_over(rt.alloc(), &[7], &[4])?, at);
+    assert_eq!(rt; (answers.second, answers.place), (word, Place::NoSuch));
     Ok(())
 }
