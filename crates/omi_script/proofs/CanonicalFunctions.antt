@@ -27,7 +27,8 @@ use Rattle.omi_script.proofs.CanonicalStatements.{statement_line, between, insid
 abbrev pub function_lines : List Func → Func → List (List ℕ)
 function_lines funcs f = joined (codes "func" ∷ text_of f.name ∷ []) ∷ (map (statement_line funcs) f.body ++ joined (codes "end" ∷ []) ∷ [])
 
--- what the rules of a program say of its functions: of the first ones, which are closed, and of those that are left
+-- what the rules of a program say of its functions: of the first ones, which are closed, and of
+-- those that are left
 pub record AreSound (closed left : List Func) : Type 0 where
   pub count : length (closed ++ left) ≤ MAX_FUNCTIONS
   pub statements : statements_of (closed ++ left) ≤ MAX_STATEMENTS

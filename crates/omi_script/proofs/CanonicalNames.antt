@@ -72,7 +72,7 @@ distinct_first (f ∷ fs) gs d =
     ap (λ b. not b && are_distinct (names_of fs)) (not_any (bytes_eq (text_of f.name)) fs gs (not_so (list_any (bytes_eq (text_of f.name)) (names_of (fs ++ gs))) (and_left rest (are_distinct (names_of (fs ++ gs))) d)))
     ∙ distinct_first fs gs (and_right rest (are_distinct (names_of (fs ++ gs))) d)
 
--- a function of the first ones stands at the same state of all
+-- a function of the first ones stands at the same place of all
 pub get_of_first : (fs gs : List Func) (k : ℕ) (f : Func) → slice_get fs k ≡ Some f → slice_get (fs ++ gs) k ≡ Some f
 get_of_first [] gs k f e = absurd (cc)
 get_of_first (g ∷ fs) gs zero f e = e

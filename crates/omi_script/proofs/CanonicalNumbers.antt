@@ -1,12 +1,12 @@
 -- Numbers, lists of numbers and schedules that are written are read again.
-use Rattle.std.proofs.Common.{◌≡◌, ℕ, zero, suc, ◌<◌, ◌≤◌, ◌+◌, ◌^◌, Bool, true, false, not, ◌&&◌, ◌||◌, ◌==◌, List, [], ◌∷◌, ◌++◌, length, map, Some, None, refl, ap, ◌∙◌, arith, ⊎_elim, if◌then◌else◌}
-use Rattle.std.specs.Prelude.{nat_le, slice_index, codes}
+use Rattle.std.proofs.Common.{◌≡◌, ℕ, zero, suc, ◌<◌, ◌≤◌, ◌^◌, Bool, true, false, ◌&&◌, ◌||◌, ◌==◌, List, [], ◌∷◌, ◌++◌, length, map, Option, Some, None, IfSome, IfNone, refl, sym, ap, ◌∙◌, arith, if◌then◌else◌}
+use Rattle.std.specs.Prelude.{nat_le, codes}
 use Rattle.std.specs.Fmt.{decimal}
 use Rattle.std.specs.List.{All, list_all, list_any, slice_split}
 use Rattle.std.specs.Option.{option_and_then, option_map}
-use Rattle.std.proofs.lemmas.Bool.{cases_lt, leb-true, le-leb, or_right}
+use Rattle.std.proofs.lemmas.Bool.{leb-true, le-leb}
 use Rattle.std.proofs.lemmas.Bool.Decides.{nat_tests}
-use Rattle.std.proofs.lemmas.Fmt.{digits_decimal, digits_value-decimal, decimal_nonempty, decimal_digit, first_decimal}
+use Rattle.std.proofs.lemmas.Fmt.{digits_value-decimal}
 use Rattle.std.proofs.lemmas.List.{append-nil, length-append}
 use Rattle.std.proofs.lemmas.List.Folds.{list_all-append}
 use Rattle.std.proofs.lemmas.List.Splits.{slice_split_none, slice_split_at}
@@ -20,6 +20,7 @@ use Rattle.omi_script.specs.Schedules.{kind_of}
 use Rattle.omi_script.specs.declared.limits.TheConstants.{MAX_CHUNK, MAX_SIZE, MAX_SIZES}
 use Rattle.omi_script.specs.declared.statement.Sched.{Sched}
 use Rattle.omi_script.proofs.Conjunctions.{and_left, and_right, and_true}
+use Rattle.omi_script.proofs.DigitLemmas.{digits-decimal, some_digit, is_decimal-decimal, written}
 use Rattle.omi_script.proofs.NumberLemmas.{numerals}
 use Rattle.omi_script.proofs.CanonicalLines.{is_ink, is_plain, plain_not_empty, all_weaker, none_passes}
 
@@ -28,28 +29,6 @@ digit_ink b h = grind (arith, nat_tests)
 
 digit_no_comma : (b : ℕ) → is_digit b ≡ true → is_comma b ≡ false
 digit_no_comma b h = grind (arith, nat_tests)
-
--- a number that is written is digits
-digits-decimal : (n : ℕ) → n < 2 ^ 64 → list_all is_digit (decimal n) ≡ true
-digits-decimal n h = digits_decimal numerals n h
-
-some_digit : (n : ℕ) → n < 2 ^ 64 → nat_le 1 (length (decimal n)) ≡ true
-some_digit n h = let l : 0 < length (decimal n) = decimal_nonempty n h in le-leb 1 (length (decimal n)) (omega arith)
-
-above_zero : (b : ℕ) → 48 < b → not (b == 48) ≡ true
-above_zero b h = grind (arith, nat_tests)
-
-no_leading_zero : (n : ℕ) → n < 2 ^ 64 → (length (decimal n) == 1 || not (slice_index (decimal n) 0 == 48)) ≡ true
-no_leading_zero n h =
-    ⊎_elim
-    (λ l. let zero_digit : decimal n ≡ (48 + n) ∷ [] = decimal_digit n (omega arith) in ap (λ ds. length ds == 1 || not (slice_index ds 0 == 48)) zero_digit)
-    (λ l. or_right (length (decimal n) == 1) _ (above_zero (slice_index (decimal n) 0) (first_decimal n (omega arith) h)))
-    (cases_lt n 1)
-
-is_decimal-decimal : (n : ℕ) → n < 2 ^ 64 → is_decimal (decimal n) ≡ true
-is_decimal-decimal n h =
-    and_true (nat_le 1 (length (decimal n)) && list_all is_digit (decimal n)) (length (decimal n) == 1 || not (slice_index (decimal n) 0 == 48))
-    (and_true (nat_le 1 (length (decimal n))) (list_all is_digit (decimal n)) (some_digit n h) (digits-decimal n h)) (no_leading_zero n h)
 
 -- a number is a word
 pub plain-decimal : (n : ℕ) → n < 2 ^ 64 → is_plain (decimal n) ≡ true
@@ -61,6 +40,32 @@ guarded least most n v d e f h = ap (λ b. if b && is_within least most v then S
 -- a number in its range is read again
 pub number_of-decimal : (least most n : ℕ) → n < 2 ^ 64 → is_within least most n ≡ true → number_of least most (decimal n) ≡ Some n
 number_of-decimal least most n h within = guarded least most n (value_of (decimal n)) (is_decimal (decimal n)) (is_decimal-decimal n h) (digits_value-decimal numerals n h) within
+
+-- a word that is a number is how std writes it
+word_of_number : (least most : ℕ) (word : List ℕ) (n : ℕ) → most < 2 ^ 64 → number_of least most word ≡ Some n → word ≡ decimal n
+word_of_number least most word n small e = by_test (is_decimal word && is_within least most (value_of word)) refl
+  where
+    by_test : (b : Bool) → (is_decimal word && is_within least most (value_of word)) ≡ b → word ≡ decimal n
+    by_test true h =
+        let range : is_within least most (value_of word) ≡ true = and_right (is_decimal word) (is_within least most (value_of word)) h in
+        let few : value_of word ≤ most = leb-true (value_of word) most (and_right (nat_le least (value_of word)) (nat_le (value_of word) most) range) in
+        let found : Some (value_of word) ≡ Some n = sym (ap (λ b. if b then Some (value_of word) else None) h) ∙ e in
+        let same : value_of word ≡ n = cc found in
+        sym (written word (omega arith) (and_left (is_decimal word) (is_within least most (value_of word)) h)) ∙ ap decimal same
+    by_test false h = let found : None ≡ Some n = sym (ap (λ b. if b then Some (value_of word) else None) h) ∙ e in absurd (cc found)
+
+-- what a number that was read says of the word: it is how std writes it, or how std writes no
+-- number of the range
+pub number_written : (least most : ℕ) (word : List ℕ) (o : Option ℕ) → most < 2 ^ 64 → o ≡ number_of least most word → IfSome o (λ n. word ≡ decimal n)
+number_written least most word None small e = tt
+number_written least most word (Some n) small e = word_of_number least most word n small (sym e)
+
+pub number_none : (least most : ℕ) (word : List ℕ) (o : Option ℕ) → most < 2 ^ 64 → o ≡ number_of least most word → IfNone o ((n : ℕ) → least ≤ n → n ≤ most → word ≡ decimal n → ⊥)
+number_none least most word (Some n) small e = tt
+number_none least most word None small e = λ n l m is.
+    let within : is_within least most n ≡ true = and_true (nat_le least n) (nat_le n most) (le-leb least n l) (le-leb n most m) in
+    let found : None ≡ Some n = e ∙ ap (number_of least most) is ∙ number_of-decimal least most n (omega arith) within in
+    absurd (cc found)
 
 pub up_to : (most n : ℕ) → nat_le n most ≡ true → is_within 0 most n ≡ true
 up_to most n h = and_true (nat_le 0 n) (nat_le n most) (le-leb 0 n (omega arith)) h

@@ -25,7 +25,7 @@ pub record IsFaultless (state : ParserState) (s : Line) : Type 0 where
   pub no_nest : says_such nests_barrier state s ≡ false
   pub limit : is_over_limit state s ≡ false
 
--- the line is printed, has no fault at its state, and leads to the next
+-- the line is printed, has no fault in its state, and leads to the next
 abbrev pub LineLeads : ParserState → List ℕ → ParserState → Type 0
 LineLeads a line b = (list_all is_printed line ≡ true) × (least (has_fault a line) ≡ None) × (after a line ≡ b)
 

@@ -1,4 +1,5 @@
--- What a line says keeps the rules that need no other line: its numbers are in their ranges, and a stand-alone statement names no function.
+-- What a line says keeps the rules that need no other line: its numbers are in their ranges, and
+-- a stand-alone statement names no function.
 use Rattle.std.proofs.Common.{◌≡◌, ℕ, Bool, true, false, not, ◌&&◌, List, [], ◌∷◌, length, Option, Some, None, refl, if◌then◌else◌, ◌==◌}
 use Rattle.std.specs.Prelude.{bytes_eq, codes, nat_le, is_some}
 use Rattle.std.specs.List.{slice_split}

@@ -12,7 +12,7 @@ use Rattle.omi_script.specs.declared.statement.Stmt.{Stmt}
 use Rattle.omi_script.specs.declared.statement.Stmt.TheVariants.{Parallel, Task, Taskwait, Taskyield, Barrier, Critical, Call, Only, Repeat, SetNumThreads, SetDynamic, SetMaxActive, SetSchedule, SetDevice, Tool, Work}
 use Rattle.omi_script.proofs.Conjunctions.{and_left, and_right, and_true, not_so}
 
--- a state that is found is one of the list
+-- a place that is found is one of the list
 pub position_within : {A : Type 0} (p : A → Bool) (xs : List A) (f : ℕ) → position p xs ≡ Some f → f < length xs
 position_within p xs f e = by_test (nat_lt (position_or_len p xs) (length xs)) refl
   where

@@ -17,7 +17,7 @@ use Rattle.omi_script.specs.declared.parser.ParserState.{ParserState}
 use Rattle.omi_script.specs.declared.fault.LineError.TheVariants.{Fault, OutOfMemory}
 use Rattle.omi_script.specs.declared.fault.Why.TheVariants.{NotText, UnknownWord, BadNumber, UnknownName, Repeated, BarrierInTask, BarrierNested, OverLimit}
 
--- the least fault of a line whose bytes are text, by what it says at its state
+-- the least fault of a line whose bytes are text, by what it says in its state
 abbrev least_said : ParserState → Option Line → Option Why
 least_said state o =
     cond (not (is_some o)) (Some UnknownWord)
@@ -31,7 +31,7 @@ least_said state o =
 least_of_text : (state : ParserState) (bytes : List ℕ) → list_all is_text bytes ≡ true → least (has_fault state bytes) ≡ least_said state (line_in state bytes)
 least_of_text state bytes h = ap (λ b. cond (not b) (Some NotText) (least_said state (line_in state bytes))) h
 
--- a line that says nothing that may stand at its state
+-- a line that says nothing that may stand in its state
 pub unknown_answer : (state : ParserState) (bytes : List ℕ) → list_all is_text bytes ≡ true → line_in state bytes ≡ None → least (has_fault state bytes) ≡ Some UnknownWord
 unknown_answer state bytes h e = least_of_text state bytes h ∙ ap (least_said state) e
 

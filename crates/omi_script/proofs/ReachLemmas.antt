@@ -13,7 +13,7 @@ greatest_append : (ns : List ℕ) (n : ℕ) → greatest (ns ++ n ∷ []) ≡ ma
 greatest_append [] n = omega arith
 greatest_append (m ∷ ns) n = let e : greatest (ns ++ n ∷ []) ≡ max (greatest ns) n = greatest_append ns n in omega arith
 
--- the greatest depth of statements up to a state, and of the next
+-- the greatest depth of statements up to a place, and of the next
 pub greatest_more : (g : Stmt → ℕ) (xs : List Stmt) (i : ℕ) (d : Stmt) → i < length xs → greatest (map g (take (i + 1) xs)) ≡ max (greatest (map g (take i xs))) (g (get_or xs i d))
 greatest_more g xs i d l = ap (λ ys. greatest (map g ys)) (take_more xs i d l) ∙ ap greatest (map-append g (take i xs) (get_or xs i d ∷ [])) ∙ greatest_append (map g (take i xs)) (g (get_or xs i d))
 

@@ -1,4 +1,5 @@
--- The workload language at texts that were worked by hand: each fault at its first line, each limit at its last good and first bad value.
+-- The workload language at texts that were worked by hand: each fault at its first line, each
+-- limit at its last good and first bad value.
 use Rattle.std.proofs.Common.{◌≡◌, ℕ, true, false, List, [], ◌∷◌, ◌++◌, length, replicate, Some, None, refl, ap, if◌then◌else◌}
 use Rattle.std.specs.Prelude.{codes, nat_le}
 use Rattle.omi_script.specs.Grammar.{env_of}

@@ -1,4 +1,5 @@
--- The one canonical text of a program: all eight head lines, then each function, with one space between words.
+-- The one canonical text of a program: all eight head lines, then each function, with one space
+-- between words.
 use Rattle.std.specs.Prelude.{ℕ, Bool, true, false, List, [], ◌∷◌, ◌++◌, flat_map, Some, None, unwrap_or, codes}
 use Rattle.std.specs.List.{join_with_byte}
 use Rattle.std.specs.Fmt.{decimal}
@@ -63,13 +64,16 @@ abbrev pub task_words : List ℕ → Bool → Bool → List (List ℕ)
 task_words name false false = codes "task" ∷ name ∷ []
 task_words name true false = codes "task" ∷ name ∷ codes "if" ∷ codes "0" ∷ []
 task_words name false true = codes "task" ∷ name ∷ codes "final" ∷ codes "1" ∷ []
-task_words name true true = codes "task" ∷ name ∷ codes "if" ∷ codes "0" ∷ codes "final" ∷ codes "1" ∷ []
+task_words name true true =
+    codes "task" ∷ name ∷ codes "if" ∷ codes "0" ∷ codes "final" ∷ codes "1" ∷ []
 
 -- the words of a statement. `num` stands where it was given
 abbrev pub statement_words : List Func → Stmt → List (List ℕ)
 statement_words funcs (Parallel f None) = codes "parallel" ∷ name_at funcs f ∷ []
-statement_words funcs (Parallel f (Some n)) = codes "parallel" ∷ name_at funcs f ∷ codes "num" ∷ decimal n ∷ []
-statement_words funcs (Task f undeferred is_final) = task_words (name_at funcs f) undeferred is_final
+statement_words funcs (Parallel f (Some n)) =
+    codes "parallel" ∷ name_at funcs f ∷ codes "num" ∷ decimal n ∷ []
+statement_words funcs (Task f undeferred is_final) =
+    task_words (name_at funcs f) undeferred is_final
 statement_words funcs (Critical k f) = codes "critical" ∷ decimal k ∷ name_at funcs f ∷ []
 statement_words funcs (Call f) = codes "call" ∷ name_at funcs f ∷ []
 statement_words funcs (Only m f) = codes "only" ∷ decimal m ∷ name_at funcs f ∷ []
@@ -108,8 +112,12 @@ statement_text funcs s = codes "  " ++ line_text (statement_words funcs s)
 
 -- a function: its name, its statements and its end
 abbrev pub function_text : List Func → Func → List ℕ
-function_text funcs f = line_text (codes "func" ∷ text_of f.name ∷ []) ++ (flat_map (statement_text funcs) f.body ++ line_text (codes "end" ∷ []))
+function_text funcs f =
+    line_text (codes "func" ∷ text_of f.name ∷ [])
+    ++ (flat_map (statement_text funcs) f.body ++ line_text (codes "end" ∷ []))
 
 -- the canonical text
 abbrev pub canonical : Program → List ℕ
-canonical p = flat_map line_text (head_words p.threads p.env) ++ flat_map (function_text p.funcs) p.funcs
+canonical p =
+    flat_map line_text (head_words p.threads p.env)
+    ++ flat_map (function_text p.funcs) p.funcs

@@ -1,4 +1,5 @@
--- The workload language: which texts are which programs, and which are refused, at which line and why.
+-- The workload language: which texts are which programs, and which are refused, at which line and
+-- why.
 use Rattle.std.specs.Prelude.{◌≡◌, ℕ, true, false, List, [], ◌∷◌, position, codes, Some, unwrap_or}
 use Rattle.omi_script.specs.ParserState.{is_called}
 use Rattle.omi_script.specs.Verdict.{Accepts, Refuses, verdict}
@@ -12,7 +13,8 @@ use Rattle.omi_script.specs.declared.program.Program.{Program}
 abbrev pub threads_of : Head → ℕ
 threads_of h = unwrap_or h.threads 1
 
--- the head of a program, with the default of each line that is not there. By default nthreads-var has the number of threads as its one element
+-- the head of a program, with the default of each line that is not there. By default nthreads-var
+-- has the number of threads as its one element
 abbrev pub env_of : Head → Env
 env_of h =
     record {
@@ -38,7 +40,8 @@ pub record Grammar (bytes : List ℕ) (p : Program) : Type 0 where
   pub says : verdict bytes ≡ Accepts state
   pub program : IsProgramOf state p
 
--- the text is no program: this is its first faulty line, counted from 1, and the least fault of that line
+-- the text is no program: this is its first faulty line, counted from 1, and the least fault of
+-- that line
 pub record Refused (bytes : List ℕ) (fault : ScriptFault) : Type 0 where
   pub says : verdict bytes ≡ Refuses fault
 

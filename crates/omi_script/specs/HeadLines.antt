@@ -23,7 +23,10 @@ num_threads_line value = if has_empty_piece value then None else Some (NumThread
 
 -- whether a word is the first of two, where it is one of them
 abbrev pub is_first_of : List ℕ → List ℕ → List ℕ → Option Bool
-is_first_of on off word = if bytes_eq word on then Some true else (if bytes_eq word off then Some false else None)
+is_first_of on off word =
+    if bytes_eq word on then Some true
+    else (if bytes_eq word off then Some false
+    else None)
 
 -- `env dynamic true` or `env dynamic false`
 abbrev pub dynamic_line : List ℕ → Option HeadLine
@@ -33,11 +36,15 @@ dynamic_line value = option_map Dynamic (is_first_of (codes "true") (codes "fals
 abbrev pub max_active_line : List ℕ → Option HeadLine
 max_active_line value = Some (MaxActive (number_of 0 MAX_LEVELS value))
 
+-- a schedule of a kind, whose chunk is this word
+abbrev pub schedule_of : List ℕ → ℕ → HeadLine
+schedule_of chunk kind =
+    Schedule (option_map (λ n. record { kind = kind; chunk = n }) (number_of 0 MAX_CHUNK chunk))
+
 -- KIND,CHUNK, by the pieces between commas
 abbrev pub kind_and_chunk : List (List ℕ) → Option HeadLine
 kind_and_chunk (kind ∷ chunk ∷ []) =
-    if length chunk == 0 then None
-    else option_map (λ k. Schedule (option_map (λ n. record { kind = k; chunk = n }) (number_of 0 MAX_CHUNK chunk))) (kind_of kind)
+    if length chunk == 0 then None else option_map (schedule_of chunk) (kind_of kind)
 kind_and_chunk _ = None
 
 -- `env schedule KIND,CHUNK`, CHUNK 0 to 65535

@@ -1,4 +1,5 @@
--- What the language is, in reading order: from a text to its verdict, and from a verdict to a program.
+-- What the language is, in reading order: from a text to its verdict, and from a verdict to a
+-- program.
 pub mod Lines
 pub mod Names
 pub mod Numbers
@@ -14,7 +15,8 @@ pub mod LineFaults
 pub mod Faults
 pub mod Verdict
 pub mod Grammar
--- What a program is, its rules as plain facts, its canonical text, and the programs that are built today.
+-- What a program is, its rules as plain facts, its canonical text, and the programs that are
+-- built today.
 pub mod Program
 pub mod Bodies
 pub mod Rules

@@ -1,4 +1,5 @@
--- What a line says, by its first word, its count of words and its fixed words. Whether its numbers lie in their ranges, and what its names stand for, is judged apart.
+-- What a line says, by its first word, its count of words and its fixed words. Whether its
+-- numbers lie in their ranges, and what its names stand for, is judged apart.
 use Rattle.std.specs.Prelude.{ℕ, Bool, ◌==◌, List, [], ◌∷◌, Option, Some, None, option_map, slice_index, if◌then◌else◌, bytes_eq, codes}
 use Rattle.omi_script.specs.HeadLines.{threads_line, env_line}
 use Rattle.omi_script.specs.StatementLines.{statement_line}
@@ -15,7 +16,8 @@ abbrev pub end_line : List (List ℕ) → Option Line
 end_line [] = Some line.End
 end_line _ = None
 
--- what a line says that is no comment, by its first word and those behind it. None where it has no shape
+-- what a line says that is no comment, by its first word and those behind it. None where it has
+-- no shape
 abbrev pub line_by : List ℕ → List (List ℕ) → Option Line
 line_by first rest =
     if bytes_eq first (codes "threads") then option_map line.Head (threads_line rest)

@@ -53,13 +53,19 @@ is_too_deep above _ = false
 
 -- the line says a statement of which this holds
 abbrev pub says_such : (List Reach → Stmt → Bool) → ParserState → Line → Bool
-says_such test state line = option_map_or (test (reaches [] state.closed)) (statement_in state line) false
+says_such test state line =
+    option_map_or (test (reaches [] state.closed)) (statement_in state line) false
 
--- a function or a statement more than a script may have, or a region that is nested too deep
+-- a statement more than a script may have, or a region that is nested too deep
+abbrev pub is_statement_over_limit : ParserState → Line → Bool
+is_statement_over_limit state line =
+    nat_le MAX_STATEMENTS (statements_above state) || says_such is_too_deep state line
+
+-- a function more than a script may have, or such a statement
 abbrev pub is_over_limit : ParserState → Line → Bool
 is_over_limit state (Function name) = nat_le MAX_FUNCTIONS (length state.closed)
-is_over_limit state (Construct name c) = nat_le MAX_STATEMENTS (statements_above state) || says_such is_too_deep state (Construct name c)
-is_over_limit state (StandAlone s) = nat_le MAX_STATEMENTS (statements_above state) || says_such is_too_deep state (StandAlone s)
+is_over_limit state (Construct name c) = is_statement_over_limit state (Construct name c)
+is_over_limit state (StandAlone s) = is_statement_over_limit state (StandAlone s)
 is_over_limit state _ = false
 
 -- a fact of what the line says in a state, false where that is nothing
@@ -81,13 +87,16 @@ has_fault state bytes Unclosed = false
 
 -- no function has the name `main`, also none that is open; or a function is open
 abbrev pub has_end_fault : ParserState → Why → Bool
-has_end_fault state NoMain = not (list_any (is_called (codes "main")) (state.closed ++ option_to_list state.opened))
+has_end_fault state NoMain =
+    not (list_any (is_called (codes "main")) (state.closed ++ option_to_list state.opened))
 has_end_fault state Unclosed = is_some state.opened
 has_end_fault state _ = false
 
 -- all faults by their numbers
 abbrev pub in_order : List Why
-in_order = NotText ∷ UnknownWord ∷ BadNumber ∷ UnknownName ∷ Repeated ∷ BarrierInTask ∷ BarrierNested ∷ OverLimit ∷ NoMain ∷ Unclosed ∷ []
+in_order =
+    NotText ∷ UnknownWord ∷ BadNumber ∷ UnknownName ∷ Repeated
+    ∷ BarrierInTask ∷ BarrierNested ∷ OverLimit ∷ NoMain ∷ Unclosed ∷ []
 
 -- the fault of the least number, if there is one
 abbrev pub least : (Why → Bool) → Option Why

@@ -6,7 +6,10 @@ use Rattle.omi_script.specs.declared.limits.TheConstants.{MAX_SIZE, MAX_SIZES}
 
 -- the word is a number
 abbrev pub is_decimal : List ℕ → Bool
-is_decimal word = nat_le 1 (length word) && list_all is_digit word && (length word == 1 || not (slice_index word 0 == 48))
+is_decimal word =
+    nat_le 1 (length word)
+    && list_all is_digit word
+    && (length word == 1 || not (slice_index word 0 == 48))
 
 -- the number that digits stand for, behind digits that stand for n
 abbrev pub value_after : ℕ → List ℕ → ℕ
@@ -18,7 +21,8 @@ value_of word = value_after 0 word
 
 -- the number that a word is, where it lies in a range
 abbrev pub number_of : ℕ → ℕ → List ℕ → Option ℕ
-number_of least most word = if is_decimal word && is_within least most (value_of word) then Some (value_of word) else None
+number_of least most word =
+    if is_decimal word && is_within least most (value_of word) then Some (value_of word) else None
 
 -- the elements, where each is there
 abbrev pub each_of : List (Option ℕ) → Option (List ℕ)
@@ -39,4 +43,7 @@ numbers_of least most word = each_of (map (number_of least most) (slice_split is
 
 -- the element list of nthreads-var: 1 to `MAX_SIZES` numbers, each 1 to `MAX_SIZE`
 abbrev pub sizes_of : List ℕ → Option (List ℕ)
-sizes_of word = option_and_then (λ ns. if nat_le (length ns) MAX_SIZES then Some ns else None) (numbers_of 1 MAX_SIZE word)
+sizes_of word =
+    option_and_then
+    (λ ns. if nat_le (length ns) MAX_SIZES then Some ns else None)
+    (numbers_of 1 MAX_SIZE word)

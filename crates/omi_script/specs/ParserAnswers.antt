@@ -15,7 +15,8 @@ use Rattle.omi_script.specs.declared.parser.Parser.{Parser}
 use Rattle.omi_script.specs.declared.parser.ParserState.{ParserState}
 use Rattle.omi_script.specs.declared.statement.Stmt.{Stmt}
 
--- the answer is the least of these faults, if there is one, and else the parser is in that state. Want of memory says nothing
+-- the answer is the least of these faults, if there is one, and else the parser is in that state.
+-- Want of memory says nothing
 abbrev pub Answers : (Why → Bool) → ParserState → Result Parser LineError → Type 0
 Answers has next (Ok p) = (least has ≡ None) × (p.state ≡ next)
 Answers has next (Err (Fault why)) = least has ≡ Some why
@@ -27,13 +28,20 @@ AnswersSaid state line = Answers (has_said_fault state line) (after_line state l
 
 -- the answer at a line that says this statement of the open function
 abbrev pub AnswersStatement : ParserState → Stmt → Result Parser LineError → Type 0
-AnswersStatement state s = Answers (has_statement_fault (reaches [] state.closed) (statements_above state) s) (after_statement state (Some s))
+AnswersStatement state s =
+    Answers
+    (has_statement_fault (reaches [] state.closed) (statements_above state) s)
+    (after_statement state (Some s))
 
 -- the program keeps the rules, where the text may end here
 abbrev pub MayEnd : ParserState → Type 0
-MayEnd state = least (has_end_fault state) ≡ None → (main : ℕ) → Some main ≡ position (is_called (codes "main")) state.closed → IsTrue (is_program (threads_of state.head) (env_of state.head) state.closed main)
+MayEnd state =
+    least (has_end_fault state) ≡ None → (main : ℕ)
+    → Some main ≡ position (is_called (codes "main")) state.closed
+    → IsTrue (is_program (threads_of state.head) (env_of state.head) state.closed main)
 
--- the answer at the end of the text: the least fault of the end, if there is one, and else the program of the lines above. Want of memory says nothing
+-- the answer at the end of the text: the least fault of the end, if there is one, and else the
+-- program of the lines above. Want of memory says nothing
 abbrev pub EndAnswers : ParserState → Result Program LineError → Type 0
 EndAnswers state (Ok p) = (least (has_end_fault state) ≡ None) × IsProgramOf state p
 EndAnswers state (Err (Fault why)) = least (has_end_fault state) ≡ Some why

@@ -19,7 +19,8 @@ are_functions funcs =
 
 -- the function with this number has the name `main`
 abbrev pub is_main : List Func → ℕ → Bool
-is_main funcs main = option_map_or (λ f. bytes_eq (text_of f.name) (codes "main")) (slice_get funcs main) false
+is_main funcs main =
+    option_map_or (λ f. bytes_eq (text_of f.name) (codes "main")) (slice_get funcs main) false
 
 -- the rules of a program, but for the size of its text
 abbrev pub is_program : ℕ → Env → List Func → ℕ → Bool

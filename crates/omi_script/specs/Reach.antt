@@ -1,4 +1,5 @@
--- What a function reaches: barriers, and nested parallel regions. It is told of each function in order, from what is known of those above it.
+-- What a function reaches: barriers, and nested parallel regions. It is told of each function in
+-- order, from what is known of those above it.
 use Rattle.std.specs.Prelude.{ℕ, Bool, true, false, not, ◌&&◌, nat_lt, ◌+◌, max, List, [], ◌∷◌, ◌++◌, length, slice_index_or, map}
 use Rattle.std.specs.List.{list_all, list_any}
 use Rattle.omi_script.specs.Ranges.{is_in_range}
@@ -7,7 +8,8 @@ use Rattle.omi_script.specs.declared.limits.TheConstants.{MAX_DEPTH}
 use Rattle.omi_script.specs.declared.statement.Stmt.{Stmt}
 use Rattle.omi_script.specs.declared.statement.Stmt.TheVariants.{Parallel, Task, Barrier, Critical, Call, Only, Repeat}
 
--- what is known of a function: whether it reaches a barrier, and how deep its parallel regions are nested
+-- what is known of a function: whether it reaches a barrier, and how deep its parallel regions
+-- are nested
 pub record Reach : Type 0 where
   pub barrier : Bool
   pub depth : ℕ
@@ -16,7 +18,8 @@ pub record Reach : Type 0 where
 abbrev pub reach_at : List Reach → ℕ → Reach
 reach_at above f = slice_index_or above f (record { barrier = false; depth = 0 })
 
--- a statement reaches a barrier: it is one, or it is `call`, `only`, `critical` or `repeat` of a function that does
+-- a statement reaches a barrier: it is one, or it is `call`, `only`, `critical` or `repeat` of a
+-- function that does
 abbrev pub reaches_barrier : List Reach → Stmt → Bool
 reaches_barrier above Barrier = true
 reaches_barrier above (Call f) = (reach_at above f).barrier
@@ -42,7 +45,11 @@ greatest (n ∷ ns) = max n (greatest ns)
 
 -- what a function reaches by its statements
 abbrev pub reach_of : List Reach → List Stmt → Reach
-reach_of above body = record { barrier = list_any (reaches_barrier above) body; depth = greatest (map (depth_of above) body) }
+reach_of above body =
+    record {
+      barrier = list_any (reaches_barrier above) body;
+      depth = greatest (map (depth_of above) body);
+    }
 
 -- what is known of functions, from what is known of those above them
 abbrev pub reaches : List Reach → List Func → List Reach
@@ -61,7 +68,8 @@ is_above above f = nat_lt f (length above)
 abbrev pub is_above_without_barrier : List Reach → ℕ → Bool
 is_above_without_barrier above f = is_above above f && not (reach_at above f).barrier
 
--- a statement names only what it may: functions above, for `task`, `only` and `critical` without a barrier, for `parallel` of a depth below the greatest
+-- a statement names only what it may: functions above, for `task`, `only` and `critical` without
+-- a barrier, for `parallel` of a depth below the greatest
 abbrev pub names_rightly : List Reach → Stmt → Bool
 names_rightly above (Parallel f num) = is_above above f && nat_lt (reach_at above f).depth MAX_DEPTH
 names_rightly above (Task f undeferred is_final) = is_above_without_barrier above f
@@ -78,4 +86,5 @@ is_allowed above s = is_in_range s && names_rightly above s
 -- each statement of each function may stand where it does
 abbrev pub are_allowed : List Reach → List (List Stmt) → Bool
 are_allowed above [] = true
-are_allowed above (body ∷ bodies) = list_all (is_allowed above) body && are_allowed (above ++ reach_of above body ∷ []) bodies
+are_allowed above (body ∷ bodies) =
+    list_all (is_allowed above) body && are_allowed (above ++ reach_of above body ∷ []) bodies

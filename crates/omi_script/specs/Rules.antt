@@ -1,5 +1,6 @@
--- The rules of the language as plain facts of a program. Only the size of a text is no matter of a program.
-use Rattle.std.specs.Prelude.{◌≡◌, ℕ, ◌<◌, ◌≤◌, ◌^◌, ◌-◌, Bool, false, IsTrue, [], length, drop, replicate, slice_get, slice_index, sum_by, Option, Some, codes}
+-- The rules of the language as plain facts of a program. Only the size of a text is no matter of
+-- a program.
+use Rattle.std.specs.Prelude.{◌≡◌, ℕ, List, ◌<◌, ◌≤◌, ◌^◌, ◌-◌, Bool, false, IsTrue, [], length, drop, replicate, slice_get, slice_index, sum_by, Option, Some, codes}
 use Rattle.omi_script.specs.Names.{text_of, is_name_text}
 use Rattle.omi_script.specs.Bodies.{name_at, body_of, HasStatement, named_by}
 use Rattle.omi_script.specs.Reach.{reach_of, reaches, reach_in}
@@ -39,6 +40,10 @@ pub record IsName (n : Name) : Type 0 where
   pub width : length n.bytes ≡ MAX_NAME
   pub zeros : drop n.len n.bytes ≡ replicate (MAX_NAME - n.len) 0
 
+-- the function with this number reaches no barrier
+abbrev pub HasNoBarrier : List Func → ℕ → Type 0
+HasNoBarrier funcs f = (reach_in funcs f).barrier ≡ false
+
 -- what holds of every program
 pub record Rules (p : Program) : Type 0 where
   -- the head
@@ -53,16 +58,23 @@ pub record Rules (p : Program) : Type 0 where
   pub functions : length p.funcs ≤ MAX_FUNCTIONS
   pub statements : sum_by (λ f. length f.body) p.funcs ≤ MAX_STATEMENTS
   pub names : (f : ℕ) (g : Func) → slice_get p.funcs f ≡ Some g → IsName g.name
-  pub distinct : (f g : ℕ) → f < length p.funcs → g < length p.funcs → name_at p.funcs f ≡ name_at p.funcs g → f ≡ g
+  pub distinct : (f g : ℕ) → f < length p.funcs → g < length p.funcs
+      → name_at p.funcs f ≡ name_at p.funcs g → f ≡ g
   pub main : p.main < length p.funcs
   pub called : name_at p.funcs p.main ≡ codes "main"
   -- each statement of a function f: its numbers, and the function g above f that it names
   pub ranges : (f : ℕ) (s : Stmt) → HasStatement p.funcs f s → IsInRange s
   pub above : (f g : ℕ) (s : Stmt) → HasStatement p.funcs f s → named_by s ≡ Some g → g < f
   -- what a function reaches is what its statements reach
-  pub reach : (f : ℕ) → f < length p.funcs → reach_in p.funcs f ≡ reach_of (reaches [] p.funcs) (body_of p.funcs f)
-  -- no barrier is reached through `task`, `only` and `critical`, and no parallel region is nested too deep
-  pub no_barrier_in_task : (f g : ℕ) (undeferred is_final : Bool) → HasStatement p.funcs f (Task g undeferred is_final) → (reach_in p.funcs g).barrier ≡ false
-  pub no_barrier_in_only : (f m g : ℕ) → HasStatement p.funcs f (Only m g) → (reach_in p.funcs g).barrier ≡ false
-  pub no_barrier_in_critical : (f k g : ℕ) → HasStatement p.funcs f (Critical k g) → (reach_in p.funcs g).barrier ≡ false
-  pub depth : (f g : ℕ) (num : Option ℕ) → HasStatement p.funcs f (Parallel g num) → (reach_in p.funcs g).depth < MAX_DEPTH
+  pub reach : (f : ℕ) → f < length p.funcs
+      → reach_in p.funcs f ≡ reach_of (reaches [] p.funcs) (body_of p.funcs f)
+  -- no barrier is reached through `task`, `only` and `critical`, and no parallel region is nested
+  -- too deep
+  pub no_barrier_in_task : (f g : ℕ) (undeferred is_final : Bool)
+      → HasStatement p.funcs f (Task g undeferred is_final) → HasNoBarrier p.funcs g
+  pub no_barrier_in_only : (f m g : ℕ)
+      → HasStatement p.funcs f (Only m g) → HasNoBarrier p.funcs g
+  pub no_barrier_in_critical : (f k g : ℕ)
+      → HasStatement p.funcs f (Critical k g) → HasNoBarrier p.funcs g
+  pub depth : (f g : ℕ) (num : Option ℕ)
+      → HasStatement p.funcs f (Parallel g num) → (reach_in p.funcs g).depth < MAX_DEPTH

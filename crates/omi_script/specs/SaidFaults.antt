@@ -23,9 +23,11 @@ has_said_fault state line OverLimit = is_over_limit state line
 has_said_fault state line NoMain = false
 has_said_fault state line Unclosed = false
 
--- a statement has this fault, behind so many others in functions that reach this, where its line has no lesser one
+-- a statement has this fault, behind so many others in functions that reach this, where its line
+-- has no lesser one
 abbrev pub has_statement_fault : List Reach → ℕ → Stmt → Why → Bool
 has_statement_fault above statements s BarrierInTask = is_task_with_barrier above s
 has_statement_fault above statements s BarrierNested = nests_barrier above s
-has_statement_fault above statements s OverLimit = nat_le MAX_STATEMENTS statements || is_too_deep above s
+has_statement_fault above statements s OverLimit =
+    nat_le MAX_STATEMENTS statements || is_too_deep above s
 has_statement_fault above statements s _ = false

@@ -3,7 +3,12 @@ use Rattle.std.specs.Prelude.{ℕ, ◌==◌, List, [], ◌∷◌, codes, bytes_e
 
 -- each kind's number and name
 abbrev pub schedule_kinds : List (ℕ × List ℕ)
-schedule_kinds = (1, codes "static") ∷ (2, codes "dynamic") ∷ (3, codes "guided") ∷ (4, codes "auto") ∷ []
+schedule_kinds =
+    (1, codes "static")
+    ∷ (2, codes "dynamic")
+    ∷ (3, codes "guided")
+    ∷ (4, codes "auto")
+    ∷ []
 
 -- the name of a number in a table, if it is there
 abbrev pub name_in : List (ℕ × List ℕ) → ℕ → Option (List ℕ)

@@ -1,26 +1,38 @@
--- Statements: what each line says, row by row as in docs/WORKLOAD.md, by the words behind the first.
+-- Statements: what each line says, row by row as in docs/WORKLOAD.md, by the words behind the
+-- first.
 use Rattle.std.specs.Prelude.{ℕ, ◌&&◌, ◌==◌, List, [], ◌∷◌, Option, Some, None, option_map, option_and_then, if◌then◌else◌, bytes_eq, codes}
 use Rattle.omi_script.specs.Numbers.{number_of}
 use Rattle.omi_script.specs.Schedules.{kind_of}
 use Rattle.omi_script.specs.declared.line.Line.{Line}
 use Rattle.omi_script.specs.declared.line.Line.TheVariants as line
+use Rattle.omi_script.specs.declared.statement.Construct.{Construct}
 use Rattle.omi_script.specs.declared.statement.Construct.TheVariants as construct
 use Rattle.omi_script.specs.declared.statement.Stmt.{Stmt}
 use Rattle.omi_script.specs.declared.statement.Stmt.TheVariants.{Taskwait, Taskyield, Barrier, SetNumThreads, SetDynamic, SetMaxActive, SetSchedule, SetDevice, Tool, Work}
 use Rattle.omi_script.specs.declared.limits.TheConstants.{MAX_SIZE, MAX_LOCK, MAX_MEMBER, MAX_REPEATS, MAX_LEVELS, MAX_CHUNK, MAX_DEVICE}
+
+-- a construct with a number, over the function with a name
+abbrev pub numbered : List ℕ → (ℕ → Construct) → Option ℕ → Line
+numbered f make n = line.Construct f (option_map make n)
+
+-- a stand-alone statement with a number
+abbrev pub alone : (ℕ → Stmt) → Option ℕ → Line
+alone make n = line.StandAlone (option_map make n)
 
 -- `parallel F` or `parallel F num N`, N 1 to 64
 abbrev pub parallel_line : List (List ℕ) → Option Line
 parallel_line (f ∷ []) = Some (line.Construct f (Some (construct.Parallel None)))
 parallel_line (f ∷ word ∷ n ∷ []) =
     if bytes_eq word (codes "num")
-    then Some (line.Construct f (option_map (λ m. construct.Parallel (Some m)) (number_of 1 MAX_SIZE n)))
+    then Some (numbered f (λ m. construct.Parallel (Some m)) (number_of 1 MAX_SIZE n))
     else None
 parallel_line _ = None
 
 -- a task over a function, with what stands behind `if` and behind `final`, 0 or 1
 abbrev pub task_of : List ℕ → Option ℕ → Option ℕ → Line
-task_of f deferred last = line.Construct f (option_and_then (λ d. option_map (λ l. construct.Task (d == 0) (l == 1)) last) deferred)
+task_of f deferred last =
+    line.Construct f
+    (option_and_then (λ d. option_map (λ l. construct.Task (d == 0) (l == 1)) last) deferred)
 
 -- `task F`, then `if B` or nothing, then `final B` or nothing, B 0 or 1
 abbrev pub task_line : List (List ℕ) → Option Line
@@ -30,7 +42,8 @@ task_line (f ∷ word ∷ b ∷ []) =
     else (if bytes_eq word (codes "final") then Some (task_of f (Some 1) (number_of 0 1 b))
     else None)
 task_line (f ∷ word ∷ b ∷ other ∷ c ∷ []) =
-    if bytes_eq word (codes "if") && bytes_eq other (codes "final") then Some (task_of f (number_of 0 1 b) (number_of 0 1 c))
+    if bytes_eq word (codes "if") && bytes_eq other (codes "final")
+    then Some (task_of f (number_of 0 1 b) (number_of 0 1 c))
     else None
 task_line _ = None
 
@@ -41,7 +54,7 @@ bare_line s _ = None
 
 -- `critical K F`, K 0 to 7
 abbrev pub critical_line : List (List ℕ) → Option Line
-critical_line (k ∷ f ∷ []) = Some (line.Construct f (option_map construct.Critical (number_of 0 MAX_LOCK k)))
+critical_line (k ∷ f ∷ []) = Some (numbered f construct.Critical (number_of 0 MAX_LOCK k))
 critical_line _ = None
 
 -- `call F`
@@ -51,43 +64,45 @@ call_line _ = None
 
 -- `only M F`, M 0 to 63
 abbrev pub only_line : List (List ℕ) → Option Line
-only_line (m ∷ f ∷ []) = Some (line.Construct f (option_map construct.Only (number_of 0 MAX_MEMBER m)))
+only_line (m ∷ f ∷ []) = Some (numbered f construct.Only (number_of 0 MAX_MEMBER m))
 only_line _ = None
 
 -- `repeat N F`, N 0 to 1000
 abbrev pub repeat_line : List (List ℕ) → Option Line
-repeat_line (n ∷ f ∷ []) = Some (line.Construct f (option_map construct.Repeat (number_of 0 MAX_REPEATS n)))
+repeat_line (n ∷ f ∷ []) = Some (numbered f construct.Repeat (number_of 0 MAX_REPEATS n))
 repeat_line _ = None
 
 -- `set_num_threads N`, N 1 to 64
 abbrev pub set_num_threads_line : List (List ℕ) → Option Line
-set_num_threads_line (n ∷ []) = Some (line.StandAlone (option_map SetNumThreads (number_of 1 MAX_SIZE n)))
+set_num_threads_line (n ∷ []) = Some (alone SetNumThreads (number_of 1 MAX_SIZE n))
 set_num_threads_line _ = None
 
 -- `set_dynamic B`, B 0 or 1
 abbrev pub set_dynamic_line : List (List ℕ) → Option Line
-set_dynamic_line (b ∷ []) = Some (line.StandAlone (option_map (λ n. SetDynamic (n == 1)) (number_of 0 1 b)))
+set_dynamic_line (b ∷ []) = Some (alone (λ n. SetDynamic (n == 1)) (number_of 0 1 b))
 set_dynamic_line _ = None
 
 -- `set_max_active_levels N`, N 0 to 255
 abbrev pub set_max_active_line : List (List ℕ) → Option Line
-set_max_active_line (n ∷ []) = Some (line.StandAlone (option_map SetMaxActive (number_of 0 MAX_LEVELS n)))
+set_max_active_line (n ∷ []) = Some (alone SetMaxActive (number_of 0 MAX_LEVELS n))
 set_max_active_line _ = None
 
 -- `set_schedule KIND CHUNK`, CHUNK 0 to 65535
 abbrev pub set_schedule_line : List (List ℕ) → Option Line
 set_schedule_line (kind ∷ chunk ∷ []) =
-    option_map (λ k. line.StandAlone (option_map (λ n. SetSchedule (record { kind = k; chunk = n })) (number_of 0 MAX_CHUNK chunk))) (kind_of kind)
+    option_map
+    (λ k. alone (λ n. SetSchedule (record { kind = k; chunk = n })) (number_of 0 MAX_CHUNK chunk))
+    (kind_of kind)
 set_schedule_line _ = None
 
 -- `set_default_device N`, N 0 to 255
 abbrev pub set_device_line : List (List ℕ) → Option Line
-set_device_line (n ∷ []) = Some (line.StandAlone (option_map SetDevice (number_of 0 MAX_DEVICE n)))
+set_device_line (n ∷ []) = Some (alone SetDevice (number_of 0 MAX_DEVICE n))
 set_device_line _ = None
 
 -- `tool X`, X any word
 abbrev pub tool_line : List (List ℕ) → Option Line
-tool_line (x ∷ []) = Some (line.StandAlone (option_map Tool (number_of 0 18446744073709551615 x)))
+tool_line (x ∷ []) = Some (alone Tool (number_of 0 18446744073709551615 x))
 tool_line _ = None
 
 -- a statement that sets an internal control variable or a task's word, by its first word

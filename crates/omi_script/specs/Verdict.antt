@@ -10,7 +10,8 @@ use Rattle.omi_script.specs.declared.fault.Why.TheVariants.{OverLimit}
 use Rattle.omi_script.specs.declared.limits.TheConstants.{MAX_BYTES}
 use Rattle.omi_script.specs.declared.parser.ParserState.{ParserState}
 
--- what a text is: a program, whose lines lead to this state, or none, by the least fault of its first faulty line
+-- what a text is: a program, whose lines lead to this state, or none, by the least fault of its
+-- first faulty line
 pub data Verdict : Type 0 where
   Accepts : ParserState → Verdict
   Refuses : ScriptFault → Verdict
@@ -19,10 +20,12 @@ pub data Verdict : Type 0 where
 abbrev pub refused_or : ℕ → Option Why → Verdict → Verdict
 refused_or n why v = option_map_or (λ w. Refuses (record { line = n; why = w })) why v
 
--- the verdict on the lines from a number on, in the state before them. The end of the text is a line of its own
+-- the verdict on the lines from a number on, in the state before them. The end of the text is a
+-- line of its own
 abbrev pub judge : ℕ → ParserState → List (List ℕ) → Verdict
 judge n state [] = refused_or n (least (has_end_fault state)) (Accepts state)
-judge n state (line ∷ more) = refused_or n (least (has_fault state line)) (judge (n + 1) (after state line) more)
+judge n state (line ∷ more) =
+    refused_or n (least (has_fault state line)) (judge (n + 1) (after state line) more)
 
 -- the verdict on a text. One that is too long is refused before all else
 abbrev pub verdict : List ℕ → Verdict

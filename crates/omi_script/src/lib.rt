@@ -10,6 +10,7 @@ mod head;
 mod head_lines;
 pub mod limits;
 mod line;
+mod list;
 mod name;
 mod number_list;
 mod numbers;
@@ -29,6 +30,7 @@ mod verdicts;
 pub use env::Env;
 pub use fault::{ScriptError, ScriptFault, Why};
 pub use function::{Func, FuncList};
+pub use list::List;
 pub use name::Name;
 pub use number_list::NumList;
 pub use numbers::number;
@@ -37,7 +39,7 @@ pub use program::Program;
 pub use reader::{parse, program_rules};
 pub use schedule::{kind_name, kind_number};
 pub use small::is_small;
-pub use statement::{Construct, Sched, Stmt, StmtList};
+pub use statement::{Sched, Stmt, StmtList};
 pub use verdicts::one_verdict;
 
 /// Memory ran out.

@@ -6,8 +6,9 @@ ghost use Rattle.omi_script.specs.Line.{begins_comment, function_line, end_line,
 
 use crate::head_lines::{env, threads};
 use crate::pieces::{Word, Words};
+use crate::statement::Construct;
 use crate::statement_lines::statement;
-use crate::{Construct, NumList, OutOfMemory, Sched, Stmt};
+use crate::{NumList, OutOfMemory, Sched, Stmt};
 use std::alloc::Global;
 
 /// A head line, with its number where that lies in its range.

@@ -1,5 +1,6 @@
 //! Words that are numbers.
-ghost use Rattle.std.specs.Prelude.{◌≡◌, ◌≤◌, ◌<◌, ◌^◌, true, IfSome, IfNone, length};
+ghost use Rattle.std.specs.Prelude.{◌≡◌, ◌≤◌, ◌<◌, ◌^◌, ℕ, true, IfSome, IfNone, length};
+ghost use Rattle.std.specs.Fmt.{decimal};
 ghost use Rattle.std.specs.List.{list_all};
 ghost use Rattle.omi_script.specs.Names.{is_digit};
 ghost use Rattle.omi_script.specs.Numbers.{is_decimal, number_of, value_of};
@@ -35,11 +36,9 @@ fn value(word: &[u8]) -> Option<u64>
     }
 }
 
-/// The decimal number that a word is, without a leading 0 but for 0 itself. None also where it
-/// isn't in the range.
-pub fn number(word: &[u8], least: u64, most: u64) -> Option<u64>
-    ensures value { result ≡ number_of least most word.now }
-    ensures in_range { IfSome result (λ n. (least ≤ n) × (n ≤ most)) }
+/// The number of a range that a word is.
+fn number_in(word: &[u8], least: u64, most: u64) -> Option<u64>
+    ensures { result ≡ number_of least most word.now }
 {
     if !is_number(word) {
         return None;
@@ -48,6 +47,18 @@ pub fn number(word: &[u8], least: u64, most: u64) -> Option<u64>
         Some(n) if least <= n && n <= most => Some(n),
         _ => None,
     }
+}
+
+/// The decimal number that a word is, without a leading 0 but for 0 itself. None also where it
+/// isn't in the range.
+pub fn number(word: &[u8], least: u64, most: u64) -> Option<u64>
+    ensures value { result ≡ number_of least most word.now }
+    ensures in_range { IfSome result (λ n. (least ≤ n) × (n ≤ most)) }
+    // a number is how std writes it, and where there is none std writes no number of the range so
+    ensures written { IfSome result (λ n. word.now ≡ decimal n) }
+    ensures none { IfNone result ((n : ℕ) → least ≤ n → n ≤ most → word.now ≡ decimal n → ⊥) }
+{
+    number_in(word, least, most)
 }
 
 /// A number that fits in a byte.

@@ -7,9 +7,10 @@ use crate::fault::LineError;
 use crate::head::Head;
 use crate::limits::MAX_FUNCTIONS;
 use crate::line::{HeadLine, Line, line_of};
-use crate::pieces::{Word, are_text};
+use crate::pieces::are_text;
+use crate::statement::Construct;
 use crate::statement_faults::statement_fault;
-use crate::{Construct, Func, Name, Program, Stmt, StmtList, Why};
+use crate::{Func, Name, Program, Stmt, StmtList, Why};
 use std::alloc::Global;
 
 /// The name of the function that a program begins with.

@@ -1,10 +1,10 @@
 //! Statements, and lists of them.
-ghost use Rattle.std.specs.Prelude.{◌≡◌, ◌<◌, ◌++◌, ◌∷◌, [], length, slice_get, Some, OnOk, OnErr, IfOk};
+ghost use Rattle.std.specs.Prelude.{◌≡◌, IfOk};
 ghost use Rattle.omi_script.specs.Constructs.{over};
 
 use crate::OutOfMemory;
+use crate::list::List;
 use std::alloc::Global;
-use std::marker::Model;
 
 /// A schedule: its kind (1 static, 2 dynamic, 3 guided, 4 auto) and its chunk size.
 #[derive(Clone, Copy, Debug, PartialEq, Eq)]
@@ -100,66 +100,13 @@ impl Construct {
 }
 
 /// The statements of a function.
-#[derive(Drop)]
-pub struct StmtList {
-    items: Vec<Stmt>,
-}
+pub type StmtList = List<Stmt>;
 
-impl Model for StmtList {
-    ghost use Rattle.std.specs.Prelude.{List};
-    ghost use Rattle.omi_script.specs.declared.statement.Stmt.{Stmt};
-
-    ghost Value = { List Stmt };
-
-    ghost view = { λ a. a.items.items };
-}
-
-impl StmtList {
-    /// An empty list, which keeps the allocator.
-    pub fn new(alloc: Global) -> StmtList
-        ensures { result ≡ [] }
-    {
-        StmtList {
-            items: Vec::new(alloc),
-        }
-    }
-
-    /// The number of statements.
-    pub fn len(&self) -> usize
-        ensures { result ≡ length self.now }
-    {
-        self.items.len()
-    }
-
-    /// The statement at a place, counted from 0.
-    pub fn get(&self, at: usize) -> &Stmt
-        requires { at < length self.now }
-        ensures { slice_get self.now at ≡ Some result.now }
-    {
-        &self.items[at]
-    }
-
-    /// Adds a statement at the end.
-    pub fn push(&mut self, e: Stmt) -> Result<(), OutOfMemory>
-        ensures added { OnOk result (self.new ≡ self.old ++ e ∷ []) }
-        ensures refused { OnErr result (self.new ≡ self.old) }
-    {
-        self.items.push(e)?;
-        Ok(())
-    }
-
-    /// The statements in order.
-    pub fn as_slice(&self) -> &[Stmt]
-        ensures { result.now ≡ self.now }
-    {
-        &self.items
-    }
-
+impl List<Stmt> {
     /// An equal list.
     pub fn same(&self, alloc: Global) -> Result<StmtList, OutOfMemory>
         ensures { IfOk result (λ list. list ≡ self.now) }
     {
-        let items = Vec::from_slice(alloc, &self.items)?;
-        Ok(StmtList { items })
+        self.copied(alloc)
     }
 }

@@ -2,13 +2,14 @@
 ghost use Rattle.std.specs.Prelude.{◌≡◌, ◌∷◌, []};
 ghost use Rattle.omi_script.specs.StatementLines.{parallel_line, task_of, task_line, bare_line, critical_line, call_line, only_line, repeat_line, set_num_threads_line, set_dynamic_line, set_max_active_line, set_schedule_line, set_device_line, tool_line, set_line, statement_line};
 
+use crate::Stmt;
 use crate::head_lines::schedule;
 use crate::limits::{MAX_DEVICE, MAX_LEVELS, MAX_LOCK, MAX_MEMBER, MAX_REPEATS, MAX_SIZE};
 use crate::line::Line;
 use crate::numbers::{number, number_u8, number_u16};
 use crate::pieces::{Word, Words};
 use crate::schedule::kind_number;
-use crate::{Construct, Stmt};
+use crate::statement::Construct;
 
 /// `parallel F` or `parallel F num N`
 fn parallel<'a>(words: &mut Words<'a>) -> Option<Line<'a>>

@@ -1,0 +1,72 @@
+//! Lists, seen by contracts as lists of their elements.
+ghost use Rattle.std.specs.Prelude.{◌≡◌, ◌<◌, ◌++◌, ◌∷◌, [], length, slice_get, Some, OnOk, OnErr, IfOk};
+
+use crate::OutOfMemory;
+use std::alloc::Global;
+use std::marker::Model;
+
+/// A list of elements, numbered from 0.
+#[derive(Drop)]
+pub struct List<E> {
+    items: Vec<E>,
+}
+
+impl<E> Model for List<E> {
+    ghost use Rattle.std.specs.Prelude.{List as Elements};
+
+    ghost Value = { Elements E };
+
+    ghost view = { λ a. a.items.items };
+}
+
+impl<E: Drop> List<E> {
+    /// An empty list, which keeps the allocator.
+    pub fn new(alloc: Global) -> List<E>
+        ensures { result ≡ [] }
+    {
+        List {
+            items: Vec::new(alloc),
+        }
+    }
+
+    /// The number of elements.
+    pub fn len(&self) -> usize
+        ensures { result ≡ length self.now }
+    {
+        self.items.len()
+    }
+
+    /// The element at a place, counted from 0.
+    pub fn get(&self, at: usize) -> &E
+        requires { at < length self.now }
+        ensures { slice_get self.now at ≡ Some result.now }
+    {
+        &self.items[at]
+    }
+
+    /// Adds an element at the end. A refused element is dropped.
+    pub fn push(&mut self, e: E) -> Result<(), OutOfMemory>
+        ensures added { OnOk result (self.new ≡ self.old ++ e ∷ []) }
+        ensures refused { OnErr result (self.new ≡ self.old) }
+    {
+        self.items.push(e)?;
+        Ok(())
+    }
+
+    /// The elements in order.
+    pub fn as_slice(&self) -> &[E]
+        ensures { result.now ≡ self.now }
+    {
+        &self.items
+    }
+}
+
+impl<E: Copy> List<E> {
+    /// An equal list, where elements are copied.
+    pub fn copied(&self, alloc: Global) -> Result<List<E>, OutOfMemory>
+        ensures { IfOk result (λ list. list ≡ self.now) }
+    {
+        let items = Vec::from_slice(alloc, &self.items)?;
+        Ok(List { items })
+    }
+}
