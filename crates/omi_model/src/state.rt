@@ -26,7 +26,7 @@ pub struct State {
 }
 
 /// A slot that is kept.
-fn slot_in<T>(slots: &Rows<Rows<Slot<T>>>, n: Id) -> Option<&Slot<T>>
+fn slot_in<T: Drop>(slots: &Rows<Rows<Slot<T>>>, n: Id) -> Option<&Slot<T>>
     ensures { unwrap_or (option_map (λ slot. slot.now) result) unused
         ≡ slots_of slots.now n.creator n.slot }
 {
@@ -34,7 +34,7 @@ fn slot_in<T>(slots: &Rows<Rows<Slot<T>>>, n: Id) -> Option<&Slot<T>>
 }
 
 /// The object of a name, where it is live.
-fn live_in<T>(slots: &Rows<Rows<Slot<T>>>, n: Id) -> Option<&T>
+fn live_in<T: Drop>(slots: &Rows<Rows<Slot<T>>>, n: Id) -> Option<&T>
     ensures { option_map (λ x. x.now) result ≡ named (slots_of slots.now) n }
 {
     match slot_in(slots, n) {

@@ -1,5 +1,6 @@
 //! Lists, seen by contracts as lists of their elements.
 ghost use Rattle.std.specs.Prelude.{◌≡◌, ◌<◌, ◌++◌, ◌∷◌, [], length, slice_get, Some, OnOk, OnErr, IfOk};
+ghost use Rattle.std.specs.Option.{option_map};
 
 use crate::OutOfMemory;
 use std::alloc::Global;
@@ -42,6 +43,13 @@ impl<E: Drop> List<E> {
         ensures { slice_get self.now at ≡ Some result.now }
     {
         &self.items[at]
+    }
+
+    /// The element at a place, where there is one.
+    pub fn find(&self, at: usize) -> Option<&E>
+        ensures { option_map (λ e. e.now) result ≡ slice_get self.now at }
+    {
+        self.items.get(at)
     }
 
     /// Adds an element at the end. A refused element is dropped.
