@@ -1,13 +1,9 @@
--- The names of states and of schedule kinds, by OpenMP 5.0, beside their numbers in this profile.
-use Rattle.std.specs.Prelude.{ℕ, ◌==◌, List, [], ◌∷◌, codes, Option, Some, None, if◌then◌else◌, unwrap_or}
+-- The names of states, by OpenMP 5.0, beside their numbers in this profile, and names or numbers of states and of schedule kinds.
+use Rattle.std.specs.Prelude.{ℕ, List, [], ◌∷◌, codes, unwrap_or}
 use Rattle.std.specs.Fmt.{decimal}
 use Rattle.omi_model.specs.Numbers.{work_serial, work_parallel, wait_barrier_implicit_parallel, wait_barrier_explicit, wait_taskwait, wait_taskgroup, wait_critical, idle, overhead}
+use Rattle.omi_script.specs.Schedules.{schedule_kinds, name_in}
 use Rattle.omi_text.specs.Numbers.{hexadecimal}
-
--- the name of a number in a table, if it is there
-abbrev pub name_in : List (ℕ × List ℕ) → ℕ → Option (List ℕ)
-name_in [] n = None
-name_in (row ∷ rows) n = if n == row.0 then Some row.1 else name_in rows n
 
 -- the states of a thread
 abbrev pub states : List (ℕ × List ℕ)
@@ -22,10 +18,6 @@ states =
     ∷ (idle, codes "idle")
     ∷ (overhead, codes "overhead")
     ∷ []
-
--- the kinds of a schedule
-abbrev pub schedule_kinds : List (ℕ × List ℕ)
-schedule_kinds = (1, codes "static") ∷ (2, codes "dynamic") ∷ (3, codes "guided") ∷ (4, codes "auto") ∷ []
 
 -- a state by its name, or by its number in hexadecimal where it has none
 unfoldable pub state_text : ℕ → List ℕ

@@ -1,9 +1,11 @@
 ghost use Rattle.std.specs.Prelude.{◌≡◌, ◌++◌, OnOk, string_bytes};
 ghost use Rattle.std.specs.Option.{option_copied};
-ghost use Rattle.omi_text.specs.Names.{name_in, states, schedule_kinds, state_text, kind_text};
+ghost use Rattle.omi_text.specs.Names.{states, state_text, kind_text};
+ghost use Rattle.omi_script.specs.Schedules.{name_in};
 
 use crate::OutOfMemory;
 use crate::numbers::push_hexadecimal;
+use omi_script::kind_name;
 use std::fmt::Write;
 
 /// The name of a state of a thread by OpenMP 5.0. None for a number that this profile gives no state.
@@ -20,19 +22,6 @@ pub fn state_name(state: u32) -> Option<&'static str>
         0x042 => Some("wait_critical"),
         0x100 => Some("idle"),
         0x101 => Some("overhead"),
-        _ => None,
-    }
-}
-
-/// The name of a schedule kind by OpenMP 5.0. None for a number that this profile gives no kind.
-pub fn kind_name(kind: u64) -> Option<&'static str>
-    ensures { option_copied result ≡ name_in schedule_kinds kind }
-{
-    match kind {
-        1 => Some("static"),
-        2 => Some("dynamic"),
-        3 => Some("guided"),
-        4 => Some("auto"),
         _ => None,
     }
 }

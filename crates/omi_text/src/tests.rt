@@ -1,10 +1,9 @@
 use super::*;
-use crate::names::kind_name;
 use omi_model::{
     HeadRow, Id, MemberRow, MemberRows, RegionRow, RegionRows, Rid, TaskRow, TaskRows, ThreadPart,
     ThreadRow, ThreadRows, Tid, View,
 };
-use omi_script::NumList;
+use omi_script::{NumList, kind_name};
 use std::alloc::{AllocError, Global};
 use std::test::*;
 

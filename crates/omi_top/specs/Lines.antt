@@ -4,7 +4,8 @@ use Rattle.std.specs.Fmt.{decimal}
 use Rattle.omi_model.specs.declared.event.Event.{Event}
 use Rattle.omi_model.specs.declared.event.Event.TheVariants as event
 use Rattle.omi_model.specs.Numbers.{dyn_var, nthreads_var}
-use Rattle.omi_text.specs.Names.{name_in, states}
+use Rattle.omi_script.specs.Schedules.{name_in}
+use Rattle.omi_text.specs.Names.{states}
 use Rattle.omi_top.specs.declared.entry.Entry.{Entry}
 use Rattle.omi_top.specs.declared.entry.End.{End}
 use Rattle.omi_top.specs.declared.entry.End.TheVariants as end
