@@ -1,5 +1,6 @@
 -- The columns of a team, and its members.
 use Rattle.std.proofs.Common.{◌≡◌, ℕ, zero, suc, ◌+◌, ◌-◌, ◌<◌, ◌≤◌, List, [], ◌∷◌, ◌++◌, length, take, drop, set, get_or, replicate, refl, sym, ap, ◌∙◌, arith, length-take-le, take-append-drop, length-set, Some, slice_get}
+use Rattle.omi_model.specs.declared.limits.TheConstants.{MOST_MEMBERS}
 use Rattle.std.proofs.lemmas.List.{drop-set-lt, drop-drop, drop-replicate}
 use Rattle.omi_model.specs.declared.id.Tid.{Tid}
 use Rattle.omi_model.specs.Columns.{members, tasks_of, threads_of, no_task, padded, IsColumn, AreColumns}
@@ -22,10 +23,10 @@ length-members [] ys e = refl
 length-members (x ∷ xs) [] e = absurd (omega (arith, e))
 length-members (x ∷ xs) (y ∷ ys) e = ap suc (length-members xs ys (omega (arith, e)))
 
-padded_back : {A : Type 0} (filler : A) (n : ℕ) (xs : List A) → n ≤ 64 → IsColumn filler n xs → padded filler (take n xs) ≡ xs
+padded_back : {A : Type 0} (filler : A) (n : ℕ) (xs : List A) → n ≤ MOST_MEMBERS → IsColumn filler n xs → padded filler (take n xs) ≡ xs
 padded_back filler n xs h c =
     let len = length-take-le n xs (omega (arith, c.whole)) in
-    ap (λ k. take n xs ++ replicate (64 - k) filler) len ∙ (ap (λ ws. take n xs ++ ws) (sym c.rest) ∙ take-append-drop n xs)
+    ap (λ k. take n xs ++ replicate (MOST_MEMBERS - k) filler) len ∙ (ap (λ ws. take n xs ++ ws) (sym c.rest) ∙ take-append-drop n xs)
 
 module _ (len : ℕ) (xs : List Tid) (ys : List ℕ) (ok : AreColumns len xs ys) where
   same_length : length xs ≡ length ys
@@ -64,8 +65,8 @@ member_pushed n xs ys x y b e = rw add_one_is (go n xs ys b e)
     go (suc n) (x' ∷ xs) (y' ∷ ys) b e = ap (λ ws. (x', y') ∷ ws) (go n xs ys (omega arith) (omega (arith, e)))
 
 -- a column with one more place used
-pub column_more : {A : Type 0} (filler : A) (n : ℕ) (xs : List A) (x : A) → n < 64 → IsColumn filler n xs → IsColumn filler (n + 1) (set xs n x)
+pub column_more : {A : Type 0} (filler : A) (n : ℕ) (xs : List A) (x : A) → n < MOST_MEMBERS → IsColumn filler n xs → IsColumn filler (n + 1) (set xs n x)
 column_more filler n xs x h c = record {
   whole = length-set xs n x ∙ c.whole;
-  rest = drop-set-lt (n + 1) xs n x (omega arith) ∙ sym (drop-drop 1 n xs) ∙ ap (drop 1) c.rest ∙ drop-replicate 1 (64 - n) filler ∙ ap (λ k. replicate k filler) (omega arith);
+  rest = drop-set-lt (n + 1) xs n x (omega arith) ∙ sym (drop-drop 1 n xs) ∙ ap (drop 1) c.rest ∙ drop-replicate 1 (MOST_MEMBERS - n) filler ∙ ap (λ k. replicate k filler) (omega arith);
 }

@@ -1,5 +1,6 @@
--- A team is kept as a column of tasks and a column of threads, of 64 places each.
+-- A team is kept as a column of tasks and a column of threads, of MOST_MEMBERS places each.
 use Rattle.std.specs.Prelude.{◌≡◌, ℕ, ◌-◌, ◌≤◌, List, [], ◌∷◌, ◌++◌, length, drop, replicate}
+use Rattle.omi_model.specs.declared.limits.TheConstants.{MOST_MEMBERS}
 use Rattle.omi_model.specs.declared.id.Tid.{Tid}
 
 -- the members at two columns
@@ -20,17 +21,17 @@ threads_of (m ∷ ms) = m.1 ∷ threads_of ms
 abbrev pub no_task : Tid
 no_task = record { 0 = record { creator = 0; slot = 0; generation = 0 } }
 
--- filled up to 64 places
+-- filled up to all places
 abbrev pub padded : {A : Type 0} → A → List A → List A
-padded filler xs = xs ++ replicate (64 - length xs) filler
+padded filler xs = xs ++ replicate (MOST_MEMBERS - length xs) filler
 
--- a column of 64 places of which the first `len` are used
+-- a column of all places of which the first `len` are used
 pub record IsColumn {A : Type 0} (filler : A) (len : ℕ) (xs : List A) : Type 0 where
-  pub whole : length xs ≡ 64
-  pub rest : drop len xs ≡ replicate (64 - len) filler
+  pub whole : length xs ≡ MOST_MEMBERS
+  pub rest : drop len xs ≡ replicate (MOST_MEMBERS - len) filler
 
 -- two columns of which the first `len` places are used
 pub record AreColumns (len : ℕ) (xs : List Tid) (ys : List ℕ) : Type 0 where
-  pub limit : len ≤ 64
+  pub limit : len ≤ MOST_MEMBERS
   pub tasks : IsColumn no_task len xs
   pub threads : IsColumn 0 len ys

@@ -1,3 +1,5 @@
+//! The events of the machine.
+
 use crate::{Rid, Team, Tid};
 
 /// What a step may commit: an event of the OpenMP machine, by one thread.

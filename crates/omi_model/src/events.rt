@@ -1,3 +1,5 @@
+//! The list of committed events.
+
 ghost use Rattle.std.specs.Prelude.{◌≡◌, ◌<◌, ◌++◌, ◌∷◌, [], length, slice_get, Some, OnOk, OnErr};
 
 use crate::{Event, OutOfMemory};

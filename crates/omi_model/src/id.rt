@@ -1,3 +1,5 @@
+//! The names of regions and tasks.
+
 /// The name of a region or a task: the thread that made it, its slot among that thread's records of the kind, and
 /// how many objects the slot had before.
 #[derive(Clone, Copy, Debug, PartialEq, Eq)]

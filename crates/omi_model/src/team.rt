@@ -1,6 +1,8 @@
+//! The members of a team, kept in place.
+
 ghost use Rattle.std.specs.Prelude.{◌≡◌, ◌<◌, ◌≤◌, [], ◌∷◌, ◌++◌, length, slice_get, Some};
 
-use crate::{Id, Tid};
+use crate::{Id, MOST_MEMBERS, Tid};
 use std::marker::Model;
 
 /// The task that stands in the places past a team's length.
@@ -14,8 +16,8 @@ const NO_TASK: Tid = Tid(Id {
 #[derive(Clone, Copy, Debug, PartialEq, Eq)]
 pub struct Team {
     len: u8,
-    tasks: [Tid; 64],
-    threads: [u8; 64],
+    tasks: [Tid; MOST_MEMBERS],
+    threads: [u8; MOST_MEMBERS],
 }
 
 impl Model for Team {
@@ -43,15 +45,15 @@ impl Team {
     {
         Team {
             len: 0,
-            tasks: [NO_TASK; 64],
-            threads: [0; 64],
+            tasks: [NO_TASK; MOST_MEMBERS],
+            threads: [0; MOST_MEMBERS],
         }
     }
 
     /// The number of members.
     pub fn len(&self) -> usize
         ensures value { result ≡ length self.now }
-        ensures limit { result ≤ 64 }
+        ensures limit { result ≤ MOST_MEMBERS }
     {
         self.len as usize
     }
@@ -67,7 +69,7 @@ impl Team {
 
     /// Adds a member at the end.
     pub fn push(&mut self, task: Tid, thread: u8)
-        requires { length self.old < 64 }
+        requires { length self.old < MOST_MEMBERS }
         ensures { self.new ≡ self.old ++ (task, thread) ∷ [] }
     {
         let at = self.len as usize;

@@ -1,3 +1,5 @@
+//! What a report says.
+
 use crate::{MemberRows, RegionRows, Rid, TaskRows, ThreadRows, Tid};
 use omi_script::NumList;
 

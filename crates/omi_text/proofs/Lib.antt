@@ -1,2 +1,4 @@
 pub mod Rows
 pub mod Joined
+pub mod Teams
+pub mod Whole

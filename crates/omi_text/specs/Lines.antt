@@ -7,11 +7,6 @@ line [] = 10 ∷ []
 line (word ∷ []) = word ++ 10 ∷ []
 line (word ∷ next ∷ words) = word ++ 32 ∷ line (next ∷ words)
 
--- a part of a line that goes on: words, each with a space behind it
-abbrev pub spaced : List (List ℕ) → List ℕ
-spaced [] = []
-spaced (word ∷ words) = word ++ 32 ∷ spaced words
-
 -- the word for a variable and its value
 abbrev pub setting : List ℕ → List ℕ → List ℕ
 setting name value = name ++ 61 ∷ value

@@ -4,28 +4,19 @@ use Rattle.std.specs.Fmt.{decimal}
 use Rattle.omi_model.specs.declared.view.RegionRow.{RegionRow}
 use Rattle.omi_model.specs.declared.view.MemberRow.{MemberRow}
 use Rattle.omi_text.specs.Ids.{region_id, task_id}
-use Rattle.omi_text.specs.Lines.{line, spaced, setting, or_none}
+use Rattle.omi_text.specs.Lines.{line, setting, or_none}
 use Rattle.omi_text.specs.Numbers.{hexadecimal}
-
--- region R function F
-unfoldable pub region_name : RegionRow → List ℕ
-region_name r = spaced (codes "region" ∷ region_id r.region ∷ codes "function" ∷ hexadecimal r.func ∷ [])
-
--- levels-var=L active-levels-var=A team-size-var=S
-unfoldable pub region_variables : RegionRow → List ℕ
-region_variables r = spaced
-    (setting (codes "levels-var") (decimal r.levels)
-    ∷ setting (codes "active-levels-var") (decimal r.active)
-    ∷ setting (codes "team-size-var") (decimal r.size)
-    ∷ [])
-
--- enclosing E
-unfoldable pub region_around : RegionRow → List ℕ
-region_around r = line (codes "enclosing" ∷ or_none region_id r.enclosing ∷ [])
 
 -- region R function F levels-var=L active-levels-var=A team-size-var=S enclosing E
 unfoldable pub region_line : RegionRow → List ℕ
-region_line r = region_name r ++ (region_variables r ++ region_around r)
+region_line r = line
+    (codes "region" ∷ region_id r.region
+    ∷ codes "function" ∷ hexadecimal r.func
+    ∷ setting (codes "levels-var") (decimal r.levels)
+    ∷ setting (codes "active-levels-var") (decimal r.active)
+    ∷ setting (codes "team-size-var") (decimal r.size)
+    ∷ codes "enclosing" ∷ or_none region_id r.enclosing
+    ∷ [])
 
 -- member J thread I task K
 unfoldable pub member_line : ℕ → MemberRow → List ℕ

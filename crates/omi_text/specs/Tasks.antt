@@ -3,7 +3,7 @@ use Rattle.std.specs.Prelude.{ℕ, ◌==◌, ◌/◌, ◌%◌, List, [], ◌∷�
 use Rattle.std.specs.Fmt.{decimal}
 use Rattle.omi_model.specs.declared.view.TaskRow.{TaskRow}
 use Rattle.omi_text.specs.Ids.{region_id, task_id}
-use Rattle.omi_text.specs.Lines.{line, spaced, setting, or_none}
+use Rattle.omi_text.specs.Lines.{line, setting, or_none}
 use Rattle.omi_text.specs.Names.{kind_text}
 use Rattle.omi_text.specs.Numbers.{hexadecimal, decimals}
 
@@ -15,49 +15,33 @@ task_kind implicit = if implicit == 0 then codes "explicit" else codes "implicit
 unfoldable pub schedule_text : ℕ → List ℕ
 schedule_text word = kind_text (word % 8) ++ 44 ∷ decimal (word / 8)
 
--- task K thread I kind W
-unfoldable pub task_name : TaskRow → List ℕ
-task_name t = spaced
-    (codes "task" ∷ task_id t.task ∷ codes "thread" ∷ decimal t.thread ∷ codes "kind" ∷ task_kind t.implicit ∷ [])
-
--- region R function F
-unfoldable pub task_region : TaskRow → List ℕ
-task_region t = spaced (codes "region" ∷ region_id t.region ∷ codes "function" ∷ hexadecimal t.func ∷ [])
-
--- generating G scheduling H
-unfoldable pub task_ancestors : TaskRow → List ℕ
-task_ancestors t = spaced
-    (codes "generating" ∷ or_none task_id t.generating ∷ codes "scheduling" ∷ or_none task_id t.scheduling ∷ [])
-
--- exit X enter Y tool Z
-unfoldable pub task_frames : TaskRow → List ℕ
-task_frames t = line
-    (codes "exit" ∷ hexadecimal t.exit ∷ codes "enter" ∷ hexadecimal t.enter ∷ codes "tool" ∷ decimal t.tool ∷ [])
-
 -- task K thread I kind W region R function F generating G scheduling H exit X enter Y tool Z
 unfoldable pub task_line : TaskRow → List ℕ
-task_line t = task_name t ++ (task_region t ++ (task_ancestors t ++ task_frames t))
-
--- icv dyn-var=D
-unfoldable pub dynamic_variable : TaskRow → List ℕ
-dynamic_variable t = spaced (codes "icv" ∷ setting (codes "dyn-var") (decimal t.dyn_var) ∷ [])
-
--- nthreads-var=L run-sched-var=S
-unfoldable pub list_variables : TaskRow → List ℕ
-list_variables t = spaced
-    (setting (codes "nthreads-var") (decimals t.nthreads) ∷ setting (codes "run-sched-var") (schedule_text t.sched) ∷ [])
-
--- default-device-var=V final-task-var=B implicit-task-var=C
-unfoldable pub task_variables : TaskRow → List ℕ
-task_variables t = line
-    (setting (codes "default-device-var") (decimal t.device)
-    ∷ setting (codes "final-task-var") (decimal t.final_task)
-    ∷ setting (codes "implicit-task-var") (decimal t.implicit)
+task_line t = line
+    (codes "task" ∷ task_id t.task
+    ∷ codes "thread" ∷ decimal t.thread
+    ∷ codes "kind" ∷ task_kind t.implicit
+    ∷ codes "region" ∷ region_id t.region
+    ∷ codes "function" ∷ hexadecimal t.func
+    ∷ codes "generating" ∷ or_none task_id t.generating
+    ∷ codes "scheduling" ∷ or_none task_id t.scheduling
+    ∷ codes "exit" ∷ hexadecimal t.exit
+    ∷ codes "enter" ∷ hexadecimal t.enter
+    ∷ codes "tool" ∷ decimal t.tool
     ∷ [])
 
 -- icv dyn-var=D nthreads-var=L run-sched-var=S default-device-var=V final-task-var=B implicit-task-var=C
 unfoldable pub environment_line : TaskRow → List ℕ
-environment_line t = dynamic_variable t ++ (list_variables t ++ task_variables t)
+environment_line t = line
+    (codes "icv"
+    ∷ setting (codes "dyn-var") (decimal t.dyn_var)
+    ∷ setting (codes "nthreads-var") (decimals t.nthreads)
+    ∷ setting (codes "run-sched-var") (schedule_text t.sched)
+    ∷ setting (codes "default-device-var") (decimal t.device)
+    ∷ setting (codes "final-task-var") (decimal t.final_task)
+    ∷ setting (codes "implicit-task-var") (decimal t.implicit)
+    ∷ [])
 
+-- a task, and then its data environment
 abbrev pub task_lines : TaskRow → List ℕ
 task_lines t = task_line t ++ environment_line t

@@ -4,7 +4,7 @@ use Rattle.std.specs.Fmt.{decimal}
 use Rattle.omi_model.specs.declared.view.ThreadRow.{ThreadRow}
 use Rattle.omi_model.specs.declared.view.ThreadPart.{ThreadPart}
 use Rattle.omi_text.specs.Ids.{task_id}
-use Rattle.omi_text.specs.Lines.{line, spaced, setting, or_none}
+use Rattle.omi_text.specs.Lines.{line, setting, or_none}
 use Rattle.omi_text.specs.Names.{state_text}
 
 -- a thread's state, or that states are not kept
@@ -17,22 +17,16 @@ abbrev pub shown_wait : Option (ℕ × ℕ) → List ℕ
 shown_wait None = codes "0"
 shown_wait (Some s) = decimal s.1
 
--- thread I native N
-unfoldable pub thread_name : ℕ → ThreadPart → List ℕ
-thread_name native t = spaced (codes "thread" ∷ decimal t.thread ∷ codes "native" ∷ decimal native ∷ [])
-
--- state NAME wait W
-unfoldable pub thread_state : Option (ℕ × ℕ) → List ℕ
-thread_state state = spaced (codes "state" ∷ shown_state state ∷ codes "wait" ∷ shown_wait state ∷ [])
-
--- thread-num-var=V current K
-unfoldable pub thread_task : ThreadPart → List ℕ
-thread_task t = line
-    (setting (codes "thread-num-var") (or_none decimal t.number) ∷ codes "current" ∷ or_none task_id t.current ∷ [])
-
 -- thread I native N state NAME wait W thread-num-var=V current K
 unfoldable pub thread_line : ℕ → ThreadPart → List ℕ
-thread_line native t = thread_name native t ++ (thread_state t.state ++ thread_task t)
+thread_line native t = line
+    (codes "thread" ∷ decimal t.thread
+    ∷ codes "native" ∷ decimal native
+    ∷ codes "state" ∷ shown_state t.state
+    ∷ codes "wait" ∷ shown_wait t.state
+    ∷ setting (codes "thread-num-var") (or_none decimal t.number)
+    ∷ codes "current" ∷ or_none task_id t.current
+    ∷ [])
 
 -- native N none, where no thread that has begun has the id
 unfoldable pub native_line : ℕ → List ℕ

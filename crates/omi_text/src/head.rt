@@ -1,3 +1,5 @@
+//! The header lines.
+
 ghost use Rattle.std.specs.Prelude.{◌≡◌, ◌++◌, OnOk, string_bytes};
 ghost use Rattle.omi_text.specs.Head.{debug_text, head_lines};
 

@@ -1,3 +1,5 @@
+//! The names of regions and tasks.
+
 ghost use Rattle.std.specs.Prelude.{◌≡◌, ◌++◌, OnOk, string_bytes};
 ghost use Rattle.omi_text.specs.Ids.{id_text, region_id, task_id};
 ghost use Rattle.omi_text.specs.Lines.{or_none};
@@ -34,7 +36,8 @@ pub fn push_task(text: &mut String, task: Tid) -> Result<(), OutOfMemory>
 
 /// Adds the name of a region, if there is one.
 pub fn push_region_or_none(text: &mut String, region: Option<Rid>) -> Result<(), OutOfMemory>
-    ensures { OnOk result (string_bytes text.new ≡ string_bytes text.old ++ or_none region_id region) }
+    ensures { OnOk result (string_bytes text.new
+        ≡ string_bytes text.old ++ or_none region_id region) }
 {
     match region {
         Some(r) => push_region(text, r),

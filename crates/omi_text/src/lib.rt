@@ -1,6 +1,7 @@
-//! The texts that are printed: a report of a state, line by line.
+//! The texts that are printed: a report of a state, line by line, and the line of an event.
 #![tactic(auto)]
 
+mod events;
 mod head;
 mod ids;
 mod names;
@@ -10,11 +11,14 @@ mod report;
 mod tasks;
 mod threads;
 
+pub use events::{event_text, push_event_line};
 pub use names::state_name;
 pub use report::report_text;
 
 /// Memory ran out.
 pub type OutOfMemory = omi_word::OutOfMemory;
 
+#[cfg(test)]
+mod event_tests;
 #[cfg(test)]
 mod tests;

@@ -1,3 +1,5 @@
+//! The names of states and schedule kinds.
+
 ghost use Rattle.std.specs.Prelude.{◌≡◌, ◌++◌, OnOk, string_bytes};
 ghost use Rattle.std.specs.Option.{option_copied};
 ghost use Rattle.omi_text.specs.Names.{states, state_text, kind_text};

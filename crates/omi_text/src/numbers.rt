@@ -1,3 +1,5 @@
+//! Numbers and lists of numbers.
+
 ghost use Rattle.std.specs.Prelude.{◌≡◌, ◌++◌, OnOk, string_bytes, drop};
 ghost use Rattle.omi_text.specs.Numbers.{hexadecimal, decimals, after_commas};
 
@@ -15,7 +17,8 @@ pub fn push_hexadecimal(text: &mut String, number: u64) -> Result<(), OutOfMemor
 
 /// Adds each number but the first behind a comma.
 fn push_others(text: &mut String, list: &NumList) -> Result<(), OutOfMemory>
-    ensures { OnOk result (string_bytes text.new ≡ string_bytes text.old ++ after_commas (drop 1 list.now)) }
+    ensures { OnOk result (string_bytes text.new
+        ≡ string_bytes text.old ++ after_commas (drop 1 list.now)) }
 {
     for at in 1..list.len() {
         let number = *list.get(at);

@@ -1,3 +1,5 @@
+//! The text of a report.
+
 ghost use Rattle.std.specs.Prelude.{◌≡◌, IfOk};
 ghost use Rattle.omi_text.specs.Report.{report};
 

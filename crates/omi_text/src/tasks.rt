@@ -1,6 +1,10 @@
+//! The lines of tasks and their data environments.
+
 ghost use Rattle.std.specs.Prelude.{◌≡◌, ◌++◌, OnOk, string_bytes};
 ghost use Rattle.std.specs.List.{flat_map};
-ghost use Rattle.omi_text.specs.Tasks.{task_kind, task_name, task_region, task_ancestors, task_frames, task_line, schedule_text, dynamic_variable, list_variables, task_variables, environment_line, task_lines};
+ghost use Rattle.omi_text.specs.Lines.{line};
+ghost use Rattle.omi_text.specs.Parts.{spaced, task_name, task_region, task_ancestors, task_frames, dynamic_variable, list_variables, task_variables};
+ghost use Rattle.omi_text.specs.Tasks.{task_kind, task_line, schedule_text, environment_line, task_lines};
 
 use crate::OutOfMemory;
 use crate::ids::{push_region, push_task, push_task_or_none};
@@ -21,9 +25,10 @@ fn kind_word(implicit: u64) -> &'static str
 }
 
 /// Adds the front of a task's line: its name, its thread and its kind.
-#[tactic(auto, unfolding(crate::specs::Tasks::task_name))]
+#[tactic(auto, unfolding(crate::specs::Parts::task_name))]
 fn push_name(text: &mut String, row: &TaskRow) -> Result<(), OutOfMemory>
-    ensures { OnOk result (string_bytes text.new ≡ string_bytes text.old ++ task_name row.now) }
+    ensures { OnOk result (string_bytes text.new
+        ≡ string_bytes text.old ++ spaced (task_name row.now)) }
 {
     text.push_str("task ")?;
     push_task(text, row.task)?;
@@ -32,9 +37,10 @@ fn push_name(text: &mut String, row: &TaskRow) -> Result<(), OutOfMemory>
 }
 
 /// Adds the region of a task and its function.
-#[tactic(auto, unfolding(crate::specs::Tasks::task_region))]
+#[tactic(auto, unfolding(crate::specs::Parts::task_region))]
 fn push_task_region(text: &mut String, row: &TaskRow) -> Result<(), OutOfMemory>
-    ensures { OnOk result (string_bytes text.new ≡ string_bytes text.old ++ task_region row.now) }
+    ensures { OnOk result (string_bytes text.new
+        ≡ string_bytes text.old ++ spaced (task_region row.now)) }
 {
     text.push_str("region ")?;
     push_region(text, row.region)?;
@@ -44,9 +50,10 @@ fn push_task_region(text: &mut String, row: &TaskRow) -> Result<(), OutOfMemory>
 }
 
 /// Adds the generating and the scheduling task of a task.
-#[tactic(auto, unfolding(crate::specs::Tasks::task_ancestors))]
+#[tactic(auto, unfolding(crate::specs::Parts::task_ancestors))]
 fn push_ancestors(text: &mut String, row: &TaskRow) -> Result<(), OutOfMemory>
-    ensures { OnOk result (string_bytes text.new ≡ string_bytes text.old ++ task_ancestors row.now) }
+    ensures { OnOk result (string_bytes text.new
+        ≡ string_bytes text.old ++ spaced (task_ancestors row.now)) }
 {
     text.push_str("generating ")?;
     push_task_or_none(text, row.generating)?;
@@ -56,9 +63,10 @@ fn push_ancestors(text: &mut String, row: &TaskRow) -> Result<(), OutOfMemory>
 }
 
 /// Adds the end of a task's line: its frames and its tool word.
-#[tactic(auto, unfolding(crate::specs::Tasks::task_frames))]
+#[tactic(auto, unfolding(crate::specs::Parts::task_frames))]
 fn push_frames(text: &mut String, row: &TaskRow) -> Result<(), OutOfMemory>
-    ensures { OnOk result (string_bytes text.new ≡ string_bytes text.old ++ task_frames row.now) }
+    ensures { OnOk result (string_bytes text.new
+        ≡ string_bytes text.old ++ line (task_frames row.now)) }
 {
     text.push_str("exit ")?;
     push_hexadecimal(text, row.exit)?;
@@ -68,7 +76,6 @@ fn push_frames(text: &mut String, row: &TaskRow) -> Result<(), OutOfMemory>
 }
 
 /// Adds the line of a task.
-#[tactic(auto, unfolding(crate::specs::Tasks::task_line))]
 fn push_task_line(text: &mut String, row: &TaskRow) -> Result<(), OutOfMemory>
     ensures { OnOk result (string_bytes text.new ≡ string_bytes text.old ++ task_line row.now) }
 {
@@ -80,7 +87,7 @@ fn push_task_line(text: &mut String, row: &TaskRow) -> Result<(), OutOfMemory>
 
 /// Adds a schedule, which is its chunk times 8 plus its kind.
 #[tactic(auto, unfolding(crate::specs::Tasks::schedule_text))]
-fn push_schedule(text: &mut String, word: u64) -> Result<(), OutOfMemory>
+pub fn push_schedule(text: &mut String, word: u64) -> Result<(), OutOfMemory>
     ensures { OnOk result (string_bytes text.new ≡ string_bytes text.old ++ schedule_text word) }
 {
     push_kind(text, word % 8)?;
@@ -88,17 +95,19 @@ fn push_schedule(text: &mut String, word: u64) -> Result<(), OutOfMemory>
 }
 
 /// Adds the front of the line of a data environment: dyn-var.
-#[tactic(auto, unfolding(crate::specs::Tasks::dynamic_variable))]
+#[tactic(auto, unfolding(crate::specs::Parts::dynamic_variable))]
 fn push_dynamic(text: &mut String, row: &TaskRow) -> Result<(), OutOfMemory>
-    ensures { OnOk result (string_bytes text.new ≡ string_bytes text.old ++ dynamic_variable row.now) }
+    ensures { OnOk result (string_bytes text.new
+        ≡ string_bytes text.old ++ spaced (dynamic_variable row.now)) }
 {
     write!(text, "icv dyn-var={} ", row.dyn_var)
 }
 
 /// Adds nthreads-var and run-sched-var of a task.
-#[tactic(auto, unfolding(crate::specs::Tasks::list_variables))]
+#[tactic(auto, unfolding(crate::specs::Parts::list_variables))]
 fn push_list_variables(text: &mut String, row: &TaskRow) -> Result<(), OutOfMemory>
-    ensures { OnOk result (string_bytes text.new ≡ string_bytes text.old ++ list_variables row.now) }
+    ensures { OnOk result (string_bytes text.new
+        ≡ string_bytes text.old ++ spaced (list_variables row.now)) }
 {
     text.push_str("nthreads-var=")?;
     push_list(text, &row.nthreads)?;
@@ -108,9 +117,10 @@ fn push_list_variables(text: &mut String, row: &TaskRow) -> Result<(), OutOfMemo
 }
 
 /// Adds the end of the line of a data environment: default-device-var, final-task-var and implicit-task-var.
-#[tactic(auto, unfolding(crate::specs::Tasks::task_variables))]
+#[tactic(auto, unfolding(crate::specs::Parts::task_variables))]
 fn push_task_variables(text: &mut String, row: &TaskRow) -> Result<(), OutOfMemory>
-    ensures { OnOk result (string_bytes text.new ≡ string_bytes text.old ++ task_variables row.now) }
+    ensures { OnOk result (string_bytes text.new
+        ≡ string_bytes text.old ++ line (task_variables row.now)) }
 {
     write!(
         text,
@@ -120,9 +130,9 @@ fn push_task_variables(text: &mut String, row: &TaskRow) -> Result<(), OutOfMemo
 }
 
 /// Adds the line of a task's data environment.
-#[tactic(auto, unfolding(crate::specs::Tasks::environment_line))]
 fn push_environment(text: &mut String, row: &TaskRow) -> Result<(), OutOfMemory>
-    ensures { OnOk result (string_bytes text.new ≡ string_bytes text.old ++ environment_line row.now) }
+    ensures { OnOk result (string_bytes text.new
+        ≡ string_bytes text.old ++ environment_line row.now) }
 {
     push_dynamic(text, row)?;
     push_list_variables(text, row)?;
@@ -139,7 +149,8 @@ fn push_task_lines(text: &mut String, row: &TaskRow) -> Result<(), OutOfMemory>
 
 /// Adds the lines of each task.
 pub fn push_tasks(text: &mut String, rows: &TaskRows) -> Result<(), OutOfMemory>
-    ensures { OnOk result (string_bytes text.new ≡ string_bytes text.old ++ flat_map task_lines rows.now) }
+    ensures { OnOk result (string_bytes text.new
+        ≡ string_bytes text.old ++ flat_map task_lines rows.now) }
 {
     for at in 0..rows.len() {
         push_task_lines(text, rows.get(at))?;

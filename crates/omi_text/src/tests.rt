@@ -1,3 +1,5 @@
+//! Worked reports, and the texts of events.
+
 use super::*;
 use omi_model::{
     HeadRow, Id, MemberRow, MemberRows, RegionRow, RegionRows, Rid, TaskRow, TaskRows, ThreadPart,

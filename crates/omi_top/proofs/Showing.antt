@@ -7,7 +7,7 @@ use Rattle.omi_outside.specs.Outside.{Told}
 use Rattle.omi_corefile.specs.Spelling.{Core, spelling}
 use Rattle.omi_corefile.specs.declared.core_image.CoreImage.{CoreImage}
 use Rattle.omi_corefile.proofs.Bounds.{bounds}
-use Rattle.omi_corefile.specs.declared.limits.TheConstants.{MOST_BYTES}
+use Rattle.omi_top.specs.declared.limits.TheConstants.{CORE_FRONT}
 use Rattle.omi_word.specs.declared.limits.TheConstants.{FIRST_ADDRESS}
 use Rattle.omi_corefile.specs.Outcomes.{IsFaultOf}
 use Rattle.omi_corefile.specs.declared.segment.Segment.{Segment}
@@ -31,15 +31,15 @@ core_short bytes c is =
     omega (arith, same, long, b.few_contexts, b.few_segments, b.few_words)
 
 -- so the first 8,390,161 bytes say whether a file is a core, and which
-front_core : (bytes : List ℕ) (c : CoreImage) → Core (take (MOST_BYTES + 1) bytes) c → Core bytes c
-front_core bytes c is = go (nat_le (length bytes) (MOST_BYTES + 1)) refl
+front_core : (bytes : List ℕ) (c : CoreImage) → Core (take CORE_FRONT bytes) c → Core bytes c
+front_core bytes c is = go (nat_le (length bytes) CORE_FRONT) refl
   where
-    go : (b : Bool) → nat_le (length bytes) (MOST_BYTES + 1) ≡ b → Core bytes c
-    go true e = sym (take_all (MOST_BYTES + 1) bytes (leb-true (length bytes) (MOST_BYTES + 1) e)) ∙ is
+    go : (b : Bool) → nat_le (length bytes) CORE_FRONT ≡ b → Core bytes c
+    go true e = sym (take_all CORE_FRONT bytes (leb-true (length bytes) CORE_FRONT e)) ∙ is
     go false e =
-        let long : MOST_BYTES + 1 < length bytes = leb-false (length bytes) (MOST_BYTES + 1) e in
-        let front : length (take (MOST_BYTES + 1) bytes) ≡ MOST_BYTES + 1 = length-take-le (MOST_BYTES + 1) bytes (omega arith) in
-        let short = core_short (take (MOST_BYTES + 1) bytes) c is in
+        let long : CORE_FRONT < length bytes = leb-false (length bytes) CORE_FRONT e in
+        let front : length (take CORE_FRONT bytes) ≡ CORE_FRONT = length-take-le CORE_FRONT bytes (omega arith) in
+        let short = core_short (take CORE_FRONT bytes) c is in
         absurd (omega (arith, front, short))
 
 -- a list of one element
@@ -63,7 +63,7 @@ pub plain_not_other : (bytes words : List ℕ) → IsPlainCore bytes words → I
 plain_not_other bytes words p q = q.other words (subst (λ (c : CoreImage). IsPlain c words) (core_unique bytes p.core q.core p.spelled q.spelled) p.plain)
 
 -- the answer to the first 8,390,161 bytes is the answer to the file
-pub front_answered : (bytes : List ℕ) (answer : Answer) → IsShowAnswer (Some (take (MOST_BYTES + 1) bytes)) answer → IsShowAnswer (Some bytes) answer
+pub front_answered : (bytes : List ℕ) (answer : Answer) → IsShowAnswer (Some (take CORE_FRONT bytes)) answer → IsShowAnswer (Some bytes) answer
 front_answered bytes (Refuses r) (inl (at, why, refused, same)) = inl (at, why, sym (front_enough bytes) ∙ refused, same)
 front_answered bytes (Refuses r) (inr (other, same)) = inr (record { core = other.core; spelled = front_core bytes other.core other.spelled; other = other.other }, same)
 front_answered bytes (Gives None text) (words, plain, same) = (words, record { core = plain.core; spelled = front_core bytes plain.core plain.spelled; plain = plain.plain }, same)
@@ -75,7 +75,7 @@ core_refused bytes (error.Fault at why) fault = inl (inl (at, why, fault, refl))
 core_refused bytes error.OutOfMemory fault = inr refl
 
 -- the answer, from the bytes that were read
-pub show_answered : (content : Option (List ℕ)) (whole bytes : List ℕ) (result : Result (Vec ℕ) Refusal) (old : Told) → content ≡ Some bytes → whole ≡ take (MOST_BYTES + 1) bytes
+pub show_answered : (content : Option (List ℕ)) (whole bytes : List ℕ) (result : Result (Vec ℕ) Refusal) (old : Told) → content ≡ Some bytes → whole ≡ take CORE_FRONT bytes
     → IfOk result (λ text. IsShowAnswer (Some whole) (Gives None text.items)) → IfErr result (λ r. IsShowAnswer (Some whole) (Refuses r) ⊎ (r ≡ refusal.OutOfMemory)) → IsAnswered (IsShowAnswer content) result old old
 show_answered content whole bytes result old is read accepted refused =
     subst (λ (c : Option (List ℕ)). IsAnswered (IsShowAnswer c) result old old) (sym is) (go result accepted refused)

@@ -20,6 +20,7 @@ use Rattle.omi_corefile.specs.Spelling.{Core, HoldsImage, core_bytes}
 use Rattle.omi_corefile.specs.declared.core_image.CoreImage.{CoreImage}
 use Rattle.omi_top.specs.LookView.{is_plain}
 use Rattle.omi_model.specs.State.{State}
+use Rattle.omi_top.specs.declared.limits.TheConstants.{SCRIPT_FRONT}
 use Rattle.omi_top.specs.Answer.{Answer, Refuses, Gives, IsAnswered, IsEarly, IsLate, IsStopAnswer, IsStopped, IsUnwritten}
 use Rattle.omi_top.specs.Lines.{run_text}
 use Rattle.omi_top.specs.Run.{IsRun}
@@ -39,28 +40,28 @@ too_long bytes long = go (nat_le (length bytes) 65536) refl
     go false e = refl
 
 -- the first 65,537 bytes of a text have the verdict of the text
-front_verdict : (bytes : List ℕ) → verdict (take 65537 bytes) ≡ verdict bytes
-front_verdict bytes = go (nat_le (length bytes) 65537) refl
+front_verdict : (bytes : List ℕ) → verdict (take SCRIPT_FRONT bytes) ≡ verdict bytes
+front_verdict bytes = go (nat_le (length bytes) SCRIPT_FRONT) refl
   where
-    go : (b : Bool) → nat_le (length bytes) 65537 ≡ b → verdict (take 65537 bytes) ≡ verdict bytes
-    go true e = ap verdict (take_all 65537 bytes (leb-true (length bytes) 65537 e))
+    go : (b : Bool) → nat_le (length bytes) SCRIPT_FRONT ≡ b → verdict (take SCRIPT_FRONT bytes) ≡ verdict bytes
+    go true e = ap verdict (take_all SCRIPT_FRONT bytes (leb-true (length bytes) SCRIPT_FRONT e))
     go false e =
-        let long : 65537 < length bytes = leb-false (length bytes) 65537 e in
-        let front : length (take 65537 bytes) ≡ 65537 = length-take-le 65537 bytes (omega arith) in
-        too_long (take 65537 bytes) (omega arith) ∙ sym (too_long bytes (omega arith))
+        let long : SCRIPT_FRONT < length bytes = leb-false (length bytes) SCRIPT_FRONT e in
+        let front : length (take SCRIPT_FRONT bytes) ≡ SCRIPT_FRONT = length-take-le SCRIPT_FRONT bytes (omega arith) in
+        too_long (take SCRIPT_FRONT bytes) (omega arith) ∙ sym (too_long bytes (omega arith))
 
-front_grammar : (bytes : List ℕ) (p : Program) → Grammar (take 65537 bytes) p → Grammar bytes p
+front_grammar : (bytes : List ℕ) (p : Program) → Grammar (take SCRIPT_FRONT bytes) p → Grammar bytes p
 front_grammar bytes p g = record { state = g.state; says = sym (front_verdict bytes) ∙ g.says; program = g.program }
 
 -- the answer to the first 65,537 bytes is the answer to the text
-front_answered : (budget : ℕ) (bytes : List ℕ) (answer : Answer) → IsStopAnswer budget (Some (take 65537 bytes)) answer → IsStopAnswer budget (Some bytes) answer
+front_answered : (budget : ℕ) (bytes : List ℕ) (answer : Answer) → IsStopAnswer budget (Some (take SCRIPT_FRONT bytes)) answer → IsStopAnswer budget (Some bytes) answer
 front_answered budget bytes (Refuses r) (inl (fault, why, same)) = inl (fault, record { says = sym (front_verdict bytes) ∙ why.says }, same)
 front_answered budget bytes (Refuses r) (inr (other, same)) = inr (record { program = other.program; says = front_grammar bytes other.program other.says; other = other.other }, same)
 front_answered budget bytes (Gives None text) is = is
 front_answered budget bytes (Gives (Some core) text) (p, grammar, small, stopped) = (p, front_grammar bytes p grammar, small, stopped)
 
 -- the answer, from the bytes that were read
-read_answered : (budget : ℕ) (content : Option (List ℕ)) (whole bytes : List ℕ) (answer : Answer) → content ≡ Some bytes → whole ≡ take 65537 bytes → IsStopAnswer budget (Some whole) answer → IsStopAnswer budget content answer
+read_answered : (budget : ℕ) (content : Option (List ℕ)) (whole bytes : List ℕ) (answer : Answer) → content ≡ Some bytes → whole ≡ take SCRIPT_FRONT bytes → IsStopAnswer budget (Some whole) answer → IsStopAnswer budget content answer
 read_answered budget content whole bytes answer is read said =
     subst (λ (c : Option (List ℕ)). IsStopAnswer budget c answer) (sym is) (front_answered budget bytes answer (subst (λ (xs : List ℕ). IsStopAnswer budget (Some xs) answer) read said))
 
@@ -70,13 +71,13 @@ script_refused bytes (error.Fault fault) why budget = inl (inl (fault, why, refl
 script_refused bytes error.OutOfMemory why budget = inr refl
 
 -- the script is refused, or memory ran out
-pub refused_answered : (budget : ℕ) (content : Option (List ℕ)) (whole bytes : List ℕ) (r : Refusal) (old : Told) → content ≡ Some bytes → whole ≡ take 65537 bytes
+pub refused_answered : (budget : ℕ) (content : Option (List ℕ)) (whole bytes : List ℕ) (r : Refusal) (old : Told) → content ≡ Some bytes → whole ≡ take SCRIPT_FRONT bytes
     → IsStopAnswer budget (Some whole) (Refuses r) ⊎ (r ≡ refusal.OutOfMemory) → IsAnswered (IsStopAnswer budget content) (Err r) old old
 refused_answered budget content whole bytes r old is read (inl refuses) = inl (read_answered budget content whole bytes (Refuses r) is read refuses, refl)
 refused_answered budget content whole bytes r old is read (inr same) = inr (inl (subst (λ (x : Refusal). IsEarly x) (sym same) tt, refl))
 
 -- the answer of a program's run
-stop_answer : (budget : ℕ) (content : Option (List ℕ)) (whole bytes core text : List ℕ) (p : Program) → content ≡ Some bytes → whole ≡ take 65537 bytes
+stop_answer : (budget : ℕ) (content : Option (List ℕ)) (whole bytes core text : List ℕ) (p : Program) → content ≡ Some bytes → whole ≡ take SCRIPT_FRONT bytes
     → Grammar whole p → IsSmall p → IsStopped p budget core text → IsStopAnswer budget content (Gives (Some core) text)
 stop_answer budget content whole bytes core text p is read grammar small stopped = read_answered budget content whole bytes (Gives (Some core) text) is read (p, grammar, small, stopped)
 
@@ -85,13 +86,13 @@ late refused.Failed = tt
 late refused.OutOfMemory = tt
 
 -- the core is partly written
-pub partly_answered : (budget : ℕ) (content : Option (List ℕ)) (whole bytes core text : List ℕ) (p : Program) (r : RefusedWrite) (old new : Told) → content ≡ Some bytes → whole ≡ take 65537 bytes
+pub partly_answered : (budget : ℕ) (content : Option (List ℕ)) (whole bytes core text : List ℕ) (p : Program) (r : RefusedWrite) (old new : Told) → content ≡ Some bytes → whole ≡ take SCRIPT_FRONT bytes
     → Grammar whole p → IsSmall p → IsStopped p budget core text → IsPartly old new core → IsAnswered (IsStopAnswer budget content) (Err (refusal_of_write r)) old new
 partly_answered budget content whole bytes core text p r old new is read grammar small stopped partly =
     inr (inr (late r, Some core, text, stop_answer budget content whole bytes core text p is read grammar small stopped, partly))
 
 -- the core is written, and the text is handed up
-pub done_answered : (budget : ℕ) (content : Option (List ℕ)) (whole bytes core : List ℕ) (text : Vec ℕ) (p : Program) (old new : Told) → content ≡ Some bytes → whole ≡ take 65537 bytes
+pub done_answered : (budget : ℕ) (content : Option (List ℕ)) (whole bytes core : List ℕ) (text : Vec ℕ) (p : Program) (old new : Told) → content ≡ Some bytes → whole ≡ take SCRIPT_FRONT bytes
     → Grammar whole p → IsSmall p → IsStopped p budget core text.items → new ≡ holding old core → IsAnswered (IsStopAnswer budget content) (Ok text) old new
 done_answered budget content whole bytes core text p old new is read grammar small stopped held =
     (Some core, stop_answer budget content whole bytes core text.items p is read grammar small stopped, held)

@@ -1,5 +1,6 @@
 -- A request of the program as a command.
 use Rattle.std.specs.Prelude.{◌≤◌, ⊤}
+use Rattle.omi_top.specs.declared.limits.TheConstants.{MOST_STEPS}
 use Rattle.omi_top.specs.Command.{Command, Stop, Show, Faulty}
 use Rattle.omi_top.specs.declared.command.Request.{Request}
 use Rattle.omi_top.specs.declared.command.Request.TheVariants as request
@@ -11,6 +12,6 @@ asked request.Faulty = Faulty
 
 -- the number of steps is in its range
 abbrev pub IsBounded : Request → Type 0
-IsBounded (request.Stop steps script core) = steps ≤ 1000000
+IsBounded (request.Stop steps script core) = steps ≤ MOST_STEPS
 IsBounded (request.Show core) = ⊤
 IsBounded request.Faulty = ⊤

@@ -3,6 +3,7 @@ use Rattle.std.specs.Prelude.{◌≡◌, ℕ, List, [], ◌∷◌, if◌then◌e
 use Rattle.std.specs.declared.alloc.Global.{Global}
 use Rattle.std.specs.Option.{option_map_or}
 use Rattle.omi_script.specs.Numbers.{number_of}
+use Rattle.omi_top.specs.declared.limits.TheConstants.{MOST_STEPS}
 
 -- a command of the program, or words that are none
 pub data Command : Type 0 where
@@ -13,7 +14,7 @@ pub data Command : Type 0 where
 -- `stop STEPS SCRIPT CORE`, with STEPS 0 to 1,000,000, or `show CORE`
 abbrev pub command_of : List (List ℕ) → Command
 command_of (verb ∷ steps ∷ script ∷ core ∷ []) =
-    if bytes_eq verb (codes "stop") then option_map_or (λ n. Stop n script core) (number_of 0 1000000 steps) Faulty else Faulty
+    if bytes_eq verb (codes "stop") then option_map_or (λ n. Stop n script core) (number_of 0 MOST_STEPS steps) Faulty else Faulty
 command_of (verb ∷ core ∷ []) = if bytes_eq verb (codes "show") then Show core else Faulty
 command_of words = Faulty
 

@@ -4,10 +4,8 @@ ghost use Rattle.std.specs.Prelude.{◌≡◌, ◌≤◌, map, string_bytes};
 ghost use Rattle.omi_top.specs.Command.{command_of, read_name};
 ghost use Rattle.omi_top.specs.Asked.{asked, IsBounded};
 
+use crate::limits::MOST_STEPS;
 use omi_script::number;
-
-/// The most steps of a run.
-const MOST_STEPS: u64 = 1_000_000;
 
 /// What a command line asks for.
 #[derive(Clone, Copy)]

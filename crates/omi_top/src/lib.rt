@@ -3,6 +3,7 @@
 
 mod command;
 mod entry;
+mod limits;
 mod lines;
 mod load;
 mod look;

@@ -6,16 +6,14 @@ ghost use Rattle.omi_top.specs.Answer.{Refuses, Gives, IsAnswered, IsShowAnswer}
 ghost use Rattle.omi_top.specs.LookView.{IsPlain};
 
 use crate::Refusal;
+use crate::limits::CORE_FRONT;
 use crate::load::load;
 use crate::look::{is_plain_core, look};
-use omi_corefile::{CoreImage, MOST_BYTES, decode};
+use omi_corefile::{CoreImage, decode};
 use omi_outside::Files;
 use omi_text::report_text;
 use omi_word::{FIRST_ADDRESS, Natives};
 use std::alloc::Global;
-
-/// The most bytes that are read of a core: one more than a core may have.
-const CORE_LIMIT: u64 = MOST_BYTES + 1;
 
 /// The words of a plain core.
 fn plain_words(core: &CoreImage) -> Option<&Natives>
@@ -59,6 +57,6 @@ pub fn show<F: Files>(alloc: Global, core: &str, files: &mut F) -> Result<Vec<u8
     ensures files_told { F.told files.new ≡ F.told files.old }
     ensures files_writes { F.writes files.new ≡ F.writes files.old }
 {
-    let bytes = load(alloc, core, CORE_LIMIT, files)?;
+    let bytes = load(alloc, core, CORE_FRONT, files)?;
     reported(alloc, &bytes)
 }

@@ -8,6 +8,7 @@ ghost use Rattle.omi_top.specs.Answer.{Refuses, IsAnswered, IsEarly, IsStopAnswe
 ghost use Rattle.omi_top.specs.Refusal.{status_of};
 
 use crate::Refusal;
+use crate::limits::SCRIPT_FRONT;
 use crate::lines::text_of;
 use crate::load::load;
 use crate::opening::opening_image;
@@ -17,9 +18,6 @@ use omi_outside::{Files, write_whole};
 use omi_script::{Program, is_small, parse};
 use omi_word::{Natives, OutOfMemory};
 use std::alloc::Global;
-
-/// The most bytes that are read of a script: one more than a script may have.
-const SCRIPT_LIMIT: u64 = 65_537;
 
 /// The small program of a script.
 fn program(alloc: Global, bytes: &[u8]) -> Result<Program, Refusal>
@@ -68,7 +66,7 @@ pub fn stop<F: Files, W: Files>(
     ensures dest_reads { W.reads dest.new ≡ W.reads dest.old }
     ensures others { (other : List ℕ) → other ≢ core.now → W.told dest.new other ≡ W.told dest.old other }
 {
-    let bytes = load(alloc, script, SCRIPT_LIMIT, files)?;
+    let bytes = load(alloc, script, SCRIPT_FRONT, files)?;
     let p = program(alloc, &bytes)?;
     let (image, text) = stopped(alloc, &p, budget)?;
     write_whole(dest, core, &image)?;

@@ -1,4 +1,4 @@
-// The words in front of the records, and where the words stand that this stage's steps are on.
+//! The words in front of the records, and where the words stand that this stage's steps are on.
 
 /// How many words the image has.
 pub const IMAGE_WORDS: usize = 6966;

@@ -1,0 +1,220 @@
+//! The lines of events.
+
+ghost use Rattle.std.specs.Prelude.{◌≡◌, ◌++◌, ◌∷◌, [], IfOk, OnOk, codes, map, string_bytes};
+ghost use Rattle.std.specs.List.{flat_map};
+ghost use Rattle.omi_text.specs.Events.{event_line, event_words, joined_word, member_word, value_text, variable_text};
+ghost use Rattle.omi_text.specs.Ids.{region_id, task_id};
+ghost use Rattle.omi_text.specs.Lines.{line};
+
+use crate::OutOfMemory;
+use crate::ids::{push_region, push_task};
+use crate::names::push_state;
+use crate::tasks::push_schedule;
+use omi_model::{Event, Rid, Team, Tid};
+use std::alloc::Global;
+use std::fmt::Write;
+
+/// Adds a variable by its name, or by its number where it has none.
+#[tactic(auto, unfolding(crate::specs::Events::variable_text))]
+fn push_variable(text: &mut String, icv: u32) -> Result<(), OutOfMemory>
+    ensures { OnOk result (string_bytes text.new ≡ string_bytes text.old ++ variable_text icv) }
+{
+    match icv {
+        1 => text.push_str("dyn-var"),
+        2 => text.push_str("nthreads-var"),
+        3 => text.push_str("run-sched-var"),
+        4 => text.push_str("default-device-var"),
+        7 => text.push_str("max-active-levels-var"),
+        _ => write!(text, "{icv}"),
+    }
+}
+
+/// Adds the word of a variable.
+#[tactic(auto, unfolding(crate::specs::Events::value_text))]
+fn push_value(text: &mut String, icv: u32, value: u64) -> Result<(), OutOfMemory>
+    ensures { OnOk result (string_bytes text.new ≡ string_bytes text.old ++ value_text icv value) }
+{
+    if icv == 3 {
+        push_schedule(text, value)
+    } else {
+        write!(text, "{value}")
+    }
+}
+
+/// Adds the words of `set`, and ends the line.
+fn push_set(text: &mut String, icv: u32, value: u64) -> Result<(), OutOfMemory>
+    ensures { OnOk result (string_bytes text.new
+        ≡ string_bytes text.old ++ line (event_words (Event.Set icv value))) }
+{
+    text.push_str("set ")?;
+    push_variable(text, icv)?;
+    text.push_str(" ")?;
+    push_value(text, icv, value)?;
+    text.push_str("\n")
+}
+
+/// Adds a word and the name of a task, and ends the line.
+fn push_of_task(text: &mut String, word: &str, task: Tid) -> Result<(), OutOfMemory>
+    ensures { OnOk result (string_bytes text.new
+        ≡ string_bytes text.old ++ line (word.now ∷ task_id task ∷ [])) }
+{
+    text.push_str(word)?;
+    text.push_str(" ")?;
+    push_task(text, task)?;
+    text.push_str("\n")
+}
+
+/// Adds a word and the name of a region, and ends the line.
+fn push_of_region(text: &mut String, word: &str, region: Rid) -> Result<(), OutOfMemory>
+    ensures { OnOk result (string_bytes text.new
+        ≡ string_bytes text.old ++ line (word.now ∷ region_id region ∷ [])) }
+{
+    text.push_str(word)?;
+    text.push_str(" ")?;
+    push_region(text, region)?;
+    text.push_str("\n")
+}
+
+/// Adds a member behind a space.
+#[tactic(auto, unfolding(crate::specs::Events::member_word))]
+fn push_member(text: &mut String, task: Tid, thread: u8) -> Result<(), OutOfMemory>
+    ensures { OnOk result (string_bytes text.new
+        ≡ string_bytes text.old ++ (32 ∷ member_word (task, thread))) }
+{
+    text.push_str(" ")?;
+    push_task(text, task)?;
+    write!(text, "@{thread}")
+}
+
+/// Adds each member behind a space.
+fn push_team(text: &mut String, team: &Team) -> Result<(), OutOfMemory>
+    ensures { OnOk result (string_bytes text.new
+        ≡ string_bytes text.old ++ flat_map (λ m. 32 ∷ member_word m) team.now) }
+{
+    for at in 0..team.len() {
+        let (task, thread) = team.get(at);
+        push_member(text, task, thread)?;
+    }
+    Ok(())
+}
+
+/// Adds each member behind a space, and ends the line.
+fn push_members(text: &mut String, team: &Team) -> Result<(), OutOfMemory>
+    ensures { OnOk result (string_bytes text.new
+        ≡ string_bytes text.old ++ (flat_map (λ m. 32 ∷ member_word m) team.now ++ 10 ∷ [])) }
+{
+    push_team(text, team)?;
+    text.push_str("\n")
+}
+
+/// Adds the word `team` and the members, and ends the line.
+fn push_team_line(text: &mut String, team: &Team) -> Result<(), OutOfMemory>
+    ensures { OnOk result (string_bytes text.new
+        ≡ string_bytes text.old ++ line (codes "team" ∷ map member_word team.now)) }
+{
+    text.push_str("team")?;
+    push_members(text, team)
+}
+
+/// Adds the words of `fork`, and ends the line.
+fn push_fork(text: &mut String, region: Rid, team: &Team) -> Result<(), OutOfMemory>
+    ensures { OnOk result (string_bytes text.new
+        ≡ string_bytes text.old ++ line (event_words (Event.Fork region team.now))) }
+{
+    text.push_str("fork ")?;
+    push_region(text, region)?;
+    write!(text, " size {} ", team.len())?;
+    push_team_line(text, team)
+}
+
+/// Adds the words of an ask, and ends the line.
+fn push_ask(text: &mut String, thread: u8, got: bool) -> Result<(), OutOfMemory>
+    ensures { OnOk result (string_bytes text.new
+        ≡ string_bytes text.old ++ line (event_words (Event.Ask thread got))) }
+{
+    if got {
+        write!(text, "ask {thread} got\n")
+    } else {
+        write!(text, "ask {thread} busy\n")
+    }
+}
+
+/// Adds the words of a state, and ends the line.
+fn push_shown(text: &mut String, state: u32, wait: u64) -> Result<(), OutOfMemory>
+    ensures { OnOk result (string_bytes text.new
+        ≡ string_bytes text.old ++ line (event_words (Event.State state wait))) }
+{
+    text.push_str("state ")?;
+    push_state(text, state)?;
+    write!(text, " {wait}\n")
+}
+
+/// Adds the words of an event, and ends the line.
+fn push_event(text: &mut String, event: &Event) -> Result<(), OutOfMemory>
+    ensures { OnOk result (string_bytes text.new
+        ≡ string_bytes text.old ++ line (event_words event.now)) }
+{
+    match event {
+        Event::Begin => text.push_str("begin\n"),
+        Event::Offer => text.push_str("offer\n"),
+        Event::Want { n } => write!(text, "want {n}\n"),
+        Event::Ask { w, got } => push_ask(text, *w, *got),
+        Event::Fork { region, team } => push_fork(text, *region, team),
+        Event::ImplicitBegin { task } => push_of_task(text, "implicit_begin", *task),
+        Event::State { state, wait } => push_shown(text, *state, *wait),
+        Event::Enter => text.push_str("enter\n"),
+        Event::Leave => text.push_str("leave\n"),
+        Event::Arrive => text.push_str("arrive\n"),
+        Event::Release => text.push_str("release\n"),
+        Event::Pass => text.push_str("pass\n"),
+        Event::ImplicitEnd { task } => push_of_task(text, "implicit_end", *task),
+        Event::Join { region } => push_of_region(text, "join", *region),
+        Event::FreeTask { task } => push_of_task(text, "free", *task),
+        Event::FreeRegion { region } => push_of_region(text, "free", *region),
+        Event::Seen { j } => write!(text, "seen {j}\n"),
+        Event::Defer { task } => push_of_task(text, "defer", *task),
+        Event::StartNow { task } => push_of_task(text, "start_now", *task),
+        Event::Start { task } => push_of_task(text, "start", *task),
+        Event::Finish { task } => push_of_task(text, "finish", *task),
+        Event::WaitDone => text.push_str("wait_done\n"),
+        Event::Yield => text.push_str("yield\n"),
+        Event::Set { icv, value } => push_set(text, *icv, *value),
+        Event::SetTool { x } => write!(text, "tool {x}\n"),
+        Event::Lock { k } => write!(text, "lock {k}\n"),
+        Event::Unlock { k } => write!(text, "unlock {k}\n"),
+        Event::Work => text.push_str("work\n"),
+        Event::Call { f } => write!(text, "call {f}\n"),
+        Event::Skip => text.push_str("skip\n"),
+        Event::Ret => text.push_str("ret\n"),
+        Event::Done => text.push_str("done\n"),
+    }
+}
+
+/// Adds the line of an event: the number of its step, its thread and the event, ended by a line
+/// feed.
+pub fn push_event_line(
+    text: &mut String,
+    step: u64,
+    thread: u8,
+    event: &Event,
+) -> Result<(), OutOfMemory>
+    ensures { OnOk result (string_bytes text.new
+        ≡ string_bytes text.old ++ event_line step thread event.now) }
+{
+    write!(text, "{step} t{thread} ")?;
+    push_event(text, event)
+}
+
+/// The line of an event, ended by a line feed.
+pub fn event_text(
+    alloc: Global,
+    step: u64,
+    thread: u8,
+    event: &Event,
+) -> Result<Vec<u8>, OutOfMemory>
+    ensures { IfOk result (λ text. text.items ≡ event_line step thread event.now) }
+{
+    let mut text = String::new(alloc);
+    push_event_line(&mut text, step, thread, event)?;
+    Ok(text.into_bytes())
+}

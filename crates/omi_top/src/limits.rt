@@ -1,0 +1,13 @@
+//! The limits of commands. Each stands here alone: definitions, code and proofs name it.
+
+use omi_corefile::MOST_BYTES;
+use omi_script::limits::MAX_BYTES;
+
+/// The most steps of a run.
+pub const MOST_STEPS: u64 = 1_000_000;
+
+/// The most bytes that are read of a script: one more than a script may have.
+pub const SCRIPT_FRONT: u64 = MAX_BYTES as u64 + 1;
+
+/// The most bytes that are read of a core: one more than a core may have.
+pub const CORE_FRONT: u64 = MOST_BYTES + 1;
