@@ -2,3 +2,4 @@ pub mod InOrder
 pub mod OneView
 pub mod OpeningViews
 pub mod TakenItems
+pub mod KeptSlots

@@ -16,6 +16,7 @@ pub mod Rules
 pub mod Reached
 -- What the plain program keeps of a state.
 pub mod Kept
+pub mod Decided
 -- What may be shown of a state, when a state is well formed, and what a report says of it.
 pub mod Visible
 pub mod WellFormed

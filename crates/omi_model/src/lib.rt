@@ -2,26 +2,33 @@
 //! that change a state. `specs/` has the machine; the types here name its objects and events.
 #![tactic(auto)]
 
+mod ask_rules;
 mod barrier_rules;
 mod claim;
 mod encounter;
 mod event;
 mod events;
+mod fresh;
 mod id;
 mod item;
 mod item_list;
 mod laws;
 mod limits;
+mod lock_rules;
 mod looking;
 mod progress;
 mod region;
 mod rows;
+mod same;
 mod slot;
 mod state;
 mod taken;
 mod task;
+mod task_rules;
 mod team;
+mod team_rules;
 mod thread;
+mod unfinished;
 mod view;
 
 pub use claim::Claim;

@@ -1,0 +1,54 @@
+-- Parts of the event rules, which the plain program decides one by one.
+use Rattle.std.specs.Prelude.{◌≡◌, ◌≢◌, ◌<◌, ℕ, Bool, true, false, List, slice_get, Option, Some}
+use Rattle.omi_model.specs.declared.claim.Claim.TheVariants.{Free}
+use Rattle.omi_model.specs.declared.id.Rid.{Rid}
+use Rattle.omi_model.specs.declared.progress.Progress.TheVariants.{Deferred, Finished}
+use Rattle.omi_model.specs.declared.slot.Slot.{Slot}
+use Rattle.omi_model.specs.declared.task.Task.{Task}
+use Rattle.omi_model.specs.declared.thread.Thread.{Thread}
+use Rattle.omi_model.specs.declared.unfinished.Group.{Group}
+use Rattle.omi_model.specs.declared.unfinished.Group.TheVariants as group
+use Rattle.omi_model.specs.Put.{Slots}
+use Rattle.omi_model.specs.Teams.{WasAsked}
+
+-- a fact of the object of a slot, if one lives there, and of the object that lives there
+abbrev pub IfLive : {A : Type 0} → (A → Type 0) → Slot A → Type 0
+IfLive {A} P slot = (x : A) → slot.live ≡ Some x → P x
+
+abbrev pub HasLive : {A : Type 0} → (A → Type 0) → Slot A → Type 0
+HasLive {A} P slot = (x : A) × (slot.live ≡ Some x) × P x
+
+-- a task is one of a group
+abbrev pub IsOf : Group → Task → Type 0
+IsOf (group.Region n) t = t.region ≡ n
+IsOf (group.Children k) t = t.generating ≡ Some k
+
+-- a task is no unfinished explicit one of a group
+abbrev pub IsFinishedOf : Group → Task → Type 0
+IsFinishedOf g t = t.implicit ≡ false → IsOf g t → t.progress ≡ Finished
+
+-- no explicit task of a group is unfinished
+abbrev pub AreFinishedOf : Slots Task → Group → Type 0
+AreFinishedOf tasks g = (c k : ℕ) → IfLive (IsFinishedOf g) (tasks c k)
+
+-- a deferred task of a region, in a place
+pub record IsDeferredIn (region : Rid) (place : ℕ) (t : Task) : Type 0 where
+  pub explicit : t.implicit ≡ false
+  pub deferred : t.progress ≡ Deferred
+  pub same : t.region ≡ region
+  pub there : t.place ≡ place
+
+-- a thread is the next that an asker asks: the least other one that was not asked
+pub record IsNext (h : Thread) (i w : ℕ) : Type 0 where
+  pub other : w ≢ i
+  pub new : WasAsked h w → ⊥
+  pub least : (v : ℕ) → v < w → v ≢ i → WasAsked h v
+
+-- a thread that is asked joins exactly where anybody may claim it
+pub record IsAnswer (h : Thread) (got : Bool) : Type 0 where
+  pub joins : got ≡ true → h.claim ≡ Free
+  pub busy : got ≡ false → h.claim ≢ Free
+
+-- the element at a place stands at no earlier one
+abbrev pub IsNewAt : {A : Type 0} → List A → ℕ → Type 0
+IsNewAt xs at = (j : ℕ) → j < at → slice_get xs j ≢ slice_get xs at
