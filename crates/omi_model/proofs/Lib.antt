@@ -3,3 +3,4 @@ pub mod OneView
 pub mod OpeningViews
 pub mod TakenItems
 pub mod KeptSlots
+pub mod NewTeams

@@ -1,15 +1,15 @@
 -- Parts of the event rules, which the plain program decides one by one.
-use Rattle.std.specs.Prelude.{◌≡◌, ◌≢◌, ◌<◌, ℕ, Bool, true, false, List, slice_get, Option, Some}
+use Rattle.std.specs.Prelude.{◌≡◌, ◌≢◌, ◌⊎◌, ◌<◌, ℕ, suc, Bool, true, false, List, length, slice_get, Some}
 use Rattle.omi_model.specs.declared.claim.Claim.TheVariants.{Free}
 use Rattle.omi_model.specs.declared.id.Rid.{Rid}
 use Rattle.omi_model.specs.declared.progress.Progress.TheVariants.{Deferred, Finished}
 use Rattle.omi_model.specs.declared.slot.Slot.{Slot}
 use Rattle.omi_model.specs.declared.task.Task.{Task}
 use Rattle.omi_model.specs.declared.thread.Thread.{Thread}
-use Rattle.omi_model.specs.declared.unfinished.Group.{Group}
-use Rattle.omi_model.specs.declared.unfinished.Group.TheVariants as group
+use Rattle.omi_model.specs.declared.unfinished.TasksOf.{TasksOf}
+use Rattle.omi_model.specs.declared.unfinished.TasksOf.TheVariants as tasks
 use Rattle.omi_model.specs.Put.{Slots}
-use Rattle.omi_model.specs.Teams.{WasAsked}
+use Rattle.omi_model.specs.Teams.{WasAsked, got_threads}
 
 -- a fact of the object of a slot, if one lives there, and of the object that lives there
 abbrev pub IfLive : {A : Type 0} → (A → Type 0) → Slot A → Type 0
@@ -18,18 +18,18 @@ IfLive {A} P slot = (x : A) → slot.live ≡ Some x → P x
 abbrev pub HasLive : {A : Type 0} → (A → Type 0) → Slot A → Type 0
 HasLive {A} P slot = (x : A) × (slot.live ≡ Some x) × P x
 
--- a task is one of a group
-abbrev pub IsOf : Group → Task → Type 0
-IsOf (group.Region n) t = t.region ≡ n
-IsOf (group.Children k) t = t.generating ≡ Some k
+-- a task is one of the tasks of a region, or of the children of a task
+abbrev pub IsOneOf : TasksOf → Task → Type 0
+IsOneOf (tasks.Region n) t = t.region ≡ n
+IsOneOf (tasks.Parent k) t = t.generating ≡ Some k
 
--- a task is no unfinished explicit one of a group
-abbrev pub IsFinishedOf : Group → Task → Type 0
-IsFinishedOf g t = t.implicit ≡ false → IsOf g t → t.progress ≡ Finished
+-- a task is no unfinished explicit one of those
+abbrev pub IsFinishedOf : TasksOf → Task → Type 0
+IsFinishedOf which t = t.implicit ≡ false → IsOneOf which t → t.progress ≡ Finished
 
--- no explicit task of a group is unfinished
-abbrev pub AreFinishedOf : Slots Task → Group → Type 0
-AreFinishedOf tasks g = (c k : ℕ) → IfLive (IsFinishedOf g) (tasks c k)
+-- no explicit one of those tasks is unfinished
+abbrev pub AreFinishedOf : TasksOf → Slots Task → Type 0
+AreFinishedOf which slots = (c k : ℕ) → IfLive (IsFinishedOf which) (slots c k)
 
 -- a deferred task of a region, in a place
 pub record IsDeferredIn (region : Rid) (place : ℕ) (t : Task) : Type 0 where
@@ -48,6 +48,10 @@ pub record IsNext (h : Thread) (i w : ℕ) : Type 0 where
 pub record IsAnswer (h : Thread) (got : Bool) : Type 0 where
   pub joins : got ≡ true → h.claim ≡ Free
   pub busy : got ≡ false → h.claim ≢ Free
+
+-- The asks of one of so many threads are over: the team has the wanted size, or every other thread was asked.
+abbrev pub AreAsksOverOf : Thread → ℕ → ℕ → Type 0
+AreAsksOverOf h i count = (suc (length (got_threads h.asks)) ≡ h.wanted) ⊎ ((w : ℕ) → w < count → w ≢ i → WasAsked h w)
 
 -- the element at a place stands at no earlier one
 abbrev pub IsNewAt : {A : Type 0} → List A → ℕ → Type 0

@@ -5,7 +5,7 @@ ghost use Rattle.omi_model.specs.Barriers.{HaveArrived, MayArrive, MayPass, MayR
 ghost use Rattle.omi_model.specs.Changes.{OfCurrentRegion};
 ghost use Rattle.omi_model.specs.Kept.{state_of};
 
-use crate::unfinished::{Group, are_finished_of};
+use crate::unfinished::{TasksOf, are_finished_of};
 use crate::{Region, State};
 
 /// Whether a member arrives in its implicit task.
@@ -62,7 +62,7 @@ pub fn may_release(s: &State, i: usize) -> bool
     match s.current_region(i) {
         Some((_, t, r)) => t.number == 0
             && have_arrived(r)
-            && are_finished_of(Group::Region(t.region), &s.tasks),
+            && are_finished_of(&s.tasks, TasksOf::Region(t.region)),
         None => false,
     }
 }

@@ -10,7 +10,8 @@ use crate::{Id, Rows, Slot};
 
 /// A slot of a creator, where it is kept.
 fn slot_of<T>(slots: &Rows<Rows<Slot<T>>>, thread: usize, slot: u16) -> Option<&Slot<T>>
-    ensures { unwrap_or (option_map (λ s. s.now) result) unused ≡ slots_of slots.now thread slot }
+    ensures { unwrap_or (option_map (λ s. s.now) result) unused
+        ≡ slots_of slots.now thread slot }
 {
     slots.find(thread)?.find(slot as usize)
 }

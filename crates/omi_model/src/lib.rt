@@ -8,6 +8,7 @@ mod claim;
 mod encounter;
 mod event;
 mod events;
+mod fork_rules;
 mod fresh;
 mod id;
 mod item;

@@ -10,7 +10,7 @@ ghost use Rattle.omi_model.specs.Tasking.{AreChildrenFinished, IsTaken, MayFinis
 
 use crate::fresh::is_fresh;
 use crate::same::{same_region, same_task};
-use crate::unfinished::{Group, are_finished_of, is_of};
+use crate::unfinished::{TasksOf, are_finished_of, is_child};
 use crate::{Item, Progress, Rid, Slot, State, Task, Tid};
 
 /// The state of a thread that waits at taskwait.
@@ -86,12 +86,12 @@ fn may_start_at(x: Item, k: Tid, t: &Task, new: &Task) -> bool
     match x {
         Item::Tasks { state } => {
             if state == WAIT_TASKWAIT {
-                is_of(Group::Children(k), new)
+                is_child(new, k)
             } else {
                 same_region(new.region, t.region)
             }
         }
-        Item::OneTask => is_of(Group::Children(k), new),
+        Item::OneTask => is_child(new, k),
         _ => false,
     }
 }
@@ -111,7 +111,8 @@ fn may_start_from(s: &State, task: Tid, x: Item, k: Tid, t: &Task) -> bool
 /// Whether a deferred task starts.
 pub fn may_start(s: &State, i: usize, task: Tid, x: Item) -> bool
     requires { i < (state_of s.now).count }
-    ensures { (result ≡ true) ↔ OfCurrent (state_of s.now) i (MayStart (state_of s.now) task x) }
+    ensures { (result ≡ true)
+        ↔ OfCurrent (state_of s.now) i (MayStart (state_of s.now) task x) }
 {
     match s.current(i) {
         Some((k, t)) => may_start_from(s, task, x, k, t),
@@ -137,7 +138,7 @@ pub fn may_end_wait(s: &State, i: usize) -> bool
         (λ k t. AreChildrenFinished (state_of s.now) k) }
 {
     match s.current(i) {
-        Some((k, _)) => are_finished_of(Group::Children(k), &s.tasks),
+        Some((k, _)) => are_finished_of(&s.tasks, TasksOf::Parent(k)),
         None => false,
     }
 }

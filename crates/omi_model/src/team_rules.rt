@@ -70,7 +70,8 @@ fn have_ended(r: &Region) -> bool
 /// Whether member 0 joins the others.
 pub fn may_join(s: &State, i: usize, region: Rid) -> bool
     requires { i < (state_of s.now).count }
-    ensures { (result ≡ true) ↔ OfCurrentRegion (state_of s.now) i (λ k t r. MayJoin region t r) }
+    ensures { (result ≡ true)
+        ↔ OfCurrentRegion (state_of s.now) i (λ k t r. MayJoin region t r) }
 {
     match s.current_region(i) {
         Some((_, t, r)) => same_region(region, t.region)

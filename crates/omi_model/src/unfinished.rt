@@ -1,70 +1,77 @@
-//! Whether explicit tasks have finished, where a rule asks so of all of a region, or of all that a task generated.
+//! Whether explicit tasks have finished, where a rule asks so of all tasks of a region, or of all children of a task.
 
 ghost use Rattle.std.specs.Prelude.{◌≡◌, ◌↔◌, Some, true};
 ghost use Rattle.std.specs.List.{All};
-ghost use Rattle.omi_model.specs.Decided.{AreFinishedOf, IfLive, IsFinishedOf, IsOf};
+ghost use Rattle.omi_model.specs.Decided.{AreFinishedOf, IfLive, IsFinishedOf, IsOneOf};
 ghost use Rattle.omi_model.specs.Kept.{slots_of};
 
 use crate::same::{same_region, same_task};
 use crate::{Progress, Rid, Rows, Slot, Task, Tid};
 
-/// The tasks of a region, or those that a task generated.
+/// The tasks of a region, or the children of a task.
 #[derive(Clone, Copy)]
-pub enum Group {
+pub enum TasksOf {
     Region(Rid),
-    Children(Tid),
+    Parent(Tid),
 }
 
-/// Whether a task is one of a group.
-pub fn is_of(g: Group, t: &Task) -> bool
-    ensures { (result ≡ true) ↔ IsOf g t.now }
+/// Whether a task generated another one.
+pub fn is_child(t: &Task, k: Tid) -> bool
+    ensures { (result ≡ true) ↔ (t.now.generating ≡ Some k) }
 {
-    match g {
-        Group::Region(n) => same_region(t.region, n),
-        Group::Children(k) => match t.generating {
-            Some(by) => same_task(by, k),
-            None => false,
-        },
+    match t.generating {
+        Some(by) => same_task(by, k),
+        None => false,
     }
 }
 
-/// Whether a task is no unfinished explicit one of a group.
-fn is_finished_of(g: Group, t: &Task) -> bool
-    ensures { (result ≡ true) ↔ IsFinishedOf g t.now }
+/// Whether a task is one of those.
+fn is_one_of(t: &Task, which: TasksOf) -> bool
+    ensures { (result ≡ true) ↔ IsOneOf which t.now }
 {
-    t.implicit || !is_of(g, t) || t.progress == Progress::Finished
+    match which {
+        TasksOf::Region(n) => same_region(t.region, n),
+        TasksOf::Parent(k) => is_child(t, k),
+    }
 }
 
-/// Whether a slot has no unfinished explicit task of a group.
-fn is_finished_in(g: Group, slot: &Slot<Task>) -> bool
-    ensures { (result ≡ true) ↔ IfLive (IsFinishedOf g) slot.now }
+/// Whether a task is no unfinished explicit one of those.
+fn is_finished_of(t: &Task, which: TasksOf) -> bool
+    ensures { (result ≡ true) ↔ IsFinishedOf which t.now }
+{
+    t.implicit || !is_one_of(t, which) || t.progress == Progress::Finished
+}
+
+/// Whether a slot has no unfinished explicit one of those.
+fn is_finished_in(slot: &Slot<Task>, which: TasksOf) -> bool
+    ensures { (result ≡ true) ↔ IfLive (IsFinishedOf which) slot.now }
 {
     match &slot.live {
-        Some(t) => is_finished_of(g, t),
+        Some(t) => is_finished_of(t, which),
         None => true,
     }
 }
 
-/// Whether the slots of a creator have no unfinished explicit task of a group.
-fn are_finished_in(g: Group, slots: &[Slot<Task>]) -> bool
-    ensures { (result ≡ true) ↔ All (IfLive (IsFinishedOf g)) slots.now }
+/// Whether the slots of a creator have no unfinished explicit one of those.
+fn are_finished_in(slots: &[Slot<Task>], which: TasksOf) -> bool
+    ensures { (result ≡ true) ↔ All (IfLive (IsFinishedOf which)) slots.now }
 {
-    slots.iter().all(|slot| is_finished_in(g, slot))
+    slots.iter().all(|slot| is_finished_in(slot, which))
 }
 
-/// Whether the slots of all creators have no unfinished explicit task of a group.
-fn are_finished_kept(g: Group, tasks: &Rows<Rows<Slot<Task>>>) -> bool
-    ensures { (result ≡ true) ↔ All (All (IfLive (IsFinishedOf g))) tasks.now }
+/// Whether the slots of all creators have no unfinished explicit one of those.
+fn are_finished_kept(tasks: &Rows<Rows<Slot<Task>>>, which: TasksOf) -> bool
+    ensures { (result ≡ true) ↔ All (All (IfLive (IsFinishedOf which))) tasks.now }
 {
     tasks
         .as_slice()
         .iter()
-        .all(|slots| are_finished_in(g, slots.as_slice()))
+        .all(|slots| are_finished_in(slots.as_slice(), which))
 }
 
-/// Whether no explicit task of a group is unfinished.
-pub fn are_finished_of(g: Group, tasks: &Rows<Rows<Slot<Task>>>) -> bool
-    ensures { (result ≡ true) ↔ AreFinishedOf (slots_of tasks.now) g }
+/// Whether no explicit one of those tasks is unfinished.
+pub fn are_finished_of(tasks: &Rows<Rows<Slot<Task>>>, which: TasksOf) -> bool
+    ensures { (result ≡ true) ↔ AreFinishedOf which (slots_of tasks.now) }
 {
-    are_finished_kept(g, tasks)
+    are_finished_kept(tasks, which)
 }

@@ -1,4 +1,4 @@
-use Rattle.std.proofs.Common.{ℕ, suc, ◌<◌, length, true, sym, subst, ◌∙◌, arith}
+use Rattle.std.proofs.Common.{suc, ◌<◌, length, sym, subst, arith}
 use Rattle.std.proofs.lemmas.Bool.{both_ways}
 use Rattle.omi_model.specs.Decided.{IsAnswer, IsNext}
 use Rattle.omi_model.specs.Kept.{state_of}
