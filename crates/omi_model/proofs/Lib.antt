@@ -4,3 +4,4 @@ pub mod OpeningViews
 pub mod TakenItems
 pub mod KeptSlots
 pub mod NewTeams
+pub mod KeptLists
