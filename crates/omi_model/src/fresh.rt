@@ -9,7 +9,7 @@ ghost use Rattle.omi_model.specs.Put.{unused};
 use crate::{Id, Rows, Slot};
 
 /// A slot of a creator, where it is kept.
-fn slot_of<T>(slots: &Rows<Rows<Slot<T>>>, thread: usize, slot: u16) -> Option<&Slot<T>>
+fn slot_of<T: Drop>(slots: &Rows<Rows<Slot<T>>>, thread: usize, slot: u16) -> Option<&Slot<T>>
     ensures { unwrap_or (option_map (λ s. s.now) result) unused
         ≡ slots_of slots.now thread slot }
 {
@@ -17,7 +17,7 @@ fn slot_of<T>(slots: &Rows<Rows<Slot<T>>>, thread: usize, slot: u16) -> Option<&
 }
 
 /// Whether a name is fresh for a thread.
-pub fn is_fresh<T>(slots: &Rows<Rows<Slot<T>>>, thread: usize, n: Id) -> bool
+pub fn is_fresh<T: Drop>(slots: &Rows<Rows<Slot<T>>>, thread: usize, n: Id) -> bool
     ensures { (result ≡ true) ↔ IsFresh (slots_of slots.now) thread n }
 {
     if n.creator as usize != thread {
