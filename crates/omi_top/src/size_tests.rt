@@ -1,5 +1,7 @@
 //! Long inputs through the top call: scripts, cores, names and lines at their greatest sizes.
 
+ghost use Rattle.std.specs.Prelude.{◌≤◌};
+
 use crate::show_tests::{OPENING, core_of, expect};
 use crate::tests::{EMPTY, call, expect_refusal};
 use omi_outside::{Call, Status};
@@ -65,15 +67,17 @@ fn the_largest_script(rt: HostRuntime) -> Result<(), Fail> {
 }
 
 /// The core of the opening words with so many words, those behind the image all 0.
-fn longer_core(alloc: Global, words: u64) -> Result<Vec<u8>, AllocError> {
-    let opening = core_of(alloc, "0", EMPTY)?;
-    let mut core = Vec::new(alloc);
-    if opening.len() > 40 {
-        core.extend_from_slice(&opening[..32])?;
-        core.extend_from_slice(&words.to_le_bytes())?;
-        core.extend_from_slice(&opening[40..])?;
-    }
+fn longer_core(alloc: Global, words: u64) -> Result<Vec<u8>, AllocError>
+    requires { words ≤ 1048577 }
+{
+    let mut core = core_of(alloc, "0", EMPTY)?;
     core.resize(40 + 8 * words as usize, 0)?;
+    let count = words.to_le_bytes();
+    for i in 0..8usize {
+        if let Some(byte) = core.get_mut(32 + i) {
+            *byte = count[i];
+        }
+    }
     Ok(core)
 }
 
