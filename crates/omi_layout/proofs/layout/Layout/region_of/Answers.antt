@@ -1,0 +1,22 @@
+use Rattle.std.proofs.Common.{arith}
+use Rattle.omi_layout.specs.Table.{per_thread}
+use Rattle.omi_layout.proofs.Arenas.{threads_of_valid, regions_of_valid, some_regions}
+use Rattle.omi_layout.proofs.Finding.{creator_below, slot_below, slot_found}
+use Rattle.omi_layout.proofs.layout.Layout.region_of.Goals as goal
+
+pub overflow_cast-result : goal.overflow_cast-result
+overflow_cast-result c =
+    let w = c.args.self.now.table in
+    let v = c.args.self.now.valid in
+    omega (arith, creator_below w 3 c.args.addr c.in_ok-index.index (omega arith) (some_regions w v) c.in_ok-index.ensures, threads_of_valid w v)
+
+pub overflow_cast-result-2 : goal.overflow_cast-result-2
+overflow_cast-result-2 c =
+    let w = c.args.self.now.table in
+    let v = c.args.self.now.valid in
+    omega (arith, slot_below c.in_ok-index.index (per_thread w 3) (some_regions w v), regions_of_valid w v)
+
+pub returns : goal.returns
+returns c =
+    let w = c.args.self.now.table in
+    slot_found w 3 c.args.addr c.in_ok-index.index (omega arith) (some_regions w c.args.self.now.valid) c.in_ok-index.ensures

@@ -1,0 +1,44 @@
+-- The fields of the records: field 1 to 6 are the runtime record's, 7 to 12 a thread's, 13 to 24 a region's, 25 to 44 a task's.
+use Rattle.std.specs.Prelude.{ℕ, ◌≤◌, nat_lt, if◌then◌else◌}
+use Rattle.omi_layout.specs.declared.limits.TheConstants.{FIELDS}
+
+-- the kinds of records. The arena of a kind has the same number
+abbrev pub runtime : ℕ
+runtime = 1
+
+abbrev pub threads : ℕ
+threads = 2
+
+abbrev pub regions : ℕ
+regions = 3
+
+abbrev pub tasks : ℕ
+tasks = 4
+
+-- the fields that have more than one word
+abbrev pub locks : ℕ
+locks = 6
+
+abbrev pub team : ℕ
+team = 24
+
+abbrev pub nth : ℕ
+nth = 43
+
+abbrev pub slots : ℕ
+slots = 44
+
+-- a field's number
+pub record IsField (f : ℕ) : Type 0 where
+  pub from : 1 ≤ f
+  pub to : f ≤ FIELDS
+
+-- the number of a kind of record
+pub record IsKind (p : ℕ) : Type 0 where
+  pub from : 1 ≤ p
+  pub to : p ≤ 4
+
+-- the kind of record that a field belongs to
+abbrev pub kind_of : ℕ → ℕ
+kind_of f =
+    if nat_lt f 7 then runtime else (if nat_lt f 13 then threads else (if nat_lt f 25 then regions else tasks))

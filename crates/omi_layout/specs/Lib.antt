@@ -1,0 +1,6 @@
+-- The definitions to believe: the fields of the records, the layout table, valid layouts, and the places of records and words.
+pub mod Field
+pub mod Table
+pub mod Valid
+pub mod Place
+pub mod Judged

@@ -1,0 +1,103 @@
+//! The numbers of a layout table.
+
+ghost use Rattle.std.specs.Prelude.{◌≡◌, ◌≤◌};
+ghost use Rattle.omi_layout.specs.Field.{IsField};
+ghost use Rattle.omi_layout.specs.Field;
+ghost use Rattle.omi_layout.specs.Table;
+
+/// The kind of record that a field belongs to.
+pub fn kind(field: u8) -> u8
+    ensures { result ≡ Field.kind_of field }
+{
+    if field < 7 {
+        1
+    } else if field < 13 {
+        2
+    } else if field < 25 {
+        3
+    } else {
+        4
+    }
+}
+
+/// Where in the table the place of an arena stands.
+pub fn place_index(p: u8) -> usize
+    ensures { result ≡ Table.place_index p }
+{
+    if p == 1 {
+        1
+    } else if p == 2 {
+        3
+    } else if p == 3 {
+        6
+    } else {
+        9
+    }
+}
+
+/// The byte address at which an arena begins.
+pub fn place(w: &[u64; 56], p: u8) -> u64
+    ensures { result ≡ Table.place w.now p }
+{
+    w[place_index(p)]
+}
+
+/// The words of one record of an arena.
+pub fn size(w: &[u64; 56], p: u8) -> u64
+    ensures { result ≡ Table.size w.now p }
+{
+    w[place_index(p) + 1]
+}
+
+/// The records that a thread has in an arena.
+pub fn per_thread(w: &[u64; 56], p: u8) -> u64
+    ensures { result ≡ Table.per_thread w.now p }
+{
+    if p == 3 {
+        w[8]
+    } else if p == 2 {
+        1
+    } else {
+        w[11]
+    }
+}
+
+/// The words in front of a field in its record.
+pub fn offset(w: &[u64; 56], field: u8) -> u64
+    requires { IsField field }
+    ensures { result ≡ Table.offset w.now field }
+{
+    w[11 + field as usize]
+}
+
+/// The words of a field.
+pub fn width(w: &[u64; 56], field: u8) -> u64
+    ensures { result ≡ Table.width w.now field }
+{
+    if field == 6 {
+        8
+    } else if field == 24 {
+        w[5]
+    } else if field == 43 || field == 44 {
+        4
+    } else {
+        1
+    }
+}
+
+/// The records of an arena.
+pub fn records(w: &[u64; 56], p: u8) -> u64
+    requires { Table.records w.now p ≤ 65536 }
+    ensures { result ≡ Table.records w.now p }
+{
+    if p == 1 { 1 } else { w[5] * per_thread(w, p) }
+}
+
+/// The words of an arena.
+pub fn extent(w: &[u64; 56], p: u8) -> u64
+    requires few { Table.records w.now p ≤ 65536 }
+    requires small { Table.size w.now p ≤ 4096 }
+    ensures { result ≡ Table.extent w.now p }
+{
+    records(w, p) * size(w, p)
+}
