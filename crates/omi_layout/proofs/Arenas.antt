@@ -17,11 +17,11 @@ each_kind P a b c d (suc (suc (suc zero))) k = c
 each_kind P a b c d (suc (suc (suc (suc zero)))) k = d
 each_kind P a b c d (suc (suc (suc (suc (suc n))))) k = absurd (omega (arith, k.to))
 
-test_left : (a b : Bool) → a && b ≡ true → a ≡ true
+pub test_left : (a b : Bool) → a && b ≡ true → a ≡ true
 test_left true b e = refl
 test_left false b e = e
 
-test_right : (a b : Bool) → a && b ≡ true → b ≡ true
+pub test_right : (a b : Bool) → a && b ≡ true → b ≡ true
 test_right true b e = e
 test_right false b e = absurd (cc)
 

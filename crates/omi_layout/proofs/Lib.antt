@@ -1,2 +1,5 @@
 pub mod Arenas
 pub mod Finding
+pub mod Turned
+pub mod Families
+pub mod Frame

@@ -4,3 +4,6 @@ pub mod Table
 pub mod Valid
 pub mod Place
 pub mod Judged
+pub mod Family
+pub mod Front
+pub mod Words

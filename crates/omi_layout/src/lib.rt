@@ -1,15 +1,22 @@
 //! Layouts: where the records of a runtime lie in memory, and where their fields lie in them.
 #![tactic(auto)]
 
+mod family;
 mod fault;
 mod judging;
+mod laws;
 mod layout;
 mod limits;
+mod publish;
 mod table;
 
 pub use fault::LayoutFault;
+pub use laws::words_apart;
 pub use layout::Layout;
 pub use limits::{
     FIELDS, FRONT_WORDS, LAST_END, MOST_RECORD_WORDS, MOST_REGIONS, MOST_TASKS, MOST_THREADS,
-    TABLE_WORDS, VERSION,
+    TABLE_PLACE, TABLE_WORDS, VERSION,
 };
+
+#[cfg(test)]
+mod tests;

@@ -26,3 +26,6 @@ pub const LAST_END: u64 = 0x8000_0000_0000;
 
 /// The words in front of the records: symbol table, entry point words and layout table.
 pub const FRONT_WORDS: u64 = 99;
+
+/// The place in an image of the first word of the layout table.
+pub const TABLE_PLACE: u64 = 43;

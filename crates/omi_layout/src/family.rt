@@ -1,0 +1,197 @@
+//! The families of layouts.
+
+ghost use Rattle.std.specs.Prelude.{◌≡◌, ◌≤◌};
+ghost use Rattle.omi_layout.specs.Field.{IsField, IsKind};
+ghost use Rattle.omi_layout.specs.Family;
+ghost use Rattle.omi_layout.specs.Family.{IsFamily};
+
+use crate::layout::Layout;
+use crate::limits::{FIELDS, FRONT_WORDS, VERSION};
+use crate::table::kind;
+use omi_word::FIRST_ADDRESS;
+
+/// The records of regions that a thread may make.
+const REGIONS: u64 = 16;
+
+/// The records of tasks that a thread may make.
+const TASKS: u64 = 256;
+
+/// The first field of a record.
+fn first_field(p: u8) -> u8
+    ensures { result ≡ Family.first_field p }
+{
+    if p == 1 {
+        1
+    } else if p == 2 {
+        7
+    } else if p == 3 {
+        13
+    } else {
+        25
+    }
+}
+
+/// How many fields a record has.
+fn field_count(p: u8) -> u8
+    ensures { result ≡ Family.field_count p }
+{
+    if p == 1 {
+        6
+    } else if p == 2 {
+        6
+    } else if p == 3 {
+        12
+    } else {
+        20
+    }
+}
+
+/// The words of all fields of a record.
+fn field_words(threads: u8, p: u8) -> u64
+    ensures { result ≡ Family.field_words threads p }
+{
+    if p == 1 {
+        13
+    } else if p == 2 {
+        6
+    } else if p == 3 {
+        11 + u64::from(threads)
+    } else {
+        26
+    }
+}
+
+/// The words of the fields in front of a field in the listed order.
+fn words_before(field: u8) -> u64
+    requires { IsField field }
+    ensures { result ≡ Family.words_before field }
+{
+    if field == 44 {
+        22
+    } else {
+        u64::from(field - first_field(kind(field)))
+    }
+}
+
+/// The field that stands first in its record.
+fn turned_first(k: u8, p: u8) -> u8
+    requires { IsKind p }
+    ensures value { result ≡ Family.turned_first k p }
+    ensures field { IsField result }
+{
+    first_field(p) + k % field_count(p)
+}
+
+/// The words in front of a field in its record.
+fn family_offset(k: u8, threads: u8, field: u8) -> u64
+    requires { IsField field }
+    ensures { result ≡ Family.family_offset k threads field }
+{
+    let first = turned_first(k, kind(field));
+    let gap = u64::from(k % 3);
+    let front = words_before(field);
+    let turned = words_before(first);
+    if first <= field {
+        gap + (front - turned)
+    } else {
+        let all = field_words(threads, kind(field));
+        gap + ((all - turned) + front)
+    }
+}
+
+/// The words of a record.
+fn family_size(k: u8, threads: u8, p: u8) -> u64
+    ensures { result ≡ Family.family_size k threads p }
+{
+    u64::from(k % 3) + field_words(threads, p) + u64::from(k % 2)
+}
+
+/// The words of an arena.
+fn family_extent(k: u8, threads: u8, p: u8) -> u64
+    requires { threads ≤ 16 }
+    ensures value { result ≡ Family.family_extent k threads p }
+    ensures small { result ≤ 1048576 }
+{
+    let count = u64::from(threads);
+    let words = family_size(k, threads, p);
+    if p == 1 {
+        words
+    } else if p == 2 {
+        count * words
+    } else if p == 3 {
+        count * REGIONS * words
+    } else {
+        count * TASKS * words
+    }
+}
+
+/// The byte address at which an arena begins.
+fn family_place(k: u8, threads: u8, p: u8) -> u64
+    requires kind { IsKind p }
+    requires few { threads ≤ 16 }
+    ensures { result ≡ Family.family_place k threads p }
+{
+    let runtime = family_extent(k, threads, 1);
+    let of_threads = family_extent(k, threads, 2);
+    let regions = family_extent(k, threads, 3);
+    let tasks = family_extent(k, threads, 4);
+    let front = if k % 2 == 0 {
+        if p == 1 {
+            0
+        } else if p == 2 {
+            runtime
+        } else if p == 3 {
+            runtime + of_threads
+        } else {
+            runtime + of_threads + regions
+        }
+    } else {
+        if p == 1 {
+            tasks + regions + of_threads
+        } else if p == 2 {
+            tasks + regions
+        } else if p == 3 {
+            tasks
+        } else {
+            0
+        }
+    };
+    FIRST_ADDRESS + 8 * (FRONT_WORDS + front)
+}
+
+/// The table of a family.
+fn family_table(k: u8, threads: u8) -> [u64; 56]
+    requires { threads ≤ 16 }
+    ensures { IsFamily k threads result }
+{
+    let mut table = [0u64; 56];
+    table[0] = VERSION;
+    table[1] = family_place(k, threads, 1);
+    table[2] = family_size(k, threads, 1);
+    table[3] = family_place(k, threads, 2);
+    table[4] = family_size(k, threads, 2);
+    table[5] = u64::from(threads);
+    table[6] = family_place(k, threads, 3);
+    table[7] = family_size(k, threads, 3);
+    table[8] = REGIONS;
+    table[9] = family_place(k, threads, 4);
+    table[10] = family_size(k, threads, 4);
+    table[11] = TASKS;
+    for f in 1..FIELDS + 1 {
+        table[11 + f as usize] = family_offset(k, threads, f);
+    }
+    table
+}
+
+impl Layout {
+    /// The layout of family `k`, one of sixteen, with so many threads.
+    pub fn family(k: u8, threads: u8) -> Layout
+        requires family { k ≤ 15 }
+        requires some { 1 ≤ threads }
+        requires most { threads ≤ 16 }
+        ensures { IsFamily k threads result.table }
+    {
+        let table = family_table(k, threads);
+        Layout { table }
+    }
+}

@@ -1,0 +1,96 @@
+//! Sizes of images, tables that are refused, and records found again.
+
+use crate::{Layout, LayoutFault};
+use omi_word::Image;
+use std::test::Fail;
+
+#[test]
+fn images_have_their_sizes(rt: HostRuntime) -> Result<(), Fail> {
+    assert_eq!(rt; Layout::family(0, 1).image_words(), 6966);
+    assert_eq!(rt; Layout::family(7, 1).image_words(), 7514);
+    Ok(())
+}
+
+#[test]
+fn every_family_is_read_back(rt: HostRuntime) -> Result<(), Fail> {
+    for k in 0..16u8 {
+        for threads in 1..17u8 {
+            let layout = Layout::family(k, threads);
+            let again = Layout::of_words(&layout.table).is_ok();
+            assert!(rt; again);
+            assert!(rt; layout.fits(layout.image_words()));
+        }
+    }
+    Ok(())
+}
+
+/// A table with one word changed.
+fn refused(place: usize, word: u64) -> Option<LayoutFault> {
+    let mut table = Layout::family(0, 1).table;
+    if place < table.len() {
+        table[place] = word;
+    }
+    match Layout::of_words(&table) {
+        Ok(_) => None,
+        Err(fault) => Some(fault),
+    }
+}
+
+#[test]
+fn tables_that_are_refused(rt: HostRuntime) -> Result<(), Fail> {
+    let table = [
+        (0, 9, LayoutFault::Version(9)),
+        (2, 12, LayoutFault::OutOfRecord(6)),
+        (2, 4097, LayoutFault::OutOfRecord(1)),
+        (5, 2, LayoutFault::OutOfRecord(24)),
+        (19, 0, LayoutFault::Overlap(7, 8)),
+        (1, 0x10319, LayoutFault::BadArena(1)),
+        (3, 0x10310, LayoutFault::BadArena(2)),
+        (8, 65, LayoutFault::BadArena(3)),
+        (11, 4097, LayoutFault::BadArena(4)),
+    ];
+    for (place, word, fault) in table {
+        assert_eq!(rt; refused(place, word), Some(fault));
+    }
+    Ok(())
+}
+
+#[test]
+fn records_are_found_again(rt: HostRuntime) -> Result<(), Fail> {
+    let layout = Layout::family(0, 1);
+    assert_eq!(rt; layout.runtime_place(), 0x10318);
+    assert_eq!(rt; layout.thread_at(0), 0x10380);
+    assert_eq!(rt; layout.region_at(0, 0), 0x103b0);
+    assert_eq!(rt; layout.task_at(0, 0), 0x109b0);
+    assert_eq!(rt; layout.thread_of(0x10380), Some(0));
+    assert_eq!(rt; layout.region_of(0x103b0 + 96), Some((0, 1)));
+    assert_eq!(rt; layout.task_of(0x109b0 + 208 * 255), Some((0, 255)));
+    assert_eq!(rt; layout.task_of(0x109b0 + 8), None);
+    assert_eq!(rt; layout.threads(), 1);
+    assert_eq!(rt; layout.regions_per_thread(), 16);
+    assert_eq!(rt; layout.tasks_per_thread(), 256);
+    assert_eq!(rt; layout.offset(44), 22);
+    Ok(())
+}
+
+#[test]
+fn the_tables_are_published(rt: HostRuntime) -> Result<(), Fail> {
+    let layout = Layout::family(0, 1);
+    let mut image = Image::zeroed(rt.alloc(), 6966)?;
+    let fits = layout.fits(image.len());
+    assert!(rt; fits);
+    layout.publish(&mut image);
+    let table = [
+        (0x10000, 8),
+        (0x10028, 0x10148),
+        (0x10148, 0x10150),
+        (0x10158, 1),
+        (0x10160, 0x10318),
+        (0x10310, 22),
+        (0x10318, 0),
+    ];
+    for (address, word) in table {
+        assert_eq!(rt; image.get(address), Some(word));
+    }
+    Ok(())
+}
