@@ -3,3 +3,4 @@ pub mod Finding
 pub mod Turned
 pub mod Families
 pub mod Frame
+pub mod Symbols

@@ -7,3 +7,4 @@ pub mod Judged
 pub mod Family
 pub mod Front
 pub mod Words
+pub mod SymbolTable

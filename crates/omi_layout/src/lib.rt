@@ -7,6 +7,7 @@ mod judging;
 mod laws;
 mod layout;
 mod limits;
+mod looking;
 mod publish;
 mod table;
 
@@ -17,6 +18,7 @@ pub use limits::{
     FIELDS, FRONT_WORDS, LAST_END, MOST_RECORD_WORDS, MOST_REGIONS, MOST_TASKS, MOST_THREADS,
     TABLE_PLACE, TABLE_WORDS, VERSION,
 };
+pub use looking::look_up;
 
 #[cfg(test)]
 mod tests;

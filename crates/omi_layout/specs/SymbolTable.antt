@@ -1,0 +1,67 @@
+-- The symbol table that a memory's words hold. Its first word, at 0x10000, is the number of symbols, at most 16. Five words follow for each: four hold the name, its bytes from the lowest byte of the first word on and zeros after them, and the last holds the address.
+use Rattle.std.specs.Prelude.{ℕ, zero, suc, ◌+◌, ◌-◌, ◌==◌, ◌%◌, ◌&&◌, Bool, List, [], ◌∷◌, ◌++◌, length, replicate, find, take, slice_index, Option, Some, None, if◌then◌else◌, nat_le, nat_lt}
+use Rattle.std.specs.List.{flat_map}
+use Rattle.std.specs.Option.{option_map, option_and_then}
+use Rattle.std.specs.Int.{w64, to_le_bytes}
+use Rattle.std.specs.Str.{bytes_eq}
+use Rattle.omi_word.specs.declared.limits.TheConstants.{FIRST_ADDRESS}
+use Rattle.omi_word.specs.Memory.{place_of, word_at}
+
+-- the word at each address at which one stands
+abbrev pub Words : Type 0
+Words = ℕ → Option ℕ
+
+-- where the number of symbols stands
+abbrev pub count_place : ℕ
+count_place = 65536
+
+-- where the first symbol stands
+abbrev pub first_place : ℕ
+first_place = 65544
+
+-- the most symbols of a table
+abbrev pub most_symbols : ℕ
+most_symbols = 16
+
+-- a symbol as it is stored: its name, filled up with zeros to 32 bytes, and its address
+pub record Symbol : Type 0 where
+  pub name : List ℕ
+  pub address : ℕ
+
+-- so many words from an address on, where each of them is mapped
+abbrev pub words_from : Words → ℕ → ℕ → Option (List ℕ)
+words_from words addr zero = Some []
+words_from words addr (suc n) =
+    option_and_then (λ word. option_map (λ more. word ∷ more) (words_from words (addr + 8) n)) (words addr)
+
+-- the symbol that five words spell
+abbrev pub symbol_of : List ℕ → Symbol
+symbol_of words = record { name = flat_map (to_le_bytes w64) (take 4 words); address = slice_index words 4 }
+
+-- so many symbols from an address on, where each word of them is mapped
+abbrev pub symbols_from : Words → ℕ → ℕ → Option (List Symbol)
+symbols_from words addr zero = Some []
+symbols_from words addr (suc n) =
+    option_and_then (λ five. option_map (λ more. symbol_of five ∷ more) (symbols_from words (addr + 40) n)) (words_from words addr 5)
+
+-- the symbols of the table
+abbrev pub symbols_in : Words → Option (List Symbol)
+symbols_in words =
+    option_and_then (λ count. if nat_le count most_symbols then symbols_from words first_place count else None) (words count_place)
+
+-- the symbol has this name
+abbrev pub is_named : List ℕ → Symbol → Bool
+is_named name symbol = bytes_eq symbol.name (name ++ replicate (32 - length name) 0)
+
+-- the address of the first symbol with this name
+abbrev pub symbol_in : Words → List ℕ → Option ℕ
+symbol_in words name =
+    option_and_then (λ symbols. option_map (λ symbol. symbol.address) (find (is_named name) symbols)) (symbols_in words)
+
+-- a word of an image stands at this address
+abbrev pub is_word : List ℕ → ℕ → Bool
+is_word image addr = addr % 8 == 0 && (nat_le FIRST_ADDRESS addr && nat_lt (place_of addr) (length image))
+
+-- the words of an image, by their addresses
+abbrev pub words_of : List ℕ → Words
+words_of image addr = if is_word image addr then Some (word_at image addr) else None
