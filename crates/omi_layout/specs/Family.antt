@@ -7,15 +7,27 @@ use Rattle.omi_layout.specs.Table.{version, place, size, thread_count, per_threa
 
 -- the first field of a record
 abbrev pub first_field : ℕ → ℕ
-first_field p = if p == runtime then 1 else (if p == threads then 7 else (if p == regions then 13 else 25))
+first_field p =
+    if p == runtime then 1
+    else (if p == threads then 7
+    else (if p == regions then 13
+    else 25))
 
 -- how many fields a record has
 abbrev pub field_count : ℕ → ℕ
-field_count p = if p == runtime then 6 else (if p == threads then 6 else (if p == regions then 12 else 20))
+field_count p =
+    if p == runtime then 6
+    else (if p == threads then 6
+    else (if p == regions then 12
+    else 20))
 
 -- the words of all fields of a record
 abbrev pub field_words : ℕ → ℕ → ℕ
-field_words t p = if p == runtime then 13 else (if p == threads then 6 else (if p == regions then 11 + t else 26))
+field_words t p =
+    if p == runtime then 13
+    else (if p == threads then 6
+    else (if p == regions then 11 + t
+    else 26))
 
 -- the words of the fields in front of a field in the listed order: of these only nthreads-var, right in front of the slots, has more than one
 abbrev pub words_before : ℕ → ℕ
@@ -38,7 +50,11 @@ family_size k t p = (k % 3 + field_words t p) + k % 2
 
 -- the records of a thread
 abbrev pub family_count : ℕ → ℕ → ℕ
-family_count t p = if p == runtime then 1 else (if p == threads then t else (if p == regions then t * 16 else t * 256))
+family_count t p =
+    if p == runtime then 1
+    else (if p == threads then t
+    else (if p == regions then t * 16
+    else t * 256))
 
 -- the words of an arena
 abbrev pub family_extent : ℕ → ℕ → ℕ → ℕ
@@ -47,18 +63,23 @@ family_extent k t p = family_count t p * family_size k t p
 -- the words of the arenas of lower number
 abbrev pub extents_before : ℕ → ℕ → ℕ → ℕ
 extents_before k t p =
-    if p == runtime then 0 else (if p == threads then family_extent k t 1 else (if p == regions then family_extent k t 1 + family_extent k t 2
+    if p == runtime then 0
+    else (if p == threads then family_extent k t 1
+    else (if p == regions then family_extent k t 1 + family_extent k t 2
     else (family_extent k t 1 + family_extent k t 2) + family_extent k t 3))
 
 -- the words of the arenas of greater number
 abbrev pub extents_behind : ℕ → ℕ → ℕ → ℕ
 extents_behind k t p =
-    if p == runtime then (family_extent k t 4 + family_extent k t 3) + family_extent k t 2 else (if p == threads then family_extent k t 4 + family_extent k t 3 else (if p == regions then family_extent k t 4
+    if p == runtime then (family_extent k t 4 + family_extent k t 3) + family_extent k t 2
+    else (if p == threads then family_extent k t 4 + family_extent k t 3
+    else (if p == regions then family_extent k t 4
     else 0))
 
 -- where an arena begins: even families have runtime, threads, regions and tasks in this order, odd ones in the opposite order
 abbrev pub family_place : ℕ → ℕ → ℕ → ℕ
-family_place k t p = address_at (FRONT_WORDS + (if k % 2 == 0 then extents_before k t p else extents_behind k t p))
+family_place k t p =
+    address_at (FRONT_WORDS + (if k % 2 == 0 then extents_before k t p else extents_behind k t p))
 
 -- a table is that of family `k` with this many threads
 pub record IsFamily (k t : ℕ) (w : List ℕ) : Type 0 where

@@ -41,4 +41,7 @@ pub record IsKind (p : ℕ) : Type 0 where
 -- the kind of record that a field belongs to
 abbrev pub kind_of : ℕ → ℕ
 kind_of f =
-    if nat_lt f 7 then runtime else (if nat_lt f 13 then threads else (if nat_lt f 25 then regions else tasks))
+    if nat_lt f 7 then runtime
+    else (if nat_lt f 13 then threads
+    else (if nat_lt f 25 then regions
+    else tasks))

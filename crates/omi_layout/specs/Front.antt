@@ -8,7 +8,8 @@ use Rattle.omi_layout.specs.declared.limits.TheConstants.{TABLE_PLACE, TABLE_WOR
 abbrev pub name_words : List ℕ → List ℕ
 name_words name =
     let bytes = name ++ replicate (32 - length name) 0 in
-    from_le_bytes w64 (take 8 bytes) ∷ from_le_bytes w64 (take 8 (drop 8 bytes)) ∷ from_le_bytes w64 (take 8 (drop 16 bytes)) ∷ from_le_bytes w64 (drop 24 bytes) ∷ []
+    from_le_bytes w64 (take 8 bytes) ∷ from_le_bytes w64 (take 8 (drop 8 bytes))
+    ∷ from_le_bytes w64 (take 8 (drop 16 bytes)) ∷ from_le_bytes w64 (drop 24 bytes) ∷ []
 
 -- an entry of the symbol table
 abbrev pub symbol : List ℕ → ℕ → List ℕ
@@ -17,9 +18,13 @@ symbol name address = name_words name ++ address ∷ []
 -- the count of symbols, then the symbols. The first seven names are those of OpenMP 5.0. The breakpoints' addresses are mapped nowhere
 abbrev pub symbol_table : List ℕ
 symbol_table =
-    8 ∷ symbol (codes "ompd_dll_locations") (address_at 41) ++ symbol (codes "ompd_bp_parallel_begin") 0x8000 ++ symbol (codes "ompd_bp_parallel_end") 0x8010
-    ++ symbol (codes "ompd_bp_task_begin") 0x8020 ++ symbol (codes "ompd_bp_task_end") 0x8030 ++ symbol (codes "ompd_bp_thread_begin") 0x8040
-    ++ symbol (codes "ompd_bp_thread_end") 0x8050 ++ symbol (codes "omi_layout") (address_at TABLE_PLACE)
+    8 ∷ symbol (codes "ompd_dll_locations") (address_at 41)
+    ++ symbol (codes "ompd_bp_parallel_begin") 0x8000
+    ++ symbol (codes "ompd_bp_parallel_end") 0x8010
+    ++ symbol (codes "ompd_bp_task_begin") 0x8020 ++ symbol (codes "ompd_bp_task_end") 0x8030
+    ++ symbol (codes "ompd_bp_thread_begin") 0x8040
+    ++ symbol (codes "ompd_bp_thread_end") 0x8050
+    ++ symbol (codes "omi_layout") (address_at TABLE_PLACE)
 
 -- the address of an empty list of library locations, and that list: the library is built into the inspector
 abbrev pub entry_point : List ℕ
@@ -40,5 +45,6 @@ pub record IsWritten (first : ℕ) (words old new : List ℕ) : Type 0 where
 pub record IsPublished (table old new : List ℕ) : Type 0 where
   pub count : length new ≡ length old
   pub symbols : (i : ℕ) → i < TABLE_PLACE → slice_index new i ≡ slice_index front i
-  pub read_back : (i : ℕ) → i < TABLE_WORDS → slice_index new (TABLE_PLACE + i) ≡ slice_index table i
+  pub read_back : (i : ℕ) → i < TABLE_WORDS
+      → slice_index new (TABLE_PLACE + i) ≡ slice_index table i
   pub others : (i : ℕ) → FRONT_WORDS ≤ i → slice_index new i ≡ slice_index old i

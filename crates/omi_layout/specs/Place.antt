@@ -22,7 +22,8 @@ pub record IsSlot (w : List ℕ) (p creator slot : ℕ) : Type 0 where
   pub within : slot < per_thread w p
 
 -- what is found at an address: the slot whose record begins there, and None exactly where there is none
-pub record IsSlotAt (w : List ℕ) (p address : ℕ) (found : Option (record { 0 : ℕ; 1 : ℕ })) : Type 0 where
+pub record IsSlotAt (w : List ℕ) (p address : ℕ)
+    (found : Option (record { 0 : ℕ; 1 : ℕ })) : Type 0 where
   pub is : IfSome found (λ at. IsSlot w p at.0 at.1 × (address ≡ slot_address w p at.0 at.1))
   pub all : (creator slot : ℕ) → IsSlot w p creator slot → address ≡ slot_address w p creator slot
       → found ≡ Some (record { 0 = creator; 1 = slot })
@@ -30,7 +31,8 @@ pub record IsSlotAt (w : List ℕ) (p address : ℕ) (found : Option (record { 0
 -- the same of a record's number in its arena
 pub record IsRecordAt (w : List ℕ) (p address : ℕ) (found : Option ℕ) : Type 0 where
   pub is : IfSome found (λ index. (index < records w p) × (address ≡ record_address w p index))
-  pub all : (index : ℕ) → index < records w p → address ≡ record_address w p index → found ≡ Some index
+  pub all : (index : ℕ) → index < records w p → address ≡ record_address w p index
+      → found ≡ Some index
 
 -- the place in the image of the first word of an arena
 abbrev pub first_word : List ℕ → ℕ → ℕ
@@ -50,4 +52,5 @@ fits w n = (arena_fits w n 1 && arena_fits w n 2) && (arena_fits w n 3 && arena_
 
 -- the least number of words that has the tables, and in which every arena ends
 abbrev pub image_words : List ℕ → ℕ
-image_words w = max (max FRONT_WORDS (end_word w 1)) (max (end_word w 2) (max (end_word w 3) (end_word w 4)))
+image_words w =
+    max (max FRONT_WORDS (end_word w 1)) (max (end_word w 2) (max (end_word w 3) (end_word w 4)))

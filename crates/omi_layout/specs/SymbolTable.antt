@@ -32,22 +32,28 @@ pub record Symbol : Type 0 where
 abbrev pub words_from : Words → ℕ → ℕ → Option (List ℕ)
 words_from words addr zero = Some []
 words_from words addr (suc n) =
-    option_and_then (λ word. option_map (λ more. word ∷ more) (words_from words (addr + 8) n)) (words addr)
+    option_and_then (λ word. option_map (λ more. word ∷ more) (words_from words (addr + 8) n))
+    (words addr)
 
 -- the symbol that five words spell
 abbrev pub symbol_of : List ℕ → Symbol
-symbol_of words = record { name = flat_map (to_le_bytes w64) (take 4 words); address = slice_index words 4 }
+symbol_of words =
+    record { name = flat_map (to_le_bytes w64) (take 4 words); address = slice_index words 4 }
 
 -- so many symbols from an address on, where each word of them is mapped
 abbrev pub symbols_from : Words → ℕ → ℕ → Option (List Symbol)
 symbols_from words addr zero = Some []
 symbols_from words addr (suc n) =
-    option_and_then (λ five. option_map (λ more. symbol_of five ∷ more) (symbols_from words (addr + 40) n)) (words_from words addr 5)
+    option_and_then
+    (λ five. option_map (λ more. symbol_of five ∷ more) (symbols_from words (addr + 40) n))
+    (words_from words addr 5)
 
 -- the symbols of the table
 abbrev pub symbols_in : Words → Option (List Symbol)
 symbols_in words =
-    option_and_then (λ count. if nat_le count most_symbols then symbols_from words first_place count else None) (words count_place)
+    option_and_then
+    (λ count. if nat_le count most_symbols then symbols_from words first_place count else None)
+    (words count_place)
 
 -- the symbol has this name
 abbrev pub is_named : List ℕ → Symbol → Bool
@@ -56,11 +62,14 @@ is_named name symbol = bytes_eq symbol.name (name ++ replicate (32 - length name
 -- the address of the first symbol with this name
 abbrev pub symbol_in : Words → List ℕ → Option ℕ
 symbol_in words name =
-    option_and_then (λ symbols. option_map (λ symbol. symbol.address) (find (is_named name) symbols)) (symbols_in words)
+    option_and_then
+    (λ symbols. option_map (λ symbol. symbol.address) (find (is_named name) symbols))
+    (symbols_in words)
 
 -- a word of an image stands at this address
 abbrev pub is_word : List ℕ → ℕ → Bool
-is_word image addr = addr % 8 == 0 && (nat_le FIRST_ADDRESS addr && nat_lt (place_of addr) (length image))
+is_word image addr = addr % 8 == 0
+    && (nat_le FIRST_ADDRESS addr && nat_lt (place_of addr) (length image))
 
 -- the words of an image, by their addresses
 abbrev pub words_of : List ℕ → Words

@@ -7,7 +7,11 @@ version w = slice_index w 0
 
 -- where in the table the place of an arena stands. Its size stands right behind
 abbrev pub place_index : ℕ → ℕ
-place_index p = if p == runtime then 1 else (if p == threads then 3 else (if p == regions then 6 else 9))
+place_index p =
+    if p == runtime then 1
+    else (if p == threads then 3
+    else (if p == regions then 6
+    else 9))
 
 -- the byte address at which an arena begins
 abbrev pub place : List ℕ → ℕ → ℕ
@@ -22,7 +26,10 @@ thread_count w = slice_index w 5
 
 -- how many records a thread has there; of the runtime record there is one alone
 abbrev pub per_thread : List ℕ → ℕ → ℕ
-per_thread w p = if p == regions then slice_index w 8 else (if p == threads then 1 else slice_index w 11)
+per_thread w p =
+    if p == regions then slice_index w 8
+    else (if p == threads then 1
+    else slice_index w 11)
 
 -- the records of an arena
 abbrev pub records : List ℕ → ℕ → ℕ
@@ -43,4 +50,7 @@ offset w f = slice_index w (offset_index f)
 -- the words of a field: eight locks, a member of the team for each thread, four elements of nthreads-var and four slots
 abbrev pub width : List ℕ → ℕ → ℕ
 width w f =
-    if f == locks then 8 else (if f == team then thread_count w else (if f == nth || f == slots then 4 else 1))
+    if f == locks then 8
+    else (if f == team then thread_count w
+    else (if f == nth || f == slots then 4
+    else 1))

@@ -10,7 +10,8 @@ use Rattle.omi_layout.specs.Table.{version, place, size, thread_count, per_threa
 -- the field ends inside its record, and the record isn't too large
 abbrev pub is_inside : List ℕ → ℕ → Bool
 is_inside w f =
-    nat_le (size w (kind_of f)) MOST_RECORD_WORDS && nat_le (offset w f + width w f) (size w (kind_of f))
+    nat_le (size w (kind_of f)) MOST_RECORD_WORDS
+    && nat_le (offset w f + width w f) (size w (kind_of f))
 
 -- two ranges, each by its beginning and its length, have something in common
 abbrev pub shares : ℕ → ℕ → ℕ → ℕ → Bool
@@ -35,7 +36,8 @@ is_counted w p =
 -- the arena begins at a word, and lies between the first address and the last
 abbrev pub is_placed : List ℕ → ℕ → Bool
 is_placed w p =
-    place w p % 8 == 0 && (nat_le FIRST_ADDRESS (place w p) && nat_le (place w p + 8 * extent w p) LAST_END)
+    place w p % 8 == 0
+    && (nat_le FIRST_ADDRESS (place w p) && nat_le (place w p + 8 * extent w p) LAST_END)
 
 -- two arenas share a word
 abbrev pub arenas_share : List ℕ → ℕ → ℕ → Bool
@@ -48,7 +50,9 @@ is_taken w q p = nat_lt q p && arenas_share w q p
 -- the arena is in order
 abbrev pub is_arena : List ℕ → ℕ → Bool
 is_arena w p =
-    is_counted w p && (is_placed w p && (not (is_taken w 1 p) && (not (is_taken w 2 p) && not (is_taken w 3 p))))
+    is_counted w p
+    && (is_placed w p
+    && (not (is_taken w 1 p) && (not (is_taken w 2 p) && not (is_taken w 3 p))))
 
 -- each field ends inside its record
 abbrev pub AllInside : List ℕ → Type 0

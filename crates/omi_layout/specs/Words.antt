@@ -7,7 +7,8 @@ use Rattle.omi_layout.specs.Place.{first_word, fits, IsSlot, index_of}
 
 -- the place in an image of word `at` of field `f` of the record with this number in its arena
 abbrev pub word_place : List ℕ → ℕ → ℕ → ℕ → ℕ
-word_place w f index at = first_word w (kind_of f) + (index * size w (kind_of f) + (offset w f + at))
+word_place w f index at =
+    first_word w (kind_of f) + (index * size w (kind_of f) + (offset w f + at))
 
 -- there is such a word
 pub record IsWord (w : List ℕ) (f index at : ℕ) : Type 0 where
@@ -29,9 +30,13 @@ AreApart w = (f index at g other there : ℕ) → IsWord w f index at → IsWord
 -- each word is in an image that the layout fits, behind the tables
 abbrev pub AreInside : List ℕ → Type 0
 AreInside w = (n f index at : ℕ) → IsTrue (fits w n) → IsWord w f index at
-    → record { behind : FRONT_WORDS ≤ word_place w f index at; inside : word_place w f index at < n }
+    → record {
+      behind : FRONT_WORDS ≤ word_place w f index at;
+      inside : word_place w f index at < n;
+    }
 
 -- two slots of an arena have different records
 abbrev pub SlotsApart : List ℕ → Type 0
 SlotsApart w = (p creator slot other there : ℕ) → IsSlot w p creator slot → IsSlot w p other there
-    → index_of w p creator slot ≡ index_of w p other there → record { maker : creator ≡ other; place : slot ≡ there }
+    → index_of w p creator slot ≡ index_of w p other there
+    → record { maker : creator ≡ other; place : slot ≡ there }

@@ -24,7 +24,8 @@ impl Layout {
     /// The layout that the words of a table spell. An error where there is none: the least field or
     /// arena that is wrong.
     pub fn of_words(w: &[u64; 56]) -> Result<Layout, LayoutFault>
-        ensures { MatchResult result (λ layout. layout.table ≡ w.now) (λ fault. Refuses w.now fault) }
+        ensures { MatchResult result (λ layout. layout.table ≡ w.now)
+            (λ fault. Refuses w.now fault) }
     {
         judge(w)?;
         Ok(Layout { table: *w })

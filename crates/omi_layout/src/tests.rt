@@ -1,6 +1,6 @@
 //! Sizes of images, tables that are refused, and records found again.
 
-use crate::{Layout, LayoutFault};
+use crate::{Layout, LayoutFault, look_up};
 use omi_word::Image;
 use std::test::Fail;
 
@@ -91,6 +91,15 @@ fn the_tables_are_published(rt: HostRuntime) -> Result<(), Fail> {
     ];
     for (address, word) in table {
         assert_eq!(rt; image.get(address), Some(word));
+    }
+    let symbols = [
+        ("ompd_dll_locations", Some(0x10148)),
+        ("ompd_bp_parallel_end", Some(0x8010)),
+        ("omi_layout", Some(0x10158)),
+        ("omi", None),
+    ];
+    for (name, address) in symbols {
+        assert_eq!(rt; look_up(&image, name), address);
     }
     Ok(())
 }
