@@ -1,3 +1,5 @@
+//! Words in both orders, look-ups, and calls that fail by their number.
+
 ghost use Rattle.std.specs.Prelude.{◌≡◌, ◌==◌, ◌≤◌, ℕ, Some, None, IfOk, length, if◌then◌else◌};
 ghost use Rattle.std.specs.Int.{w64, from_le_bytes, from_be_bytes};
 ghost use Rattle.omi_calls.specs.Kept.{IsOrderOf, TakesAll, GivesNumbers};

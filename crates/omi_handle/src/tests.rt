@@ -1,3 +1,5 @@
+//! Handles made, found and released, in the orders that matter.
+
 use crate::{Handles, Held, Kind};
 use std::test::Fail;
 
