@@ -10,7 +10,6 @@ ghost use Rattle.omi_model.specs.Teams.{AreAsksOver, MayFork, got_threads};
 
 use crate::ask_rules::{got_count, were_asked};
 use crate::fresh::is_fresh;
-use crate::same::same_task;
 use crate::{Rid, State, Team, Thread, Tid};
 
 /// Whether the threads that joined and the asker are as many as wanted.
@@ -96,7 +95,7 @@ fn differ(team: &Team, j: usize, at: usize) -> bool
     ensures { (result ≡ true)
         ↔ (slice_get (map (λ m. m.0) team.now) j ≢ slice_get (map (λ m. m.0) team.now) at) }
 {
-    !same_task(task_at(team, j), task_at(team, at))
+    task_at(team, j) != task_at(team, at)
 }
 
 /// Whether each member has the thread that is its place's.

@@ -24,7 +24,6 @@ mod progress;
 mod region;
 mod rows;
 mod rule;
-mod same;
 mod slot;
 mod state;
 mod taken;

@@ -9,8 +9,7 @@ ghost use Rattle.omi_model.specs.Kept.{state_of};
 ghost use Rattle.omi_model.specs.Tasking.{AreChildrenFinished, IsTaken, MayFinish, MayStart, MayStartAt};
 
 use crate::fresh::is_fresh;
-use crate::same::{same_region, same_task};
-use crate::unfinished::{TasksOf, are_finished_of, is_child};
+use crate::unfinished::{TasksOf, are_finished_of};
 use crate::{Item, Progress, Rid, Slot, State, Task, Tid};
 
 /// The state of a thread that waits at taskwait.
@@ -20,10 +19,7 @@ const WAIT_TASKWAIT: u32 = 0x020;
 fn is_deferred_in(region: Rid, place: u8, t: &Task) -> bool
     ensures { (result ≡ true) ↔ IsDeferredIn region place t.now }
 {
-    !t.implicit
-        && t.progress == Progress::Deferred
-        && same_region(t.region, region)
-        && t.place == place
+    !t.implicit && t.progress == Progress::Deferred && t.region == region && t.place == place
 }
 
 /// Whether a slot has a task that is deferred in a place, in a region.
@@ -86,12 +82,12 @@ fn may_start_at(x: Item, k: Tid, t: &Task, new: &Task) -> bool
     match x {
         Item::Tasks { state } => {
             if state == WAIT_TASKWAIT {
-                is_child(new, k)
+                new.generating == Some(k)
             } else {
-                same_region(new.region, t.region)
+                new.region == t.region
             }
         }
-        Item::OneTask => is_child(new, k),
+        Item::OneTask => new.generating == Some(k),
         _ => false,
     }
 }
@@ -126,7 +122,7 @@ pub fn may_finish(s: &State, i: usize, task: Tid) -> bool
     ensures { (result ≡ true) ↔ OfCurrent (state_of s.now) i (MayFinish task) }
 {
     match s.current(i) {
-        Some((k, t)) => same_task(task, k) && !t.implicit,
+        Some((k, t)) => task == k && !t.implicit,
         None => false,
     }
 }

@@ -6,7 +6,6 @@ ghost use Rattle.omi_model.specs.Changes.{OfCurrentRegion};
 ghost use Rattle.omi_model.specs.Kept.{state_of};
 ghost use Rattle.omi_model.specs.Teams.{MayBegin, MayBeginTask, MayEnd, MayJoin, MayOffer};
 
-use crate::same::{same_region, same_task};
 use crate::{Claim, Progress, Region, Rid, State, Tid};
 
 /// Whether a worker begins.
@@ -45,7 +44,7 @@ pub fn may_end(s: &State, i: usize, task: Tid) -> bool
     ensures { (result ≡ true) ↔ OfCurrentRegion (state_of s.now) i (λ k t r. MayEnd task k t) }
 {
     match s.current_region(i) {
-        Some((k, t, _)) => same_task(task, k) && t.implicit && t.number != 0,
+        Some((k, t, _)) => task == k && t.implicit && t.number != 0,
         None => false,
     }
 }
@@ -74,10 +73,7 @@ pub fn may_join(s: &State, i: usize, region: Rid) -> bool
         ↔ OfCurrentRegion (state_of s.now) i (λ k t r. MayJoin region t r) }
 {
     match s.current_region(i) {
-        Some((_, t, r)) => same_region(region, t.region)
-            && t.implicit
-            && t.number == 0
-            && have_ended(r),
+        Some((_, t, r)) => region == t.region && t.implicit && t.number == 0 && have_ended(r),
         None => false,
     }
 }

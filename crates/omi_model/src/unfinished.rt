@@ -1,11 +1,10 @@
 //! Whether explicit tasks have finished, where a rule asks so of all tasks of a region, or of all children of a task.
 
-ghost use Rattle.std.specs.Prelude.{◌≡◌, ◌↔◌, Some, true};
+ghost use Rattle.std.specs.Prelude.{◌≡◌, ◌↔◌, true};
 ghost use Rattle.std.specs.List.{All};
 ghost use Rattle.omi_model.specs.Decided.{AreFinishedOf, IfLive, IsFinishedOf, IsOneOf};
 ghost use Rattle.omi_model.specs.Kept.{slots_of};
 
-use crate::same::{same_region, same_task};
 use crate::{Progress, Rid, Rows, Slot, Task, Tid};
 
 /// The tasks of a region, or the children of a task.
@@ -15,23 +14,13 @@ pub enum TasksOf {
     Parent(Tid),
 }
 
-/// Whether a task generated another one.
-pub fn is_child(t: &Task, k: Tid) -> bool
-    ensures { (result ≡ true) ↔ (t.now.generating ≡ Some k) }
-{
-    match t.generating {
-        Some(by) => same_task(by, k),
-        None => false,
-    }
-}
-
 /// Whether a task is one of those.
 fn is_one_of(t: &Task, which: TasksOf) -> bool
     ensures { (result ≡ true) ↔ IsOneOf which t.now }
 {
     match which {
-        TasksOf::Region(n) => same_region(t.region, n),
-        TasksOf::Parent(k) => is_child(t, k),
+        TasksOf::Region(n) => t.region == n,
+        TasksOf::Parent(k) => t.generating == Some(k),
     }
 }
 
