@@ -58,4 +58,6 @@ pub use thread::Thread;
 pub use view::{HeadRow, MemberRow, RegionRow, TaskRow, ThreadPart, ThreadRow, View};
 
 #[cfg(test)]
+mod legal_tests;
+#[cfg(test)]
 mod tests;
