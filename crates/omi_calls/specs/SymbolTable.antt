@@ -61,5 +61,6 @@ is_named name symbol = bytes_eq symbol.name (name ++ replicate (32 - length name
 -- the address of the first symbol with this name
 abbrev pub symbol_in : Words → List ℕ → Option ℕ
 symbol_in words name =
-    option_and_then (λ symbols. option_map (λ symbol. symbol.address) (find (is_named name) symbols))
+    option_and_then
+    (λ symbols. option_map (λ symbol. symbol.address) (find (is_named name) symbols))
     (symbols_in words)

@@ -10,7 +10,8 @@ use Rattle.omi_corefile.specs.Refusals.{CoreRefused}
 
 -- With this field at a place of the core's spelling, and any bytes behind it, the fault of the file is this one, at that place.
 abbrev pub IsFaultAt : CoreImage → ℕ → List ℕ → CoreFault → Type 0
-IsFaultAt c at field why = (more : List ℕ) → CoreRefused (take at (spelling c) ++ (field ++ more)) at why
+IsFaultAt c at field why = (more : List ℕ)
+    → CoreRefused (take at (spelling c) ++ (field ++ more)) at why
 
 -- the place of a native id behind so many others
 abbrev pub id_place : ℕ → ℕ

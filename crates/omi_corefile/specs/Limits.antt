@@ -25,7 +25,8 @@ end_of start count = start + 8 * count
 -- each segment has a word, and starts above the end of the one before, so that two neighbours have a gap
 abbrev pub rise_apart_from : ℕ → List Segment → Bool
 rise_apart_from least [] = true
-rise_apart_from least (s ∷ ss) = is_start least s.start && nat_lt 0 (length s.words) && are_words s.words && rise_apart_from (end_of s.start (length s.words) + 1) ss
+rise_apart_from least (s ∷ ss) = is_start least s.start && nat_lt 0 (length s.words)
+    && are_words s.words && rise_apart_from (end_of s.start (length s.words) + 1) ss
 
 -- the number of words in all segments together
 abbrev pub total_words : List Segment → ℕ
@@ -33,11 +34,13 @@ total_words segments = sum_by (λ s. length s.words) segments
 
 -- few enough native ids, which rise strictly
 abbrev pub are_contexts : List ℕ → Bool
-are_contexts contexts = nat_le (length contexts) MOST_CONTEXTS && rises_from 0 contexts && are_words contexts
+are_contexts contexts = nat_le (length contexts) MOST_CONTEXTS && rises_from 0 contexts
+    && are_words contexts
 
 -- few enough segments from the first address on, with few enough words
 abbrev pub are_segments : List Segment → Bool
-are_segments segments = nat_le (length segments) MOST_SEGMENTS && rise_apart_from FIRST_ADDRESS segments && nat_le (total_words segments) MOST_SEGMENT_WORDS
+are_segments segments = nat_le (length segments) MOST_SEGMENTS
+    && rise_apart_from FIRST_ADDRESS segments && nat_le (total_words segments) MOST_SEGMENT_WORDS
 
 -- the order, the contexts and the segments of a core
 abbrev pub within_limits : ℕ → List ℕ → List Segment → Bool

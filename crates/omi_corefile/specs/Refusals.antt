@@ -37,7 +37,8 @@ byte_at len (b ∷ bytes) = Ok (b, bytes)
 
 -- a number of a few bytes, the lowest first
 abbrev pub number_at : Width → ℕ → List ℕ → Step ℕ
-number_at w len bytes = if nat_lt (length bytes) (byte_len w) then Err (short len) else Ok (from_le_bytes w (take (byte_len w) bytes), drop (byte_len w) bytes)
+number_at w len bytes = if nat_lt (length bytes) (byte_len w) then Err (short len)
+    else Ok (from_le_bytes w (take (byte_len w) bytes), drop (byte_len w) bytes)
 
 -- a number that was read is judged by a test; where it fails, the fault is told the number and its place
 abbrev pub judged : (ℕ → Bool) → (ℕ → ℕ → CoreFault) → ℕ → Step ℕ → Step ℕ
@@ -45,11 +46,14 @@ judged allowed fault at read = read >>= λ n. if allowed n.0 then Ok n else Err 
 
 -- the name of the format
 unfoldable pub magic_at : ℕ → List ℕ → Result (List ℕ) Refusal
-magic_at len bytes = if nat_lt (length bytes) 8 then Err (short len) else if starts_with nat_eq bytes (codes "OMPDCOR1") then Ok (drop 8 bytes) else Err (0, BadMagic)
+magic_at len bytes = if nat_lt (length bytes) 8 then Err (short len)
+    else if starts_with nat_eq bytes (codes "OMPDCOR1") then Ok (drop 8 bytes)
+    else Err (0, BadMagic)
 
 -- the version is 1
 abbrev pub version_at : ℕ → List ℕ → Step ℕ
-version_at len bytes = judged (λ v. v == 1) (λ v at. Version v) (place len bytes) (byte_at len bytes)
+version_at len bytes =
+    judged (λ v. v == 1) (λ v at. Version v) (place len bytes) (byte_at len bytes)
 
 -- the order is 0
 abbrev pub order_at : ℕ → List ℕ → Step ℕ
@@ -57,26 +61,36 @@ order_at len bytes = judged (λ b. b == 0) (λ b at. Order b) (place len bytes) 
 
 -- no more contexts than a core has
 abbrev pub context_count_at : ℕ → List ℕ → Step ℕ
-context_count_at len bytes = judged (λ n. nat_le n MOST_CONTEXTS) (λ n at. BadContext at) (place len bytes) (number_at w16 len bytes)
+context_count_at len bytes =
+    judged (λ n. nat_le n MOST_CONTEXTS) (λ n at. BadContext at) (place len bytes)
+    (number_at w16 len bytes)
 
 -- no more segments than a core has
 abbrev pub segment_count_at : ℕ → List ℕ → Step ℕ
-segment_count_at len bytes = judged (λ n. nat_le n MOST_SEGMENTS) (λ n at. SegmentOrder at) (place len bytes) (number_at w32 len bytes)
+segment_count_at len bytes =
+    judged (λ n. nat_le n MOST_SEGMENTS) (λ n at. SegmentOrder at) (place len bytes)
+    (number_at w32 len bytes)
 
 -- a native id is at least `least`
 abbrev pub id_at : ℕ → ℕ → List ℕ → Step ℕ
-id_at len least bytes = judged (nat_le least) (λ n at. BadContext at) (place len bytes) (number_at w64 len bytes)
+id_at len least bytes =
+    judged (nat_le least) (λ n at. BadContext at) (place len bytes) (number_at w64 len bytes)
 
 -- a start address is at least `least`, and keeps the other rules
 abbrev pub start_at : ℕ → ℕ → List ℕ → Step ℕ
-start_at len least bytes = judged (is_start least) (λ n at. SegmentOrder at) (place len bytes) (number_at w64 len bytes)
+start_at len least bytes =
+    judged (is_start least) (λ n at. SegmentOrder at) (place len bytes) (number_at w64 len bytes)
 
 -- a segment has a word, and no more than the `room` that is left of the limit of all segments
 abbrev pub word_count_at : ℕ → ℕ → List ℕ → Step ℕ
-word_count_at len room bytes = judged (λ n. nat_lt 0 n && nat_le n room) (λ n at. if n == 0 then SegmentOrder at else TooLarge n) (place len bytes) (number_at w64 len bytes)
+word_count_at len room bytes =
+    judged (λ n. nat_lt 0 n && nat_le n room)
+    (λ n at. if n == 0 then SegmentOrder at else TooLarge n) (place len bytes)
+    (number_at w64 len bytes)
 
 -- so many in a row, each read by a state that the ones before it leave
-unfoldable pub row_at : {S A : Type 0} → (S → List ℕ → Step A) → (S → A → S) → ℕ → S → List ℕ → Step (List A)
+unfoldable pub row_at : {S A : Type 0} → (S → List ℕ → Step A) → (S → A → S) → ℕ → S → List ℕ
+    → Step (List A)
 row_at one next zero s bytes = Ok ([], bytes)
 row_at one next (suc count) s bytes = do
   first ← one s bytes
@@ -109,7 +123,8 @@ left_after left s = (end_of s.start (length s.words) + 1, left.1 - length s.word
 
 -- so many segments
 abbrev pub segments_at : ℕ → ℕ → List ℕ → Step (List Segment)
-segments_at len count bytes = row_at (segment_at len) left_after count (FIRST_ADDRESS, MOST_SEGMENT_WORDS) bytes
+segments_at len count bytes =
+    row_at (segment_at len) left_after count (FIRST_ADDRESS, MOST_SEGMENT_WORDS) bytes
 
 -- what a header says: the order, and how many contexts and segments follow
 pub record Header : Type 0 where

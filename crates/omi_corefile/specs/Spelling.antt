@@ -16,7 +16,8 @@ numbers ns = flat_map number ns
 
 -- the name of the format, the version, the order, and how many contexts and segments follow
 abbrev pub header : ℕ → ℕ → ℕ → List ℕ
-header order contexts segments = codes "OMPDCOR1" ++ 1 ∷ order ∷ to_le_bytes w16 contexts ++ to_le_bytes w32 segments
+header order contexts segments = codes "OMPDCOR1" ++ 1 ∷ order ∷ to_le_bytes w16 contexts
+    ++ to_le_bytes w32 segments
 
 -- the start address, the number of words, and the words
 abbrev pub segment_bytes : Segment → List ℕ
@@ -24,7 +25,9 @@ segment_bytes s = number s.start ++ number (length s.words) ++ numbers s.words
 
 -- the header, the native ids, and the segments
 abbrev pub spelling_of : ℕ → List ℕ → List Segment → List ℕ
-spelling_of order contexts segments = header order (length contexts) (length segments) ++ numbers contexts ++ flat_map segment_bytes segments
+spelling_of order contexts segments =
+    header order (length contexts) (length segments) ++ numbers contexts
+    ++ flat_map segment_bytes segments
 
 -- the one spelling of a core
 abbrev pub spelling : CoreImage → List ℕ
@@ -41,7 +44,8 @@ segments_of (word ∷ words) = record { start = FIRST_ADDRESS; words = word ∷ 
 
 -- the core of an image that has a word: the header, the native ids, the first address, the number of words, and the words
 abbrev pub core_bytes : List ℕ → List ℕ → List ℕ
-core_bytes contexts words = header 0 (length contexts) 1 ++ numbers contexts ++ number FIRST_ADDRESS ++ number (length words) ++ numbers words
+core_bytes contexts words = header 0 (length contexts) 1 ++ numbers contexts ++ number FIRST_ADDRESS
+    ++ number (length words) ++ numbers words
 
 -- the core holds an image: it has these contexts, and these words as its one segment, from the first address on
 pub record HoldsImage (contexts words : List ℕ) (c : CoreImage) : Type 0 where

@@ -25,7 +25,15 @@ struct Counts {
 /// The header of a file of `len` bytes.
 #[tactic(auto, unfolding(crate::specs::Refusals::header_at))]
 fn header(len: usize, bytes: &[u8]) -> Result<(Counts, &[u8]), CoreError>
-    ensures { Gives (λ x. (record { order = x.0.order; contexts = x.0.contexts; segments = x.0.segments }, x.1.now))
+    ensures { Gives
+        (λ x. (
+          record {
+            order = x.0.order;
+            contexts = x.0.contexts;
+            segments = x.0.segments;
+          },
+          x.1.now,
+        ))
         result (header_at len bytes.now) }
 {
     let rest = magic(len, bytes)?;
@@ -123,7 +131,8 @@ fn segments(
 /// The order, the contexts and the segments of a file.
 #[tactic(auto, unfolding(crate::specs::Refusals::parts_at, crate::specs::Refusals::reading))]
 fn parts(alloc: Global, bytes: &[u8]) -> Result<(u8, Natives, SegList), CoreError>
-    ensures { Gives (λ x. record { order = x.0; contexts = x.1; segments = x.2 }) result (reading bytes.now) }
+    ensures { Gives (λ x. record { order = x.0; contexts = x.1; segments = x.2 }) result
+        (reading bytes.now) }
 {
     let len = bytes.len();
     let (counts, rest) = header(len, bytes)?;

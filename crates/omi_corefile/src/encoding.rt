@@ -83,9 +83,13 @@ pub fn core_bytes_of(
 ) -> Result<Vec<u8>, OutOfMemory>
     requires rising { IsTrue (rises_from 0 contexts.now) }
     requires count { length contexts.now ≤ MOST_CONTEXTS }
-    ensures spelled { IfOk result (λ bytes. bytes.items ≡ spelling_of 0 contexts.now (segments_of image.now)) }
-    ensures value { 0 < length image.now → IfOk result (λ bytes. bytes.items ≡ core_bytes contexts.now image.now) }
-    ensures core { 0 < length image.now → IfOk result (λ bytes. (c : CoreImage) × Core bytes.items c × HoldsImage contexts.now image.now c) }
+    ensures spelled { IfOk result
+        (λ bytes. bytes.items ≡ spelling_of 0 contexts.now (segments_of image.now)) }
+    ensures value { 0 < length image.now
+        → IfOk result (λ bytes. bytes.items ≡ core_bytes contexts.now image.now) }
+    ensures core { 0 < length image.now
+        → IfOk result (λ bytes. (c : CoreImage) × Core bytes.items c
+        × HoldsImage contexts.now image.now c) }
 {
     let core = core_of(alloc, image, contexts, 0)?;
     encode(alloc, &core)

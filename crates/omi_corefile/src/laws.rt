@@ -17,14 +17,17 @@ pub fn one_answer()
     ensures either { (bytes : List ℕ) → AreBytes bytes → IsCore bytes ⊎ IsRefused bytes }
     ensures not_both { (bytes : List ℕ) → IsCore bytes → ¬ IsRefused bytes }
     ensures one_fault { (bytes : List ℕ) (at other_at : ℕ) (why other : CoreFault)
-        → CoreRefused bytes at why → CoreRefused bytes other_at other → (at ≡ other_at) × (why ≡ other) }
+        → CoreRefused bytes at why → CoreRefused bytes other_at other
+        → (at ≡ other_at) × (why ≡ other) }
 {}
 
 /// Each core has one spelling, and each file spells at most one core.
 pub fn one_spelling()
     ensures spelled { (c : CoreImage) → Core (spelling c) c }
-    ensures one_file { (c : CoreImage) (bytes other : List ℕ) → Core bytes c → Core other c → bytes ≡ other }
-    ensures one_core { (bytes : List ℕ) (c other : CoreImage) → Core bytes c → Core bytes other → c ≡ other }
+    ensures one_file { (c : CoreImage) (bytes other : List ℕ) → Core bytes c → Core other c
+        → bytes ≡ other }
+    ensures one_core { (bytes : List ℕ) (c other : CoreImage) → Core bytes c → Core bytes other
+        → c ≡ other }
 {}
 
 /// A file that ends inside a core is short, and bytes after a core are too many.
@@ -32,7 +35,8 @@ pub fn fronts_and_tails()
     ensures short { (c : CoreImage) (n : ℕ) → n < length (spelling c)
         → CoreRefused (take n (spelling c)) n (CoreFault.Short n) }
     ensures trailing { (c : CoreImage) (more : List ℕ) → 0 < length more
-        → CoreRefused (spelling c ++ more) (length (spelling c)) (CoreFault.Trailing (length (spelling c))) }
+        → CoreRefused (spelling c ++ more) (length (spelling c))
+        (CoreFault.Trailing (length (spelling c))) }
 {}
 
 /// A core has at most `MOST_BYTES`, so that one byte more of a longer file tells what the file is: so many bytes are read
@@ -48,7 +52,8 @@ pub fn bad_fields()
     // The header.
     ensures magic { (c : CoreImage) (name : List ℕ) → length name ≡ 8 → name ≢ codes "OMPDCOR1"
         → IsFaultAt c 0 name CoreFault.BadMagic }
-    ensures version { (c : CoreImage) (v : ℕ) → v ≢ 1 → IsFaultAt c 8 (v ∷ []) (CoreFault.Version v) }
+    ensures version { (c : CoreImage) (v : ℕ) → v ≢ 1
+        → IsFaultAt c 8 (v ∷ []) (CoreFault.Version v) }
     ensures order { (c : CoreImage) (b : ℕ) → b ≢ 0 → IsFaultAt c 9 (b ∷ []) (CoreFault.Order b) }
     ensures context_count { (c : CoreImage) (n : ℕ) → MOST_CONTEXTS < n → n < 2 ^ 16
         → IsFaultAt c 10 (to_le_bytes w16 n) (CoreFault.BadContext 10) }
@@ -58,7 +63,8 @@ pub fn bad_fields()
     // A native id that isn't above the one before.
     ensures id { (c : CoreImage) (before after : List ℕ) (last id n : ℕ)
         → c.contexts ≡ before ++ last ∷ id ∷ after → n ≤ last
-        → let at = id_place (length before + 1) in IsFaultAt c at (number n) (CoreFault.BadContext at) }
+        → let at = id_place (length before + 1)
+        in IsFaultAt c at (number n) (CoreFault.BadContext at) }
 
     // A start address that no segment has, or that isn't above the end of the segment before.
     ensures start { (c : CoreImage) (before after : List Segment) (s : Segment) (n : ℕ)
@@ -74,6 +80,7 @@ pub fn bad_fields()
         → c.segments ≡ before ++ s ∷ after
         → let at = count_place c before in IsFaultAt c at (number 0) (CoreFault.SegmentOrder at) }
     ensures too_large { (c : CoreImage) (before after : List Segment) (s : Segment) (n : ℕ)
-        → c.segments ≡ before ++ s ∷ after → n < 2 ^ 64 → MOST_SEGMENT_WORDS < total_words before + n
+        → c.segments ≡ before ++ s ∷ after → n < 2 ^ 64
+        → MOST_SEGMENT_WORDS < total_words before + n
         → IsFaultAt c (count_place c before) (number n) (CoreFault.TooLarge n) }
 {}

@@ -13,8 +13,19 @@ words_rule = record (new_rule (codes "words")) { action = Some Append }
 
 -- a command without arguments, without help and version flags, that reads a first word as any other
 abbrev pub bare_app : App
-bare_app = on_top (λ s. record s { no_binary_name = true; disable_help_flag = true; disable_version_flag = true }) (new_app (codes "line"))
+bare_app =
+    on_top
+    (λ s. record s {
+      no_binary_name = true;
+      disable_help_flag = true;
+      disable_version_flag = true;
+    })
+    (new_app (codes "line"))
 
 abbrev pub line_app : App
 line_app = with_rule (with_rule (with_rule (with_rule (with_rule bare_app
-    (option_rule (codes "seed"))) (option_rule (codes "break"))) (option_rule (codes "count"))) (option_rule (codes "layout"))) words_rule
+    (option_rule (codes "seed")))
+    (option_rule (codes "break")))
+    (option_rule (codes "count")))
+    (option_rule (codes "layout")))
+    words_rule

@@ -21,4 +21,5 @@ hyphen_word _ here next = next false
 -- the word `-` follows an option that waits for its value, before the first `--`
 unfoldable pub gives_hyphen : List (List ℕ) → Bool → Bool
 gives_hyphen [] is_waiting = false
-gives_hyphen (word ∷ rest) is_waiting = hyphen_word (kind_of word) (is_waiting && is_lone_hyphen word) (gives_hyphen rest)
+gives_hyphen (word ∷ rest) is_waiting =
+    hyphen_word (kind_of word) (is_waiting && is_lone_hyphen word) (gives_hyphen rest)

@@ -27,13 +27,16 @@ set_value Layout value line = record line { layout = Some value }
 
 -- the line with the value of one more option, where it has none of it yet
 abbrev pub with_value : Name → List ℕ → Line → Option Line
-with_value name value line = if is_some (value_in name line) then None else Some (set_value name value line)
+with_value name value line = if is_some (value_in name line) then None
+    else Some (set_value name value line)
 
 -- the word, and then the words after it
-abbrev pub split_word : Kind → List ℕ → List (List ℕ) → (Option Name → Line → Option Line) → Line → Option Line
+abbrev pub split_word : Kind → List ℕ → List (List ℕ) → (Option Name → Line → Option Line) → Line
+    → Option Line
 split_word Positional word rest next line = next None (with_words (word ∷ []) line)
 split_word Rest word rest next line = Some (with_words rest line)
-split_word (Given name value) word rest next line = option_and_then (next None) (with_value name value line)
+split_word (Given name value) word rest next line =
+    option_and_then (next None) (with_value name value line)
 split_word (Named name) word rest next line = next (Some name) line
 split_word Refused word rest next line = None
 
@@ -42,7 +45,8 @@ unfoldable pub split_from : List (List ℕ) → Option Name → Line → Option 
 split_from [] None line = Some line
 split_from [] (Some name) line = None
 split_from (word ∷ rest) (Some name) line =
-    if begins_with_hyphen word then None else option_and_then (split_from rest None) (with_value name word line)
+    if begins_with_hyphen word then None
+    else option_and_then (split_from rest None) (with_value name word line)
 split_from (word ∷ rest) None line = split_word (kind_of word) word rest (split_from rest) line
 
 -- the line that the words make, where they aren't refused

@@ -10,7 +10,8 @@ has_leading_zero text = nat_lt 1 (length text) && slice_index text 0 == 48
 
 -- the text is a number in decimal digits
 abbrev pub is_decimal : List ℕ → Bool
-is_decimal text = nat_lt 0 (length text) && (not (has_leading_zero text) && list_all is_ascii_digit text)
+is_decimal text = nat_lt 0 (length text)
+    && (not (has_leading_zero text) && list_all is_ascii_digit text)
 
 -- the number that a text is, where it lies within least and most
 abbrev pub number_of : List ℕ → ℕ → ℕ → Option ℕ

@@ -37,12 +37,14 @@ is_equals byte = byte == 61
 -- an option, with what stands after the first `=` where there is one
 abbrev pub option_kind : Option Name → List ℕ → Kind
 option_kind None text = Refused
-option_kind (Some name) text = if list_any is_equals text then Given name (after_first is_equals text) else Named name
+option_kind (Some name) text =
+    if list_any is_equals text then Given name (after_first is_equals text) else Named name
 
 -- the word that is `--` and then this text
 abbrev pub long_kind : List ℕ → Kind
 long_kind [] = Rest
-long_kind (byte ∷ text) = option_kind (option_named (before_first is_equals (byte ∷ text))) (byte ∷ text)
+long_kind (byte ∷ text) =
+    option_kind (option_named (before_first is_equals (byte ∷ text))) (byte ∷ text)
 
 -- the word that is `-` and then this text
 abbrev pub hyphen_kind : List ℕ → Kind

@@ -150,7 +150,8 @@ fn texts_of(alloc: Global, words: &[&str]) -> Result<TextList, OutOfMemory>
 /// The positional words.
 fn words_of(alloc: Global, matches: &ArgMatches<'_>) -> Result<TextList, OutOfMemory>
     ensures { IfOk result (λ words.
-        words ≡ unwrap_or (option_map raw_values (matched_of (found_of matches.now) (codes "words"))) []) }
+        words ≡ unwrap_or
+        (option_map raw_values (matched_of (found_of matches.now) (codes "words"))) []) }
 {
     match matches.get_strs("words") {
         Some(words) => texts_of(alloc, words),
@@ -165,7 +166,8 @@ pub fn split(alloc: Global, words: &Vec<String>) -> Result<Line, LineError>
     ensures line { IfOk result (λ line. split_of (map string_bytes words.now.items) ≡ Some line) }
     // Positional words and values are text, as the words are.
     ensures text { IfOk result (λ line. IsText line) }
-    ensures usage { IsErrOf result LineError.Usage → split_of (map string_bytes words.now.items) ≡ None }
+    ensures usage { IsErrOf result LineError.Usage
+        → split_of (map string_bytes words.now.items) ≡ None }
 {
     if has_hyphen_value(words) {
         return Err(LineError::Usage);

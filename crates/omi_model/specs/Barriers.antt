@@ -12,7 +12,11 @@ abbrev pub MayArrive : Task → Type 0
 MayArrive t = t.implicit ≡ true
 
 abbrev pub arrived : State → Task → State
-arrived s t = on_region s t.region (λ r. record r { arrivals = slice_set r.arrivals t.number (slice_index r.arrivals t.number + 1) })
+arrived s t =
+    on_region s t.region
+    (λ r. record r {
+      arrivals = slice_set r.arrivals t.number (slice_index r.arrivals t.number + 1);
+    })
 
 -- each member has arrived at the barrier that is not yet released
 abbrev pub HaveArrived : Region → Type 0
@@ -20,7 +24,8 @@ HaveArrived r = All (λ n. n ≡ r.released + 1) r.arrivals
 
 -- no explicit task of a region is unfinished
 abbrev pub AreFinished : State → Rid → Type 0
-AreFinished s n = (c k : ℕ) (t : Task) → (s.tasks c k).live ≡ Some t → t.implicit ≡ false → t.region ≡ n → t.progress ≡ Finished
+AreFinished s n = (c k : ℕ) (t : Task) → (s.tasks c k).live ≡ Some t → t.implicit ≡ false
+    → t.region ≡ n → t.progress ≡ Finished
 
 -- Member 0 releases the barrier of its region.
 pub record MayRelease (s : State) (t : Task) (r : Region) : Type 0 where

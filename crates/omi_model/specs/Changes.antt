@@ -30,7 +30,10 @@ abbrev pub by_current : State → ℕ → (Tid → Task → State) → Option St
 by_current s i f = option_and_then (λ k. option_map (f k) (task_of s k)) (s.threads i).current
 
 abbrev pub by_region : State → ℕ → (Tid → Task → Region → State) → Option State
-by_region s i f = option_and_then (λ k. option_and_then (λ t. option_map (f k t) (region_of s t.region)) (task_of s k)) (s.threads i).current
+by_region s i f =
+    option_and_then
+    (λ k. option_and_then (λ t. option_map (f k t) (region_of s t.region)) (task_of s k))
+    (s.threads i).current
 
 -- a task is the current one of a thread, and live
 pub record IsCurrent (s : State) (i : ℕ) (k : Tid) (t : Task) : Type 0 where
@@ -42,14 +45,17 @@ abbrev pub OfCurrent : State → ℕ → (Tid → Task → Type 0) → Type 0
 OfCurrent s i P = (k : Tid) × (t : Task) × IsCurrent s i k t × P k t
 
 abbrev pub OfCurrentRegion : State → ℕ → (Tid → Task → Region → Type 0) → Type 0
-OfCurrentRegion s i P = (k : Tid) × (t : Task) × (r : Region) × IsCurrent s i k t × (region_of s t.region ≡ Some r) × P k t r
+OfCurrentRegion s i P = (k : Tid) × (t : Task) × (r : Region) × IsCurrent s i k t
+    × (region_of s t.region ≡ Some r) × P k t r
 
 -- the list that allows a thread's events: that of its current task, else its own
 abbrev pub list_of : State → ℕ → List Item
 list_of s i = option_map_or (λ t. t.list) (current_task s i) (s.threads i).list
 
 abbrev pub with_list : State → ℕ → List Item → State
-with_list s i list = option_map_or (λ k. on_task s k (λ t. record t { list = list })) (s.threads i).current (on_thread s i (λ h. record h { list = list }))
+with_list s i list =
+    option_map_or (λ k. on_task s k (λ t. record t { list = list })) (s.threads i).current
+    (on_thread s i (λ h. record h { list = list }))
 
 -- the level of a region, 0 where it isn't live
 abbrev pub level_of : State → Rid → ℕ
@@ -57,8 +63,15 @@ level_of s n = option_map_or (λ r. r.levels) (region_of s n) 0
 
 -- what a row sees of the task that encounters a statement. A worker without a task encounters none.
 abbrev pub encounter_by : State → Option Task → Encounter
-encounter_by s None = record { debug = s.environment.debug; number = 0; level = 0; is_final = false }
-encounter_by s (Some t) = record { debug = s.environment.debug; number = t.number; level = level_of s t.region; is_final = t.is_final }
+encounter_by s None =
+    record { debug = s.environment.debug; number = 0; level = 0; is_final = false }
+encounter_by s (Some t) =
+    record {
+      debug = s.environment.debug;
+      number = t.number;
+      level = level_of s t.region;
+      is_final = t.is_final;
+    }
 
 abbrev pub encounter : State → ℕ → Encounter
 encounter s i = encounter_by s (current_task s i)

@@ -51,7 +51,8 @@ pub record IsAnswer (h : Thread) (got : Bool) : Type 0 where
 
 -- The asks of one of so many threads are over: the team has the wanted size, or every other thread was asked.
 abbrev pub AreAsksOverOf : Thread → ℕ → ℕ → Type 0
-AreAsksOverOf h i count = (suc (length (got_threads h.asks)) ≡ h.wanted) ⊎ ((w : ℕ) → w < count → w ≢ i → WasAsked h w)
+AreAsksOverOf h i count = (suc (length (got_threads h.asks)) ≡ h.wanted)
+    ⊎ ((w : ℕ) → w < count → w ≢ i → WasAsked h w)
 
 -- the element at a place stands at no earlier one
 abbrev pub IsNewAt : {A : Type 0} → List A → ℕ → Type 0

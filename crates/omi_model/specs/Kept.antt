@@ -9,7 +9,8 @@ use Rattle.omi_model.specs.State.{State}
 
 -- the slots of all creators, each creator's in a list
 abbrev pub slots_of : {A : Type 0} → List (List (Slot A)) → Slots A
-slots_of kept = λ c k. unwrap_or (option_and_then (λ slots. slice_get slots k) (slice_get kept c)) unused
+slots_of kept =
+    λ c k. unwrap_or (option_and_then (λ slots. slice_get slots k) (slice_get kept c)) unused
 
 -- the state of what is kept
 abbrev pub state_of : Kept → State

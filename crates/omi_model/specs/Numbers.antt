@@ -31,7 +31,8 @@ overhead = 0x101
 
 -- the states, in the order of enumeration
 abbrev pub states : List ℕ
-states = work_serial ∷ work_parallel ∷ wait_barrier_implicit_parallel ∷ wait_barrier_explicit ∷ wait_taskwait ∷ wait_taskgroup ∷ wait_critical ∷ idle ∷ overhead ∷ []
+states = work_serial ∷ work_parallel ∷ wait_barrier_implicit_parallel ∷ wait_barrier_explicit
+    ∷ wait_taskwait ∷ wait_taskgroup ∷ wait_critical ∷ idle ∷ overhead ∷ []
 
 -- internal control variables
 abbrev pub dyn_var : ℕ

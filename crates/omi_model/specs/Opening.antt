@@ -29,15 +29,41 @@ initial_region = record { 0 = record { creator = 0; slot = 0; generation = 0 } }
 
 -- the variables of the environment
 abbrev pub variables_of : Env → Variables
-variables_of env = record { dynamic = env.dynamic; nthreads = env.nthreads; schedule = env.sched; device = env.device }
+variables_of env =
+    record {
+      dynamic = env.dynamic;
+      nthreads = env.nthreads;
+      schedule = env.sched;
+      device = env.device;
+    }
 
 -- thread 0
 abbrev pub initial_thread : Thread
-initial_thread = record { begun = true; current = Some initial_task; state = work_serial; wait = 0; claim = Own; wanted = 0; asks = []; list = [] }
+initial_thread =
+    record {
+      begun = true;
+      current = Some initial_task;
+      state = work_serial;
+      wait = 0;
+      claim = Own;
+      wanted = 0;
+      asks = [];
+      list = [];
+    }
 
 -- a worker that has not begun
 abbrev pub waiting_worker : Thread
-waiting_worker = record { begun = false; current = None; state = idle; wait = 0; claim = Own; wanted = 0; asks = []; list = of_worker }
+waiting_worker =
+    record {
+      begun = false;
+      current = None;
+      state = idle;
+      wait = 0;
+      claim = Own;
+      wanted = 0;
+      asks = [];
+      list = of_worker;
+    }
 
 abbrev pub opening_region : Program → Region
 opening_region p = record {
@@ -69,7 +95,8 @@ opening_task p = record {
   tool = 0;
   progress = Begun;
   place = 0;
-  list = of_main (record { debug = p.env.debug; number = 0; level = 0; is_final = false }) (body_of p.funcs p.main);
+  list = of_main (record { debug = p.env.debug; number = 0; level = 0; is_final = false })
+      (body_of p.funcs p.main);
 }
 
 -- the opening state

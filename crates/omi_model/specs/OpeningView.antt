@@ -7,9 +7,31 @@ use Rattle.omi_model.specs.Opening.{initial_task, initial_region}
 
 abbrev pub opening_view : Program → View
 opening_view p = record {
-  head = record { version = 201811; threads = p.threads; debug = flag p.env.debug; procs = p.env.procs; max_active = p.env.max_active };
-  threads = record { native = 1000; found = Some (record { thread = 0; state = if p.env.debug then Some (0, 0) else None; number = Some 0; current = Some initial_task }) } ∷ [];
-  regions = record { region = initial_region; func = 0x400000 + 16 * p.main; levels = 0; active = 0; size = 1; enclosing = None; members = record { thread = 0; task = initial_task } ∷ [] } ∷ [];
+  head = record {
+    version = 201811;
+    threads = p.threads;
+    debug = flag p.env.debug;
+    procs = p.env.procs;
+    max_active = p.env.max_active;
+  };
+  threads = record {
+    native = 1000;
+    found = Some (record {
+      thread = 0;
+      state = if p.env.debug then Some (0, 0) else None;
+      number = Some 0;
+      current = Some initial_task;
+    });
+  } ∷ [];
+  regions = record {
+    region = initial_region;
+    func = 0x400000 + 16 * p.main;
+    levels = 0;
+    active = 0;
+    size = 1;
+    enclosing = None;
+    members = record { thread = 0; task = initial_task } ∷ [];
+  } ∷ [];
   tasks = record {
     task = initial_task;
     thread = 0;

@@ -18,7 +18,8 @@ unused = record { generations = 0; live = None }
 
 -- one object, in the first slot of thread 0
 abbrev pub first_alone : {A : Type 0} → A → Slots A
-first_alone x = λ c k. if c == 0 && k == 0 then record { generations = 1; live = Some x } else unused
+first_alone x = λ c k. if c == 0 && k == 0 then record { generations = 1; live = Some x }
+    else unused
 
 -- the object of a generation, where it is live
 abbrev pub found : {A : Type 0} → ℕ → Slot A → Option A
@@ -30,12 +31,19 @@ named slots n = found n.generation (slots n.creator n.slot)
 
 -- a slot whose object of a generation is changed. A stale generation changes nothing.
 abbrev pub changed : {A : Type 0} → ℕ → (A → A) → Slot A → Slot A
-changed g f slot = if slot.generations == g + 1 then record { generations = slot.generations; live = option_map f slot.live } else slot
+changed g f slot =
+    if slot.generations == g + 1
+    then record { generations = slot.generations; live = option_map f slot.live }
+    else slot
 
 -- the object of a name is changed, and every other slot stays
 abbrev pub on : {A : Type 0} → Slots A → Id → (A → A) → Slots A
-on slots n f = put slots n.creator (put (slots n.creator) n.slot (changed n.generation f (slots n.creator n.slot)))
+on slots n f =
+    put slots n.creator
+    (put (slots n.creator) n.slot (changed n.generation f (slots n.creator n.slot)))
 
 -- an object begins under a name, and every other slot stays
 abbrev pub made : {A : Type 0} → Slots A → Id → A → Slots A
-made slots n x = put slots n.creator (put (slots n.creator) n.slot (record { generations = n.generation + 1; live = Some x }))
+made slots n x =
+    put slots n.creator
+    (put (slots n.creator) n.slot (record { generations = n.generation + 1; live = Some x }))

@@ -35,7 +35,9 @@ function_items p f rest = body_items (body_of p.funcs f) rest
 -- a barrier that waits in this state: the member arrives, runs deferred tasks, and passes; member 0 releases it before
 abbrev pub barrier_items : Encounter → ℕ → List Item → List Item
 barrier_items at state rest =
-    shown at state 0 (item.Arrive ∷ item.Tasks state ∷ (if at.number == 0 then item.Release ∷ item.Pass ∷ rest else item.Pass ∷ rest))
+    shown at state 0
+    (item.Arrive ∷ item.Tasks state
+    ∷ (if at.number == 0 then item.Release ∷ item.Pass ∷ rest else item.Pass ∷ rest))
 
 -- the end of a member: it waits at the implicit barrier
 abbrev pub end_of_member : Encounter → List Item → List Item
@@ -72,13 +74,18 @@ abbrev pub behind : Program → Encounter → Stmt → List Item → List Item
 behind p at (stmt.Parallel f num) rest =
     shown at overhead 0 (item.Want num ∷ item.Asks ∷ item.Fork f ∷ working at (item.Leave ∷ rest))
 behind p at (stmt.Task f undeferred final) rest =
-    (if undeferred || at.is_final then item.StartNow f (final || at.is_final) else item.Defer 0 f (final || at.is_final)) ∷ item.Leave ∷ rest
+    (if undeferred || at.is_final then item.StartNow f (final || at.is_final)
+    else item.Defer 0 f (final || at.is_final)) ∷ item.Leave ∷ rest
 behind p at stmt.Taskwait rest =
-    shown at wait_taskwait 0 (item.Tasks wait_taskwait ∷ item.WaitDone ∷ working at (item.Leave ∷ rest))
+    shown at wait_taskwait 0
+    (item.Tasks wait_taskwait ∷ item.WaitDone ∷ working at (item.Leave ∷ rest))
 behind p at stmt.Taskyield rest = item.OneTask ∷ item.Yield ∷ item.Leave ∷ rest
-behind p at stmt.Barrier rest = barrier_items at wait_barrier_explicit (working at (item.Leave ∷ rest))
+behind p at stmt.Barrier rest =
+    barrier_items at wait_barrier_explicit (working at (item.Leave ∷ rest))
 behind p at (stmt.Critical k f) rest =
-    shown at wait_critical (k + 1) (item.Lock k ∷ working at (item.Leave ∷ item.Call f ∷ call_items p f (item.Unlock k ∷ rest)))
+    shown at wait_critical (k + 1)
+    (item.Lock k
+    ∷ working at (item.Leave ∷ item.Call f ∷ call_items p f (item.Unlock k ∷ rest)))
 behind p at (stmt.Call f) rest = call_items p f rest
 behind p at (stmt.Only m f) rest = if at.number == m then call_items p f rest else rest
 behind p at (stmt.Repeat zero f) rest = rest
@@ -107,7 +114,8 @@ last_of_member number = if number == 0 then item.Join else item.ImplicitEnd
 
 -- a member of the team of a parallel region over a function
 abbrev pub of_member : Program → Encounter → ℕ → List Item
-of_member p at f = working at (function_items p f (end_of_member at (last_of_member at.number ∷ [])))
+of_member p at f =
+    working at (function_items p f (end_of_member at (last_of_member at.number ∷ [])))
 
 -- an explicit task over a function
 abbrev pub of_task : Program → ℕ → List Item

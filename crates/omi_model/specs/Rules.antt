@@ -71,10 +71,13 @@ effect p s i (event.Join region) x = by_region s i (joined s i)
 effect p s i (event.FreeTask task) x = None
 effect p s i (event.FreeRegion region) x = None
 effect p s i (event.Seen j) x = Some s
-effect p s i (event.Defer task) (item.Defer seen f final) = by_current s i (deferred p s task f final seen)
+effect p s i (event.Defer task) (item.Defer seen f final) =
+    by_current s i (deferred p s task f final seen)
 effect p s i (event.Defer task) x = None
-effect p s i (event.StartNow task) (item.Defer seen f final) = by_current s i (started_now p s i task f final)
-effect p s i (event.StartNow task) (item.StartNow f final) = by_current s i (started_now p s i task f final)
+effect p s i (event.StartNow task) (item.Defer seen f final) =
+    by_current s i (started_now p s i task f final)
+effect p s i (event.StartNow task) (item.StartNow f final) =
+    by_current s i (started_now p s i task f final)
 effect p s i (event.StartNow task) x = None
 effect p s i (event.Start task) (item.Tasks state) = by_current s i (started s i task)
 effect p s i (event.Start task) item.OneTask = by_current s i (started_alone s i task)

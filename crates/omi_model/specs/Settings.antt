@@ -30,18 +30,27 @@ abbrev pub with_variable : ℕ → ℕ → Variables → Option Variables
 with_variable icv value v =
     if icv == dyn_var then Some (record v { dynamic = not (value == 0) })
     else (if icv == nthreads_var then Some (record v { nthreads = with_head value v.nthreads })
-    else (if icv == run_sched_var then Some (record v { schedule = record { kind = value % 8; chunk = value / 8 } })
+    else (if icv == run_sched_var
+    then Some (record v { schedule = record { kind = value % 8; chunk = value / 8 } })
     else (if icv == default_device_var then Some (record v { device = value }) else None)))
+
+-- a variable of a task's data environment is set
+abbrev pub with_variable_of : State → ℕ → ℕ → Tid → Task → Option State
+with_variable_of s icv value k t =
+    option_map (λ v. on_task s k (λ u. record u { variables = v }))
+    (with_variable icv value t.variables)
 
 -- the current task sets a variable of its data environment
 abbrev pub with_task_variable : State → ℕ → ℕ → ℕ → Option State
 with_task_variable s i icv value =
-    option_and_then (λ k. option_and_then (λ t. option_map (λ v. on_task s k (λ u. record u { variables = v })) (with_variable icv value t.variables)) (task_of s k)) (s.threads i).current
+    option_and_then (λ k. option_and_then (with_variable_of s icv value k) (task_of s k))
+    (s.threads i).current
 
 -- max-active-levels-var is one for the whole program; every other variable that is set is the current task's
 abbrev pub with_set : State → ℕ → ℕ → ℕ → Option State
 with_set s i icv value =
-    if icv == max_active_levels_var then Some (record s { max_active = value }) else with_task_variable s i icv value
+    if icv == max_active_levels_var then Some (record s { max_active = value })
+    else with_task_variable s i icv value
 
 abbrev pub with_tool : State → ℕ → Tid → State
 with_tool s x k = on_task s k (λ u. record u { tool = x })

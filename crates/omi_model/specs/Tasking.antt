@@ -47,7 +47,8 @@ deferred_task p k t f is_final place = record {
 }
 
 abbrev pub deferred : Program → State → Tid → ℕ → Bool → ℕ → Tid → Task → State
-deferred p s task f is_final place k t = record s { tasks = made s.tasks task.0 (deferred_task p k t f is_final place) }
+deferred p s task f is_final place k t =
+    record s { tasks = made s.tasks task.0 (deferred_task p k t f is_final place) }
 
 -- a task that runs on a thread, scheduled from the current task there
 abbrev pub scheduled : ℕ → Tid → Task → Task → Task
@@ -71,7 +72,8 @@ started_now p s i task f is_final k t =
 
 -- The task scheduling constraint for tied tasks: at taskwait and taskyield a child of the current task may start, and at a barrier any task of the region.
 abbrev pub MayStartAt : Item → Tid → Task → Task → Type 0
-MayStartAt (item.Tasks state) k t u = MatchBool (state == wait_taskwait) (u.generating ≡ Some k) (u.region ≡ t.region)
+MayStartAt (item.Tasks state) k t u =
+    MatchBool (state == wait_taskwait) (u.generating ≡ Some k) (u.region ≡ t.region)
 MayStartAt item.OneTask k t u = u.generating ≡ Some k
 MayStartAt x k t u = ⊥
 
@@ -105,4 +107,5 @@ finished s i k t = with_current (on_task s k (λ u. record u { progress = Finish
 
 -- no explicit child of a task is unfinished
 abbrev pub AreChildrenFinished : State → Tid → Type 0
-AreChildrenFinished s k = (c n : ℕ) (u : Task) → (s.tasks c n).live ≡ Some u → u.implicit ≡ false → u.generating ≡ Some k → u.progress ≡ Finished
+AreChildrenFinished s k = (c n : ℕ) (u : Task) → (s.tasks c n).live ≡ Some u → u.implicit ≡ false
+    → u.generating ≡ Some k → u.progress ≡ Finished

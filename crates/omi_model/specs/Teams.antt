@@ -131,13 +131,15 @@ member_task p region k t r f number thread = record {
   tool = 0;
   progress = if number == 0 then Begun else NotBegun;
   place = 0;
-  list = of_member p (record { debug = p.env.debug; number = number; level = r.levels + 1; is_final = false }) f;
+  list = of_member p
+      (record { debug = p.env.debug; number = number; level = r.levels + 1; is_final = false }) f;
 }
 
 -- the tasks of members, of which the first has this number
 abbrev pub with_members : (ℕ → ℕ → Task) → ℕ → List (Tid × ℕ) → Slots Task → Slots Task
 with_members task number [] tasks = tasks
-with_members task number (m ∷ ms) tasks = with_members task (number + 1) ms (made tasks m.0.0 (task number m.1))
+with_members task number (m ∷ ms) tasks =
+    with_members task (number + 1) ms (made tasks m.0.0 (task number m.1))
 
 -- the first of a team
 abbrev pub master_of : List (Tid × ℕ) → Option Tid
@@ -165,7 +167,8 @@ pub record MayBeginTask (s : State) (i : ℕ) (task : Tid) : Type 0 where
   pub mine : member.thread ≡ i
 
 abbrev pub task_begun : State → ℕ → Tid → State
-task_begun s i task = with_current (on_task s task (λ t. record t { progress = Begun })) i (Some task)
+task_begun s i task =
+    with_current (on_task s task (λ t. record t { progress = Begun })) i (Some task)
 
 -- A member other than member 0 ends its implicit task.
 pub record MayEnd (task k : Tid) (t : Task) : Type 0 where
@@ -176,7 +179,8 @@ pub record MayEnd (task k : Tid) (t : Task) : Type 0 where
 abbrev pub task_ended : State → ℕ → Tid → Task → State
 task_ended s i k t =
     with_current
-    (on_region (on_task s k (λ u. record u { progress = Finished })) t.region (λ r. record r { ended = slice_set r.ended t.number true }))
+    (on_region (on_task s k (λ u. record u { progress = Finished })) t.region
+    (λ r. record r { ended = slice_set r.ended t.number true }))
     i None
 
 -- Member 0 joins the others once each of them has ended.
@@ -190,5 +194,6 @@ pub record MayJoin (region : Rid) (t : Task) (r : Region) : Type 0 where
 abbrev pub joined : State → ℕ → Tid → Task → Region → State
 joined s i k t r =
     with_current
-    (on_region (on_task s k (λ u. record u { progress = Finished })) t.region (λ n. record n { joined = true }))
+    (on_region (on_task s k (λ u. record u { progress = Finished })) t.region
+    (λ n. record n { joined = true }))
     i r.encountering

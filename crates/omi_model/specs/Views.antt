@@ -28,7 +28,14 @@ schedule_number s = s.chunk * 8 + s.kind
 
 -- the header. The version is that of OpenMP 5.0.
 abbrev pub head_row : State → HeadRow
-head_row s = record { version = 201811; threads = s.count; debug = flag s.environment.debug; procs = s.environment.procs; max_active = s.max_active }
+head_row s =
+    record {
+      version = 201811;
+      threads = s.count;
+      debug = flag s.environment.debug;
+      procs = s.environment.procs;
+      max_active = s.max_active;
+    }
 
 -- a thread that has begun, with its state where states are kept
 abbrev pub thread_part : State → ℕ → ThreadPart
@@ -41,10 +48,12 @@ thread_part s i = record {
 
 -- the thread with a native id, where it has begun
 abbrev pub thread_with : State → ℕ → Option ℕ
-thread_with s native = if nat_le 1000 native && nat_lt (native - 1000) s.count && (s.threads (native - 1000)).begun then Some (native - 1000) else None
+thread_with s native = if nat_le 1000 native && nat_lt (native - 1000) s.count
+    && (s.threads (native - 1000)).begun then Some (native - 1000) else None
 
 abbrev pub thread_row : State → ℕ → ThreadRow
-thread_row s native = record { native = native; found = option_map (thread_part s) (thread_with s native) }
+thread_row s native =
+    record { native = native; found = option_map (thread_part s) (thread_with s native) }
 
 -- a region and its members
 abbrev pub region_row : Rid → Region → RegionRow
@@ -81,7 +90,8 @@ task_row i k t = record {
 -- the order of names: creator, then slot, then generation
 abbrev pub ComesBefore : Id → Id → Type 0
 ComesBefore a b = (a.creator < b.creator)
-    ⊎ ((a.creator ≡ b.creator) × ((a.slot < b.slot) ⊎ ((a.slot ≡ b.slot) × (a.generation < b.generation))))
+    ⊎ ((a.creator ≡ b.creator)
+    × ((a.slot < b.slot) ⊎ ((a.slot ≡ b.slot) × (a.generation < b.generation))))
 
 -- the rows come in the order of names, none twice
 abbrev pub AreInOrder : List RegionRow → Type 0
@@ -91,12 +101,15 @@ AreInOrder (x ∷ y ∷ rows) = ComesBefore x.region.0 y.region.0 × AreInOrder 
 
 -- a region is that of the current task of one of these threads, or encloses it
 abbrev pub IsReported : State → List ℕ → Rid → Type 0
-IsReported s threads n = (i : ℕ) × (steps : ℕ) × Contains threads i × (along (enclosing_of s) steps (option_map (λ t. t.region) (current_task s i)) ≡ Some n)
+IsReported s threads n = (i : ℕ) × (steps : ℕ) × Contains threads i
+    × (along (enclosing_of s) steps (option_map (λ t. t.region) (current_task s i)) ≡ Some n)
 
 -- the region rows of these threads: exactly the reported regions, in order
 pub record AreRegions (s : State) (threads : List ℕ) (rows : List RegionRow) : Type 0 where
   pub in_order : AreInOrder rows
-  pub each : (row : RegionRow) → Contains rows row → IsReported s threads row.region × (r : Region) × (region_of s row.region ≡ Some r) × (row ≡ region_row row.region r)
+  pub each : (row : RegionRow) → Contains rows row
+      → IsReported s threads row.region × (r : Region) × (region_of s row.region ≡ Some r)
+      × (row ≡ region_row row.region r)
   pub all : (n : Rid) → IsReported s threads n → Contains (map (λ row. row.region) rows) n
 
 -- the chain of a thread, from a task on by scheduling task
@@ -104,12 +117,14 @@ abbrev pub IsChain : State → ℕ → Option Tid → List TaskRow → Type 0
 IsChain s i None [] = ⊤
 IsChain s i None (row ∷ rows) = ⊥
 IsChain s i (Some k) [] = ⊥
-IsChain s i (Some k) (row ∷ rows) = (t : Task) × (task_of s k ≡ Some t) × (row ≡ task_row i k t) × IsChain s i t.scheduling rows
+IsChain s i (Some k) (row ∷ rows) = (t : Task) × (task_of s k ≡ Some t) × (row ≡ task_row i k t)
+    × IsChain s i t.scheduling rows
 
 -- the chains of these threads, one after the other
 abbrev pub AreChains : State → List ℕ → List TaskRow → Type 0
 AreChains s [] rows = rows ≡ []
-AreChains s (i ∷ threads) rows = (chain : List TaskRow) × (rest : List TaskRow) × (rows ≡ chain ++ rest) × IsChain s i (s.threads i).current chain × AreChains s threads rest
+AreChains s (i ∷ threads) rows = (chain : List TaskRow) × (rest : List TaskRow)
+    × (rows ≡ chain ++ rest) × IsChain s i (s.threads i).current chain × AreChains s threads rest
 
 -- the view is that of the state, for these contexts
 pub record IsViewOf (s : State) (contexts : List ℕ) (v : View) : Type 0 where

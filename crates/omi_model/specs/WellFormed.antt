@@ -57,7 +57,8 @@ pub record IsTaskRight (s : State) (t : Task) : Type 0 where
 
 -- a well-formed state
 pub record IsWellFormed (s : State) : Type 0 where
-  pub currents : (i : ℕ) (k : Tid) → i < s.count → (s.threads i).current ≡ Some k → IsVisibleTask s k
+  pub currents : (i : ℕ) (k : Tid) → i < s.count → (s.threads i).current ≡ Some k
+      → IsVisibleTask s k
   pub states : (i : ℕ) → i < s.count → Contains states (s.threads i).state
   pub regions : (n : Rid) → (seen : IsVisibleRegion s n) → IsRegionRight s seen.region
   pub tasks : (k : Tid) → (seen : IsVisibleTask s k) → IsTaskRight s seen.task

@@ -11,6 +11,7 @@ ghost use Rattle.omi_model.specs.Views.{IsViewOf};
 /// A state has at most one view for contexts in their order: what a report of it says is determined. The opening state has
 /// this one.
 pub fn one_view()
-    ensures one { (s : State) (contexts : List ℕ) (v w : View) → IsViewOf s contexts v → IsViewOf s contexts w → v ≡ w }
+    ensures one { (s : State) (contexts : List ℕ) (v w : View) → IsViewOf s contexts v
+        → IsViewOf s contexts w → v ≡ w }
     ensures opening { (p : Program) → IsViewOf (opening p) (1000 ∷ []) (opening_view p) }
 {}

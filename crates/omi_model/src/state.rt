@@ -88,7 +88,8 @@ impl State {
     pub(crate) fn current(&self, i: usize) -> Option<(Tid, &Task)>
         requires { i < (state_of self.now).count }
         ensures found { IfSome result (λ x. IsCurrent (state_of self.now) i x.0 x.1.now) }
-        ensures none { result ≡ None → (k : Tid) (t : Task) → IsCurrent (state_of self.now) i k t → ⊥ }
+        ensures none { result ≡ None → (k : Tid) (t : Task) → IsCurrent (state_of self.now) i k t
+            → ⊥ }
     {
         let k = self.thread(i).current?;
         let t = self.task_of(k)?;
@@ -102,7 +103,8 @@ impl State {
             IsCurrent (state_of self.now) i x.0 x.1.now
             × (region_of (state_of self.now) x.1.now.region ≡ Some x.2.now)) }
         ensures none { result ≡ None → (k : Tid) (t : Task) (r : Region)
-            → IsCurrent (state_of self.now) i k t → region_of (state_of self.now) t.region ≡ Some r → ⊥ }
+            → IsCurrent (state_of self.now) i k t → region_of (state_of self.now) t.region ≡ Some r
+            → ⊥ }
     {
         let (k, t) = self.current(i)?;
         let r = self.region_of(t.region)?;

@@ -33,7 +33,11 @@ impl Model for Team {
 
     ghost invariant = { λ a. AreColumns a.len a.tasks a.threads };
 
-    ghost inverse = { λ ms. record { len = length ms; tasks = padded no_task (tasks_of ms); threads = padded 0 (threads_of ms) } };
+    ghost inverse = { λ ms. record {
+      len = length ms;
+      tasks = padded no_task (tasks_of ms);
+      threads = padded 0 (threads_of ms);
+    } };
 
     ghost inverse_ok = { team_back };
 }

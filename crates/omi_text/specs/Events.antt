@@ -45,7 +45,8 @@ event_words event.Offer = codes "offer" ∷ []
 event_words (event.Want n) = codes "want" ∷ decimal n ∷ []
 event_words (event.Ask w got) = codes "ask" ∷ decimal w ∷ joined_word got ∷ []
 event_words (event.Fork region team) =
-    codes "fork" ∷ region_id region ∷ codes "size" ∷ decimal (length team) ∷ codes "team" ∷ map member_word team
+    codes "fork" ∷ region_id region ∷ codes "size" ∷ decimal (length team) ∷ codes "team"
+    ∷ map member_word team
 event_words (event.ImplicitBegin task) = codes "implicit_begin" ∷ task_id task ∷ []
 event_words (event.State state wait) = codes "state" ∷ state_text state ∷ decimal wait ∷ []
 event_words event.Enter = codes "enter" ∷ []

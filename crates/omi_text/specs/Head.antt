@@ -11,7 +11,8 @@ debug_text debug = if debug == 0 then codes "disabled" else codes "enabled"
 -- ompd VERSION threads T debug D
 abbrev pub version_line : HeadRow → List ℕ
 version_line head = line
-    (codes "ompd" ∷ decimal head.version ∷ codes "threads" ∷ decimal head.threads ∷ codes "debug" ∷ debug_text head.debug ∷ [])
+    (codes "ompd" ∷ decimal head.version ∷ codes "threads" ∷ decimal head.threads ∷ codes "debug"
+    ∷ debug_text head.debug ∷ [])
 
 -- icv num-procs-var=P max-active-levels-var=M
 abbrev pub space_line : HeadRow → List ℕ

@@ -30,7 +30,8 @@ thread_state state =
 -- thread-num-var=V current K
 unfoldable pub thread_task : ThreadPart → List (List ℕ)
 thread_task t =
-    setting (codes "thread-num-var") (or_none decimal t.number) ∷ codes "current" ∷ or_none task_id t.current ∷ []
+    setting (codes "thread-num-var") (or_none decimal t.number) ∷ codes "current"
+    ∷ or_none task_id t.current ∷ []
 
 -- ---- of a region
 
@@ -57,7 +58,8 @@ region_around r =
 -- task K thread I kind W
 unfoldable pub task_name : TaskRow → List (List ℕ)
 task_name t =
-    codes "task" ∷ task_id t.task ∷ codes "thread" ∷ decimal t.thread ∷ codes "kind" ∷ task_kind t.implicit ∷ []
+    codes "task" ∷ task_id t.task ∷ codes "thread" ∷ decimal t.thread ∷ codes "kind"
+    ∷ task_kind t.implicit ∷ []
 
 -- region R function F
 unfoldable pub task_region : TaskRow → List (List ℕ)
@@ -67,12 +69,14 @@ task_region t =
 -- generating G scheduling H
 unfoldable pub task_ancestors : TaskRow → List (List ℕ)
 task_ancestors t =
-    codes "generating" ∷ or_none task_id t.generating ∷ codes "scheduling" ∷ or_none task_id t.scheduling ∷ []
+    codes "generating" ∷ or_none task_id t.generating ∷ codes "scheduling"
+    ∷ or_none task_id t.scheduling ∷ []
 
 -- exit X enter Y tool Z
 unfoldable pub task_frames : TaskRow → List (List ℕ)
 task_frames t =
-    codes "exit" ∷ hexadecimal t.exit ∷ codes "enter" ∷ hexadecimal t.enter ∷ codes "tool" ∷ decimal t.tool ∷ []
+    codes "exit" ∷ hexadecimal t.exit ∷ codes "enter" ∷ hexadecimal t.enter ∷ codes "tool"
+    ∷ decimal t.tool ∷ []
 
 -- icv dyn-var=D
 unfoldable pub dynamic_variable : TaskRow → List (List ℕ)
@@ -82,7 +86,8 @@ dynamic_variable t =
 -- nthreads-var=L run-sched-var=S
 unfoldable pub list_variables : TaskRow → List (List ℕ)
 list_variables t =
-    setting (codes "nthreads-var") (decimals t.nthreads) ∷ setting (codes "run-sched-var") (schedule_text t.sched) ∷ []
+    setting (codes "nthreads-var") (decimals t.nthreads)
+    ∷ setting (codes "run-sched-var") (schedule_text t.sched) ∷ []
 
 -- default-device-var=V final-task-var=B implicit-task-var=C
 unfoldable pub task_variables : TaskRow → List (List ℕ)

@@ -21,7 +21,8 @@ region_line r = line
 -- member J thread I task K
 unfoldable pub member_line : ℕ → MemberRow → List ℕ
 member_line number m = line
-    (codes "member" ∷ decimal number ∷ codes "thread" ∷ decimal m.thread ∷ codes "task" ∷ task_id m.task ∷ [])
+    (codes "member" ∷ decimal number ∷ codes "thread" ∷ decimal m.thread ∷ codes "task"
+    ∷ task_id m.task ∷ [])
 
 -- the lines of members, of which the first has this number
 abbrev pub member_lines : ℕ → List MemberRow → List ℕ

@@ -65,16 +65,22 @@ pub record IsOtherProgram (bytes : List ℕ) : Type 0 where
 abbrev pub IsStopAnswer : ℕ → Option (List ℕ) → Answer → Type 0
 IsStopAnswer budget None (Refuses r) = r ≡ refusal.NoFile
 IsStopAnswer budget None (Gives core text) = ⊥
-IsStopAnswer budget (Some bytes) (Refuses r) = ((fault : ScriptFault) × Refused bytes fault × (r ≡ refusal.Script fault)) ⊎ (IsOtherProgram bytes × (r ≡ refusal.NotBuilt))
+IsStopAnswer budget (Some bytes) (Refuses r) =
+    ((fault : ScriptFault) × Refused bytes fault × (r ≡ refusal.Script fault))
+    ⊎ (IsOtherProgram bytes × (r ≡ refusal.NotBuilt))
 IsStopAnswer budget (Some bytes) (Gives None text) = ⊥
-IsStopAnswer budget (Some bytes) (Gives (Some core) text) = (p : Program) × Grammar bytes p × IsSmall p × IsStopped p budget core text
+IsStopAnswer budget (Some bytes) (Gives (Some core) text) = (p : Program) × Grammar bytes p
+    × IsSmall p × IsStopped p budget core text
 
 -- an answer of `show`, by the content of the core's file: none, bytes that are no core, another core, or a plain core
 abbrev pub IsShowAnswer : Option (List ℕ) → Answer → Type 0
 IsShowAnswer None (Refuses r) = r ≡ refusal.NoFile
 IsShowAnswer None (Gives core text) = ⊥
-IsShowAnswer (Some bytes) (Refuses r) = ((at : ℕ) × (why : CoreFault) × CoreRefused bytes at why × (r ≡ refusal.Core at why)) ⊎ (IsOtherCore bytes × (r ≡ refusal.NotBuilt))
-IsShowAnswer (Some bytes) (Gives None text) = (words : List ℕ) × IsPlainCore bytes words × (text ≡ report (look_view words))
+IsShowAnswer (Some bytes) (Refuses r) =
+    ((at : ℕ) × (why : CoreFault) × CoreRefused bytes at why × (r ≡ refusal.Core at why))
+    ⊎ (IsOtherCore bytes × (r ≡ refusal.NotBuilt))
+IsShowAnswer (Some bytes) (Gives None text) = (words : List ℕ) × IsPlainCore bytes words
+    × (text ≡ report (look_view words))
 IsShowAnswer (Some bytes) (Gives (Some core) text) = ⊥
 
 -- an answer of a command, by the content of the file that it reads
@@ -106,10 +112,13 @@ HoldsPart (Some core) old new = IsPartly old new core
 
 -- What a command gave, and what it left of the file that it writes: the answer and the core; the answer's refusal; or a fault, before the core or within it.
 abbrev pub IsAnswered : (Answer → Type 0) → Result (Vec ℕ) Refusal → Told → Told → Type 0
-IsAnswered P (Ok text) old new = (core : Option (List ℕ)) × P (Gives core text.items) × Holds core old new
+IsAnswered P (Ok text) old new = (core : Option (List ℕ)) × P (Gives core text.items)
+    × Holds core old new
 IsAnswered P (Err r) old new =
     (P (Refuses r) × (new ≡ old))
-    ⊎ ((IsEarly r × (new ≡ old)) ⊎ (IsLate r × (core : Option (List ℕ)) × (text : List ℕ) × P (Gives core text) × HoldsPart core old new))
+    ⊎ ((IsEarly r × (new ≡ old))
+    ⊎ (IsLate r × (core : Option (List ℕ)) × (text : List ℕ) × P (Gives core text)
+    × HoldsPart core old new))
 
 -- a sink's count of faults rose, or its count of puts that were refused for want of memory
 abbrev pub IsCounted : ℕ → ℕ → ℕ → ℕ → Type 0
@@ -121,28 +130,40 @@ IsSaid None counted old new = new ≡ old
 IsSaid (Some line) counted old new = (new ≡ put_on old line) ⊎ ((new ≡ old) × counted)
 
 -- the file and the output after a fault: an answer's core is partly written and nothing put, or the core is whole and its text partly put
-abbrev pub IsPartlyDone : (Answer → Type 0) → Told → Told → Option (List ℕ) → Option (List ℕ) → Type 0
-IsPartlyDone P old new out after = (core : Option (List ℕ)) × (text : List ℕ) × P (Gives core text) × ((HoldsPart core old new × (after ≡ out)) ⊎ (Holds core old new × IsPartlyPut text out after))
+abbrev pub IsPartlyDone : (Answer → Type 0) → Told → Told → Option (List ℕ) → Option (List ℕ)
+    → Type 0
+IsPartlyDone P old new out after = (core : Option (List ℕ)) × (text : List ℕ) × P (Gives core text)
+    × ((HoldsPart core old new × (after ≡ out)) ⊎ (Holds core old new × IsPartlyPut text out after))
 
 -- a refusal with this status is the answer, nothing is written, and its line is said
-abbrev pub IsRefused : List ℕ → (Answer → Type 0) → Status → Told → Told → Type 0 → Option (List ℕ) → Option (List ℕ) → Type 0
+abbrev pub IsRefused : List ℕ → (Answer → Type 0) → Status → Told → Told → Type 0 → Option (List ℕ)
+    → Option (List ℕ) → Type 0
 IsRefused name P status old new counted out after =
-    (r : Refusal) × (status_of r ≡ status) × P (Refuses r) × (new ≡ old) × IsSaid (line_of name r) counted out after
+    (r : Refusal) × (status_of r ≡ status) × P (Refuses r) × (new ≡ old)
+    × IsSaid (line_of name r) counted out after
 
 -- What a call with this status leaves of the file that it writes and of the output, where the file that it reads has this
 -- name, and where a line that isn't put is counted by the sink.
-abbrev pub IsLeft : List ℕ → (Answer → Type 0) → Status → Told → Told → Type 0 → Option (List ℕ) → Option (List ℕ) → Type 0
+abbrev pub IsLeft : List ℕ → (Answer → Type 0) → Status → Told → Told → Type 0 → Option (List ℕ)
+    → Option (List ℕ) → Type 0
 IsLeft name P status.Success old new counted out after =
-    (core : Option (List ℕ)) × (text : List ℕ) × P (Gives core text) × Holds core old new × (after ≡ put_on out text)
-IsLeft name P status.Usage old new counted out after = IsRefused name P status.Usage old new counted out after
-IsLeft name P status.NoFile old new counted out after = IsRefused name P status.NoFile old new counted out after
-IsLeft name P status.Script old new counted out after = IsRefused name P status.Script old new counted out after
-IsLeft name P status.Core old new counted out after = IsRefused name P status.Core old new counted out after
-IsLeft name P status.NotBuilt old new counted out after = IsRefused name P status.NotBuilt old new counted out after
+    (core : Option (List ℕ)) × (text : List ℕ) × P (Gives core text) × Holds core old new
+    × (after ≡ put_on out text)
+IsLeft name P status.Usage old new counted out after =
+    IsRefused name P status.Usage old new counted out after
+IsLeft name P status.NoFile old new counted out after =
+    IsRefused name P status.NoFile old new counted out after
+IsLeft name P status.Script old new counted out after =
+    IsRefused name P status.Script old new counted out after
+IsLeft name P status.Core old new counted out after =
+    IsRefused name P status.Core old new counted out after
+IsLeft name P status.NotBuilt old new counted out after =
+    IsRefused name P status.NotBuilt old new counted out after
 IsLeft name P status.ReadFault old new counted out after =
     (new ≡ old) × IsSaid (line_of name refusal.ReadFault) counted out after
 IsLeft name P status.WriteFault old new counted out after = IsPartlyDone P old new out after
-IsLeft name P status.OutOfMemory old new counted out after = ((new ≡ old) × (after ≡ out)) ⊎ IsPartlyDone P old new out after
+IsLeft name P status.OutOfMemory old new counted out after = ((new ≡ old) × (after ≡ out))
+    ⊎ IsPartlyDone P old new out after
 IsLeft name P other old new counted out after = ⊥
 
 -- a call with this status wrote nothing
@@ -163,11 +184,13 @@ IsFaultStatus other = ⊥
 
 -- a status comes exactly where a fact holds, but for a fault of reading and for want of memory
 abbrev pub ComesWhere : Status → Status → Type 0 → Type 0
-ComesWhere status result fact = (result ≡ status → fact) × (fact → (result ≡ status) ⊎ IsFaultStatus result)
+ComesWhere status result fact = (result ≡ status → fact)
+    × (fact → (result ≡ status) ⊎ IsFaultStatus result)
 
 -- what `show` makes of the core that a run left: it puts the report of the run's state, unless a file or the output fails or memory runs out
 abbrev pub IsShownAgain : State → Status → Option (List ℕ) → Option (List ℕ) → Type 0
-IsShownAgain s status.Success out after = (v : View) × IsViewOf s (native_id 0 ∷ []) v × (after ≡ put_on out (report v))
+IsShownAgain s status.Success out after = (v : View) × IsViewOf s (native_id 0 ∷ []) v
+    × (after ≡ put_on out (report v))
 IsShownAgain s status.ReadFault out after = ⊤
 IsShownAgain s status.WriteFault out after = ⊤
 IsShownAgain s status.OutOfMemory out after = ⊤

@@ -14,7 +14,9 @@ pub data Command : Type 0 where
 -- `stop STEPS SCRIPT CORE`, with STEPS 0 to 1,000,000, or `show CORE`
 abbrev pub command_of : List (List ℕ) → Command
 command_of (verb ∷ steps ∷ script ∷ core ∷ []) =
-    if bytes_eq verb (codes "stop") then option_map_or (λ n. Stop n script core) (number_of 0 MOST_STEPS steps) Faulty else Faulty
+    if bytes_eq verb (codes "stop")
+    then option_map_or (λ n. Stop n script core) (number_of 0 MOST_STEPS steps) Faulty
+    else Faulty
 command_of (verb ∷ core ∷ []) = if bytes_eq verb (codes "show") then Show core else Faulty
 command_of words = Faulty
 

@@ -18,7 +18,9 @@ end_word end.Done = codes "done"
 
 -- the end line: how many steps and events there were, and why they ended
 abbrev pub end_line : ℕ → ℕ → End → List ℕ
-end_line steps events why = codes "end steps " ++ (decimal steps ++ (codes " events " ++ (decimal events ++ (codes " by " ++ (end_word why ++ 10 ∷ [])))))
+end_line steps events why =
+    codes "end steps " ++ (decimal steps ++ (codes " events " ++ (decimal events
+    ++ (codes " by " ++ (end_word why ++ 10 ∷ [])))))
 
 -- all that a run prints. Each step commits an event.
 abbrev pub run_text : List Entry → End → List ℕ

@@ -28,15 +28,23 @@ task_word words field = slice_index words (layout.task_place 0 0 + field)
 -- The words that a plain core has: thread 0 is alive with k0.0.0 current; k0.0.0 is alive in r0.0.0 on thread 0, with no ancestor; r0.0.0 is alive, enclosed by nothing, with k0.0.0 as its one member.
 abbrev pub plain_words : List (ℕ × ℕ)
 plain_words =
-    (layout.thread_place 0 + layout.thread_life, 1) ∷ (layout.thread_place 0 + layout.current, layout.task_address initial_task)
-    ∷ (layout.task_place 0 0 + layout.task_life, 1) ∷ (layout.task_place 0 0 + layout.region, layout.region_address initial_region) ∷ (layout.task_place 0 0 + layout.thread, layout.thread_address 0)
-    ∷ (layout.task_place 0 0 + layout.generating, 0) ∷ (layout.task_place 0 0 + layout.scheduling, 0)
-    ∷ (layout.region_place 0 0 + layout.region_life, 1) ∷ (layout.region_place 0 0 + layout.enclosing, 0) ∷ (layout.region_place 0 0 + layout.size, 1) ∷ (layout.region_place 0 0 + layout.team, layout.task_address initial_task) ∷ []
+    (layout.thread_place 0 + layout.thread_life, 1)
+    ∷ (layout.thread_place 0 + layout.current, layout.task_address initial_task)
+    ∷ (layout.task_place 0 0 + layout.task_life, 1)
+    ∷ (layout.task_place 0 0 + layout.region, layout.region_address initial_region)
+    ∷ (layout.task_place 0 0 + layout.thread, layout.thread_address 0)
+    ∷ (layout.task_place 0 0 + layout.generating, 0)
+    ∷ (layout.task_place 0 0 + layout.scheduling, 0)
+    ∷ (layout.region_place 0 0 + layout.region_life, 1)
+    ∷ (layout.region_place 0 0 + layout.enclosing, 0)
+    ∷ (layout.region_place 0 0 + layout.size, 1)
+    ∷ (layout.region_place 0 0 + layout.team, layout.task_address initial_task) ∷ []
 
 -- the words of a plain core: at least those of the layout, with its symbol table and its layout table
 abbrev pub is_plain : List ℕ → Bool
 is_plain words =
-    nat_le layout.image_words (length words) && has_tables words && list_all (λ x. slice_index words x.0 == x.1) plain_words
+    nat_le layout.image_words (length words) && has_tables words
+    && list_all (λ x. slice_index words x.0 == x.1) plain_words
     && nat_le 1 (task_word words layout.nthn) && nat_le (task_word words layout.nthn) 4
 
 -- a core is plain, with these words: it holds them as an image with the one context 1000, and they are those of a plain core
@@ -57,7 +65,8 @@ look_head words = record {
 abbrev pub look_thread : List ℕ → ThreadPart
 look_thread words = record {
   thread = 0;
-  state = if runtime_word words layout.debug == 0 then None else Some (thread_word words layout.state % 65536, thread_word words layout.state / 65536);
+  state = if runtime_word words layout.debug == 0 then None
+      else Some (thread_word words layout.state % 65536, thread_word words layout.state / 65536);
   number = Some (task_word words layout.number);
   current = Some initial_task;
 }
@@ -75,7 +84,10 @@ look_region words = record {
 
 -- the first elements of nthreads-var, as many as nthn says
 abbrev pub look_nthreads : List ℕ → List ℕ
-look_nthreads words = take (task_word words layout.nthn) (task_word words layout.nth ∷ task_word words (layout.nth + 1) ∷ task_word words (layout.nth + 2) ∷ task_word words (layout.nth + 3) ∷ [])
+look_nthreads words =
+    take (task_word words layout.nthn)
+    (task_word words layout.nth ∷ task_word words (layout.nth + 1)
+    ∷ task_word words (layout.nth + 2) ∷ task_word words (layout.nth + 3) ∷ [])
 
 abbrev pub look_task : List ℕ → TaskRow
 look_task words = record {
@@ -104,7 +116,9 @@ is_found words = thread_word words layout.native == 1000
 abbrev pub look_view : List ℕ → View
 look_view words = record {
   head = look_head words;
-  threads = record { native = 1000; found = if is_found words then Some (look_thread words) else None } ∷ [];
+  threads =
+      record { native = 1000; found = if is_found words then Some (look_thread words) else None }
+      ∷ [];
   regions = if is_found words then look_region words ∷ [] else [];
   tasks = if is_found words then look_task words ∷ [] else [];
 }

@@ -42,11 +42,15 @@ status_of refusal.OutOfMemory = status.OutOfMemory
 
 -- line, number and name of a fault of a script
 abbrev pub fault_line : ScriptFault → List ℕ
-fault_line fault = codes "script " ++ (decimal fault.line ++ (codes " " ++ (decimal (number_of_fault fault.why) ++ (codes " " ++ (text_of_fault fault.why ++ 10 ∷ [])))))
+fault_line fault =
+    codes "script " ++ (decimal fault.line ++ (codes " " ++ (decimal (number_of_fault fault.why)
+    ++ (codes " " ++ (text_of_fault fault.why ++ 10 ∷ [])))))
 
 -- place, number and name of a fault of a core
 abbrev pub core_fault_line : ℕ → CoreFault → List ℕ
-core_fault_line at why = codes "core " ++ (decimal at ++ (codes " " ++ (decimal (number_of why) ++ (codes " " ++ (text_of why ++ 10 ∷ [])))))
+core_fault_line at why =
+    codes "core " ++ (decimal at ++ (codes " " ++ (decimal (number_of why)
+    ++ (codes " " ++ (text_of why ++ 10 ∷ [])))))
 
 -- the line that a refusal prints, where the command reads the file of this name
 abbrev pub line_of : List ℕ → Refusal → Option (List ℕ)

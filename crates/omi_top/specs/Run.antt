@@ -22,16 +22,20 @@ GoesOn es = AllByRecursion (λ (e : Entry). e.event ≢ event.Done) es
 
 -- the steps end at the event `done`, or else after as many as were asked for
 abbrev pub IsEnded : ℕ → List Entry → End → Type 0
-IsEnded steps es end.Done = (front : List Entry) × (last : Entry) × (es ≡ front ++ last ∷ []) × GoesOn front × (last.event ≡ event.Done) × (length es ≤ steps)
+IsEnded steps es end.Done = (front : List Entry) × (last : Entry) × (es ≡ front ++ last ∷ [])
+    × GoesOn front × (last.event ≡ event.Done) × (length es ≤ steps)
 IsEnded steps es end.Steps = GoesOn es × (length es ≡ steps)
 
 -- the words that count arrivals and releases of a visible region have the state's counts
 abbrev pub Counts : List ℕ → State → Type 0
 Counts words s = (n : Rid) → (seen : IsVisibleRegion s n)
-    → Stands words (layout.region_place n.0.creator n.0.slot + layout.arrived) (sum seen.region.arrivals) × Stands words (layout.region_place n.0.creator n.0.slot + layout.released) seen.region.released
+    → Stands words (layout.region_place n.0.creator n.0.slot + layout.arrived)
+    (sum seen.region.arrivals)
+    × Stands words (layout.region_place n.0.creator n.0.slot + layout.released) seen.region.released
 
 -- a run of so many steps, unless the program is done before
-pub record IsRun (p : Program) (budget : ℕ) (es : List Entry) (end : End) (words : List ℕ) (s : State) : Type 0 where
+pub record IsRun (p : Program) (budget : ℕ) (es : List Entry) (end : End) (words : List ℕ)
+    (s : State) : Type 0 where
   pub steps : Steps p (opening_words p) (opening p) es words s
   pub reached : Reached p (events_of es) s
   pub ended : IsEnded budget es end

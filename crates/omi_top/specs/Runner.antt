@@ -25,7 +25,8 @@ statement_step s = (own_load, event.Work)
 -- the step at a counter
 abbrev pub step_at : List Stmt → Counter → Op × Event
 step_at body (counter.Statement at) = statement_step (slice_index_or body at stmt.Work)
-step_at body counter.Show = (op.Store 0x10398 wait_barrier_implicit_parallel, event.State wait_barrier_implicit_parallel 0)
+step_at body counter.Show =
+    (op.Store 0x10398 wait_barrier_implicit_parallel, event.State wait_barrier_implicit_parallel 0)
 step_at body counter.Arrive = (op.Add 0x103f0 1, event.Arrive)
 step_at body counter.Release = (op.Store 0x103e8 1, event.Release)
 step_at body counter.Pass = (op.Load 0x103e8, event.Pass)

@@ -46,7 +46,8 @@ pub record ShowsRegion (words : List ℕ) (place : ℕ) (r : Region) : Type 0 wh
   pub size : Stands words (place + layout.size) (length r.team)
   pub levels : Stands words (place + layout.levels) r.levels
   pub active : Stands words (place + layout.active) r.active
-  pub team : (j : ℕ) (m : Tid × ℕ) → slice_get r.team j ≡ Some m → Stands words (place + layout.team + j) (layout.task_address m.0)
+  pub team : (j : ℕ) (m : Tid × ℕ) → slice_get r.team j ≡ Some m
+      → Stands words (place + layout.team + j) (layout.task_address m.0)
 
 -- the record at a place is that of a task
 pub record ShowsTask (words : List ℕ) (place : ℕ) (t : Task) : Type 0 where
@@ -65,16 +66,19 @@ pub record ShowsTask (words : List ℕ) (place : ℕ) (t : Task) : Type 0 where
   pub device : Stands words (place + layout.device) t.variables.device
   pub final : Stands words (place + layout.final) (flag t.is_final)
   pub tool : Stands words (place + layout.tool) t.tool
-  pub nthreads : (j n : ℕ) → slice_get t.variables.nthreads j ≡ Some n → Stands words (place + layout.nth + j) n
+  pub nthreads : (j n : ℕ) → slice_get t.variables.nthreads j ≡ Some n
+      → Stands words (place + layout.nth + j) n
 
 -- the life words of a slot, which are at `place`: 2g + 1 while its generation g is live, and at least twice the generations that it has had where there is such a word
 pub record ShowsSlot {A : Type 0} (words : List ℕ) (place : ℕ) (slot : Slot A) : Type 0 where
-  pub live : (x : A) → slot.live ≡ Some x → (life : ℕ) × Stands words place life × (life + 1 ≡ 2 * slot.generations)
+  pub live : (x : A) → slot.live ≡ Some x
+      → (life : ℕ) × Stands words place life × (life + 1 ≡ 2 * slot.generations)
   pub free : (life : ℕ) → slot.live ≡ None → Stands words place life → 2 * slot.generations ≤ life
 
 -- live objects lie within the slots of the layout
 abbrev pub AreWithin : {A : Type 0} → Slots A → ℕ → ℕ → Type 0
-AreWithin {A} slots threads per_thread = (c k : ℕ) (x : A) → (slots c k).live ≡ Some x → (c < threads) × (k < per_thread)
+AreWithin {A} slots threads per_thread = (c k : ℕ) (x : A) → (slots c k).live ≡ Some x
+    → (c < threads) × (k < per_thread)
 
 -- the memory shows the state
 pub record Shows (words : List ℕ) (s : State) : Type 0 where
@@ -86,8 +90,13 @@ pub record Shows (words : List ℕ) (s : State) : Type 0 where
   pub tasks_within : AreWithin s.tasks s.count layout.tasks_per_thread
   pub globals : ShowsGlobals words s
   pub lives : (i : ℕ) → i < s.count → ShowsLife words i (s.threads i)
-  pub region_lives : (c k : ℕ) → c < s.count → k < layout.regions_per_thread → ShowsSlot words (layout.region_place c k + layout.region_life) (s.regions c k)
-  pub task_lives : (c k : ℕ) → c < s.count → k < layout.tasks_per_thread → ShowsSlot words (layout.task_place c k + layout.task_life) (s.tasks c k)
-  pub threads : (i : ℕ) → i < s.count → (s.threads i).begun ≡ true → ShowsThread words i (s.threads i)
-  pub regions : (n : Rid) → (seen : IsVisibleRegion s n) → ShowsRegion words (layout.region_place n.0.creator n.0.slot) seen.region
-  pub tasks : (k : Tid) → (seen : IsVisibleTask s k) → ShowsTask words (layout.task_place k.0.creator k.0.slot) seen.task
+  pub region_lives : (c k : ℕ) → c < s.count → k < layout.regions_per_thread
+      → ShowsSlot words (layout.region_place c k + layout.region_life) (s.regions c k)
+  pub task_lives : (c k : ℕ) → c < s.count → k < layout.tasks_per_thread
+      → ShowsSlot words (layout.task_place c k + layout.task_life) (s.tasks c k)
+  pub threads : (i : ℕ) → i < s.count → (s.threads i).begun ≡ true
+      → ShowsThread words i (s.threads i)
+  pub regions : (n : Rid) → (seen : IsVisibleRegion s n)
+      → ShowsRegion words (layout.region_place n.0.creator n.0.slot) seen.region
+  pub tasks : (k : Tid) → (seen : IsVisibleTask s k)
+      → ShowsTask words (layout.task_place k.0.creator k.0.slot) seen.task

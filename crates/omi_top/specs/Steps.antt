@@ -42,17 +42,23 @@ IsOwn i address = (place : ℕ) × (address ≡ address_at place)
 
 -- the operation by which an event of a thread is committed
 abbrev pub CommitsBy : State → ℕ → Event → Op → Type 0
-CommitsBy s i (event.State state wait) made = (word : ℕ) × (made ≡ op.Store (thread_field i layout.state) word)
-CommitsBy s i event.Arrive made = OfCurrent s i (λ k t. (by : ℕ) × (made ≡ op.Add (region_field t layout.arrived) by))
-CommitsBy s i event.Release made = OfCurrent s i (λ k t. (word : ℕ) × (made ≡ op.Store (region_field t layout.released) word))
-CommitsBy s i event.Pass made = OfCurrent s i (λ k t. made ≡ op.Load (region_field t layout.released))
-CommitsBy s i (event.Set icv value) made = (k : Tid) × ((s.threads i).current ≡ Some k) × (made ≡ op.Store (variable_field k icv) value)
+CommitsBy s i (event.State state wait) made = (word : ℕ)
+    × (made ≡ op.Store (thread_field i layout.state) word)
+CommitsBy s i event.Arrive made =
+    OfCurrent s i (λ k t. (by : ℕ) × (made ≡ op.Add (region_field t layout.arrived) by))
+CommitsBy s i event.Release made =
+    OfCurrent s i (λ k t. (word : ℕ) × (made ≡ op.Store (region_field t layout.released) word))
+CommitsBy s i event.Pass made =
+    OfCurrent s i (λ k t. made ≡ op.Load (region_field t layout.released))
+CommitsBy s i (event.Set icv value) made = (k : Tid) × ((s.threads i).current ≡ Some k)
+    × (made ≡ op.Store (variable_field k icv) value)
 CommitsBy s i event.Work made = (address : ℕ) × (made ≡ op.Load address) × IsOwn i address
 CommitsBy s i event.Done made = (address : ℕ) × (made ≡ op.Load address) × IsOwn i address
 CommitsBy s i e made = ⊥
 
 -- one step of thread 0: its operation finds the word that the entry says, and commits an event that is legal and leads to the next state
-pub record IsStep (p : Program) (words : List ℕ) (s : State) (e : Entry) (next : State) : Type 0 where
+pub record IsStep (p : Program) (words : List ℕ) (s : State) (e : Entry)
+    (next : State) : Type 0 where
   pub inside : IsWordOf words (address_of e.op)
   pub found : e.old ≡ word_at words (address_of e.op)
   pub commits : CommitsBy s 0 e.event e.op
@@ -61,7 +67,8 @@ pub record IsStep (p : Program) (words : List ℕ) (s : State) (e : Entry) (next
 -- from these words and this state, the steps lead to those
 abbrev pub Steps : Program → List ℕ → State → List Entry → List ℕ → State → Type 0
 Steps p words s [] last t = (last ≡ words) × (t ≡ s)
-Steps p words s (e ∷ es) last t = (next : State) × IsStep p words s e next × Steps p (word_after words e.op) next es last t
+Steps p words s (e ∷ es) last t = (next : State) × IsStep p words s e next
+    × Steps p (word_after words e.op) next es last t
 
 -- the events that steps commit, each of thread 0
 abbrev pub events_of : List Entry → List (ℕ × Event)

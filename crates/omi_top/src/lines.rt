@@ -10,7 +10,8 @@ use std::fmt::Write;
 
 /// Adds the line of each step. The first has the number 1.
 fn push_lines(text: &mut String, entries: &Vec<Entry>) -> Result<(), AllocError>
-    ensures { OnOk result (string_bytes text.new ≡ string_bytes text.old ++ event_lines 1 entries.now.items) }
+    ensures { OnOk result
+        (string_bytes text.new ≡ string_bytes text.old ++ event_lines 1 entries.now.items) }
 {
     for at in 0..entries.len() {
         let entry = &entries[at];

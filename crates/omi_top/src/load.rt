@@ -16,11 +16,13 @@ pub fn load<F: Files>(
     files: &mut F,
 ) -> Result<Vec<u8>, Refusal>
     ensures bytes { (content : Option (List ℕ)) → F.told files.old name.now ≡ Some content
-        → IfOk result (λ whole. (bytes : List ℕ) × (content ≡ Some bytes) × (whole.items ≡ take most bytes)) }
+        → IfOk result (λ whole. (bytes : List ℕ) × (content ≡ Some bytes)
+        × (whole.items ≡ take most bytes)) }
     ensures no_file { (content : Option (List ℕ)) → F.told files.old name.now ≡ Some content
         → IfErr result (λ r. (r ≡ Refusal.NoFile × content ≡ None) ⊎ IsEarly r) }
     ensures kind { IfErr result (λ r. (r ≡ Refusal.NoFile) ⊎ IsEarly r) }
-    ensures cause { HasCause (F.reads files.old) (F.reads files.new) (IsErrOf result Refusal.ReadFault) }
+    ensures cause { HasCause (F.reads files.old) (F.reads files.new)
+        (IsErrOf result Refusal.ReadFault) }
     ensures same { F.told files.new ≡ F.told files.old }
     ensures writes { F.writes files.new ≡ F.writes files.old }
 {

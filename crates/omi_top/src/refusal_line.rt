@@ -25,7 +25,8 @@ pub fn room_for(alloc: Global, name: &str) -> Result<String, AllocError>
 fn push_all(room: &mut String, pieces: &[&str])
     requires { string_len room.old + sum_by (λ piece. length piece.now) pieces.now
         ≤ string_capacity room.old }
-    ensures { string_bytes room.new ≡ string_bytes room.old ++ flat_map (λ piece. piece.now) pieces.now }
+    ensures { string_bytes room.new ≡ string_bytes room.old
+        ++ flat_map (λ piece. piece.now) pieces.now }
 {
     for piece in pieces {
         room.push_str(piece).unwrap();

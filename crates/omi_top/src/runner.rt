@@ -142,7 +142,8 @@ fn main_body(p: &Program) -> &StmtList
 /// Adds an entry, for which there is room.
 fn append(entries: &mut Vec<Entry>, op: Op, old: u64, event: Event)
     requires { vec_len entries.old < vec_capacity entries.old }
-    ensures added { entries.new.items ≡ entries.old.items ++ record { op = op; old = old; event = event } ∷ [] }
+    ensures added { entries.new.items ≡ entries.old.items
+        ++ record { op = op; old = old; event = event } ∷ [] }
     ensures room { vec_capacity entries.new ≡ vec_capacity entries.old }
 {
     entries.push_reserved(Entry { op, old, event });
@@ -165,7 +166,8 @@ pub fn run(
 ) -> Result<(Vec<Entry>, End), OutOfMemory>
     requires small { IsSmall p.now }
     requires opening { image.old ≡ opening_words p.now }
-    ensures run { IfOk result (λ made. (s : State) × IsRun p.now budget made.0.items made.1 image.new s) }
+    ensures run { IfOk result (λ made. (s : State)
+        × IsRun p.now budget made.0.items made.1 image.new s) }
     ensures plain { IfOk result (λ made. IsTrue (is_plain image.new)) }
 {
     let body = main_body(p);

@@ -37,7 +37,8 @@ fn plain_words(core: &CoreImage) -> Option<&Natives>
 /// The report of the core that a file's bytes spell.
 fn reported(alloc: Global, bytes: &[u8]) -> Result<Vec<u8>, Refusal>
     ensures report { IfOk result (λ text. IsShowAnswer (Some bytes.now) (Gives None text.items)) }
-    ensures refused { IfErr result (λ r. IsShowAnswer (Some bytes.now) (Refuses r) ⊎ (r ≡ Refusal.OutOfMemory)) }
+    ensures refused { IfErr result
+        (λ r. IsShowAnswer (Some bytes.now) (Refuses r) ⊎ (r ≡ Refusal.OutOfMemory)) }
 {
     let core = decode(alloc, bytes)?;
     let Some(words) = plain_words(&core) else {
@@ -50,10 +51,13 @@ fn reported(alloc: Global, bytes: &[u8]) -> Result<Vec<u8>, Refusal>
 
 /// Reads a core, and answers its report.
 pub fn show<F: Files>(alloc: Global, core: &str, files: &mut F) -> Result<Vec<u8>, Refusal>
-    ensures answer { (content : Option (List ℕ)) (old : Told) → F.told files.old core.now ≡ Some content → IsAnswered (IsShowAnswer content) result old old }
+    ensures answer { (content : Option (List ℕ)) (old : Told)
+        → F.told files.old core.now ≡ Some content
+        → IsAnswered (IsShowAnswer content) result old old }
     ensures usage { result ≢ Err Refusal.Usage }
     ensures write { result ≢ Err Refusal.WriteFault }
-    ensures read { HasCause (F.reads files.old) (F.reads files.new) (IsErrOf result Refusal.ReadFault) }
+    ensures read { HasCause (F.reads files.old) (F.reads files.new)
+        (IsErrOf result Refusal.ReadFault) }
     ensures files_told { F.told files.new ≡ F.told files.old }
     ensures files_writes { F.writes files.new ≡ F.writes files.old }
 {

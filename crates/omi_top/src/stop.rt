@@ -23,7 +23,9 @@ use std::alloc::Global;
 fn program(alloc: Global, bytes: &[u8]) -> Result<Program, Refusal>
     ensures accepted { IfOk result (λ p. Grammar bytes.now p) }
     ensures small { IfOk result (λ p. IsSmall p) }
-    ensures refused { (budget : ℕ) → IfErr result (λ r. IsStopAnswer budget (Some bytes.now) (Refuses r) ⊎ (r ≡ Refusal.OutOfMemory)) }
+    ensures refused { (budget : ℕ)
+        → IfErr result (λ r. IsStopAnswer budget (Some bytes.now) (Refuses r)
+        ⊎ (r ≡ Refusal.OutOfMemory)) }
 {
     let p = parse(alloc, bytes)?;
     if !is_small(&p) {
@@ -56,15 +58,20 @@ pub fn stop<F: Files, W: Files>(
     dest: &mut W,
 ) -> Result<Vec<u8>, Refusal>
     ensures answer { (content : Option (List ℕ)) → F.told files.old script.now ≡ Some content
-        → IsAnswered (IsStopAnswer budget content) result (W.told dest.old core.now) (W.told dest.new core.now) }
+        → IsAnswered (IsStopAnswer budget content) result (W.told dest.old core.now)
+        (W.told dest.new core.now) }
     ensures usage { result ≢ Err Refusal.Usage }
-    ensures read { HasCause (F.reads files.old) (F.reads files.new) (IsErrOf result Refusal.ReadFault) }
-    ensures write { HasCause (W.writes dest.old) (W.writes dest.new) (IsErrOf result Refusal.WriteFault) }
-    ensures unwritten { IfErr result (λ r. IsUnwritten (status_of r) → W.told dest.new ≡ W.told dest.old) }
+    ensures read { HasCause (F.reads files.old) (F.reads files.new)
+        (IsErrOf result Refusal.ReadFault) }
+    ensures write { HasCause (W.writes dest.old) (W.writes dest.new)
+        (IsErrOf result Refusal.WriteFault) }
+    ensures unwritten { IfErr result
+        (λ r. IsUnwritten (status_of r) → W.told dest.new ≡ W.told dest.old) }
     ensures files_told { F.told files.new ≡ F.told files.old }
     ensures files_writes { F.writes files.new ≡ F.writes files.old }
     ensures dest_reads { W.reads dest.new ≡ W.reads dest.old }
-    ensures others { (other : List ℕ) → other ≢ core.now → W.told dest.new other ≡ W.told dest.old other }
+    ensures others { (other : List ℕ) → other ≢ core.now
+        → W.told dest.new other ≡ W.told dest.old other }
 {
     let bytes = load(alloc, script, SCRIPT_FRONT, files)?;
     let p = program(alloc, &bytes)?;

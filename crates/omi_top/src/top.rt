@@ -36,18 +36,24 @@ fn perform<F: Files, W: Files>(
     dest: &mut W,
 ) -> Result<Vec<u8>, Refusal>
     requires { IsBounded request }
-    ensures answer { (content : Option (List ℕ)) → F.told files.old (read_name (asked request.entry)) ≡ Some content
+    ensures answer { (content : Option (List ℕ))
+        → F.told files.old (read_name (asked request.entry)) ≡ Some content
         → IsAnswered (IsAnswer (asked request.entry) content) result
-        (W.told dest.old (written_name (asked request.entry))) (W.told dest.new (written_name (asked request.entry))) }
+        (W.told dest.old (written_name (asked request.entry)))
+        (W.told dest.new (written_name (asked request.entry))) }
     ensures usage { IsErrOf result Refusal.Usage → asked request.entry ≡ Faulty }
     ensures faulty { asked request.entry ≡ Faulty → IsErrOf result Refusal.Usage }
-    ensures read { HasCause (F.reads files.old) (F.reads files.new) (IsErrOf result Refusal.ReadFault) }
-    ensures write { HasCause (W.writes dest.old) (W.writes dest.new) (IsErrOf result Refusal.WriteFault) }
-    ensures unwritten { IfErr result (λ r. IsUnwritten (status_of r) → W.told dest.new ≡ W.told dest.old) }
+    ensures read { HasCause (F.reads files.old) (F.reads files.new)
+        (IsErrOf result Refusal.ReadFault) }
+    ensures write { HasCause (W.writes dest.old) (W.writes dest.new)
+        (IsErrOf result Refusal.WriteFault) }
+    ensures unwritten { IfErr result
+        (λ r. IsUnwritten (status_of r) → W.told dest.new ≡ W.told dest.old) }
     ensures files_told { F.told files.new ≡ F.told files.old }
     ensures files_writes { F.writes files.new ≡ F.writes files.old }
     ensures dest_reads { W.reads dest.new ≡ W.reads dest.old }
-    ensures others { (other : List ℕ) → (Writes (asked request.entry) other → ⊥) → W.told dest.new other ≡ W.told dest.old other }
+    ensures others { (other : List ℕ) → (Writes (asked request.entry) other → ⊥)
+        → W.told dest.new other ≡ W.told dest.old other }
 {
     match request {
         Request::Stop {
@@ -82,7 +88,8 @@ fn refuse<K: Sink>(request: Request<'_>, refusal: Refusal, room: &mut String, ou
 fn print<K: Sink>(text: &[u8], out: &mut K) -> Status
     ensures success { result ≡ Status.Success → K.told out.new ≡ put_on (K.told out.old) text.now }
     ensures partly { IsPartlyPut text.now (K.told out.old) (K.told out.new) }
-    ensures status { (result ≡ Status.Success) ⊎ ((result ≡ Status.WriteFault) ⊎ (result ≡ Status.OutOfMemory)) }
+    ensures status { (result ≡ Status.Success)
+        ⊎ ((result ≡ Status.WriteFault) ⊎ (result ≡ Status.OutOfMemory)) }
     ensures cause { HasCause (K.faults out.old) (K.faults out.new) (result ≡ Status.WriteFault) }
     ensures wants { K.wants out.old ≤ K.wants out.new }
 {
@@ -122,17 +129,21 @@ fn carry_out_in<F: Files, W: Files, K: Sink>(
     ensures usage { result ≡ Status.Usage → asked request.entry ≡ Faulty }
     ensures read_fault { result ≡ Status.ReadFault → Rose (F.reads files.old) (F.reads files.new) }
     ensures write_fault { result ≡ Status.WriteFault
-        → Rose (W.writes dest.old) (W.writes dest.new) ⊎ Rose (K.faults out.old) (K.faults out.new) }
-    ensures left { (content : Option (List ℕ)) → F.told files.old (read_name (asked request.entry)) ≡ Some content
+        → Rose (W.writes dest.old) (W.writes dest.new)
+        ⊎ Rose (K.faults out.old) (K.faults out.new) }
+    ensures left { (content : Option (List ℕ))
+        → F.told files.old (read_name (asked request.entry)) ≡ Some content
         → IsLeft (read_name (asked request.entry)) (IsAnswer (asked request.entry) content) result
-        (W.told dest.old (written_name (asked request.entry))) (W.told dest.new (written_name (asked request.entry)))
+        (W.told dest.old (written_name (asked request.entry)))
+        (W.told dest.new (written_name (asked request.entry)))
         (IsCounted (K.faults out.old) (K.faults out.new) (K.wants out.old) (K.wants out.new))
         (K.told out.old) (K.told out.new) }
     ensures unwritten { IsUnwritten result → W.told dest.new ≡ W.told dest.old }
     ensures files_told { F.told files.new ≡ F.told files.old }
     ensures files_writes { F.writes files.new ≡ F.writes files.old }
     ensures dest_reads { W.reads dest.new ≡ W.reads dest.old }
-    ensures others { (other : List ℕ) → (Writes (asked request.entry) other → ⊥) → W.told dest.new other ≡ W.told dest.old other }
+    ensures others { (other : List ℕ) → (Writes (asked request.entry) other → ⊥)
+        → W.told dest.new other ≡ W.told dest.old other }
     ensures reads { F.reads files.old ≤ F.reads files.new }
     ensures writes { W.writes dest.old ≤ W.writes dest.new }
     ensures faults { K.faults out.old ≤ K.faults out.new }
@@ -162,17 +173,21 @@ fn carry_out<F: Files, W: Files, K: Sink>(
         (K.told out.old) (K.told out.new) }
     ensures read_fault { result ≡ Status.ReadFault → Rose (F.reads files.old) (F.reads files.new) }
     ensures write_fault { result ≡ Status.WriteFault
-        → Rose (W.writes dest.old) (W.writes dest.new) ⊎ Rose (K.faults out.old) (K.faults out.new) }
-    ensures left { (content : Option (List ℕ)) → F.told files.old (read_name (asked request.entry)) ≡ Some content
+        → Rose (W.writes dest.old) (W.writes dest.new)
+        ⊎ Rose (K.faults out.old) (K.faults out.new) }
+    ensures left { (content : Option (List ℕ))
+        → F.told files.old (read_name (asked request.entry)) ≡ Some content
         → IsLeft (read_name (asked request.entry)) (IsAnswer (asked request.entry) content) result
-        (W.told dest.old (written_name (asked request.entry))) (W.told dest.new (written_name (asked request.entry)))
+        (W.told dest.old (written_name (asked request.entry)))
+        (W.told dest.new (written_name (asked request.entry)))
         (IsCounted (K.faults out.old) (K.faults out.new) (K.wants out.old) (K.wants out.new))
         (K.told out.old) (K.told out.new) }
     ensures unwritten { IsUnwritten result → W.told dest.new ≡ W.told dest.old }
     ensures files_told { F.told files.new ≡ F.told files.old }
     ensures files_writes { F.writes files.new ≡ F.writes files.old }
     ensures dest_reads { W.reads dest.new ≡ W.reads dest.old }
-    ensures others { (other : List ℕ) → (Writes (asked request.entry) other → ⊥) → W.told dest.new other ≡ W.told dest.old other }
+    ensures others { (other : List ℕ) → (Writes (asked request.entry) other → ⊥)
+        → W.told dest.new other ≡ W.told dest.old other }
     ensures reads { F.reads files.old ≤ F.reads files.new }
     ensures writes { W.writes dest.old ≤ W.writes dest.new }
     ensures faults { K.faults out.old ≤ K.faults out.new }
@@ -208,7 +223,8 @@ pub fn run_top<F: Files, W: Files, K: Sink>(
         (K.told out.old) (K.told out.new) }
     ensures read_fault { result ≡ Status.ReadFault → Rose (F.reads files.old) (F.reads files.new) }
     ensures write_fault { result ≡ Status.WriteFault
-        → Rose (W.writes dest.old) (W.writes dest.new) ⊎ Rose (K.faults out.old) (K.faults out.new) }
+        → Rose (W.writes dest.old) (W.writes dest.new)
+        ⊎ Rose (K.faults out.old) (K.faults out.new) }
 
     // Where the script's file is told: there is none, the grammar refuses it, or it is a program
     // that `stop` doesn't run yet, exactly where the status says so.
@@ -216,16 +232,19 @@ pub fn run_top<F: Files, W: Files, K: Sink>(
         → command_in words.now ≡ Stop budget script core → F.told files.old script ≡ Some content
         → ComesWhere Status.NoFile result (content ≡ None) }
     ensures script { (budget : ℕ) (script core bytes : List ℕ)
-        → command_in words.now ≡ Stop budget script core → F.told files.old script ≡ Some (Some bytes)
+        → command_in words.now ≡ Stop budget script core
+        → F.told files.old script ≡ Some (Some bytes)
         → ComesWhere Status.Script result ((fault : ScriptFault) × RefusedScript bytes fault) }
     ensures other_program { (budget : ℕ) (script core bytes : List ℕ)
-        → command_in words.now ≡ Stop budget script core → F.told files.old script ≡ Some (Some bytes)
+        → command_in words.now ≡ Stop budget script core
+        → F.told files.old script ≡ Some (Some bytes)
         → ComesWhere Status.NotBuilt result (IsOtherProgram bytes) }
 
     // With success the core is that of the last words of a run, and what is put is that run's
     // events and its end.
     ensures success { (budget : ℕ) (script core bytes : List ℕ)
-        → command_in words.now ≡ Stop budget script core → F.told files.old script ≡ Some (Some bytes)
+        → command_in words.now ≡ Stop budget script core
+        → F.told files.old script ≡ Some (Some bytes)
         → result ≡ Status.Success
         → (p : Program) × (written text : List ℕ) × Grammar bytes p × IsSmall p
         × IsStopped p budget written text
