@@ -14,9 +14,6 @@ pub mod Tasking
 pub mod Settings
 pub mod Rules
 pub mod Reached
--- What the plain program keeps of a state, and the parts of event rules that it decides one by one.
-pub mod Kept
-pub mod Decided
 -- What may be shown of a state, when a state is well formed, and what a report says of it.
 pub mod Visible
 pub mod WellFormed

@@ -1,0 +1,62 @@
+-- Lists that are kept, and the functions that they mean.
+use Rattle.std.proofs.Common.{◌≡◌, ◌≤◌, ◌<◌, ◌==◌, ◌-◌, ◌+◌, ℕ, zero, suc, Bool, List, [], ◌∷◌, length, drop, replicate, Option, Some, None, if◌then◌else◌, refl, sym, ap, ◌∙◌, arith}
+use mathlib.Core.Path.{fun_ext}
+use Rattle.std.specs.Prelude.{slice_get, unwrap_or}
+use Rattle.std.proofs.Math.Dec.{eqb-suc-zero}
+use Rattle.std.proofs.Math.Seq.{drop-cons}
+use Rattle.std.proofs.lemmas.List.{length-replicate}
+use Rattle.std.proofs.lemmas.Option.{slice_get_within, get_or_from_slice_get}
+use Rattle.omi_script.specs.declared.env.Env.{Env}
+use Rattle.omi_script.specs.declared.program.Program.{Program}
+use Rattle.omi_script.specs.declared.statement.Stmt.{Stmt}
+use Rattle.omi_model.specs.declared.item.Item.{Item}
+use Rattle.omi_model.specs.declared.item.Item.TheVariants as item
+use Rattle.omi_model.specs.declared.region.Region.{Region}
+use Rattle.omi_model.specs.declared.slot.Slot.{Slot}
+use Rattle.omi_model.specs.declared.task.Task.{Task}
+use Rattle.omi_model.specs.declared.thread.Thread.{Thread}
+use Rattle.omi_machine.specs.Kept.{slots_of, state_of}
+use Rattle.omi_model.specs.Opening.{initial_thread, waiting_worker, opening_region, opening_task, opening}
+use Rattle.omi_model.specs.Put.{first_alone}
+use Rattle.omi_model.specs.Rows.{body_items}
+
+-- a list from a place on, where the element there is known
+pub from_place : {A : Type 0} (xs : List A) (k : ℕ) (x : A) → slice_get xs k ≡ Some x → drop k xs ≡ x ∷ drop (suc k) xs
+from_place {A} xs k x is = drop-cons xs k x (slice_get_within xs k x is) ∙ ap (λ (y : A). y ∷ drop (suc k) xs) (get_or_from_slice_get xs k x x is)
+
+-- one more statement of a body in front
+pub body_more : (body : List Stmt) (k : ℕ) (s : Stmt) (now old : List Item) → k < length body → slice_get body (length body - 1 - k) ≡ Some s
+    → now ≡ body_items (drop (length body - k) body) old → item.Do s ∷ now ≡ body_items (drop (length body - (k + 1)) body) old
+body_more body k s now old within is so_far =
+    let at : suc (length body - 1 - k) ≡ length body - k = omega arith in
+    let next : length body - 1 - k ≡ length body - (k + 1) = omega arith in
+    let from : drop (length body - (k + 1)) body ≡ s ∷ drop (length body - k) body = ap (λ (n : ℕ). drop n body) (sym next) ∙ from_place body (length body - 1 - k) s is ∙ ap (λ (n : ℕ). s ∷ drop n body) at in
+    ap (λ (xs : List Item). item.Do s ∷ xs) so_far ∙ sym (ap (λ (ss : List Stmt). body_items ss old) from)
+
+-- the elements by number, and one past the last
+abbrev by_number : {A : Type 0} → List A → A → ℕ → A
+by_number xs w = λ i. unwrap_or (slice_get xs i) w
+
+-- every element of a list is the default
+all_default : {A : Type 0} (n i : ℕ) (w : A) → unwrap_or (slice_get (replicate n w) i) w ≡ w
+all_default zero i w = refl
+all_default (suc n) zero w = refl
+all_default (suc n) (suc i) w = all_default n i w
+
+-- one element before those that are the default
+first_then : {A : Type 0} (n : ℕ) (a w : A) → by_number (a ∷ replicate n w) w ≡ (λ i. if i == 0 then a else w)
+first_then {A} n a w = fun_ext go
+  where
+    go : (i : ℕ) → unwrap_or (slice_get (a ∷ replicate n w) i) w ≡ (if i == 0 then a else w)
+    go zero = refl
+    go (suc i) = all_default n i w ∙ sym (ap (λ (b : Bool). if b then a else w) (eqb-suc-zero i))
+
+-- the state of what is kept at the opening
+module _ (p : Program) (env : Env) (locks : List (Option ℕ)) (threads : List Thread) (regions : List (List (Slot Region))) (tasks : List (List (Slot Task))) where
+  pub opening_kept : 1 ≤ p.threads → env ≡ p.env → locks ≡ [] → threads ≡ initial_thread ∷ replicate (p.threads - 1) waiting_worker
+      → slots_of regions ≡ first_alone (opening_region p) → slots_of tasks ≡ first_alone (opening_task p)
+      → state_of (record { environment = env; max_active = p.env.max_active; locks = locks; threads = threads; regions = regions; tasks = tasks }) ≡ opening p
+  opening_kept some same free all r t =
+      let count : length threads ≡ p.threads = ap length all ∙ ap suc (length-replicate (p.threads - 1) waiting_worker) ∙ omega arith in
+      let each = ap (λ (hs : List Thread). by_number hs waiting_worker) all ∙ first_then (p.threads - 1) initial_thread waiting_worker in
+      λ j. record { environment = same j; count = count j; max_active = p.env.max_active; locks = by_number (free j) None; threads = each j; regions = r j; tasks = t j }

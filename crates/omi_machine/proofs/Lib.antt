@@ -1,0 +1,4 @@
+pub mod TakenItems
+pub mod KeptSlots
+pub mod NewTeams
+pub mod KeptLists

@@ -1,0 +1,33 @@
+//! The event rules of locks, decided.
+
+ghost use Rattle.std.specs.Prelude.{◌≡◌, ◌↔◌, None, Some, true};
+ghost use Rattle.omi_machine.specs.Kept.{state_of};
+
+use crate::State;
+
+/// The holder of a lock.
+fn holder_of(s: &State, k: u8) -> Option<u8>
+    ensures { result ≡ (state_of s.now).locks k }
+{
+    match s.locks.find(k as usize) {
+        Some(holder) => *holder,
+        None => None,
+    }
+}
+
+/// Whether a lock is taken: nobody holds it.
+pub fn may_lock(s: &State, k: u8) -> bool
+    ensures { (result ≡ true) ↔ ((state_of s.now).locks k ≡ None) }
+{
+    holder_of(s, k).is_none()
+}
+
+/// Whether a thread gives a lock back: it is the holder.
+pub fn may_unlock(s: &State, i: usize, k: u8) -> bool
+    ensures { (result ≡ true) ↔ ((state_of s.now).locks k ≡ Some i) }
+{
+    match holder_of(s, k) {
+        Some(by) => by as usize == i,
+        None => false,
+    }
+}

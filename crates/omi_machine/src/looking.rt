@@ -1,0 +1,122 @@
+//! Looking for the item of an event at the front of a to-do list.
+
+ghost use Rattle.std.specs.Prelude.{◌≡◌, ◌+◌, ◌*◌, List};
+ghost use Rattle.omi_model.specs.declared.item.Item.{Item};
+ghost use Rattle.omi_script.specs.declared.program.Program.{Program};
+ghost use Rattle.omi_model.specs.Lists.{fits, may_drop, opened};
+ghost use Rattle.omi_model.specs.Rows.{first_of};
+
+use omi_model::{Encounter, Event, Item};
+use omi_script::{Sched, Stmt};
+
+/// dyn-var, nthreads-var, run-sched-var, default-device-var and max-active-levels-var, by number.
+const DYN_VAR: u32 = 1;
+
+const NTHREADS_VAR: u32 = 2;
+
+const RUN_SCHED_VAR: u32 = 3;
+
+const DEFAULT_DEVICE_VAR: u32 = 4;
+
+const MAX_ACTIVE_LEVELS_VAR: u32 = 7;
+
+/// A schedule as one word: its chunk times 8 plus its kind.
+fn schedule_word(s: Sched) -> u64
+    ensures { result ≡ s.chunk * 8 + s.kind }
+{
+    s.chunk as u64 * 8 + s.kind as u64
+}
+
+/// The first item of a statement's row.
+pub fn first_item(at: Encounter, s: Stmt) -> Item
+    ensures { result ≡ first_of at s }
+{
+    match s {
+        Stmt::Parallel { .. }
+        | Stmt::Task { .. }
+        | Stmt::Taskwait
+        | Stmt::Taskyield
+        | Stmt::Barrier
+        | Stmt::Critical { .. } => Item::Enter,
+        Stmt::Call { f } => Item::Call { f },
+        Stmt::Only { m, f } => {
+            if at.number == m as u64 {
+                Item::Call { f }
+            } else {
+                Item::Skip
+            }
+        }
+        Stmt::Repeat { n, f } => { if n == 0 { Item::Skip } else { Item::Call { f } } }
+        Stmt::SetNumThreads(n) => set(NTHREADS_VAR, n as u64),
+        Stmt::SetDynamic(b) => set(DYN_VAR, b as u64),
+        Stmt::SetMaxActive(m) => set(MAX_ACTIVE_LEVELS_VAR, m as u64),
+        Stmt::SetSchedule(s) => set(RUN_SCHED_VAR, schedule_word(s)),
+        Stmt::SetDevice(d) => set(DEFAULT_DEVICE_VAR, d as u64),
+        Stmt::Tool(x) => Item::SetTool { x },
+        Stmt::Work => Item::Work,
+    }
+}
+
+fn set(icv: u32, value: u64) -> Item
+    ensures { result ≡ Item.Set icv value }
+{
+    Item::Set { icv, value }
+}
+
+/// The head of a list, once a statement is replaced by its row.
+pub fn head_item(at: Encounter, x: Item) -> Item
+    ensures { (p : Program) (rest : List Item) → (opened p at x rest).0 ≡ result }
+{
+    match x {
+        Item::Do(s) => first_item(at, s),
+        x => x,
+    }
+}
+
+/// Whether an item may be passed over.
+pub fn may_pass_over(x: Item) -> bool
+    ensures { result ≡ may_drop x }
+{
+    matches!(x, Item::Asks | Item::Tasks { .. } | Item::OneTask)
+}
+
+/// Whether the event is this item's.
+pub fn is_events_item(e: &Event, x: Item) -> bool
+    ensures { result ≡ fits e.now x }
+{
+    match (e, x) {
+        (Event::Begin, Item::Begin) => true,
+        (Event::Offer, Item::Offer) => true,
+        (Event::Want { .. }, Item::Want { .. }) => true,
+        (Event::Ask { .. }, Item::Asks) => true,
+        (Event::Fork { .. }, Item::Fork { .. }) => true,
+        (Event::ImplicitBegin { .. }, Item::Serve) => true,
+        (Event::State { state, wait }, Item::State { state: s, wait: w }) => *state == s
+            && *wait == w,
+        (Event::Enter, Item::Enter) => true,
+        (Event::Leave, Item::Leave) => true,
+        (Event::Arrive, Item::Arrive) => true,
+        (Event::Release, Item::Release) => true,
+        (Event::Pass, Item::Pass) => true,
+        (Event::ImplicitEnd { .. }, Item::ImplicitEnd) => true,
+        (Event::Join { .. }, Item::Join) => true,
+        (Event::Seen { j }, Item::Defer { seen, .. }) => *j == seen && seen < 4,
+        (Event::Defer { .. }, Item::Defer { seen, .. }) => seen < 4,
+        (Event::StartNow { .. }, Item::Defer { seen, .. }) => seen == 4,
+        (Event::StartNow { .. }, Item::StartNow { .. }) => true,
+        (Event::Start { .. }, Item::Tasks { .. } | Item::OneTask) => true,
+        (Event::Finish { .. }, Item::Finish) => true,
+        (Event::WaitDone, Item::WaitDone) => true,
+        (Event::Yield, Item::Yield) => true,
+        (Event::Set { icv, value }, Item::Set { icv: v, value: x }) => *icv == v && *value == x,
+        (Event::SetTool { x }, Item::SetTool { x: y }) => *x == y,
+        (Event::Lock { k }, Item::Lock { k: l }) => *k == l,
+        (Event::Unlock { k }, Item::Unlock { k: l }) => *k == l,
+        (Event::Work, Item::Work) => true,
+        (Event::Call { f }, Item::Call { f: g }) => *f == g,
+        (Event::Skip, Item::Skip) => true,
+        (Event::Ret, Item::Ret) => true,
+        (Event::Done, Item::Done) => true,
+        _ => false,
+    }
+}
