@@ -1,6 +1,7 @@
 // Tests of the edge over real files and standard output, which no clause reaches.
 use super::*;
 use crate::stand_in::{Unruly, UnrulyOutput, letters};
+use std::alloc::Global;
 use std::fs::Permissions;
 use std::io::ErrorKind;
 use std::os::unix::fs::PermissionsExt;
@@ -14,9 +15,20 @@ fn fresh(rt: &HostRuntime, name: &str) -> io::Result<PathBuf> {
     Ok(env::temp_dir(rt)?.join(rt.alloc(), file.as_str())?)
 }
 
-/// What a real file holds.
-fn held(rt: &HostRuntime, name: &str) -> io::Result<Vec<u8>> {
-    fs::read(rt, name)
+/// Whether a real file holds just these bytes.
+fn holds(rt: &HostRuntime, name: &str, bytes: &[u8]) -> bool {
+    match fs::read(rt, name) {
+        Ok(held) => held.as_slice() == bytes,
+        Err(_) => false,
+    }
+}
+
+/// Whether `read_whole` gives just these bytes, in no more room than they take.
+fn gives<F: Files>(alloc: Global, files: &mut F, name: &str, bytes: &[u8]) -> bool {
+    match read_whole(alloc, files, name, u64::MAX) {
+        Ok(read) => read.as_slice() == bytes && read.capacity() == bytes.len(),
+        Err(_) => false,
+    }
 }
 
 #[test]
@@ -25,49 +37,69 @@ fn real_files_write_and_read(rt: HostRuntime) -> Result<(), Fail> {
     let name = path.as_str();
     let bytes = letters(rt.alloc(), 100_003)?;
     let mut files = DiskFiles::new(rt.clone()?);
-    assert_eq!(rt; files.size(name), Ok(None));
-    assert_eq!(rt; write_whole(&mut files, name, &bytes), Ok(()));
-    assert_eq!(rt; files.sync(), Ok(()));
-    let on_disk = held(&rt, name);
-    let whole = read_whole(rt.alloc(), &mut files, name, u64::MAX);
-    let mut piece = [0u8; 4];
-    let other = files.read_at("other", 0, &mut piece);
-    let past = files.read_at(name, 100_003, &mut piece);
-    let last = files.read_at(name, 100_001, &mut piece);
+    let missing = files.size(name);
+    let written = (write_whole(&mut files, name, &bytes), files.sync());
+    let whole = (
+        holds(&rt, name, &bytes),
+        gives(rt.alloc(), &mut files, name, &bytes),
+    );
     // A shorter text over the longer one leaves none of the old bytes.
     let shorter = write_whole(&mut files, name, b"short");
-    let left = held(&rt, name);
+    let left = holds(&rt, name, b"short");
     fs::remove_file(&rt, name)?;
-    assert_eq!(rt; on_disk?.as_slice(), bytes.as_slice());
-    let whole = whole.ok().ok_or("refused")?;
-    assert_eq!(rt; whole.as_slice(), bytes.as_slice());
-    assert_eq!(rt; whole.capacity(), 100_003);
-    assert_eq!(rt; (other, past), (Err(Failed), Err(Failed)));
-    assert_eq!(rt; (last, piece.get(..2)), (Ok(2), bytes.get(100_001..)));
-    assert_eq!(rt; (shorter, left?.as_slice()), (Ok(()), b"short".as_slice()));
+    assert_eq!(rt; (missing, written), (Ok(None), (Ok(()), Ok(()))));
+    assert_eq!(rt; (whole, shorter, left), ((true, true), Ok(()), true));
+    Ok(())
+}
+
+#[test]
+fn real_files_read_in_pieces(rt: HostRuntime) -> Result<(), Fail> {
+    let path = fresh(&rt, "pieces")?;
+    let name = path.as_str();
+    let mut files = DiskFiles::new(rt.clone()?);
+    let written = write_whole(&mut files, name, b"abcde");
+    let size = files.size(name);
+    let mut piece = [0u8; 4];
+    let last = files.read_at(name, 3, &mut piece);
+    let other = files.read_at("other", 0, &mut piece);
+    let past = files.read_at(name, 5, &mut piece);
+    fs::remove_file(&rt, name)?;
+    assert_eq!(rt; (written, size, last), (Ok(()), Ok(Some(5)), Ok(2)));
+    assert_eq!(rt;
+        (other, past, piece),
+        (Err(Failed), Err(Failed), [b'd', b'e', 0, 0])
+    );
     Ok(())
 }
 
 #[test]
 fn real_files_append(rt: HostRuntime) -> Result<(), Fail> {
-    let (path, moved) = (fresh(&rt, "added")?, fresh(&rt, "moved")?);
-    let (name, elsewhere) = (path.as_str(), moved.as_str());
+    let path = fresh(&rt, "added")?;
+    let name = path.as_str();
     let mut files = DiskFiles::new(rt.clone()?);
     // A name that isn't there is made, and one that was closed is added to at its end.
     let made = (files.append(name, b"ab"), files.append(name, b"cd"));
     let again = DiskFiles::new(rt.clone()?).append(name, b"ef");
-    let added = held(&rt, name);
-    // A file that is being written stays open where its name is taken away.
+    let added = holds(&rt, name, b"abcdef");
+    fs::remove_file(&rt, name)?;
+    assert_eq!(rt; (made, again, added), ((Ok(()), Ok(())), Ok(()), true));
+    Ok(())
+}
+
+#[test]
+fn files_that_are_written_stay_open(rt: HostRuntime) -> Result<(), Fail> {
+    let (path, moved) = (fresh(&rt, "named")?, fresh(&rt, "moved")?);
+    let (name, elsewhere) = (path.as_str(), moved.as_str());
+    let mut files = DiskFiles::new(rt.clone()?);
     let created = files.create(name);
     fs::rename(&rt, name, elsewhere)?;
     let followed = (files.append(name, b"gh"), files.append(name, b"ij"));
-    let (gone, kept) = (fs::exists(&rt, name), held(&rt, elsewhere));
+    let left = (holds(&rt, name, b""), holds(&rt, elsewhere, b"ghij"));
     fs::remove_file(&rt, elsewhere)?;
-    assert_eq!(rt; (made, again), ((Ok(()), Ok(())), Ok(())));
-    assert_eq!(rt; added?.as_slice(), b"abcdef".as_slice());
-    assert_eq!(rt; (created, followed), (Ok(()), (Ok(()), Ok(()))));
-    assert_eq!(rt; gone?, false);
-    assert_eq!(rt; kept?.as_slice(), b"ghij".as_slice());
+    assert_eq!(rt;
+        (created, followed, left),
+        (Ok(()), (Ok(()), Ok(())), (false, true))
+    );
     Ok(())
 }
 
@@ -76,23 +108,37 @@ fn names_that_are_no_files(rt: HostRuntime) -> Result<(), Fail> {
     let path = fresh(&rt, "plain")?;
     let name = path.as_str();
     let below = path.join(rt.alloc(), "below")?;
-    let folder = env::temp_dir(&rt)?;
     let mut files = DiskFiles::new(rt.clone()?);
-    assert_eq!(rt; write_whole(&mut files, name, b"x"), Ok(()));
+    let written = write_whole(&mut files, name, b"x");
     // Below a file there is none, and none can be made.
     let through = (files.size(below.as_str()), files.create(below.as_str()));
     fs::remove_file(&rt, name)?;
-    assert_eq!(rt; through, (Ok(None), Err(Refused::Failed)));
-    assert_eq!(rt; files.append(below.as_str(), b"x"), Err(Refused::Failed));
+    let gone = files.append(below.as_str(), b"x");
+    assert_eq!(rt;
+        (written, through),
+        (Ok(()), (Ok(None), Err(Refused::Failed)))
+    );
+    assert_eq!(rt; gone, Err(Refused::Failed));
+    Ok(())
+}
+
+#[test]
+fn the_empty_name_and_folders(rt: HostRuntime) -> Result<(), Fail> {
+    let folder = env::temp_dir(&rt)?;
+    let mut files = DiskFiles::new(rt.clone()?);
     // The empty name is no file's name.
-    assert_eq!(rt; files.size(""), Ok(None));
-    assert_eq!(rt; files.create(""), Err(Refused::Failed));
-    assert_eq!(rt; files.append("", b"x"), Err(Refused::Failed));
+    let empty = (files.size(""), files.create(""), files.append("", b"x"));
     // A folder is there, and can be neither read nor written.
-    let read = read_whole(rt.alloc(), &mut files, folder.as_str(), 4096);
-    assert_eq!(rt; read.err(), Some(ReadError::Failed));
+    let read = read_whole(rt.alloc(), &mut files, folder.as_str(), 4096).err();
     let written = write_whole(&mut files, folder.as_str(), b"x");
-    assert_eq!(rt; written, Err(Refused::Failed));
+    assert_eq!(rt;
+        empty,
+        (Ok(None), Err(Refused::Failed), Err(Refused::Failed))
+    );
+    assert_eq!(rt;
+        (read, written),
+        (Some(ReadError::Failed), Err(Refused::Failed))
+    );
     Ok(())
 }
 
@@ -101,7 +147,7 @@ fn forbidden_files_are_there(rt: HostRuntime) -> Result<(), Fail> {
     let path = fresh(&rt, "forbidden")?;
     let name = path.as_str();
     let mut files = DiskFiles::new(rt.clone()?);
-    assert_eq!(rt; write_whole(&mut files, name, b"x"), Ok(()));
+    let made = write_whole(&mut files, name, b"x");
     fs::set_permissions(&rt, name, Permissions::from_mode(0))?;
     // Who may open every file, as root, has no forbidden one: then the answers are not looked at.
     // The stand-in's test of PermissionDenied holds for everybody.
@@ -109,12 +155,8 @@ fn forbidden_files_are_there(rt: HostRuntime) -> Result<(), Fail> {
     let size = files.size(name);
     let written = DiskFiles::new(rt.clone()?).append(name, b"y");
     fs::remove_file(&rt, name)?;
-    if forbidden {
-        assert_eq!(rt;
-            (size, written),
-            (Err(Refused::Failed), Err(Refused::Failed))
-        );
-    }
+    let refused = size == Err(Refused::Failed) && written == Err(Refused::Failed);
+    assert_eq!(rt; (made, refused || !forbidden), (Ok(()), true));
     Ok(())
 }
 
@@ -126,12 +168,13 @@ fn devices(rt: HostRuntime) -> Result<(), Fail> {
     }
     let mut files = DiskFiles::new(rt.clone()?);
     let full = write_whole(&mut files, "/dev/full", b"x");
-    assert_eq!(rt; full, Err(Refused::Failed));
     // What can't be handed over is no fault.
-    assert_eq!(rt; write_whole(&mut files, "/dev/null", b"x"), Ok(()));
-    assert_eq!(rt; files.sync(), Ok(()));
-    let empty = read_whole(rt.alloc(), &mut files, "/dev/null", 4096);
-    assert_eq!(rt; empty.ok().ok_or("refused")?.len(), 0);
+    let null = (write_whole(&mut files, "/dev/null", b"x"), files.sync());
+    let empty = gives(rt.alloc(), &mut files, "/dev/null", b"");
+    assert_eq!(rt;
+        (full, null, empty),
+        (Err(Refused::Failed), (Ok(()), Ok(())), true)
+    );
     Ok(())
 }
 
@@ -140,36 +183,42 @@ fn short_and_interrupted_calls(rt: HostRuntime) -> Result<(), Fail> {
     let path = fresh(&rt, "short")?;
     let name = path.as_str();
     let bytes = letters(rt.alloc(), 9_000)?;
-    let unruly = Unruly::new(rt.clone()?);
-    let mut files = DiskFiles::new((unruly, rt.alloc()));
+    let mut files = DiskFiles::new((Unruly::new(rt.clone()?), rt.alloc()));
     let written = write_whole(&mut files, name, &bytes);
-    let on_disk = held(&rt, name);
-    let whole = read_whole(rt.alloc(), &mut files, name, u64::MAX);
+    let whole = (
+        holds(&rt, name, &bytes),
+        gives(rt.alloc(), &mut files, name, &bytes),
+    );
     fs::remove_file(&rt, name)?;
-    assert_eq!(rt; written, Ok(()));
-    assert_eq!(rt; on_disk?.as_slice(), bytes.as_slice());
-    assert_eq!(rt; whole.ok().ok_or("refused")?.as_slice(), bytes.as_slice());
+    assert_eq!(rt; (written, whole), (Ok(()), (true, true)));
     Ok(())
 }
 
 #[test]
-fn calls_that_fail(rt: HostRuntime) -> Result<(), Fail> {
-    let path = fresh(&rt, "failing")?;
+fn writes_that_fail(rt: HostRuntime) -> Result<(), Fail> {
+    let path = fresh(&rt, "unwritten")?;
     let name = path.as_str();
     let bytes = letters(rt.alloc(), 9_000)?;
     // The stand-in takes 1,000 bytes a call, so the eighth is within the second piece.
     let unruly = Unruly::new(rt.clone()?).failing_write(8);
-    let mut files = DiskFiles::new((unruly, rt.alloc()));
-    let written = write_whole(&mut files, name, &bytes);
-    let on_disk = held(&rt, name);
+    let written = write_whole(&mut DiskFiles::new((unruly, rt.alloc())), name, &bytes);
+    let left = holds(&rt, name, bytes.get(..6_096).unwrap_or(b""));
+    fs::remove_file(&rt, name)?;
+    assert_eq!(rt; (written, left), (Err(Refused::Failed), true));
+    Ok(())
+}
+
+#[test]
+fn reads_that_fail(rt: HostRuntime) -> Result<(), Fail> {
+    let path = fresh(&rt, "unread")?;
+    let name = path.as_str();
+    let bytes = letters(rt.alloc(), 9_000)?;
     fs::write(&rt, name, bytes.as_slice())?;
     let unruly = Unruly::new(rt.clone()?).failing_read(8);
     let mut files = DiskFiles::new((unruly, rt.alloc()));
-    let whole = read_whole(rt.alloc(), &mut files, name, u64::MAX);
+    let read = read_whole(rt.alloc(), &mut files, name, u64::MAX).err();
     fs::remove_file(&rt, name)?;
-    assert_eq!(rt; written, Err(Refused::Failed));
-    assert_eq!(rt; Some(on_disk?.as_slice()), bytes.get(..6_096));
-    assert_eq!(rt; whole.err(), Some(ReadError::Failed));
+    assert_eq!(rt; read, Some(ReadError::Failed));
     Ok(())
 }
 
@@ -202,15 +251,21 @@ fn faults_told_at_the_end(rt: HostRuntime) -> Result<(), Fail> {
     let unruly = Unruly::new(rt.clone()?).failing_sync(ErrorKind::StorageFull);
     let mut files = DiskFiles::new((unruly, rt.alloc()));
     let nothing = files.sync();
-    let written = write_whole(&mut files, name, b"x");
-    let late = files.sync();
+    let late = (write_whole(&mut files, name, b"x"), files.sync());
+    fs::remove_file(&rt, name)?;
+    assert_eq!(rt; (nothing, late), (Ok(()), (Ok(()), Err(Failed))));
+    Ok(())
+}
+
+#[test]
+fn files_that_cannot_be_flushed(rt: HostRuntime) -> Result<(), Fail> {
+    let path = fresh(&rt, "pipe")?;
+    let name = path.as_str();
     let unruly = Unruly::new(rt.clone()?).failing_sync(ErrorKind::InvalidInput);
     let mut files = DiskFiles::new((unruly, rt.alloc()));
-    let again = write_whole(&mut files, name, b"x");
-    let pipe = files.sync();
+    let pipe = (write_whole(&mut files, name, b"x"), files.sync());
     fs::remove_file(&rt, name)?;
-    assert_eq!(rt; (nothing, written, late), (Ok(()), Ok(()), Err(Failed)));
-    assert_eq!(rt; (again, pipe), (Ok(()), Ok(())));
+    assert_eq!(rt; pipe, (Ok(()), Ok(())));
     Ok(())
 }
 
@@ -220,16 +275,14 @@ fn output(rt: HostRuntime) -> Result<(), Fail> {
     let name = path.as_str();
     let bytes = letters(rt.alloc(), 100_003)?;
     let mut out = StdSink::new(UnrulyOutput::new(fs::create(&rt, name)?, 0));
-    let whole = put_whole(&mut out, &bytes);
-    let printed = held(&rt, name);
+    let whole = (put_whole(&mut out, &bytes), holds(&rt, name, &bytes));
     let mut out = StdSink::new(UnrulyOutput::new(fs::create(&rt, name)?, 3));
     let cut = put_whole(&mut out, &bytes);
-    let front = held(&rt, name);
+    let front = holds(&rt, name, bytes.get(..8_192).unwrap_or(b""));
     fs::remove_file(&rt, name)?;
-    assert_eq!(rt; (whole, printed?.as_slice()), (Ok(()), bytes.as_slice()));
     assert_eq!(rt;
-        (cut, Some(front?.as_slice())),
-        (Err(Refused::Failed), bytes.get(..8_192))
+        (whole, cut, front),
+        ((Ok(()), true), Err(Refused::Failed), true)
     );
     let mut out = StdSink::new(rt.clone()?);
     assert_eq!(rt; put_whole(&mut out, b"put by a test\n"), Ok(()));
