@@ -1,5 +1,5 @@
 -- Lists that are kept, and the functions that they mean.
-use Rattle.std.proofs.Common.{◌≡◌, ◌≤◌, ◌<◌, ◌==◌, ◌-◌, ◌+◌, ℕ, zero, suc, Bool, List, [], ◌∷◌, length, drop, replicate, Option, Some, None, if◌then◌else◌, refl, sym, ap, ◌∙◌, arith}
+use Rattle.std.proofs.Common.{◌≡◌, ◌≤◌, ◌<◌, ◌==◌, ◌-◌, ◌+◌, ℕ, zero, suc, Bool, List, [], ◌∷◌, ◌++◌, length, drop, take, replicate, Option, Some, None, if◌then◌else◌, refl, sym, ap, ◌∙◌, arith}
 use mathlib.Core.Path.{fun_ext}
 use Rattle.std.specs.Prelude.{slice_get, unwrap_or}
 use Rattle.std.proofs.Math.Dec.{eqb-suc-zero}
@@ -19,6 +19,8 @@ use Rattle.omi_machine.specs.Kept.{slots_of, state_of}
 use Rattle.omi_model.specs.Opening.{initial_thread, waiting_worker, opening_region, opening_task, opening}
 use Rattle.omi_model.specs.Put.{first_alone}
 use Rattle.omi_model.specs.Rows.{body_items}
+use Rattle.omi_model.specs.Settings.{with_head}
+use Rattle.omi_model.specs.Teams.{shortened}
 
 -- a list from a place on, where the element there is known
 pub from_place : {A : Type 0} (xs : List A) (k : ℕ) (x : A) → slice_get xs k ≡ Some x → drop k xs ≡ x ∷ drop (suc k) xs
@@ -34,7 +36,7 @@ body_more body k s now old within is so_far =
     ap (λ (xs : List Item). item.Do s ∷ xs) so_far ∙ sym (ap (λ (ss : List Stmt). body_items ss old) from)
 
 -- the elements by number, and one past the last
-abbrev by_number : {A : Type 0} → List A → A → ℕ → A
+abbrev pub by_number : {A : Type 0} → List A → A → ℕ → A
 by_number xs w = λ i. unwrap_or (slice_get xs i) w
 
 -- every element of a list is the default
@@ -60,3 +62,44 @@ module _ (p : Program) (env : Env) (locks : List (Option ℕ)) (threads : List T
       let count : length threads ≡ p.threads = ap length all ∙ ap suc (length-replicate (p.threads - 1) waiting_worker) ∙ omega arith in
       let each = ap (λ (hs : List Thread). by_number hs waiting_worker) all ∙ first_then (p.threads - 1) initial_thread waiting_worker in
       λ j. record { environment = same j; count = count j; max_active = p.env.max_active; locks = by_number (free j) None; threads = each j; regions = r j; tasks = t j }
+
+-- one default more changes nothing
+pub one_default_more : {A : Type 0} (xs : List A) (d : A) (j : ℕ) → unwrap_or (slice_get (xs ++ d ∷ []) j) d ≡ unwrap_or (slice_get xs j) d
+one_default_more [] d zero = refl
+one_default_more [] d (suc j) = refl
+one_default_more (x ∷ xs) d zero = refl
+one_default_more (x ∷ xs) d (suc j) = one_default_more xs d j
+
+-- one element more of a list that is taken
+pub take_one_more : {A : Type 0} (xs : List A) (k : ℕ) (y : A) → slice_get xs k ≡ Some y → take k xs ++ y ∷ [] ≡ take (suc k) xs
+take_one_more [] k y is = absurd (cc)
+take_one_more (x ∷ xs) zero y is = let same : Some x ≡ Some y = is in let one : x ≡ y = cc same in ap (λ z. z ∷ []) (sym one)
+take_one_more (x ∷ xs) (suc k) y is = ap (λ zs. x ∷ zs) (take_one_more xs k y is)
+
+-- behind the head a list with another head is the same
+behind_head : (x k y : ℕ) (list : List ℕ) → 1 ≤ k → slice_get list k ≡ Some y → slice_get (with_head x list) k ≡ Some y
+behind_head x k y [] some is = absurd (cc)
+behind_head x zero y (z ∷ zs) some is = absurd (omega (arith, some))
+behind_head x (suc k) y (z ∷ zs) some is = is
+
+pub head_more : (x k y : ℕ) (list now : List ℕ) → 1 ≤ k → slice_get list k ≡ Some y → now ≡ take k (with_head x list) → now ++ y ∷ [] ≡ take (k + 1) (with_head x list)
+head_more x k y list now some is so_far =
+    let next : suc k ≡ k + 1 = omega arith in
+    ap (λ (zs : List ℕ). zs ++ y ∷ []) so_far ∙ take_one_more (with_head x list) k y (behind_head x k y list some is) ∙ ap (λ (n : ℕ). take n (with_head x list)) next
+
+-- one element more of a list without its first
+pub rest_more : (xs now : List ℕ) (k y : ℕ) → 1 ≤ k → slice_get xs k ≡ Some y → now ≡ drop 1 (take k xs) → now ++ y ∷ [] ≡ drop 1 (take (k + 1) xs)
+rest_more xs now k y some is so_far =
+    let next : suc k ≡ k + 1 = omega arith in
+    ap (λ (zs : List ℕ). zs ++ y ∷ []) so_far ∙ go xs k some is ∙ ap (λ (n : ℕ). drop 1 (take n xs)) next
+  where
+    go : (xs : List ℕ) (k : ℕ) → 1 ≤ k → slice_get xs k ≡ Some y → drop 1 (take k xs) ++ y ∷ [] ≡ drop 1 (take (suc k) xs)
+    go [] k some is = absurd (cc)
+    go (x ∷ xs) zero some is = absurd (omega (arith, some))
+    go (x ∷ xs) (suc k) some is = take_one_more xs k y is
+
+-- a list of two elements or more without its first
+pub rest_shortened : (xs : List ℕ) → 2 ≤ length xs → drop 1 xs ≡ shortened xs
+rest_shortened [] two = absurd (omega (arith, two))
+rest_shortened (x ∷ []) two = absurd (omega (arith, two))
+rest_shortened (x ∷ y ∷ xs) two = refl

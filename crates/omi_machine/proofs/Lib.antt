@@ -2,3 +2,9 @@ pub mod TakenItems
 pub mod KeptSlots
 pub mod NewTeams
 pub mod KeptLists
+pub mod KeptSlotLemmas
+pub mod StateChanges
+pub mod GrownSlots
+pub mod ChangesBack
+pub mod TeamsMade
+pub mod AfterEvents

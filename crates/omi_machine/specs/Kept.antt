@@ -1,5 +1,5 @@
 -- What the plain program keeps of a state, which is finite, and the state that it means: a thread past the last one is a worker that has not begun, a slot past the last one has had no object, and a lock past the last one is free.
-use Rattle.std.specs.Prelude.{ℕ, List, length, slice_get, unwrap_or, None}
+use Rattle.std.specs.Prelude.{List, length, slice_get, unwrap_or, None}
 use Rattle.std.specs.Option.{option_and_then}
 use Rattle.omi_model.specs.declared.slot.Slot.{Slot}
 use Rattle.omi_machine.specs.declared.state.State.{State as Kept}

@@ -21,7 +21,7 @@ pub fn may_arrive(s: &State, i: usize) -> bool
 }
 
 /// The arrivals of a member.
-fn arrivals_of(r: &Region, number: u64) -> u64
+pub(crate) fn arrivals_of(r: &Region, number: u64) -> u64
     ensures { result ≡ slice_index r.now.arrivals number }
 {
     let number = number as usize;

@@ -1,14 +1,13 @@
 //! The first lists: what a task has to do when it begins.
 
-ghost use Rattle.std.specs.Prelude.{◌≡◌, OnOk};
-ghost use Rattle.omi_model.specs.Rows.{body_items, barrier_items, end_of_member, shown};
+ghost use Rattle.std.specs.Prelude.{◌≡◌, OnOk, OnErr};
+ghost use Rattle.omi_script.specs.Bodies.{body_of};
+ghost use Rattle.omi_model.specs.Rows.{body_items, barrier_items, end_of_member, shown, working};
 
+use crate::states::{WAIT_BARRIER_IMPLICIT_PARALLEL, WORK_PARALLEL, WORK_SERIAL};
 use omi_model::{Encounter, Item, ItemList};
-use omi_script::StmtList;
+use omi_script::{FuncList, StmtList};
 use omi_word::OutOfMemory;
-
-/// wait_barrier_implicit_parallel.
-const WAIT_BARRIER_IMPLICIT_PARALLEL: u32 = 0x011;
 
 /// Puts the statements of a body in front.
 pub(crate) fn push_body(list: &mut ItemList, body: &StmtList) -> Result<(), OutOfMemory>
@@ -21,6 +20,16 @@ pub(crate) fn push_body(list: &mut ItemList, body: &StmtList) -> Result<(), OutO
     Ok(())
 }
 
+/// Puts the statements of a function in front.
+pub(crate) fn push_function(list: &mut ItemList, funcs: &FuncList, f: u8) -> Result<(), OutOfMemory>
+    ensures { OnOk result (list.new ≡ body_items (body_of funcs.now f) list.old) }
+{
+    match funcs.find(f as usize) {
+        Some(func) => push_body(list, &func.body),
+        None => Ok(()),
+    }
+}
+
 /// Puts a state item in front, where states are kept.
 pub(crate) fn push_shown(
     list: &mut ItemList,
@@ -28,12 +37,25 @@ pub(crate) fn push_shown(
     state: u32,
     wait: u64,
 ) -> Result<(), OutOfMemory>
-    ensures { OnOk result (list.new ≡ shown at state wait list.old) }
+    ensures added { OnOk result (list.new ≡ shown at state wait list.old) }
+    ensures refused { OnErr result (list.new ≡ list.old) }
 {
     if at.debug {
         list.push_front(Item::State { state, wait })
     } else {
         Ok(())
+    }
+}
+
+/// Puts a state item in front by which the thread works, where states are kept.
+pub(crate) fn push_working(list: &mut ItemList, at: Encounter) -> Result<(), OutOfMemory>
+    ensures added { OnOk result (list.new ≡ working at list.old) }
+    ensures refused { OnErr result (list.new ≡ list.old) }
+{
+    if at.level == 0 {
+        push_shown(list, at, WORK_SERIAL, 0)
+    } else {
+        push_shown(list, at, WORK_PARALLEL, 0)
     }
 }
 

@@ -10,15 +10,15 @@ use omi_model::{Encounter, Event, Item};
 use omi_script::{Sched, Stmt};
 
 /// dyn-var, nthreads-var, run-sched-var, default-device-var and max-active-levels-var, by number.
-const DYN_VAR: u32 = 1;
+pub(crate) const DYN_VAR: u32 = 1;
 
-const NTHREADS_VAR: u32 = 2;
+pub(crate) const NTHREADS_VAR: u32 = 2;
 
-const RUN_SCHED_VAR: u32 = 3;
+pub(crate) const RUN_SCHED_VAR: u32 = 3;
 
-const DEFAULT_DEVICE_VAR: u32 = 4;
+pub(crate) const DEFAULT_DEVICE_VAR: u32 = 4;
 
-const MAX_ACTIVE_LEVELS_VAR: u32 = 7;
+pub(crate) const MAX_ACTIVE_LEVELS_VAR: u32 = 7;
 
 /// A schedule as one word: its chunk times 8 plus its kind.
 fn schedule_word(s: Sched) -> u64

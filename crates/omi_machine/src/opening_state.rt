@@ -1,19 +1,19 @@
 //! The state in which a program starts, made.
 
 ghost use Rattle.std.specs.Prelude.{◌≡◌, ◌≤◌, ◌∷◌, ◌-◌, [], false, OnOk, IfOk, replicate};
-ghost use Rattle.omi_script.specs.Bodies.{body_of};
 ghost use Rattle.omi_machine.specs.Kept.{slots_of, state_of};
 ghost use Rattle.omi_model.specs.Opening.{initial_thread, waiting_worker, opening_region, opening_task, opening, variables_of};
 ghost use Rattle.omi_model.specs.Put.{first_alone};
-ghost use Rattle.omi_model.specs.Rows.{body_items, of_main, of_worker};
+ghost use Rattle.omi_model.specs.Rows.{of_main, of_worker};
 
 use crate::State;
-use crate::first_lists::{push_body, push_end_of_member};
+use crate::first_lists::{push_end_of_member, push_function};
+use crate::states::{IDLE, WORK_SERIAL};
 use omi_model::{
     Claim, Encounter, Id, Item, ItemList, Progress, Region, Rid, Rows, Slot, Task, Team, Thread,
     Tid, Variables,
 };
-use omi_script::{Env, FuncList, Program};
+use omi_script::{Env, Program};
 use omi_word::OutOfMemory;
 use std::alloc::Global;
 
@@ -23,11 +23,6 @@ const INITIAL: Id = Id {
     slot: 0,
     generation: 0,
 };
-
-/// work_serial and idle.
-const WORK_SERIAL: u32 = 0x000;
-
-const IDLE: u32 = 0x100;
 
 /// The exit frame of the initial task: 64 bytes below the end of the stack of thread 0.
 const INITIAL_EXIT: u64 = 0x7f00000fffc0;
@@ -53,16 +48,6 @@ fn worker_list(alloc: Global) -> Result<ItemList, OutOfMemory>
     list.push_front(Item::Offer)?;
     list.push_front(Item::Begin)?;
     Ok(list)
-}
-
-/// Puts the statements of a function in front.
-fn push_function(list: &mut ItemList, funcs: &FuncList, f: u8) -> Result<(), OutOfMemory>
-    ensures { OnOk result (list.new ≡ body_items (body_of funcs.now f) list.old) }
-{
-    match funcs.find(f as usize) {
-        Some(func) => push_body(list, &func.body),
-        None => Ok(()),
-    }
 }
 
 /// What the initial task has to do.

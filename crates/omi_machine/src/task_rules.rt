@@ -10,11 +10,9 @@ ghost use Rattle.omi_model.specs.Tasking.{AreChildrenFinished, IsTaken, MayFinis
 
 use crate::State;
 use crate::fresh::is_fresh;
+use crate::states::WAIT_TASKWAIT;
 use crate::unfinished::{TasksOf, are_finished_of};
 use omi_model::{Item, Progress, Rid, Slot, Task, Tid};
-
-/// The state of a thread that waits at taskwait.
-const WAIT_TASKWAIT: u32 = 0x020;
 
 /// Whether a task is deferred in a place, in a region.
 fn is_deferred_in(region: Rid, place: u8, t: &Task) -> bool

@@ -1,3 +1,4 @@
+pub mod ItemLists
 pub mod InOrder
 pub mod OneView
 pub mod OpeningViews

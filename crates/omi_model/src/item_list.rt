@@ -1,6 +1,6 @@
 //! A to-do list, seen as the list of its items in order.
 
-ghost use Rattle.std.specs.Prelude.{◌≡◌, ◌<◌, ◌∷◌, [], length, slice_get, Some, None, IfSome, OnOk, OnErr};
+ghost use Rattle.std.specs.Prelude.{◌≡◌, ◌<◌, ◌≤◌, ◌∷◌, [], length, drop, slice_get, Some, None, IfSome, IfOk, OnOk, OnErr};
 
 use crate::{Item, OutOfMemory};
 use std::alloc::Global;
@@ -45,6 +45,15 @@ impl ItemList {
         ensures { slice_get self.now at ≡ Some result.now }
     {
         &self.items[self.items.len() - 1 - at]
+    }
+
+    /// The items from a place on, in a list of their own.
+    pub fn from_place(&self, alloc: Global, at: usize) -> Result<ItemList, OutOfMemory>
+        requires { at ≤ length self.now }
+        ensures { IfOk result (λ list. list ≡ drop at self.now) }
+    {
+        let items = Vec::from_slice(alloc, &self.items[..self.items.len() - at])?;
+        Ok(ItemList { items })
     }
 
     /// Takes the first item off. None where there is none.

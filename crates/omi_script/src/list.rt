@@ -1,10 +1,11 @@
 //! Lists, seen by contracts as lists of their elements.
-ghost use Rattle.std.specs.Prelude.{◌≡◌, ◌<◌, ◌++◌, ◌∷◌, [], length, slice_get, Some, OnOk, OnErr, IfOk};
+ghost use Rattle.std.specs.Prelude.{◌≡◌, ◌<◌, ◌++◌, ◌∷◌, [], length, slice_get, slice_set, Some, None, IfSome, OnOk, OnErr, IfOk};
 ghost use Rattle.std.specs.Option.{option_map};
 
 use crate::OutOfMemory;
 use std::alloc::Global;
 use std::marker::Model;
+use std::mem::replace;
 
 /// A list of elements, numbered from 0.
 #[derive(Drop)]
@@ -59,6 +60,23 @@ impl<E: Drop> List<E> {
     {
         self.items.push(e)?;
         Ok(())
+    }
+
+    /// Puts an element in the place of another one, which is handed out.
+    pub fn exchange(&mut self, at: usize, e: E) -> E
+        requires { at < length self.old }
+        ensures before { slice_get self.old at ≡ Some result }
+        ensures after { self.new ≡ slice_set self.old at e }
+    {
+        replace(&mut self.items[at], e)
+    }
+
+    /// Takes the last element off. None where there is none.
+    pub fn pop(&mut self) -> Option<E>
+        ensures taken { IfSome result (λ e. self.old ≡ self.new ++ e ∷ []) }
+        ensures none { result ≡ None → self.old ≡ [] }
+    {
+        self.items.pop()
     }
 
     /// The elements in order.

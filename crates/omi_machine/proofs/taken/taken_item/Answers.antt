@@ -1,4 +1,3 @@
-use Rattle.std.proofs.Common.{sym}
 use Rattle.omi_machine.proofs.TakenItems.{head_taken, none_taken, next_place}
 use Rattle.omi_machine.proofs.taken.taken_item.Goals as goal
 

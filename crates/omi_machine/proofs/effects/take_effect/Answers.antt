@@ -1,0 +1,4 @@
+use Rattle.omi_machine.proofs.effects.take_effect.Goals as goal
+
+pub returns-in-Start-clause-done : goal.returns-in-Start-clause-done
+returns-in-Start-clause-done c = rw c.in-Start.is (c.start_by.ensures.done c.args.p.now)
