@@ -42,3 +42,7 @@ pub use state::State;
 
 #[cfg(test)]
 mod legal_tests;
+#[cfg(test)]
+mod read_events;
+#[cfg(test)]
+mod row_tests;
