@@ -19,6 +19,8 @@ pub mod Visible
 pub mod WellFormed
 pub mod Views
 pub mod OpeningView
+-- Laws of the machine, in its own words.
+pub mod LawStays
 -- How a team is kept in place, which its type needs.
 pub mod Columns
 pub mod ColumnLemmas

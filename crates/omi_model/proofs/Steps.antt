@@ -1,0 +1,319 @@
+-- A step in two halves: the list moves on, and then the event has its effect, under the rule that it had before.
+use Rattle.std.proofs.Common.{◌≡◌, ◌≢◌, ◌<◌, ℕ, suc, ◌⊎◌, inl, inr, Bool, true, false, List, [], ◌∷◌, length, map, Option, Some, None, MatchBool, refl, sym, ap, ◌∙◌, subst}
+use Rattle.std.specs.Prelude.{IfSome, ⊤, ◌==◌, ◌+◌, if◌then◌else◌}
+use Rattle.std.specs.List.{All, Contains}
+use Rattle.std.specs.Option.{option_and_then, option_map, option_map_or}
+use Rattle.omi_script.specs.declared.program.Program.{Program}
+use Rattle.omi_model.specs.declared.event.Event.{Event}
+use Rattle.omi_model.specs.declared.event.Event.TheVariants as event
+use Rattle.omi_model.specs.declared.id.Id.{Id}
+use Rattle.omi_model.specs.declared.id.Rid.{Rid}
+use Rattle.omi_model.specs.declared.id.Tid.{Tid}
+use Rattle.omi_model.specs.declared.item.Item.{Item}
+use Rattle.omi_model.specs.declared.item.Item.TheVariants as item
+use Rattle.omi_model.specs.declared.progress.Progress.TheVariants.{Finished}
+use Rattle.omi_model.specs.declared.region.Region.{Region}
+use Rattle.omi_model.specs.declared.slot.Slot.{Slot}
+use Rattle.omi_model.specs.declared.task.Task.{Task}
+use Rattle.omi_model.specs.declared.task.Variables.{Variables}
+use Rattle.omi_model.specs.declared.thread.Thread.{Thread}
+use Rattle.omi_model.specs.Barriers.{AreFinished, MayRelease}
+use Rattle.omi_model.specs.Changes.{IsCurrent, OfCurrent, OfCurrentRegion, by_current, by_region, encounter, list_of, on_task, on_thread, with_list}
+use Rattle.omi_model.specs.Fresh.{IsFresh}
+use Rattle.omi_model.specs.Lists.{stays, take_item}
+use Rattle.omi_model.specs.Numbers.{max_active_levels_var, wait_taskwait}
+use Rattle.omi_model.specs.Put.{Slots, changed, named, on, put}
+use Rattle.omi_model.specs.Reached.{Step}
+use Rattle.omi_model.specs.Rules.{Legal, Rule, after, effect, moved, taken_by}
+use Rattle.omi_model.specs.Settings.{with_set, with_task_variable, with_variable, with_variable_of}
+use Rattle.omi_model.specs.State.{State, current_task, region_of, task_of}
+use Rattle.omi_model.specs.Tasking.{AreChildrenFinished, IsTaken, MayStart, MayStartAt}
+use Rattle.omi_model.specs.Teams.{AreAsksOver, MayAsk, MayBeginTask, MayFork, MayOffer, got_threads}
+use Rattle.omi_model.proofs.Slots.{each_put, each_slot, later_on, none_some, on_empty, on_generations, on_same, put_same, some_same}
+
+-- a task with another list
+abbrev pub relisted : List Item → Task → Task
+relisted zs t = record t { list = zs }
+
+-- ---- what an event makes by the current task
+
+pub at_current : (s : State) (i : ℕ) (k : Tid) (t : Task) (f : Tid → Task → State) → IsCurrent s i k t → by_current s i f ≡ Some (f k t)
+at_current s i k t f is =
+    ap (option_and_then (λ (n : Tid). option_map (f n) (task_of s n))) is.name ∙ ap (option_map (f k)) is.live
+
+pub at_region : (s : State) (i : ℕ) (k : Tid) (t : Task) (r : Region) (f : Tid → Task → Region → State) → IsCurrent s i k t → region_of s t.region ≡ Some r → by_region s i f ≡ Some (f k t r)
+at_region s i k t r f is found =
+    ap (option_and_then (λ (n : Tid). option_and_then (λ (u : Task). option_map (f n u) (region_of s u.region)) (task_of s n))) is.name
+    ∙ (ap (option_and_then (λ (u : Task). option_map (f k u) (region_of s u.region))) is.live ∙ ap (option_map (f k t)) found)
+
+-- a law of what is made
+pub if_some : {A : Type 0} (P : A → Type 0) (o : Option A) (x : A) → o ≡ Some x → P x → IfSome o P
+if_some {A} P o x is h = subst (λ (q : Option A). IfSome q P) (sym is) h
+
+pub from_some : {A : Type 0} (P : A → Type 0) (o : Option A) (x : A) → o ≡ Some x → IfSome o P → P x
+from_some {A} P o x is h = subst (λ (q : Option A). IfSome q P) is h
+
+pub of_current : (s : State) (i : ℕ) (f : Tid → Task → State) (L : State → Type 0) (P : Tid → Task → Type 0) → OfCurrent s i P → ((k : Tid) (t : Task) → IsCurrent s i k t → P k t → L (f k t)) → IfSome (by_current s i f) L
+of_current s i f L P (k, t, is, h) law = if_some L (by_current s i f) (f k t) (at_current s i k t f is) (law k t is h)
+
+pub of_current_region : (s : State) (i : ℕ) (f : Tid → Task → State) (L : State → Type 0) (P : Tid → Task → Region → Type 0) → OfCurrentRegion s i P
+    → ((k : Tid) (t : Task) (r : Region) → IsCurrent s i k t → region_of s t.region ≡ Some r → P k t r → L (f k t)) → IfSome (by_current s i f) L
+of_current_region s i f L P (k, t, r, is, found, h) law = if_some L (by_current s i f) (f k t) (at_current s i k t f is) (law k t r is found h)
+
+pub of_region : (s : State) (i : ℕ) (f : Tid → Task → Region → State) (L : State → Type 0) (P : Tid → Task → Region → Type 0) → OfCurrentRegion s i P
+    → ((k : Tid) (t : Task) (r : Region) → IsCurrent s i k t → region_of s t.region ≡ Some r → P k t r → L (f k t r)) → IfSome (by_region s i f) L
+of_region s i f L P (k, t, r, is, found, h) law = if_some L (by_region s i f) (f k t r) (at_region s i k t r f is found) (law k t r is found h)
+
+pub of_set : (s : State) (i icv value : ℕ) (L : State → Type 0) → OfCurrent s i (λ k t. ⊤) → L (record s { max_active = value })
+    → ((k : Tid) (t : Task) (v : Variables) → IsCurrent s i k t → with_variable icv value t.variables ≡ Some v → L (on_task s k (λ u. record u { variables = v }))) → IfSome (with_set s i icv value) L
+of_set s i icv value L (k, t, is, h) whole own = by_test (icv == max_active_levels_var)
+  where
+    of_own : (o : Option Variables) → with_variable icv value t.variables ≡ o → IfSome (option_map (λ v. on_task s k (λ u. record u { variables = v })) o) L
+    of_own None e = tt
+    of_own (Some v) e = own k t v is e
+
+    by_test : (b : Bool) → IfSome (if b then Some (record s { max_active = value }) else with_task_variable s i icv value) L
+    by_test true = whole
+    by_test false =
+        subst (λ (o : Option State). IfSome o L)
+            (sym (ap (option_and_then (λ (n : Tid). option_and_then (with_variable_of s icv value n) (task_of s n))) is.name ∙ ap (option_and_then (with_variable_of s icv value k)) is.live))
+            (of_own (with_variable icv value t.variables) refl)
+
+-- ---- the list moves on
+
+-- a law of the state whose list has moved on: at the current task, or at a thread without one
+pub list_moves : (s : State) (i : ℕ) (zs : List Item) (L : State → Type 0)
+    → ((k : Tid) → (s.threads i).current ≡ Some k → L (on_task s k (relisted zs)))
+    → ((s.threads i).current ≡ None → L (on_thread s i (λ h. record h { list = zs }))) → L (with_list s i zs)
+list_moves s i zs L busy idle = go (s.threads i).current refl
+  where
+    go : (o : Option Tid) → (s.threads i).current ≡ o → L (option_map_or (λ k. on_task s k (λ t. record t { list = zs })) o (on_thread s i (λ h. record h { list = zs })))
+    go None e = idle e
+    go (Some k) e = busy k e
+
+-- what is live where one object was changed
+pub on_live : {A : Type 0} (slots : Slots A) (k : Id) (f : A → A) (P : A → Type 0) → ((x : A) → P x → P (f x)) → (c j : ℕ) → ((x : A) → (slots c j).live ≡ Some x → P x) → (y : A) → (on slots k f c j).live ≡ Some y → P y
+on_live {A} slots k f P keeps c j was =
+    each_slot slots k (λ d h (slot : Slot A). ((x : A) → (slots d h).live ≡ Some x → P x) → (y : A) → slot.live ≡ Some y → P y) (changed k.generation f (slots k.creator k.slot))
+        (λ all y e. go all y e) (λ d h apart all. all) c j was
+  where
+    of_map : (o : Option A) → ((x : A) → o ≡ Some x → P x) → (y : A) → option_map f o ≡ Some y → P y
+    of_map None all y e = absurd (none_some refl e)
+    of_map (Some x) all y e = let same : f x ≡ y = some_same refl e in subst P same (keeps x (all x refl))
+
+    go : ((x : A) → (slots k.creator k.slot).live ≡ Some x → P x) → (y : A) → (changed k.generation f (slots k.creator k.slot)).live ≡ Some y → P y
+    go all y e = by_test ((slots k.creator k.slot).generations == k.generation + 1) e
+      where
+        by_test : (b : Bool) → (if b then record { generations = (slots k.creator k.slot).generations; live = option_map f (slots k.creator k.slot).live } else slots k.creator k.slot).live ≡ Some y → P y
+        by_test true h = of_map (slots k.creator k.slot).live all y h
+        by_test false h = all y h
+
+pub on_fresh : {A : Type 0} (slots : Slots A) (k : Id) (f : A → A) (i : ℕ) (n : Id) → IsFresh slots i n → IsFresh (on slots k f) i n
+on_fresh slots k f i n is = record {
+    creator = is.creator;
+    empty = on_empty slots k f i n.slot is.empty;
+    next = is.next ∙ sym (on_generations slots k f i n.slot);
+    below = is.below;
+}
+
+module _ (s : State) (i : ℕ) (k0 : Tid) (is_current : (s.threads i).current ≡ Some k0) (zs : List Item) where
+  abbrev next : State
+  next = on_task s k0 (relisted zs)
+
+  pub current_moved : (k : Tid) (t : Task) → IsCurrent s i k t → IsCurrent next i k (relisted zs t)
+  current_moved k t is =
+      let same : k0 ≡ k = some_same is_current is.name in
+      record { name = is.name; live = ap (task_of next) (sym same) ∙ (on_same s.tasks k0.0 (relisted zs) ∙ ap (option_map (relisted zs)) (ap (task_of s) same ∙ is.live)) }
+
+  of_moved : (P Q : Tid → Task → Type 0) → ((k : Tid) (t : Task) → P k t → Q k (relisted zs t)) → OfCurrent s i P → OfCurrent next i Q
+  of_moved P Q keeps (k, t, is, h) = (k, relisted zs t, current_moved k t is, keeps k t h)
+
+  of_region_moved : (P Q : Tid → Task → Region → Type 0) → ((k : Tid) (t : Task) (r : Region) → P k t r → Q k (relisted zs t) r) → OfCurrentRegion s i P → OfCurrentRegion next i Q
+  of_region_moved P Q keeps (k, t, r, is, found, h) = (k, relisted zs t, r, current_moved k t is, found, keeps k t r h)
+
+  fork_moved : (region : Rid) (team : List (Tid × ℕ)) → MayFork s i region team → MayFork next i region team
+  fork_moved region team may = record {
+      over = may.over; threads = may.threads; region_new = may.region_new;
+      tasks_new = λ j d h. on_fresh s.tasks k0.0 (relisted zs) i _ (may.tasks_new j d h);
+      distinct = may.distinct;
+  }
+
+  finished_moved : (n : Rid) → AreFinished s n → AreFinished next n
+  finished_moved n all c j t live =
+      on_live s.tasks k0.0 (relisted zs) (λ u. u.implicit ≡ false → u.region ≡ n → u.progress ≡ Finished) (λ x h. h) c j (all c j) t live
+
+  children_moved : (k : Tid) → AreChildrenFinished s k → AreChildrenFinished next k
+  children_moved k all c j t live =
+      on_live s.tasks k0.0 (relisted zs) (λ u. u.implicit ≡ false → u.generating ≡ Some k → u.progress ≡ Finished) (λ x h. h) c j (all c j) t live
+
+  taken_moved : (region : Rid) (place : ℕ) → IsTaken s i region place → IsTaken next i region place
+  taken_moved region place is =
+      let found = each_slot s.tasks k0.0 (λ c j (slot : Slot Task). (s.tasks c j).live ≡ Some is.task → (u : Task) × (slot.live ≡ Some u) × ((u ≡ is.task) ⊎ (u ≡ relisted zs is.task))) (changed k0.0.generation (relisted zs) (s.tasks k0.0.creator k0.0.slot))
+          (λ e. here (s.tasks k0.0.creator k0.0.slot) e) (λ c j apart e. (is.task, e, inl refl)) i is.slot is.live in
+      of_found found.0 found.1 found.2
+    where
+      here : (slot : Slot Task) → slot.live ≡ Some is.task → (u : Task) × ((changed k0.0.generation (relisted zs) slot).live ≡ Some u) × ((u ≡ is.task) ⊎ (u ≡ relisted zs is.task))
+      here slot e = by_test (slot.generations == k0.0.generation + 1)
+        where
+          by_test : (b : Bool) → (u : Task) × ((if b then record { generations = slot.generations; live = option_map (relisted zs) slot.live } else slot).live ≡ Some u) × ((u ≡ is.task) ⊎ (u ≡ relisted zs is.task))
+          by_test true = (relisted zs is.task, ap (option_map (relisted zs)) e, inr refl)
+          by_test false = (is.task, e, inl refl)
+
+      of_found : (u : Task) → (next.tasks i is.slot).live ≡ Some u → (u ≡ is.task) ⊎ (u ≡ relisted zs is.task) → IsTaken next i region place
+      of_found u live (inl same) = record {
+          slot = is.slot; task = u; live = live;
+          explicit = ap (λ (x : Task). x.implicit) same ∙ is.explicit; deferred = ap (λ (x : Task). x.progress) same ∙ is.deferred;
+          same = ap (λ (x : Task). x.region) same ∙ is.same; there = ap (λ (x : Task). x.place) same ∙ is.there;
+      }
+      of_found u live (inr same) = record {
+          slot = is.slot; task = u; live = live;
+          explicit = ap (λ (x : Task). x.implicit) same ∙ is.explicit; deferred = ap (λ (x : Task). x.progress) same ∙ is.deferred;
+          same = ap (λ (x : Task). x.region) same ∙ is.same; there = ap (λ (x : Task). x.place) same ∙ is.there;
+      }
+
+  start_moved : (task : Tid) (x : Item) (k : Tid) (t : Task) → MayStart s task x k t → MayStart next task x k (relisted zs t)
+  start_moved task x k t may =
+      let found = later_on (λ (u v : Task). (v ≡ u) ⊎ (v ≡ relisted zs u)) (λ u. inl refl) s.tasks k0.0 (relisted zs) (λ u e. inr refl) task.0 may.new may.live in
+      of_found found.0 found.1 found.2
+    where
+      allowed : (x : Item) (u : Task) → MayStartAt x k t u → MayStartAt x k (relisted zs t) (relisted zs u)
+      allowed (item.Tasks state) u h = h
+      allowed item.OneTask u h = h
+      allowed y u h = absurd h
+
+      allowed_same : (x : Item) (u : Task) → MayStartAt x k t u → MayStartAt x k (relisted zs t) u
+      allowed_same (item.Tasks state) u h = h
+      allowed_same item.OneTask u h = h
+      allowed_same y u h = absurd h
+
+      of_found : (v : Task) → task_of next task ≡ Some v → (v ≡ may.new) ⊎ (v ≡ relisted zs may.new) → MayStart next task x k (relisted zs t)
+      of_found v live (inl same) = record {
+          new = may.new; live = live ∙ ap (λ (u : Task). Some u) same; explicit = may.explicit; deferred = may.deferred; allowed = allowed_same x may.new may.allowed;
+      }
+      of_found v live (inr same) = record {
+          new = relisted zs may.new; live = live ∙ ap (λ (u : Task). Some u) same; explicit = may.explicit; deferred = may.deferred; allowed = allowed x may.new may.allowed;
+      }
+
+  busy_rule : (e : Event) (y : Item) → Rule s i e y → Rule next i e y
+  busy_rule event.Begin y rule = rule
+  busy_rule event.Offer y rule = rule
+  busy_rule (event.Want n) (item.Want num) rule = of_region_moved _ _ (λ k t r h. h) rule
+  busy_rule (event.Want n) y rule = absurd rule
+  busy_rule (event.Ask w got) y rule = record { known = rule.known; other = rule.other; new = rule.new; least = rule.least; smaller = rule.smaller; joins = rule.joins; busy = rule.busy }
+  busy_rule (event.Fork region team) y rule = of_region_moved _ _ (λ k t r h. fork_moved region team h) rule
+  busy_rule (event.ImplicitBegin task) y rule = absurd (none_some rule.idle is_current)
+  busy_rule event.Enter y rule = of_moved _ _ (λ k t h. h) rule
+  busy_rule event.Leave y rule = of_moved _ _ (λ k t h. h) rule
+  busy_rule event.Arrive y rule = of_region_moved _ _ (λ k t r h. h) rule
+  busy_rule event.Release y rule = of_region_moved _ _ (λ k t r h. record { first = h.first; arrived = h.arrived; finished = finished_moved t.region h.finished }) rule
+  busy_rule event.Pass y rule = of_region_moved _ _ (λ k t r h. h) rule
+  busy_rule (event.ImplicitEnd task) y rule = of_region_moved _ _ (λ k t r h. record { current = h.current; implicit = h.implicit; other = h.other }) rule
+  busy_rule (event.Join region) y rule = of_region_moved _ _ (λ k t r h. record { mine = h.mine; implicit = h.implicit; first = h.first; ended = h.ended }) rule
+  busy_rule (event.FreeTask task) y rule = absurd rule
+  busy_rule (event.FreeRegion region) y rule = absurd rule
+  busy_rule (event.Seen j) y rule = of_moved _ _ (λ k t h. taken_moved t.region j h) rule
+  busy_rule (event.Defer task) y rule = of_moved _ _ (λ k t h. on_fresh s.tasks k0.0 (relisted zs) i task.0 h) rule
+  busy_rule (event.StartNow task) y rule = of_moved _ _ (λ k t h. on_fresh s.tasks k0.0 (relisted zs) i task.0 h) rule
+  busy_rule (event.Start task) y rule = of_moved _ _ (λ k t h. start_moved task y k t h) rule
+  busy_rule (event.Finish task) y rule = of_moved _ _ (λ k t h. record { current = h.current; explicit = h.explicit }) rule
+  busy_rule event.WaitDone y rule = of_moved _ _ (λ k t h. children_moved k h) rule
+  busy_rule (event.Set icv value) y rule = of_moved _ _ (λ k t h. h) rule
+  busy_rule (event.SetTool x) y rule = of_moved _ _ (λ k t h. h) rule
+  busy_rule e y rule = rule
+
+module _ (s : State) (i : ℕ) (none : (s.threads i).current ≡ None) (zs : List Item) where
+  abbrev idle_next : State
+  idle_next = on_thread s i (λ h. record h { list = zs })
+
+  -- what does not read the list of a thread is the same
+  pub idle_same : {B : Type 0} (F : Thread → B) → F (record (s.threads i) { list = zs }) ≡ F (s.threads i) → (j : ℕ) → F (idle_next.threads j) ≡ F (s.threads j)
+  idle_same F same j = each_put (λ m h. F h ≡ F (s.threads m)) s.threads i (record (s.threads i) { list = zs }) same j (λ ne. refl)
+
+  no_current : {P : Tid → Task → Type 0} → OfCurrent s i P → ⊥
+  no_current (k, t, is, h) = none_some none is.name
+
+  no_region : {P : Tid → Task → Region → Type 0} → OfCurrentRegion s i P → ⊥
+  no_region (k, t, r, is, found, h) = none_some none is.name
+
+  ask_idle : (w : ℕ) (got : Bool) → MayAsk s i w got → MayAsk idle_next i w got
+  ask_idle w got may =
+      let asks : (idle_next.threads i).asks ≡ (s.threads i).asks = idle_same (λ h. h.asks) refl i in
+      let wanted : (idle_next.threads i).wanted ≡ (s.threads i).wanted = idle_same (λ h. h.wanted) refl i in
+      let claim : (idle_next.threads w).claim ≡ (s.threads w).claim = idle_same (λ h. h.claim) refl w in
+      record {
+        known = may.known;
+        other = may.other;
+        new = λ h. may.new (subst (λ (a : List (ℕ × Bool)). Contains (map (λ x. x.0) a) w) asks h);
+        least = λ v below other. subst (λ (a : List (ℕ × Bool)). Contains (map (λ x. x.0) a) v) (sym asks) (may.least v below other);
+        smaller = subst (λ (a : List (ℕ × Bool)). suc (length (got_threads a)) < (idle_next.threads i).wanted) (sym asks) (subst (λ n. suc (length (got_threads (s.threads i).asks)) < n) (sym wanted) may.smaller);
+        joins = λ g. claim ∙ may.joins g;
+        busy = λ g h. may.busy g (sym claim ∙ h);
+      }
+
+  idle_rule : (e : Event) (y : Item) → Rule s i e y → Rule idle_next i e y
+  idle_rule event.Begin y rule = idle_same (λ h. h.begun) refl i ∙ rule
+  idle_rule event.Offer y rule = record { idle = idle_same (λ h. h.current) refl i ∙ rule.idle; held = λ e. rule.held (sym (idle_same (λ h. h.claim) refl i) ∙ e) }
+  idle_rule (event.Want n) (item.Want num) rule = absurd (no_region rule)
+  idle_rule (event.Want n) y rule = absurd rule
+  idle_rule (event.Ask w got) y rule = ask_idle w got rule
+  idle_rule (event.Fork region team) y rule = absurd (no_region rule)
+  idle_rule (event.ImplicitBegin task) y rule = record { idle = idle_same (λ h. h.current) refl i ∙ rule.idle; member = rule.member; live = rule.live; waiting = rule.waiting; mine = rule.mine }
+  idle_rule event.Enter y rule = absurd (no_current rule)
+  idle_rule event.Leave y rule = absurd (no_current rule)
+  idle_rule event.Arrive y rule = absurd (no_region rule)
+  idle_rule event.Release y rule = absurd (no_region rule)
+  idle_rule event.Pass y rule = absurd (no_region rule)
+  idle_rule (event.ImplicitEnd task) y rule = absurd (no_region rule)
+  idle_rule (event.Join region) y rule = absurd (no_region rule)
+  idle_rule (event.FreeTask task) y rule = absurd rule
+  idle_rule (event.FreeRegion region) y rule = absurd rule
+  idle_rule (event.Seen j) y rule = absurd (no_current rule)
+  idle_rule (event.Defer task) y rule = absurd (no_current rule)
+  idle_rule (event.StartNow task) y rule = absurd (no_current rule)
+  idle_rule (event.Start task) y rule = absurd (no_current rule)
+  idle_rule (event.Finish task) y rule = absurd (no_current rule)
+  idle_rule event.WaitDone y rule = absurd (no_current rule)
+  idle_rule (event.Set icv value) y rule = absurd (no_current rule)
+  idle_rule (event.SetTool x) y rule = absurd (no_current rule)
+  idle_rule e y rule = rule
+
+-- the rule of an event holds where the list has moved on
+pub rule_moved : (s : State) (i : ℕ) (e : Event) (y : Item) (zs : List Item) → Rule s i e y → Rule (with_list s i zs) i e y
+rule_moved s i e y zs rule = list_moves s i zs (λ u. Rule u i e y) (λ k is. busy_rule s i k is zs e y rule) (λ none. idle_rule s i none zs e y rule)
+
+-- ---- a step
+
+abbrev pub moved_on : State → ℕ → Event → Item → List Item → State
+moved_on s i e y ys = with_list s i (stays (encounter s i) e y ys)
+
+-- a step, taken apart
+pub record IsMove (p : Program) (s : State) (i : ℕ) (e : Event) (next : State) : Type 0 where
+  pub known : i < s.count
+  pub item : Item
+  pub behind : List Item
+  pub taken : take_item p (encounter s i) e (list_of s i) ≡ Some (item, behind)
+  pub rule : Rule s i e item
+  pub rule_moved : Rule (moved_on s i e item behind) i e item
+  pub effect_is : effect p (moved_on s i e item behind) i e item ≡ Some next
+
+pub move_of : (p : Program) (s : State) (i : ℕ) (e : Event) (next : State) → Step p s i e next → IsMove p s i e next
+move_of p s i e after_step step = record {
+    known = step.legal.known;
+    item = step.legal.item;
+    behind = step.legal.behind;
+    taken = step.legal.taken;
+    rule = step.legal.rule;
+    rule_moved = rule_moved s i e step.legal.item (stays (encounter s i) e step.legal.item step.legal.behind) step.legal.rule;
+    effect_is = sym (ap (option_and_then (moved p s i e)) step.legal.taken) ∙ step.after_is;
+}
+
+-- a law between a state and the next one: it holds of the list's move and of the effect, and of both in a row
+pub step_law : (p : Program) (L : State → State → Type 0) → ((s t u : State) → L s t → L t u → L s u)
+    → ((s : State) (i : ℕ) (zs : List Item) → L s (with_list s i zs))
+    → ((s : State) (i : ℕ) (e : Event) (y : Item) → Rule s i e y → IfSome (effect p s i e y) (L s))
+    → (s : State) (i : ℕ) (e : Event) (next : State) → Step p s i e next → L s next
+step_law p L trans lists effects s i e next step =
+    let m = move_of p s i e next step in
+    let middle : State = moved_on s i e m.item m.behind in
+    trans s middle next (lists s i (stays (encounter s i) e m.item m.behind))
+        (from_some (L middle) (effect p middle i e m.item) next m.effect_is (effects middle i e m.item m.rule_moved))

@@ -1,0 +1,60 @@
+-- What stays: an event neither takes a task or a region away nor changes what it is, and what a task or a region has come to is never undone.
+use Rattle.std.specs.Prelude.{◌≡◌, ◌≤◌, ℕ, List, true, slice_get, slice_index, length, Some}
+use Rattle.omi_script.specs.declared.program.Program.{Program}
+use Rattle.omi_model.specs.declared.event.Event.{Event}
+use Rattle.omi_model.specs.declared.id.Tid.{Tid}
+use Rattle.omi_model.specs.declared.id.Rid.{Rid}
+use Rattle.omi_model.specs.declared.progress.Progress.{Progress}
+use Rattle.omi_model.specs.declared.progress.Progress.TheVariants.{Deferred, NotBegun, Begun, Finished}
+use Rattle.omi_model.specs.declared.region.Region.{Region}
+use Rattle.omi_model.specs.declared.task.Task.{Task}
+use Rattle.omi_model.specs.Reached.{Leads, Reached}
+use Rattle.omi_model.specs.State.{State, region_of, task_of}
+
+-- how far a task has come: it waits to run, runs, or is over
+abbrev pub stage_of : Progress → ℕ
+stage_of Deferred = 0
+stage_of NotBegun = 0
+stage_of Begun = 1
+stage_of Finished = 2
+
+-- A task and the same task later. Thread, number and scheduling task of an explicit task are settled once it starts.
+pub record IsSameTask (t u : Task) : Type 0 where
+  pub implicit : u.implicit ≡ t.implicit
+  pub region : u.region ≡ t.region
+  pub generating : u.generating ≡ t.generating
+  pub function : u.function ≡ t.function
+  pub is_final : u.is_final ≡ t.is_final
+  pub stage : stage_of t.progress ≤ stage_of u.progress
+  pub started : (t.progress ≡ Deferred → ⊥) → u.progress ≡ Deferred → ⊥
+  pub thread : (t.progress ≡ Deferred → ⊥) → u.thread ≡ t.thread
+  pub number : (t.progress ≡ Deferred → ⊥) → u.number ≡ t.number
+  pub scheduling : (t.progress ≡ Deferred → ⊥) → u.scheduling ≡ t.scheduling
+
+-- A region and the same region later: no arrival, release or end is undone.
+pub record IsSameRegion (r q : Region) : Type 0 where
+  pub enclosing : q.enclosing ≡ r.enclosing
+  pub encountering : q.encountering ≡ r.encountering
+  pub team : q.team ≡ r.team
+  pub function : q.function ≡ r.function
+  pub levels : q.levels ≡ r.levels
+  pub active : q.active ≡ r.active
+  pub members : length q.arrivals ≡ length r.arrivals
+  pub arrivals : (j : ℕ) → slice_index r.arrivals j ≤ slice_index q.arrivals j
+  pub released : r.released ≤ q.released
+  pub ended : (j : ℕ) → slice_get r.ended j ≡ Some true → slice_get q.ended j ≡ Some true
+  pub joined : r.joined ≡ true → q.joined ≡ true
+
+-- a state and a later one
+pub record Stays (s u : State) : Type 0 where
+  pub tasks : (k : Tid) (t : Task) → task_of s k ≡ Some t
+      → (v : Task) × (task_of u k ≡ Some v) × IsSameTask t v
+  pub regions : (n : Rid) (r : Region) → region_of s n ≡ Some r
+      → (q : Region) × (region_of u n ≡ Some q) × IsSameRegion r q
+  pub begun : (i : ℕ) → (s.threads i).begun ≡ true → (u.threads i).begun ≡ true
+  pub count : u.count ≡ s.count
+
+-- whatever events lead from a reached state to another one
+abbrev pub Stay : Type 0
+Stay = (p : Program) (first more : List (ℕ × Event)) (s u : State) → Reached p first s
+    → Leads p s more u → Stays s u
