@@ -5,3 +5,6 @@ pub mod OpeningViews
 pub mod Slots
 pub mod Steps
 pub mod StaysKept
+pub mod EachObject
+pub mod EachThread
+pub mod NamesLive

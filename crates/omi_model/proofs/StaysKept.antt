@@ -220,7 +220,7 @@ stays_current s u i k h = stays_trans s u (on_thread u i (λ h. record h { curre
 stays_setting : (s : State) (k : Tid) (f : Task → Task) → ((t : Task) → IsSameTask t (f t)) → Stays s (on_task s k f)
 stays_setting s k f keeps = stays_task s k f (λ t e. keeps t)
 
-stays_effect : (p : Program) (s : State) (i : ℕ) (e : Event) (y : Item) → Rule s i e y → IfSome (effect p s i e y) (Stays s)
+pub stays_effect : (p : Program) (s : State) (i : ℕ) (e : Event) (y : Item) → Rule s i e y → IfSome (effect p s i e y) (Stays s)
 stays_effect p s i event.Begin y rule = stays_thread s i (λ h. record h { begun = true }) (λ h. refl)
 stays_effect p s i event.Offer y rule = stays_thread s i (λ h. record h { claim = claim.Free }) (λ h. h)
 stays_effect p s i (event.Want n) y rule = stays_thread s i (λ h. record h { wanted = n; asks = [] }) (λ h. h)
@@ -268,7 +268,7 @@ stays_effect p s i (event.Lock k) y rule = stays_global s (put s.locks k (Some i
 stays_effect p s i (event.Unlock k) y rule = stays_global s (put s.locks k None) s.max_active
 stays_effect p s i e y rule = stays_same s
 
-stays_list : (s : State) (i : ℕ) (zs : List Item) → Stays s (with_list s i zs)
+pub stays_list : (s : State) (i : ℕ) (zs : List Item) → Stays s (with_list s i zs)
 stays_list s i zs = list_moves s i zs (Stays s) (λ k is. stays_setting s k (relisted zs) (λ u. other_task u u.enter u.tool u.variables zs)) (λ none. stays_thread s i (λ h. record h { list = zs }) (λ h. h))
 
 -- each step keeps what stays

@@ -29,7 +29,7 @@ use Rattle.omi_model.specs.Settings.{with_set, with_task_variable, with_variable
 use Rattle.omi_model.specs.State.{State, current_task, region_of, task_of}
 use Rattle.omi_model.specs.Tasking.{AreChildrenFinished, IsTaken, MayStart, MayStartAt}
 use Rattle.omi_model.specs.Teams.{AreAsksOver, MayAsk, MayBeginTask, MayFork, MayOffer, got_threads}
-use Rattle.omi_model.proofs.Slots.{each_put, each_slot, later_on, none_some, on_empty, on_generations, on_same, put_same, some_same}
+use Rattle.omi_model.proofs.Slots.{each_on, each_put, each_slot, later_on, none_some, on_empty, on_generations, on_same, put_same, some_same}
 
 -- a task with another list
 abbrev pub relisted : List Item → Task → Task
@@ -280,6 +280,20 @@ module _ (s : State) (i : ℕ) (none : (s.threads i).current ≡ None) (zs : Lis
 -- the rule of an event holds where the list has moved on
 pub rule_moved : (s : State) (i : ℕ) (e : Event) (y : Item) (zs : List Item) → Rule s i e y → Rule (with_list s i zs) i e y
 rule_moved s i e y zs rule = list_moves s i zs (λ u. Rule u i e y) (λ k is. busy_rule s i k is zs e y rule) (λ none. idle_rule s i none zs e y rule)
+
+-- a state whose list has moved on has the same objects but for a list
+pub record IsRelisted (s u : State) : Type 0 where
+  pub tasks : (k : Tid) (t : Task) → task_of u k ≡ Some t → (v : Task) × (xs : List Item) × (task_of s k ≡ Some v) × (t ≡ relisted xs v)
+  pub regions : (n : Rid) → region_of u n ≡ region_of s n
+  pub currents : (j : ℕ) → (u.threads j).current ≡ (s.threads j).current
+
+pub is_relisted : (s : State) (i : ℕ) (zs : List Item) → IsRelisted s (with_list s i zs)
+is_relisted s i zs = list_moves s i zs (IsRelisted s)
+    (λ k is. record {
+        tasks = λ n t e. each_on (λ m u. (v : Task) × (xs : List Item) × (task_of s (record { 0 = m }) ≡ Some v) × (u ≡ relisted xs v)) s.tasks k.0 (relisted zs) (λ m u f. (u, u.list, f, refl)) (λ u f h. (u, zs, f, refl)) n.0 t e;
+        regions = λ n. refl; currents = λ j. refl;
+    })
+    (λ none. record { tasks = λ n t e. (t, t.list, e, refl); regions = λ n. refl; currents = idle_same s i none zs (λ h. h.current) refl })
 
 -- ---- a step
 

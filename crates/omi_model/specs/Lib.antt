@@ -21,6 +21,7 @@ pub mod Views
 pub mod OpeningView
 -- Laws of the machine, in its own words.
 pub mod LawStays
+pub mod LawNames
 -- How a team is kept in place, which its type needs.
 pub mod Columns
 pub mod ColumnLemmas

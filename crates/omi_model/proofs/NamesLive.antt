@@ -1,0 +1,192 @@
+-- Each name that an object or a thread holds stays the name of a live object.
+use Rattle.std.proofs.Common.{◌≡◌, ◌==◌, ◌+◌, ◌&&◌, ℕ, zero, suc, arith, eqb-true, Bool, true, false, List, [], ◌∷◌, slice_get, Option, Some, None, if◌then◌else◌, refl, sym, ap, ◌∙◌, subst}
+use Rattle.omi_script.specs.declared.program.Program.{Program}
+use Rattle.omi_model.specs.declared.event.Event.{Event}
+use Rattle.omi_model.specs.declared.id.Id.{Id}
+use Rattle.omi_model.specs.declared.id.Rid.{Rid}
+use Rattle.omi_model.specs.declared.id.Tid.{Tid}
+use Rattle.omi_model.specs.declared.progress.Progress.TheVariants.{Deferred, NotBegun, Begun}
+use Rattle.omi_model.specs.declared.region.Region.{Region}
+use Rattle.omi_model.specs.declared.slot.Slot.{Slot}
+use Rattle.omi_model.specs.declared.task.Task.{Task}
+use Rattle.omi_model.specs.declared.thread.Thread.{Thread}
+use Rattle.omi_model.specs.Changes.{IsCurrent}
+use Rattle.omi_model.specs.LawNames.{AreNamesLive, IsLiveRegion, IsLiveTask, IsMemberTask, NamesOfRegion, NamesOfTask}
+use Rattle.omi_model.specs.LawStays.{Stays}
+use Rattle.omi_model.specs.Opening.{initial_region, initial_task, initial_thread, opening, opening_region, opening_task, waiting_worker}
+use Rattle.omi_model.specs.Put.{first_alone, found, named, unused}
+use Rattle.omi_model.specs.Reached.{Reached, Step}
+use Rattle.omi_model.specs.State.{State, region_of, task_of}
+use Rattle.omi_model.specs.Teams.{master_of}
+use Rattle.omi_model.proofs.EachObject.{EachRegion, EachTask, IsRegionLaw, IsTaskLaw, over_events, region_step, task_step}
+use Rattle.omi_model.proofs.EachThread.{EachThread, IsThreadLaw, thread_step}
+use Rattle.omi_model.proofs.Slots.{found_live, id_same, none_some, some_same}
+use Rattle.omi_model.proofs.Steps.{IsRelisted}
+use Rattle.omi_model.proofs.StaysKept.{stays_step}
+
+-- ---- later states
+
+pub live_task : (s u : State) → Stays s u → (k : Tid) → IsLiveTask s k → IsLiveTask u k
+live_task s u stay k (t, e) = let (v, f, same) = stay.tasks k t e in (v, f)
+
+pub live_region : (s u : State) → Stays s u → (n : Rid) → IsLiveRegion s n → IsLiveRegion u n
+live_region s u stay n (r, e) = let (q, f, same) = stay.regions n r e in (q, f)
+
+names_of_task : (s u : State) → Stays s u → (t : Task) → NamesOfTask s t → NamesOfTask u t
+names_of_task s u stay t is = record {
+    region = live_region s u stay t.region is.region;
+    generating = λ k e. live_task s u stay k (is.generating k e);
+    scheduling = λ k e. live_task s u stay k (is.scheduling k e);
+}
+
+pub member_stays : (s u : State) → Stays s u → (n : Rid) (j : ℕ) (m : Tid × ℕ) → IsMemberTask s n j m → IsMemberTask u n j m
+member_stays s u stay n j m is =
+    let (v, found, same) = stay.tasks m.0 is.task is.live in
+    record {
+      task = v; live = found; implicit = same.implicit ∙ is.implicit; undeferred = same.started is.undeferred; region = same.region ∙ is.region;
+      number = same.number is.undeferred ∙ is.number; thread = same.thread is.undeferred ∙ is.thread;
+    }
+
+names_of_region : (s u : State) → Stays s u → (n : Rid) (r : Region) → NamesOfRegion s n r → NamesOfRegion u n r
+names_of_region s u stay n r is = record {
+    enclosing = λ o e. live_region s u stay o (is.enclosing o e);
+    encountering = λ k e. live_task s u stay k (is.encountering k e);
+    team = λ j m e. member_stays s u stay n j m (is.team j m e);
+}
+
+-- a name by a test
+when : (s : State) (b : Bool) (k n : Tid) → IsLiveTask s k → (if b then Some k else None) ≡ Some n → IsLiveTask s n
+when s true k n live e = subst (IsLiveTask s) (some_same refl e) live
+when s false k n live e = absurd (none_some refl e)
+
+first_name : (s : State) (team : List (Tid × ℕ)) (k : Tid) → ((j : ℕ) (m : Tid × ℕ) → slice_get team j ≡ Some m → IsLiveTask s m.0) → master_of team ≡ Some k → IsLiveTask s k
+first_name s [] k all e = absurd (none_some refl e)
+first_name s (m ∷ ms) k all e = subst (IsLiveTask s) (some_same refl e) (all 0 m refl)
+
+module _ (p : Program) (s : State) (i : ℕ) (e : Event) (next : State) (step : Step p s i e next) (names : AreNamesLive s) where
+  stay : Stays s next
+  stay = stays_step p s i e next step
+
+  task_law : (middle : State) → IsRelisted s middle → Stays middle next → EachTask (λ k t. NamesOfTask next t) middle → IsTaskLaw p middle i next (λ k t. NamesOfTask next t)
+  task_law middle before later all = record {
+      shows = λ k t x q. record { region = q.region; generating = q.generating; scheduling = q.scheduling };
+      tools = λ k t x q. record { region = q.region; generating = q.generating; scheduling = q.scheduling };
+      sets = λ k t icv value v f q. record { region = q.region; generating = q.generating; scheduling = q.scheduling };
+      begins = λ k t waits mine q. record { region = q.region; generating = q.generating; scheduling = q.scheduling };
+      finishes = λ k t is q. record { region = q.region; generating = q.generating; scheduling = q.scheduling };
+      starts = λ k u j t x is live ex de may q. record { region = q.region; generating = q.generating; scheduling = λ n f. subst (IsLiveTask next) (some_same refl f) (current j t is) };
+      members = λ region team f k t r is found may new j m at. record {
+          region = (_, new); generating = λ n g. subst (IsLiveTask next) (some_same refl g) (current k t is); scheduling = λ n g. when next (j == 0) k n (current k t is) g;
+      };
+      deferred = λ task f final seen k t is. record {
+          region = (all k t is.live).region; generating = λ n g. subst (IsLiveTask next) (some_same refl g) (current k t is); scheduling = λ n g. absurd (none_some refl g);
+      };
+      made = λ task f final k t is. record {
+          region = (all k t is.live).region; generating = λ n g. subst (IsLiveTask next) (some_same refl g) (current k t is); scheduling = λ n g. subst (IsLiveTask next) (some_same refl g) (current k t is);
+      };
+    }
+    where
+      current : (k : Tid) (t : Task) → IsCurrent middle i k t → IsLiveTask next k
+      current k t is = live_task middle next later k (t, is.live)
+
+  region_law : (middle : State) → IsRelisted s middle → Stays middle next → IsRegionLaw p middle i next (λ n r. NamesOfRegion next n r)
+  region_law middle before later = record {
+      arrives = λ k t r is found q. record { enclosing = q.enclosing; encountering = q.encountering; team = q.team };
+      releases = λ k t r is found may q. record { enclosing = q.enclosing; encountering = q.encountering; team = q.team };
+      ends = λ k t r is found im q. record { enclosing = q.enclosing; encountering = q.encountering; team = q.team };
+      joins = λ k t r is found may q. record { enclosing = q.enclosing; encountering = q.encountering; team = q.team };
+      forks = λ region team f k t r is found may new. record {
+          enclosing = λ o g. subst (IsLiveRegion next) (some_same refl g) (live_region middle next later t.region (r, found));
+          encountering = λ n g. subst (IsLiveTask next) (some_same refl g) (live_task middle next later k (t, is.live));
+          team = λ j m at. record { task = _; live = new j m at; implicit = refl; undeferred = not_deferred (j == 0); region = refl; number = refl; thread = refl };
+      };
+    }
+    where
+      not_deferred : (b : Bool) → (if b then Begun else NotBegun) ≡ Deferred → ⊥
+      not_deferred true g = cc
+      not_deferred false g = cc
+
+  abbrev Current : ℕ → Thread → Type 0
+  Current j h = (k : Tid) → h.current ≡ Some k → IsLiveTask next k
+
+  next_tasks : EachTask (λ k t. NamesOfTask next t) next
+  next_tasks = task_step p (λ k t. NamesOfTask next t) s i e next step (λ k t y ys is taken q. record { region = q.region; generating = q.generating; scheduling = q.scheduling }) task_law
+      (λ k t live. names_of_task s next stay t (names.tasks k t live))
+
+  next_regions : EachRegion (λ n r. NamesOfRegion next n r) next
+  next_regions = region_step p (λ n r. NamesOfRegion next n r) s i e next step region_law (λ n r live. names_of_region s next stay n r (names.regions n r live))
+
+  thread_law : (middle : State) → IsRelisted s middle → Stays middle next → EachThread Current middle → IsThreadLaw p middle i next Current
+  thread_law middle before later all = record {
+      begins = λ may q. q; offers = λ may q. q; wants = λ n num may q. q; asks = λ w got may q. q; claims = λ w may q. q; shows = λ state wait q. q;
+      forks = λ region team f k t r is found may new q n g. first_name next team n (λ j m at. (_, new j m at)) g;
+      joins_team = λ task may q n g. subst (IsLiveTask next) (some_same refl g) (live_task middle next later task (may.member, may.live));
+      ends = λ k t r is found im other q n g. absurd (none_some refl g);
+      joins = λ k t r is found may q n g.
+          let (v, live, same) = later.regions t.region r found in
+          (next_regions t.region v live).encountering n (same.encountering ∙ g);
+      makes = λ task f final k t is new q n g. subst (IsLiveTask next) (some_same refl g) (_, new);
+      starts = λ task x k t is may q n g. subst (IsLiveTask next) (some_same refl g) (live_task middle next later task (may.new, may.live));
+      finishes = λ k t is ex q n g. from_scheduling k t is n g;
+    }
+    where
+      from_scheduling : (k : Tid) (t : Task) → IsCurrent middle i k t → (n : Tid) → t.scheduling ≡ Some n → IsLiveTask next n
+      from_scheduling k t is n g =
+          let (v, xs, live, same) = before.tasks k t is.live in
+          live_task s next stay n ((names.tasks k v live).scheduling n (ap (λ (x : Task). x.scheduling) (sym same) ∙ g))
+
+  next_currents : EachThread Current next
+  next_currents = thread_step p Current s i e next step (λ y ys none taken q. q) thread_law (λ j k f. live_task s next stay k (names.currents j k f))
+
+  pub names_step : AreNamesLive next
+  names_step = record { currents = next_currents; tasks = next_tasks; regions = next_regions }
+
+-- ---- the opening state
+
+-- the only object of the opening slots
+pub first_alone_named : {A : Type 0} (x : A) (n : Id) (y : A) → named (first_alone x) n ≡ Some y → (n ≡ record { creator = 0; slot = 0; generation = 0 }) × (y ≡ x)
+first_alone_named {A} x n y e = go (n.creator == 0) (n.slot == 0) refl refl e
+  where
+    first : Slot A
+    first = record { generations = 1; live = Some x }
+
+    of_generation : (b : Bool) → 1 == n.generation + 1 ≡ b → n.creator == 0 ≡ true → n.slot == 0 ≡ true → (if b then Some x else None) ≡ Some y → (n ≡ record { creator = 0; slot = 0; generation = 0 }) × (y ≡ x)
+    of_generation true g c k h =
+        let next : 1 ≡ n.generation + 1 = eqb-true 1 (n.generation + 1) g in
+        (id_same n (record { creator = 0; slot = 0; generation = 0 }) (eqb-true n.creator 0 c) (eqb-true n.slot 0 k) (omega arith), sym (some_same refl h))
+    of_generation false g c k h = absurd (none_some refl h)
+
+    go : (a b : Bool) → n.creator == 0 ≡ a → n.slot == 0 ≡ b → found n.generation (if a && b then first else unused) ≡ Some y → (n ≡ record { creator = 0; slot = 0; generation = 0 }) × (y ≡ x)
+    go true true c k h = of_generation (1 == n.generation + 1) refl c k h
+    go true false c k h = absurd (none_some refl (found_live n.generation unused y h))
+    go false b c k h = absurd (none_some refl (found_live n.generation unused y h))
+
+pub names_opening : (p : Program) → AreNamesLive (opening p)
+names_opening p = record {
+    currents = λ i k. each_place (λ h. h.current ≡ Some k → IsLiveTask (opening p) k) (λ e. subst (IsLiveTask (opening p)) (some_same refl e) first) (λ e. absurd (none_some refl e)) i;
+    tasks = λ k t e. subst (NamesOfTask (opening p)) (sym (first_alone_named (opening_task p) k.0 t e).1) (record { region = (opening_region p, refl); generating = λ n g. absurd (none_some refl g); scheduling = λ n g. absurd (none_some refl g) });
+    regions = λ n r e.
+        let (name, is) = first_alone_named (opening_region p) n.0 r e in
+        subst (NamesOfRegion (opening p) n) (sym is) (record {
+            enclosing = λ o g. absurd (none_some refl g); encountering = λ k g. absurd (none_some refl g); team = λ j m g. member n name j m g;
+        });
+  }
+  where
+    first : IsLiveTask (opening p) initial_task
+    first = (opening_task p, refl)
+
+    each_place : (P : Thread → Type 0) → P initial_thread → P waiting_worker → (i : ℕ) → P (if i == 0 then initial_thread else waiting_worker)
+    each_place P a b i = go (i == 0)
+      where
+        go : (c : Bool) → P (if c then initial_thread else waiting_worker)
+        go true = a
+        go false = b
+
+    member : (n : Rid) → n.0 ≡ record { creator = 0; slot = 0; generation = 0 } → (j : ℕ) (m : Tid × ℕ) → slice_get (opening_region p).team j ≡ Some m → IsMemberTask (opening p) n j m
+    member n name zero m g =
+        let is : (initial_task, 0) ≡ m = some_same refl g in
+        subst (IsMemberTask (opening p) n 0) is (record { task = opening_task p; live = refl; implicit = refl; undeferred = λ h. cc; region = ap (λ (a : Id). record { 0 = a }) (sym name); number = refl; thread = refl })
+    member n name (suc j) m g = absurd (none_some refl g)
+
+pub names_live : (p : Program) (events : List (ℕ × Event)) (s : State) → Reached p events s → AreNamesLive s
+names_live p events s reached = over_events p AreNamesLive (λ u i e next step h. names_step p u i e next step h) (opening p) events s reached (names_opening p)
