@@ -29,7 +29,7 @@ use Rattle.omi_model.specs.State.{State, region_of, task_of}
 use Rattle.omi_model.specs.Tasking.{MayStart, MayStartAt, deferred, deferred_task, finished, scheduled, started, started_alone, started_now}
 use Rattle.omi_model.specs.Teams.{MayEnd, MayFork, MayJoin, forked, joined, member_task, new_region, task_ended, with_members}
 use Rattle.omi_model.specs.LawStays.{Stays}
-use Rattle.omi_model.proofs.Slots.{Each, each_made, each_on, made_same, made_stays, none_some, some_same}
+use Rattle.omi_model.proofs.Slots.{Each, each_made, each_on, each_on_to, made_same, made_stays, none_some, some_same}
 use Rattle.omi_model.proofs.StaysKept.{AreNew, fresh_empty, new_team, stays_effect}
 use Rattle.omi_model.proofs.Steps.{IsMove, IsRelisted, at_current, from_some, is_relisted, list_moves, move_of, moved_on, of_current, of_current_region, of_region, of_set, relisted}
 
@@ -46,19 +46,19 @@ abbrev pub start_list : Item → Encounter → List Item → List Item
 start_list (item.Tasks state) at zs = working at zs
 start_list x at zs = zs
 
--- a law of each task over the effect of an event of thread i, from a state to the next one
-pub record IsTaskLaw (p : Program) (s : State) (i : ℕ) (next : State) (P : Tid → Task → Type 0) : Type 0 where
+-- a law of each task over the effect of an event of thread i that takes an item, from a state to the next one
+pub record IsTaskLaw (p : Program) (s : State) (i : ℕ) (y : Item) (next : State) (P : Tid → Task → Type 0) : Type 0 where
   pub shows : (k : Tid) (t : Task) (enter : ℕ) → P k t → P k (record t { enter = enter })
   pub tools : (k : Tid) (t : Task) (x : ℕ) → P k t → P k (record t { tool = x })
   pub sets : (k : Tid) (t : Task) (icv value : ℕ) (v : Variables) → with_variable icv value t.variables ≡ Some v → P k t → P k (record t { variables = v })
   pub begins : (k : Tid) (t : Task) → t.progress ≡ NotBegun → t.thread ≡ i → P k t → P k (record t { progress = Begun })
   pub finishes : (k : Tid) (t : Task) → IsCurrent s i k t → P k t → P k (record t { progress = Finished })
-  pub starts : (k : Tid) (u : Task) (j : Tid) (t : Task) (x : Item) → IsCurrent s i j t → task_of s k ≡ Some u → u.implicit ≡ false → u.progress ≡ Deferred → MayStartAt x j t u → P k u
+  pub starts : (k : Tid) (u : Task) (j : Tid) (t : Task) (x : Item) → IsCurrent s i j t → task_of s k ≡ Some u → u.implicit ≡ false → u.progress ≡ Deferred → MayStartAt x j t u → y ≡ x → P k u
       → P k (record (scheduled i j t u) { list = start_list x (encounter s i) u.list })
   pub members : (region : Rid) (team : List (Tid × ℕ)) (f : ℕ) (k : Tid) (t : Task) (r : Region) → IsCurrent s i k t → region_of s t.region ≡ Some r → MayFork s i region team
-      → region_of next region ≡ Some (new_region k t r team f) → (j : ℕ) (m : Tid × ℕ) → slice_get team j ≡ Some m → P m.0 (member_task p region k t r f j m.1)
-  pub deferred : (task : Tid) (f : ℕ) (is_final : Bool) (seen : ℕ) (k : Tid) (t : Task) → IsCurrent s i k t → P task (deferred_task p k t f is_final seen)
-  pub made : (task : Tid) (f : ℕ) (is_final : Bool) (k : Tid) (t : Task) → IsCurrent s i k t → P task (scheduled i k t (deferred_task p k t f is_final 0))
+      → region_of next region ≡ Some (new_region k t r team f) → y ≡ item.Fork f → (j : ℕ) (m : Tid × ℕ) → slice_get team j ≡ Some m → P m.0 (member_task p region k t r f j m.1)
+  pub deferred : (task : Tid) (f : ℕ) (is_final : Bool) (seen : ℕ) (k : Tid) (t : Task) → IsCurrent s i k t → y ≡ item.Defer seen f is_final → P task (deferred_task p k t f is_final seen)
+  pub made : (task : Tid) (f : ℕ) (is_final : Bool) (k : Tid) (t : Task) → IsCurrent s i k t → (y ≡ item.StartNow f is_final) ⊎ ((seen : ℕ) × (y ≡ item.Defer seen f is_final)) → P task (scheduled i k t (deferred_task p k t f is_final 0))
 
 each_member : (P : Tid → Task → Type 0) (task : ℕ → ℕ → Task) (number : ℕ) (team : List (Tid × ℕ)) (slots : Slots Task) → Each (λ n t. P (record { 0 = n }) t) slots
     → ((j : ℕ) (m : Tid × ℕ) → slice_get team j ≡ Some m → P m.0 (task (number + j) m.1)) → Each (λ n t. P (record { 0 = n }) t) (with_members task number team slots)
@@ -96,8 +96,8 @@ pub stays_after : (p : Program) (s : State) (i : ℕ) (e : Event) (next : State)
 stays_after p s i e after_step m = from_some (Stays (moved_on s i e m.item m.behind)) (effect p (moved_on s i e m.item m.behind) i e m.item) after_step m.effect_is (stays_effect p (moved_on s i e m.item m.behind) i e m.item m.rule_moved)
 
 module _ (p : Program) (P : Tid → Task → Type 0) where
-  abbrev of_law : State → ℕ → State → Type 0
-  of_law s i u = IsTaskLaw p s i u P → EachTask P u
+  abbrev of_law : State → ℕ → Item → State → Type 0
+  of_law s i y u = IsTaskLaw p s i y u P → EachTask P u
 
   each_changed : (s : State) (k : Tid) (f : Task → Task) → EachTask P s → ((t : Task) → task_of s k ≡ Some t → P k t → P k (f t)) → EachTask P (on_task s k f)
   each_changed s k f all keeps n t e = each_on (λ m u. P (record { 0 = m }) u) s.tasks k.0 f (λ m u h. all (record { 0 = m }) u h) keeps n.0 t e
@@ -108,56 +108,56 @@ module _ (p : Program) (P : Tid → Task → Type 0) where
   the_current : (s : State) (i : ℕ) (k : Tid) (t u : Task) → IsCurrent s i k t → task_of s k ≡ Some u → IsCurrent s i k u
   the_current s i k t u is e = record { name = is.name; live = e }
 
-  task_effect : (s : State) (i : ℕ) (e : Event) (y : Item) → Rule s i e y → EachTask P s → IfSome (effect p s i e y) (of_law s i)
+  task_effect : (s : State) (i : ℕ) (e : Event) (y : Item) → Rule s i e y → EachTask P s → IfSome (effect p s i e y) (of_law s i y)
   task_effect s i event.Begin y rule all = λ law. all
   task_effect s i event.Offer y rule all = λ law. all
   task_effect s i (event.Want n) y rule all = λ law. all
   task_effect s i (event.Ask w true) y rule all = λ law. all
   task_effect s i (event.Ask w false) y rule all = λ law. all
   task_effect s i (event.Fork region team) (item.Fork f) rule all =
-      of_region s i (forked p s i region team f) (of_law s i) (λ k t r. MayFork s i region team) rule
+      of_region s i (forked p s i region team f) (of_law s i (item.Fork f)) (λ k t r. MayFork s i region team) rule
           (λ k t r is found may law n u e. each_member P (member_task p region k t r f) 0 team s.tasks (λ m v h. all (record { 0 = m }) v h)
-              (λ j m at. let zero_more : 0 + j ≡ j = omega arith in subst (λ h. P m.0 (member_task p region k t r f h m.1)) (sym zero_more) (law.members region team f k t r is found may (made_same s.regions region.0 (new_region k t r team f)) j m at)) n.0 u e)
+              (λ j m at. let zero_more : 0 + j ≡ j = omega arith in subst (λ h. P m.0 (member_task p region k t r f h m.1)) (sym zero_more) (law.members region team f k t r is found may (made_same s.regions region.0 (new_region k t r team f)) refl j m at)) n.0 u e)
   task_effect s i (event.Fork region team) y rule all = tt
   task_effect s i (event.ImplicitBegin task) y rule all =
       λ law. each_changed s task (λ t. record t { progress = Begun }) all
           (λ t e h. let same : rule.member ≡ t = some_same rule.live e in law.begins task t (ap (λ (u : Task). u.progress) (sym same) ∙ rule.waiting) (ap (λ (u : Task). u.thread) (sym same) ∙ rule.mine) h)
   task_effect s i (event.State state wait) y rule all = λ law. all
-  task_effect s i event.Enter y rule all = of_current s i (entered s) (of_law s i) (λ k t. ⊤) rule (λ k t is h law. each_changed s k (λ u. record u { enter = t.exit - 32 }) all (λ u e q. law.shows k u (t.exit - 32) q))
-  task_effect s i event.Leave y rule all = of_current s i (left s) (of_law s i) (λ k t. ⊤) rule (λ k t is h law. each_changed s k (λ u. record u { enter = 0 }) all (λ u e q. law.shows k u 0 q))
-  task_effect s i event.Arrive y rule all = of_current_region s i (λ k t. arrived s t) (of_law s i) _ rule (λ k t r is found h law. all)
-  task_effect s i event.Release y rule all = of_current_region s i (λ k t. released s t) (of_law s i) _ rule (λ k t r is found h law. all)
+  task_effect s i event.Enter y rule all = of_current s i (entered s) (of_law s i y) (λ k t. ⊤) rule (λ k t is h law. each_changed s k (λ u. record u { enter = t.exit - 32 }) all (λ u e q. law.shows k u (t.exit - 32) q))
+  task_effect s i event.Leave y rule all = of_current s i (left s) (of_law s i y) (λ k t. ⊤) rule (λ k t is h law. each_changed s k (λ u. record u { enter = 0 }) all (λ u e q. law.shows k u 0 q))
+  task_effect s i event.Arrive y rule all = of_current_region s i (λ k t. arrived s t) (of_law s i y) _ rule (λ k t r is found h law. all)
+  task_effect s i event.Release y rule all = of_current_region s i (λ k t. released s t) (of_law s i y) _ rule (λ k t r is found h law. all)
   task_effect s i (event.ImplicitEnd task) y rule all =
-      of_current_region s i (task_ended s i) (of_law s i) _ rule (λ k t r is found h law. each_changed s k (λ u. record u { progress = Finished }) all (λ u e q. law.finishes k u (the_current s i k t u is e) q))
+      of_current_region s i (task_ended s i) (of_law s i y) _ rule (λ k t r is found h law. each_changed s k (λ u. record u { progress = Finished }) all (λ u e q. law.finishes k u (the_current s i k t u is e) q))
   task_effect s i (event.Join region) y rule all =
-      of_region s i (joined s i) (of_law s i) _ rule (λ k t r is found h law. each_changed s k (λ u. record u { progress = Finished }) all (λ u e q. law.finishes k u (the_current s i k t u is e) q))
+      of_region s i (joined s i) (of_law s i y) _ rule (λ k t r is found h law. each_changed s k (λ u. record u { progress = Finished }) all (λ u e q. law.finishes k u (the_current s i k t u is e) q))
   task_effect s i (event.FreeTask task) y rule all = tt
   task_effect s i (event.FreeRegion region) y rule all = tt
   task_effect s i (event.Defer task) (item.Defer seen f final) rule all =
-      of_current s i (deferred p s task f final seen) (of_law s i) (λ k t. IsFresh s.tasks i task.0) rule (λ k t is fresh law. each_new s task (deferred_task p k t f final seen) all (law.deferred task f final seen k t is))
+      of_current s i (deferred p s task f final seen) (of_law s i (item.Defer seen f final)) (λ k t. IsFresh s.tasks i task.0) rule (λ k t is fresh law. each_new s task (deferred_task p k t f final seen) all (law.deferred task f final seen k t is refl))
   task_effect s i (event.Defer task) y rule all = tt
   task_effect s i (event.StartNow task) (item.Defer seen f final) rule all =
-      of_current s i (started_now p s i task f final) (of_law s i) (λ k t. IsFresh s.tasks i task.0) rule (λ k t is fresh law. each_new s task (scheduled i k t (deferred_task p k t f final 0)) all (law.made task f final k t is))
+      of_current s i (started_now p s i task f final) (of_law s i (item.Defer seen f final)) (λ k t. IsFresh s.tasks i task.0) rule (λ k t is fresh law. each_new s task (scheduled i k t (deferred_task p k t f final 0)) all (law.made task f final k t is (inr (seen, refl))))
   task_effect s i (event.StartNow task) (item.StartNow f final) rule all =
-      of_current s i (started_now p s i task f final) (of_law s i) (λ k t. IsFresh s.tasks i task.0) rule (λ k t is fresh law. each_new s task (scheduled i k t (deferred_task p k t f final 0)) all (law.made task f final k t is))
+      of_current s i (started_now p s i task f final) (of_law s i (item.StartNow f final)) (λ k t. IsFresh s.tasks i task.0) rule (λ k t is fresh law. each_new s task (scheduled i k t (deferred_task p k t f final 0)) all (law.made task f final k t is (inl refl)))
   task_effect s i (event.StartNow task) y rule all = tt
   task_effect s i (event.Start task) (item.Tasks state) rule all =
-      of_current s i (started s i task) (of_law s i) (MayStart s task (item.Tasks state)) rule
+      of_current s i (started s i task) (of_law s i (item.Tasks state)) (MayStart s task (item.Tasks state)) rule
           (λ k t is may law. each_changed s task (λ u. record (scheduled i k t u) { list = working (encounter s i) u.list }) all
               (λ u e q. let same : may.new ≡ u = some_same may.live e in
-                  law.starts task u k t (item.Tasks state) is e (ap (λ (x : Task). x.implicit) (sym same) ∙ may.explicit) (ap (λ (x : Task). x.progress) (sym same) ∙ may.deferred) (subst (MayStartAt (item.Tasks state) k t) same may.allowed) q))
+                  law.starts task u k t (item.Tasks state) is e (ap (λ (x : Task). x.implicit) (sym same) ∙ may.explicit) (ap (λ (x : Task). x.progress) (sym same) ∙ may.deferred) (subst (MayStartAt (item.Tasks state) k t) same may.allowed) refl q))
   task_effect s i (event.Start task) item.OneTask rule all =
-      of_current s i (started_alone s i task) (of_law s i) (MayStart s task item.OneTask) rule
+      of_current s i (started_alone s i task) (of_law s i item.OneTask) (MayStart s task item.OneTask) rule
           (λ k t is may law. each_changed s task (scheduled i k t) all
               (λ u e q. let same : may.new ≡ u = some_same may.live e in
-                  law.starts task u k t item.OneTask is e (ap (λ (x : Task). x.implicit) (sym same) ∙ may.explicit) (ap (λ (x : Task). x.progress) (sym same) ∙ may.deferred) (subst (MayStartAt item.OneTask k t) same may.allowed) q))
+                  law.starts task u k t item.OneTask is e (ap (λ (x : Task). x.implicit) (sym same) ∙ may.explicit) (ap (λ (x : Task). x.progress) (sym same) ∙ may.deferred) (subst (MayStartAt item.OneTask k t) same may.allowed) refl q))
   task_effect s i (event.Start task) y rule all = tt
-  task_effect s i (event.Finish task) y rule all = of_current s i (finished s i) (of_law s i) _ rule (λ k t is h law. each_changed s k (λ u. record u { progress = Finished }) all (λ u e q. law.finishes k u (the_current s i k t u is e) q))
+  task_effect s i (event.Finish task) y rule all = of_current s i (finished s i) (of_law s i y) _ rule (λ k t is h law. each_changed s k (λ u. record u { progress = Finished }) all (λ u e q. law.finishes k u (the_current s i k t u is e) q))
   task_effect s i (event.Set icv value) y rule all =
-      of_set s i icv value (of_law s i) rule (λ law. all)
+      of_set s i icv value (of_law s i y) rule (λ law. all)
           (λ k t v is e law. each_changed s k (λ u. record u { variables = v }) all
               (λ u e' q. let same : t ≡ u = some_same is.live e' in law.sets k u icv value v (subst (λ (x : Task). with_variable icv value x.variables ≡ Some v) same e) q))
-  task_effect s i (event.SetTool x) y rule all = of_current s i (λ k t. with_tool s x k) (of_law s i) (λ k t. ⊤) rule (λ k t is h law. each_changed s k (λ u. record u { tool = x }) all (λ u e q. law.tools k u x q))
+  task_effect s i (event.SetTool x) y rule all = of_current s i (λ k t. with_tool s x k) (of_law s i y) (λ k t. ⊤) rule (λ k t is h law. each_changed s k (λ u. record u { tool = x }) all (λ u e q. law.tools k u x q))
   task_effect s i (event.Lock k) y rule all = λ law. all
   task_effect s i (event.Unlock k) y rule all = λ law. all
   task_effect s i e y rule all = λ law. all
@@ -166,22 +166,34 @@ module _ (p : Program) (P : Tid → Task → Type 0) where
   abbrev pub Moves : State → ℕ → Event → Type 0
   Moves s i e = (k : Tid) (t : Task) (y : Item) (ys : List Item) → IsCurrent s i k t → take_item p (encounter s i) e t.list ≡ Some (y, ys) → P k t → P k (relisted (stays (encounter s i) e y ys) t)
 
-  pub list_of_current : (s : State) (i : ℕ) (k : Tid) (t : Task) → IsCurrent s i k t → list_of s i ≡ t.list
-  list_of_current s i k t is =
-      ap (λ (o : Option Tid). option_map_or (λ u. u.list) (option_and_then (task_of s) o) (s.threads i).list) is.name
-      ∙ ap (λ (o : Option Task). option_map_or (λ u. u.list) o (s.threads i).list) is.live
+pub list_of_current : (s : State) (i : ℕ) (k : Tid) (t : Task) → IsCurrent s i k t → list_of s i ≡ t.list
+list_of_current s i k t is =
+    ap (λ (o : Option Tid). option_map_or (λ u. u.list) (option_and_then (task_of s) o) (s.threads i).list) is.name
+    ∙ ap (λ (o : Option Task). option_map_or (λ u. u.list) o (s.threads i).list) is.live
 
-  -- the law of each task over a step
-  pub task_step : (s : State) (i : ℕ) (e : Event) (next : State) → Step p s i e next → Moves s i e → ((middle : State) → IsRelisted s middle → Stays middle next → EachTask P middle → IsTaskLaw p middle i next P) → EachTask P s → EachTask P next
-  task_step s i e after_step step moves law all =
-      let m = move_of p s i e after_step step in
-      let zs : List Item = stays (encounter s i) e m.item m.behind in
-      let middle : EachTask P (with_list s i zs) = list_moves s i zs (EachTask P)
-          (λ k is. each_changed s k (relisted zs) all
-              (λ t live h. let current : IsCurrent s i k t = record { name = is; live = live } in
-                  moves k t m.item m.behind current (ap (take_item p (encounter s i) e) (sym (list_of_current s i k t current)) ∙ m.taken) h))
-          (λ none. all) in
-      from_some (of_law (with_list s i zs) i) (effect p (with_list s i zs) i e m.item) after_step m.effect_is (task_effect (with_list s i zs) i e m.item m.rule_moved middle) (law (with_list s i zs) (is_relisted s i zs) (stays_after p s i e after_step m) middle)
+-- the law of each task over a step, from a fact of each task before it
+pub task_step_from : (p : Program) (P Q : Tid → Task → Type 0) (s : State) (i : ℕ) (e : Event) (next : State) → (m : IsMove p s i e next)
+    → ((k : Tid) (t : Task) → IsCurrent s i k t → take_item p (encounter s i) e t.list ≡ Some (m.item, m.behind) → P k t → Q k (relisted (stays (encounter s i) e m.item m.behind) t))
+    → ((k : Tid) (t : Task) → ((s.threads i).current ≡ Some k → ⊥) → task_of s k ≡ Some t → P k t → Q k t)
+    → (EachTask Q (moved_on s i e m.item m.behind) → IsTaskLaw p (moved_on s i e m.item m.behind) i m.item next Q) → EachTask P s → EachTask Q next
+task_step_from p P Q s i e after_step m moves others law all =
+    let zs : List Item = stays (encounter s i) e m.item m.behind in
+    let middle : EachTask Q (with_list s i zs) = list_moves s i zs (EachTask Q)
+        (λ k is n t e'. each_on_to (λ h u. P (record { 0 = h }) u) (λ h u. Q (record { 0 = h }) u) s.tasks k.0 (relisted zs) (λ h u g. all (record { 0 = h }) u g)
+            (λ u live h. let current : IsCurrent s i k u = record { name = is; live = live } in
+                moves k u current (ap (take_item p (encounter s i) e) (sym (list_of_current s i k u current)) ∙ m.taken) h)
+            (λ h u ne live q. others (record { 0 = h }) u (λ g. ne (ap (λ (a : Tid). a.0) (some_same g is))) live q) n.0 t e')
+        (λ none k t live. others k t (λ g. none_some none g) live (all k t live)) in
+    from_some (of_law p Q (with_list s i zs) i m.item) (effect p (with_list s i zs) i e m.item) after_step m.effect_is (task_effect p Q (with_list s i zs) i e m.item m.rule_moved middle) (law middle)
+
+-- the law of each task over a step
+pub task_step : (p : Program) (P : Tid → Task → Type 0) (s : State) (i : ℕ) (e : Event) (next : State) → Step p s i e next → Moves p P s i e
+    → ((middle : State) (y : Item) → IsRelisted s middle → Stays middle next → EachTask P middle → IsTaskLaw p middle i y next P) → EachTask P s → EachTask P next
+task_step p P s i e after_step step moves law all =
+    let m = move_of p s i e after_step step in
+    let zs : List Item = stays (encounter s i) e m.item m.behind in
+    task_step_from p P P s i e after_step m (λ k t is taken h. moves k t m.item m.behind is taken h) (λ k t ne live h. h)
+        (λ middle. law (with_list s i zs) m.item (is_relisted s i zs) (stays_after p s i e after_step m) middle) all
 
 -- ---- regions
 

@@ -7,4 +7,5 @@ pub mod Steps
 pub mod StaysKept
 pub mod EachObject
 pub mod EachThread
+pub mod OpeningObjects
 pub mod NamesLive

@@ -1,10 +1,11 @@
 -- Each name that an object or a thread holds stays the name of a live object.
-use Rattle.std.proofs.Common.{◌≡◌, ◌==◌, ◌+◌, ◌&&◌, ℕ, zero, suc, arith, eqb-true, Bool, true, false, List, [], ◌∷◌, slice_get, Option, Some, None, if◌then◌else◌, refl, sym, ap, ◌∙◌, subst}
+use Rattle.std.proofs.Common.{◌≡◌, ◌==◌, ℕ, zero, suc, Bool, true, false, List, [], ◌∷◌, slice_get, Option, Some, None, if◌then◌else◌, refl, sym, ap, ◌∙◌, subst}
 use Rattle.omi_script.specs.declared.program.Program.{Program}
 use Rattle.omi_model.specs.declared.event.Event.{Event}
 use Rattle.omi_model.specs.declared.id.Id.{Id}
 use Rattle.omi_model.specs.declared.id.Rid.{Rid}
 use Rattle.omi_model.specs.declared.id.Tid.{Tid}
+use Rattle.omi_model.specs.declared.item.Item.{Item}
 use Rattle.omi_model.specs.declared.progress.Progress.TheVariants.{Deferred, NotBegun, Begun}
 use Rattle.omi_model.specs.declared.region.Region.{Region}
 use Rattle.omi_model.specs.declared.slot.Slot.{Slot}
@@ -13,14 +14,14 @@ use Rattle.omi_model.specs.declared.thread.Thread.{Thread}
 use Rattle.omi_model.specs.Changes.{IsCurrent}
 use Rattle.omi_model.specs.LawNames.{AreNamesLive, IsLiveRegion, IsLiveTask, IsMemberTask, NamesOfRegion, NamesOfTask}
 use Rattle.omi_model.specs.LawStays.{Stays}
-use Rattle.omi_model.specs.Opening.{initial_region, initial_task, initial_thread, opening, opening_region, opening_task, waiting_worker}
-use Rattle.omi_model.specs.Put.{first_alone, found, named, unused}
+use Rattle.omi_model.specs.Opening.{initial_task, opening, opening_region, opening_task}
 use Rattle.omi_model.specs.Reached.{Reached, Step}
 use Rattle.omi_model.specs.State.{State, region_of, task_of}
 use Rattle.omi_model.specs.Teams.{master_of}
 use Rattle.omi_model.proofs.EachObject.{EachRegion, EachTask, IsRegionLaw, IsTaskLaw, over_events, region_step, task_step}
 use Rattle.omi_model.proofs.EachThread.{EachThread, IsThreadLaw, thread_step}
-use Rattle.omi_model.proofs.Slots.{found_live, id_same, none_some, some_same}
+use Rattle.omi_model.proofs.OpeningObjects.{each_first_thread, first_alone_named}
+use Rattle.omi_model.proofs.Slots.{none_some, some_same}
 use Rattle.omi_model.proofs.Steps.{IsRelisted}
 use Rattle.omi_model.proofs.StaysKept.{stays_step}
 
@@ -67,21 +68,21 @@ module _ (p : Program) (s : State) (i : ℕ) (e : Event) (next : State) (step : 
   stay : Stays s next
   stay = stays_step p s i e next step
 
-  task_law : (middle : State) → IsRelisted s middle → Stays middle next → EachTask (λ k t. NamesOfTask next t) middle → IsTaskLaw p middle i next (λ k t. NamesOfTask next t)
-  task_law middle before later all = record {
+  task_law : (middle : State) (y : Item) → IsRelisted s middle → Stays middle next → EachTask (λ k t. NamesOfTask next t) middle → IsTaskLaw p middle i y next (λ k t. NamesOfTask next t)
+  task_law middle y before later all = record {
       shows = λ k t x q. record { region = q.region; generating = q.generating; scheduling = q.scheduling };
       tools = λ k t x q. record { region = q.region; generating = q.generating; scheduling = q.scheduling };
       sets = λ k t icv value v f q. record { region = q.region; generating = q.generating; scheduling = q.scheduling };
       begins = λ k t waits mine q. record { region = q.region; generating = q.generating; scheduling = q.scheduling };
       finishes = λ k t is q. record { region = q.region; generating = q.generating; scheduling = q.scheduling };
-      starts = λ k u j t x is live ex de may q. record { region = q.region; generating = q.generating; scheduling = λ n f. subst (IsLiveTask next) (some_same refl f) (current j t is) };
-      members = λ region team f k t r is found may new j m at. record {
+      starts = λ k u j t x is live ex de may of q. record { region = q.region; generating = q.generating; scheduling = λ n f. subst (IsLiveTask next) (some_same refl f) (current j t is) };
+      members = λ region team f k t r is found may new of j m at. record {
           region = (_, new); generating = λ n g. subst (IsLiveTask next) (some_same refl g) (current k t is); scheduling = λ n g. when next (j == 0) k n (current k t is) g;
       };
-      deferred = λ task f final seen k t is. record {
+      deferred = λ task f final seen k t is of. record {
           region = (all k t is.live).region; generating = λ n g. subst (IsLiveTask next) (some_same refl g) (current k t is); scheduling = λ n g. absurd (none_some refl g);
       };
-      made = λ task f final k t is. record {
+      made = λ task f final k t is of. record {
           region = (all k t is.live).region; generating = λ n g. subst (IsLiveTask next) (some_same refl g) (current k t is); scheduling = λ n g. subst (IsLiveTask next) (some_same refl g) (current k t is);
       };
     }
@@ -143,27 +144,9 @@ module _ (p : Program) (s : State) (i : ℕ) (e : Event) (next : State) (step : 
 
 -- ---- the opening state
 
--- the only object of the opening slots
-pub first_alone_named : {A : Type 0} (x : A) (n : Id) (y : A) → named (first_alone x) n ≡ Some y → (n ≡ record { creator = 0; slot = 0; generation = 0 }) × (y ≡ x)
-first_alone_named {A} x n y e = go (n.creator == 0) (n.slot == 0) refl refl e
-  where
-    first : Slot A
-    first = record { generations = 1; live = Some x }
-
-    of_generation : (b : Bool) → 1 == n.generation + 1 ≡ b → n.creator == 0 ≡ true → n.slot == 0 ≡ true → (if b then Some x else None) ≡ Some y → (n ≡ record { creator = 0; slot = 0; generation = 0 }) × (y ≡ x)
-    of_generation true g c k h =
-        let next : 1 ≡ n.generation + 1 = eqb-true 1 (n.generation + 1) g in
-        (id_same n (record { creator = 0; slot = 0; generation = 0 }) (eqb-true n.creator 0 c) (eqb-true n.slot 0 k) (omega arith), sym (some_same refl h))
-    of_generation false g c k h = absurd (none_some refl h)
-
-    go : (a b : Bool) → n.creator == 0 ≡ a → n.slot == 0 ≡ b → found n.generation (if a && b then first else unused) ≡ Some y → (n ≡ record { creator = 0; slot = 0; generation = 0 }) × (y ≡ x)
-    go true true c k h = of_generation (1 == n.generation + 1) refl c k h
-    go true false c k h = absurd (none_some refl (found_live n.generation unused y h))
-    go false b c k h = absurd (none_some refl (found_live n.generation unused y h))
-
 pub names_opening : (p : Program) → AreNamesLive (opening p)
 names_opening p = record {
-    currents = λ i k. each_place (λ h. h.current ≡ Some k → IsLiveTask (opening p) k) (λ e. subst (IsLiveTask (opening p)) (some_same refl e) first) (λ e. absurd (none_some refl e)) i;
+    currents = λ i k. each_first_thread p (λ j h. h.current ≡ Some k → IsLiveTask (opening p) k) (λ e. subst (IsLiveTask (opening p)) (some_same refl e) first) (λ j e. absurd (none_some refl e)) i;
     tasks = λ k t e. subst (NamesOfTask (opening p)) (sym (first_alone_named (opening_task p) k.0 t e).1) (record { region = (opening_region p, refl); generating = λ n g. absurd (none_some refl g); scheduling = λ n g. absurd (none_some refl g) });
     regions = λ n r e.
         let (name, is) = first_alone_named (opening_region p) n.0 r e in
@@ -174,13 +157,6 @@ names_opening p = record {
   where
     first : IsLiveTask (opening p) initial_task
     first = (opening_task p, refl)
-
-    each_place : (P : Thread → Type 0) → P initial_thread → P waiting_worker → (i : ℕ) → P (if i == 0 then initial_thread else waiting_worker)
-    each_place P a b i = go (i == 0)
-      where
-        go : (c : Bool) → P (if c then initial_thread else waiting_worker)
-        go true = a
-        go false = b
 
     member : (n : Rid) → n.0 ≡ record { creator = 0; slot = 0; generation = 0 } → (j : ℕ) (m : Tid × ℕ) → slice_get (opening_region p).team j ≡ Some m → IsMemberTask (opening p) n j m
     member n name zero m g =

@@ -152,6 +152,16 @@ each_on {A} P slots k f all keeps n y e = go (same_or_not n k)
         subst (λ m. P m y) (sym same) (subst (P k) (sym is) (keeps x was (all k x was)))
     go (inr ne) = all n y (sym (on_other slots k f n ne) ∙ e)
 
+-- the same, where the fact becomes another one
+pub each_on_to : {A : Type 0} (P Q : Id → A → Type 0) (slots : Slots A) (k : Id) (f : A → A) → Each P slots → ((x : A) → named slots k ≡ Some x → P k x → Q k (f x)) → ((n : Id) (x : A) → (n ≡ k → ⊥) → named slots n ≡ Some x → P n x → Q n x) → Each Q (on slots k f)
+each_on_to {A} P Q slots k f all here other n y e = go (same_or_not n k)
+  where
+    go : (n ≡ k) ⊎ (n ≡ k → ⊥) → Q n y
+    go (inl same) =
+        let (x, was, is) = map_some f (named slots k) y (sym (on_same slots k f) ∙ (ap (named (on slots k f)) (sym same) ∙ e)) in
+        subst (λ m. Q m y) (sym same) (subst (Q k) (sym is) (here x was (all k x was)))
+    go (inr ne) = let was = sym (on_other slots k f n ne) ∙ e in other n y ne was (all n y was)
+
 pub each_made : {A : Type 0} (P : Id → A → Type 0) (slots : Slots A) (k : Id) (x : A) → Each P slots → P k x → Each P (made slots k x)
 each_made {A} P slots k x all here n y e = go (same_or_not n k)
   where
