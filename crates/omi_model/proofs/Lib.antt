@@ -9,3 +9,6 @@ pub mod EachObject
 pub mod EachThread
 pub mod OpeningObjects
 pub mod NamesLive
+pub mod MembersKnown
+pub mod LevelsCount
+pub mod NthreadsShortened

@@ -22,6 +22,9 @@ pub mod OpeningView
 -- Laws of the machine, in its own words.
 pub mod LawStays
 pub mod LawNames
+pub mod LawMembers
+pub mod LawLevels
+pub mod LawNthreads
 -- How a team is kept in place, which its type needs.
 pub mod Columns
 pub mod ColumnLemmas

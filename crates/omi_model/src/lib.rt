@@ -30,7 +30,9 @@ pub use item::Item;
 pub use item_list::ItemList;
 pub use laws::one_view;
 pub use limits::MOST_MEMBERS;
-pub use machine_laws::{names_are_live, what_stays};
+pub use machine_laws::{
+    levels_count_regions, members_are_known, names_are_live, nthreads_shorten, what_stays,
+};
 pub use omi_word::OutOfMemory;
 pub use progress::Progress;
 pub use region::Region;

@@ -1,7 +1,10 @@
 //! Laws of the machine: what every state has that events reach. Each is a function that does nothing, and says its law in
 //! `specs/`.
 
+ghost use Rattle.omi_model.specs.LawLevels.{LevelsCountRegions};
+ghost use Rattle.omi_model.specs.LawMembers.{MembersAreKnown};
 ghost use Rattle.omi_model.specs.LawNames.{NamesAreLive};
+ghost use Rattle.omi_model.specs.LawNthreads.{NthreadsShorten};
 ghost use Rattle.omi_model.specs.LawStays.{Stay};
 
 /// Tasks and regions stay what they are: whatever events follow, the parts that say what a task or a region is keep their
@@ -14,4 +17,21 @@ pub fn what_stays()
 /// its region with its number and thread.
 pub fn names_are_live()
     ensures { NamesAreLive }
+{}
+
+/// A region's team, arrivals and ends have one element for each member, and each implicit task is the member of its region
+/// that its number says.
+pub fn members_are_known()
+    ensures { MembersAreKnown }
+{}
+
+/// A region's levels and active levels are those of the chain of enclosing regions, which ends.
+pub fn levels_count_regions()
+    ensures { LevelsCountRegions }
+{}
+
+/// A task's nthreads-var is the environment's list without one element for each level of its region, but for the head, which
+/// a task may set; one element stays.
+pub fn nthreads_shorten()
+    ensures { NthreadsShorten }
 {}
