@@ -12,3 +12,8 @@ pub mod NamesLive
 pub mod MembersKnown
 pub mod LevelsCount
 pub mod NthreadsShortened
+pub mod ListLaws
+pub mod BarrierOrder
+pub mod BarrierSteps
+pub mod BarrierCounts
+pub mod BarrierLaw

@@ -20,7 +20,7 @@ use Rattle.omi_model.proofs.Slots.{false_true}
 use Rattle.omi_model.proofs.StaysKept.{stays_step}
 use Rattle.omi_model.proofs.Steps.{IsRelisted}
 
-members_step : (p : Program) (s : State) (i : ℕ) (e : Event) (next : State) → Step p s i e next → AreMembersKnown s → AreMembersKnown next
+pub members_step : (p : Program) (s : State) (i : ℕ) (e : Event) (next : State) → Step p s i e next → AreMembersKnown s → AreMembersKnown next
 members_step p s i e next step known = record {
     regions = region_step p (λ n r. HasMembers r) s i e next step region_law known.regions;
     tasks = task_step p (IsMemberByNumber next) s i e next step (λ k t y ys is taken q. q) task_law
