@@ -25,7 +25,9 @@ use Rattle.omi_model.specs.Settings.{entered, left, with_tool}
 use Rattle.omi_model.specs.State.{State, region_of, task_of}
 use Rattle.omi_model.specs.Tasking.{MayFinish, MayStart, deferred, deferred_task, finished, scheduled, started, started_alone, started_now}
 use Rattle.omi_model.specs.Teams.{MayAsk, MayBegin, MayBeginTask, MayEnd, MayFork, MayJoin, MayOffer, forked, joined, master_of, member_task, task_ended, wanted_size}
-use Rattle.omi_model.proofs.Slots.{each_put, made_same, none_some}
+use Rattle.omi_model.specs.Rows.{working}
+use Rattle.omi_model.specs.declared.progress.Progress.TheVariants.{Begun}
+use Rattle.omi_model.proofs.Slots.{each_put, made_same, none_some, on_same}
 use Rattle.omi_model.proofs.StaysKept.{new_team}
 use Rattle.omi_model.proofs.Steps.{IsRelisted, from_some, is_relisted, list_moves, move_of, of_current, of_current_region, of_region, of_set, relisted}
 use Rattle.omi_model.proofs.EachObject.{members_found, stays_after}
@@ -47,8 +49,12 @@ pub record IsThreadLaw (p : Program) (s : State) (i : ℕ) (next : State) (R : �
   pub ends : (k : Tid) (t : Task) (r : Region) → IsCurrent s i k t → region_of s t.region ≡ Some r → t.implicit ≡ true → t.number ≢ 0 → R i (s.threads i) → R i (record (s.threads i) { current = None })
   pub joins : (k : Tid) (t : Task) (r : Region) → IsCurrent s i k t → region_of s t.region ≡ Some r → MayJoin t.region t r → R i (s.threads i) → R i (record (s.threads i) { current = r.encountering })
   pub makes : (task : Tid) (f : ℕ) (is_final : Bool) (k : Tid) (t : Task) → IsCurrent s i k t → task_of next task ≡ Some (scheduled i k t (deferred_task p k t f is_final 0)) → R i (s.threads i) → R i (record (s.threads i) { current = Some task })
-  pub starts : (task : Tid) (x : Item) (k : Tid) (t : Task) → IsCurrent s i k t → MayStart s task x k t → R i (s.threads i) → R i (record (s.threads i) { current = Some task })
+  pub starts : (task : Tid) (x : Item) (k : Tid) (t : Task) → IsCurrent s i k t → MayStart s task x k t → ((u : Task) × (task_of next task ≡ Some u) × (u.progress ≡ Begun)) → R i (s.threads i) → R i (record (s.threads i) { current = Some task })
   pub finishes : (k : Tid) (t : Task) → IsCurrent s i k t → t.implicit ≡ false → R i (s.threads i) → R i (record (s.threads i) { current = t.scheduling })
+
+-- a task that starts has begun afterwards
+started_found : (s : State) (k : Tid) (f : Task → Task) (t : Task) → task_of s k ≡ Some t → ((u : Task) → (f u).progress ≡ Begun) → (u : Task) × (task_of (on_task s k f) k ≡ Some u) × (u.progress ≡ Begun)
+started_found s k f t live begun = (f t, on_same s.tasks k.0 f ∙ ap (option_map f) live, begun t)
 
 module _ (p : Program) (R : ℕ → Thread → Type 0) where
   abbrev of_law : State → ℕ → State → Type 0
@@ -99,9 +105,9 @@ module _ (p : Program) (R : ℕ → Thread → Type 0) where
           (λ k t is fresh law. each_thread s i (record (s.threads i) { current = Some task }) all (law.makes task f final k t is (made_same s.tasks task.0 (scheduled i k t (deferred_task p k t f final 0))) (all i)))
   thread_effect s i (event.StartNow task) y rule all = tt
   thread_effect s i (event.Start task) (item.Tasks state) rule all =
-      of_current s i (started s i task) (of_law s i) (MayStart s task (item.Tasks state)) rule (λ k t is may law. each_thread s i (record (s.threads i) { current = Some task }) all (law.starts task (item.Tasks state) k t is may (all i)))
+      of_current s i (started s i task) (of_law s i) (MayStart s task (item.Tasks state)) rule (λ k t is may law. each_thread s i (record (s.threads i) { current = Some task }) all (law.starts task (item.Tasks state) k t is may (started_found s task (λ u. record (scheduled i k t u) { list = working (encounter s i) u.list }) may.new may.live (λ u. refl)) (all i)))
   thread_effect s i (event.Start task) item.OneTask rule all =
-      of_current s i (started_alone s i task) (of_law s i) (MayStart s task item.OneTask) rule (λ k t is may law. each_thread s i (record (s.threads i) { current = Some task }) all (law.starts task item.OneTask k t is may (all i)))
+      of_current s i (started_alone s i task) (of_law s i) (MayStart s task item.OneTask) rule (λ k t is may law. each_thread s i (record (s.threads i) { current = Some task }) all (law.starts task item.OneTask k t is may (started_found s task (scheduled i k t) may.new may.live (λ u. refl)) (all i)))
   thread_effect s i (event.Start task) y rule all = tt
   thread_effect s i (event.Finish task) y rule all =
       of_current s i (finished s i) (of_law s i) (MayFinish task) rule (λ k t is h law. each_thread s i (record (s.threads i) { current = t.scheduling }) all (law.finishes k t is h.explicit (all i)))

@@ -17,3 +17,6 @@ pub mod BarrierOrder
 pub mod BarrierSteps
 pub mod BarrierCounts
 pub mod BarrierLaw
+pub mod ReleaseAmong
+pub mod WaitLists
+pub mod Scheduling

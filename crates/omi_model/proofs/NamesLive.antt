@@ -28,7 +28,7 @@ use Rattle.omi_model.proofs.StaysKept.{stays_step}
 -- ---- later states
 
 pub live_task : (s u : State) → Stays s u → (k : Tid) → IsLiveTask s k → IsLiveTask u k
-live_task s u stay k (t, e) = let (v, f, same) = stay.tasks k t e in (v, f)
+live_task s u stay k (t, e, un) = let (v, f, same) = stay.tasks k t e in (v, f, same.started un)
 
 pub live_region : (s u : State) → Stays s u → (n : Rid) → IsLiveRegion s n → IsLiveRegion u n
 live_region s u stay n (r, e) = let (q, f, same) = stay.regions n r e in (q, f)
@@ -54,6 +54,13 @@ names_of_region s u stay n r is = record {
     encountering = λ k e. live_task s u stay k (is.encountering k e);
     team = λ j m e. member_stays s u stay n j m (is.team j m e);
 }
+
+not_waiting : (t : Task) → t.progress ≡ NotBegun → t.progress ≡ Deferred → ⊥
+not_waiting t e f = cc
+
+not_deferred : (b : Bool) → (if b then Begun else NotBegun) ≡ Deferred → ⊥
+not_deferred true g = cc
+not_deferred false g = cc
 
 -- a name by a test
 when : (s : State) (b : Bool) (k n : Tid) → IsLiveTask s k → (if b then Some k else None) ≡ Some n → IsLiveTask s n
@@ -88,7 +95,7 @@ module _ (p : Program) (s : State) (i : ℕ) (e : Event) (next : State) (step : 
     }
     where
       current : (k : Tid) (t : Task) → IsCurrent middle i k t → IsLiveTask next k
-      current k t is = live_task middle next later k (t, is.live)
+      current k t is = live_task s next stay k (names.currents i k (sym (before.currents i) ∙ is.name))
 
   region_law : (middle : State) → IsRelisted s middle → Stays middle next → IsRegionLaw p middle i next (λ n r. NamesOfRegion next n r)
   region_law middle before later = record {
@@ -98,14 +105,10 @@ module _ (p : Program) (s : State) (i : ℕ) (e : Event) (next : State) (step : 
       joins = λ k t r is found may q. record { enclosing = q.enclosing; encountering = q.encountering; team = q.team };
       forks = λ region team f k t r is found may new. record {
           enclosing = λ o g. subst (IsLiveRegion next) (some_same refl g) (live_region middle next later t.region (r, found));
-          encountering = λ n g. subst (IsLiveTask next) (some_same refl g) (live_task middle next later k (t, is.live));
+          encountering = λ n g. subst (IsLiveTask next) (some_same refl g) (live_task s next stay k (names.currents i k (sym (before.currents i) ∙ is.name)));
           team = λ j m at. record { task = _; live = new j m at; implicit = refl; undeferred = not_deferred (j == 0); region = refl; number = refl; thread = refl };
       };
     }
-    where
-      not_deferred : (b : Bool) → (if b then Begun else NotBegun) ≡ Deferred → ⊥
-      not_deferred true g = cc
-      not_deferred false g = cc
 
   abbrev Current : ℕ → Thread → Type 0
   Current j h = (k : Tid) → h.current ≡ Some k → IsLiveTask next k
@@ -120,14 +123,14 @@ module _ (p : Program) (s : State) (i : ℕ) (e : Event) (next : State) (step : 
   thread_law : (middle : State) → IsRelisted s middle → Stays middle next → EachThread Current middle → IsThreadLaw p middle i next Current
   thread_law middle before later all = record {
       begins = λ may q. q; offers = λ may q. q; wants = λ n num may q. q; asks = λ w got may q. q; claims = λ w may q. q; shows = λ state wait q. q;
-      forks = λ region team f k t r is found may new q n g. first_name next team n (λ j m at. (_, new j m at)) g;
-      joins_team = λ task may q n g. subst (IsLiveTask next) (some_same refl g) (live_task middle next later task (may.member, may.live));
+      forks = λ region team f k t r is found may new q n g. first_name next team n (λ j m at. (_, new j m at, not_deferred (j == 0))) g;
+      joins_team = λ task may q n g. subst (IsLiveTask next) (some_same refl g) (live_task middle next later task (may.member, may.live, λ d. not_waiting may.member may.waiting d));
       ends = λ k t r is found im other q n g. absurd (none_some refl g);
       joins = λ k t r is found may q n g.
           let (v, live, same) = later.regions t.region r found in
           (next_regions t.region v live).encountering n (same.encountering ∙ g);
-      makes = λ task f final k t is new q n g. subst (IsLiveTask next) (some_same refl g) (_, new);
-      starts = λ task x k t is may q n g. subst (IsLiveTask next) (some_same refl g) (live_task middle next later task (may.new, may.live));
+      makes = λ task f final k t is new q n g. subst (IsLiveTask next) (some_same refl g) (_, new, λ d. not_deferred true d);
+      starts = λ task x k t is may (u, found, begun) q n g. subst (IsLiveTask next) (some_same refl g) (u, found, λ d. not_deferred true (sym begun ∙ d));
       finishes = λ k t is ex q n g. from_scheduling k t is n g;
     }
     where
@@ -156,7 +159,7 @@ names_opening p = record {
   }
   where
     first : IsLiveTask (opening p) initial_task
-    first = (opening_task p, refl)
+    first = (opening_task p, refl, λ d. not_deferred true d)
 
     member : (n : Rid) → n.0 ≡ record { creator = 0; slot = 0; generation = 0 } → (j : ℕ) (m : Tid × ℕ) → slice_get (opening_region p).team j ≡ Some m → IsMemberTask (opening p) n j m
     member n name zero m g =

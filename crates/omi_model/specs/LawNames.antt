@@ -1,4 +1,4 @@
--- Names: each task and each region that an object or a thread names is live.
+-- Names: each task and each region that an object or a thread names is live, and no such task is deferred.
 use Rattle.std.specs.Prelude.{◌≡◌, ℕ, List, true, Some, slice_get}
 use Rattle.omi_script.specs.declared.program.Program.{Program}
 use Rattle.omi_model.specs.declared.event.Event.{Event}
@@ -10,8 +10,9 @@ use Rattle.omi_model.specs.declared.task.Task.{Task}
 use Rattle.omi_model.specs.Reached.{Reached}
 use Rattle.omi_model.specs.State.{State, region_of, task_of}
 
+-- a live task that is not deferred
 abbrev pub IsLiveTask : State → Tid → Type 0
-IsLiveTask s k = (t : Task) × (task_of s k ≡ Some t)
+IsLiveTask s k = (t : Task) × (task_of s k ≡ Some t) × (t.progress ≡ Deferred → ⊥)
 
 abbrev pub IsLiveRegion : State → Rid → Type 0
 IsLiveRegion s n = (r : Region) × (region_of s n ≡ Some r)

@@ -25,6 +25,8 @@ pub mod LawNames
 pub mod LawMembers
 pub mod LawLevels
 pub mod LawNthreads
+pub mod LawBarriers
+pub mod LawScheduling
 -- How a team is kept in place, which its type needs.
 pub mod Columns
 pub mod ColumnLemmas

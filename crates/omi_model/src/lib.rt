@@ -31,7 +31,8 @@ pub use item_list::ItemList;
 pub use laws::one_view;
 pub use limits::MOST_MEMBERS;
 pub use machine_laws::{
-    levels_count_regions, members_are_known, names_are_live, nthreads_shorten, what_stays,
+    barriers_hold, levels_count_regions, members_are_known, names_are_live, nthreads_shorten,
+    starts_are_constrained, what_stays,
 };
 pub use omi_word::OutOfMemory;
 pub use progress::Progress;

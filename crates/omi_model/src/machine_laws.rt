@@ -1,10 +1,12 @@
 //! Laws of the machine: what every state has that events reach. Each is a function that does nothing, and says its law in
 //! `specs/`.
 
+ghost use Rattle.omi_model.specs.LawBarriers.{ArrivalsAreNear, PassFollowsRelease};
 ghost use Rattle.omi_model.specs.LawLevels.{LevelsCountRegions};
 ghost use Rattle.omi_model.specs.LawMembers.{MembersAreKnown};
 ghost use Rattle.omi_model.specs.LawNames.{NamesAreLive};
 ghost use Rattle.omi_model.specs.LawNthreads.{NthreadsShorten};
+ghost use Rattle.omi_model.specs.LawScheduling.{StartsAreConstrained};
 ghost use Rattle.omi_model.specs.LawStays.{Stay};
 
 /// Tasks and regions stay what they are: whatever events follow, the parts that say what a task or a region is keep their
@@ -34,4 +36,17 @@ pub fn levels_count_regions()
 /// a task may set; one element stays.
 pub fn nthreads_shorten()
     ensures { NthreadsShorten }
+{}
+
+/// A member has arrived at as many barriers as its region released, or at one more; and between an arrival and a pass the
+/// barrier is released, when every member has arrived and no explicit task of the region is unfinished.
+pub fn barriers_hold()
+    ensures near { ArrivalsAreNear }
+    ensures released { PassFollowsRelease }
+{}
+
+/// The task scheduling constraint of tied tasks: a deferred task starts as a child of the task that its thread runs, or in a
+/// barrier of its region, by a member that has arrived and not passed.
+pub fn starts_are_constrained()
+    ensures { StartsAreConstrained }
 {}
