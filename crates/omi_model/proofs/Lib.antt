@@ -20,3 +20,4 @@ pub mod BarrierLaw
 pub mod ReleaseAmong
 pub mod WaitLists
 pub mod Scheduling
+pub mod SchedulingChains

@@ -111,7 +111,7 @@ module _ (p : Program) (events : List (ℕ × Event)) (s : State) (reached : Rea
       go true im = record { implicit = im; passes = passes }
       go false ex = absurd (not_outside t.number t.list passes (((placed p events s reached).places k t live).1 ex).in_order)
 
-  at_item : (x : Item) (ys : List Item) (k : Tid) (t u : Task) (i : ℕ) (task : Tid) → take_item p (encounter s i) (event.Start task) t.list ≡ Some (x, ys) → task_of s k ≡ Some t → MayStartAt x k t u
+  pub at_item : (x : Item) (ys : List Item) (k : Tid) (t u : Task) (i : ℕ) (task : Tid) → take_item p (encounter s i) (event.Start task) t.list ≡ Some (x, ys) → task_of s k ≡ Some t → MayStartAt x k t u
       → (u.generating ≡ Some k) ⊎ (IsInBarrier t × (u.region ≡ t.region))
   at_item (item.Tasks state) ys k t u i task taken live may = go (state == wait_taskwait) refl may
     where

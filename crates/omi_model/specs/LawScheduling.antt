@@ -11,7 +11,8 @@ use Rattle.omi_model.specs.declared.task.Task.{Task}
 use Rattle.omi_model.specs.Changes.{IsCurrent}
 use Rattle.omi_model.specs.Reached.{Reached}
 use Rattle.omi_model.specs.Rules.{Legal}
-use Rattle.omi_model.specs.State.{State, task_of}
+use Rattle.omi_model.specs.State.{State, scheduling_of, task_of}
+use Rattle.omi_model.specs.WellFormed.{Ends}
 
 -- a list whose next event of a barrier is a release or a pass, and no arrival
 abbrev pub passes_next : List Item → Bool
@@ -40,6 +41,11 @@ IsScheduledRightly s u = u.implicit ≡ false → (u.progress ≡ Deferred → �
     → (u.scheduling ≡ u.generating) ⊎ ((k : Tid) × (t : Task) × (u.scheduling ≡ Some k)
       × (task_of s k ≡ Some t) × (t.implicit ≡ true) × (t.region ≡ u.region))
 
-abbrev pub SchedulingIsConstrained : Type 0
-SchedulingIsConstrained = (p : Program) (events : List (ℕ × Event)) (s : State)
-    → Reached p events s → (k : Tid) (u : Task) → task_of s k ≡ Some u → IsScheduledRightly s u
+pub record IsScheduled (s : State) (u : Task) : Type 0 where
+  pub rightly : IsScheduledRightly s u
+  pub ends : Ends (scheduling_of s) u.scheduling
+
+-- in every reached state; and the chain of scheduling tasks ends
+abbrev pub SchedulingIsRight : Type 0
+SchedulingIsRight = (p : Program) (events : List (ℕ × Event)) (s : State)
+    → Reached p events s → (k : Tid) (u : Task) → task_of s k ≡ Some u → IsScheduled s u

@@ -6,7 +6,7 @@ ghost use Rattle.omi_model.specs.LawLevels.{LevelsCountRegions};
 ghost use Rattle.omi_model.specs.LawMembers.{MembersAreKnown};
 ghost use Rattle.omi_model.specs.LawNames.{NamesAreLive};
 ghost use Rattle.omi_model.specs.LawNthreads.{NthreadsShorten};
-ghost use Rattle.omi_model.specs.LawScheduling.{StartsAreConstrained};
+ghost use Rattle.omi_model.specs.LawScheduling.{SchedulingIsRight, StartsAreConstrained};
 ghost use Rattle.omi_model.specs.LawStays.{Stay};
 
 /// Tasks and regions stay what they are: whatever events follow, the parts that say what a task or a region is keep their
@@ -46,7 +46,9 @@ pub fn barriers_hold()
 {}
 
 /// The task scheduling constraint of tied tasks: a deferred task starts as a child of the task that its thread runs, or in a
-/// barrier of its region, by a member that has arrived and not passed.
+/// barrier of its region, by a member that has arrived and not passed. So an explicit task's scheduling task is its generating
+/// task or a member of its region, and the chain of scheduling tasks ends.
 pub fn starts_are_constrained()
-    ensures { StartsAreConstrained }
+    ensures starts { StartsAreConstrained }
+    ensures scheduled { SchedulingIsRight }
 {}
