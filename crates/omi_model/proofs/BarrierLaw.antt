@@ -256,9 +256,9 @@ module _ (p : Program) (b : ℕ → ℕ) (ok : IsCounted p b) (s : State) (i : �
   abbrev middle : State
   middle = moved_on s i e the_move.item the_move.behind
 
-  law : EachTask (HasPlace b next) middle → IsTaskLaw p middle i the_move.item next (HasPlace b next)
+  law : EachTask (HasPlace b next) middle → IsTaskLaw p middle i e the_move.item next (HasPlace b next)
   law of_tasks = record {
-      shows = λ k t x q. q; tools = λ k t x q. q; sets = λ k t icv value v f q. q; begins = λ k t waits mine q. q; finishes = λ k t is q. q;
+      shows = λ k t x q. q; tools = λ k t x q. q; sets = λ k t icv value v f q. q; begins = λ k t waits mine q. q; finishes = λ k t is over q. q;
       starts = λ k u j t x is live ex de may of q.
           (λ im. absurd (false_true (sym ex ∙ im)), λ h. start_ready b t.number x (encounter middle i) u.list (any_number p b ok u.number t.number u.list (q.1 ex)));
       members = λ region team f k t r is found may new of j m at.

@@ -46,13 +46,20 @@ abbrev pub start_list : Item → Encounter → List Item → List Item
 start_list (item.Tasks state) at zs = working at zs
 start_list x at zs = zs
 
+-- the events at which the current task finishes
+abbrev pub is_end : Event → Bool
+is_end (event.ImplicitEnd task) = true
+is_end (event.Join region) = true
+is_end (event.Finish task) = true
+is_end e = false
+
 -- a law of each task over the effect of an event of thread i that takes an item, from a state to the next one
-pub record IsTaskLaw (p : Program) (s : State) (i : ℕ) (y : Item) (next : State) (P : Tid → Task → Type 0) : Type 0 where
+pub record IsTaskLaw (p : Program) (s : State) (i : ℕ) (e : Event) (y : Item) (next : State) (P : Tid → Task → Type 0) : Type 0 where
   pub shows : (k : Tid) (t : Task) (enter : ℕ) → P k t → P k (record t { enter = enter })
   pub tools : (k : Tid) (t : Task) (x : ℕ) → P k t → P k (record t { tool = x })
   pub sets : (k : Tid) (t : Task) (icv value : ℕ) (v : Variables) → with_variable icv value t.variables ≡ Some v → P k t → P k (record t { variables = v })
   pub begins : (k : Tid) (t : Task) → t.progress ≡ NotBegun → t.thread ≡ i → P k t → P k (record t { progress = Begun })
-  pub finishes : (k : Tid) (t : Task) → IsCurrent s i k t → P k t → P k (record t { progress = Finished })
+  pub finishes : (k : Tid) (t : Task) → IsCurrent s i k t → is_end e ≡ true → P k t → P k (record t { progress = Finished })
   pub starts : (k : Tid) (u : Task) (j : Tid) (t : Task) (x : Item) → IsCurrent s i j t → task_of s k ≡ Some u → u.implicit ≡ false → u.progress ≡ Deferred → MayStartAt x j t u → y ≡ x → P k u
       → P k (record (scheduled i j t u) { list = start_list x (encounter s i) u.list })
   pub members : (region : Rid) (team : List (Tid × ℕ)) (f : ℕ) (k : Tid) (t : Task) (r : Region) → IsCurrent s i k t → region_of s t.region ≡ Some r → MayFork s i region team
@@ -96,8 +103,8 @@ pub stays_after : (p : Program) (s : State) (i : ℕ) (e : Event) (next : State)
 stays_after p s i e after_step m = from_some (Stays (moved_on s i e m.item m.behind)) (effect p (moved_on s i e m.item m.behind) i e m.item) after_step m.effect_is (stays_effect p (moved_on s i e m.item m.behind) i e m.item m.rule_moved)
 
 module _ (p : Program) (P : Tid → Task → Type 0) where
-  abbrev of_law : State → ℕ → Item → State → Type 0
-  of_law s i y u = IsTaskLaw p s i y u P → EachTask P u
+  abbrev of_law : State → ℕ → Event → Item → State → Type 0
+  of_law s i e y u = IsTaskLaw p s i e y u P → EachTask P u
 
   each_changed : (s : State) (k : Tid) (f : Task → Task) → EachTask P s → ((t : Task) → task_of s k ≡ Some t → P k t → P k (f t)) → EachTask P (on_task s k f)
   each_changed s k f all keeps n t e = each_on (λ m u. P (record { 0 = m }) u) s.tasks k.0 f (λ m u h. all (record { 0 = m }) u h) keeps n.0 t e
@@ -108,14 +115,14 @@ module _ (p : Program) (P : Tid → Task → Type 0) where
   the_current : (s : State) (i : ℕ) (k : Tid) (t u : Task) → IsCurrent s i k t → task_of s k ≡ Some u → IsCurrent s i k u
   the_current s i k t u is e = record { name = is.name; live = e }
 
-  task_effect : (s : State) (i : ℕ) (e : Event) (y : Item) → Rule s i e y → EachTask P s → IfSome (effect p s i e y) (of_law s i y)
+  task_effect : (s : State) (i : ℕ) (e : Event) (y : Item) → Rule s i e y → EachTask P s → IfSome (effect p s i e y) (of_law s i e y)
   task_effect s i event.Begin y rule all = λ law. all
   task_effect s i event.Offer y rule all = λ law. all
   task_effect s i (event.Want n) y rule all = λ law. all
   task_effect s i (event.Ask w true) y rule all = λ law. all
   task_effect s i (event.Ask w false) y rule all = λ law. all
   task_effect s i (event.Fork region team) (item.Fork f) rule all =
-      of_region s i (forked p s i region team f) (of_law s i (item.Fork f)) (λ k t r. MayFork s i region team) rule
+      of_region s i (forked p s i region team f) (of_law s i (event.Fork region team) (item.Fork f)) (λ k t r. MayFork s i region team) rule
           (λ k t r is found may law n u e. each_member P (member_task p region k t r f) 0 team s.tasks (λ m v h. all (record { 0 = m }) v h)
               (λ j m at. let zero_more : 0 + j ≡ j = omega arith in subst (λ h. P m.0 (member_task p region k t r f h m.1)) (sym zero_more) (law.members region team f k t r is found may (made_same s.regions region.0 (new_region k t r team f)) refl j m at)) n.0 u e)
   task_effect s i (event.Fork region team) y rule all = tt
@@ -123,41 +130,41 @@ module _ (p : Program) (P : Tid → Task → Type 0) where
       λ law. each_changed s task (λ t. record t { progress = Begun }) all
           (λ t e h. let same : rule.member ≡ t = some_same rule.live e in law.begins task t (ap (λ (u : Task). u.progress) (sym same) ∙ rule.waiting) (ap (λ (u : Task). u.thread) (sym same) ∙ rule.mine) h)
   task_effect s i (event.State state wait) y rule all = λ law. all
-  task_effect s i event.Enter y rule all = of_current s i (entered s) (of_law s i y) (λ k t. ⊤) rule (λ k t is h law. each_changed s k (λ u. record u { enter = t.exit - 32 }) all (λ u e q. law.shows k u (t.exit - 32) q))
-  task_effect s i event.Leave y rule all = of_current s i (left s) (of_law s i y) (λ k t. ⊤) rule (λ k t is h law. each_changed s k (λ u. record u { enter = 0 }) all (λ u e q. law.shows k u 0 q))
-  task_effect s i event.Arrive y rule all = of_current_region s i (λ k t. arrived s t) (of_law s i y) _ rule (λ k t r is found h law. all)
-  task_effect s i event.Release y rule all = of_current_region s i (λ k t. released s t) (of_law s i y) _ rule (λ k t r is found h law. all)
+  task_effect s i event.Enter y rule all = of_current s i (entered s) (of_law s i event.Enter y) (λ k t. ⊤) rule (λ k t is h law. each_changed s k (λ u. record u { enter = t.exit - 32 }) all (λ u e q. law.shows k u (t.exit - 32) q))
+  task_effect s i event.Leave y rule all = of_current s i (left s) (of_law s i event.Leave y) (λ k t. ⊤) rule (λ k t is h law. each_changed s k (λ u. record u { enter = 0 }) all (λ u e q. law.shows k u 0 q))
+  task_effect s i event.Arrive y rule all = of_current_region s i (λ k t. arrived s t) (of_law s i event.Arrive y) _ rule (λ k t r is found h law. all)
+  task_effect s i event.Release y rule all = of_current_region s i (λ k t. released s t) (of_law s i event.Release y) _ rule (λ k t r is found h law. all)
   task_effect s i (event.ImplicitEnd task) y rule all =
-      of_current_region s i (task_ended s i) (of_law s i y) _ rule (λ k t r is found h law. each_changed s k (λ u. record u { progress = Finished }) all (λ u e q. law.finishes k u (the_current s i k t u is e) q))
+      of_current_region s i (task_ended s i) (of_law s i (event.ImplicitEnd task) y) _ rule (λ k t r is found h law. each_changed s k (λ u. record u { progress = Finished }) all (λ u e q. law.finishes k u (the_current s i k t u is e) refl q))
   task_effect s i (event.Join region) y rule all =
-      of_region s i (joined s i) (of_law s i y) _ rule (λ k t r is found h law. each_changed s k (λ u. record u { progress = Finished }) all (λ u e q. law.finishes k u (the_current s i k t u is e) q))
+      of_region s i (joined s i) (of_law s i (event.Join region) y) _ rule (λ k t r is found h law. each_changed s k (λ u. record u { progress = Finished }) all (λ u e q. law.finishes k u (the_current s i k t u is e) refl q))
   task_effect s i (event.FreeTask task) y rule all = tt
   task_effect s i (event.FreeRegion region) y rule all = tt
   task_effect s i (event.Defer task) (item.Defer seen f final) rule all =
-      of_current s i (deferred p s task f final seen) (of_law s i (item.Defer seen f final)) (λ k t. IsFresh s.tasks i task.0) rule (λ k t is fresh law. each_new s task (deferred_task p k t f final seen) all (law.deferred task f final seen k t is refl))
+      of_current s i (deferred p s task f final seen) (of_law s i (event.Defer task) (item.Defer seen f final)) (λ k t. IsFresh s.tasks i task.0) rule (λ k t is fresh law. each_new s task (deferred_task p k t f final seen) all (law.deferred task f final seen k t is refl))
   task_effect s i (event.Defer task) y rule all = tt
   task_effect s i (event.StartNow task) (item.Defer seen f final) rule all =
-      of_current s i (started_now p s i task f final) (of_law s i (item.Defer seen f final)) (λ k t. IsFresh s.tasks i task.0) rule (λ k t is fresh law. each_new s task (scheduled i k t (deferred_task p k t f final 0)) all (law.made task f final k t is (inr (seen, refl))))
+      of_current s i (started_now p s i task f final) (of_law s i (event.StartNow task) (item.Defer seen f final)) (λ k t. IsFresh s.tasks i task.0) rule (λ k t is fresh law. each_new s task (scheduled i k t (deferred_task p k t f final 0)) all (law.made task f final k t is (inr (seen, refl))))
   task_effect s i (event.StartNow task) (item.StartNow f final) rule all =
-      of_current s i (started_now p s i task f final) (of_law s i (item.StartNow f final)) (λ k t. IsFresh s.tasks i task.0) rule (λ k t is fresh law. each_new s task (scheduled i k t (deferred_task p k t f final 0)) all (law.made task f final k t is (inl refl)))
+      of_current s i (started_now p s i task f final) (of_law s i (event.StartNow task) (item.StartNow f final)) (λ k t. IsFresh s.tasks i task.0) rule (λ k t is fresh law. each_new s task (scheduled i k t (deferred_task p k t f final 0)) all (law.made task f final k t is (inl refl)))
   task_effect s i (event.StartNow task) y rule all = tt
   task_effect s i (event.Start task) (item.Tasks state) rule all =
-      of_current s i (started s i task) (of_law s i (item.Tasks state)) (MayStart s task (item.Tasks state)) rule
+      of_current s i (started s i task) (of_law s i (event.Start task) (item.Tasks state)) (MayStart s task (item.Tasks state)) rule
           (λ k t is may law. each_changed s task (λ u. record (scheduled i k t u) { list = working (encounter s i) u.list }) all
               (λ u e q. let same : may.new ≡ u = some_same may.live e in
                   law.starts task u k t (item.Tasks state) is e (ap (λ (x : Task). x.implicit) (sym same) ∙ may.explicit) (ap (λ (x : Task). x.progress) (sym same) ∙ may.deferred) (subst (MayStartAt (item.Tasks state) k t) same may.allowed) refl q))
   task_effect s i (event.Start task) item.OneTask rule all =
-      of_current s i (started_alone s i task) (of_law s i item.OneTask) (MayStart s task item.OneTask) rule
+      of_current s i (started_alone s i task) (of_law s i (event.Start task) item.OneTask) (MayStart s task item.OneTask) rule
           (λ k t is may law. each_changed s task (scheduled i k t) all
               (λ u e q. let same : may.new ≡ u = some_same may.live e in
                   law.starts task u k t item.OneTask is e (ap (λ (x : Task). x.implicit) (sym same) ∙ may.explicit) (ap (λ (x : Task). x.progress) (sym same) ∙ may.deferred) (subst (MayStartAt item.OneTask k t) same may.allowed) refl q))
   task_effect s i (event.Start task) y rule all = tt
-  task_effect s i (event.Finish task) y rule all = of_current s i (finished s i) (of_law s i y) _ rule (λ k t is h law. each_changed s k (λ u. record u { progress = Finished }) all (λ u e q. law.finishes k u (the_current s i k t u is e) q))
+  task_effect s i (event.Finish task) y rule all = of_current s i (finished s i) (of_law s i (event.Finish task) y) _ rule (λ k t is h law. each_changed s k (λ u. record u { progress = Finished }) all (λ u e q. law.finishes k u (the_current s i k t u is e) refl q))
   task_effect s i (event.Set icv value) y rule all =
-      of_set s i icv value (of_law s i y) rule (λ law. all)
+      of_set s i icv value (of_law s i (event.Set icv value) y) rule (λ law. all)
           (λ k t v is e law. each_changed s k (λ u. record u { variables = v }) all
               (λ u e' q. let same : t ≡ u = some_same is.live e' in law.sets k u icv value v (subst (λ (x : Task). with_variable icv value x.variables ≡ Some v) same e) q))
-  task_effect s i (event.SetTool x) y rule all = of_current s i (λ k t. with_tool s x k) (of_law s i y) (λ k t. ⊤) rule (λ k t is h law. each_changed s k (λ u. record u { tool = x }) all (λ u e q. law.tools k u x q))
+  task_effect s i (event.SetTool x) y rule all = of_current s i (λ k t. with_tool s x k) (of_law s i (event.SetTool x) y) (λ k t. ⊤) rule (λ k t is h law. each_changed s k (λ u. record u { tool = x }) all (λ u e q. law.tools k u x q))
   task_effect s i (event.Lock k) y rule all = λ law. all
   task_effect s i (event.Unlock k) y rule all = λ law. all
   task_effect s i e y rule all = λ law. all
@@ -175,7 +182,7 @@ list_of_current s i k t is =
 pub task_step_from : (p : Program) (P Q : Tid → Task → Type 0) (s : State) (i : ℕ) (e : Event) (next : State) → (m : IsMove p s i e next)
     → ((k : Tid) (t : Task) → IsCurrent s i k t → take_item p (encounter s i) e t.list ≡ Some (m.item, m.behind) → P k t → Q k (relisted (stays (encounter s i) e m.item m.behind) t))
     → ((k : Tid) (t : Task) → ((s.threads i).current ≡ Some k → ⊥) → task_of s k ≡ Some t → P k t → Q k t)
-    → (EachTask Q (moved_on s i e m.item m.behind) → IsTaskLaw p (moved_on s i e m.item m.behind) i m.item next Q) → EachTask P s → EachTask Q next
+    → (EachTask Q (moved_on s i e m.item m.behind) → IsTaskLaw p (moved_on s i e m.item m.behind) i e m.item next Q) → EachTask P s → EachTask Q next
 task_step_from p P Q s i e after_step m moves others law all =
     let zs : List Item = stays (encounter s i) e m.item m.behind in
     let middle : EachTask Q (with_list s i zs) = list_moves s i zs (EachTask Q)
@@ -184,11 +191,11 @@ task_step_from p P Q s i e after_step m moves others law all =
                 moves k u current (ap (take_item p (encounter s i) e) (sym (list_of_current s i k u current)) ∙ m.taken) h)
             (λ h u ne live q. others (record { 0 = h }) u (λ g. ne (ap (λ (a : Tid). a.0) (some_same g is))) live q) n.0 t e')
         (λ none k t live. others k t (λ g. none_some none g) live (all k t live)) in
-    from_some (of_law p Q (with_list s i zs) i m.item) (effect p (with_list s i zs) i e m.item) after_step m.effect_is (task_effect p Q (with_list s i zs) i e m.item m.rule_moved middle) (law middle)
+    from_some (of_law p Q (with_list s i zs) i e m.item) (effect p (with_list s i zs) i e m.item) after_step m.effect_is (task_effect p Q (with_list s i zs) i e m.item m.rule_moved middle) (law middle)
 
 -- the law of each task over a step
 pub task_step : (p : Program) (P : Tid → Task → Type 0) (s : State) (i : ℕ) (e : Event) (next : State) → Step p s i e next → Moves p P s i e
-    → ((middle : State) (y : Item) → IsRelisted s middle → Stays middle next → EachTask P middle → IsTaskLaw p middle i y next P) → EachTask P s → EachTask P next
+    → ((middle : State) (y : Item) → IsRelisted s middle → Stays middle next → EachTask P middle → IsTaskLaw p middle i e y next P) → EachTask P s → EachTask P next
 task_step p P s i e after_step step moves law all =
     let m = move_of p s i e after_step step in
     let zs : List Item = stays (encounter s i) e m.item m.behind in

@@ -43,9 +43,9 @@ members_step p s i e next step known = record {
             };
     }
 
-    task_law : (middle : State) (y : Item) → IsRelisted s middle → Stays middle next → EachTask (IsMemberByNumber next) middle → IsTaskLaw p middle i y next (IsMemberByNumber next)
+    task_law : (middle : State) (y : Item) → IsRelisted s middle → Stays middle next → EachTask (IsMemberByNumber next) middle → IsTaskLaw p middle i e y next (IsMemberByNumber next)
     task_law middle y before later all = record {
-        shows = λ k t x q. q; tools = λ k t x q. q; sets = λ k t icv value v f q. q; begins = λ k t waits mine q. q; finishes = λ k t is q. q;
+        shows = λ k t x q. q; tools = λ k t x q. q; sets = λ k t icv value v f q. q; begins = λ k t waits mine q. q; finishes = λ k t is over q. q;
         starts = λ k u j t x is live ex de may of q implicit. absurd (false_true (sym ex ∙ implicit));
         members = λ region team f k t r is found may new of j m at implicit. (_, new, at);
         deferred = λ task f final seen k t is of implicit. absurd (false_true implicit);

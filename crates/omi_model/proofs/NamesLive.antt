@@ -75,13 +75,13 @@ module _ (p : Program) (s : State) (i : ℕ) (e : Event) (next : State) (step : 
   stay : Stays s next
   stay = stays_step p s i e next step
 
-  task_law : (middle : State) (y : Item) → IsRelisted s middle → Stays middle next → EachTask (λ k t. NamesOfTask next t) middle → IsTaskLaw p middle i y next (λ k t. NamesOfTask next t)
+  task_law : (middle : State) (y : Item) → IsRelisted s middle → Stays middle next → EachTask (λ k t. NamesOfTask next t) middle → IsTaskLaw p middle i e y next (λ k t. NamesOfTask next t)
   task_law middle y before later all = record {
       shows = λ k t x q. record { region = q.region; generating = q.generating; scheduling = q.scheduling };
       tools = λ k t x q. record { region = q.region; generating = q.generating; scheduling = q.scheduling };
       sets = λ k t icv value v f q. record { region = q.region; generating = q.generating; scheduling = q.scheduling };
       begins = λ k t waits mine q. record { region = q.region; generating = q.generating; scheduling = q.scheduling };
-      finishes = λ k t is q. record { region = q.region; generating = q.generating; scheduling = q.scheduling };
+      finishes = λ k t is over q. record { region = q.region; generating = q.generating; scheduling = q.scheduling };
       starts = λ k u j t x is live ex de may of q. record { region = q.region; generating = q.generating; scheduling = λ n f. subst (IsLiveTask next) (some_same refl f) (current j t is) };
       members = λ region team f k t r is found may new of j m at. record {
           region = (_, new); generating = λ n g. subst (IsLiveTask next) (some_same refl g) (current k t is); scheduling = λ n g. when next (j == 0) k n (current k t is) g;

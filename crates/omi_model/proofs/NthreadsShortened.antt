@@ -96,9 +96,9 @@ module _ (p : Program) where
           let (q, found_q, same) = (stays_step p s i e next step).regions t.region r found in
           (q, found_q, record { some = is.some; rest = is.rest ∙ ap (λ n. drop (n + 1) p.env.nthreads) (sym same.levels) }))
     where
-      law : (middle : State) (y : Item) → IsRelisted s middle → Stays middle next → EachTask (Shortened next) middle → IsTaskLaw p middle i y next (Shortened next)
+      law : (middle : State) (y : Item) → IsRelisted s middle → Stays middle next → EachTask (Shortened next) middle → IsTaskLaw p middle i e y next (Shortened next)
       law middle y before later of_tasks = record {
-          shows = λ k t x q. q; tools = λ k t x q. q; begins = λ k t waits mine q. q; finishes = λ k t is q. q;
+          shows = λ k t x q. q; tools = λ k t x q. q; begins = λ k t waits mine q. q; finishes = λ k t is over q. q;
           sets = λ k t icv value v f (r, found, is). (r, found, set_shortened r icv value t.variables v f is);
           starts = λ k u j t x is live ex de may of q. q;
           members = λ region team f k t r is found may new of j m at.

@@ -43,9 +43,9 @@ waits_step : (p : Program) (s : State) (i : ℕ) (e : Event) (next : State) → 
 waits_step p s i e next step all = task_step p TaskWaits s i e next step
     (λ k t y ys is taken h. stays_waits (encounter s i) e y ys (take_waits p (encounter s i) e t.list y ys taken h)) law all
   where
-    law : (middle : State) (y : Item) → IsRelisted s middle → Stays middle next → EachTask TaskWaits middle → IsTaskLaw p middle i y next TaskWaits
+    law : (middle : State) (y : Item) → IsRelisted s middle → Stays middle next → EachTask TaskWaits middle → IsTaskLaw p middle i e y next TaskWaits
     law middle y before later of_tasks = record {
-        shows = λ k t x q. q; tools = λ k t x q. q; sets = λ k t icv value v f q. q; begins = λ k t waits mine q. q; finishes = λ k t is q. q;
+        shows = λ k t x q. q; tools = λ k t x q. q; sets = λ k t icv value v f q. q; begins = λ k t waits mine q. q; finishes = λ k t is over q. q;
         starts = λ k u j t x is live ex de may of q. start_waits x (encounter middle i) u.list q;
         members = λ region team f k t r is found may new of j m at. member_waits p (record { debug = p.env.debug; number = j; level = r.levels + 1; is_final = false }) f;
         deferred = λ task f final seen k t is of. task_waits p f;

@@ -103,13 +103,13 @@ module _ (p : Program) (events : List (ℕ × Event)) (s : State) (reached : Rea
       let (v, found, same) = later.tasks k t is.live in
       (suc n, ap (along (scheduling_of next) n) (ap (option_and_then (λ (x : Task). x.scheduling)) found ∙ same.scheduling (started k t is)) ∙ e')
 
-  law : EachTask (λ k u. IsScheduled next u) middle → IsTaskLaw p middle i m.item next (λ k u. IsScheduled next u)
+  law : EachTask (λ k u. IsScheduled next u) middle → IsTaskLaw p middle i e m.item next (λ k u. IsScheduled next u)
   law of_tasks = record {
       shows = λ k t x q. record { rightly = q.rightly; ends = q.ends };
       tools = λ k t x q. record { rightly = q.rightly; ends = q.ends };
       sets = λ k t icv value v f q. record { rightly = q.rightly; ends = q.ends };
       begins = λ k t waits mine q. record { rightly = λ ex un. q.rightly ex (λ d. waits_not t waits d); ends = q.ends };
-      finishes = λ k t is q. record { rightly = λ ex un. q.rightly ex (started k t is); ends = q.ends };
+      finishes = λ k t is over q. record { rightly = λ ex un. q.rightly ex (started k t is); ends = q.ends };
       starts = λ k u j t x is live ex de may of q. record { rightly = λ ex' un. under_here x of j t is u may; ends = ends_current of_tasks j t is };
       members = λ region team f k t r is found may new of j n at. record { rightly = λ ex un. absurd (false_true (sym ex)); ends = of_first (j == 0) k (ends_current of_tasks k t is) };
       deferred = λ task f final seen k t is of. record { rightly = λ ex un. absurd (un refl); ends = (0, refl) };
