@@ -21,3 +21,5 @@ pub mod ReleaseAmong
 pub mod WaitLists
 pub mod Scheduling
 pub mod SchedulingChains
+pub mod Chains
+pub mod ChainsKept

@@ -27,6 +27,7 @@ pub mod LawLevels
 pub mod LawNthreads
 pub mod LawBarriers
 pub mod LawScheduling
+pub mod LawChains
 -- How a team is kept in place, which its type needs.
 pub mod Columns
 pub mod ColumnLemmas

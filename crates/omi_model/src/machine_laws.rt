@@ -2,6 +2,7 @@
 //! `specs/`.
 
 ghost use Rattle.omi_model.specs.LawBarriers.{ArrivalsAreNear, PassFollowsRelease};
+ghost use Rattle.omi_model.specs.LawChains.{ThreadsHaveChains};
 ghost use Rattle.omi_model.specs.LawLevels.{LevelsCountRegions};
 ghost use Rattle.omi_model.specs.LawMembers.{MembersAreKnown};
 ghost use Rattle.omi_model.specs.LawNames.{NamesAreLive};
@@ -51,4 +52,10 @@ pub fn barriers_hold()
 pub fn starts_are_constrained()
     ensures starts { StartsAreConstrained }
     ensures scheduled { SchedulingIsRight }
+{}
+
+/// Each thread has a chain of tasks, from its current one down by scheduling tasks: each is in it once, runs on this thread
+/// and has begun and not finished, and the chain ends.
+pub fn threads_have_chains()
+    ensures { ThreadsHaveChains }
 {}
