@@ -23,3 +23,6 @@ pub mod Scheduling
 pub mod SchedulingChains
 pub mod Chains
 pub mod ChainsKept
+pub mod Covered
+pub mod LastItems
+pub mod RegionEnds

@@ -28,6 +28,7 @@ pub mod LawNthreads
 pub mod LawBarriers
 pub mod LawScheduling
 pub mod LawChains
+pub mod LawEnds
 -- How a team is kept in place, which its type needs.
 pub mod Columns
 pub mod ColumnLemmas

@@ -3,6 +3,7 @@
 
 ghost use Rattle.omi_model.specs.LawBarriers.{ArrivalsAreNear, PassFollowsRelease};
 ghost use Rattle.omi_model.specs.LawChains.{ThreadsHaveChains};
+ghost use Rattle.omi_model.specs.LawEnds.{RegionsEndFinished};
 ghost use Rattle.omi_model.specs.LawLevels.{LevelsCountRegions};
 ghost use Rattle.omi_model.specs.LawMembers.{MembersAreKnown};
 ghost use Rattle.omi_model.specs.LawNames.{NamesAreLive};
@@ -58,4 +59,10 @@ pub fn starts_are_constrained()
 /// and has begun and not finished, and the chain ends.
 pub fn threads_have_chains()
     ensures { ThreadsHaveChains }
+{}
+
+/// Where a member may end, member 0 may join the others or the program may be done, each explicit task of the region is
+/// finished, and so is each that any later state has.
+pub fn regions_end_finished()
+    ensures { RegionsEndFinished }
 {}
