@@ -1,8 +1,9 @@
 -- What is known of an arena that is in order: its numbers are small.
-use Rattle.std.proofs.Common.{◌≡◌, ℕ, zero, suc, ◌+◌, ◌*◌, ◌<◌, ◌≤◌, ◌&&◌, Bool, true, false, nat_lt, List, refl, subst, arith, mul-le-mul, leb-true, ltb-true}
+use Rattle.std.proofs.Common.{◌≡◌, ◌==◌, ℕ, zero, suc, ◌+◌, ◌*◌, ◌<◌, ◌≤◌, ◌&&◌, Bool, true, false, nat_lt, List, refl, subst, arith, mul-le-mul, leb-true, ltb-true}
 use Rattle.std.proofs.lemmas.Bool.Decides.{nat_tests}
+use Rattle.omi_layout.specs.declared.limits.TheConstants.{MOST_THREADS}
 use Rattle.omi_layout.specs.Field.{IsField, IsKind, kind_of}
-use Rattle.omi_layout.specs.Table.{size, place, thread_count, per_thread, records, extent, offset, width}
+use Rattle.omi_layout.specs.Table.{size, place, thread_count, per_thread, makers, records, extent, offset, width}
 use Rattle.omi_layout.specs.Valid.{IsValid, AllInside, is_inside, is_counted, is_placed, is_arena}
 use Rattle.std.proofs.lemmas.Nat.{mul-add-lt}
 use Rattle.omi_layout.specs.Place.{IsSlot, index_of}
@@ -40,19 +41,19 @@ small w inside =
     (small_by w 13 (inside 13 (field 13 (omega arith) (omega arith))))
     (small_by w 25 (inside 25 (field 25 (omega arith) (omega arith))))
 
-threads_few : (w : List ℕ) → is_counted w 2 ≡ true → thread_count w ≤ 16
-threads_few w e = leb-true _ _ (test_right _ _ e)
+threads_few : (w : List ℕ) → is_counted w 2 ≡ true → thread_count w ≤ 64
+threads_few w e = omega (arith, leb-true (thread_count w) MOST_THREADS (test_right _ _ e))
 
 regions_few : (w : List ℕ) → is_counted w 3 ≡ true → per_thread w 3 ≤ 64
 regions_few w e = leb-true _ _ (test_right _ _ e)
 
-times_few : (a b : ℕ) → a ≤ 16 → b ≤ 4096 → a * b ≤ 65536
+times_few : (a b : ℕ) → a ≤ 64 → b ≤ 4096 → a * b ≤ 262144
 times_few a b x y = mul-le-mul x y
 
 -- an arena has few records
-pub few : (w : List ℕ) (p : ℕ) → IsKind p → is_counted w p ≡ true → AllBelow w p → records w p ≤ 65536
+pub few : (w : List ℕ) (p : ℕ) → IsKind p → is_counted w p ≡ true → AllBelow w p → records w p ≤ 262144
 few w p k e below =
-    each_kind (λ q. is_counted w q ≡ true → AllBelow w q → records w q ≤ 65536)
+    each_kind (λ q. is_counted w q ≡ true → AllBelow w q → records w q ≤ 262144)
     (λ _ _. omega arith)
     (λ c _. times_few (thread_count w) 1 (threads_few w c) (omega arith))
     (λ c b. times_few (thread_count w) (per_thread w 3) (threads_few w (test_left _ _ (b 2 (record { from = omega arith; to = omega arith }) (omega arith)))) (omega (arith, regions_few w c)))
@@ -78,7 +79,7 @@ next_below P f g below here order = go (nat_lt g f) refl
     go false e = subst P (let same : f ≡ g = grind (arith, nat_tests) in same) here
 
 -- the counts of a valid layout
-pub threads_of_valid : (w : List ℕ) → IsValid w → thread_count w ≤ 16
+pub threads_of_valid : (w : List ℕ) → IsValid w → thread_count w ≤ 64
 threads_of_valid w v = threads_few w (counted w 2 (v.arenas 2 (record { from = omega arith; to = omega arith })))
 
 pub regions_of_valid : (w : List ℕ) → IsValid w → per_thread w 3 ≤ 64
@@ -87,23 +88,31 @@ regions_of_valid w v = regions_few w (counted w 3 (v.arenas 3 (record { from = o
 pub tasks_of_valid : (w : List ℕ) → IsValid w → per_thread w 4 ≤ 4096
 tasks_of_valid w v = leb-true _ _ (test_right _ _ (counted w 4 (v.arenas 4 (record { from = omega arith; to = omega arith }))))
 
--- the records of an arena that the threads make
-pub records_made : (w : List ℕ) (p : ℕ) → 2 ≤ p → records w p ≡ thread_count w * per_thread w p
-records_made w p h = grind (arith, nat_tests)
+-- the records of an arena are those that its makers make
+pub records_made : (w : List ℕ) (p : ℕ) → records w p ≡ makers w p * per_thread w p
+records_made w p = go (p == 1) refl
+  where
+    go : (b : Bool) → p == 1 ≡ b → records w p ≡ makers w p * per_thread w p
+    go true e = let one : p ≡ 1 = grind (arith, nat_tests) in rw one refl
+    go false e = grind (arith, nat_tests)
+
+-- all threads make threads, regions and tasks
+pub all_make : (w : List ℕ) (p : ℕ) → 2 ≤ p → makers w p ≡ thread_count w
+all_make w p h = grind (arith, nat_tests)
 
 -- a slot's number in its arena is below the records of the arena
-pub index_within : (w : List ℕ) (p creator slot : ℕ) → 2 ≤ p → IsSlot w p creator slot → index_of w p creator slot < records w p
-index_within w p creator slot h s =
-    let low = mul-add-lt creator (per_thread w p) slot (thread_count w) s.made_by s.within in
-    omega (arith, low, records_made w p h)
+pub index_within : (w : List ℕ) (p creator slot : ℕ) → IsSlot w p creator slot → index_of w p creator slot < records w p
+index_within w p creator slot s =
+    let low = mul-add-lt creator (per_thread w p) slot (makers w p) s.made_by s.within in
+    omega (arith, low, records_made w p)
 
 -- and small
-pub index_few : (w : List ℕ) (p creator slot : ℕ) → thread_count w ≤ 16 → per_thread w p ≤ 4096 → IsSlot w p creator slot → creator * per_thread w p + slot < 69632
-index_few w p creator slot t n s =
-    let low = times_few creator (per_thread w p) (omega (arith, s.made_by, t)) n in
+pub index_few : (w : List ℕ) (p creator slot : ℕ) → 2 ≤ p → thread_count w ≤ 64 → per_thread w p ≤ 4096 → IsSlot w p creator slot → creator * per_thread w p + slot < 266240
+index_few w p creator slot two t n s =
+    let low = times_few creator (per_thread w p) (omega (arith, s.made_by, all_make w p two, t)) n in
     omega (arith, low, s.within, n)
 
-pub few_of_valid : (w : List ℕ) → IsValid w → (p : ℕ) → IsKind p → records w p ≤ 65536
+pub few_of_valid : (w : List ℕ) → IsValid w → (p : ℕ) → IsKind p → records w p ≤ 262144
 few_of_valid w v p k = few w p k (counted w p (v.arenas p k)) (λ q is _. v.arenas q is)
 
 -- a field ends inside its record

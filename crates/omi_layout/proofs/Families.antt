@@ -1,6 +1,7 @@
 -- Each family's layout is valid.
 use Rattle.std.proofs.Common.{◌≡◌, ◌==◌, ℕ, ◌+◌, ◌*◌, ◌%◌, ◌≤◌, ◌&&◌, Bool, true, false, cond, not, nat_le, List, refl, ap, ap₂, ◌∙◌, arith, mul-le-mul}
 use Rattle.std.proofs.lemmas.Bool.Decides.{nat_tests}
+use Rattle.omi_layout.specs.declared.limits.TheConstants.{MOST_THREADS}
 use Rattle.omi_layout.specs.Field.{IsKind, kind_of}
 use Rattle.omi_layout.specs.Table.{thread_count, per_thread, offset, width, size, place, records, extent}
 use Rattle.omi_layout.specs.Valid.{IsValid, shares, is_counted, is_placed, is_arena, arenas_share}
@@ -18,7 +19,7 @@ le_test a b h = grind (arith, nat_tests)
 eq_test : (a b : ℕ) → a ≡ b → a == b ≡ true
 eq_test a b h = grind (arith, nat_tests)
 
-words_few : (t p : ℕ) → t ≤ 16 → field_words t p ≤ 27
+words_few : (t p : ℕ) → t ≤ 64 → field_words t p ≤ 75
 words_few t p h = grind (arith, nat_tests)
 
 one_kind : (a b : ℕ) (s : Bool) → (a ≡ b → s ≡ false) → a == b && s ≡ false
@@ -75,15 +76,15 @@ cond_few : (b : Bool) (x y n : ℕ) → x ≤ n → y ≤ n → cond b x y ≤ n
 cond_few true x y n h h' = h
 cond_few false x y n h h' = h'
 
-extent_few : (c s : ℕ) → c ≤ 4096 → s ≤ 30 → c * s ≤ 122880
+extent_few : (c s : ℕ) → c ≤ 16384 → s ≤ 78 → c * s ≤ 1277952
 extent_few c s h h' = mul-le-mul h h'
 
-module _ (k t : ℕ) (w : List ℕ) (some : 1 ≤ t) (most : t ≤ 16) (fam : IsFamily k t w) where
-  size_few : (p : ℕ) → family_size k t p ≤ 30
-  size_few p = omega (arith, words_few t p most)
+module _ (k t : ℕ) (w : List ℕ) (some : 1 ≤ t) (most : t ≤ MOST_THREADS) (fam : IsFamily k t w) where
+  size_few : (p : ℕ) → family_size k t p ≤ 78
+  size_few p = omega (arith, words_few t p (omega (arith, most)))
 
-  few : (p : ℕ) → IsKind p → family_extent k t p ≤ 122880
-  few = each_kind (λ p. family_extent k t p ≤ 122880)
+  few : (p : ℕ) → IsKind p → family_extent k t p ≤ 1277952
+  few = each_kind (λ p. family_extent k t p ≤ 1277952)
       (extent_few (family_count t 1) (family_size k t 1) (omega arith) (size_few 1))
       (extent_few (family_count t 2) (family_size k t 2) (omega (arith, most)) (size_few 2))
       (extent_few (family_count t 3) (family_size k t 3) (omega (arith, most)) (size_few 3))
@@ -127,7 +128,7 @@ module _ (k t : ℕ) (w : List ℕ) (some : 1 ≤ t) (most : t ≤ 16) (fam : Is
 
   counted : (p : ℕ) → IsKind p → is_counted w p ≡ true
   counted = each_kind (λ p. is_counted w p ≡ true) refl
-      (both _ _ (le_test 1 (thread_count w) (omega (arith, fam.threads, some))) (le_test (thread_count w) 16 (omega (arith, fam.threads, most))))
+      (both _ _ (le_test 1 (thread_count w) (omega (arith, fam.threads, some))) (le_test (thread_count w) MOST_THREADS (omega (arith, fam.threads, most))))
       (both _ _ (le_test 1 (per_thread w 3) (omega (arith, fam.regions))) (le_test (per_thread w 3) 64 (omega (arith, fam.regions))))
       (both _ _ (le_test 1 (per_thread w 4) (omega (arith, fam.tasks))) (le_test (per_thread w 4) 4096 (omega (arith, fam.tasks))))
 

@@ -3,8 +3,8 @@ use Rattle.std.proofs.Common.{◌≡◌, ◌≢◌, ℕ, ◌+◌, ◌-◌, ◌*�
 use Rattle.std.proofs.lemmas.Nat.{div-mul-add, mod-mul-add, div-add-mod'}
 use Rattle.std.proofs.Math.Nat.{div-lt_iff_lt-mul}
 use Rattle.omi_layout.specs.Table.{size, place, thread_count, per_thread, records}
-use Rattle.omi_layout.specs.Place.{record_address, index_of, IsSlotAt, IsRecordAt}
-use Rattle.omi_layout.proofs.Arenas.{index_within, records_made}
+use Rattle.omi_layout.specs.Place.{record_address, slot_address, index_of, IsSlotAt, IsRecordAt}
+use Rattle.omi_layout.proofs.Arenas.{index_within, records_made, all_make}
 
 gap_of : (a d i s : ℕ) → d ≡ a + 8 * (i * s) → d - a ≡ i * (8 * s) + 0
 gap_of a d i s e = omega (arith, e)
@@ -44,7 +44,8 @@ module _ (w : List ℕ) (p addr : ℕ) where
 
   -- no slot's record begins where none of the arena does
   pub no_slot : 2 ≤ p → IsRecordAt w p addr None → IsSlotAt w p addr None
-  no_slot two r = record { is = tt; all = λ creator slot k e. let no = r.all (index_of w p creator slot) (index_within w p creator slot two k) e in absurd (cc) }
+  unfolding slot_address
+  no_slot two r = record { is = tt; all = λ creator slot k e. let no = r.all (index_of w p creator slot) (index_within w p creator slot k) e in absurd (cc) }
 
 some_same : (a b : ℕ) → Some a ≡ Some b → a ≡ b
 some_same a b e = cc
@@ -54,7 +55,7 @@ quotient_below i t n h e = (div-lt_iff_lt-mul {k = n} {x = i} {y = t} h).1 e
 
 -- the thread of a record is one of the threads
 pub creator_below : (w : List ℕ) (p addr index : ℕ) → 2 ≤ p → 0 < per_thread w p → IsRecordAt w p addr (Some index) → index / per_thread w p < thread_count w
-creator_below w p addr index two h r = quotient_below index (thread_count w) (per_thread w p) h (omega (arith, r.is.0, records_made w p two))
+creator_below w p addr index two h r = quotient_below index (thread_count w) (per_thread w p) h (omega (arith, r.is.0, records_made w p ∙ ap (λ m. m * per_thread w p) (all_make w p two)))
 
 pub slot_below : (i n : ℕ) → 0 < n → i % n < n
 slot_below i n h = omega (arith, h)
@@ -62,13 +63,14 @@ slot_below i n h = omega (arith, h)
 -- the slot of a record, by its number in the arena
 pub slot_found : (w : List ℕ) (p addr index : ℕ) → 2 ≤ p → 0 < per_thread w p → IsRecordAt w p addr (Some index)
     → IsSlotAt w p addr (Some (record { 0 = index / per_thread w p; 1 = index % per_thread w p }))
+unfolding slot_address
 slot_found w p addr index two h r = record {
   is = (
-    record { made_by = creator_below w p addr index two h r; within = slot_below index (per_thread w p) h },
+    record { made_by = subst (λ m. index / per_thread w p < m) (sym (all_make w p two)) (creator_below w p addr index two h r); within = slot_below index (per_thread w p) h },
     subst (λ i. addr ≡ record_address w p i) (sym (div-add-mod' index (per_thread w p))) r.is.1,
   );
   all = λ creator slot k e.
-      let same : index ≡ creator * per_thread w p + slot = some_same _ _ (r.all (index_of w p creator slot) (index_within w p creator slot two k) e) in
+      let same : index ≡ creator * per_thread w p + slot = some_same _ _ (r.all (index_of w p creator slot) (index_within w p creator slot k) e) in
       let first : index / per_thread w p ≡ creator = ap (λ i. i / per_thread w p) same ∙ div-mul-add creator (per_thread w p) slot k.within in
       let second : index % per_thread w p ≡ slot = ap (λ i. i % per_thread w p) same ∙ mod-mul-add creator (per_thread w p) slot k.within in
       ap₂ {C = Option (record { 0 : ℕ; 1 : ℕ })} (λ a b. Some (record { 0 = a; 1 = b })) first second;

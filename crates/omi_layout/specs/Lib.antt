@@ -1,5 +1,6 @@
 -- The definitions to believe: the fields of the records, the layout table, valid layouts, and the places of records and words.
 pub mod Field
+pub mod Named
 pub mod Table
 pub mod Valid
 pub mod Place
@@ -8,3 +9,4 @@ pub mod Family
 pub mod Front
 pub mod Words
 pub mod SymbolTable
+pub mod Memory

@@ -2,7 +2,7 @@
 use Rattle.std.specs.Prelude.{◌≡◌, ℕ, ◌+◌, ◌*◌, ◌<◌, ◌&&◌, Bool, nat_le, max, List, Option, Some, IfSome}
 use Rattle.omi_word.specs.Memory.{place_of}
 use Rattle.omi_layout.specs.declared.limits.TheConstants.{FRONT_WORDS}
-use Rattle.omi_layout.specs.Table.{place, size, records, per_thread, thread_count, extent}
+use Rattle.omi_layout.specs.Table.{place, size, records, per_thread, makers, extent}
 
 -- the address of a record, by its number in the arena
 abbrev pub record_address : List ℕ → ℕ → ℕ → ℕ
@@ -13,12 +13,12 @@ abbrev pub index_of : List ℕ → ℕ → ℕ → ℕ → ℕ
 index_of w p creator slot = creator * per_thread w p + slot
 
 -- the address of the record in a slot of the thread that makes it
-abbrev pub slot_address : List ℕ → ℕ → ℕ → ℕ → ℕ
+unfoldable pub slot_address : List ℕ → ℕ → ℕ → ℕ → ℕ
 slot_address w p creator slot = record_address w p (index_of w p creator slot)
 
 -- a thread that makes records, and one of its slots
 pub record IsSlot (w : List ℕ) (p creator slot : ℕ) : Type 0 where
-  pub made_by : creator < thread_count w
+  pub made_by : creator < makers w p
   pub within : slot < per_thread w p
 
 -- what is found at an address: the slot whose record begins there, and None exactly where there is none

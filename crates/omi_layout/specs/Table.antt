@@ -1,6 +1,6 @@
 -- The layout table: its version; place, size and counts of the arenas; then the offset of each field by number. Places are byte addresses, sizes and offsets are in words.
 use Rattle.std.specs.Prelude.{ℕ, ◌==◌, ◌+◌, ◌*◌, ◌||◌, List, slice_index, if◌then◌else◌}
-use Rattle.omi_layout.specs.Field.{runtime, threads, regions, locks, team, nth, slots}
+use Rattle.omi_layout.specs.Field.{runtime, threads, regions, tasks, locks, team, nth, slots}
 
 abbrev pub version : List ℕ → ℕ
 version w = slice_index w 0
@@ -24,12 +24,16 @@ size w p = slice_index w (place_index p + 1)
 abbrev pub thread_count : List ℕ → ℕ
 thread_count w = slice_index w 5
 
--- how many records a thread has there; of the runtime record there is one alone
+-- how many records a thread has there
 abbrev pub per_thread : List ℕ → ℕ → ℕ
 per_thread w p =
     if p == regions then slice_index w 8
-    else (if p == threads then 1
-    else slice_index w 11)
+    else (if p == tasks then slice_index w 11
+    else 1)
+
+-- how many threads have records there: of the runtime record there is one alone, which counts as thread 0's
+abbrev pub makers : List ℕ → ℕ → ℕ
+makers w p = if p == runtime then 1 else thread_count w
 
 -- the records of an arena
 abbrev pub records : List ℕ → ℕ → ℕ

@@ -4,6 +4,7 @@ ghost use Rattle.std.specs.Prelude.{◌≡◌, ◌≤◌};
 ghost use Rattle.omi_layout.specs.Field.{IsField, IsKind};
 ghost use Rattle.omi_layout.specs.Family;
 ghost use Rattle.omi_layout.specs.Family.{IsFamily};
+ghost use Rattle.omi_layout.specs.declared.limits.TheConstants.{MOST_THREADS};
 
 use crate::layout::Layout;
 use crate::limits::{FIELDS, FRONT_WORDS, VERSION};
@@ -108,9 +109,9 @@ fn family_size(k: u8, threads: u8, p: u8) -> u64
 
 /// The words of an arena.
 fn family_extent(k: u8, threads: u8, p: u8) -> u64
-    requires { threads ≤ 16 }
+    requires { threads ≤ MOST_THREADS }
     ensures value { result ≡ Family.family_extent k threads p }
-    ensures small { result ≤ 1048576 }
+    ensures small { result ≤ 2097152 }
 {
     let count = u64::from(threads);
     let words = family_size(k, threads, p);
@@ -128,7 +129,7 @@ fn family_extent(k: u8, threads: u8, p: u8) -> u64
 /// The byte address at which an arena begins.
 fn family_place(k: u8, threads: u8, p: u8) -> u64
     requires kind { IsKind p }
-    requires few { threads ≤ 16 }
+    requires few { threads ≤ MOST_THREADS }
     ensures { result ≡ Family.family_place k threads p }
 {
     let runtime = family_extent(k, threads, 1);
@@ -161,7 +162,7 @@ fn family_place(k: u8, threads: u8, p: u8) -> u64
 
 /// The table of a family.
 fn family_table(k: u8, threads: u8) -> [u64; 56]
-    requires { threads ≤ 16 }
+    requires { threads ≤ MOST_THREADS }
     ensures { IsFamily k threads result }
 {
     let mut table = [0u64; 56];
@@ -188,7 +189,7 @@ impl Layout {
     pub fn family(k: u8, threads: u8) -> Layout
         requires family { k ≤ 15 }
         requires some { 1 ≤ threads }
-        requires most { threads ≤ 16 }
+        requires most { threads ≤ MOST_THREADS }
         ensures { IsFamily k threads result.table }
     {
         let table = family_table(k, threads);

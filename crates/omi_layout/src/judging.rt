@@ -81,7 +81,7 @@ fn is_counted(w: &[u64; 56], p: u8) -> bool
 
 /// Whether an arena begins at a word, and lies between the first address and the last.
 fn is_placed(w: &[u64; 56], p: u8) -> bool
-    requires few { Table.records w.now p ≤ 65536 }
+    requires few { Table.records w.now p ≤ 262144 }
     requires small { Table.size w.now p ≤ 4096 }
     ensures { result ≡ Valid.is_placed w.now p }
 {
@@ -95,7 +95,7 @@ fn is_taken(w: &[u64; 56], q: u8, p: u8) -> bool
     requires is { IsKind q }
     requires inside { AllInside w.now }
     requires below { AllBelow w.now p }
-    requires few { Table.records w.now p ≤ 65536 }
+    requires few { Table.records w.now p ≤ 262144 }
     requires small { Table.size w.now p ≤ 4096 }
     requires placed { Valid.is_placed w.now p ≡ true }
     ensures { result ≡ Valid.is_taken w.now q p }

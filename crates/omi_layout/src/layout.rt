@@ -85,6 +85,7 @@ impl Layout {
         self.record_at(2, i as u64)
     }
 
+    #[tactic(auto, unfolding(crate::specs::Place::slot_address))]
     /// The byte address of the record of a region, by the thread that makes it and one of its slots.
     pub fn region_at(&self, creator: u8, slot: u16) -> u64
         requires { IsSlot self.now.table 3 creator slot }
@@ -94,6 +95,7 @@ impl Layout {
         self.record_at(3, index)
     }
 
+    #[tactic(auto, unfolding(crate::specs::Place::slot_address))]
     /// The byte address of the record of a task, by the thread that makes it and one of its slots.
     pub fn task_at(&self, creator: u8, slot: u16) -> u64
         requires { IsSlot self.now.table 4 creator slot }

@@ -3,6 +3,7 @@
 
 mod family;
 mod fault;
+mod field;
 mod judging;
 mod laws;
 mod layout;
@@ -12,6 +13,7 @@ mod publish;
 mod table;
 
 pub use fault::LayoutFault;
+pub use field::{Field, Kind, field_name};
 pub use laws::words_apart;
 pub use layout::Layout;
 pub use limits::{

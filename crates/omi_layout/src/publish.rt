@@ -59,7 +59,7 @@ const FRONT: [u64; 43] = [
     0,
     0,
     0x10158,
-    // the empty list of library locations, and its address
+    // the address of the list of library locations, and that list, which is empty
     0x10150,
     0,
 ];

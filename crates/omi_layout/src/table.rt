@@ -55,10 +55,10 @@ pub fn per_thread(w: &[u64; 56], p: u8) -> u64
 {
     if p == 3 {
         w[8]
-    } else if p == 2 {
-        1
-    } else {
+    } else if p == 4 {
         w[11]
+    } else {
+        1
     }
 }
 
@@ -87,7 +87,7 @@ pub fn width(w: &[u64; 56], field: u8) -> u64
 
 /// The records of an arena.
 pub fn records(w: &[u64; 56], p: u8) -> u64
-    requires { Table.records w.now p ≤ 65536 }
+    requires { Table.records w.now p ≤ 262144 }
     ensures { result ≡ Table.records w.now p }
 {
     if p == 1 { 1 } else { w[5] * per_thread(w, p) }
@@ -95,7 +95,7 @@ pub fn records(w: &[u64; 56], p: u8) -> u64
 
 /// The words of an arena.
 pub fn extent(w: &[u64; 56], p: u8) -> u64
-    requires few { Table.records w.now p ≤ 65536 }
+    requires few { Table.records w.now p ≤ 262144 }
     requires small { Table.size w.now p ≤ 4096 }
     ensures { result ≡ Table.extent w.now p }
 {
