@@ -54,7 +54,7 @@ module _ (w : List ℕ) (v : IsValid w) where
       omega (arith, all)
 
   -- an arena begins at a word
-  aligned : (p : ℕ) → IsKind p → 65536 + 8 * first_word w p ≡ place w p
+  pub aligned : (p : ℕ) → IsKind p → 65536 + 8 * first_word w p ≡ place w p
   aligned p is =
       let at = placed w p (v.arenas p is) in
       let even : place w p % 8 ≡ 0 = even_test (place w p % 8) _ at in

@@ -4,3 +4,5 @@ pub mod Turned
 pub mod Families
 pub mod Frame
 pub mod Symbols
+pub mod Puts
+pub mod Stored

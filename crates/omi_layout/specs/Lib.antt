@@ -10,3 +10,4 @@ pub mod Front
 pub mod Words
 pub mod SymbolTable
 pub mod Memory
+pub mod Frame

@@ -2,6 +2,8 @@
 //! every layout.
 
 ghost use Rattle.omi_layout.specs.Words.{AreApart, AreInside, SlotsApart};
+ghost use Rattle.omi_layout.specs.Memory.{Memory};
+ghost use Rattle.omi_layout.specs.Frame.{IsReplaced, AreFramed, AreMapped};
 
 use crate::layout::Layout;
 
@@ -11,4 +13,13 @@ pub fn words_apart(layout: &Layout)
     ensures apart { AreApart layout.now.table }
     ensures inside { AreInside layout.now.table }
     ensures slots { SlotsApart layout.now.table }
+{}
+
+/// The laws of memory by records. A word that is written is that word read, and every other stays; an operation at the
+/// address of a word of a record leaves the memory with that one word replaced; and in an image that the layout fits
+/// each word of a record is mapped.
+pub fn records_framed(layout: &Layout)
+    ensures replaced { (m : Memory) → IsReplaced m }
+    ensures framed { AreFramed layout.now.table }
+    ensures mapped { AreMapped layout.now.table }
 {}

@@ -1,0 +1,54 @@
+-- The frame laws. An operation on a word of a record finds the word that the memory has there, and leaves the memory with that one word replaced: one equation for every operation.
+use Rattle.std.specs.Prelude.{◌≡◌, ℕ, ◌<◌, IsTrue, List, length, slice_index, Some}
+use Rattle.omi_word.specs.Memory.{IsWordOf, word_at, after, address_of, left_of}
+use Rattle.omi_word.specs.declared.op.Op.{Op}
+use Rattle.omi_layout.specs.declared.limits.TheConstants.{FRONT_WORDS}
+use Rattle.omi_layout.specs.Field.{kind_of}
+use Rattle.omi_layout.specs.Place.{fits}
+use Rattle.omi_layout.specs.SymbolTable.{words_of}
+use Rattle.omi_layout.specs.Memory.{Memory, memory_of, with_word, IsRecordWord, word_address, found_word}
+
+-- a word that is written is that word read
+abbrev pub WrittenIsRead : Memory → Type 0
+WrittenIsRead m = (creator kind slot f at word : ℕ)
+    → with_word m creator kind slot f at word creator kind slot f at ≡ word
+
+-- every other word stays
+abbrev pub OthersStay : Memory → Type 0
+OthersStay m = (creator kind slot f at word maker other there g to : ℕ)
+    → (maker ≡ creator → other ≡ kind → there ≡ slot → g ≡ f → to ≡ at → ⊥)
+    → with_word m creator kind slot f at word maker other there g to ≡ m maker other there g to
+
+-- a word that is written as it is leaves the memory as it is
+abbrev pub SameIsKept : Memory → Type 0
+SameIsKept m = (creator kind slot f at : ℕ)
+    → with_word m creator kind slot f at (m creator kind slot f at) ≡ m
+
+-- a memory with one word replaced
+pub record IsReplaced (m : Memory) : Type 0 where
+  pub written : WrittenIsRead m
+  pub others : OthersStay m
+  pub kept : SameIsKept m
+
+-- an operation is on this word of a record
+pub record IsOnWord (w words : List ℕ) (op : Op) (creator slot f at : ℕ) : Type 0 where
+  pub inside : IsWordOf words (address_of op)
+  pub finds : word_at words (address_of op) ≡ memory_of w words creator (kind_of f) slot f at
+  pub leaves : memory_of w (after words op)
+      ≡ with_word (memory_of w words) creator (kind_of f) slot f at
+      (left_of op (memory_of w words creator (kind_of f) slot f at))
+  pub count : length (after words op) ≡ length words
+  pub front : (i : ℕ) → i < FRONT_WORDS → slice_index (after words op) i ≡ slice_index words i
+
+-- each operation at the address of a word of a record is on this word
+abbrev pub AreFramed : List ℕ → Type 0
+AreFramed w = (words : List ℕ) (op : Op) (creator slot f at : ℕ) → IsTrue (fits w (length words))
+    → IsRecordWord w creator slot f at → address_of op ≡ word_address w creator slot f at
+    → IsOnWord w words op creator slot f at
+
+-- in an image that the layout fits each word of a record is mapped, and is the word that the memory has there
+abbrev pub AreMapped : List ℕ → Type 0
+AreMapped w = (words : List ℕ) (creator slot f at : ℕ) → IsTrue (fits w (length words))
+    → IsRecordWord w creator slot f at
+    → found_word w (words_of words) creator slot f at
+    ≡ Some (memory_of w words creator (kind_of f) slot f at)
