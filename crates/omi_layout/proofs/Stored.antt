@@ -1,9 +1,10 @@
 -- A store into a word of a record, as a memory with one word replaced.
-use Rattle.std.proofs.Common.{◌≡◌, ◌==◌, ℕ, ◌+◌, ◌*◌, ◌<◌, ◌≤◌, ◌&&◌, Bool, true, false, cond, List, length, get_or, set, nat_lt, refl, sym, ap, ap₂, ◌∙◌, subst, arith, get_or-set_same, get_or-set_other, length-set}
+use Rattle.std.proofs.Common.{◌≡◌, ◌==◌, ℕ, ◌+◌, ◌*◌, ◌<◌, ◌≤◌, ◌&&◌, Bool, true, false, cond, List, length, get_or, set, nat_lt, refl, sym, ap, ap₂, ◌∙◌, subst, arith, get_or-set_same, get_or-set_other, length-set, eq-eqb, ne_eqb}
 use Rattle.std.specs.Prelude.{IsTrue, Some, None}
 use Rattle.std.proofs.lemmas.Bool.Decides.{nat_tests}
 use Rattle.omi_word.specs.Memory.{address_at, place_of, IsWordOf, word_at, after, address_of, left_of}
 use Rattle.omi_word.specs.declared.op.Op.{Op}
+use Rattle.omi_word.specs.declared.op.Op.TheVariants.{Load, Store, Cas, Add, Sub}
 use Rattle.omi_word.proofs.Addresses.{place-address, placed_word}
 use Rattle.omi_layout.specs.Field.{IsField, IsKind, kind_of}
 use Rattle.omi_layout.specs.Table.{size, place, offset, width, makers, per_thread}
@@ -12,11 +13,11 @@ use Rattle.omi_layout.specs.Valid.{IsValid}
 use Rattle.omi_layout.specs.Words.{word_place, IsWord}
 use Rattle.omi_layout.specs.SymbolTable.{words_of, is_word}
 use Rattle.omi_layout.specs.Memory.{memory_of, with_word, is_record_word, IsRecordWord, word_address}
-use Rattle.omi_layout.specs.Frame.{IsOnWord}
+use Rattle.omi_layout.specs.Frame.{IsOnWord, IsLeft, word_in, replaced}
 use Rattle.omi_layout.proofs.Arenas.{index_within}
 use Rattle.omi_layout.proofs.Turned.{kind_is}
 use Rattle.omi_layout.proofs.Frame.{aligned, are_apart, are_inside, slots_apart}
-use Rattle.omi_layout.proofs.Puts.{written}
+use Rattle.omi_layout.proofs.Puts.{written, word_back}
 
 -- a word of a record is one by its number in the arena
 pub numbered : (w : List ℕ) (c s f k : ℕ) → IsRecordWord w c s f k → IsWord w f (index_of w (kind_of f) c s) k
@@ -131,6 +132,30 @@ module _ (w : List ℕ) (v : IsValid w) where
 
       behind : 99 ≤ here
       behind = (are_inside w v (length words) f (index_of w (kind_of f) c s) k fit (numbered w c s f k is)).behind
+
+  -- what each operation leaves
+  pub left : (words : List ℕ) (c s f k : ℕ) → IsTrue (fits w (length words)) → IsRecordWord w c s f k
+      → IsLeft w words c s f k (word_address w c s f k)
+  left words c s f k fit is = record {
+    load = by (Load a) refl ∙ same;
+    store = λ new. by (Store a new) refl;
+    exchanged = λ new. by (Cas a here new) refl ∙ ap (replaced w words c s f k) (ap (λ b. cond b new here) (eq-eqb here here refl));
+    refused = λ old new ne. by (Cas a old new) refl ∙ ap (replaced w words c s f k) (ap (λ b. cond b new here) (ne_eqb here old ne)) ∙ same;
+    added = λ n. by (Add a n) refl;
+    subtracted = λ n. by (Sub a n) refl;
+  }
+    where
+      a : ℕ
+      a = word_address w c s f k
+
+      here : ℕ
+      here = word_in w words c s f k
+
+      by : (op : Op) → address_of op ≡ a → memory_of w (after words op) ≡ replaced w words c s f k (left_of op here)
+      by op at = (on_word words op c s f k fit is at).leaves
+
+      same : replaced w words c s f k here ≡ memory_of w words
+      same = word_back (memory_of w words) c (kind_of f) s f k
 
   -- in an image that the layout fits, each word of a record is mapped
   pub mapped : (words : List ℕ) (c s f k : ℕ) → IsTrue (fits w (length words)) → IsRecordWord w c s f k

@@ -1,7 +1,8 @@
 -- The frame laws. An operation on a word of a record finds the word that the memory has there, and leaves the memory with that one word replaced: one equation for every operation.
-use Rattle.std.specs.Prelude.{◌≡◌, ℕ, ◌<◌, IsTrue, List, length, slice_index, Some}
+use Rattle.std.specs.Prelude.{◌≡◌, ◌≢◌, ℕ, ◌+◌, ◌-◌, ◌%◌, ◌^◌, ◌<◌, IsTrue, List, length, slice_index, Some}
 use Rattle.omi_word.specs.Memory.{IsWordOf, word_at, after, address_of, left_of}
 use Rattle.omi_word.specs.declared.op.Op.{Op}
+use Rattle.omi_word.specs.declared.op.Op.TheVariants.{Load, Store, Cas, Add, Sub}
 use Rattle.omi_layout.specs.declared.limits.TheConstants.{FRONT_WORDS}
 use Rattle.omi_layout.specs.Field.{kind_of}
 use Rattle.omi_layout.specs.Place.{fits}
@@ -52,3 +53,26 @@ AreMapped w = (words : List ℕ) (creator slot f at : ℕ) → IsTrue (fits w (l
     → IsRecordWord w creator slot f at
     → found_word w (words_of words) creator slot f at
     ≡ Some (memory_of w words creator (kind_of f) slot f at)
+
+-- the word of a record, and the memory with this word replaced by another
+abbrev pub word_in : List ℕ → List ℕ → ℕ → ℕ → ℕ → ℕ → ℕ
+word_in w words creator slot f at = memory_of w words creator (kind_of f) slot f at
+
+abbrev pub replaced : List ℕ → List ℕ → ℕ → ℕ → ℕ → ℕ → ℕ → Memory
+replaced w words creator slot f at word =
+    with_word (memory_of w words) creator (kind_of f) slot f at word
+
+-- what each operation at the address of a word of a record leaves
+pub record IsLeft (w words : List ℕ) (creator slot f at a : ℕ) : Type 0 where
+  pub load : memory_of w (after words (Load a)) ≡ memory_of w words
+  pub store : (new : ℕ) → memory_of w (after words (Store a new)) ≡ replaced w words creator slot f at new
+  pub exchanged : (new : ℕ) → memory_of w (after words (Cas a (word_in w words creator slot f at) new)) ≡ replaced w words creator slot f at new
+  pub refused : (old new : ℕ) → word_in w words creator slot f at ≢ old → memory_of w (after words (Cas a old new)) ≡ memory_of w words
+  pub added : (by : ℕ) → memory_of w (after words (Add a by)) ≡ replaced w words creator slot f at ((word_in w words creator slot f at + by) % 2 ^ 64)
+  pub subtracted : (by : ℕ) → memory_of w (after words (Sub a by)) ≡ replaced w words creator slot f at ((word_in w words creator slot f at + (2 ^ 64 - by)) % 2 ^ 64)
+
+-- one equation for each operation
+abbrev pub AreLeft : List ℕ → Type 0
+AreLeft w = (words : List ℕ) (creator slot f at : ℕ) → IsTrue (fits w (length words))
+    → IsRecordWord w creator slot f at
+    → IsLeft w words creator slot f at (word_address w creator slot f at)

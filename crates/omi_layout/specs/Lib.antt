@@ -11,3 +11,6 @@ pub mod Words
 pub mod SymbolTable
 pub mod Memory
 pub mod Frame
+pub mod Given
+pub mod Codes
+pub mod OpeningWords

@@ -3,7 +3,7 @@
 
 ghost use Rattle.omi_layout.specs.Words.{AreApart, AreInside, SlotsApart};
 ghost use Rattle.omi_layout.specs.Memory.{Memory};
-ghost use Rattle.omi_layout.specs.Frame.{IsReplaced, AreFramed, AreMapped};
+ghost use Rattle.omi_layout.specs.Frame.{IsReplaced, AreFramed, AreLeft, AreMapped};
 
 use crate::layout::Layout;
 
@@ -21,5 +21,6 @@ pub fn words_apart(layout: &Layout)
 pub fn records_framed(layout: &Layout)
     ensures replaced { (m : Memory) → IsReplaced m }
     ensures framed { AreFramed layout.now.table }
+    ensures left { AreLeft layout.now.table }
     ensures mapped { AreMapped layout.now.table }
 {}
