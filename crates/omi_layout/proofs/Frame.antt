@@ -143,6 +143,14 @@ module _ (w : List ℕ) (v : IsValid w) where
       let here = in_arena f index at is in
       record { behind = omega (arith, low); inside = omega (arith, high, here) }
 
+  -- an image that the layout fits has room for the tables
+  pub front_fits : (n : ℕ) → fits w n ≡ true → 99 ≤ n
+  front_fits n e =
+      let arena = fits_each n e 1 k1 in
+      let low : 99 ≤ first_word w 1 = leb-true _ _ (test_left _ _ arena) in
+      let high : end_word w 1 ≤ n = leb-true (end_word w 1) n (test_right (nat_le 99 (first_word w 1)) (nat_le (end_word w 1) n) arena) in
+      omega (arith, low, high)
+
 pub slots_apart : (w : List ℕ) → SlotsApart w
 slots_apart w p creator slot other there is is' e =
     let r = rows_apart creator other _ slot there is.within is'.within e in

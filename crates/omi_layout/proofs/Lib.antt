@@ -5,4 +5,6 @@ pub mod Families
 pub mod Frame
 pub mod Symbols
 pub mod Puts
+pub mod Mapped
 pub mod Stored
+pub mod Tables

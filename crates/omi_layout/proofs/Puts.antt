@@ -23,6 +23,7 @@ each_put P m i x here j other = go (j == i) refl
   where
     clash : j == i ≡ true → j == i ≡ false → ⊥
     clash p q = cc
+
     go : (b : Bool) → j == i ≡ b → P j (cond b x (m j))
     go true e = subst (λ k. P k x) (sym (eqb-true j i e)) here
     go false e = other (λ same. clash (eq-eqb j i same) e)
@@ -53,7 +54,7 @@ pub word_back : (m : Memory) (c q s f k : ℕ) → with_word m c q s f k (m c q 
 word_back m c q s f k =
     let field : with_word_in (m c q s) f k (m c q s f k) ≡ m c q s = ap (λ (x : ℕ → ℕ). put (m c q s) f x) (put_back (m c q s f) k) ∙ put_back (m c q s) f in
     let made : with_record (m c) q s (with_word_in (m c q s) f k (m c q s f k)) ≡ m c =
-        ap (λ (x : Rec). with_record (m c) q s x) field ∙ (ap (λ (x : ℕ → Rec). put (m c) q x) (put_back (m c q) s) ∙ put_back (m c) q) in
+    ap (λ (x : Rec). with_record (m c) q s x) field ∙ (ap (λ (x : ℕ → Rec). put (m c) q x) (put_back (m c q) s) ∙ put_back (m c) q) in
     ap (λ (x : Made). put m c x) made ∙ put_back m c
 
 -- what is read where a word was written

@@ -17,6 +17,7 @@ use Rattle.omi_layout.specs.Frame.{IsOnWord, IsLeft, word_in, replaced}
 use Rattle.omi_layout.proofs.Arenas.{index_within}
 use Rattle.omi_layout.proofs.Turned.{kind_is}
 use Rattle.omi_layout.proofs.Frame.{aligned, are_apart, are_inside, slots_apart}
+use Rattle.omi_layout.proofs.Mapped.{image_word}
 use Rattle.omi_layout.proofs.Puts.{written, word_back}
 
 -- a word of a record is one by its number in the arena
@@ -92,6 +93,7 @@ module _ (w : List ℕ) (v : IsValid w) where
           let there = subst (λ q. IsSlot w q d t) kinds told.word.record_slot in
           let slots = slots_apart w (kind_of f) d t c s there is.record_slot index in
           apart slots.maker (told.same ∙ kinds) slots.place all.field all.element
+
       go : (b : Bool) → is_record_word w d kind t g h ≡ b
           → cond b (get_or (set words (word_place w f (index_of w (kind_of f) c s) k) x) (word_place w g (index_of w (kind_of g) d t) h) 0) 0
           ≡ cond b (get_or words (word_place w g (index_of w (kind_of g) d t) h) 0) 0
@@ -162,17 +164,8 @@ module _ (w : List ℕ) (v : IsValid w) where
       → words_of words (word_address w c s f k) ≡ Some (memory_of w words c (kind_of f) s f k)
   mapped words c s f k fit is =
       ap (words_of words) (address_placed c s f k)
-      ∙ stands here (place_inside words c s f k fit is)
-      ∙ ap Some (ap (λ p. get_or words p 0) (place-address here) ∙ sym (memory_read words c s f k is))
+      ∙ image_word words here (place_inside words c s f k fit is)
+      ∙ ap Some (sym (memory_read words c s f k is))
     where
       here : ℕ
       here = word_place w f (index_of w (kind_of f) c s) k
-
-      stands : (p : ℕ) → p < length words → words_of words (address_at p) ≡ Some (word_at words (address_at p))
-      stands p within =
-          let there = placed_word words p within in
-          let even = there.aligned in
-          let above = there.above in
-          let below = there.below in
-          let test : is_word words (address_at p) ≡ true = grind (arith, nat_tests) in
-          ap (λ b. cond b (Some (word_at words (address_at p))) None) test

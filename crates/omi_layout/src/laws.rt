@@ -3,6 +3,7 @@
 
 ghost use Rattle.omi_layout.specs.Words.{AreApart, AreInside, SlotsApart};
 ghost use Rattle.omi_layout.specs.Memory.{Memory};
+ghost use Rattle.omi_layout.specs.Given.{TablesGive};
 ghost use Rattle.omi_layout.specs.Frame.{IsReplaced, AreFramed, AreLeft, AreMapped};
 
 use crate::layout::Layout;
@@ -23,4 +24,10 @@ pub fn records_framed(layout: &Layout)
     ensures framed { AreFramed layout.now.table }
     ensures left { AreLeft layout.now.table }
     ensures mapped { AreMapped layout.now.table }
+{}
+
+/// An image with the tables of a layout in front gives this layout: the symbol `omi_layout` is found, and the words from its
+/// address on are the layout's table.
+pub fn tables_read_back(layout: &Layout)
+    ensures { TablesGive layout.now.table }
 {}

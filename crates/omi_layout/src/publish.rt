@@ -2,6 +2,8 @@
 
 ghost use Rattle.std.specs.Prelude.{◌≡◌, ◌+◌, ◌<◌, ◌≤◌, IsTrue, length, slice_set};
 ghost use Rattle.omi_layout.specs.Front.{IsWritten, IsPublished};
+ghost use Rattle.omi_layout.specs.SymbolTable.{words_of};
+ghost use Rattle.omi_layout.specs.Given.{GivesLayout};
 ghost use Rattle.omi_layout.specs.Place;
 ghost use Rattle.omi_layout.specs.declared.limits.TheConstants.{FRONT_WORDS};
 
@@ -89,10 +91,11 @@ fn write(image: &mut Image, first: usize, words: &[u64])
 
 impl Layout {
     /// Writes the symbol table, the entry point words and the layout table into an image. All other
-    /// words stay.
+    /// words stay, and the image gives this layout.
     pub fn publish(&self, image: &mut Image)
         requires { IsTrue (Place.fits self.now.table (length image.old)) }
-        ensures { IsPublished self.now.table image.old image.new }
+        ensures published { IsPublished self.now.table image.old image.new }
+        ensures gives { GivesLayout (words_of image.new) self.now.table }
     {
         write(image, 0, &FRONT);
         write(image, 43, &self.table);

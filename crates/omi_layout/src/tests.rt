@@ -1,6 +1,6 @@
 //! Sizes of images, tables that are refused, and records found again.
 
-use crate::{Layout, LayoutFault, look_up};
+use crate::{Field, Kind, Layout, LayoutFault, field_name, look_up};
 use omi_word::Image;
 use std::test::Fail;
 
@@ -39,18 +39,19 @@ fn refused(place: usize, word: u64) -> Option<LayoutFault> {
 #[test]
 fn tables_that_are_refused(rt: HostRuntime) -> Result<(), Fail> {
     let table = [
-        (0, 9, LayoutFault::Version(9)),
-        (2, 12, LayoutFault::OutOfRecord(6)),
-        (2, 4097, LayoutFault::OutOfRecord(1)),
-        (5, 2, LayoutFault::OutOfRecord(24)),
-        (19, 0, LayoutFault::Overlap(7, 8)),
-        (1, 0x10319, LayoutFault::BadArena(1)),
-        (3, 0x10310, LayoutFault::BadArena(2)),
-        (8, 65, LayoutFault::BadArena(3)),
-        (11, 4097, LayoutFault::BadArena(4)),
+        (0, 9, LayoutFault::Version(9), 0),
+        (2, 12, LayoutFault::OutOfRecord(6), 17),
+        (2, 4097, LayoutFault::OutOfRecord(1), 12),
+        (5, 2, LayoutFault::OutOfRecord(24), 35),
+        (19, 0, LayoutFault::Overlap(7, 8), 19),
+        (1, 0x10319, LayoutFault::BadArena(1), 1),
+        (3, 0x10310, LayoutFault::BadArena(2), 3),
+        (8, 65, LayoutFault::BadArena(3), 6),
+        (11, 4097, LayoutFault::BadArena(4), 9),
     ];
-    for (place, word, fault) in table {
+    for (place, word, fault, named) in table {
         assert_eq!(rt; refused(place, word), Some(fault));
+        assert_eq!(rt; fault.table_word(), named);
     }
     Ok(())
 }
@@ -101,5 +102,26 @@ fn the_tables_are_published(rt: HostRuntime) -> Result<(), Fail> {
     for (name, address) in symbols {
         assert_eq!(rt; look_up(&image, name), address);
     }
+    Ok(())
+}
+
+#[test]
+fn fields_have_their_names(rt: HostRuntime) -> Result<(), Fail> {
+    let table = [
+        (0, "layout"),
+        (Field::RuntimeVersion.number(), "rt.version"),
+        (Field::RuntimeLocks.number(), "rt.locks"),
+        (Field::ThreadCurrent.number(), "thread.cur"),
+        (Field::RegionTeam.number(), "region.team"),
+        (Field::TaskLife.number(), "task.life"),
+        (Field::TaskGenerating.number(), "task.generating"),
+        (Field::TaskReferences.number(), "task.refs"),
+        (Field::TaskSlots.number(), "task.slots"),
+    ];
+    for (field, name) in table {
+        assert_eq!(rt; field_name(field).as_bytes(), name.as_bytes());
+    }
+    assert_eq!(rt; Kind::Runtime.number(), 1);
+    assert_eq!(rt; Kind::Tasks.number(), 4);
     Ok(())
 }

@@ -1,0 +1,127 @@
+//! Tables with their fields and arenas in any order, with gaps: each is valid by its making, and is read back.
+
+ghost use Rattle.std.specs.Prelude.{◌<◌};
+
+use crate::Layout;
+use std::alloc::{AllocError, Global};
+use std::test::Fail;
+
+/// A fixed sequence of numbers.
+#[derive(Drop)]
+struct Numbers(u64);
+
+impl Numbers {
+    /// The next number, below `n`.
+    fn below(&mut self, n: u64) -> u64
+        requires { 0 < n }
+        ensures { result < n }
+    {
+        self.0 = self
+            .0
+            .wrapping_mul(6_364_136_223_846_793_005)
+            .wrapping_add(1_442_695_040_888_963_407);
+        (self.0 >> 33) % n
+    }
+}
+
+/// The numbers from `first` to below `end`, in some order.
+fn some_order(
+    alloc: Global,
+    numbers: &mut Numbers,
+    first: usize,
+    end: usize,
+) -> Result<Vec<usize>, AllocError> {
+    let mut order = Vec::new(alloc);
+    for number in first..end {
+        let places = (order.len() as u64).saturating_add(1);
+        let at = numbers.below(places) as usize;
+        if at <= order.len() {
+            order.insert(at, number)?;
+        }
+    }
+    Ok(order)
+}
+
+/// The words of a field.
+fn width(field: usize, threads: u64) -> u64 {
+    match field {
+        6 => 8,
+        24 => threads,
+        43 | 44 => 4,
+        _ => 1,
+    }
+}
+
+/// Places the fields of a record in some order, with gaps, and answers the size of the record.
+fn place_fields(
+    alloc: Global,
+    numbers: &mut Numbers,
+    table: &mut [u64; 56],
+    fields: (usize, usize),
+    threads: u64,
+) -> Result<u64, AllocError> {
+    let mut end = 0u64;
+    let order = some_order(alloc, numbers, fields.0, fields.1)?;
+    for field in &order {
+        end = end.wrapping_add(numbers.below(4));
+        if let Some(word) = table.get_mut(field.wrapping_add(11)) {
+            *word = end;
+        }
+        end = end.wrapping_add(width(*field, threads));
+    }
+    Ok(end.wrapping_add(numbers.below(4)))
+}
+
+/// A valid table.
+fn some_table(alloc: Global, numbers: &mut Numbers) -> Result<[u64; 56], AllocError> {
+    let threads = numbers.below(16) + 1;
+    let regions = numbers.below(64) + 1;
+    let tasks = numbers.below(4096) + 1;
+    let mut table = [0u64; 56];
+    table[0] = 1;
+    table[5] = threads;
+    table[8] = regions;
+    table[11] = tasks;
+    let arenas = [
+        (1, (1, 7), 1),
+        (3, (7, 13), threads),
+        (6, (13, 25), threads.wrapping_mul(regions)),
+        (9, (25, 45), threads.wrapping_mul(tasks)),
+    ];
+    let mut place = 0x10318u64;
+    let order = some_order(alloc, numbers, 0, 4)?;
+    for at in &order {
+        if let Some((index, fields, records)) = arenas.get(*at) {
+            let size = place_fields(alloc, numbers, &mut table, *fields, threads)?;
+            place = place.wrapping_add(numbers.below(9).wrapping_mul(8));
+            if let Some(word) = table.get_mut(*index) {
+                *word = place;
+            }
+            if let Some(word) = table.get_mut(*index + 1) {
+                *word = size;
+            }
+            place = place.wrapping_add(size.wrapping_mul(*records).wrapping_mul(8));
+        }
+    }
+    Ok(table)
+}
+
+#[test]
+fn permuted_tables_are_read_back(rt: HostRuntime) -> Result<(), Fail> {
+    let mut numbers = Numbers(11);
+    for _ in 0..1000 {
+        let table = some_table(rt.alloc(), &mut numbers)?;
+        match Layout::of_words(&table) {
+            Ok(layout) => {
+                assert_eq!(rt; layout.table, table);
+                assert!(rt; layout.fits(layout.image_words()));
+                let last = layout.threads().saturating_sub(1);
+                if last < layout.threads() {
+                    assert_eq!(rt; layout.thread_of(layout.thread_at(last)), Some(last));
+                }
+            }
+            Err(fault) => assert_eq!(rt; Some(fault), None),
+        }
+    }
+    Ok(())
+}
