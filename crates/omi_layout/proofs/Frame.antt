@@ -4,10 +4,10 @@ use Rattle.std.proofs.lemmas.Bool.Decides.{nat_tests}
 use Rattle.std.proofs.lemmas.Nat.{div-mul-add, mod-mul-add, mul-add-lt}
 use Rattle.omi_layout.specs.Field.{IsField, IsKind, kind_of}
 use Rattle.omi_layout.specs.Table.{size, place, records, extent, offset, width}
-use Rattle.omi_layout.specs.Place.{first_word, end_word, arena_fits, fits}
+use Rattle.omi_layout.specs.Place.{first_word, end_word, arena_fits, fits, index_of, slot_address}
 use Rattle.omi_layout.specs.Valid.{IsValid, shares, is_counted, is_placed, is_taken, arenas_share}
-use Rattle.omi_layout.specs.Words.{IsWord, AreApart, AreInside, SlotsApart}
-use Rattle.omi_layout.proofs.Arenas.{each_kind, ends_inside, placed, test_left, test_right}
+use Rattle.omi_layout.specs.Words.{IsWord, AreApart, AreInside, SlotsApart, AddressesApart, NoneIsNull}
+use Rattle.omi_layout.proofs.Arenas.{each_kind, ends_inside, placed, positive, test_left, test_right}
 use Rattle.omi_layout.proofs.Turned.{kind_is}
 
 -- a quotient and a remainder are told by the number
@@ -155,3 +155,16 @@ pub slots_apart : (w : List ℕ) → SlotsApart w
 slots_apart w p creator slot other there is is' e =
     let r = rows_apart creator other _ slot there is.within is'.within e in
     record { maker = r.0; place = r.1 }
+
+pub addresses_apart : (w : List ℕ) → IsValid w → AddressesApart w
+unfolding slot_address
+addresses_apart w v p creator slot other there kind is is' e =
+    let some = positive w v.inside p kind in
+    let rows : index_of w p creator slot * size w p + 0 ≡ index_of w p other there * size w p + 0 = omega (arith, e) in
+    slots_apart w p creator slot other there is is' (rows_apart (index_of w p creator slot) (index_of w p other there) (size w p) 0 0 some some rows).0
+
+pub none_is_null : (w : List ℕ) → IsValid w → NoneIsNull w
+unfolding slot_address
+none_is_null w v p creator slot kind =
+    let low : 65536 ≤ place w p = leb-true _ _ (test_left _ _ (test_right (place w p % 8 == 0) _ (placed w p (v.arenas p kind)))) in
+    omega (arith, low)

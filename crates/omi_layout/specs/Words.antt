@@ -1,9 +1,9 @@
 -- The words of the records, and their laws: each word has a place of its own, in an image that the layout fits, behind the tables.
 use Rattle.std.specs.Prelude.{◌≡◌, ℕ, ◌+◌, ◌*◌, ◌<◌, ◌≤◌, IsTrue, List}
 use Rattle.omi_layout.specs.declared.limits.TheConstants.{FRONT_WORDS}
-use Rattle.omi_layout.specs.Field.{IsField, kind_of}
+use Rattle.omi_layout.specs.Field.{IsField, IsKind, kind_of}
 use Rattle.omi_layout.specs.Table.{size, records, offset, width}
-use Rattle.omi_layout.specs.Place.{first_word, fits, IsSlot, index_of}
+use Rattle.omi_layout.specs.Place.{first_word, fits, IsSlot, index_of, slot_address}
 
 -- the place in an image of word `at` of field `f` of the record with this number in its arena
 abbrev pub word_place : List ℕ → ℕ → ℕ → ℕ → ℕ
@@ -40,3 +40,13 @@ abbrev pub SlotsApart : List ℕ → Type 0
 SlotsApart w = (p creator slot other there : ℕ) → IsSlot w p creator slot → IsSlot w p other there
     → index_of w p creator slot ≡ index_of w p other there
     → record { maker : creator ≡ other; place : slot ≡ there }
+
+-- and different addresses
+abbrev pub AddressesApart : List ℕ → Type 0
+AddressesApart w = (p creator slot other there : ℕ) → IsKind p → IsSlot w p creator slot
+    → IsSlot w p other there → slot_address w p creator slot ≡ slot_address w p other there
+    → record { maker : creator ≡ other; place : slot ≡ there }
+
+-- the address of a record is not 0, which stands for none
+abbrev pub NoneIsNull : List ℕ → Type 0
+NoneIsNull w = (p creator slot : ℕ) → IsKind p → 0 < slot_address w p creator slot

@@ -1,7 +1,7 @@
 //! Laws of the definitions. Each is a function that does nothing, whose clauses hold of the words of
 //! every layout.
 
-ghost use Rattle.omi_layout.specs.Words.{AreApart, AreInside, SlotsApart};
+ghost use Rattle.omi_layout.specs.Words.{AreApart, AreInside, SlotsApart, AddressesApart, NoneIsNull};
 ghost use Rattle.omi_layout.specs.Memory.{Memory};
 ghost use Rattle.omi_layout.specs.Given.{TablesGive};
 ghost use Rattle.omi_layout.specs.Frame.{IsReplaced, AreFramed, AreLeft, AreMapped};
@@ -9,11 +9,14 @@ ghost use Rattle.omi_layout.specs.Frame.{IsReplaced, AreFramed, AreLeft, AreMapp
 use crate::layout::Layout;
 
 /// Two different words of the records, by field, record and element, have different places; each is in
-/// an image that the layout fits, and behind the tables; and two different slots have different records.
+/// an image that the layout fits, and behind the tables; and two different slots have different records and addresses, none of
+/// which is 0.
 pub fn words_apart(layout: &Layout)
     ensures apart { AreApart layout.now.table }
     ensures inside { AreInside layout.now.table }
     ensures slots { SlotsApart layout.now.table }
+    ensures addresses { AddressesApart layout.now.table }
+    ensures not_null { NoneIsNull layout.now.table }
 {}
 
 /// The laws of memory by records. A word that is written is that word read, and every other stays; an operation at the
