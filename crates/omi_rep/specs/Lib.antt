@@ -1,0 +1,7 @@
+-- The definitions to believe: how objects stand in words, when words show a state, and what a plain look at words gives.
+pub mod Records
+pub mod Shows
+pub mod Look
+pub mod LookView
+-- The laws
+pub mod Unique

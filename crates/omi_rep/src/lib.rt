@@ -1,0 +1,8 @@
+//! What the words of a memory show of a state, and a plain look at them.
+#![tactic(auto)]
+
+mod fault;
+mod laws;
+
+pub use fault::LookFault;
+pub use laws::words_fix_the_report;
