@@ -1,5 +1,5 @@
 -- One word of a memory replaced: what is read there, and that every other word stays.
-use Rattle.std.proofs.Common.{◌≡◌, ◌==◌, ◌≢◌, ℕ, Bool, true, false, cond, refl, sym, ap, ◌∙◌, subst, arith, eqb-true, eq-eqb, ne_eqb}
+use Rattle.std.proofs.Common.{◌≡◌, ◌==◌, ◌≢◌, ℕ, Bool, true, false, cond, refl, sym, ap, ◌∙◌, subst, eqb-true, eq-eqb, ne_eqb}
 use mathlib.Core.Path.{fun_ext}
 use Rattle.omi_layout.specs.Memory.{Memory, Made, Rec, put, with_word_in, with_record, with_word}
 

@@ -1,17 +1,17 @@
 -- A store into a word of a record, as a memory with one word replaced.
 use Rattle.std.proofs.Common.{◌≡◌, ◌==◌, ℕ, ◌+◌, ◌*◌, ◌<◌, ◌≤◌, ◌&&◌, Bool, true, false, cond, List, length, get_or, set, nat_lt, refl, sym, ap, ap₂, ◌∙◌, subst, arith, get_or-set_same, get_or-set_other, length-set, eq-eqb, ne_eqb}
-use Rattle.std.specs.Prelude.{IsTrue, Some, None}
+use Rattle.std.specs.Prelude.{IsTrue, Some}
 use Rattle.std.proofs.lemmas.Bool.Decides.{nat_tests}
 use Rattle.omi_word.specs.Memory.{address_at, place_of, IsWordOf, word_at, after, address_of, left_of}
 use Rattle.omi_word.specs.declared.op.Op.{Op}
 use Rattle.omi_word.specs.declared.op.Op.TheVariants.{Load, Store, Cas, Add, Sub}
 use Rattle.omi_word.proofs.Addresses.{place-address, placed_word}
-use Rattle.omi_layout.specs.Field.{IsField, IsKind, kind_of}
+use Rattle.omi_layout.specs.Field.{kind_of}
 use Rattle.omi_layout.specs.Table.{size, place, offset, width, makers, per_thread}
 use Rattle.omi_layout.specs.Place.{first_word, fits, index_of, slot_address, IsSlot}
 use Rattle.omi_layout.specs.Valid.{IsValid}
 use Rattle.omi_layout.specs.Words.{word_place, IsWord}
-use Rattle.omi_layout.specs.SymbolTable.{words_of, is_word}
+use Rattle.omi_layout.specs.SymbolTable.{words_of}
 use Rattle.omi_layout.specs.Memory.{memory_of, with_word, is_record_word, IsRecordWord, word_address}
 use Rattle.omi_layout.specs.Frame.{IsOnWord, IsLeft, word_in, replaced}
 use Rattle.omi_layout.proofs.Arenas.{index_within}

@@ -1,6 +1,6 @@
 -- The symbol table and the layout table of an image, read back.
-use Rattle.std.proofs.Common.{◌≡◌, ℕ, zero, suc, ◌+◌, ◌*◌, ◌^◌, ◌%◌, ◌<◌, ◌≤◌, Bool, true, false, cond, List, [], ◌∷◌, length, get_or, take, drop, Option, Some, None, refl, sym, ap, ap₂, ◌∙◌, subst, arith, lit<}
-use Rattle.std.specs.Prelude.{codes, nat_le, slice_index, find}
+use Rattle.std.proofs.Common.{◌≡◌, ℕ, zero, suc, ◌+◌, ◌^◌, ◌<◌, ◌≤◌, Bool, true, false, cond, List, ◌∷◌, length, get_or, take, drop, Option, Some, None, refl, sym, ap, ◌∙◌, arith}
+use Rattle.std.specs.Prelude.{codes, nat_le, find}
 use Rattle.std.specs.Option.{option_map, option_and_then}
 use Rattle.std.proofs.Math.Seq.{drop-cons}
 use Rattle.std.proofs.Math.Nat.{mod-eq_of_lt}
@@ -10,7 +10,7 @@ use Rattle.omi_layout.specs.Front.{front}
 use Rattle.omi_layout.specs.Valid.{IsValid}
 use Rattle.omi_layout.specs.SymbolTable.{Words, Symbol, words_of, words_from, symbols_from, symbols_in, symbol_in, symbol_of, is_named}
 use Rattle.omi_layout.specs.Given.{wrapped, GivesLayout, HasTables}
-use Rattle.omi_layout.proofs.Mapped.{image_word, Stands, stands}
+use Rattle.omi_layout.proofs.Mapped.{image_word, stands}
 
 -- words that are mapped one after the other are read
 read_words : (g : Words) (words : List ℕ) (n at : ℕ) → ((p : ℕ) → p < at + n → g (address_at p) ≡ Some (get_or words p 0)) → at + n ≤ length words

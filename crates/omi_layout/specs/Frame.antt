@@ -62,14 +62,21 @@ abbrev pub replaced : List ℕ → List ℕ → ℕ → ℕ → ℕ → ℕ → 
 replaced w words creator slot f at word =
     with_word (memory_of w words) creator (kind_of f) slot f at word
 
--- what each operation at the address of a word of a record leaves
+-- what each operation at the address `a` of a word of a record leaves
 pub record IsLeft (w words : List ℕ) (creator slot f at a : ℕ) : Type 0 where
   pub load : memory_of w (after words (Load a)) ≡ memory_of w words
-  pub store : (new : ℕ) → memory_of w (after words (Store a new)) ≡ replaced w words creator slot f at new
-  pub exchanged : (new : ℕ) → memory_of w (after words (Cas a (word_in w words creator slot f at) new)) ≡ replaced w words creator slot f at new
-  pub refused : (old new : ℕ) → word_in w words creator slot f at ≢ old → memory_of w (after words (Cas a old new)) ≡ memory_of w words
-  pub added : (by : ℕ) → memory_of w (after words (Add a by)) ≡ replaced w words creator slot f at ((word_in w words creator slot f at + by) % 2 ^ 64)
-  pub subtracted : (by : ℕ) → memory_of w (after words (Sub a by)) ≡ replaced w words creator slot f at ((word_in w words creator slot f at + (2 ^ 64 - by)) % 2 ^ 64)
+  pub store : (new : ℕ) → memory_of w (after words (Store a new))
+      ≡ replaced w words creator slot f at new
+  pub exchanged : (new : ℕ)
+      → memory_of w (after words (Cas a (word_in w words creator slot f at) new))
+      ≡ replaced w words creator slot f at new
+  pub refused : (old new : ℕ) → word_in w words creator slot f at ≢ old
+      → memory_of w (after words (Cas a old new)) ≡ memory_of w words
+  pub added : (by : ℕ) → memory_of w (after words (Add a by))
+      ≡ replaced w words creator slot f at ((word_in w words creator slot f at + by) % 2 ^ 64)
+  pub subtracted : (by : ℕ) → memory_of w (after words (Sub a by))
+      ≡ replaced w words creator slot f at
+      ((word_in w words creator slot f at + (2 ^ 64 - by)) % 2 ^ 64)
 
 -- one equation for each operation
 abbrev pub AreLeft : List ℕ → Type 0

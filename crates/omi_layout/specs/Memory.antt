@@ -1,9 +1,7 @@
 -- The words of the records as a function: by the thread that made the record, kind of record, slot, field and place in the field. What is kept of a record is said over this function, and no address stands in it.
-use Rattle.std.specs.Prelude.{◌≡◌, ◌==◌, ℕ, ◌+◌, ◌*◌, ◌<◌, ◌≤◌, ◌&&◌, Bool, nat_lt, IsTrue, List, length, slice_index, Option, None, if◌then◌else◌}
-use Rattle.omi_layout.specs.declared.field.Field.{Field}
+use Rattle.std.specs.Prelude.{◌==◌, ℕ, ◌+◌, ◌*◌, ◌<◌, ◌&&◌, Bool, nat_lt, List, slice_index, Option, if◌then◌else◌}
 use Rattle.omi_layout.specs.declared.limits.TheConstants.{FIELDS}
 use Rattle.omi_layout.specs.Field.{IsField, kind_of}
-use Rattle.omi_layout.specs.Named.{number}
 use Rattle.omi_layout.specs.Table.{width, makers, per_thread, offset}
 use Rattle.omi_layout.specs.Place.{index_of, slot_address, IsSlot}
 use Rattle.omi_layout.specs.Words.{word_place}

@@ -6,29 +6,30 @@ ghost use Rattle.omi_layout.specs.Family;
 ghost use Rattle.omi_layout.specs.Family.{IsFamily};
 ghost use Rattle.omi_layout.specs.declared.limits.TheConstants.{MOST_THREADS};
 
+use crate::field::{REGIONS, RUNTIME, TASKS, THREADS};
 use crate::layout::Layout;
 use crate::limits::{FIELDS, FRONT_WORDS, VERSION};
 use crate::table::kind;
 use omi_word::FIRST_ADDRESS;
 
 /// The records of regions that a thread may make.
-const REGIONS: u64 = 16;
+const REGIONS_MADE: u64 = 16;
 
 /// The records of tasks that a thread may make.
-const TASKS: u64 = 256;
+const TASKS_MADE: u64 = 256;
 
 /// The first field of a record.
 fn first_field(p: u8) -> u8
     ensures { result ≡ Family.first_field p }
 {
-    if p == 1 {
-        1
-    } else if p == 2 {
-        7
-    } else if p == 3 {
-        13
+    if p == RUNTIME {
+        crate::field::Field::RuntimeVersion as u8
+    } else if p == THREADS {
+        crate::field::Field::ThreadLife as u8
+    } else if p == REGIONS {
+        crate::field::Field::RegionLife as u8
     } else {
-        25
+        crate::field::Field::TaskLife as u8
     }
 }
 
@@ -36,11 +37,11 @@ fn first_field(p: u8) -> u8
 fn field_count(p: u8) -> u8
     ensures { result ≡ Family.field_count p }
 {
-    if p == 1 {
+    if p == RUNTIME {
         6
-    } else if p == 2 {
+    } else if p == THREADS {
         6
-    } else if p == 3 {
+    } else if p == REGIONS {
         12
     } else {
         20
@@ -51,11 +52,11 @@ fn field_count(p: u8) -> u8
 fn field_words(threads: u8, p: u8) -> u64
     ensures { result ≡ Family.field_words threads p }
 {
-    if p == 1 {
+    if p == RUNTIME {
         13
-    } else if p == 2 {
+    } else if p == THREADS {
         6
-    } else if p == 3 {
+    } else if p == REGIONS {
         11 + u64::from(threads)
     } else {
         26
@@ -67,7 +68,7 @@ fn words_before(field: u8) -> u64
     requires { IsField field }
     ensures { result ≡ Family.words_before field }
 {
-    if field == 44 {
+    if field == crate::field::Field::TaskSlots as u8 {
         22
     } else {
         u64::from(field - first_field(kind(field)))
@@ -115,14 +116,14 @@ fn family_extent(k: u8, threads: u8, p: u8) -> u64
 {
     let count = u64::from(threads);
     let words = family_size(k, threads, p);
-    if p == 1 {
+    if p == RUNTIME {
         words
-    } else if p == 2 {
+    } else if p == THREADS {
         count * words
-    } else if p == 3 {
-        count * REGIONS * words
+    } else if p == REGIONS {
+        count * REGIONS_MADE * words
     } else {
-        count * TASKS * words
+        count * TASKS_MADE * words
     }
 }
 
@@ -132,26 +133,26 @@ fn family_place(k: u8, threads: u8, p: u8) -> u64
     requires few { threads ≤ MOST_THREADS }
     ensures { result ≡ Family.family_place k threads p }
 {
-    let runtime = family_extent(k, threads, 1);
-    let of_threads = family_extent(k, threads, 2);
-    let regions = family_extent(k, threads, 3);
-    let tasks = family_extent(k, threads, 4);
+    let runtime = family_extent(k, threads, RUNTIME);
+    let of_threads = family_extent(k, threads, THREADS);
+    let regions = family_extent(k, threads, REGIONS);
+    let tasks = family_extent(k, threads, TASKS);
     let front = if k % 2 == 0 {
-        if p == 1 {
+        if p == RUNTIME {
             0
-        } else if p == 2 {
+        } else if p == THREADS {
             runtime
-        } else if p == 3 {
+        } else if p == REGIONS {
             runtime + of_threads
         } else {
             runtime + of_threads + regions
         }
     } else {
-        if p == 1 {
+        if p == RUNTIME {
             tasks + regions + of_threads
-        } else if p == 2 {
+        } else if p == THREADS {
             tasks + regions
-        } else if p == 3 {
+        } else if p == REGIONS {
             tasks
         } else {
             0
@@ -167,17 +168,17 @@ fn family_table(k: u8, threads: u8) -> [u64; 56]
 {
     let mut table = [0u64; 56];
     table[0] = VERSION;
-    table[1] = family_place(k, threads, 1);
-    table[2] = family_size(k, threads, 1);
-    table[3] = family_place(k, threads, 2);
-    table[4] = family_size(k, threads, 2);
+    table[1] = family_place(k, threads, RUNTIME);
+    table[2] = family_size(k, threads, RUNTIME);
+    table[3] = family_place(k, threads, THREADS);
+    table[4] = family_size(k, threads, THREADS);
     table[5] = u64::from(threads);
-    table[6] = family_place(k, threads, 3);
-    table[7] = family_size(k, threads, 3);
-    table[8] = REGIONS;
-    table[9] = family_place(k, threads, 4);
-    table[10] = family_size(k, threads, 4);
-    table[11] = TASKS;
+    table[6] = family_place(k, threads, REGIONS);
+    table[7] = family_size(k, threads, REGIONS);
+    table[8] = REGIONS_MADE;
+    table[9] = family_place(k, threads, TASKS);
+    table[10] = family_size(k, threads, TASKS);
+    table[11] = TASKS_MADE;
     for f in 1..FIELDS + 1 {
         table[11 + f as usize] = family_offset(k, threads, f);
     }

@@ -14,6 +14,15 @@ pub enum Kind {
     Tasks = 4,
 }
 
+/// The numbers of the kinds.
+pub const RUNTIME: u8 = Kind::Runtime as u8;
+
+pub const THREADS: u8 = Kind::Threads as u8;
+
+pub const REGIONS: u8 = Kind::Regions as u8;
+
+pub const TASKS: u8 = Kind::Tasks as u8;
+
 impl Kind {
     /// The number of the arena, by which `LayoutFault::BadArena` names it.
     pub fn number(self) -> u8

@@ -8,6 +8,7 @@ ghost use Rattle.omi_layout.specs.Valid.{AllInside, AllApart, IsApart, IsValid, 
 ghost use Rattle.omi_layout.specs.Judged.{IsFirstOverlap, AllBelow};
 
 use crate::fault::LayoutFault;
+use crate::field::{REGIONS, RUNTIME, TASKS, THREADS};
 use crate::limits::{
     FIELDS, LAST_END, MOST_RECORD_WORDS, MOST_REGIONS, MOST_TASKS, MOST_THREADS, VERSION,
 };
@@ -68,11 +69,11 @@ fn is_counted(w: &[u64; 56], p: u8) -> bool
     requires { IsKind p }
     ensures { result ≡ Valid.is_counted w.now p }
 {
-    if p == 1 {
+    if p == RUNTIME {
         true
-    } else if p == 2 {
+    } else if p == THREADS {
         1 <= w[5] && w[5] <= MOST_THREADS
-    } else if p == 3 {
+    } else if p == REGIONS {
         1 <= w[8] && w[8] <= MOST_REGIONS
     } else {
         1 <= w[11] && w[11] <= MOST_TASKS
@@ -120,9 +121,9 @@ fn is_arena(w: &[u64; 56], p: u8) -> bool
     if !is_placed(w, p) {
         return false;
     }
-    let first = is_taken(w, 1, p);
-    let second = is_taken(w, 2, p);
-    let third = is_taken(w, 3, p);
+    let first = is_taken(w, RUNTIME, p);
+    let second = is_taken(w, THREADS, p);
+    let third = is_taken(w, REGIONS, p);
     !first && !second && !third
 }
 
@@ -160,7 +161,7 @@ fn judge_arenas(w: &[u64; 56]) -> Result<(), LayoutFault>
     requires apart { AllApart w.now }
     ensures { MatchResult result (λ _. IsValid w.now) (λ e. Refuses w.now e) }
 {
-    for p in 1..5u8 {
+    for p in RUNTIME..TASKS + 1 {
         if !is_arena(w, p) {
             return Err(LayoutFault::BadArena(p));
         }

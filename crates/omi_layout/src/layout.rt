@@ -1,6 +1,7 @@
 //! A valid layout, and the places of its records.
 
 ghost use Rattle.std.specs.Prelude.{◌≡◌, ◌<◌, ◌≤◌, ◌^◌, ◌↔◌, ℕ, Some, IfSome, MatchResult, MatchOption, IsTrue};
+ghost use Rattle.omi_layout.specs.Field;
 ghost use Rattle.omi_layout.specs.Field.{IsField, IsKind};
 ghost use Rattle.omi_layout.specs.Table;
 ghost use Rattle.omi_layout.specs.Place;
@@ -8,6 +9,7 @@ ghost use Rattle.omi_layout.specs.Place.{IsRecordAt, IsSlot, IsSlotAt, slot_addr
 ghost use Rattle.omi_layout.specs.Valid.{IsValid, Refuses};
 
 use crate::fault::LayoutFault;
+use crate::field::{REGIONS, RUNTIME, TASKS, THREADS};
 use crate::judging::judge;
 use crate::limits::FRONT_WORDS;
 use crate::table::{extent, offset, place, records, size};
@@ -33,9 +35,9 @@ impl Layout {
 
     /// The byte address of the runtime record.
     pub fn runtime_place(&self) -> u64
-        ensures { result ≡ Table.place self.now.table 1 }
+        ensures { result ≡ Table.place self.now.table Field.runtime }
     {
-        place(&self.table, 1)
+        place(&self.table, RUNTIME)
     }
 
     /// The number of threads.
@@ -47,14 +49,14 @@ impl Layout {
 
     /// The records of regions that a thread may make.
     pub fn regions_per_thread(&self) -> u16
-        ensures { result ≡ Table.per_thread self.now.table 3 }
+        ensures { result ≡ Table.per_thread self.now.table Field.regions }
     {
         self.table[8] as u16
     }
 
     /// The records of tasks that a thread may make.
     pub fn tasks_per_thread(&self) -> u16
-        ensures { result ≡ Table.per_thread self.now.table 4 }
+        ensures { result ≡ Table.per_thread self.now.table Field.tasks }
     {
         self.table[11] as u16
     }
@@ -80,29 +82,29 @@ impl Layout {
     /// The byte address of a thread's record.
     pub fn thread_at(&self, i: u8) -> u64
         requires { i < Table.thread_count self.now.table }
-        ensures { result ≡ record_address self.now.table 2 i }
+        ensures { result ≡ record_address self.now.table Field.threads i }
     {
-        self.record_at(2, i as u64)
+        self.record_at(THREADS, i as u64)
     }
 
     #[tactic(auto, unfolding(crate::specs::Place::slot_address))]
     /// The byte address of the record of a region, by the thread that makes it and one of its slots.
     pub fn region_at(&self, creator: u8, slot: u16) -> u64
-        requires { IsSlot self.now.table 3 creator slot }
-        ensures { result ≡ slot_address self.now.table 3 creator slot }
+        requires { IsSlot self.now.table Field.regions creator slot }
+        ensures { result ≡ slot_address self.now.table Field.regions creator slot }
     {
         let index = creator as u64 * self.table[8] + slot as u64;
-        self.record_at(3, index)
+        self.record_at(REGIONS, index)
     }
 
     #[tactic(auto, unfolding(crate::specs::Place::slot_address))]
     /// The byte address of the record of a task, by the thread that makes it and one of its slots.
     pub fn task_at(&self, creator: u8, slot: u16) -> u64
-        requires { IsSlot self.now.table 4 creator slot }
-        ensures { result ≡ slot_address self.now.table 4 creator slot }
+        requires { IsSlot self.now.table Field.tasks creator slot }
+        ensures { result ≡ slot_address self.now.table Field.tasks creator slot }
     {
         let index = creator as u64 * self.table[11] + slot as u64;
-        self.record_at(4, index)
+        self.record_at(TASKS, index)
     }
 
     /// The number in its arena of the record at a byte address. None where no record begins there.
@@ -130,18 +132,18 @@ impl Layout {
 
     /// The number of the thread whose record begins at a byte address. None exactly where none does.
     pub fn thread_of(&self, addr: u64) -> Option<u8>
-        ensures { IsRecordAt self.now.table 2 addr result }
+        ensures { IsRecordAt self.now.table Field.threads addr result }
     {
-        let index = self.index_at(2, addr)?;
+        let index = self.index_at(THREADS, addr)?;
         Some(index as u8)
     }
 
     /// The thread and the slot of the region whose record begins at a byte address. None exactly where
     /// none does.
     pub fn region_of(&self, addr: u64) -> Option<(u8, u16)>
-        ensures { IsSlotAt self.now.table 3 addr result }
+        ensures { IsSlotAt self.now.table Field.regions addr result }
     {
-        let index = self.index_at(3, addr)?;
+        let index = self.index_at(REGIONS, addr)?;
         let per = self.table[8];
         let creator = index / per;
         let slot = index % per;
@@ -151,9 +153,9 @@ impl Layout {
     /// The thread and the slot of the task whose record begins at a byte address. None exactly where
     /// none does.
     pub fn task_of(&self, addr: u64) -> Option<(u8, u16)>
-        ensures { IsSlotAt self.now.table 4 addr result }
+        ensures { IsSlotAt self.now.table Field.tasks addr result }
     {
-        let index = self.index_at(4, addr)?;
+        let index = self.index_at(TASKS, addr)?;
         let per = self.table[11];
         let creator = index / per;
         let slot = index % per;
@@ -190,10 +192,10 @@ impl Layout {
         ensures { result ≡ Place.fits self.now.table words }
     {
         let words = words as u64;
-        let first = self.arena_fits(words, 1);
-        let second = self.arena_fits(words, 2);
-        let third = self.arena_fits(words, 3);
-        let fourth = self.arena_fits(words, 4);
+        let first = self.arena_fits(words, RUNTIME);
+        let second = self.arena_fits(words, THREADS);
+        let third = self.arena_fits(words, REGIONS);
+        let fourth = self.arena_fits(words, TASKS);
         first && second && third && fourth
     }
 
@@ -201,8 +203,8 @@ impl Layout {
     pub fn image_words(&self) -> usize
         ensures { result ≡ Place.image_words self.now.table }
     {
-        let first = FRONT_WORDS.max(self.end_word(1));
-        let second = self.end_word(3).max(self.end_word(4));
-        first.max(self.end_word(2).max(second)) as usize
+        let first = FRONT_WORDS.max(self.end_word(RUNTIME));
+        let second = self.end_word(REGIONS).max(self.end_word(TASKS));
+        first.max(self.end_word(THREADS).max(second)) as usize
     }
 }

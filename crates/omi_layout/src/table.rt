@@ -5,18 +5,20 @@ ghost use Rattle.omi_layout.specs.Field.{IsField};
 ghost use Rattle.omi_layout.specs.Field;
 ghost use Rattle.omi_layout.specs.Table;
 
+use crate::field::{REGIONS, RUNTIME, TASKS, THREADS};
+
 /// The kind of record that a field belongs to.
 pub fn kind(field: u8) -> u8
     ensures { result ≡ Field.kind_of field }
 {
-    if field < 7 {
-        1
-    } else if field < 13 {
-        2
-    } else if field < 25 {
-        3
+    if field < crate::field::Field::ThreadLife as u8 {
+        RUNTIME
+    } else if field < crate::field::Field::RegionLife as u8 {
+        THREADS
+    } else if field < crate::field::Field::TaskLife as u8 {
+        REGIONS
     } else {
-        4
+        TASKS
     }
 }
 
@@ -24,11 +26,11 @@ pub fn kind(field: u8) -> u8
 pub fn place_index(p: u8) -> usize
     ensures { result ≡ Table.place_index p }
 {
-    if p == 1 {
+    if p == RUNTIME {
         1
-    } else if p == 2 {
+    } else if p == THREADS {
         3
-    } else if p == 3 {
+    } else if p == REGIONS {
         6
     } else {
         9
@@ -53,9 +55,9 @@ pub fn size(w: &[u64; 56], p: u8) -> u64
 pub fn per_thread(w: &[u64; 56], p: u8) -> u64
     ensures { result ≡ Table.per_thread w.now p }
 {
-    if p == 3 {
+    if p == REGIONS {
         w[8]
-    } else if p == 4 {
+    } else if p == TASKS {
         w[11]
     } else {
         1
@@ -74,11 +76,13 @@ pub fn offset(w: &[u64; 56], field: u8) -> u64
 pub fn width(w: &[u64; 56], field: u8) -> u64
     ensures { result ≡ Table.width w.now field }
 {
-    if field == 6 {
+    if field == crate::field::Field::RuntimeLocks as u8 {
         8
-    } else if field == 24 {
+    } else if field == crate::field::Field::RegionTeam as u8 {
         w[5]
-    } else if field == 43 || field == 44 {
+    } else if field == crate::field::Field::TaskNthreads as u8
+        || field == crate::field::Field::TaskSlots as u8
+    {
         4
     } else {
         1
@@ -90,7 +94,11 @@ pub fn records(w: &[u64; 56], p: u8) -> u64
     requires { Table.records w.now p ≤ 262144 }
     ensures { result ≡ Table.records w.now p }
 {
-    if p == 1 { 1 } else { w[5] * per_thread(w, p) }
+    if p == RUNTIME {
+        1
+    } else {
+        w[5] * per_thread(w, p)
+    }
 }
 
 /// The words of an arena.

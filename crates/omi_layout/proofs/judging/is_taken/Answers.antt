@@ -1,5 +1,4 @@
-use Rattle.std.proofs.Common.{arith, ◌≤◌}
-use Rattle.omi_layout.specs.Table.{records}
+use Rattle.std.proofs.Common.{arith}
 use Rattle.omi_layout.proofs.Arenas.{small, few, ends, placed, counted}
 use Rattle.omi_layout.proofs.judging.is_taken.Goals as goal
 
