@@ -42,13 +42,25 @@ even_test x b e = let yes = test_left (x == 0) b e in grind (arith, nat_tests)
 abbrev Meet : List ℕ → ℕ → ℕ → Type 0
 Meet w q p = (x y : ℕ) → x < extent w q → y < extent w p → first_word w q + x ≡ first_word w p + y → q ≡ p
 
+pub kind_1 : IsKind 1
+kind_1 = record { from = omega arith; to = omega arith }
+
+pub kind_2 : IsKind 2
+kind_2 = record { from = omega arith; to = omega arith }
+
+pub kind_3 : IsKind 3
+kind_3 = record { from = omega arith; to = omega arith }
+
+pub kind_4 : IsKind 4
+kind_4 = record { from = omega arith; to = omega arith }
+
 module _ (w : List ℕ) (v : IsValid w) where
   -- the word of a field lies in its record
   in_record : (f index at : ℕ) → IsWord w f index at → offset w f + at < size w (kind_of f)
   in_record f index at is = omega (arith, ends_inside w f (v.inside f is.field), is.within)
 
   -- and in its arena
-  in_arena : (f index at : ℕ) → IsWord w f index at → index * size w (kind_of f) + (offset w f + at) < extent w (kind_of f)
+  pub in_arena : (f index at : ℕ) → IsWord w f index at → index * size w (kind_of f) + (offset w f + at) < extent w (kind_of f)
   in_arena f index at is =
       let all = mul-add-lt index (size w (kind_of f)) (offset w f + at) (records w (kind_of f)) is.made (in_record f index at is) in
       omega (arith, all)
@@ -86,25 +98,13 @@ module _ (w : List ℕ) (v : IsValid w) where
       let two = aligned p is' in
       no_common (place w q) (8 * extent w q) (place w p) (8 * extent w p) (65536 + 8 * (first_word w q + x)) none (omega (arith, one)) (omega (arith, one, h)) (omega (arith, two, e)) (omega (arith, two, e, h'))
 
-  k1 : IsKind 1
-  k1 = record { from = omega arith; to = omega arith }
-
-  k2 : IsKind 2
-  k2 = record { from = omega arith; to = omega arith }
-
-  k3 : IsKind 3
-  k3 = record { from = omega arith; to = omega arith }
-
-  k4 : IsKind 4
-  k4 = record { from = omega arith; to = omega arith }
-
   one_arena : (q p : ℕ) → IsKind q → IsKind p → Meet w q p
   one_arena q p is is' =
       each_kind (λ q. (p : ℕ) → IsKind p → Meet w q p)
-      (each_kind (Meet w 1) (λ x y h h' e. refl) (λ x y h h' e. absurd (apart 1 2 k1 k2 taken_12 x y h h' e)) (λ x y h h' e. absurd (apart 1 3 k1 k3 taken_13 x y h h' e)) (λ x y h h' e. absurd (apart 1 4 k1 k4 taken_14 x y h h' e)))
-      (each_kind (Meet w 2) (λ x y h h' e. absurd (apart 1 2 k1 k2 taken_12 y x h' h (sym e))) (λ x y h h' e. refl) (λ x y h h' e. absurd (apart 2 3 k2 k3 taken_23 x y h h' e)) (λ x y h h' e. absurd (apart 2 4 k2 k4 taken_24 x y h h' e)))
-      (each_kind (Meet w 3) (λ x y h h' e. absurd (apart 1 3 k1 k3 taken_13 y x h' h (sym e))) (λ x y h h' e. absurd (apart 2 3 k2 k3 taken_23 y x h' h (sym e))) (λ x y h h' e. refl) (λ x y h h' e. absurd (apart 3 4 k3 k4 taken_34 x y h h' e)))
-      (each_kind (Meet w 4) (λ x y h h' e. absurd (apart 1 4 k1 k4 taken_14 y x h' h (sym e))) (λ x y h h' e. absurd (apart 2 4 k2 k4 taken_24 y x h' h (sym e))) (λ x y h h' e. absurd (apart 3 4 k3 k4 taken_34 y x h' h (sym e))) (λ x y h h' e. refl))
+      (each_kind (Meet w 1) (λ x y h h' e. refl) (λ x y h h' e. absurd (apart 1 2 kind_1 kind_2 taken_12 x y h h' e)) (λ x y h h' e. absurd (apart 1 3 kind_1 kind_3 taken_13 x y h h' e)) (λ x y h h' e. absurd (apart 1 4 kind_1 kind_4 taken_14 x y h h' e)))
+      (each_kind (Meet w 2) (λ x y h h' e. absurd (apart 1 2 kind_1 kind_2 taken_12 y x h' h (sym e))) (λ x y h h' e. refl) (λ x y h h' e. absurd (apart 2 3 kind_2 kind_3 taken_23 x y h h' e)) (λ x y h h' e. absurd (apart 2 4 kind_2 kind_4 taken_24 x y h h' e)))
+      (each_kind (Meet w 3) (λ x y h h' e. absurd (apart 1 3 kind_1 kind_3 taken_13 y x h' h (sym e))) (λ x y h h' e. absurd (apart 2 3 kind_2 kind_3 taken_23 y x h' h (sym e))) (λ x y h h' e. refl) (λ x y h h' e. absurd (apart 3 4 kind_3 kind_4 taken_34 x y h h' e)))
+      (each_kind (Meet w 4) (λ x y h h' e. absurd (apart 1 4 kind_1 kind_4 taken_14 y x h' h (sym e))) (λ x y h h' e. absurd (apart 2 4 kind_2 kind_4 taken_24 y x h' h (sym e))) (λ x y h h' e. absurd (apart 3 4 kind_3 kind_4 taken_34 y x h' h (sym e))) (λ x y h h' e. refl))
       q is p is'
 
   -- a number is in one field of a kind of record at most
@@ -143,13 +143,15 @@ module _ (w : List ℕ) (v : IsValid w) where
       let here = in_arena f index at is in
       record { behind = omega (arith, low); inside = omega (arith, high, here) }
 
+  -- each arena ends in an image that the layout fits
+  pub each_fits : (n : ℕ) → fits w n ≡ true → (p : ℕ) → IsKind p → end_word w p ≤ n
+  each_fits n e p is = leb-true (end_word w p) n (test_right (nat_le 99 (first_word w p)) (nat_le (end_word w p) n) (fits_each n e p is))
+
   -- an image that the layout fits has room for the tables
   pub front_fits : (n : ℕ) → fits w n ≡ true → 99 ≤ n
   front_fits n e =
-      let arena = fits_each n e 1 k1 in
-      let low : 99 ≤ first_word w 1 = leb-true _ _ (test_left _ _ arena) in
-      let high : end_word w 1 ≤ n = leb-true (end_word w 1) n (test_right (nat_le 99 (first_word w 1)) (nat_le (end_word w 1) n) arena) in
-      omega (arith, low, high)
+      let low : 99 ≤ first_word w 1 = leb-true _ _ (test_left _ _ (fits_each n e 1 kind_1)) in
+      omega (arith, low, each_fits n e 1 kind_1)
 
 pub slots_apart : (w : List ℕ) → SlotsApart w
 slots_apart w p creator slot other there is is' e =

@@ -8,3 +8,4 @@ pub mod Puts
 pub mod Mapped
 pub mod Stored
 pub mod Tables
+pub mod Numbers

@@ -8,15 +8,15 @@ use Rattle.omi_word.specs.declared.op.Op.TheVariants.{Load, Store, Cas, Add, Sub
 use Rattle.omi_word.proofs.Addresses.{place-address, placed_word}
 use Rattle.omi_layout.specs.Field.{kind_of}
 use Rattle.omi_layout.specs.Table.{size, place, offset, width, makers, per_thread}
-use Rattle.omi_layout.specs.Place.{first_word, fits, index_of, slot_address, IsSlot}
+use Rattle.omi_layout.specs.Place.{first_word, end_word, fits, image_words, index_of, slot_address, IsSlot}
 use Rattle.omi_layout.specs.Valid.{IsValid}
 use Rattle.omi_layout.specs.Words.{word_place, IsWord}
 use Rattle.omi_layout.specs.SymbolTable.{words_of}
 use Rattle.omi_layout.specs.Memory.{memory_of, with_word, is_record_word, IsRecordWord, word_address}
 use Rattle.omi_layout.specs.Frame.{IsOnWord, IsLeft, word_in, replaced}
-use Rattle.omi_layout.proofs.Arenas.{index_within}
+use Rattle.omi_layout.proofs.Arenas.{index_within, each_kind}
 use Rattle.omi_layout.proofs.Turned.{kind_is}
-use Rattle.omi_layout.proofs.Frame.{aligned, are_apart, are_inside, slots_apart}
+use Rattle.omi_layout.proofs.Frame.{aligned, are_apart, are_inside, slots_apart, in_arena, front_fits, each_fits, kind_1, kind_2, kind_3, kind_4}
 use Rattle.omi_layout.proofs.Mapped.{image_word}
 use Rattle.omi_layout.proofs.Puts.{written, word_back}
 
@@ -159,13 +159,27 @@ module _ (w : List ℕ) (v : IsValid w) where
       same : replaced w words c s f k here ≡ memory_of w words
       same = word_back (memory_of w words) c (kind_of f) s f k
 
-  -- in an image that the layout fits, each word of a record is mapped
-  pub mapped : (words : List ℕ) (c s f k : ℕ) → IsTrue (fits w (length words)) → IsRecordWord w c s f k
+  -- the place of a word of a record is in an image that has the words of the layout
+  place_held : (words : List ℕ) (c s f k : ℕ) → image_words w ≤ length words → IsRecordWord w c s f k
+      → word_place w f (index_of w (kind_of f) c s) k < length words
+  place_held words c s f k long is =
+      let last : end_word w (kind_of f) ≤ image_words w = each_kind (λ p. end_word w p ≤ image_words w) (omega arith) (omega arith) (omega arith) (omega arith) (kind_of f) (kind_is f) in
+      let here = in_arena w v f (index_of w (kind_of f) c s) k (numbered w c s f k is) in
+      omega (arith, last, here, long)
+
+  -- so it is mapped
+  pub mapped : (words : List ℕ) (c s f k : ℕ) → image_words w ≤ length words → IsRecordWord w c s f k
       → words_of words (word_address w c s f k) ≡ Some (memory_of w words c (kind_of f) s f k)
-  mapped words c s f k fit is =
+  mapped words c s f k long is =
       ap (words_of words) (address_placed c s f k)
-      ∙ image_word words here (place_inside words c s f k fit is)
+      ∙ image_word words here (place_held words c s f k long is)
       ∙ ap Some (sym (memory_read words c s f k is))
     where
       here : ℕ
       here = word_place w f (index_of w (kind_of f) c s) k
+
+  -- an image that the layout fits has the words of the layout
+  pub fitted : (n : ℕ) → IsTrue (fits w n) → image_words w ≤ n
+  fitted n fit =
+      let ends = each_fits w v n fit in
+      omega (arith, front_fits w v n fit, ends 1 kind_1, ends 2 kind_2, ends 3 kind_3, ends 4 kind_4)

@@ -1,11 +1,11 @@
 -- The frame laws. An operation on a word of a record finds the word that the memory has there, and leaves the memory with that one word replaced: one equation for every operation.
-use Rattle.std.specs.Prelude.{◌≡◌, ◌≢◌, ℕ, ◌+◌, ◌-◌, ◌%◌, ◌^◌, ◌<◌, IsTrue, List, length, slice_index, Some}
+use Rattle.std.specs.Prelude.{◌≡◌, ◌≢◌, ℕ, ◌+◌, ◌-◌, ◌%◌, ◌^◌, ◌<◌, ◌≤◌, IsTrue, List, length, slice_index, Some}
 use Rattle.omi_word.specs.Memory.{IsWordOf, word_at, after, address_of, left_of}
 use Rattle.omi_word.specs.declared.op.Op.{Op}
 use Rattle.omi_word.specs.declared.op.Op.TheVariants.{Load, Store, Cas, Add, Sub}
 use Rattle.omi_layout.specs.declared.limits.TheConstants.{FRONT_WORDS}
 use Rattle.omi_layout.specs.Field.{kind_of}
-use Rattle.omi_layout.specs.Place.{fits}
+use Rattle.omi_layout.specs.Place.{fits, image_words}
 use Rattle.omi_layout.specs.SymbolTable.{words_of}
 use Rattle.omi_layout.specs.Memory.{Memory, memory_of, with_word, IsRecordWord, word_address, found_word}
 
@@ -47,12 +47,16 @@ AreFramed w = (words : List ℕ) (op : Op) (creator slot f at : ℕ) → IsTrue 
     → IsRecordWord w creator slot f at → address_of op ≡ word_address w creator slot f at
     → IsOnWord w words op creator slot f at
 
--- in an image that the layout fits each word of a record is mapped, and is the word that the memory has there
+-- in an image that has the words of the layout each word of a record is mapped, and is the word that the memory has there
 abbrev pub AreMapped : List ℕ → Type 0
-AreMapped w = (words : List ℕ) (creator slot f at : ℕ) → IsTrue (fits w (length words))
+AreMapped w = (words : List ℕ) (creator slot f at : ℕ) → image_words w ≤ length words
     → IsRecordWord w creator slot f at
     → found_word w (words_of words) creator slot f at
     ≡ Some (memory_of w words creator (kind_of f) slot f at)
+
+-- an image that the layout fits has the words of the layout
+abbrev pub FittedHas : List ℕ → Type 0
+FittedHas w = (n : ℕ) → IsTrue (fits w n) → image_words w ≤ n
 
 -- the word of a record, and the memory with this word replaced by another
 abbrev pub word_in : List ℕ → List ℕ → ℕ → ℕ → ℕ → ℕ → ℕ

@@ -4,7 +4,7 @@
 ghost use Rattle.omi_layout.specs.Words.{AreApart, AreInside, SlotsApart, AddressesApart, NoneIsNull};
 ghost use Rattle.omi_layout.specs.Memory.{Memory};
 ghost use Rattle.omi_layout.specs.Given.{TablesGive};
-ghost use Rattle.omi_layout.specs.Frame.{IsReplaced, AreFramed, AreLeft, AreMapped};
+ghost use Rattle.omi_layout.specs.Frame.{IsReplaced, AreFramed, AreLeft, AreMapped, FittedHas};
 
 use crate::layout::Layout;
 
@@ -20,13 +20,14 @@ pub fn words_apart(layout: &Layout)
 {}
 
 /// The laws of memory by records. A word that is written is that word read, and every other stays; an operation at the
-/// address of a word of a record leaves the memory with that one word replaced; and in an image that the layout fits
-/// each word of a record is mapped.
+/// address of a word of a record leaves the memory with that one word replaced; and in an image that
+/// has the words of the layout each word of a record is mapped.
 pub fn records_framed(layout: &Layout)
     ensures replaced { (m : Memory) → IsReplaced m }
     ensures framed { AreFramed layout.now.table }
     ensures left { AreLeft layout.now.table }
     ensures mapped { AreMapped layout.now.table }
+    ensures fitted { FittedHas layout.now.table }
 {}
 
 /// An image with the tables of a layout in front gives this layout: the symbol `omi_layout` is found, and the words from its
