@@ -37,7 +37,7 @@ pub kind_4 : IsKind 4
 kind_4 = record { from = omega arith; to = omega arith }
 
 -- two names are the same where their slots have one address and their generations one life word
-same_name : (w : List ℕ) (v : IsValid w) (kind : ℕ) → IsKind kind → (life : ℕ → ℕ → Option ℕ) (n h : Id)
+pub same_name : (w : List ℕ) (v : IsValid w) (kind : ℕ) → IsKind kind → (life : ℕ → ℕ → Option ℕ) (n h : Id)
     → IsSlot w kind n.creator n.slot → IsSlot w kind h.creator h.slot
     → slot_address w kind n.creator n.slot ≡ slot_address w kind h.creator h.slot
     → life n.creator n.slot ≡ Some (2 * n.generation + 1) → life h.creator h.slot ≡ Some (2 * h.generation + 1) → n ≡ h
@@ -53,23 +53,23 @@ pub same_thread : (w : List ℕ) (v : IsValid w) (i j : ℕ) → IsSlot w 2 i 0 
 same_thread w v i j one other address = (addresses_apart w v 2 i 0 j 0 kind_2 one other address).maker
 
 module _ (w : List ℕ) (words : Words) (v : IsValid w) where
-  region_slot : (s : State) → Shows w words s → (n : Rid) → IsVisibleRegion s n → IsSlot w regions n.0.creator n.0.slot
+  pub region_slot : (s : State) → Shows w words s → (n : Rid) → IsVisibleRegion s n → IsSlot w regions n.0.creator n.0.slot
   region_slot s shown n seen =
       let at = shown.within.regions n.0.creator n.0.slot n.0.generation seen.region seen.live in
       record { made_by = at.maker; within = at.place }
 
-  task_slot : (s : State) → Shows w words s → (k : Tid) → IsVisibleTask s k → IsSlot w tasks k.0.creator k.0.slot
+  pub task_slot : (s : State) → Shows w words s → (k : Tid) → IsVisibleTask s k → IsSlot w tasks k.0.creator k.0.slot
   task_slot s shown k seen =
       let at = shown.within.tasks k.0.creator k.0.slot k.0.generation seen.task seen.live in
       record { made_by = at.maker; within = at.place }
 
-  region_life : (s : State) (shown : Shows w words s) (n : Rid) (seen : IsVisibleRegion s n)
+  pub region_life : (s : State) (shown : Shows w words s) (n : Rid) (seen : IsVisibleRegion s n)
       → records_of w words n.0.creator regions n.0.slot (number RegionLife) 0 ≡ Some (2 * n.0.generation + 1)
   region_life s shown n seen =
       let at = shown.within.regions n.0.creator n.0.slot n.0.generation seen.region seen.live in
       (shown.records.region_lives n.0.creator n.0.slot at.maker at.place).live n.0.generation seen.region seen.live
 
-  task_life : (s : State) (shown : Shows w words s) (k : Tid) (seen : IsVisibleTask s k)
+  pub task_life : (s : State) (shown : Shows w words s) (k : Tid) (seen : IsVisibleTask s k)
       → records_of w words k.0.creator tasks k.0.slot (number TaskLife) 0 ≡ Some (2 * k.0.generation + 1)
   task_life s shown k seen =
       let at = shown.within.tasks k.0.creator k.0.slot k.0.generation seen.task seen.live in

@@ -56,7 +56,7 @@ found_begun s native i is = go (nat_le 1000 native) (nat_lt (native - 1000) s.co
     go false y e z f g = absurd (cc)
 
 -- the states of threads are less than 2^16
-small_state : (x : ℕ) → Contains states x → x < 65536
+pub small_state : (x : ℕ) → Contains states x → x < 65536
 small_state x (zero, within, is) = omega (arith, is)
 small_state x (suc zero, within, is) = omega (arith, is)
 small_state x (suc (suc zero), within, is) = omega (arith, is)

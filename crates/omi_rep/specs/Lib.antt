@@ -3,5 +3,6 @@ pub mod Records
 pub mod Shows
 pub mod Look
 pub mod LookView
+pub mod Plain
 -- The laws
 pub mod Unique

@@ -19,7 +19,7 @@ abbrev pub Look : Type 0 → Type 0
 Look A = Result A LookFault
 
 -- a look, and then another at what it gave
-abbrev pub and_then : {A B : Type 0} → Look A → (A → Look B) → Look B
+unfoldable pub and_then : {A B : Type 0} → Look A → (A → Look B) → Look B
 and_then (Ok x) more = more x
 and_then (Err fault) more = Err fault
 

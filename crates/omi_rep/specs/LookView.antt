@@ -12,18 +12,18 @@ use Rattle.omi_model.specs.declared.view.MemberRow.{MemberRow}
 use Rattle.omi_model.specs.declared.view.TaskRow.{TaskRow}
 use Rattle.omi_layout.specs.declared.field.Field.{Field}
 use Rattle.omi_layout.specs.declared.field.Field.TheVariants.{RuntimeVersion, RuntimeProcs, RuntimeDebug, RuntimeMaxActive, ThreadLife, ThreadNative, ThreadCurrent, ThreadState, RegionFunction, RegionEnclosing, RegionSize, RegionLevels, RegionActive, RegionTeam, TaskImplicit, TaskRegion, TaskThread, TaskNumber, TaskGenerating, TaskScheduling, TaskFunction, TaskExit, TaskEnter, TaskDynamic, TaskNthreadsLength, TaskSchedule, TaskDevice, TaskFinal, TaskTool, TaskNthreads}
-use Rattle.omi_layout.specs.Field.{runtime, threads, regions, tasks}
+use Rattle.omi_layout.specs.Field.{threads, regions, tasks}
 use Rattle.omi_layout.specs.Named.{number}
-use Rattle.omi_layout.specs.Table.{thread_count, place, records}
+use Rattle.omi_layout.specs.Table.{thread_count, records}
 use Rattle.omi_layout.specs.SymbolTable.{Words}
 use Rattle.omi_rep.specs.declared.fault.LookFault.TheVariants.{Damaged, Cycle}
-use Rattle.omi_rep.specs.Records.{thread_address}
+use Rattle.omi_rep.specs.Records.{runtime_address, thread_address}
 use Rattle.omi_rep.specs.Look.{Look, and_then, mapped, each, optional, slots_of, address_of, look_word, look_object, look_optional, look_onward}
 
 module _ (w : List ℕ) (words : Words) where
   -- a word of the runtime record, of a thread, a region and a task
   abbrev pub of_runtime : Field → Look ℕ
-  of_runtime f = look_word w words (place w runtime) f 0
+  of_runtime f = look_word w words (runtime_address w) f 0
 
   abbrev pub of_thread : ℕ → Field → Look ℕ
   of_thread i f = look_word w words (thread_address w i) f 0

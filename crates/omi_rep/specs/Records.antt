@@ -3,7 +3,7 @@ use Rattle.std.specs.Prelude.{ℕ, ◌+◌, ◌*◌, List, Option, Some}
 use Rattle.std.specs.Option.{option_map_or}
 use Rattle.omi_model.specs.declared.id.Rid.{Rid}
 use Rattle.omi_model.specs.declared.id.Tid.{Tid}
-use Rattle.omi_layout.specs.Field.{threads, regions, tasks}
+use Rattle.omi_layout.specs.Field.{runtime, threads, regions, tasks}
 use Rattle.omi_layout.specs.Table.{offset}
 use Rattle.omi_layout.specs.Place.{slot_address}
 use Rattle.omi_layout.specs.SymbolTable.{Words}
@@ -29,7 +29,10 @@ records_of w words = λ creator kind slot. record_at w words (slot_address w kin
 abbrev pub whole : Memory → Records
 whole m = λ creator kind slot f at. Some (m creator kind slot f at)
 
--- the records of a thread, a region and a task
+-- the records of the runtime, a thread, a region and a task
+abbrev pub runtime_address : List ℕ → ℕ
+runtime_address w = slot_address w runtime 0 0
+
 abbrev pub thread_address : List ℕ → ℕ → ℕ
 thread_address w i = slot_address w threads i 0
 
