@@ -20,7 +20,7 @@ pub use limits::{
     FIELDS, FRONT_WORDS, LAST_END, MOST_RECORD_WORDS, MOST_REGIONS, MOST_TASKS, MOST_THREADS,
     TABLE_PLACE, TABLE_WORDS, VERSION,
 };
-pub use looking::look_up;
+pub use looking::{WordMemory, look_up};
 
 #[cfg(test)]
 mod permuted_tests;
