@@ -38,7 +38,7 @@ pub use after_event::after;
 pub use legality::legal;
 pub use omi_word::OutOfMemory;
 pub use opening_state::opening;
-pub use state::State;
+pub use state::{State, live_in};
 
 #[cfg(test)]
 mod legal_tests;

@@ -34,7 +34,7 @@ fn slot_in<T: Drop>(slots: &Rows<Rows<Slot<T>>>, n: Id) -> Option<&Slot<T>>
 }
 
 /// The object of a name, where it is live.
-fn live_in<T: Drop>(slots: &Rows<Rows<Slot<T>>>, n: Id) -> Option<&T>
+pub fn live_in<T: Drop>(slots: &Rows<Rows<Slot<T>>>, n: Id) -> Option<&T>
     ensures { option_map (λ x. x.now) result ≡ named (slots_of slots.now) n }
 {
     match slot_in(slots, n) {
@@ -44,6 +44,34 @@ fn live_in<T: Drop>(slots: &Rows<Rows<Slot<T>>>, n: Id) -> Option<&T>
 }
 
 impl State {
+    /// The environment of the program.
+    pub fn environment(&self) -> &Env
+        ensures { result.now ≡ (state_of self.now).environment }
+    {
+        &self.environment
+    }
+
+    /// max-active-levels-var.
+    pub fn max_active(&self) -> u64
+        ensures { result ≡ (state_of self.now).max_active }
+    {
+        self.max_active
+    }
+
+    /// The slots of regions that are kept, by the thread that makes them.
+    pub fn regions(&self) -> &Rows<Rows<Slot<Region>>>
+        ensures { (state_of self.now).regions ≡ slots_of result.now }
+    {
+        &self.regions
+    }
+
+    /// The slots of tasks that are kept, by the thread that makes them.
+    pub fn tasks(&self) -> &Rows<Rows<Slot<Task>>>
+        ensures { (state_of self.now).tasks ≡ slots_of result.now }
+    {
+        &self.tasks
+    }
+
     /// The number of threads.
     pub fn count(&self) -> usize
         ensures { result ≡ (state_of self.now).count }
