@@ -57,10 +57,10 @@ module _ (s : State) (i : ℕ) (old rows : List TaskRow) (met : List (Option Id)
       → ((m : Id) → WasMet after m → WasMet met m ⊎ (m ≡ n)) → IsWalked s i old (rows ++ task_row i (task_name n) t ∷ []) after t.scheduling
   walk_more after n t named live only = record {
     segment = (
-        walked.segment.0 ++ task_row i (task_name n) t ∷ [],
-        ap (λ xs. xs ++ task_row i (task_name n) t ∷ []) walked.segment.1 ∙ append_assoc old walked.segment.0 (task_row i (task_name n) t ∷ []),
-        segment_more s i (s.threads i).current walked.segment.0 (task_name n) t (subst (IsSegment s i (s.threads i).current walked.segment.0) here walked.segment.2) live,
-      );
+      walked.segment.0 ++ task_row i (task_name n) t ∷ [],
+      ap (λ xs. xs ++ task_row i (task_name n) t ∷ []) walked.segment.1 ∙ append_assoc old walked.segment.0 (task_row i (task_name n) t ∷ []),
+      segment_more s i (s.threads i).current walked.segment.0 (task_name n) t (subst (IsSegment s i (s.threads i).current walked.segment.0) here walked.segment.2) live,
+    );
     lead = λ m was. leads m (only m was);
     visible = λ right k is. (subst (IsTaskRight s) (same_task right) (right.tasks (task_name n) (seen right))).scheduling k is;
   }

@@ -16,6 +16,6 @@ one_name slots m n x y a b creators places =
     let first = generation m.generation (slots m.creator m.slot) x a in
     let second = generation n.generation (slots n.creator n.slot) y b in
     let same : (slots m.creator m.slot).generations ≡ (slots n.creator n.slot).generations =
-        ap (λ c. (slots c m.slot).generations) creators ∙ ap (λ k. (slots n.creator k).generations) places in
+    ap (λ c. (slots c m.slot).generations) creators ∙ ap (λ k. (slots n.creator k).generations) places in
     let generations : m.generation ≡ n.generation = omega (arith, first, second, same) in
     λ j. record { creator = creators j; slot = places j; generation = generations j }

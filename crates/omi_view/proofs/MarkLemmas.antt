@@ -49,8 +49,7 @@ met_at met place o within is e =
 -- names at one place are in one slot
 pub one_slot : (creators width place : ℕ) (m n : Id) → IsPlaced creators width place m → HasPlace creators width n → place_of width n ≡ place → (m.creator ≡ n.creator) × (m.slot ≡ n.slot)
 one_slot creators width place m n there has same =
-    let at : place_of width m ≡ place_of width n = there.there ∙ sym same in
-    (
+    let at : place_of width m ≡ place_of width n = there.there ∙ sym same in (
       sym (div-mul-add m.creator width m.slot there.has.slot) ∙ ap (λ x. x / width) at ∙ div-mul-add n.creator width n.slot has.slot,
       sym (mod-mul-add m.creator width m.slot there.has.slot) ∙ ap (λ x. x % width) at ∙ mod-mul-add n.creator width n.slot has.slot,
     )
@@ -86,6 +85,7 @@ module _ (creators width : ℕ) (met : List (Option Id)) (n : Id) (free : slice_
     where
       clash : p == place_of width n ≡ false → p == place_of width n ≡ true → ⊥
       clash x y = cc
+
       go : (b : Bool) → p == place_of width n ≡ b → IsPlaced creators width p m
       go true e =
           let same : p ≡ place_of width n = eqb-true p (place_of width n) e in

@@ -35,6 +35,7 @@ lesser w a b x y inx iny less = go (cases_lt a b) (cases_lt b a)
       where
         spread : (b d w : ℕ) → (suc b + d) * w ≡ b * w + w + d * w
         spread b d w = grind arith
+
     go : (a < b) ⊎ (b ≤ a) → (b < a) ⊎ (a ≤ b) → (a < b) ⊎ ((a ≡ b) × (x < y))
     go (inl h) other = inl h
     go (inr h) (inl g) = absurd (farther g)
@@ -84,6 +85,7 @@ sorted s w from (Some n ∷ met) placed = go (sorted s w (from + 1) met (later_p
   where
     here : (n.slot < w) × (place_of w n ≡ from + 0)
     here = placed 0 n refl
+
     go : Sorted w (from + 1) (filter_map (row_met s) met) → (o : Option Region) → region_of s (region_name n) ≡ o → Sorted w from (filter_map (row_met s) (Some n ∷ met))
     go rest None e = rw e (record { order = rest.order; from_here = from_less w from (from + 1) (filter_map (row_met s) met) (omega arith) rest.from_here })
     go rest (Some r) e =
@@ -170,10 +172,10 @@ module _ (s : State) (threads : List ℕ) (met : List (Option Id)) (right : IsWe
 
   pub regions_met : (creators width : ℕ) → ArePlaced creators width met → AreRegions s threads (filter_map (row_met s) met)
   regions_met creators width placed = record {
-      in_order = (sorted s width 0 met (λ j n is. let at = placed j n is in (at.has.slot, at.there ∙ omega arith))).order;
-      each = λ row among. each row (row_from s met row among);
-      all = λ n (i, steps, among, is). all n (reported_seen i among steps n is);
-    }
+    in_order = (sorted s width 0 met (λ j n is. let at = placed j n is in (at.has.slot, at.there ∙ omega arith))).order;
+    each = λ row among. each row (row_from s met row among);
+    all = λ n (i, steps, among, is). all n (reported_seen i among steps n is);
+  }
     where
       each : (row : RegionRow) → IsRowOf s met row → IsReported s threads row.region × (r : Region) × (region_of s row.region ≡ Some r) × (row ≡ region_row row.region r)
       each row (n, r, was, live, made) =

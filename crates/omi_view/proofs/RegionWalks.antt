@@ -43,13 +43,13 @@ none_met s met none = record {
 
 pub walk_begins : (s : State) (threads : List ℕ) (i : ℕ) (met : List (Option Id)) → AreMet s threads met → AreMetBut s threads i met (root_of s i)
 walk_begins s threads i met are = record {
-    live = are.live;
-    reported = λ n was. more s threads i (region_name n) (are.reported n was);
-    closed = λ n o was encloses live. inl (are.closed n o was encloses live);
-    roots = λ j o among is live. root j o is live (Contains-append_cases threads (i ∷ []) j among);
-    steps = 0;
-    here = refl;
-  }
+  live = are.live;
+  reported = λ n was. more s threads i (region_name n) (are.reported n was);
+  closed = λ n o was encloses live. inl (are.closed n o was encloses live);
+  roots = λ j o among is live. root j o is live (Contains-append_cases threads (i ∷ []) j among);
+  steps = 0;
+  here = refl;
+}
   where
     root : (j : ℕ) (o : Rid) → root_of s j ≡ Some o → IsLive s o → Contains threads j ⊎ Contains (i ∷ []) j → WasMet met o.0 ⊎ (root_of s i ≡ Some o)
     root j o is live (inl before) = inl (are.roots j o before is live)
@@ -60,13 +60,13 @@ module _ (s : State) (threads : List ℕ) (i : ℕ) (met : List (Option Id)) (at
       → ((m : Id) → WasMet met m → WasMet after m) → ((m : Id) → WasMet after m → WasMet met m ⊎ (m ≡ n)) → WasMet after n
       → AreMetBut s threads i after r.enclosing
   walk_more after n r is live kept only added = record {
-      live = λ m was. lives m (only m was);
-      reported = λ m was. reports m (only m was);
-      closed = λ m o was encloses alive. closes m o encloses alive (only m was);
-      roots = λ j o among root alive. settled o (are.roots j o among root alive);
-      steps = suc are.steps;
-      here = along_more (enclosing_of s) are.steps (root_of s i) ∙ ap (option_and_then (enclosing_of s)) (are.here ∙ here) ∙ encloses_is;
-    }
+    live = λ m was. lives m (only m was);
+    reported = λ m was. reports m (only m was);
+    closed = λ m o was encloses alive. closes m o encloses alive (only m was);
+    roots = λ j o among root alive. settled o (are.roots j o among root alive);
+    steps = suc are.steps;
+    here = along_more (enclosing_of s) are.steps (root_of s i) ∙ ap (option_and_then (enclosing_of s)) (are.here ∙ here) ∙ encloses_is;
+  }
     where
       here : at ≡ Some (region_name n)
       here = name_at at n is
@@ -94,11 +94,11 @@ module _ (s : State) (threads : List ℕ) (i : ℕ) (met : List (Option Id)) (at
 
   pub walk_ends : Stops s.regions met (option_map (λ (k : Rid). k.0) at) → AreMet s (threads ++ i ∷ []) met
   walk_ends stops = record {
-      live = are.live;
-      reported = are.reported;
-      closed = λ n o was encloses alive. settled o alive (are.closed n o was encloses alive);
-      roots = λ j o among root alive. settled o alive (are.roots j o among root alive);
-    }
+    live = are.live;
+    reported = are.reported;
+    closed = λ n o was encloses alive. settled o alive (are.closed n o was encloses alive);
+    roots = λ j o among root alive. settled o alive (are.roots j o among root alive);
+  }
     where
       there : (o : Rid) → IsLive s o → (named s.regions o.0 ≡ None) ⊎ IsMetSlot met o.0 → WasMet met o.0
       there o (r, alive) (inl dead) = absurd (let clash : None ≡ Some r = sym dead ∙ alive in cc clash)

@@ -27,12 +27,7 @@ fn id_of(k: Option<Tid>) -> Option<Id>
 
 /// Adds the chain of a thread. Of a state that is not well formed this is the part up to a task that is not live, or that
 /// stands on the chain already.
-pub fn push_chain(
-    alloc: Global,
-    s: &State,
-    i: u8,
-    rows: &mut TaskRows,
-) -> Result<(), OutOfMemory>
+pub fn push_chain(alloc: Global, s: &State, i: u8, rows: &mut TaskRows) -> Result<(), OutOfMemory>
     requires { i < (state_of s.now).count }
     ensures { OnOk result (IsWellFormed (state_of s.now)
         → IsChainAdded (state_of s.now) i rows.old rows.new) }
@@ -47,11 +42,7 @@ pub fn push_chain(
 }
 
 /// The chains of threads, one after the other.
-pub fn chain_rows(
-    alloc: Global,
-    s: &State,
-    threads: &Rows<u8>,
-) -> Result<TaskRows, OutOfMemory>
+pub fn chain_rows(alloc: Global, s: &State, threads: &Rows<u8>) -> Result<TaskRows, OutOfMemory>
     requires { (i : ℕ) → Contains threads.now i → i < (state_of s.now).count }
     ensures { IfOk result (λ rows. IsWellFormed (state_of s.now)
         → AreChains (state_of s.now) threads.now rows) }

@@ -88,11 +88,7 @@ fn thread_row(s: &State, native: u64) -> Result<ThreadRow, OutOfMemory>
 }
 
 /// The rows of all contexts.
-pub fn thread_rows(
-    alloc: Global,
-    s: &State,
-    contexts: &Natives,
-) -> Result<ThreadRows, OutOfMemory>
+pub fn thread_rows(alloc: Global, s: &State, contexts: &Natives) -> Result<ThreadRows, OutOfMemory>
     ensures { IfOk result (λ rows. rows ≡ map (thread_row (state_of s.now)) contexts.now) }
 {
     let mut rows = ThreadRows::new(alloc);
@@ -103,11 +99,7 @@ pub fn thread_rows(
 }
 
 /// The threads of all contexts that have one.
-pub fn threads_with(
-    alloc: Global,
-    s: &State,
-    contexts: &Natives,
-) -> Result<Rows<u8>, OutOfMemory>
+pub fn threads_with(alloc: Global, s: &State, contexts: &Natives) -> Result<Rows<u8>, OutOfMemory>
     ensures { IfOk result (λ threads. threads
         ≡ filter_map (thread_with (state_of s.now)) contexts.now) }
 {

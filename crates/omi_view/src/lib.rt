@@ -10,3 +10,6 @@ mod rows;
 mod viewing;
 
 pub use viewing::view_of;
+
+#[cfg(test)]
+mod tests;

@@ -27,10 +27,7 @@ fn longest<T: Drop>(slots: &Rows<Rows<Slot<T>>>) -> usize
 
 impl Marks {
     /// Nothing was met yet.
-    pub fn none<T: Drop>(
-        alloc: Global,
-        slots: &Rows<Rows<Slot<T>>>,
-    ) -> Result<Marks, OutOfMemory>
+    pub fn none<T: Drop>(alloc: Global, slots: &Rows<Rows<Slot<T>>>) -> Result<Marks, OutOfMemory>
         ensures places { IfOk result (λ m. HavePlaces m.creators m.width (slots_of slots.now)) }
         ensures empty { IfOk result (λ m. (n : Id) → WasMet m.met.items n → ⊥) }
     {

@@ -80,11 +80,7 @@ pub fn rows_met(alloc: Global, s: &State, marks: &Marks) -> Result<RegionRows, O
 }
 
 /// The rows of the regions that are reported of these threads.
-pub fn region_rows(
-    alloc: Global,
-    s: &State,
-    threads: &Rows<u8>,
-) -> Result<RegionRows, OutOfMemory>
+pub fn region_rows(alloc: Global, s: &State, threads: &Rows<u8>) -> Result<RegionRows, OutOfMemory>
     requires { (i : ℕ) → Contains threads.now i → i < (state_of s.now).count }
     ensures { IfOk result (λ rows. IsWellFormed (state_of s.now)
         → AreRegions (state_of s.now) threads.now rows) }

@@ -32,7 +32,7 @@ loop-n-preserved c =
     let n = c.in-Some.n in
     let t = c.in-Some.t.now in
     let row : c.loop-n.rows ++ task_row c.args.i (task_name n) t ∷ [] ≡ c.push.new.self =
-        ap (λ r. c.loop-n.rows ++ r ∷ []) (sym c.in_ok-task_row.ensures) ∙ sym c.in_ok-push.ensures.added in
+    ap (λ r. c.loop-n.rows ++ r ∷ []) (sym c.in_ok-task_row.ensures) ∙ sym c.in_ok-push.ensures.added in
     let live : task_of s (task_name n) ≡ Some t = ap (λ m. named m n) c.tasks-in-loop-n.ensures ∙ found.live in
     let walked = walk_more s c.args.i c.args.rows.now c.loop-n.rows c.loop-n.marks.met.items c.loop-n.at before.walked c.next_live.new.marks.met.items n t (sym c.id_of.ensures ∙ found.next) live found.marked.only in
     record {
