@@ -1,7 +1,7 @@
 // The view of an opening state, and that of a state in which a team was forked.
 use super::*;
-use omi_machine::{after, legal, opening};
-use omi_model::{Event, Id, Rid, Team, Tid};
+use omi_machine::{State, after, legal, opening};
+use omi_model::{Event, Id, RegionRow, Rid, TaskRow, Team, ThreadRow, Tid};
 use omi_script::parse;
 use omi_word::Natives;
 use std::test::Fail;
@@ -55,26 +55,8 @@ fn up_to_the_fork() -> [(u8, Event); 7] {
     ]
 }
 
-#[test]
-fn opening_state(rt: HostRuntime) -> Result<(), Fail> {
-    let p = parse(rt.alloc(), SCRIPT).ok().ok_or("refused")?;
-    let s = opening(rt.alloc(), &p)?;
-    let view = view_of(rt.alloc(), &s, &contexts(&rt)?)?;
-    let found = view.threads.get(0).found.ok_or("not found")?;
-    assert_eq!(rt;
-        (view.threads.len(), view.regions.len(), view.tasks.len()),
-        (3, 1, 1)
-    );
-    assert_eq!(rt;
-        (found.number, found.current),
-        (Some(0), Some(Tid(name(0))))
-    );
-    assert_eq!(rt; view.threads.get(1).found.is_some(), false);
-    Ok(())
-}
-
-#[test]
-fn forked_team(rt: HostRuntime) -> Result<(), Fail> {
+/// The state behind these events, each of them legal.
+fn forked(rt: &HostRuntime) -> Result<State, Fail> {
     let p = parse(rt.alloc(), SCRIPT).ok().ok_or("refused")?;
     let mut s = opening(rt.alloc(), &p)?;
     for (thread, e) in up_to_the_fork() {
@@ -83,31 +65,65 @@ fn forked_team(rt: HostRuntime) -> Result<(), Fail> {
         }
         after(rt.alloc(), &p, &mut s, thread, &e)?;
     }
+    Ok(s)
+}
+
+/// Whether a worker has begun and has no task.
+fn is_idle(row: Option<&ThreadRow>) -> bool {
+    match row {
+        Some(
+            ThreadRow {
+                native: 1001,
+                found: Some(part),
+            },
+        ) => part.thread == 1 && part.number.is_none() && part.current.is_none(),
+        _ => false,
+    }
+}
+
+/// Whether a region is that of the team.
+fn is_forked(row: Option<&RegionRow>) -> bool {
+    let Some(r) = row else {
+        return false;
+    };
+    let member = match r.members.find(1) {
+        Some(m) => m.thread == 1 && m.task == Tid(name(2)),
+        None => false,
+    };
+    let levels = (r.levels, r.active, r.size) == (1, 1, 2);
+    member && levels && r.region == Rid(name(1)) && r.enclosing == Some(Rid(name(0)))
+}
+
+/// Whether a task is this one, scheduled from that one, with these frames.
+fn is_task(row: Option<&TaskRow>, slot: u16, from: Option<Tid>, exit: u64, enter: u64) -> bool {
+    match row {
+        Some(t) => {
+            t.task == Tid(name(slot)) && t.scheduling == from && (t.exit, t.enter) == (exit, enter)
+        }
+        None => false,
+    }
+}
+
+#[test]
+fn opening_state(rt: HostRuntime) -> Result<(), Fail> {
+    let p = parse(rt.alloc(), SCRIPT).ok().ok_or("refused")?;
+    let s = opening(rt.alloc(), &p)?;
     let view = view_of(rt.alloc(), &s, &contexts(&rt)?)?;
-    assert_eq!(rt;
-        (view.threads.len(), view.regions.len(), view.tasks.len()),
-        (3, 2, 2)
-    );
-    let worker = view.threads.get(1).found.ok_or("not found")?;
-    assert_eq!(rt;
-        (worker.thread, worker.number, worker.current),
-        (1, None, None)
-    );
-    let region = view.regions.get(1);
-    assert_eq!(rt;
-        (region.region, region.func, region.size),
-        (Rid(name(1)), 0x400000, 2)
-    );
-    assert_eq!(rt; (region.levels, region.active), (1, 1));
-    assert_eq!(rt; region.enclosing, Some(Rid(name(0))));
-    let second = region.members.get(1);
-    assert_eq!(rt; (second.thread, second.task), (1, Tid(name(2))));
-    let (top, below) = (view.tasks.get(0), view.tasks.get(1));
-    assert_eq!(rt;
-        (top.task, top.scheduling),
-        (Tid(name(1)), Some(Tid(name(0))))
-    );
-    assert_eq!(rt; (top.exit, top.enter), (0x7f00000fff80, 0));
-    assert_eq!(rt; (below.exit, below.enter), (0x7f00000fffc0, 0x7f00000fffa0));
+    let rows = (view.threads.len(), view.regions.len(), view.tasks.len());
+    let initial = is_task(view.tasks.find(0), 0, None, 0x7f00000fffc0, 0);
+    assert_eq!(rt; (rows, initial), ((3, 1, 1), true));
+    Ok(())
+}
+
+#[test]
+fn forked_team(rt: HostRuntime) -> Result<(), Fail> {
+    let s = forked(&rt)?;
+    let view = view_of(rt.alloc(), &s, &contexts(&rt)?)?;
+    let idle = is_idle(view.threads.find(1));
+    let region = is_forked(view.regions.find(1));
+    let from = Some(Tid(name(0)));
+    let top = is_task(view.tasks.find(0), 1, from, 0x7f00000fff80, 0);
+    let below = is_task(view.tasks.find(1), 0, None, 0x7f00000fffc0, 0x7f00000fffa0);
+    assert_eq!(rt; (idle, region, top, below), (true, true, true, true));
     Ok(())
 }
