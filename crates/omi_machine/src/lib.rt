@@ -46,3 +46,7 @@ mod legal_tests;
 mod read_events;
 #[cfg(test)]
 mod row_tests;
+#[cfg(test)]
+mod walk_tests;
+#[cfg(test)]
+mod well_formed;
