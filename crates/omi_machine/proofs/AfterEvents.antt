@@ -1,9 +1,9 @@
 -- The state after a legal event: the list has moved on, and what the event needs is there still.
-use Rattle.std.proofs.Common.{◌≡◌, ◌==◌, ◌<◌, ◌+◌, ℕ, Bool, true, false, List, Option, Some, None, if◌then◌else◌, refl, sym, ap, subst, ◌∙◌}
+use Rattle.std.proofs.Common.{◌≡◌, ◌==◌, ◌<◌, ◌+◌, ℕ, Bool, true, false, List, [], ◌∷◌, Option, Some, None, if◌then◌else◌, refl, sym, ap, subst, ◌∙◌}
 use Rattle.std.specs.Prelude.{IsSome, is_some}
 use Rattle.std.specs.Option.{option_and_then, option_map, option_map_or}
 use Rattle.std.proofs.lemmas.Bool.{eqb-true}
-use Rattle.std.proofs.lemmas.Option.{same_Some}
+use Rattle.std.proofs.lemmas.Option.{none-some, same_Some}
 use Rattle.omi_script.specs.declared.program.Program.{Program}
 use Rattle.omi_model.specs.declared.encounter.Encounter.{Encounter}
 use Rattle.omi_model.specs.declared.event.Event.{Event}
@@ -15,13 +15,30 @@ use Rattle.omi_model.specs.declared.region.Region.{Region}
 use Rattle.omi_model.specs.declared.slot.Slot.{Slot}
 use Rattle.omi_model.specs.declared.task.Task.{Task}
 use Rattle.omi_model.specs.Changes.{IsCurrent, OfCurrent, OfCurrentRegion, encounter, list_of, on_task, on_thread, with_list}
-use Rattle.omi_model.specs.Lists.{stays, take_item}
+use Rattle.omi_model.specs.Lists.{fits, may_drop, opened, stays, take_item}
 use Rattle.omi_model.specs.Put.{Slots, changed, found, named, on, put}
 use Rattle.omi_model.specs.Rules.{Legal, Rule, after, effect}
 use Rattle.omi_model.specs.State.{State, task_of}
 use Rattle.omi_machine.specs.Needs.{HasCurrent, HasRegion, Needs}
 use Rattle.omi_machine.proofs.ChangesBack.{named_on}
 use Rattle.omi_machine.proofs.TakenItems.{moved}
+
+-- ---- the item that an event takes
+
+module _ (p : Program) (at : Encounter) (e : Event) (t : Item × List Item) where
+  -- an event takes an item of its kind
+  fits_taken : (list : List Item) → take_item p at e list ≡ Some t → fits e t.0 ≡ true
+  fits_taken [] is = absurd (none-some t is)
+  fits_taken (x ∷ xs) is = here (fits e (opened p at x xs).0) refl (fits_taken xs) is
+    where
+      behind : (b : Bool) → (take_item p at e xs ≡ Some t → fits e t.0 ≡ true) → (if b then take_item p at e xs else None) ≡ Some t → fits e t.0 ≡ true
+      behind true rest taken = rest taken
+      behind false rest taken = absurd (none-some t taken)
+
+      here : (b : Bool) → fits e (opened p at x xs).0 ≡ b → (take_item p at e xs ≡ Some t → fits e t.0 ≡ true)
+          → (if b then Some (opened p at x xs) else (if may_drop x then take_item p at e xs else None)) ≡ Some t → fits e t.0 ≡ true
+      here true fit rest taken = ap (λ (u : Item × List Item). fits e u.0) (sym (same_Some (opened p at x xs) t taken)) ∙ fit
+      here false fit rest taken = behind (may_drop x) rest taken
 
 -- ---- the list moves on
 
@@ -46,6 +63,10 @@ module _ (p : Program) (s : State) (i : ℕ) (e : Event) (legal : Legal p s i e)
 
     next_is : next ≡ stays (encounter s i) e legal.item legal.behind
     next_is = ap (λ (t : Item × List Item). t.1) pair_is
+
+    -- the event takes an item of its kind
+    pub fits_is : fits e x ≡ true
+    fits_is = ap (fits e) item_is ∙ fits_taken p (encounter s i) e (legal.item, legal.behind) (list_of s i) legal.taken
 
     -- the state after the event is that of its effect
     pub after_is : (after_list : State) → after_list ≡ with_list s i next → effect p after_list i e x ≡ after p s i e

@@ -30,7 +30,7 @@ pub fn after(
     let i = thread as usize;
     let moved = moved_list(alloc, p, s.encounter(i), e, s.list_of(i))?;
     let Some((x, list)) = moved else {
-        return Ok(());
+        unreachable!();
     };
     let old = exchange_list(alloc, s, i, list);
     match take_effect(alloc, p, s, thread, e, x) {

@@ -31,14 +31,14 @@ pub(crate) fn arrive(alloc: Global, s: &mut State, i: usize) -> Result<(), OutOf
     ensures refused { OnErr result (s.new ≡ s.old) }
 {
     let Some((_, t, r)) = s.current_region(i) else {
-        return Ok(());
+        unreachable!();
     };
     let (region, number) = (t.region, t.number);
     let Some(next) = arrivals_of(r, number).checked_add(1) else {
         return Err(AllocError);
     };
     let Some(mut r) = take_live(alloc, &mut s.regions, region.0) else {
-        return Ok(());
+        unreachable!();
     };
     set_count(&mut r.arrivals, number, next);
     put_live(alloc, &mut s.regions, region.0, r);
@@ -54,14 +54,14 @@ pub(crate) fn release(alloc: Global, s: &mut State, i: usize) -> Result<(), OutO
     ensures refused { OnErr result (s.new ≡ s.old) }
 {
     let Some((_, t, r)) = s.current_region(i) else {
-        return Ok(());
+        unreachable!();
     };
     let region = t.region;
     let Some(released) = r.released.checked_add(1) else {
         return Err(AllocError);
     };
     let Some(r) = take_live(alloc, &mut s.regions, region.0) else {
-        return Ok(());
+        unreachable!();
     };
     put_live(alloc, &mut s.regions, region.0, Region { released, ..r });
     Ok(())

@@ -1,9 +1,10 @@
 //! What an event changes of a state in which its list has moved on.
 
-ghost use Rattle.std.specs.Prelude.{◌≡◌, ◌<◌, Some, IsSome, OnOk, OnErr};
+ghost use Rattle.std.specs.Prelude.{◌≡◌, ◌<◌, true, Some, IsSome, OnOk, OnErr};
 ghost use Rattle.omi_script.specs.declared.program.Program.{Program};
 ghost use Rattle.omi_machine.specs.Kept.{state_of};
 ghost use Rattle.omi_machine.specs.Needs.{HasCurrent, HasRegion, Needs};
+ghost use Rattle.omi_model.specs.Lists.{fits};
 ghost use Rattle.omi_model.specs.Rules.{effect};
 ghost use Rattle.omi_model.specs.State.{task_of};
 ghost use Rattle.omi_model.specs.declared.event.Event.TheVariants as event;
@@ -21,9 +22,9 @@ use crate::variable_changes::set_variable;
 use omi_model::{Event, Item, Rid, Team, Tid};
 use omi_script::Program;
 use omi_word::OutOfMemory;
-use std::alloc::{AllocError, Global};
+use std::alloc::Global;
 
-/// A team forks by an item. No other item is a fork's.
+/// A team forks by its item.
 fn fork_by(
     alloc: Global,
     p: &Program,
@@ -35,17 +36,18 @@ fn fork_by(
 ) -> Result<(), OutOfMemory>
     requires known { i < (state_of s.old).count }
     requires current { HasRegion (state_of s.old) i }
+    requires taken { fits (event.Fork region team.now) x ≡ true }
     ensures done { OnOk result (effect p.now (state_of s.old) i (event.Fork region team.now) x
         ≡ Some (state_of s.new)) }
     ensures refused { OnErr result (state_of s.new ≡ state_of s.old) }
 {
     match x {
         Item::Fork { f } => fork(alloc, p, s, i, region, team, f),
-        _ => Err(AllocError),
+        _ => unreachable!(),
     }
 }
 
-/// A task is deferred by an item. No other item is a deferred task's.
+/// A task is deferred by its item.
 fn defer_by(
     alloc: Global,
     p: &Program,
@@ -56,17 +58,18 @@ fn defer_by(
 ) -> Result<(), OutOfMemory>
     requires known { i < (state_of s.old).count }
     requires current { HasCurrent (state_of s.old) i }
+    requires taken { fits (event.Defer task) x ≡ true }
     ensures done { OnOk result (effect p.now (state_of s.old) i (event.Defer task) x
         ≡ Some (state_of s.new)) }
     ensures refused { OnErr result (state_of s.new ≡ state_of s.old) }
 {
     match x {
         Item::Defer { seen, f, is_final } => defer(alloc, p, s, i, task, f, is_final, seen),
-        _ => Err(AllocError),
+        _ => unreachable!(),
     }
 }
 
-/// A new task starts at once by an item. No other item is such a task's.
+/// A new task starts at once by its item.
 fn start_now_by(
     alloc: Global,
     p: &Program,
@@ -77,6 +80,7 @@ fn start_now_by(
 ) -> Result<(), OutOfMemory>
     requires known { i < (state_of s.old).count }
     requires current { HasCurrent (state_of s.old) i }
+    requires taken { fits (event.StartNow task) x ≡ true }
     ensures done { OnOk result (effect p.now (state_of s.old) i (event.StartNow task) x
         ≡ Some (state_of s.new)) }
     ensures refused { OnErr result (state_of s.new ≡ state_of s.old) }
@@ -88,15 +92,16 @@ fn start_now_by(
             is_final,
         }
         | Item::StartNow { f, is_final } => { start_now(alloc, p, s, i, task, f, is_final) }
-        _ => Err(AllocError),
+        _ => unreachable!(),
     }
 }
 
-/// A deferred task starts by an item. No other item is such a task's.
+/// A deferred task starts by its item.
 fn start_by(alloc: Global, s: &mut State, i: u8, task: Tid, x: Item) -> Result<(), OutOfMemory>
     requires known { i < (state_of s.old).count }
     requires current { HasCurrent (state_of s.old) i }
     requires live { IsSome (task_of (state_of s.old) task) }
+    requires taken { fits (event.Start task) x ≡ true }
     ensures done { (p : Program) → OnOk result (effect p (state_of s.old) i (event.Start task) x
         ≡ Some (state_of s.new)) }
     ensures refused { OnErr result (state_of s.new ≡ state_of s.old) }
@@ -107,7 +112,7 @@ fn start_by(alloc: Global, s: &mut State, i: u8, task: Tid, x: Item) -> Result<(
             start_alone(alloc, s, i, task);
             Ok(())
         }
-        _ => Err(AllocError),
+        _ => unreachable!(),
     }
 }
 
@@ -122,6 +127,7 @@ pub(crate) fn take_effect(
 ) -> Result<(), OutOfMemory>
     requires known { thread < (state_of s.old).count }
     requires needs { Needs (state_of s.old) thread e.now }
+    requires taken { fits e.now x ≡ true }
     ensures done { OnOk result (effect p.now (state_of s.old) thread e.now x
         ≡ Some (state_of s.new)) }
     ensures refused { OnErr result (state_of s.new ≡ state_of s.old) }
@@ -138,7 +144,7 @@ pub(crate) fn take_effect(
         Event::Set { icv, value } => return set_variable(alloc, s, i, *icv, *value),
         Event::Lock { k } => return set_lock(s, *k, Some(thread)),
         Event::Unlock { k } => return set_lock(s, *k, None),
-        Event::FreeTask { .. } | Event::FreeRegion { .. } => return Err(AllocError),
+        Event::FreeTask { .. } | Event::FreeRegion { .. } => unreachable!(),
         Event::Begin => begin(alloc, s, i),
         Event::Offer => offer(alloc, s, i),
         Event::Want { n } => want(alloc, s, i, *n),

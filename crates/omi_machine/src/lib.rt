@@ -9,6 +9,7 @@ mod barrier_rules;
 mod effects;
 mod first_lists;
 mod fork_rules;
+mod frames;
 mod fresh;
 mod legality;
 mod list_changes;

@@ -8,6 +8,7 @@ ghost use Rattle.omi_model.specs.Tasking.{deferred, deferred_task, scheduled, st
 
 use crate::State;
 use crate::first_lists::push_function;
+use crate::frames::exit_from;
 use crate::slot_changes::{keep_slot, make};
 use crate::thread_changes::set_current;
 use omi_model::{Item, ItemList, Progress, Task, Tid, Variables};
@@ -76,7 +77,7 @@ fn scheduled_from(i: u8, k: Tid, t: &Task, new: Task) -> Task
         thread: i,
         number: t.number,
         scheduling: Some(k),
-        exit: t.exit.saturating_sub(64),
+        exit: exit_from(t),
         enter: 0,
         progress: Progress::Begun,
         ..new
@@ -101,7 +102,7 @@ pub(crate) fn defer(
     ensures refused { OnErr result (state_of s.new ≡ state_of s.old) }
 {
     let Some((k, t)) = s.current(i) else {
-        return Ok(());
+        unreachable!();
     };
     let new = new_deferred(alloc, p, k, t, f, is_final, place)?;
     keep_slot(alloc, &mut s.tasks, task.0)?;
@@ -126,7 +127,7 @@ pub(crate) fn start_now(
     ensures refused { OnErr result (state_of s.new ≡ state_of s.old) }
 {
     let Some((k, t)) = s.current(i as usize) else {
-        return Ok(());
+        unreachable!();
     };
     let deferred = new_deferred(alloc, p, k, t, f, is_final, 0)?;
     let new = scheduled_from(i, k, t, deferred);

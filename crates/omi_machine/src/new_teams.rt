@@ -11,6 +11,7 @@ ghost use Rattle.omi_model.specs.Teams.{exit_below, forked, inherited, master_of
 
 use crate::State;
 use crate::first_lists::{push_end_of_member, push_function, push_working};
+use crate::frames::{exit_from, first_exit};
 use crate::slot_changes::{keep_slot, make};
 use crate::thread_changes::set_current;
 use omi_model::{
@@ -19,14 +20,6 @@ use omi_model::{
 use omi_script::{NumList, Program};
 use omi_word::OutOfMemory;
 use std::alloc::{AllocError, Global};
-
-/// The end of the stack of thread 0, and the size of a stack.
-const FIRST_STACK_END: u64 = 0x7f0000100000;
-
-const STACK_SIZE: u64 = 0x100000;
-
-/// The size of a frame.
-const FRAME_SIZE: u64 = 64;
 
 /// So many equal elements.
 fn replicated<T: Copy + Drop>(alloc: Global, x: T, count: usize) -> Result<Rows<T>, OutOfMemory>
@@ -120,19 +113,12 @@ fn member_list(alloc: Global, p: &Program, at: Encounter, f: u8) -> Result<ItemL
     Ok(list)
 }
 
-/// The exit frame of a member other than member 0: the first frame on its thread's stack.
-fn first_exit(thread: u8) -> u64
-    ensures { result ≡ exit_frame thread 1 }
-{
-    FIRST_STACK_END + STACK_SIZE * thread as u64 - FRAME_SIZE
-}
-
 /// The exit frame of a member.
 fn member_exit(t: &Task, number: u64, thread: u8) -> u64
     ensures { result ≡ (if number == 0 then exit_below t.now else exit_frame thread 1) }
 {
     if number == 0 {
-        t.exit.saturating_sub(FRAME_SIZE)
+        exit_from(t)
     } else {
         first_exit(thread)
     }
@@ -277,7 +263,7 @@ pub(crate) fn fork(
     ensures refused { OnErr result (state_of s.new ≡ state_of s.old) }
 {
     let Some((k, t, r)) = s.current_region(i) else {
-        return Ok(());
+        unreachable!();
     };
     let new = region_of_team(alloc, k, t, r, team, f)?;
     let tasks = new_members(alloc, p, region, k, t, r, f, team)?;

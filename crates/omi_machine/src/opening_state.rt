@@ -8,6 +8,7 @@ ghost use Rattle.omi_model.specs.Rows.{of_main, of_worker};
 
 use crate::State;
 use crate::first_lists::{push_end_of_member, push_function};
+use crate::frames::first_exit;
 use crate::states::{IDLE, WORK_SERIAL};
 use omi_model::{
     Claim, Encounter, Id, Item, ItemList, Progress, Region, Rid, Rows, Slot, Task, Team, Thread,
@@ -23,9 +24,6 @@ const INITIAL: Id = Id {
     slot: 0,
     generation: 0,
 };
-
-/// The exit frame of the initial task: 64 bytes below the end of the stack of thread 0.
-const INITIAL_EXIT: u64 = 0x7f00000fffc0;
 
 /// The encounter of the initial task.
 fn initial_encounter(env: &Env) -> Encounter
@@ -171,7 +169,7 @@ fn initial_task(alloc: Global, p: &Program) -> Result<Task, OutOfMemory>
         generating: None,
         scheduling: None,
         function: p.main,
-        exit: INITIAL_EXIT,
+        exit: first_exit(0),
         enter: 0,
         variables: variables(alloc, &p.env)?,
         is_final: false,

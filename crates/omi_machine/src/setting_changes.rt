@@ -6,6 +6,7 @@ ghost use Rattle.omi_machine.specs.Kept.{state_of};
 ghost use Rattle.omi_model.specs.Settings.{entered, left, with_tool};
 
 use crate::State;
+use crate::frames::enter_of;
 use crate::slot_changes::{put_live, take_live};
 use omi_model::Task;
 use std::alloc::Global;
@@ -17,12 +18,12 @@ pub(crate) fn enter(alloc: Global, s: &mut State, i: usize)
     ensures { by_current (state_of s.old) i (entered (state_of s.old)) ≡ Some (state_of s.new) }
 {
     let Some(k) = s.thread(i).current else {
-        return;
+        unreachable!();
     };
     let Some(t) = take_live(alloc, &mut s.tasks, k.0) else {
-        return;
+        unreachable!();
     };
-    let enter = t.exit.saturating_sub(32);
+    let enter = enter_of(&t);
     put_live(alloc, &mut s.tasks, k.0, Task { enter, ..t });
 }
 
@@ -33,10 +34,10 @@ pub(crate) fn leave(alloc: Global, s: &mut State, i: usize)
     ensures { by_current (state_of s.old) i (left (state_of s.old)) ≡ Some (state_of s.new) }
 {
     let Some(k) = s.thread(i).current else {
-        return;
+        unreachable!();
     };
     let Some(t) = take_live(alloc, &mut s.tasks, k.0) else {
-        return;
+        unreachable!();
     };
     put_live(alloc, &mut s.tasks, k.0, Task { enter: 0, ..t });
 }
@@ -49,10 +50,10 @@ pub(crate) fn set_tool(alloc: Global, s: &mut State, i: usize, x: u64)
         ≡ Some (state_of s.new) }
 {
     let Some(k) = s.thread(i).current else {
-        return;
+        unreachable!();
     };
     let Some(t) = take_live(alloc, &mut s.tasks, k.0) else {
-        return;
+        unreachable!();
     };
     put_live(alloc, &mut s.tasks, k.0, Task { tool: x, ..t });
 }

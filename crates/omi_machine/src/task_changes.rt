@@ -9,6 +9,7 @@ ghost use Rattle.omi_model.specs.Teams.{task_begun};
 
 use crate::State;
 use crate::first_lists::push_working;
+use crate::frames::exit_from;
 use crate::slot_changes::{put_live, take_live};
 use crate::thread_changes::set_current;
 use omi_model::{Progress, Task, Tid};
@@ -22,10 +23,10 @@ pub(crate) fn finish(alloc: Global, s: &mut State, i: usize)
     ensures { by_current (state_of s.old) i (finished (state_of s.old) i) ≡ Some (state_of s.new) }
 {
     let Some(k) = s.thread(i).current else {
-        return;
+        unreachable!();
     };
     let Some(t) = take_live(alloc, &mut s.tasks, k.0) else {
-        return;
+        unreachable!();
     };
     let scheduling = t.scheduling;
     let progress = Progress::Finished;
@@ -40,7 +41,7 @@ pub(crate) fn begin_task(alloc: Global, s: &mut State, i: usize, task: Tid)
     ensures { state_of s.new ≡ task_begun (state_of s.old) i task }
 {
     let Some(t) = take_live(alloc, &mut s.tasks, task.0) else {
-        return;
+        unreachable!();
     };
     let progress = Progress::Begun;
     put_live(alloc, &mut s.tasks, task.0, Task { progress, ..t });
@@ -56,11 +57,11 @@ pub(crate) fn start_alone(alloc: Global, s: &mut State, i: u8, task: Tid)
         ≡ Some (state_of s.new) }
 {
     let Some((k, t)) = s.current(i as usize) else {
-        return;
+        unreachable!();
     };
-    let (number, exit) = (t.number, t.exit.saturating_sub(64));
+    let (number, exit) = (t.number, exit_from(t));
     let Some(mut u) = take_live(alloc, &mut s.tasks, task.0) else {
-        return;
+        unreachable!();
     };
     u.thread = i;
     u.number = number;
@@ -83,11 +84,11 @@ pub(crate) fn start(alloc: Global, s: &mut State, i: u8, task: Tid) -> Result<()
 {
     let at = s.encounter(i as usize);
     let Some((k, t)) = s.current(i as usize) else {
-        return Ok(());
+        unreachable!();
     };
-    let (number, exit) = (t.number, t.exit.saturating_sub(64));
+    let (number, exit) = (t.number, exit_from(t));
     let Some(mut u) = take_live(alloc, &mut s.tasks, task.0) else {
-        return Ok(());
+        unreachable!();
     };
     if push_working(&mut u.list, at).is_err() {
         put_live(alloc, &mut s.tasks, task.0, u);

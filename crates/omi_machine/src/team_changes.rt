@@ -29,16 +29,16 @@ pub(crate) fn end_task(alloc: Global, s: &mut State, i: usize)
         ≡ Some (state_of s.new) }
 {
     let Some((k, t, _)) = s.current_region(i) else {
-        return;
+        unreachable!();
     };
     let (region, number) = (t.region, t.number);
     let Some(t) = take_live(alloc, &mut s.tasks, k.0) else {
-        return;
+        unreachable!();
     };
     let progress = Progress::Finished;
     put_live(alloc, &mut s.tasks, k.0, Task { progress, ..t });
     let Some(mut r) = take_live(alloc, &mut s.regions, region.0) else {
-        return;
+        unreachable!();
     };
     set_ended(&mut r.ended, number);
     put_live(alloc, &mut s.regions, region.0, r);
@@ -52,16 +52,16 @@ pub(crate) fn join(alloc: Global, s: &mut State, i: usize)
     ensures { by_region (state_of s.old) i (joined (state_of s.old) i) ≡ Some (state_of s.new) }
 {
     let Some((k, t, r)) = s.current_region(i) else {
-        return;
+        unreachable!();
     };
     let (region, encountering) = (t.region, r.encountering);
     let Some(t) = take_live(alloc, &mut s.tasks, k.0) else {
-        return;
+        unreachable!();
     };
     let progress = Progress::Finished;
     put_live(alloc, &mut s.tasks, k.0, Task { progress, ..t });
     let Some(r) = take_live(alloc, &mut s.regions, region.0) else {
-        return;
+        unreachable!();
     };
     put_live(
         alloc,

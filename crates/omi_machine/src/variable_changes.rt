@@ -90,13 +90,13 @@ pub(crate) fn set_variable(
         return Ok(());
     }
     let Some((k, t)) = s.current(i) else {
-        return Ok(());
+        unreachable!();
     };
     let Some(variables) = changed(alloc, icv, value, &t.variables)? else {
         return Err(AllocError);
     };
     let Some(t) = take_live(alloc, &mut s.tasks, k.0) else {
-        return Ok(());
+        unreachable!();
     };
     put_live(alloc, &mut s.tasks, k.0, Task { variables, ..t });
     Ok(())

@@ -3,12 +3,16 @@ use Rattle.omi_model.specs.Changes.{with_list}
 use Rattle.omi_model.specs.State.{State}
 use Rattle.omi_machine.specs.Kept.{state_of}
 use Rattle.omi_machine.specs.Needs.{Needs}
-use Rattle.omi_machine.proofs.AfterEvents.{after_is, needs_moved}
+use Rattle.omi_machine.proofs.AfterEvents.{after_is, fits_is, needs_moved}
 use Rattle.omi_machine.proofs.after_event.after.Goals as goal
 
 pub take_effect-requires-clause-needs : goal.take_effect-requires-clause-needs
 take_effect-requires-clause-needs c =
     subst (λ (s : State). Needs s c.args.thread c.args.e.now) (sym c.exchange_list-old.ensures.after) (needs_moved (state_of c.args.s.now) c.args.thread c.in-Some.list c.args.e.now c.requires.item c.requires.rule)
+
+pub take_effect-requires-clause-taken : goal.take_effect-requires-clause-taken
+take_effect-requires-clause-taken c =
+    fits_is c.args.p.now (state_of c.args.s.now) c.args.thread c.args.e.now c.requires _ _ c.in_ok-moved.moved c.encounter.ensures c.list_of.ensures c.in_ok-moved.ensures c.in-Some.x c.in-Some.list c.in-Some.is
 
 pub returns-in-Ok-clause-done : goal.returns-in-Ok-clause-done
 returns-in-Ok-clause-done c =
