@@ -1,12 +1,12 @@
 -- The barriers that each function of a program meets: their number is met by its statements, and `task`, `only` and `critical` name functions with none.
-use Rattle.std.proofs.Common.{◌≡◌, ◌==◌, ℕ, zero, suc, ◌+◌, ◌*◌, ◌<◌, ◌≤◌, ◌||◌, ◌⊎◌, inl, inr, Bool, true, false, List, [], ◌∷◌, length, slice_get, Option, Some, None, refl, sym, ap, ◌∙◌, subst, arith, eq-eqb}
+use Rattle.std.proofs.Common.{◌≡◌, ◌==◌, ℕ, zero, suc, ◌*◌, ◌<◌, ◌≤◌, ◌||◌, ◌⊎◌, inl, inr, Bool, true, false, List, [], ◌∷◌, length, slice_get, Option, Some, refl, sym, ap, ◌∙◌, arith, eq-eqb}
 use Rattle.std.specs.List.{list_any}
 use Rattle.std.specs.Option.{option_map_or}
 use Rattle.std.proofs.lemmas.Bool.{cases_lt}
 use Rattle.std.proofs.lemmas.Option.{slice_get_past}
 use Rattle.omi_script.proofs.RuleLemmas.{Rules-from_accepted}
 use Rattle.omi_script.specs.Bodies.{HasStatement, body_of, named_by}
-use Rattle.omi_script.specs.Reach.{Reach, reach_in, reaches, reaches_barrier}
+use Rattle.omi_script.specs.Reach.{Reach, reaches, reaches_barrier}
 use Rattle.omi_script.specs.Rules.{HasNoBarrier, Rules}
 use Rattle.omi_script.specs.declared.function.Func.{Func}
 use Rattle.omi_script.specs.declared.program.Program.{Program}
@@ -44,7 +44,7 @@ module _ (p : Program) where
   enough (suc n) zero f h k = absurd (omega arith)
   enough (suc n) (suc m) f h k =
       same_body (barriers_to p n) (barriers_to p m) (body_of p.funcs f)
-          (λ j s at. same_stmt (barriers_to p n) (barriers_to p m) s (λ g e. let above : g < f = rules.above f g s (j, at) e in enough n m g (omega arith) (omega arith)))
+      (λ j s at. same_stmt (barriers_to p n) (barriers_to p m) s (λ g e. let above : g < f = rules.above f g s (j, at) e in enough n m g (omega arith) (omega arith)))
 
   -- ---- functions that reach no barrier
 
@@ -54,6 +54,7 @@ module _ (p : Program) where
     where
       same : x ≡ s
       same = cc
+
       go : (b : Bool) → test x ≡ b → (b || list_any test xs) ≡ false → test s ≡ false
       go true e h = absurd (false_true (sym h))
       go false e h = ap test (sym same) ∙ e
@@ -83,7 +84,7 @@ module _ (p : Program) where
       go (inl within) shorter =
           let none_here : list_any (reaches_barrier (reaches [] p.funcs)) (body_of p.funcs f) ≡ false = ap (λ (x : Reach). x.barrier) (sym (rules.reach f within)) ∙ none in
           no_body (barriers_to p n) (body_of p.funcs f)
-              (λ j s at. let e = any_false (reaches_barrier (reaches [] p.funcs)) (body_of p.funcs f) none_here j s at in no_stmt (barriers_to p n) s e (shorter j s at e))
+          (λ j s at. let e = any_false (reaches_barrier (reaches [] p.funcs)) (body_of p.funcs f) none_here j s at in no_stmt (barriers_to p n) s e (shorter j s at e))
 
   none_of : (f : ℕ) → HasNoBarrier p.funcs f → barriers_of p f == 0 ≡ true
   unfolding barriers_of
@@ -103,7 +104,7 @@ module _ (p : Program) where
   unfolding barriers_of
   bodies_counted f =
       same_body (barriers_of p) (barriers_to p f) (body_of p.funcs f)
-          (λ j s at. same_stmt (barriers_of p) (barriers_to p f) s (λ g e. let above : g < f = rules.above f g s (j, at) e in enough (suc g) f g (omega arith) above))
+      (λ j s at. same_stmt (barriers_of p) (barriers_to p f) s (λ g e. let above : g < f = rules.above f g s (j, at) e in enough (suc g) f g (omega arith) above))
 
   pub counted : IsCounted p (barriers_of p)
   counted = record { bodies = bodies_counted; fair = λ f. fair_by_place (body_of p.funcs f) (λ k s at. fair_at f s (k, at)) }

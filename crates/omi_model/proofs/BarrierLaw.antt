@@ -1,5 +1,5 @@
 -- The law of barriers: each member stands in the barriers of its region as its to-do list says.
-use Rattle.std.proofs.Common.{◌≡◌, ◌≢◌, ◌==◌, ℕ, zero, suc, ◌+◌, ◌-◌, ◌<◌, ◌≤◌, ◌⊎◌, inl, inr, Bool, true, false, List, [], ◌∷◌, length, replicate, get_or, slice_get, slice_index, slice_set, Option, Some, None, refl, sym, ap, ◌∙◌, subst, arith}
+use Rattle.std.proofs.Common.{◌≡◌, ◌≢◌, ◌==◌, ℕ, ◌+◌, ◌-◌, ◌<◌, ◌≤◌, ◌⊎◌, inl, inr, Bool, true, false, List, [], ◌∷◌, length, replicate, slice_get, slice_index, slice_set, Option, Some, refl, sym, ap, ◌∙◌, subst, arith}
 use Rattle.std.specs.Option.{option_and_then}
 use Rattle.std.specs.List.{All}
 use Rattle.std.proofs.lemmas.List.{get_or-replicate, get_or-set_other, get_or-set_same}
@@ -18,17 +18,16 @@ use Rattle.omi_model.specs.declared.task.Task.{Task}
 use Rattle.omi_model.specs.Barriers.{HaveArrived}
 use Rattle.omi_model.specs.Changes.{IsCurrent, encounter, encounter_by}
 use Rattle.omi_model.specs.LawMembers.{AreMembersKnown}
-use Rattle.omi_model.specs.LawStays.{Stays}
 use Rattle.omi_model.specs.Lists.{fits, stays, take_item}
 use Rattle.omi_model.specs.Opening.{opening, opening_region}
 use Rattle.omi_model.specs.Reached.{Reached, Step}
 use Rattle.omi_model.specs.Rows.{of_member}
 use Rattle.omi_model.specs.Rules.{Rule}
-use Rattle.omi_model.specs.State.{State, current_task, region_of, task_of}
+use Rattle.omi_model.specs.State.{State, region_of, task_of}
 use Rattle.omi_model.proofs.BarrierCounts.{barriers_of, counted}
-use Rattle.omi_model.proofs.BarrierOrder.{IsCounted, IsReady, Outside, Phase, Released, Waiting, Wrong, and_left, any_number, arrive_ready, fair, fair_item, is_barrier_event, main_ready, member_ready, order, pass_ready, release_ready, shown_ready, stays_ready, take_ready, task_ready, wrong}
+use Rattle.omi_model.proofs.BarrierOrder.{IsCounted, IsReady, Outside, Phase, Released, Waiting, Wrong, and_left, any_number, arrive_ready, fair, fair_item, main_ready, member_ready, order, pass_ready, release_ready, shown_ready, stays_ready, take_ready, task_ready, wrong}
 use Rattle.omi_model.proofs.BarrierSteps.{Changes, region_changed}
-use Rattle.omi_model.proofs.EachObject.{EachTask, IsTaskLaw, list_of_current, over_events, start_list, stays_after, task_step_from}
+use Rattle.omi_model.proofs.EachObject.{EachTask, IsTaskLaw, list_of_current, over_events, start_list, task_step_from}
 use Rattle.omi_model.proofs.ListLaws.{take_fits}
 use Rattle.omi_model.proofs.MembersKnown.{members_known, members_step}
 use Rattle.omi_model.proofs.OpeningObjects.{each_first_task}
@@ -78,9 +77,11 @@ module _ (b : ℕ → ℕ) where
   -- the same arrivals of this member
   same_member : (xs ys : List ℕ) (r q f g n : ℕ) (list : List Item) → slice_index ys n ≡ slice_index xs n → q ≡ r → g ≡ f → Member b xs r f n list → Member b ys q g n list
   same_member xs ys r q f g n list a e h m = record {
-      phase = m.phase; ahead = m.ahead; ready = m.ready;
-      stands = subst (λ x. Stands m.phase n x q) (sym a) (subst (Stands m.phase n (slice_index xs n)) (sym e) m.stands);
-      barriers = ap (λ x. x + m.ahead) a ∙ (m.barriers ∙ ap (λ x. b x + 1) (sym h));
+    phase = m.phase;
+    ahead = m.ahead;
+    ready = m.ready;
+    stands = subst (λ x. Stands m.phase n x q) (sym a) (subst (Stands m.phase n (slice_index xs n)) (sym e) m.stands);
+    barriers = ap (λ x. x + m.ahead) a ∙ (m.barriers ∙ ap (λ x. b x + 1) (sym h));
   }
 
   -- another list, as ready
@@ -107,7 +108,7 @@ module _ (p : Program) (b : ℕ → ℕ) (ok : IsCounted p b) (s : State) (i : �
   taken_ready k t is taken ph w r =
       let same = number_met s i k t is in
       subst (λ n. IsReady b n ph w (the_move.item ∷ the_move.behind)) same
-          (take_ready p b ok (encounter s i) e ph w t.list the_move.item the_move.behind taken (subst (λ n. IsReady b n ph w t.list) (sym same) r))
+      (take_ready p b ok (encounter s i) e ph w t.list the_move.item the_move.behind taken (subst (λ n. IsReady b n ph w t.list) (sym same) r))
 
   -- two members of one region have two numbers
   apart : (k : Tid) (t : Task) (k0 : Tid) (t0 : Task) → task_of s k ≡ Some t → task_of s k0 ≡ Some t0 → t.implicit ≡ true → t0.implicit ≡ true → t0.region ≡ t.region → (k ≡ k0 → ⊥) → t.number ≢ t0.number
@@ -139,10 +140,10 @@ module _ (p : Program) (b : ℕ → ℕ) (ok : IsCounted p b) (s : State) (i : �
           let region : t0.region ≡ t.region = ap (λ (a : Id). record { 0 = a }) same in
           let other = apart k t k0 t0 live is0.live im im0 region (λ g. ne (is0.name ∙ ap (λ (a : Tid). Some a) (sym g))) in
           same_member b r.arrivals q.arrivals r.released q.released r.function q.function t.number t.list
-              (ap (λ xs. slice_index xs t.number) (touched.0 region) ∙ get_or-set_other r.arrivals t0.number t.number (slice_index r.arrivals t0.number + 1) 0 other) touched.2 f m
+          (ap (λ xs. slice_index xs t.number) (touched.0 region) ∙ get_or-set_other r.arrivals t0.number t.number (slice_index r.arrivals t0.number + 1) 0 other) touched.2 f m
       go (inr apart_regions) =
           same_member b r.arrivals q.arrivals r.released q.released r.function q.function t.number t.list
-              (ap (λ xs. slice_index xs t.number) (touched.1 (λ h. apart_regions (ap (λ (a : Rid). a.0) h)))) touched.2 f m
+          (ap (λ xs. slice_index xs t.number) (touched.1 (λ h. apart_regions (ap (λ (a : Rid). a.0) h)))) touched.2 f m
   other_member event.Release y (k0, t0, r0, is0, found0, may) k t r q ne live im found change f member0 m = go (same_or_not t0.region.0 t.region.0)
     where
       touched : (t0.region ≡ t.region → (t0.number ≡ 0) × HaveArrived r × (q.released ≡ r.released + 1)) × ((t0.region ≡ t.region → ⊥) → q.released ≡ r.released) × (q.arrivals ≡ r.arrivals)
@@ -156,10 +157,10 @@ module _ (p : Program) (b : ℕ → ℕ) (ok : IsCounted p b) (s : State) (i : �
           let here : slice_index r.arrivals t.number ≡ r.released + 1 = all_at (r.released + 1) t.number r.arrivals arrived (inside k t r live im found) in
           let up : Stands m.phase t.number (slice_index r.arrivals t.number) (r.released + 1) = raised m.phase t.number (slice_index r.arrivals t.number) r.released m.stands here (λ z. other (z ∙ sym first)) in
           same_member b r.arrivals q.arrivals (r.released + 1) q.released r.function q.function t.number t.list (ap (λ xs. slice_index xs t.number) touched.2) more f
-              (record { phase = m.phase; ahead = m.ahead; ready = m.ready; stands = up; barriers = m.barriers })
+          (record { phase = m.phase; ahead = m.ahead; ready = m.ready; stands = up; barriers = m.barriers })
       go (inr apart_regions) =
           same_member b r.arrivals q.arrivals r.released q.released r.function q.function t.number t.list
-              (ap (λ xs. slice_index xs t.number) touched.2) (touched.1 (λ h. apart_regions (ap (λ (a : Rid). a.0) h))) f m
+          (ap (λ xs. slice_index xs t.number) touched.2) (touched.1 (λ h. apart_regions (ap (λ (a : Rid). a.0) h))) f m
   other_member e' y rule k t r q ne live im found change f member0 m =
       same_member b r.arrivals q.arrivals r.released q.released r.function q.function t.number t.list (ap (λ xs. slice_index xs t.number) change.0) change.1 f m
 
@@ -176,7 +177,7 @@ module _ (p : Program) (b : ℕ → ℕ) (ok : IsCounted p b) (s : State) (i : �
       let touched = change k t is in
       let stood : slice_index r.arrivals t.number ≡ r.released = subst (λ ph. Stands ph t.number (slice_index r.arrivals t.number) r.released) outside m.stands in
       let here : slice_index q.arrivals t.number ≡ slice_index r.arrivals t.number + 1 =
-          ap (λ xs. slice_index xs t.number) (touched.0 refl) ∙ get_or-set_same r.arrivals t.number (slice_index r.arrivals t.number + 1) 0 (inside k t r is.live im found) in
+      ap (λ xs. slice_index xs t.number) (touched.0 refl) ∙ get_or-set_same r.arrivals t.number (slice_index r.arrivals t.number + 1) 0 (inside k t r is.live im found) in
       let released : q.released ≡ r.released = touched.2 in
       let count = m.barriers in
       let function : b q.function ≡ b r.function = ap b f in
@@ -206,7 +207,7 @@ module _ (p : Program) (b : ℕ → ℕ) (ok : IsCounted p b) (s : State) (i : �
   own_member event.Pass y ys fit rule k t r q is im found change f taken m = absurd (false_true fit)
   own_member e' y ys fit rule k t r q is im found change f taken m =
       same_member b r.arrivals q.arrivals r.released q.released r.function q.function t.number (stays (encounter s i) e' y ys) (ap (λ xs. slice_index xs t.number) change.0) change.1 f
-          (other_list b r.arrivals r.released r.function t.number t.list (stays (encounter s i) e' y ys) m (stays_ready b (encounter s i) t.number m.phase m.ahead e' y ys fit refl (taken m.phase m.ahead m.ready)))
+      (other_list b r.arrivals r.released r.function t.number t.list (stays (encounter s i) e' y ys) m (stays_ready b (encounter s i) t.number m.phase m.ahead e' y ys fit refl (taken m.phase m.ahead m.ready)))
 
   own_explicit : (e' : Event) (y : Item) (ys : List Item) → fits e' y ≡ true → Rule s i e' y → (k : Tid) (t : Task) → IsCurrent s i k t → t.implicit ≡ false → Taken t e' y ys → IsReady b t.number Outside 0 t.list → IsReady b t.number Outside 0 (stays (encounter s i) e' y ys)
   own_explicit event.Arrive y ys fit (k0, t0, r0, is0, found0, im0) k t is ex taken r =
@@ -258,14 +259,18 @@ module _ (p : Program) (b : ℕ → ℕ) (ok : IsCounted p b) (s : State) (i : �
 
   law : EachTask (HasPlace b next) middle → IsTaskLaw p middle i e the_move.item next (HasPlace b next)
   law of_tasks = record {
-      shows = λ k t x q. q; tools = λ k t x q. q; sets = λ k t icv value v f q. q; begins = λ k t waits mine q. q; finishes = λ k t is over q. q;
-      starts = λ k u j t x is live ex de may of q.
-          (λ im. absurd (false_true (sym ex ∙ im)), λ h. start_ready b t.number x (encounter middle i) u.list (any_number p b ok u.number t.number u.list (q.1 ex)));
-      members = λ region team f k t r is found may new of j m at.
-          (λ im. (_, new, member region team f r j m at), λ ex. absurd (false_true (sym ex)));
-      deferred = λ task f final seen k t is of. (λ im. absurd (false_true im), λ ex. task_ready p b ok 0 f (fair_of k t is (item.Defer seen f final) of));
-      made = λ task f final k t is of. (λ im. absurd (false_true im), λ ex. task_ready p b ok t.number f (fair_made k t is f final of));
-    }
+    shows = λ k t x q. q;
+    tools = λ k t x q. q;
+    sets = λ k t icv value v f q. q;
+    begins = λ k t waits mine q. q;
+    finishes = λ k t is over q. q;
+    starts = λ k u j t x is live ex de may of q.
+        (λ im. absurd (false_true (sym ex ∙ im)), λ h. start_ready b t.number x (encounter middle i) u.list (any_number p b ok u.number t.number u.list (q.1 ex)));
+    members = λ region team f k t r is found may new of j m at.
+        (λ im. (_, new, member region team f r j m at), λ ex. absurd (false_true (sym ex)));
+    deferred = λ task f final seen k t is of. (λ im. absurd (false_true im), λ ex. task_ready p b ok 0 f (fair_of k t is (item.Defer seen f final) of));
+    made = λ task f final k t is of. (λ im. absurd (false_true im), λ ex. task_ready p b ok t.number f (fair_made k t is f final of));
+  }
     where
       before : IsRelisted s middle
       before = is_relisted s i (stays (encounter s i) e the_move.item the_move.behind)
@@ -290,20 +295,22 @@ module _ (p : Program) (b : ℕ → ℕ) (ok : IsCounted p b) (s : State) (i : �
     where
       own : (k : Tid) (t : Task) → IsCurrent s i k t → take_item p (encounter s i) e t.list ≡ Some (the_move.item, the_move.behind) → HasPlace b s k t → HasPlace b next k (relisted (stays (encounter s i) e the_move.item the_move.behind) t)
       own k t is taken place =
-          let fit = take_fits p (encounter s i) e t.list the_move.item the_move.behind taken in
-          (λ im.
-              let (r, found, m) = place.0 im in
-              let (q, found_q, change, f) = region_after t.region r found in
-              (q, found_q, own_member e the_move.item the_move.behind fit the_move.rule k t r q is im found change f (taken_ready k t is taken) m),
-           λ ex. own_explicit e the_move.item the_move.behind fit the_move.rule k t is ex (taken_ready k t is taken) (place.1 ex))
+          let fit = take_fits p (encounter s i) e t.list the_move.item the_move.behind taken in (
+            λ im.
+                let (r, found, m) = place.0 im in
+                let (q, found_q, change, f) = region_after t.region r found in
+                (q, found_q, own_member e the_move.item the_move.behind fit the_move.rule k t r q is im found change f (taken_ready k t is taken) m),
+            λ ex. own_explicit e the_move.item the_move.behind fit the_move.rule k t is ex (taken_ready k t is taken) (place.1 ex),
+          )
 
       others : (k : Tid) (t : Task) → ((s.threads i).current ≡ Some k → ⊥) → task_of s k ≡ Some t → HasPlace b s k t → HasPlace b next k t
-      others k t ne live place =
-          (λ im.
-              let (r, found, m) = place.0 im in
-              let (q, found_q, change, f) = region_after t.region r found in
-              (q, found_q, other_member e the_move.item the_move.rule k t r q ne live im found change f (λ k0 t0 is_release is first. releases_implicit k0 t0 is_release is (taken_by_current k0 t0 is)) m),
-           place.1)
+      others k t ne live place = (
+        λ im.
+            let (r, found, m) = place.0 im in
+            let (q, found_q, change, f) = region_after t.region r found in
+            (q, found_q, other_member e the_move.item the_move.rule k t r q ne live im found change f (λ k0 t0 is_release is first. releases_implicit k0 t0 is_release is (taken_by_current k0 t0 is)) m),
+        place.1,
+      )
 
 -- ---- every reached state
 
@@ -318,11 +325,18 @@ placed p events s reached = over_events p (ArePlaced p)
     (opening p) events s reached
     (record {
       members = members_known p [] (opening p) refl;
-      places = each_first_task p (HasPlace (barriers_of p) (opening p))
-          (λ im. (opening_region p, refl, record {
-               phase = Outside; ahead = barriers_of p p.main + 1;
-               ready = main_ready p (barriers_of p) (counted p) (record { debug = p.env.debug; number = 0; level = 0; is_final = false }) p.main;
-               stands = refl; barriers = omega arith;
-           }),
-           λ ex. absurd (false_true (sym ex)));
+      places = each_first_task p (HasPlace (barriers_of p) (opening p)) (
+        λ im. (
+          opening_region p,
+          refl,
+          record {
+            phase = Outside;
+            ahead = barriers_of p p.main + 1;
+            ready = main_ready p (barriers_of p) (counted p) (record { debug = p.env.debug; number = 0; level = 0; is_final = false }) p.main;
+            stands = refl;
+            barriers = omega arith;
+          },
+        ),
+        λ ex. absurd (false_true (sym ex)),
+      );
     })

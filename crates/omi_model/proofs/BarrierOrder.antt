@@ -1,5 +1,5 @@
 -- Where a task stands in the barriers of its region, by its to-do list: each arrival is followed by its release and its pass, and a list has so many barriers ahead.
-use Rattle.std.proofs.Common.{◌≡◌, ◌==◌, ℕ, zero, suc, ◌+◌, ◌-◌, ◌*◌, ◌<◌, ◌&&◌, ◌||◌, Bool, true, false, List, [], ◌∷◌, Some, if◌then◌else◌, refl, sym, ap, ◌∙◌, subst, arith, eqb-true}
+use Rattle.std.proofs.Common.{◌≡◌, ◌==◌, ℕ, zero, suc, ◌+◌, ◌-◌, ◌*◌, ◌<◌, ◌&&◌, ◌||◌, Bool, true, false, List, [], ◌∷◌, Some, if◌then◌else◌, refl, sym, ◌∙◌, subst, arith, eqb-true}
 use Rattle.omi_script.specs.Bodies.{body_of}
 use Rattle.omi_script.specs.declared.program.Program.{Program}
 use Rattle.omi_script.specs.declared.statement.Stmt.{Stmt}
@@ -136,9 +136,9 @@ body_fair b (s ∷ ss) rest e f = both (fair_stmt b s) (fair b (body_items ss re
 -- a function in front of a list
 pub function_ready : (p : Program) (b : ℕ → ℕ) → IsCounted p b → (n f w : ℕ) (rest : List Item) → IsReady b n Outside w rest → IsReady b n Outside (b f + w) (function_items p f rest)
 function_ready p b ok n f w rest r = record {
-    in_order = body_order n (body_of p.funcs f) rest ∙ r.in_order;
-    barriers = omega (arith, body_left b (body_of p.funcs f) rest, ok.bodies f, r.barriers);
-    is_fair = body_fair b (body_of p.funcs f) rest (ok.fair f) r.is_fair;
+  in_order = body_order n (body_of p.funcs f) rest ∙ r.in_order;
+  barriers = omega (arith, body_left b (body_of p.funcs f) rest, ok.bodies f, r.barriers);
+  is_fair = body_fair b (body_of p.funcs f) rest (ok.fair f) r.is_fair;
 }
 
 -- an item that says nothing of barriers
@@ -248,7 +248,7 @@ module _ (p : Program) (b : ℕ → ℕ) (ok : IsCounted p b) where
         let is = do_outside at.number ph s xs r.in_order in
         let here : IsReady b at.number Outside (left b xs) xs = record { in_order = subst (λ (q : Phase). order at.number q (item.Do s ∷ xs) ≡ true) is r.in_order; barriers = refl; is_fair = and_right (fair_stmt b s) (fair b xs) r.is_fair } in
         subst (λ (q : Phase). IsReady b at.number q w (first_of at s ∷ behind p at s xs)) (sym is)
-            (subst (λ k. IsReady b at.number Outside k (first_of at s ∷ behind p at s xs)) r.barriers (row_ready (left b xs) s xs (and_left (fair_stmt b s) (fair b xs) r.is_fair) here))
+        (subst (λ k. IsReady b at.number Outside k (first_of at s ∷ behind p at s xs)) r.barriers (row_ready (left b xs) s xs (and_left (fair_stmt b s) (fair b xs) r.is_fair) here))
 
     drop_quiet : (x : Item) → may_drop x ≡ true → is_quiet x ≡ true
     drop_quiet item.Asks e = refl

@@ -1,5 +1,5 @@
 -- What a step does to the arrivals and the released barriers of a region.
-use Rattle.std.proofs.Common.{◌≡◌, ◌+◌, ℕ, ◌⊎◌, inl, inr, Bool, true, false, List, slice_index, slice_set, Option, Some, None, refl, sym, ap, ◌∙◌, subst}
+use Rattle.std.proofs.Common.{◌≡◌, ◌+◌, ℕ, ◌⊎◌, inl, inr, true, false, List, slice_index, slice_set, Some, refl, sym, ap, ◌∙◌, subst}
 use Rattle.std.specs.Option.{option_map}
 use Rattle.std.specs.Prelude.{IfSome, ⊤}
 use Rattle.omi_script.specs.declared.program.Program.{Program}
@@ -12,10 +12,9 @@ use Rattle.omi_model.specs.declared.item.Item.TheVariants as item
 use Rattle.omi_model.specs.declared.region.Region.{Region}
 use Rattle.omi_model.specs.declared.task.Task.{Task}
 use Rattle.omi_model.specs.Barriers.{HaveArrived, MayRelease, arrived, released}
-use Rattle.omi_model.specs.Changes.{IsCurrent, encounter, on_task, with_list}
+use Rattle.omi_model.specs.Changes.{IsCurrent, encounter, with_list}
 use Rattle.omi_model.specs.Lists.{stays}
-use Rattle.omi_model.specs.Put.{Slots, made, named, on}
-use Rattle.omi_model.specs.Reached.{Step}
+use Rattle.omi_model.specs.Put.{Slots, named, on}
 use Rattle.omi_model.specs.Rules.{Rule, effect}
 use Rattle.omi_model.specs.Settings.{entered, left, with_tool}
 use Rattle.omi_model.specs.State.{State, region_of, task_of}
@@ -23,7 +22,7 @@ use Rattle.omi_model.specs.Tasking.{deferred, finished, started, started_alone, 
 use Rattle.omi_model.specs.Teams.{MayFork, forked, joined, new_region, task_ended}
 use Rattle.omi_model.proofs.Slots.{made_stays, none_some, on_other, on_same, same_or_not, some_same}
 use Rattle.omi_model.proofs.StaysKept.{fresh_empty}
-use Rattle.omi_model.proofs.Steps.{IsMove, IsRelisted, current_moved, from_some, is_relisted, list_moves, moved_on, of_current, of_current_region, of_region, of_set, relisted}
+use Rattle.omi_model.proofs.Steps.{IsMove, current_moved, from_some, is_relisted, list_moves, of_current, of_current_region, of_region, of_set, relisted}
 
 -- the region as it was, as far as barriers go
 abbrev pub IsUntouched : Region → Region → Type 0
@@ -65,15 +64,21 @@ module _ (p : Program) (s : State) (i : ℕ) where
       f q = record q { arrivals = slice_set q.arrivals t.number (slice_index q.arrivals t.number + 1) }
 
       go : (n.0 ≡ t.region.0) ⊎ (n.0 ≡ t.region.0 → ⊥) → (q : Region) × (region_of (arrived s t) n ≡ Some q) × Changes s i event.Arrive n r q
-      go (inl same) =
-          (f r, ap (named (arrived s t).regions) same ∙ (on_same s.regions t.region.0 f ∙ ap (option_map f) (ap (named s.regions) (sym same) ∙ e)),
-           λ k' t' is'. let one = same_current s i k k' t t' is is' in
-               (λ h. ap (λ (x : Task). slice_set r.arrivals x.number (slice_index r.arrivals x.number + 1)) one,
-                λ other. absurd (other (ap (λ (x : Task). x.region) (sym one) ∙ sym (ap (λ a. record { 0 = a }) same))), refl))
-      go (inr ne) =
-          (r, on_other s.regions t.region.0 f n.0 ne ∙ e,
-           λ k' t' is'. let one = same_current s i k k' t t' is is' in
-               (λ h. absurd (ne (sym (ap (λ (a : Rid). a.0) (ap (λ (x : Task). x.region) one ∙ h)))), λ other. refl, refl))
+      go (inl same) = (
+        f r,
+        ap (named (arrived s t).regions) same ∙ (on_same s.regions t.region.0 f ∙ ap (option_map f) (ap (named s.regions) (sym same) ∙ e)),
+        λ k' t' is'. let one = same_current s i k k' t t' is is' in (
+          λ h. ap (λ (x : Task). slice_set r.arrivals x.number (slice_index r.arrivals x.number + 1)) one,
+          λ other. absurd (other (ap (λ (x : Task). x.region) (sym one) ∙ sym (ap (λ a. record { 0 = a }) same))),
+          refl,
+        ),
+      )
+      go (inr ne) = (
+        r,
+        on_other s.regions t.region.0 f n.0 ne ∙ e,
+        λ k' t' is'. let one = same_current s i k k' t t' is is' in
+            (λ h. absurd (ne (sym (ap (λ (a : Rid). a.0) (ap (λ (x : Task). x.region) one ∙ h)))), λ other. refl, refl),
+      )
 
   release_touches : (k : Tid) (t : Task) (r0 : Region) → IsCurrent s i k t → region_of s t.region ≡ Some r0 → MayRelease s t r0 → AreChanged s i event.Release (released s t)
   release_touches k t r0 is found may n r e = go (same_or_not n.0 t.region.0)
@@ -84,15 +89,21 @@ module _ (p : Program) (s : State) (i : ℕ) where
       go : (n.0 ≡ t.region.0) ⊎ (n.0 ≡ t.region.0 → ⊥) → (q : Region) × (region_of (released s t) n ≡ Some q) × Changes s i event.Release n r q
       go (inl same) =
           let here : named s.regions t.region.0 ≡ Some r = ap (named s.regions) (sym same) ∙ e in
-          let known : r0 ≡ r = some_same found here in
-          (f r, ap (named (released s t).regions) same ∙ (on_same s.regions t.region.0 f ∙ ap (option_map f) here),
-           λ k' t' is'. let one = same_current s i k k' t t' is is' in
-               (λ h. (ap (λ (x : Task). x.number) (sym one) ∙ may.first, subst HaveArrived known may.arrived, refl),
-                λ other. absurd (other (ap (λ (x : Task). x.region) (sym one) ∙ sym (ap (λ a. record { 0 = a }) same))), refl))
-      go (inr ne) =
-          (r, on_other s.regions t.region.0 f n.0 ne ∙ e,
-           λ k' t' is'. let one = same_current s i k k' t t' is is' in
-               (λ h. absurd (ne (sym (ap (λ (a : Rid). a.0) (ap (λ (x : Task). x.region) one ∙ h)))), λ other. refl, refl))
+          let known : r0 ≡ r = some_same found here in (
+            f r,
+            ap (named (released s t).regions) same ∙ (on_same s.regions t.region.0 f ∙ ap (option_map f) here),
+            λ k' t' is'. let one = same_current s i k k' t t' is is' in (
+              λ h. (ap (λ (x : Task). x.number) (sym one) ∙ may.first, subst HaveArrived known may.arrived, refl),
+              λ other. absurd (other (ap (λ (x : Task). x.region) (sym one) ∙ sym (ap (λ a. record { 0 = a }) same))),
+              refl,
+            ),
+          )
+      go (inr ne) = (
+        r,
+        on_other s.regions t.region.0 f n.0 ne ∙ e,
+        λ k' t' is'. let one = same_current s i k k' t t' is is' in
+            (λ h. absurd (ne (sym (ap (λ (a : Rid). a.0) (ap (λ (x : Task). x.region) one ∙ h)))), λ other. refl, refl),
+      )
 
   untouched : (n : Rid) (r : Region) → region_of s n ≡ Some r → (q : Region) × (region_of s n ≡ Some q) × IsUntouched r q
   untouched n r e = (r, e, (refl, refl))
@@ -102,7 +113,7 @@ module _ (p : Program) (s : State) (i : ℕ) where
   changed_effect (event.Ask w false) y rule = untouched
   changed_effect (event.Fork region team) (item.Fork f) rule =
       of_region s i (forked p s i region team f) (AreChanged s i (event.Fork region team)) (λ k t r. MayFork s i region team) rule
-          (λ k t r is found may n q e. (q, made_stays s.regions region.0 (new_region k t r team f) n.0 q (fresh_empty s.regions i region.0 may.region_new) e, (refl, refl)))
+      (λ k t r is found may n q e. (q, made_stays s.regions region.0 (new_region k t r team f) n.0 q (fresh_empty s.regions i region.0 may.region_new) e, (refl, refl)))
   changed_effect (event.Fork region team) y rule = tt
   changed_effect event.Enter y rule = of_current s i (entered s) (AreChanged s i event.Enter) (λ k t. ⊤) rule (λ k t is h. untouched)
   changed_effect event.Leave y rule = of_current s i (left s) (AreChanged s i event.Leave) (λ k t. ⊤) rule (λ k t is h. untouched)
@@ -110,10 +121,10 @@ module _ (p : Program) (s : State) (i : ℕ) where
   changed_effect event.Release y rule = of_current_region s i (λ k t. released s t) (AreChanged s i event.Release) (λ k t r. MayRelease s t r) rule (λ k t r is found h. release_touches k t r is found h)
   changed_effect (event.ImplicitEnd task) y rule =
       of_current_region s i (task_ended s i) (AreChanged s i (event.ImplicitEnd task)) _ rule
-          (λ k t r is found h. beside s.regions t.region (λ q. record q { ended = slice_set q.ended t.number true }) (λ q. (refl, refl)))
+      (λ k t r is found h. beside s.regions t.region (λ q. record q { ended = slice_set q.ended t.number true }) (λ q. (refl, refl)))
   changed_effect (event.Join region) y rule =
       of_region s i (joined s i) (AreChanged s i (event.Join region)) _ rule
-          (λ k t r is found h. beside s.regions t.region (λ q. record q { joined = true }) (λ q. (refl, refl)))
+      (λ k t r is found h. beside s.regions t.region (λ q. record q { joined = true }) (λ q. (refl, refl)))
   changed_effect (event.FreeTask task) y rule = tt
   changed_effect (event.FreeRegion region) y rule = tt
   changed_effect (event.Defer task) (item.Defer seen f final) rule = of_current s i (deferred p s task f final seen) (AreChanged s i (event.Defer task)) _ rule (λ k t is h. untouched)

@@ -1,16 +1,16 @@
 -- Each thread's chain of tasks is kept by every event.
-use Rattle.std.proofs.Common.{◌≡◌, ◌≢◌, ◌==◌, ◌⊎◌, inl, inr, ℕ, Bool, true, false, List, [], ◌∷◌, Option, Some, None, if◌then◌else◌, refl, sym, ap, ◌∙◌, subst, ne_eqb}
+use Rattle.std.proofs.Common.{◌≡◌, ◌≢◌, ◌==◌, ◌⊎◌, inl, inr, ℕ, true, List, [], ◌∷◌, Some, None, if◌then◌else◌, refl, sym, ap, ◌∙◌, subst, ne_eqb}
 use Rattle.std.proofs.lemmas.Bool.{cases_eq}
 use Rattle.omi_script.specs.declared.program.Program.{Program}
 use Rattle.omi_model.specs.declared.event.Event.{Event}
 use Rattle.omi_model.specs.declared.id.Tid.{Tid}
 use Rattle.omi_model.specs.declared.item.Item.{Item}
-use Rattle.omi_model.specs.declared.progress.Progress.TheVariants.{Begun, Finished, NotBegun}
+use Rattle.omi_model.specs.declared.progress.Progress.TheVariants.{Begun, NotBegun}
 use Rattle.omi_model.specs.declared.region.Region.{Region}
 use Rattle.omi_model.specs.declared.task.Task.{Task}
 use Rattle.omi_model.specs.declared.thread.Thread.{Thread}
 use Rattle.omi_model.specs.Changes.{encounter}
-use Rattle.omi_model.specs.LawChains.{IsApart, IsChain}
+use Rattle.omi_model.specs.LawChains.{IsChain}
 use Rattle.omi_model.specs.LawMembers.{AreMembersKnown}
 use Rattle.omi_model.specs.LawStays.{Stays}
 use Rattle.omi_model.specs.Lists.{stays}
@@ -25,7 +25,7 @@ use Rattle.omi_model.proofs.MembersKnown.{members_known, members_step}
 use Rattle.omi_model.proofs.OpeningObjects.{each_first_thread}
 use Rattle.omi_model.proofs.Slots.{some_same}
 use Rattle.omi_model.proofs.StaysKept.{stays_list, stays_step}
-use Rattle.omi_model.proofs.Steps.{IsMove, IsRelisted, from_some, is_relisted, move_of, moved_on, relisted}
+use Rattle.omi_model.proofs.Steps.{IsMove, IsRelisted, from_some, is_relisted, move_of, moved_on}
 
 -- the other threads keep their current tasks
 abbrev KeepsCurrent : State → ℕ → ℕ → Thread → Type 0
@@ -36,14 +36,19 @@ current_kept p s i e next step = thread_step p (KeepsCurrent s i) s i e next ste
   where
     law : (middle : State) → IsRelisted s middle → Stays middle next → EachThread (KeepsCurrent s i) middle → IsThreadLaw p middle i next (KeepsCurrent s i)
     law middle before later all = record {
-        begins = λ may q. q; offers = λ may q. q; wants = λ n num may q. q; asks = λ w got may q. q; claims = λ w may q. q; shows = λ state wait q. q;
-        forks = λ region team f k t r is found may new q ne. absurd (ne refl);
-        joins_team = λ task may q ne. absurd (ne refl);
-        ends = λ k t r is found im other q ne. absurd (ne refl);
-        joins = λ k t r is found may q ne. absurd (ne refl);
-        makes = λ task f final k t is new q ne. absurd (ne refl);
-        starts = λ task x k t is may new q ne. absurd (ne refl);
-        finishes = λ k t is ex q ne. absurd (ne refl);
+      begins = λ may q. q;
+      offers = λ may q. q;
+      wants = λ n num may q. q;
+      asks = λ w got may q. q;
+      claims = λ w may q. q;
+      shows = λ state wait q. q;
+      forks = λ region team f k t r is found may new q ne. absurd (ne refl);
+      joins_team = λ task may q ne. absurd (ne refl);
+      ends = λ k t r is found im other q ne. absurd (ne refl);
+      joins = λ k t r is found may q ne. absurd (ne refl);
+      makes = λ task f final k t is new q ne. absurd (ne refl);
+      starts = λ task x k t is may new q ne. absurd (ne refl);
+      finishes = λ k t is ex q ne. absurd (ne refl);
     }
 
 abbrev pub Chains : State → Type 0
@@ -69,9 +74,11 @@ module _ (p : Program) (s : State) (i : ℕ) (e : Event) (next : State) (step : 
 
   middle_chain : HasChain middle i (middle.threads i).current
   middle_chain =
-      let (ks, chain) = chains i in
-      (ks, subst (λ o. IsChain middle i o ks) (sym (before.currents i))
-          (chain_later s middle (stays_list s i (stays (encounter s i) e m.item m.behind)) (λ k. ⊥) (λ k t v live begun found ne. same_progress k t v live found ∙ begun) i (s.threads i).current ks chain (λ k t live mine on h. h)))
+      let (ks, chain) = chains i in (
+        ks,
+        subst (λ o. IsChain middle i o ks) (sym (before.currents i))
+            (chain_later s middle (stays_list s i (stays (encounter s i) e m.item m.behind)) (λ k. ⊥) (λ k t v live begun found ne. same_progress k t v live found ∙ begun) i (s.threads i).current ks chain (λ k t live mine on h. h)),
+      )
 
   middle_goes : GoesOn middle i e next
   middle_goes k t v live begun found other =
@@ -95,15 +102,17 @@ module _ (p : Program) (s : State) (i : ℕ) (e : Event) (next : State) (step : 
   own : HasChain next i (next.threads i).current
   own =
       from_some (Chained p middle i middle_chain first loose e) (effect p middle i e m.item) next m.effect_is
-          (own_effect p middle i middle_chain first loose e m.item m.rule_moved) (stays_after p s i e next m) middle_goes
+      (own_effect p middle i middle_chain first loose e m.item m.rule_moved) (stays_after p s i e next m) middle_goes
 
   others : (j : ℕ) → j ≢ i → HasChain next j (next.threads j).current
   others j ne =
-      let (ks, chain) = chains j in
-      (ks, subst (λ o. IsChain next j o ks) (sym (current_kept p s i e next step j ne))
-          (chain_later s next (stays_step p s i e next step) (λ k. ((s.threads i).current ≡ Some k) × (is_end e ≡ true))
-              (λ k t v live begun found free. goes_on p s i e next step k t v live begun found (λ name over. free (name, over)))
-              j (s.threads j).current ks chain (λ k t live mine on (name, over). ne (elsewhere k t live mine name))))
+      let (ks, chain) = chains j in (
+        ks,
+        subst (λ o. IsChain next j o ks) (sym (current_kept p s i e next step j ne))
+            (chain_later s next (stays_step p s i e next step) (λ k. ((s.threads i).current ≡ Some k) × (is_end e ≡ true))
+            (λ k t v live begun found free. goes_on p s i e next step k t v live begun found (λ name over. free (name, over)))
+            j (s.threads j).current ks chain (λ k t live mine on (name, over). ne (elsewhere k t live mine name))),
+      )
     where
       elsewhere : (k : Tid) (t : Task) → task_of s k ≡ Some t → t.thread ≡ j → (s.threads i).current ≡ Some k → j ≡ i
       elsewhere k t live mine name =

@@ -9,12 +9,11 @@ use Rattle.omi_model.specs.declared.event.Event.{Event}
 use Rattle.omi_model.specs.declared.event.Event.TheVariants as event
 use Rattle.omi_model.specs.declared.item.Item.{Item}
 use Rattle.omi_model.specs.declared.item.Item.TheVariants as item
-use Rattle.omi_model.specs.Lists.{may_drop, stays, take_item}
+use Rattle.omi_model.specs.Lists.{stays, take_item}
 use Rattle.omi_model.specs.Numbers.{wait_taskwait}
 use Rattle.omi_model.specs.Rows.{barrier_items, behind, body_items, call_items, end_of_member, first_of, last_of_member, of_main, of_member, shown, working}
 use Rattle.omi_model.proofs.BarrierOrder.{body_left, left}
 use Rattle.omi_model.proofs.ListLaws.{take_keeps}
-use Rattle.omi_model.proofs.Slots.{false_true}
 
 abbrev pub HasBehind : (ℕ → ℕ) → Item → List Item → Type 0
 HasBehind b (item.Do s) rest = 0 < left b rest
@@ -77,9 +76,11 @@ module _ (b : ℕ → ℕ) where
     row_covers at stmt.Taskwait rest (more, h) = (tt, shown_covers at _ 0 (item.Tasks wait_taskwait ∷ item.WaitDone ∷ working at (item.Leave ∷ rest)) (tt, (tt, working_covers at (item.Leave ∷ rest) (tt, h))))
     row_covers at stmt.Taskyield rest (more, h) = (tt, (tt, (tt, (tt, h))))
     row_covers at stmt.Barrier rest (more, h) = (tt, barrier_covers at _ (working at (item.Leave ∷ rest)) (working_covers at (item.Leave ∷ rest) (tt, h)))
-    row_covers at (stmt.Critical k f) rest (more, h) =
-        (tt, shown_covers at _ _ (item.Lock k ∷ working at (item.Leave ∷ item.Call f ∷ call_items p f (item.Unlock k ∷ rest)))
-            (tt, working_covers at (item.Leave ∷ item.Call f ∷ call_items p f (item.Unlock k ∷ rest)) (tt, (tt, call_covers f (item.Unlock k ∷ rest) (omega arith) (tt, h)))))
+    row_covers at (stmt.Critical k f) rest (more, h) = (
+      tt,
+      shown_covers at _ _ (item.Lock k ∷ working at (item.Leave ∷ item.Call f ∷ call_items p f (item.Unlock k ∷ rest)))
+          (tt, working_covers at (item.Leave ∷ item.Call f ∷ call_items p f (item.Unlock k ∷ rest)) (tt, (tt, call_covers f (item.Unlock k ∷ rest) (omega arith) (tt, h)))),
+    )
     row_covers at (stmt.Call f) rest (more, h) = (tt, call_covers f rest more h)
     row_covers at (stmt.Only m f) rest (more, h) = go (at.number == m)
       where

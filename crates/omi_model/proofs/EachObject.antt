@@ -1,8 +1,8 @@
 -- A law of each task, and a law of each region: what has to be shown of it, once for all events.
-use Rattle.std.proofs.Common.{◌≡◌, ◌<◌, ◌+◌, ◌-◌, ℕ, zero, suc, ◌⊎◌, inl, inr, Bool, true, false, List, [], ◌∷◌, length, get_or, slice_get, slice_index, slice_set, drop, Option, Some, None, refl, sym, ap, ◌∙◌, subst, arith}
+use Rattle.std.proofs.Common.{◌≡◌, ◌+◌, ◌-◌, ℕ, zero, suc, ◌⊎◌, inl, inr, Bool, true, false, List, [], ◌∷◌, slice_get, slice_index, slice_set, drop, Option, Some, refl, sym, ap, ◌∙◌, subst, arith}
 use Rattle.std.specs.Prelude.{IfSome, ⊤}
 use Rattle.std.specs.List.{All}
-use Rattle.std.specs.Option.{option_and_then, option_map, option_map_or}
+use Rattle.std.specs.Option.{option_and_then, option_map_or}
 use Rattle.omi_script.specs.declared.program.Program.{Program}
 use Rattle.omi_model.specs.declared.encounter.Encounter.{Encounter}
 use Rattle.omi_model.specs.declared.event.Event.{Event}
@@ -17,11 +17,11 @@ use Rattle.omi_model.specs.declared.region.Region.{Region}
 use Rattle.omi_model.specs.declared.task.Task.{Task}
 use Rattle.omi_model.specs.declared.task.Variables.{Variables}
 use Rattle.omi_model.specs.Barriers.{MayRelease, arrived, released}
-use Rattle.omi_model.specs.Changes.{IsCurrent, OfCurrent, OfCurrentRegion, encounter, list_of, on_region, on_task, with_list}
+use Rattle.omi_model.specs.Changes.{IsCurrent, encounter, list_of, on_region, on_task, with_list}
 use Rattle.omi_model.specs.Fresh.{IsFresh}
 use Rattle.omi_model.specs.Lists.{stays, take_item}
 use Rattle.omi_model.specs.Put.{Slots, made, named}
-use Rattle.omi_model.specs.Reached.{Leads, Reached, Step}
+use Rattle.omi_model.specs.Reached.{Leads, Step}
 use Rattle.omi_model.specs.Rows.{working}
 use Rattle.omi_model.specs.Rules.{Rule, effect}
 use Rattle.omi_model.specs.Settings.{entered, left, with_tool, with_variable}
@@ -31,7 +31,7 @@ use Rattle.omi_model.specs.Teams.{MayEnd, MayFork, MayJoin, forked, joined, memb
 use Rattle.omi_model.specs.LawStays.{Stays}
 use Rattle.omi_model.proofs.Slots.{Each, each_made, each_on, each_on_to, made_same, made_stays, none_some, some_same}
 use Rattle.omi_model.proofs.StaysKept.{AreNew, fresh_empty, new_team, stays_effect}
-use Rattle.omi_model.proofs.Steps.{IsMove, IsRelisted, at_current, from_some, is_relisted, list_moves, move_of, moved_on, of_current, of_current_region, of_region, of_set, relisted}
+use Rattle.omi_model.proofs.Steps.{IsMove, IsRelisted, from_some, is_relisted, list_moves, move_of, moved_on, of_current, of_current_region, of_region, of_set, relisted}
 
 abbrev pub EachTask : (Tid → Task → Type 0) → State → Type 0
 EachTask P s = (k : Tid) (t : Task) → task_of s k ≡ Some t → P k t
@@ -72,8 +72,8 @@ each_member : (P : Tid → Task → Type 0) (task : ℕ → ℕ → Task) (numbe
 each_member P task number [] slots all new = all
 each_member P task number (m ∷ ms) slots all new =
     each_member P task (number + 1) ms (made slots m.0.0 (task number m.1))
-        (each_made (λ n t. P (record { 0 = n }) t) slots m.0.0 (task number m.1) all (let zero_more : number + 0 ≡ number = omega arith in subst (λ j. P m.0 (task j m.1)) zero_more (new 0 m refl)))
-        (λ j x e. let one_more : number + suc j ≡ number + 1 + j = omega arith in subst (λ h. P x.0 (task h x.1)) one_more (new (suc j) x e))
+    (each_made (λ n t. P (record { 0 = n }) t) slots m.0.0 (task number m.1) all (let zero_more : number + 0 ≡ number = omega arith in subst (λ j. P m.0 (task j m.1)) zero_more (new 0 m refl)))
+    (λ j x e. let one_more : number + suc j ≡ number + 1 + j = omega arith in subst (λ h. P x.0 (task h x.1)) one_more (new (suc j) x e))
 
 -- the members of a new team are found under their names
 found_later : (task : ℕ → ℕ → Task) (number : ℕ) (team : List (Tid × ℕ)) (slots : Slots Task) (i : ℕ) (n : Id) (x : Task) → AreNew slots i team → named slots n ≡ Some x → named (with_members task number team slots) n ≡ Some x
@@ -87,8 +87,8 @@ found_from task number (x ∷ xs) slots i new zero m e =
     let same : x ≡ m = some_same refl e in
     let zero_more : number ≡ number + 0 = omega arith in
     subst (λ h. named (with_members task number (x ∷ xs) slots) m.0.0 ≡ Some (task h m.1)) zero_more
-        (subst (λ (y : Tid × ℕ). named (with_members task number (x ∷ xs) slots) y.0.0 ≡ Some (task number y.1)) same
-            (found_later task (number + 1) xs (made slots x.0.0 (task number x.1)) i x.0.0 (task number x.1) (new.1 (task number x.1)) (made_same slots x.0.0 (task number x.1))))
+    (subst (λ (y : Tid × ℕ). named (with_members task number (x ∷ xs) slots) y.0.0 ≡ Some (task number y.1)) same
+    (found_later task (number + 1) xs (made slots x.0.0 (task number x.1)) i x.0.0 (task number x.1) (new.1 (task number x.1)) (made_same slots x.0.0 (task number x.1))))
 found_from task number (x ∷ xs) slots i new (suc j) m e =
     let one_more : number + 1 + j ≡ number + suc j = omega arith in
     subst (λ h. named (with_members task number (x ∷ xs) slots) m.0.0 ≡ Some (task h m.1)) one_more (found_from task (number + 1) xs (made slots x.0.0 (task number x.1)) i (new.1 (task number x.1)) j m e)
@@ -123,12 +123,12 @@ module _ (p : Program) (P : Tid → Task → Type 0) where
   task_effect s i (event.Ask w false) y rule all = λ law. all
   task_effect s i (event.Fork region team) (item.Fork f) rule all =
       of_region s i (forked p s i region team f) (of_law s i (event.Fork region team) (item.Fork f)) (λ k t r. MayFork s i region team) rule
-          (λ k t r is found may law n u e. each_member P (member_task p region k t r f) 0 team s.tasks (λ m v h. all (record { 0 = m }) v h)
-              (λ j m at. let zero_more : 0 + j ≡ j = omega arith in subst (λ h. P m.0 (member_task p region k t r f h m.1)) (sym zero_more) (law.members region team f k t r is found may (made_same s.regions region.0 (new_region k t r team f)) refl j m at)) n.0 u e)
+      (λ k t r is found may law n u e. each_member P (member_task p region k t r f) 0 team s.tasks (λ m v h. all (record { 0 = m }) v h)
+      (λ j m at. let zero_more : 0 + j ≡ j = omega arith in subst (λ h. P m.0 (member_task p region k t r f h m.1)) (sym zero_more) (law.members region team f k t r is found may (made_same s.regions region.0 (new_region k t r team f)) refl j m at)) n.0 u e)
   task_effect s i (event.Fork region team) y rule all = tt
   task_effect s i (event.ImplicitBegin task) y rule all =
       λ law. each_changed s task (λ t. record t { progress = Begun }) all
-          (λ t e h. let same : rule.member ≡ t = some_same rule.live e in law.begins task t (ap (λ (u : Task). u.progress) (sym same) ∙ rule.waiting) (ap (λ (u : Task). u.thread) (sym same) ∙ rule.mine) h)
+      (λ t e h. let same : rule.member ≡ t = some_same rule.live e in law.begins task t (ap (λ (u : Task). u.progress) (sym same) ∙ rule.waiting) (ap (λ (u : Task). u.thread) (sym same) ∙ rule.mine) h)
   task_effect s i (event.State state wait) y rule all = λ law. all
   task_effect s i event.Enter y rule all = of_current s i (entered s) (of_law s i event.Enter y) (λ k t. ⊤) rule (λ k t is h law. each_changed s k (λ u. record u { enter = t.exit - 32 }) all (λ u e q. law.shows k u (t.exit - 32) q))
   task_effect s i event.Leave y rule all = of_current s i (left s) (of_law s i event.Leave y) (λ k t. ⊤) rule (λ k t is h law. each_changed s k (λ u. record u { enter = 0 }) all (λ u e q. law.shows k u 0 q))
@@ -150,20 +150,20 @@ module _ (p : Program) (P : Tid → Task → Type 0) where
   task_effect s i (event.StartNow task) y rule all = tt
   task_effect s i (event.Start task) (item.Tasks state) rule all =
       of_current s i (started s i task) (of_law s i (event.Start task) (item.Tasks state)) (MayStart s task (item.Tasks state)) rule
-          (λ k t is may law. each_changed s task (λ u. record (scheduled i k t u) { list = working (encounter s i) u.list }) all
-              (λ u e q. let same : may.new ≡ u = some_same may.live e in
-                  law.starts task u k t (item.Tasks state) is e (ap (λ (x : Task). x.implicit) (sym same) ∙ may.explicit) (ap (λ (x : Task). x.progress) (sym same) ∙ may.deferred) (subst (MayStartAt (item.Tasks state) k t) same may.allowed) refl q))
+      (λ k t is may law. each_changed s task (λ u. record (scheduled i k t u) { list = working (encounter s i) u.list }) all
+      (λ u e q. let same : may.new ≡ u = some_same may.live e in
+      law.starts task u k t (item.Tasks state) is e (ap (λ (x : Task). x.implicit) (sym same) ∙ may.explicit) (ap (λ (x : Task). x.progress) (sym same) ∙ may.deferred) (subst (MayStartAt (item.Tasks state) k t) same may.allowed) refl q))
   task_effect s i (event.Start task) item.OneTask rule all =
       of_current s i (started_alone s i task) (of_law s i (event.Start task) item.OneTask) (MayStart s task item.OneTask) rule
-          (λ k t is may law. each_changed s task (scheduled i k t) all
-              (λ u e q. let same : may.new ≡ u = some_same may.live e in
-                  law.starts task u k t item.OneTask is e (ap (λ (x : Task). x.implicit) (sym same) ∙ may.explicit) (ap (λ (x : Task). x.progress) (sym same) ∙ may.deferred) (subst (MayStartAt item.OneTask k t) same may.allowed) refl q))
+      (λ k t is may law. each_changed s task (scheduled i k t) all
+      (λ u e q. let same : may.new ≡ u = some_same may.live e in
+      law.starts task u k t item.OneTask is e (ap (λ (x : Task). x.implicit) (sym same) ∙ may.explicit) (ap (λ (x : Task). x.progress) (sym same) ∙ may.deferred) (subst (MayStartAt item.OneTask k t) same may.allowed) refl q))
   task_effect s i (event.Start task) y rule all = tt
   task_effect s i (event.Finish task) y rule all = of_current s i (finished s i) (of_law s i (event.Finish task) y) _ rule (λ k t is h law. each_changed s k (λ u. record u { progress = Finished }) all (λ u e q. law.finishes k u (the_current s i k t u is e) refl q))
   task_effect s i (event.Set icv value) y rule all =
       of_set s i icv value (of_law s i (event.Set icv value) y) rule (λ law. all)
-          (λ k t v is e law. each_changed s k (λ u. record u { variables = v }) all
-              (λ u e' q. let same : t ≡ u = some_same is.live e' in law.sets k u icv value v (subst (λ (x : Task). with_variable icv value x.variables ≡ Some v) same e) q))
+      (λ k t v is e law. each_changed s k (λ u. record u { variables = v }) all
+      (λ u e' q. let same : t ≡ u = some_same is.live e' in law.sets k u icv value v (subst (λ (x : Task). with_variable icv value x.variables ≡ Some v) same e) q))
   task_effect s i (event.SetTool x) y rule all = of_current s i (λ k t. with_tool s x k) (of_law s i (event.SetTool x) y) (λ k t. ⊤) rule (λ k t is h law. each_changed s k (λ u. record u { tool = x }) all (λ u e q. law.tools k u x q))
   task_effect s i (event.Lock k) y rule all = λ law. all
   task_effect s i (event.Unlock k) y rule all = λ law. all
@@ -186,11 +186,11 @@ pub task_step_from : (p : Program) (P Q : Tid → Task → Type 0) (s : State) (
 task_step_from p P Q s i e after_step m moves others law all =
     let zs : List Item = stays (encounter s i) e m.item m.behind in
     let middle : EachTask Q (with_list s i zs) = list_moves s i zs (EachTask Q)
-        (λ k is n t e'. each_on_to (λ h u. P (record { 0 = h }) u) (λ h u. Q (record { 0 = h }) u) s.tasks k.0 (relisted zs) (λ h u g. all (record { 0 = h }) u g)
-            (λ u live h. let current : IsCurrent s i k u = record { name = is; live = live } in
-                moves k u current (ap (take_item p (encounter s i) e) (sym (list_of_current s i k u current)) ∙ m.taken) h)
-            (λ h u ne live q. others (record { 0 = h }) u (λ g. ne (ap (λ (a : Tid). a.0) (some_same g is))) live q) n.0 t e')
-        (λ none k t live. others k t (λ g. none_some none g) live (all k t live)) in
+    (λ k is n t e'. each_on_to (λ h u. P (record { 0 = h }) u) (λ h u. Q (record { 0 = h }) u) s.tasks k.0 (relisted zs) (λ h u g. all (record { 0 = h }) u g)
+    (λ u live h. let current : IsCurrent s i k u = record { name = is; live = live } in
+    moves k u current (ap (take_item p (encounter s i) e) (sym (list_of_current s i k u current)) ∙ m.taken) h)
+    (λ h u ne live q. others (record { 0 = h }) u (λ g. ne (ap (λ (a : Tid). a.0) (some_same g is))) live q) n.0 t e')
+    (λ none k t live. others k t (λ g. none_some none g) live (all k t live)) in
     from_some (of_law p Q (with_list s i zs) i e m.item) (effect p (with_list s i zs) i e m.item) after_step m.effect_is (task_effect p Q (with_list s i zs) i e m.item m.rule_moved middle) (law middle)
 
 -- the law of each task over a step
@@ -200,7 +200,7 @@ task_step p P s i e after_step step moves law all =
     let m = move_of p s i e after_step step in
     let zs : List Item = stays (encounter s i) e m.item m.behind in
     task_step_from p P P s i e after_step m (λ k t is taken h. moves k t m.item m.behind is taken h) (λ k t ne live h. h)
-        (λ middle. law (with_list s i zs) m.item (is_relisted s i zs) (stays_after p s i e after_step m) middle) all
+    (λ middle. law (with_list s i zs) m.item (is_relisted s i zs) (stays_after p s i e after_step m) middle) all
 
 -- ---- regions
 
@@ -227,7 +227,7 @@ module _ (p : Program) (Q : Rid → Region → Type 0) where
   region_effect s i (event.Ask w false) y rule all = λ law. all
   region_effect s i (event.Fork region team) (item.Fork f) rule all =
       of_region s i (forked p s i region team f) (of_region_law s i) (λ k t r. MayFork s i region team) rule
-          (λ k t r is found may law n q e. each_made (λ h x. Q (record { 0 = h }) x) s.regions region.0 (new_region k t r team f) (λ h x g. all (record { 0 = h }) x g) (law.forks region team f k t r is found may (members_found (member_task p region k t r f) team s.tasks i (new_team s.tasks i team may.tasks_new may.distinct))) n.0 q e)
+      (λ k t r is found may law n q e. each_made (λ h x. Q (record { 0 = h }) x) s.regions region.0 (new_region k t r team f) (λ h x g. all (record { 0 = h }) x g) (law.forks region team f k t r is found may (members_found (member_task p region k t r f) team s.tasks i (new_team s.tasks i team may.tasks_new may.distinct))) n.0 q e)
   region_effect s i (event.Fork region team) y rule all = tt
   region_effect s i (event.ImplicitBegin task) y rule all = λ law. all
   region_effect s i (event.State state wait) y rule all = λ law. all
@@ -235,18 +235,18 @@ module _ (p : Program) (Q : Rid → Region → Type 0) where
   region_effect s i event.Leave y rule all = of_current s i (left s) (of_region_law s i) (λ k t. ⊤) rule (λ k t is h law. all)
   region_effect s i event.Arrive y rule all =
       of_current_region s i (λ k t. arrived s t) (of_region_law s i) _ rule
-          (λ k t r is found h law. each_region_changed s t.region (λ q. record q { arrivals = slice_set q.arrivals t.number (slice_index q.arrivals t.number + 1) }) all (λ q e g. law.arrives k t q is e g))
+      (λ k t r is found h law. each_region_changed s t.region (λ q. record q { arrivals = slice_set q.arrivals t.number (slice_index q.arrivals t.number + 1) }) all (λ q e g. law.arrives k t q is e g))
   region_effect s i event.Release y rule all =
       of_current_region s i (λ k t. released s t) (of_region_law s i) (λ k t r. MayRelease s t r) rule
-          (λ k t r is found h law. each_region_changed s t.region (λ q. record q { released = q.released + 1 }) all
-              (λ q e g. let same : r ≡ q = some_same found e in law.releases k t q is e (subst (MayRelease s t) same h) g))
+      (λ k t r is found h law. each_region_changed s t.region (λ q. record q { released = q.released + 1 }) all
+      (λ q e g. let same : r ≡ q = some_same found e in law.releases k t q is e (subst (MayRelease s t) same h) g))
   region_effect s i (event.ImplicitEnd task) y rule all =
       of_current_region s i (task_ended s i) (of_region_law s i) (λ k t r. MayEnd task k t) rule
-          (λ k t r is found h law. each_region_changed (on_task s k (λ u. record u { progress = Finished })) t.region (λ q. record q { ended = slice_set q.ended t.number true }) all (λ q e g. law.ends k t q is e h.implicit g))
+      (λ k t r is found h law. each_region_changed (on_task s k (λ u. record u { progress = Finished })) t.region (λ q. record q { ended = slice_set q.ended t.number true }) all (λ q e g. law.ends k t q is e h.implicit g))
   region_effect s i (event.Join region) y rule all =
       of_region s i (joined s i) (of_region_law s i) (λ k t r. MayJoin region t r) rule
-          (λ k t r is found h law. each_region_changed (on_task s k (λ u. record u { progress = Finished })) t.region (λ q. record q { joined = true }) all
-              (λ q e g. let same : r ≡ q = some_same found e in law.joins k t q is e (record { mine = refl; implicit = h.implicit; first = h.first; ended = subst (λ (x : Region). All (λ b. b ≡ true) (drop 1 x.ended)) same h.ended }) g))
+      (λ k t r is found h law. each_region_changed (on_task s k (λ u. record u { progress = Finished })) t.region (λ q. record q { joined = true }) all
+      (λ q e g. let same : r ≡ q = some_same found e in law.joins k t q is e (record { mine = refl; implicit = h.implicit; first = h.first; ended = subst (λ (x : Region). All (λ b. b ≡ true) (drop 1 x.ended)) same h.ended }) g))
   region_effect s i (event.FreeTask task) y rule all = tt
   region_effect s i (event.FreeRegion region) y rule all = tt
   region_effect s i (event.Defer task) (item.Defer seen f final) rule all = of_current s i (deferred p s task f final seen) (of_region_law s i) _ rule (λ k t is fresh law. all)

@@ -1,5 +1,5 @@
 -- A law of each thread: what has to be shown of it, once for all events.
-use Rattle.std.proofs.Common.{◌≡◌, ◌≢◌, ◌<◌, ℕ, Bool, true, false, List, [], ◌∷◌, ◌++◌, slice_get, Option, Some, None, refl, sym, ap, ◌∙◌, subst}
+use Rattle.std.proofs.Common.{◌≡◌, ◌≢◌, ℕ, Bool, true, false, List, [], ◌∷◌, ◌++◌, slice_get, Option, Some, None, refl, sym, ap, ◌∙◌}
 use Rattle.std.specs.Prelude.{IfSome, ⊤}
 use Rattle.std.specs.Option.{option_and_then, option_map, option_map_or}
 use Rattle.omi_script.specs.declared.program.Program.{Program}
@@ -14,10 +14,10 @@ use Rattle.omi_model.specs.declared.region.Region.{Region}
 use Rattle.omi_model.specs.declared.task.Task.{Task}
 use Rattle.omi_model.specs.declared.thread.Thread.{Thread}
 use Rattle.omi_model.specs.Barriers.{arrived, released}
-use Rattle.omi_model.specs.Changes.{IsCurrent, OfCurrentRegion, encounter, list_of, on_task, on_thread, with_list}
+use Rattle.omi_model.specs.Changes.{IsCurrent, OfCurrentRegion, encounter, on_task, on_thread, with_list}
 use Rattle.omi_model.specs.Fresh.{IsFresh}
 use Rattle.omi_model.specs.LawStays.{Stays}
-use Rattle.omi_model.specs.Lists.{fits, stays, take_item}
+use Rattle.omi_model.specs.Lists.{stays, take_item}
 use Rattle.omi_model.specs.Put.{put}
 use Rattle.omi_model.specs.Reached.{Step}
 use Rattle.omi_model.specs.Rules.{Rule, effect}
@@ -27,9 +27,9 @@ use Rattle.omi_model.specs.Tasking.{MayFinish, MayStart, deferred, deferred_task
 use Rattle.omi_model.specs.Teams.{MayAsk, MayBegin, MayBeginTask, MayEnd, MayFork, MayJoin, MayOffer, forked, joined, master_of, member_task, task_ended, wanted_size}
 use Rattle.omi_model.specs.Rows.{working}
 use Rattle.omi_model.specs.declared.progress.Progress.TheVariants.{Begun}
-use Rattle.omi_model.proofs.Slots.{each_put, made_same, none_some, on_same}
+use Rattle.omi_model.proofs.Slots.{each_put, made_same, on_same}
 use Rattle.omi_model.proofs.StaysKept.{new_team}
-use Rattle.omi_model.proofs.Steps.{IsRelisted, from_some, is_relisted, list_moves, move_of, of_current, of_current_region, of_region, of_set, relisted}
+use Rattle.omi_model.proofs.Steps.{IsRelisted, from_some, is_relisted, list_moves, move_of, of_current, of_current_region, of_region, of_set}
 use Rattle.omi_model.proofs.EachObject.{members_found, stays_after}
 
 abbrev pub EachThread : (ℕ → Thread → Type 0) → State → Type 0
@@ -70,16 +70,16 @@ module _ (p : Program) (R : ℕ → Thread → Type 0) where
   thread_effect s i (event.Want n) y rule all = absurd rule
   thread_effect s i (event.Ask w true) y rule all =
       λ law.
-          let listed : State = on_thread s i (λ h. record h { asks = h.asks ++ (w, true) ∷ [] }) in
-          let first : EachThread R listed = each_thread s i (record (s.threads i) { asks = (s.threads i).asks ++ (w, true) ∷ [] }) all (law.asks w true rule (all i)) in
-          each_thread listed w (record (listed.threads w) { claim = claim.By i }) first
-              (each_put (λ j h. j ≡ w → R j (record h { claim = claim.By i })) s.threads i (record (s.threads i) { asks = (s.threads i).asks ++ (w, true) ∷ [] })
-                  (λ same. absurd (rule.other (sym same))) w (λ ne same. law.claims w rule (all w)) refl)
+      let listed : State = on_thread s i (λ h. record h { asks = h.asks ++ (w, true) ∷ [] }) in
+      let first : EachThread R listed = each_thread s i (record (s.threads i) { asks = (s.threads i).asks ++ (w, true) ∷ [] }) all (law.asks w true rule (all i)) in
+      each_thread listed w (record (listed.threads w) { claim = claim.By i }) first
+      (each_put (λ j h. j ≡ w → R j (record h { claim = claim.By i })) s.threads i (record (s.threads i) { asks = (s.threads i).asks ++ (w, true) ∷ [] })
+      (λ same. absurd (rule.other (sym same))) w (λ ne same. law.claims w rule (all w)) refl)
   thread_effect s i (event.Ask w false) y rule all = λ law. each_thread s i (record (s.threads i) { asks = (s.threads i).asks ++ (w, false) ∷ [] }) all (law.asks w false rule (all i))
   thread_effect s i (event.Fork region team) (item.Fork f) rule all =
       of_region s i (forked p s i region team f) (of_law s i) (λ k t r. MayFork s i region team) rule
-          (λ k t r is found may law. each_thread s i (record (s.threads i) { current = master_of team }) all
-              (law.forks region team f k t r is found may (members_found (member_task p region k t r f) team s.tasks i (new_team s.tasks i team may.tasks_new may.distinct)) (all i)))
+      (λ k t r is found may law. each_thread s i (record (s.threads i) { current = master_of team }) all
+      (law.forks region team f k t r is found may (members_found (member_task p region k t r f) team s.tasks i (new_team s.tasks i team may.tasks_new may.distinct)) (all i)))
   thread_effect s i (event.Fork region team) y rule all = tt
   thread_effect s i (event.ImplicitBegin task) y rule all = λ law. each_thread s i (record (s.threads i) { current = Some task }) all (law.joins_team task rule (all i))
   thread_effect s i (event.State state wait) y rule all = λ law. each_thread s i (record (s.threads i) { state = state; wait = wait }) all (law.shows state wait (all i))
@@ -91,18 +91,18 @@ module _ (p : Program) (R : ℕ → Thread → Type 0) where
       of_current_region s i (task_ended s i) (of_law s i) (λ k t r. MayEnd task k t) rule (λ k t r is found h law. each_thread s i (record (s.threads i) { current = None }) all (law.ends k t r is found h.implicit h.other (all i)))
   thread_effect s i (event.Join region) y rule all =
       of_region s i (joined s i) (of_law s i) (λ k t r. MayJoin region t r) rule
-          (λ k t r is found h law. each_thread s i (record (s.threads i) { current = r.encountering }) all
-              (law.joins k t r is found (record { mine = refl; implicit = h.implicit; first = h.first; ended = h.ended }) (all i)))
+      (λ k t r is found h law. each_thread s i (record (s.threads i) { current = r.encountering }) all
+      (law.joins k t r is found (record { mine = refl; implicit = h.implicit; first = h.first; ended = h.ended }) (all i)))
   thread_effect s i (event.FreeTask task) y rule all = tt
   thread_effect s i (event.FreeRegion region) y rule all = tt
   thread_effect s i (event.Defer task) (item.Defer seen f final) rule all = of_current s i (deferred p s task f final seen) (of_law s i) _ rule (λ k t is fresh law. all)
   thread_effect s i (event.Defer task) y rule all = tt
   thread_effect s i (event.StartNow task) (item.Defer seen f final) rule all =
       of_current s i (started_now p s i task f final) (of_law s i) (λ k t. IsFresh s.tasks i task.0) rule
-          (λ k t is fresh law. each_thread s i (record (s.threads i) { current = Some task }) all (law.makes task f final k t is (made_same s.tasks task.0 (scheduled i k t (deferred_task p k t f final 0))) (all i)))
+      (λ k t is fresh law. each_thread s i (record (s.threads i) { current = Some task }) all (law.makes task f final k t is (made_same s.tasks task.0 (scheduled i k t (deferred_task p k t f final 0))) (all i)))
   thread_effect s i (event.StartNow task) (item.StartNow f final) rule all =
       of_current s i (started_now p s i task f final) (of_law s i) (λ k t. IsFresh s.tasks i task.0) rule
-          (λ k t is fresh law. each_thread s i (record (s.threads i) { current = Some task }) all (law.makes task f final k t is (made_same s.tasks task.0 (scheduled i k t (deferred_task p k t f final 0))) (all i)))
+      (λ k t is fresh law. each_thread s i (record (s.threads i) { current = Some task }) all (law.makes task f final k t is (made_same s.tasks task.0 (scheduled i k t (deferred_task p k t f final 0))) (all i)))
   thread_effect s i (event.StartNow task) y rule all = tt
   thread_effect s i (event.Start task) (item.Tasks state) rule all =
       of_current s i (started s i task) (of_law s i) (MayStart s task (item.Tasks state)) rule (λ k t is may law. each_thread s i (record (s.threads i) { current = Some task }) all (law.starts task (item.Tasks state) k t is may (started_found s task (λ u. record (scheduled i k t u) { list = working (encounter s i) u.list }) may.new may.live (λ u. refl)) (all i)))
@@ -127,6 +127,6 @@ module _ (p : Program) (R : ℕ → Thread → Type 0) where
       let m = move_of p s i e after_step step in
       let zs : List Item = stays (encounter s i) e m.item m.behind in
       let middle : EachThread R (with_list s i zs) = list_moves s i zs (EachThread R) (λ k is. all)
-          (λ none. each_thread s i (record (s.threads i) { list = zs }) all
-              (moves m.item m.behind none (ap (take_item p (encounter s i) e) (sym (ap (λ (o : Option Tid). option_map_or (λ (u : Task). u.list) (option_and_then (task_of s) o) (s.threads i).list) none)) ∙ m.taken) (all i))) in
+      (λ none. each_thread s i (record (s.threads i) { list = zs }) all
+      (moves m.item m.behind none (ap (take_item p (encounter s i) e) (sym (ap (λ (o : Option Tid). option_map_or (λ (u : Task). u.list) (option_and_then (task_of s) o) (s.threads i).list) none)) ∙ m.taken) (all i))) in
       from_some (of_law (with_list s i zs) i) (effect p (with_list s i zs) i e m.item) after_step m.effect_is (thread_effect (with_list s i zs) i e m.item m.rule_moved middle) (law (with_list s i zs) (is_relisted s i zs) (stays_after p s i e after_step m) middle)

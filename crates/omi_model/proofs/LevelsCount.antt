@@ -1,5 +1,5 @@
 -- The levels of regions along the chain of enclosing regions.
-use Rattle.std.proofs.Common.{◌≡◌, ◌+◌, ◌<◌, ◌≤◌, ℕ, zero, suc, List, [], ◌∷◌, length, Option, Some, None, MatchOption, if◌then◌else◌, nat_lt, refl, sym, ap, ◌∙◌, subst, arith}
+use Rattle.std.proofs.Common.{◌≡◌, ◌+◌, ℕ, zero, suc, List, length, Option, Some, None, MatchOption, if◌then◌else◌, nat_lt, refl, sym, ap, ◌∙◌, subst, arith}
 use Rattle.std.specs.Option.{option_and_then}
 use Rattle.omi_script.specs.declared.program.Program.{Program}
 use Rattle.omi_model.specs.declared.event.Event.{Event}
@@ -11,10 +11,9 @@ use Rattle.omi_model.specs.LawStays.{Stays}
 use Rattle.omi_model.specs.Opening.{opening}
 use Rattle.omi_model.specs.Reached.{Reached, Step}
 use Rattle.omi_model.specs.State.{State, enclosing_of, region_of}
-use Rattle.omi_model.specs.WellFormed.{Ends, along}
+use Rattle.omi_model.specs.WellFormed.{along}
 use Rattle.omi_model.proofs.EachObject.{EachRegion, IsRegionLaw, over_events, region_step}
 use Rattle.omi_model.proofs.OpeningObjects.{each_first_region}
-use Rattle.omi_model.proofs.Slots.{some_same}
 use Rattle.omi_model.proofs.StaysKept.{stays_step}
 use Rattle.omi_model.proofs.Steps.{IsRelisted}
 
@@ -46,11 +45,13 @@ levels_step p s i e next step all = region_step p (λ n r. AreLevelsRight next r
   where
     law : (middle : State) → IsRelisted s middle → Stays middle next → IsRegionLaw p middle i next (λ n r. AreLevelsRight next r)
     law middle before later = record {
-        arrives = λ k t r is found q. levels_same next r _ refl refl refl refl q; releases = λ k t r is found may q. levels_same next r _ refl refl refl refl q;
-        ends = λ k t r is found im q. levels_same next r _ refl refl refl refl q; joins = λ k t r is found may q. levels_same next r _ refl refl refl refl q;
-        forks = λ region team f k t r is found may new.
-            let (q, live, same) = later.regions t.region r found in
-            (q, live, record { levels = ap (λ m. m + 1) (sym same.levels); active = ap (λ m. m + (if nat_lt 1 (length team) then 1 else 0)) (sym same.active) });
+      arrives = λ k t r is found q. levels_same next r _ refl refl refl refl q;
+      releases = λ k t r is found may q. levels_same next r _ refl refl refl refl q;
+      ends = λ k t r is found im q. levels_same next r _ refl refl refl refl q;
+      joins = λ k t r is found may q. levels_same next r _ refl refl refl refl q;
+      forks = λ region team f k t r is found may new.
+          let (q, live, same) = later.regions t.region r found in
+          (q, live, record { levels = ap (λ m. m + 1) (sym same.levels); active = ap (λ m. m + (if nat_lt 1 (length team) then 1 else 0)) (sym same.active) });
     }
 
 reached_levels : (p : Program) (events : List (ℕ × Event)) (s : State) → Reached p events s → Levels s

@@ -1,5 +1,5 @@
 -- Laws of to-do lists: what holds of a list holds of an event's item and what stands behind it.
-use Rattle.std.proofs.Common.{◌≡◌, Bool, true, false, List, [], ◌∷◌, Option, Some, None, if◌then◌else◌, refl, subst}
+use Rattle.std.proofs.Common.{◌≡◌, Bool, true, false, List, [], ◌∷◌, Some, None, if◌then◌else◌, refl, subst}
 use Rattle.omi_script.specs.declared.program.Program.{Program}
 use Rattle.omi_script.specs.declared.statement.Stmt.{Stmt}
 use Rattle.omi_model.specs.declared.encounter.Encounter.{Encounter}
@@ -25,6 +25,7 @@ module _ (p : Program) (at : Encounter) (P : List Item → Type 0)
       dropped : (take_item p at e xs ≡ Some (y, ys) → may_drop x ≡ true → P (y ∷ ys)) → (d : Bool) → may_drop x ≡ d → (if d then take_item p at e xs else None) ≡ Some (y, ys) → P (y ∷ ys)
       dropped more true may t = more t may
       dropped more false may t = absurd (none_some refl t)
+
       fit : (take_item p at e xs ≡ Some (y, ys) → may_drop x ≡ true → P (y ∷ ys)) → (d : Bool) → (if d then Some (opened p at x xs) else (if may_drop x then take_item p at e xs else None)) ≡ Some (y, ys) → P (y ∷ ys)
       fit more true t = let same : opened p at x xs ≡ (y, ys) = some_same refl t in subst (λ (o : Item × List Item). P (o.0 ∷ o.1)) same (opened_keeps x xs h)
       fit more false t = dropped more (may_drop x) refl t
@@ -37,6 +38,7 @@ take_fits p at e (x ∷ xs) y ys is = fit (take_fits p at e xs y ys) (fits e (op
     dropped : (take_item p at e xs ≡ Some (y, ys) → fits e y ≡ true) → (d : Bool) → (if d then take_item p at e xs else None) ≡ Some (y, ys) → fits e y ≡ true
     dropped more true t = more t
     dropped more false t = absurd (none_some refl t)
+
     fit : (take_item p at e xs ≡ Some (y, ys) → fits e y ≡ true) → (d : Bool) → fits e (opened p at x xs).0 ≡ d
         → (if d then Some (opened p at x xs) else (if may_drop x then take_item p at e xs else None)) ≡ Some (y, ys) → fits e y ≡ true
     fit more true f t = let same : opened p at x xs ≡ (y, ys) = some_same refl t in subst (λ (o : Item × List Item). fits e o.0 ≡ true) same f

@@ -1,5 +1,5 @@
 -- Each name that an object or a thread holds stays the name of a live object.
-use Rattle.std.proofs.Common.{◌≡◌, ◌==◌, ℕ, zero, suc, Bool, true, false, List, [], ◌∷◌, slice_get, Option, Some, None, if◌then◌else◌, refl, sym, ap, ◌∙◌, subst}
+use Rattle.std.proofs.Common.{◌≡◌, ◌==◌, ℕ, zero, suc, Bool, true, false, List, [], ◌∷◌, slice_get, Some, None, if◌then◌else◌, refl, sym, ap, ◌∙◌, subst}
 use Rattle.omi_script.specs.declared.program.Program.{Program}
 use Rattle.omi_model.specs.declared.event.Event.{Event}
 use Rattle.omi_model.specs.declared.id.Id.{Id}
@@ -8,7 +8,6 @@ use Rattle.omi_model.specs.declared.id.Tid.{Tid}
 use Rattle.omi_model.specs.declared.item.Item.{Item}
 use Rattle.omi_model.specs.declared.progress.Progress.TheVariants.{Deferred, NotBegun, Begun}
 use Rattle.omi_model.specs.declared.region.Region.{Region}
-use Rattle.omi_model.specs.declared.slot.Slot.{Slot}
 use Rattle.omi_model.specs.declared.task.Task.{Task}
 use Rattle.omi_model.specs.declared.thread.Thread.{Thread}
 use Rattle.omi_model.specs.Changes.{IsCurrent}
@@ -16,7 +15,7 @@ use Rattle.omi_model.specs.LawNames.{AreNamesLive, IsLiveRegion, IsLiveTask, IsM
 use Rattle.omi_model.specs.LawStays.{Stays}
 use Rattle.omi_model.specs.Opening.{initial_task, opening, opening_region, opening_task}
 use Rattle.omi_model.specs.Reached.{Reached, Step}
-use Rattle.omi_model.specs.State.{State, region_of, task_of}
+use Rattle.omi_model.specs.State.{State}
 use Rattle.omi_model.specs.Teams.{master_of}
 use Rattle.omi_model.proofs.EachObject.{EachRegion, EachTask, IsRegionLaw, IsTaskLaw, over_events, region_step, task_step}
 use Rattle.omi_model.proofs.EachThread.{EachThread, IsThreadLaw, thread_step}
@@ -35,24 +34,29 @@ live_region s u stay n (r, e) = let (q, f, same) = stay.regions n r e in (q, f)
 
 names_of_task : (s u : State) → Stays s u → (t : Task) → NamesOfTask s t → NamesOfTask u t
 names_of_task s u stay t is = record {
-    region = live_region s u stay t.region is.region;
-    generating = λ k e. live_task s u stay k (is.generating k e);
-    scheduling = λ k e. live_task s u stay k (is.scheduling k e);
+  region = live_region s u stay t.region is.region;
+  generating = λ k e. live_task s u stay k (is.generating k e);
+  scheduling = λ k e. live_task s u stay k (is.scheduling k e);
 }
 
 pub member_stays : (s u : State) → Stays s u → (n : Rid) (j : ℕ) (m : Tid × ℕ) → IsMemberTask s n j m → IsMemberTask u n j m
 member_stays s u stay n j m is =
     let (v, found, same) = stay.tasks m.0 is.task is.live in
     record {
-      task = v; live = found; implicit = same.implicit ∙ is.implicit; undeferred = same.started is.undeferred; region = same.region ∙ is.region;
-      number = same.number is.undeferred ∙ is.number; thread = same.thread is.undeferred ∙ is.thread;
+      task = v;
+      live = found;
+      implicit = same.implicit ∙ is.implicit;
+      undeferred = same.started is.undeferred;
+      region = same.region ∙ is.region;
+      number = same.number is.undeferred ∙ is.number;
+      thread = same.thread is.undeferred ∙ is.thread;
     }
 
 names_of_region : (s u : State) → Stays s u → (n : Rid) (r : Region) → NamesOfRegion s n r → NamesOfRegion u n r
 names_of_region s u stay n r is = record {
-    enclosing = λ o e. live_region s u stay o (is.enclosing o e);
-    encountering = λ k e. live_task s u stay k (is.encountering k e);
-    team = λ j m e. member_stays s u stay n j m (is.team j m e);
+  enclosing = λ o e. live_region s u stay o (is.enclosing o e);
+  encountering = λ k e. live_task s u stay k (is.encountering k e);
+  team = λ j m e. member_stays s u stay n j m (is.team j m e);
 }
 
 not_waiting : (t : Task) → t.progress ≡ NotBegun → t.progress ≡ Deferred → ⊥
@@ -77,38 +81,44 @@ module _ (p : Program) (s : State) (i : ℕ) (e : Event) (next : State) (step : 
 
   task_law : (middle : State) (y : Item) → IsRelisted s middle → Stays middle next → EachTask (λ k t. NamesOfTask next t) middle → IsTaskLaw p middle i e y next (λ k t. NamesOfTask next t)
   task_law middle y before later all = record {
-      shows = λ k t x q. record { region = q.region; generating = q.generating; scheduling = q.scheduling };
-      tools = λ k t x q. record { region = q.region; generating = q.generating; scheduling = q.scheduling };
-      sets = λ k t icv value v f q. record { region = q.region; generating = q.generating; scheduling = q.scheduling };
-      begins = λ k t waits mine q. record { region = q.region; generating = q.generating; scheduling = q.scheduling };
-      finishes = λ k t is over q. record { region = q.region; generating = q.generating; scheduling = q.scheduling };
-      starts = λ k u j t x is live ex de may of q. record { region = q.region; generating = q.generating; scheduling = λ n f. subst (IsLiveTask next) (some_same refl f) (current j t is) };
-      members = λ region team f k t r is found may new of j m at. record {
-          region = (_, new); generating = λ n g. subst (IsLiveTask next) (some_same refl g) (current k t is); scheduling = λ n g. when next (j == 0) k n (current k t is) g;
-      };
-      deferred = λ task f final seen k t is of. record {
-          region = (all k t is.live).region; generating = λ n g. subst (IsLiveTask next) (some_same refl g) (current k t is); scheduling = λ n g. absurd (none_some refl g);
-      };
-      made = λ task f final k t is of. record {
-          region = (all k t is.live).region; generating = λ n g. subst (IsLiveTask next) (some_same refl g) (current k t is); scheduling = λ n g. subst (IsLiveTask next) (some_same refl g) (current k t is);
-      };
-    }
+    shows = λ k t x q. record { region = q.region; generating = q.generating; scheduling = q.scheduling };
+    tools = λ k t x q. record { region = q.region; generating = q.generating; scheduling = q.scheduling };
+    sets = λ k t icv value v f q. record { region = q.region; generating = q.generating; scheduling = q.scheduling };
+    begins = λ k t waits mine q. record { region = q.region; generating = q.generating; scheduling = q.scheduling };
+    finishes = λ k t is over q. record { region = q.region; generating = q.generating; scheduling = q.scheduling };
+    starts = λ k u j t x is live ex de may of q. record { region = q.region; generating = q.generating; scheduling = λ n f. subst (IsLiveTask next) (some_same refl f) (current j t is) };
+    members = λ region team f k t r is found may new of j m at. record {
+      region = (_, new);
+      generating = λ n g. subst (IsLiveTask next) (some_same refl g) (current k t is);
+      scheduling = λ n g. when next (j == 0) k n (current k t is) g;
+    };
+    deferred = λ task f final seen k t is of. record {
+      region = (all k t is.live).region;
+      generating = λ n g. subst (IsLiveTask next) (some_same refl g) (current k t is);
+      scheduling = λ n g. absurd (none_some refl g);
+    };
+    made = λ task f final k t is of. record {
+      region = (all k t is.live).region;
+      generating = λ n g. subst (IsLiveTask next) (some_same refl g) (current k t is);
+      scheduling = λ n g. subst (IsLiveTask next) (some_same refl g) (current k t is);
+    };
+  }
     where
       current : (k : Tid) (t : Task) → IsCurrent middle i k t → IsLiveTask next k
       current k t is = live_task s next stay k (names.currents i k (sym (before.currents i) ∙ is.name))
 
   region_law : (middle : State) → IsRelisted s middle → Stays middle next → IsRegionLaw p middle i next (λ n r. NamesOfRegion next n r)
   region_law middle before later = record {
-      arrives = λ k t r is found q. record { enclosing = q.enclosing; encountering = q.encountering; team = q.team };
-      releases = λ k t r is found may q. record { enclosing = q.enclosing; encountering = q.encountering; team = q.team };
-      ends = λ k t r is found im q. record { enclosing = q.enclosing; encountering = q.encountering; team = q.team };
-      joins = λ k t r is found may q. record { enclosing = q.enclosing; encountering = q.encountering; team = q.team };
-      forks = λ region team f k t r is found may new. record {
-          enclosing = λ o g. subst (IsLiveRegion next) (some_same refl g) (live_region middle next later t.region (r, found));
-          encountering = λ n g. subst (IsLiveTask next) (some_same refl g) (live_task s next stay k (names.currents i k (sym (before.currents i) ∙ is.name)));
-          team = λ j m at. record { task = _; live = new j m at; implicit = refl; undeferred = not_deferred (j == 0); region = refl; number = refl; thread = refl };
-      };
-    }
+    arrives = λ k t r is found q. record { enclosing = q.enclosing; encountering = q.encountering; team = q.team };
+    releases = λ k t r is found may q. record { enclosing = q.enclosing; encountering = q.encountering; team = q.team };
+    ends = λ k t r is found im q. record { enclosing = q.enclosing; encountering = q.encountering; team = q.team };
+    joins = λ k t r is found may q. record { enclosing = q.enclosing; encountering = q.encountering; team = q.team };
+    forks = λ region team f k t r is found may new. record {
+      enclosing = λ o g. subst (IsLiveRegion next) (some_same refl g) (live_region middle next later t.region (r, found));
+      encountering = λ n g. subst (IsLiveTask next) (some_same refl g) (live_task s next stay k (names.currents i k (sym (before.currents i) ∙ is.name)));
+      team = λ j m at. record { task = _; live = new j m at; implicit = refl; undeferred = not_deferred (j == 0); region = refl; number = refl; thread = refl };
+    };
+  }
 
   abbrev Current : ℕ → Thread → Type 0
   Current j h = (k : Tid) → h.current ≡ Some k → IsLiveTask next k
@@ -122,17 +132,22 @@ module _ (p : Program) (s : State) (i : ℕ) (e : Event) (next : State) (step : 
 
   thread_law : (middle : State) → IsRelisted s middle → Stays middle next → EachThread Current middle → IsThreadLaw p middle i next Current
   thread_law middle before later all = record {
-      begins = λ may q. q; offers = λ may q. q; wants = λ n num may q. q; asks = λ w got may q. q; claims = λ w may q. q; shows = λ state wait q. q;
-      forks = λ region team f k t r is found may new q n g. first_name next team n (λ j m at. (_, new j m at, not_deferred (j == 0))) g;
-      joins_team = λ task may q n g. subst (IsLiveTask next) (some_same refl g) (live_task middle next later task (may.member, may.live, λ d. not_waiting may.member may.waiting d));
-      ends = λ k t r is found im other q n g. absurd (none_some refl g);
-      joins = λ k t r is found may q n g.
-          let (v, live, same) = later.regions t.region r found in
-          (next_regions t.region v live).encountering n (same.encountering ∙ g);
-      makes = λ task f final k t is new q n g. subst (IsLiveTask next) (some_same refl g) (_, new, λ d. not_deferred true d);
-      starts = λ task x k t is may (u, found, begun) q n g. subst (IsLiveTask next) (some_same refl g) (u, found, λ d. not_deferred true (sym begun ∙ d));
-      finishes = λ k t is ex q n g. from_scheduling k t is n g;
-    }
+    begins = λ may q. q;
+    offers = λ may q. q;
+    wants = λ n num may q. q;
+    asks = λ w got may q. q;
+    claims = λ w may q. q;
+    shows = λ state wait q. q;
+    forks = λ region team f k t r is found may new q n g. first_name next team n (λ j m at. (_, new j m at, not_deferred (j == 0))) g;
+    joins_team = λ task may q n g. subst (IsLiveTask next) (some_same refl g) (live_task middle next later task (may.member, may.live, λ d. not_waiting may.member may.waiting d));
+    ends = λ k t r is found im other q n g. absurd (none_some refl g);
+    joins = λ k t r is found may q n g.
+        let (v, live, same) = later.regions t.region r found in
+        (next_regions t.region v live).encountering n (same.encountering ∙ g);
+    makes = λ task f final k t is new q n g. subst (IsLiveTask next) (some_same refl g) (_, new, λ d. not_deferred true d);
+    starts = λ task x k t is may (u, found, begun) q n g. subst (IsLiveTask next) (some_same refl g) (u, found, λ d. not_deferred true (sym begun ∙ d));
+    finishes = λ k t is ex q n g. from_scheduling k t is n g;
+  }
     where
       from_scheduling : (k : Tid) (t : Task) → IsCurrent middle i k t → (n : Tid) → t.scheduling ≡ Some n → IsLiveTask next n
       from_scheduling k t is n g =
@@ -149,14 +164,16 @@ module _ (p : Program) (s : State) (i : ℕ) (e : Event) (next : State) (step : 
 
 pub names_opening : (p : Program) → AreNamesLive (opening p)
 names_opening p = record {
-    currents = λ i k. each_first_thread p (λ j h. h.current ≡ Some k → IsLiveTask (opening p) k) (λ e. subst (IsLiveTask (opening p)) (some_same refl e) first) (λ j e. absurd (none_some refl e)) i;
-    tasks = λ k t e. subst (NamesOfTask (opening p)) (sym (first_alone_named (opening_task p) k.0 t e).1) (record { region = (opening_region p, refl); generating = λ n g. absurd (none_some refl g); scheduling = λ n g. absurd (none_some refl g) });
-    regions = λ n r e.
-        let (name, is) = first_alone_named (opening_region p) n.0 r e in
-        subst (NamesOfRegion (opening p) n) (sym is) (record {
-            enclosing = λ o g. absurd (none_some refl g); encountering = λ k g. absurd (none_some refl g); team = λ j m g. member n name j m g;
-        });
-  }
+  currents = λ i k. each_first_thread p (λ j h. h.current ≡ Some k → IsLiveTask (opening p) k) (λ e. subst (IsLiveTask (opening p)) (some_same refl e) first) (λ j e. absurd (none_some refl e)) i;
+  tasks = λ k t e. subst (NamesOfTask (opening p)) (sym (first_alone_named (opening_task p) k.0 t e).1) (record { region = (opening_region p, refl); generating = λ n g. absurd (none_some refl g); scheduling = λ n g. absurd (none_some refl g) });
+  regions = λ n r e.
+      let (name, is) = first_alone_named (opening_region p) n.0 r e in
+      subst (NamesOfRegion (opening p) n) (sym is) (record {
+        enclosing = λ o g. absurd (none_some refl g);
+        encountering = λ k g. absurd (none_some refl g);
+        team = λ j m g. member n name j m g;
+      });
+}
   where
     first : IsLiveTask (opening p) initial_task
     first = (opening_task p, refl, λ d. not_deferred true d)

@@ -15,7 +15,7 @@ use Rattle.omi_model.specs.Numbers.{default_device_var, dyn_var, nthreads_var, r
 use Rattle.omi_model.specs.Opening.{opening, opening_region}
 use Rattle.omi_model.specs.Reached.{Reached, Step}
 use Rattle.omi_model.specs.Settings.{with_head, with_variable}
-use Rattle.omi_model.specs.State.{State, region_of, task_of}
+use Rattle.omi_model.specs.State.{State, region_of}
 use Rattle.omi_model.specs.Teams.{shortened}
 use Rattle.omi_model.proofs.EachObject.{EachTask, IsTaskLaw, over_events, task_step}
 use Rattle.omi_model.proofs.OpeningObjects.{each_first_task}
@@ -78,8 +78,8 @@ module _ (p : Program) where
       go : (w.nthreads ≡ v.nthreads) ⊎ (w.nthreads ≡ with_head value v.nthreads) → IsShortenedBy p r w
       go (inl same) = record { some = subst (λ (xs : List ℕ). 1 ≤ length xs) (sym same) is.some; rest = ap (drop 1) same ∙ is.rest }
       go (inr same) = record {
-          some = subst (λ (xs : List ℕ). 1 ≤ length xs) (sym same) (subst (λ n. 1 ≤ n) (sym (length_of_head value v.nthreads)) is.some);
-          rest = ap (drop 1) same ∙ (rest_of_head value v.nthreads ∙ is.rest);
+        some = subst (λ (xs : List ℕ). 1 ≤ length xs) (sym same) (subst (λ n. 1 ≤ n) (sym (length_of_head value v.nthreads)) is.some);
+        rest = ap (drop 1) same ∙ (rest_of_head value v.nthreads ∙ is.rest);
       }
 
   -- a member's list, one level deeper
@@ -92,23 +92,26 @@ module _ (p : Program) where
   shortened_step : (s : State) (i : ℕ) (e : Event) (next : State) → Step p s i e next → EachTask (Shortened s) s → EachTask (Shortened next) next
   shortened_step s i e next step all = task_step p (Shortened next) s i e next step (λ k t y ys is taken q. q) law
       (λ k t live.
-          let (r, found, is) = all k t live in
-          let (q, found_q, same) = (stays_step p s i e next step).regions t.region r found in
-          (q, found_q, record { some = is.some; rest = is.rest ∙ ap (λ n. drop (n + 1) p.env.nthreads) (sym same.levels) }))
+      let (r, found, is) = all k t live in
+      let (q, found_q, same) = (stays_step p s i e next step).regions t.region r found in
+      (q, found_q, record { some = is.some; rest = is.rest ∙ ap (λ n. drop (n + 1) p.env.nthreads) (sym same.levels) }))
     where
       law : (middle : State) (y : Item) → IsRelisted s middle → Stays middle next → EachTask (Shortened next) middle → IsTaskLaw p middle i e y next (Shortened next)
       law middle y before later of_tasks = record {
-          shows = λ k t x q. q; tools = λ k t x q. q; begins = λ k t waits mine q. q; finishes = λ k t is over q. q;
-          sets = λ k t icv value v f (r, found, is). (r, found, set_shortened r icv value t.variables v f is);
-          starts = λ k u j t x is live ex de may of q. q;
-          members = λ region team f k t r is found may new of j m at.
-              let (q, found_q, here) = of_tasks k t is.live in
-              let (q', found_q', same) = later.regions t.region r found in
-              let one : q ≡ q' = some_same found_q found_q' in
-              let level : q.levels ≡ r.levels = ap (λ (x : Region). x.levels) one ∙ same.levels in
-              (_, new, record { some = some_of_shortened t.variables.nthreads here.some; rest = deeper t.variables.nthreads r.levels (here.rest ∙ ap (λ n. drop (n + 1) p.env.nthreads) level) });
-          deferred = λ task f final seen k t is of. of_tasks k t is.live;
-          made = λ task f final k t is of. of_tasks k t is.live;
+        shows = λ k t x q. q;
+        tools = λ k t x q. q;
+        begins = λ k t waits mine q. q;
+        finishes = λ k t is over q. q;
+        sets = λ k t icv value v f (r, found, is). (r, found, set_shortened r icv value t.variables v f is);
+        starts = λ k u j t x is live ex de may of q. q;
+        members = λ region team f k t r is found may new of j m at.
+            let (q, found_q, here) = of_tasks k t is.live in
+            let (q', found_q', same) = later.regions t.region r found in
+            let one : q ≡ q' = some_same found_q found_q' in
+            let level : q.levels ≡ r.levels = ap (λ (x : Region). x.levels) one ∙ same.levels in
+            (_, new, record { some = some_of_shortened t.variables.nthreads here.some; rest = deeper t.variables.nthreads r.levels (here.rest ∙ ap (λ n. drop (n + 1) p.env.nthreads) level) });
+        deferred = λ task f final seen k t is of. of_tasks k t is.live;
+        made = λ task f final k t is of. of_tasks k t is.live;
       }
 
   pub nthreads_shortened : (events : List (ℕ × Event)) (s : State) → Reached p events s → EachTask (Shortened s) s

@@ -1,5 +1,5 @@
 -- The objects of the opening state: one region, one task, thread 0 and the other threads.
-use Rattle.std.proofs.Common.{◌≡◌, ◌==◌, ◌+◌, ◌&&◌, ℕ, arith, eqb-true, Bool, true, false, Option, Some, None, if◌then◌else◌, refl, sym, ap, subst}
+use Rattle.std.proofs.Common.{◌≡◌, ◌==◌, ◌+◌, ◌&&◌, ℕ, arith, eqb-true, Bool, true, false, Some, None, if◌then◌else◌, refl, sym, subst}
 use Rattle.omi_script.specs.declared.program.Program.{Program}
 use Rattle.omi_model.specs.declared.id.Id.{Id}
 use Rattle.omi_model.specs.declared.id.Rid.{Rid}

@@ -1,5 +1,5 @@
 -- Past the last release of a region each explicit task of it is finished.
-use Rattle.std.proofs.Common.{◌≡◌, ◌==◌, ◌⊎◌, inl, inr, ℕ, zero, suc, ◌+◌, ◌<◌, ◌≤◌, Bool, true, false, List, [], ◌∷◌, ◌++◌, slice_index, Option, Some, None, refl, sym, ap, ◌∙◌, subst, arith}
+use Rattle.std.proofs.Common.{◌≡◌, ◌⊎◌, inl, inr, ℕ, ◌+◌, ◌<◌, ◌≤◌, Bool, true, false, List, [], ◌∷◌, ◌++◌, slice_index, Some, refl, sym, ap, ◌∙◌, subst, arith}
 use Rattle.omi_script.specs.declared.program.Program.{Program}
 use Rattle.omi_model.specs.declared.event.Event.{Event}
 use Rattle.omi_model.specs.declared.event.Event.TheVariants as event
@@ -18,25 +18,24 @@ use Rattle.omi_model.specs.LawEnds.{IsLast}
 use Rattle.omi_model.specs.LawStays.{Stays}
 use Rattle.omi_model.specs.Lists.{fits, stays, take_item}
 use Rattle.omi_model.specs.Opening.{opening}
-use Rattle.omi_model.specs.Put.{Slots, named}
 use Rattle.omi_model.specs.Reached.{Leads, Reached, Step}
 use Rattle.omi_model.specs.Rules.{Legal, Rule}
 use Rattle.omi_model.specs.State.{State, region_of, task_of}
 use Rattle.omi_model.proofs.BarrierCounts.{barriers_of, counted}
 use Rattle.omi_model.proofs.BarrierLaw.{Stands, near, number_met, placed}
-use Rattle.omi_model.proofs.BarrierOrder.{IsReady, Outside, Phase, Released, Waiting, Wrong, is_barrier_event, is_outside, left, order, take_ready, wrong}
+use Rattle.omi_model.proofs.BarrierOrder.{IsReady, Outside, Phase, Released, Waiting, Wrong, is_barrier_event, is_outside, left, order, take_ready}
 use Rattle.omi_model.proofs.BarrierSteps.{Changes, IsUntouched, region_changed}
 use Rattle.omi_model.proofs.ChainsKept.{current_begun}
-use Rattle.omi_model.proofs.Covered.{Covers, HasBehind, main_covers, member_covers, stays_covers, take_covers, working_covers}
-use Rattle.omi_model.proofs.EachObject.{EachTask, IsTaskLaw, list_of_current, over_events, start_list, stays_after, task_step, task_step_from}
+use Rattle.omi_model.proofs.Covered.{Covers, HasBehind, main_covers, member_covers, stays_covers, take_covers}
+use Rattle.omi_model.proofs.EachObject.{EachTask, IsTaskLaw, list_of_current, over_events, start_list, task_step, task_step_from}
 use Rattle.omi_model.proofs.LastItems.{Lasts, main_lasts, member_lasts, stays_lasts, take_lasts, task_lasts, working_lasts}
 use Rattle.omi_model.proofs.ListLaws.{take_fits}
 use Rattle.omi_model.proofs.NamesLive.{names_live}
 use Rattle.omi_model.proofs.OpeningObjects.{each_first_task}
-use Rattle.omi_model.proofs.SchedulingChains.{leads_on, over_reached}
+use Rattle.omi_model.proofs.SchedulingChains.{over_reached}
 use Rattle.omi_model.proofs.Slots.{false_true, found_live, same_or_not, some_same}
 use Rattle.omi_model.proofs.StaysKept.{stays_leads, stays_step}
-use Rattle.omi_model.proofs.Steps.{IsMove, IsRelisted, is_relisted, move_of, moved_on, relisted}
+use Rattle.omi_model.proofs.Steps.{IsMove, IsRelisted, is_relisted, move_of, moved_on}
 
 -- ---- lists of implicit tasks
 
@@ -49,11 +48,15 @@ covered_step p s i e next step all = task_step p (IsCovered p) s i e next step
   where
     law : (middle : State) (y : Item) → IsRelisted s middle → Stays middle next → EachTask (IsCovered p) middle → IsTaskLaw p middle i e y next (IsCovered p)
     law middle y before later of_tasks = record {
-        shows = λ k t x q. q; tools = λ k t x q. q; sets = λ k t icv value v f q. q; begins = λ k t waits mine q. q; finishes = λ k t is over q. q;
-        starts = λ k u j t x is live ex de may of q im. absurd (false_true (sym ex ∙ im));
-        members = λ region team f k t r is found may new of j m at im. member_covers (barriers_of p) p (record { debug = p.env.debug; number = j; level = r.levels + 1; is_final = false }) f;
-        deferred = λ task f final seen k t is of im. absurd (false_true im);
-        made = λ task f final k t is of im. absurd (false_true im);
+      shows = λ k t x q. q;
+      tools = λ k t x q. q;
+      sets = λ k t icv value v f q. q;
+      begins = λ k t waits mine q. q;
+      finishes = λ k t is over q. q;
+      starts = λ k u j t x is live ex de may of q im. absurd (false_true (sym ex ∙ im));
+      members = λ region team f k t r is found may new of j m at im. member_covers (barriers_of p) p (record { debug = p.env.debug; number = j; level = r.levels + 1; is_final = false }) f;
+      deferred = λ task f final seen k t is of im. absurd (false_true im);
+      made = λ task f final k t is of im. absurd (false_true im);
     }
 
 covered : (p : Program) (events : List (ℕ × Event)) (s : State) → Reached p events s → EachTask (IsCovered p) s
@@ -131,7 +134,7 @@ module _ (p : Program) (events : List (ℕ × Event)) (s : State) (reached : Rea
           let released : q.released ≡ r.released = (untouched_by s i e t.region r q plain change).1 in
           let number = number_met s i k t is in
           let ready = subst (λ n. IsReady (barriers_of p) n member.phase member.ahead (m.item ∷ m.behind)) number
-              (take_ready p (barriers_of p) (counted p) (encounter s i) e member.phase member.ahead t.list m.item m.behind taken (subst (λ n. IsReady (barriers_of p) n member.phase member.ahead t.list) (sym number) member.ready)) in
+          (take_ready p (barriers_of p) (counted p) (encounter s i) e member.phase member.ahead t.list m.item m.behind taken (subst (λ n. IsReady (barriers_of p) n member.phase member.ahead t.list) (sym number) member.ready)) in
           let more : 0 < left (barriers_of p) m.behind = behind (take_covers (barriers_of p) p (encounter s i) e t.list m.item m.behind taken (covered p events s reached k t is.live im)).0 in
           let above = (near member.phase t.number (slice_index r.arrivals t.number) r.released member.stands).0 in
           let count = ready.barriers in
@@ -172,14 +175,16 @@ module _ (p : Program) (events : List (ℕ × Event)) (s : State) (reached : Rea
 
   rest_law : EachTask (Rests p next) middle → IsTaskLaw p middle i e m.item next (Rests p next)
   rest_law of_tasks = record {
-      shows = λ k t x q. q; tools = λ k t x q. q; sets = λ k t icv value v f q. q;
-      begins = λ k t waits mine q ex r found rested. absurd (waiting_finished t waits (q ex r found rested));
-      finishes = λ k t is over q ex r found rested. refl;
-      starts = λ k u j t x is live ex de may of q ex' r found rested. absurd (deferred_finished u de (q ex' r found rested));
-      members = λ region team f k t r is found may new of j n at ex. absurd (false_true (sym ex));
-      deferred = λ task f final seen k t is of ex r found rested.
-          absurd (no_new k t is (item.Defer seen f final) of (λ h. h) (defers_only e seen f final (fits_item (item.Defer seen f final) of)) r found rested);
-      made = λ task f final k t is of ex r found rested. absurd (no_new_now k t is f final of r found rested);
+    shows = λ k t x q. q;
+    tools = λ k t x q. q;
+    sets = λ k t icv value v f q. q;
+    begins = λ k t waits mine q ex r found rested. absurd (waiting_finished t waits (q ex r found rested));
+    finishes = λ k t is over q ex r found rested. refl;
+    starts = λ k u j t x is live ex de may of q ex' r found rested. absurd (deferred_finished u de (q ex' r found rested));
+    members = λ region team f k t r is found may new of j n at ex. absurd (false_true (sym ex));
+    deferred = λ task f final seen k t is of ex r found rested.
+        absurd (no_new k t is (item.Defer seen f final) of (λ h. h) (defers_only e seen f final (fits_item (item.Defer seen f final) of)) r found rested);
+    made = λ task f final k t is of ex r found rested. absurd (no_new_now k t is f final of r found rested);
   }
 
   -- a task that was there
@@ -199,7 +204,7 @@ module _ (p : Program) (events : List (ℕ × Event)) (s : State) (reached : Rea
 pub rests : (p : Program) (events : List (ℕ × Event)) (s : State) → Reached p events s → EachTask (Rests p s) s
 rests p events s reached =
     over_reached p (λ u. EachTask (Rests p u) u) (λ first u first_reached i e next step h. rests_step p first u first_reached i e next step h) [] (opening p) refl events s reached
-        (each_first_task p (Rests p (opening p)) (λ ex. absurd (false_true (sym ex))))
+    (each_first_task p (Rests p (opening p)) (λ ex. absurd (false_true (sym ex))))
 
 -- ---- the last event of a member
 
@@ -216,11 +221,15 @@ lasts_step p s i e next step all = task_step p HasLast s i e next step
   where
     law : (middle : State) (y : Item) → IsRelisted s middle → Stays middle next → EachTask HasLast middle → IsTaskLaw p middle i e y next HasLast
     law middle y before later of_tasks = record {
-        shows = λ k t x q. q; tools = λ k t x q. q; sets = λ k t icv value v f q. q; begins = λ k t waits mine q. q; finishes = λ k t is over q. q;
-        starts = λ k u j t x is live ex de may of q. start_lasts u.implicit x (encounter middle i) u.list q;
-        members = λ region team f k t r is found may new of j m at. member_lasts true p (record { debug = p.env.debug; number = j; level = r.levels + 1; is_final = false }) f;
-        deferred = λ task f final seen k t is of. task_lasts false p f;
-        made = λ task f final k t is of. task_lasts false p f;
+      shows = λ k t x q. q;
+      tools = λ k t x q. q;
+      sets = λ k t icv value v f q. q;
+      begins = λ k t waits mine q. q;
+      finishes = λ k t is over q. q;
+      starts = λ k u j t x is live ex de may of q. start_lasts u.implicit x (encounter middle i) u.list q;
+      members = λ region team f k t r is found may new of j m at. member_lasts true p (record { debug = p.env.debug; number = j; level = r.levels + 1; is_final = false }) f;
+      deferred = λ task f final seen k t is of. task_lasts false p f;
+      made = λ task f final k t is of. task_lasts false p f;
     }
 
 lasts : (p : Program) (events : List (ℕ × Event)) (s : State) → Reached p events s → EachTask HasLast s
@@ -279,8 +288,8 @@ regions_end p events more s u reached i e k t last legal is leads n v live ex re
     let (r, found, member) = ((placed p events s reached).places k t is.live).0 im in
     let number = number_met s i k t is in
     let ready : IsReady (barriers_of p) t.number member.phase member.ahead (legal.item ∷ legal.behind) =
-        subst (λ j. IsReady (barriers_of p) j member.phase member.ahead (legal.item ∷ legal.behind)) number
-            (take_ready p (barriers_of p) (counted p) at e member.phase member.ahead t.list legal.item legal.behind taken (subst (λ j. IsReady (barriers_of p) j member.phase member.ahead t.list) (sym number) member.ready)) in
+    subst (λ j. IsReady (barriers_of p) j member.phase member.ahead (legal.item ∷ legal.behind)) number
+    (take_ready p (barriers_of p) (counted p) at e member.phase member.ahead t.list legal.item legal.behind taken (subst (λ j. IsReady (barriers_of p) j member.phase member.ahead t.list) (sym number) member.ready)) in
     let (none, outside) = at_the_end p e legal.item legal.behind t member.phase member.ahead last fit h ready in
     let stood : slice_index r.arrivals t.number ≡ r.released = subst (λ ph. Stands ph t.number (slice_index r.arrivals t.number) r.released) outside member.stands in
     let sum = member.barriers in

@@ -1,5 +1,5 @@
 -- Releases among events: the released barriers of a region rise by nothing else.
-use Rattle.std.proofs.Common.{◌≡◌, ◌+◌, ◌<◌, ◌≤◌, ℕ, ◌⊎◌, inl, inr, Bool, true, false, List, [], ◌∷◌, ◌++◌, length, slice_get, slice_index, Option, Some, None, refl, sym, ap, ◌∙◌, subst, arith}
+use Rattle.std.proofs.Common.{◌≡◌, ◌+◌, ◌<◌, ◌≤◌, ℕ, ◌⊎◌, inl, inr, true, List, [], ◌∷◌, length, slice_index, Some, refl, sym, ap, ◌∙◌, subst, arith}
 use Rattle.std.proofs.lemmas.List.{get_or-set_same}
 use Rattle.std.proofs.lemmas.Option.{slice_get_within}
 use Rattle.omi_script.specs.declared.program.Program.{Program}
@@ -52,16 +52,28 @@ module _ (p : Program) (n : Rid) where
       go (inl same) =
           let region : t.region ≡ n = ap (λ (a : Id). record { 0 = a }) same in
           inr (record {
-              before = []; thread = i; after = xs; split = refl; middle = s; leads = refl; legal = step.legal;
-              full = (k, t, r0, is, found, (region, may.first, may.arrived, subst (λ m. AreFinished s m) region may.finished));
+            before = [];
+            thread = i;
+            after = xs;
+            split = refl;
+            middle = s;
+            leads = refl;
+            legal = step.legal;
+            full = (k, t, r0, is, found, (region, may.first, may.arrived, subst (λ m. AreFinished s m) region may.finished));
           })
       go (inr other) = inl ((change k t is).1 (λ h. other (ap (λ (a : Rid). a.0) h)))
   raises s i e next step y rule r q change known xs = inl change.1
 
   later_release : (s next : State) (i : ℕ) (e : Event) (xs : List (ℕ × Event)) → Step p s i e next → IsReleaseAmong p next xs n → IsReleaseAmong p s ((i, e) ∷ xs) n
   later_release s next i e xs step is = record {
-      before = (i, e) ∷ is.before; thread = is.thread; after = is.after; split = ap (λ ys. (i, e) ∷ ys) is.split; middle = is.middle;
-      leads = (next, step, is.leads); legal = is.legal; full = is.full;
+    before = (i, e) ∷ is.before;
+    thread = is.thread;
+    after = is.after;
+    split = ap (λ ys. (i, e) ∷ ys) is.split;
+    middle = is.middle;
+    leads = (next, step, is.leads);
+    legal = is.legal;
+    full = is.full;
   }
 
   pub release_between : (s : State) (events : List (ℕ × Event)) (u : State) (r q : Region) → Leads p s events u → region_of s n ≡ Some r → region_of u n ≡ Some q → r.released < q.released → IsReleaseAmong p s events n
@@ -87,7 +99,7 @@ pass_follows p first more s next u i k t v reached is step leads is_later legal 
     let (q, found_q, change) = region_changed p s i event.Arrive next (move_of p s i event.Arrive next step) t.region r0 found in
     let touched = change k t is in
     let arrived : slice_index q.arrivals t.number ≡ slice_index r0.arrivals t.number + 1 =
-        ap (λ xs. slice_index xs t.number) (touched.0 refl) ∙ get_or-set_same r0.arrivals t.number (slice_index r0.arrivals t.number + 1) 0 (inside r0 im found) in
+    ap (λ xs. slice_index xs t.number) (touched.0 refl) ∙ get_or-set_same r0.arrivals t.number (slice_index r0.arrivals t.number + 1) 0 (inside r0 im found) in
     let on : Stays s u = stays_trans s next u (stays_step p s i event.Arrive next step) (stays_leads p next more u leads) in
     let (v', live', same) = on.tasks k t is.live in
     let one_later : v' ≡ v = some_same live' is_later.live in
@@ -98,7 +110,7 @@ pass_follows p first more s next u i k t v reached is step leads is_later legal 
     let one_passing : v1 ≡ v = some_same is1.live (ap (task_of u) (some_same is1.name is_later.name) ∙ is_later.live) in
     let one_region : r1 ≡ w = some_same found1 (ap (region_of u) (ap (λ (x : Task). x.region) one_passing ∙ region) ∙ found_w) in
     let may_here : slice_index w.arrivals t.number ≤ w.released =
-        subst (λ j. slice_index w.arrivals j ≤ w.released) (ap (λ (x : Task). x.number) one_passing ∙ number) (subst (λ (x : Region). slice_index x.arrivals v1.number ≤ x.released) one_region may) in
+    subst (λ j. slice_index w.arrivals j ≤ w.released) (ap (λ (x : Task). x.number) one_passing ∙ number) (subst (λ (x : Region). slice_index x.arrivals v1.number ≤ x.released) one_region may) in
     let kept : slice_index q.arrivals t.number ≤ slice_index w.arrivals t.number = same_w.arrivals t.number in
     let released : q.released ≡ r0.released = touched.2 in
     release_between p t.region next more u q w leads found_q found_w (omega arith)

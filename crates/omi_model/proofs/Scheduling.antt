@@ -1,5 +1,5 @@
 -- The task scheduling constraint over every event.
-use Rattle.std.proofs.Common.{◌≡◌, ◌==◌, ◌+◌, ◌⊎◌, inl, inr, ℕ, Bool, true, false, List, [], ◌∷◌, Option, Some, None, MatchBool, refl, sym, ap, ◌∙◌, subst, zero, suc, eq-eqb, if◌then◌else◌}
+use Rattle.std.proofs.Common.{◌≡◌, ◌==◌, ◌+◌, ◌⊎◌, inl, inr, ℕ, Bool, true, false, List, [], ◌∷◌, Some, None, MatchBool, refl, sym, ap, ◌∙◌, subst, zero, suc, eq-eqb, if◌then◌else◌}
 use Rattle.omi_script.specs.declared.program.Program.{Program}
 use Rattle.omi_script.specs.declared.statement.Stmt.{Stmt}
 use Rattle.omi_script.specs.declared.statement.Stmt.TheVariants as stmt
@@ -9,12 +9,11 @@ use Rattle.omi_model.specs.declared.event.Event.TheVariants as event
 use Rattle.omi_model.specs.declared.id.Tid.{Tid}
 use Rattle.omi_model.specs.declared.item.Item.{Item}
 use Rattle.omi_model.specs.declared.item.Item.TheVariants as item
-use Rattle.omi_model.specs.declared.progress.Progress.TheVariants.{Deferred}
 use Rattle.omi_model.specs.declared.task.Task.{Task}
 use Rattle.omi_model.specs.Changes.{IsCurrent, encounter}
-use Rattle.omi_model.specs.LawScheduling.{IsInBarrier, IsScheduledRightly, passes_next}
+use Rattle.omi_model.specs.LawScheduling.{IsInBarrier, passes_next}
 use Rattle.omi_model.specs.LawStays.{Stays}
-use Rattle.omi_model.specs.Lists.{fits, may_drop, opened, stays, take_item}
+use Rattle.omi_model.specs.Lists.{fits, may_drop, opened, take_item}
 use Rattle.omi_model.specs.Rows.{first_of}
 use Rattle.omi_model.specs.Numbers.{wait_taskwait}
 use Rattle.omi_model.specs.Opening.{opening}
@@ -23,12 +22,10 @@ use Rattle.omi_model.specs.Rules.{Legal}
 use Rattle.omi_model.specs.State.{State, task_of}
 use Rattle.omi_model.specs.Tasking.{MayStartAt}
 use Rattle.omi_model.proofs.BarrierLaw.{placed}
-use Rattle.omi_model.proofs.BarrierOrder.{IsReady, Outside, Wrong, order, wrong}
+use Rattle.omi_model.proofs.BarrierOrder.{Outside, order, wrong}
 use Rattle.omi_model.proofs.EachObject.{EachTask, IsTaskLaw, list_of_current, over_events, start_list, task_step}
-use Rattle.omi_model.proofs.ListLaws.{take_fits}
 use Rattle.omi_model.proofs.OpeningObjects.{each_first_task}
 use Rattle.omi_model.proofs.Slots.{false_true, none_some, some_same}
-use Rattle.omi_model.proofs.StaysKept.{stays_step}
 use Rattle.omi_model.proofs.Steps.{IsRelisted}
 use Rattle.omi_model.proofs.WaitLists.{Waits, main_waits, member_waits, stays_waits, take_waits, task_waits, working_waits}
 
@@ -45,11 +42,15 @@ waits_step p s i e next step all = task_step p TaskWaits s i e next step
   where
     law : (middle : State) (y : Item) → IsRelisted s middle → Stays middle next → EachTask TaskWaits middle → IsTaskLaw p middle i e y next TaskWaits
     law middle y before later of_tasks = record {
-        shows = λ k t x q. q; tools = λ k t x q. q; sets = λ k t icv value v f q. q; begins = λ k t waits mine q. q; finishes = λ k t is over q. q;
-        starts = λ k u j t x is live ex de may of q. start_waits x (encounter middle i) u.list q;
-        members = λ region team f k t r is found may new of j m at. member_waits p (record { debug = p.env.debug; number = j; level = r.levels + 1; is_final = false }) f;
-        deferred = λ task f final seen k t is of. task_waits p f;
-        made = λ task f final k t is of. task_waits p f;
+      shows = λ k t x q. q;
+      tools = λ k t x q. q;
+      sets = λ k t icv value v f q. q;
+      begins = λ k t waits mine q. q;
+      finishes = λ k t is over q. q;
+      starts = λ k u j t x is live ex de may of q. start_waits x (encounter middle i) u.list q;
+      members = λ region team f k t r is found may new of j m at. member_waits p (record { debug = p.env.debug; number = j; level = r.levels + 1; is_final = false }) f;
+      deferred = λ task f final seen k t is of. task_waits p f;
+      made = λ task f final k t is of. task_waits p f;
     }
 
 pub waits_reached : (p : Program) (events : List (ℕ × Event)) (s : State) → Reached p events s → EachTask TaskWaits s
@@ -97,6 +98,7 @@ module _ (p : Program) (at : Encounter) (task : Tid) (state : ℕ) (ys : List It
       dropped : (take_item p at (event.Start task) xs ≡ Some (item.Tasks state, ys) → passes_next xs ≡ true) → (d : Bool) → may_drop x ≡ d → (if d then take_item p at (event.Start task) xs else None) ≡ Some (item.Tasks state, ys) → passes_next (x ∷ xs) ≡ true
       dropped more true may t = drop_passes x xs may (more t)
       dropped more false may t = absurd (none_some refl t)
+
       fit : (take_item p at (event.Start task) xs ≡ Some (item.Tasks state, ys) → passes_next xs ≡ true) → (d : Bool) → fits (event.Start task) (opened p at x xs).0 ≡ d
           → (if d then Some (opened p at x xs) else (if may_drop x then take_item p at (event.Start task) xs else None)) ≡ Some (item.Tasks state, ys) → passes_next (x ∷ xs) ≡ true
       fit more true f t = head_passes x xs f (some_same refl t)

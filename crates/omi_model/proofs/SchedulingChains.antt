@@ -79,7 +79,7 @@ module _ (p : Program) (events : List (ℕ × Event)) (s : State) (reached : Rea
   under : (x : Item) → m.item ≡ x → (k : Tid) (t : Task) → IsCurrent s i k t → (u : Task) → MayStartAt x k t u → (u.generating ≡ Some k) ⊎ (IsInBarrier t × (u.region ≡ t.region))
   under (item.Tasks state) of k t is u may =
       let taken : take_item p (encounter s i) e t.list ≡ Some (item.Tasks state, m.behind) =
-          ap (take_item p (encounter s i) e) (sym (list_of_current s i k t is)) ∙ (m.taken ∙ ap (λ (y : Item). Some (y, m.behind)) of) in
+      ap (take_item p (encounter s i) e) (sym (list_of_current s i k t is)) ∙ (m.taken ∙ ap (λ (y : Item). Some (y, m.behind)) of) in
       let (task, starts) = starts_only e state (take_fits p (encounter s i) e t.list (item.Tasks state) m.behind taken) in
       at_item p events s reached (item.Tasks state) m.behind k t u i task (subst (λ (x : Event). take_item p (encounter s i) x t.list ≡ Some (item.Tasks state, m.behind)) starts taken) is.live may
   under item.OneTask of k t is u may = inl may
@@ -105,16 +105,16 @@ module _ (p : Program) (events : List (ℕ × Event)) (s : State) (reached : Rea
 
   law : EachTask (λ k u. IsScheduled next u) middle → IsTaskLaw p middle i e m.item next (λ k u. IsScheduled next u)
   law of_tasks = record {
-      shows = λ k t x q. record { rightly = q.rightly; ends = q.ends };
-      tools = λ k t x q. record { rightly = q.rightly; ends = q.ends };
-      sets = λ k t icv value v f q. record { rightly = q.rightly; ends = q.ends };
-      begins = λ k t waits mine q. record { rightly = λ ex un. q.rightly ex (λ d. waits_not t waits d); ends = q.ends };
-      finishes = λ k t is over q. record { rightly = λ ex un. q.rightly ex (started k t is); ends = q.ends };
-      starts = λ k u j t x is live ex de may of q. record { rightly = λ ex' un. under_here x of j t is u may; ends = ends_current of_tasks j t is };
-      members = λ region team f k t r is found may new of j n at. record { rightly = λ ex un. absurd (false_true (sym ex)); ends = of_first (j == 0) k (ends_current of_tasks k t is) };
-      deferred = λ task f final seen k t is of. record { rightly = λ ex un. absurd (un refl); ends = (0, refl) };
-      made = λ task f final k t is of. record { rightly = λ ex un. inl refl; ends = ends_current of_tasks k t is };
-    }
+    shows = λ k t x q. record { rightly = q.rightly; ends = q.ends };
+    tools = λ k t x q. record { rightly = q.rightly; ends = q.ends };
+    sets = λ k t icv value v f q. record { rightly = q.rightly; ends = q.ends };
+    begins = λ k t waits mine q. record { rightly = λ ex un. q.rightly ex (λ d. waits_not t waits d); ends = q.ends };
+    finishes = λ k t is over q. record { rightly = λ ex un. q.rightly ex (started k t is); ends = q.ends };
+    starts = λ k u j t x is live ex de may of q. record { rightly = λ ex' un. under_here x of j t is u may; ends = ends_current of_tasks j t is };
+    members = λ region team f k t r is found may new of j n at. record { rightly = λ ex un. absurd (false_true (sym ex)); ends = of_first (j == 0) k (ends_current of_tasks k t is) };
+    deferred = λ task f final seen k t is of. record { rightly = λ ex un. absurd (un refl); ends = (0, refl) };
+    made = λ task f final k t is of. record { rightly = λ ex un. inl refl; ends = ends_current of_tasks k t is };
+  }
     where
       waits_not : (t : Task) → t.progress ≡ NotBegun → t.progress ≡ Deferred → ⊥
       waits_not t a d = cc
@@ -143,8 +143,8 @@ module _ (p : Program) (events : List (ℕ × Event)) (s : State) (reached : Rea
   pub scheduled_step : EachTask (λ k u. IsScheduled next u) next
   scheduled_step = task_step_from p (λ k u. IsScheduled next u) (λ k u. IsScheduled next u) s i e next m (λ k t is taken q. record { rightly = q.rightly; ends = q.ends }) (λ k t ne live q. q) law
       (λ k t live. record {
-          rightly = rightly_later s next stay t (all k t live).rightly;
-          ends = ends_later s next stay names t.scheduling (names.tasks k t live).scheduling (all k t live).ends;
+        rightly = rightly_later s next stay t (all k t live).rightly;
+        ends = ends_later s next stay names t.scheduling (names.tasks k t live).scheduling (all k t live).ends;
       })
 
 -- ---- every reached state
@@ -163,4 +163,4 @@ over_reached p L keeps first s reached (x ∷ xs) u (after_step, step, leads) h 
 pub scheduling_right : (p : Program) (events : List (ℕ × Event)) (s : State) → Reached p events s → (k : Tid) (u : Task) → task_of s k ≡ Some u → IsScheduled s u
 scheduling_right p events s reached =
     over_reached p (λ v. EachTask (λ k u. IsScheduled v u) v) (λ before u before_reached i e next step h. scheduled_step p before u before_reached i e next step h) [] (opening p) refl events s reached
-        (each_first_task p (λ k u. IsScheduled (opening p) u) (record { rightly = λ ex un. absurd (false_true (sym ex)); ends = (0, refl) }))
+    (each_first_task p (λ k u. IsScheduled (opening p) u) (record { rightly = λ ex un. absurd (false_true (sym ex)); ends = (0, refl) }))

@@ -29,6 +29,7 @@ each_put P m i x here j other = go (j == i) refl
   where
     clash : j == i ≡ true → j == i ≡ false → ⊥
     clash p q = cc
+
     go : (b : Bool) → j == i ≡ b → P j (cond b x (m j))
     go true e = subst (λ k. P k x) (sym (eqb-true j i e)) here
     go false e = other (λ same. clash (eq-eqb j i same) e)
@@ -73,6 +74,7 @@ found_beside {A} g h f slot ne = go (slot.generations == h + 1) refl
   where
     none : slot.generations == h + 1 ≡ true → slot.generations == g + 1 ≡ false
     none e = let is = eqb-true slot.generations (h + 1) e in ne_eqb slot.generations (g + 1) (λ same. ne (omega arith))
+
     go : (b : Bool) → slot.generations == h + 1 ≡ b → found g (if b then record { generations = slot.generations; live = option_map f slot.live } else slot) ≡ found g slot
     go true e = ap (λ t. if t then option_map f slot.live else None) (none e) ∙ sym (ap (λ t. if t then slot.live else None) (none e))
     go false e = refl
@@ -85,8 +87,8 @@ module _ {A : Type 0} (slots : Slots A) (k : Id) where
   pub each_slot : (P : ℕ → ℕ → Slot A → Type 0) (x : Slot A) → P k.creator k.slot x → ((c j : ℕ) → (c ≡ k.creator → j ≡ k.slot → ⊥) → P c j (slots c j)) → (c j : ℕ) → P c j (put slots k.creator (put (slots k.creator) k.slot x) c j)
   each_slot P x here other c j =
       each_put (λ d (row : ℕ → Slot A). P d j (row j)) slots k.creator (put (slots k.creator) k.slot x)
-          (each_put (λ h (y : Slot A). P k.creator h y) (slots k.creator) k.slot x here j (λ ne. other k.creator j (λ a b. ne b)))
-          c (λ ne. other c j (λ a b. ne a))
+      (each_put (λ h (y : Slot A). P k.creator h y) (slots k.creator) k.slot x here j (λ ne. other k.creator j (λ a b. ne b)))
+      c (λ ne. other c j (λ a b. ne a))
 
   pub on_same : (f : A → A) → named (on slots k f) k ≡ option_map f (named slots k)
   on_same f = ap (found k.generation) (at_slot (changed k.generation f (slots k.creator k.slot))) ∙ found_changed k.generation f (slots k.creator k.slot)
@@ -94,8 +96,8 @@ module _ {A : Type 0} (slots : Slots A) (k : Id) where
   pub on_other : (f : A → A) (n : Id) → (n ≡ k → ⊥) → named (on slots k f) n ≡ named slots n
   on_other f n ne =
       each_slot (λ c j (slot : Slot A). n.creator ≡ c → n.slot ≡ j → found n.generation slot ≡ found n.generation (slots c j)) (changed k.generation f (slots k.creator k.slot))
-          (λ a b. found_beside n.generation k.generation f (slots k.creator k.slot) (λ g. ne (id_same n k a b g)))
-          (λ c j apart a b. refl) n.creator n.slot refl refl
+      (λ a b. found_beside n.generation k.generation f (slots k.creator k.slot) (λ g. ne (id_same n k a b g)))
+      (λ c j apart a b. refl) n.creator n.slot refl refl
 
   pub made_same : (x : A) → named (made slots k x) k ≡ Some x
   made_same x =
@@ -106,15 +108,15 @@ module _ {A : Type 0} (slots : Slots A) (k : Id) where
   pub made_other : (x : A) (n : Id) (y : A) → (n ≡ k → ⊥) → named (made slots k x) n ≡ Some y → named slots n ≡ Some y
   made_other x n y ne e =
       each_slot (λ c j (slot : Slot A). n.creator ≡ c → n.slot ≡ j → found n.generation slot ≡ Some y → found n.generation (slots c j) ≡ Some y) (record { generations = k.generation + 1; live = Some x })
-          (λ a b h. absurd (none_some (ap (λ t. if t then Some x else None) (ne_eqb (k.generation + 1) (n.generation + 1) (λ g. ne (id_same n k a b (omega arith))))) h))
-          (λ c j apart a b h. h) n.creator n.slot refl refl e
+      (λ a b h. absurd (none_some (ap (λ t. if t then Some x else None) (ne_eqb (k.generation + 1) (n.generation + 1) (λ g. ne (id_same n k a b (omega arith))))) h))
+      (λ c j apart a b h. h) n.creator n.slot refl refl e
 
   -- what was there is found afterwards, where the slot was empty
   pub made_stays : (x : A) (n : Id) (y : A) → (slots k.creator k.slot).live ≡ None → named slots n ≡ Some y → named (made slots k x) n ≡ Some y
   made_stays x n y empty e =
       each_slot (λ c j (slot : Slot A). n.creator ≡ c → n.slot ≡ j → found n.generation (slots c j) ≡ Some y → found n.generation slot ≡ Some y) (record { generations = k.generation + 1; live = Some x })
-          (λ a b h. absurd (none_some empty (found_live n.generation (slots k.creator k.slot) y h)))
-          (λ c j apart a b h. h) n.creator n.slot refl refl e
+      (λ a b h. absurd (none_some empty (found_live n.generation (slots k.creator k.slot) y h)))
+      (λ c j apart a b h. h) n.creator n.slot refl refl e
 
   pub made_beside : (x : A) (c j : ℕ) → (c ≡ k.creator → j ≡ k.slot → ⊥) → made slots k x c j ≡ slots c j
   made_beside x = each_slot (λ c j (slot : Slot A). (c ≡ k.creator → j ≡ k.slot → ⊥) → slot ≡ slots c j) (record { generations = k.generation + 1; live = Some x }) (λ apart. absurd (apart refl refl)) (λ c j other apart. refl)

@@ -1,9 +1,7 @@
 -- What stays over every event.
-use Rattle.std.proofs.Common.{◌≡◌, ◌≢◌, ◌<◌, ◌≤◌, ◌+◌, ◌-◌, ℕ, zero, suc, ◌⊎◌, inl, inr, Bool, true, false, List, [], ◌∷◌, ◌++◌, length, map, get_or, slice_get, slice_index, slice_set, Option, Some, None, refl, sym, ap, ◌∙◌, subst, arith}
-use Rattle.std.specs.Prelude.{IfSome, ⊤}
-use Rattle.std.specs.List.{All, Contains}
-use Rattle.std.specs.Option.{option_map}
-use Rattle.std.proofs.lemmas.Bool.{cases_eq}
+use Rattle.std.proofs.Common.{◌≡◌, ◌<◌, ◌≤◌, ◌+◌, ◌-◌, ℕ, zero, suc, Bool, true, false, List, [], ◌∷◌, ◌++◌, length, map, get_or, slice_get, slice_index, slice_set, Option, Some, None, refl, sym, ap, ◌∙◌, subst, arith}
+use Rattle.std.specs.Prelude.{IfSome}
+use Rattle.std.specs.List.{All}
 use Rattle.std.proofs.lemmas.List.{get_or-map, length-map, length-set}
 use Rattle.omi_script.specs.declared.program.Program.{Program}
 use Rattle.omi_model.specs.declared.claim.Claim.TheVariants as claim
@@ -20,10 +18,10 @@ use Rattle.omi_model.specs.declared.region.Region.{Region}
 use Rattle.omi_model.specs.declared.task.Task.{Task}
 use Rattle.omi_model.specs.declared.task.Variables.{Variables}
 use Rattle.omi_model.specs.declared.thread.Thread.{Thread}
-use Rattle.omi_model.specs.Changes.{IsCurrent, on_region, on_task, on_thread, with_list, encounter}
+use Rattle.omi_model.specs.Changes.{on_region, on_task, on_thread, with_list, encounter}
 use Rattle.omi_model.specs.Fresh.{AreDistinct, IsFresh}
 use Rattle.omi_model.specs.LawStays.{IsSameRegion, IsSameTask, Stays, stage_of}
-use Rattle.omi_model.specs.Put.{Slots, made, named, put}
+use Rattle.omi_model.specs.Put.{Slots, made, put}
 use Rattle.omi_model.specs.Reached.{Leads, Reached, Step}
 use Rattle.omi_model.specs.Rows.{working}
 use Rattle.omi_model.specs.Rules.{Rule, effect}
@@ -42,12 +40,16 @@ same_task t = record { implicit = refl; region = refl; generating = refl; functi
 
 pub same_task_trans : (t u v : Task) → IsSameTask t u → IsSameTask u v → IsSameTask t v
 same_task_trans t u v a b = record {
-    implicit = b.implicit ∙ a.implicit; region = b.region ∙ a.region; generating = b.generating ∙ a.generating; function = b.function ∙ a.function; is_final = b.is_final ∙ a.is_final;
-    stage = omega (arith, a.stage, b.stage);
-    started = λ h. b.started (a.started h);
-    thread = λ h. b.thread (a.started h) ∙ a.thread h;
-    number = λ h. b.number (a.started h) ∙ a.number h;
-    scheduling = λ h. b.scheduling (a.started h) ∙ a.scheduling h;
+  implicit = b.implicit ∙ a.implicit;
+  region = b.region ∙ a.region;
+  generating = b.generating ∙ a.generating;
+  function = b.function ∙ a.function;
+  is_final = b.is_final ∙ a.is_final;
+  stage = omega (arith, a.stage, b.stage);
+  started = λ h. b.started (a.started h);
+  thread = λ h. b.thread (a.started h) ∙ a.thread h;
+  number = λ h. b.number (a.started h) ∙ a.number h;
+  scheduling = λ h. b.scheduling (a.started h) ∙ a.scheduling h;
 }
 
 pub same_region : (r : Region) → IsSameRegion r r
@@ -55,12 +57,17 @@ same_region r = record { enclosing = refl; encountering = refl; team = refl; fun
 
 pub same_region_trans : (r q w : Region) → IsSameRegion r q → IsSameRegion q w → IsSameRegion r w
 same_region_trans r q w a b = record {
-    enclosing = b.enclosing ∙ a.enclosing; encountering = b.encountering ∙ a.encountering; team = b.team ∙ a.team; function = b.function ∙ a.function; levels = b.levels ∙ a.levels; active = b.active ∙ a.active;
-    members = b.members ∙ a.members;
-    arrivals = λ j. omega (arith, a.arrivals j, b.arrivals j);
-    released = omega (arith, a.released, b.released);
-    ended = λ j h. b.ended j (a.ended j h);
-    joined = λ h. b.joined (a.joined h);
+  enclosing = b.enclosing ∙ a.enclosing;
+  encountering = b.encountering ∙ a.encountering;
+  team = b.team ∙ a.team;
+  function = b.function ∙ a.function;
+  levels = b.levels ∙ a.levels;
+  active = b.active ∙ a.active;
+  members = b.members ∙ a.members;
+  arrivals = λ j. omega (arith, a.arrivals j, b.arrivals j);
+  released = omega (arith, a.released, b.released);
+  ended = λ j h. b.ended j (a.ended j h);
+  joined = λ h. b.joined (a.joined h);
 }
 
 -- ---- states
@@ -70,30 +77,34 @@ stays_same s = record { tasks = λ k t e. (t, e, same_task t); regions = λ n r 
 
 pub stays_trans : (s t u : State) → Stays s t → Stays t u → Stays s u
 stays_trans s t u a b = record {
-    tasks = λ k v e. let (v', e', h') = a.tasks k v e in let (v'', e'', h'') = b.tasks k v' e' in (v'', e'', same_task_trans v v' v'' h' h'');
-    regions = λ n r e. let (r', e', h') = a.regions n r e in let (r'', e'', h'') = b.regions n r' e' in (r'', e'', same_region_trans r r' r'' h' h'');
-    begun = λ i h. b.begun i (a.begun i h);
-    count = b.count ∙ a.count;
+  tasks = λ k v e. let (v', e', h') = a.tasks k v e in let (v'', e'', h'') = b.tasks k v' e' in (v'', e'', same_task_trans v v' v'' h' h'');
+  regions = λ n r e. let (r', e', h') = a.regions n r e in let (r'', e'', h'') = b.regions n r' e' in (r'', e'', same_region_trans r r' r'' h' h'');
+  begun = λ i h. b.begun i (a.begun i h);
+  count = b.count ∙ a.count;
 }
 
 pub stays_thread : (s : State) (i : ℕ) (f : Thread → Thread) → ((s.threads i).begun ≡ true → (f (s.threads i)).begun ≡ true) → Stays s (on_thread s i f)
 stays_thread s i f keeps = record {
-    tasks = λ k t e. (t, e, same_task t); regions = λ n r e. (r, e, same_region r);
-    begun = λ j. each_put (λ m (h : Thread). (s.threads m).begun ≡ true → h.begun ≡ true) s.threads i (f (s.threads i)) keeps j (λ ne h. h);
-    count = refl;
+  tasks = λ k t e. (t, e, same_task t);
+  regions = λ n r e. (r, e, same_region r);
+  begun = λ j. each_put (λ m (h : Thread). (s.threads m).begun ≡ true → h.begun ≡ true) s.threads i (f (s.threads i)) keeps j (λ ne h. h);
+  count = refl;
 }
 
 pub stays_task : (s : State) (k : Tid) (f : Task → Task) → ((t : Task) → task_of s k ≡ Some t → IsSameTask t (f t)) → Stays s (on_task s k f)
 stays_task s k f keeps = record {
-    tasks = λ n t e. later_on IsSameTask same_task s.tasks k.0 f keeps n.0 t e;
-    regions = λ n r e. (r, e, same_region r); begun = λ i h. h; count = refl;
+  tasks = λ n t e. later_on IsSameTask same_task s.tasks k.0 f keeps n.0 t e;
+  regions = λ n r e. (r, e, same_region r);
+  begun = λ i h. h;
+  count = refl;
 }
 
 pub stays_region : (s : State) (n : Rid) (f : Region → Region) → ((r : Region) → region_of s n ≡ Some r → IsSameRegion r (f r)) → Stays s (on_region s n f)
 stays_region s n f keeps = record {
-    tasks = λ k t e. (t, e, same_task t);
-    regions = λ m r e. later_on IsSameRegion same_region s.regions n.0 f keeps m.0 r e;
-    begun = λ i h. h; count = refl;
+  tasks = λ k t e. (t, e, same_task t);
+  regions = λ m r e. later_on IsSameRegion same_region s.regions n.0 f keeps m.0 r e;
+  begun = λ i h. h;
+  count = refl;
 }
 
 -- ---- new tasks
@@ -161,28 +172,59 @@ other_task t enter tool v zs = record { implicit = refl; region = refl; generati
 
 begun_task : (t : Task) → t.progress ≡ NotBegun → IsSameTask t (record t { progress = Begun })
 begun_task t is = record {
-    implicit = refl; region = refl; generating = refl; function = refl; is_final = refl;
-    stage = subst (λ q. stage_of q ≤ 1) (sym is) (omega arith);
-    started = λ h e. cc; thread = λ h. refl; number = λ h. refl; scheduling = λ h. refl;
+  implicit = refl;
+  region = refl;
+  generating = refl;
+  function = refl;
+  is_final = refl;
+  stage = subst (λ q. stage_of q ≤ 1) (sym is) (omega arith);
+  started = λ h e. cc;
+  thread = λ h. refl;
+  number = λ h. refl;
+  scheduling = λ h. refl;
 }
 
 finished_task : (t : Task) → IsSameTask t (record t { progress = Finished })
 finished_task t = record {
-    implicit = refl; region = refl; generating = refl; function = refl; is_final = refl; stage = stage_most t.progress;
-    started = λ h e. cc; thread = λ h. refl; number = λ h. refl; scheduling = λ h. refl;
+  implicit = refl;
+  region = refl;
+  generating = refl;
+  function = refl;
+  is_final = refl;
+  stage = stage_most t.progress;
+  started = λ h e. cc;
+  thread = λ h. refl;
+  number = λ h. refl;
+  scheduling = λ h. refl;
 }
 
 started_task : (i : ℕ) (k : Tid) (t u : Task) (zs : List Item) → u.progress ≡ Deferred → IsSameTask u (record (scheduled i k t u) { list = zs })
 started_task i k t u zs is = record {
-    implicit = refl; region = refl; generating = refl; function = refl; is_final = refl;
-    stage = subst (λ q. stage_of q ≤ 1) (sym is) (omega arith);
-    started = λ h e. cc; thread = λ h. absurd (h is); number = λ h. absurd (h is); scheduling = λ h. absurd (h is);
+  implicit = refl;
+  region = refl;
+  generating = refl;
+  function = refl;
+  is_final = refl;
+  stage = subst (λ q. stage_of q ≤ 1) (sym is) (omega arith);
+  started = λ h e. cc;
+  thread = λ h. absurd (h is);
+  number = λ h. absurd (h is);
+  scheduling = λ h. absurd (h is);
 }
 
 arrived_region : (r : Region) (n : ℕ) → IsSameRegion r (record r { arrivals = slice_set r.arrivals n (slice_index r.arrivals n + 1) })
 arrived_region r n = record {
-    enclosing = refl; encountering = refl; team = refl; function = refl; levels = refl; active = refl;
-    members = length-set r.arrivals n (slice_index r.arrivals n + 1); arrivals = set_more r.arrivals n; released = omega arith; ended = λ j h. h; joined = λ h. h;
+  enclosing = refl;
+  encountering = refl;
+  team = refl;
+  function = refl;
+  levels = refl;
+  active = refl;
+  members = length-set r.arrivals n (slice_index r.arrivals n + 1);
+  arrivals = set_more r.arrivals n;
+  released = omega arith;
+  ended = λ j h. h;
+  joined = λ h. h;
 }
 
 released_region : (r : Region) → IsSameRegion r (record r { released = r.released + 1 })
@@ -198,16 +240,19 @@ joined_region r = record { enclosing = refl; encountering = refl; team = refl; f
 
 stays_made : (s : State) (k : Tid) (x : Task) (i : ℕ) → IsFresh s.tasks i k.0 → Stays s (record s { tasks = made s.tasks k.0 x })
 stays_made s k x i fresh = record {
-    tasks = λ n t e. later_made IsSameTask same_task s.tasks k.0 x (fresh_empty s.tasks i k.0 fresh) n.0 t e;
-    regions = λ n r e. (r, e, same_region r); begun = λ j h. h; count = refl;
+  tasks = λ n t e. later_made IsSameTask same_task s.tasks k.0 x (fresh_empty s.tasks i k.0 fresh) n.0 t e;
+  regions = λ n r e. (r, e, same_region r);
+  begun = λ j h. h;
+  count = refl;
 }
 
 stays_forked : (s : State) (i : ℕ) (region : Rid) (new : Region) (task : ℕ → ℕ → Task) (team : List (Tid × ℕ)) → IsFresh s.regions i region.0 → AreNew s.tasks i team
     → Stays s (record s { regions = made s.regions region.0 new; tasks = with_members task 0 team s.tasks })
 stays_forked s i region new task team fresh news = record {
-    tasks = λ n t e. later_members IsSameTask same_task task 0 team s.tasks i news n.0 t e;
-    regions = λ n r e. later_made IsSameRegion same_region s.regions region.0 new (fresh_empty s.regions i region.0 fresh) n.0 r e;
-    begun = λ j h. h; count = refl;
+  tasks = λ n t e. later_members IsSameTask same_task task 0 team s.tasks i news n.0 t e;
+  regions = λ n r e. later_made IsSameRegion same_region s.regions region.0 new (fresh_empty s.regions i region.0 fresh) n.0 r e;
+  begun = λ j h. h;
+  count = refl;
 }
 
 stays_global : (s : State) (locks : ℕ → Option ℕ) (n : ℕ) → Stays s (record s { locks = locks; max_active = n })
@@ -224,13 +269,13 @@ pub stays_effect : (p : Program) (s : State) (i : ℕ) (e : Event) (y : Item) �
 stays_effect p s i event.Begin y rule = stays_thread s i (λ h. record h { begun = true }) (λ h. refl)
 stays_effect p s i event.Offer y rule = stays_thread s i (λ h. record h { claim = claim.Free }) (λ h. h)
 stays_effect p s i (event.Want n) y rule = stays_thread s i (λ h. record h { wanted = n; asks = [] }) (λ h. h)
-stays_effect p s i (event.Ask w true) y rule = 
+stays_effect p s i (event.Ask w true) y rule =
     let listed : State = on_thread s i (λ h. record h { asks = h.asks ++ (w, true) ∷ [] }) in
     stays_trans s listed (on_thread listed w (λ h. record h { claim = claim.By i })) (stays_thread s i (λ h. record h { asks = h.asks ++ (w, true) ∷ [] }) (λ h. h)) (stays_thread listed w (λ h. record h { claim = claim.By i }) (λ h. h))
 stays_effect p s i (event.Ask w false) y rule = stays_thread s i (λ h. record h { asks = h.asks ++ (w, false) ∷ [] }) (λ h. h)
 stays_effect p s i (event.Fork region team) (item.Fork f) rule =
     of_region s i (forked p s i region team f) (Stays s) _ rule
-        (λ k t r is found may. stays_current s _ i (master_of team) (stays_forked s i region _ (member_task p region k t r f) team may.region_new (new_team s.tasks i team may.tasks_new may.distinct)))
+    (λ k t r is found may. stays_current s _ i (master_of team) (stays_forked s i region _ (member_task p region k t r f) team may.region_new (new_team s.tasks i team may.tasks_new may.distinct)))
 stays_effect p s i (event.Fork region team) y rule = tt
 stays_effect p s i (event.ImplicitBegin task) y rule =
     stays_current s _ i (Some task) (stays_task s task (λ t. record t { progress = Begun }) (λ t e. let same : rule.member ≡ t = some_same rule.live e in begun_task t (ap (λ (u : Task). u.progress) (sym same) ∙ rule.waiting)))
@@ -241,12 +286,12 @@ stays_effect p s i event.Arrive y rule = of_current_region s i (λ k t. arrived 
 stays_effect p s i event.Release y rule = of_current_region s i (λ k t. released s t) (Stays s) _ rule (λ k t r is found h. stays_region s t.region (λ q. record q { released = q.released + 1 }) (λ q e. released_region q))
 stays_effect p s i (event.ImplicitEnd task) y rule =
     of_current_region s i (task_ended s i) (Stays s) _ rule
-        (λ k t r is found h. let first : State = on_task s k (λ u. record u { progress = Finished }) in
-            stays_current s _ i None (stays_trans s first _ (stays_setting s k (λ u. record u { progress = Finished }) finished_task) (stays_region first t.region (λ q. record q { ended = slice_set q.ended t.number true }) (λ q e. ended_region q t.number))))
+    (λ k t r is found h. let first : State = on_task s k (λ u. record u { progress = Finished }) in
+    stays_current s _ i None (stays_trans s first _ (stays_setting s k (λ u. record u { progress = Finished }) finished_task) (stays_region first t.region (λ q. record q { ended = slice_set q.ended t.number true }) (λ q e. ended_region q t.number))))
 stays_effect p s i (event.Join region) y rule =
     of_region s i (joined s i) (Stays s) _ rule
-        (λ k t r is found h. let first : State = on_task s k (λ u. record u { progress = Finished }) in
-            stays_current s _ i r.encountering (stays_trans s first _ (stays_setting s k (λ u. record u { progress = Finished }) finished_task) (stays_region first t.region (λ q. record q { joined = true }) (λ q e. joined_region q))))
+    (λ k t r is found h. let first : State = on_task s k (λ u. record u { progress = Finished }) in
+    stays_current s _ i r.encountering (stays_trans s first _ (stays_setting s k (λ u. record u { progress = Finished }) finished_task) (stays_region first t.region (λ q. record q { joined = true }) (λ q e. joined_region q))))
 stays_effect p s i (event.FreeTask task) y rule = tt
 stays_effect p s i (event.FreeRegion region) y rule = tt
 stays_effect p s i (event.Defer task) (item.Defer seen f final) rule = of_current s i (deferred p s task f final seen) (Stays s) _ rule (λ k t is fresh. stays_made s task _ i fresh)
@@ -256,10 +301,10 @@ stays_effect p s i (event.StartNow task) (item.StartNow f final) rule = of_curre
 stays_effect p s i (event.StartNow task) y rule = tt
 stays_effect p s i (event.Start task) (item.Tasks state) rule =
     of_current s i (started s i task) (Stays s) _ rule
-        (λ k t is may. stays_current s _ i (Some task) (stays_task s task (λ u. record (scheduled i k t u) { list = working (encounter s i) u.list }) (λ u e. let same : may.new ≡ u = some_same may.live e in started_task i k t u (working (encounter s i) u.list) (ap (λ (x : Task). x.progress) (sym same) ∙ may.deferred))))
+    (λ k t is may. stays_current s _ i (Some task) (stays_task s task (λ u. record (scheduled i k t u) { list = working (encounter s i) u.list }) (λ u e. let same : may.new ≡ u = some_same may.live e in started_task i k t u (working (encounter s i) u.list) (ap (λ (x : Task). x.progress) (sym same) ∙ may.deferred))))
 stays_effect p s i (event.Start task) item.OneTask rule =
     of_current s i (started_alone s i task) (Stays s) _ rule
-        (λ k t is may. stays_current s _ i (Some task) (stays_task s task (scheduled i k t) (λ u e. let same : may.new ≡ u = some_same may.live e in started_task i k t u u.list (ap (λ (x : Task). x.progress) (sym same) ∙ may.deferred))))
+    (λ k t is may. stays_current s _ i (Some task) (stays_task s task (scheduled i k t) (λ u e. let same : may.new ≡ u = some_same may.live e in started_task i k t u u.list (ap (λ (x : Task). x.progress) (sym same) ∙ may.deferred))))
 stays_effect p s i (event.Start task) y rule = tt
 stays_effect p s i (event.Finish task) y rule = of_current s i (finished s i) (Stays s) _ rule (λ k t is h. stays_current s _ i t.scheduling (stays_setting s k (λ u. record u { progress = Finished }) finished_task))
 stays_effect p s i (event.Set icv value) y rule = of_set s i icv value (Stays s) rule (stays_global s s.locks value) (λ k t v is e. stays_setting s k (λ u. record u { variables = v }) (λ u. other_task u u.enter u.tool v u.list))

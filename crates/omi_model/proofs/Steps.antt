@@ -1,7 +1,7 @@
 -- A step in two halves: the list moves on, and then the event has its effect, under the rule that it had before.
-use Rattle.std.proofs.Common.{◌≡◌, ◌≢◌, ◌<◌, ℕ, suc, ◌⊎◌, inl, inr, Bool, true, false, List, [], ◌∷◌, length, map, Option, Some, None, MatchBool, refl, sym, ap, ◌∙◌, subst}
+use Rattle.std.proofs.Common.{◌≡◌, ◌<◌, ℕ, suc, ◌⊎◌, inl, inr, Bool, true, false, List, length, map, Option, Some, None, refl, sym, ap, ◌∙◌, subst}
 use Rattle.std.specs.Prelude.{IfSome, ⊤, ◌==◌, ◌+◌, if◌then◌else◌}
-use Rattle.std.specs.List.{All, Contains}
+use Rattle.std.specs.List.{Contains}
 use Rattle.std.specs.Option.{option_and_then, option_map, option_map_or}
 use Rattle.omi_script.specs.declared.program.Program.{Program}
 use Rattle.omi_model.specs.declared.event.Event.{Event}
@@ -17,19 +17,19 @@ use Rattle.omi_model.specs.declared.slot.Slot.{Slot}
 use Rattle.omi_model.specs.declared.task.Task.{Task}
 use Rattle.omi_model.specs.declared.task.Variables.{Variables}
 use Rattle.omi_model.specs.declared.thread.Thread.{Thread}
-use Rattle.omi_model.specs.Barriers.{AreFinished, MayRelease}
+use Rattle.omi_model.specs.Barriers.{AreFinished}
 use Rattle.omi_model.specs.Changes.{IsCurrent, OfCurrent, OfCurrentRegion, by_current, by_region, encounter, list_of, on_task, on_thread, with_list}
 use Rattle.omi_model.specs.Fresh.{IsFresh}
 use Rattle.omi_model.specs.Lists.{stays, take_item}
-use Rattle.omi_model.specs.Numbers.{max_active_levels_var, wait_taskwait}
-use Rattle.omi_model.specs.Put.{Slots, changed, named, on, put}
+use Rattle.omi_model.specs.Numbers.{max_active_levels_var}
+use Rattle.omi_model.specs.Put.{Slots, changed, on}
 use Rattle.omi_model.specs.Reached.{Step}
-use Rattle.omi_model.specs.Rules.{Legal, Rule, after, effect, moved, taken_by}
+use Rattle.omi_model.specs.Rules.{Rule, effect, moved}
 use Rattle.omi_model.specs.Settings.{with_set, with_task_variable, with_variable, with_variable_of}
-use Rattle.omi_model.specs.State.{State, current_task, region_of, task_of}
+use Rattle.omi_model.specs.State.{State, region_of, task_of}
 use Rattle.omi_model.specs.Tasking.{AreChildrenFinished, IsTaken, MayStart, MayStartAt}
-use Rattle.omi_model.specs.Teams.{AreAsksOver, MayAsk, MayBeginTask, MayFork, MayOffer, got_threads}
-use Rattle.omi_model.proofs.Slots.{each_on, each_put, each_slot, later_on, none_some, on_empty, on_generations, on_same, put_same, some_same}
+use Rattle.omi_model.specs.Teams.{MayAsk, MayFork, got_threads}
+use Rattle.omi_model.proofs.Slots.{each_on, each_put, each_slot, later_on, none_some, on_empty, on_generations, on_same, some_same}
 
 -- a task with another list
 abbrev pub relisted : List Item → Task → Task
@@ -76,8 +76,8 @@ of_set s i icv value L (k, t, is, h) whole own = by_test (icv == max_active_leve
     by_test true = whole
     by_test false =
         subst (λ (o : Option State). IfSome o L)
-            (sym (ap (option_and_then (λ (n : Tid). option_and_then (with_variable_of s icv value n) (task_of s n))) is.name ∙ ap (option_and_then (with_variable_of s icv value k)) is.live))
-            (of_own (with_variable icv value t.variables) refl)
+        (sym (ap (option_and_then (λ (n : Tid). option_and_then (with_variable_of s icv value n) (task_of s n))) is.name ∙ ap (option_and_then (with_variable_of s icv value k)) is.live))
+        (of_own (with_variable icv value t.variables) refl)
 
 -- ---- the list moves on
 
@@ -95,7 +95,7 @@ list_moves s i zs L busy idle = go (s.threads i).current refl
 pub on_live : {A : Type 0} (slots : Slots A) (k : Id) (f : A → A) (P : A → Type 0) → ((x : A) → P x → P (f x)) → (c j : ℕ) → ((x : A) → (slots c j).live ≡ Some x → P x) → (y : A) → (on slots k f c j).live ≡ Some y → P y
 on_live {A} slots k f P keeps c j was =
     each_slot slots k (λ d h (slot : Slot A). ((x : A) → (slots d h).live ≡ Some x → P x) → (y : A) → slot.live ≡ Some y → P y) (changed k.generation f (slots k.creator k.slot))
-        (λ all y e. go all y e) (λ d h apart all. all) c j was
+    (λ all y e. go all y e) (λ d h apart all. all) c j was
   where
     of_map : (o : Option A) → ((x : A) → o ≡ Some x → P x) → (y : A) → option_map f o ≡ Some y → P y
     of_map None all y e = absurd (none_some refl e)
@@ -110,10 +110,10 @@ on_live {A} slots k f P keeps c j was =
 
 pub on_fresh : {A : Type 0} (slots : Slots A) (k : Id) (f : A → A) (i : ℕ) (n : Id) → IsFresh slots i n → IsFresh (on slots k f) i n
 on_fresh slots k f i n is = record {
-    creator = is.creator;
-    empty = on_empty slots k f i n.slot is.empty;
-    next = is.next ∙ sym (on_generations slots k f i n.slot);
-    below = is.below;
+  creator = is.creator;
+  empty = on_empty slots k f i n.slot is.empty;
+  next = is.next ∙ sym (on_generations slots k f i n.slot);
+  below = is.below;
 }
 
 module _ (s : State) (i : ℕ) (k0 : Tid) (is_current : (s.threads i).current ≡ Some k0) (zs : List Item) where
@@ -133,9 +133,11 @@ module _ (s : State) (i : ℕ) (k0 : Tid) (is_current : (s.threads i).current �
 
   fork_moved : (region : Rid) (team : List (Tid × ℕ)) → MayFork s i region team → MayFork next i region team
   fork_moved region team may = record {
-      over = may.over; threads = may.threads; region_new = may.region_new;
-      tasks_new = λ j d h. on_fresh s.tasks k0.0 (relisted zs) i _ (may.tasks_new j d h);
-      distinct = may.distinct;
+    over = may.over;
+    threads = may.threads;
+    region_new = may.region_new;
+    tasks_new = λ j d h. on_fresh s.tasks k0.0 (relisted zs) i _ (may.tasks_new j d h);
+    distinct = may.distinct;
   }
 
   finished_moved : (n : Rid) → AreFinished s n → AreFinished next n
@@ -149,7 +151,7 @@ module _ (s : State) (i : ℕ) (k0 : Tid) (is_current : (s.threads i).current �
   taken_moved : (region : Rid) (place : ℕ) → IsTaken s i region place → IsTaken next i region place
   taken_moved region place is =
       let found = each_slot s.tasks k0.0 (λ c j (slot : Slot Task). (s.tasks c j).live ≡ Some is.task → (u : Task) × (slot.live ≡ Some u) × ((u ≡ is.task) ⊎ (u ≡ relisted zs is.task))) (changed k0.0.generation (relisted zs) (s.tasks k0.0.creator k0.0.slot))
-          (λ e. here (s.tasks k0.0.creator k0.0.slot) e) (λ c j apart e. (is.task, e, inl refl)) i is.slot is.live in
+      (λ e. here (s.tasks k0.0.creator k0.0.slot) e) (λ c j apart e. (is.task, e, inl refl)) i is.slot is.live in
       of_found found.0 found.1 found.2
     where
       here : (slot : Slot Task) → slot.live ≡ Some is.task → (u : Task) × ((changed k0.0.generation (relisted zs) slot).live ≡ Some u) × ((u ≡ is.task) ⊎ (u ≡ relisted zs is.task))
@@ -161,14 +163,22 @@ module _ (s : State) (i : ℕ) (k0 : Tid) (is_current : (s.threads i).current �
 
       of_found : (u : Task) → (next.tasks i is.slot).live ≡ Some u → (u ≡ is.task) ⊎ (u ≡ relisted zs is.task) → IsTaken next i region place
       of_found u live (inl same) = record {
-          slot = is.slot; task = u; live = live;
-          explicit = ap (λ (x : Task). x.implicit) same ∙ is.explicit; deferred = ap (λ (x : Task). x.progress) same ∙ is.deferred;
-          same = ap (λ (x : Task). x.region) same ∙ is.same; there = ap (λ (x : Task). x.place) same ∙ is.there;
+        slot = is.slot;
+        task = u;
+        live = live;
+        explicit = ap (λ (x : Task). x.implicit) same ∙ is.explicit;
+        deferred = ap (λ (x : Task). x.progress) same ∙ is.deferred;
+        same = ap (λ (x : Task). x.region) same ∙ is.same;
+        there = ap (λ (x : Task). x.place) same ∙ is.there;
       }
       of_found u live (inr same) = record {
-          slot = is.slot; task = u; live = live;
-          explicit = ap (λ (x : Task). x.implicit) same ∙ is.explicit; deferred = ap (λ (x : Task). x.progress) same ∙ is.deferred;
-          same = ap (λ (x : Task). x.region) same ∙ is.same; there = ap (λ (x : Task). x.place) same ∙ is.there;
+        slot = is.slot;
+        task = u;
+        live = live;
+        explicit = ap (λ (x : Task). x.implicit) same ∙ is.explicit;
+        deferred = ap (λ (x : Task). x.progress) same ∙ is.deferred;
+        same = ap (λ (x : Task). x.region) same ∙ is.same;
+        there = ap (λ (x : Task). x.place) same ∙ is.there;
       }
 
   start_moved : (task : Tid) (x : Item) (k : Tid) (t : Task) → MayStart s task x k t → MayStart next task x k (relisted zs t)
@@ -188,10 +198,18 @@ module _ (s : State) (i : ℕ) (k0 : Tid) (is_current : (s.threads i).current �
 
       of_found : (v : Task) → task_of next task ≡ Some v → (v ≡ may.new) ⊎ (v ≡ relisted zs may.new) → MayStart next task x k (relisted zs t)
       of_found v live (inl same) = record {
-          new = may.new; live = live ∙ ap (λ (u : Task). Some u) same; explicit = may.explicit; deferred = may.deferred; allowed = allowed_same x may.new may.allowed;
+        new = may.new;
+        live = live ∙ ap (λ (u : Task). Some u) same;
+        explicit = may.explicit;
+        deferred = may.deferred;
+        allowed = allowed_same x may.new may.allowed;
       }
       of_found v live (inr same) = record {
-          new = relisted zs may.new; live = live ∙ ap (λ (u : Task). Some u) same; explicit = may.explicit; deferred = may.deferred; allowed = allowed x may.new may.allowed;
+        new = relisted zs may.new;
+        live = live ∙ ap (λ (u : Task). Some u) same;
+        explicit = may.explicit;
+        deferred = may.deferred;
+        allowed = allowed x may.new may.allowed;
       }
 
   busy_rule : (e : Event) (y : Item) → Rule s i e y → Rule next i e y
@@ -290,8 +308,9 @@ pub record IsRelisted (s u : State) : Type 0 where
 pub is_relisted : (s : State) (i : ℕ) (zs : List Item) → IsRelisted s (with_list s i zs)
 is_relisted s i zs = list_moves s i zs (IsRelisted s)
     (λ k is. record {
-        tasks = λ n t e. each_on (λ m u. (v : Task) × (xs : List Item) × (task_of s (record { 0 = m }) ≡ Some v) × (u ≡ relisted xs v)) s.tasks k.0 (relisted zs) (λ m u f. (u, u.list, f, refl)) (λ u f h. (u, zs, f, refl)) n.0 t e;
-        regions = λ n. refl; currents = λ j. refl;
+      tasks = λ n t e. each_on (λ m u. (v : Task) × (xs : List Item) × (task_of s (record { 0 = m }) ≡ Some v) × (u ≡ relisted xs v)) s.tasks k.0 (relisted zs) (λ m u f. (u, u.list, f, refl)) (λ u f h. (u, zs, f, refl)) n.0 t e;
+      regions = λ n. refl;
+      currents = λ j. refl;
     })
     (λ none. record { tasks = λ n t e. (t, t.list, e, refl); regions = λ n. refl; currents = idle_same s i none zs (λ h. h.current) refl })
 
@@ -312,13 +331,13 @@ pub record IsMove (p : Program) (s : State) (i : ℕ) (e : Event) (next : State)
 
 pub move_of : (p : Program) (s : State) (i : ℕ) (e : Event) (next : State) → Step p s i e next → IsMove p s i e next
 move_of p s i e after_step step = record {
-    known = step.legal.known;
-    item = step.legal.item;
-    behind = step.legal.behind;
-    taken = step.legal.taken;
-    rule = step.legal.rule;
-    rule_moved = rule_moved s i e step.legal.item (stays (encounter s i) e step.legal.item step.legal.behind) step.legal.rule;
-    effect_is = sym (ap (option_and_then (moved p s i e)) step.legal.taken) ∙ step.after_is;
+  known = step.legal.known;
+  item = step.legal.item;
+  behind = step.legal.behind;
+  taken = step.legal.taken;
+  rule = step.legal.rule;
+  rule_moved = rule_moved s i e step.legal.item (stays (encounter s i) e step.legal.item step.legal.behind) step.legal.rule;
+  effect_is = sym (ap (option_and_then (moved p s i e)) step.legal.taken) ∙ step.after_is;
 }
 
 -- a law between a state and the next one: it holds of the list's move and of the effect, and of both in a row
@@ -330,4 +349,4 @@ step_law p L trans lists effects s i e next step =
     let m = move_of p s i e next step in
     let middle : State = moved_on s i e m.item m.behind in
     trans s middle next (lists s i (stays (encounter s i) e m.item m.behind))
-        (from_some (L middle) (effect p middle i e m.item) next m.effect_is (effects middle i e m.item m.rule_moved))
+    (from_some (L middle) (effect p middle i e m.item) next m.effect_is (effects middle i e m.item m.rule_moved))

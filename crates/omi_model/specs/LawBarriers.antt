@@ -19,7 +19,7 @@ ArrivalsAreNear = (p : Program) (events : List (ℕ × Event)) (s : State) → R
     → (k : Tid) (t : Task) (r : Region) → task_of s k ≡ Some t → t.implicit ≡ true
     → region_of s t.region ≡ Some r
     → (r.released ≤ slice_index r.arrivals t.number)
-      × (slice_index r.arrivals t.number ≤ r.released + 1)
+    × (slice_index r.arrivals t.number ≤ r.released + 1)
 
 -- Among events that lead on from a state there is a release of a region's barrier: by member 0, when every member had arrived and no explicit task of the region was unfinished.
 pub record IsReleaseAmong (p : Program) (s : State) (events : List (ℕ × Event)) (n : Rid)

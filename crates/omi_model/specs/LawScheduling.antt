@@ -39,7 +39,7 @@ StartsAreConstrained = (p : Program) (events : List (ℕ × Event)) (s : State) 
 abbrev pub IsScheduledRightly : State → Task → Type 0
 IsScheduledRightly s u = u.implicit ≡ false → (u.progress ≡ Deferred → ⊥)
     → (u.scheduling ≡ u.generating) ⊎ ((k : Tid) × (t : Task) × (u.scheduling ≡ Some k)
-      × (task_of s k ≡ Some t) × (t.implicit ≡ true) × (t.region ≡ u.region))
+    × (task_of s k ≡ Some t) × (t.implicit ≡ true) × (t.region ≡ u.region))
 
 pub record IsScheduled (s : State) (u : Task) : Type 0 where
   pub rightly : IsScheduledRightly s u
