@@ -26,3 +26,4 @@ pub mod ChainsKept
 pub mod Covered
 pub mod LastItems
 pub mod RegionEnds
+pub mod JoinsLast

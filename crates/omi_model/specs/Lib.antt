@@ -29,6 +29,7 @@ pub mod LawBarriers
 pub mod LawScheduling
 pub mod LawChains
 pub mod LawEnds
+pub mod LawJoins
 -- How a team is kept in place, which its type needs.
 pub mod Columns
 pub mod ColumnLemmas

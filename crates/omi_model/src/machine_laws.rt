@@ -4,6 +4,7 @@
 ghost use Rattle.omi_model.specs.LawBarriers.{ArrivalsAreNear, PassFollowsRelease};
 ghost use Rattle.omi_model.specs.LawChains.{ThreadsHaveChains};
 ghost use Rattle.omi_model.specs.LawEnds.{RegionsEndFinished};
+ghost use Rattle.omi_model.specs.LawJoins.{JoinsComeLast};
 ghost use Rattle.omi_model.specs.LawLevels.{LevelsCountRegions};
 ghost use Rattle.omi_model.specs.LawMembers.{MembersAreKnown};
 ghost use Rattle.omi_model.specs.LawNames.{NamesAreLive};
@@ -65,4 +66,9 @@ pub fn threads_have_chains()
 /// finished, and so is each that any later state has.
 pub fn regions_end_finished()
     ensures { RegionsEndFinished }
+{}
+
+/// In a region that was joined every member but member 0 has ended.
+pub fn joins_come_last()
+    ensures { JoinsComeLast }
 {}
