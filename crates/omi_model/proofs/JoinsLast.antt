@@ -34,10 +34,11 @@ joins_step p s i e next step all = region_step p (λ n r. IsJoinedLast r) s i e 
   where
     law : (middle : State) → IsRelisted s middle → Stays middle next → IsRegionLaw p middle i next (λ n r. IsJoinedLast r)
     law middle relists later = record {
-        arrives = λ k t r is found q. q; releases = λ k t r is found may q. q;
-        ends = λ k t r is found im q joined. others_set r.ended t.number (q joined);
-        joins = λ k t r is found may q joined. may.ended;
-        forks = λ region team f k t r is found may new joined. absurd (false_true joined);
+      arrives = λ k t r is found q. q;
+      releases = λ k t r is found may q. q;
+      ends = λ k t r is found im q joined. others_set r.ended t.number (q joined);
+      joins = λ k t r is found may q joined. may.ended;
+      forks = λ region team f k t r is found may new joined. absurd (false_true joined);
     }
 
 pub joins_last : (p : Program) (events : List (ℕ × Event)) (s : State) → Reached p events s → (n : Rid) (r : Region) → region_of s n ≡ Some r → IsJoinedLast r

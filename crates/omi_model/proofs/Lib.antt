@@ -27,3 +27,6 @@ pub mod Covered
 pub mod LastItems
 pub mod RegionEnds
 pub mod JoinsLast
+pub mod PlacesMade
+pub mod LegalRuns
+pub mod RunIsLegal

@@ -264,7 +264,7 @@ at_the_end p e y ys t ph w last fit h ready = absurd last
 
 -- ---- the law
 
-leads_append : (p : Program) (s : State) (xs : List (ℕ × Event)) (u : State) (ys : List (ℕ × Event)) (w : State) → Leads p s xs u → Leads p u ys w → Leads p s (xs ++ ys) w
+pub leads_append : (p : Program) (s : State) (xs : List (ℕ × Event)) (u : State) (ys : List (ℕ × Event)) (w : State) → Leads p s xs u → Leads p u ys w → Leads p s (xs ++ ys) w
 leads_append p s [] u ys w same leads = subst (λ x. Leads p x ys w) same leads
 leads_append p s (x ∷ xs) u ys w (mid, step, first) leads = (mid, step, leads_append p mid xs u ys w first leads)
 

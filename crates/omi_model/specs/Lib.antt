@@ -30,6 +30,8 @@ pub mod LawScheduling
 pub mod LawChains
 pub mod LawEnds
 pub mod LawJoins
+pub mod WorkedRun
+pub mod LawRun
 -- How a team is kept in place, which its type needs.
 pub mod Columns
 pub mod ColumnLemmas

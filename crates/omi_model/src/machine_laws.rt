@@ -9,6 +9,7 @@ ghost use Rattle.omi_model.specs.LawLevels.{LevelsCountRegions};
 ghost use Rattle.omi_model.specs.LawMembers.{MembersAreKnown};
 ghost use Rattle.omi_model.specs.LawNames.{NamesAreLive};
 ghost use Rattle.omi_model.specs.LawNthreads.{NthreadsShorten};
+ghost use Rattle.omi_model.specs.LawRun.{RunIsLegal};
 ghost use Rattle.omi_model.specs.LawScheduling.{SchedulingIsRight, StartsAreConstrained};
 ghost use Rattle.omi_model.specs.LawStays.{Stay};
 
@@ -71,4 +72,10 @@ pub fn regions_end_finished()
 /// In a region that was joined every member but member 0 has ended.
 pub fn joins_come_last()
     ensures { JoinsComeLast }
+{}
+
+/// A run of two threads in which each event is legal: a fork, a deferred task that the other member starts at the barrier, the
+/// ends of the members, the join and the end of the program. A rule that is too strict breaks no law above, but this one.
+pub fn a_run_is_legal()
+    ensures { RunIsLegal }
 {}
