@@ -261,7 +261,7 @@ module _ (p : Program) (b : ℕ → ℕ) (ok : IsCounted p b) (s : State) (i : �
   law of_tasks = record {
     shows = λ k t x q. q;
     tools = λ k t x q. q;
-    sets = λ k t icv value v f q. q;
+    sets = λ k t icv value v f at_set q. q;
     begins = λ k t waits mine q. q;
     finishes = λ k t is over q. q;
     starts = λ k u j t x is live ex de may of q.

@@ -34,14 +34,14 @@ KeepsCurrent s i j h = j ≢ i → h.current ≡ (s.threads j).current
 pub current_kept : (p : Program) (s : State) (i : ℕ) (e : Event) (next : State) → Step p s i e next → EachThread (KeepsCurrent s i) next
 current_kept p s i e next step = thread_step p (KeepsCurrent s i) s i e next step (λ y ys none taken q. q) law (λ j ne. refl)
   where
-    law : (middle : State) → IsRelisted s middle → Stays middle next → EachThread (KeepsCurrent s i) middle → IsThreadLaw p middle i next (KeepsCurrent s i)
+    law : (middle : State) → IsRelisted s middle → Stays middle next → EachThread (KeepsCurrent s i) middle → IsThreadLaw p middle i e next (KeepsCurrent s i)
     law middle before later all = record {
       begins = λ may q. q;
       offers = λ may q. q;
       wants = λ n num may q. q;
       asks = λ w got may q. q;
       claims = λ w may q. q;
-      shows = λ state wait q. q;
+      shows = λ state wait of q. q;
       forks = λ region team f k t r is found may new q ne. absurd (ne refl);
       joins_team = λ task may q ne. absurd (ne refl);
       ends = λ k t r is found im other q ne. absurd (ne refl);

@@ -57,7 +57,7 @@ is_end e = false
 pub record IsTaskLaw (p : Program) (s : State) (i : ℕ) (e : Event) (y : Item) (next : State) (P : Tid → Task → Type 0) : Type 0 where
   pub shows : (k : Tid) (t : Task) (enter : ℕ) → P k t → P k (record t { enter = enter })
   pub tools : (k : Tid) (t : Task) (x : ℕ) → P k t → P k (record t { tool = x })
-  pub sets : (k : Tid) (t : Task) (icv value : ℕ) (v : Variables) → with_variable icv value t.variables ≡ Some v → P k t → P k (record t { variables = v })
+  pub sets : (k : Tid) (t : Task) (icv value : ℕ) (v : Variables) → with_variable icv value t.variables ≡ Some v → e ≡ event.Set icv value → P k t → P k (record t { variables = v })
   pub begins : (k : Tid) (t : Task) → t.progress ≡ NotBegun → t.thread ≡ i → P k t → P k (record t { progress = Begun })
   pub finishes : (k : Tid) (t : Task) → IsCurrent s i k t → is_end e ≡ true → P k t → P k (record t { progress = Finished })
   pub starts : (k : Tid) (u : Task) (j : Tid) (t : Task) (x : Item) → IsCurrent s i j t → task_of s k ≡ Some u → u.implicit ≡ false → u.progress ≡ Deferred → MayStartAt x j t u → y ≡ x → P k u
@@ -163,7 +163,7 @@ module _ (p : Program) (P : Tid → Task → Type 0) where
   task_effect s i (event.Set icv value) y rule all =
       of_set s i icv value (of_law s i (event.Set icv value) y) rule (λ law. all)
       (λ k t v is e law. each_changed s k (λ u. record u { variables = v }) all
-      (λ u e' q. let same : t ≡ u = some_same is.live e' in law.sets k u icv value v (subst (λ (x : Task). with_variable icv value x.variables ≡ Some v) same e) q))
+      (λ u e' q. let same : t ≡ u = some_same is.live e' in law.sets k u icv value v (subst (λ (x : Task). with_variable icv value x.variables ≡ Some v) same e) refl q))
   task_effect s i (event.SetTool x) y rule all = of_current s i (λ k t. with_tool s x k) (of_law s i (event.SetTool x) y) (λ k t. ⊤) rule (λ k t is h law. each_changed s k (λ u. record u { tool = x }) all (λ u e q. law.tools k u x q))
   task_effect s i (event.Lock k) y rule all = λ law. all
   task_effect s i (event.Unlock k) y rule all = λ law. all

@@ -36,13 +36,13 @@ abbrev pub EachThread : (ℕ → Thread → Type 0) → State → Type 0
 EachThread R s = (j : ℕ) → R j (s.threads j)
 
 -- a law of each thread over the effect of an event of thread i
-pub record IsThreadLaw (p : Program) (s : State) (i : ℕ) (next : State) (R : ℕ → Thread → Type 0) : Type 0 where
+pub record IsThreadLaw (p : Program) (s : State) (i : ℕ) (e : Event) (next : State) (R : ℕ → Thread → Type 0) : Type 0 where
   pub begins : MayBegin (s.threads i) → R i (s.threads i) → R i (record (s.threads i) { begun = true })
   pub offers : MayOffer (s.threads i) → R i (s.threads i) → R i (record (s.threads i) { claim = claim.Free })
   pub wants : (n : ℕ) (num : Option ℕ) → OfCurrentRegion s i (λ k t r. n ≡ wanted_size s t r num) → R i (s.threads i) → R i (record (s.threads i) { wanted = n; asks = [] })
   pub asks : (w : ℕ) (got : Bool) → MayAsk s i w got → R i (s.threads i) → R i (record (s.threads i) { asks = (s.threads i).asks ++ (w, got) ∷ [] })
   pub claims : (w : ℕ) → MayAsk s i w true → R w (s.threads w) → R w (record (s.threads w) { claim = claim.By i })
-  pub shows : (state wait : ℕ) → R i (s.threads i) → R i (record (s.threads i) { state = state; wait = wait })
+  pub shows : (state wait : ℕ) → e ≡ event.State state wait → R i (s.threads i) → R i (record (s.threads i) { state = state; wait = wait })
   pub forks : (region : Rid) (team : List (Tid × ℕ)) (f : ℕ) (k : Tid) (t : Task) (r : Region) → IsCurrent s i k t → region_of s t.region ≡ Some r → MayFork s i region team
       → ((j : ℕ) (m : Tid × ℕ) → slice_get team j ≡ Some m → task_of next m.0 ≡ Some (member_task p region k t r f j m.1)) → R i (s.threads i) → R i (record (s.threads i) { current = master_of team })
   pub joins_team : (task : Tid) → MayBeginTask s i task → R i (s.threads i) → R i (record (s.threads i) { current = Some task })
@@ -57,13 +57,13 @@ started_found : (s : State) (k : Tid) (f : Task → Task) (t : Task) → task_of
 started_found s k f t live begun = (f t, on_same s.tasks k.0 f ∙ ap (option_map f) live, begun t)
 
 module _ (p : Program) (R : ℕ → Thread → Type 0) where
-  abbrev of_law : State → ℕ → State → Type 0
-  of_law s i u = IsThreadLaw p s i u R → EachThread R u
+  abbrev of_law : State → ℕ → Event → State → Type 0
+  of_law s i e u = IsThreadLaw p s i e u R → EachThread R u
 
   each_thread : (s : State) (i : ℕ) (x : Thread) → EachThread R s → R i x → (j : ℕ) → R j (put s.threads i x j)
   each_thread s i x all here j = each_put R s.threads i x here j (λ ne. all j)
 
-  thread_effect : (s : State) (i : ℕ) (e : Event) (y : Item) → Rule s i e y → EachThread R s → IfSome (effect p s i e y) (of_law s i)
+  thread_effect : (s : State) (i : ℕ) (e : Event) (y : Item) → Rule s i e y → EachThread R s → IfSome (effect p s i e y) (of_law s i e)
   thread_effect s i event.Begin y rule all = λ law. each_thread s i (record (s.threads i) { begun = true }) all (law.begins rule (all i))
   thread_effect s i event.Offer y rule all = λ law. each_thread s i (record (s.threads i) { claim = claim.Free }) all (law.offers rule (all i))
   thread_effect s i (event.Want n) (item.Want num) rule all = λ law. each_thread s i (record (s.threads i) { wanted = n; asks = [] }) all (law.wants n num rule (all i))
@@ -77,42 +77,42 @@ module _ (p : Program) (R : ℕ → Thread → Type 0) where
       (λ same. absurd (rule.other (sym same))) w (λ ne same. law.claims w rule (all w)) refl)
   thread_effect s i (event.Ask w false) y rule all = λ law. each_thread s i (record (s.threads i) { asks = (s.threads i).asks ++ (w, false) ∷ [] }) all (law.asks w false rule (all i))
   thread_effect s i (event.Fork region team) (item.Fork f) rule all =
-      of_region s i (forked p s i region team f) (of_law s i) (λ k t r. MayFork s i region team) rule
+      of_region s i (forked p s i region team f) (of_law s i (event.Fork region team)) (λ k t r. MayFork s i region team) rule
       (λ k t r is found may law. each_thread s i (record (s.threads i) { current = master_of team }) all
       (law.forks region team f k t r is found may (members_found (member_task p region k t r f) team s.tasks i (new_team s.tasks i team may.tasks_new may.distinct)) (all i)))
   thread_effect s i (event.Fork region team) y rule all = tt
   thread_effect s i (event.ImplicitBegin task) y rule all = λ law. each_thread s i (record (s.threads i) { current = Some task }) all (law.joins_team task rule (all i))
-  thread_effect s i (event.State state wait) y rule all = λ law. each_thread s i (record (s.threads i) { state = state; wait = wait }) all (law.shows state wait (all i))
-  thread_effect s i event.Enter y rule all = of_current s i (entered s) (of_law s i) (λ k t. ⊤) rule (λ k t is h law. all)
-  thread_effect s i event.Leave y rule all = of_current s i (left s) (of_law s i) (λ k t. ⊤) rule (λ k t is h law. all)
-  thread_effect s i event.Arrive y rule all = of_current_region s i (λ k t. arrived s t) (of_law s i) _ rule (λ k t r is found h law. all)
-  thread_effect s i event.Release y rule all = of_current_region s i (λ k t. released s t) (of_law s i) _ rule (λ k t r is found h law. all)
+  thread_effect s i (event.State state wait) y rule all = λ law. each_thread s i (record (s.threads i) { state = state; wait = wait }) all (law.shows state wait refl (all i))
+  thread_effect s i event.Enter y rule all = of_current s i (entered s) (of_law s i event.Enter) (λ k t. ⊤) rule (λ k t is h law. all)
+  thread_effect s i event.Leave y rule all = of_current s i (left s) (of_law s i event.Leave) (λ k t. ⊤) rule (λ k t is h law. all)
+  thread_effect s i event.Arrive y rule all = of_current_region s i (λ k t. arrived s t) (of_law s i event.Arrive) _ rule (λ k t r is found h law. all)
+  thread_effect s i event.Release y rule all = of_current_region s i (λ k t. released s t) (of_law s i event.Release) _ rule (λ k t r is found h law. all)
   thread_effect s i (event.ImplicitEnd task) y rule all =
-      of_current_region s i (task_ended s i) (of_law s i) (λ k t r. MayEnd task k t) rule (λ k t r is found h law. each_thread s i (record (s.threads i) { current = None }) all (law.ends k t r is found h.implicit h.other (all i)))
+      of_current_region s i (task_ended s i) (of_law s i (event.ImplicitEnd task)) (λ k t r. MayEnd task k t) rule (λ k t r is found h law. each_thread s i (record (s.threads i) { current = None }) all (law.ends k t r is found h.implicit h.other (all i)))
   thread_effect s i (event.Join region) y rule all =
-      of_region s i (joined s i) (of_law s i) (λ k t r. MayJoin region t r) rule
+      of_region s i (joined s i) (of_law s i (event.Join region)) (λ k t r. MayJoin region t r) rule
       (λ k t r is found h law. each_thread s i (record (s.threads i) { current = r.encountering }) all
       (law.joins k t r is found (record { mine = refl; implicit = h.implicit; first = h.first; ended = h.ended }) (all i)))
   thread_effect s i (event.FreeTask task) y rule all = tt
   thread_effect s i (event.FreeRegion region) y rule all = tt
-  thread_effect s i (event.Defer task) (item.Defer seen f final) rule all = of_current s i (deferred p s task f final seen) (of_law s i) _ rule (λ k t is fresh law. all)
+  thread_effect s i (event.Defer task) (item.Defer seen f final) rule all = of_current s i (deferred p s task f final seen) (of_law s i (event.Defer task)) _ rule (λ k t is fresh law. all)
   thread_effect s i (event.Defer task) y rule all = tt
   thread_effect s i (event.StartNow task) (item.Defer seen f final) rule all =
-      of_current s i (started_now p s i task f final) (of_law s i) (λ k t. IsFresh s.tasks i task.0) rule
+      of_current s i (started_now p s i task f final) (of_law s i (event.StartNow task)) (λ k t. IsFresh s.tasks i task.0) rule
       (λ k t is fresh law. each_thread s i (record (s.threads i) { current = Some task }) all (law.makes task f final k t is (made_same s.tasks task.0 (scheduled i k t (deferred_task p k t f final 0))) (all i)))
   thread_effect s i (event.StartNow task) (item.StartNow f final) rule all =
-      of_current s i (started_now p s i task f final) (of_law s i) (λ k t. IsFresh s.tasks i task.0) rule
+      of_current s i (started_now p s i task f final) (of_law s i (event.StartNow task)) (λ k t. IsFresh s.tasks i task.0) rule
       (λ k t is fresh law. each_thread s i (record (s.threads i) { current = Some task }) all (law.makes task f final k t is (made_same s.tasks task.0 (scheduled i k t (deferred_task p k t f final 0))) (all i)))
   thread_effect s i (event.StartNow task) y rule all = tt
   thread_effect s i (event.Start task) (item.Tasks state) rule all =
-      of_current s i (started s i task) (of_law s i) (MayStart s task (item.Tasks state)) rule (λ k t is may law. each_thread s i (record (s.threads i) { current = Some task }) all (law.starts task (item.Tasks state) k t is may (started_found s task (λ u. record (scheduled i k t u) { list = working (encounter s i) u.list }) may.new may.live (λ u. refl)) (all i)))
+      of_current s i (started s i task) (of_law s i (event.Start task)) (MayStart s task (item.Tasks state)) rule (λ k t is may law. each_thread s i (record (s.threads i) { current = Some task }) all (law.starts task (item.Tasks state) k t is may (started_found s task (λ u. record (scheduled i k t u) { list = working (encounter s i) u.list }) may.new may.live (λ u. refl)) (all i)))
   thread_effect s i (event.Start task) item.OneTask rule all =
-      of_current s i (started_alone s i task) (of_law s i) (MayStart s task item.OneTask) rule (λ k t is may law. each_thread s i (record (s.threads i) { current = Some task }) all (law.starts task item.OneTask k t is may (started_found s task (scheduled i k t) may.new may.live (λ u. refl)) (all i)))
+      of_current s i (started_alone s i task) (of_law s i (event.Start task)) (MayStart s task item.OneTask) rule (λ k t is may law. each_thread s i (record (s.threads i) { current = Some task }) all (law.starts task item.OneTask k t is may (started_found s task (scheduled i k t) may.new may.live (λ u. refl)) (all i)))
   thread_effect s i (event.Start task) y rule all = tt
   thread_effect s i (event.Finish task) y rule all =
-      of_current s i (finished s i) (of_law s i) (MayFinish task) rule (λ k t is h law. each_thread s i (record (s.threads i) { current = t.scheduling }) all (law.finishes k t is h.explicit (all i)))
-  thread_effect s i (event.Set icv value) y rule all = of_set s i icv value (of_law s i) rule (λ law. all) (λ k t v is e law. all)
-  thread_effect s i (event.SetTool x) y rule all = of_current s i (λ k t. with_tool s x k) (of_law s i) (λ k t. ⊤) rule (λ k t is h law. all)
+      of_current s i (finished s i) (of_law s i (event.Finish task)) (MayFinish task) rule (λ k t is h law. each_thread s i (record (s.threads i) { current = t.scheduling }) all (law.finishes k t is h.explicit (all i)))
+  thread_effect s i (event.Set icv value) y rule all = of_set s i icv value (of_law s i (event.Set icv value)) rule (λ law. all) (λ k t v is e law. all)
+  thread_effect s i (event.SetTool x) y rule all = of_current s i (λ k t. with_tool s x k) (of_law s i (event.SetTool x)) (λ k t. ⊤) rule (λ k t is h law. all)
   thread_effect s i (event.Lock k) y rule all = λ law. all
   thread_effect s i (event.Unlock k) y rule all = λ law. all
   thread_effect s i e y rule all = λ law. all
@@ -122,11 +122,11 @@ module _ (p : Program) (R : ℕ → Thread → Type 0) where
   ListMoves s i e = (y : Item) (ys : List Item) → (s.threads i).current ≡ None → take_item p (encounter s i) e (s.threads i).list ≡ Some (y, ys) → R i (s.threads i) → R i (record (s.threads i) { list = stays (encounter s i) e y ys })
 
   -- the law of each thread over a step
-  pub thread_step : (s : State) (i : ℕ) (e : Event) (next : State) → Step p s i e next → ListMoves s i e → ((middle : State) → IsRelisted s middle → Stays middle next → EachThread R middle → IsThreadLaw p middle i next R) → EachThread R s → EachThread R next
+  pub thread_step : (s : State) (i : ℕ) (e : Event) (next : State) → Step p s i e next → ListMoves s i e → ((middle : State) → IsRelisted s middle → Stays middle next → EachThread R middle → IsThreadLaw p middle i e next R) → EachThread R s → EachThread R next
   thread_step s i e after_step step moves law all =
       let m = move_of p s i e after_step step in
       let zs : List Item = stays (encounter s i) e m.item m.behind in
       let middle : EachThread R (with_list s i zs) = list_moves s i zs (EachThread R) (λ k is. all)
       (λ none. each_thread s i (record (s.threads i) { list = zs }) all
       (moves m.item m.behind none (ap (take_item p (encounter s i) e) (sym (ap (λ (o : Option Tid). option_map_or (λ (u : Task). u.list) (option_and_then (task_of s) o) (s.threads i).list) none)) ∙ m.taken) (all i))) in
-      from_some (of_law (with_list s i zs) i) (effect p (with_list s i zs) i e m.item) after_step m.effect_is (thread_effect (with_list s i zs) i e m.item m.rule_moved middle) (law (with_list s i zs) (is_relisted s i zs) (stays_after p s i e after_step m) middle)
+      from_some (of_law (with_list s i zs) i e) (effect p (with_list s i zs) i e m.item) after_step m.effect_is (thread_effect (with_list s i zs) i e m.item m.rule_moved middle) (law (with_list s i zs) (is_relisted s i zs) (stays_after p s i e after_step m) middle)

@@ -62,7 +62,7 @@ members_step p s i e next step known = record {
     met_law middle y relists later all = record {
       shows = λ k t x q. record { generating = q.generating; scheduling = q.scheduling; waiting = q.waiting };
       tools = λ k t x q. record { generating = q.generating; scheduling = q.scheduling; waiting = q.waiting };
-      sets = λ k t icv value v f q. record { generating = q.generating; scheduling = q.scheduling; waiting = q.waiting };
+      sets = λ k t icv value v f at_set q. record { generating = q.generating; scheduling = q.scheduling; waiting = q.waiting };
       begins = λ k t waits mine q. record { generating = q.generating; scheduling = q.scheduling; waiting = λ w. absurd (begun_waits w) };
       finishes = λ k t is over q. record { generating = q.generating; scheduling = q.scheduling; waiting = λ w. absurd (finished_waits w) };
       starts = λ k u j t x is live ex de may of q. record { generating = λ im. absurd (false_true (sym ex ∙ im)); scheduling = λ im. absurd (false_true (sym ex ∙ im)); waiting = λ w. absurd (begun_waits w) };
@@ -93,7 +93,7 @@ members_step p s i e next step known = record {
     task_law middle y before later all = record {
       shows = λ k t x q. q;
       tools = λ k t x q. q;
-      sets = λ k t icv value v f q. q;
+      sets = λ k t icv value v f at_set q. q;
       begins = λ k t waits mine q. q;
       finishes = λ k t is over q. q;
       starts = λ k u j t x is live ex de may of q implicit. absurd (false_true (sym ex ∙ implicit));

@@ -83,7 +83,7 @@ module _ (p : Program) (s : State) (i : ℕ) (e : Event) (next : State) (step : 
   task_law middle y before later all = record {
     shows = λ k t x q. record { region = q.region; generating = q.generating; scheduling = q.scheduling };
     tools = λ k t x q. record { region = q.region; generating = q.generating; scheduling = q.scheduling };
-    sets = λ k t icv value v f q. record { region = q.region; generating = q.generating; scheduling = q.scheduling };
+    sets = λ k t icv value v f at_set q. record { region = q.region; generating = q.generating; scheduling = q.scheduling };
     begins = λ k t waits mine q. record { region = q.region; generating = q.generating; scheduling = q.scheduling };
     finishes = λ k t is over q. record { region = q.region; generating = q.generating; scheduling = q.scheduling };
     starts = λ k u j t x is live ex de may of q. record { region = q.region; generating = q.generating; scheduling = λ n f. subst (IsLiveTask next) (some_same refl f) (current j t is) };
@@ -130,14 +130,14 @@ module _ (p : Program) (s : State) (i : ℕ) (e : Event) (next : State) (step : 
   next_regions : EachRegion (λ n r. NamesOfRegion next n r) next
   next_regions = region_step p (λ n r. NamesOfRegion next n r) s i e next step region_law (λ n r live. names_of_region s next stay n r (names.regions n r live))
 
-  thread_law : (middle : State) → IsRelisted s middle → Stays middle next → EachThread Current middle → IsThreadLaw p middle i next Current
+  thread_law : (middle : State) → IsRelisted s middle → Stays middle next → EachThread Current middle → IsThreadLaw p middle i e next Current
   thread_law middle before later all = record {
     begins = λ may q. q;
     offers = λ may q. q;
     wants = λ n num may q. q;
     asks = λ w got may q. q;
     claims = λ w may q. q;
-    shows = λ state wait q. q;
+    shows = λ state wait of q. q;
     forks = λ region team f k t r is found may new q n g. first_name next team n (λ j m at. (_, new j m at, not_deferred (j == 0))) g;
     joins_team = λ task may q n g. subst (IsLiveTask next) (some_same refl g) (live_task middle next later task (may.member, may.live, λ d. not_waiting may.member may.waiting d));
     ends = λ k t r is found im other q n g. absurd (none_some refl g);

@@ -102,7 +102,7 @@ module _ (p : Program) where
         tools = λ k t x q. q;
         begins = λ k t waits mine q. q;
         finishes = λ k t is over q. q;
-        sets = λ k t icv value v f (r, found, is). (r, found, set_shortened r icv value t.variables v f is);
+        sets = λ k t icv value v f at_set (r, found, is). (r, found, set_shortened r icv value t.variables v f is);
         starts = λ k u j t x is live ex de may of q. q;
         members = λ region team f k t r is found may new of j m at.
             let (q, found_q, here) = of_tasks k t is.live in

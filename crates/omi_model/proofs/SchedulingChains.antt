@@ -107,7 +107,7 @@ module _ (p : Program) (events : List (ℕ × Event)) (s : State) (reached : Rea
   law of_tasks = record {
     shows = λ k t x q. record { rightly = q.rightly; ends = q.ends };
     tools = λ k t x q. record { rightly = q.rightly; ends = q.ends };
-    sets = λ k t icv value v f q. record { rightly = q.rightly; ends = q.ends };
+    sets = λ k t icv value v f at_set q. record { rightly = q.rightly; ends = q.ends };
     begins = λ k t waits mine q. record { rightly = λ ex un. q.rightly ex (λ d. waits_not t waits d); ends = q.ends };
     finishes = λ k t is over q. record { rightly = λ ex un. q.rightly ex (started k t is); ends = q.ends };
     starts = λ k u j t x is live ex de may of q. record { rightly = λ ex' un. under_here x of j t is u may; ends = ends_current of_tasks j t is };
