@@ -37,7 +37,7 @@ current_kept p s i e next step = thread_step p (KeepsCurrent s i) s i e next ste
     law : (middle : State) → IsRelisted s middle → Stays middle next → EachThread (KeepsCurrent s i) middle → IsThreadLaw p middle i e next (KeepsCurrent s i)
     law middle before later all = record {
       begins = λ may q. q;
-      offers = λ may q. q;
+      offers = λ may of q. q;
       wants = λ n num may q. q;
       asks = λ w got may q. q;
       claims = λ w may q. q;

@@ -38,7 +38,7 @@ EachThread R s = (j : ℕ) → R j (s.threads j)
 -- a law of each thread over the effect of an event of thread i
 pub record IsThreadLaw (p : Program) (s : State) (i : ℕ) (e : Event) (next : State) (R : ℕ → Thread → Type 0) : Type 0 where
   pub begins : MayBegin (s.threads i) → R i (s.threads i) → R i (record (s.threads i) { begun = true })
-  pub offers : MayOffer (s.threads i) → R i (s.threads i) → R i (record (s.threads i) { claim = claim.Free })
+  pub offers : MayOffer (s.threads i) → e ≡ event.Offer → R i (s.threads i) → R i (record (s.threads i) { claim = claim.Free })
   pub wants : (n : ℕ) (num : Option ℕ) → OfCurrentRegion s i (λ k t r. n ≡ wanted_size s t r num) → R i (s.threads i) → R i (record (s.threads i) { wanted = n; asks = [] })
   pub asks : (w : ℕ) (got : Bool) → MayAsk s i w got → R i (s.threads i) → R i (record (s.threads i) { asks = (s.threads i).asks ++ (w, got) ∷ [] })
   pub claims : (w : ℕ) → MayAsk s i w true → R w (s.threads w) → R w (record (s.threads w) { claim = claim.By i })
@@ -65,7 +65,7 @@ module _ (p : Program) (R : ℕ → Thread → Type 0) where
 
   thread_effect : (s : State) (i : ℕ) (e : Event) (y : Item) → Rule s i e y → EachThread R s → IfSome (effect p s i e y) (of_law s i e)
   thread_effect s i event.Begin y rule all = λ law. each_thread s i (record (s.threads i) { begun = true }) all (law.begins rule (all i))
-  thread_effect s i event.Offer y rule all = λ law. each_thread s i (record (s.threads i) { claim = claim.Free }) all (law.offers rule (all i))
+  thread_effect s i event.Offer y rule all = λ law. each_thread s i (record (s.threads i) { claim = claim.Free }) all (law.offers rule refl (all i))
   thread_effect s i (event.Want n) (item.Want num) rule all = λ law. each_thread s i (record (s.threads i) { wanted = n; asks = [] }) all (law.wants n num rule (all i))
   thread_effect s i (event.Want n) y rule all = absurd rule
   thread_effect s i (event.Ask w true) y rule all =

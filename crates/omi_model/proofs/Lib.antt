@@ -30,3 +30,8 @@ pub mod JoinsLast
 pub mod PlacesMade
 pub mod LegalRuns
 pub mod RunIsLegal
+pub mod TableItems
+pub mod BegunThreads
+pub mod AskedTeams
+pub mod Tables
+pub mod TaskThreads

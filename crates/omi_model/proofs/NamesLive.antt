@@ -133,7 +133,7 @@ module _ (p : Program) (s : State) (i : ℕ) (e : Event) (next : State) (step : 
   thread_law : (middle : State) → IsRelisted s middle → Stays middle next → EachThread Current middle → IsThreadLaw p middle i e next Current
   thread_law middle before later all = record {
     begins = λ may q. q;
-    offers = λ may q. q;
+    offers = λ may of q. q;
     wants = λ n num may q. q;
     asks = λ w got may q. q;
     claims = λ w may q. q;

@@ -304,6 +304,7 @@ pub record IsRelisted (s u : State) : Type 0 where
   pub tasks : (k : Tid) (t : Task) → task_of u k ≡ Some t → (v : Task) × (xs : List Item) × (task_of s k ≡ Some v) × (t ≡ relisted xs v)
   pub regions : (n : Rid) → region_of u n ≡ region_of s n
   pub currents : (j : ℕ) → (u.threads j).current ≡ (s.threads j).current
+  pub asks : (j : ℕ) → (u.threads j).asks ≡ (s.threads j).asks
 
 pub is_relisted : (s : State) (i : ℕ) (zs : List Item) → IsRelisted s (with_list s i zs)
 is_relisted s i zs = list_moves s i zs (IsRelisted s)
@@ -311,8 +312,9 @@ is_relisted s i zs = list_moves s i zs (IsRelisted s)
       tasks = λ n t e. each_on (λ m u. (v : Task) × (xs : List Item) × (task_of s (record { 0 = m }) ≡ Some v) × (u ≡ relisted xs v)) s.tasks k.0 (relisted zs) (λ m u f. (u, u.list, f, refl)) (λ u f h. (u, zs, f, refl)) n.0 t e;
       regions = λ n. refl;
       currents = λ j. refl;
+      asks = λ j. refl;
     })
-    (λ none. record { tasks = λ n t e. (t, t.list, e, refl); regions = λ n. refl; currents = idle_same s i none zs (λ h. h.current) refl })
+    (λ none. record { tasks = λ n t e. (t, t.list, e, refl); regions = λ n. refl; currents = idle_same s i none zs (λ h. h.current) refl; asks = idle_same s i none zs (λ h. h.asks) refl })
 
 -- ---- a step
 

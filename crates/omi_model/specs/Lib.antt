@@ -30,6 +30,7 @@ pub mod LawScheduling
 pub mod LawChains
 pub mod LawEnds
 pub mod LawJoins
+pub mod LawAsks
 pub mod WorkedRun
 pub mod LawRun
 -- How a team is kept in place, which its type needs.

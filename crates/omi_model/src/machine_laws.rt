@@ -1,6 +1,7 @@
 //! Laws of the machine: what every state has that events reach. Each is a function that does nothing, and says its law in
 //! `specs/`.
 
+ghost use Rattle.omi_model.specs.LawAsks.{TeamsAreAsked};
 ghost use Rattle.omi_model.specs.LawBarriers.{ArrivalsAreNear, PassFollowsRelease};
 ghost use Rattle.omi_model.specs.LawChains.{ThreadsHaveChains};
 ghost use Rattle.omi_model.specs.LawEnds.{RegionsEndFinished};
@@ -78,4 +79,10 @@ pub fn joins_come_last()
 /// ends of the members, the join and the end of the program. A rule that is too strict breaks no law above, but this one.
 pub fn a_run_is_legal()
     ensures { RunIsLegal }
+{}
+
+/// A team has the asking thread and then those that joined, at most as many as are wanted and as there are; where it has fewer
+/// than wanted, each other thread was asked, and is in the team or was found busy.
+pub fn teams_are_asked()
+    ensures { TeamsAreAsked }
 {}

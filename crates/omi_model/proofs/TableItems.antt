@@ -1,0 +1,148 @@
+-- The items of to-do lists have states of the table of states, and schedules of the four kinds.
+use Rattle.std.proofs.Common.{◌≡◌, ◌==◌, ◌⊎◌, inl, inr, ℕ, zero, suc, ◌+◌, ◌*◌, ◌%◌, ◌<◌, ◌≤◌, ◌||◌, Bool, true, false, List, [], ◌∷◌, slice_get, get_or, Some, None, if◌then◌else◌, refl, sym, ap, ◌∙◌, subst, arith}
+use Rattle.std.specs.List.{Contains}
+use Rattle.omi_script.proofs.RuleLemmas.{Rules-from_accepted}
+use Rattle.omi_script.specs.Bodies.{HasStatement, body_of}
+use Rattle.omi_script.specs.declared.program.Program.{Program}
+use Rattle.omi_script.specs.declared.statement.Stmt.{Stmt}
+use Rattle.omi_script.specs.declared.statement.Stmt.TheVariants as stmt
+use Rattle.omi_model.specs.declared.encounter.Encounter.{Encounter}
+use Rattle.omi_model.specs.declared.event.Event.{Event}
+use Rattle.omi_model.specs.declared.event.Event.TheVariants as event
+use Rattle.omi_model.specs.declared.item.Item.{Item}
+use Rattle.omi_model.specs.declared.item.Item.TheVariants as item
+use Rattle.omi_model.specs.Lists.{may_drop, stays, take_item}
+use Rattle.omi_model.specs.Numbers.{dyn_var, default_device_var, flag, idle, max_active_levels_var, nthreads_var, overhead, run_sched_var, states, wait_barrier_explicit, wait_barrier_implicit_parallel, wait_critical, wait_taskwait}
+use Rattle.omi_model.specs.Rows.{barrier_items, behind, body_items, call_items, end_of_member, first_of, last_of_member, of_main, of_member, of_task, of_worker, shown, work_state, working}
+use Rattle.omi_model.proofs.ListLaws.{take_keeps}
+use Rattle.omi_model.proofs.Slots.{false_true}
+
+-- a kind of schedule
+abbrev pub IsKind : ℕ → Type 0
+IsKind n = (1 ≤ n) × (n ≤ 4)
+
+abbrev pub IsStmtRight : Stmt → Type 0
+IsStmtRight (stmt.SetSchedule s) = IsKind s.kind
+IsStmtRight s = Unit {0}
+
+abbrev pub IsItemRight : Item → Type 0
+IsItemRight (item.Do s) = IsStmtRight s
+IsItemRight (item.State state wait) = Contains states state
+IsItemRight (item.Tasks state) = Contains states state
+IsItemRight (item.Set icv value) = icv ≡ run_sched_var → IsKind (value % 8)
+IsItemRight x = Unit {0}
+
+abbrev pub AreRight : List Item → Type 0
+AreRight [] = Unit {0}
+AreRight (x ∷ xs) = IsItemRight x × AreRight xs
+
+-- ---- states of the table
+
+in_table : (state k : ℕ) → k < 9 → get_or states k state ≡ state → Contains states state
+in_table state k h e = (k, h, e)
+
+work_in_table : (level : ℕ) → Contains states (work_state level)
+work_in_table level = go (level == 0)
+  where
+    go : (b : Bool) → Contains states (if b then 0x000 else 0x001)
+    go true = in_table 0x000 0 (omega arith) refl
+    go false = in_table 0x001 1 (omega arith) refl
+
+shown_right : (at : Encounter) (state wait : ℕ) (xs : List Item) → Contains states state → AreRight xs → AreRight (shown at state wait xs)
+shown_right at state wait xs in_states h = go at.debug
+  where
+    go : (d : Bool) → AreRight (if d then item.State state wait ∷ xs else xs)
+    go true = (in_states, h)
+    go false = h
+
+pub working_right : (at : Encounter) (xs : List Item) → AreRight xs → AreRight (working at xs)
+working_right at xs h = shown_right at (work_state at.level) 0 xs (work_in_table at.level) h
+
+barrier_right : (at : Encounter) (state : ℕ) (rest : List Item) → Contains states state → AreRight rest → AreRight (barrier_items at state rest)
+barrier_right at state rest in_states h = shown_right at state 0 (item.Arrive ∷ item.Tasks state ∷ (if at.number == 0 then item.Release ∷ item.Pass ∷ rest else item.Pass ∷ rest)) in_states (go (at.number == 0))
+  where
+    go : (d : Bool) → AreRight (item.Arrive ∷ item.Tasks state ∷ (if d then item.Release ∷ item.Pass ∷ rest else item.Pass ∷ rest))
+    go true = (tt, (in_states, (tt, (tt, h))))
+    go false = (tt, (in_states, (tt, h)))
+
+module _ (p : Program) where
+  stmt_right : (f : ℕ) (s : Stmt) → HasStatement p.funcs f s → IsStmtRight s
+  stmt_right f (stmt.SetSchedule s) at = let range = (Rules-from_accepted p).ranges f (stmt.SetSchedule s) at in (range.0, range.1)
+  stmt_right f s at = tt
+
+  by_place : (ss : List Stmt) (rest : List Item) → ((k : ℕ) (s : Stmt) → slice_get ss k ≡ Some s → IsStmtRight s) → AreRight rest → AreRight (body_items ss rest)
+  by_place [] rest each h = h
+  by_place (s ∷ ss) rest each h = (each 0 s refl, by_place ss rest (λ k x at. each (suc k) x at) h)
+
+  body_right : (f : ℕ) (rest : List Item) → AreRight rest → AreRight (body_items (body_of p.funcs f) rest)
+  body_right f rest h = by_place (body_of p.funcs f) rest (λ k s at. stmt_right f s (k, at)) h
+
+  call_right : (f : ℕ) (rest : List Item) → AreRight rest → AreRight (call_items p f rest)
+  call_right f rest h = body_right f (item.Ret ∷ rest) (tt, h)
+
+  row_right : (at : Encounter) (s : Stmt) (rest : List Item) → AreRight (item.Do s ∷ rest) → AreRight (first_of at s ∷ behind p at s rest)
+  row_right at (stmt.Parallel f num) rest (is, h) =
+      (tt, shown_right at overhead 0 (item.Want num ∷ item.Asks ∷ item.Fork f ∷ working at (item.Leave ∷ rest)) (in_table overhead 8 (omega arith) refl) (tt, (tt, (tt, working_right at (item.Leave ∷ rest) (tt, h)))))
+  row_right at (stmt.Task f undeferred final) rest (is, h) = go (undeferred || at.is_final)
+    where
+      go : (c : Bool) → AreRight (item.Enter ∷ (if c then item.StartNow f (final || at.is_final) else item.Defer 0 f (final || at.is_final)) ∷ item.Leave ∷ rest)
+      go true = (tt, (tt, (tt, h)))
+      go false = (tt, (tt, (tt, h)))
+  row_right at stmt.Taskwait rest (is, h) =
+      let wait = in_table wait_taskwait 4 (omega arith) refl in
+      (tt, shown_right at wait_taskwait 0 (item.Tasks wait_taskwait ∷ item.WaitDone ∷ working at (item.Leave ∷ rest)) wait (wait, (tt, working_right at (item.Leave ∷ rest) (tt, h))))
+  row_right at stmt.Taskyield rest (is, h) = (tt, (tt, (tt, (tt, h))))
+  row_right at stmt.Barrier rest (is, h) = (tt, barrier_right at wait_barrier_explicit (working at (item.Leave ∷ rest)) (in_table wait_barrier_explicit 3 (omega arith) refl) (working_right at (item.Leave ∷ rest) (tt, h)))
+  row_right at (stmt.Critical k f) rest (is, h) =
+      (tt, shown_right at wait_critical (k + 1) (item.Lock k ∷ working at (item.Leave ∷ item.Call f ∷ call_items p f (item.Unlock k ∷ rest))) (in_table wait_critical 6 (omega arith) refl)
+          (tt, working_right at (item.Leave ∷ item.Call f ∷ call_items p f (item.Unlock k ∷ rest)) (tt, (tt, call_right f (item.Unlock k ∷ rest) (tt, h)))))
+  row_right at (stmt.Call f) rest (is, h) = (tt, call_right f rest h)
+  row_right at (stmt.Only m f) rest (is, h) = go (at.number == m)
+    where
+      go : (c : Bool) → AreRight ((if c then item.Call f else item.Skip) ∷ (if c then call_items p f rest else rest))
+      go true = (tt, call_right f rest h)
+      go false = (tt, h)
+  row_right at (stmt.Repeat zero f) rest (is, h) = (tt, h)
+  row_right at (stmt.Repeat (suc n) f) rest (is, h) = (tt, call_right f (item.Do (stmt.Repeat n f) ∷ rest) (tt, h))
+  row_right at (stmt.SetNumThreads n) rest (is, h) = (λ e. absurd (let other : nthreads_var ≡ run_sched_var = e in omega arith), h)
+  row_right at (stmt.SetDynamic x) rest (is, h) = (λ e. absurd (let other : dyn_var ≡ run_sched_var = e in omega arith), h)
+  row_right at (stmt.SetMaxActive n) rest (is, h) = (λ e. absurd (let other : max_active_levels_var ≡ run_sched_var = e in omega arith), h)
+  row_right at (stmt.SetSchedule s) rest (is, h) = (λ e. subst IsKind (kind_of s.chunk s.kind (omega (arith, is.1))) is, h)
+    where
+      kind_of : (chunk kind : ℕ) → kind < 8 → kind ≡ (chunk * 8 + kind) % 8
+      kind_of chunk kind less = grind arith
+  row_right at (stmt.SetDevice d) rest (is, h) = (λ e. absurd (let other : default_device_var ≡ run_sched_var = e in omega arith), h)
+  row_right at (stmt.Tool x) rest (is, h) = (tt, h)
+  row_right at stmt.Work rest (is, h) = (tt, h)
+
+  pub take_right : (at : Encounter) (e : Event) (xs : List Item) (y : Item) (ys : List Item) → take_item p at e xs ≡ Some (y, ys) → AreRight xs → AreRight (y ∷ ys)
+  take_right at = take_keeps p at AreRight (λ x xs may h. h.1) (row_right at)
+
+  pub task_right : (f : ℕ) → AreRight (of_task p f)
+  task_right f = body_right f (item.Finish ∷ []) (tt, tt)
+
+  end_right : (at : Encounter) (x : Item) → IsItemRight x → AreRight (end_of_member at (x ∷ []))
+  end_right at x h = barrier_right at wait_barrier_implicit_parallel (x ∷ []) (in_table wait_barrier_implicit_parallel 2 (omega arith) refl) (h, tt)
+
+  last_right : (n : ℕ) → IsItemRight (last_of_member n)
+  last_right n = go (n == 0)
+    where
+      go : (c : Bool) → IsItemRight (if c then item.Join else item.ImplicitEnd)
+      go true = tt
+      go false = tt
+
+  pub member_right : (at : Encounter) (f : ℕ) → AreRight (of_member p at f)
+  member_right at f = working_right at _ (body_right f (end_of_member at (last_of_member at.number ∷ [])) (end_right at (last_of_member at.number) (last_right at.number)))
+
+  pub main_right : (at : Encounter) → AreRight (of_main at (body_of p.funcs p.main))
+  main_right at = body_right p.main (end_of_member at (item.Done ∷ [])) (end_right at item.Done tt)
+
+pub worker_right : AreRight of_worker
+worker_right = (tt, (tt, (tt, tt)))
+
+pub stays_right : (at : Encounter) (e : Event) (y : Item) (ys : List Item) → AreRight (y ∷ ys) → AreRight (stays at e y ys)
+stays_right at e item.Asks ys h = h
+stays_right at e item.Serve ys h = shown_right at idle 0 (item.Offer ∷ item.Serve ∷ ys) (in_table idle 7 (omega arith) refl) (tt, h)
+stays_right at e (item.Tasks state) ys h = shown_right at state 0 (item.Tasks state ∷ ys) h.0 h
+stays_right at (event.Seen j) (item.Defer seen f final) ys h = h
+stays_right at e y ys h = h.1
