@@ -35,3 +35,4 @@ pub mod BegunThreads
 pub mod AskedTeams
 pub mod Tables
 pub mod TaskThreads
+pub mod ReachedWellFormed

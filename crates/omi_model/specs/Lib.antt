@@ -31,6 +31,7 @@ pub mod LawChains
 pub mod LawEnds
 pub mod LawJoins
 pub mod LawAsks
+pub mod LawWellFormed
 pub mod WorkedRun
 pub mod LawRun
 -- How a team is kept in place, which its type needs.

@@ -32,7 +32,7 @@ pub use laws::one_view;
 pub use limits::MOST_MEMBERS;
 pub use machine_laws::{
     a_run_is_legal, barriers_hold, joins_come_last, levels_count_regions, members_are_known,
-    names_are_live, nthreads_shorten, regions_end_finished, starts_are_constrained,
+    names_are_live, nthreads_shorten, reached_is_well_formed, regions_end_finished, starts_are_constrained,
     teams_are_asked, threads_have_chains, what_stays,
 };
 pub use omi_word::OutOfMemory;

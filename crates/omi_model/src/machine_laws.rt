@@ -13,6 +13,7 @@ ghost use Rattle.omi_model.specs.LawNthreads.{NthreadsShorten};
 ghost use Rattle.omi_model.specs.LawRun.{RunIsLegal};
 ghost use Rattle.omi_model.specs.LawScheduling.{SchedulingIsRight, StartsAreConstrained};
 ghost use Rattle.omi_model.specs.LawStays.{Stay};
+ghost use Rattle.omi_model.specs.LawWellFormed.{ReachedIsWellFormed};
 
 /// Tasks and regions stay what they are: whatever events follow, the parts that say what a task or a region is keep their
 /// values, and no arrival, release, start or end is undone.
@@ -85,4 +86,10 @@ pub fn a_run_is_legal()
 /// than wanted, each other thread was asked, and is in the team or was found busy.
 pub fn teams_are_asked()
     ensures { TeamsAreAsked }
+{}
+
+/// Every state that events reach is well formed: what is visible names only what is visible, chains end, and numbers are in
+/// their ranges.
+pub fn reached_is_well_formed()
+    ensures { ReachedIsWellFormed }
 {}
