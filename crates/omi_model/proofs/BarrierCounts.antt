@@ -12,16 +12,9 @@ use Rattle.omi_script.specs.declared.function.Func.{Func}
 use Rattle.omi_script.specs.declared.program.Program.{Program}
 use Rattle.omi_script.specs.declared.statement.Stmt.{Stmt}
 use Rattle.omi_script.specs.declared.statement.Stmt.TheVariants as stmt
+pub use Rattle.omi_model.specs.LawBarriersLeft.{barriers_to, barriers_of}
 use Rattle.omi_model.proofs.BarrierOrder.{IsCounted, body_barriers, both, fair_body, fair_stmt, stmt_barriers}
 use Rattle.omi_model.proofs.Slots.{false_true}
-
--- the barriers that one pass through a function meets, in calls up to this depth
-abbrev pub barriers_to : Program → ℕ → ℕ → ℕ
-barriers_to p zero f = 0
-barriers_to p (suc n) f = body_barriers (barriers_to p n) (body_of p.funcs f)
-
-unfoldable pub barriers_of : Program → ℕ → ℕ
-barriers_of p f = barriers_to p (suc f) f
 
 -- a statement meets the same barriers where the functions that it names do
 same_stmt : (b c : ℕ → ℕ) (s : Stmt) → ((g : ℕ) → named_by s ≡ Some g → b g ≡ c g) → stmt_barriers b s ≡ stmt_barriers c s

@@ -9,6 +9,7 @@ use Rattle.omi_model.specs.declared.event.Event.{Event}
 use Rattle.omi_model.specs.declared.event.Event.TheVariants as event
 use Rattle.omi_model.specs.declared.item.Item.{Item}
 use Rattle.omi_model.specs.declared.item.Item.TheVariants as item
+pub use Rattle.omi_model.specs.LawBarriersLeft.{stmt_barriers, body_barriers, item_barriers, left}
 use Rattle.omi_model.specs.Lists.{fits, may_drop, stays, take_item}
 use Rattle.omi_model.specs.Rows.{barrier_items, behind, body_items, call_items, end_of_member, first_of, function_items, last_of_member, of_main, of_member, of_task, shown, working}
 use Rattle.omi_model.proofs.ListLaws.{take_keeps}
@@ -48,27 +49,6 @@ next n x ph = ph
 abbrev pub order : ℕ → Phase → List Item → Bool
 order n ph [] = is_outside ph
 order n ph (x ∷ xs) = order n (next n x ph) xs
-
--- the barriers of a statement, where those of each function are given
-abbrev pub stmt_barriers : (ℕ → ℕ) → Stmt → ℕ
-stmt_barriers b stmt.Barrier = 1
-stmt_barriers b (stmt.Call f) = b f
-stmt_barriers b (stmt.Repeat n f) = n * b f
-stmt_barriers b _ = 0
-
-abbrev pub body_barriers : (ℕ → ℕ) → List Stmt → ℕ
-body_barriers b [] = 0
-body_barriers b (s ∷ ss) = stmt_barriers b s + body_barriers b ss
-
-abbrev pub item_barriers : (ℕ → ℕ) → Item → ℕ
-item_barriers b (item.Do s) = stmt_barriers b s
-item_barriers b item.Arrive = 1
-item_barriers b _ = 0
-
--- the barriers that are left in a list
-abbrev pub left : (ℕ → ℕ) → List Item → ℕ
-left b [] = 0
-left b (x ∷ xs) = item_barriers b x + left b xs
 
 -- a statement that some members alone make, or that makes a task, meets no barrier
 abbrev pub fair_stmt : (ℕ → ℕ) → Stmt → Bool

@@ -36,3 +36,4 @@ pub mod AskedTeams
 pub mod Tables
 pub mod TaskThreads
 pub mod ReachedWellFormed
+pub mod BarriersAhead

@@ -26,6 +26,7 @@ pub mod LawMembers
 pub mod LawLevels
 pub mod LawNthreads
 pub mod LawBarriers
+pub mod LawBarriersLeft
 pub mod LawScheduling
 pub mod LawChains
 pub mod LawEnds

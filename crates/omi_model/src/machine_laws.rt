@@ -3,6 +3,7 @@
 
 ghost use Rattle.omi_model.specs.LawAsks.{TeamsAreAsked};
 ghost use Rattle.omi_model.specs.LawBarriers.{ArrivalsAreNear, PassFollowsRelease};
+ghost use Rattle.omi_model.specs.LawBarriersLeft.{BarriersAreLeft};
 ghost use Rattle.omi_model.specs.LawChains.{ThreadsHaveChains};
 ghost use Rattle.omi_model.specs.LawEnds.{RegionsEndFinished};
 ghost use Rattle.omi_model.specs.LawJoins.{JoinsComeLast};
@@ -92,4 +93,10 @@ pub fn teams_are_asked()
 /// their ranges.
 pub fn reached_is_well_formed()
     ensures { ReachedIsWellFormed }
+{}
+
+/// A member's arrivals and the barriers left in its to-do list are the barriers of its region's function and the one at the
+/// end; an explicit task has no barrier ahead.
+pub fn barriers_are_left()
+    ensures { BarriersAreLeft }
 {}
