@@ -64,8 +64,8 @@ pub record IsTaskLaw (p : Program) (s : State) (i : ℕ) (e : Event) (y : Item) 
       → P k (record (scheduled i j t u) { list = start_list x (encounter s i) u.list })
   pub members : (region : Rid) (team : List (Tid × ℕ)) (f : ℕ) (k : Tid) (t : Task) (r : Region) → IsCurrent s i k t → region_of s t.region ≡ Some r → MayFork s i region team
       → region_of next region ≡ Some (new_region k t r team f) → y ≡ item.Fork f → (j : ℕ) (m : Tid × ℕ) → slice_get team j ≡ Some m → P m.0 (member_task p region k t r f j m.1)
-  pub deferred : (task : Tid) (f : ℕ) (is_final : Bool) (seen : ℕ) (k : Tid) (t : Task) → IsCurrent s i k t → y ≡ item.Defer seen f is_final → P task (deferred_task p k t f is_final seen)
-  pub made : (task : Tid) (f : ℕ) (is_final : Bool) (k : Tid) (t : Task) → IsCurrent s i k t → (y ≡ item.StartNow f is_final) ⊎ ((seen : ℕ) × (y ≡ item.Defer seen f is_final)) → P task (scheduled i k t (deferred_task p k t f is_final 0))
+  pub deferred : (task : Tid) (f : ℕ) (is_final : Bool) (seen : ℕ) (k : Tid) (t : Task) → IsCurrent s i k t → y ≡ item.Defer seen f is_final → IsFresh s.tasks i task.0 → P task (deferred_task p k t f is_final seen)
+  pub made : (task : Tid) (f : ℕ) (is_final : Bool) (k : Tid) (t : Task) → IsCurrent s i k t → (y ≡ item.StartNow f is_final) ⊎ ((seen : ℕ) × (y ≡ item.Defer seen f is_final)) → IsFresh s.tasks i task.0 → P task (scheduled i k t (deferred_task p k t f is_final 0))
 
 each_member : (P : Tid → Task → Type 0) (task : ℕ → ℕ → Task) (number : ℕ) (team : List (Tid × ℕ)) (slots : Slots Task) → Each (λ n t. P (record { 0 = n }) t) slots
     → ((j : ℕ) (m : Tid × ℕ) → slice_get team j ≡ Some m → P m.0 (task (number + j) m.1)) → Each (λ n t. P (record { 0 = n }) t) (with_members task number team slots)
@@ -141,12 +141,12 @@ module _ (p : Program) (P : Tid → Task → Type 0) where
   task_effect s i (event.FreeTask task) y rule all = tt
   task_effect s i (event.FreeRegion region) y rule all = tt
   task_effect s i (event.Defer task) (item.Defer seen f final) rule all =
-      of_current s i (deferred p s task f final seen) (of_law s i (event.Defer task) (item.Defer seen f final)) (λ k t. IsFresh s.tasks i task.0) rule (λ k t is fresh law. each_new s task (deferred_task p k t f final seen) all (law.deferred task f final seen k t is refl))
+      of_current s i (deferred p s task f final seen) (of_law s i (event.Defer task) (item.Defer seen f final)) (λ k t. IsFresh s.tasks i task.0) rule (λ k t is fresh law. each_new s task (deferred_task p k t f final seen) all (law.deferred task f final seen k t is refl fresh))
   task_effect s i (event.Defer task) y rule all = tt
   task_effect s i (event.StartNow task) (item.Defer seen f final) rule all =
-      of_current s i (started_now p s i task f final) (of_law s i (event.StartNow task) (item.Defer seen f final)) (λ k t. IsFresh s.tasks i task.0) rule (λ k t is fresh law. each_new s task (scheduled i k t (deferred_task p k t f final 0)) all (law.made task f final k t is (inr (seen, refl))))
+      of_current s i (started_now p s i task f final) (of_law s i (event.StartNow task) (item.Defer seen f final)) (λ k t. IsFresh s.tasks i task.0) rule (λ k t is fresh law. each_new s task (scheduled i k t (deferred_task p k t f final 0)) all (law.made task f final k t is (inr (seen, refl)) fresh))
   task_effect s i (event.StartNow task) (item.StartNow f final) rule all =
-      of_current s i (started_now p s i task f final) (of_law s i (event.StartNow task) (item.StartNow f final)) (λ k t. IsFresh s.tasks i task.0) rule (λ k t is fresh law. each_new s task (scheduled i k t (deferred_task p k t f final 0)) all (law.made task f final k t is (inl refl)))
+      of_current s i (started_now p s i task f final) (of_law s i (event.StartNow task) (item.StartNow f final)) (λ k t. IsFresh s.tasks i task.0) rule (λ k t is fresh law. each_new s task (scheduled i k t (deferred_task p k t f final 0)) all (law.made task f final k t is (inl refl) fresh))
   task_effect s i (event.StartNow task) y rule all = tt
   task_effect s i (event.Start task) (item.Tasks state) rule all =
       of_current s i (started s i task) (of_law s i (event.Start task) (item.Tasks state)) (MayStart s task (item.Tasks state)) rule

@@ -71,8 +71,8 @@ members_step p s i e next step known = record {
         scheduling = λ im q found_q. ap (λ (x : Region). if j == 0 then x.encountering else None) (some_same new found_q);
         waiting = λ w. (refl, member_waits j w);
       };
-      deferred = λ task f final seen k t is of. record { generating = λ im. absurd (false_true im); scheduling = λ im. absurd (false_true im); waiting = λ w. absurd (deferred_waits w) };
-      made = λ task f final k t is of. record { generating = λ im. absurd (false_true im); scheduling = λ im. absurd (false_true im); waiting = λ w. absurd (begun_waits w) };
+      deferred = λ task f final seen k t is of fresh. record { generating = λ im. absurd (false_true im); scheduling = λ im. absurd (false_true im); waiting = λ w. absurd (deferred_waits w) };
+      made = λ task f final k t is of fresh. record { generating = λ im. absurd (false_true im); scheduling = λ im. absurd (false_true im); waiting = λ w. absurd (begun_waits w) };
     }
 
     region_law : (middle : State) → IsRelisted s middle → Stays middle next → IsRegionLaw p middle i next (λ n r. HasMembers r)
@@ -98,8 +98,8 @@ members_step p s i e next step known = record {
       finishes = λ k t is over q. q;
       starts = λ k u j t x is live ex de may of q implicit. absurd (false_true (sym ex ∙ implicit));
       members = λ region team f k t r is found may new of j m at implicit. (_, new, at);
-      deferred = λ task f final seen k t is of implicit. absurd (false_true implicit);
-      made = λ task f final k t is of implicit. absurd (false_true implicit);
+      deferred = λ task f final seen k t is of fresh implicit. absurd (false_true implicit);
+      made = λ task f final k t is of fresh implicit. absurd (false_true implicit);
     }
 
 pub members_known : (p : Program) (events : List (ℕ × Event)) (s : State) → Reached p events s → AreMembersKnown s

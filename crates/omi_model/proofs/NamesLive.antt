@@ -92,12 +92,12 @@ module _ (p : Program) (s : State) (i : ℕ) (e : Event) (next : State) (step : 
       generating = λ n g. subst (IsLiveTask next) (some_same refl g) (current k t is);
       scheduling = λ n g. when next (j == 0) k n (current k t is) g;
     };
-    deferred = λ task f final seen k t is of. record {
+    deferred = λ task f final seen k t is of fresh. record {
       region = (all k t is.live).region;
       generating = λ n g. subst (IsLiveTask next) (some_same refl g) (current k t is);
       scheduling = λ n g. absurd (none_some refl g);
     };
-    made = λ task f final k t is of. record {
+    made = λ task f final k t is of fresh. record {
       region = (all k t is.live).region;
       generating = λ n g. subst (IsLiveTask next) (some_same refl g) (current k t is);
       scheduling = λ n g. subst (IsLiveTask next) (some_same refl g) (current k t is);

@@ -110,8 +110,8 @@ module _ (p : Program) where
             let one : q ≡ q' = some_same found_q found_q' in
             let level : q.levels ≡ r.levels = ap (λ (x : Region). x.levels) one ∙ same.levels in
             (_, new, record { some = some_of_shortened t.variables.nthreads here.some; rest = deeper t.variables.nthreads r.levels (here.rest ∙ ap (λ n. drop (n + 1) p.env.nthreads) level) });
-        deferred = λ task f final seen k t is of. of_tasks k t is.live;
-        made = λ task f final k t is of. of_tasks k t is.live;
+        deferred = λ task f final seen k t is of fresh. of_tasks k t is.live;
+        made = λ task f final k t is of fresh. of_tasks k t is.live;
       }
 
   pub nthreads_shortened : (events : List (ℕ × Event)) (s : State) → Reached p events s → EachTask (Shortened s) s

@@ -111,8 +111,8 @@ module _ (p : Program) (s : State) (i : ℕ) (e : Event) (next : State) (step : 
       sets = λ k t icv value v f at_set q. (q.0, of_set icv value t.variables v f at_set q.1);
       starts = λ k u j t x is live ex de may of q. (start_right x (encounter middle i) u.list q.0, q.1);
       members = λ region team f k t r is found may new of j n at. (member_right p (record { debug = p.env.debug; number = j; level = r.levels + 1; is_final = false }) f, (of_tasks k t is.live).1);
-      deferred = λ task f final seen k t is of. (task_right p f, (of_tasks k t is.live).1);
-      made = λ task f final k t is of. (task_right p f, (of_tasks k t is.live).1);
+      deferred = λ task f final seen k t is of fresh. (task_right p f, (of_tasks k t is.live).1);
+      made = λ task f final k t is of fresh. (task_right p f, (of_tasks k t is.live).1);
     }
     where
       of_set : (icv value : ℕ) (v w : Variables) → with_variable icv value v ≡ Some w → e ≡ event.Set icv value → IsKind v.schedule.kind → IsKind w.schedule.kind
