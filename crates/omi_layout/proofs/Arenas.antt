@@ -136,3 +136,6 @@ some_regions w v = let low : 1 ≤ per_thread w 3 = leb-true _ _ (test_left _ _ 
 
 pub some_tasks : (w : List ℕ) → IsValid w → 0 < per_thread w 4
 some_tasks w v = let low : 1 ≤ per_thread w 4 = leb-true _ _ (test_left _ _ (counted w 4 (v.arenas 4 (record { from = omega arith; to = omega arith })))) in omega (arith, low)
+
+pub some_threads : (w : List ℕ) → IsValid w → 0 < thread_count w
+some_threads w v = let low : 1 ≤ thread_count w = leb-true _ _ (test_left _ _ (counted w 2 (v.arenas 2 (record { from = omega arith; to = omega arith })))) in omega (arith, low)

@@ -14,3 +14,4 @@ pub mod Frame
 pub mod Given
 pub mod Codes
 pub mod OpeningWords
+pub mod NoLayout

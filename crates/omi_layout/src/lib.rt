@@ -10,6 +10,7 @@ mod layout;
 mod limits;
 mod looking;
 mod publish;
+mod reading;
 mod table;
 
 pub use fault::LayoutFault;
@@ -21,6 +22,7 @@ pub use limits::{
     TABLE_PLACE, TABLE_WORDS, VERSION,
 };
 pub use looking::{WordMemory, look_up};
+pub use reading::LayoutError;
 
 #[cfg(test)]
 mod permuted_tests;

@@ -1,7 +1,8 @@
 //! Sizes of images, tables that are refused, and records found again.
 
-use crate::{Field, Kind, Layout, LayoutFault, field_name, look_up};
-use omi_word::Image;
+use crate::{Field, Kind, Layout, LayoutError, LayoutFault, field_name, look_up};
+use omi_word::{Image, Op};
+use std::alloc::{AllocError, Global};
 use std::test::Fail;
 
 #[test]
@@ -123,5 +124,55 @@ fn fields_have_their_names(rt: HostRuntime) -> Result<(), Fail> {
     }
     assert_eq!(rt; Kind::Runtime.number(), 1);
     assert_eq!(rt; Kind::Tasks.number(), 4);
+    Ok(())
+}
+
+/// The error of a published image with one word changed.
+fn unread(alloc: Global, at: u64, word: u64) -> Result<Option<LayoutError>, AllocError> {
+    let layout = Layout::family(0, 1);
+    let mut image = Image::zeroed(alloc, 6966)?;
+    if layout.fits(image.len()) {
+        layout.publish(&mut image);
+    }
+    if image.get(at).is_some() {
+        image.apply(Op::Store { at, new: word });
+    }
+    match Layout::read(&image) {
+        Ok(_) => Ok(None),
+        Err(error) => Ok(Some(error)),
+    }
+}
+
+#[test]
+fn words_that_give_a_layout(rt: HostRuntime) -> Result<(), Fail> {
+    let table = [
+        (0x10310, 22, None),
+        (0x10000, 17, Some(LayoutError::NoSymbol)),
+        (0x10000, 7, Some(LayoutError::NoSymbol)),
+        (
+            0x10140,
+            0x1d8b0,
+            Some(LayoutError::Unmapped { addr: 0x1d9b0 }),
+        ),
+        (
+            0x10158,
+            9,
+            Some(LayoutError::Refused {
+                addr: 0x10158,
+                fault: LayoutFault::Version(9),
+            }),
+        ),
+        (
+            0x10168,
+            12,
+            Some(LayoutError::Refused {
+                addr: 0x101e0,
+                fault: LayoutFault::OutOfRecord(6),
+            }),
+        ),
+    ];
+    for (at, word, error) in table {
+        assert_eq!(rt; unread(rt.alloc(), at, word)?, error);
+    }
     Ok(())
 }

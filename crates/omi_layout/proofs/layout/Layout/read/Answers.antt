@@ -1,0 +1,40 @@
+use Rattle.std.proofs.Common.{◌≡◌, ℕ, zero, suc, ◌+◌, ◌*◌, ◌%◌, ◌^◌, ◌<◌, List, [], ◌∷◌, length, get_or, Option, Some, sym, ap, subst, refl, ◌∙◌, arith}
+use Rattle.std.specs.Prelude.{slice_index}
+use Rattle.std.specs.Option.{option_map, option_and_then}
+use Rattle.omi_layout.specs.SymbolTable.{Words, words_from}
+use Rattle.omi_layout.specs.Given.{wrapped, GivesLayout}
+use Rattle.omi_layout.specs.NoLayout.{table_address}
+use Rattle.omi_layout.proofs.layout.Layout.read.Goals as goal
+
+-- words that are mapped one after the other are read
+read_words : (f : Words) (xs : List ℕ) (a : ℕ) → ((j : ℕ) → j < length xs → f (a + 8 * j) ≡ Some (slice_index xs j)) → words_from f a (length xs) ≡ Some xs
+read_words f [] a each = refl
+read_words f (x ∷ xs) a each =
+    let here : a ≡ a + 8 * 0 = omega arith in
+    let more : words_from f (a + 8) (length xs) ≡ Some xs =
+    read_words f xs (a + 8) (λ j h. let next : (a + 8) + 8 * j ≡ a + 8 * suc j = omega arith in ap f next ∙ each (suc j) (omega arith)) in
+    ap (option_and_then (λ (word : ℕ). option_map (λ (rest : List ℕ). word ∷ rest) (words_from f (a + 8) (length xs)))) (ap f here ∙ each 0 (omega arith))
+    ∙ ap (option_map (λ (rest : List ℕ). x ∷ rest)) more
+
+-- the whole table was read
+table_read : (words : Words) (address : ℕ) (table : List ℕ) → length table ≡ 56
+    → ((j : ℕ) → j < 56 → words (table_address address j) ≡ Some (slice_index table j)) → words_from (wrapped words) address 56 ≡ Some table
+table_read words address table long each =
+    subst (λ n. words_from (wrapped words) address n ≡ Some table) long (read_words (wrapped words) table address (λ j h. each j (omega (arith, h, long))))
+
+pub returns-in-Ok : goal.returns-in-Ok
+returns-in-Ok g c = record {
+  address = c.in-Some.address;
+  symbol = sym c.in-Some.ensures;
+  table = table_read (g.M.WordMemory.words c.args.memory.now) c.in-Some.address c.loop-at.table c.loop-at.invariant.words (λ j h. c.loop-at.invariant.read j (omega arith)) ∙ ap Some (sym c.in-Ok.ensures);
+}
+
+pub returns-in-Err : goal.returns-in-Err
+returns-in-Err g c = record {
+  address = c.in-Some.address;
+  symbol = sym c.in-Some.ensures;
+  table = c.loop-at.table;
+  read = table_read (g.M.WordMemory.words c.args.memory.now) c.in-Some.address c.loop-at.table c.loop-at.invariant.words (λ j h. c.loop-at.invariant.read j (omega arith));
+  refused = c.in-Err.ensures;
+  is = ap (λ n. (c.in-Some.address + 8 * n) % 2 ^ 64) c.table_word.ensures;
+}
