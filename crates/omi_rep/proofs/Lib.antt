@@ -4,3 +4,4 @@ pub mod SameReport
 pub mod Firsts
 pub mod PlainLook
 pub mod PlainShown
+pub mod Opened

@@ -6,3 +6,4 @@ pub mod LookView
 pub mod Plain
 -- The laws
 pub mod Unique
+pub mod Opened

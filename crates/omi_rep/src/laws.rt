@@ -1,5 +1,6 @@
 //! Laws of the definitions. Each is a function that does nothing, whose clauses hold of all memories.
 
+ghost use Rattle.omi_rep.specs.Opened.{OpeningIsShown};
 ghost use Rattle.omi_rep.specs.Plain.{PlainIsLooked, PlainIsShown};
 ghost use Rattle.omi_rep.specs.Unique.{FixTheReport};
 
@@ -13,4 +14,9 @@ pub fn words_fix_the_report()
 pub fn plain_words_looked()
     ensures looked { PlainIsLooked }
     ensures shown { PlainIsShown }
+{}
+
+/// The opening words of a program show its opening state, in each layout that has as many threads as the program.
+pub fn opening_words_shown()
+    ensures { OpeningIsShown }
 {}

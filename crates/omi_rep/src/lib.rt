@@ -5,4 +5,4 @@ mod fault;
 mod laws;
 
 pub use fault::LookFault;
-pub use laws::{plain_words_looked, words_fix_the_report};
+pub use laws::{opening_words_shown, plain_words_looked, words_fix_the_report};
