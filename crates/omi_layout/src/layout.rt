@@ -7,6 +7,7 @@ ghost use Rattle.omi_layout.specs.Table;
 ghost use Rattle.omi_layout.specs.Place;
 ghost use Rattle.omi_layout.specs.Place.{IsRecordAt, IsSlot, IsSlotAt, slot_address, record_address};
 ghost use Rattle.omi_layout.specs.Valid.{IsValid, Refuses};
+ghost use Rattle.omi_layout.specs.declared.limits.TheConstants.{LAST_END};
 
 use crate::fault::LayoutFault;
 use crate::field::{REGIONS, RUNTIME, TASKS, THREADS};
@@ -34,8 +35,11 @@ impl Layout {
     }
 
     /// The byte address of the runtime record.
+    #[tactic(auto, unfolding(crate::specs::Place::slot_address))]
     pub fn runtime_place(&self) -> u64
-        ensures { result ≡ Table.place self.now.table Field.runtime }
+        ensures place { result ≡ Table.place self.now.table Field.runtime }
+        ensures address { result ≡ slot_address self.now.table Field.runtime 0 0 }
+        ensures low { result ≤ LAST_END }
     {
         place(&self.table, RUNTIME)
     }
@@ -73,16 +77,20 @@ impl Layout {
     fn record_at(&self, p: u8, index: u64) -> u64
         requires kind { IsKind p }
         requires within { index < Table.records self.now.table p }
-        ensures { result ≡ record_address self.now.table p index }
+        ensures record { result ≡ record_address self.now.table p index }
+        ensures low { result ≤ LAST_END }
     {
         let words = index * size(&self.table, p);
         place(&self.table, p) + 8 * words
     }
 
     /// The byte address of a thread's record.
+    #[tactic(auto, unfolding(crate::specs::Place::slot_address))]
     pub fn thread_at(&self, i: u8) -> u64
         requires { i < Table.thread_count self.now.table }
-        ensures { result ≡ record_address self.now.table Field.threads i }
+        ensures record { result ≡ record_address self.now.table Field.threads i }
+        ensures address { result ≡ slot_address self.now.table Field.threads i 0 }
+        ensures low { result ≤ LAST_END }
     {
         self.record_at(THREADS, i as u64)
     }
@@ -91,7 +99,8 @@ impl Layout {
     /// The byte address of the record of a region, by the thread that makes it and one of its slots.
     pub fn region_at(&self, creator: u8, slot: u16) -> u64
         requires { IsSlot self.now.table Field.regions creator slot }
-        ensures { result ≡ slot_address self.now.table Field.regions creator slot }
+        ensures address { result ≡ slot_address self.now.table Field.regions creator slot }
+        ensures low { result ≤ LAST_END }
     {
         let index = creator as u64 * self.table[8] + slot as u64;
         self.record_at(REGIONS, index)
@@ -101,7 +110,8 @@ impl Layout {
     /// The byte address of the record of a task, by the thread that makes it and one of its slots.
     pub fn task_at(&self, creator: u8, slot: u16) -> u64
         requires { IsSlot self.now.table Field.tasks creator slot }
-        ensures { result ≡ slot_address self.now.table Field.tasks creator slot }
+        ensures address { result ≡ slot_address self.now.table Field.tasks creator slot }
+        ensures low { result ≤ LAST_END }
     {
         let index = creator as u64 * self.table[11] + slot as u64;
         self.record_at(TASKS, index)
