@@ -1,24 +1,23 @@
 -- The first record of each kind: found at its address, and its words mapped.
-use Rattle.std.proofs.Common.{◌≡◌, ◌==◌, ℕ, zero, suc, ◌+◌, ◌*◌, ◌<◌, ◌≤◌, Bool, true, false, cond, List, [], ◌∷◌, ◌++◌, length, map, Option, Some, None, refl, sym, ap, ap₂, subst, ◌∙◌, arith, eq-eqb}
+use Rattle.std.proofs.Common.{◌≡◌, ◌==◌, ℕ, zero, suc, ◌<◌, ◌≤◌, Bool, cond, List, ◌++◌, length, map, Option, Some, None, refl, ap, ◌∙◌, arith, eq-eqb}
 use Rattle.std.specs.Prelude.{Ok, find, unwrap_or}
-use Rattle.std.specs.Option.{ok_or, option_and_then}
+use Rattle.std.specs.Option.{ok_or}
 use Rattle.std.specs.List.{range_with_len, flat_map}
 use Rattle.std.proofs.lemmas.Bool.Decides.{nat_tests}
-use Rattle.omi_model.specs.declared.id.Id.{Id}
 use Rattle.omi_layout.specs.declared.field.Field.{Field}
-use Rattle.omi_layout.specs.Field.{IsField, IsKind, kind_of}
+use Rattle.omi_layout.specs.Field.{IsKind, kind_of}
 use Rattle.omi_layout.specs.Named.{number}
 use Rattle.omi_layout.specs.Table.{thread_count, makers, per_thread, width}
-use Rattle.omi_layout.specs.Place.{slot_address, image_words, IsSlot}
+use Rattle.omi_layout.specs.Place.{slot_address, image_words}
 use Rattle.omi_layout.specs.Valid.{IsValid}
-use Rattle.omi_layout.specs.SymbolTable.{Words, words_of}
-use Rattle.omi_layout.specs.Memory.{IsRecordWord, word_address, memory_of}
+use Rattle.omi_layout.specs.SymbolTable.{words_of}
+use Rattle.omi_layout.specs.Memory.{IsRecordWord, word_address}
 use Rattle.omi_layout.proofs.Arenas.{each_kind, some_regions, some_tasks}
 use Rattle.omi_layout.proofs.Numbers.{numbered_field}
 use Rattle.omi_layout.proofs.Stored.{mapped}
 use Rattle.omi_layout.proofs.Turned.{kind_is}
 use Rattle.omi_rep.specs.Records.{record_at}
-use Rattle.omi_rep.specs.Look.{Look, and_then, slots_of, slot_at, is_live, life_of, live_at, look_word}
+use Rattle.omi_rep.specs.Look.{Look, and_then, slot_at, look_word}
 use Rattle.omi_rep.specs.Plain.{word_in}
 
 -- a look that gives something, and then another

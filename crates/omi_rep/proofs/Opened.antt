@@ -1,12 +1,11 @@
 -- The opening words of a program show its opening state.
-use Rattle.std.proofs.Common.{◌≡◌, ◌==◌, ◌<◌, ◌≤◌, ℕ, zero, suc, ◌+◌, ◌*◌, ◌&&◌, Bool, true, false, cond, List, [], ◌∷◌, length, Option, Some, None, refl, sym, ap, ap₂, subst, ◌∙◌, arith, lit≤, lit<, eqb-true, if◌then◌else◌}
-use Rattle.std.specs.Prelude.{slice_get, slice_index, Contains, IsSome, IsTrue, All}
+use Rattle.std.proofs.Common.{◌≡◌, ◌==◌, ◌<◌, ℕ, zero, suc, ◌+◌, ◌*◌, ◌&&◌, Bool, true, false, cond, List, [], ◌∷◌, Some, None, refl, sym, ap, subst, ◌∙◌, arith, lit≤, lit<, eqb-true, if◌then◌else◌}
+use Rattle.std.specs.Prelude.{slice_get, Contains, IsSome}
 use Rattle.std.proofs.lemmas.Bool.Decides.{nat_tests}
 use Rattle.std.proofs.lemmas.List.Elements.{All-from_recursion}
 use Rattle.std.proofs.lemmas.Option.{get_or_from_slice_get, slice_get_within}
 use Rattle.omi_script.specs.declared.program.Program.{Program}
 use Rattle.omi_script.proofs.RuleLemmas.{Rules-from_accepted}
-use Rattle.omi_model.specs.declared.id.Id.{Id}
 use Rattle.omi_model.specs.declared.id.Rid.{Rid}
 use Rattle.omi_model.specs.declared.id.Tid.{Tid}
 use Rattle.omi_model.specs.declared.thread.Thread.{Thread}
@@ -24,17 +23,17 @@ use Rattle.omi_layout.specs.Codes.{flag_word, state_word}
 use Rattle.omi_layout.specs.Field.{runtime, threads, regions, tasks, kind_of}
 use Rattle.omi_layout.specs.Memory.{memory_of, word_address, IsRecordWord}
 use Rattle.omi_layout.specs.Named.{number}
-use Rattle.omi_layout.specs.OpeningWords.{AreOpening, OpensRuntime, OpensThread, OpensRegion, OpensTask, OpensMade}
-use Rattle.omi_layout.specs.Place.{slot_address, image_words, IsSlot}
+use Rattle.omi_layout.specs.OpeningWords.{AreOpening}
+use Rattle.omi_layout.specs.Place.{slot_address, IsSlot}
 use Rattle.omi_layout.specs.SymbolTable.{Words, words_of}
-use Rattle.omi_layout.specs.Table.{thread_count, per_thread, width}
+use Rattle.omi_layout.specs.Table.{thread_count, width}
 use Rattle.omi_layout.specs.Valid.{IsValid}
 use Rattle.omi_layout.proofs.Arenas.{some_threads, some_regions, some_tasks}
 use Rattle.omi_layout.proofs.Numbers.{numbered_field}
 use Rattle.omi_layout.proofs.Stored.{mapped}
 use Rattle.omi_layout.proofs.Tables.{tables_give}
 use Rattle.omi_rep.specs.Opened.{OpeningIsShown}
-use Rattle.omi_rep.specs.Records.{Seen, records_of, region_address, task_address, thread_address, task_word}
+use Rattle.omi_rep.specs.Records.{records_of, task_address, task_word}
 use Rattle.omi_rep.specs.Shows.{Shows, ShowsGlobals, ShowsLife, ShowsThread, ShowsSlot, ShowsRegion, ShowsTask, RecordsShow, IsWithin, Stands}
 
 -- the object that is alone is the one that is found

@@ -1,7 +1,7 @@
 -- A look at plain words, read by read.
-use Rattle.std.proofs.Common.{◌≡◌, ◌==◌, ℕ, zero, suc, ◌+◌, ◌*◌, ◌/◌, ◌%◌, ◌^◌, ◌<◌, ◌≤◌, ◌&&◌, Bool, true, false, cond, List, [], ◌∷◌, ◌++◌, length, take, map, Option, Some, None, refl, sym, ap, ap₂, subst, ◌∙◌, arith, eqb-true, leb-true}
+use Rattle.std.proofs.Common.{◌≡◌, ◌==◌, ℕ, zero, suc, ◌+◌, ◌*◌, ◌/◌, ◌%◌, ◌<◌, ◌≤◌, ◌&&◌, Bool, true, false, cond, List, [], ◌∷◌, ◌++◌, length, take, map, Option, Some, None, refl, ap, ap₂, ◌∙◌, arith, eqb-true, leb-true}
 use Rattle.std.specs.Prelude.{Ok, Err, IsTrue, nat_le}
-use Rattle.std.specs.Option.{option_map, option_map_or, option_and_then, ok_or}
+use Rattle.std.specs.Option.{option_and_then, ok_or}
 use Rattle.std.specs.List.{range_with_len, flat_map, filter_map, cons_option}
 use Rattle.std.proofs.lemmas.Bool.Decides.{nat_tests}
 use Rattle.omi_model.specs.declared.id.Id.{Id}
@@ -16,18 +16,17 @@ use Rattle.omi_layout.specs.declared.field.Field.{Field}
 use Rattle.omi_layout.specs.declared.field.Field.TheVariants.{RuntimeVersion, RuntimeProcs, RuntimeDebug, RuntimeMaxActive, ThreadLife, ThreadNative, ThreadCurrent, ThreadState, RegionLife, RegionFunction, RegionEnclosing, RegionSize, RegionLevels, RegionActive, RegionTeam, TaskLife, TaskImplicit, TaskRegion, TaskThread, TaskNumber, TaskGenerating, TaskScheduling, TaskFunction, TaskExit, TaskEnter, TaskDynamic, TaskNthreadsLength, TaskSchedule, TaskDevice, TaskFinal, TaskTool, TaskNthreads}
 use Rattle.omi_layout.specs.Field.{threads, regions, tasks, kind_of}
 use Rattle.omi_layout.specs.Named.{number}
-use Rattle.omi_layout.specs.Table.{thread_count, makers, per_thread, records, width}
+use Rattle.omi_layout.specs.Table.{thread_count, makers, per_thread, records}
 use Rattle.omi_layout.specs.Place.{slot_address, image_words}
 use Rattle.omi_layout.specs.Valid.{IsValid}
 use Rattle.omi_layout.specs.SymbolTable.{Words, words_of}
 use Rattle.omi_layout.proofs.Arenas.{some_regions, some_tasks, test_left, test_right}
-use Rattle.omi_layout.proofs.Frame.{none_is_null, kind_3, kind_4}
-use Rattle.omi_rep.specs.declared.fault.LookFault.{LookFault}
+use Rattle.omi_layout.proofs.Frame.{none_is_null, kind_4}
 use Rattle.omi_rep.specs.declared.fault.LookFault.TheVariants.{Damaged}
 use Rattle.omi_rep.specs.Records.{record_at, thread_address, region_address, task_address}
-use Rattle.omi_rep.specs.Look.{Look, and_then, mapped, each, optional, slots_of, slot_at, is_live, life_of, live_at, lead, address_of, look_word, look_object, look_optional, look_onward}
+use Rattle.omi_rep.specs.Look.{Look, and_then, mapped, each, optional, slots_of, slot_at, is_live, life_of, live_at, lead, look_word, look_object, look_optional, look_onward}
 use Rattle.omi_rep.specs.LookView.{look_head, look_for, look_state, look_current, look_part, look_thread, look_innermost, look_enclosing, look_regions, met_in, look_member, look_region, look_nthreads, look_task, look_chain, look_tasks, look_within, found_threads, look_view}
-use Rattle.omi_rep.specs.Plain.{word_in, runtime_word, thread_word, region_word, task_word, is_plain, is_plain_image, is_plain_thread, is_plain_region, is_plain_task, is_plain_list, is_found, plain_head, plain_thread, plain_region, plain_nthreads, plain_task, plain_view, PlainIsLooked}
+use Rattle.omi_rep.specs.Plain.{word_in, runtime_word, thread_word, region_word, task_word, is_plain, is_plain_image, is_plain_thread, is_plain_region, is_plain_task, is_found, plain_head, plain_thread, plain_region, plain_nthreads, plain_task, plain_view, PlainIsLooked}
 use Rattle.omi_rep.proofs.Firsts.{step, first_slot, first_mapped, first_looked, look_first}
 
 -- the words that plain words have

@@ -1,10 +1,9 @@
 -- Where plain words show a state, what a look at them gives is the view of that state.
-use Rattle.std.proofs.Common.{◌≡◌, ◌==◌, ◌<◌, ◌≤◌, ℕ, zero, suc, ◌+◌, ◌*◌, ◌/◌, ◌%◌, ◌^◌, ◌&&◌, Bool, true, false, cond, List, [], ◌∷◌, length, take, Option, Some, None, refl, sym, ap, ap₂, subst, ◌∙◌, arith, lit<, if◌then◌else◌}
-use Rattle.std.specs.Prelude.{slice_get, slice_index, IsTrue, nat_lt, Contains, map, unwrap_or, slice_index_or}
+use Rattle.std.proofs.Common.{◌≡◌, ◌==◌, ◌<◌, ◌≤◌, ℕ, zero, suc, ◌+◌, ◌/◌, ◌%◌, ◌&&◌, Bool, true, false, List, [], ◌∷◌, length, take, Option, Some, None, refl, sym, ap, ap₂, subst, ◌∙◌, arith, lit<, if◌then◌else◌}
+use Rattle.std.specs.Prelude.{slice_get, slice_index, nat_lt, Contains, map, unwrap_or, slice_index_or}
 use Rattle.std.specs.Option.{option_map, option_and_then}
 use Rattle.std.specs.List.{filter_map, cons_option}
 use Rattle.std.proofs.Math.Nat.{mul_comm, add-mul-mod_self_right, add-mul-div_right, mod-eq_of_lt, div-eq_of_lt}
-use Rattle.std.proofs.lemmas.List.Elements.{All-contains}
 use Rattle.std.proofs.lemmas.Option.{slice_get_within}
 use Rattle.omi_model.specs.declared.id.Id.{Id}
 use Rattle.omi_model.specs.declared.id.Tid.{Tid}
@@ -20,7 +19,6 @@ use Rattle.omi_model.specs.Opening.{initial_task, initial_region}
 use Rattle.omi_model.specs.Visible.{IsVisibleRegion, IsVisibleTask}
 use Rattle.omi_model.specs.Views.{IsViewOf, AreRegions, AreChains, IsChain, IsReported, head_row, thread_row, thread_part, thread_with, region_row, task_row}
 use Rattle.omi_model.specs.WellFormed.{IsRegionRight, IsTaskRight, IsMember, along}
-use Rattle.omi_layout.specs.declared.field.Field.{Field}
 use Rattle.omi_layout.specs.declared.field.Field.TheVariants.{ThreadState, RegionLife, RegionTeam, TaskLife, TaskNumber, RuntimeDebug, TaskNthreads}
 use Rattle.omi_layout.specs.Field.{runtime, threads, regions, tasks}
 use Rattle.omi_layout.specs.Named.{number}
@@ -29,12 +27,12 @@ use Rattle.omi_layout.specs.Place.{IsSlot}
 use Rattle.omi_layout.specs.Valid.{IsValid}
 use Rattle.omi_layout.specs.SymbolTable.{Words, words_of}
 use Rattle.omi_layout.specs.Codes.{state_word}
-use Rattle.omi_layout.proofs.Frame.{addresses_apart, none_is_null}
+use Rattle.omi_layout.proofs.Frame.{none_is_null}
 use Rattle.omi_rep.specs.Records.{Seen, record_at, records_of, thread_address, region_address, task_address}
 use Rattle.omi_rep.specs.Records as stored
 use Rattle.omi_rep.specs.Shows.{Shows, ShowsThread, ShowsRegion, ShowsTask, Stands}
-use Rattle.omi_rep.specs.Plain.{word_in, runtime_word, thread_word, region_word, task_word, is_found, plain_head, plain_thread, plain_region, plain_nthreads, plain_task, plain_view, PlainIsShown}
-use Rattle.omi_rep.proofs.Same.{kind_2, kind_3, kind_4, same_name, same_thread, region_slot, task_slot, region_life, task_life}
+use Rattle.omi_rep.specs.Plain.{word_in, runtime_word, thread_word, task_word, is_found, plain_head, plain_thread, plain_region, plain_nthreads, plain_task, plain_view, PlainIsShown}
+use Rattle.omi_rep.proofs.Same.{kind_3, kind_4, same_name, region_slot, task_slot, region_life, task_life}
 use Rattle.omi_rep.proofs.SameReport.{small_state}
 use Rattle.omi_rep.proofs.Firsts.{some_made, first_mapped}
 use Rattle.omi_rep.proofs.PlainLook.{Plain, plain_words, first}

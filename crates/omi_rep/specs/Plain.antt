@@ -1,6 +1,5 @@
 -- Plain words: those of a core of one thread with nothing but the initial region and the initial task in it, in any layout, and what a look at them gives.
 use Rattle.std.specs.Prelude.{◌≡◌, ◌==◌, ◌&&◌, ℕ, ◌/◌, ◌%◌, Bool, nat_le, List, [], ◌∷◌, length, take, Some, None, IsTrue, Ok, unwrap_or, if◌then◌else◌}
-use Rattle.std.specs.List.{list_all}
 use Rattle.omi_model.specs.declared.view.View.{View}
 use Rattle.omi_model.specs.declared.view.HeadRow.{HeadRow}
 use Rattle.omi_model.specs.declared.view.ThreadPart.{ThreadPart}
