@@ -9,3 +9,4 @@ pub mod Mapped
 pub mod Stored
 pub mod Tables
 pub mod Numbers
+pub mod OneAnswer

@@ -15,3 +15,4 @@ pub mod Given
 pub mod Codes
 pub mod OpeningWords
 pub mod NoLayout
+pub mod OneAnswer

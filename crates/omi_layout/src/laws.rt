@@ -4,6 +4,7 @@
 ghost use Rattle.omi_layout.specs.Words.{AreApart, AreInside, SlotsApart, AddressesApart, NoneIsNull};
 ghost use Rattle.omi_layout.specs.Memory.{Memory};
 ghost use Rattle.omi_layout.specs.Given.{TablesGive};
+ghost use Rattle.omi_layout.specs.OneAnswer.{OneLayout, OneCause, NotBoth};
 ghost use Rattle.omi_layout.specs.Frame.{IsReplaced, AreFramed, AreLeft, AreMapped, FittedHas};
 
 use crate::layout::Layout;
@@ -34,4 +35,12 @@ pub fn records_framed(layout: &Layout)
 /// address on are the layout's table.
 pub fn tables_read_back(layout: &Layout)
     ensures { TablesGive layout.now.table }
+{}
+
+/// The words of a memory give at most one layout. Where they give none there is one cause, and none where they give a valid
+/// layout.
+pub fn one_answer()
+    ensures layout { OneLayout }
+    ensures cause { OneCause }
+    ensures both { NotBoth }
 {}

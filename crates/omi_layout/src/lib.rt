@@ -15,7 +15,7 @@ mod table;
 
 pub use fault::LayoutFault;
 pub use field::{Field, Kind, field_name};
-pub use laws::{records_framed, tables_read_back, words_apart};
+pub use laws::{one_answer, records_framed, tables_read_back, words_apart};
 pub use layout::Layout;
 pub use limits::{
     FIELDS, FRONT_WORDS, LAST_END, MOST_RECORD_WORDS, MOST_REGIONS, MOST_TASKS, MOST_THREADS,
