@@ -8,3 +8,6 @@ mod plain;
 pub use fault::LookFault;
 pub use laws::{opening_words_shown, plain_words_looked, words_fix_the_report};
 pub use plain::{is_plain, plain_view};
+
+#[cfg(test)]
+mod tests;
