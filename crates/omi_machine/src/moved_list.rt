@@ -1,8 +1,8 @@
 //! What stands in a to-do list once an event took its item off.
 
-ghost use Rattle.std.specs.Prelude.{◌≡◌, ◌+◌, ◌∷◌, IfOk, OnOk};
+ghost use Rattle.std.specs.Prelude.{◌≡◌, ◌<◌, ◌+◌, ◌∷◌, IfOk, OnOk, true};
 ghost use Rattle.std.specs.Option.{option_map};
-ghost use Rattle.omi_model.specs.Lists.{opened, stays, take_item};
+ghost use Rattle.omi_model.specs.Lists.{fits, opened, stays, take_item};
 
 use crate::first_lists::push_shown;
 use crate::looking::{head_item, is_events_item, may_pass_over};
@@ -11,20 +11,20 @@ use crate::states::IDLE;
 use omi_model::{Encounter, Event, Item, ItemList};
 use omi_script::Program;
 use omi_word::OutOfMemory;
-use std::alloc::{AllocError, Global};
+use std::alloc::Global;
 
 /// Puts a place for deferred tasks that was seen taken in front: the next one is looked at.
 fn push_next_place(list: &mut ItemList, seen: u8, f: u8, is_final: bool) -> Result<(), OutOfMemory>
+    requires { seen < 4 }
     ensures { OnOk result (list.new ≡ Item.Defer (seen + 1) f is_final ∷ list.old) }
 {
-    let Some(seen) = seen.checked_add(1) else {
-        return Err(AllocError);
-    };
+    let seen = seen + 1;
     list.push_front(Item::Defer { seen, f, is_final })
 }
 
 /// Puts what stays of an event's item in front.
 fn push_staying(list: &mut ItemList, at: Encounter, e: &Event, x: Item) -> Result<(), OutOfMemory>
+    requires { fits e.now x ≡ true }
     ensures { OnOk result (list.new ≡ stays at e.now x list.old) }
 {
     match (x, e) {
