@@ -191,9 +191,9 @@ begun_later s u stay w is = record { known = subst (λ n. w < n) (sym stay.count
 
 asks_later : (s u : State) → Stays s u → (j : ℕ) (as' : List (ℕ × Bool)) (wanted : ℕ) → AreAsksRight s j as' wanted → AreAsksRight u j as' wanted
 asks_later s u stay j as' wanted is = record {
-    first = subst (λ n. AreFirst j n as') (sym stay.count) is.first;
-    begun = λ k d within. begun_later s u stay (get_or (got_threads as') k d) (is.begun k d within);
-    most = is.most;
+  first = subst (λ n. AreFirst j n as') (sym stay.count) is.first;
+  begun = λ k d within. begun_later s u stay (get_or (got_threads as') k d) (is.begun k d within);
+  most = is.most;
 }
 
 not_begin : event.Offer ≡ event.Begin → ⊥
@@ -233,23 +233,27 @@ module _ (p : Program) (s : State) (i : ℕ) (e : Event) (next : State) (step : 
     where
       law : (middle : State) → IsRelisted s middle → Stays middle next → EachThread Asking middle → IsThreadLaw p middle i e next Asking
       law middle before later of_threads = record {
-          begins = λ may q. q;
-          offers = λ may of q. (q.0, λ free. stay.begun i (by_begun p s i e next step begun (λ h. not_begin (sym of ∙ h))));
-          wants = λ n num may q. (record { first = no_asks i next.count; begun = none_got next; most = omega arith }, q.1);
-          asks = λ w got may q. (asked_right w got may q.0, q.1);
-          claims = λ w may q. (q.0, λ free. absurd (claimed_other i free));
-          shows = λ state wait of q. q;
-          forks = λ region team f k t r is found may new q. q;
-          joins_team = λ task may q. q; ends = λ k t r is found im other q. q; joins = λ k t r is found may q. q;
-          makes = λ task f final k t is new q. q; starts = λ task x k t is may new q. q; finishes = λ k t is ex q. q;
+        begins = λ may q. q;
+        offers = λ may of q. (q.0, λ free. stay.begun i (by_begun p s i e next step begun (λ h. not_begin (sym of ∙ h))));
+        wants = λ n num may q. (record { first = no_asks i next.count; begun = none_got next; most = omega arith }, q.1);
+        asks = λ w got may q. (asked_right w got may q.0, q.1);
+        claims = λ w may q. (q.0, λ free. absurd (claimed_other i free));
+        shows = λ state wait of q. q;
+        forks = λ region team f k t r is found may new q. q;
+        joins_team = λ task may q. q;
+        ends = λ k t r is found im other q. q;
+        joins = λ k t r is found may q. q;
+        makes = λ task f final k t is new q. q;
+        starts = λ task x k t is may new q. q;
+        finishes = λ k t is ex q. q;
       }
         where
           asked_right : (w : ℕ) (got : Bool) → MayAsk middle i w got → AreAsksRight next i (middle.threads i).asks (middle.threads i).wanted → AreAsksRight next i ((middle.threads i).asks ++ (w, got) ∷ []) (middle.threads i).wanted
           asked_right w got may q = record {
-              first = next_first i next.count (middle.threads i).asks w got q.first (subst (λ n. w < n) (sym later.count) may.known) may.other
-                  (λ h. may.new (asked_contains (middle.threads i).asks w h)) (λ v below ne. contains_asked (middle.threads i).asks v (may.least v below ne));
-              begun = subst (All (HasBegun next)) (sym (got_last (middle.threads i).asks w got)) (of_got got may.joins);
-              most = omega (arith, ap (λ (xs : List ℕ). length xs) (got_last (middle.threads i).asks w got), one_more got, may.smaller);
+            first = next_first i next.count (middle.threads i).asks w got q.first (subst (λ n. w < n) (sym later.count) may.known) may.other
+                (λ h. may.new (asked_contains (middle.threads i).asks w h)) (λ v below ne. contains_asked (middle.threads i).asks v (may.least v below ne));
+            begun = subst (All (HasBegun next)) (sym (got_last (middle.threads i).asks w got)) (of_got got may.joins);
+            most = omega (arith, ap (λ (xs : List ℕ). length xs) (got_last (middle.threads i).asks w got), one_more got, may.smaller);
           }
             where
               of_got : (b : Bool) → (b ≡ true → (middle.threads w).claim ≡ claim.Free) → All (HasBegun next) (got_threads (middle.threads i).asks ++ got_threads ((w, b) ∷ []))

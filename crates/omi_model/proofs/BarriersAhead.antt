@@ -13,8 +13,8 @@ use Rattle.omi_model.proofs.Slots.{some_same}
 
 pub barriers_ahead : (p : Program) (events : List (ℕ × Event)) (s : State) → Reached p events s → AreBarriersLeft p s
 barriers_ahead p events s reached = record {
-    members = λ k t r live im found.
-        let (q, found_q, m) = ((placed p events s reached).places k t live).0 im in
-        subst (λ (x : Region). HasBarriersLeft p x t) (some_same found_q found) (ap (λ n. slice_index q.arrivals t.number + n) m.ready.barriers ∙ m.barriers);
-    others = λ k t live ex. (((placed p events s reached).places k t live).1 ex).barriers;
+  members = λ k t r live im found.
+      let (q, found_q, m) = ((placed p events s reached).places k t live).0 im in
+      subst (λ (x : Region). HasBarriersLeft p x t) (some_same found_q found) (ap (λ n. slice_index q.arrivals t.number + n) m.ready.barriers ∙ m.barriers);
+  others = λ k t live ex. (((placed p events s reached).places k t live).1 ex).barriers;
 }

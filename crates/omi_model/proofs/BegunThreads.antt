@@ -60,7 +60,7 @@ module _ (p : Program) (s : State) (i : ℕ) (e : Event) (next : State) (step : 
   unbegun_begins : IsUnbegun (s.threads i).list (s.threads i).current (s.threads i).claim → e ≡ event.Begin
   unbegun_begins un =
       let list : list_of s i ≡ of_worker =
-          ap (λ (o : Option Tid). option_map_or (λ (u : Task). u.list) (option_and_then (task_of s) o) (s.threads i).list) un.idle ∙ un.list in
+      ap (λ (o : Option Tid). option_map_or (λ (u : Task). u.list) (option_and_then (task_of s) o) (s.threads i).list) un.idle ∙ un.list in
       first_begin p (encounter s i) e m.item m.behind (ap (take_item p (encounter s i) e) (sym list) ∙ m.taken)
 
   pub begun_after : e ≡ event.Begin → (next.threads i).begun ≡ true
@@ -86,12 +86,19 @@ module _ (p : Program) (s : State) (i : ℕ) (e : Event) (next : State) (step : 
     where
       law : (middle : State) → IsRelisted s middle → Stays middle next → EachThread StillUnbegun middle → IsThreadLaw p middle i e next StillUnbegun
       law middle before later of_threads = record {
-          begins = λ may q ne. absurd (ne refl); offers = λ may of q ne. absurd (ne refl); wants = λ n num may q ne. absurd (ne refl); asks = λ w got may q ne. absurd (ne refl);
-          claims = λ w may q ne un. absurd ((q ne un).held (may.joins refl));
-          shows = λ state wait of q ne. absurd (ne refl);
-          forks = λ region team f k t r is found may new q ne. absurd (ne refl);
-          joins_team = λ task may q ne. absurd (ne refl); ends = λ k t r is found im other q ne. absurd (ne refl); joins = λ k t r is found may q ne. absurd (ne refl);
-          makes = λ task f final k t is new q ne. absurd (ne refl); starts = λ task x k t is may new q ne. absurd (ne refl); finishes = λ k t is ex q ne. absurd (ne refl);
+        begins = λ may q ne. absurd (ne refl);
+        offers = λ may of q ne. absurd (ne refl);
+        wants = λ n num may q ne. absurd (ne refl);
+        asks = λ w got may q ne. absurd (ne refl);
+        claims = λ w may q ne un. absurd ((q ne un).held (may.joins refl));
+        shows = λ state wait of q ne. absurd (ne refl);
+        forks = λ region team f k t r is found may new q ne. absurd (ne refl);
+        joins_team = λ task may q ne. absurd (ne refl);
+        ends = λ k t r is found im other q ne. absurd (ne refl);
+        joins = λ k t r is found may q ne. absurd (ne refl);
+        makes = λ task f final k t is new q ne. absurd (ne refl);
+        starts = λ task x k t is may new q ne. absurd (ne refl);
+        finishes = λ k t is ex q ne. absurd (ne refl);
       }
 
   pub begun_step : EachThread HasBegunOrNot next

@@ -37,3 +37,5 @@ pub mod Tables
 pub mod TaskThreads
 pub mod ReachedWellFormed
 pub mod BarriersAhead
+pub mod LockLists
+pub mod LocksHeld

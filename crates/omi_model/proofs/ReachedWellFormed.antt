@@ -46,11 +46,11 @@ module _ (p : Program) (events : List (ℕ × Event)) (s : State) (reached : Rea
 
   visible_region : (n : Rid) (r : Region) → region_of s n ≡ Some r → IsVisibleRegion s n
   visible_region n r live = record {
-      region = r;
-      live = live;
-      team = λ j d within.
-          let m = (names.regions n r live).team j (get_or r.team j d) (slice_get-get_or r.team j d within) in
-          ap is_some m.live;
+    region = r;
+    live = live;
+    team = λ j d within.
+        let m = (names.regions n r live).team j (get_or r.team j d) (slice_get-get_or r.team j d within) in
+        ap is_some m.live;
   }
 
   seen_region : (n : Rid) → IsLiveRegion s n → IsVisibleRegion s n
@@ -85,12 +85,12 @@ module _ (p : Program) (events : List (ℕ × Event)) (s : State) (reached : Rea
 
   region_right : (n : Rid) (r : Region) → region_of s n ≡ Some r → IsRegionRight s r
   region_right n r live = record {
-      enclosing = λ o e. seen_region o ((names.regions n r live).enclosing o e);
-      encountering = λ k e. seen_task k ((names.regions n r live).encountering k e);
-      members = λ j d within. member_right n r live j (get_or r.team j d) (slice_get-get_or r.team j d within);
-      some = ((members_known p events s reached).regions n r live).some;
-      few = manned.regions n r live;
-      ends = (levels_count p events s reached n r live).ends;
+    enclosing = λ o e. seen_region o ((names.regions n r live).enclosing o e);
+    encountering = λ k e. seen_task k ((names.regions n r live).encountering k e);
+    members = λ j d within. member_right n r live j (get_or r.team j d) (slice_get-get_or r.team j d within);
+    some = ((members_known p events s reached).regions n r live).some;
+    few = manned.regions n r live;
+    ends = (levels_count p events s reached n r live).ends;
   }
 
   in_range : (k : Tid) (t : Task) → task_of s k ≡ Some t → AreInRange t.variables
@@ -106,20 +106,20 @@ module _ (p : Program) (events : List (ℕ × Event)) (s : State) (reached : Rea
 
   task_right : (k : Tid) (t : Task) → task_of s k ≡ Some t → (t.progress ≡ Deferred → ⊥) → IsTaskRight s t
   task_right k t live un = record {
-      region = seen_region t.region (names.tasks k t live).region;
-      generating = λ n e. seen_task n ((names.tasks k t live).generating n e);
-      scheduling = λ n e. seen_task n ((names.tasks k t live).scheduling n e);
-      begun = manned.tasks k t live un;
-      ends = (scheduling_right p events s reached k t live).ends;
-      variables = in_range k t live;
+    region = seen_region t.region (names.tasks k t live).region;
+    generating = λ n e. seen_task n ((names.tasks k t live).generating n e);
+    scheduling = λ n e. seen_task n ((names.tasks k t live).scheduling n e);
+    begun = manned.tasks k t live un;
+    ends = (scheduling_right p events s reached k t live).ends;
+    variables = in_range k t live;
   }
 
   pub well_formed : IsWellFormed s
   well_formed = record {
-      currents = λ i k known e. seen_task k (names.currents i k e);
-      states = λ i known. ((in_tables p events s reached).threads i).1;
-      regions = λ n seen. region_right n seen.region seen.live;
-      tasks = λ k seen. task_right k seen.task seen.live (seen_undeferred k seen);
+    currents = λ i k known e. seen_task k (names.currents i k e);
+    states = λ i known. ((in_tables p events s reached).threads i).1;
+    regions = λ n seen. region_right n seen.region seen.live;
+    tasks = λ k seen. task_right k seen.task seen.live (seen_undeferred k seen);
   }
 
 pub reached_well_formed : (p : Program) (events : List (ℕ × Event)) (s : State) → Reached p events s → IsWellFormed s

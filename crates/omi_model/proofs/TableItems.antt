@@ -93,9 +93,11 @@ module _ (p : Program) where
       (tt, shown_right at wait_taskwait 0 (item.Tasks wait_taskwait ∷ item.WaitDone ∷ working at (item.Leave ∷ rest)) wait (wait, (tt, working_right at (item.Leave ∷ rest) (tt, h))))
   row_right at stmt.Taskyield rest (is, h) = (tt, (tt, (tt, (tt, h))))
   row_right at stmt.Barrier rest (is, h) = (tt, barrier_right at wait_barrier_explicit (working at (item.Leave ∷ rest)) (in_table wait_barrier_explicit 3 (omega arith) refl) (working_right at (item.Leave ∷ rest) (tt, h)))
-  row_right at (stmt.Critical k f) rest (is, h) =
-      (tt, shown_right at wait_critical (k + 1) (item.Lock k ∷ working at (item.Leave ∷ item.Call f ∷ call_items p f (item.Unlock k ∷ rest))) (in_table wait_critical 6 (omega arith) refl)
-          (tt, working_right at (item.Leave ∷ item.Call f ∷ call_items p f (item.Unlock k ∷ rest)) (tt, (tt, call_right f (item.Unlock k ∷ rest) (tt, h)))))
+  row_right at (stmt.Critical k f) rest (is, h) = (
+    tt,
+    shown_right at wait_critical (k + 1) (item.Lock k ∷ working at (item.Leave ∷ item.Call f ∷ call_items p f (item.Unlock k ∷ rest))) (in_table wait_critical 6 (omega arith) refl)
+        (tt, working_right at (item.Leave ∷ item.Call f ∷ call_items p f (item.Unlock k ∷ rest)) (tt, (tt, call_right f (item.Unlock k ∷ rest) (tt, h)))),
+  )
   row_right at (stmt.Call f) rest (is, h) = (tt, call_right f rest h)
   row_right at (stmt.Only m f) rest (is, h) = go (at.number == m)
     where

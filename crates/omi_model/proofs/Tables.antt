@@ -107,13 +107,16 @@ module _ (p : Program) (s : State) (i : ℕ) (e : Event) (next : State) (step : 
 
   task_law : (middle : State) (y : Item) → IsRelisted s middle → Stays middle next → EachTask TaskTables middle → IsTaskLaw p middle i e y next TaskTables
   task_law middle y before later of_tasks = record {
-      shows = λ k t x q. q; tools = λ k t x q. q; begins = λ k t waits mine q. q; finishes = λ k t is over q. q;
-      sets = λ k t icv value v f at_set q. (q.0, of_set icv value t.variables v f at_set q.1);
-      starts = λ k u j t x is live ex de may of q. (start_right x (encounter middle i) u.list q.0, q.1);
-      members = λ region team f k t r is found may new of j n at. (member_right p (record { debug = p.env.debug; number = j; level = r.levels + 1; is_final = false }) f, (of_tasks k t is.live).1);
-      deferred = λ task f final seen k t is of fresh. (task_right p f, (of_tasks k t is.live).1);
-      made = λ task f final k t is of fresh. (task_right p f, (of_tasks k t is.live).1);
-    }
+    shows = λ k t x q. q;
+    tools = λ k t x q. q;
+    begins = λ k t waits mine q. q;
+    finishes = λ k t is over q. q;
+    sets = λ k t icv value v f at_set q. (q.0, of_set icv value t.variables v f at_set q.1);
+    starts = λ k u j t x is live ex de may of q. (start_right x (encounter middle i) u.list q.0, q.1);
+    members = λ region team f k t r is found may new of j n at. (member_right p (record { debug = p.env.debug; number = j; level = r.levels + 1; is_final = false }) f, (of_tasks k t is.live).1);
+    deferred = λ task f final seen k t is of fresh. (task_right p f, (of_tasks k t is.live).1);
+    made = λ task f final k t is of fresh. (task_right p f, (of_tasks k t is.live).1);
+  }
     where
       of_set : (icv value : ℕ) (v w : Variables) → with_variable icv value v ≡ Some w → e ≡ event.Set icv value → IsKind v.schedule.kind → IsKind w.schedule.kind
       of_set icv value v w f at_set kind = go (set_kind icv value v w f)
@@ -124,16 +127,25 @@ module _ (p : Program) (s : State) (i : ℕ) (e : Event) (next : State) (step : 
 
   thread_law : (middle : State) → IsRelisted s middle → Stays middle next → EachThread ThreadTables middle → IsThreadLaw p middle i e next ThreadTables
   thread_law middle before later of_threads = record {
-      begins = λ may q. q; offers = λ may of q. q; wants = λ n num may q. q; asks = λ w got may q. q; claims = λ w may q. q;
-      shows = λ state wait of q. (q.0, shown_item state wait m.item (subst (λ (x : Event). fits x m.item ≡ true) of item_fits) item_right);
-      forks = λ region team f k t r is found may new q. q; joins_team = λ task may q. q; ends = λ k t r is found im other q. q; joins = λ k t r is found may q. q;
-      makes = λ task f final k t is new q. q; starts = λ task x k t is may new q. q; finishes = λ k t is ex q. q;
+    begins = λ may q. q;
+    offers = λ may of q. q;
+    wants = λ n num may q. q;
+    asks = λ w got may q. q;
+    claims = λ w may q. q;
+    shows = λ state wait of q. (q.0, shown_item state wait m.item (subst (λ (x : Event). fits x m.item ≡ true) of item_fits) item_right);
+    forks = λ region team f k t r is found may new q. q;
+    joins_team = λ task may q. q;
+    ends = λ k t r is found im other q. q;
+    joins = λ k t r is found may q. q;
+    makes = λ task f final k t is new q. q;
+    starts = λ task x k t is may new q. q;
+    finishes = λ k t is ex q. q;
   }
 
   pub tables_step : InTables next
   tables_step = record {
-      tasks = task_step p TaskTables s i e next step (λ k t y ys is taken q. (stays_right (encounter s i) e y ys (take_right p (encounter s i) e t.list y ys taken q.0), q.1)) task_law tables.tasks;
-      threads = thread_step p ThreadTables s i e next step (λ y ys none taken q. (stays_right (encounter s i) e y ys (take_right p (encounter s i) e (s.threads i).list y ys taken q.0), q.1)) thread_law tables.threads;
+    tasks = task_step p TaskTables s i e next step (λ k t y ys is taken q. (stays_right (encounter s i) e y ys (take_right p (encounter s i) e t.list y ys taken q.0), q.1)) task_law tables.tasks;
+    threads = thread_step p ThreadTables s i e next step (λ y ys none taken q. (stays_right (encounter s i) e y ys (take_right p (encounter s i) e (s.threads i).list y ys taken q.0), q.1)) thread_law tables.threads;
   }
 
 pub in_tables : (p : Program) (events : List (ℕ × Event)) (s : State) → Reached p events s → InTables s

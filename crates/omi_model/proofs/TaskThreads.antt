@@ -65,7 +65,7 @@ module _ (p : Program) (events : List (ℕ × Event)) (s : State) (reached : Rea
       let within : j < length team = slice_get_within team j m at in
       let here : get_or (map (λ (a : Tid × ℕ). a.1) team) j 0 ≡ m.1 = get_or-map (λ (a : Tid × ℕ). a.1) team j m 0 within ∙ ap (λ (a : Tid × ℕ). a.1) (get_or_from_slice_get team j m m at) in
       subst (HasBegun next) (ap (λ xs. get_or xs j 0) (sym threads) ∙ here)
-          (of_place j (omega (arith, within, length-map team (λ (a : Tid × ℕ). a.1), ap (λ (xs : List ℕ). length xs) threads)))
+      (of_place j (omega (arith, within, length-map team (λ (a : Tid × ℕ). a.1), ap (λ (xs : List ℕ). length xs) threads)))
     where
       of_place : (j : ℕ) → j < length (i ∷ got_threads (s.threads i).asks) → HasBegun next (get_or (i ∷ got_threads (s.threads i).asks) j 0)
       of_place zero within = own
@@ -76,20 +76,22 @@ module _ (p : Program) (events : List (ℕ × Event)) (s : State) (reached : Rea
 
   manned_step : AreManned next
   manned_step = record {
-      tasks = task_step p (RunsOnBegun next) s i e next step (λ k t y ys is taken q. q) task_law (λ k t live un. begun_later s next stay t.thread (manned.tasks k t live un));
-      regions = region_step p (TeamFits next) s i e next step region_law (λ n r live. subst (λ c. length r.team ≤ c) (sym stay.count) (manned.regions n r live));
-    }
+    tasks = task_step p (RunsOnBegun next) s i e next step (λ k t y ys is taken q. q) task_law (λ k t live un. begun_later s next stay t.thread (manned.tasks k t live un));
+    regions = region_step p (TeamFits next) s i e next step region_law (λ n r live. subst (λ c. length r.team ≤ c) (sym stay.count) (manned.regions n r live));
+  }
     where
       task_law : (middle : State) (y : Item) → IsRelisted s middle → Stays middle next → EachTask (RunsOnBegun next) middle → IsTaskLaw p middle i e y next (RunsOnBegun next)
       task_law middle y before later all = record {
-          shows = λ k t x q. q; tools = λ k t x q. q; sets = λ k t icv value v f at_set q. q;
-          begins = λ k t waits mine q un. q (not_waiting t waits);
-          finishes = λ k t is over q un. q (current_undeferred k t is);
-          starts = λ k u j t x is live ex de may of q un. own_begun j (name_before middle before j t is);
-          members = λ region team f k t r is found may new of j m at un. team_begun middle before region team (own_begun k (name_before middle before k t is)) may j m at;
-          deferred = λ task f final seen k t is of fresh un. absurd (un refl);
-          made = λ task f final k t is of fresh un. own_begun k (name_before middle before k t is);
-        }
+        shows = λ k t x q. q;
+        tools = λ k t x q. q;
+        sets = λ k t icv value v f at_set q. q;
+        begins = λ k t waits mine q un. q (not_waiting t waits);
+        finishes = λ k t is over q un. q (current_undeferred k t is);
+        starts = λ k u j t x is live ex de may of q un. own_begun j (name_before middle before j t is);
+        members = λ region team f k t r is found may new of j m at un. team_begun middle before region team (own_begun k (name_before middle before k t is)) may j m at;
+        deferred = λ task f final seen k t is of fresh un. absurd (un refl);
+        made = λ task f final k t is of fresh un. own_begun k (name_before middle before k t is);
+      }
         where
           current_undeferred : (k : Tid) (t : Task) → IsCurrent middle i k t → t.progress ≡ Deferred → ⊥
           current_undeferred k t is d =
@@ -99,16 +101,24 @@ module _ (p : Program) (events : List (ℕ × Event)) (s : State) (reached : Rea
 
       region_law : (middle : State) → IsRelisted s middle → Stays middle next → IsRegionLaw p middle i next (TeamFits next)
       region_law middle before later = record {
-          arrives = λ k t r is found q. q; releases = λ k t r is found may q. q; ends = λ k t r is found im q. q; joins = λ k t r is found may q. q;
-          forks = λ region team f k t r is found may new.
-              omega (arith, length-map team (λ (a : Tid × ℕ). a.1), ap (λ (xs : List ℕ). length xs) (may.threads ∙ ap (λ as'. i ∷ got_threads as') (before.asks i)),
-                  team_fits i s.count (s.threads i).asks step.legal.known ((asked_reached p events s reached).asks i).first, stay.count);
+        arrives = λ k t r is found q. q;
+        releases = λ k t r is found may q. q;
+        ends = λ k t r is found im q. q;
+        joins = λ k t r is found may q. q;
+        forks = λ region team f k t r is found may new.
+            omega (
+              arith,
+              length-map team (λ (a : Tid × ℕ). a.1),
+              ap (λ (xs : List ℕ). length xs) (may.threads ∙ ap (λ as'. i ∷ got_threads as') (before.asks i)),
+              team_fits i s.count (s.threads i).asks step.legal.known ((asked_reached p events s reached).asks i).first,
+              stay.count,
+            );
       }
 
 pub are_manned : (p : Program) (events : List (ℕ × Event)) (s : State) → Reached p events s → AreManned s
 are_manned p events s reached =
     over_reached p AreManned (λ first u first_reached i e next step h. manned_step p first u first_reached i e next step h) [] (opening p) refl events s reached
-        (record {
-          tasks = each_first_task p (RunsOnBegun (opening p)) (λ un. record { known = omega (arith, (Rules-from_accepted p).threads.0); begun = refl });
-          regions = each_first_region p (TeamFits (opening p)) (omega (arith, (Rules-from_accepted p).threads.0));
-        })
+    (record {
+      tasks = each_first_task p (RunsOnBegun (opening p)) (λ un. record { known = omega (arith, (Rules-from_accepted p).threads.0); begun = refl });
+      regions = each_first_region p (TeamFits (opening p)) (omega (arith, (Rules-from_accepted p).threads.0));
+    })

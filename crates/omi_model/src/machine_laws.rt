@@ -8,6 +8,7 @@ ghost use Rattle.omi_model.specs.LawChains.{ThreadsHaveChains};
 ghost use Rattle.omi_model.specs.LawEnds.{RegionsEndFinished};
 ghost use Rattle.omi_model.specs.LawJoins.{JoinsComeLast};
 ghost use Rattle.omi_model.specs.LawLevels.{LevelsCountRegions};
+ghost use Rattle.omi_model.specs.LawLocks.{LocksAreHeld};
 ghost use Rattle.omi_model.specs.LawMembers.{MembersAreKnown};
 ghost use Rattle.omi_model.specs.LawNames.{NamesAreLive};
 ghost use Rattle.omi_model.specs.LawNthreads.{NthreadsShorten};
@@ -99,4 +100,9 @@ pub fn reached_is_well_formed()
 /// end; an explicit task has no barrier ahead.
 pub fn barriers_are_left()
     ensures { BarriersAreLeft }
+{}
+
+/// A lock is held exactly where one task has its giving back ahead, and then by that task's thread.
+pub fn locks_are_held()
+    ensures { LocksAreHeld }
 {}
