@@ -10,3 +10,5 @@ pub mod Stored
 pub mod Tables
 pub mod Numbers
 pub mod OneAnswer
+pub mod Filling
+pub mod Zeros

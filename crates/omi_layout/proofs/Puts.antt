@@ -79,3 +79,21 @@ word_stays m c q s f k v d p t g h ne =
     t (λ _ _. refl) refl)
     p (λ _ _. refl) refl)
     d (λ _ _. refl) refl
+
+-- the record in which a word was written
+pub record_read : (m : Memory) (c q s f k v : ℕ) → with_word m c q s f k v c q s ≡ with_word_in (m c q s) f k v
+record_read m c q s f k v =
+    ap (λ (x : Made). x q s) (put_same m c (with_record (m c) q s (with_word_in (m c q s) f k v)))
+    ∙ ap (λ (x : ℕ → Rec). x s) (put_same (m c) q (put (m c q) s (with_word_in (m c q s) f k v)))
+    ∙ put_same (m c q) s (with_word_in (m c q s) f k v)
+
+-- and every other record
+pub record_stays : (m : Memory) (c q s f k v d p t : ℕ) → (d ≡ c → p ≡ q → t ≡ s → ⊥) → with_word m c q s f k v d p t ≡ m d p t
+record_stays m c q s f k v d p t ne =
+    each_put (λ d' (x : Made). d' ≡ d → x p t ≡ m d' p t) m c (with_record (m c) q s (with_word_in (m c q s) f k v))
+    (λ ed. each_put (λ p' (x : ℕ → Rec). p' ≡ p → x t ≡ m c p' t) (m c) q (put (m c q) s (with_word_in (m c q s) f k v))
+    (λ ep. each_put (λ t' (x : Rec). t' ≡ t → x ≡ m c q t') (m c q) s (with_word_in (m c q s) f k v)
+    (λ et. absurd (ne (sym ed) (sym ep) (sym et)))
+    t (λ _ _. refl) refl)
+    p (λ _ _. refl) refl)
+    d (λ _ _. refl) refl

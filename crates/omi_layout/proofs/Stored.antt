@@ -37,11 +37,11 @@ test_true w c s f k is =
         → (nat_lt 0 f && nat_lt f 45) && (q == q && (nat_lt c m && (nat_lt s n && nat_lt k x))) ≡ true
     go q m n x from to made slot within = grind (arith, nat_tests)
 
-record Told (w : List ℕ) (c kind s f k : ℕ) : Type 0 where
+pub record Told (w : List ℕ) (c kind s f k : ℕ) : Type 0 where
   pub word : IsRecordWord w c s f k
   pub same : kind ≡ kind_of f
 
-test_told : (w : List ℕ) (c kind s f k : ℕ) → is_record_word w c kind s f k ≡ true → Told w c kind s f k
+pub test_told : (w : List ℕ) (c kind s f k : ℕ) → is_record_word w c kind s f k ≡ true → Told w c kind s f k
 test_told w c kind s f k e = go (kind_of f) (makers w (kind_of f)) (per_thread w (kind_of f)) (width w f) refl refl refl refl e
   where
     go : (q m n x : ℕ) → kind_of f ≡ q → makers w (kind_of f) ≡ m → per_thread w (kind_of f) ≡ n → width w f ≡ x
@@ -117,6 +117,7 @@ module _ (w : List ℕ) (v : IsValid w) where
     leaves = ap₂ (λ p x. memory_of w (set words p x)) placed (ap (left_of op) finds)
         ∙ memory_stored words c s f k (left_of op (memory_of w words c (kind_of f) s f k)) fit is;
     count = length-set words (place_of (address_of op)) (left_of op (word_at words (address_of op)));
+    gaps = λ i gap. get_or-set_other words (place_of (address_of op)) i (left_of op (word_at words (address_of op))) 0 (λ same. gap.free f (index_of w (kind_of f) c s) k (numbered w c s f k is) (sym placed ∙ sym same));
     front = λ i before. get_or-set_other words (place_of (address_of op)) i (left_of op (word_at words (address_of op))) 0 (λ same. omega (arith, placed, same, before, behind));
   }
     where

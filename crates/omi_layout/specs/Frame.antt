@@ -6,6 +6,7 @@ use Rattle.omi_word.specs.declared.op.Op.TheVariants.{Load, Store, Cas, Add, Sub
 use Rattle.omi_layout.specs.declared.limits.TheConstants.{FRONT_WORDS}
 use Rattle.omi_layout.specs.Field.{kind_of}
 use Rattle.omi_layout.specs.Place.{fits, image_words}
+use Rattle.omi_layout.specs.Words.{IsGap}
 use Rattle.omi_layout.specs.SymbolTable.{words_of}
 use Rattle.omi_layout.specs.Memory.{Memory, memory_of, with_word, IsRecordWord, word_address, found_word}
 
@@ -40,6 +41,7 @@ pub record IsOnWord (w words : List ℕ) (op : Op) (creator slot f at : ℕ) : T
       (left_of op (memory_of w words creator (kind_of f) slot f at))
   pub count : length (after words op) ≡ length words
   pub front : (i : ℕ) → i < FRONT_WORDS → slice_index (after words op) i ≡ slice_index words i
+  pub gaps : (i : ℕ) → IsGap w i → slice_index (after words op) i ≡ slice_index words i
 
 -- each operation at the address of a word of a record is on this word
 abbrev pub AreFramed : List ℕ → Type 0

@@ -16,3 +16,4 @@ pub mod Codes
 pub mod OpeningWords
 pub mod NoLayout
 pub mod OneAnswer
+pub mod Plan

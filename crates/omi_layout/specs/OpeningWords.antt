@@ -1,13 +1,12 @@
 -- The words with which a program opens in a layout: the tables in front, the records of the runtime, the threads, the initial region and the initial task, and 0 everywhere else, in gaps too.
-use Rattle.std.specs.Prelude.{◌≡◌, ◌==◌, ◌≢◌, ℕ, ◌<◌, ◌≤◌, List, length, slice_index, if◌then◌else◌}
+use Rattle.std.specs.Prelude.{◌≡◌, ◌==◌, ◌≢◌, ℕ, ◌<◌, List, length, slice_index, if◌then◌else◌}
 use Rattle.omi_script.specs.declared.program.Program.{Program}
-use Rattle.omi_layout.specs.declared.limits.TheConstants.{FRONT_WORDS}
 use Rattle.omi_layout.specs.declared.field.Field.TheVariants.{RuntimeVersion, RuntimeThreads, RuntimeProcs, RuntimeDebug, RuntimeMaxActive, RuntimeLocks, ThreadLife, ThreadNative, ThreadCurrent, ThreadState, ThreadClaim, ThreadAssign, RegionLife, RegionFunction, RegionEnclosing, RegionEncountering, RegionSize, RegionLevels, RegionActive, RegionReleased, RegionArrived, RegionPending, RegionLeft, RegionTeam, TaskLife, TaskImplicit, TaskRegion, TaskThread, TaskNumber, TaskGenerating, TaskScheduling, TaskFunction, TaskExit, TaskEnter, TaskDynamic, TaskNthreadsLength, TaskSchedule, TaskDevice, TaskFinal, TaskTool, TaskChildren, TaskReferences, TaskNthreads, TaskSlots}
 use Rattle.omi_layout.specs.Field.{runtime, threads, regions, tasks}
 use Rattle.omi_layout.specs.Named.{number}
 use Rattle.omi_layout.specs.Table.{thread_count}
 use Rattle.omi_layout.specs.Place.{slot_address, image_words}
-use Rattle.omi_layout.specs.Words.{word_place, IsWord}
+use Rattle.omi_layout.specs.Words.{IsGap}
 use Rattle.omi_layout.specs.Memory.{Rec, Made, memory_of}
 use Rattle.omi_layout.specs.Given.{HasTables}
 use Rattle.omi_layout.specs.Codes.{flag_word, function_word, schedule_word, native_word, exit_word}
@@ -80,11 +79,6 @@ pub record OpensMade (p : Program) (w : List ℕ) (i : ℕ) (made : Made) : Type
   pub task : i ≡ 0 → OpensTask p w (made tasks 0)
   pub no_region : (s : ℕ) → (i ≡ 0 → s ≡ 0 → ⊥) → IsZero (made regions s)
   pub no_task : (s : ℕ) → (i ≡ 0 → s ≡ 0 → ⊥) → IsZero (made tasks s)
-
--- a place behind the tables at which no word of a record stands
-pub record IsGap (w : List ℕ) (place : ℕ) : Type 0 where
-  pub behind : FRONT_WORDS ≤ place
-  pub free : (f index at : ℕ) → IsWord w f index at → word_place w f index at ≢ place
 
 -- the opening words of a program in a layout with as many threads
 pub record AreOpening (p : Program) (w words : List ℕ) : Type 0 where

@@ -1,5 +1,5 @@
 -- The words of the records, and their laws: each word has a place of its own, in an image that the layout fits, behind the tables.
-use Rattle.std.specs.Prelude.{◌≡◌, ℕ, ◌+◌, ◌*◌, ◌<◌, ◌≤◌, IsTrue, List}
+use Rattle.std.specs.Prelude.{◌≡◌, ◌≢◌, ℕ, ◌+◌, ◌*◌, ◌<◌, ◌≤◌, IsTrue, List}
 use Rattle.omi_layout.specs.declared.limits.TheConstants.{FRONT_WORDS}
 use Rattle.omi_layout.specs.Field.{IsField, IsKind, kind_of}
 use Rattle.omi_layout.specs.Table.{size, records, offset, width}
@@ -50,3 +50,8 @@ AddressesApart w = (p creator slot other there : ℕ) → IsKind p → IsSlot w 
 -- the address of a record is not 0, which stands for none
 abbrev pub NoneIsNull : List ℕ → Type 0
 NoneIsNull w = (p creator slot : ℕ) → IsKind p → 0 < slot_address w p creator slot
+
+-- a place behind the tables at which no word of a record stands
+pub record IsGap (w : List ℕ) (place : ℕ) : Type 0 where
+  pub behind : FRONT_WORDS ≤ place
+  pub free : (f index at : ℕ) → IsWord w f index at → word_place w f index at ≢ place

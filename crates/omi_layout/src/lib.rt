@@ -9,6 +9,7 @@ mod laws;
 mod layout;
 mod limits;
 mod looking;
+mod opening;
 mod publish;
 mod reading;
 mod table;

@@ -1,0 +1,21 @@
+use Rattle.std.proofs.Common.{◌≡◌, ◌==◌, false, cond, ap, sym, ◌+◌, ◌∙◌, arith}
+use Rattle.std.proofs.lemmas.Bool.Decides.{nat_tests}
+use Rattle.omi_layout.specs.Memory.{Rec}
+use Rattle.omi_layout.specs.Place.{slot_address}
+use Rattle.omi_layout.proofs.Filling.{not_first}
+use Rattle.omi_layout.proofs.layout.Layout.open_worker.Goals as goal
+
+pub returns-clause-opens : goal.returns-clause-opens
+returns-clause-opens c =
+    let here = c.fill.ensures.here in
+    let w = c.args.self.now.table in
+    let i = c.args.i in
+    let worker = not_first i c.requires.worker in
+    record {
+      life = ap (λ (r : Rec). r 7 0) here ∙ c.requires.zero 7 0 ∙ sym (ap (λ b. cond b 1 0) worker);
+      native = ap (λ (r : Rec). r 8 0) here ∙ ap (λ n. 1000 + n) c.from.ensures;
+      current = ap (λ (r : Rec). r 9 0) here ∙ c.requires.zero 9 0 ∙ sym (ap (λ b. cond b (slot_address w 4 0 0) 0) worker);
+      state = ap (λ (r : Rec). r 10 0) here ∙ sym (ap (λ b. cond b 0 0x100) worker);
+      claim = ap (λ (r : Rec). r 11 0) here ∙ c.requires.zero 11 0;
+      assign = ap (λ (r : Rec). r 12 0) here ∙ c.requires.zero 12 0;
+    }
