@@ -3,14 +3,13 @@ use Rattle.std.proofs.Common.{◌≡◌, ◌==◌, ℕ, ◌+◌, ◌*◌, ◌<�
 use Rattle.std.proofs.lemmas.Bool.Decides.{nat_tests}
 use mir.Val.{bool_byte}
 use Rattle.omi_layout.specs.Codes.{flag_word}
-use Rattle.std.specs.Prelude.{IsTrue, All, slice_index}
+use Rattle.std.specs.Prelude.{IsTrue}
 use Rattle.std.proofs.lemmas.List.{take_more}
-use Rattle.omi_word.specs.Memory.{IsWordOf, after, address_of}
+use Rattle.omi_word.specs.Memory.{IsWordOf, after}
 use Rattle.omi_word.specs.declared.op.Op.TheVariants.{Store}
-use Rattle.omi_layout.specs.declared.field.Field.{Field}
-use Rattle.omi_layout.specs.Field.{IsField, IsKind, kind_of}
+use Rattle.omi_layout.specs.Field.{kind_of}
 use Rattle.omi_layout.specs.Named.{number}
-use Rattle.omi_layout.specs.Table.{offset, width, size}
+use Rattle.omi_layout.specs.Table.{offset}
 use Rattle.omi_layout.specs.Place.{fits, slot_address, IsSlot}
 use Rattle.omi_layout.specs.Valid.{IsValid}
 use Rattle.omi_layout.specs.Memory.{Rec, put, memory_of, word_address, with_word, with_word_in, IsRecordWord}

@@ -1,15 +1,13 @@
 -- Words give at most one layout; and where they give none, there is one cause.
-use Rattle.std.proofs.Common.{◌≡◌, ◌≢◌, ℕ, zero, suc, ◌+◌, ◌*◌, ◌%◌, ◌^◌, ◌<◌, ◌≤◌, Bool, true, false, List, [], ◌∷◌, length, Option, Some, None, refl, sym, ap, ap₂, subst, ◌∙◌, arith, nat_lt, ltb-true}
+use Rattle.std.proofs.Common.{◌≡◌, ℕ, zero, suc, ◌+◌, ◌*◌, ◌%◌, ◌^◌, ◌<◌, Bool, true, false, List, ◌∷◌, Option, Some, None, refl, sym, ap, ap₂, subst, ◌∙◌, arith, nat_lt, ltb-true}
 use Rattle.std.specs.Prelude.{codes, IsSome}
 use Rattle.std.specs.Option.{option_map, option_and_then}
 use Rattle.std.proofs.lemmas.Bool.Decides.{nat_tests}
 use Rattle.omi_layout.specs.declared.fault.LayoutFault.{LayoutFault}
 use Rattle.omi_layout.specs.declared.fault.LayoutFault.TheVariants.{Version, Overlap, OutOfRecord, BadArena}
-use Rattle.omi_layout.specs.declared.reading.LayoutError.{LayoutError}
 use Rattle.omi_layout.specs.declared.reading.LayoutError.TheVariants.{NoSymbol, Unmapped, Refused}
-use Rattle.omi_layout.specs.Field.{IsField, IsKind}
-use Rattle.omi_layout.specs.Given.{wrapped, GivesLayout}
-use Rattle.omi_layout.specs.NoLayout.{GivesNone, IsUnmapped, IsRefused, table_address}
+use Rattle.omi_layout.specs.Given.{wrapped}
+use Rattle.omi_layout.specs.NoLayout.{IsUnmapped, IsRefused, table_address}
 use Rattle.omi_layout.specs.OneAnswer.{OneLayout, OneCause, NotBoth}
 use Rattle.omi_layout.specs.SymbolTable.{Words, words_from, symbol_in}
 use Rattle.omi_layout.specs.Valid.{IsValid, Refuses, overlap, word_named}

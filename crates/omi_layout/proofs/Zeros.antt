@@ -1,7 +1,6 @@
 -- The memory of an image of zeros in which a layout was published.
-use Rattle.std.proofs.Common.{◌≡◌, ℕ, zero, suc, ◌+◌, ◌≤◌, Bool, true, false, cond, List, [], ◌∷◌, length, get_or, refl, sym, ap, subst, ◌∙◌, arith}
+use Rattle.std.proofs.Common.{◌≡◌, ℕ, zero, suc, Bool, true, false, cond, List, refl, ap, ◌∙◌}
 use Rattle.std.specs.Prelude.{replicate, slice_index, IsTrue}
-use Rattle.std.proofs.lemmas.List.{length-replicate}
 use Rattle.omi_layout.specs.Field.{kind_of}
 use Rattle.omi_layout.specs.Front.{IsPublished}
 use Rattle.omi_layout.specs.Memory.{memory_of, is_record_word}

@@ -1,10 +1,9 @@
-use Rattle.std.proofs.Common.{◌≡◌, ℕ, ◌+◌, ◌<◌, ◌≤◌, List, length, refl, sym, ap, subst, ◌∙◌, arith}
-use Rattle.std.specs.Prelude.{replicate, slice_index, IsTrue}
+use Rattle.std.proofs.Common.{◌≡◌, ℕ, ◌+◌, ◌<◌, List, length, sym, ap, subst, ◌∙◌, arith}
+use Rattle.std.specs.Prelude.{slice_index}
 use Rattle.std.proofs.lemmas.List.{length-replicate}
-use Rattle.omi_layout.specs.Given.{HasTables}
 use Rattle.omi_layout.specs.Memory.{Rec, memory_of}
-use Rattle.omi_layout.specs.OpeningWords.{OpensRuntime, OpensThread, OpensRegion, OpensTask, OpensMade, IsZero}
-use Rattle.omi_layout.specs.Place.{fits, image_words}
+use Rattle.omi_layout.specs.OpeningWords.{OpensRuntime, OpensThread, OpensRegion, OpensTask}
+use Rattle.omi_layout.specs.Place.{image_words}
 use Rattle.omi_layout.proofs.Frame.{front_fits}
 use Rattle.omi_layout.proofs.Zeros.{zero_at, published_zero}
 use Rattle.omi_layout.proofs.layout.Layout.open.Goals as goal

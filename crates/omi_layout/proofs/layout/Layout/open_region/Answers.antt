@@ -1,4 +1,4 @@
-use Rattle.std.proofs.Common.{◌≡◌, ◌≢◌, ℕ, [], ◌∷◌, ◌+◌, ◌*◌, refl, ap, ◌∙◌, arith}
+use Rattle.std.proofs.Common.{[], ◌∷◌, ◌+◌, ◌*◌, refl, ap, ◌∙◌, arith}
 use Rattle.std.proofs.lemmas.List.Elements.{All-from_recursion}
 use Rattle.omi_layout.specs.declared.field.Field.TheVariants.{RegionLife, RegionFunction, RegionSize, RegionTeam}
 use Rattle.omi_layout.specs.Memory.{Rec, memory_of}

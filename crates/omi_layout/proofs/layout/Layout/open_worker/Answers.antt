@@ -1,5 +1,4 @@
-use Rattle.std.proofs.Common.{◌≡◌, ◌==◌, false, cond, ap, sym, ◌+◌, ◌∙◌, arith}
-use Rattle.std.proofs.lemmas.Bool.Decides.{nat_tests}
+use Rattle.std.proofs.Common.{cond, ap, sym, ◌+◌, ◌∙◌}
 use Rattle.omi_layout.specs.Memory.{Rec}
 use Rattle.omi_layout.specs.Place.{slot_address}
 use Rattle.omi_layout.proofs.Filling.{not_first}

@@ -1,8 +1,8 @@
-use Rattle.std.proofs.Common.{◌≡◌, ℕ, zero, suc, ◌+◌, ◌*◌, ◌%◌, ◌^◌, ◌<◌, List, [], ◌∷◌, length, get_or, Option, Some, sym, ap, subst, refl, ◌∙◌, arith}
+use Rattle.std.proofs.Common.{◌≡◌, ℕ, suc, ◌+◌, ◌*◌, ◌%◌, ◌^◌, ◌<◌, List, [], ◌∷◌, length, Some, sym, ap, subst, refl, ◌∙◌, arith}
 use Rattle.std.specs.Prelude.{slice_index}
 use Rattle.std.specs.Option.{option_map, option_and_then}
 use Rattle.omi_layout.specs.SymbolTable.{Words, words_from}
-use Rattle.omi_layout.specs.Given.{wrapped, GivesLayout}
+use Rattle.omi_layout.specs.Given.{wrapped}
 use Rattle.omi_layout.specs.NoLayout.{table_address}
 use Rattle.omi_layout.proofs.layout.Layout.read.Goals as goal
 
