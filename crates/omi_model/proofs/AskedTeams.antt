@@ -1,5 +1,5 @@
 -- The asks of each thread: those that were asked are the first threads, and those that joined have begun.
-use Rattle.std.proofs.Common.{◌≡◌, ◌≢◌, ◌<◌, ◌≤◌, ◌+◌, ◌⊎◌, inl, inr, ℕ, zero, suc, max, Bool, true, false, List, [], ◌∷◌, ◌++◌, length, map, get_or, Option, Some, None, refl, sym, ap, ◌∙◌, subst, arith}
+use Rattle.std.proofs.Common.{◌≡◌, ◌≢◌, ◌<◌, ◌≤◌, ◌+◌, ◌⊎◌, inl, inr, ℕ, zero, suc, max, Bool, true, false, List, [], ◌∷◌, ◌++◌, length, map, get_or, refl, sym, ap, ◌∙◌, subst, arith}
 use Rattle.std.specs.List.{All, Contains}
 use Rattle.std.proofs.lemmas.Bool.{cases_eq, cases_lt}
 use Rattle.std.proofs.lemmas.List.{length-map}
@@ -9,7 +9,6 @@ use Rattle.omi_model.specs.declared.event.Event.{Event}
 use Rattle.omi_model.specs.declared.event.Event.TheVariants as event
 use Rattle.omi_model.specs.declared.id.Rid.{Rid}
 use Rattle.omi_model.specs.declared.id.Tid.{Tid}
-use Rattle.omi_model.specs.declared.item.Item.{Item}
 use Rattle.omi_model.specs.declared.thread.Thread.{Thread}
 use Rattle.omi_model.specs.LawAsks.{HasAskedTeam}
 use Rattle.omi_model.specs.LawStays.{Stays}
@@ -23,7 +22,6 @@ use Rattle.omi_model.proofs.BegunThreads.{HasBegunOrNot, begun_or_not, begun_ste
 use Rattle.omi_model.proofs.EachObject.{over_events}
 use Rattle.omi_model.proofs.EachThread.{EachThread, IsThreadLaw, thread_step}
 use Rattle.omi_model.proofs.OpeningObjects.{each_first_thread}
-use Rattle.omi_model.proofs.Slots.{some_same}
 use Rattle.omi_model.proofs.StaysKept.{stays_step}
 use Rattle.omi_model.proofs.Steps.{IsRelisted}
 

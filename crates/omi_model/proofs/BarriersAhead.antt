@@ -1,13 +1,11 @@
 -- The barriers ahead of each task.
-use Rattle.std.proofs.Common.{◌≡◌, ◌+◌, ℕ, List, true, false, slice_index, Some, sym, ap, ◌∙◌, subst}
+use Rattle.std.proofs.Common.{◌+◌, ℕ, List, slice_index, ap, ◌∙◌, subst}
 use Rattle.omi_script.specs.declared.program.Program.{Program}
 use Rattle.omi_model.specs.declared.event.Event.{Event}
-use Rattle.omi_model.specs.declared.id.Tid.{Tid}
 use Rattle.omi_model.specs.declared.region.Region.{Region}
-use Rattle.omi_model.specs.declared.task.Task.{Task}
 use Rattle.omi_model.specs.LawBarriersLeft.{AreBarriersLeft, HasBarriersLeft}
 use Rattle.omi_model.specs.Reached.{Reached}
-use Rattle.omi_model.specs.State.{State, region_of, task_of}
+use Rattle.omi_model.specs.State.{State}
 use Rattle.omi_model.proofs.BarrierLaw.{placed}
 use Rattle.omi_model.proofs.Slots.{some_same}
 

@@ -13,9 +13,9 @@ use Rattle.omi_model.specs.declared.item.Item.{Item}
 use Rattle.omi_model.specs.declared.item.Item.TheVariants as item
 use Rattle.omi_model.specs.declared.task.Task.{Task}
 use Rattle.omi_model.specs.declared.thread.Thread.{Thread}
-use Rattle.omi_model.specs.Changes.{encounter, list_of, with_list}
+use Rattle.omi_model.specs.Changes.{encounter, list_of}
 use Rattle.omi_model.specs.LawStays.{Stays}
-use Rattle.omi_model.specs.Lists.{fits, stays, take_item}
+use Rattle.omi_model.specs.Lists.{fits, take_item}
 use Rattle.omi_model.specs.Opening.{opening}
 use Rattle.omi_model.specs.Reached.{Reached, Step}
 use Rattle.omi_model.specs.Rows.{of_worker}

@@ -1,11 +1,11 @@
 -- Runs that are computed: where each event's rule holds in the state that the events before it make, the events are legal one after the other.
-use Rattle.std.proofs.Common.{◌≡◌, ◌<◌, ℕ, Bool, true, false, List, [], ◌∷◌, Option, Some, None, is_some, refl, sym, ap, ◌∙◌}
+use Rattle.std.proofs.Common.{◌≡◌, ◌<◌, ℕ, true, List, [], ◌∷◌, Option, Some, None, is_some, refl}
 use Rattle.std.specs.Prelude.{⊤}
 use Rattle.std.specs.Option.{option_map_or}
 use Rattle.omi_script.specs.declared.program.Program.{Program}
 use Rattle.omi_model.specs.declared.event.Event.{Event}
 use Rattle.omi_model.specs.declared.item.Item.{Item}
-use Rattle.omi_model.specs.Reached.{Leads, Step}
+use Rattle.omi_model.specs.Reached.{Leads}
 use Rattle.omi_model.specs.Rules.{Legal, Rule, after, taken_by}
 use Rattle.omi_model.specs.State.{State}
 use Rattle.omi_model.proofs.Slots.{false_true}

@@ -1,25 +1,21 @@
 -- The holder of each lock over every event.
-use Rattle.std.proofs.Common.{◌≡◌, ◌≢◌, ◌==◌, ◌⊎◌, inl, inr, ℕ, zero, suc, ◌+◌, ◌-◌, Bool, true, false, List, [], ◌∷◌, ◌++◌, Option, Some, None, MatchOption, if◌then◌else◌, refl, sym, ap, ◌∙◌, subst, eqb-true, eq-eqb, ne_eqb}
+use Rattle.std.proofs.Common.{◌≡◌, ◌==◌, ◌⊎◌, inl, inr, ℕ, zero, suc, ◌+◌, Bool, true, false, List, [], ◌∷◌, Option, Some, None, MatchOption, if◌then◌else◌, refl, sym, ap, ◌∙◌, subst, eqb-true, eq-eqb, ne_eqb}
 use Rattle.std.specs.Prelude.{IfSome, ⊤}
 use Rattle.std.specs.Option.{option_and_then, option_map_or}
 use Rattle.std.proofs.lemmas.Bool.{cases_eq}
 use Rattle.std.proofs.lemmas.Option.{get_or_from_slice_get, slice_get_within}
 use Rattle.omi_script.specs.declared.program.Program.{Program}
-use Rattle.omi_script.specs.declared.statement.Stmt.{Stmt}
 use Rattle.omi_model.specs.declared.encounter.Encounter.{Encounter}
 use Rattle.omi_model.specs.declared.event.Event.{Event}
 use Rattle.omi_model.specs.declared.event.Event.TheVariants as event
-use Rattle.omi_model.specs.declared.id.Id.{Id}
-use Rattle.omi_model.specs.declared.id.Rid.{Rid}
 use Rattle.omi_model.specs.declared.id.Tid.{Tid}
 use Rattle.omi_model.specs.declared.item.Item.{Item}
 use Rattle.omi_model.specs.declared.item.Item.TheVariants as item
-use Rattle.omi_model.specs.declared.progress.Progress.TheVariants.{Begun, Deferred, Finished}
-use Rattle.omi_model.specs.declared.region.Region.{Region}
+use Rattle.omi_model.specs.declared.progress.Progress.TheVariants.{Begun, Deferred}
 use Rattle.omi_model.specs.declared.task.Task.{Task}
 use Rattle.omi_model.specs.declared.thread.Thread.{Thread}
 use Rattle.omi_model.specs.Barriers.{arrived, released}
-use Rattle.omi_model.specs.Changes.{IsCurrent, encounter, list_of, with_list}
+use Rattle.omi_model.specs.Changes.{IsCurrent, encounter, list_of}
 use Rattle.omi_model.specs.Fresh.{IsFresh}
 use Rattle.omi_model.specs.LawLocks.{IsHeldBy, gives_back}
 use Rattle.omi_model.specs.LawNames.{IsLiveTask}
@@ -28,21 +24,21 @@ use Rattle.omi_model.specs.Lists.{fits, may_drop, stays, take_item}
 use Rattle.omi_model.specs.Opening.{opening}
 use Rattle.omi_model.specs.Put.{put}
 use Rattle.omi_model.specs.Reached.{Reached, Step}
-use Rattle.omi_model.specs.Rows.{behind, first_of, shown}
+use Rattle.omi_model.specs.Rows.{shown}
 use Rattle.omi_model.specs.Rules.{Rule, effect}
 use Rattle.omi_model.specs.Settings.{entered, left, with_lock, with_tool}
 use Rattle.omi_model.specs.State.{State, task_of}
 use Rattle.omi_model.specs.Tasking.{deferred, finished, started, started_alone, started_now}
 use Rattle.omi_model.specs.Teams.{forked, joined, task_ended}
 use Rattle.omi_model.proofs.ChainsKept.{current_begun}
-use Rattle.omi_model.proofs.EachObject.{EachTask, IsTaskLaw, list_of_current, over_events, start_list, stays_after, task_step_from}
+use Rattle.omi_model.proofs.EachObject.{EachTask, IsTaskLaw, list_of_current, start_list, task_step_from}
 use Rattle.omi_model.proofs.EachThread.{EachThread, IsThreadLaw, thread_step}
 use Rattle.omi_model.proofs.ListLaws.{take_fits, take_keeps}
 use Rattle.omi_model.proofs.LockLists.{Gives, is_lock_event, main_back, member_back, stays_back, take_back, task_back, working_back}
 use Rattle.omi_model.proofs.NamesLive.{names_live}
 use Rattle.omi_model.proofs.OpeningObjects.{each_first_task, each_first_thread}
 use Rattle.omi_model.proofs.SchedulingChains.{over_reached}
-use Rattle.omi_model.proofs.Slots.{false_true, found_live, none_some, put_other, put_same, same_or_not, some_same}
+use Rattle.omi_model.proofs.Slots.{false_true, found_live, none_some, put_other, put_same, some_same}
 use Rattle.omi_model.proofs.StaysKept.{fresh_empty, stays_list, stays_step}
 use Rattle.omi_model.proofs.Steps.{IsMove, IsRelisted, from_some, is_relisted, list_moves, move_of, moved_on, of_current, of_current_region, of_region, of_set, relisted}
 

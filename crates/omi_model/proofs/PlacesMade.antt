@@ -1,5 +1,5 @@
 -- The slots in which tasks live: each was made by an event.
-use Rattle.std.proofs.Common.{◌≡◌, ◌⊎◌, inl, inr, ℕ, Bool, true, false, List, [], ◌∷◌, Option, Some, None, ◌+◌, ◌-◌, refl, sym, subst}
+use Rattle.std.proofs.Common.{◌≡◌, ℕ, true, false, List, [], ◌∷◌, Some, ◌+◌, ◌-◌, sym, subst}
 use Rattle.std.specs.Prelude.{IfSome, ⊤}
 use Rattle.omi_script.specs.declared.program.Program.{Program}
 use Rattle.omi_model.specs.declared.event.Event.{Event}
@@ -23,7 +23,7 @@ use Rattle.omi_model.specs.Tasking.{deferred, deferred_task, finished, scheduled
 use Rattle.omi_model.specs.Changes.{encounter}
 use Rattle.omi_model.specs.Teams.{forked, joined, member_task, task_ended, with_members}
 use Rattle.omi_model.proofs.Slots.{each_slot}
-use Rattle.omi_model.proofs.Steps.{from_some, list_moves, move_of, moved_on, of_current, of_current_region, of_region, of_set, on_live, relisted}
+use Rattle.omi_model.proofs.Steps.{from_some, list_moves, move_of, of_current, of_current_region, of_region, of_set, on_live, relisted}
 use Rattle.omi_model.specs.Lists.{stays}
 
 -- tasks live only in these places

@@ -220,7 +220,7 @@ lasts_step p s i e next step all = task_step p HasLast s i e next step
     (λ k t y ys is taken h. stays_lasts t.implicit (encounter s i) e y ys (take_lasts t.implicit p (encounter s i) e t.list y ys taken h)) law all
   where
     law : (middle : State) (y : Item) → IsRelisted s middle → Stays middle next → EachTask HasLast middle → IsTaskLaw p middle i e y next HasLast
-    law middle y before later of_tasks = record {
+    law middle y relists later of_tasks = record {
       shows = λ k t x q. q;
       tools = λ k t x q. q;
       sets = λ k t icv value v f at_set q. q;

@@ -1,23 +1,18 @@
 -- The worked run is legal, event by event.
-use Rattle.std.proofs.Common.{◌≡◌, ◌<◌, ◌⊎◌, inl, inr, ℕ, zero, suc, Bool, true, false, not, ◌||◌, List, [], ◌∷◌, ◌++◌, length, get_or, Option, Some, None, refl, sym, ap, ◌∙◌, subst, arith, lit<, lit≤, ◌==◌, ◌&&◌, if◌then◌else◌, eqb-true}
-use Rattle.std.specs.Prelude.{⊤}
+use Rattle.std.proofs.Common.{◌≡◌, ◌⊎◌, inl, inr, ℕ, zero, suc, Bool, true, false, ◌||◌, [], ◌∷◌, ◌++◌, Option, Some, None, refl, sym, ap, ◌∙◌, subst, arith, lit<, lit≤, ◌==◌, ◌&&◌, if◌then◌else◌, eqb-true}
 use Rattle.std.specs.List.{All, Contains}
-use Rattle.omi_script.specs.declared.program.Program.{Program}
-use Rattle.omi_model.specs.declared.event.Event.{Event}
-use Rattle.omi_model.specs.declared.event.Event.TheVariants as event
-use Rattle.omi_model.specs.declared.id.Id.{Id}
 use Rattle.omi_model.specs.declared.id.Rid.{Rid}
 use Rattle.omi_model.specs.declared.id.Tid.{Tid}
 use Rattle.omi_model.specs.declared.progress.Progress.{Progress}
 use Rattle.omi_model.specs.declared.progress.Progress.TheVariants.{Begun, Deferred, Finished, NotBegun}
 use Rattle.omi_model.specs.declared.task.Task.{Task}
 use Rattle.omi_model.specs.Barriers.{AreFinished}
-use Rattle.omi_model.specs.Fresh.{AreDistinct, IsFresh}
+use Rattle.omi_model.specs.Fresh.{IsFresh}
 use Rattle.omi_model.specs.Opening.{initial_region, opening, opening_task}
 use Rattle.omi_model.specs.Put.{Slots, unused}
 use Rattle.omi_model.specs.Reached.{Leads, Reached}
 use Rattle.omi_model.specs.State.{State}
-use Rattle.omi_model.specs.WorkedRun.{leaf, master, run_events, run_program, run_region, run_to_done, run_to_last_release, run_to_release, worker}
+use Rattle.omi_model.specs.WorkedRun.{master, run_events, run_program, run_region, run_to_done, run_to_last_release, run_to_release, worker}
 use Rattle.omi_model.proofs.LegalRuns.{Holds, end_of, holds_leads}
 use Rattle.omi_model.proofs.PlacesMade.{LivesIn, lives_leads}
 use Rattle.omi_model.proofs.RegionEnds.{leads_append}

@@ -1,5 +1,5 @@
 -- The items of to-do lists have states of the table of states, and schedules of the four kinds.
-use Rattle.std.proofs.Common.{◌≡◌, ◌==◌, ◌⊎◌, inl, inr, ℕ, zero, suc, ◌+◌, ◌*◌, ◌%◌, ◌<◌, ◌≤◌, ◌||◌, Bool, true, false, List, [], ◌∷◌, slice_get, get_or, Some, None, if◌then◌else◌, refl, sym, ap, ◌∙◌, subst, arith}
+use Rattle.std.proofs.Common.{◌≡◌, ◌==◌, ℕ, zero, suc, ◌+◌, ◌*◌, ◌%◌, ◌<◌, ◌≤◌, ◌||◌, Bool, true, false, List, [], ◌∷◌, slice_get, get_or, Some, if◌then◌else◌, refl, subst, arith}
 use Rattle.std.specs.List.{Contains}
 use Rattle.omi_script.proofs.RuleLemmas.{Rules-from_accepted}
 use Rattle.omi_script.specs.Bodies.{HasStatement, body_of}
@@ -11,11 +11,10 @@ use Rattle.omi_model.specs.declared.event.Event.{Event}
 use Rattle.omi_model.specs.declared.event.Event.TheVariants as event
 use Rattle.omi_model.specs.declared.item.Item.{Item}
 use Rattle.omi_model.specs.declared.item.Item.TheVariants as item
-use Rattle.omi_model.specs.Lists.{may_drop, stays, take_item}
-use Rattle.omi_model.specs.Numbers.{dyn_var, default_device_var, flag, idle, max_active_levels_var, nthreads_var, overhead, run_sched_var, states, wait_barrier_explicit, wait_barrier_implicit_parallel, wait_critical, wait_taskwait}
+use Rattle.omi_model.specs.Lists.{stays, take_item}
+use Rattle.omi_model.specs.Numbers.{dyn_var, default_device_var, idle, max_active_levels_var, nthreads_var, overhead, run_sched_var, states, wait_barrier_explicit, wait_barrier_implicit_parallel, wait_critical, wait_taskwait}
 use Rattle.omi_model.specs.Rows.{barrier_items, behind, body_items, call_items, end_of_member, first_of, last_of_member, of_main, of_member, of_task, of_worker, shown, work_state, working}
 use Rattle.omi_model.proofs.ListLaws.{take_keeps}
-use Rattle.omi_model.proofs.Slots.{false_true}
 
 -- a kind of schedule
 abbrev pub IsKind : ℕ → Type 0

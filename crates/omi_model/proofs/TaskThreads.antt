@@ -1,7 +1,5 @@
 -- The thread of each task that is not deferred has begun, and no team is larger than the number of threads.
-use Rattle.std.proofs.Common.{◌≡◌, ◌<◌, ◌≤◌, ◌+◌, ◌⊎◌, inl, inr, ℕ, zero, suc, Bool, true, false, List, [], ◌∷◌, length, map, get_or, slice_get, Option, Some, None, refl, sym, ap, ◌∙◌, subst, arith}
-use Rattle.std.specs.List.{All}
-use Rattle.std.specs.Option.{option_map}
+use Rattle.std.proofs.Common.{◌≡◌, ◌<◌, ◌≤◌, inl, inr, ℕ, zero, suc, true, List, [], ◌∷◌, length, map, get_or, slice_get, Some, refl, sym, ap, ◌∙◌, subst, arith}
 use Rattle.std.proofs.lemmas.List.{get_or-map, length-map}
 use Rattle.std.proofs.lemmas.Option.{get_or_from_slice_get, slice_get_within}
 use Rattle.omi_script.proofs.RuleLemmas.{Rules-from_accepted}
@@ -17,7 +15,7 @@ use Rattle.omi_model.specs.Changes.{IsCurrent}
 use Rattle.omi_model.specs.LawStays.{Stays}
 use Rattle.omi_model.specs.Opening.{opening}
 use Rattle.omi_model.specs.Reached.{Reached, Step}
-use Rattle.omi_model.specs.State.{State, region_of, task_of}
+use Rattle.omi_model.specs.State.{State}
 use Rattle.omi_model.specs.Teams.{MayFork, got_threads}
 use Rattle.omi_model.specs.WellFormed.{HasBegun}
 use Rattle.omi_model.proofs.AskedTeams.{asked_reached, begun_later, team_fits}
@@ -28,7 +26,7 @@ use Rattle.omi_model.proofs.OpeningObjects.{each_first_region, each_first_task}
 use Rattle.omi_model.proofs.SchedulingChains.{over_reached}
 use Rattle.omi_model.proofs.Slots.{none_some}
 use Rattle.omi_model.proofs.StaysKept.{stays_step}
-use Rattle.omi_model.proofs.Steps.{IsMove, IsRelisted, move_of}
+use Rattle.omi_model.proofs.Steps.{IsRelisted}
 
 abbrev pub RunsOnBegun : State → Tid → Task → Type 0
 RunsOnBegun s k t = (t.progress ≡ Deferred → ⊥) → HasBegun s t.thread

@@ -1,5 +1,5 @@
 -- A run of two threads: thread 0 forks a team of two, member 0 defers a task, which member 1 starts at the barrier, the members end, member 0 joins, and the program is done.
-use Rattle.std.specs.Prelude.{ℕ, true, false, List, [], ◌∷◌, ◌++◌, Some, None, codes, refl}
+use Rattle.std.specs.Prelude.{ℕ, true, false, List, [], ◌∷◌, ◌++◌, None, codes, refl}
 use Rattle.omi_script.specs.Names.{name_of}
 use Rattle.omi_script.specs.declared.env.Env.{Env}
 use Rattle.omi_script.specs.declared.function.Func.{Func}
