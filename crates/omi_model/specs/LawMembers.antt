@@ -19,7 +19,8 @@ pub record HasMembers (r : Region) : Type 0 where
 -- an implicit task is a member of its region
 abbrev pub IsMemberByNumber : State → Tid → Task → Type 0
 IsMemberByNumber s k t = t.implicit ≡ true
-    → (r : Region) × (region_of s t.region ≡ Some r) × (slice_get r.team t.number ≡ Some (k, t.thread))
+    → (r : Region) × (region_of s t.region ≡ Some r)
+    × (slice_get r.team t.number ≡ Some (k, t.thread))
 
 -- An implicit task was made by the task that encountered its region. Member 0 is scheduled from that task, the other members from none; only these wait to begin.
 pub record IsEncountered (s : State) (t : Task) : Type 0 where
