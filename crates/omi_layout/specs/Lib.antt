@@ -1,19 +1,22 @@
--- The definitions to believe: the fields of the records, the layout table, valid layouts, and the places of records and words.
+-- The definitions to believe, in reading order: the fields of the records, the layout table, valid layouts, the places of records and words, and the families.
 pub mod Field
 pub mod Named
 pub mod Table
 pub mod Valid
 pub mod Place
-pub mod Judged
-pub mod Family
-pub mod Front
 pub mod Words
+pub mod Family
+-- The words in front of the records, and the layout that words give.
+pub mod Front
 pub mod SymbolTable
-pub mod Memory
-pub mod Frame
 pub mod Given
-pub mod Codes
-pub mod OpeningWords
 pub mod NoLayout
 pub mod OneAnswer
+-- Memory by records, its laws, and the opening words.
+pub mod Memory
+pub mod Frame
+pub mod Codes
+pub mod OpeningWords
+-- What private functions of the code stand on: the parts of the judging of a table, and records that are filled.
+pub mod Judged
 pub mod Plan
