@@ -37,17 +37,10 @@ mod variable_changes;
 
 pub use after_event::after;
 pub use legality::legal;
+pub use looking::{head_item, may_pass_over};
 pub use omi_word::OutOfMemory;
 pub use opening_state::opening;
 pub use state::{State, live_in};
 
 #[cfg(test)]
 mod legal_tests;
-#[cfg(test)]
-mod read_events;
-#[cfg(test)]
-mod row_tests;
-#[cfg(test)]
-mod walk_tests;
-#[cfg(test)]
-mod well_formed;

@@ -140,7 +140,7 @@ impl State {
     }
 
     /// What a row sees of the task that a thread runs.
-    pub(crate) fn encounter(&self, i: usize) -> Encounter
+    pub fn encounter(&self, i: usize) -> Encounter
         requires { i < (state_of self.now).count }
         ensures { result ≡ encounter (state_of self.now) i }
     {
@@ -172,7 +172,7 @@ impl State {
     }
 
     /// The list that allows a thread's events.
-    pub(crate) fn list_of(&self, i: usize) -> &ItemList
+    pub fn list_of(&self, i: usize) -> &ItemList
         requires { i < (state_of self.now).count }
         ensures { result.now ≡ list_of (state_of self.now) i }
     {

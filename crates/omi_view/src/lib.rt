@@ -12,4 +12,12 @@ mod viewing;
 pub use viewing::view_of;
 
 #[cfg(test)]
-mod tests;
+mod read_events;
+#[cfg(test)]
+mod report_tests;
+#[cfg(test)]
+mod row_tests;
+#[cfg(test)]
+mod walk_tests;
+#[cfg(test)]
+mod well_formed;

@@ -1,5 +1,5 @@
 //! Whether a state is well formed, computed for tests.
-use crate::State;
+use omi_machine::State;
 use omi_model::{Id, Progress, Region, Rid, Task, Team, Tid, Variables};
 
 /// The states of a thread.
@@ -136,8 +136,9 @@ pub fn name_at(creator: usize, slot: usize, generations: u64) -> Option<Id> {
 }
 
 fn are_tasks_right(s: &State) -> bool {
-    for c in 0..s.tasks.len() {
-        let row = s.tasks.get(c);
+    let tasks = s.tasks();
+    for c in 0..tasks.len() {
+        let row = tasks.get(c);
         for k in 0..row.len() {
             let slot = row.get(k);
             if let (Some(t), Some(n)) = (&slot.live, name_at(c, k, slot.generations)) {
@@ -151,8 +152,9 @@ fn are_tasks_right(s: &State) -> bool {
 }
 
 fn are_regions_right(s: &State) -> bool {
-    for c in 0..s.regions.len() {
-        let row = s.regions.get(c);
+    let regions = s.regions();
+    for c in 0..regions.len() {
+        let row = regions.get(c);
         for k in 0..row.len() {
             let slot = row.get(k);
             if let (Some(r), Some(n)) = (&slot.live, name_at(c, k, slot.generations)) {

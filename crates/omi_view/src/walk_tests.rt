@@ -2,12 +2,12 @@
 ghost use Rattle.std.specs.Prelude.{◌<◌};
 ghost use Rattle.omi_machine.specs.Kept.{state_of};
 
-use crate::looking::{head_item, may_pass_over};
+use crate::view_of;
 use crate::well_formed::{is_well_formed, name_at};
-use crate::{State, after, legal, opening};
+use omi_machine::{State, after, head_item, legal, may_pass_over, opening};
 use omi_model::{Event, EventList, Id, Item, Progress, Rid, Rows, Slot, Team, Tid};
 use omi_script::{Program, parse};
-use omi_word::OutOfMemory;
+use omi_word::{Natives, OutOfMemory};
 use std::alloc::Global;
 use std::test::Fail;
 
@@ -79,8 +79,9 @@ fn new_team(s: &State, i: u8, from: usize) -> Team
 
 /// Proposes that tasks begin: the thread's implicit tasks, or deferred ones.
 fn propose_tasks(s: &State, i: u8, list: &mut EventList) -> Result<(), OutOfMemory> {
-    for c in 0..s.tasks.len() {
-        let row = s.tasks.get(c);
+    let tasks = s.tasks();
+    for c in 0..tasks.len() {
+        let row = tasks.get(c);
         for k in 0..row.len() {
             let slot = row.get(k);
             let Some(n) = name_at(c, k, slot.generations) else {
@@ -142,7 +143,7 @@ fn propose_new(
     dice: &mut Dice,
     list: &mut EventList,
 ) -> Result<(), OutOfMemory> {
-    let past = kept(&s.tasks, i as usize).saturating_add(dice.roll(3));
+    let past = kept(s.tasks(), i as usize).saturating_add(dice.roll(3));
     let task = Tid(fresh(i, past));
     list.push((0, i, Event::Seen { j: seen }))?;
     list.push((0, i, Event::Defer { task }))?;
@@ -153,11 +154,14 @@ fn propose_new(
 fn propose_fork(s: &State, i: u8, dice: &mut Dice, list: &mut EventList) -> Result<(), OutOfMemory>
     requires { i < (state_of s.now).count }
 {
-    let region = Rid(fresh(i, kept(&s.regions, i as usize).saturating_add(dice.roll(3))));
+    let region = Rid(fresh(
+        i,
+        kept(s.regions(), i as usize).saturating_add(dice.roll(3)),
+    ));
     let team = new_team(
         s,
         i,
-        kept(&s.tasks, i as usize).saturating_add(dice.roll(3)),
+        kept(s.tasks(), i as usize).saturating_add(dice.roll(3)),
     );
     list.push((0, i, Event::Fork { region, team }))
 }
@@ -256,8 +260,14 @@ fn pick(p: &Program, s: &State, list: &EventList, from: usize) -> Option<(u8, Ev
     None
 }
 
-/// Walks to the end of a program. None where no event is legal before, or where a state isn't well formed.
-fn walk(alloc: Global, p: &Program, dice: &mut Dice) -> Result<Option<usize>, OutOfMemory> {
+/// Walks to the end of a program, with a view of each state for these contexts. None where no event is legal before, or
+/// where a state isn't well formed.
+fn walk(
+    alloc: Global,
+    p: &Program,
+    contexts: &Natives,
+    dice: &mut Dice,
+) -> Result<Option<usize>, OutOfMemory> {
     let mut s = opening(alloc, p)?;
     for n in 0..MOST {
         let list = proposals(alloc, &s, dice)?;
@@ -268,8 +278,11 @@ fn walk(alloc: Global, p: &Program, dice: &mut Dice) -> Result<Option<usize>, Ou
             return Ok(None);
         }
         after(alloc, p, &mut s, thread, &e)?;
-        // the view of the state is to be asked for here
         if !is_well_formed(&s) {
+            return Ok(None);
+        }
+        let view = view_of(alloc, &s, contexts)?;
+        if view.threads.len() != contexts.len() {
             return Ok(None);
         }
         if e == Event::Done {
@@ -283,10 +296,14 @@ fn walk(alloc: Global, p: &Program, dice: &mut Dice) -> Result<Option<usize>, Ou
 fn two_thousand_walks(rt: HostRuntime) -> Result<(), Fail> {
     let alloc = rt.alloc();
     let mut dice = Dice { state: 12 };
+    let mut contexts = Natives::new(alloc);
+    for native in 1000..1004 {
+        contexts.push(native)?;
+    }
     let mut events = 0usize;
     for n in 0..2000 {
         let p = parse(alloc, SCRIPTS[n % 8])?;
-        match walk(alloc, &p, &mut dice)? {
+        match walk(alloc, &p, &contexts, &mut dice)? {
             Some(more) => events = events.saturating_add(more),
             None => assert!(rt; false, "walk {n}"),
         }

@@ -1,9 +1,11 @@
 //! The lists of events of worked rows, and versions of them: some that a rule forbids, and some that stay lawful.
 use crate::read_events::event;
-use crate::{State, after, legal, opening};
-use omi_model::{Event, Id, Progress, Rid, Tid};
+use crate::view_of;
+use omi_machine::{State, after, legal, opening};
+use omi_model::Event;
 use omi_script::{Program, parse};
-use omi_word::OutOfMemory;
+use omi_text::report_text;
+use omi_word::{Natives, OutOfMemory};
 use std::alloc::Global;
 use std::test::Fail;
 
@@ -448,73 +450,64 @@ fn state_behind(alloc: Global, row: &Row, p: &Program, at: usize) -> Result<Stat
     Ok(s)
 }
 
-/// The name of the first object of a slot.
-fn name(creator: u8, slot: u16) -> Id {
-    Id {
-        creator,
-        slot,
-        generation: 0,
+/// Of some rows the state behind so many events, and a line of its report.
+const LINES: [(&Row, usize, &str); 6] = [
+    (
+        &A_LIST_WITH_A_CHANGED_HEAD,
+        8,
+        "icv dyn-var=1 nthreads-var=3,2 run-sched-var=static,0 default-device-var=0 final-task-var=0 implicit-task-var=1",
+    ),
+    (
+        &LIMIT_OF_ACTIVE_LEVELS,
+        12,
+        "region r0.2.0 function 0x400000 levels-var=2 active-levels-var=1 team-size-var=1 enclosing r0.1.0",
+    ),
+    (
+        &AN_ENDED_ANCESTOR,
+        13,
+        "task k0.2.0 thread 0 kind explicit region r0.0.0 function 0x400000 generating k0.1.0 scheduling k0.0.0 \
+        exit 0x7f00000fff80 enter 0x0 tool 0",
+    ),
+    (
+        &NESTED_CHAIN,
+        22,
+        "task k1.0.0 thread 1 kind implicit region r1.0.0 function 0x400000 generating k0.3.0 scheduling k0.3.0 \
+        exit 0x7f00001fff40 enter 0x0 tool 0",
+    ),
+    (
+        &NESTED_CHAIN,
+        22,
+        "task k0.3.0 thread 1 kind explicit region r0.1.0 function 0x400010 generating k0.1.0 scheduling k0.2.0 \
+        exit 0x7f00001fff80 enter 0x7f00001fff60 tool 0",
+    ),
+    (
+        &NESTED_CHAIN,
+        22,
+        "task k0.2.0 thread 1 kind implicit region r0.1.0 function 0x400030 generating k0.0.0 scheduling none \
+        exit 0x7f00001fffc0 enter 0x0 tool 0",
+    ),
+];
+
+/// Whether the report of a state, for the contexts of two threads, has a line.
+fn reports(alloc: Global, s: &State, line: &str) -> Result<bool, OutOfMemory> {
+    let mut contexts = Natives::new(alloc);
+    contexts.push(1000)?;
+    contexts.push(1001)?;
+    let text = report_text(alloc, &view_of(alloc, s, &contexts)?)?;
+    let mut found = false;
+    for row in text.as_slice().split(|b| *b == b'\n') {
+        found = found || row == line.as_bytes();
     }
-}
-
-/// Of a task: its thread, its generating and its scheduling task, and its exit and enter frame.
-type Chain = (u8, Option<Tid>, Option<Tid>, u64, u64);
-
-fn chain(s: &State, k: Tid) -> Option<Chain> {
-    let t = s.task_of(k)?;
-    Some((t.thread, t.generating, t.scheduling, t.exit, t.enter))
+    Ok(found)
 }
 
 #[test]
-fn a_nested_chain(rt: HostRuntime) -> Result<(), Fail> {
+fn rows_are_reported(rt: HostRuntime) -> Result<(), Fail> {
     let alloc = rt.alloc();
-    let p = parse(alloc, NESTED_CHAIN.script)?;
-    let s = state_behind(alloc, &NESTED_CHAIN, &p, 22)?;
-    let (member, explicit, inner) = (Tid(name(0, 2)), Tid(name(0, 3)), Tid(name(1, 0)));
-    let outer = Tid(name(0, 1));
-    assert!(rt; s.count() == 2);
-    assert_eq!(rt; s.thread(1).current, Some(inner));
-    assert_eq!(rt;
-        chain(&s, inner),
-        Some((1, Some(explicit), Some(explicit), 0x7f00001fff40, 0))
-    );
-    assert_eq!(rt;
-        chain(&s, explicit),
-        Some((1, Some(outer), Some(member), 0x7f00001fff80, 0x7f00001fff60))
-    );
-    assert_eq!(rt;
-        chain(&s, member),
-        Some((1, Some(Tid(name(0, 0))), None, 0x7f00001fffc0, 0))
-    );
-    Ok(())
-}
-
-#[test]
-fn an_ended_ancestor(rt: HostRuntime) -> Result<(), Fail> {
-    let alloc = rt.alloc();
-    let p = parse(alloc, AN_ENDED_ANCESTOR.script)?;
-    let s = state_behind(alloc, &AN_ENDED_ANCESTOR, &p, 13)?;
-    let (first, second) = (Tid(name(0, 1)), Tid(name(0, 2)));
-    let initial = Tid(name(0, 0));
-    assert_eq!(rt;
-        chain(&s, second),
-        Some((0, Some(first), Some(initial), 0x7f00000fff80, 0))
-    );
-    assert_eq!(rt;
-        s.task_of(first).map(|t| t.progress),
-        Some(Progress::Finished)
-    );
-    Ok(())
-}
-
-#[test]
-fn a_limit_of_active_levels(rt: HostRuntime) -> Result<(), Fail> {
-    let alloc = rt.alloc();
-    let p = parse(alloc, LIMIT_OF_ACTIVE_LEVELS.script)?;
-    let s = state_behind(alloc, &LIMIT_OF_ACTIVE_LEVELS, &p, 12)?;
-    let inner = s
-        .region_of(Rid(name(0, 2)))
-        .map(|r| (r.levels, r.active, r.team.len(), r.enclosing));
-    assert_eq!(rt; inner, Some((2, 1, 1, Some(Rid(name(0, 1))))));
+    for (row, at, line) in LINES.iter() {
+        let p = parse(alloc, row.script)?;
+        let s = state_behind(alloc, row, &p, *at)?;
+        assert!(rt; reports(alloc, &s, line)?, "{line}");
+    }
     Ok(())
 }
