@@ -41,6 +41,3 @@ pub use looking::{head_item, may_pass_over};
 pub use omi_word::OutOfMemory;
 pub use opening_state::opening;
 pub use state::{State, live_in};
-
-#[cfg(test)]
-mod legal_tests;

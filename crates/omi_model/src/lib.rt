@@ -44,6 +44,3 @@ pub use task::{Task, Variables};
 pub use team::Team;
 pub use thread::Thread;
 pub use view::{HeadRow, MemberRow, RegionRow, TaskRow, ThreadPart, ThreadRow, View};
-
-#[cfg(test)]
-mod tests;

@@ -12,6 +12,8 @@ mod viewing;
 pub use viewing::view_of;
 
 #[cfg(test)]
+mod list_tests;
+#[cfg(test)]
 mod read_events;
 #[cfg(test)]
 mod report_tests;

@@ -1,6 +1,6 @@
 //! Teams and lists of events, at their limits.
 
-use crate::{Event, EventList, Id, Rid, Team, Tid};
+use omi_model::{Event, EventList, Id, Rid, Team, Tid};
 use std::mem::size_of;
 use std::test::Fail;
 
