@@ -70,6 +70,8 @@ fn plain(name: &str) -> Option<Event> {
         b"skip" => Some(Event::Skip),
         b"ret" => Some(Event::Ret),
         b"done" => Some(Event::Done),
+        b"wait_done" => Some(Event::WaitDone),
+        b"yield" => Some(Event::Yield),
         _ => None,
     }
 }
@@ -99,6 +101,15 @@ fn with_word(name: &str, word: &str) -> Option<Event> {
         }),
         b"call" => Some(Event::Call {
             f: word.parse::<u8>().ok()?,
+        }),
+        b"lock" => Some(Event::Lock {
+            k: word.parse::<u8>().ok()?,
+        }),
+        b"unlock" => Some(Event::Unlock {
+            k: word.parse::<u8>().ok()?,
+        }),
+        b"tool" => Some(Event::SetTool {
+            x: word.parse::<u64>().ok()?,
         }),
         b"join" => Some(Event::Join {
             region: region(word)?,

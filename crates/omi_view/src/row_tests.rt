@@ -112,7 +112,17 @@ const NESTED_CHAIN: Row = Row {
         t0 state wait_barrier_implicit_parallel 0; t0 arrive; t0 release; t0 pass; t0 done",
 };
 
-const ROWS: [&Row; 7] = [
+/// Waits, a lock and the tool word.
+const WAITS_AND_A_LOCK: Row = Row {
+    script: b"threads 1\nfunc w\nwork\nend\nfunc main\ntask w\ntaskwait\ntaskyield\ncritical 3 w\ntool 77\nend\n",
+    events: "t0 enter; t0 defer k0.1.0; t0 leave; t0 enter; t0 state wait_taskwait 0; t0 start k0.1.0; \
+        t0 state work_serial 0; t0 work; t0 finish k0.1.0; t0 state wait_taskwait 0; t0 wait_done; \
+        t0 state work_serial 0; t0 leave; t0 enter; t0 yield; t0 leave; t0 enter; t0 state wait_critical 4; \
+        t0 lock 3; t0 state work_serial 0; t0 leave; t0 call 0; t0 work; t0 ret; t0 unlock 3; t0 tool 77; \
+        t0 state wait_barrier_implicit_parallel 0; t0 arrive; t0 release; t0 pass; t0 done",
+};
+
+const ROWS: [&Row; 8] = [
     &A_LIST_WITH_A_CHANGED_HEAD,
     &TOO_FEW_THREADS,
     &A_CONTESTED_WORKER,
@@ -120,6 +130,7 @@ const ROWS: [&Row; 7] = [
     &AN_ENDED_ANCESTOR,
     &A_FULL_ROW_OF_SLOTS,
     &NESTED_CHAIN,
+    &WAITS_AND_A_LOCK,
 ];
 
 /// A version of a row: so many events as they are, and then these lines in the place of others.
@@ -137,7 +148,25 @@ struct Version {
 const ALL: usize = 1000;
 
 /// In each row an event that a rule forbids behind so many of its events.
-const FORBIDDEN: [(&Row, usize, &str); 63] = [
+const FORBIDDEN: [(&Row, usize, &str); 76] = [
+    // a beginning twice, an offer before it, a state and work too early
+    (&TOO_FEW_THREADS, 2, "t1 begin"),
+    (&TOO_FEW_THREADS, 1, "t1 offer"),
+    (&TOO_FEW_THREADS, 0, "t0 state overhead 0"),
+    (&A_LIST_WITH_A_CHANGED_HEAD, 0, "t0 work"),
+    // the end of a wait before the child has finished, and a yield before its task entered
+    (&WAITS_AND_A_LOCK, 5, "t0 wait_done"),
+    (&WAITS_AND_A_LOCK, 13, "t0 yield"),
+    // a lock too early, and another one
+    (&WAITS_AND_A_LOCK, 17, "t0 lock 3"),
+    (&WAITS_AND_A_LOCK, 18, "t0 lock 2"),
+    // a return and a giving back too early, and another lock's
+    (&WAITS_AND_A_LOCK, 22, "t0 ret"),
+    (&WAITS_AND_A_LOCK, 23, "t0 unlock 3"),
+    (&WAITS_AND_A_LOCK, 24, "t0 unlock 2"),
+    // a tool word too early, and another one
+    (&WAITS_AND_A_LOCK, 24, "t0 tool 77"),
+    (&WAITS_AND_A_LOCK, 25, "t0 tool 78"),
     // another value, and an event left out
     (&A_LIST_WITH_A_CHANGED_HEAD, 0, "t0 set nthreads-var 4"),
     (&A_LIST_WITH_A_CHANGED_HEAD, 0, "t0 set dyn-var 1"),
