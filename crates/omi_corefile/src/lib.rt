@@ -19,10 +19,8 @@ pub use fault::{CoreError, CoreFault};
 pub use laws::{bad_fields, front_enough, fronts_and_tails, one_answer, one_spelling};
 pub use limits::{MOST_BYTES, MOST_CONTEXTS, MOST_SEGMENT_WORDS, MOST_SEGMENTS};
 pub use making::core_of;
+pub use omi_list::OutOfMemory;
 pub use segment::{SegList, Segment};
-
-/// Memory ran out.
-pub type OutOfMemory = omi_word::OutOfMemory;
 
 #[cfg(test)]
 mod tests;

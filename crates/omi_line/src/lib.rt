@@ -8,10 +8,8 @@ mod text;
 
 pub use line::{Line, LineError, split};
 pub use numbers::number;
+pub use omi_list::OutOfMemory;
 pub use text::{Text, TextList};
-
-/// Memory ran out.
-pub type OutOfMemory = std::alloc::AllocError;
 
 #[cfg(test)]
 mod tests;

@@ -3,6 +3,7 @@
 ghost use Rattle.std.specs.Prelude.{◌≡◌, ◌<◌, ◌++◌, ◌∷◌, [], length, slice_get, Some, IfOk, OnOk, OnErr};
 
 use crate::OutOfMemory;
+use omi_list::List;
 use std::alloc::Global;
 use std::marker::Model;
 
@@ -71,50 +72,4 @@ impl Text {
 }
 
 /// A list of texts.
-#[derive(Drop)]
-pub struct TextList {
-    items: Vec<Text>,
-}
-
-impl Model for TextList {
-    ghost use Rattle.std.specs.Prelude.{List, ℕ};
-
-    ghost Value = { List (List ℕ) };
-
-    ghost view = { λ a. a.items.items };
-}
-
-impl TextList {
-    /// An empty list, which keeps the allocator.
-    pub fn new(alloc: Global) -> TextList
-        ensures { result ≡ [] }
-    {
-        TextList {
-            items: Vec::new(alloc),
-        }
-    }
-
-    /// The number of texts.
-    pub fn len(&self) -> usize
-        ensures { result ≡ length self.now }
-    {
-        self.items.len()
-    }
-
-    /// The text at a place, counted from 0.
-    pub fn get(&self, at: usize) -> &Text
-        requires { at < length self.now }
-        ensures { slice_get self.now at ≡ Some result.now }
-    {
-        &self.items[at]
-    }
-
-    /// Adds a text at the end.
-    pub fn push(&mut self, e: Text) -> Result<(), OutOfMemory>
-        ensures added { OnOk result (self.new ≡ self.old ++ e ∷ []) }
-        ensures refused { OnErr result (self.new ≡ self.old) }
-    {
-        self.items.push(e)?;
-        Ok(())
-    }
-}
+pub type TextList = List<Text>;

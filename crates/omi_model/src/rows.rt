@@ -1,7 +1,7 @@
 //! The lists of a report's rows, by name.
 
 use crate::{MemberRow, RegionRow, TaskRow, ThreadRow};
-use omi_script::List;
+use omi_list::List;
 
 /// Elements in order, seen as the list of them.
 pub type Rows<T> = List<T>;

@@ -10,7 +10,6 @@ mod head;
 mod head_lines;
 pub mod limits;
 mod line;
-mod list;
 mod name;
 mod number_list;
 mod numbers;
@@ -30,10 +29,10 @@ mod verdicts;
 pub use env::Env;
 pub use fault::{ScriptError, ScriptFault, Why};
 pub use function::{Func, FuncList};
-pub use list::List;
 pub use name::Name;
 pub use number_list::NumList;
 pub use numbers::number;
+pub use omi_list::OutOfMemory;
 pub use printer::print;
 pub use program::Program;
 pub use reader::{parse, program_rules};
@@ -41,9 +40,6 @@ pub use schedule::{kind_name, kind_number};
 pub use small::is_small;
 pub use statement::{Sched, Stmt, StmtList};
 pub use verdicts::one_verdict;
-
-/// Memory ran out.
-pub type OutOfMemory = std::alloc::AllocError;
 
 #[cfg(test)]
 mod row_tests;

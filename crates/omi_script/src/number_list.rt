@@ -2,24 +2,14 @@
 ghost use Rattle.std.specs.Prelude.{◌≡◌, IfOk};
 ghost use Rattle.omi_script.specs.Numbers.{numbers_of, sizes_of};
 
-use crate::OutOfMemory;
 use crate::limits::{MAX_SIZE, MAX_SIZES};
-use crate::list::List;
 use crate::numbers::number;
 use crate::pieces::cut_item;
+use omi_list::{List, OutOfMemory};
 use std::alloc::Global;
 
 /// The elements of nthreads-var, or of another list of numbers.
 pub type NumList = List<u64>;
-
-impl List<u64> {
-    /// An equal list.
-    pub fn same(&self, alloc: Global) -> Result<NumList, OutOfMemory>
-        ensures { IfOk result (λ list. list ≡ self.now) }
-    {
-        self.copied(alloc)
-    }
-}
 
 /// The numbers that commas join. None where a piece is no number in the range.
 fn numbers(

@@ -1,9 +1,8 @@
 //! Statements, and lists of them.
-ghost use Rattle.std.specs.Prelude.{◌≡◌, IfOk};
+ghost use Rattle.std.specs.Prelude.{◌≡◌};
 ghost use Rattle.omi_script.specs.Constructs.{over};
 
-use crate::OutOfMemory;
-use crate::list::List;
+use omi_list::{List, OutOfMemory, Same};
 use std::alloc::Global;
 
 /// A schedule: its kind (1 static, 2 dynamic, 3 guided, 4 auto) and its chunk size.
@@ -102,11 +101,8 @@ impl Construct {
 /// The statements of a function.
 pub type StmtList = List<Stmt>;
 
-impl List<Stmt> {
-    /// An equal list.
-    pub fn same(&self, alloc: Global) -> Result<StmtList, OutOfMemory>
-        ensures { IfOk result (λ list. list ≡ self.now) }
-    {
-        self.copied(alloc)
+impl Same for Stmt {
+    fn same(&self, _alloc: Global) -> Result<Stmt, OutOfMemory> {
+        Ok(*self)
     }
 }

@@ -9,10 +9,8 @@ mod op;
 pub use image::Image;
 pub use limits::{FIRST_ADDRESS, MOST_WORDS};
 pub use natives::Natives;
+pub use omi_list::OutOfMemory;
 pub use op::{Op, Res};
-
-/// Memory ran out.
-pub type OutOfMemory = std::alloc::AllocError;
 
 #[cfg(test)]
 mod tests;

@@ -1,6 +1,6 @@
 //! Examples of operations, and the edges of an image.
 
-use crate::{Image, Natives, Op};
+use crate::{Image, Op};
 use std::test::Fail;
 
 #[test]
@@ -41,16 +41,5 @@ fn words_past_the_ends_are_not_there(rt: HostRuntime) -> Result<(), Fail> {
         assert_eq!(rt; image.get(address), None);
     }
     assert_eq!(rt; Image::zeroed(rt.alloc(), 0)?.len(), 0);
-    Ok(())
-}
-
-#[test]
-fn a_list_of_words(rt: HostRuntime) -> Result<(), Fail> {
-    let mut natives = Natives::new(rt.alloc());
-    natives.push(1000)?;
-    natives.push(1001)?;
-    assert_eq!(rt; natives.len(), 2);
-    let last = natives.len() - 1;
-    assert_eq!(rt; *natives.get(last), 1001);
     Ok(())
 }

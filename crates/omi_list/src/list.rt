@@ -2,7 +2,7 @@
 ghost use Rattle.std.specs.Prelude.{◌≡◌, ◌<◌, ◌++◌, ◌∷◌, [], length, slice_get, slice_set, Some, None, IfSome, OnOk, OnErr, IfOk};
 ghost use Rattle.std.specs.Option.{option_map};
 
-use crate::OutOfMemory;
+use crate::{OutOfMemory, Same};
 use std::alloc::Global;
 use std::marker::Model;
 use std::mem::replace;
@@ -87,12 +87,15 @@ impl<E: Drop> List<E> {
     }
 }
 
-impl<E: Copy> List<E> {
-    /// An equal list, where elements are copied.
-    pub fn copied(&self, alloc: Global) -> Result<List<E>, OutOfMemory>
+impl<E: Same> List<E> {
+    /// An equal list.
+    pub fn same(&self, alloc: Global) -> Result<List<E>, OutOfMemory>
         ensures { IfOk result (λ list. list ≡ self.now) }
     {
-        let items = Vec::from_slice(alloc, &self.items)?;
+        let mut items = Vec::new(alloc);
+        for e in &self.items {
+            items.push(e.same(alloc)?)?;
+        }
         Ok(List { items })
     }
 }
