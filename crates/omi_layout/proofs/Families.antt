@@ -2,8 +2,12 @@
 use Rattle.std.proofs.Common.{◌≡◌, ◌==◌, ℕ, ◌+◌, ◌*◌, ◌%◌, ◌≤◌, ◌&&◌, Bool, true, false, cond, not, nat_le, List, refl, ap, ap₂, ◌∙◌, arith, mul-le-mul}
 use Rattle.std.proofs.lemmas.Bool.Decides.{nat_tests}
 use Rattle.omi_layout.specs.declared.limits.TheConstants.{MOST_THREADS}
+use Rattle.std.specs.Prelude.{IsTrue}
+use Rattle.omi_word.specs.Memory.{place_of}
+use Rattle.omi_word.proofs.Addresses.{place-address}
 use Rattle.omi_layout.specs.Field.{IsKind, kind_of}
 use Rattle.omi_layout.specs.Table.{thread_count, per_thread, offset, width, size, place, records, extent}
+use Rattle.omi_layout.specs.Place.{first_word, end_word, arena_fits, fits, image_words}
 use Rattle.omi_layout.specs.Valid.{IsValid, shares, is_counted, is_placed, is_arena, arenas_share}
 use Rattle.omi_layout.specs.Family.{IsFamily, field_words, family_size, family_extent, family_count}
 use Rattle.omi_layout.proofs.Arenas.{each_kind}
@@ -79,6 +83,9 @@ cond_few false x y n h h' = h'
 extent_few : (c s : ℕ) → c ≤ 16384 → s ≤ 78 → c * s ≤ 1277952
 extent_few c s h h' = mul-le-mul h h'
 
+product_few : (c s m n : ℕ) → c ≤ m → s ≤ n → c * s ≤ m * n
+product_few c s m n h h' = mul-le-mul h h'
+
 module _ (k t : ℕ) (w : List ℕ) (some : 1 ≤ t) (most : t ≤ MOST_THREADS) (fam : IsFamily k t w) where
   size_few : (p : ℕ) → family_size k t p ≤ 78
   size_few p = omega (arith, words_few t p (omega (arith, most)))
@@ -152,3 +159,40 @@ module _ (k t : ℕ) (w : List ℕ) (some : 1 ≤ t) (most : t ≤ MOST_THREADS)
     apart = λ f is g is' order. one_kind (kind_of f) (kind_of g) _ (turned_apart k t w fam f g is is' order);
     arenas = arenas;
   }
+
+  -- each arena lies behind the tables
+  first_is : (p x : ℕ) → place w p ≡ 65536 + 8 * (99 + x) → first_word w p ≡ 99 + x
+  first_is p x at = ap place_of at ∙ place-address (99 + x)
+
+  -- and all of them end within the image
+  all_few : family_extent k t 1 + family_extent k t 2 + family_extent k t 3 + family_extent k t 4 ≤ 1000000
+  all_few =
+      let one = product_few (family_count t 1) (family_size k t 1) 1 78 (omega arith) (size_few 1) in
+      let two = product_few (family_count t 2) (family_size k t 2) 64 78 (omega (arith, most)) (size_few 2) in
+      let three = product_few (family_count t 3) (family_size k t 3) 1024 78 (omega (arith, most)) (size_few 3) in
+      let four = product_few (family_count t 4) (family_size k t 4) 16384 29 (omega (arith, most)) (omega arith) in
+      omega (arith, one, two, three, four)
+
+  end_is : (p x : ℕ) → IsKind p → place w p ≡ 65536 + 8 * (99 + x) → end_word w p ≡ 99 + x + family_extent k t p
+  end_is p x is at = omega (arith, first_is p x at, extent_is p is)
+
+  arena_fit : (p x n : ℕ) → place w p ≡ 65536 + 8 * (99 + x) → end_word w p ≤ n → arena_fits w n p ≡ true
+  arena_fit p x n at ends = both _ _ (le_test 99 (first_word w p) (omega (arith, first_is p x at))) (le_test (end_word w p) n ends)
+
+  pub family_fits : IsTrue (fits w (image_words w))
+  family_fits =
+      both _ _
+      (both _ _ (arena_fit 1 _ (image_words w) row.p1 (omega arith)) (arena_fit 2 _ (image_words w) row.p2 (omega arith)))
+      (both _ _ (arena_fit 3 _ (image_words w) row.p3 (omega arith)) (arena_fit 4 _ (image_words w) row.p4 (omega arith)))
+
+  pub family_small : image_words w ≤ 1048576
+  family_small =
+      let e1 = end_is 1 _ k1 row.p1 in
+      let e2 = end_is 2 _ k2 row.p2 in
+      let e3 = end_is 3 _ k3 row.p3 in
+      let e4 = end_is 4 _ k4 row.p4 in
+      let c1 = cond_few (k % 2 == 0) 0 ((family_extent k t 4 + family_extent k t 3) + family_extent k t 2) (family_extent k t 2 + family_extent k t 3 + family_extent k t 4) (omega arith) (omega arith) in
+      let c2 = cond_few (k % 2 == 0) (family_extent k t 1) (family_extent k t 4 + family_extent k t 3) (family_extent k t 1 + family_extent k t 3 + family_extent k t 4) (omega arith) (omega arith) in
+      let c3 = cond_few (k % 2 == 0) (family_extent k t 1 + family_extent k t 2) (family_extent k t 4) (family_extent k t 1 + family_extent k t 2 + family_extent k t 4) (omega arith) (omega arith) in
+      let c4 = cond_few (k % 2 == 0) ((family_extent k t 1 + family_extent k t 2) + family_extent k t 3) 0 (family_extent k t 1 + family_extent k t 2 + family_extent k t 3) (omega arith) (omega arith) in
+      omega (arith, all_few, e1, e2, e3, e4, c1, c2, c3, c4)

@@ -1,9 +1,11 @@
 //! The families of layouts.
 
-ghost use Rattle.std.specs.Prelude.{◌≡◌, ◌≤◌};
+ghost use Rattle.std.specs.Prelude.{◌≡◌, ◌≤◌, IsTrue};
+ghost use Rattle.omi_word.specs.declared.limits.TheConstants.{MOST_WORDS};
 ghost use Rattle.omi_layout.specs.Field.{IsField, IsKind};
 ghost use Rattle.omi_layout.specs.Family;
 ghost use Rattle.omi_layout.specs.Family.{IsFamily};
+ghost use Rattle.omi_layout.specs.Place.{fits, image_words};
 ghost use Rattle.omi_layout.specs.declared.limits.TheConstants.{MOST_THREADS};
 
 use crate::field::{REGIONS, RUNTIME, TASKS, THREADS};
@@ -191,7 +193,9 @@ impl Layout {
         requires family { k ≤ 15 }
         requires some { 1 ≤ threads }
         requires most { threads ≤ MOST_THREADS }
-        ensures { IsFamily k threads result.table }
+        ensures family { IsFamily k threads result.table }
+        ensures fits { IsTrue (fits result.table (image_words result.table)) }
+        ensures small { image_words result.table ≤ MOST_WORDS }
     {
         let table = family_table(k, threads);
         Layout { table }

@@ -1,7 +1,7 @@
 //! The kinds of records and their fields, by name.
 
 ghost use Rattle.std.specs.Prelude.{◌≡◌, ◌≤◌};
-ghost use Rattle.omi_layout.specs.Field.{name_of, IsField};
+ghost use Rattle.omi_layout.specs.Field.{name_of, kind_of, IsField};
 ghost use Rattle.omi_layout.specs.Named.{number, kind_number};
 ghost use Rattle.omi_layout.specs.declared.limits.TheConstants.{FIELDS};
 
@@ -88,6 +88,22 @@ impl Field {
         ensures field { IsField result }
     {
         self as u8
+    }
+
+    /// The kind of record that has the field.
+    pub fn kind(self) -> Kind
+        ensures { kind_number result ≡ kind_of (number self) }
+    {
+        let number = self.number();
+        if number < Field::ThreadLife as u8 {
+            Kind::Runtime
+        } else if number < Field::RegionLife as u8 {
+            Kind::Threads
+        } else if number < Field::TaskLife as u8 {
+            Kind::Regions
+        } else {
+            Kind::Tasks
+        }
     }
 }
 

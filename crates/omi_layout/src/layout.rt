@@ -6,11 +6,13 @@ ghost use Rattle.omi_layout.specs.Field.{IsField, IsKind};
 ghost use Rattle.omi_layout.specs.Table;
 ghost use Rattle.omi_layout.specs.Place;
 ghost use Rattle.omi_layout.specs.Place.{IsRecordAt, IsSlot, IsSlotAt, slot_address, record_address};
+ghost use Rattle.omi_layout.specs.Memory.{IsRecordWord, word_address};
+ghost use Rattle.omi_layout.specs.Named.{number};
 ghost use Rattle.omi_layout.specs.Valid.{IsValid, Refuses};
 ghost use Rattle.omi_layout.specs.declared.limits.TheConstants.{LAST_END};
 
 use crate::fault::LayoutFault;
-use crate::field::{REGIONS, RUNTIME, TASKS, THREADS};
+use crate::field::{Field as RecordField, Kind, REGIONS, RUNTIME, TASKS, THREADS};
 use crate::judging::judge;
 use crate::limits::FRONT_WORDS;
 use crate::table::{extent, offset, place, records, size};
@@ -115,6 +117,22 @@ impl Layout {
     {
         let index = creator as u64 * self.table[11] + slot as u64;
         self.record_at(TASKS, index)
+    }
+
+    /// The byte address of a word of a record, by the thread that makes the record, its slot, the field and the place in the field.
+    #[tactic(auto, unfolding(crate::specs::Memory::word_address))]
+    pub fn word_at(&self, creator: u8, slot: u16, field: RecordField, at: u8) -> u64
+        requires { IsRecordWord self.now.table creator slot (number field) at }
+        ensures { result ≡ word_address self.now.table creator slot (number field) at }
+    {
+        let record = match field.kind() {
+            Kind::Runtime => self.runtime_place(),
+            Kind::Threads => self.thread_at(creator),
+            Kind::Regions => self.region_at(creator, slot),
+            Kind::Tasks => self.task_at(creator, slot),
+        };
+        let front = u64::from(self.offset(field.number())) + u64::from(at);
+        record + 8 * front
     }
 
     /// The number in its arena of the record at a byte address. None where no record begins there.

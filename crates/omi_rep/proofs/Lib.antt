@@ -4,4 +4,5 @@ pub mod SameReport
 pub mod Firsts
 pub mod PlainLook
 pub mod PlainShown
+pub mod Alone
 pub mod Opened

@@ -1,296 +1,58 @@
 -- The opening words of a program show its opening state.
-use Rattle.std.proofs.Common.{◌≡◌, ◌==◌, ◌<◌, ℕ, zero, suc, ◌+◌, ◌*◌, ◌&&◌, Bool, true, false, cond, List, [], ◌∷◌, Some, None, refl, sym, ap, subst, ◌∙◌, arith, lit≤, lit<, eqb-true, if◌then◌else◌}
-use Rattle.std.specs.Prelude.{slice_get, Contains, IsSome}
-use Rattle.std.proofs.lemmas.Bool.Decides.{nat_tests}
-use Rattle.std.proofs.lemmas.List.Elements.{All-from_recursion}
-use Rattle.std.proofs.lemmas.Option.{get_or_from_slice_get, slice_get_within}
+use Rattle.std.proofs.Common.{◌≡◌, ◌==◌, ◌<◌, ◌≤◌, ℕ, List, [], ◌∷◌, length, refl, lit<}
+use Rattle.omi_script.specs.Bodies.{body_of}
 use Rattle.omi_script.specs.declared.program.Program.{Program}
 use Rattle.omi_script.proofs.RuleLemmas.{Rules-from_accepted}
-use Rattle.omi_model.specs.declared.id.Rid.{Rid}
-use Rattle.omi_model.specs.declared.id.Tid.{Tid}
-use Rattle.omi_model.specs.declared.thread.Thread.{Thread}
-use Rattle.omi_model.specs.declared.region.Region.{Region}
-use Rattle.omi_model.specs.declared.task.Task.{Task}
-use Rattle.omi_model.specs.Numbers.{flag, states}
-use Rattle.omi_model.specs.Put.{first_alone, found, unused}
-use Rattle.omi_model.specs.State.{State, task_of}
-use Rattle.omi_model.specs.Opening.{opening, opening_region, opening_task, initial_task, initial_region, initial_thread, waiting_worker}
-use Rattle.omi_model.specs.Visible.{IsVisibleRegion, IsVisibleTask}
-use Rattle.omi_model.specs.WellFormed.{IsWellFormed, IsRegionRight, IsTaskRight, IsMember, HasBegun}
-use Rattle.omi_layout.specs.declared.field.Field.{Field}
-use Rattle.omi_layout.specs.declared.field.Field.TheVariants.{RuntimeVersion, RuntimeThreads, RuntimeProcs, RuntimeDebug, RuntimeMaxActive, ThreadLife, ThreadNative, ThreadCurrent, ThreadState, RegionLife, RegionFunction, RegionEnclosing, RegionEncountering, RegionSize, RegionLevels, RegionActive, RegionTeam, TaskLife, TaskImplicit, TaskRegion, TaskThread, TaskNumber, TaskGenerating, TaskScheduling, TaskFunction, TaskExit, TaskEnter, TaskDynamic, TaskNthreadsLength, TaskSchedule, TaskDevice, TaskFinal, TaskTool, TaskNthreads}
-use Rattle.omi_layout.specs.Codes.{flag_word, state_word}
-use Rattle.omi_layout.specs.Field.{runtime, threads, regions, tasks, kind_of}
-use Rattle.omi_layout.specs.Memory.{memory_of, word_address, IsRecordWord}
-use Rattle.omi_layout.specs.Named.{number}
+use Rattle.omi_model.specs.Opening.{opening_task}
 use Rattle.omi_layout.specs.OpeningWords.{AreOpening}
-use Rattle.omi_layout.specs.Place.{slot_address, IsSlot}
-use Rattle.omi_layout.specs.SymbolTable.{Words, words_of}
-use Rattle.omi_layout.specs.Table.{thread_count, width}
+use Rattle.omi_layout.specs.Table.{thread_count}
 use Rattle.omi_layout.specs.Valid.{IsValid}
-use Rattle.omi_layout.proofs.Arenas.{some_threads, some_regions, some_tasks}
-use Rattle.omi_layout.proofs.Numbers.{numbered_field}
-use Rattle.omi_layout.proofs.Stored.{mapped}
-use Rattle.omi_layout.proofs.Tables.{tables_give}
+use Rattle.omi_layout.proofs.Arenas.{some_threads}
 use Rattle.omi_rep.specs.Opened.{OpeningIsShown}
-use Rattle.omi_rep.specs.Records.{records_of, task_address, task_word}
-use Rattle.omi_rep.specs.Shows.{Shows, ShowsGlobals, ShowsLife, ShowsThread, ShowsSlot, ShowsRegion, ShowsTask, RecordsShow, IsWithin, Stands}
+use Rattle.omi_rep.proofs.Alone.{Values, Holds, alone_shown}
 
--- the object that is alone is the one that is found
-record Alone {A : Type 0} (x y : A) (c k g : ℕ) : Type 0 where
-  pub creator : c ≡ 0
-  pub place : k ≡ 0
-  pub generation : g ≡ 0
-  pub same : x ≡ y
+-- the values at the opening
+abbrev pub first_values : Program → Values
+first_values p = record {
+  state = 0;
+  dynamic = p.env.dynamic;
+  nthreads = p.env.nthreads;
+  arrived = 0;
+  released = 0;
+  list = (opening_task p).list;
+}
 
-alone_found : {A : Type 0} (x y : A) (c k g : ℕ) → found g (first_alone x c k) ≡ Some y → Alone x y c k g
-alone_found x y c k g is = go (c == 0 && k == 0) refl (1 == g + 1) refl (0 == g + 1) refl is
-  where
-    go : (b : Bool) → (c == 0 && k == 0) ≡ b → (d : Bool) → 1 == g + 1 ≡ d → (u : Bool) → 0 == g + 1 ≡ u
-        → (if (if b then record { generations = 1; live = Some x } else unused).generations == g + 1 then (if b then record { generations = 1; live = Some x } else unused).live else None) ≡ Some y → Alone x y c k g
-    go true e true f u h i = record {
-      creator = grind (arith, nat_tests);
-      place = grind (arith, nat_tests);
-      generation = grind (arith, nat_tests);
-      same = let some : Some x ≡ Some y = sym (ap (λ t. cond t (Some x) None) f) ∙ i in cc;
+pub first_held : (p : Program) (w words : List ℕ) → IsValid w → AreOpening p w words → Holds p w words (first_values p)
+first_held p w words v opens =
+    let r = (opens.made 0 (some_threads w v)).region refl in
+    let t = (opens.made 0 (some_threads w v)).task refl in
+    record {
+      count = opens.count;
+      tables = opens.tables;
+      runtime_record = opens.runtime_record;
+      thread = λ i known. let o = (opens.made i known).thread in record { life = o.life; native = o.native; current = o.current; state_is = o.state };
+      region = record { life = r.life; function = r.function; enclosing = r.enclosing; encountering = r.encountering; size = r.size; levels = r.levels; active = r.active; arrivals = r.arrived; releases = r.released; member = r.member };
+      task = record {
+        life = t.life;
+        implicit = t.implicit;
+        region = t.region;
+        thread = t.thread;
+        member = t.member;
+        generating = t.generating;
+        scheduling = t.scheduling;
+        function = t.function;
+        exit = t.exit;
+        enter = t.enter;
+        dynamic = t.dynamic;
+        nthreads_length = t.nthreads_length;
+        schedule = t.schedule;
+        device = t.device;
+        final = t.final;
+        tool = t.tool;
+        nthreads = t.nthreads;
+      };
     }
-    go true e false f u h i = let none : None ≡ Some y = sym (ap (λ t. cond t (Some x) None) f) ∙ i in absurd (cc)
-    go false e d f true h i = absurd (let wrong : 0 ≡ g + 1 = eqb-true 0 (g + 1) h in omega (arith, wrong))
-    go false e d f false h i = let none : None ≡ Some y = sym (ap (λ t. cond t None None) h) ∙ i in absurd (cc)
-
--- a slot that is empty where one object is alone has had none
-alone_free : {A : Type 0} (x : A) (c k : ℕ) → (first_alone x c k).live ≡ None → (first_alone x c k).generations ≡ 0
-alone_free {A} x c k = go (c == 0 && k == 0)
-  where
-    go : (b : Bool) → (if b then record { generations = 1; live = Some x } else unused).live ≡ None → (if b then record { generations = 1; live = Some x } else unused).generations ≡ 0
-    go true is = absurd (cc)
-    go false is = refl
-
-flags : (b : Bool) → flag_word b ≡ flag b
-flags true = refl
-flags false = refl
-
-module _ (p : Program) (w words : List ℕ) (v : IsValid w) (suits : p.threads ≡ thread_count w) (opens : AreOpening p w words) where
-  abbrev g : Words
-  g = words_of words
-
-  abbrev s : State
-  s = opening p
-
-  some : 0 < p.threads
-  some = omega (arith, suits, some_threads w v)
-
-  -- the initial region and the initial task are visible, and all is right with them
-  region_seen : IsVisibleRegion s initial_region
-  region_seen = record { region = opening_region p; live = refl; team = All-from_recursion (λ (m : Tid × ℕ). IsSome (task_of s m.0)) ((initial_task, 0) ∷ []) (refl, tt) }
-
-  task_seen : IsVisibleTask s initial_task
-  task_seen = record { task = opening_task p; live = refl; shown = region_seen }
-
-  begun : HasBegun s 0
-  begun = record { known = some; begun = refl }
-
-  region_right : IsRegionRight s (opening_region p)
-  region_right = record {
-    enclosing = λ n is. absurd (cc);
-    encountering = λ k is. absurd (cc);
-    members = All-from_recursion (λ (m : Tid × ℕ). IsMember s m.0 m.1) ((initial_task, 0) ∷ [])
-        (record { visible = task_seen; same = λ t is. let one : opening_task p ≡ t = cc in ap (λ (u : Task). u.thread) (sym one); begun = begun }, tt);
-    some = lit≤ tt;
-    few = omega (arith, some);
-    ends = (0, refl);
-  }
-
-  task_right : IsTaskRight s (opening_task p)
-  task_right = record {
-    region = region_seen;
-    generating = λ k is. absurd (cc);
-    scheduling = λ k is. absurd (cc);
-    begun = begun;
-    ends = (0, refl);
-    variables = record { some = (Rules-from_accepted p).count.0; few = (Rules-from_accepted p).count.1; kind_from = (Rules-from_accepted p).schedule.0; kind_to = (Rules-from_accepted p).schedule.1 };
-  }
-
-  well_formed : IsWellFormed s
-  well_formed = record {
-    currents = λ i k within is. current i k (i == 0) refl is;
-    states = λ i within. known (i == 0);
-    regions = λ n seen. subst (λ (r : Region). IsRegionRight s r) (alone_found (opening_region p) seen.region n.0.creator n.0.slot n.0.generation seen.live).same region_right;
-    tasks = λ k seen. subst (λ (t : Task). IsTaskRight s t) (alone_found (opening_task p) seen.task k.0.creator k.0.slot k.0.generation seen.live).same task_right;
-  }
-    where
-      current : (i : ℕ) (k : Tid) (b : Bool) → i == 0 ≡ b → (if b then initial_thread else waiting_worker).current ≡ Some k → IsVisibleTask s k
-      current i k true e is = let same : initial_task ≡ k = cc in subst (λ (q : Tid). IsVisibleTask s q) same task_seen
-      current i k false e is = absurd (cc)
-
-      known : (b : Bool) → Contains states (if b then initial_thread else waiting_worker).state
-      known true = (0, lit< tt, refl)
-      known false = (7, lit< tt, refl)
-
-  -- a word of a record stands
-  stands : (f : Field) (c k at x : ℕ) → IsRecordWord w c k (number f) at → memory_of w words c (kind_of (number f)) k (number f) at ≡ x
-      → Stands (records_of w g c (kind_of (number f)) k) f at x
-  unfolding word_address
-  stands f c k at x is e = mapped w v words c k (number f) at (omega (arith, opens.count)) is ∙ ap Some e
-
-  wide : (f : ℕ) → 0 < width w f
-  wide f = grind (arith, nat_tests, some_threads w v)
-
-  word : (f : Field) (c k at : ℕ) → IsSlot w (kind_of (number f)) c k → at < width w (number f) → IsRecordWord w c k (number f) at
-  word f c k at slot within = record { field = numbered_field f; record_slot = slot; within = within }
-
-  of_runtime : (f : Field) (x : ℕ) → kind_of (number f) ≡ runtime → memory_of w words 0 (kind_of (number f)) 0 (number f) 0 ≡ x → Stands (records_of w g 0 (kind_of (number f)) 0) f 0 x
-  of_runtime f x kind e =
-      stands f 0 0 0 x (word f 0 0 0 (subst (λ q. IsSlot w q 0 0) (sym kind) (record { made_by = omega arith; within = omega arith })) (wide (number f))) e
-
-  of_thread : (i : ℕ) → i < thread_count w → (f : Field) (x : ℕ) → kind_of (number f) ≡ threads → memory_of w words i (kind_of (number f)) 0 (number f) 0 ≡ x → Stands (records_of w g i (kind_of (number f)) 0) f 0 x
-  of_thread i known f x kind e =
-      stands f i 0 0 x (word f i 0 0 (subst (λ q. IsSlot w q i 0) (sym kind) (record { made_by = known; within = omega arith })) (wide (number f))) e
-
-  of_region : (f : Field) (x : ℕ) → kind_of (number f) ≡ regions → memory_of w words 0 (kind_of (number f)) 0 (number f) 0 ≡ x → Stands (records_of w g 0 (kind_of (number f)) 0) f 0 x
-  of_region f x kind e =
-      stands f 0 0 0 x (word f 0 0 0 (subst (λ q. IsSlot w q 0 0) (sym kind) (record { made_by = some_threads w v; within = some_regions w v })) (wide (number f))) e
-
-  of_task_at : (f : Field) (at x : ℕ) → kind_of (number f) ≡ tasks → at < width w (number f) → memory_of w words 0 (kind_of (number f)) 0 (number f) at ≡ x → Stands (records_of w g 0 (kind_of (number f)) 0) f at x
-  of_task_at f at x kind within e =
-      stands f 0 0 at x (word f 0 0 at (subst (λ q. IsSlot w q 0 0) (sym kind) (record { made_by = some_threads w v; within = some_tasks w v })) within) e
-
-  of_task : (f : Field) (x : ℕ) → kind_of (number f) ≡ tasks → memory_of w words 0 (kind_of (number f)) 0 (number f) 0 ≡ x → Stands (records_of w g 0 (kind_of (number f)) 0) f 0 x
-  of_task f x kind e = of_task_at f 0 x kind (wide (number f)) e
-
-  globals : ShowsGlobals (records_of w g 0 runtime 0) s
-  globals =
-      let o = opens.runtime_record in
-      record {
-        version = of_runtime RuntimeVersion _ refl o.version;
-        threads = of_runtime RuntimeThreads _ refl o.threads;
-        procs = of_runtime RuntimeProcs _ refl o.procs;
-        debug = of_runtime RuntimeDebug _ refl (o.debug ∙ flags p.env.debug);
-        max_active = of_runtime RuntimeMaxActive _ refl o.max_active;
-      }
-
-  thread_of : (b : Bool) → Thread
-  thread_of b = if b then initial_thread else waiting_worker
-
-  lives : (i : ℕ) → i < s.count → ShowsLife (records_of w g i threads 0) i (s.threads i)
-  lives i within =
-      let known : i < thread_count w = omega (arith, suits, within) in
-      let o = (opens.made i known).thread in
-      record {
-        life = of_thread i known ThreadLife _ refl (o.life ∙ begun_flag (i == 0));
-        native = of_thread i known ThreadNative _ refl o.native;
-      }
-    where
-      begun_flag : (b : Bool) → (if b then 1 else 0) ≡ flag (if b then initial_thread else waiting_worker).begun
-      begun_flag true = refl
-      begun_flag false = refl
-
-  threads_shown : (i : ℕ) → i < s.count → ShowsThread w (records_of w g i threads 0) (s.threads i)
-  threads_shown i within =
-      let known : i < thread_count w = omega (arith, suits, within) in
-      let o = (opens.made i known).thread in
-      record {
-        current = of_thread i known ThreadCurrent _ refl (o.current ∙ current_word (i == 0));
-        state = of_thread i known ThreadState _ refl (o.state ∙ state_of (i == 0));
-      }
-    where
-      current_word : (b : Bool) → (if b then slot_address w tasks 0 0 else 0) ≡ task_word w (if b then initial_thread else waiting_worker).current
-      current_word true = refl
-      current_word false = refl
-
-      state_of : (b : Bool) → (if b then 0 else 0x100) ≡ state_word (if b then initial_thread else waiting_worker).state (if b then initial_thread else waiting_worker).wait
-      state_of true = refl
-      state_of false = refl
-
-  region_shown : ShowsRegion w (records_of w g 0 regions 0) (opening_region p)
-  region_shown =
-      let o = (opens.made 0 (some_threads w v)).region refl in
-      record {
-        function = of_region RegionFunction _ refl o.function;
-        enclosing = of_region RegionEnclosing _ refl o.enclosing;
-        encountering = of_region RegionEncountering _ refl o.encountering;
-        size = of_region RegionSize _ refl o.size;
-        levels = of_region RegionLevels _ refl o.levels;
-        active = of_region RegionActive _ refl o.active;
-        team = team;
-      }
-    where
-      team : (j : ℕ) (m : Tid × ℕ) → slice_get (opening_region p).team j ≡ Some m → Stands (records_of w g 0 regions 0) RegionTeam j (task_address w m.0)
-      team zero m is =
-          let same : (initial_task, 0) ≡ m = cc in
-          subst (λ (q : Tid × ℕ). Stands (records_of w g 0 regions 0) RegionTeam 0 (task_address w q.0)) same (of_region RegionTeam _ refl ((opens.made 0 (some_threads w v)).region refl).member)
-      team (suc j) m is = absurd (cc)
-
-  task_shown : ShowsTask w (records_of w g 0 tasks 0) (opening_task p)
-  task_shown =
-      let o = (opens.made 0 (some_threads w v)).task refl in
-      record {
-        implicit = of_task TaskImplicit _ refl o.implicit;
-        region = of_task TaskRegion _ refl o.region;
-        thread = of_task TaskThread _ refl o.thread;
-        member = of_task TaskNumber _ refl o.member;
-        generating = of_task TaskGenerating _ refl o.generating;
-        scheduling = of_task TaskScheduling _ refl o.scheduling;
-        function = of_task TaskFunction _ refl o.function;
-        exit = of_task TaskExit _ refl o.exit;
-        enter = of_task TaskEnter _ refl o.enter;
-        dynamic = of_task TaskDynamic _ refl (o.dynamic ∙ flags p.env.dynamic);
-        nthreads_length = of_task TaskNthreadsLength _ refl o.nthreads_length;
-        schedule = of_task TaskSchedule _ refl o.schedule;
-        device = of_task TaskDevice _ refl o.device;
-        final = of_task TaskFinal _ refl o.final;
-        tool = of_task TaskTool _ refl o.tool;
-        nthreads = λ j n is.
-            let within = slice_get_within p.env.nthreads j n is in
-            of_task_at TaskNthreads j n refl (omega (arith, within, (Rules-from_accepted p).count.1))
-            (o.nthreads j ∙ get_or_from_slice_get p.env.nthreads j n 0 is);
-      }
-
-  slots_shown : {A : Type 0} (kind : ℕ) (life : Field) (x : A) (c k : ℕ) → Stands (records_of w g 0 kind 0) life 0 1 → ShowsSlot (records_of w g c kind k) life (first_alone x c k)
-  slots_shown {A} kind life x c k stands = record {
-    live = λ e y is. alive y e (alone_found x y c k e is);
-    free = λ word is there. omega (arith, alone_free x c k is);
-  }
-    where
-      alive : (y : A) (e : ℕ) → Alone x y c k e → Stands (records_of w g c kind k) life 0 (2 * e + 1)
-      alive y e at =
-          subst (λ (d : ℕ). Stands (records_of w g d kind k) life 0 (2 * e + 1)) (sym at.creator)
-          (subst (λ (j : ℕ). Stands (records_of w g 0 kind j) life 0 (2 * e + 1)) (sym at.place)
-          (subst (λ (n : ℕ). Stands (records_of w g 0 kind 0) life 0 (2 * n + 1)) (sym at.generation) stands))
-
-  within : IsWithin w s
-  within = record {
-    well_formed = well_formed;
-    count = suits;
-    regions = λ c k e x is. let at = alone_found (opening_region p) x c k e is in record { maker = omega (arith, at.creator, some_threads w v); place = omega (arith, at.place, some_regions w v) };
-    tasks = λ c k e x is. let at = alone_found (opening_task p) x c k e is in record { maker = omega (arith, at.creator, some_threads w v); place = omega (arith, at.place, some_tasks w v) };
-  }
-
-  records_shown : RecordsShow w (records_of w g) s
-  records_shown = record {
-    globals = globals;
-    lives = lives;
-    region_lives = λ c k _ _. slots_shown regions RegionLife (opening_region p) c k (of_region RegionLife _ refl ((opens.made 0 (some_threads w v)).region refl).life);
-    task_lives = λ c k _ _. slots_shown tasks TaskLife (opening_task p) c k (of_task TaskLife _ refl ((opens.made 0 (some_threads w v)).task refl).life);
-    threads = λ i known _. threads_shown i known;
-    regions = λ n seen. region_in n seen.region (alone_found (opening_region p) seen.region n.0.creator n.0.slot n.0.generation seen.live);
-    tasks = λ k seen. task_in k seen.task (alone_found (opening_task p) seen.task k.0.creator k.0.slot k.0.generation seen.live);
-  }
-    where
-      region_in : (n : Rid) (r : Region) → Alone (opening_region p) r n.0.creator n.0.slot n.0.generation → ShowsRegion w (records_of w g n.0.creator regions n.0.slot) r
-      region_in n r at =
-          subst (λ (d : ℕ). ShowsRegion w (records_of w g d regions n.0.slot) r) (sym at.creator)
-          (subst (λ (j : ℕ). ShowsRegion w (records_of w g 0 regions j) r) (sym at.place)
-          (subst (λ (q : Region). ShowsRegion w (records_of w g 0 regions 0) q) at.same region_shown))
-
-      task_in : (k : Tid) (t : Task) → Alone (opening_task p) t k.0.creator k.0.slot k.0.generation → ShowsTask w (records_of w g k.0.creator tasks k.0.slot) t
-      task_in k t at =
-          subst (λ (d : ℕ). ShowsTask w (records_of w g d tasks k.0.slot) t) (sym at.creator)
-          (subst (λ (j : ℕ). ShowsTask w (records_of w g 0 tasks j) t) (sym at.place)
-          (subst (λ (q : Task). ShowsTask w (records_of w g 0 tasks 0) q) at.same task_shown))
-
-  pub shows : Shows w g s
-  shows = record { layout = tables_give w words v opens.tables; within = within; records = records_shown }
 
 pub opening_shown : OpeningIsShown
-opening_shown = λ p w words v suits opens. shows p w words v suits opens
+opening_shown = λ p w words v suits opens.
+    alone_shown p w words (first_values p) v suits (0, lit< tt, refl) (Rules-from_accepted p).count.0 (Rules-from_accepted p).count.1 (first_held p w words v opens)
