@@ -26,6 +26,4 @@ pub use looking::{WordMemory, look_up};
 pub use reading::LayoutError;
 
 #[cfg(test)]
-mod permuted_tests;
-#[cfg(test)]
 mod tests;

@@ -69,6 +69,10 @@ fn records_are_found_again(rt: HostRuntime) -> Result<(), Fail> {
     assert_eq!(rt; layout.region_of(0x103b0 + 96), Some((0, 1)));
     assert_eq!(rt; layout.task_of(0x109b0 + 208 * 255), Some((0, 255)));
     assert_eq!(rt; layout.task_of(0x109b0 + 8), None);
+    assert_eq!(rt;
+        layout.word_at(0, 0, Field::TaskNthreads, 3),
+        0x109b0 + 8 * 21
+    );
     assert_eq!(rt; layout.threads(), 1);
     assert_eq!(rt; layout.regions_per_thread(), 16);
     assert_eq!(rt; layout.tasks_per_thread(), 256);
