@@ -155,7 +155,7 @@ le_test a b h = grind (arith, nat_tests)
 eq_test : (a b : ℕ) → a ≡ b → a == b ≡ true
 eq_test a b h = grind (arith, nat_tests)
 
-flags : (b : Bool) → flag_word b ≡ flag b
+pub flags : (b : Bool) → flag_word b ≡ flag b
 flags true = refl
 flags false = refl
 

@@ -1,9 +1,7 @@
--- A run of one thread, in closed form: what changes in it, and the state and the words that have these values.
-use Rattle.std.proofs.Common.{◌≡◌, ◌==◌, ◌&&◌, ℕ, Bool, true, false, List, [], ◌∷◌, ◌++◌, length, Some, if◌then◌else◌, refl, eqb-true}
+-- A run of one thread, in closed form: what changes in it, and the state that has these values.
+use Rattle.std.proofs.Common.{◌≡◌, ◌==◌, ◌&&◌, ℕ, Bool, true, false, List, [], ◌∷◌, Some, if◌then◌else◌, refl, eqb-true}
 use mathlib.Core.Path.{fun_ext}
-use Rattle.std.specs.Prelude.{slice_index}
 use Rattle.omi_script.specs.declared.program.Program.{Program}
-use Rattle.omi_model.specs.Numbers.{flag}
 use Rattle.omi_model.specs.declared.item.Item.{Item}
 use Rattle.omi_model.specs.Put.{put, on, first_alone, unused}
 use Rattle.omi_model.specs.declared.slot.Slot.{Slot}
@@ -11,11 +9,8 @@ use Rattle.omi_model.specs.State.{State}
 use Rattle.omi_model.specs.declared.thread.Thread.{Thread}
 use Rattle.omi_model.specs.declared.region.Region.{Region}
 use Rattle.omi_model.specs.declared.task.Task.{Task}
-use Rattle.omi_model.specs.Opening.{opening, opening_region, opening_task, initial_thread, waiting_worker, initial_task, exit_frame}
-use Rattle.omi_top.specs.Tables.{tables}
-use Rattle.omi_top.specs.Codes.{function_code, schedule_code}
-use Rattle.omi_top.specs.Layout.{task_address}
-use Rattle.omi_top.specs.OpeningWords.{runtime_record, zeros}
+use Rattle.omi_rep.proofs.Alone as alone
+use Rattle.omi_rep.proofs.Alone.{Values}
 
 -- what changes in a run: the state of thread 0, dyn-var, the head of nthreads-var and its other elements, the arrivals and releases of the initial region, and the to-do list
 pub record Now : Type 0 where
@@ -27,45 +22,22 @@ pub record Now : Type 0 where
   pub released : ℕ
   pub list : List Item
 
+-- the same, as omi_rep has them
+abbrev pub values : Now → Values
+values v = record { state = v.state; dynamic = v.dynamic; nthreads = v.head ∷ v.others; arrived = v.arrived; released = v.released; list = v.list }
+
 abbrev pub thread_at : Now → Thread
-thread_at v = record initial_thread { state = v.state }
+thread_at v = alone.thread_at (values v)
 
 abbrev pub region_at : Program → Now → Region
-region_at p v = record (opening_region p) { arrivals = v.arrived ∷ []; released = v.released }
+region_at p v = alone.region_at p (values v)
 
 abbrev pub task_at : Program → Now → Task
-task_at p v = record (opening_task p) { variables = record { dynamic = v.dynamic; nthreads = v.head ∷ v.others; schedule = p.env.sched; device = p.env.device }; list = v.list }
+task_at p v = alone.task_at p (values v)
 
 -- the state with these values
 abbrev pub state_at : Program → Now → State
-state_at p v = record (opening p) {
-  threads = λ i. if i == 0 then thread_at v else waiting_worker;
-  regions = first_alone (region_at p v);
-  tasks = first_alone (task_at p v);
-}
-
--- the records with these values
-abbrev pub thread_words : Now → List ℕ
-thread_words v = 1 ∷ 1000 ∷ task_address initial_task ∷ v.state ∷ 0 ∷ 0 ∷ []
-
-abbrev pub region_words : Program → Now → List ℕ
-region_words p v = 1 ∷ function_code p.main ∷ 0 ∷ 0 ∷ 1 ∷ 0 ∷ 0 ∷ v.released ∷ v.arrived ∷ 0 ∷ 0 ∷ task_address initial_task ∷ []
-
-abbrev pub task_words : Program → Now → List ℕ
-task_words p v =
-    1 ∷ 1 ∷ 0x103b0 ∷ 0x10380 ∷ 0 ∷ 0 ∷ 0 ∷ function_code p.main ∷ exit_frame 0 1 ∷ 0 ∷ flag v.dynamic ∷ length (v.head ∷ v.others) ∷ schedule_code p.env.sched ∷ p.env.device ∷ 0 ∷ 0 ∷ 0 ∷ 0
-    ∷ v.head ∷ slice_index v.others 0 ∷ slice_index v.others 1 ∷ slice_index v.others 2 ∷ 0 ∷ 0 ∷ 0 ∷ 0 ∷ []
-
--- the words up to the end of the initial task's record
-abbrev pub filled_at : Program → Now → List ℕ
-filled_at p v = tables ++ runtime_record p ++ thread_words v ++ region_words p v ++ zeros 180 ++ task_words p v
-
--- the words with these values, and whatever stands behind them
-abbrev pub words_at : Program → Now → List ℕ → List ℕ
-words_at p v rest = filled_at p v ++ rest
-
-pub length-filled_at : (p : Program) (v : Now) → length (filled_at p v) ≡ 336
-length-filled_at p v = refl
+state_at p v = alone.state_at p (values v)
 
 -- one place of a function that differs at 0 alone
 pub put_first : {A : Type 0} (x y d : A) → put (λ j. if j == 0 then x else d) 0 y ≡ (λ j. if j == 0 then y else d)

@@ -1,7 +1,7 @@
 -- What a command's result and its printing say of the whole call.
-use Rattle.std.proofs.Common.{◌≡◌, ◌⊎◌, inl, inr, ℕ, List, Option, Some, None, Ok, Err, refl, sym, subst}
+use Rattle.std.proofs.Common.{◌≡◌, ◌⊎◌, inl, inr, ℕ, List, Option, Some, None, Ok, Err, refl, sym, ◌∙◌, subst}
 use Rattle.std.specs.Global.{Vec}
-use Rattle.omi_outside.specs.Outside.{Told, IsPartlyPut, put_on}
+use Rattle.omi_outside.specs.Outside.{Told, IsPutCut, put_on}
 use Rattle.omi_outside.specs.declared.status.Status.{Status}
 use Rattle.omi_outside.specs.declared.status.Status.TheVariants as status
 use Rattle.omi_top.specs.Command.{Command, Stop, Show, Faulty, read_name, written_name}
@@ -33,22 +33,32 @@ stop_proper budget content refusal.NoFile fault is = fault
 stop_proper budget content (refusal.Script f) fault is = fault
 stop_proper budget content (refusal.Core at why) fault is = fault
 stop_proper budget content refusal.NotBuilt fault is = fault
+stop_proper budget content (refusal.Damaged at) fault is = fault
+stop_proper budget content refusal.Incompatible fault is = fault
 
 show_proper : (content : Option (List ℕ)) (r : Refusal) → IsFault r → IsShowAnswer content (Refuses r) → ⊥
 show_proper None refusal.ReadFault fault is = cc
 show_proper None refusal.WriteFault fault is = cc
 show_proper None refusal.OutOfMemory fault is = cc
 show_proper (Some bytes) refusal.ReadFault fault (inl (at, why, refused, is)) = cc
-show_proper (Some bytes) refusal.ReadFault fault (inr (other, is)) = cc
+show_proper (Some bytes) refusal.ReadFault fault (inr (inl (other, is))) = cc
+show_proper (Some bytes) refusal.ReadFault fault (inr (inr (inl (cause, is)))) = cc
+show_proper (Some bytes) refusal.ReadFault fault (inr (inr (inr (at, cause, is)))) = cc
 show_proper (Some bytes) refusal.WriteFault fault (inl (at, why, refused, is)) = cc
-show_proper (Some bytes) refusal.WriteFault fault (inr (other, is)) = cc
+show_proper (Some bytes) refusal.WriteFault fault (inr (inl (other, is))) = cc
+show_proper (Some bytes) refusal.WriteFault fault (inr (inr (inl (cause, is)))) = cc
+show_proper (Some bytes) refusal.WriteFault fault (inr (inr (inr (at, cause, is)))) = cc
 show_proper (Some bytes) refusal.OutOfMemory fault (inl (at, why, refused, is)) = cc
-show_proper (Some bytes) refusal.OutOfMemory fault (inr (other, is)) = cc
+show_proper (Some bytes) refusal.OutOfMemory fault (inr (inl (other, is))) = cc
+show_proper (Some bytes) refusal.OutOfMemory fault (inr (inr (inl (cause, is)))) = cc
+show_proper (Some bytes) refusal.OutOfMemory fault (inr (inr (inr (at, cause, is)))) = cc
 show_proper content refusal.Usage fault is = fault
 show_proper content refusal.NoFile fault is = fault
 show_proper content (refusal.Script f) fault is = fault
 show_proper content (refusal.Core at why) fault is = fault
 show_proper content refusal.NotBuilt fault is = fault
+show_proper content (refusal.Damaged at) fault is = fault
+show_proper content refusal.Incompatible fault is = fault
 
 proper : (command : Command) (content : Option (List ℕ)) (r : Refusal) → IsFault r → IsAnswer command content (Refuses r) → ⊥
 proper (Stop budget script core) content r fault is = stop_proper budget content r fault is
@@ -61,6 +71,8 @@ proper Faulty content refusal.NoFile fault is = fault
 proper Faulty content (refusal.Script f) fault is = fault
 proper Faulty content (refusal.Core at why) fault is = fault
 proper Faulty content refusal.NotBuilt fault is = fault
+proper Faulty content (refusal.Damaged at) fault is = fault
+proper Faulty content refusal.Incompatible fault is = fault
 
 -- printing ended well, with a fault, or for want of memory
 abbrev pub IsPrinting : Status → Type 0
@@ -68,14 +80,16 @@ IsPrinting s = (s ≡ status.Success) ⊎ ((s ≡ status.WriteFault) ⊎ (s ≡ 
 
 -- after a text and an end of its printing
 pub ok_left : (name : List ℕ) (P : Answer → Type 0) (text : Vec ℕ) (old new : Told) (s : Status) (counted : Type 0) (out after : Option (List ℕ))
-    → IsAnswered P (Ok text) old new → IsPrinting s → (s ≡ status.Success → after ≡ put_on out text.items) → IsPartlyPut text.items out after
+    → IsAnswered P (Ok text) old new → IsPrinting s → (s ≡ status.Success → after ≡ put_on out text.items) → (s ≡ status.Success) ⊎ IsPutCut text.items out after
     → IsLeft name P s old new counted out after
 ok_left name P text old new s counted out after (core, is, held) (inl e) put partly =
     subst (λ (x : Status). IsLeft name P x old new counted out after) (sym e) (core, text.items, is, held, put e)
-ok_left name P text old new s counted out after (core, is, held) (inr (inl e)) put partly =
-    subst (λ (x : Status). IsLeft name P x old new counted out after) (sym e) (core, text.items, is, inr (held, partly))
-ok_left name P text old new s counted out after (core, is, held) (inr (inr e)) put partly =
-    subst (λ (x : Status). IsLeft name P x old new counted out after) (sym e) (inr (core, text.items, is, inr (held, partly)))
+ok_left name P text old new s counted out after (core, is, held) (inr (inl e)) put (inl done) = let wrong : status.WriteFault ≡ status.Success = sym e ∙ done in absurd (cc)
+ok_left name P text old new s counted out after (core, is, held) (inr (inl e)) put (inr cut) =
+    subst (λ (x : Status). IsLeft name P x old new counted out after) (sym e) (core, text.items, is, inr (held, cut))
+ok_left name P text old new s counted out after (core, is, held) (inr (inr e)) put (inl done) = let wrong : status.OutOfMemory ≡ status.Success = sym e ∙ done in absurd (cc)
+ok_left name P text old new s counted out after (core, is, held) (inr (inr e)) put (inr cut) =
+    subst (λ (x : Status). IsLeft name P x old new counted out after) (sym e) (inr (core, text.items, is, inr (held, cut)))
 
 -- after a refusal
 pub err_left : (name : List ℕ) (command : Command) (content : Option (List ℕ)) (r : Refusal) (old new : Told) (counted : Type 0) (out after : Option (List ℕ))
@@ -95,6 +109,12 @@ err_left name command content (refusal.Core at why) old new counted out after (i
 err_left name command content refusal.NotBuilt old new counted out after (inl (is, same)) said = (refusal.NotBuilt, refl, is, same, said)
 err_left name command content refusal.NotBuilt old new counted out after (inr (inl (early, same))) said = absurd early
 err_left name command content refusal.NotBuilt old new counted out after (inr (inr (late, core, text, is, partly))) said = absurd late
+err_left name command content (refusal.Damaged at) old new counted out after (inl (is, same)) said = (refusal.Damaged at, refl, is, same, said)
+err_left name command content (refusal.Damaged at) old new counted out after (inr (inl (early, same))) said = absurd early
+err_left name command content (refusal.Damaged at) old new counted out after (inr (inr (late, core, text, is, partly))) said = absurd late
+err_left name command content refusal.Incompatible old new counted out after (inl (is, same)) said = (refusal.Incompatible, refl, is, same, said)
+err_left name command content refusal.Incompatible old new counted out after (inr (inl (early, same))) said = absurd early
+err_left name command content refusal.Incompatible old new counted out after (inr (inr (late, core, text, is, partly))) said = absurd late
 err_left name command content refusal.ReadFault old new counted out after (inl (is, same)) said = (same, said)
 err_left name command content refusal.ReadFault old new counted out after (inr (inl (early, same))) said = (same, said)
 err_left name command content refusal.ReadFault old new counted out after (inr (inr (late, core, text, is, partly))) said = absurd late

@@ -1,9 +1,9 @@
+pub mod Digits
 pub mod Alone
-pub mod Opens
 pub mod Small
+pub mod Held
 pub mod Moves
 pub mod Accepted
-pub mod Plain
 pub mod Shown
 pub mod Runs
 pub mod Stopping
@@ -11,5 +11,4 @@ pub mod Statuses
 pub mod Left
 pub mod LeftByStop
 pub mod Showing
-pub mod Looked
 pub mod LeftByShow

@@ -5,8 +5,7 @@ use Rattle.omi_outside.specs.Outside.{Told}
 use Rattle.omi_outside.specs.declared.status.Status.{Status}
 use Rattle.omi_outside.specs.declared.status.Status.TheVariants as status
 use Rattle.omi_top.specs.declared.refusal.Refusal.{Refusal}
-use Rattle.omi_top.specs.declared.refusal.Refusal.TheVariants as refusal
-use Rattle.omi_top.specs.Answer.{Answer, Refuses, Gives, IsLeft, IsFaultStatus, ComesWhere, IsBuilt}
+use Rattle.omi_top.specs.Answer.{Answer, Refuses, Gives, IsLeft, IsFaultStatus, ComesWhere}
 use Rattle.omi_top.specs.Refusal.{status_of}
 
 -- the command had an answer with a text: it is put, or the core or the output failed
@@ -32,8 +31,8 @@ module _ (name : List ℕ) (P : Answer → Type 0) (old new : Told) (counted : T
   kind status.WriteFault (core, text, is, left) = inr (inr ((core, text, is), tt))
   kind status.Script (r, is, answer, same, said) = inr (inl (r, is, answer))
   kind status.Core (r, is, answer, same, said) = inr (inl (r, is, answer))
-  kind status.Damaged left = absurd left
-  kind status.Incompatible left = absurd left
+  kind status.Damaged (r, is, answer, same, said) = inr (inl (r, is, answer))
+  kind status.Incompatible (r, is, answer, same, said) = inr (inl (r, is, answer))
   kind status.OutOfMemory left = inl tt
   kind status.NotBuilt (r, is, answer, same, said) = inr (inl (r, is, answer))
 
@@ -58,19 +57,3 @@ module _ (name : List ℕ) (P : Answer → Type 0) (old new : Told) (counted : T
             | inr (inl (r, is, answer)) ↦ inl (sym is ∙ all holds r answer)
             | inr (inr gives) ↦ absurd (none holds gives.0)
           ]
-
--- a refusal's status is one that comes today, and so is that of printing
-pub refusal_built : (r : Refusal) → IsBuilt (status_of r)
-refusal_built refusal.Usage = tt
-refusal_built refusal.NoFile = tt
-refusal_built refusal.ReadFault = tt
-refusal_built refusal.WriteFault = tt
-refusal_built (refusal.Script fault) = tt
-refusal_built (refusal.Core at why) = tt
-refusal_built refusal.NotBuilt = tt
-refusal_built refusal.OutOfMemory = tt
-
-pub printing_built : (s : Status) → (s ≡ status.Success) ⊎ ((s ≡ status.WriteFault) ⊎ (s ≡ status.OutOfMemory)) → IsBuilt s
-printing_built s (inl is) = subst (λ (x : Status). IsBuilt x) (sym is) tt
-printing_built s (inr (inl is)) = subst (λ (x : Status). IsBuilt x) (sym is) tt
-printing_built s (inr (inr is)) = subst (λ (x : Status). IsBuilt x) (sym is) tt

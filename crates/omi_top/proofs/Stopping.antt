@@ -1,9 +1,9 @@
 -- The exits of `stop`: what each result is an answer to.
-use Rattle.std.proofs.Common.{◌≡◌, ◌⊎◌, ◌<◌, inl, inr, ℕ, Bool, true, false, List, [], ◌∷◌, length, take, Option, Some, None, Ok, Err, if◌then◌else◌, refl, sym, ◌∙◌, ap, subst, arith, take_all, length-take-le, leb-false}
+use Rattle.std.proofs.Common.{◌≡◌, ◌==◌, ◌&&◌, ◌⊎◌, ◌<◌, inl, inr, ℕ, Bool, true, false, List, [], ◌∷◌, length, take, Option, Some, None, Ok, Err, if◌then◌else◌, refl, sym, ◌∙◌, ap, subst, arith, take_all, length-take-le, leb-false}
 use Rattle.std.specs.Prelude.{nat_le, IsTrue, Result}
 use Rattle.std.specs.Global.{Vec}
 use Rattle.std.proofs.lemmas.Bool.{leb-true}
-use Rattle.omi_outside.specs.Outside.{Told, holding, IsPartly}
+use Rattle.omi_outside.specs.Outside.{Told, holding, IsCut}
 use Rattle.omi_outside.specs.declared.files.Refused.{Refused as RefusedWrite}
 use Rattle.omi_outside.specs.declared.files.Refused.TheVariants as refused
 use Rattle.omi_script.specs.Errors.{IfFault}
@@ -18,15 +18,19 @@ use Rattle.omi_script.specs.declared.fault.Why.TheVariants.{OverLimit}
 use Rattle.omi_script.specs.declared.program.Program.{Program}
 use Rattle.omi_corefile.specs.Spelling.{Core, HoldsImage, core_bytes}
 use Rattle.omi_corefile.specs.declared.core_image.CoreImage.{CoreImage}
-use Rattle.omi_top.specs.LookView.{is_plain}
+use Rattle.omi_layout.specs.Family.{IsFamily}
+use Rattle.omi_layout.specs.Table.{thread_count}
+use Rattle.omi_layout.proofs.Arenas.{test_left}
+use Rattle.omi_layout.specs.Place.{image_words}
+use Rattle.omi_layout.specs.Valid.{IsValid}
+use Rattle.omi_rep.specs.Plain.{is_plain, is_plain_image, is_plain_thread, is_plain_region, is_plain_task, is_plain_list}
 use Rattle.omi_model.specs.State.{State}
 use Rattle.omi_top.specs.declared.limits.TheConstants.{SCRIPT_FRONT}
-use Rattle.omi_top.specs.Answer.{Answer, Refuses, Gives, IsAnswered, IsEarly, IsLate, IsStopAnswer, IsStopped, IsUnwritten}
+use Rattle.omi_top.specs.Answer.{Answer, Refuses, Gives, IsAnswered, IsEarly, IsLate, IsStopAnswer, IsStopped, IsUnwritten, IsOfCore}
 use Rattle.omi_top.specs.Lines.{run_text}
 use Rattle.omi_top.specs.Run.{IsRun}
 use Rattle.omi_top.specs.declared.entry.Entry.{Entry}
 use Rattle.omi_top.specs.declared.entry.End.{End}
-use Rattle.omi_top.proofs.Plain.{plain_long}
 use Rattle.omi_top.specs.Refusal.{refusal_of_write, refusal_of_script, status_of}
 use Rattle.omi_top.specs.declared.refusal.Refusal.{Refusal}
 use Rattle.omi_top.specs.declared.refusal.Refusal.TheVariants as refusal
@@ -87,7 +91,7 @@ late refused.OutOfMemory = tt
 
 -- the core is partly written
 pub partly_answered : (budget : ℕ) (content : Option (List ℕ)) (whole bytes core text : List ℕ) (p : Program) (r : RefusedWrite) (old new : Told) → content ≡ Some bytes → whole ≡ take SCRIPT_FRONT bytes
-    → Grammar whole p → IsSmall p → IsStopped p budget core text → IsPartly old new core → IsAnswered (IsStopAnswer budget content) (Err (refusal_of_write r)) old new
+    → Grammar whole p → IsSmall p → IsStopped p budget core text → IsCut old new core → IsAnswered (IsStopAnswer budget content) (Err (refusal_of_write r)) old new
 partly_answered budget content whole bytes core text p r old new is read grammar small stopped partly =
     inr (inr (late r, Some core, text, stop_answer budget content whole bytes core text p is read grammar small stopped, partly))
 
@@ -98,19 +102,29 @@ done_answered budget content whole bytes core text p old new is read grammar sma
     (Some core, stop_answer budget content whole bytes core text.items p is read grammar small stopped, held)
 
 -- a run that was made, with its core and its text
-pub made_stopped : (p : Program) (budget : ℕ) (entries : List Entry) (end : End) (words contexts core text : List ℕ) → (s : State) × IsRun p budget entries end words s → IsTrue (is_plain words) → contexts ≡ 1000 ∷ []
+pub made_stopped : (w : List ℕ) (p : Program) (budget : ℕ) (entries : List Entry) (end : End) (words contexts core text : List ℕ) → IsValid w → IsFamily 0 p.threads w
+    → (s : State) × IsRun w p budget entries end words s → IsTrue (is_plain w words) → contexts ≡ 1000 ∷ []
     → (0 < length words → core ≡ core_bytes contexts words) → (0 < length words → (c : CoreImage) × Core core c × HoldsImage contexts words c) → text ≡ run_text entries end → IsStopped p budget core text
-made_stopped p budget entries end words contexts core text (s, run) plain are bytes image lines =
-    let some : 0 < length words = omega (arith, plain_long words plain) in
+made_stopped w p budget entries end words contexts core text valid family (s, run) plain are bytes image lines =
+    let image_is : is_plain_image w words ≡ true = test_left (is_plain_image w words) (is_plain_thread w words && (is_plain_region w words && (is_plain_task w words && is_plain_list w words))) plain in
+    let long = leb-true (image_words w) (length words) (test_left (nat_le (image_words w) (length words)) (thread_count w == 1) image_is) in
+    let some : 0 < length words = omega (arith, long) in
     let (c, spelled, holds) = image some in
     record {
+      w = w;
+      family = family;
       entries = entries;
       end = end;
       words = words;
       state = s;
       run = run;
       core_is = bytes some ∙ ap (λ (ids : List ℕ). core_bytes ids words) are;
-      plain = record { core = c; spelled = spelled; plain = record { image = record { order = holds.order; contexts_are = holds.contexts_are ∙ are; segments = holds.segments }; plain = plain } };
+      plain = record {
+        image_core = record { core = c; spelled = spelled; image = record { order = holds.order; contexts_are = holds.contexts_are ∙ are; segments = holds.segments } };
+        layout = run.shows.layout;
+        valid = valid;
+        plain = plain;
+      };
       text_is = lines;
     }
 
@@ -158,3 +172,13 @@ write_failed refused.OutOfMemory is = absurd (cc)
 pub never_unwritten : (r : RefusedWrite) → IsUnwritten (status_of (refusal_of_write r)) → ⊥
 never_unwritten refused.Failed unwritten = unwritten
 never_unwritten refused.OutOfMemory unwritten = unwritten
+
+-- no refusal of `stop` is one of a core
+pub never_of_core : (budget : ℕ) (bytes : List ℕ) (r : Refusal) → IsStopAnswer budget (Some bytes) (Refuses r) ⊎ (r ≡ refusal.OutOfMemory) → IsOfCore (status_of r) → ⊥
+never_of_core budget bytes r (inl (inl (fault, why, same))) is = subst (λ (x : Refusal). IsOfCore (status_of x)) same is
+never_of_core budget bytes r (inl (inr (other, same))) is = subst (λ (x : Refusal). IsOfCore (status_of x)) same is
+never_of_core budget bytes r (inr same) is = subst (λ (x : Refusal). IsOfCore (status_of x)) same is
+
+pub write_not_of_core : (r : RefusedWrite) → IsOfCore (status_of (refusal_of_write r)) → ⊥
+write_not_of_core refused.Failed is = is
+write_not_of_core refused.OutOfMemory is = is

@@ -1,12 +1,15 @@
 -- What a command is to answer, by what is told of the file that it reads, and what a call leaves.
 use Rattle.std.specs.Prelude.{◌≡◌, ◌⊎◌, ℕ, List, [], ◌∷◌, Option, Some, None, Result, Ok, Err, ⊤}
 use Rattle.std.specs.Global.{Vec}
-use Rattle.omi_outside.specs.Outside.{Told, holding, IsPartly, IsPartlyPut, put_on, Rose}
+use Rattle.omi_outside.specs.Outside.{Told, holding, IsCut, IsPutCut, put_on, Rose}
 use Rattle.omi_outside.specs.declared.status.Status.{Status}
 use Rattle.omi_outside.specs.declared.status.Status.TheVariants as status
-use Rattle.omi_corefile.specs.Spelling.{Core, core_bytes}
+use Rattle.omi_corefile.specs.Spelling.{core_bytes}
+use Rattle.omi_layout.specs.Family.{IsFamily}
+use Rattle.omi_layout.specs.SymbolTable.{words_of}
+use Rattle.omi_layout.specs.declared.reading.LayoutError.{LayoutError}
+use Rattle.omi_rep.specs.LookView.{look_view}
 use Rattle.omi_corefile.specs.Refusals.{CoreRefused}
-use Rattle.omi_corefile.specs.declared.core_image.CoreImage.{CoreImage}
 use Rattle.omi_corefile.specs.declared.fault.CoreFault.{CoreFault}
 use Rattle.omi_script.specs.Grammar.{Grammar, Refused}
 use Rattle.omi_script.specs.Small.{IsSmall}
@@ -19,35 +22,24 @@ use Rattle.omi_top.specs.declared.entry.Entry.{Entry}
 use Rattle.omi_top.specs.declared.entry.End.{End}
 use Rattle.omi_top.specs.declared.refusal.Refusal.{Refusal}
 use Rattle.omi_top.specs.declared.refusal.Refusal.TheVariants as refusal
-use Rattle.omi_top.specs.Codes.{native_id}
 use Rattle.omi_top.specs.Command.{Command, Stop, Show, Faulty}
 use Rattle.omi_text.specs.Report.{report}
+use Rattle.omi_top.specs.Cores.{one_thread, IsPlainCore, IsOtherImage, IsOtherShape, IsUnreadCore, LacksTable, IsWrongAt}
 use Rattle.omi_top.specs.Lines.{run_text}
-use Rattle.omi_top.specs.LookView.{IsPlain, look_view}
 use Rattle.omi_top.specs.Refusal.{line_of, status_of}
 use Rattle.omi_top.specs.Run.{IsRun}
 
--- a file is a plain core with these words
-pub record IsPlainCore (bytes words : List ℕ) : Type 0 where
-  pub core : CoreImage
-  pub spelled : Core bytes core
-  pub plain : IsPlain core words
-
--- a file is a core, and none that `show` reads yet
-pub record IsOtherCore (bytes : List ℕ) : Type 0 where
-  pub core : CoreImage
-  pub spelled : Core bytes core
-  pub other : (words : List ℕ) → IsPlain core words → ⊥
-
--- a run of the program, whose last words are this core, and whose events and end are this text. The core is plain, so that `show` reads it
+-- a run of the program in the layout of family 0, whose last words are this core, and whose events and end are this text. The core is plain, so that `show` reads it
 pub record IsStopped (p : Program) (budget : ℕ) (core text : List ℕ) : Type 0 where
+  pub w : List ℕ
+  pub family : IsFamily 0 p.threads w
   pub entries : List Entry
   pub end : End
   pub words : List ℕ
   pub state : State
-  pub run : IsRun p budget entries end words state
-  pub core_is : core ≡ core_bytes (native_id 0 ∷ []) words
-  pub plain : IsPlainCore core words
+  pub run : IsRun w p budget entries end words state
+  pub core_is : core ≡ core_bytes one_thread words
+  pub plain : IsPlainCore core w words
   pub text_is : text ≡ run_text entries end
 
 -- the answer to a command: a refusal, or the bytes of the core that it writes, if it writes one, and a text
@@ -72,15 +64,34 @@ IsStopAnswer budget (Some bytes) (Gives None text) = ⊥
 IsStopAnswer budget (Some bytes) (Gives (Some core) text) = (p : Program) × Grammar bytes p
     × IsSmall p × IsStopped p budget core text
 
--- an answer of `show`, by the content of the core's file: none, bytes that are no core, another core, or a plain core
+-- a file is a core, and none that `show` reads yet
+abbrev pub IsOtherCore : List ℕ → Type 0
+IsOtherCore bytes = IsOtherShape bytes ⊎ IsOtherImage bytes
+
+-- a file is a core of one thread in whose words no layout table of this version is found
+abbrev pub IsIncompatibleCore : List ℕ → Type 0
+IsIncompatibleCore bytes = (cause : LayoutError) × IsUnreadCore bytes cause × LacksTable cause
+
+-- a file is a core of one thread whose layout table is wrong, at the word with this byte address
+abbrev pub IsDamagedCore : List ℕ → ℕ → Type 0
+IsDamagedCore bytes at = (cause : LayoutError) × IsUnreadCore bytes cause × IsWrongAt cause at
+
+-- a text is the report of these words: of what a plain look at them gives
+abbrev pub IsReportOf : List ℕ → List ℕ → List ℕ → Type 0
+IsReportOf w words text = (v : View) × (look_view w (words_of words) one_thread ≡ Ok v)
+    × (text ≡ report v)
+
+-- an answer of `show`, by the content of the core's file: none, bytes that are no core, another core, one that gives no layout, or a plain core
 abbrev pub IsShowAnswer : Option (List ℕ) → Answer → Type 0
 IsShowAnswer None (Refuses r) = r ≡ refusal.NoFile
 IsShowAnswer None (Gives core text) = ⊥
 IsShowAnswer (Some bytes) (Refuses r) =
     ((at : ℕ) × (why : CoreFault) × CoreRefused bytes at why × (r ≡ refusal.Core at why))
-    ⊎ (IsOtherCore bytes × (r ≡ refusal.NotBuilt))
-IsShowAnswer (Some bytes) (Gives None text) = (words : List ℕ) × IsPlainCore bytes words
-    × (text ≡ report (look_view words))
+    ⊎ ((IsOtherCore bytes × (r ≡ refusal.NotBuilt))
+    ⊎ ((IsIncompatibleCore bytes × (r ≡ refusal.Incompatible))
+    ⊎ ((at : ℕ) × IsDamagedCore bytes at × (r ≡ refusal.Damaged at))))
+IsShowAnswer (Some bytes) (Gives None text) = (w : List ℕ) × (words : List ℕ)
+    × IsPlainCore bytes w words × IsReportOf w words text
 IsShowAnswer (Some bytes) (Gives (Some core) text) = ⊥
 
 -- an answer of a command, by the content of the file that it reads
@@ -101,14 +112,14 @@ IsLate refusal.WriteFault = ⊤
 IsLate refusal.OutOfMemory = ⊤
 IsLate r = ⊥
 
--- the file holds what a command writes, or a part of it. A command that writes nothing leaves it.
+-- the file holds what a command writes, or is as before or holds a front of that which is not all. A command that writes nothing leaves it.
 abbrev pub Holds : Option (List ℕ) → Told → Told → Type 0
 Holds None old new = new ≡ old
 Holds (Some core) old new = new ≡ holding old core
 
 abbrev pub HoldsPart : Option (List ℕ) → Told → Told → Type 0
 HoldsPart None old new = new ≡ old
-HoldsPart (Some core) old new = IsPartly old new core
+HoldsPart (Some core) old new = IsCut old new core
 
 -- What a command gave, and what it left of the file that it writes: the answer and the core; the answer's refusal; or a fault, before the core or within it.
 abbrev pub IsAnswered : (Answer → Type 0) → Result (Vec ℕ) Refusal → Told → Told → Type 0
@@ -129,11 +140,11 @@ abbrev pub IsSaid : Option (List ℕ) → Type 0 → Option (List ℕ) → Optio
 IsSaid None counted old new = new ≡ old
 IsSaid (Some line) counted old new = (new ≡ put_on old line) ⊎ ((new ≡ old) × counted)
 
--- the file and the output after a fault: an answer's core is partly written and nothing put, or the core is whole and its text partly put
+-- the file and the output after a fault: an answer's core is partly written and nothing put, or the core is whole and a front of its text put, which is not all
 abbrev pub IsPartlyDone : (Answer → Type 0) → Told → Told → Option (List ℕ) → Option (List ℕ)
     → Type 0
 IsPartlyDone P old new out after = (core : Option (List ℕ)) × (text : List ℕ) × P (Gives core text)
-    × ((HoldsPart core old new × (after ≡ out)) ⊎ (Holds core old new × IsPartlyPut text out after))
+    × ((HoldsPart core old new × (after ≡ out)) ⊎ (Holds core old new × IsPutCut text out after))
 
 -- a refusal with this status is the answer, nothing is written, and its line is said
 abbrev pub IsRefused : List ℕ → (Answer → Type 0) → Status → Told → Told → Type 0 → Option (List ℕ)
@@ -159,12 +170,15 @@ IsLeft name P status.Core old new counted out after =
     IsRefused name P status.Core old new counted out after
 IsLeft name P status.NotBuilt old new counted out after =
     IsRefused name P status.NotBuilt old new counted out after
+IsLeft name P status.Damaged old new counted out after =
+    IsRefused name P status.Damaged old new counted out after
+IsLeft name P status.Incompatible old new counted out after =
+    IsRefused name P status.Incompatible old new counted out after
 IsLeft name P status.ReadFault old new counted out after =
     (new ≡ old) × IsSaid (line_of name refusal.ReadFault) counted out after
 IsLeft name P status.WriteFault old new counted out after = IsPartlyDone P old new out after
 IsLeft name P status.OutOfMemory old new counted out after = ((new ≡ old) × (after ≡ out))
     ⊎ IsPartlyDone P old new out after
-IsLeft name P other old new counted out after = ⊥
 
 -- a call with this status wrote nothing
 abbrev pub IsUnwritten : Status → Type 0
@@ -174,6 +188,8 @@ IsUnwritten status.ReadFault = ⊤
 IsUnwritten status.Script = ⊤
 IsUnwritten status.Core = ⊤
 IsUnwritten status.NotBuilt = ⊤
+IsUnwritten status.Damaged = ⊤
+IsUnwritten status.Incompatible = ⊤
 IsUnwritten other = ⊥
 
 -- a fault of the outside before the command answers, or want of memory
@@ -189,15 +205,16 @@ ComesWhere status result fact = (result ≡ status → fact)
 
 -- what `show` makes of the core that a run left: it puts the report of the run's state, unless a file or the output fails or memory runs out
 abbrev pub IsShownAgain : State → Status → Option (List ℕ) → Option (List ℕ) → Type 0
-IsShownAgain s status.Success out after = (v : View) × IsViewOf s (native_id 0 ∷ []) v
+IsShownAgain s status.Success out after = (v : View) × IsViewOf s one_thread v
     × (after ≡ put_on out (report v))
 IsShownAgain s status.ReadFault out after = ⊤
 IsShownAgain s status.WriteFault out after = ⊤
 IsShownAgain s status.OutOfMemory out after = ⊤
 IsShownAgain s other out after = ⊥
 
--- no command of this stage judges the records or the layout of a core, so the statuses of these two never come
-abbrev pub IsBuilt : Status → Type 0
-IsBuilt status.Damaged = ⊥
-IsBuilt status.Incompatible = ⊥
-IsBuilt other = ⊤
+-- a core is refused: of another kind, or for the layout in its words
+abbrev pub IsOfCore : Status → Type 0
+IsOfCore status.Core = ⊤
+IsOfCore status.Damaged = ⊤
+IsOfCore status.Incompatible = ⊤
+IsOfCore other = ⊥

@@ -13,10 +13,15 @@ use Rattle.omi_outside.specs.declared.files.Refused.{Refused}
 use Rattle.omi_outside.specs.declared.files.Refused.TheVariants as refused
 use Rattle.omi_outside.specs.declared.status.Status.{Status}
 use Rattle.omi_outside.specs.declared.status.Status.TheVariants as status
+use Rattle.omi_layout.specs.Field.{name_of}
+use Rattle.omi_layout.specs.declared.fault.LayoutFault.TheVariants.{Version}
+use Rattle.omi_layout.specs.declared.reading.LayoutError.{LayoutError}
+use Rattle.omi_layout.specs.declared.reading.LayoutError.TheVariants as layout
+use Rattle.omi_text.specs.Numbers.{hexadecimal}
 use Rattle.omi_top.specs.declared.refusal.Refusal.{Refusal}
 use Rattle.omi_top.specs.declared.refusal.Refusal.TheVariants as refusal
 
--- what a refused write, and the error of a script or of a core, are handed on as
+-- what a refused write, and the error of a script, of a core or of the layout in its words, are handed on as
 abbrev pub refusal_of_write : Refused → Refusal
 refusal_of_write refused.Failed = refusal.WriteFault
 refusal_of_write refused.OutOfMemory = refusal.OutOfMemory
@@ -29,6 +34,12 @@ abbrev pub refusal_of_core : CoreError → Refusal
 refusal_of_core (core.Fault at why) = refusal.Core at why
 refusal_of_core core.OutOfMemory = refusal.OutOfMemory
 
+abbrev pub refusal_of_layout : LayoutError → Refusal
+refusal_of_layout layout.NoSymbol = refusal.Incompatible
+refusal_of_layout (layout.Unmapped addr) = refusal.Incompatible
+refusal_of_layout (layout.Refused addr (Version v)) = refusal.Incompatible
+refusal_of_layout (layout.Refused addr other) = refusal.Damaged addr
+
 -- the status of a refusal
 abbrev pub status_of : Refusal → Status
 status_of refusal.Usage = status.Usage
@@ -38,6 +49,8 @@ status_of refusal.WriteFault = status.WriteFault
 status_of (refusal.Script fault) = status.Script
 status_of (refusal.Core at why) = status.Core
 status_of refusal.NotBuilt = status.NotBuilt
+status_of (refusal.Damaged at) = status.Damaged
+status_of refusal.Incompatible = status.Incompatible
 status_of refusal.OutOfMemory = status.OutOfMemory
 
 -- line, number and name of a fault of a script
@@ -52,6 +65,10 @@ core_fault_line at why =
     codes "core " ++ (decimal at ++ (codes " " ++ (decimal (number_of why)
     ++ (codes " " ++ (text_of why ++ 10 ∷ [])))))
 
+-- the address of a word that is wrong, and the name of what it belongs to: the layout table
+abbrev pub damaged_line : ℕ → List ℕ
+damaged_line at = codes "damaged " ++ (hexadecimal at ++ (codes " " ++ (name_of 0 ++ 10 ∷ [])))
+
 -- the line that a refusal prints, where the command reads the file of this name
 abbrev pub line_of : List ℕ → Refusal → Option (List ℕ)
 line_of name refusal.Usage = Some (codes "usage" ++ 10 ∷ [])
@@ -60,5 +77,7 @@ line_of name refusal.ReadFault = Some (codes "read fault " ++ (name ++ 10 ∷ []
 line_of name (refusal.Script fault) = Some (fault_line fault)
 line_of name (refusal.Core at why) = Some (core_fault_line at why)
 line_of name refusal.NotBuilt = Some (codes "not built" ++ 10 ∷ [])
+line_of name (refusal.Damaged at) = Some (damaged_line at)
+line_of name refusal.Incompatible = Some (codes "incompatible" ++ 10 ∷ [])
 line_of name refusal.WriteFault = None
 line_of name refusal.OutOfMemory = None

@@ -7,31 +7,44 @@ use Rattle.omi_script.specs.declared.statement.Stmt.TheVariants as stmt
 use Rattle.omi_model.specs.declared.event.Event.{Event}
 use Rattle.omi_model.specs.declared.event.Event.TheVariants as event
 use Rattle.omi_model.specs.Numbers.{dyn_var, nthreads_var, flag, wait_barrier_implicit_parallel}
+use Rattle.omi_layout.specs.declared.field.Field.{Field}
+use Rattle.omi_layout.specs.declared.field.Field.TheVariants.{ThreadNative, ThreadState, RegionReleased, RegionArrived, TaskDynamic, TaskNthreads}
+use Rattle.omi_layout.specs.Memory.{word_address}
+use Rattle.omi_layout.specs.Named.{number}
 use Rattle.omi_top.specs.declared.entry.End.{End}
 use Rattle.omi_top.specs.declared.entry.End.TheVariants as end
 use Rattle.omi_top.specs.declared.runner.Counter.{Counter}
 use Rattle.omi_top.specs.declared.runner.Counter.TheVariants as counter
 
--- a load of the native id of thread 0
-abbrev pub own_load : Op
-own_load = op.Load 0x10388
+-- the address of the first word of a field of the record of thread 0, of the initial region or of the initial task
+abbrev pub first_address : List ℕ → Field → ℕ
+first_address w f = word_address w 0 0 (number f) 0
 
--- a statement
-abbrev pub statement_step : Stmt → Op × Event
-statement_step (stmt.SetNumThreads n) = (op.Store 0x10a40 n, event.Set nthreads_var n)
-statement_step (stmt.SetDynamic b) = (op.Store 0x10a00 (flag b), event.Set dyn_var (flag b))
-statement_step s = (own_load, event.Work)
+module _ (w : List ℕ) where
+  -- a load of the native id of thread 0
+  abbrev pub own_load : Op
+  own_load = op.Load (first_address w ThreadNative)
 
--- the step at a counter
-abbrev pub step_at : List Stmt → Counter → Op × Event
-step_at body (counter.Statement at) = statement_step (slice_index_or body at stmt.Work)
-step_at body counter.Show =
-    (op.Store 0x10398 wait_barrier_implicit_parallel, event.State wait_barrier_implicit_parallel 0)
-step_at body counter.Arrive = (op.Add 0x103f0 1, event.Arrive)
-step_at body counter.Release = (op.Store 0x103e8 1, event.Release)
-step_at body counter.Pass = (op.Load 0x103e8, event.Pass)
-step_at body counter.Done = (own_load, event.Done)
-step_at body counter.Over = (own_load, event.Done)
+  -- a statement
+  abbrev pub statement_step : Stmt → Op × Event
+  statement_step (stmt.SetNumThreads n) =
+      (op.Store (first_address w TaskNthreads) n, event.Set nthreads_var n)
+  statement_step (stmt.SetDynamic b) =
+      (op.Store (first_address w TaskDynamic) (flag b), event.Set dyn_var (flag b))
+  statement_step s = (own_load, event.Work)
+
+  -- the step at a counter
+  abbrev pub step_at : List Stmt → Counter → Op × Event
+  step_at body (counter.Statement at) = statement_step (slice_index_or body at stmt.Work)
+  step_at body counter.Show = (
+    op.Store (first_address w ThreadState) wait_barrier_implicit_parallel,
+    event.State wait_barrier_implicit_parallel 0,
+  )
+  step_at body counter.Arrive = (op.Add (first_address w RegionArrived) 1, event.Arrive)
+  step_at body counter.Release = (op.Store (first_address w RegionReleased) 1, event.Release)
+  step_at body counter.Pass = (op.Load (first_address w RegionReleased), event.Pass)
+  step_at body counter.Done = (own_load, event.Done)
+  step_at body counter.Over = (own_load, event.Done)
 
 -- the counter behind the last statement. A state is shown only where states are kept
 abbrev pub ending : Bool → Counter

@@ -6,20 +6,19 @@ mod entry;
 mod limits;
 mod lines;
 mod load;
-mod look;
-mod opening;
 mod refusal;
 mod refusal_line;
 mod runner;
 mod show;
 mod stop;
-mod tables;
 mod top;
 
 pub use entry::{End, Entry};
 pub use refusal::Refusal;
 pub use top::run_top;
 
+#[cfg(test)]
+mod layout_tests;
 #[cfg(test)]
 mod show_tests;
 #[cfg(test)]

@@ -1,13 +1,15 @@
 //! The line that a refusal prints, made in room that was taken before a file was touched.
 
-ghost use Rattle.std.specs.Prelude.{◌≡◌, ◌+◌, ◌≤◌, ◌++◌, [], length, string_bytes, IfOk};
+ghost use Rattle.std.specs.Prelude.{◌≡◌, ◌+◌, ◌≤◌, ◌<◌, ◌^◌, ◌++◌, ◌∷◌, [], false, length, string_bytes, IfOk};
+ghost use Rattle.std.specs.Fmt.{digit_glyph, digits_onto};
 ghost use Rattle.std.specs.String.{string_len, string_capacity};
 ghost use Rattle.std.specs.List.{flat_map, sum_by};
 ghost use Rattle.std.specs.Option.{option_map};
-ghost use Rattle.omi_top.specs.Refusal.{line_of as refusal_line};
+ghost use Rattle.omi_top.specs.Refusal.{damaged_line, line_of as refusal_line};
 
 use crate::Refusal;
 use itoa::Buffer;
+use omi_layout::field_name;
 use std::alloc::{AllocError, Global};
 
 /// The most bytes of a refusal's line besides the name of a file.
@@ -25,12 +27,67 @@ pub fn room_for(alloc: Global, name: &str) -> Result<String, AllocError>
 fn push_all(room: &mut String, pieces: &[&str])
     requires { string_len room.old + sum_by (λ piece. length piece.now) pieces.now
         ≤ string_capacity room.old }
-    ensures { string_bytes room.new ≡ string_bytes room.old
+    ensures added { string_bytes room.new ≡ string_bytes room.old
         ++ flat_map (λ piece. piece.now) pieces.now }
+    ensures room { string_capacity room.old ≤ string_capacity room.new }
 {
     for piece in pieces {
         room.push_str(piece).unwrap();
     }
+}
+
+/// A hexadecimal digit, by its value.
+fn digit(value: u64) -> &'static str
+    requires { value < 16 }
+    ensures { result.now ≡ digit_glyph false value ∷ [] }
+{
+    match value {
+        0 => "0",
+        1 => "1",
+        2 => "2",
+        3 => "3",
+        4 => "4",
+        5 => "5",
+        6 => "6",
+        7 => "7",
+        8 => "8",
+        9 => "9",
+        10 => "a",
+        11 => "b",
+        12 => "c",
+        13 => "d",
+        14 => "e",
+        15 => "f",
+        _ => unreachable!(),
+    }
+}
+
+/// Adds the hexadecimal digits of a number that has at most `most` of them, for which there is room.
+fn push_digits(room: &mut String, number: u64, most: u8)
+    requires some { 1 ≤ most }
+    requires few { number < 16 ^ most }
+    requires enough { string_len room.old + most ≤ string_capacity room.old }
+    ensures added { string_bytes room.new
+        ≡ string_bytes room.old ++ digits_onto most 16 false number [] }
+    ensures length { string_len room.new ≤ string_len room.old + most }
+    ensures room { string_capacity room.old ≤ string_capacity room.new }
+{
+    if number < 16 {
+        room.push_str(digit(number)).unwrap();
+    } else {
+        push_digits(room, number / 16, most - 1);
+        room.push_str(digit(number % 16)).unwrap();
+    }
+}
+
+/// Adds the line on the word of a layout table that is wrong, by its byte address.
+fn push_damaged(room: &mut String, at: u64)
+    requires { string_len room.old + 64 ≤ string_capacity room.old }
+    ensures { string_bytes room.new ≡ string_bytes room.old ++ damaged_line at }
+{
+    push_all(room, &["damaged ", "0x"]);
+    push_digits(room, at, 16);
+    push_all(room, &[" ", field_name(0), "\n"]);
 }
 
 /// The line of a refusal of a command that reads the file of this name, if it prints one.
@@ -42,6 +99,7 @@ pub fn line_of<'a>(name: &str, refusal: Refusal, room: &'a mut String) -> Option
     match refusal {
         Refusal::Usage => return Some("usage\n"),
         Refusal::NotBuilt => return Some("not built\n"),
+        Refusal::Incompatible => return Some("incompatible\n"),
         Refusal::WriteFault | Refusal::OutOfMemory => return None,
         Refusal::NoFile => push_all(room, &["no file ", name, "\n"]),
         Refusal::ReadFault => push_all(room, &["read fault ", name, "\n"]),
@@ -55,6 +113,7 @@ pub fn line_of<'a>(name: &str, refusal: Refusal, room: &'a mut String) -> Option
                 &["script ", line, " ", number, " ", fault.why.text(), "\n"],
             );
         }
+        Refusal::Damaged(at) => push_damaged(room, at),
         Refusal::Core(at, why) => {
             let mut place = Buffer::new();
             let mut number = Buffer::new();

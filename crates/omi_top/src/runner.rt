@@ -6,14 +6,20 @@ ghost use Rattle.omi_word.specs.Memory.{address_of, IsWordOf, word_at, after as 
 ghost use Rattle.omi_script.specs.Small.{is_small_statement};
 
 use crate::entry::{End, Entry};
-use crate::tables::{
-    ARRIVED, DYN_VAR, DYNAMIC, NATIVE, NTHREADS, NTHREADS_VAR, RELEASED, STATE,
-    WAIT_BARRIER_IMPLICIT_PARALLEL,
-};
+use omi_layout::{Field, Layout};
 use omi_model::Event;
 use omi_script::{Program, Stmt, StmtList};
 use omi_word::{Image, Op, OutOfMemory};
 use std::alloc::Global;
+
+/// The number of dyn-var.
+const DYN_VAR: u32 = 1;
+
+/// The number of nthreads-var.
+const NTHREADS_VAR: u32 = 2;
+
+/// The state of a thread that waits at the implicit barrier of a parallel region.
+const WAIT_BARRIER_IMPLICIT_PARALLEL: u32 = 0x011;
 
 /// What thread 0 does next: a statement of `main` by its place, or a part of the program's end.
 #[derive(Clone, Copy)]
@@ -30,22 +36,31 @@ pub enum Counter {
 ghost use Rattle.omi_script.specs.Bodies.{body_of};
 ghost use Rattle.omi_script.specs.Small.{IsSmall};
 ghost use Rattle.omi_model.specs.State.{State};
-ghost use Rattle.omi_top.specs.OpeningWords.{opening_words};
-ghost use Rattle.omi_top.specs.Runner.{statement_step, step_at, counter_at, next_of, end_of, IsAt};
+ghost use Rattle.omi_layout.specs.OpeningWords.{AreOpening};
+ghost use Rattle.omi_layout.specs.Place.{fits};
+ghost use Rattle.omi_layout.specs.Table.{thread_count};
+ghost use Rattle.omi_rep.specs.Plain.{is_plain};
+ghost use Rattle.omi_top.specs.Runner.{first_address as address_at, statement_step, step_at, counter_at, next_of, end_of, IsAt};
 ghost use Rattle.omi_top.specs.Run.{IsRun};
-ghost use Rattle.omi_top.specs.LookView.{is_plain};
+
+/// The byte address of the first word of a field of the record of thread 0, of the initial region or of the initial task.
+fn first_address(layout: &Layout, field: Field) -> u64
+    ensures { result ≡ address_at layout.now.table field }
+{
+    layout.word_at(0, 0, field, 0)
+}
 
 /// The operation and the event of a statement.
-fn of_statement(statement: &Stmt) -> (Op, Event)
+fn of_statement(layout: &Layout, statement: &Stmt) -> (Op, Event)
     requires { IsTrue (is_small_statement statement.now) }
-    ensures { result ≡ statement_step statement.now }
+    ensures { result ≡ statement_step layout.now.table statement.now }
 {
     match statement {
         Stmt::SetNumThreads(n) => {
             let value = u64::from(*n);
             (
                 Op::Store {
-                    at: NTHREADS,
+                    at: first_address(layout, Field::TaskNthreads),
                     new: value,
                 },
                 Event::Set {
@@ -58,7 +73,7 @@ fn of_statement(statement: &Stmt) -> (Op, Event)
             let value = u64::from(*b);
             (
                 Op::Store {
-                    at: DYNAMIC,
+                    at: first_address(layout, Field::TaskDynamic),
                     new: value,
                 },
                 Event::Set {
@@ -67,22 +82,25 @@ fn of_statement(statement: &Stmt) -> (Op, Event)
                 },
             )
         }
-        Stmt::Work => (Op::Load { at: NATIVE }, Event::Work),
+        Stmt::Work => {
+            let at = first_address(layout, Field::ThreadNative);
+            (Op::Load { at }, Event::Work)
+        }
         _ => unreachable!(),
     }
 }
 
 /// The operation and the event at a counter.
-fn step_of(body: &StmtList, counter: Counter) -> (Op, Event)
+fn step_of(layout: &Layout, body: &StmtList, counter: Counter) -> (Op, Event)
     requires small { IsTrue (list_all is_small_statement body.now) }
     requires at { IsAt (length body.now) counter }
-    ensures { result ≡ step_at body.now counter }
+    ensures { result ≡ step_at layout.now.table body.now counter }
 {
     match counter {
-        Counter::Statement(at) => of_statement(body.get(at)),
+        Counter::Statement(at) => of_statement(layout, body.get(at)),
         Counter::Show => (
             Op::Store {
-                at: STATE,
+                at: first_address(layout, Field::ThreadState),
                 new: u64::from(WAIT_BARRIER_IMPLICIT_PARALLEL),
             },
             Event::State {
@@ -90,16 +108,22 @@ fn step_of(body: &StmtList, counter: Counter) -> (Op, Event)
                 wait: 0,
             },
         ),
-        Counter::Arrive => (Op::Add { at: ARRIVED, by: 1 }, Event::Arrive),
-        Counter::Release => (
-            Op::Store {
-                at: RELEASED,
-                new: 1,
-            },
-            Event::Release,
-        ),
-        Counter::Pass => (Op::Load { at: RELEASED }, Event::Pass),
-        Counter::Done | Counter::Over => (Op::Load { at: NATIVE }, Event::Done),
+        Counter::Arrive => {
+            let at = first_address(layout, Field::RegionArrived);
+            (Op::Add { at, by: 1 }, Event::Arrive)
+        }
+        Counter::Release => {
+            let at = first_address(layout, Field::RegionReleased);
+            (Op::Store { at, new: 1 }, Event::Release)
+        }
+        Counter::Pass => {
+            let at = first_address(layout, Field::RegionReleased);
+            (Op::Load { at }, Event::Pass)
+        }
+        Counter::Done | Counter::Over => {
+            let at = first_address(layout, Field::ThreadNative);
+            (Op::Load { at }, Event::Done)
+        }
     }
 }
 
@@ -160,15 +184,18 @@ fn end(budget: u64, all: u64) -> End
 /// taken before the first.
 pub fn run(
     alloc: Global,
+    layout: &Layout,
     p: &Program,
     image: &mut Image,
     budget: u64,
 ) -> Result<(Vec<Entry>, End), OutOfMemory>
     requires small { IsSmall p.now }
-    requires opening { image.old ≡ opening_words p.now }
+    requires opening { AreOpening p.now layout.now.table image.old }
+    requires fits { IsTrue (fits layout.now.table (length image.old)) }
+    requires threads { p.now.threads ≡ thread_count layout.now.table }
     ensures run { IfOk result (λ made. (s : State)
-        × IsRun p.now budget made.0.items made.1 image.new s) }
-    ensures plain { IfOk result (λ made. IsTrue (is_plain image.new)) }
+        × IsRun layout.now.table p.now budget made.0.items made.1 image.new s) }
+    ensures plain { IfOk result (λ made. IsTrue (is_plain layout.now.table image.new)) }
 {
     let body = main_body(p);
     let count = body.len();
@@ -178,7 +205,7 @@ pub fn run(
     let mut entries = Vec::with_capacity(alloc, most)?;
     let mut counter = at_place(count, 0, kept);
     for _turn in 0..most {
-        let (op, event) = step_of(body, counter);
+        let (op, event) = step_of(layout, body, counter);
         let found = image.apply(op);
         append(&mut entries, op, found.old, event);
         counter = following(count, counter, kept);

@@ -1,24 +1,27 @@
 //! The command `show`.
 
-ghost use Rattle.std.specs.Prelude.{◌≡◌, ◌≢◌, ◌⊎◌, ◌<◌, List, ℕ, Option, Some, None, IfOk, IfErr, IfSome, IsErrOf, length, take};
+ghost use Rattle.std.specs.Prelude.{◌≡◌, ◌≢◌, ◌⊎◌, List, ℕ, Option, Some, None, IfOk, IfErr, IfSome, IsErrOf};
+ghost use Rattle.omi_corefile.specs.Spelling.{HoldsImage};
 ghost use Rattle.omi_outside.specs.Outside.{HasCause, Told};
 ghost use Rattle.omi_top.specs.Answer.{Refuses, Gives, IsAnswered, IsShowAnswer};
-ghost use Rattle.omi_top.specs.LookView.{IsPlain};
+ghost use Rattle.omi_top.specs.Cores.{one_thread};
 
 use crate::Refusal;
 use crate::limits::CORE_FRONT;
 use crate::load::load;
-use crate::look::{is_plain_core, look};
 use omi_corefile::{CoreImage, decode};
+use omi_layout::Layout;
 use omi_outside::Files;
+use omi_rep::{is_plain, plain_view};
 use omi_text::report_text;
 use omi_word::{FIRST_ADDRESS, Natives};
 use std::alloc::Global;
 
-/// The words of a plain core.
-fn plain_words(core: &CoreImage) -> Option<&Natives>
-    ensures found { IfSome result (λ words. IsPlain core.now words.now) }
-    ensures none { result ≡ None → (words : List ℕ) → IsPlain core.now words → ⊥ }
+/// The words of the image that a core of one thread holds.
+fn image_of(core: &CoreImage) -> Option<&Natives>
+    ensures found { IfSome result (λ words. HoldsImage one_thread words.now core.now) }
+    ensures none { result ≡ None
+        → (words : List ℕ) → HoldsImage one_thread words core.now → ⊥ }
 {
     if core.order != 0
         || core.contexts.len() != 1
@@ -28,23 +31,27 @@ fn plain_words(core: &CoreImage) -> Option<&Natives>
         return None;
     }
     let segment = core.segments.get(0);
-    if segment.start != FIRST_ADDRESS || !is_plain_core(&segment.words) {
+    if segment.start != FIRST_ADDRESS {
         return None;
     }
     Some(&segment.words)
 }
 
-/// The report of the core that a file's bytes spell.
+/// The report of the core that a file's bytes spell, read through the layout that its words give.
 fn reported(alloc: Global, bytes: &[u8]) -> Result<Vec<u8>, Refusal>
     ensures report { IfOk result (λ text. IsShowAnswer (Some bytes.now) (Gives None text.items)) }
     ensures refused { IfErr result
         (λ r. IsShowAnswer (Some bytes.now) (Refuses r) ⊎ (r ≡ Refusal.OutOfMemory)) }
 {
     let core = decode(alloc, bytes)?;
-    let Some(words) = plain_words(&core) else {
+    let Some(words) = image_of(&core) else {
         return Err(Refusal::NotBuilt);
     };
-    let view = look(alloc, words)?;
+    let layout = Layout::read(words)?;
+    if !is_plain(&layout, words) {
+        return Err(Refusal::NotBuilt);
+    }
+    let view = plain_view(alloc, &layout, words)?;
     let text = report_text(alloc, &view)?;
     Ok(text)
 }

@@ -17,7 +17,7 @@ task k0.0.0 thread 0 kind implicit region r0.0.0 function 0x400000 generating no
 icv dyn-var=0 nthreads-var=1 run-sched-var=static,0 default-device-var=0 final-task-var=0 implicit-task-var=1
 ";
 
-const FINISHED: &str = "ompd 201811 threads 1 debug enabled
+pub const FINISHED: &str = "ompd 201811 threads 1 debug enabled
 icv num-procs-var=4 max-active-levels-var=8
 thread 0 native 1000 state wait_barrier_implicit_parallel wait 0 thread-num-var=0 current k0.0.0
 region r0.0.0 function 0x400000 levels-var=0 active-levels-var=0 team-size-var=1 enclosing none
@@ -152,8 +152,8 @@ fn cores_that_are_not_plain(rt: HostRuntime) -> Result<(), Fail> {
     let alloc = rt.alloc();
     let core = core_of(alloc, "0", EMPTY)?;
     let text = "not built\n";
-    // The context, the start address, words of both tables, and the words of a plain core.
-    for at in [16, 26, 40, 40 + 8 * 98] {
+    // The context, the start address, and the words of a plain core.
+    for at in [16, 26] {
         let other = with_byte(alloc, &core, at, 3)?;
         expect(&rt, alloc, &other, Status::NotBuilt, text)?;
     }
@@ -164,6 +164,34 @@ fn cores_that_are_not_plain(rt: HostRuntime) -> Result<(), Fail> {
     for count in [0, 5] {
         let other = with_byte(alloc, &core, 40 + 8 * 321, count)?;
         expect(&rt, alloc, &other, Status::NotBuilt, text)?;
+    }
+    Ok(())
+}
+
+#[test]
+fn cores_that_give_no_layout(rt: HostRuntime) -> Result<(), Fail> {
+    let alloc = rt.alloc();
+    let core = core_of(alloc, "0", EMPTY)?;
+    // The count of symbols, a letter and the address of `omi_layout`, and the version of its table. A table that ends behind
+    // the segment is not found either.
+    for (place, byte) in [(0, 17), (36, b'O'), (40, 0), (43, 9)] {
+        let other = with_byte(alloc, &core, 40 + 8 * place, byte)?;
+        expect(&rt, alloc, &other, Status::Incompatible, "incompatible\n")?;
+    }
+    let behind = with_byte(alloc, &core, 40 + 8 * 40 + 1, 0xd8)?;
+    expect(&rt, alloc, &behind, Status::Incompatible, "incompatible\n")?;
+    // Each refusal of the table, at the word that it names.
+    for (place, byte, text) in [
+        (45, 12, "damaged 0x101e0 layout\n"),
+        (48, 0, "damaged 0x10170 layout\n"),
+        (48, 2, "damaged 0x10270 layout\n"),
+        (55, 13, "damaged 0x101b8 layout\n"),
+        (56, 0, "damaged 0x101c0 layout\n"),
+        (44, 0x19, "damaged 0x10160 layout\n"),
+        (51, 65, "damaged 0x10188 layout\n"),
+    ] {
+        let other = with_byte(alloc, &core, 40 + 8 * place, byte)?;
+        expect(&rt, alloc, &other, Status::Damaged, text)?;
     }
     Ok(())
 }

@@ -1,22 +1,26 @@
 //! The command `stop`.
 
-ghost use Rattle.std.specs.Prelude.{◌≡◌, ◌≢◌, ◌⊎◌, ◌≤◌, List, ℕ, Option, Some, IfOk, IfErr, IsErrOf, take, string_bytes};
+ghost use Rattle.std.specs.Prelude.{◌≡◌, ◌≢◌, ◌⊎◌, ◌≤◌, List, ℕ, Option, Some, IfOk, IfErr, IsErrOf, take, string_bytes, IsTrue};
+ghost use Rattle.omi_layout.specs.OpeningWords.{AreOpening};
+ghost use Rattle.omi_layout.specs.Place.{fits, image_words};
+ghost use Rattle.omi_layout.specs.Table.{thread_count};
+ghost use Rattle.omi_word.specs.declared.limits.TheConstants.{MOST_WORDS};
 ghost use Rattle.omi_outside.specs.Outside.{HasCause};
 ghost use Rattle.omi_script.specs.Grammar.{Grammar};
 ghost use Rattle.omi_script.specs.Small.{IsSmall};
-ghost use Rattle.omi_top.specs.Answer.{Refuses, IsAnswered, IsEarly, IsStopAnswer, IsStopped, IsUnwritten};
+ghost use Rattle.omi_top.specs.Answer.{Refuses, IsAnswered, IsEarly, IsStopAnswer, IsStopped, IsUnwritten, IsOfCore};
 ghost use Rattle.omi_top.specs.Refusal.{status_of};
 
 use crate::Refusal;
 use crate::limits::SCRIPT_FRONT;
 use crate::lines::text_of;
 use crate::load::load;
-use crate::opening::opening_image;
 use crate::runner::run;
 use omi_corefile::core_bytes_of;
+use omi_layout::Layout;
 use omi_outside::{Files, write_whole};
 use omi_script::{Program, is_small, parse};
-use omi_word::{Natives, OutOfMemory};
+use omi_word::{Image, Natives, OutOfMemory};
 use std::alloc::Global;
 
 /// The small program of a script.
@@ -34,13 +38,26 @@ fn program(alloc: Global, bytes: &[u8]) -> Result<Program, Refusal>
     Ok(p)
 }
 
+/// The opening words of a program in a layout.
+pub fn opening_image(alloc: Global, layout: &Layout, p: &Program) -> Result<Image, OutOfMemory>
+    requires fits { IsTrue (fits layout.now.table (image_words layout.now.table)) }
+    requires small { image_words layout.now.table ≤ MOST_WORDS }
+    requires threads { p.now.threads ≡ thread_count layout.now.table }
+    ensures { IfOk result (λ image. AreOpening p.now layout.now.table image) }
+{
+    let mut image = Image::zeroed(alloc, layout.image_words())?;
+    layout.open(p, &mut image);
+    Ok(image)
+}
+
 /// Runs a program, and answers the bytes of its core and what it prints.
 fn stopped(alloc: Global, p: &Program, budget: u64) -> Result<(Vec<u8>, String), OutOfMemory>
     requires { IsSmall p.now }
     ensures { IfOk result (λ made. IsStopped p.now budget made.0.items (string_bytes made.1)) }
 {
-    let mut image = opening_image(alloc, p)?;
-    let (entries, end) = run(alloc, p, &mut image, budget)?;
+    let layout = Layout::family(0, p.threads);
+    let mut image = opening_image(alloc, &layout, p)?;
+    let (entries, end) = run(alloc, &layout, p, &mut image, budget)?;
     let mut contexts = Natives::new(alloc);
     contexts.push(1000)?;
     let core = core_bytes_of(alloc, &image, &contexts)?;
@@ -61,6 +78,7 @@ pub fn stop<F: Files, W: Files>(
         → IsAnswered (IsStopAnswer budget content) result (W.told dest.old core.now)
         (W.told dest.new core.now) }
     ensures usage { result ≢ Err Refusal.Usage }
+    ensures of_core { IfErr result (λ r. IsOfCore (status_of r) → ⊥) }
     ensures read { HasCause (F.reads files.old) (F.reads files.new)
         (IsErrOf result Refusal.ReadFault) }
     ensures write { HasCause (W.writes dest.old) (W.writes dest.new)

@@ -2,7 +2,7 @@
 
 ghost use Rattle.std.specs.Prelude.{◌≡◌, ◌≢◌, ◌⊎◌, ◌↔◌, ◌+◌, ◌≤◌, ◌^◌, ◌∷◌, ◌++◌, [], codes, length, List, ℕ, Option, Some, None, IfOk, IfErr, IsErrOf, map, string_bytes};
 ghost use Rattle.std.specs.String.{string_capacity};
-ghost use Rattle.omi_outside.specs.Outside.{HasCause, Rose, IsPartlyPut, holding, put_on};
+ghost use Rattle.omi_outside.specs.Outside.{HasCause, Rose, IsPutCut, holding, put_on};
 ghost use Rattle.omi_corefile.specs.Refusals.{CoreRefused};
 ghost use Rattle.omi_corefile.specs.declared.fault.CoreFault.{CoreFault};
 ghost use Rattle.omi_script.specs.Grammar.{Grammar, Refused as RefusedScript};
@@ -11,13 +11,15 @@ ghost use Rattle.omi_script.specs.declared.fault.ScriptFault.{ScriptFault};
 ghost use Rattle.omi_script.specs.declared.program.Program.{Program};
 ghost use Rattle.omi_top.specs.Command.{Command, Stop, Show, Faulty, command_in, read_name, written_name, Writes};
 ghost use Rattle.omi_top.specs.Asked.{asked, IsBounded};
-ghost use Rattle.omi_top.specs.Answer.{IsAnswer, IsAnswered, IsPlainCore, IsOtherCore, IsOtherProgram, IsStopped, IsSaid, IsCounted, IsLeft, IsUnwritten, ComesWhere, IsShownAgain, IsBuilt};
-ghost use Rattle.omi_top.specs.Codes.{native_id};
-ghost use Rattle.omi_top.specs.LookView.{look_view};
+ghost use Rattle.omi_top.specs.Answer.{IsAnswer, IsAnswered, IsOtherCore, IsIncompatibleCore, IsDamagedCore, IsOtherProgram, IsStopped, IsSaid, IsCounted, IsLeft, IsUnwritten, ComesWhere, IsShownAgain, IsOfCore};
+ghost use Rattle.omi_top.specs.Cores.{one_thread, IsPlainCore};
+ghost use Rattle.omi_rep.specs.LookView.{look_view};
+ghost use Rattle.omi_layout.specs.SymbolTable.{words_of};
 ghost use Rattle.omi_top.specs.Refusal.{line_of as refusal_line, status_of};
-ghost use Rattle.omi_top.specs.Shows.{Shows};
+ghost use Rattle.omi_rep.specs.Shows.{Shows};
 ghost use Rattle.omi_model.specs.State.{State};
 ghost use Rattle.omi_model.specs.Views.{IsViewOf};
+ghost use Rattle.omi_model.specs.declared.view.View.{View};
 ghost use Rattle.omi_text.specs.Report.{report as report_of};
 
 use crate::Refusal;
@@ -43,6 +45,8 @@ fn perform<F: Files, W: Files>(
         (W.told dest.new (written_name (asked request.entry))) }
     ensures usage { IsErrOf result Refusal.Usage → asked request.entry ≡ Faulty }
     ensures faulty { asked request.entry ≡ Faulty → IsErrOf result Refusal.Usage }
+    ensures of_core { IfErr result (λ r. IsOfCore (status_of r)
+        → (core : List ℕ) × (asked request.entry ≡ Show core)) }
     ensures read { HasCause (F.reads files.old) (F.reads files.new)
         (IsErrOf result Refusal.ReadFault) }
     ensures write { HasCause (W.writes dest.old) (W.writes dest.new)
@@ -87,9 +91,11 @@ fn refuse<K: Sink>(request: Request<'_>, refusal: Refusal, room: &mut String, ou
 /// Puts the text of an answer.
 fn print<K: Sink>(text: &[u8], out: &mut K) -> Status
     ensures success { result ≡ Status.Success → K.told out.new ≡ put_on (K.told out.old) text.now }
-    ensures partly { IsPartlyPut text.now (K.told out.old) (K.told out.new) }
+    ensures cut { (result ≡ Status.Success)
+        ⊎ IsPutCut text.now (K.told out.old) (K.told out.new) }
     ensures status { (result ≡ Status.Success)
         ⊎ ((result ≡ Status.WriteFault) ⊎ (result ≡ Status.OutOfMemory)) }
+    ensures not_of_core { IsOfCore result → ⊥ }
     ensures cause { HasCause (K.faults out.old) (K.faults out.new) (result ≡ Status.WriteFault) }
     ensures wants { K.wants out.old ≤ K.wants out.new }
 {
@@ -125,7 +131,7 @@ fn carry_out_in<F: Files, W: Files, K: Sink>(
     requires bounded { IsBounded request }
     requires empty { string_bytes room.old ≡ [] }
     requires enough { length (read_name (asked request)) + LINE_ROOM ≤ string_capacity room.old }
-    ensures built { IsBuilt result }
+    ensures of_core { IsOfCore result → (core : List ℕ) × (asked request.entry ≡ Show core) }
     ensures usage { result ≡ Status.Usage → asked request.entry ≡ Faulty }
     ensures read_fault { result ≡ Status.ReadFault → Rose (F.reads files.old) (F.reads files.new) }
     ensures write_fault { result ≡ Status.WriteFault
@@ -164,7 +170,7 @@ fn carry_out<F: Files, W: Files, K: Sink>(
     out: &mut K,
 ) -> Status
     requires { IsBounded request }
-    ensures built { IsBuilt result }
+    ensures of_core { IsOfCore result → (core : List ℕ) × (asked request.entry ≡ Show core) }
     ensures usage { result ≡ Status.Usage → asked request.entry ≡ Faulty }
     ensures faulty { asked request.entry ≡ Faulty → result ≡ Status.Usage }
     ensures said { asked request.entry ≡ Faulty
@@ -215,7 +221,7 @@ pub fn run_top<F: Files, W: Files, K: Sink>(
 ) -> Status
     // The causes for which no bytes need be told. Where the words are refused, that line is put
     // whole, or the sink counted why not.
-    ensures built { IsBuilt result }
+    ensures of_core { IsOfCore result → (core : List ℕ) × (command_in words.now ≡ Show core) }
     ensures usage { (result ≡ Status.Usage) ↔ (command_in words.now ≡ Faulty) }
     ensures usage_line { command_in words.now ≡ Faulty
         → IsSaid (Some (codes "usage" ++ 10 ∷ []))
@@ -252,7 +258,8 @@ pub fn run_top<F: Files, W: Files, K: Sink>(
         × (K.told out.new ≡ put_on (K.told out.old) text) }
 
     // The same of the core's file, for `show`: there is none, the grammar of core files refuses
-    // it, or it is a core that is not plain, exactly where the status says so.
+    // it, it is a core that is not plain, no layout table of this version is found in its words, or
+    // this table is wrong, exactly where the status says so.
     ensures no_core { (core : List ℕ) (content : Option (List ℕ))
         → command_in words.now ≡ Show core → F.told files.old core ≡ Some content
         → ComesWhere Status.NoFile result (content ≡ None) }
@@ -262,15 +269,22 @@ pub fn run_top<F: Files, W: Files, K: Sink>(
     ensures other_core { (core bytes : List ℕ)
         → command_in words.now ≡ Show core → F.told files.old core ≡ Some (Some bytes)
         → ComesWhere Status.NotBuilt result (IsOtherCore bytes) }
+    ensures incompatible { (core bytes : List ℕ)
+        → command_in words.now ≡ Show core → F.told files.old core ≡ Some (Some bytes)
+        → ComesWhere Status.Incompatible result (IsIncompatibleCore bytes) }
+    ensures damaged { (core bytes : List ℕ)
+        → command_in words.now ≡ Show core → F.told files.old core ≡ Some (Some bytes)
+        → ComesWhere Status.Damaged result ((addr : ℕ) × IsDamagedCore bytes addr) }
 
-    // With success what is put is the report of the core's words: of each state that they show,
-    // exactly its view.
+    // With success what is put is the report of the core's words, read through the layout that they
+    // give: of each state that they show, exactly its view.
     ensures report { (core bytes : List ℕ)
         → command_in words.now ≡ Show core → F.told files.old core ≡ Some (Some bytes)
         → result ≡ Status.Success
-        → (plain : List ℕ) × IsPlainCore bytes plain
-        × (K.told out.new ≡ put_on (K.told out.old) (report_of (look_view plain)))
-        × ((s : State) → Shows plain s → IsViewOf s (native_id 0 ∷ []) (look_view plain)) }
+        → (w plain : List ℕ) × (v : View) × IsPlainCore bytes w plain
+        × (look_view w (words_of plain) one_thread ≡ Ok v)
+        × (K.told out.new ≡ put_on (K.told out.old) (report_of v))
+        × ((s : State) → Shows w (words_of plain) s → IsViewOf s one_thread v) }
 
     // Of the core that `stop` wrote, `show` puts the report of the state that the run's events
     // reach: it has one view alone.

@@ -13,4 +13,4 @@ of_statement-requires c =
 
 pub returns-in-Statement : goal.returns-in-Statement
 returns-in-Statement c =
-    c.of_statement.ensures ∙ ap statement_step (sym (get_or_from_slice_get c.args.body.now c.in-Statement.at c.get.result.now Work c.get.ensures)) ∙ ap (step_at c.args.body.now) (sym c.in-Statement.is)
+    c.of_statement.ensures ∙ ap (statement_step c.args.layout.now.table) (sym (get_or_from_slice_get c.args.body.now c.in-Statement.at c.get.result.now Work c.get.ensures)) ∙ ap (step_at c.args.layout.now.table c.args.body.now) (sym c.in-Statement.is)

@@ -3,7 +3,7 @@ use Rattle.std.specs.Global.{Vec}
 use Rattle.std.proofs.lemmas.Result.{err_from_is_err_and}
 use Rattle.omi_top.specs.Answer.{IsStopped}
 use Rattle.omi_top.specs.declared.refusal.Refusal.TheVariants as refusal
-use Rattle.omi_top.proofs.Stopping.{refused_answered, partly_answered, done_answered, never_outside, never_usage, never_read_fault, never_unwritten, write_failed}
+use Rattle.omi_top.proofs.Stopping.{refused_answered, partly_answered, done_answered, never_outside, never_usage, never_read_fault, never_unwritten, never_of_core, write_not_of_core, write_failed}
 use Rattle.omi_top.proofs.stop.stop.Goals as goal
 
 pub returns-in_err-p-clause-answer : goal.returns-in_err-p-clause-answer
@@ -17,7 +17,7 @@ returns-in_err-write_whole-clause-answer g c = λ content told.
     let p = err_from_is_err_and c.from_residual-in_err-write_whole.result c.from_residual-in_err-write_whole.ensures.1 in
     let read = c.in_ok-bytes.ensures.bytes content told in
     rw (p.1, p.2) (partly_answered c.args.budget content c.deref.result.now read.0 c.in_ok-image.image.items (string_bytes c.in_ok-image.text) c.in_ok-p.p c.in_err-write_whole.field-0.0 _ _
-    read.1 (c.deref.ensures.value ∙ read.2) c.in_ok-p.ensures.accepted c.in_ok-p.ensures.small c.in_ok-image.ensures (rw (← c.deref-2.ensures.value) c.in_err-write_whole.ensures.partly))
+    read.1 (c.deref.ensures.value ∙ read.2) c.in_ok-p.ensures.accepted c.in_ok-p.ensures.small c.in_ok-image.ensures (rw (← c.deref-2.ensures.value) c.in_err-write_whole.ensures.cut))
 
 pub returns-clause-answer : goal.returns-clause-answer
 returns-clause-answer g c = λ content told.
@@ -68,3 +68,19 @@ pub returns-in_err-write_whole-clause-unwritten : goal.returns-in_err-write_whol
 returns-in_err-write_whole-clause-unwritten g c =
     let p = err_from_is_err_and c.from_residual-in_err-write_whole.result c.from_residual-in_err-write_whole.ensures.1 in
     rw (p.1, p.2) (λ is. absurd (never_unwritten c.in_err-write_whole.field-0.0 is))
+
+pub returns-in_err-p-clause-of_core : goal.returns-in_err-p-clause-of_core
+returns-in_err-p-clause-of_core g c =
+    let p = err_from_is_err_and c.from_residual-in_err-p.result c.from_residual-in_err-p.ensures.1 in
+    rw (p.1, p.2) (never_of_core c.args.budget c.deref.result.now c.in_err-p.field-0.0 (c.in_err-p.ensures.refused c.args.budget))
+
+pub returns-in_err-write_whole-clause-of_core : goal.returns-in_err-write_whole-clause-of_core
+returns-in_err-write_whole-clause-of_core g c =
+    let p = err_from_is_err_and c.from_residual-in_err-write_whole.result c.from_residual-in_err-write_whole.ensures.1 in
+    rw (p.1, p.2) (write_not_of_core c.in_err-write_whole.field-0.0)
+
+pub returns-clause-read : goal.returns-clause-read
+returns-clause-read g c = record { later = c.in_ok-bytes.ensures.cause.later; failed = λ is. cc }
+
+pub returns-clause-write : goal.returns-clause-write
+returns-clause-write g c = record { later = c.in_ok-write_whole.ensures.cause.later; failed = λ is. cc }

@@ -3,7 +3,7 @@ use Rattle.omi_top.specs.Asked.{asked}
 use Rattle.omi_top.specs.Answer.{IsAnswer, IsCounted, IsLeft}
 use Rattle.omi_top.specs.Command.{Command, Stop, Show, read_name, written_name}
 use Rattle.omi_top.proofs.Left.{left_by}
-use Rattle.omi_top.proofs.LeftByShow.{no_file as no_core, core as core_refused, other_core, report_put, shown_again}
+use Rattle.omi_top.proofs.LeftByShow.{no_file as no_core, core as core_refused, other_core, incompatible, damaged, report_put, shown_again}
 use Rattle.omi_top.proofs.LeftByStop.{no_file, script, other_program, success}
 use Rattle.omi_top.proofs.top.run_top.Given as given
 use Rattle.omi_top.proofs.top.run_top.Goals as goal
@@ -48,3 +48,9 @@ returns-clause-report g c = λ core bytes command told done. report_put _ _ _ _ 
 
 pub returns-clause-shown_again : goal.returns-clause-shown_again
 returns-clause-shown_again g c = λ core bytes command told p budget text run. shown_again _ _ _ _ _ _ _ bytes p budget text run (left_of g c (Show core) (Some bytes) (c.request_of.ensures.asked ∙ command) told)
+
+pub returns-clause-incompatible : goal.returns-clause-incompatible
+returns-clause-incompatible g c = λ core bytes command told. incompatible _ _ _ _ _ _ _ bytes (left_of g c (Show core) (Some bytes) (c.request_of.ensures.asked ∙ command) told)
+
+pub returns-clause-damaged : goal.returns-clause-damaged
+returns-clause-damaged g c = λ core bytes command told. damaged _ _ _ _ _ _ _ bytes (left_of g c (Show core) (Some bytes) (c.request_of.ensures.asked ∙ command) told)

@@ -1,10 +1,47 @@
-//! Tables with their fields and arenas in any order, with gaps: each is valid by its making, and is read back.
+//! Cores of many layouts, and what `show` makes of each: of the sixteen families, and of tables with their fields and arenas
+//! in any order, with gaps, which are valid by their making.
 
 ghost use Rattle.std.specs.Prelude.{◌<◌};
 
-use crate::Layout;
+use crate::runner::run;
+use crate::show_tests::{FINISHED, expect};
+use crate::stop::opening_image;
+use crate::tests::CHANGED;
+use omi_corefile::core_bytes_of;
+use omi_layout::Layout;
+use omi_outside::Status;
+use omi_script::{Program, is_small, parse};
+use omi_word::{MOST_WORDS, Natives};
 use std::alloc::{AllocError, Global};
 use std::test::Fail;
+
+/// The core that a finished run of a small program leaves in a layout of one thread.
+fn core_in(alloc: Global, layout: &Layout, p: &Program) -> Result<Vec<u8>, AllocError> {
+    let words = layout.image_words();
+    let suits = words as u64 <= MOST_WORDS && layout.fits(words) && layout.threads() == p.threads;
+    if !suits || !is_small(p) {
+        return Ok(Vec::new(alloc));
+    }
+    let mut image = opening_image(alloc, layout, p)?;
+    run(alloc, layout, p, &mut image, 1000)?;
+    let mut contexts = Natives::new(alloc);
+    contexts.push(1000)?;
+    core_bytes_of(alloc, &image, &contexts)
+}
+
+#[test]
+fn every_family_is_shown_alike(rt: HostRuntime) -> Result<(), Fail> {
+    let alloc = rt.alloc();
+    let Ok(p) = parse(alloc, CHANGED.as_bytes()) else {
+        return Ok(());
+    };
+    for k in 0..16u8 {
+        let core = core_in(alloc, &Layout::family(k, 1), &p)?;
+        expect(&rt, alloc, &core, Status::Success, FINISHED)?;
+    }
+    assert_eq!(rt; core_in(alloc, &Layout::family(7, 1), &p)?.len(), 60_152);
+    Ok(())
+}
 
 /// A fixed sequence of numbers.
 #[derive(Drop)]
@@ -72,11 +109,14 @@ fn place_fields(
     Ok(end.wrapping_add(numbers.below(4)))
 }
 
-/// A valid table.
-fn some_table(alloc: Global, numbers: &mut Numbers) -> Result<[u64; 56], AllocError> {
-    let threads = numbers.below(16) + 1;
-    let regions = numbers.below(64) + 1;
-    let tasks = numbers.below(4096) + 1;
+/// A valid table of so many threads, regions and tasks.
+fn some_table(
+    alloc: Global,
+    numbers: &mut Numbers,
+    threads: u64,
+    regions: u64,
+    tasks: u64,
+) -> Result<[u64; 56], AllocError> {
     let mut table = [0u64; 56];
     table[0] = 1;
     table[5] = threads;
@@ -110,15 +150,37 @@ fn some_table(alloc: Global, numbers: &mut Numbers) -> Result<[u64; 56], AllocEr
 fn permuted_tables_are_read_back(rt: HostRuntime) -> Result<(), Fail> {
     let mut numbers = Numbers(11);
     for _ in 0..1000 {
-        let table = some_table(rt.alloc(), &mut numbers)?;
+        let threads = numbers.below(16) + 1;
+        let regions = numbers.below(64) + 1;
+        let tasks = numbers.below(4096) + 1;
+        let table = some_table(rt.alloc(), &mut numbers, threads, regions, tasks)?;
         match Layout::of_words(&table) {
             Ok(layout) => {
                 assert_eq!(rt; layout.table, table);
-                assert!(rt; layout.fits(layout.image_words()));
-                let last = layout.threads().saturating_sub(1);
-                if last < layout.threads() {
-                    assert_eq!(rt; layout.thread_of(layout.thread_at(last)), Some(last));
-                }
+                let fits = layout.fits(layout.image_words());
+                assert!(rt; fits);
+            }
+            Err(fault) => assert_eq!(rt; Some(fault), None),
+        }
+    }
+    Ok(())
+}
+
+#[test]
+fn permuted_layouts_are_shown_alike(rt: HostRuntime) -> Result<(), Fail> {
+    let alloc = rt.alloc();
+    let Ok(p) = parse(alloc, CHANGED.as_bytes()) else {
+        return Ok(());
+    };
+    let mut numbers = Numbers(12);
+    for _ in 0..1000 {
+        let regions = numbers.below(4) + 1;
+        let tasks = numbers.below(8) + 1;
+        let table = some_table(alloc, &mut numbers, 1, regions, tasks)?;
+        match Layout::of_words(&table) {
+            Ok(layout) => {
+                let core = core_in(alloc, &layout, &p)?;
+                expect(&rt, alloc, &core, Status::Success, FINISHED)?;
             }
             Err(fault) => assert_eq!(rt; Some(fault), None),
         }
