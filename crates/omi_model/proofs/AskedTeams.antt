@@ -61,7 +61,7 @@ asked_of (a ∷ as') b w (inr is) = go (asked_of as' b w is)
     go (inl h) = inl (inr h)
     go (inr h) = inr h
 
-got_last : (as' : List (ℕ × Bool)) (w : ℕ) (got : Bool) → got_threads (as' ++ (w, got) ∷ []) ≡ got_threads as' ++ got_threads ((w, got) ∷ [])
+pub got_last : (as' : List (ℕ × Bool)) (w : ℕ) (got : Bool) → got_threads (as' ++ (w, got) ∷ []) ≡ got_threads as' ++ got_threads ((w, got) ∷ [])
 got_last [] w got = refl
 got_last ((v, true) ∷ as') w got = ap (λ xs. v ∷ xs) (got_last as' w got)
 got_last ((v, false) ∷ as') w got = got_last as' w got
@@ -197,7 +197,7 @@ asks_later s u stay j as' wanted is = record {
 not_begin : event.Offer ≡ event.Begin → ⊥
 not_begin e = cc
 
-append_none : (xs : List ℕ) → xs ++ [] ≡ xs
+pub append_none : (xs : List ℕ) → xs ++ [] ≡ xs
 append_none [] = refl
 append_none (x ∷ xs) = ap (λ ys. x ∷ ys) (append_none xs)
 
@@ -233,14 +233,14 @@ module _ (p : Program) (s : State) (i : ℕ) (e : Event) (next : State) (step : 
       law middle before later of_threads = record {
         begins = λ may q. q;
         offers = λ may of q. (q.0, λ free. stay.begun i (by_begun p s i e next step begun (λ h. not_begin (sym of ∙ h))));
-        wants = λ n num may q. (record { first = no_asks i next.count; begun = none_got next; most = omega arith }, q.1);
-        asks = λ w got may q. (asked_right w got may q.0, q.1);
-        claims = λ w may q. (q.0, λ free. absurd (claimed_other i free));
+        wants = λ n num may of q. (record { first = no_asks i next.count; begun = none_got next; most = omega arith }, q.1);
+        asks = λ w got may of q. (asked_right w got may q.0, q.1);
+        claims = λ w may of q. (q.0, λ free. absurd (claimed_other i free));
         shows = λ state wait of q. q;
         forks = λ region team f k t r is found may new q. q;
-        joins_team = λ task may q. q;
+        joins_team = λ task may of q. q;
         ends = λ k t r is found im other q. q;
-        joins = λ k t r is found may q. q;
+        joins = λ k t r is found may of q. q;
         makes = λ task f final k t is new q. q;
         starts = λ task x k t is may new q. q;
         finishes = λ k t is ex q. q;

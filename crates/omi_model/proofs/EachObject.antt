@@ -1,5 +1,5 @@
 -- A law of each task, and a law of each region: what has to be shown of it, once for all events.
-use Rattle.std.proofs.Common.{◌≡◌, ◌+◌, ◌-◌, ℕ, zero, suc, ◌⊎◌, inl, inr, Bool, true, false, List, [], ◌∷◌, slice_get, slice_index, slice_set, drop, Option, Some, refl, sym, ap, ◌∙◌, subst, arith}
+use Rattle.std.proofs.Common.{◌≡◌, ◌≢◌, ◌+◌, ◌-◌, ℕ, zero, suc, ◌⊎◌, inl, inr, Bool, true, false, List, [], ◌∷◌, slice_get, slice_index, slice_set, drop, Option, Some, refl, sym, ap, ◌∙◌, subst, arith}
 use Rattle.std.specs.Prelude.{IfSome, ⊤}
 use Rattle.std.specs.List.{All}
 use Rattle.std.specs.Option.{option_and_then, option_map_or}
@@ -63,7 +63,7 @@ pub record IsTaskLaw (p : Program) (s : State) (i : ℕ) (e : Event) (y : Item) 
   pub starts : (k : Tid) (u : Task) (j : Tid) (t : Task) (x : Item) → IsCurrent s i j t → task_of s k ≡ Some u → u.implicit ≡ false → u.progress ≡ Deferred → MayStartAt x j t u → y ≡ x → P k u
       → P k (record (scheduled i j t u) { list = start_list x (encounter s i) u.list })
   pub members : (region : Rid) (team : List (Tid × ℕ)) (f : ℕ) (k : Tid) (t : Task) (r : Region) → IsCurrent s i k t → region_of s t.region ≡ Some r → MayFork s i region team
-      → region_of next region ≡ Some (new_region k t r team f) → y ≡ item.Fork f → (j : ℕ) (m : Tid × ℕ) → slice_get team j ≡ Some m → P m.0 (member_task p region k t r f j m.1)
+      → region_of next region ≡ Some (new_region k t r team f) → y ≡ item.Fork f → e ≡ event.Fork region team → (j : ℕ) (m : Tid × ℕ) → slice_get team j ≡ Some m → P m.0 (member_task p region k t r f j m.1)
   pub deferred : (task : Tid) (f : ℕ) (is_final : Bool) (seen : ℕ) (k : Tid) (t : Task) → IsCurrent s i k t → y ≡ item.Defer seen f is_final → IsFresh s.tasks i task.0 → P task (deferred_task p k t f is_final seen)
   pub made : (task : Tid) (f : ℕ) (is_final : Bool) (k : Tid) (t : Task) → IsCurrent s i k t → (y ≡ item.StartNow f is_final) ⊎ ((seen : ℕ) × (y ≡ item.Defer seen f is_final)) → IsFresh s.tasks i task.0 → P task (scheduled i k t (deferred_task p k t f is_final 0))
 
@@ -124,7 +124,7 @@ module _ (p : Program) (P : Tid → Task → Type 0) where
   task_effect s i (event.Fork region team) (item.Fork f) rule all =
       of_region s i (forked p s i region team f) (of_law s i (event.Fork region team) (item.Fork f)) (λ k t r. MayFork s i region team) rule
       (λ k t r is found may law n u e. each_member P (member_task p region k t r f) 0 team s.tasks (λ m v h. all (record { 0 = m }) v h)
-      (λ j m at. let zero_more : 0 + j ≡ j = omega arith in subst (λ h. P m.0 (member_task p region k t r f h m.1)) (sym zero_more) (law.members region team f k t r is found may (made_same s.regions region.0 (new_region k t r team f)) refl j m at)) n.0 u e)
+      (λ j m at. let zero_more : 0 + j ≡ j = omega arith in subst (λ h. P m.0 (member_task p region k t r f h m.1)) (sym zero_more) (law.members region team f k t r is found may (made_same s.regions region.0 (new_region k t r team f)) refl refl j m at)) n.0 u e)
   task_effect s i (event.Fork region team) y rule all = tt
   task_effect s i (event.ImplicitBegin task) y rule all =
       λ law. each_changed s task (λ t. record t { progress = Begun }) all
@@ -207,7 +207,7 @@ task_step p P s i e after_step step moves law all =
 pub record IsRegionLaw (p : Program) (s : State) (i : ℕ) (next : State) (Q : Rid → Region → Type 0) : Type 0 where
   pub arrives : (k : Tid) (t : Task) (r : Region) → IsCurrent s i k t → region_of s t.region ≡ Some r → Q t.region r → Q t.region (record r { arrivals = slice_set r.arrivals t.number (slice_index r.arrivals t.number + 1) })
   pub releases : (k : Tid) (t : Task) (r : Region) → IsCurrent s i k t → region_of s t.region ≡ Some r → MayRelease s t r → Q t.region r → Q t.region (record r { released = r.released + 1 })
-  pub ends : (k : Tid) (t : Task) (r : Region) → IsCurrent s i k t → region_of s t.region ≡ Some r → t.implicit ≡ true → Q t.region r → Q t.region (record r { ended = slice_set r.ended t.number true })
+  pub ends : (k : Tid) (t : Task) (r : Region) → IsCurrent s i k t → region_of s t.region ≡ Some r → t.implicit ≡ true → t.number ≢ 0 → Q t.region r → Q t.region (record r { ended = slice_set r.ended t.number true })
   pub joins : (k : Tid) (t : Task) (r : Region) → IsCurrent s i k t → region_of s t.region ≡ Some r → MayJoin t.region t r → Q t.region r → Q t.region (record r { joined = true })
   pub forks : (region : Rid) (team : List (Tid × ℕ)) (f : ℕ) (k : Tid) (t : Task) (r : Region) → IsCurrent s i k t → region_of s t.region ≡ Some r → MayFork s i region team
       → ((j : ℕ) (m : Tid × ℕ) → slice_get team j ≡ Some m → task_of next m.0 ≡ Some (member_task p region k t r f j m.1)) → Q region (new_region k t r team f)
@@ -242,7 +242,7 @@ module _ (p : Program) (Q : Rid → Region → Type 0) where
       (λ q e g. let same : r ≡ q = some_same found e in law.releases k t q is e (subst (MayRelease s t) same h) g))
   region_effect s i (event.ImplicitEnd task) y rule all =
       of_current_region s i (task_ended s i) (of_region_law s i) (λ k t r. MayEnd task k t) rule
-      (λ k t r is found h law. each_region_changed (on_task s k (λ u. record u { progress = Finished })) t.region (λ q. record q { ended = slice_set q.ended t.number true }) all (λ q e g. law.ends k t q is e h.implicit g))
+      (λ k t r is found h law. each_region_changed (on_task s k (λ u. record u { progress = Finished })) t.region (λ q. record q { ended = slice_set q.ended t.number true }) all (λ q e g. law.ends k t q is e h.implicit h.other g))
   region_effect s i (event.Join region) y rule all =
       of_region s i (joined s i) (of_region_law s i) (λ k t r. MayJoin region t r) rule
       (λ k t r is found h law. each_region_changed (on_task s k (λ u. record u { progress = Finished })) t.region (λ q. record q { joined = true }) all

@@ -27,9 +27,9 @@ use Rattle.omi_model.specs.Tasking.{MayFinish, MayStart, deferred, deferred_task
 use Rattle.omi_model.specs.Teams.{MayAsk, MayBegin, MayBeginTask, MayEnd, MayFork, MayJoin, MayOffer, forked, joined, master_of, member_task, task_ended, wanted_size}
 use Rattle.omi_model.specs.Rows.{working}
 use Rattle.omi_model.specs.declared.progress.Progress.TheVariants.{Begun}
-use Rattle.omi_model.proofs.Slots.{each_put, made_same, on_same}
+use Rattle.omi_model.proofs.Slots.{each_put, made_same, none_some, on_same}
 use Rattle.omi_model.proofs.StaysKept.{new_team}
-use Rattle.omi_model.proofs.Steps.{IsRelisted, from_some, is_relisted, list_moves, move_of, of_current, of_current_region, of_region, of_set}
+use Rattle.omi_model.proofs.Steps.{IsMove, IsRelisted, from_some, is_relisted, list_moves, move_of, moved_on, of_current, of_current_region, of_region, of_set}
 use Rattle.omi_model.proofs.EachObject.{members_found, stays_after}
 
 abbrev pub EachThread : (ℕ → Thread → Type 0) → State → Type 0
@@ -39,15 +39,15 @@ EachThread R s = (j : ℕ) → R j (s.threads j)
 pub record IsThreadLaw (p : Program) (s : State) (i : ℕ) (e : Event) (next : State) (R : ℕ → Thread → Type 0) : Type 0 where
   pub begins : MayBegin (s.threads i) → R i (s.threads i) → R i (record (s.threads i) { begun = true })
   pub offers : MayOffer (s.threads i) → e ≡ event.Offer → R i (s.threads i) → R i (record (s.threads i) { claim = claim.Free })
-  pub wants : (n : ℕ) (num : Option ℕ) → OfCurrentRegion s i (λ k t r. n ≡ wanted_size s t r num) → R i (s.threads i) → R i (record (s.threads i) { wanted = n; asks = [] })
-  pub asks : (w : ℕ) (got : Bool) → MayAsk s i w got → R i (s.threads i) → R i (record (s.threads i) { asks = (s.threads i).asks ++ (w, got) ∷ [] })
-  pub claims : (w : ℕ) → MayAsk s i w true → R w (s.threads w) → R w (record (s.threads w) { claim = claim.By i })
+  pub wants : (n : ℕ) (num : Option ℕ) → OfCurrentRegion s i (λ k t r. n ≡ wanted_size s t r num) → e ≡ event.Want n → R i (s.threads i) → R i (record (s.threads i) { wanted = n; asks = [] })
+  pub asks : (w : ℕ) (got : Bool) → MayAsk s i w got → e ≡ event.Ask w got → R i (s.threads i) → R i (record (s.threads i) { asks = (s.threads i).asks ++ (w, got) ∷ [] })
+  pub claims : (w : ℕ) → MayAsk s i w true → e ≡ event.Ask w true → R w (s.threads w) → R w (record (s.threads w) { claim = claim.By i })
   pub shows : (state wait : ℕ) → e ≡ event.State state wait → R i (s.threads i) → R i (record (s.threads i) { state = state; wait = wait })
   pub forks : (region : Rid) (team : List (Tid × ℕ)) (f : ℕ) (k : Tid) (t : Task) (r : Region) → IsCurrent s i k t → region_of s t.region ≡ Some r → MayFork s i region team
       → ((j : ℕ) (m : Tid × ℕ) → slice_get team j ≡ Some m → task_of next m.0 ≡ Some (member_task p region k t r f j m.1)) → R i (s.threads i) → R i (record (s.threads i) { current = master_of team })
-  pub joins_team : (task : Tid) → MayBeginTask s i task → R i (s.threads i) → R i (record (s.threads i) { current = Some task })
+  pub joins_team : (task : Tid) → MayBeginTask s i task → e ≡ event.ImplicitBegin task → R i (s.threads i) → R i (record (s.threads i) { current = Some task })
   pub ends : (k : Tid) (t : Task) (r : Region) → IsCurrent s i k t → region_of s t.region ≡ Some r → t.implicit ≡ true → t.number ≢ 0 → R i (s.threads i) → R i (record (s.threads i) { current = None })
-  pub joins : (k : Tid) (t : Task) (r : Region) → IsCurrent s i k t → region_of s t.region ≡ Some r → MayJoin t.region t r → R i (s.threads i) → R i (record (s.threads i) { current = r.encountering })
+  pub joins : (k : Tid) (t : Task) (r : Region) → IsCurrent s i k t → region_of s t.region ≡ Some r → MayJoin t.region t r → e ≡ event.Join t.region → R i (s.threads i) → R i (record (s.threads i) { current = r.encountering })
   pub makes : (task : Tid) (f : ℕ) (is_final : Bool) (k : Tid) (t : Task) → IsCurrent s i k t → task_of next task ≡ Some (scheduled i k t (deferred_task p k t f is_final 0)) → R i (s.threads i) → R i (record (s.threads i) { current = Some task })
   pub starts : (task : Tid) (x : Item) (k : Tid) (t : Task) → IsCurrent s i k t → MayStart s task x k t → ((u : Task) × (task_of next task ≡ Some u) × (u.progress ≡ Begun)) → R i (s.threads i) → R i (record (s.threads i) { current = Some task })
   pub finishes : (k : Tid) (t : Task) → IsCurrent s i k t → t.implicit ≡ false → R i (s.threads i) → R i (record (s.threads i) { current = t.scheduling })
@@ -66,22 +66,22 @@ module _ (p : Program) (R : ℕ → Thread → Type 0) where
   thread_effect : (s : State) (i : ℕ) (e : Event) (y : Item) → Rule s i e y → EachThread R s → IfSome (effect p s i e y) (of_law s i e)
   thread_effect s i event.Begin y rule all = λ law. each_thread s i (record (s.threads i) { begun = true }) all (law.begins rule (all i))
   thread_effect s i event.Offer y rule all = λ law. each_thread s i (record (s.threads i) { claim = claim.Free }) all (law.offers rule refl (all i))
-  thread_effect s i (event.Want n) (item.Want num) rule all = λ law. each_thread s i (record (s.threads i) { wanted = n; asks = [] }) all (law.wants n num rule (all i))
+  thread_effect s i (event.Want n) (item.Want num) rule all = λ law. each_thread s i (record (s.threads i) { wanted = n; asks = [] }) all (law.wants n num rule refl (all i))
   thread_effect s i (event.Want n) y rule all = absurd rule
   thread_effect s i (event.Ask w true) y rule all =
       λ law.
       let listed : State = on_thread s i (λ h. record h { asks = h.asks ++ (w, true) ∷ [] }) in
-      let first : EachThread R listed = each_thread s i (record (s.threads i) { asks = (s.threads i).asks ++ (w, true) ∷ [] }) all (law.asks w true rule (all i)) in
+      let first : EachThread R listed = each_thread s i (record (s.threads i) { asks = (s.threads i).asks ++ (w, true) ∷ [] }) all (law.asks w true rule refl (all i)) in
       each_thread listed w (record (listed.threads w) { claim = claim.By i }) first
       (each_put (λ j h. j ≡ w → R j (record h { claim = claim.By i })) s.threads i (record (s.threads i) { asks = (s.threads i).asks ++ (w, true) ∷ [] })
-      (λ same. absurd (rule.other (sym same))) w (λ ne same. law.claims w rule (all w)) refl)
-  thread_effect s i (event.Ask w false) y rule all = λ law. each_thread s i (record (s.threads i) { asks = (s.threads i).asks ++ (w, false) ∷ [] }) all (law.asks w false rule (all i))
+      (λ same. absurd (rule.other (sym same))) w (λ ne same. law.claims w rule refl (all w)) refl)
+  thread_effect s i (event.Ask w false) y rule all = λ law. each_thread s i (record (s.threads i) { asks = (s.threads i).asks ++ (w, false) ∷ [] }) all (law.asks w false rule refl (all i))
   thread_effect s i (event.Fork region team) (item.Fork f) rule all =
       of_region s i (forked p s i region team f) (of_law s i (event.Fork region team)) (λ k t r. MayFork s i region team) rule
       (λ k t r is found may law. each_thread s i (record (s.threads i) { current = master_of team }) all
       (law.forks region team f k t r is found may (members_found (member_task p region k t r f) team s.tasks i (new_team s.tasks i team may.tasks_new may.distinct)) (all i)))
   thread_effect s i (event.Fork region team) y rule all = tt
-  thread_effect s i (event.ImplicitBegin task) y rule all = λ law. each_thread s i (record (s.threads i) { current = Some task }) all (law.joins_team task rule (all i))
+  thread_effect s i (event.ImplicitBegin task) y rule all = λ law. each_thread s i (record (s.threads i) { current = Some task }) all (law.joins_team task rule refl (all i))
   thread_effect s i (event.State state wait) y rule all = λ law. each_thread s i (record (s.threads i) { state = state; wait = wait }) all (law.shows state wait refl (all i))
   thread_effect s i event.Enter y rule all = of_current s i (entered s) (of_law s i event.Enter) (λ k t. ⊤) rule (λ k t is h law. all)
   thread_effect s i event.Leave y rule all = of_current s i (left s) (of_law s i event.Leave) (λ k t. ⊤) rule (λ k t is h law. all)
@@ -92,7 +92,7 @@ module _ (p : Program) (R : ℕ → Thread → Type 0) where
   thread_effect s i (event.Join region) y rule all =
       of_region s i (joined s i) (of_law s i (event.Join region)) (λ k t r. MayJoin region t r) rule
       (λ k t r is found h law. each_thread s i (record (s.threads i) { current = r.encountering }) all
-      (law.joins k t r is found (record { mine = refl; implicit = h.implicit; first = h.first; ended = h.ended }) (all i)))
+      (law.joins k t r is found (record { mine = refl; implicit = h.implicit; first = h.first; ended = h.ended }) (ap (λ (n : Rid). event.Join n) h.mine) (all i)))
   thread_effect s i (event.FreeTask task) y rule all = tt
   thread_effect s i (event.FreeRegion region) y rule all = tt
   thread_effect s i (event.Defer task) (item.Defer seen f final) rule all = of_current s i (deferred p s task f final seen) (of_law s i (event.Defer task)) _ rule (λ k t is fresh law. all)
@@ -121,12 +121,25 @@ module _ (p : Program) (R : ℕ → Thread → Type 0) where
   abbrev pub ListMoves : State → ℕ → Event → Type 0
   ListMoves s i e = (y : Item) (ys : List Item) → (s.threads i).current ≡ None → take_item p (encounter s i) e (s.threads i).list ≡ Some (y, ys) → R i (s.threads i) → R i (record (s.threads i) { list = stays (encounter s i) e y ys })
 
-  -- the law of each thread over a step
-  pub thread_step : (s : State) (i : ℕ) (e : Event) (next : State) → Step p s i e next → ListMoves s i e → ((middle : State) → IsRelisted s middle → Stays middle next → EachThread R middle → IsThreadLaw p middle i e next R) → EachThread R s → EachThread R next
-  thread_step s i e after_step step moves law all =
-      let m = move_of p s i e after_step step in
-      let zs : List Item = stays (encounter s i) e m.item m.behind in
-      let middle : EachThread R (with_list s i zs) = list_moves s i zs (EachThread R) (λ k is. all)
-      (λ none. each_thread s i (record (s.threads i) { list = zs }) all
-      (moves m.item m.behind none (ap (take_item p (encounter s i) e) (sym (ap (λ (o : Option Tid). option_map_or (λ (u : Task). u.list) (option_and_then (task_of s) o) (s.threads i).list) none)) ∙ m.taken) (all i))) in
-      from_some (of_law (with_list s i zs) i e) (effect p (with_list s i zs) i e m.item) after_step m.effect_is (thread_effect (with_list s i zs) i e m.item m.rule_moved middle) (law (with_list s i zs) (is_relisted s i zs) (stays_after p s i e after_step m) middle)
+-- the law of each thread over a step, from a fact of each thread before it
+pub thread_step_from : (p : Program) (P Q : ℕ → Thread → Type 0) (s : State) (i : ℕ) (e : Event) (next : State) → (m : IsMove p s i e next)
+    → ((s.threads i).current ≡ None → take_item p (encounter s i) e (s.threads i).list ≡ Some (m.item, m.behind) → P i (s.threads i) → Q i (record (s.threads i) { list = stays (encounter s i) e m.item m.behind }))
+    → ((j : ℕ) → (j ≡ i → (s.threads i).current ≡ None → ⊥) → P j (s.threads j) → Q j (s.threads j))
+    → (EachThread Q (moved_on s i e m.item m.behind) → IsThreadLaw p (moved_on s i e m.item m.behind) i e next Q) → EachThread P s → EachThread Q next
+thread_step_from p P Q s i e after_step m moves others law all =
+    let zs : List Item = stays (encounter s i) e m.item m.behind in
+    let middle : EachThread Q (with_list s i zs) = list_moves s i zs (EachThread Q)
+    (λ k is j. others j (λ same none. none_some none is) (all j))
+    (λ none j. each_put Q s.threads i (record (s.threads i) { list = zs })
+    (moves none (ap (take_item p (encounter s i) e) (sym (ap (λ (o : Option Tid). option_map_or (λ (u : Task). u.list) (option_and_then (task_of s) o) (s.threads i).list) none)) ∙ m.taken) (all i))
+    j (λ ne. others j (λ same. absurd (ne same)) (all j))) in
+    from_some (of_law p Q (with_list s i zs) i e) (effect p (with_list s i zs) i e m.item) after_step m.effect_is (thread_effect p Q (with_list s i zs) i e m.item m.rule_moved middle) (law middle)
+
+-- the law of each thread over a step
+pub thread_step : (p : Program) (R : ℕ → Thread → Type 0) (s : State) (i : ℕ) (e : Event) (next : State) → Step p s i e next → ListMoves p R s i e
+    → ((middle : State) → IsRelisted s middle → Stays middle next → EachThread R middle → IsThreadLaw p middle i e next R) → EachThread R s → EachThread R next
+thread_step p R s i e after_step step moves law all =
+    let m = move_of p s i e after_step step in
+    let zs : List Item = stays (encounter s i) e m.item m.behind in
+    thread_step_from p R R s i e after_step m (λ none taken h. moves m.item m.behind none taken h) (λ j other h. h)
+    (law (with_list s i zs) (is_relisted s i zs) (stays_after p s i e after_step m)) all

@@ -35,7 +35,7 @@ joins_step p s i e next step all = region_step p (λ n r. IsJoinedLast r) s i e 
     law middle relists later = record {
       arrives = λ k t r is found q. q;
       releases = λ k t r is found may q. q;
-      ends = λ k t r is found im q joined. others_set r.ended t.number (q joined);
+      ends = λ k t r is found im other q joined. others_set r.ended t.number (q joined);
       joins = λ k t r is found may q joined. may.ended;
       forks = λ region team f k t r is found may new joined. absurd (false_true joined);
     }

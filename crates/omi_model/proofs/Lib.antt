@@ -39,3 +39,13 @@ pub mod ReachedWellFormed
 pub mod BarriersAhead
 pub mod LockLists
 pub mod LocksHeld
+pub mod AsksPlaced
+pub mod WorkerLists
+pub mod FirstLists
+pub mod AsksCurrent
+pub mod AsksOrder
+pub mod ClosingItems
+pub mod ClaimSteps
+pub mod FirstThread
+pub mod ClaimsKept
+pub mod ClaimLaws

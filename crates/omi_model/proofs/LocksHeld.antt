@@ -88,14 +88,14 @@ idle_step p s i e next step all = thread_step p IdleLists s i e next step
     law middle relists later of_threads = record {
       begins = λ may q. q;
       offers = λ may of q. q;
-      wants = λ n num may q. q;
-      asks = λ w got may q. q;
-      claims = λ w may q. q;
+      wants = λ n num may of q. q;
+      asks = λ w got may of q. q;
+      claims = λ w may of q. q;
       shows = λ state wait of q. q;
       forks = λ region team f k t r is found may new q. q;
-      joins_team = λ task may q. q;
+      joins_team = λ task may of q. q;
       ends = λ k t r is found im other q. q;
-      joins = λ k t r is found may q. q;
+      joins = λ k t r is found may of q. q;
       makes = λ task f final k t is new q. q;
       starts = λ task x k t is may new q. q;
       finishes = λ k t is ex q. q;
@@ -191,7 +191,7 @@ module _ (k : ℕ) (p : Program) (events : List (ℕ × Event)) (s : State) (rea
         begins = λ n t waits mine q. q;
         finishes = λ n t is over q. q;
         starts = λ n u j t x is found ex de may of q. inr (of_start n u x found de q);
-        members = λ region team f n t r is found may new of j a at.
+        members = λ region team f n t r is found may new of by j a at.
             inr (
               new_name a.0 (subst (λ (b : Tid × ℕ). IsFresh middle.tasks i b.0.0) (get_or_from_slice_get team j a a at) (may.tasks_new j a (slice_get_within team j a at))),
               member_back k p (record { debug = p.env.debug; number = j; level = r.levels + 1; is_final = false }) f,

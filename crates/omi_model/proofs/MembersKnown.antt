@@ -66,7 +66,7 @@ members_step p s i e next step known = record {
       begins = λ k t waits mine q. record { generating = q.generating; scheduling = q.scheduling; waiting = λ w. absurd (begun_waits w) };
       finishes = λ k t is over q. record { generating = q.generating; scheduling = q.scheduling; waiting = λ w. absurd (finished_waits w) };
       starts = λ k u j t x is live ex de may of q. record { generating = λ im. absurd (false_true (sym ex ∙ im)); scheduling = λ im. absurd (false_true (sym ex ∙ im)); waiting = λ w. absurd (begun_waits w) };
-      members = λ region team f k t r is found may new of j m at. record {
+      members = λ region team f k t r is found may new of by j m at. record {
         generating = λ im q found_q. ap (λ (x : Region). x.encountering) (some_same new found_q);
         scheduling = λ im q found_q. ap (λ (x : Region). if j == 0 then x.encountering else None) (some_same new found_q);
         waiting = λ w. (refl, member_waits j w);
@@ -79,7 +79,7 @@ members_step p s i e next step known = record {
     region_law middle before later = record {
       arrives = λ k t r is found q. record { some = q.some; arrivals = length-set r.arrivals t.number (slice_index r.arrivals t.number + 1) ∙ q.arrivals; ended = q.ended };
       releases = λ k t r is found may q. record { some = q.some; arrivals = q.arrivals; ended = q.ended };
-      ends = λ k t r is found im q. record { some = q.some; arrivals = q.arrivals; ended = length-set r.ended t.number true ∙ q.ended };
+      ends = λ k t r is found im other q. record { some = q.some; arrivals = q.arrivals; ended = length-set r.ended t.number true ∙ q.ended };
       joins = λ k t r is found may q. record { some = q.some; arrivals = q.arrivals; ended = q.ended };
       forks = λ region team f k t r is found may new.
           record {
@@ -97,7 +97,7 @@ members_step p s i e next step known = record {
       begins = λ k t waits mine q. q;
       finishes = λ k t is over q. q;
       starts = λ k u j t x is live ex de may of q implicit. absurd (false_true (sym ex ∙ implicit));
-      members = λ region team f k t r is found may new of j m at implicit. (_, new, at);
+      members = λ region team f k t r is found may new of by j m at implicit. (_, new, at);
       deferred = λ task f final seen k t is of fresh implicit. absurd (false_true implicit);
       made = λ task f final k t is of fresh implicit. absurd (false_true implicit);
     }

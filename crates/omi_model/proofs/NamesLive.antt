@@ -87,7 +87,7 @@ module _ (p : Program) (s : State) (i : ℕ) (e : Event) (next : State) (step : 
     begins = λ k t waits mine q. record { region = q.region; generating = q.generating; scheduling = q.scheduling };
     finishes = λ k t is over q. record { region = q.region; generating = q.generating; scheduling = q.scheduling };
     starts = λ k u j t x is live ex de may of q. record { region = q.region; generating = q.generating; scheduling = λ n f. subst (IsLiveTask next) (some_same refl f) (current j t is) };
-    members = λ region team f k t r is found may new of j m at. record {
+    members = λ region team f k t r is found may new of by j m at. record {
       region = (_, new);
       generating = λ n g. subst (IsLiveTask next) (some_same refl g) (current k t is);
       scheduling = λ n g. when next (j == 0) k n (current k t is) g;
@@ -111,7 +111,7 @@ module _ (p : Program) (s : State) (i : ℕ) (e : Event) (next : State) (step : 
   region_law middle before later = record {
     arrives = λ k t r is found q. record { enclosing = q.enclosing; encountering = q.encountering; team = q.team };
     releases = λ k t r is found may q. record { enclosing = q.enclosing; encountering = q.encountering; team = q.team };
-    ends = λ k t r is found im q. record { enclosing = q.enclosing; encountering = q.encountering; team = q.team };
+    ends = λ k t r is found im other q. record { enclosing = q.enclosing; encountering = q.encountering; team = q.team };
     joins = λ k t r is found may q. record { enclosing = q.enclosing; encountering = q.encountering; team = q.team };
     forks = λ region team f k t r is found may new. record {
       enclosing = λ o g. subst (IsLiveRegion next) (some_same refl g) (live_region middle next later t.region (r, found));
@@ -134,14 +134,14 @@ module _ (p : Program) (s : State) (i : ℕ) (e : Event) (next : State) (step : 
   thread_law middle before later all = record {
     begins = λ may q. q;
     offers = λ may of q. q;
-    wants = λ n num may q. q;
-    asks = λ w got may q. q;
-    claims = λ w may q. q;
+    wants = λ n num may of q. q;
+    asks = λ w got may of q. q;
+    claims = λ w may of q. q;
     shows = λ state wait of q. q;
     forks = λ region team f k t r is found may new q n g. first_name next team n (λ j m at. (_, new j m at, not_deferred (j == 0))) g;
-    joins_team = λ task may q n g. subst (IsLiveTask next) (some_same refl g) (live_task middle next later task (may.member, may.live, λ d. not_waiting may.member may.waiting d));
+    joins_team = λ task may of q n g. subst (IsLiveTask next) (some_same refl g) (live_task middle next later task (may.member, may.live, λ d. not_waiting may.member may.waiting d));
     ends = λ k t r is found im other q n g. absurd (none_some refl g);
-    joins = λ k t r is found may q n g.
+    joins = λ k t r is found may of q n g.
         let (v, live, same) = later.regions t.region r found in
         (next_regions t.region v live).encountering n (same.encountering ∙ g);
     makes = λ task f final k t is new q n g. subst (IsLiveTask next) (some_same refl g) (_, new, λ d. not_deferred true d);

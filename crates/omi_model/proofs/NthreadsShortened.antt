@@ -104,7 +104,7 @@ module _ (p : Program) where
         finishes = λ k t is over q. q;
         sets = λ k t icv value v f at_set (r, found, is). (r, found, set_shortened r icv value t.variables v f is);
         starts = λ k u j t x is live ex de may of q. q;
-        members = λ region team f k t r is found may new of j m at.
+        members = λ region team f k t r is found may new of by j m at.
             let (q, found_q, here) = of_tasks k t is.live in
             let (q', found_q', same) = later.regions t.region r found in
             let one : q ≡ q' = some_same found_q found_q' in

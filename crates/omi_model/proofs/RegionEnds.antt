@@ -54,7 +54,7 @@ covered_step p s i e next step all = task_step p (IsCovered p) s i e next step
       begins = λ k t waits mine q. q;
       finishes = λ k t is over q. q;
       starts = λ k u j t x is live ex de may of q im. absurd (false_true (sym ex ∙ im));
-      members = λ region team f k t r is found may new of j m at im. member_covers (barriers_of p) p (record { debug = p.env.debug; number = j; level = r.levels + 1; is_final = false }) f;
+      members = λ region team f k t r is found may new of by j m at im. member_covers (barriers_of p) p (record { debug = p.env.debug; number = j; level = r.levels + 1; is_final = false }) f;
       deferred = λ task f final seen k t is of fresh im. absurd (false_true im);
       made = λ task f final k t is of fresh im. absurd (false_true im);
     }
@@ -181,7 +181,7 @@ module _ (p : Program) (events : List (ℕ × Event)) (s : State) (reached : Rea
     begins = λ k t waits mine q ex r found rested. absurd (waiting_finished t waits (q ex r found rested));
     finishes = λ k t is over q ex r found rested. refl;
     starts = λ k u j t x is live ex de may of q ex' r found rested. absurd (deferred_finished u de (q ex' r found rested));
-    members = λ region team f k t r is found may new of j n at ex. absurd (false_true (sym ex));
+    members = λ region team f k t r is found may new of by j n at ex. absurd (false_true (sym ex));
     deferred = λ task f final seen k t is of fresh ex r found rested.
         absurd (no_new k t is (item.Defer seen f final) of (λ h. h) (defers_only e seen f final (fits_item (item.Defer seen f final) of)) r found rested);
     made = λ task f final k t is of fresh ex r found rested. absurd (no_new_now k t is f final of r found rested);
@@ -227,7 +227,7 @@ lasts_step p s i e next step all = task_step p HasLast s i e next step
       begins = λ k t waits mine q. q;
       finishes = λ k t is over q. q;
       starts = λ k u j t x is live ex de may of q. start_lasts u.implicit x (encounter middle i) u.list q;
-      members = λ region team f k t r is found may new of j m at. member_lasts true p (record { debug = p.env.debug; number = j; level = r.levels + 1; is_final = false }) f;
+      members = λ region team f k t r is found may new of by j m at. member_lasts true p (record { debug = p.env.debug; number = j; level = r.levels + 1; is_final = false }) f;
       deferred = λ task f final seen k t is of fresh. task_lasts false p f;
       made = λ task f final k t is of fresh. task_lasts false p f;
     }

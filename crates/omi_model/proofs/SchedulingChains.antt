@@ -111,7 +111,7 @@ module _ (p : Program) (events : List (ℕ × Event)) (s : State) (reached : Rea
     begins = λ k t waits mine q. record { rightly = λ ex un. q.rightly ex (λ d. waits_not t waits d); ends = q.ends };
     finishes = λ k t is over q. record { rightly = λ ex un. q.rightly ex (started k t is); ends = q.ends };
     starts = λ k u j t x is live ex de may of q. record { rightly = λ ex' un. under_here x of j t is u may; ends = ends_current of_tasks j t is };
-    members = λ region team f k t r is found may new of j n at. record { rightly = λ ex un. absurd (false_true (sym ex)); ends = of_first (j == 0) k (ends_current of_tasks k t is) };
+    members = λ region team f k t r is found may new of by j n at. record { rightly = λ ex un. absurd (false_true (sym ex)); ends = of_first (j == 0) k (ends_current of_tasks k t is) };
     deferred = λ task f final seen k t is of fresh. record { rightly = λ ex un. absurd (un refl); ends = (0, refl) };
     made = λ task f final k t is of fresh. record { rightly = λ ex un. inl refl; ends = ends_current of_tasks k t is };
   }

@@ -86,7 +86,7 @@ module _ (p : Program) (events : List (ℕ × Event)) (s : State) (reached : Rea
         begins = λ k t waits mine q un. q (not_waiting t waits);
         finishes = λ k t is over q un. q (current_undeferred k t is);
         starts = λ k u j t x is live ex de may of q un. own_begun j (name_before middle before j t is);
-        members = λ region team f k t r is found may new of j m at un. team_begun middle before region team (own_begun k (name_before middle before k t is)) may j m at;
+        members = λ region team f k t r is found may new of by j m at un. team_begun middle before region team (own_begun k (name_before middle before k t is)) may j m at;
         deferred = λ task f final seen k t is of fresh un. absurd (un refl);
         made = λ task f final k t is of fresh un. own_begun k (name_before middle before k t is);
       }
@@ -101,7 +101,7 @@ module _ (p : Program) (events : List (ℕ × Event)) (s : State) (reached : Rea
       region_law middle before later = record {
         arrives = λ k t r is found q. q;
         releases = λ k t r is found may q. q;
-        ends = λ k t r is found im q. q;
+        ends = λ k t r is found im other q. q;
         joins = λ k t r is found may q. q;
         forks = λ region team f k t r is found may new.
             omega (

@@ -33,6 +33,8 @@ pub mod LawEnds
 pub mod LawJoins
 pub mod LawLocks
 pub mod LawAsks
+pub mod LawClaims
+pub mod LawLists
 pub mod LawWellFormed
 pub mod WorkedRun
 pub mod LawRun

@@ -5,9 +5,11 @@ ghost use Rattle.omi_model.specs.LawAsks.{TeamsAreAsked};
 ghost use Rattle.omi_model.specs.LawBarriers.{ArrivalsAreNear, PassFollowsRelease};
 ghost use Rattle.omi_model.specs.LawBarriersLeft.{BarriersAreLeft};
 ghost use Rattle.omi_model.specs.LawChains.{ThreadsHaveChains};
+ghost use Rattle.omi_model.specs.LawClaims.{AsksAreInOrder, ClaimsAreKept};
 ghost use Rattle.omi_model.specs.LawEnds.{RegionsEndFinished};
 ghost use Rattle.omi_model.specs.LawJoins.{JoinsComeLast};
 ghost use Rattle.omi_model.specs.LawLevels.{LevelsCountRegions};
+ghost use Rattle.omi_model.specs.LawLists.{ListsAreRight};
 ghost use Rattle.omi_model.specs.LawLocks.{LocksAreHeld};
 ghost use Rattle.omi_model.specs.LawMembers.{MembersAreKnown};
 ghost use Rattle.omi_model.specs.LawNames.{NamesAreLive};
@@ -105,4 +107,18 @@ pub fn barriers_are_left()
 /// A lock is held exactly where one task has its giving back ahead, and then by that task's thread.
 pub fn locks_are_held()
     ensures { LocksAreHeld }
+{}
+
+/// A thread whose claim is free waits for a team, one with a task was claimed by another, and one for which a task waits, or
+/// that a fork in the making got, waits for a team and was claimed by the thread that forks; thread 0 is its own and has a
+/// task. Those that a thread asked are the first threads in rising order, without itself, and it asks only for a fork.
+pub fn claims_are_kept()
+    ensures claims { ClaimsAreKept }
+    ensures asks { AsksAreInOrder }
+{}
+
+/// A deferred task has the body of its function and its finish ahead, a member that has not begun all of a member's list, and
+/// a task that is finished nothing.
+pub fn lists_are_right()
+    ensures { ListsAreRight }
 {}

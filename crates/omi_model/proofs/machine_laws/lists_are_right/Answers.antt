@@ -1,0 +1,5 @@
+use Rattle.omi_model.proofs.ClosingItems.{lists_right}
+use Rattle.omi_model.proofs.machine_laws.lists_are_right.Goals as goal
+
+pub returns : goal.returns
+returns c = lists_right
