@@ -49,3 +49,6 @@ pub mod ClaimSteps
 pub mod FirstThread
 pub mod ClaimsKept
 pub mod ClaimLaws
+pub mod EndSteps
+pub mod MemberEnds
+pub mod MembersInStep

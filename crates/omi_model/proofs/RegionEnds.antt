@@ -236,7 +236,7 @@ lasts : (p : Program) (events : List (ℕ × Event)) (s : State) → Reached p e
 lasts p events s reached = over_events p (EachTask HasLast) (λ u i e next step h. lasts_step p u i e next step h) (opening p) events s reached
     (each_first_task p HasLast (main_lasts true p refl (record { debug = p.env.debug; number = 0; level = 0; is_final = false })))
 
-outside_is : (ph : Phase) → is_outside ph ≡ true → ph ≡ Outside
+pub outside_is : (ph : Phase) → is_outside ph ≡ true → ph ≡ Outside
 outside_is Outside h = refl
 outside_is Waiting h = absurd (false_true h)
 outside_is Released h = absurd (false_true h)

@@ -31,6 +31,7 @@ pub mod LawScheduling
 pub mod LawChains
 pub mod LawEnds
 pub mod LawJoins
+pub mod LawProgress
 pub mod LawLocks
 pub mod LawAsks
 pub mod LawClaims

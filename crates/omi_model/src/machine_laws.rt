@@ -14,6 +14,7 @@ ghost use Rattle.omi_model.specs.LawLocks.{LocksAreHeld};
 ghost use Rattle.omi_model.specs.LawMembers.{MembersAreKnown};
 ghost use Rattle.omi_model.specs.LawNames.{NamesAreLive};
 ghost use Rattle.omi_model.specs.LawNthreads.{NthreadsShorten};
+ghost use Rattle.omi_model.specs.LawProgress.{MembersAreInStep};
 ghost use Rattle.omi_model.specs.LawRun.{RunIsLegal};
 ghost use Rattle.omi_model.specs.LawScheduling.{SchedulingIsRight, StartsAreConstrained};
 ghost use Rattle.omi_model.specs.LawStays.{Stay};
@@ -121,4 +122,11 @@ pub fn claims_are_kept()
 /// a task that is finished nothing.
 pub fn lists_are_right()
     ensures { ListsAreRight }
+{}
+
+/// A member that has not begun has arrived nowhere and no barrier of its region is released, one that is not finished has not
+/// ended and its region is not joined, and one that is finished has ended, or joined as member 0, with all its arrivals
+/// released; where a region was joined, every barrier of it is released.
+pub fn members_are_in_step()
+    ensures { MembersAreInStep }
 {}
