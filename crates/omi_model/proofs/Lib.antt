@@ -52,3 +52,4 @@ pub mod ClaimLaws
 pub mod EndSteps
 pub mod MemberEnds
 pub mod MembersInStep
+pub mod Lineages

@@ -29,6 +29,7 @@ pub mod LawBarriers
 pub mod LawBarriersLeft
 pub mod LawScheduling
 pub mod LawChains
+pub mod LawLineage
 pub mod LawEnds
 pub mod LawJoins
 pub mod LawProgress

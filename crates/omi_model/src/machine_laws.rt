@@ -9,6 +9,7 @@ ghost use Rattle.omi_model.specs.LawClaims.{AsksAreInOrder, ClaimsAreKept};
 ghost use Rattle.omi_model.specs.LawEnds.{RegionsEndFinished};
 ghost use Rattle.omi_model.specs.LawJoins.{JoinsComeLast};
 ghost use Rattle.omi_model.specs.LawLevels.{LevelsCountRegions};
+ghost use Rattle.omi_model.specs.LawLineage.{TasksHaveLineage};
 ghost use Rattle.omi_model.specs.LawLists.{ListsAreRight};
 ghost use Rattle.omi_model.specs.LawLocks.{LocksAreHeld};
 ghost use Rattle.omi_model.specs.LawMembers.{MembersAreKnown};
@@ -129,4 +130,10 @@ pub fn lists_are_right()
 /// released; where a region was joined, every barrier of it is released.
 pub fn members_are_in_step()
     ensures { MembersAreInStep }
+{}
+
+/// The chain of generating tasks of a task runs through tasks of its region that have begun to an implicit one, and an explicit
+/// task that has started is scheduled from one of them, or from the member of its region that runs on its thread.
+pub fn tasks_have_lineage()
+    ensures { TasksHaveLineage }
 {}
