@@ -53,3 +53,4 @@ pub mod EndSteps
 pub mod MemberEnds
 pub mod MembersInStep
 pub mod Lineages
+pub mod Encounters

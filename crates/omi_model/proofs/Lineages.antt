@@ -72,7 +72,7 @@ module _ (p : Program) (events : List (ℕ × Event)) (s : State) (reached : Rea
   stay = stays_step p s i e next step
 
   -- the current task, before and after
-  was : (middle : State) → IsRelisted s middle → (k : Tid) (t : Task) → IsCurrent middle i k t → (v : Task) × (xs : List Item) × IsCurrent s i k v × (t ≡ record v { list = xs })
+  pub was : (middle : State) → IsRelisted s middle → (k : Tid) (t : Task) → IsCurrent middle i k t → (v : Task) × (xs : List Item) × IsCurrent s i k v × (t ≡ record v { list = xs })
   was middle before k t is =
       let (v, xs, live, same) = before.tasks k t is.live in
       let current : IsCurrent s i k v = record { name = sym (before.currents i) ∙ is.name; live = live } in

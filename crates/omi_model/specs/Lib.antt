@@ -33,6 +33,7 @@ pub mod LawLineage
 pub mod LawEnds
 pub mod LawJoins
 pub mod LawProgress
+pub mod LawEncounters
 pub mod LawLocks
 pub mod LawAsks
 pub mod LawClaims

@@ -1,0 +1,55 @@
+-- Encounters: a region and its tasks were made by the thread of member 0, in a task that this thread runs in the enclosing region. While the region is not joined that task is suspended there, not finished, and the enclosing region is visible and not joined. Only the initial region has no such task. An explicit task was made, and runs, on a member's thread, and its region is not joined before it is finished.
+use Rattle.std.specs.Prelude.{◌≡◌, ℕ, List, true, false, slice_get, Option, Some, None}
+use Rattle.omi_script.specs.declared.program.Program.{Program}
+use Rattle.omi_model.specs.declared.event.Event.{Event}
+use Rattle.omi_model.specs.declared.id.Rid.{Rid}
+use Rattle.omi_model.specs.declared.id.Tid.{Tid}
+use Rattle.omi_model.specs.declared.progress.Progress.TheVariants.{Begun, Deferred, Finished}
+use Rattle.omi_model.specs.declared.region.Region.{Region}
+use Rattle.omi_model.specs.declared.task.Task.{Task}
+use Rattle.omi_model.specs.Opening.{initial_region}
+use Rattle.omi_model.specs.Reached.{Reached}
+use Rattle.omi_model.specs.State.{State, region_of, task_of}
+use Rattle.omi_model.specs.Visible.{IsVisibleRegion}
+
+-- the region and the tasks of a team are named after the thread of member 0
+pub record IsNamedByFirst (n : Rid) (team : List (Tid × ℕ)) : Type 0 where
+  pub first : (m : Tid × ℕ) → slice_get team 0 ≡ Some m → m.1 ≡ n.0.creator
+  pub tasks : (j : ℕ) (m : Tid × ℕ) → slice_get team j ≡ Some m → m.0.0.creator ≡ n.0.creator
+
+-- a region is live, and not joined
+abbrev pub IsOpen : State → Rid → Type 0
+IsOpen s n = (r : Region) × (region_of s n ≡ Some r) × (r.joined ≡ false)
+
+-- the task that encountered a region
+pub record IsEncountering (s : State) (n : Rid) (r : Region) (k : Tid) : Type 0 where
+  pub task : Task
+  pub live : task_of s k ≡ Some task
+  pub thread : task.thread ≡ n.0.creator
+  pub enclosing : r.enclosing ≡ Some task.region
+  pub begun : r.joined ≡ false → task.progress ≡ Begun
+  pub around : r.joined ≡ false → IsVisibleRegion s task.region × IsOpen s task.region
+
+-- a member of a region's team runs on this thread
+abbrev pub IsThreadOf : State → Rid → ℕ → Type 0
+IsThreadOf s n w = (r : Region) × (j : ℕ) × (m : Tid × ℕ) × (region_of s n ≡ Some r)
+    × (slice_get r.team j ≡ Some m) × (m.1 ≡ w)
+
+pub record IsInRegion (s : State) (k : Tid) (t : Task) : Type 0 where
+  pub creator : IsThreadOf s t.region k.0.creator
+  pub thread : (t.progress ≡ Deferred → ⊥) → IsThreadOf s t.region t.thread
+  pub inside : (t.progress ≡ Finished → ⊥) → IsOpen s t.region
+
+pub record AreEncounters (s : State) : Type 0 where
+  pub named : (n : Rid) (r : Region) → region_of s n ≡ Some r → IsNamedByFirst n r.team
+  pub encountered : (n : Rid) (r : Region) (k : Tid) → region_of s n ≡ Some r
+      → r.encountering ≡ Some k → IsEncountering s n r k
+  pub initial : (n : Rid) (r : Region) → region_of s n ≡ Some r → r.encountering ≡ None
+      → n ≡ initial_region
+  pub explicit : (k : Tid) (t : Task) → task_of s k ≡ Some t → t.implicit ≡ false
+      → IsInRegion s k t
+
+-- in every reached state
+abbrev pub RegionsAreEncountered : Type 0
+RegionsAreEncountered = (p : Program) (events : List (ℕ × Event)) (s : State)
+    → Reached p events s → AreEncounters s
