@@ -239,11 +239,11 @@ module _ (p : Program) (s : State) (i : ℕ) (e : Event) (next : State) (step : 
         shows = λ state wait of q. q;
         forks = λ region team f k t r is found may new q. q;
         joins_team = λ task may of q. q;
-        ends = λ k t r is found im other q. q;
+        ends = λ k t r is found im other over q. q;
         joins = λ k t r is found may of q. q;
         makes = λ task f final k t is new q. q;
         starts = λ task x k t is may new q. q;
-        finishes = λ k t is ex q. q;
+        finishes = λ k t is ex over q. q;
       }
         where
           asked_right : (w : ℕ) (got : Bool) → MayAsk middle i w got → AreAsksRight next i (middle.threads i).asks (middle.threads i).wanted → AreAsksRight next i ((middle.threads i).asks ++ (w, got) ∷ []) (middle.threads i).wanted

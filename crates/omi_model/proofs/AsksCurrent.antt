@@ -152,12 +152,12 @@ module _ (p : Program) (events : List (ℕ × Event)) (s : State) (reached : Rea
         shows = λ k t x q. record { placed = q.placed; first = q.first; top = λ asks. let h = q.top asks in record { before = h.before; asking = h.asking; was = h.was } };
         tools = λ k t x q. record { placed = q.placed; first = q.first; top = λ asks. let h = q.top asks in record { before = h.before; asking = h.asking; was = h.was } };
         sets = λ k t icv value v f at_set q. record { placed = q.placed; first = q.first; top = λ asks. let h = q.top asks in record { before = h.before; asking = h.asking; was = h.was } };
-        begins = λ k t waits mine q. record { placed = q.placed; first = λ d. absurd (begun_deferred d); top = λ asks. let h = q.top asks in record { before = h.before; asking = h.asking; was = h.was } };
+        begins = λ k t waits mine by q. record { placed = q.placed; first = λ d. absurd (begun_deferred d); top = λ asks. let h = q.top asks in record { before = h.before; asking = h.asking; was = h.was } };
         finishes = λ k t is over q. record { placed = q.placed; first = λ d. absurd (finished_deferred d); top = λ asks. let h = q.top asks in record { before = h.before; asking = h.asking; was = h.was } };
-        starts = λ k u j t x is live ex de may of q. let h = start_plain x (encounter middle i) u.list ((q.first de, q.placed.1), q.placed.0) in plain k _ (h.1, h.0.1) h.0.0;
+        starts = λ k u j t x is live ex de may of by q. let h = start_plain x (encounter middle i) u.list ((q.first de, q.placed.1), q.placed.0) in plain k _ (h.1, h.0.1) h.0.0;
         members = λ region team f k t r is found may new of by j n at. let h = member_plain p (record { debug = p.env.debug; number = j; level = r.levels + 1; is_final = false }) f in plain n.0 _ (h.1, h.0.1) h.0.0;
         deferred = λ task f final seen k t is of fresh. let h = task_plain p f in plain task _ (h.1, h.0.1) h.0.0;
-        made = λ task f final k t is of fresh. let h = task_plain p f in plain task _ (h.1, h.0.1) h.0.0;
+        made = λ task f final k t is of fresh by. let h = task_plain p f in plain task _ (h.1, h.0.1) h.0.0;
       }
 
   pub asks_step : EachTask (HasAsks next) next
@@ -187,13 +187,13 @@ module _ (p : Program) (events : List (ℕ × Event)) (s : State) (reached : Rea
         shows = λ k t x q. q;
         tools = λ k t x q. q;
         sets = λ k t icv value v f at_set q. q;
-        begins = λ k t waits mine q. q;
+        begins = λ k t waits mine by q. q;
         finishes = λ k t is over q. q;
-        starts = λ k u j t x is live ex de may of q v found asks ne. absurd (was_deferred k u live de v found asks);
+        starts = λ k u j t x is live ex de may of by q v found asks ne. absurd (was_deferred k u live de v found asks);
         members = λ region team f k t r is found may new of by j n at v was asks ne.
             absurd (new_name s i (stays (encounter s i) e m.item m.behind) n.0 v (subst (λ (b : Tid × ℕ). IsFresh middle.tasks i b.0.0) (get_or_from_slice_get team j n n at) (may.tasks_new j n (slice_get_within team j n at))) was);
         deferred = λ task f final seen k t is of fresh v was asks ne. absurd (new_name s i (stays (encounter s i) e m.item m.behind) task v fresh was);
-        made = λ task f final k t is of fresh v was asks ne. absurd (new_name s i (stays (encounter s i) e m.item m.behind) task v fresh was);
+        made = λ task f final k t is of fresh by v was asks ne. absurd (new_name s i (stays (encounter s i) e m.item m.behind) task v fresh was);
       }
 
   -- ---- forks in the making

@@ -199,11 +199,11 @@ order_step p s i e next step all = thread_step p (InOrder next) s i e next step 
       shows = λ state wait of q. q;
       forks = λ region team f k t r is found may new q. q;
       joins_team = λ task may of q. q;
-      ends = λ k t r is found im other q. q;
+      ends = λ k t r is found im other over q. q;
       joins = λ k t r is found may of q. q;
       makes = λ task f final k t is new q. q;
       starts = λ task x k t is may new q. q;
-      finishes = λ k t is ex q. q;
+      finishes = λ k t is ex over q. q;
     }
 
 pub in_order : (p : Program) (events : List (ℕ × Event)) (s : State) → Reached p events s → EachThread (InOrder s) s

@@ -262,14 +262,14 @@ module _ (p : Program) (b : ℕ → ℕ) (ok : IsCounted p b) (s : State) (i : �
     shows = λ k t x q. q;
     tools = λ k t x q. q;
     sets = λ k t icv value v f at_set q. q;
-    begins = λ k t waits mine q. q;
+    begins = λ k t waits mine by q. q;
     finishes = λ k t is over q. q;
-    starts = λ k u j t x is live ex de may of q.
+    starts = λ k u j t x is live ex de may of by q.
         (λ im. absurd (false_true (sym ex ∙ im)), λ h. start_ready b t.number x (encounter middle i) u.list (any_number p b ok u.number t.number u.list (q.1 ex)));
     members = λ region team f k t r is found may new of by j m at.
         (λ im. (_, new, member region team f r j m at), λ ex. absurd (false_true (sym ex)));
     deferred = λ task f final seen k t is of fresh. (λ im. absurd (false_true im), λ ex. task_ready p b ok 0 f (fair_of k t is (item.Defer seen f final) of));
-    made = λ task f final k t is of fresh. (λ im. absurd (false_true im), λ ex. task_ready p b ok t.number f (fair_made k t is f final of));
+    made = λ task f final k t is of fresh by. (λ im. absurd (false_true im), λ ex. task_ready p b ok t.number f (fair_made k t is f final of));
   }
     where
       before : IsRelisted s middle

@@ -94,11 +94,11 @@ module _ (p : Program) (s : State) (i : ℕ) (e : Event) (next : State) (step : 
         shows = λ state wait of q ne. absurd (ne refl);
         forks = λ region team f k t r is found may new q ne. absurd (ne refl);
         joins_team = λ task may of q ne. absurd (ne refl);
-        ends = λ k t r is found im other q ne. absurd (ne refl);
+        ends = λ k t r is found im other over q ne. absurd (ne refl);
         joins = λ k t r is found may of q ne. absurd (ne refl);
         makes = λ task f final k t is new q ne. absurd (ne refl);
         starts = λ task x k t is may new q ne. absurd (ne refl);
-        finishes = λ k t is ex q ne. absurd (ne refl);
+        finishes = λ k t is ex over q ne. absurd (ne refl);
       }
 
   pub begun_step : EachThread HasBegunOrNot next

@@ -54,12 +54,12 @@ finished_step p s i e next step = task_step p (FinishedBy s i e) s i e next step
       shows = λ k t x q. q;
       tools = λ k t x q. q;
       sets = λ k t icv value v f at_set q. q;
-      begins = λ k t waits mine q f. absurd (begun_finished f);
+      begins = λ k t waits mine by q f. absurd (begun_finished f);
       finishes = λ k t is over q f. inr (sym (before.currents i) ∙ is.name, over);
-      starts = λ k u j t x is live ex de may of q f. absurd (begun_finished f);
+      starts = λ k u j t x is live ex de may of by q f. absurd (begun_finished f);
       members = λ region team g k t r is found may new of by j m at f. absurd (member_finished (j == 0) f);
       deferred = λ task g final seen k t is of fresh f. absurd (member_finished_deferred f);
-      made = λ task g final k t is of fresh f. absurd (begun_finished f);
+      made = λ task g final k t is of fresh by f. absurd (begun_finished f);
     }
       where
         member_finished_deferred : Deferred ≡ Finished → ⊥

@@ -44,11 +44,11 @@ current_kept p s i e next step = thread_step p (KeepsCurrent s i) s i e next ste
       shows = λ state wait of q. q;
       forks = λ region team f k t r is found may new q ne. absurd (ne refl);
       joins_team = λ task may of q ne. absurd (ne refl);
-      ends = λ k t r is found im other q ne. absurd (ne refl);
+      ends = λ k t r is found im other over q ne. absurd (ne refl);
       joins = λ k t r is found may of q ne. absurd (ne refl);
       makes = λ task f final k t is new q ne. absurd (ne refl);
       starts = λ task x k t is may new q ne. absurd (ne refl);
-      finishes = λ k t is ex q ne. absurd (ne refl);
+      finishes = λ k t is ex over q ne. absurd (ne refl);
     }
 
 abbrev pub Chains : State → Type 0

@@ -44,12 +44,12 @@ module _ (p : Program) (events : List (ℕ × Event)) (s : State) (reached : Rea
         shows = λ k t x q. q;
         tools = λ k t x q. q;
         sets = λ k t icv value v f at_set q. q;
-        begins = λ k t waits mine q. q;
+        begins = λ k t waits mine by q. q;
         finishes = λ k t is over q. q;
-        starts = λ k u j t x is live ex de may of q im. absurd (false_true (sym ex ∙ im));
+        starts = λ k u j t x is live ex de may of by q im. absurd (false_true (sym ex ∙ im));
         members = λ region team f k t r is found may new of by j n at im other. elsewhere region team may by j n at other;
         deferred = λ task f final seen k t is of fresh im. absurd (false_true im);
-        made = λ task f final k t is of fresh im. absurd (false_true im);
+        made = λ task f final k t is of fresh by im. absurd (false_true im);
       }
         where
           elsewhere : (region : Rid) (team : List (Tid × ℕ)) → MayFork middle i region team → e ≡ event.Fork region team → (j : ℕ) (n : Tid × ℕ) → slice_get team j ≡ Some n → j ≢ 0 → n.1 ≢ 0

@@ -129,11 +129,11 @@ module _ (p : Program) (s : State) (i : ℕ) (e : Event) (next : State) (step : 
         shows = λ state wait of q. another i (u.threads i) (record (u.threads i) { state = state; wait = wait }) refl q;
         forks = λ region team f k t r is found may new q. another i (u.threads i) _ refl q;
         joins_team = λ task may of q. another i (u.threads i) _ refl q;
-        ends = λ k t r is found im other q. another i (u.threads i) _ refl q;
+        ends = λ k t r is found im other over q. another i (u.threads i) _ refl q;
         joins = λ k t r is found may of q. another i (u.threads i) _ refl q;
         makes = λ task f final k t is new q. another i (u.threads i) _ refl q;
         starts = λ task x k t is may new q. another i (u.threads i) _ refl q;
-        finishes = λ k t is ex q. another i (u.threads i) _ refl q;
+        finishes = λ k t is ex over q. another i (u.threads i) _ refl q;
       }
         where
           offer_ask : (w : ℕ) → event.Offer ≡ event.Ask w true → ⊥
@@ -161,11 +161,11 @@ module _ (p : Program) (s : State) (i : ℕ) (e : Event) (next : State) (step : 
         shows = λ state wait of q. q;
         forks = λ region team f k t r is found may new q. q;
         joins_team = λ task may of q. q;
-        ends = λ k t r is found im other q. q;
+        ends = λ k t r is found im other over q. q;
         joins = λ k t r is found may of q. q;
         makes = λ task f final k t is new q. q;
         starts = λ task x k t is may new q. q;
-        finishes = λ k t is ex q. q;
+        finishes = λ k t is ex over q. q;
       }
 
   pub want_empties : (n : ℕ) → e ≡ event.Want n → (next.threads i).asks ≡ []
@@ -215,11 +215,11 @@ module _ (p : Program) (s : State) (i : ℕ) (e : Event) (next : State) (step : 
         shows = λ state wait of q. q;
         forks = λ region team f k t r is found may new q. q;
         joins_team = λ task may of q. q;
-        ends = λ k t r is found im other q. q;
+        ends = λ k t r is found im other over q. q;
         joins = λ k t r is found may of q. q;
         makes = λ task f final k t is new q. q;
         starts = λ task x k t is may new q. q;
-        finishes = λ k t is ex q. q;
+        finishes = λ k t is ex over q. q;
       }
 
   -- a thread that has a task had one, or begins a task that was made for it
@@ -239,11 +239,11 @@ module _ (p : Program) (s : State) (i : ℕ) (e : Event) (next : State) (step : 
         shows = λ state wait of q. q;
         forks = λ region team f k t r is found may new q some. had k t is;
         joins_team = λ task may of q some. inr (refl, task, of);
-        ends = λ k t r is found im other q some. had k t is;
+        ends = λ k t r is found im other over q some. had k t is;
         joins = λ k t r is found may of q some. had k t is;
         makes = λ task f final k t is new q some. had k t is;
         starts = λ task x k t is may new q some. had k t is;
-        finishes = λ k t is ex q some. had k t is;
+        finishes = λ k t is ex over q some. had k t is;
       }
         where
           had : (k : Tid) (t : Task) → IsCurrent u i k t → IsSome (s.threads i).current ⊎ ((i ≡ i) × (task : Tid) × (e ≡ event.ImplicitBegin task))
@@ -281,12 +281,12 @@ module _ (p : Program) (s : State) (i : ℕ) (e : Event) (next : State) (step : 
         shows = λ k t x q. q;
         tools = λ k t x q. q;
         sets = λ k t icv value v f at_set q. q;
-        begins = λ k t waits mine q w. absurd (begun_waits w);
+        begins = λ k t waits mine by q w. absurd (begun_waits w);
         finishes = λ k t is over q w. absurd (finished_waits w);
-        starts = λ k v j t x is live ex de may of q w. absurd (begun_waits w);
+        starts = λ k v j t x is live ex de may of by q w. absurd (begun_waits w);
         members = λ region team f k t r is found may new of by j n at w. of_number region team may by j n at w;
         deferred = λ task f final seen k t is of fresh w. absurd (deferred_waits w);
-        made = λ task f final k t is of fresh w. absurd (begun_waits w);
+        made = λ task f final k t is of fresh by w. absurd (begun_waits w);
       }
         where
           of_number : (region : Rid) (team : List (Tid × ℕ)) → MayFork u i region team → e ≡ event.Fork region team → (j : ℕ) (n : Tid × ℕ) → slice_get team j ≡ Some n → (if j == 0 then Begun else NotBegun) ≡ NotBegun → IsMeantFor s n.0 n.1 ⊎ IsNewFor n.0 n.1
@@ -352,13 +352,13 @@ module _ (p : Program) (events : List (ℕ × Event)) (s : State) (reached : Rea
         shows = λ k t x q. q;
         tools = λ k t x q. q;
         sets = λ k t icv value v f at_set q. q;
-        begins = λ k t waits mine q v found was ne. absurd (ne (sym (q v found was ne).1 ∙ mine));
+        begins = λ k t waits mine by q v found was ne. absurd (ne (sym (q v found was ne).1 ∙ mine));
         finishes = λ k t is over q v found was ne. absurd (begun_waits (sym (current_begun p events s reached i k v (sym (relists.currents i) ∙ is.name) found).0 ∙ was));
-        starts = λ k t j o x is live ex de may of q v found was ne. absurd (deferred_waits (sym de ∙ (q v found was ne).0));
+        starts = λ k t j o x is live ex de may of by q v found was ne. absurd (deferred_waits (sym de ∙ (q v found was ne).0));
         members = λ region team f k t r is found may new of by j n at v was waits ne.
             absurd (new_name s i (stays (encounter s i) e own.item own.behind) n.0 v (subst (λ (b : Tid × ℕ). IsFresh (moved_on s i e own.item own.behind).tasks i b.0.0) (get_or_from_slice_get team j n n at) (may.tasks_new j n (slice_get_within team j n at))) was);
         deferred = λ task f final seen k t is of fresh v was waits ne. absurd (new_name s i (stays (encounter s i) e own.item own.behind) task v fresh was);
-        made = λ task f final k t is of fresh v was waits ne. absurd (new_name s i (stays (encounter s i) e own.item own.behind) task v fresh was);
+        made = λ task f final k t is of fresh by v was waits ne. absurd (new_name s i (stays (encounter s i) e own.item own.behind) task v fresh was);
       }
 
   pub meant_after : (k : Tid) (w : ℕ) → w ≢ i → IsMeantFor s k w → IsMeantFor next k w

@@ -226,14 +226,14 @@ module _ (p : Program) (events : List (ℕ × Event)) (s : State) (reached : Rea
         shows = λ k t x q. record { is = record { closes = q.is.closes; finished = q.is.finished }; over = q.over };
         tools = λ k t x q. record { is = record { closes = q.is.closes; finished = q.is.finished }; over = q.over };
         sets = λ k t icv value v f at_set q. record { is = record { closes = q.is.closes; finished = q.is.finished }; over = q.over };
-        begins = λ k t waits mine q. other k (record t { progress = Begun }) q.over q.is.closes begun_finished;
+        begins = λ k t waits mine by q. other k (record t { progress = Begun }) q.over q.is.closes begun_finished;
         finishes = λ k t is over q. let none = q.over (sym (before.currents i) ∙ is.name) over in record { is = record { closes = q.is.closes; finished = λ f. none }; over = q.over };
-        starts = λ k u j t x is live ex de may of q. other k _ (λ name over. absurd (no_end x of (start_item j t u x may) over)) (started u ex x (encounter (moved_on s i e m.item m.behind) i) t.number q.is.closes) begun_finished;
+        starts = λ k u j t x is live ex de may of by q. other k _ (λ name over. absurd (no_end x of (start_item j t u x may) over)) (started u ex x (encounter (moved_on s i e m.item m.behind) i) t.number q.is.closes) begun_finished;
         members = λ region team f k t r is found may new of by j n at.
             other n.0 (member_task p region k t r f j n.1) (λ name over. absurd (no_end (item.Fork f) of refl over))
             (member_closes (last_of_member j) p (record { debug = p.env.debug; number = j; level = r.levels + 1; is_final = false }) f refl) (waits_finished (j == 0));
         deferred = λ task f final seen k t is of fresh. other task (deferred_task p k t f final seen) (λ name over. absurd (no_end (item.Defer seen f final) of refl over)) (task_closes item.Finish p refl f) deferred_finished;
-        made = λ task f final k t is of fresh. other task (scheduled i k t (deferred_task p k t f final 0)) (λ name over. absurd (no_end_now f final of over)) (task_closes item.Finish p refl f) begun_finished;
+        made = λ task f final k t is of fresh by. other task (scheduled i k t (deferred_task p k t f final 0)) (λ name over. absurd (no_end_now f final of over)) (task_closes item.Finish p refl f) begun_finished;
       }
         where
           no_end : (x : Item) → m.item ≡ x → is_closing x ≡ false → is_end e ≡ true → ⊥

@@ -58,14 +58,14 @@ pub record IsTaskLaw (p : Program) (s : State) (i : ℕ) (e : Event) (y : Item) 
   pub shows : (k : Tid) (t : Task) (enter : ℕ) → P k t → P k (record t { enter = enter })
   pub tools : (k : Tid) (t : Task) (x : ℕ) → P k t → P k (record t { tool = x })
   pub sets : (k : Tid) (t : Task) (icv value : ℕ) (v : Variables) → with_variable icv value t.variables ≡ Some v → e ≡ event.Set icv value → P k t → P k (record t { variables = v })
-  pub begins : (k : Tid) (t : Task) → t.progress ≡ NotBegun → t.thread ≡ i → P k t → P k (record t { progress = Begun })
+  pub begins : (k : Tid) (t : Task) → t.progress ≡ NotBegun → t.thread ≡ i → e ≡ event.ImplicitBegin k → P k t → P k (record t { progress = Begun })
   pub finishes : (k : Tid) (t : Task) → IsCurrent s i k t → is_end e ≡ true → P k t → P k (record t { progress = Finished })
-  pub starts : (k : Tid) (u : Task) (j : Tid) (t : Task) (x : Item) → IsCurrent s i j t → task_of s k ≡ Some u → u.implicit ≡ false → u.progress ≡ Deferred → MayStartAt x j t u → y ≡ x → P k u
+  pub starts : (k : Tid) (u : Task) (j : Tid) (t : Task) (x : Item) → IsCurrent s i j t → task_of s k ≡ Some u → u.implicit ≡ false → u.progress ≡ Deferred → MayStartAt x j t u → y ≡ x → e ≡ event.Start k → P k u
       → P k (record (scheduled i j t u) { list = start_list x (encounter s i) u.list })
   pub members : (region : Rid) (team : List (Tid × ℕ)) (f : ℕ) (k : Tid) (t : Task) (r : Region) → IsCurrent s i k t → region_of s t.region ≡ Some r → MayFork s i region team
       → region_of next region ≡ Some (new_region k t r team f) → y ≡ item.Fork f → e ≡ event.Fork region team → (j : ℕ) (m : Tid × ℕ) → slice_get team j ≡ Some m → P m.0 (member_task p region k t r f j m.1)
   pub deferred : (task : Tid) (f : ℕ) (is_final : Bool) (seen : ℕ) (k : Tid) (t : Task) → IsCurrent s i k t → y ≡ item.Defer seen f is_final → IsFresh s.tasks i task.0 → P task (deferred_task p k t f is_final seen)
-  pub made : (task : Tid) (f : ℕ) (is_final : Bool) (k : Tid) (t : Task) → IsCurrent s i k t → (y ≡ item.StartNow f is_final) ⊎ ((seen : ℕ) × (y ≡ item.Defer seen f is_final)) → IsFresh s.tasks i task.0 → P task (scheduled i k t (deferred_task p k t f is_final 0))
+  pub made : (task : Tid) (f : ℕ) (is_final : Bool) (k : Tid) (t : Task) → IsCurrent s i k t → (y ≡ item.StartNow f is_final) ⊎ ((seen : ℕ) × (y ≡ item.Defer seen f is_final)) → IsFresh s.tasks i task.0 → e ≡ event.StartNow task → P task (scheduled i k t (deferred_task p k t f is_final 0))
 
 each_member : (P : Tid → Task → Type 0) (task : ℕ → ℕ → Task) (number : ℕ) (team : List (Tid × ℕ)) (slots : Slots Task) → Each (λ n t. P (record { 0 = n }) t) slots
     → ((j : ℕ) (m : Tid × ℕ) → slice_get team j ≡ Some m → P m.0 (task (number + j) m.1)) → Each (λ n t. P (record { 0 = n }) t) (with_members task number team slots)
@@ -128,7 +128,7 @@ module _ (p : Program) (P : Tid → Task → Type 0) where
   task_effect s i (event.Fork region team) y rule all = tt
   task_effect s i (event.ImplicitBegin task) y rule all =
       λ law. each_changed s task (λ t. record t { progress = Begun }) all
-      (λ t e h. let same : rule.member ≡ t = some_same rule.live e in law.begins task t (ap (λ (u : Task). u.progress) (sym same) ∙ rule.waiting) (ap (λ (u : Task). u.thread) (sym same) ∙ rule.mine) h)
+      (λ t e h. let same : rule.member ≡ t = some_same rule.live e in law.begins task t (ap (λ (u : Task). u.progress) (sym same) ∙ rule.waiting) (ap (λ (u : Task). u.thread) (sym same) ∙ rule.mine) refl h)
   task_effect s i (event.State state wait) y rule all = λ law. all
   task_effect s i event.Enter y rule all = of_current s i (entered s) (of_law s i event.Enter y) (λ k t. ⊤) rule (λ k t is h law. each_changed s k (λ u. record u { enter = t.exit - 32 }) all (λ u e q. law.shows k u (t.exit - 32) q))
   task_effect s i event.Leave y rule all = of_current s i (left s) (of_law s i event.Leave y) (λ k t. ⊤) rule (λ k t is h law. each_changed s k (λ u. record u { enter = 0 }) all (λ u e q. law.shows k u 0 q))
@@ -144,20 +144,20 @@ module _ (p : Program) (P : Tid → Task → Type 0) where
       of_current s i (deferred p s task f final seen) (of_law s i (event.Defer task) (item.Defer seen f final)) (λ k t. IsFresh s.tasks i task.0) rule (λ k t is fresh law. each_new s task (deferred_task p k t f final seen) all (law.deferred task f final seen k t is refl fresh))
   task_effect s i (event.Defer task) y rule all = tt
   task_effect s i (event.StartNow task) (item.Defer seen f final) rule all =
-      of_current s i (started_now p s i task f final) (of_law s i (event.StartNow task) (item.Defer seen f final)) (λ k t. IsFresh s.tasks i task.0) rule (λ k t is fresh law. each_new s task (scheduled i k t (deferred_task p k t f final 0)) all (law.made task f final k t is (inr (seen, refl)) fresh))
+      of_current s i (started_now p s i task f final) (of_law s i (event.StartNow task) (item.Defer seen f final)) (λ k t. IsFresh s.tasks i task.0) rule (λ k t is fresh law. each_new s task (scheduled i k t (deferred_task p k t f final 0)) all (law.made task f final k t is (inr (seen, refl)) fresh refl))
   task_effect s i (event.StartNow task) (item.StartNow f final) rule all =
-      of_current s i (started_now p s i task f final) (of_law s i (event.StartNow task) (item.StartNow f final)) (λ k t. IsFresh s.tasks i task.0) rule (λ k t is fresh law. each_new s task (scheduled i k t (deferred_task p k t f final 0)) all (law.made task f final k t is (inl refl) fresh))
+      of_current s i (started_now p s i task f final) (of_law s i (event.StartNow task) (item.StartNow f final)) (λ k t. IsFresh s.tasks i task.0) rule (λ k t is fresh law. each_new s task (scheduled i k t (deferred_task p k t f final 0)) all (law.made task f final k t is (inl refl) fresh refl))
   task_effect s i (event.StartNow task) y rule all = tt
   task_effect s i (event.Start task) (item.Tasks state) rule all =
       of_current s i (started s i task) (of_law s i (event.Start task) (item.Tasks state)) (MayStart s task (item.Tasks state)) rule
       (λ k t is may law. each_changed s task (λ u. record (scheduled i k t u) { list = working (encounter s i) u.list }) all
       (λ u e q. let same : may.new ≡ u = some_same may.live e in
-      law.starts task u k t (item.Tasks state) is e (ap (λ (x : Task). x.implicit) (sym same) ∙ may.explicit) (ap (λ (x : Task). x.progress) (sym same) ∙ may.deferred) (subst (MayStartAt (item.Tasks state) k t) same may.allowed) refl q))
+      law.starts task u k t (item.Tasks state) is e (ap (λ (x : Task). x.implicit) (sym same) ∙ may.explicit) (ap (λ (x : Task). x.progress) (sym same) ∙ may.deferred) (subst (MayStartAt (item.Tasks state) k t) same may.allowed) refl refl q))
   task_effect s i (event.Start task) item.OneTask rule all =
       of_current s i (started_alone s i task) (of_law s i (event.Start task) item.OneTask) (MayStart s task item.OneTask) rule
       (λ k t is may law. each_changed s task (scheduled i k t) all
       (λ u e q. let same : may.new ≡ u = some_same may.live e in
-      law.starts task u k t item.OneTask is e (ap (λ (x : Task). x.implicit) (sym same) ∙ may.explicit) (ap (λ (x : Task). x.progress) (sym same) ∙ may.deferred) (subst (MayStartAt item.OneTask k t) same may.allowed) refl q))
+      law.starts task u k t item.OneTask is e (ap (λ (x : Task). x.implicit) (sym same) ∙ may.explicit) (ap (λ (x : Task). x.progress) (sym same) ∙ may.deferred) (subst (MayStartAt item.OneTask k t) same may.allowed) refl refl q))
   task_effect s i (event.Start task) y rule all = tt
   task_effect s i (event.Finish task) y rule all = of_current s i (finished s i) (of_law s i (event.Finish task) y) _ rule (λ k t is h law. each_changed s k (λ u. record u { progress = Finished }) all (λ u e q. law.finishes k u (the_current s i k t u is e) refl q))
   task_effect s i (event.Set icv value) y rule all =

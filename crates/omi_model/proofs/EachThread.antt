@@ -30,7 +30,7 @@ use Rattle.omi_model.specs.declared.progress.Progress.TheVariants.{Begun}
 use Rattle.omi_model.proofs.Slots.{each_put, made_same, none_some, on_same}
 use Rattle.omi_model.proofs.StaysKept.{new_team}
 use Rattle.omi_model.proofs.Steps.{IsMove, IsRelisted, from_some, is_relisted, list_moves, move_of, moved_on, of_current, of_current_region, of_region, of_set}
-use Rattle.omi_model.proofs.EachObject.{members_found, stays_after}
+use Rattle.omi_model.proofs.EachObject.{is_end, members_found, stays_after}
 
 abbrev pub EachThread : (ℕ → Thread → Type 0) → State → Type 0
 EachThread R s = (j : ℕ) → R j (s.threads j)
@@ -46,15 +46,15 @@ pub record IsThreadLaw (p : Program) (s : State) (i : ℕ) (e : Event) (next : S
   pub forks : (region : Rid) (team : List (Tid × ℕ)) (f : ℕ) (k : Tid) (t : Task) (r : Region) → IsCurrent s i k t → region_of s t.region ≡ Some r → MayFork s i region team
       → ((j : ℕ) (m : Tid × ℕ) → slice_get team j ≡ Some m → task_of next m.0 ≡ Some (member_task p region k t r f j m.1)) → R i (s.threads i) → R i (record (s.threads i) { current = master_of team })
   pub joins_team : (task : Tid) → MayBeginTask s i task → e ≡ event.ImplicitBegin task → R i (s.threads i) → R i (record (s.threads i) { current = Some task })
-  pub ends : (k : Tid) (t : Task) (r : Region) → IsCurrent s i k t → region_of s t.region ≡ Some r → t.implicit ≡ true → t.number ≢ 0 → R i (s.threads i) → R i (record (s.threads i) { current = None })
+  pub ends : (k : Tid) (t : Task) (r : Region) → IsCurrent s i k t → region_of s t.region ≡ Some r → t.implicit ≡ true → t.number ≢ 0 → is_end e ≡ true → R i (s.threads i) → R i (record (s.threads i) { current = None })
   pub joins : (k : Tid) (t : Task) (r : Region) → IsCurrent s i k t → region_of s t.region ≡ Some r → MayJoin t.region t r → e ≡ event.Join t.region → R i (s.threads i) → R i (record (s.threads i) { current = r.encountering })
   pub makes : (task : Tid) (f : ℕ) (is_final : Bool) (k : Tid) (t : Task) → IsCurrent s i k t → task_of next task ≡ Some (scheduled i k t (deferred_task p k t f is_final 0)) → R i (s.threads i) → R i (record (s.threads i) { current = Some task })
-  pub starts : (task : Tid) (x : Item) (k : Tid) (t : Task) → IsCurrent s i k t → MayStart s task x k t → ((u : Task) × (task_of next task ≡ Some u) × (u.progress ≡ Begun)) → R i (s.threads i) → R i (record (s.threads i) { current = Some task })
-  pub finishes : (k : Tid) (t : Task) → IsCurrent s i k t → t.implicit ≡ false → R i (s.threads i) → R i (record (s.threads i) { current = t.scheduling })
+  pub starts : (task : Tid) (x : Item) (k : Tid) (t : Task) → IsCurrent s i k t → MayStart s task x k t → ((u : Task) × (task_of next task ≡ Some u) × (u.progress ≡ Begun) × (u.scheduling ≡ Some k)) → R i (s.threads i) → R i (record (s.threads i) { current = Some task })
+  pub finishes : (k : Tid) (t : Task) → IsCurrent s i k t → t.implicit ≡ false → is_end e ≡ true → R i (s.threads i) → R i (record (s.threads i) { current = t.scheduling })
 
 -- a task that starts has begun afterwards
-started_found : (s : State) (k : Tid) (f : Task → Task) (t : Task) → task_of s k ≡ Some t → ((u : Task) → (f u).progress ≡ Begun) → (u : Task) × (task_of (on_task s k f) k ≡ Some u) × (u.progress ≡ Begun)
-started_found s k f t live begun = (f t, on_same s.tasks k.0 f ∙ ap (option_map f) live, begun t)
+started_found : (s : State) (k j : Tid) (f : Task → Task) (t : Task) → task_of s k ≡ Some t → ((u : Task) → (f u).progress ≡ Begun) → ((u : Task) → (f u).scheduling ≡ Some j) → (u : Task) × (task_of (on_task s k f) k ≡ Some u) × (u.progress ≡ Begun) × (u.scheduling ≡ Some j)
+started_found s k j f t live begun from = (f t, on_same s.tasks k.0 f ∙ ap (option_map f) live, begun t, from t)
 
 module _ (p : Program) (R : ℕ → Thread → Type 0) where
   abbrev of_law : State → ℕ → Event → State → Type 0
@@ -88,7 +88,7 @@ module _ (p : Program) (R : ℕ → Thread → Type 0) where
   thread_effect s i event.Arrive y rule all = of_current_region s i (λ k t. arrived s t) (of_law s i event.Arrive) _ rule (λ k t r is found h law. all)
   thread_effect s i event.Release y rule all = of_current_region s i (λ k t. released s t) (of_law s i event.Release) _ rule (λ k t r is found h law. all)
   thread_effect s i (event.ImplicitEnd task) y rule all =
-      of_current_region s i (task_ended s i) (of_law s i (event.ImplicitEnd task)) (λ k t r. MayEnd task k t) rule (λ k t r is found h law. each_thread s i (record (s.threads i) { current = None }) all (law.ends k t r is found h.implicit h.other (all i)))
+      of_current_region s i (task_ended s i) (of_law s i (event.ImplicitEnd task)) (λ k t r. MayEnd task k t) rule (λ k t r is found h law. each_thread s i (record (s.threads i) { current = None }) all (law.ends k t r is found h.implicit h.other refl (all i)))
   thread_effect s i (event.Join region) y rule all =
       of_region s i (joined s i) (of_law s i (event.Join region)) (λ k t r. MayJoin region t r) rule
       (λ k t r is found h law. each_thread s i (record (s.threads i) { current = r.encountering }) all
@@ -105,12 +105,12 @@ module _ (p : Program) (R : ℕ → Thread → Type 0) where
       (λ k t is fresh law. each_thread s i (record (s.threads i) { current = Some task }) all (law.makes task f final k t is (made_same s.tasks task.0 (scheduled i k t (deferred_task p k t f final 0))) (all i)))
   thread_effect s i (event.StartNow task) y rule all = tt
   thread_effect s i (event.Start task) (item.Tasks state) rule all =
-      of_current s i (started s i task) (of_law s i (event.Start task)) (MayStart s task (item.Tasks state)) rule (λ k t is may law. each_thread s i (record (s.threads i) { current = Some task }) all (law.starts task (item.Tasks state) k t is may (started_found s task (λ u. record (scheduled i k t u) { list = working (encounter s i) u.list }) may.new may.live (λ u. refl)) (all i)))
+      of_current s i (started s i task) (of_law s i (event.Start task)) (MayStart s task (item.Tasks state)) rule (λ k t is may law. each_thread s i (record (s.threads i) { current = Some task }) all (law.starts task (item.Tasks state) k t is may (started_found s task k (λ u. record (scheduled i k t u) { list = working (encounter s i) u.list }) may.new may.live (λ u. refl) (λ u. refl)) (all i)))
   thread_effect s i (event.Start task) item.OneTask rule all =
-      of_current s i (started_alone s i task) (of_law s i (event.Start task)) (MayStart s task item.OneTask) rule (λ k t is may law. each_thread s i (record (s.threads i) { current = Some task }) all (law.starts task item.OneTask k t is may (started_found s task (scheduled i k t) may.new may.live (λ u. refl)) (all i)))
+      of_current s i (started_alone s i task) (of_law s i (event.Start task)) (MayStart s task item.OneTask) rule (λ k t is may law. each_thread s i (record (s.threads i) { current = Some task }) all (law.starts task item.OneTask k t is may (started_found s task k (scheduled i k t) may.new may.live (λ u. refl) (λ u. refl)) (all i)))
   thread_effect s i (event.Start task) y rule all = tt
   thread_effect s i (event.Finish task) y rule all =
-      of_current s i (finished s i) (of_law s i (event.Finish task)) (MayFinish task) rule (λ k t is h law. each_thread s i (record (s.threads i) { current = t.scheduling }) all (law.finishes k t is h.explicit (all i)))
+      of_current s i (finished s i) (of_law s i (event.Finish task)) (MayFinish task) rule (λ k t is h law. each_thread s i (record (s.threads i) { current = t.scheduling }) all (law.finishes k t is h.explicit refl (all i)))
   thread_effect s i (event.Set icv value) y rule all = of_set s i icv value (of_law s i (event.Set icv value)) rule (λ law. all) (λ k t v is e law. all)
   thread_effect s i (event.SetTool x) y rule all = of_current s i (λ k t. with_tool s x k) (of_law s i (event.SetTool x)) (λ k t. ⊤) rule (λ k t is h law. all)
   thread_effect s i (event.Lock k) y rule all = λ law. all

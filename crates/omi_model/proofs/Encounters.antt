@@ -158,12 +158,12 @@ module _ (p : Program) (events : List (ℕ × Event)) (s : State) (reached : Rea
         shows = λ k t x q. q;
         tools = λ k t x q. q;
         sets = λ k t icv value v f at_set q. q;
-        begins = λ k t waits mine q ex. let h = q ex in (h.0, λ un. h.1 (waits_not t waits));
+        begins = λ k t waits mine by q ex. let h = q ex in (h.0, λ un. h.1 (waits_not t waits));
         finishes = λ k t is over q ex. let h = q ex in (h.0, λ un. h.1 (current_undeferred k t is));
-        starts = λ k u j t x is live ex de may of q ex'. ((q ex).0, λ un. start_member k u j t x is live ex may);
+        starts = λ k u j t x is live ex de may of by q ex'. ((q ex).0, λ un. start_member k u j t x is live ex may);
         members = λ region team f k t r is found may new of by j n at ex. absurd (false_true (sym ex));
         deferred = λ task f final seen k t is of fresh ex. (made_by task k t is fresh.creator, λ un. absurd (un refl));
-        made = λ task f final k t is of fresh ex. (made_by task k t is fresh.creator, λ un. current_member middle before k t is);
+        made = λ task f final k t is of fresh by ex. (made_by task k t is fresh.creator, λ un. current_member middle before k t is);
       }
         where
           current_undeferred : (k : Tid) (t : Task) → IsCurrent middle i k t → t.progress ≡ Deferred → ⊥

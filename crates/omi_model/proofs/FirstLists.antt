@@ -75,15 +75,15 @@ module _ (p : Program) (events : List (ℕ × Event)) (s : State) (reached : Rea
         shows = λ k t x q. record { deferred = q.deferred; waiting = q.waiting };
         tools = λ k t x q. record { deferred = q.deferred; waiting = q.waiting };
         sets = λ k t icv value v f at_set q. record { deferred = q.deferred; waiting = q.waiting };
-        begins = λ k t waits mine q. runs p next _ refl;
+        begins = λ k t waits mine by q. runs p next _ refl;
         finishes = λ k t is over' q. over p next _ refl;
-        starts = λ k u j t x is live ex de may of q. runs p next _ refl;
+        starts = λ k u j t x is live ex de may of by q. runs p next _ refl;
         members = λ region team f k t r is found may new of by j n at. record {
           deferred = λ d. absurd (waits_deferred (j == 0) d);
           waiting = λ w q found_q. ap (λ (x : Region). of_member p (record { debug = p.env.debug; number = j; level = x.levels; is_final = false }) x.function) (some_same new found_q);
         };
         deferred = λ task f final seen k t is of fresh. record { deferred = λ d. refl; waiting = λ w. absurd (deferred_waits w) };
-        made = λ task f final k t is of fresh. runs p next _ refl;
+        made = λ task f final k t is of fresh by. runs p next _ refl;
       }
 
 pub first_lists : (p : Program) (events : List (ℕ × Event)) (s : State) → Reached p events s → EachTask (λ k t. HasFirstList p s t) s

@@ -49,12 +49,12 @@ scheduling_step p events s reached i e next step all = task_step p HasScheduling
       shows = λ k t x q. q;
       tools = λ k t x q. q;
       sets = λ k t icv value v f at_set q. q;
-      begins = λ k t waits mine q ex un. q ex (waits_not t waits);
+      begins = λ k t waits mine by q ex un. q ex (waits_not t waits);
       finishes = λ k t is over q ex un. q ex (current k t is);
-      starts = λ k u j t x is live ex de may of q ex' un. (j, refl);
+      starts = λ k u j t x is live ex de may of by q ex' un. (j, refl);
       members = λ region team f k t r is found may new of by j m at ex. absurd (false_true (sym ex));
       deferred = λ task f final seen k t is of fresh ex un. absurd (un refl);
-      made = λ task f final k t is of fresh ex un. (k, refl);
+      made = λ task f final k t is of fresh by ex un. (k, refl);
     }
       where
         current : (k : Tid) (t : Task) → IsCurrent middle i k t → t.progress ≡ Deferred → ⊥
@@ -118,13 +118,13 @@ module _ (p : Program) (events : List (ℕ × Event)) (s : State) (reached : Rea
         shows = λ state wait of q. q;
         forks = λ region team f k t r is found may new q first. some_first team _ may.threads;
         joins_team = λ task may of q first. refl;
-        ends = λ k t r is found im other q first. absurd (elsewhere_current k t is im other first);
+        ends = λ k t r is found im other over q first. absurd (elsewhere_current k t is im other first);
         joins = λ k t r is found may of q first.
             let (v, xs, cur, same) = was k t is in
             encountered k v r cur (ap (λ (x : Task). x.implicit) (sym same) ∙ may.implicit) (ap (λ (x : Task). region_of s x.region) (sym same) ∙ (sym (before.regions t.region) ∙ found)) t.region of;
         makes = λ task f final k t is new q first. refl;
         starts = λ task x k t is may new q first. refl;
-        finishes = λ k t is ex q first.
+        finishes = λ k t is ex over q first.
             let (v, xs, cur, same) = was k t is in
             let (n, from) = have_scheduling p events s reached k v cur.live (ap (λ (x : Task). x.implicit) (sym same) ∙ ex) (λ d. begun_deferred (sym (current_begun p events s reached i k v cur.name cur.live).0 ∙ d)) in
             ap is_some (ap (λ (x : Task). x.scheduling) same ∙ from);

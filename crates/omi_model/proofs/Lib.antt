@@ -54,3 +54,5 @@ pub mod MemberEnds
 pub mod MembersInStep
 pub mod Lineages
 pub mod Encounters
+pub mod BegunChains
+pub mod EncounterLaws

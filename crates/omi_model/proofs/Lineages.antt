@@ -99,12 +99,12 @@ module _ (p : Program) (events : List (ℕ × Event)) (s : State) (reached : Rea
         shows = λ k t x q. q;
         tools = λ k t x q. q;
         sets = λ k t icv value v f at_set q. q;
-        begins = λ k t waits mine q. q;
+        begins = λ k t waits mine by q. q;
         finishes = λ k t is over q. q;
-        starts = λ k u j t x is live ex de may of q. q;
+        starts = λ k u j t x is live ex de may of by q. q;
         members = λ region team f k t r is found may new of by j n at. ([], refl);
         deferred = λ task f final seen k t is of fresh. under all middle before k t is;
-        made = λ task f final k t is of fresh. under all middle before k t is;
+        made = λ task f final k t is of fresh by. under all middle before k t is;
       }
 
   -- the current task runs on the thread of the event
@@ -125,12 +125,12 @@ module _ (p : Program) (events : List (ℕ × Event)) (s : State) (reached : Rea
         shows = λ k t x q. q;
         tools = λ k t x q. q;
         sets = λ k t icv value v f at_set q. q;
-        begins = λ k t waits mine q. q;
+        begins = λ k t waits mine by q. q;
         finishes = λ k t is over q. q;
-        starts = λ k u j t x is live ex de may of q n from. above j (on_thread_of middle before j t is) n from;
+        starts = λ k u j t x is live ex de may of by q n from. above j (on_thread_of middle before j t is) n from;
         members = λ region team f k t r is found may new of by j n at o from. of_number k (on_thread_of middle before k t is) j n team (got_threads (middle.threads i).asks) may.threads at o from;
         deferred = λ task f final seen k t is of fresh n from. absurd (none_some refl from);
-        made = λ task f final k t is of fresh n from. above k (on_thread_of middle before k t is) n from;
+        made = λ task f final k t is of fresh by n from. above k (on_thread_of middle before k t is) n from;
       }
         where
           above : (k : Tid) → (v : Task) × (task_of next k ≡ Some v) × (v.progress ≡ Deferred → ⊥) × (v.thread ≡ i) → (n : Tid) → ◌≡◌ {A = Option Tid} (Some k) (Some n) → (v : Task) × (task_of next n ≡ Some v) × (v.progress ≡ Deferred → ⊥) × (v.thread ≡ i)

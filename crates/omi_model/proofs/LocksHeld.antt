@@ -94,11 +94,11 @@ idle_step p s i e next step all = thread_step p IdleLists s i e next step
       shows = λ state wait of q. q;
       forks = λ region team f k t r is found may new q. q;
       joins_team = λ task may of q. q;
-      ends = λ k t r is found im other q. q;
+      ends = λ k t r is found im other over q. q;
       joins = λ k t r is found may of q. q;
       makes = λ task f final k t is new q. q;
       starts = λ task x k t is may new q. q;
-      finishes = λ k t is ex q. q;
+      finishes = λ k t is ex over q. q;
     }
 
 -- ---- which events change the locks
@@ -188,16 +188,16 @@ module _ (k : ℕ) (p : Program) (events : List (ℕ × Event)) (s : State) (rea
         shows = λ n t x q. q;
         tools = λ n t x q. q;
         sets = λ n t icv value v f at_set q. q;
-        begins = λ n t waits mine q. q;
+        begins = λ n t waits mine by q. q;
         finishes = λ n t is over q. q;
-        starts = λ n u j t x is found ex de may of q. inr (of_start n u x found de q);
+        starts = λ n u j t x is found ex de may of by q. inr (of_start n u x found de q);
         members = λ region team f n t r is found may new of by j a at.
             inr (
               new_name a.0 (subst (λ (b : Tid × ℕ). IsFresh middle.tasks i b.0.0) (get_or_from_slice_get team j a a at) (may.tasks_new j a (slice_get_within team j a at))),
               member_back k p (record { debug = p.env.debug; number = j; level = r.levels + 1; is_final = false }) f,
             );
         deferred = λ task f final seen n t is of fresh. inr (new_name task fresh, task_back k p f);
-        made = λ task f final n t is of fresh. inr (new_name task fresh, task_back k p f);
+        made = λ task f final n t is of fresh by. inr (new_name task fresh, task_back k p f);
       }
 
   -- the same holder, where the lock is as it was

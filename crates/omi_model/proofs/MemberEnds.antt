@@ -178,15 +178,15 @@ module _ (p : Program) (events : List (ℕ × Event)) (s : State) (reached : Rea
         shows = λ k t x q. record { over = q.over; still = q.still };
         tools = λ k t x q. record { over = q.over; still = q.still };
         sets = λ k t icv value v f at_set q. record { over = q.over; still = q.still };
-        begins = λ k t w mine q. record { over = q.over; still = λ not im r found. q.still not im r found ∙ waits t w };
+        begins = λ k t w mine by q. record { over = q.over; still = λ not im r found. q.still not im r found ∙ waits t w };
         finishes = λ k t is over q. record { over = q.over; still = λ not im r found. absurd (not (sym (before.currents i) ∙ is.name, over)) };
-        starts = λ k u j t x is live ex de may of q. explicit k _ ex;
+        starts = λ k u j t x is live ex de may of by q. explicit k _ ex;
         members = λ region team f k t r is found may new of by j n at. record {
           over = λ (name, ends). absurd (false_true (subst (λ (x : Event). is_end x ≡ true) by ends));
           still = λ not im q found_q. subst (λ (x : Region). ended_of x j ≡ is_finished (if j == 0 then Begun else NotBegun)) (some_same new found_q) (fresh (length team) j (slice_get_within team j n at) ∙ sym (unfinished (j == 0)));
         };
         deferred = λ task f final seen k t is of fresh. explicit task _ refl;
-        made = λ task f final k t is of fresh. explicit task _ refl;
+        made = λ task f final k t is of fresh by. explicit task _ refl;
       }
         where
           fresh : (len j : ℕ) → j < len → (if j == 0 then false else get_or (replicate len false) j false) ≡ false
@@ -202,7 +202,7 @@ module _ (p : Program) (events : List (ℕ × Event)) (s : State) (reached : Rea
       ap (λ (x : Task). x.progress) is
 
   -- a task that ends is finished
-  over_finished : (of : Event) (y : Item) → is_end of ≡ true → Rule middle i of y → (k : Tid) (t : Task) → IsCurrent middle i k t → effect p middle i of y ≡ Some next → (v : Task) → task_of next k ≡ Some v → v.progress ≡ Finished
+  pub over_finished : (of : Event) (y : Item) → is_end of ≡ true → Rule middle i of y → (k : Tid) (t : Task) → IsCurrent middle i k t → effect p middle i of y ≡ Some next → (v : Task) → task_of next k ≡ Some v → v.progress ≡ Finished
   over_finished (event.ImplicitEnd task) y over rule k t is made v found =
       let same : task_ended middle i k t ≡ next = some_same (at_current middle i k t (task_ended middle i) is) made in
       finished_here k t is.live v (ap (λ (u : State). task_of u k) same ∙ found)

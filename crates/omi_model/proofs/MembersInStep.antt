@@ -89,7 +89,7 @@ unfinished q not = go (is_finished q) refl
     go true is = absurd (not (finished_is q is))
     go false is = is
 
-first_at : {A : Type 0} (xs : List A) → 1 ≤ length xs → (x : A) × (slice_get xs 0 ≡ Some x)
+pub first_at : {A : Type 0} (xs : List A) → 1 ≤ length xs → (x : A) × (slice_get xs 0 ≡ Some x)
 first_at [] some = absurd (omega (arith, some))
 first_at (x ∷ xs) some = (x, refl)
 

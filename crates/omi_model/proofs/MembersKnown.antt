@@ -63,16 +63,16 @@ members_step p s i e next step known = record {
       shows = λ k t x q. record { generating = q.generating; scheduling = q.scheduling; waiting = q.waiting };
       tools = λ k t x q. record { generating = q.generating; scheduling = q.scheduling; waiting = q.waiting };
       sets = λ k t icv value v f at_set q. record { generating = q.generating; scheduling = q.scheduling; waiting = q.waiting };
-      begins = λ k t waits mine q. record { generating = q.generating; scheduling = q.scheduling; waiting = λ w. absurd (begun_waits w) };
+      begins = λ k t waits mine by q. record { generating = q.generating; scheduling = q.scheduling; waiting = λ w. absurd (begun_waits w) };
       finishes = λ k t is over q. record { generating = q.generating; scheduling = q.scheduling; waiting = λ w. absurd (finished_waits w) };
-      starts = λ k u j t x is live ex de may of q. record { generating = λ im. absurd (false_true (sym ex ∙ im)); scheduling = λ im. absurd (false_true (sym ex ∙ im)); waiting = λ w. absurd (begun_waits w) };
+      starts = λ k u j t x is live ex de may of by q. record { generating = λ im. absurd (false_true (sym ex ∙ im)); scheduling = λ im. absurd (false_true (sym ex ∙ im)); waiting = λ w. absurd (begun_waits w) };
       members = λ region team f k t r is found may new of by j m at. record {
         generating = λ im q found_q. ap (λ (x : Region). x.encountering) (some_same new found_q);
         scheduling = λ im q found_q. ap (λ (x : Region). if j == 0 then x.encountering else None) (some_same new found_q);
         waiting = λ w. (refl, member_waits j w);
       };
       deferred = λ task f final seen k t is of fresh. record { generating = λ im. absurd (false_true im); scheduling = λ im. absurd (false_true im); waiting = λ w. absurd (deferred_waits w) };
-      made = λ task f final k t is of fresh. record { generating = λ im. absurd (false_true im); scheduling = λ im. absurd (false_true im); waiting = λ w. absurd (begun_waits w) };
+      made = λ task f final k t is of fresh by. record { generating = λ im. absurd (false_true im); scheduling = λ im. absurd (false_true im); waiting = λ w. absurd (begun_waits w) };
     }
 
     region_law : (middle : State) → IsRelisted s middle → Stays middle next → IsRegionLaw p middle i next (λ n r. HasMembers r)
@@ -94,12 +94,12 @@ members_step p s i e next step known = record {
       shows = λ k t x q. q;
       tools = λ k t x q. q;
       sets = λ k t icv value v f at_set q. q;
-      begins = λ k t waits mine q. q;
+      begins = λ k t waits mine by q. q;
       finishes = λ k t is over q. q;
-      starts = λ k u j t x is live ex de may of q implicit. absurd (false_true (sym ex ∙ implicit));
+      starts = λ k u j t x is live ex de may of by q implicit. absurd (false_true (sym ex ∙ implicit));
       members = λ region team f k t r is found may new of by j m at implicit. (_, new, at);
       deferred = λ task f final seen k t is of fresh implicit. absurd (false_true implicit);
-      made = λ task f final k t is of fresh implicit. absurd (false_true implicit);
+      made = λ task f final k t is of fresh by implicit. absurd (false_true implicit);
     }
 
 pub members_known : (p : Program) (events : List (ℕ × Event)) (s : State) → Reached p events s → AreMembersKnown s

@@ -84,9 +84,9 @@ module _ (p : Program) (s : State) (i : ℕ) (e : Event) (next : State) (step : 
     shows = λ k t x q. record { region = q.region; generating = q.generating; scheduling = q.scheduling };
     tools = λ k t x q. record { region = q.region; generating = q.generating; scheduling = q.scheduling };
     sets = λ k t icv value v f at_set q. record { region = q.region; generating = q.generating; scheduling = q.scheduling };
-    begins = λ k t waits mine q. record { region = q.region; generating = q.generating; scheduling = q.scheduling };
+    begins = λ k t waits mine by q. record { region = q.region; generating = q.generating; scheduling = q.scheduling };
     finishes = λ k t is over q. record { region = q.region; generating = q.generating; scheduling = q.scheduling };
-    starts = λ k u j t x is live ex de may of q. record { region = q.region; generating = q.generating; scheduling = λ n f. subst (IsLiveTask next) (some_same refl f) (current j t is) };
+    starts = λ k u j t x is live ex de may of by q. record { region = q.region; generating = q.generating; scheduling = λ n f. subst (IsLiveTask next) (some_same refl f) (current j t is) };
     members = λ region team f k t r is found may new of by j m at. record {
       region = (_, new);
       generating = λ n g. subst (IsLiveTask next) (some_same refl g) (current k t is);
@@ -97,7 +97,7 @@ module _ (p : Program) (s : State) (i : ℕ) (e : Event) (next : State) (step : 
       generating = λ n g. subst (IsLiveTask next) (some_same refl g) (current k t is);
       scheduling = λ n g. absurd (none_some refl g);
     };
-    made = λ task f final k t is of fresh. record {
+    made = λ task f final k t is of fresh by. record {
       region = (all k t is.live).region;
       generating = λ n g. subst (IsLiveTask next) (some_same refl g) (current k t is);
       scheduling = λ n g. subst (IsLiveTask next) (some_same refl g) (current k t is);
@@ -140,13 +140,13 @@ module _ (p : Program) (s : State) (i : ℕ) (e : Event) (next : State) (step : 
     shows = λ state wait of q. q;
     forks = λ region team f k t r is found may new q n g. first_name next team n (λ j m at. (_, new j m at, not_deferred (j == 0))) g;
     joins_team = λ task may of q n g. subst (IsLiveTask next) (some_same refl g) (live_task middle next later task (may.member, may.live, λ d. not_waiting may.member may.waiting d));
-    ends = λ k t r is found im other q n g. absurd (none_some refl g);
+    ends = λ k t r is found im other over q n g. absurd (none_some refl g);
     joins = λ k t r is found may of q n g.
         let (v, live, same) = later.regions t.region r found in
         (next_regions t.region v live).encountering n (same.encountering ∙ g);
     makes = λ task f final k t is new q n g. subst (IsLiveTask next) (some_same refl g) (_, new, λ d. not_deferred true d);
-    starts = λ task x k t is may (u, found, begun) q n g. subst (IsLiveTask next) (some_same refl g) (u, found, λ d. not_deferred true (sym begun ∙ d));
-    finishes = λ k t is ex q n g. from_scheduling k t is n g;
+    starts = λ task x k t is may (u, found, begun, from) q n g. subst (IsLiveTask next) (some_same refl g) (u, found, λ d. not_deferred true (sym begun ∙ d));
+    finishes = λ k t is ex over q n g. from_scheduling k t is n g;
   }
     where
       from_scheduling : (k : Tid) (t : Task) → IsCurrent middle i k t → (n : Tid) → t.scheduling ≡ Some n → IsLiveTask next n

@@ -100,10 +100,10 @@ module _ (p : Program) where
       law middle y before later of_tasks = record {
         shows = λ k t x q. q;
         tools = λ k t x q. q;
-        begins = λ k t waits mine q. q;
+        begins = λ k t waits mine by q. q;
         finishes = λ k t is over q. q;
         sets = λ k t icv value v f at_set (r, found, is). (r, found, set_shortened r icv value t.variables v f is);
-        starts = λ k u j t x is live ex de may of q. q;
+        starts = λ k u j t x is live ex de may of by q. q;
         members = λ region team f k t r is found may new of by j m at.
             let (q, found_q, here) = of_tasks k t is.live in
             let (q', found_q', same) = later.regions t.region r found in
@@ -111,7 +111,7 @@ module _ (p : Program) where
             let level : q.levels ≡ r.levels = ap (λ (x : Region). x.levels) one ∙ same.levels in
             (_, new, record { some = some_of_shortened t.variables.nthreads here.some; rest = deeper t.variables.nthreads r.levels (here.rest ∙ ap (λ n. drop (n + 1) p.env.nthreads) level) });
         deferred = λ task f final seen k t is of fresh. of_tasks k t is.live;
-        made = λ task f final k t is of fresh. of_tasks k t is.live;
+        made = λ task f final k t is of fresh by. of_tasks k t is.live;
       }
 
   pub nthreads_shortened : (events : List (ℕ × Event)) (s : State) → Reached p events s → EachTask (Shortened s) s

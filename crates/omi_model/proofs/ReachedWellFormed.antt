@@ -42,7 +42,7 @@ module _ (p : Program) (events : List (ℕ × Event)) (s : State) (reached : Rea
   names : AreNamesLive s
   names = names_live p events s reached
 
-  visible_region : (n : Rid) (r : Region) → region_of s n ≡ Some r → IsVisibleRegion s n
+  pub visible_region : (n : Rid) (r : Region) → region_of s n ≡ Some r → IsVisibleRegion s n
   visible_region n r live = record {
     region = r;
     live = live;

@@ -51,12 +51,12 @@ covered_step p s i e next step all = task_step p (IsCovered p) s i e next step
       shows = λ k t x q. q;
       tools = λ k t x q. q;
       sets = λ k t icv value v f at_set q. q;
-      begins = λ k t waits mine q. q;
+      begins = λ k t waits mine by q. q;
       finishes = λ k t is over q. q;
-      starts = λ k u j t x is live ex de may of q im. absurd (false_true (sym ex ∙ im));
+      starts = λ k u j t x is live ex de may of by q im. absurd (false_true (sym ex ∙ im));
       members = λ region team f k t r is found may new of by j m at im. member_covers (barriers_of p) p (record { debug = p.env.debug; number = j; level = r.levels + 1; is_final = false }) f;
       deferred = λ task f final seen k t is of fresh im. absurd (false_true im);
-      made = λ task f final k t is of fresh im. absurd (false_true im);
+      made = λ task f final k t is of fresh by im. absurd (false_true im);
     }
 
 covered : (p : Program) (events : List (ℕ × Event)) (s : State) → Reached p events s → EachTask (IsCovered p) s
@@ -178,13 +178,13 @@ module _ (p : Program) (events : List (ℕ × Event)) (s : State) (reached : Rea
     shows = λ k t x q. q;
     tools = λ k t x q. q;
     sets = λ k t icv value v f at_set q. q;
-    begins = λ k t waits mine q ex r found rested. absurd (waiting_finished t waits (q ex r found rested));
+    begins = λ k t waits mine by q ex r found rested. absurd (waiting_finished t waits (q ex r found rested));
     finishes = λ k t is over q ex r found rested. refl;
-    starts = λ k u j t x is live ex de may of q ex' r found rested. absurd (deferred_finished u de (q ex' r found rested));
+    starts = λ k u j t x is live ex de may of by q ex' r found rested. absurd (deferred_finished u de (q ex' r found rested));
     members = λ region team f k t r is found may new of by j n at ex. absurd (false_true (sym ex));
     deferred = λ task f final seen k t is of fresh ex r found rested.
         absurd (no_new k t is (item.Defer seen f final) of (λ h. h) (defers_only e seen f final (fits_item (item.Defer seen f final) of)) r found rested);
-    made = λ task f final k t is of fresh ex r found rested. absurd (no_new_now k t is f final of r found rested);
+    made = λ task f final k t is of fresh by ex r found rested. absurd (no_new_now k t is f final of r found rested);
   }
 
   -- a task that was there
@@ -224,12 +224,12 @@ lasts_step p s i e next step all = task_step p HasLast s i e next step
       shows = λ k t x q. q;
       tools = λ k t x q. q;
       sets = λ k t icv value v f at_set q. q;
-      begins = λ k t waits mine q. q;
+      begins = λ k t waits mine by q. q;
       finishes = λ k t is over q. q;
-      starts = λ k u j t x is live ex de may of q. start_lasts u.implicit x (encounter middle i) u.list q;
+      starts = λ k u j t x is live ex de may of by q. start_lasts u.implicit x (encounter middle i) u.list q;
       members = λ region team f k t r is found may new of by j m at. member_lasts true p (record { debug = p.env.debug; number = j; level = r.levels + 1; is_final = false }) f;
       deferred = λ task f final seen k t is of fresh. task_lasts false p f;
-      made = λ task f final k t is of fresh. task_lasts false p f;
+      made = λ task f final k t is of fresh by. task_lasts false p f;
     }
 
 lasts : (p : Program) (events : List (ℕ × Event)) (s : State) → Reached p events s → EachTask HasLast s

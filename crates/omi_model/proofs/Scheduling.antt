@@ -45,12 +45,12 @@ waits_step p s i e next step all = task_step p TaskWaits s i e next step
       shows = λ k t x q. q;
       tools = λ k t x q. q;
       sets = λ k t icv value v f at_set q. q;
-      begins = λ k t waits mine q. q;
+      begins = λ k t waits mine by q. q;
       finishes = λ k t is over q. q;
-      starts = λ k u j t x is live ex de may of q. start_waits x (encounter middle i) u.list q;
+      starts = λ k u j t x is live ex de may of by q. start_waits x (encounter middle i) u.list q;
       members = λ region team f k t r is found may new of by j m at. member_waits p (record { debug = p.env.debug; number = j; level = r.levels + 1; is_final = false }) f;
       deferred = λ task f final seen k t is of fresh. task_waits p f;
-      made = λ task f final k t is of fresh. task_waits p f;
+      made = λ task f final k t is of fresh by. task_waits p f;
     }
 
 pub waits_reached : (p : Program) (events : List (ℕ × Event)) (s : State) → Reached p events s → EachTask TaskWaits s

@@ -30,7 +30,7 @@ use Rattle.omi_model.proofs.Steps.{IsMove, IsRelisted, is_relisted, move_of, mov
 
 -- ---- chains in a later state
 
-chain_stays : (s u : State) → Stays s u → AreNamesLive s → (m : ℕ) (o : Option Tid) → ((k : Tid) → o ≡ Some k → IsLiveTask s k) → along (scheduling_of u) m o ≡ along (scheduling_of s) m o
+pub chain_stays : (s u : State) → Stays s u → AreNamesLive s → (m : ℕ) (o : Option Tid) → ((k : Tid) → o ≡ Some k → IsLiveTask s k) → along (scheduling_of u) m o ≡ along (scheduling_of s) m o
 chain_stays s u stay names zero o live = refl
 chain_stays s u stay names (suc m) None live = chain_stays s u stay names m None (λ k e. absurd (none_some refl e))
 chain_stays s u stay names (suc m) (Some k) live =
@@ -108,12 +108,12 @@ module _ (p : Program) (events : List (ℕ × Event)) (s : State) (reached : Rea
     shows = λ k t x q. record { rightly = q.rightly; ends = q.ends };
     tools = λ k t x q. record { rightly = q.rightly; ends = q.ends };
     sets = λ k t icv value v f at_set q. record { rightly = q.rightly; ends = q.ends };
-    begins = λ k t waits mine q. record { rightly = λ ex un. q.rightly ex (λ d. waits_not t waits d); ends = q.ends };
+    begins = λ k t waits mine by q. record { rightly = λ ex un. q.rightly ex (λ d. waits_not t waits d); ends = q.ends };
     finishes = λ k t is over q. record { rightly = λ ex un. q.rightly ex (started k t is); ends = q.ends };
-    starts = λ k u j t x is live ex de may of q. record { rightly = λ ex' un. under_here x of j t is u may; ends = ends_current of_tasks j t is };
+    starts = λ k u j t x is live ex de may of by q. record { rightly = λ ex' un. under_here x of j t is u may; ends = ends_current of_tasks j t is };
     members = λ region team f k t r is found may new of by j n at. record { rightly = λ ex un. absurd (false_true (sym ex)); ends = of_first (j == 0) k (ends_current of_tasks k t is) };
     deferred = λ task f final seen k t is of fresh. record { rightly = λ ex un. absurd (un refl); ends = (0, refl) };
-    made = λ task f final k t is of fresh. record { rightly = λ ex un. inl refl; ends = ends_current of_tasks k t is };
+    made = λ task f final k t is of fresh by. record { rightly = λ ex un. inl refl; ends = ends_current of_tasks k t is };
   }
     where
       waits_not : (t : Task) → t.progress ≡ NotBegun → t.progress ≡ Deferred → ⊥

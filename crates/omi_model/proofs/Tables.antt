@@ -109,13 +109,13 @@ module _ (p : Program) (s : State) (i : ℕ) (e : Event) (next : State) (step : 
   task_law middle y before later of_tasks = record {
     shows = λ k t x q. q;
     tools = λ k t x q. q;
-    begins = λ k t waits mine q. q;
+    begins = λ k t waits mine by q. q;
     finishes = λ k t is over q. q;
     sets = λ k t icv value v f at_set q. (q.0, of_set icv value t.variables v f at_set q.1);
-    starts = λ k u j t x is live ex de may of q. (start_right x (encounter middle i) u.list q.0, q.1);
+    starts = λ k u j t x is live ex de may of by q. (start_right x (encounter middle i) u.list q.0, q.1);
     members = λ region team f k t r is found may new of by j n at. (member_right p (record { debug = p.env.debug; number = j; level = r.levels + 1; is_final = false }) f, (of_tasks k t is.live).1);
     deferred = λ task f final seen k t is of fresh. (task_right p f, (of_tasks k t is.live).1);
-    made = λ task f final k t is of fresh. (task_right p f, (of_tasks k t is.live).1);
+    made = λ task f final k t is of fresh by. (task_right p f, (of_tasks k t is.live).1);
   }
     where
       of_set : (icv value : ℕ) (v w : Variables) → with_variable icv value v ≡ Some w → e ≡ event.Set icv value → IsKind v.schedule.kind → IsKind w.schedule.kind
@@ -135,11 +135,11 @@ module _ (p : Program) (s : State) (i : ℕ) (e : Event) (next : State) (step : 
     shows = λ state wait of q. (q.0, shown_item state wait m.item (subst (λ (x : Event). fits x m.item ≡ true) of item_fits) item_right);
     forks = λ region team f k t r is found may new q. q;
     joins_team = λ task may of q. q;
-    ends = λ k t r is found im other q. q;
+    ends = λ k t r is found im other over q. q;
     joins = λ k t r is found may of q. q;
     makes = λ task f final k t is new q. q;
     starts = λ task x k t is may new q. q;
-    finishes = λ k t is ex q. q;
+    finishes = λ k t is ex over q. q;
   }
 
   pub tables_step : InTables next

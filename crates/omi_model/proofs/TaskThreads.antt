@@ -83,12 +83,12 @@ module _ (p : Program) (events : List (ℕ × Event)) (s : State) (reached : Rea
         shows = λ k t x q. q;
         tools = λ k t x q. q;
         sets = λ k t icv value v f at_set q. q;
-        begins = λ k t waits mine q un. q (not_waiting t waits);
+        begins = λ k t waits mine by q un. q (not_waiting t waits);
         finishes = λ k t is over q un. q (current_undeferred k t is);
-        starts = λ k u j t x is live ex de may of q un. own_begun j (name_before middle before j t is);
+        starts = λ k u j t x is live ex de may of by q un. own_begun j (name_before middle before j t is);
         members = λ region team f k t r is found may new of by j m at un. team_begun middle before region team (own_begun k (name_before middle before k t is)) may j m at;
         deferred = λ task f final seen k t is of fresh un. absurd (un refl);
-        made = λ task f final k t is of fresh un. own_begun k (name_before middle before k t is);
+        made = λ task f final k t is of fresh by un. own_begun k (name_before middle before k t is);
       }
         where
           current_undeferred : (k : Tid) (t : Task) → IsCurrent middle i k t → t.progress ≡ Deferred → ⊥

@@ -153,11 +153,11 @@ module _ (p : Program) (s : State) (i : ℕ) (e : Event) (next : State) (step : 
         shows = λ state wait of q. record { is = record { place = q.is.place; list = q.is.list; idle = q.is.idle }; offer = q.offer; offered = q.offered };
         forks = λ region team f k t r is found may new q. has_task q (λ none. none_some none is.name);
         joins_team = λ task may of q. record { is = still q.is.place _ _ q.is.list (λ f. offer_begins task (sym (q.offer refl f) ∙ of)); offer = λ same f. absurd (offer_begins task (sym (q.offer same f) ∙ of)); offered = λ same of'. absurd (offer_begins task (sym of' ∙ of)) };
-        ends = λ k t r is found im other q. has_task q (λ none. none_some none is.name);
+        ends = λ k t r is found im other over q. has_task q (λ none. none_some none is.name);
         joins = λ k t r is found may of q. has_task q (λ none. none_some none is.name);
         makes = λ task f final k t is new q. has_task q (λ none. none_some none is.name);
         starts = λ task x k t is may new q. has_task q (λ none. none_some none is.name);
-        finishes = λ k t is ex q. has_task q (λ none. none_some none is.name);
+        finishes = λ k t is ex over q. has_task q (λ none. none_some none is.name);
       }
         where
           has_task : {top : Option Tid} (q : IsPlaced i (middle.threads i)) → ((middle.threads i).current ≡ None → ⊥) → IsPlaced i (record (middle.threads i) { current = top })

@@ -1,5 +1,5 @@
 -- Chains: each thread has a chain of tasks, from its current task down by scheduling tasks. Each task stands in it once, runs on this thread and has begun and not finished, and the chain ends.
-use Rattle.std.specs.Prelude.{◌≡◌, ℕ, List, [], ◌∷◌, Option, Some, None, ⊤}
+use Rattle.std.specs.Prelude.{◌≡◌, ℕ, List, [], ◌∷◌, Option, Some, None, Contains, ⊤}
 use Rattle.omi_script.specs.declared.program.Program.{Program}
 use Rattle.omi_model.specs.declared.event.Event.{Event}
 use Rattle.omi_model.specs.declared.id.Tid.{Tid}
@@ -23,3 +23,9 @@ IsChain s i top (k ∷ ks) = (t : Task) × (top ≡ Some k) × IsApart k ks × (
 abbrev pub ThreadsHaveChains : Type 0
 ThreadsHaveChains = (p : Program) (events : List (ℕ × Event)) (s : State) → Reached p events s
     → (i : ℕ) → (ks : List Tid) × IsChain s i (s.threads i).current ks
+
+-- and each task that has begun and not finished stands in the chain of its thread
+abbrev pub BegunTasksAreOnChains : Type 0
+BegunTasksAreOnChains = (p : Program) (events : List (ℕ × Event)) (s : State)
+    → Reached p events s → (k : Tid) (t : Task) → task_of s k ≡ Some t → t.progress ≡ Begun
+    → (ks : List Tid) → IsChain s t.thread (s.threads t.thread).current ks → Contains ks k

@@ -4,8 +4,9 @@
 ghost use Rattle.omi_model.specs.LawAsks.{TeamsAreAsked};
 ghost use Rattle.omi_model.specs.LawBarriers.{ArrivalsAreNear, PassFollowsRelease};
 ghost use Rattle.omi_model.specs.LawBarriersLeft.{BarriersAreLeft};
-ghost use Rattle.omi_model.specs.LawChains.{ThreadsHaveChains};
+ghost use Rattle.omi_model.specs.LawChains.{BegunTasksAreOnChains, ThreadsHaveChains};
 ghost use Rattle.omi_model.specs.LawClaims.{AsksAreInOrder, ClaimsAreKept};
+ghost use Rattle.omi_model.specs.LawEncounters.{RegionsAreEncountered};
 ghost use Rattle.omi_model.specs.LawEnds.{RegionsEndFinished};
 ghost use Rattle.omi_model.specs.LawJoins.{JoinsComeLast};
 ghost use Rattle.omi_model.specs.LawLevels.{LevelsCountRegions};
@@ -136,4 +137,17 @@ pub fn members_are_in_step()
 /// task that has started is scheduled from one of them, or from the member of its region that runs on its thread.
 pub fn tasks_have_lineage()
     ensures { TasksHaveLineage }
+{}
+
+/// A region and its tasks were made by the thread of member 0, and all but the initial region in a task of the enclosing region
+/// that runs on this thread; while the region is not joined that task has begun and not finished, and the enclosing region is
+/// visible and not joined. An explicit task was made and runs on members' threads, in a region that is not joined before the
+/// task is finished.
+pub fn regions_are_encountered()
+    ensures { RegionsAreEncountered }
+{}
+
+/// Each task that has begun and not finished is in the chain of the thread that it runs on.
+pub fn begun_tasks_are_on_chains()
+    ensures { BegunTasksAreOnChains }
 {}

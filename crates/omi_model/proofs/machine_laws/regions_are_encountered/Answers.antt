@@ -1,0 +1,5 @@
+use Rattle.omi_model.proofs.EncounterLaws.{encounters}
+use Rattle.omi_model.proofs.machine_laws.regions_are_encountered.Goals as goal
+
+pub returns : goal.returns
+returns c = encounters
