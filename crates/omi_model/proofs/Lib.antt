@@ -56,3 +56,4 @@ pub mod Lineages
 pub mod Encounters
 pub mod BegunChains
 pub mod EncounterLaws
+pub mod ListOrder

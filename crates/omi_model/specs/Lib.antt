@@ -27,6 +27,7 @@ pub mod LawLevels
 pub mod LawNthreads
 pub mod LawBarriers
 pub mod LawBarriersLeft
+pub mod LawOrder
 pub mod LawScheduling
 pub mod LawChains
 pub mod LawLineage

@@ -16,6 +16,7 @@ ghost use Rattle.omi_model.specs.LawLocks.{LocksAreHeld};
 ghost use Rattle.omi_model.specs.LawMembers.{MembersAreKnown};
 ghost use Rattle.omi_model.specs.LawNames.{NamesAreLive};
 ghost use Rattle.omi_model.specs.LawNthreads.{NthreadsShorten};
+ghost use Rattle.omi_model.specs.LawOrder.{BarriersAreInOrder};
 ghost use Rattle.omi_model.specs.LawProgress.{MembersAreInStep};
 ghost use Rattle.omi_model.specs.LawRun.{RunIsLegal};
 ghost use Rattle.omi_model.specs.LawScheduling.{SchedulingIsRight, StartsAreConstrained};
@@ -150,4 +151,10 @@ pub fn regions_are_encountered()
 /// Each task that has begun and not finished is in the chain of the thread that it runs on.
 pub fn begun_tasks_are_on_chains()
     ensures { BegunTasksAreOnChains }
+{}
+
+/// In a member's list each arrival is followed at once by the tasks that may start there, by the release for member 0 exactly,
+/// and by the pass; what is left of one barrier may stand at the front, and the list of an explicit task has nothing of one.
+pub fn barriers_are_in_order()
+    ensures { BarriersAreInOrder }
 {}
