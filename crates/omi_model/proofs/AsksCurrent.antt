@@ -246,11 +246,13 @@ module _ (p : Program) (events : List (ℕ × Event)) (s : State) (reached : Rea
       let is : IsCurrent middle i f.name (record f.task { list = zs }) = current_after s i zs f.name f.task f.current in
       let made : Some (asked middle i w got) ≡ Some next = subst (λ (x : Event). effect p middle i x m.item ≡ Some next) of m.effect_is in
       let same : asked middle i w got ≡ next = some_same refl made in
+      let kept : (next.threads i).current ≡ (middle.threads i).current =
+      from_some (λ (v : State). (v.threads i).current ≡ (middle.threads i).current) (effect p middle i e m.item) next m.effect_is (asking_current p middle i e m.item item_fits (ap is_asking asks) m.rule_moved) in
       record {
         name = f.name;
         task = record f.task { list = zs };
         current = record {
-          name = from_some (λ (v : State). (v.threads i).current ≡ (middle.threads i).current) (effect p middle i e m.item) next m.effect_is (asking_current p middle i e m.item item_fits (ap is_asking asks) m.rule_moved) ∙ is.name;
+          name = kept ∙ is.name;
           live = ap (λ (u : State). task_of u f.name) (sym same) ∙ (of_asked got f.name ∙ is.live);
         };
         next = ap (λ (y : Item). asks_next (stays (encounter s i) e y m.behind)) asks;

@@ -1,6 +1,6 @@
 -- Each task that has begun and not finished stands on its thread's chain.
-use Rattle.std.proofs.Common.{◌≡◌, ◌≢◌, ◌==◌, ◌+◌, ◌⊎◌, inl, inr, ℕ, zero, suc, Bool, true, false, List, [], ◌∷◌, map, slice_get, Option, Some, None, if◌then◌else◌, refl, sym, ap, ◌∙◌, subst, arith, eq-eqb, ne_eqb}
-use Rattle.std.specs.Prelude.{IfSome, ⊤}
+use Rattle.std.proofs.Common.{◌≡◌, ◌≢◌, ◌==◌, ◌⊎◌, inl, inr, ℕ, zero, suc, Bool, true, false, List, [], ◌∷◌, map, slice_get, Option, Some, None, if◌then◌else◌, refl, sym, ap, ◌∙◌, subst, arith, eq-eqb, ne_eqb}
+use Rattle.std.specs.Prelude.{IfSome}
 use Rattle.std.specs.Option.{option_and_then}
 use Rattle.std.specs.List.{Contains}
 use Rattle.std.proofs.lemmas.Bool.{cases_eq}
@@ -21,16 +21,16 @@ use Rattle.omi_model.specs.LawChains.{IsChain}
 use Rattle.omi_model.specs.LawNames.{IsLiveTask}
 use Rattle.omi_model.specs.LawStays.{Stays}
 use Rattle.omi_model.specs.Lists.{stays}
-use Rattle.omi_model.specs.Opening.{initial_task, opening}
+use Rattle.omi_model.specs.Opening.{opening}
 use Rattle.omi_model.specs.Reached.{Reached, Step}
 use Rattle.omi_model.specs.Rules.{Rule, effect}
 use Rattle.omi_model.specs.State.{State, region_of, scheduling_of, task_of}
 use Rattle.omi_model.specs.Tasking.{MayStart, started, started_alone, started_now}
-use Rattle.omi_model.specs.Teams.{MayFork, forked, got_threads, master_of, member_task, task_begun}
+use Rattle.omi_model.specs.Teams.{MayFork, forked, got_threads, master_of, member_task}
 use Rattle.omi_model.specs.WellFormed.{along}
 use Rattle.omi_model.proofs.AsksOrder.{at_contains, map_at}
 use Rattle.omi_model.proofs.BarrierSteps.{current_after}
-use Rattle.omi_model.proofs.ChainsKept.{current_begun, current_kept, have_chains}
+use Rattle.omi_model.proofs.ChainsKept.{current_kept, have_chains}
 use Rattle.omi_model.proofs.EachObject.{EachTask, IsTaskLaw, is_end, task_step_from}
 use Rattle.omi_model.proofs.EachThread.{EachThread, IsThreadLaw, thread_step}
 use Rattle.omi_model.proofs.MemberEnds.{ends_as_finished, over_finished}

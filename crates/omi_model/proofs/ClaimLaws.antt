@@ -10,21 +10,22 @@ use Rattle.omi_model.specs.declared.id.Rid.{Rid}
 use Rattle.omi_model.specs.declared.id.Tid.{Tid}
 use Rattle.omi_model.specs.declared.item.Item.{Item}
 use Rattle.omi_model.specs.declared.progress.Progress.TheVariants.{Begun, NotBegun}
-use Rattle.omi_model.specs.LawClaims.{AreAsksInOrder, IsClaimKept, IsForking, IsGot, IsMeantFor, WaitsForTeam}
+use Rattle.omi_model.specs.declared.item.Item.TheVariants as item
+use Rattle.omi_model.specs.LawClaims.{AreAsksInOrder, IsClaimKept, IsForking, IsGot, IsMeantFor, IsOfFork, WaitsForTeam}
 use Rattle.omi_model.specs.LawStays.{Stays}
 use Rattle.omi_model.specs.Opening.{initial_thread, opening, waiting_worker}
 use Rattle.omi_model.specs.Reached.{Reached, Step}
 use Rattle.omi_model.specs.Changes.{encounter, list_of}
 use Rattle.omi_model.specs.Rules.{Legal}
 use Rattle.omi_model.specs.State.{State}
-use Rattle.omi_model.specs.Lists.{fits}
+use Rattle.omi_model.specs.Lists.{fits, take_item}
 use Rattle.omi_model.specs.Teams.{MayFork, got_threads}
 use Rattle.omi_model.proofs.AsksCurrent.{forking_by, forking_taken, have_asks}
-use Rattle.omi_model.proofs.AsksPlaced.{is_forking}
+use Rattle.omi_model.proofs.AsksPlaced.{asks_taken, is_forking}
 use Rattle.omi_model.proofs.AsksOrder.{at_contains, at_got, contains_at, in_order, map_at}
-use Rattle.omi_model.proofs.ClaimSteps.{ClaimIs, ask_item, claim_after, fork_item, item_fits, offer_frees}
+use Rattle.omi_model.proofs.ClaimSteps.{ClaimIs, ask_item, by_ask, by_fork, claim_after, fork_item, forking_item_of, item_fits, offer_frees}
 use Rattle.omi_model.proofs.ClaimsKept.{AreClaimsKept, other_busy, other_free, other_got, other_meant, other_waits, own_busy, own_by, own_free, own_free_kept, own_not_got, own_unmeant, same_by}
-use Rattle.omi_model.proofs.EachObject.{EachTask, IsTaskLaw, task_step}
+use Rattle.omi_model.proofs.EachObject.{EachTask, IsTaskLaw, list_of_current, task_step}
 use Rattle.omi_model.proofs.EachThread.{EachThread}
 use Rattle.omi_model.proofs.FirstThread.{HasTask, RunsElsewhere, first_step}
 use Rattle.omi_model.proofs.ListLaws.{take_fits}
@@ -176,7 +177,16 @@ asks_in_order p events s reached i = record {
   asked = let q = in_order p events s reached i in (q.bound, q.known, q.first);
   asks = λ w got legal. by_item (event.Ask w got) legal (λ fit. ap is_forking (ask_item w got legal.item fit));
   forks = λ region team legal. by_item (event.Fork region team) legal (fork_item region team legal.item);
+  alone = λ f e legal. of_item legal.item e (take_fits p (encounter s i) e (list_of s i) legal.item legal.behind legal.taken)
+      (asks_taken p (encounter s i) e legal.item legal.behind f.task.list (have_asks p events s reached f.name f.task f.current.live).placed.0 f.next (ap (take_item p (encounter s i) e) (sym (list_of_current s i f.name f.task f.current)) ∙ legal.taken));
 }
   where
+    of_item : (y : Item) (e : Event) → fits e y ≡ true → is_forking y ≡ true → IsOfFork e
+    of_item y e fit forks = go (forking_item_of y forks)
+      where
+        go : (y ≡ item.Asks) ⊎ ((f : ℕ) × (y ≡ item.Fork f)) → IsOfFork e
+        go (inl asks) = let (w, got, of) = by_ask e (subst (λ (x : Item). fits e x ≡ true) asks fit) in subst IsOfFork (sym of) tt
+        go (inr (f, fork)) = let (region, team, of) = by_fork e f (subst (λ (x : Item). fits e x ≡ true) fork fit) in subst IsOfFork (sym of) tt
+
     by_item : (e : Event) (legal : Legal p s i e) → (fits e legal.item ≡ true → is_forking legal.item ≡ true) → IsForking s i
     by_item e legal is = forking_taken p events s reached i e (have_asks p events s reached) legal.item legal.behind legal.taken (is (take_fits p (encounter s i) e (list_of s i) legal.item legal.behind legal.taken))

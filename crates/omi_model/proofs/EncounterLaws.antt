@@ -1,6 +1,5 @@
 -- Regions, the tasks that encountered them and their explicit tasks, in every reached state.
-use Rattle.std.proofs.Common.{◌≡◌, ◌==◌, ℕ, zero, suc, Bool, true, false, List, [], ◌∷◌, get_or, slice_get, Option, Some, None, is_some, if◌then◌else◌, refl, sym, ap, ◌∙◌, subst, eq-eqb}
-use Rattle.std.proofs.lemmas.Option.{slice_get-get_or}
+use Rattle.std.proofs.Common.{◌≡◌, ℕ, Bool, true, false, List, Some, None, if◌then◌else◌, refl, sym, ap, ◌∙◌, subst, eq-eqb}
 use Rattle.omi_script.specs.declared.program.Program.{Program}
 use Rattle.omi_model.specs.declared.event.Event.{Event}
 use Rattle.omi_model.specs.declared.id.Rid.{Rid}
@@ -9,15 +8,12 @@ use Rattle.omi_model.specs.declared.progress.Progress.{Progress}
 use Rattle.omi_model.specs.declared.progress.Progress.TheVariants.{Begun, Deferred, Finished, NotBegun}
 use Rattle.omi_model.specs.declared.region.Region.{Region}
 use Rattle.omi_model.specs.declared.task.Task.{Task}
-use Rattle.omi_model.specs.LawEncounters.{AreEncounters, IsEncountering, IsInRegion, IsOpen}
-use Rattle.omi_model.specs.LawNames.{IsLiveRegion}
+use Rattle.omi_model.specs.LawEncounters.{AreEncounters, IsEncountering, IsOpen}
 use Rattle.omi_model.specs.LawProgress.{HasEnded}
 use Rattle.omi_model.specs.Reached.{Reached}
 use Rattle.omi_model.specs.State.{State, region_of, task_of}
-use Rattle.omi_model.specs.Visible.{IsVisibleRegion}
 use Rattle.omi_model.proofs.BegunChains.{scheduling_begun}
 use Rattle.omi_model.proofs.Encounters.{are_made}
-use Rattle.omi_model.proofs.MemberEnds.{finished_is, is_finished}
 use Rattle.omi_model.proofs.MembersInStep.{first_at, members_in_step}
 use Rattle.omi_model.proofs.MembersKnown.{members_known}
 use Rattle.omi_model.proofs.NamesLive.{names_live}

@@ -1,15 +1,14 @@
 -- Who made regions and tasks, and on which threads.
-use Rattle.std.proofs.Common.{◌≡◌, ◌==◌, ◌⊎◌, inl, inr, ℕ, zero, suc, ◌+◌, Bool, true, false, List, [], ◌∷◌, map, slice_get, Option, Some, None, refl, sym, ap, ◌∙◌, subst}
+use Rattle.std.proofs.Common.{◌≡◌, ◌==◌, ◌⊎◌, inl, inr, ℕ, zero, suc, Bool, true, false, List, [], ◌∷◌, slice_get, Some, None, refl, sym, ap, ◌∙◌, subst}
 use Rattle.std.specs.Prelude.{MatchBool}
 use Rattle.std.proofs.lemmas.Option.{get_or_from_slice_get, slice_get_within}
 use Rattle.omi_script.specs.declared.program.Program.{Program}
 use Rattle.omi_model.specs.declared.event.Event.{Event}
-use Rattle.omi_model.specs.declared.id.Id.{Id}
 use Rattle.omi_model.specs.declared.id.Rid.{Rid}
 use Rattle.omi_model.specs.declared.id.Tid.{Tid}
 use Rattle.omi_model.specs.declared.item.Item.{Item}
 use Rattle.omi_model.specs.declared.item.Item.TheVariants as item
-use Rattle.omi_model.specs.declared.progress.Progress.TheVariants.{Begun, Deferred, Finished, NotBegun}
+use Rattle.omi_model.specs.declared.progress.Progress.TheVariants.{Begun, Deferred, NotBegun}
 use Rattle.omi_model.specs.declared.region.Region.{Region}
 use Rattle.omi_model.specs.declared.task.Task.{Task}
 use Rattle.omi_model.specs.Changes.{IsCurrent}
@@ -19,15 +18,14 @@ use Rattle.omi_model.specs.LawStays.{Stays}
 use Rattle.omi_model.specs.Numbers.{wait_taskwait}
 use Rattle.omi_model.specs.Opening.{initial_region, opening, opening_region}
 use Rattle.omi_model.specs.Reached.{Reached, Step}
-use Rattle.omi_model.specs.State.{State, region_of, task_of}
+use Rattle.omi_model.specs.State.{State, task_of}
 use Rattle.omi_model.specs.Tasking.{MayStartAt}
-use Rattle.omi_model.specs.Teams.{MayFork, got_threads}
+use Rattle.omi_model.specs.Teams.{got_threads}
 use Rattle.omi_model.proofs.AsksOrder.{map_at}
 use Rattle.omi_model.proofs.ChainsKept.{current_begun}
 use Rattle.omi_model.proofs.EachObject.{EachRegion, EachTask, IsRegionLaw, IsTaskLaw, region_step, task_step}
 use Rattle.omi_model.proofs.Lineages.{have_lines, was}
 use Rattle.omi_model.proofs.MembersKnown.{members_known}
-use Rattle.omi_model.proofs.NamesLive.{names_live}
 use Rattle.omi_model.proofs.OpeningObjects.{each_first_region, each_first_task}
 use Rattle.omi_model.proofs.SchedulingChains.{over_reached}
 use Rattle.omi_model.proofs.Slots.{false_true, none_some, some_same}
@@ -43,7 +41,7 @@ IsFirstAlone n r = r.encountering ≡ None → n ≡ initial_region
 
 -- the threads of an explicit task
 abbrev pub IsOnMembers : State → Tid → Task → Type 0
-IsOnMembers s k t = t.implicit ≡ false → IsThreadOf s t.region k.0.creator × ((t.progress ≡ Deferred → ⊥) → IsThreadOf s t.region t.thread)
+IsOnMembers s k t = t.implicit ≡ false → ((j : ℕ) × IsThreadOf s t.region j k.0.creator) × ((t.progress ≡ Deferred → ⊥) → IsThreadOf s t.region t.number t.thread)
 
 pub record AreMade (s : State) : Type 0 where
   pub named : EachRegion (λ n r. IsNamedByFirst n r.team) s
@@ -51,10 +49,10 @@ pub record AreMade (s : State) : Type 0 where
   pub initial : EachRegion IsFirstAlone s
   pub members : EachTask (IsOnMembers s) s
 
-thread_later : (s u : State) → Stays s u → (n : Rid) (w : ℕ) → IsThreadOf s n w → IsThreadOf u n w
-thread_later s u stay n w (r, j, m, found, at, same) =
+thread_later : (s u : State) → Stays s u → (n : Rid) (j w : ℕ) → IsThreadOf s n j w → IsThreadOf u n j w
+thread_later s u stay n j w (r, m, found, at, same) =
     let (q, found_q, kept) = stay.regions n r found in
-    (q, j, m, found_q, ap (λ xs. slice_get xs j) kept.team ∙ at, same)
+    (q, m, found_q, ap (λ xs. slice_get xs j) kept.team ∙ at, same)
 
 begun_deferred : Begun ≡ Deferred → ⊥
 begun_deferred e = cc
@@ -139,19 +137,19 @@ module _ (p : Program) (events : List (ℕ × Event)) (s : State) (reached : Rea
       }
 
   -- the thread of the event is a member's, of the region of its current task
-  current_member : (middle : State) → IsRelisted s middle → (k : Tid) (t : Task) → IsCurrent middle i k t → IsThreadOf next t.region i
+  current_member : (middle : State) → IsRelisted s middle → (k : Tid) (t : Task) → IsCurrent middle i k t → IsThreadOf next t.region t.number i
   current_member middle before k t is =
       let (v, xs, cur, same) = was p events s reached i e next step middle before k t is in
       let runs = current_begun p events s reached i k v cur.name cur.live in
-      subst (λ (x : Task). IsThreadOf next x.region i) (sym same) (thread_later s next stay v.region i (go v cur.live runs.0 runs.1 v.implicit refl))
+      subst (λ (x : Task). IsThreadOf next x.region x.number i) (sym same) (thread_later s next stay v.region v.number i (go v cur.live runs.0 runs.1 v.implicit refl))
     where
-      go : (v : Task) → task_of s k ≡ Some v → v.progress ≡ Begun → v.thread ≡ i → (b : Bool) → v.implicit ≡ b → IsThreadOf s v.region i
-      go v live begun mine true im = let (r, found, at) = (members_known p events s reached).tasks k v live im in (r, v.number, (k, v.thread), found, at, mine)
-      go v live begun mine false ex = subst (IsThreadOf s v.region) mine ((all.members k v live ex).1 (λ d. begun_deferred (sym begun ∙ d)))
+      go : (v : Task) → task_of s k ≡ Some v → v.progress ≡ Begun → v.thread ≡ i → (b : Bool) → v.implicit ≡ b → IsThreadOf s v.region v.number i
+      go v live begun mine true im = let (r, found, at) = (members_known p events s reached).tasks k v live im in (r, (k, v.thread), found, at, mine)
+      go v live begun mine false ex = subst (IsThreadOf s v.region v.number) mine ((all.members k v live ex).1 (λ d. begun_deferred (sym begun ∙ d)))
 
   members_step : EachTask (IsOnMembers next) next
   members_step = task_step p (IsOnMembers next) s i e next step (λ k t y ys is taken q. q) law
-      (λ k t live ex. let h = all.members k t live ex in (thread_later s next stay t.region k.0.creator h.0, λ un. thread_later s next stay t.region t.thread (h.1 un)))
+      (λ k t live ex. let h = all.members k t live ex in let (j, at) = h.0 in ((j, thread_later s next stay t.region j k.0.creator at), λ un. thread_later s next stay t.region t.number t.thread (h.1 un)))
     where
       law : (middle : State) (y : Item) → IsRelisted s middle → Stays middle next → EachTask (IsOnMembers next) middle → IsTaskLaw p middle i e y next (IsOnMembers next)
       law middle y before later of_tasks = record {
@@ -171,11 +169,11 @@ module _ (p : Program) (events : List (ℕ × Event)) (s : State) (reached : Rea
               let (v, xs, cur, same) = was p events s reached i e next step middle before k t is in
               begun_deferred (sym (current_begun p events s reached i k v cur.name cur.live).0 ∙ (ap (λ (x : Task). x.progress) (sym same) ∙ d))
 
-          made_by : (task k : Tid) (t : Task) → IsCurrent middle i k t → task.0.creator ≡ i → IsThreadOf next t.region task.0.creator
-          made_by task k t is own = subst (IsThreadOf next t.region) (sym own) (current_member middle before k t is)
+          made_by : (task k : Tid) (t : Task) → IsCurrent middle i k t → task.0.creator ≡ i → (j : ℕ) × IsThreadOf next t.region j task.0.creator
+          made_by task k t is own = (t.number, subst (IsThreadOf next t.region t.number) (sym own) (current_member middle before k t is))
 
-          start_member : (k : Tid) (u : Task) (j : Tid) (t : Task) (x : Item) → IsCurrent middle i j t → task_of middle k ≡ Some u → u.implicit ≡ false → MayStartAt x j t u → IsThreadOf next u.region i
-          start_member k u j t x is live ex may = subst (λ n. IsThreadOf next n i) (sym (go (start_region x j t u may))) (current_member middle before j t is)
+          start_member : (k : Tid) (u : Task) (j : Tid) (t : Task) (x : Item) → IsCurrent middle i j t → task_of middle k ≡ Some u → u.implicit ≡ false → MayStartAt x j t u → IsThreadOf next u.region t.number i
+          start_member k u j t x is live ex may = subst (λ n. IsThreadOf next n t.number i) (sym (go (start_region x j t u may))) (current_member middle before j t is)
             where
               go : (u.generating ≡ Some j) ⊎ (u.region ≡ t.region) → u.region ≡ t.region
               go (inr same) = same

@@ -1,5 +1,5 @@
 -- The chain of generating tasks of each task, and the thread that it is scheduled on.
-use Rattle.std.proofs.Common.{◌≡◌, ◌==◌, ◌≤◌, ◌+◌, ◌⊎◌, inl, inr, ℕ, zero, suc, Bool, true, false, List, [], ◌∷◌, map, slice_get, Option, Some, None, if◌then◌else◌, refl, sym, ap, ◌∙◌, subst, arith, ne_eqb}
+use Rattle.std.proofs.Common.{◌≡◌, ◌==◌, ◌≤◌, ◌⊎◌, inl, inr, ℕ, zero, suc, Bool, true, false, List, [], ◌∷◌, map, slice_get, Option, Some, None, if◌then◌else◌, refl, sym, ap, ◌∙◌, subst, arith, ne_eqb}
 use Rattle.std.specs.List.{Contains}
 use Rattle.omi_script.specs.declared.program.Program.{Program}
 use Rattle.omi_model.specs.declared.event.Event.{Event}
@@ -9,20 +9,18 @@ use Rattle.omi_model.specs.declared.item.Item.{Item}
 use Rattle.omi_model.specs.declared.progress.Progress.{Progress}
 use Rattle.omi_model.specs.declared.progress.Progress.TheVariants.{Begun, Deferred, Finished, NotBegun}
 use Rattle.omi_model.specs.declared.task.Task.{Task}
-use Rattle.omi_model.specs.Changes.{IsCurrent, encounter}
+use Rattle.omi_model.specs.Changes.{IsCurrent}
 use Rattle.omi_model.specs.LawLineage.{HasLineage, IsLineage, IsMemberOn}
-use Rattle.omi_model.specs.LawStays.{IsSameTask, Stays, stage_of}
-use Rattle.omi_model.specs.Lists.{stays}
+use Rattle.omi_model.specs.LawStays.{Stays, stage_of}
 use Rattle.omi_model.specs.Opening.{opening}
 use Rattle.omi_model.specs.Reached.{Reached, Step}
 use Rattle.omi_model.specs.State.{State, task_of}
 use Rattle.omi_model.specs.Teams.{got_threads}
 use Rattle.omi_model.specs.Visible.{HasStarted}
-use Rattle.omi_model.proofs.AsksOrder.{at_contains, map_at}
+use Rattle.omi_model.proofs.AsksOrder.{map_at}
 use Rattle.omi_model.proofs.ChainsKept.{current_begun}
 use Rattle.omi_model.proofs.EachObject.{EachTask, IsTaskLaw, task_step}
 use Rattle.omi_model.proofs.FirstThread.{have_scheduling}
-use Rattle.omi_model.proofs.NamesLive.{names_live}
 use Rattle.omi_model.proofs.OpeningObjects.{each_first_task}
 use Rattle.omi_model.proofs.SchedulingChains.{over_reached, scheduling_right}
 use Rattle.omi_model.proofs.Slots.{false_true, none_some, some_same}

@@ -1,5 +1,5 @@
 -- Claims: who may use a thread. Thread 0 is its own and always has a task. A worker that nobody has claimed has no task and waits for a team; one with a task was claimed by another thread; one for which a task waits was claimed by the task's creator; and one that waits though it is claimed was got for a fork in the making, or has such a task.
-use Rattle.std.specs.Prelude.{◌≡◌, ◌≢◌, ◌==◌, ◌⊎◌, ◌≤◌, ℕ, zero, suc, Bool, true, false, List, [], ◌∷◌, ◌++◌, map, Some, None, IsSome, Contains, if◌then◌else◌}
+use Rattle.std.specs.Prelude.{◌≡◌, ◌≢◌, ◌==◌, ◌⊎◌, ◌≤◌, ℕ, zero, suc, Bool, true, false, List, [], ◌∷◌, ◌++◌, map, Some, None, IsSome, Contains, if◌then◌else◌, ⊤}
 use Rattle.omi_script.specs.declared.program.Program.{Program}
 use Rattle.omi_model.specs.declared.claim.Claim.TheVariants as claim
 use Rattle.omi_model.specs.declared.event.Event.{Event}
@@ -70,12 +70,19 @@ abbrev pub others_below : ℕ → ℕ → List ℕ
 others_below i zero = []
 others_below i (suc n) = others_below i n ++ (if n == i then [] else n ∷ [])
 
--- Those that were asked are the first threads in rising order, without the asker. A thread asks, and forks, where its fork is in the making.
+-- an ask or a fork
+abbrev pub IsOfFork : Event → Type 0
+IsOfFork (event.Ask w got) = ⊤
+IsOfFork (event.Fork region team) = ⊤
+IsOfFork e = ⊥
+
+-- Those that were asked are the first threads in rising order, without the asker. A thread asks, and forks, where its fork is in the making, and does nothing else there.
 pub record AreAsksInOrder (p : Program) (s : State) (i : ℕ) : Type 0 where
   pub asked : (n : ℕ) × (n ≤ s.count) × (map (λ a. a.0) (s.threads i).asks ≡ others_below i n)
   pub asks : (w : ℕ) (got : Bool) → Legal p s i (event.Ask w got) → IsForking s i
   pub forks : (region : Rid) (team : List (Tid × ℕ)) → Legal p s i (event.Fork region team)
       → IsForking s i
+  pub alone : IsForking s i → (e : Event) → Legal p s i e → IsOfFork e
 
 abbrev pub AsksAreInOrder : Type 0
 AsksAreInOrder = (p : Program) (events : List (ℕ × Event)) (s : State) → Reached p events s

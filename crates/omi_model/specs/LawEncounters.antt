@@ -1,5 +1,5 @@
--- Encounters: a region and its tasks were made by the thread of member 0, in a task that this thread runs in the enclosing region. While the region is not joined that task is suspended there, not finished, and the enclosing region is visible and not joined. Only the initial region has no such task. An explicit task was made, and runs, on a member's thread, and its region is not joined before it is finished.
-use Rattle.std.specs.Prelude.{◌≡◌, ℕ, List, true, false, slice_get, Option, Some, None}
+-- Encounters: a region and its tasks were made by the thread of member 0, in a task that this thread runs in the enclosing region. While the region is not joined that task is suspended there, not finished, and the enclosing region is visible and not joined. Only the initial region has no such task. An explicit task was made on a member's thread, runs on that of the member with its number, and its region is not joined before it is finished.
+use Rattle.std.specs.Prelude.{◌≡◌, ℕ, List, false, slice_get, Some, None}
 use Rattle.omi_script.specs.declared.program.Program.{Program}
 use Rattle.omi_model.specs.declared.event.Event.{Event}
 use Rattle.omi_model.specs.declared.id.Rid.{Rid}
@@ -30,14 +30,14 @@ pub record IsEncountering (s : State) (n : Rid) (r : Region) (k : Tid) : Type 0 
   pub begun : r.joined ≡ false → task.progress ≡ Begun
   pub around : r.joined ≡ false → IsVisibleRegion s task.region × IsOpen s task.region
 
--- a member of a region's team runs on this thread
-abbrev pub IsThreadOf : State → Rid → ℕ → Type 0
-IsThreadOf s n w = (r : Region) × (j : ℕ) × (m : Tid × ℕ) × (region_of s n ≡ Some r)
+-- the member of this number in a region's team runs on this thread
+abbrev pub IsThreadOf : State → Rid → ℕ → ℕ → Type 0
+IsThreadOf s n j w = (r : Region) × (m : Tid × ℕ) × (region_of s n ≡ Some r)
     × (slice_get r.team j ≡ Some m) × (m.1 ≡ w)
 
 pub record IsInRegion (s : State) (k : Tid) (t : Task) : Type 0 where
-  pub creator : IsThreadOf s t.region k.0.creator
-  pub thread : (t.progress ≡ Deferred → ⊥) → IsThreadOf s t.region t.thread
+  pub creator : (j : ℕ) × IsThreadOf s t.region j k.0.creator
+  pub thread : (t.progress ≡ Deferred → ⊥) → IsThreadOf s t.region t.number t.thread
   pub inside : (t.progress ≡ Finished → ⊥) → IsOpen s t.region
 
 pub record AreEncounters (s : State) : Type 0 where

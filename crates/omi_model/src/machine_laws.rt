@@ -115,7 +115,8 @@ pub fn locks_are_held()
 
 /// A thread whose claim is free waits for a team, one with a task was claimed by another, and one for which a task waits, or
 /// that a fork in the making got, waits for a team and was claimed by the thread that forks; thread 0 is its own and has a
-/// task. Those that a thread asked are the first threads in rising order, without itself, and it asks only for a fork.
+/// task. Those that a thread asked are the first threads in rising order, without itself; it asks only where its fork is in
+/// the making, and does nothing else there.
 pub fn claims_are_kept()
     ensures claims { ClaimsAreKept }
     ensures asks { AsksAreInOrder }
@@ -142,8 +143,8 @@ pub fn tasks_have_lineage()
 
 /// A region and its tasks were made by the thread of member 0, and all but the initial region in a task of the enclosing region
 /// that runs on this thread; while the region is not joined that task has begun and not finished, and the enclosing region is
-/// visible and not joined. An explicit task was made and runs on members' threads, in a region that is not joined before the
-/// task is finished.
+/// visible and not joined. An explicit task was made on a member's thread, runs on that of the member with its number, and its
+/// region is not joined before the task is finished.
 pub fn regions_are_encountered()
     ensures { RegionsAreEncountered }
 {}
