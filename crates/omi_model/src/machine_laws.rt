@@ -115,11 +115,15 @@ pub fn locks_are_held()
 
 /// A thread whose claim is free waits for a team, one with a task was claimed by another, and one for which a task waits, or
 /// that a fork in the making got, waits for a team and was claimed by the thread that forks; thread 0 is its own and has a
-/// task. Those that a thread asked are the first threads in rising order, without itself; it asks only where its fork is in
-/// the making, and does nothing else there.
+/// task.
 pub fn claims_are_kept()
-    ensures claims { ClaimsAreKept }
-    ensures asks { AsksAreInOrder }
+    ensures { ClaimsAreKept }
+{}
+
+/// Those that a thread asked are the first threads in rising order, without itself, and it asks only where its fork is in the
+/// making, and does nothing else there until it forks.
+pub fn asks_are_in_order()
+    ensures { AsksAreInOrder }
 {}
 
 /// A deferred task has the body of its function and its finish ahead, a member that has not begun all of a member's list, and
@@ -143,7 +147,7 @@ pub fn tasks_have_lineage()
 
 /// A region and its tasks were made by the thread of member 0, and all but the initial region in a task of the enclosing region
 /// that runs on this thread; while the region is not joined that task has begun and not finished, and the enclosing region is
-/// visible and not joined. An explicit task was made on a member's thread, runs on that of the member with its number, and its
+/// visible and not joined; an explicit task was made on a member's thread, runs on that of the member with its number, and its
 /// region is not joined before the task is finished.
 pub fn regions_are_encountered()
     ensures { RegionsAreEncountered }

@@ -1,4 +1,4 @@
-use Rattle.omi_model.proofs.ListOrder.{barriers_ordered}
+use Rattle.omi_model.proofs.members.ListOrder.{barriers_ordered}
 use Rattle.omi_model.proofs.machine_laws.barriers_are_in_order.Goals as goal
 
 pub returns : goal.returns

@@ -1,4 +1,4 @@
-use Rattle.omi_model.proofs.ClosingItems.{lists_right}
+use Rattle.omi_model.proofs.members.ClosingItems.{lists_right}
 use Rattle.omi_model.proofs.machine_laws.lists_are_right.Goals as goal
 
 pub returns : goal.returns

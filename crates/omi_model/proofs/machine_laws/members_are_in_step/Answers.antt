@@ -1,4 +1,4 @@
-use Rattle.omi_model.proofs.MembersInStep.{members_in_step}
+use Rattle.omi_model.proofs.members.MembersInStep.{members_in_step}
 use Rattle.omi_model.proofs.machine_laws.members_are_in_step.Goals as goal
 
 pub returns : goal.returns

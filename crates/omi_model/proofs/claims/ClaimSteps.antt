@@ -22,8 +22,8 @@ use Rattle.omi_model.specs.Reached.{Reached, Step}
 use Rattle.omi_model.specs.Rules.{Rule, effect}
 use Rattle.omi_model.specs.State.{State, task_of}
 use Rattle.omi_model.specs.Teams.{MayFork, asked, forked, got_threads, member_task, offered, task_begun, wanting}
-use Rattle.omi_model.proofs.AsksCurrent.{new_name}
-use Rattle.omi_model.proofs.AsksPlaced.{is_asking, is_forking}
+use Rattle.omi_model.proofs.claims.AsksCurrent.{new_name}
+use Rattle.omi_model.proofs.claims.AsksPlaced.{is_asking, is_forking}
 use Rattle.omi_model.proofs.ChainsKept.{current_begun}
 use Rattle.omi_model.proofs.EachObject.{EachTask, IsTaskLaw, members_found, task_step, task_step_from}
 use Rattle.omi_model.proofs.EachThread.{EachThread, IsThreadLaw, thread_step}

@@ -17,10 +17,10 @@ use Rattle.omi_model.specs.Reached.{Reached, Step}
 use Rattle.omi_model.specs.State.{State, task_of}
 use Rattle.omi_model.specs.Teams.{got_threads}
 use Rattle.omi_model.specs.Visible.{HasStarted}
-use Rattle.omi_model.proofs.AsksOrder.{map_at}
+use Rattle.omi_model.proofs.claims.AsksOrder.{map_at}
 use Rattle.omi_model.proofs.ChainsKept.{current_begun}
 use Rattle.omi_model.proofs.EachObject.{EachTask, IsTaskLaw, task_step}
-use Rattle.omi_model.proofs.FirstThread.{have_scheduling}
+use Rattle.omi_model.proofs.claims.FirstThread.{have_scheduling}
 use Rattle.omi_model.proofs.OpeningObjects.{each_first_task}
 use Rattle.omi_model.proofs.SchedulingChains.{over_reached, scheduling_right}
 use Rattle.omi_model.proofs.Slots.{false_true, none_some, some_same}

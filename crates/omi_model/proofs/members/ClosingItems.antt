@@ -24,7 +24,7 @@ use Rattle.omi_model.specs.Tasking.{MayStartAt, deferred_task, scheduled}
 use Rattle.omi_model.specs.Teams.{member_task}
 use Rattle.omi_model.proofs.ChainsKept.{current_begun}
 use Rattle.omi_model.proofs.EachObject.{EachTask, IsTaskLaw, is_end, start_list, task_step_from}
-use Rattle.omi_model.proofs.FirstLists.{first_lists}
+use Rattle.omi_model.proofs.members.FirstLists.{first_lists}
 use Rattle.omi_model.proofs.ListLaws.{take_fits, take_keeps}
 use Rattle.omi_model.proofs.OpeningObjects.{each_first_task}
 use Rattle.omi_model.proofs.SchedulingChains.{over_reached}

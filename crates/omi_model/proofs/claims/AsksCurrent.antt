@@ -23,7 +23,7 @@ use Rattle.omi_model.specs.Reached.{Reached, Step}
 use Rattle.omi_model.specs.Rules.{Rule, effect}
 use Rattle.omi_model.specs.State.{State, task_of}
 use Rattle.omi_model.specs.Teams.{asked}
-use Rattle.omi_model.proofs.AsksPlaced.{StartsPlaced, asks_at_head, asks_taken, is_asking, is_forking, main_plain, member_plain, start_plain, stays_asking, stays_placed, take_placed, task_plain}
+use Rattle.omi_model.proofs.claims.AsksPlaced.{StartsPlaced, asks_at_head, asks_taken, is_asking, is_forking, main_plain, member_plain, start_plain, stays_asking, stays_placed, take_placed, task_plain}
 use Rattle.omi_model.proofs.BarrierSteps.{current_after}
 use Rattle.omi_model.proofs.ChainsKept.{current_begun, current_kept}
 use Rattle.omi_model.proofs.EachObject.{EachTask, IsTaskLaw, list_of_current, task_step_from}
@@ -34,7 +34,7 @@ use Rattle.omi_model.proofs.SchedulingChains.{over_reached}
 use Rattle.omi_model.proofs.Slots.{each_put, false_true, found_live, none_some, put_same, some_same}
 use Rattle.omi_model.proofs.StaysKept.{fresh_empty, stays_list}
 use Rattle.omi_model.proofs.Steps.{IsMove, IsRelisted, from_some, is_relisted, move_of, moved_on}
-use Rattle.omi_model.proofs.WorkerLists.{have_places, taken_at}
+use Rattle.omi_model.proofs.claims.WorkerLists.{have_places, taken_at}
 
 -- the asks stand in their places; where they are next, the task is current, and runs
 pub record HasAsks (s : State) (k : Tid) (t : Task) : Type 0 where

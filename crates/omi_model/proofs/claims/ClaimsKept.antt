@@ -23,17 +23,17 @@ use Rattle.omi_model.specs.Reached.{Reached, Step}
 use Rattle.omi_model.specs.Rules.{Rule}
 use Rattle.omi_model.specs.State.{State, task_of}
 use Rattle.omi_model.specs.Teams.{MayAsk, MayBeginTask, got_threads}
-use Rattle.omi_model.proofs.AsksCurrent.{forking_after, forking_asked, forking_before, forking_by, forking_item, forking_now, have_asks}
-use Rattle.omi_model.proofs.AsksPlaced.{is_asking, is_forking}
-use Rattle.omi_model.proofs.AsksOrder.{at_contains, at_got, at_last, at_map, contains_at, got_at, in_order, last_at, map_at, still_at}
+use Rattle.omi_model.proofs.claims.AsksCurrent.{forking_after, forking_asked, forking_before, forking_by, forking_item, forking_now, have_asks}
+use Rattle.omi_model.proofs.claims.AsksPlaced.{is_asking, is_forking}
+use Rattle.omi_model.proofs.claims.AsksOrder.{at_contains, at_got, at_last, at_map, contains_at, got_at, in_order, last_at, map_at, still_at}
 use Rattle.omi_model.proofs.ChainsKept.{current_begun, current_kept}
-use Rattle.omi_model.proofs.ClaimSteps.{ClaimIs, IsNewFor, ask_adds, ask_claims, asking_item, asks_after, begin_names, by_ask, by_claimed, by_fork, by_serve, by_want, claim_after, fork_item, forking_item_of, had_task, item_fits, list_kept, meant_after, meant_before, new_meant, want_empties}
+use Rattle.omi_model.proofs.claims.ClaimSteps.{ClaimIs, IsNewFor, ask_adds, ask_claims, asking_item, asks_after, begin_names, by_ask, by_claimed, by_fork, by_serve, by_want, claim_after, fork_item, forking_item_of, had_task, item_fits, list_kept, meant_after, meant_before, new_meant, want_empties}
 use Rattle.omi_model.proofs.EachObject.{EachTask}
-use Rattle.omi_model.proofs.FirstThread.{RunsElsewhere}
+use Rattle.omi_model.proofs.claims.FirstThread.{RunsElsewhere}
 use Rattle.omi_model.proofs.SchedulingChains.{leads_on}
 use Rattle.omi_model.proofs.Slots.{false_true, none_some, some_same}
 use Rattle.omi_model.proofs.Steps.{IsMove, move_of}
-use Rattle.omi_model.proofs.WorkerLists.{have_places, offer_waits, serves_only, taken_at}
+use Rattle.omi_model.proofs.claims.WorkerLists.{have_places, offer_waits, serves_only, taken_at}
 
 -- ---- events
 

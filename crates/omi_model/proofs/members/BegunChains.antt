@@ -28,12 +28,12 @@ use Rattle.omi_model.specs.State.{State, region_of, scheduling_of, task_of}
 use Rattle.omi_model.specs.Tasking.{MayStart, started, started_alone, started_now}
 use Rattle.omi_model.specs.Teams.{MayFork, forked, got_threads, master_of, member_task}
 use Rattle.omi_model.specs.WellFormed.{along}
-use Rattle.omi_model.proofs.AsksOrder.{at_contains, map_at}
+use Rattle.omi_model.proofs.claims.AsksOrder.{at_contains, map_at}
 use Rattle.omi_model.proofs.BarrierSteps.{current_after}
 use Rattle.omi_model.proofs.ChainsKept.{current_kept, have_chains}
 use Rattle.omi_model.proofs.EachObject.{EachTask, IsTaskLaw, is_end, task_step_from}
 use Rattle.omi_model.proofs.EachThread.{EachThread, IsThreadLaw, thread_step}
-use Rattle.omi_model.proofs.MemberEnds.{ends_as_finished, over_finished}
+use Rattle.omi_model.proofs.members.MemberEnds.{ends_as_finished, over_finished}
 use Rattle.omi_model.proofs.MembersKnown.{members_known}
 use Rattle.omi_model.proofs.NamesLive.{names_live}
 use Rattle.omi_model.proofs.OpeningObjects.{each_first_task}

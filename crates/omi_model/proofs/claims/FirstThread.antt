@@ -20,7 +20,7 @@ use Rattle.omi_model.specs.Reached.{Reached, Step}
 use Rattle.omi_model.specs.State.{State, region_of}
 use Rattle.omi_model.specs.Teams.{master_of}
 use Rattle.omi_model.proofs.ChainsKept.{current_begun}
-use Rattle.omi_model.proofs.ClosingItems.{Closes, closing_of, last_items, take_closes}
+use Rattle.omi_model.proofs.members.ClosingItems.{Closes, closing_of, last_items, take_closes}
 use Rattle.omi_model.proofs.EachObject.{EachTask, IsTaskLaw, list_of_current, task_step}
 use Rattle.omi_model.proofs.EachThread.{EachThread, IsThreadLaw, thread_step}
 use Rattle.omi_model.proofs.ListLaws.{take_fits}

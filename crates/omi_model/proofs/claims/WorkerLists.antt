@@ -17,7 +17,7 @@ use Rattle.omi_model.specs.Reached.{Reached, Step}
 use Rattle.omi_model.specs.Rows.{of_worker, shown}
 use Rattle.omi_model.specs.Rules.{Rule}
 use Rattle.omi_model.specs.State.{State}
-use Rattle.omi_model.proofs.AsksPlaced.{is_forking}
+use Rattle.omi_model.proofs.claims.AsksPlaced.{is_forking}
 use Rattle.omi_model.proofs.EachObject.{over_events}
 use Rattle.omi_model.proofs.EachThread.{EachThread, IsThreadLaw, thread_step_from}
 use Rattle.omi_model.proofs.OpeningObjects.{each_first_thread}

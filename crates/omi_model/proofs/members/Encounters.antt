@@ -21,10 +21,10 @@ use Rattle.omi_model.specs.Reached.{Reached, Step}
 use Rattle.omi_model.specs.State.{State, task_of}
 use Rattle.omi_model.specs.Tasking.{MayStartAt}
 use Rattle.omi_model.specs.Teams.{got_threads}
-use Rattle.omi_model.proofs.AsksOrder.{map_at}
+use Rattle.omi_model.proofs.claims.AsksOrder.{map_at}
 use Rattle.omi_model.proofs.ChainsKept.{current_begun}
 use Rattle.omi_model.proofs.EachObject.{EachRegion, EachTask, IsRegionLaw, IsTaskLaw, region_step, task_step}
-use Rattle.omi_model.proofs.Lineages.{have_lines, was}
+use Rattle.omi_model.proofs.members.Lineages.{have_lines, was}
 use Rattle.omi_model.proofs.MembersKnown.{members_known}
 use Rattle.omi_model.proofs.OpeningObjects.{each_first_region, each_first_task}
 use Rattle.omi_model.proofs.SchedulingChains.{over_reached}

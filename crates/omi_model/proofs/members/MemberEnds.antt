@@ -23,7 +23,7 @@ use Rattle.omi_model.specs.Tasking.{finished}
 use Rattle.omi_model.specs.Teams.{joined, task_ended}
 use Rattle.omi_model.proofs.BarrierSteps.{current_after}
 use Rattle.omi_model.proofs.EachObject.{EachTask, IsTaskLaw, is_end, task_step_from}
-use Rattle.omi_model.proofs.EndSteps.{EndsBy, IsAsOpen, region_ended}
+use Rattle.omi_model.proofs.members.EndSteps.{EndsBy, IsAsOpen, region_ended}
 use Rattle.omi_model.proofs.MembersKnown.{members_known}
 use Rattle.omi_model.proofs.NamesLive.{names_live}
 use Rattle.omi_model.proofs.OpeningObjects.{each_first_task}

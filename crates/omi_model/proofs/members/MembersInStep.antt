@@ -21,11 +21,11 @@ use Rattle.omi_model.proofs.BarrierCounts.{barriers_of, counted}
 use Rattle.omi_model.proofs.BarrierLaw.{Stands, placed}
 use Rattle.omi_model.proofs.BarrierOrder.{left, member_ready, order}
 use Rattle.omi_model.proofs.BarriersAhead.{barriers_ahead}
-use Rattle.omi_model.proofs.ClosingItems.{last_items}
+use Rattle.omi_model.proofs.members.ClosingItems.{last_items}
 use Rattle.omi_model.proofs.EachObject.{EachRegion, IsRegionLaw, over_events, region_step}
-use Rattle.omi_model.proofs.FirstLists.{first_lists}
+use Rattle.omi_model.proofs.members.FirstLists.{first_lists}
 use Rattle.omi_model.proofs.JoinsLast.{joins_last}
-use Rattle.omi_model.proofs.MemberEnds.{ended_of, ends_as_finished, finished_is, is_finished}
+use Rattle.omi_model.proofs.members.MemberEnds.{ended_of, ends_as_finished, finished_is, is_finished}
 use Rattle.omi_model.proofs.MembersKnown.{members_known}
 use Rattle.omi_model.proofs.NamesLive.{names_live}
 use Rattle.omi_model.proofs.OpeningObjects.{each_first_region}

@@ -12,9 +12,9 @@ use Rattle.omi_model.specs.LawEncounters.{AreEncounters, IsEncountering, IsOpen}
 use Rattle.omi_model.specs.LawProgress.{HasEnded}
 use Rattle.omi_model.specs.Reached.{Reached}
 use Rattle.omi_model.specs.State.{State, region_of, task_of}
-use Rattle.omi_model.proofs.BegunChains.{scheduling_begun}
-use Rattle.omi_model.proofs.Encounters.{are_made}
-use Rattle.omi_model.proofs.MembersInStep.{first_at, members_in_step}
+use Rattle.omi_model.proofs.members.BegunChains.{scheduling_begun}
+use Rattle.omi_model.proofs.members.Encounters.{are_made}
+use Rattle.omi_model.proofs.members.MembersInStep.{first_at, members_in_step}
 use Rattle.omi_model.proofs.MembersKnown.{members_known}
 use Rattle.omi_model.proofs.NamesLive.{names_live}
 use Rattle.omi_model.proofs.ReachedWellFormed.{visible_region}

@@ -20,20 +20,20 @@ use Rattle.omi_model.specs.Rules.{Legal}
 use Rattle.omi_model.specs.State.{State}
 use Rattle.omi_model.specs.Lists.{fits, take_item}
 use Rattle.omi_model.specs.Teams.{MayFork, got_threads}
-use Rattle.omi_model.proofs.AsksCurrent.{forking_by, forking_taken, have_asks}
-use Rattle.omi_model.proofs.AsksPlaced.{asks_taken, is_forking}
-use Rattle.omi_model.proofs.AsksOrder.{at_contains, at_got, contains_at, in_order, map_at}
-use Rattle.omi_model.proofs.ClaimSteps.{ClaimIs, ask_item, by_ask, by_fork, claim_after, fork_item, forking_item_of, item_fits, offer_frees}
-use Rattle.omi_model.proofs.ClaimsKept.{AreClaimsKept, other_busy, other_free, other_got, other_meant, other_waits, own_busy, own_by, own_free, own_free_kept, own_not_got, own_unmeant, same_by}
+use Rattle.omi_model.proofs.claims.AsksCurrent.{forking_by, forking_taken, have_asks}
+use Rattle.omi_model.proofs.claims.AsksPlaced.{asks_taken, is_forking}
+use Rattle.omi_model.proofs.claims.AsksOrder.{at_contains, at_got, contains_at, in_order, map_at}
+use Rattle.omi_model.proofs.claims.ClaimSteps.{ClaimIs, ask_item, by_ask, by_fork, claim_after, fork_item, forking_item_of, item_fits, offer_frees}
+use Rattle.omi_model.proofs.claims.ClaimsKept.{AreClaimsKept, other_busy, other_free, other_got, other_meant, other_waits, own_busy, own_by, own_free, own_free_kept, own_not_got, own_unmeant, same_by}
 use Rattle.omi_model.proofs.EachObject.{EachTask, IsTaskLaw, list_of_current, task_step}
 use Rattle.omi_model.proofs.EachThread.{EachThread}
-use Rattle.omi_model.proofs.FirstThread.{HasTask, RunsElsewhere, first_step}
+use Rattle.omi_model.proofs.claims.FirstThread.{HasTask, RunsElsewhere, first_step}
 use Rattle.omi_model.proofs.ListLaws.{take_fits}
 use Rattle.omi_model.proofs.OpeningObjects.{each_first_task, each_first_thread}
 use Rattle.omi_model.proofs.SchedulingChains.{over_reached}
 use Rattle.omi_model.proofs.Slots.{false_true, none_some}
 use Rattle.omi_model.proofs.Steps.{IsRelisted, move_of}
-use Rattle.omi_model.proofs.WorkerLists.{have_places, offer_waits, waits_by}
+use Rattle.omi_model.proofs.claims.WorkerLists.{have_places, offer_waits, waits_by}
 
 module _ (p : Program) (events : List (ℕ × Event)) (s : State) (reached : Reached p events s) (i : ℕ) (e : Event) (next : State) (step : Step p s i e next) (all : AreClaimsKept s) where
   -- a new member other than member 0 is on a thread that was got, so not on thread 0
