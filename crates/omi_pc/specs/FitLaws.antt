@@ -1,0 +1,50 @@
+-- Which actors fit: those with which a program starts, and those that have made a move between statements.
+use Rattle.std.specs.Prelude.{ℕ, ◌<◌, List, ◌∷◌, length}
+use Rattle.omi_script.specs.declared.program.Program.{Program}
+use Rattle.omi_pc.specs.declared.actor.Actor.{Actor}
+use Rattle.omi_pc.specs.declared.counter.PlainCounter.TheVariants as plain
+use Rattle.omi_pc.specs.declared.context.Context.{Context}
+use Rattle.omi_pc.specs.declared.frame.Frame.{Frame}
+use Rattle.omi_pc.specs.declared.frame.Opened.{Opened}
+use Rattle.omi_pc.specs.Frames.{at_start}
+use Rattle.omi_pc.specs.Fits.{Fits, FitsPlain, HasTask}
+use Rattle.omi_pc.specs.Moves.{closed, context_under, returned, worked, working}
+use Rattle.omi_pc.specs.OpenBodies.{AreOpen, IsContext, StandsOn}
+use Rattle.omi_pc.specs.Opening.{opening_actor}
+use Rattle.omi_pc.specs.Settle.{settled}
+
+abbrev pub OpeningFits : Type 0
+OpeningFits = (p : Program) (thread : ℕ) → thread < p.threads → Fits p (opening_actor p thread)
+
+-- whatever counter the actor had
+abbrev pub SettlingFits : Type 0
+SettlingFits = (p : Program) (a : Actor) → HasTask p a → Fits p (settled p a)
+
+-- where a function may return
+abbrev pub ReturningFits : Type 0
+ReturningFits =
+    (p : Program) (a : Actor) → HasTask p a → FitsPlain p a plain.Return → Fits p (returned p a)
+
+-- where a working state may be stored
+abbrev pub WorkingFits : Type 0
+WorkingFits =
+    (p : Program) (a : Actor) → HasTask p a → FitsPlain p a plain.WorkState → Fits p (working p a)
+
+-- and behind its store
+abbrev pub GoingOnFits : Type 0
+GoingOnFits =
+    (p : Program) (a : Actor) → HasTask p a → FitsPlain p a plain.WorkState → Fits p (worked p a)
+
+-- the bodies under one that is closed
+abbrev pub ClosingKeepsBodies : Type 0
+ClosingKeepsBodies =
+    (p : Program) (a : Actor) → AreOpen p a.context a.stack
+    → AreOpen p (closed a).context (closed a).stack
+
+-- the body of a function that is there, on what it stands on, in a task with a context of its own or with that of the task
+-- below
+abbrev pub OpenedBodyStands : Type 0
+OpenedBodyStands =
+    (p : Program) (c : Context) (f : ℕ) (o : Opened) (fs : List Frame) → f < length p.funcs
+    → IsContext p c → StandsOn p c f fs o → AreOpen p (context_under c o) fs
+    → AreOpen p c (at_start f o ∷ fs)

@@ -1,0 +1,31 @@
+//! Laws of stacks and actors. Each is a function that does nothing, and says its law in `specs/`.
+
+ghost use Rattle.omi_pc.specs.FitLaws.{ClosingKeepsBodies, GoingOnFits, OpeningFits, OpenedBodyStands, ReturningFits, SettlingFits, WorkingFits};
+ghost use Rattle.omi_pc.specs.Room.{BodiesGoDown, DepthsCountTasks, FewGoDown, NamedAreSmaller, StacksHaveRoom};
+
+/// The bodies that a thread of a program has open never lack room: there are at most `MOST_BODIES`, and a stack has room
+/// for `STACK_ROOM`. For the function of a body is smaller than that of the body outside it or of the task below, and there
+/// are 64 functions.
+pub fn stacks_have_room()
+    ensures named { NamedAreSmaller }
+    ensures down { BodiesGoDown }
+    ensures few { FewGoDown }
+    ensures room { StacksHaveRoom }
+    ensures depth { DepthsCountTasks }
+{}
+
+/// The actors with which a program starts fit it.
+pub fn opening_fits()
+    ensures { OpeningFits }
+{}
+
+/// An actor with a task fits its program once it has settled, once a function has returned, and once it works again; and bodies stand
+/// on one another when one is opened or closed.
+pub fn moves_fit()
+    ensures settling { SettlingFits }
+    ensures returning { ReturningFits }
+    ensures working { WorkingFits }
+    ensures going_on { GoingOnFits }
+    ensures opened { OpenedBodyStands }
+    ensures closing { ClosingKeepsBodies }
+{}
