@@ -3,6 +3,7 @@ pub mod NamedBelow
 pub mod Downwards
 pub mod Depths
 pub mod Positions
+pub mod Unmoved
 pub mod Settled
 pub mod Moved
 pub mod OpeningActors

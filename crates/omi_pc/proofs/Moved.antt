@@ -11,7 +11,7 @@ use Rattle.omi_pc.specs.declared.frame.Frame.{Frame}
 use Rattle.omi_pc.specs.declared.frame.Opened.{Opened}
 use Rattle.omi_pc.specs.declared.frame.Opened.TheVariants as opened
 use Rattle.omi_pc.specs.Frames.{at_start}
-use Rattle.omi_pc.specs.Fits.{Enters, Fits, FitsPlain, HasTask, StoresState}
+use Rattle.omi_pc.specs.Fits.{Enters, Fits, FitsPlain, HasTask, HasVariables, StoresState}
 use Rattle.omi_pc.specs.Moves.{closed, closed_in, context_under, next_round, returned, returned_by, returned_in, worked, worked_at, worked_in, working}
 use Rattle.omi_pc.specs.OpenBodies.{AreOpen, IsAt, IsAtEnd, IsAtStart, IsCalled, IsContext, StandsOn, StartsWorking}
 use Rattle.omi_pc.specs.Settle.{goes_to}
@@ -61,25 +61,25 @@ module _ (p : Program) (a : Actor) (f : Frame) (fs : List Frame) where
     under (opened.Repeat (suc (suc left))) how refl bodies,
   )
 
-  round_fits : (left : ℕ) → a.thread < p.threads → f.opened ≡ opened.Repeat left → AreOpen p a.context (f ∷ fs) → StandsOn p a.context f.function fs (opened.Repeat left)
+  round_fits : (left : ℕ) → a.thread < p.threads → HasVariables a → f.opened ≡ opened.Repeat left → AreOpen p a.context (f ∷ fs) → StandsOn p a.context f.function fs (opened.Repeat left)
       → Fits p (next_round left f fs a)
-  round_fits zero thread how bodies stands = absurd (let least = stands.2 in omega (arith, least))
-  round_fits (suc zero) thread how bodies stands =
-      record { thread = thread; bodies = round_open (suc zero) how bodies stands; counter = (stmt.Repeat stands.0 f.function, stands.1, tt) }
-  round_fits (suc (suc left)) thread how bodies stands =
-      record { thread = thread; bodies = round_open (suc (suc left)) how bodies stands; counter = (refl, refl) }
+  round_fits zero thread variables how bodies stands = absurd (let least = stands.2 in omega (arith, least))
+  round_fits (suc zero) thread variables how bodies stands =
+      record { thread = thread; variables = variables; bodies = round_open (suc zero) how bodies stands; counter = (stmt.Repeat stands.0 f.function, stands.1, tt) }
+  round_fits (suc (suc left)) thread variables how bodies stands =
+      record { thread = thread; variables = variables; bodies = round_open (suc (suc left)) how bodies stands; counter = (refl, refl) }
 
-  returns_by : (o : Opened) → opens_task o ≡ false → a.thread < p.threads → f.opened ≡ o → AreOpen p a.context (f ∷ fs) → StandsOn p a.context f.function fs o
+  returns_by : (o : Opened) → opens_task o ≡ false → a.thread < p.threads → HasVariables a → f.opened ≡ o → AreOpen p a.context (f ∷ fs) → StandsOn p a.context f.function fs o
       → Fits p (returned_by p o f fs a)
-  returns_by opened.Main called thread how bodies stands = absurd (cc)
-  returns_by opened.Worker called thread how bodies stands = absurd (cc)
-  returns_by (opened.Master saved) called thread how bodies stands = absurd (cc)
-  returns_by (opened.Task w saved) called thread how bodies stands = absurd (cc)
-  returns_by opened.Call called thread how bodies stands =
-      settled_fits p (record a { stack = fs }) (record { thread = thread; bodies = under opened.Call how refl bodies; some = some_called f.function stands })
-  returns_by (opened.Repeat left) called thread how bodies stands = round_fits left thread how bodies stands
-  returns_by (opened.Critical k) called thread how bodies stands =
-      record { thread = thread; bodies = under (opened.Critical k) how refl bodies; counter = (stmt.Critical k f.function, stands, tt) }
+  returns_by opened.Main called thread variables how bodies stands = absurd (cc)
+  returns_by opened.Worker called thread variables how bodies stands = absurd (cc)
+  returns_by (opened.Master saved) called thread variables how bodies stands = absurd (cc)
+  returns_by (opened.Task w saved) called thread variables how bodies stands = absurd (cc)
+  returns_by opened.Call called thread variables how bodies stands =
+      settled_fits p (record a { stack = fs }) (record { thread = thread; variables = variables; bodies = under opened.Call how refl bodies; some = some_called f.function stands })
+  returns_by (opened.Repeat left) called thread variables how bodies stands = round_fits left thread variables how bodies stands
+  returns_by (opened.Critical k) called thread variables how bodies stands =
+      record { thread = thread; variables = variables; bodies = under (opened.Critical k) how refl bodies; counter = (stmt.Critical k f.function, stands, tt) }
 
   return_opens : (o : Opened) → a.stack ≡ f ∷ fs → f.opened ≡ o → AreOpen p a.context (f ∷ fs) → StandsOn p a.context f.function fs o
       → AreOpen p (returned_by p o f fs a).context (returned_by p o f fs a).stack
@@ -98,12 +98,12 @@ return_opens_in p a (f ∷ fs) is bodies = return_opens p a f fs f.opened is ref
 pub returned_open : (p : Program) (a : Actor) → AreOpen p a.context a.stack → AreOpen p (returned p a).context (returned p a).stack
 returned_open p a bodies = return_opens_in p a a.stack refl bodies
 
-returns_in : (p : Program) (a : Actor) (fs : List Frame) → a.thread < p.threads → AreOpen p a.context fs → IsAtEnd p IsCalled fs → Fits p (returned_in p fs a)
-returns_in p a [] thread bodies end = absurd end
-returns_in p a (f ∷ fs) thread bodies end = returns_by p a f fs f.opened end.1 thread refl bodies bodies.0.stands
+returns_in : (p : Program) (a : Actor) (fs : List Frame) → a.thread < p.threads → HasVariables a → AreOpen p a.context fs → IsAtEnd p IsCalled fs → Fits p (returned_in p fs a)
+returns_in p a [] thread variables bodies end = absurd end
+returns_in p a (f ∷ fs) thread variables bodies end = returns_by p a f fs f.opened end.1 thread variables refl bodies bodies.0.stands
 
 pub returned_fits : (p : Program) (a : Actor) → HasTask p a → FitsPlain p a plain.Return → Fits p (returned p a)
-returned_fits p a task end = returns_in p a a.stack task.thread task.bodies end
+returned_fits p a task end = returns_in p a a.stack task.thread task.variables task.bodies end
 
 -- ---- the thread goes on
 
@@ -137,7 +137,7 @@ module _ (p : Program) (a : Actor) (task : HasTask p a) where
       let begins : f.next ≡ 0 = first.0 in
       absurd (omega arith))
       (λ (at : (s : Stmt) × IsAt p a.stack s × StoresState s).
-      record { thread = task.thread; bodies = task.bodies; counter = (at.0, at.1, enters at.0 at.2) })
+      record { thread = task.thread; variables = task.variables; bodies = task.bodies; counter = (at.0, at.1, enters at.0 at.2) })
       fits
 
   goes_in : (fs : List Frame) → a.stack ≡ fs → FitsPlain p a plain.WorkState → Fits p (worked_in p fs a)
@@ -148,7 +148,7 @@ pub worked_fits : (p : Program) (a : Actor) → HasTask p a → FitsPlain p a pl
 worked_fits p a task fits = goes_in p a task a.stack refl fits
 
 works_by : (p : Program) (a : Actor) → HasTask p a → FitsPlain p a plain.WorkState → (debug : Bool) → Fits p (cond debug (record a { counter = counter.Plain plain.WorkState }) (worked p a))
-works_by p a task fits true = record { thread = task.thread; bodies = task.bodies; counter = fits }
+works_by p a task fits true = record { thread = task.thread; variables = task.variables; bodies = task.bodies; counter = fits }
 works_by p a task fits false = worked_fits p a task fits
 
 pub working_fits : (p : Program) (a : Actor) → HasTask p a → FitsPlain p a plain.WorkState → Fits p (working p a)

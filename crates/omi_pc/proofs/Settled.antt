@@ -17,6 +17,9 @@ use Rattle.omi_pc.specs.Fits.{Fits, FitsCounter, HasTask}
 use Rattle.omi_pc.specs.Moves.{context_under}
 use Rattle.omi_pc.specs.OpenBodies.{AreOpen, IsAt, IsAtEnd, IsCalled, IsExplicit, IsMember, StandsOn}
 use Rattle.omi_pc.specs.Settle.{begun, calling, ended, ending_member, repeating, settled, settled_by, settled_in, skipping}
+use Rattle.omi_pc.specs.declared.gathered.Gathered.{Gathered}
+use Rattle.omi_pc.specs.declared.limits.TheConstants.{VARIABLE_WORDS}
+use Rattle.omi_pc.proofs.Unmoved.{settled_differs}
 use Rattle.omi_pc.proofs.NamedBelow.{named_below, stands_before}
 
 -- a place where there is a statement, and one where there is none
@@ -30,9 +33,8 @@ slice_get-past xs i e =
     ⊎_elim (λ (here : (x : Stmt) × (i < length xs) × (slice_get xs i ≡ Some x) × (get_or xs i x ≡ x)). let some = here.2 in absurd (cc))
     (λ (past : (length xs ≤ i) × (slice_get xs i ≡ None)). past.0) (slice_get_cases xs i).1
 
--- an actor has moved to another one: the thread is the same, and the bodies and the counter fit
-record Comes (p : Program) (a b : Actor) : Type 0 where
-  pub thread : b.thread ≡ a.thread
+-- an actor's bodies and its counter fit
+record Comes (p : Program) (b : Actor) : Type 0 where
   pub bodies : AreOpen p b.context b.stack
   pub counter : FitsCounter p b b.counter
 
@@ -70,42 +72,41 @@ module _ (p : Program) (a : Actor) (f : Frame) (fs : List Frame) (bodies : AreOp
 
   -- `only`, by whether the member has the number
   only_fits : (m g : ℕ) → IsAt p (f ∷ fs) (stmt.Only m g) → (b : Bool) → (a.context.number == m) ≡ b
-      → Comes p a (cond b (calling g opened.Call there) (skipping there))
+      → Comes p (cond b (calling g opened.Call there) (skipping there))
   only_fits m g at true is =
       let same : a.context.number ≡ m = eqb-true a.context.number m is in
       let stands : IsAt p (f ∷ fs) (stmt.Only a.context.number g) = subst (λ (n : ℕ). IsAt p (f ∷ fs) (stmt.Only n g)) (sym same) at in
-      record { thread = refl; bodies = opens p a.context f fs (stmt.Only m g) g opened.Call bodies at refl (inr stands) refl; counter = (refl, refl) }
+      record { bodies = opens p a.context f fs (stmt.Only m g) g opened.Call bodies at refl (inr stands) refl; counter = (refl, refl) }
   only_fits m g at false is =
-      record { thread = refl; bodies = bodies; counter = (stmt.Only m g, at, λ same. absurd (false≢true (sym is ∙ eq-eqb a.context.number m same))) }
+      record { bodies = bodies; counter = (stmt.Only m g, at, λ same. absurd (false≢true (sym is ∙ eq-eqb a.context.number m same))) }
 
   -- `repeat`, by whether there is a round
-  repeat_fits : (n g : ℕ) → IsAt p (f ∷ fs) (stmt.Repeat n g) → Comes p a (repeating n g there)
-  repeat_fits zero g at = record { thread = refl; bodies = bodies; counter = (stmt.Repeat zero g, at, tt) }
+  repeat_fits : (n g : ℕ) → IsAt p (f ∷ fs) (stmt.Repeat n g) → Comes p (repeating n g there)
+  repeat_fits zero g at = record { bodies = bodies; counter = (stmt.Repeat zero g, at, tt) }
   repeat_fits (suc n) g at =
       record {
-        thread = refl;
         bodies = opens p a.context f fs (stmt.Repeat (suc n) g) g (opened.Repeat (suc n)) bodies at refl (suc n, at, omega arith, omega arith) refl;
         counter = (refl, refl);
       }
 
-  begun_fits : (s : Stmt) → IsAt p (f ∷ fs) s → Comes p a (begun s there)
-  begun_fits (stmt.Parallel g num) at = record { thread = refl; bodies = bodies; counter = (stmt.Parallel g num, at, tt) }
-  begun_fits (stmt.Task g undeferred final) at = record { thread = refl; bodies = bodies; counter = (stmt.Task g undeferred final, at, tt) }
-  begun_fits stmt.Taskwait at = record { thread = refl; bodies = bodies; counter = (stmt.Taskwait, at, tt) }
-  begun_fits stmt.Taskyield at = record { thread = refl; bodies = bodies; counter = (stmt.Taskyield, at, tt) }
-  begun_fits stmt.Barrier at = record { thread = refl; bodies = bodies; counter = (stmt.Barrier, at, tt) }
-  begun_fits (stmt.Critical k g) at = record { thread = refl; bodies = bodies; counter = (stmt.Critical k g, at, tt) }
+  begun_fits : (s : Stmt) → IsAt p (f ∷ fs) s → Comes p (begun s there)
+  begun_fits (stmt.Parallel g num) at = record { bodies = bodies; counter = (stmt.Parallel g num, at, tt) }
+  begun_fits (stmt.Task g undeferred final) at = record { bodies = bodies; counter = (stmt.Task g undeferred final, at, tt) }
+  begun_fits stmt.Taskwait at = record { bodies = bodies; counter = (stmt.Taskwait, at, tt) }
+  begun_fits stmt.Taskyield at = record { bodies = bodies; counter = (stmt.Taskyield, at, tt) }
+  begun_fits stmt.Barrier at = record { bodies = bodies; counter = (stmt.Barrier, at, tt) }
+  begun_fits (stmt.Critical k g) at = record { bodies = bodies; counter = (stmt.Critical k g, at, tt) }
   begun_fits (stmt.Call g) at =
-      record { thread = refl; bodies = opens p a.context f fs (stmt.Call g) g opened.Call bodies at refl (inl at) refl; counter = (refl, refl) }
+      record { bodies = opens p a.context f fs (stmt.Call g) g opened.Call bodies at refl (inl at) refl; counter = (refl, refl) }
   begun_fits (stmt.Only m g) at = only_fits m g at (a.context.number == m) refl
   begun_fits (stmt.Repeat n g) at = repeat_fits n g at
-  begun_fits (stmt.SetNumThreads n) at = record { thread = refl; bodies = bodies; counter = (stmt.SetNumThreads n, at, tt) }
-  begun_fits (stmt.SetDynamic b) at = record { thread = refl; bodies = bodies; counter = (stmt.SetDynamic b, at, tt) }
-  begun_fits (stmt.SetMaxActive n) at = record { thread = refl; bodies = bodies; counter = (stmt.SetMaxActive n, at, tt) }
-  begun_fits (stmt.SetSchedule s) at = record { thread = refl; bodies = bodies; counter = (stmt.SetSchedule s, at, tt) }
-  begun_fits (stmt.SetDevice d) at = record { thread = refl; bodies = bodies; counter = (stmt.SetDevice d, at, tt) }
-  begun_fits (stmt.Tool x) at = record { thread = refl; bodies = bodies; counter = (x, at) }
-  begun_fits stmt.Work at = record { thread = refl; bodies = bodies; counter = at }
+  begun_fits (stmt.SetNumThreads n) at = record { bodies = bodies; counter = (stmt.SetNumThreads n, at, tt) }
+  begun_fits (stmt.SetDynamic b) at = record { bodies = bodies; counter = (stmt.SetDynamic b, at, tt) }
+  begun_fits (stmt.SetMaxActive n) at = record { bodies = bodies; counter = (stmt.SetMaxActive n, at, tt) }
+  begun_fits (stmt.SetSchedule s) at = record { bodies = bodies; counter = (stmt.SetSchedule s, at, tt) }
+  begun_fits (stmt.SetDevice d) at = record { bodies = bodies; counter = (stmt.SetDevice d, at, tt) }
+  begun_fits (stmt.Tool x) at = record { bodies = bodies; counter = (x, at) }
+  begun_fits stmt.Work at = record { bodies = bodies; counter = at }
 
 -- a frame whose next statement is in work from now on
 advances : (p : Program) (c : Context) (f : Frame) (fs : List Frame) (s : Stmt) → next_statement p f ≡ Some s → AreOpen p c (f ∷ fs) → AreOpen p c (advanced f ∷ fs)
@@ -130,23 +131,23 @@ module _ (p : Program) (a : Actor) (f : Frame) (fs : List Frame) (bodies : AreOp
   at_end : (P : Opened → Type 0) (o : Opened) → f.opened ≡ o → P o → IsAtEnd p P a.stack
   at_end P o how holds = subst (λ (gs : List Frame). IsAtEnd p P gs) (sym is) (end, subst (λ (w : Opened). P w) (sym how) holds)
 
-  member_fits : (debug : Bool) → IsAtEnd p IsMember a.stack → a.context.implicit ≡ true → Comes p a (ending_member debug a)
-  member_fits true ends implicit = record { thread = refl; bodies = all; counter = (ends, implicit) }
-  member_fits false ends implicit = record { thread = refl; bodies = all; counter = (ends, implicit) }
+  member_fits : (debug : Bool) → IsAtEnd p IsMember a.stack → a.context.implicit ≡ true → Comes p (ending_member debug a)
+  member_fits true ends implicit = record { bodies = all; counter = (ends, implicit) }
+  member_fits false ends implicit = record { bodies = all; counter = (ends, implicit) }
 
-  ended_fits : (debug : Bool) (o : Opened) → f.opened ≡ o → StandsOn p a.context f.function fs o → Comes p a (ended debug o a)
+  ended_fits : (debug : Bool) (o : Opened) → f.opened ≡ o → StandsOn p a.context f.function fs o → Comes p (ended debug o a)
   ended_fits debug opened.Main how stands = member_fits debug (at_end IsMember opened.Main how tt) stands.1.implicit
   ended_fits debug opened.Worker how stands = member_fits debug (at_end IsMember opened.Worker how tt) stands.1.implicit
   ended_fits debug (opened.Master saved) how stands = member_fits debug (at_end IsMember (opened.Master saved) how tt) stands.2.implicit
-  ended_fits debug (opened.Task w saved) how stands = record { thread = refl; bodies = all; counter = at_end IsExplicit (opened.Task w saved) how tt }
-  ended_fits debug opened.Call how stands = record { thread = refl; bodies = all; counter = at_end IsCalled opened.Call how refl }
-  ended_fits debug (opened.Repeat left) how stands = record { thread = refl; bodies = all; counter = at_end IsCalled (opened.Repeat left) how refl }
-  ended_fits debug (opened.Critical k) how stands = record { thread = refl; bodies = all; counter = at_end IsCalled (opened.Critical k) how refl }
+  ended_fits debug (opened.Task w saved) how stands = record { bodies = all; counter = at_end IsExplicit (opened.Task w saved) how tt }
+  ended_fits debug opened.Call how stands = record { bodies = all; counter = at_end IsCalled opened.Call how refl }
+  ended_fits debug (opened.Repeat left) how stands = record { bodies = all; counter = at_end IsCalled (opened.Repeat left) how refl }
+  ended_fits debug (opened.Critical k) how stands = record { bodies = all; counter = at_end IsCalled (opened.Critical k) how refl }
 
 -- ---- the move
 
 settles : (p : Program) (a : Actor) (f : Frame) (fs : List Frame) (o : Option Stmt) → a.stack ≡ f ∷ fs → AreOpen p a.context (f ∷ fs)
-    → next_statement p f ≡ o → Comes p a (settled_by p a f fs o)
+    → next_statement p f ≡ o → Comes p (settled_by p a f fs o)
 settles p a f fs (Some s) is bodies next =
     begun_fits p a (advanced f) fs (advances p a.context f fs s next bodies) s (stands_before (body_in p f) f.next s next)
 settles p a f fs None is bodies next =
@@ -154,7 +155,7 @@ settles p a f fs None is bodies next =
     let within = bodies.0.frame.next in
     ended_fits p a f fs bodies is (omega (arith, past, within)) p.env.debug f.opened refl bodies.0.stands
 
-settles_in : (p : Program) (a : Actor) (fs : List Frame) → a.stack ≡ fs → AreOpen p a.context fs → 0 < length fs → Comes p a (settled_in p a fs)
+settles_in : (p : Program) (a : Actor) (fs : List Frame) → a.stack ≡ fs → AreOpen p a.context fs → 0 < length fs → Comes p (settled_in p a fs)
 settles_in p a [] is bodies some = absurd (omega arith)
 settles_in p a (f ∷ fs) is bodies some = settles p a f fs (next_statement p f) is bodies refl
 
@@ -162,7 +163,13 @@ settles_in p a (f ∷ fs) is bodies some = settles p a f fs (next_statement p f)
 pub settled_fits : (p : Program) (a : Actor) → HasTask p a → Fits p (settled p a)
 settled_fits p a task =
     let comes = settles_in p a a.stack refl task.bodies task.some in
-    record { thread = subst (λ (i : ℕ). i < p.threads) (sym comes.thread) task.thread; bodies = comes.bodies; counter = comes.counter }
+    let differs = settled_differs p a in
+    record {
+      thread = subst (λ (i : ℕ). i < p.threads) (sym differs.thread) task.thread;
+      variables = subst (λ (g : Gathered). length g.variables ≡ VARIABLE_WORDS) (sym differs.gathered) task.variables;
+      bodies = comes.bodies;
+      counter = comes.counter;
+    }
 
 -- where bodies are open, they are once the actor has settled
 opens_in : (p : Program) (a : Actor) (fs : List Frame) → a.stack ≡ fs → AreOpen p a.context fs → AreOpen p (settled_in p a fs).context (settled_in p a fs).stack

@@ -1,5 +1,5 @@
 -- Which actors fit: those with which a program starts, and those that have made a move between statements.
-use Rattle.std.specs.Prelude.{ℕ, ◌<◌, List, ◌∷◌, length}
+use Rattle.std.specs.Prelude.{◌≡◌, ℕ, ◌<◌, List, ◌∷◌, length}
 use Rattle.omi_script.specs.declared.program.Program.{Program}
 use Rattle.omi_pc.specs.declared.actor.Actor.{Actor}
 use Rattle.omi_pc.specs.declared.counter.PlainCounter.TheVariants as plain
@@ -12,6 +12,21 @@ use Rattle.omi_pc.specs.Moves.{closed, context_under, returned, worked, working}
 use Rattle.omi_pc.specs.OpenBodies.{AreOpen, IsContext, StandsOn}
 use Rattle.omi_pc.specs.Opening.{opening_actor}
 use Rattle.omi_pc.specs.Settle.{settled}
+
+-- two actors differ in their counters and their bodies alone
+pub record DifferInBodies (a b : Actor) : Type 0 where
+  pub thread : b.thread ≡ a.thread
+  pub context : b.context ≡ a.context
+  pub gathered : b.gathered ≡ a.gathered
+
+-- a move between statements changes nothing else
+abbrev pub MovesChangeBodies : Type 0
+MovesChangeBodies =
+    (p : Program) (a : Actor)
+    → DifferInBodies a (settled p a)
+    × DifferInBodies a (returned p a)
+    × DifferInBodies a (worked p a)
+    × DifferInBodies a (working p a)
 
 abbrev pub OpeningFits : Type 0
 OpeningFits = (p : Program) (thread : ℕ) → thread < p.threads → Fits p (opening_actor p thread)

@@ -126,15 +126,10 @@ FitsWorker p a worker.IdleState = IsAlone a
 abbrev pub IsAtParallel : Program → Actor → Type 0
 IsAtParallel p a = IsAtSome p a IsParallel
 
--- the data environment has been loaded into all its words
-abbrev pub HasVariables : Actor → Type 0
-HasVariables a = length a.gathered.variables ≡ VARIABLE_WORDS
-
 -- a `parallel` construct whose team is got: it has this thread and at most one place for each thread
 abbrev pub IsTeamGot : Program → Actor → Type 0
 IsTeamGot p a =
     IsAtParallel p a
-    × HasVariables a
     × (1 ≤ length a.gathered.team)
     × (length a.gathered.team ≤ p.threads)
 
@@ -151,8 +146,8 @@ abbrev pub FitsTeam : Program → Actor → TeamCounter → Type 0
 FitsTeam p a team.OverheadState = IsAtParallel p a
 FitsTeam p a team.LoadLevels = IsAtParallel p a
 FitsTeam p a team.LoadActive = IsAtParallel p a
-FitsTeam p a (team.LoadVariable word) = IsAtParallel p a × HasVariables a × (word < VARIABLE_WORDS)
-FitsTeam p a team.Want = IsAtParallel p a × HasVariables a
+FitsTeam p a (team.LoadVariable word) = IsAtParallel p a × (word < VARIABLE_WORDS)
+FitsTeam p a team.Want = IsAtParallel p a
 FitsTeam p a team.Ask =
     IsTeamGot p a
     × (length a.gathered.team < a.gathered.wanted)
@@ -219,19 +214,15 @@ IsOwnSlot (Some place) = place < OWN_SLOTS
 abbrev pub IsAtTask : Program → Actor → Option ℕ → Type 0
 IsAtTask p a place = IsAtSome p a IsTask × IsOwnSlot place
 
--- and the data environment is loaded
-abbrev pub IsTaskLoaded : Program → Actor → Option ℕ → Type 0
-IsTaskLoaded p a place = IsAtTask p a place × HasVariables a
-
 -- and the record for the task is this thread's
 abbrev pub IsTaskGot : Program → Actor → Option ℕ → Tid → Type 0
-IsTaskGot p a place t = IsTaskLoaded p a place × (t.0.creator ≡ a.thread)
+IsTaskGot p a place t = IsAtTask p a place × (t.0.creator ≡ a.thread)
 
 abbrev pub FitsTask : Program → Actor → TaskCounter → Type 0
 FitsTask p a (task.LoadSlot place) = IsAtTask p a (Some place)
 FitsTask p a (task.LoadVariable place word) =
-    IsTaskLoaded p a place × (word < VARIABLE_WORDS)
-FitsTask p a (task.LoadLife place slot) = IsTaskLoaded p a place
+    IsAtTask p a place × (word < VARIABLE_WORDS)
+FitsTask p a (task.LoadLife place slot) = IsAtTask p a place
 FitsTask p a (task.Take place t) = IsTaskGot p a place t
 FitsTask p a (task.Fill place t word) = IsTaskGot p a place t × (word < TASK_WORDS)
 FitsTask p a (task.AddPending place t) = IsTaskGot p a place t
@@ -341,14 +332,20 @@ FitsCounter p a (counter.Look c) = FitsLook p a c
 FitsCounter p a (counter.Finish c) = FitsFinish p a c
 FitsCounter p a (counter.Plain c) = FitsPlain p a c
 
+-- a data environment has all its words
+abbrev pub HasVariables : Actor → Type 0
+HasVariables a = length a.gathered.variables ≡ VARIABLE_WORDS
+
 -- an actor fits a program: its thread, its bodies and its counter do
 pub record Fits (p : Program) (a : Actor) : Type 0 where
   pub thread : a.thread < p.threads
+  pub variables : HasVariables a
   pub bodies : AreOpen p a.context a.stack
   pub counter : FitsCounter p a a.counter
 
--- and it has a task
+-- and it has a task, whatever its counter is
 pub record HasTask (p : Program) (a : Actor) : Type 0 where
   pub thread : a.thread < p.threads
+  pub variables : HasVariables a
   pub bodies : AreOpen p a.context a.stack
   pub some : 0 < length a.stack

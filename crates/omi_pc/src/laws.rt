@@ -1,6 +1,6 @@
 //! Laws of stacks and actors. Each is a function that does nothing, and says its law in `specs/`.
 
-ghost use Rattle.omi_pc.specs.FitLaws.{ClosingKeepsBodies, GoingOnFits, OpeningFits, OpenedBodyStands, ReturningFits, SettlingFits, WorkingFits};
+ghost use Rattle.omi_pc.specs.FitLaws.{ClosingKeepsBodies, GoingOnFits, MovesChangeBodies, OpeningFits, OpenedBodyStands, ReturningFits, SettlingFits, WorkingFits};
 ghost use Rattle.omi_pc.specs.Room.{BodiesGoDown, DepthsCountTasks, FewGoDown, NamedAreSmaller, StacksHaveRoom};
 
 /// The bodies that a thread of a program has open never lack room: there are at most `MOST_BODIES`, and a stack has room
@@ -17,6 +17,11 @@ pub fn stacks_have_room()
 /// The actors with which a program starts fit it.
 pub fn opening_fits()
     ensures { OpeningFits }
+{}
+
+/// A move between statements changes the counter and the bodies, and nothing else of an actor.
+pub fn moves_change_bodies()
+    ensures { MovesChangeBodies }
 {}
 
 /// An actor with a task fits its program once it has settled, once a function has returned, and once it works again; and bodies stand
