@@ -6,3 +6,4 @@ pub mod PlainLook
 pub mod PlainShown
 pub mod Alone
 pub mod Opened
+pub mod FamilySizes

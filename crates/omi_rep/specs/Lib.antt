@@ -4,6 +4,7 @@ pub mod Shows
 pub mod Look
 pub mod LookView
 pub mod Plain
+pub mod Suits
 -- The laws
 pub mod Unique
 pub mod Opened

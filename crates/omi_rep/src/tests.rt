@@ -1,7 +1,10 @@
-//! Plain words of several layouts: a list with a changed head, read through the layout.
+//! Plain words of several layouts: a list with a changed head, read through the layout. Layouts that suit a program.
 
-use crate::{is_plain, plain_view};
+ghost use Rattle.std.specs.Prelude.{◌<◌};
+
+use crate::{is_plain, plain_view, suits};
 use omi_layout::{Field, Layout};
+use omi_script::parse;
 use omi_word::{Image, MOST_WORDS, Natives, Op};
 use std::alloc::{AllocError, Global};
 use std::test::Fail;
@@ -119,5 +122,33 @@ fn words_that_are_not_plain(rt: HostRuntime) -> Result<(), Fail> {
     let words = changed(rt.alloc(), &Layout::family(0, 1))?;
     let two = is_plain(&Layout::family(0, 2), &words);
     assert!(rt; !two);
+    Ok(())
+}
+
+/// The layout of a family in which a word of the table is another one.
+fn moved(layout: &Layout, at: usize, word: u64) -> Option<Layout>
+    requires { at < 56 }
+{
+    let mut table = layout.table;
+    table[at] = word;
+    Layout::of_words(&table).ok()
+}
+
+#[test]
+fn layouts_that_suit(rt: HostRuntime) -> Result<(), Fail> {
+    let p = parse(rt.alloc(), b"threads 2\nfunc main\nend\n")?;
+    for k in 0..16u8 {
+        let fitting = suits(&p, &Layout::family(k, 2));
+        assert!(rt; fitting);
+        let other = suits(&p, &Layout::family(k, 3));
+        assert!(rt; !other);
+    }
+    let layout = Layout::family(0, 2);
+    // the runtime record over the tables, and the tasks behind the greatest image
+    for (at, word) in [(1, 0x10000), (9, 0x10000 + 8 * MOST_WORDS)] {
+        let layout = moved(&layout, at, word).ok_or("a valid layout")?;
+        let fitting = suits(&p, &layout);
+        assert!(rt; !fitting);
+    }
     Ok(())
 }
