@@ -6,4 +6,5 @@ pub mod Positions
 pub mod Unmoved
 pub mod Settled
 pub mod Moved
+pub mod Arrived
 pub mod OpeningActors

@@ -1,5 +1,5 @@
 -- Which actors fit: those with which a program starts, and those that have made a move between statements.
-use Rattle.std.specs.Prelude.{◌≡◌, ℕ, ◌<◌, List, ◌∷◌, length}
+use Rattle.std.specs.Prelude.{◌≡◌, ℕ, ◌^◌, ◌<◌, true, List, ◌∷◌, length}
 use Rattle.omi_script.specs.declared.program.Program.{Program}
 use Rattle.omi_pc.specs.declared.actor.Actor.{Actor}
 use Rattle.omi_pc.specs.declared.counter.PlainCounter.TheVariants as plain
@@ -63,3 +63,13 @@ OpenedBodyStands =
     (p : Program) (c : Context) (f : ℕ) (o : Opened) (fs : List Frame) → f < length p.funcs
     → IsContext p c → StandsOn p c f fs o → AreOpen p (context_under c o) fs
     → AreOpen p c (at_start f o ∷ fs)
+
+-- a context after so many arrivals
+abbrev pub arrived : ℕ → Context → Context
+arrived n c = record c { arrivals = n }
+
+-- the bodies of a member that arrives at a barrier
+abbrev pub ArrivingKeepsBodies : Type 0
+ArrivingKeepsBodies =
+    (p : Program) (c : Context) (n : ℕ) (fs : List Frame) → c.implicit ≡ true → n < 2 ^ 57
+    → AreOpen p c fs → AreOpen p (arrived n c) fs

@@ -1,6 +1,6 @@
 //! Laws of stacks and actors. Each is a function that does nothing, and says its law in `specs/`.
 
-ghost use Rattle.omi_pc.specs.FitLaws.{ClosingKeepsBodies, GoingOnFits, MovesChangeBodies, OpeningFits, OpenedBodyStands, ReturningFits, SettlingFits, WorkingFits};
+ghost use Rattle.omi_pc.specs.FitLaws.{ArrivingKeepsBodies, ClosingKeepsBodies, GoingOnFits, MovesChangeBodies, OpeningFits, OpenedBodyStands, ReturningFits, SettlingFits, WorkingFits};
 ghost use Rattle.omi_pc.specs.Room.{BodiesGoDown, DepthsCountTasks, FewGoDown, NamedAreSmaller, StacksHaveRoom};
 
 /// The bodies that a thread of a program has open never lack room: there are at most `MOST_BODIES`, and a stack has room
@@ -24,13 +24,18 @@ pub fn moves_change_bodies()
     ensures { MovesChangeBodies }
 {}
 
-/// An actor with a task fits its program once it has settled, once a function has returned, and once it works again; and bodies stand
-/// on one another when one is opened or closed.
+/// An actor with a task fits its program once it has settled, once a function has returned, and once it works again.
 pub fn moves_fit()
     ensures settling { SettlingFits }
     ensures returning { ReturningFits }
     ensures working { WorkingFits }
     ensures going_on { GoingOnFits }
+{}
+
+/// Bodies stand on one another when one more is opened, when the innermost one is closed, and when a member arrives at a
+/// barrier.
+pub fn bodies_stand()
     ensures opened { OpenedBodyStands }
-    ensures closing { ClosingKeepsBodies }
+    ensures closed { ClosingKeepsBodies }
+    ensures arrived { ArrivingKeepsBodies }
 {}

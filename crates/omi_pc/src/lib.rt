@@ -21,7 +21,7 @@ pub use context::Context;
 pub use counter::{Counter, PlainCounter};
 pub use frame::{Barrier, Frame, Opened, Wait};
 pub use gathered::Gathered;
-pub use laws::{moves_change_bodies, moves_fit, opening_fits, stacks_have_room};
+pub use laws::{bodies_stand, moves_change_bodies, moves_fit, opening_fits, stacks_have_room};
 pub use omi_model::OutOfMemory;
 pub use place::Place;
 pub use stack::Stack;

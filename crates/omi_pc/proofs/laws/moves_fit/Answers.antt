@@ -1,4 +1,4 @@
-use Rattle.omi_pc.proofs.Moved.{body_opens, closed_open, returned_fits, worked_fits, working_fits}
+use Rattle.omi_pc.proofs.Moved.{returned_fits, worked_fits, working_fits}
 use Rattle.omi_pc.proofs.Settled.{settled_fits}
 use Rattle.omi_pc.proofs.laws.moves_fit.Goals as goal
 
@@ -13,9 +13,3 @@ returns-clause-working c = working_fits
 
 pub returns-clause-going_on : goal.returns-clause-going_on
 returns-clause-going_on c = worked_fits
-
-pub returns-clause-opened : goal.returns-clause-opened
-returns-clause-opened c = body_opens
-
-pub returns-clause-closing : goal.returns-clause-closing
-returns-clause-closing c = closed_open
