@@ -1,5 +1,5 @@
 -- A team is kept as a column of tasks and a column of threads, of MOST_MEMBERS places each.
-use Rattle.std.specs.Prelude.{◌≡◌, ℕ, ◌-◌, ◌≤◌, List, [], ◌∷◌, ◌++◌, length, drop, replicate}
+use Rattle.std.specs.Prelude.{◌≡◌, ℕ, zero, suc, ◌-◌, ◌≤◌, List, [], ◌∷◌, ◌++◌, length, drop, replicate}
 use Rattle.omi_model.specs.declared.limits.TheConstants.{MOST_MEMBERS}
 use Rattle.omi_model.specs.declared.id.Tid.{Tid}
 
@@ -35,3 +35,9 @@ pub record AreColumns (len : ℕ) (xs : List Tid) (ys : List ℕ) : Type 0 where
   pub limit : len ≤ MOST_MEMBERS
   pub tasks : IsColumn no_task len xs
   pub threads : IsColumn 0 len ys
+
+-- the members with another task at a place
+abbrev pub with_task : Tid → ℕ → List (Tid × ℕ) → List (Tid × ℕ)
+with_task task at [] = []
+with_task task zero (m ∷ ms) = (task, m.1) ∷ ms
+with_task task (suc at) (m ∷ ms) = m ∷ with_task task at ms

@@ -1,6 +1,7 @@
 //! The members of a team, kept in place.
 
 ghost use Rattle.std.specs.Prelude.{◌≡◌, ◌<◌, ◌≤◌, [], ◌∷◌, ◌++◌, length, slice_get, Some};
+ghost use Rattle.omi_model.specs.Columns.{with_task};
 
 use crate::{Id, MOST_MEMBERS, Tid};
 use std::marker::Model;
@@ -80,5 +81,14 @@ impl Team {
         self.tasks[at] = task;
         self.threads[at] = thread;
         self.len += 1;
+    }
+
+    /// Puts a task in the place of a member's. Its thread stays.
+    pub fn set_task(&mut self, at: usize, task: Tid)
+        requires { at < length self.old }
+        ensures { self.new ≡ with_task task at self.old }
+    {
+        let _len = self.len;
+        self.tasks[at] = task;
     }
 }

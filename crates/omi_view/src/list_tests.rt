@@ -22,6 +22,9 @@ fn a_team_in_place(rt: HostRuntime) {
     assert_eq!(rt; team.len(), 2);
     assert_eq!(rt; team.get(0), (task(3), 0));
     assert_eq!(rt; team.get(1), (task(5), 9));
+    team.set_task(1, task(6));
+    assert_eq!(rt; team.get(1), (task(6), 9));
+    team.set_task(1, task(5));
     let mut other = Team::new();
     other.push(task(3), 0);
     assert!(rt; team != other);
