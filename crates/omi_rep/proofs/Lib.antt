@@ -6,4 +6,3 @@ pub mod PlainLook
 pub mod PlainShown
 pub mod Alone
 pub mod Opened
-pub mod FamilySizes

@@ -10,16 +10,15 @@ use crate::tests::CHANGED;
 use omi_corefile::core_bytes_of;
 use omi_layout::Layout;
 use omi_outside::Status;
+use omi_rep::suits;
 use omi_script::{Program, is_small, parse};
-use omi_word::{MOST_WORDS, Natives};
+use omi_word::Natives;
 use std::alloc::{AllocError, Global};
 use std::test::Fail;
 
 /// The core that a finished run of a small program leaves in a layout of one thread.
 fn core_in(alloc: Global, layout: &Layout, p: &Program) -> Result<Vec<u8>, AllocError> {
-    let words = layout.image_words();
-    let suits = words as u64 <= MOST_WORDS && layout.fits(words) && layout.threads() == p.threads;
-    if !suits || !is_small(p) {
+    if !suits(p, layout) || !is_small(p) {
         return Ok(Vec::new(alloc));
     }
     let mut image = opening_image(alloc, layout, p)?;

@@ -37,8 +37,7 @@ ghost use Rattle.omi_script.specs.Bodies.{body_of};
 ghost use Rattle.omi_script.specs.Small.{IsSmall};
 ghost use Rattle.omi_model.specs.State.{State};
 ghost use Rattle.omi_layout.specs.OpeningWords.{AreOpening};
-ghost use Rattle.omi_layout.specs.Place.{fits};
-ghost use Rattle.omi_layout.specs.Table.{thread_count};
+ghost use Rattle.omi_rep.specs.Suits.{Suits};
 ghost use Rattle.omi_rep.specs.Plain.{is_plain};
 ghost use Rattle.omi_top.specs.Runner.{first_address as address_at, statement_step, step_at, counter_at, next_of, end_of, IsAt};
 ghost use Rattle.omi_top.specs.Run.{IsRun};
@@ -191,8 +190,7 @@ pub fn run(
 ) -> Result<(Vec<Entry>, End), OutOfMemory>
     requires small { IsSmall p.now }
     requires opening { AreOpening p.now layout.now.table image.old }
-    requires fits { IsTrue (fits layout.now.table (length image.old)) }
-    requires threads { p.now.threads ≡ thread_count layout.now.table }
+    requires suits { Suits p.now layout.now.table }
     ensures run { IfOk result (λ made. (s : State)
         × IsRun layout.now.table p.now budget made.0.items made.1 image.new s) }
     ensures plain { IfOk result (λ made. IsTrue (is_plain layout.now.table image.new)) }

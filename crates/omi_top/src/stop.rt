@@ -1,10 +1,8 @@
 //! The command `stop`.
 
-ghost use Rattle.std.specs.Prelude.{◌≡◌, ◌≢◌, ◌⊎◌, ◌≤◌, List, ℕ, Option, Some, IfOk, IfErr, IsErrOf, take, string_bytes, IsTrue};
+ghost use Rattle.std.specs.Prelude.{◌≡◌, ◌≢◌, ◌⊎◌, ◌≤◌, List, ℕ, Option, Some, IfOk, IfErr, IsErrOf, take, string_bytes};
 ghost use Rattle.omi_layout.specs.OpeningWords.{AreOpening};
-ghost use Rattle.omi_layout.specs.Place.{fits, image_words};
-ghost use Rattle.omi_layout.specs.Table.{thread_count};
-ghost use Rattle.omi_word.specs.declared.limits.TheConstants.{MOST_WORDS};
+ghost use Rattle.omi_rep.specs.Suits.{Suits};
 ghost use Rattle.omi_outside.specs.Outside.{HasCause};
 ghost use Rattle.omi_script.specs.Grammar.{Grammar};
 ghost use Rattle.omi_script.specs.Small.{IsSmall};
@@ -40,9 +38,7 @@ fn program(alloc: Global, bytes: &[u8]) -> Result<Program, Refusal>
 
 /// The opening words of a program in a layout.
 pub fn opening_image(alloc: Global, layout: &Layout, p: &Program) -> Result<Image, OutOfMemory>
-    requires fits { IsTrue (fits layout.now.table (image_words layout.now.table)) }
-    requires small { image_words layout.now.table ≤ MOST_WORDS }
-    requires threads { p.now.threads ≡ thread_count layout.now.table }
+    requires { Suits p.now layout.now.table }
     ensures { IfOk result (λ image. AreOpening p.now layout.now.table image) }
 {
     let mut image = Image::zeroed(alloc, layout.image_words())?;
