@@ -1,0 +1,6 @@
+pub mod SameSymbols
+pub mod Told
+pub mod Refusals
+pub mod Handled
+pub mod Slots
+pub mod Asked

@@ -1,0 +1,36 @@
+-- What is told stays told, and a failure in any part of a call is one of the call.
+use Rattle.std.proofs.Common.{◌≡◌, ℕ, ◌≤◌, Some, sym, ap, subst, ◌∙◌, arith}
+use Rattle.omi_outside.specs.Outside.{HasCause}
+use Rattle.omi_calls.specs.Told.{Told, Words, word_at}
+use Rattle.omi_calls.specs.Kept.{Kept}
+use Rattle.omi_session.specs.Tells.{Tells, KeepsTold}
+
+-- what holds of the told words holds of the memory that they are
+pub as_told : (told now : Told) (memory : Words) → now ≡ told → Tells told memory → (P : Words → Type 0)
+    → ((words : Words) (order : ℕ) → now.words ≡ Some words → now.order ≡ Some order → P (word_at words)) → P memory
+as_told told now memory same t P holds =
+    subst P (sym t.is) (holds t.words t.order (ap (λ x. x.words) same ∙ t.words_told) (ap (λ x. x.order) same ∙ t.order_told))
+
+-- callbacks that tell the same tell the same memory
+pub still_tells : (told now : Told) (memory : Words) → now ≡ told → Tells told memory → Tells now memory
+still_tells told now memory same t = record {
+  order = t.order;
+  order_told = ap (λ x. x.order) same ∙ t.order_told;
+  words = t.words;
+  words_told = ap (λ x. x.words) same ∙ t.words_told;
+  is = t.is;
+}
+
+pub keeps_then : {C F : Type 0} (told : C → Told) (a b c : Kept C F) → KeepsTold told a b → KeepsTold told b c → KeepsTold told a c
+keeps_then told a b c first second = record {
+  same = second.same ∙ first.same;
+  order = second.order ∙ first.order;
+  to_host = second.to_host ∙ first.to_host;
+}
+
+-- a count that rose from a later stand on rose from an earlier one
+pub cause_after : (before then now : ℕ) (failure part : Type 0) → before ≤ then → (failure → part) → HasCause then now part → HasCause before now failure
+cause_after before then now failure part later is cause = record {
+  later = omega (arith, later, cause.later);
+  failed = λ f. (let rose = cause.failed (is f) in omega (arith, rose, later));
+}

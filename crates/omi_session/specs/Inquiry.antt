@@ -1,0 +1,69 @@
+-- The parts of which inquiries are made: the word of a field, a handle whose object lives, and the live object to which a word points.
+use Rattle.std.specs.Prelude.{◌==◌, ℕ, ◌+◌, ◌*◌, Bool, List, Option, Some, None, Result, Ok, Err, is_some, if◌then◌else◌}
+use Rattle.std.specs.Option.{option_and_then, ok_or}
+use Rattle.omi_handle.specs.declared.handle.Kind.{Kind}
+use Rattle.omi_handle.specs.declared.handle.Held.{Held}
+use Rattle.omi_layout.specs.declared.field.Field.{Field}
+use Rattle.omi_layout.specs.Named.{number}
+use Rattle.omi_layout.specs.Table.{offset}
+use Rattle.omi_rep.specs.Look.{life_of, slot_at, is_live}
+use Rattle.omi_session.specs.declared.rc.Rc.{Rc}
+use Rattle.omi_session.specs.declared.rc.Rc.TheVariants.{Unavailable, StaleHandle, BadInput, Error}
+use Rattle.omi_session.specs.Named.{record_kind}
+use Rattle.omi_session.specs.Reads.{Reads, Answer, Read, then_reads}
+
+-- two kinds of objects are the same
+abbrev pub is_kind : Kind → Kind → Bool
+is_kind kind other = record_kind kind == record_kind other
+
+-- the handle that stands under a pair, where it is one of this kind
+abbrev pub of_kind : Kind → Held → Result Held Rc
+of_kind kind h = if is_kind h.kind kind then Ok h else Err BadInput
+
+abbrev pub live_handle : Kind → Option Held → Result Held Rc
+live_handle kind None = Err BadInput
+live_handle kind (Some h) = of_kind kind h
+
+-- the life word of a record makes an object of this kind
+abbrev pub object : Kind → ℕ → ℕ → Option Held
+object kind address life =
+    if is_live (record_kind kind) life
+    then Some (record { kind = kind; addr = address; life = life }) else None
+
+module _ (w : List ℕ) where
+  -- where a word of the record at an address stands
+  abbrev pub place_of : ℕ → Field → ℕ → ℕ
+  place_of address f at = address + 8 * (offset w (number f) + at)
+
+  -- a word of the record at an address
+  unfoldable pub word_of : ℕ → Field → ℕ → Reads ℕ
+  word_of address f at =
+      Read (place_of address f at) (λ word. Answer (ok_or word (Error address (number f))))
+
+  -- the life word of a handle's record, which has to be the one that the handle keeps
+  unfoldable pub unchanged : Held → Reads Held
+  unchanged h =
+      then_reads (word_of h.addr (life_of (record_kind h.kind)) 0)
+      (λ life. Answer (if life == h.life then Ok h else Err StaleHandle))
+
+  -- the object of a handle: the handle is one of this kind, and its object still lives
+  unfoldable pub object_of : Kind → Option Held → Reads Held
+  object_of kind found = then_reads (Answer (live_handle kind found)) unchanged
+
+  -- the live object of a kind to which an address that a field holds leads. Its life word is read right after the address
+  unfoldable pub lead : Kind → Field → ℕ → Reads Held
+  lead kind f pointer =
+      if is_some (slot_at w (record_kind kind) pointer)
+      then Read (place_of pointer (life_of (record_kind kind)) 0)
+      (λ life. Answer (ok_or (option_and_then (object kind pointer) life) (Error pointer (number f))))
+      else Answer (Err (Error pointer (number f)))
+
+  -- the live object to which a word points
+  unfoldable pub follow : Kind → ℕ → Field → ℕ → Reads Held
+  follow kind address f at = then_reads (word_of address f at) (lead kind f)
+
+  -- the same of a word that may be 0, where there is none
+  unfoldable pub follow_some : Kind → ℕ → Field → Reads Held
+  follow_some kind address f =
+      then_reads (word_of address f 0)
+      (λ pointer. if pointer == 0 then Answer (Err Unavailable) else lead kind f pointer)

@@ -1,0 +1,9 @@
+-- The definitions to believe, in reading order: return codes, what callbacks tell, what a handle names, an open session, and how one is opened.
+pub mod Rc
+pub mod Tells
+pub mod Named
+pub mod Opened
+pub mod Opening
+-- What an inquiry reads and answers.
+pub mod Reads
+pub mod Inquiry
