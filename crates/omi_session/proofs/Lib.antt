@@ -1,6 +1,7 @@
 pub mod SameSymbols
 pub mod Told
 pub mod Refusals
-pub mod Handled
+pub mod StillNamed
 pub mod Slots
 pub mod Asked
+pub mod Handed

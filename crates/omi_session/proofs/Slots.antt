@@ -2,6 +2,7 @@
 use Rattle.std.proofs.Common.{◌≡◌, ◌==◌, ◌⊎◌, inl, inr, ℕ, zero, suc, ◌+◌, ◌*◌, ◌<◌, ◌≤◌, Bool, true, false, cond, List, [], ◌∷◌, ◌++◌, map, Option, Some, None, refl, sym, ap, subst, ◌∙◌, arith, eq-eqb, mul-le-mul}
 use Rattle.std.specs.Prelude.{find, is_some, IfSome}
 use Rattle.std.specs.FinMap.{get}
+use Rattle.std.specs.Option.{option_map}
 use Rattle.std.specs.List.{range_with_len, flat_map}
 use Rattle.std.proofs.lemmas.Bool.{eqb-true}
 use Rattle.std.proofs.lemmas.Bool.Decides.{nat_tests}
@@ -136,12 +137,19 @@ module _ (w : List ℕ) (kind address : ℕ) where
       go None e is = absurd (cc)
       go (Some at) e is = slot_low v k at e
 
--- the record of a thread at an address is the one that is found
-pub thread_same : (w : List ℕ) (address : ℕ) (found : Option ℕ) → IsRecordAt w threads address found → is_some (slot_at w threads address) ≡ is_some found
+-- the record of a thread at an address is in its slot 0
+pub thread_slot : (w : List ℕ) (address : ℕ) (found : Option ℕ) → IsRecordAt w threads address found
+    → slot_at w threads address ≡ option_map (λ (i : ℕ). (i, 0)) found
 unfolding slot_address
-thread_same w address found h = go (slot_at w threads address) refl found h
+thread_slot w address found h = go (slot_at w threads address) refl found h
   where
-    go : (o : Option (ℕ × ℕ)) → slot_at w threads address ≡ o → (f : Option ℕ) → IsRecordAt w threads address f → is_some o ≡ is_some f
+    one : (y : ℕ × ℕ) (i : ℕ) → y.1 < 1 → i ≡ y.0 * 1 + y.1 → ◌≡◌ {A = Option (ℕ × ℕ)} (Some y) (Some (i, 0))
+    one y i low is =
+        let first : y.0 ≡ i = omega (arith, low, is) in
+        let second : y.1 ≡ 0 = omega (arith, low) in
+        (λ k. Some (first k, second k))
+
+    go : (o : Option (ℕ × ℕ)) → slot_at w threads address ≡ o → (f : Option ℕ) → IsRecordAt w threads address f → o ≡ option_map (λ (i : ℕ). (i, 0)) f
     go None e None at = refl
     go None e (Some i) at =
         absurd (slot_none w threads address i 0 e (record { made_by = omega (arith, at.is.0); within = omega arith }) (at.is.1 ∙ ap (record_address w threads) (let same : i ≡ i * 1 + 0 = omega arith in same)))
@@ -149,7 +157,19 @@ thread_same w address found h = go (slot_at w threads address) refl found h
         let there = slot_is w threads address y e in
         let never : None ≡ Some (index_of w threads y.0 y.1) = at.all (index_of w threads y.0 y.1) (index_within w threads y.0 y.1 there.0) there.1 in
         absurd (cc)
-    go (Some y) e (Some i) at = refl
+    go (Some y) e (Some i) at =
+        let there = slot_is w threads address y e in
+        let found : Some i ≡ Some (index_of w threads y.0 y.1) = at.all (index_of w threads y.0 y.1) (index_within w threads y.0 y.1 there.0) there.1 in
+        let same : i ≡ index_of w threads y.0 y.1 = cc in
+        one y i (omega (arith, there.0.within)) same
+
+-- so one begins there where it is found
+pub thread_same : (w : List ℕ) (address : ℕ) (found : Option ℕ) → IsRecordAt w threads address found → is_some (slot_at w threads address) ≡ is_some found
+thread_same w address found h = ap is_some (thread_slot w address found h) ∙ some found
+  where
+    some : (f : Option ℕ) → is_some {T = ℕ × ℕ} (option_map (λ (i : ℕ). (i, 0)) f) ≡ is_some f
+    some None = refl
+    some (Some i) = refl
 
 -- a kind of object has a kind of record
 pub kind_is : (kind : Kind) → IsKind (record_kind kind)

@@ -1,11 +1,13 @@
 -- The parts of which inquiries are made: the word of a field, a handle whose object lives, and the live object to which a word points.
-use Rattle.std.specs.Prelude.{◌==◌, ℕ, ◌+◌, ◌*◌, Bool, List, Option, Some, None, Result, Ok, Err, is_some, if◌then◌else◌}
+use Rattle.std.specs.Prelude.{◌==◌, ◌&&◌, ℕ, ◌+◌, ◌*◌, Bool, nat_lt, nat_le, List, Option, Some, None, Result, Ok, Err, is_some, if◌then◌else◌}
 use Rattle.std.specs.Option.{option_and_then, ok_or}
 use Rattle.omi_handle.specs.declared.handle.Kind.{Kind}
+use Rattle.omi_handle.specs.declared.handle.Kind.TheVariants.{Thread, Region, Task}
 use Rattle.omi_handle.specs.declared.handle.Held.{Held}
 use Rattle.omi_layout.specs.declared.field.Field.{Field}
+use Rattle.omi_layout.specs.declared.field.Field.TheVariants.{ThreadCurrent, RegionSize, RegionTeam}
 use Rattle.omi_layout.specs.Named.{number}
-use Rattle.omi_layout.specs.Table.{offset}
+use Rattle.omi_layout.specs.Table.{offset, thread_count}
 use Rattle.omi_rep.specs.Look.{life_of, slot_at, is_live}
 use Rattle.omi_session.specs.declared.rc.Rc.{Rc}
 use Rattle.omi_session.specs.declared.rc.Rc.TheVariants.{Unavailable, StaleHandle, BadInput, Error}
@@ -67,3 +69,22 @@ module _ (w : List ℕ) where
   follow_some kind address f =
       then_reads (word_of address f 0)
       (λ pointer. if pointer == 0 then Answer (Err Unavailable) else lead kind f pointer)
+
+  -- the current task of a thread
+  unfoldable pub current_task : Option Held → Reads Held
+  current_task t =
+      then_reads (object_of Thread t) (λ thread. follow_some Task thread.addr ThreadCurrent)
+
+  -- the number of members of the region at an address, which is from 1 to the number of threads
+  unfoldable pub team_size : ℕ → Reads ℕ
+  team_size address =
+      then_reads (word_of address RegionSize 0)
+      (λ size. Answer (if nat_le 1 size && nat_le size (thread_count w)
+      then Ok size else Err (Error address (number RegionSize))))
+
+  -- the implicit task of a member of a region
+  unfoldable pub member : Option Held → ℕ → Reads Held
+  member r num =
+      then_reads (object_of Region r) (λ region.
+      then_reads (team_size region.addr) (λ size.
+      if nat_lt num size then follow Task region.addr RegionTeam num else Answer (Err BadInput)))

@@ -7,3 +7,5 @@ pub mod Opening
 -- What an inquiry reads and answers.
 pub mod Reads
 pub mod Inquiry
+pub mod Made
+pub mod Handles

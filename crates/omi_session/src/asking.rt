@@ -1,7 +1,7 @@
 //! The parts of inquiries, over the public calls of a session: the word of a field, the object of a handle, and the live object to which
 //! a word points. Each answers what the definition of its reads does.
 
-ghost use Rattle.std.specs.Prelude.{◌≡◌, ◌≤◌, true, Err, IfOk, is_some};
+ghost use Rattle.std.specs.Prelude.{◌≡◌, ◌≢◌, ◌≤◌, true, Err, IfOk, is_some};
 ghost use Rattle.std.specs.FinMap.{get};
 ghost use Rattle.omi_outside.specs.Outside.{HasCause};
 ghost use Rattle.omi_layout.specs.declared.limits.TheConstants.{LAST_END};
@@ -62,6 +62,7 @@ pub fn word<C: Callbacks, F: ToHost>(
     requires few { at ≤ 64 }
     ensures answer { Answers (C.told s.old.table.calls) result
         (inquiry.word_of s.old.layout address field at) }
+    ensures memory { result ≢ Err Rc.NoMem }
     ensures same { StaysWhole C.told s.old s.new }
     ensures cause { HasCause (C.faults s.old.table.calls) (C.faults s.new.table.calls)
         (result ≡ Err Rc.CallbackError) }
@@ -88,11 +89,26 @@ pub fn object<C: Callbacks, F: ToHost>(
     ensures answer { Answers (C.told s.old.table.calls) result
         (inquiry.object_of s.old.layout kind (get s.old.handles.held (key, serial))) }
     ensures named { IfOk result (IsOfKind s.old.layout kind) }
+    ensures memory { result ≢ Err Rc.NoMem }
     ensures same { StaysWhole C.told s.old s.new }
     ensures cause { HasCause (C.faults s.old.table.calls) (C.faults s.new.table.calls)
         (result ≡ Err Rc.CallbackError) }
 {
     let held = live_handle(s, kind, key, serial)?;
+    unchanged(s, held)
+}
+
+/// What a handle stands for, where its record still has the life word that the handle keeps. A StaleHandle where it has another.
+pub fn unchanged<C: Callbacks, F: ToHost>(s: &mut Session<C, F>, held: Held) -> Result<Held, Rc>
+    requires { held.addr ≤ LAST_END }
+    ensures answer { Answers (C.told s.old.table.calls) result
+        (inquiry.unchanged s.old.layout held) }
+    ensures is { IfOk result (λ h. h ≡ held) }
+    ensures memory { result ≢ Err Rc.NoMem }
+    ensures same { StaysWhole C.told s.old s.new }
+    ensures cause { HasCause (C.faults s.old.table.calls) (C.faults s.new.table.calls)
+        (result ≡ Err Rc.CallbackError) }
+{
     let life = word(s, held.addr, life_field(held.kind), 0)?;
     if life == held.life {
         Ok(held)
@@ -111,6 +127,7 @@ pub fn live_handle<C: Callbacks, F: ToHost>(
     ensures value { result
         ≡ inquiry.live_handle kind (get s.now.handles.held (key, serial)) }
     ensures named { IfOk result (IsOfKind s.now.layout kind) }
+    ensures memory { result ≢ Err Rc.NoMem }
 {
     match s.find(key, serial) {
         Some(held) if held.kind == kind => Ok(held),
@@ -128,6 +145,7 @@ pub fn lead<C: Callbacks, F: ToHost>(
     ensures answer { Answers (C.told s.old.table.calls) result
         (inquiry.lead s.old.layout kind field pointer) }
     ensures named { IfOk result (IsOfKind s.old.layout kind) }
+    ensures memory { result ≢ Err Rc.NoMem }
     ensures same { StaysWhole C.told s.old s.new }
     ensures cause { HasCause (C.faults s.old.table.calls) (C.faults s.new.table.calls)
         (result ≡ Err Rc.CallbackError) }
@@ -166,6 +184,7 @@ pub fn follow<C: Callbacks, F: ToHost>(
     ensures answer { Answers (C.told s.old.table.calls) result
         (inquiry.follow s.old.layout kind address field at) }
     ensures named { IfOk result (IsOfKind s.old.layout kind) }
+    ensures memory { result ≢ Err Rc.NoMem }
     ensures same { StaysWhole C.told s.old s.new }
     ensures cause { HasCause (C.faults s.old.table.calls) (C.faults s.new.table.calls)
         (result ≡ Err Rc.CallbackError) }
@@ -185,6 +204,7 @@ pub fn follow_some<C: Callbacks, F: ToHost>(
     ensures answer { Answers (C.told s.old.table.calls) result
         (inquiry.follow_some s.old.layout kind address field) }
     ensures named { IfOk result (IsOfKind s.old.layout kind) }
+    ensures memory { result ≢ Err Rc.NoMem }
     ensures same { StaysWhole C.told s.old s.new }
     ensures cause { HasCause (C.faults s.old.table.calls) (C.faults s.new.table.calls)
         (result ≡ Err Rc.CallbackError) }

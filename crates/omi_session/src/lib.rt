@@ -2,15 +2,21 @@
 #![tactic(auto)]
 
 mod asking;
+mod handing;
+mod handled;
 mod library;
+mod members;
 mod opening;
 mod parted;
 mod rc;
 mod session;
 mod version;
 
-pub use asking::{follow, follow_some, lead, live_handle, object, word};
+pub use asking::{follow, follow_some, lead, live_handle, object, unchanged, word};
+pub use handing::{hand_region, hand_task, hand_thread};
+pub use handled::{compare, let_go, name};
 pub use library::{Library, initialize};
+pub use members::{current_task, member};
 pub use parted::Parted;
 pub use rc::Rc;
 pub use session::Session;

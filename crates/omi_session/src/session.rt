@@ -182,6 +182,7 @@ impl<C: Callbacks, F: ToHost> Session<C, F> {
     pub fn get_omp_version(&mut self) -> Result<u64, Rc>
         ensures answer { Answers (C.told self.old.table.calls) result
             (word_of self.old.layout (runtime_address self.old.layout) Field.RuntimeVersion 0) }
+        ensures memory { result ≢ Err Rc.NoMem }
         ensures same { StaysWhole C.told self.old self.new }
         ensures cause { HasCause (C.faults self.old.table.calls) (C.faults self.new.table.calls)
             (result ≡ Err Rc.CallbackError) }

@@ -1,10 +1,7 @@
-use Rattle.std.proofs.Common.{◌≡◌, ◌==◌, subst, refl, eq-eqb, arith, false, true}
-use Rattle.std.specs.Prelude.{Ok, Err}
-use Rattle.std.proofs.lemmas.Bool.Decides.{nat_tests}
+use Rattle.std.proofs.Common.{refl}
 use Rattle.std.proofs.lemmas.Result.{err_from_is_err_and}
-use Rattle.omi_session.specs.Reads.{Answers}
-use Rattle.omi_session.specs.Inquiry.{word_of, object_of, unchanged}
-use Rattle.omi_session.proofs.Asked.{asked_then, asked_refused, asked_answer}
+use Rattle.omi_session.specs.Inquiry.{object_of}
+use Rattle.omi_session.proofs.Asked.{asked_then, asked_refused}
 use Rattle.omi_session.proofs.asking.object.Goals as goal
 
 pub returns-in_err-held-clause-answer : goal.returns-in_err-held-clause-answer
@@ -13,26 +10,7 @@ returns-in_err-held-clause-answer g c =
     let p = err_from_is_err_and c.from_residual.result c.from_residual.ensures.1 in
     rw (p.1, p.2) (asked_refused _ _ _ _ (λ memory t ne. c.in_err-held.ensures.value))
 
-pub returns-in_err-life-clause-answer : goal.returns-in_err-life-clause-answer
-unfolding object_of unchanged
-returns-in_err-life-clause-answer g c =
-    let life = subst (λ f. Answers (g.C.Callbacks.told c.args.s.now.table.calls) (Err c.in_err-life.field-0.0) (word_of c.args.s.now.layout c.in_ok-held.held.addr f 0)) c.life_field.ensures c.in_err-life.ensures.answer in
-    let p = err_from_is_err_and c.from_residual-in_err-life.result c.from_residual-in_err-life.ensures.1 in
-    asked_then _ (g.C.Callbacks.told c.args.s.now.table.calls) _ _ c.in_ok-held.held _ refl (λ memory t ne. c.in_ok-held.ensures.value)
-    (rw (p.1, p.2) (asked_refused _ _ _ _ life))
-
-pub returns-then-life-held-clause-answer : goal.returns-then-life-held-clause-answer
-unfolding object_of unchanged
-returns-then-life-held-clause-answer g c =
-    let life = subst (λ f. Answers (g.C.Callbacks.told c.args.s.now.table.calls) (Ok c.in_ok-life.life) (word_of c.args.s.now.layout c.in_ok-held.held.addr f 0)) c.life_field.ensures c.in_ok-life.ensures.answer in
-    asked_then _ (g.C.Callbacks.told c.args.s.now.table.calls) _ _ c.in_ok-held.held _ refl (λ memory t ne. c.in_ok-held.ensures.value)
-    (asked_then _ (g.C.Callbacks.told c.word.new.s.table.calls) _ _ c.in_ok-life.life _ c.word.ensures.same.table.same life
-    (asked_answer _ _ _ (let same : c.in_ok-life.life == c.in_ok-held.held.life ≡ true = eq-eqb _ _ c.if-life-held.true in rw same refl)))
-
-pub returns-else-life-held-clause-answer : goal.returns-else-life-held-clause-answer
-unfolding object_of unchanged
-returns-else-life-held-clause-answer g c =
-    let life = subst (λ f. Answers (g.C.Callbacks.told c.args.s.now.table.calls) (Ok c.in_ok-life.life) (word_of c.args.s.now.layout c.in_ok-held.held.addr f 0)) c.life_field.ensures c.in_ok-life.ensures.answer in
-    asked_then _ (g.C.Callbacks.told c.args.s.now.table.calls) _ _ c.in_ok-held.held _ refl (λ memory t ne. c.in_ok-held.ensures.value)
-    (asked_then _ (g.C.Callbacks.told c.word.new.s.table.calls) _ _ c.in_ok-life.life _ c.word.ensures.same.table.same life
-    (asked_answer _ _ _ (let other : c.in_ok-life.life == c.in_ok-held.held.life ≡ false = grind (arith, nat_tests, c.if-life-held.false) in rw other refl)))
+pub returns-clause-answer : goal.returns-clause-answer
+unfolding object_of
+returns-clause-answer g c =
+    asked_then _ (g.C.Callbacks.told c.args.s.now.table.calls) _ _ c.in_ok-held.held _ refl (λ memory t ne. c.in_ok-held.ensures.value) c.unchanged.ensures.answer

@@ -1,4 +1,4 @@
-use Rattle.omi_session.proofs.Handled.{none_named}
+use Rattle.omi_session.proofs.StillNamed.{none_named}
 use Rattle.omi_session.proofs.library.Library.process_initialize.Goals as goal
 
 pub over-requires : goal.over-requires

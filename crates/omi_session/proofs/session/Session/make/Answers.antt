@@ -1,6 +1,6 @@
 use Rattle.std.proofs.Common.{sym, subst}
 use Rattle.omi_session.specs.Named.{IsNamed}
-use Rattle.omi_session.proofs.Handled.{made_named}
+use Rattle.omi_session.proofs.StillNamed.{made_named}
 use Rattle.omi_session.proofs.session.Session.make.Goals as goal
 
 pub invariant_of-self : goal.invariant_of-self

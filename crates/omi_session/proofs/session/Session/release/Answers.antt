@@ -1,4 +1,4 @@
-use Rattle.omi_session.proofs.Handled.{released_named}
+use Rattle.omi_session.proofs.StillNamed.{released_named}
 use Rattle.omi_session.proofs.session.Session.release.Goals as goal
 
 pub invariant_of-self : goal.invariant_of-self

@@ -1,4 +1,4 @@
-use Rattle.omi_session.proofs.Handled.{same_named}
+use Rattle.omi_session.proofs.StillNamed.{same_named}
 use Rattle.omi_session.proofs.session.Session.reserve.Goals as goal
 
 pub invariant_of-self : goal.invariant_of-self

@@ -1,0 +1,37 @@
+use Rattle.std.proofs.Common.{◌≡◌, ◌==◌, false, refl, subst, eq-eqb, arith}
+use Rattle.std.proofs.lemmas.Bool.Decides.{nat_tests}
+use Rattle.std.proofs.lemmas.Result.{err_from_is_err_and}
+use Rattle.omi_layout.specs.declared.field.Field.TheVariants.{ThreadNative}
+use Rattle.omi_session.specs.Reads.{Answers}
+use Rattle.omi_session.specs.Inquiry.{word_of}
+use Rattle.omi_session.proofs.Asked.{asked_then, asked_refused, asked_true, asked_false, asked_answer}
+use Rattle.omi_ask.specs.Threads.{native_id}
+use Rattle.omi_ask.proofs.threads.get_thread_id.Goals as goal
+
+pub returns-in_err-thread-clause-answer : goal.returns-in_err-thread-clause-answer
+unfolding native_id
+returns-in_err-thread-clause-answer g c =
+    let p = err_from_is_err_and c.from_residual.result c.from_residual.ensures.1 in
+    rw (p.1, p.2) (asked_refused _ _ _ _ (λ memory t ne. c.in_err-thread.ensures.value))
+
+pub returns-then-kind-ne0-clause-answer : goal.returns-then-kind-ne0-clause-answer
+unfolding native_id
+returns-then-kind-ne0-clause-answer g c =
+    let other : c.args.kind == 0 ≡ false = grind (arith, nat_tests, c.if-kind-ne0.true) in
+    asked_then _ (g.C.Callbacks.told c.args.s.now.table.calls) _ _ c.in_ok-thread.thread _ refl (λ memory t ne. c.in_ok-thread.ensures.value)
+    (asked_false _ _ _ _ _ other (asked_answer _ _ _ refl))
+
+pub returns-in_err-thread-2-clause-answer : goal.returns-in_err-thread-2-clause-answer
+unfolding native_id
+returns-in_err-thread-2-clause-answer g c =
+    let p = err_from_is_err_and c.from_residual-in_err-thread-2.result c.from_residual-in_err-thread-2.ensures.1 in
+    asked_then _ (g.C.Callbacks.told c.args.s.now.table.calls) _ _ c.in_ok-thread.thread _ refl (λ memory t ne. c.in_ok-thread.ensures.value)
+    (asked_true _ _ _ _ _ (eq-eqb _ _ c.if-kind-ne0.false) (rw (p.1, p.2) (asked_refused _ _ _ _ c.in_err-thread-2.ensures.answer)))
+
+pub returns-clause-answer : goal.returns-clause-answer
+unfolding native_id
+returns-clause-answer g c =
+    asked_then _ (g.C.Callbacks.told c.args.s.now.table.calls) _ _ c.in_ok-thread.thread _ refl (λ memory t ne. c.in_ok-thread.ensures.value)
+    (asked_true _ _ _ _ _ (eq-eqb _ _ c.if-kind-ne0.false)
+    (asked_then _ (g.C.Callbacks.told c.unchanged.new.s.table.calls) _ _ c.in_ok-thread-2.thread _ c.unchanged.ensures.same.table.same c.in_ok-thread-2.ensures.answer
+    (subst (λ w. Answers (g.C.Callbacks.told c.unchanged.new.s.table.calls) c.word.result (word_of w c.in_ok-thread-2.thread.addr ThreadNative 0)) c.unchanged.ensures.same.layout c.word.ensures.answer)))

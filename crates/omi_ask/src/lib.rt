@@ -1,0 +1,19 @@
+//! Inquiries about threads and regions.
+#![tactic(auto)]
+
+mod compare;
+mod ids;
+mod regions;
+mod threads;
+
+pub use compare::{
+    parallel_handle_compare, rel_parallel_handle, rel_thread_handle, thread_handle_compare,
+};
+pub use ids::{region_id, thread_number};
+pub use regions::{
+    get_curr_parallel_handle, get_enclosing_parallel_handle, get_task_parallel_handle,
+};
+pub use threads::{get_thread_handle, get_thread_id, get_thread_in_parallel};
+
+#[cfg(test)]
+mod tests;

@@ -1,0 +1,118 @@
+//! The inquiries that find a region.
+
+ghost use Rattle.std.specs.Prelude.{◌≡◌, ◌≢◌, ◌+◌, ◌-◌, ◌^◌, ◌<◌, ◌≤◌, Err, IfOk};
+ghost use Rattle.std.specs.FinMap.{get};
+ghost use Rattle.omi_outside.specs.Outside.{HasCause};
+ghost use Rattle.omi_handle.specs.declared.handle.Kind.TheVariants.{Region};
+ghost use Rattle.omi_session.specs.Named.{IsOfKind};
+ghost use Rattle.omi_session.specs.Opened.{Stays, StaysWhole};
+ghost use Rattle.omi_session.specs.Reads.{Answers};
+ghost use Rattle.omi_session.specs.Made.{Makes, Answered, as_pair, region_pair};
+ghost use Rattle.omi_ask.specs.Regions as inquiry;
+
+use omi_calls::{Callbacks, ToHost};
+use omi_handle::{Held, Kind, RegionHandle, TaskHandle, ThreadHandle};
+use omi_layout::Field;
+use omi_session::{Rc, Session, current_task, follow, follow_some, hand_region, object};
+
+/// The region of a thread's current task.
+fn current_region<C: Callbacks, F: ToHost>(
+    s: &mut Session<C, F>,
+    t: ThreadHandle,
+) -> Result<Held, Rc>
+    ensures answer { Answers (C.told s.old.table.calls) result
+        (inquiry.current_region s.old.layout (get s.old.handles.held (t.key, t.serial))) }
+    ensures named { IfOk result (IsOfKind s.old.layout Region) }
+    ensures memory { result ≢ Err Rc.NoMem }
+    ensures same { StaysWhole C.told s.old s.new }
+    ensures cause { HasCause (C.faults s.old.table.calls) (C.faults s.new.table.calls)
+        (result ≡ Err Rc.CallbackError) }
+{
+    let task = current_task(s, t)?;
+    follow(s, Kind::Region, task.addr, Field::TaskRegion, 0)
+}
+
+/// The region that encloses a region.
+fn enclosing_region<C: Callbacks, F: ToHost>(
+    s: &mut Session<C, F>,
+    r: RegionHandle,
+) -> Result<Held, Rc>
+    ensures answer { Answers (C.told s.old.table.calls) result
+        (inquiry.enclosing_region s.old.layout (get s.old.handles.held (r.key, r.serial))) }
+    ensures named { IfOk result (IsOfKind s.old.layout Region) }
+    ensures memory { result ≢ Err Rc.NoMem }
+    ensures same { StaysWhole C.told s.old s.new }
+    ensures cause { HasCause (C.faults s.old.table.calls) (C.faults s.new.table.calls)
+        (result ≡ Err Rc.CallbackError) }
+{
+    let region = object(s, Kind::Region, r.key, r.serial)?;
+    follow_some(s, Kind::Region, region.addr, Field::RegionEnclosing)
+}
+
+/// The region of a task.
+fn region_of_task<C: Callbacks, F: ToHost>(s: &mut Session<C, F>, k: TaskHandle) -> Result<Held, Rc>
+    ensures answer { Answers (C.told s.old.table.calls) result
+        (inquiry.region_of_task s.old.layout (get s.old.handles.held (k.key, k.serial))) }
+    ensures named { IfOk result (IsOfKind s.old.layout Region) }
+    ensures memory { result ≢ Err Rc.NoMem }
+    ensures same { StaysWhole C.told s.old s.new }
+    ensures cause { HasCause (C.faults s.old.table.calls) (C.faults s.new.table.calls)
+        (result ≡ Err Rc.CallbackError) }
+{
+    let task = object(s, Kind::Task, k.key, k.serial)?;
+    follow(s, Kind::Region, task.addr, Field::TaskRegion, 0)
+}
+
+/// The region of a thread's current task. Unavailable where it has none.
+pub fn get_curr_parallel_handle<C: Callbacks, F: ToHost>(
+    s: &mut Session<C, F>,
+    t: ThreadHandle,
+) -> Result<RegionHandle, Rc>
+    requires { s.old.handles.made < 2 ^ 64 - 1 }
+    ensures answer { Answered (C.told s.old.table.calls) s.new.handles (as_pair region_pair result)
+        (inquiry.current_region s.old.layout (get s.old.handles.held (t.key, t.serial))) }
+    ensures handles { Makes Region s.old.handles s.new.handles (as_pair region_pair result) }
+    ensures room { s.old.handles.room ≤ s.new.handles.room + 1 }
+    ensures stays { Stays C.told s.old s.new }
+    ensures cause { HasCause (C.faults s.old.table.calls) (C.faults s.new.table.calls)
+        (result ≡ Err Rc.CallbackError) }
+{
+    let found = current_region(s, t);
+    hand_region(s, found)
+}
+
+/// The region that encloses a region. Unavailable of the outermost one.
+pub fn get_enclosing_parallel_handle<C: Callbacks, F: ToHost>(
+    s: &mut Session<C, F>,
+    r: RegionHandle,
+) -> Result<RegionHandle, Rc>
+    requires { s.old.handles.made < 2 ^ 64 - 1 }
+    ensures answer { Answered (C.told s.old.table.calls) s.new.handles (as_pair region_pair result)
+        (inquiry.enclosing_region s.old.layout (get s.old.handles.held (r.key, r.serial))) }
+    ensures handles { Makes Region s.old.handles s.new.handles (as_pair region_pair result) }
+    ensures room { s.old.handles.room ≤ s.new.handles.room + 1 }
+    ensures stays { Stays C.told s.old s.new }
+    ensures cause { HasCause (C.faults s.old.table.calls) (C.faults s.new.table.calls)
+        (result ≡ Err Rc.CallbackError) }
+{
+    let found = enclosing_region(s, r);
+    hand_region(s, found)
+}
+
+/// The region of a task.
+pub fn get_task_parallel_handle<C: Callbacks, F: ToHost>(
+    s: &mut Session<C, F>,
+    k: TaskHandle,
+) -> Result<RegionHandle, Rc>
+    requires { s.old.handles.made < 2 ^ 64 - 1 }
+    ensures answer { Answered (C.told s.old.table.calls) s.new.handles (as_pair region_pair result)
+        (inquiry.region_of_task s.old.layout (get s.old.handles.held (k.key, k.serial))) }
+    ensures handles { Makes Region s.old.handles s.new.handles (as_pair region_pair result) }
+    ensures room { s.old.handles.room ≤ s.new.handles.room + 1 }
+    ensures stays { Stays C.told s.old s.new }
+    ensures cause { HasCause (C.faults s.old.table.calls) (C.faults s.new.table.calls)
+        (result ≡ Err Rc.CallbackError) }
+{
+    let found = region_of_task(s, k);
+    hand_region(s, found)
+}
