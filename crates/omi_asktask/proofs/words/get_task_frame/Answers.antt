@@ -1,0 +1,43 @@
+use Rattle.std.proofs.Common.{◌≡◌, refl, subst, ap, ◌∙◌}
+use Rattle.std.specs.Prelude.{Ok, Err}
+use Rattle.std.proofs.lemmas.Result.{err_from_is_err_and}
+use Rattle.omi_layout.specs.declared.field.Field.TheVariants.{TaskExit, TaskEnter}
+use Rattle.omi_session.specs.Reads.{Answers}
+use Rattle.omi_session.specs.Inquiry.{word_of}
+use Rattle.omi_session.proofs.Asked.{asked_then, asked_refused, asked_answer}
+use Rattle.omi_asktask.specs.TaskWords.{frames}
+use Rattle.omi_asktask.proofs.words.get_task_frame.Goals as goal
+
+pub returns-in_err-task-clause-answer : goal.returns-in_err-task-clause-answer
+unfolding frames
+returns-in_err-task-clause-answer g c =
+    let p = err_from_is_err_and c.from_residual.result c.from_residual.ensures.1 in
+    rw (p.1, p.2) (asked_refused _ _ _ _ c.in_err-task.ensures.answer)
+
+pub returns-in_err-exit-clause-answer : goal.returns-in_err-exit-clause-answer
+unfolding frames
+returns-in_err-exit-clause-answer g c =
+    let exit = subst (λ w. Answers (g.C.Callbacks.told c.object.new.s.table.calls) (Err c.in_err-exit.field-0.0) (word_of w c.in_ok-task.task.addr TaskExit 0)) c.object.ensures.same.layout c.in_err-exit.ensures.answer in
+    let p = err_from_is_err_and c.from_residual-in_err-exit.result c.from_residual-in_err-exit.ensures.1 in
+    asked_then _ (g.C.Callbacks.told c.object.new.s.table.calls) _ _ c.in_ok-task.task _ c.object.ensures.same.table.same c.in_ok-task.ensures.answer
+    (rw (p.1, p.2) (asked_refused _ _ _ _ exit))
+
+pub returns-in_err-enter-clause-answer : goal.returns-in_err-enter-clause-answer
+unfolding frames
+returns-in_err-enter-clause-answer g c =
+    let exit = subst (λ w. Answers (g.C.Callbacks.told c.object.new.s.table.calls) (Ok c.in_ok-exit.exit) (word_of w c.in_ok-task.task.addr TaskExit 0)) c.object.ensures.same.layout c.in_ok-exit.ensures.answer in
+    let enter = subst (λ w. Answers (g.C.Callbacks.told c.word.new.s.table.calls) (Err c.in_err-enter.field-0.0) (word_of w c.in_ok-task.task.addr TaskEnter 0)) (c.word.ensures.same.layout ∙ c.object.ensures.same.layout) c.in_err-enter.ensures.answer in
+    let p = err_from_is_err_and c.from_residual-in_err-enter.result c.from_residual-in_err-enter.ensures.1 in
+    asked_then _ (g.C.Callbacks.told c.object.new.s.table.calls) _ _ c.in_ok-task.task _ c.object.ensures.same.table.same c.in_ok-task.ensures.answer
+    (asked_then _ (g.C.Callbacks.told c.word.new.s.table.calls) _ _ c.in_ok-exit.exit _ c.word.ensures.same.table.same exit
+    (rw (p.1, p.2) (asked_refused _ _ _ _ enter)))
+
+pub returns-clause-answer : goal.returns-clause-answer
+unfolding frames
+returns-clause-answer g c =
+    let exit = subst (λ w. Answers (g.C.Callbacks.told c.object.new.s.table.calls) (Ok c.in_ok-exit.exit) (word_of w c.in_ok-task.task.addr TaskExit 0)) c.object.ensures.same.layout c.in_ok-exit.ensures.answer in
+    let enter = subst (λ w. Answers (g.C.Callbacks.told c.word.new.s.table.calls) (Ok c.in_ok-enter.enter) (word_of w c.in_ok-task.task.addr TaskEnter 0)) (c.word.ensures.same.layout ∙ c.object.ensures.same.layout) c.in_ok-enter.ensures.answer in
+    asked_then _ (g.C.Callbacks.told c.object.new.s.table.calls) _ _ c.in_ok-task.task _ c.object.ensures.same.table.same c.in_ok-task.ensures.answer
+    (asked_then _ (g.C.Callbacks.told c.word.new.s.table.calls) _ _ c.in_ok-exit.exit _ c.word.ensures.same.table.same exit
+    (asked_then _ (g.C.Callbacks.told c.word-2.new.s.table.calls) _ _ c.in_ok-enter.enter _ c.word-2.ensures.same.table.same enter
+    (asked_answer _ _ _ (λ i. Ok (record { exit = c.in_ok-exit.exit; exit_flag = c.flag.ensures i; enter = c.in_ok-enter.enter; enter_flag = c.flag-2.ensures i })))))

@@ -1,0 +1,124 @@
+//! The inquiries that find a task.
+
+ghost use Rattle.std.specs.Prelude.{◌≡◌, ◌≢◌, ◌+◌, ◌-◌, ◌^◌, ◌<◌, ◌≤◌, Err, IfOk};
+ghost use Rattle.std.specs.FinMap.{get};
+ghost use Rattle.omi_outside.specs.Outside.{HasCause};
+ghost use Rattle.omi_handle.specs.declared.handle.Kind.TheVariants.{Task};
+ghost use Rattle.omi_session.specs.Named.{IsOfKind};
+ghost use Rattle.omi_session.specs.Opened.{Stays, StaysWhole};
+ghost use Rattle.omi_session.specs.Reads.{Answers};
+ghost use Rattle.omi_session.specs.Made.{Makes, Answered, as_pair, task_pair};
+ghost use Rattle.omi_session.specs.Inquiry as part;
+ghost use Rattle.omi_asktask.specs.Tasks as inquiry;
+
+use omi_calls::{Callbacks, ToHost};
+use omi_handle::{Held, Kind, RegionHandle, TaskHandle, ThreadHandle};
+use omi_layout::Field;
+use omi_session::{Rc, Session, current_task, follow_some, hand_task, member, object};
+
+/// The generating task of a task.
+fn generating_task<C: Callbacks, F: ToHost>(
+    s: &mut Session<C, F>,
+    k: TaskHandle,
+) -> Result<Held, Rc>
+    ensures answer { Answers (C.told s.old.table.calls) result
+        (inquiry.generating_task s.old.layout (get s.old.handles.held (k.key, k.serial))) }
+    ensures named { IfOk result (IsOfKind s.old.layout Task) }
+    ensures memory { result ≢ Err Rc.NoMem }
+    ensures same { StaysWhole C.told s.old s.new }
+    ensures cause { HasCause (C.faults s.old.table.calls) (C.faults s.new.table.calls)
+        (result ≡ Err Rc.CallbackError) }
+{
+    let task = object(s, Kind::Task, k.key, k.serial)?;
+    follow_some(s, Kind::Task, task.addr, Field::TaskGenerating)
+}
+
+/// The scheduling task of a task.
+fn scheduling_task<C: Callbacks, F: ToHost>(
+    s: &mut Session<C, F>,
+    k: TaskHandle,
+) -> Result<Held, Rc>
+    ensures answer { Answers (C.told s.old.table.calls) result
+        (inquiry.scheduling_task s.old.layout (get s.old.handles.held (k.key, k.serial))) }
+    ensures named { IfOk result (IsOfKind s.old.layout Task) }
+    ensures memory { result ≢ Err Rc.NoMem }
+    ensures same { StaysWhole C.told s.old s.new }
+    ensures cause { HasCause (C.faults s.old.table.calls) (C.faults s.new.table.calls)
+        (result ≡ Err Rc.CallbackError) }
+{
+    let task = object(s, Kind::Task, k.key, k.serial)?;
+    follow_some(s, Kind::Task, task.addr, Field::TaskScheduling)
+}
+
+/// The current task of a thread. Unavailable where it has none.
+pub fn get_curr_task_handle<C: Callbacks, F: ToHost>(
+    s: &mut Session<C, F>,
+    t: ThreadHandle,
+) -> Result<TaskHandle, Rc>
+    requires { s.old.handles.made < 2 ^ 64 - 1 }
+    ensures answer { Answered (C.told s.old.table.calls) s.new.handles (as_pair task_pair result)
+        (part.current_task s.old.layout (get s.old.handles.held (t.key, t.serial))) }
+    ensures handles { Makes Task s.old.handles s.new.handles (as_pair task_pair result) }
+    ensures room { s.old.handles.room ≤ s.new.handles.room + 1 }
+    ensures stays { Stays C.told s.old s.new }
+    ensures cause { HasCause (C.faults s.old.table.calls) (C.faults s.new.table.calls)
+        (result ≡ Err Rc.CallbackError) }
+{
+    let found = current_task(s, t);
+    hand_task(s, found)
+}
+
+/// The task that made a task. Unavailable of the initial one.
+pub fn get_generating_task_handle<C: Callbacks, F: ToHost>(
+    s: &mut Session<C, F>,
+    k: TaskHandle,
+) -> Result<TaskHandle, Rc>
+    requires { s.old.handles.made < 2 ^ 64 - 1 }
+    ensures answer { Answered (C.told s.old.table.calls) s.new.handles (as_pair task_pair result)
+        (inquiry.generating_task s.old.layout (get s.old.handles.held (k.key, k.serial))) }
+    ensures handles { Makes Task s.old.handles s.new.handles (as_pair task_pair result) }
+    ensures room { s.old.handles.room ≤ s.new.handles.room + 1 }
+    ensures stays { Stays C.told s.old s.new }
+    ensures cause { HasCause (C.faults s.old.table.calls) (C.faults s.new.table.calls)
+        (result ≡ Err Rc.CallbackError) }
+{
+    let found = generating_task(s, k);
+    hand_task(s, found)
+}
+
+/// The task that was left for a task on its thread. Unavailable where there is none.
+pub fn get_scheduling_task_handle<C: Callbacks, F: ToHost>(
+    s: &mut Session<C, F>,
+    k: TaskHandle,
+) -> Result<TaskHandle, Rc>
+    requires { s.old.handles.made < 2 ^ 64 - 1 }
+    ensures answer { Answered (C.told s.old.table.calls) s.new.handles (as_pair task_pair result)
+        (inquiry.scheduling_task s.old.layout (get s.old.handles.held (k.key, k.serial))) }
+    ensures handles { Makes Task s.old.handles s.new.handles (as_pair task_pair result) }
+    ensures room { s.old.handles.room ≤ s.new.handles.room + 1 }
+    ensures stays { Stays C.told s.old s.new }
+    ensures cause { HasCause (C.faults s.old.table.calls) (C.faults s.new.table.calls)
+        (result ≡ Err Rc.CallbackError) }
+{
+    let found = scheduling_task(s, k);
+    hand_task(s, found)
+}
+
+/// The implicit task of a member of a region, by the member's number. BadInput where the region has no such member.
+pub fn get_task_in_parallel<C: Callbacks, F: ToHost>(
+    s: &mut Session<C, F>,
+    r: RegionHandle,
+    num: u32,
+) -> Result<TaskHandle, Rc>
+    requires { s.old.handles.made < 2 ^ 64 - 1 }
+    ensures answer { Answered (C.told s.old.table.calls) s.new.handles (as_pair task_pair result)
+        (part.member s.old.layout (get s.old.handles.held (r.key, r.serial)) num) }
+    ensures handles { Makes Task s.old.handles s.new.handles (as_pair task_pair result) }
+    ensures room { s.old.handles.room ≤ s.new.handles.room + 1 }
+    ensures stays { Stays C.told s.old s.new }
+    ensures cause { HasCause (C.faults s.old.table.calls) (C.faults s.new.table.calls)
+        (result ≡ Err Rc.CallbackError) }
+{
+    let found = member(s, r, num);
+    hand_task(s, found)
+}
