@@ -1,13 +1,12 @@
 -- What becomes of an object that an inquiry found, or of its refusal, when a handle of it is to be made.
 use Rattle.std.proofs.Common.{◌≡◌, ◌≢◌, ℕ, List, refl, sym, ap, subst, ◌∙◌}
 use Rattle.std.specs.Prelude.{Result, Ok, Err, IfOk, IsOk}
-use Rattle.omi_calls.specs.Told.{Told, Words}
+use Rattle.omi_calls.specs.Told.{Told}
 use Rattle.omi_handle.specs.declared.handle.Kind.{Kind}
 use Rattle.omi_handle.specs.declared.handle.Held.{Held}
 use Rattle.omi_handle.specs.Ledger.{Ledger}
 use Rattle.omi_session.specs.declared.rc.Rc.{Rc}
 use Rattle.omi_session.specs.declared.rc.Rc.TheVariants.{Unavailable, StaleHandle, BadInput, Error, Unsupported, NeedsStateTracking, Incompatible, NoMem, Incomplete, CallbackError}
-use Rattle.omi_session.specs.Tells.{Tells}
 use Rattle.omi_session.specs.Named.{IsOfKind}
 use Rattle.omi_session.specs.Reads.{Reads, answer_on, Answers}
 use Rattle.omi_session.specs.Made.{IsHanded, Makes, IsMade, Answered, as_pair}

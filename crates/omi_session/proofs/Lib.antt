@@ -5,3 +5,4 @@ pub mod StillNamed
 pub mod Slots
 pub mod Asked
 pub mod Handed
+pub mod LookedLaws

@@ -57,7 +57,8 @@ module _ (w : List ℕ) where
   lead kind f pointer =
       if is_some (slot_at w (record_kind kind) pointer)
       then Read (place_of pointer (life_of (record_kind kind)) 0)
-      (λ life. Answer (ok_or (option_and_then (object kind pointer) life) (Error pointer (number f))))
+      (λ life. Answer
+      (ok_or (option_and_then (object kind pointer) life) (Error pointer (number f))))
       else Answer (Err (Error pointer (number f)))
 
   -- the live object to which a word points

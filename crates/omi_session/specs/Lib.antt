@@ -9,3 +9,5 @@ pub mod Reads
 pub mod Inquiry
 pub mod Made
 pub mod Handles
+-- That these are plain looks at the words.
+pub mod Looked

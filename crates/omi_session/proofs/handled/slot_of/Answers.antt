@@ -1,4 +1,4 @@
-use Rattle.std.proofs.Common.{◌≡◌, Option, Some, None, sym, ap, ◌∙◌}
+use Rattle.std.proofs.Common.{Some, None, sym, ap, ◌∙◌}
 use Rattle.omi_rep.specs.Look.{slot_at}
 use Rattle.omi_session.specs.Named.{record_kind}
 use Rattle.omi_session.proofs.Slots.{slot_same, thread_slot}
