@@ -30,7 +30,8 @@ pub fn rel_thread_handle<C: Callbacks, F: ToHost>(
     s: &mut Session<C, F>,
     h: ThreadHandle,
 ) -> Result<(), Rc>
-    ensures answer { result ≡ as_done (live_handle Thread (get s.old.handles.held (thread_pair h))) }
+    ensures answer { result
+        ≡ as_done (live_handle Thread (get s.old.handles.held (thread_pair h))) }
     ensures removed { OnOk result (s.new.handles.held ≡ remove s.old.handles.held (thread_pair h)) }
     ensures refused { OnErr result (s.new.handles ≡ s.old.handles) }
     ensures made { s.new.handles.made ≡ s.old.handles.made }
@@ -59,7 +60,8 @@ pub fn rel_parallel_handle<C: Callbacks, F: ToHost>(
     s: &mut Session<C, F>,
     h: RegionHandle,
 ) -> Result<(), Rc>
-    ensures answer { result ≡ as_done (live_handle Region (get s.old.handles.held (region_pair h))) }
+    ensures answer { result
+        ≡ as_done (live_handle Region (get s.old.handles.held (region_pair h))) }
     ensures removed { OnOk result (s.new.handles.held ≡ remove s.old.handles.held (region_pair h)) }
     ensures refused { OnErr result (s.new.handles ≡ s.old.handles) }
     ensures made { s.new.handles.made ≡ s.old.handles.made }

@@ -44,7 +44,11 @@ fn records_of(layout: &Layout) -> Option<Records> {
     Some(Records {
         threads: [layout.thread_at(0), layout.thread_at(1)],
         regions: [layout.region_at(0, 0), layout.region_at(0, 1)],
-        tasks: [layout.task_at(0, 0), layout.task_at(0, 1), layout.task_at(0, 2)],
+        tasks: [
+            layout.task_at(0, 0),
+            layout.task_at(0, 1),
+            layout.task_at(0, 2),
+        ],
     })
 }
 
@@ -55,7 +59,14 @@ fn fill(image: &mut Image, layout: &Layout, r: &Records) {
     for (i, current) in [(0u64, tasks[1]), (1, tasks[2])] {
         let thread = if i == 0 { r.threads[0] } else { r.threads[1] };
         put(image, layout, thread, Field::ThreadLife, 0, 1);
-        put(image, layout, thread, Field::ThreadNative, 0, i.wrapping_add(1000));
+        put(
+            image,
+            layout,
+            thread,
+            Field::ThreadNative,
+            0,
+            i.wrapping_add(1000),
+        );
         put(image, layout, thread, Field::ThreadCurrent, 0, current);
     }
     put(image, layout, regions[0], Field::RegionLife, 0, 1);
@@ -63,7 +74,14 @@ fn fill(image: &mut Image, layout: &Layout, r: &Records) {
     put(image, layout, regions[0], Field::RegionTeam, 0, tasks[0]);
     put(image, layout, regions[1], Field::RegionLife, 0, 1);
     put(image, layout, regions[1], Field::RegionSize, 0, 2);
-    put(image, layout, regions[1], Field::RegionEnclosing, 0, regions[0]);
+    put(
+        image,
+        layout,
+        regions[1],
+        Field::RegionEnclosing,
+        0,
+        regions[0],
+    );
     put(image, layout, regions[1], Field::RegionTeam, 0, tasks[1]);
     put(image, layout, regions[1], Field::RegionTeam, 1, tasks[2]);
 }
@@ -73,7 +91,11 @@ fn fill_tasks(image: &mut Image, layout: &Layout, r: &Records) {
     let [initial, master, worker] = r.tasks;
     let [outer, inner] = r.regions;
     let [first, second] = r.threads;
-    let links = [(initial, outer, first), (master, inner, first), (worker, inner, second)];
+    let links = [
+        (initial, outer, first),
+        (master, inner, first),
+        (worker, inner, second),
+    ];
     for (task, region, thread) in links {
         put(image, layout, task, Field::TaskLife, 0, 1);
         put(image, layout, task, Field::TaskRegion, 0, region);
@@ -107,7 +129,11 @@ fn calls(alloc: Global, family: u8, failing: &[u64]) -> Result<MemCalls, OutOfMe
 fn few<C: Callbacks, F: ToHost>(s: &Session<C, F>) -> Result<(), Rc>
     ensures { OnOk result (s.now.handles.made ≤ 100) }
 {
-    if s.made() > 100 { Err(Rc::NoMem) } else { Ok(()) }
+    if s.made() > 100 {
+        Err(Rc::NoMem)
+    } else {
+        Ok(())
+    }
 }
 
 /// The region of the first thread, the one around it, and the one around that.
@@ -156,7 +182,11 @@ fn released<C: Callbacks, F: ToHost>(s: &mut Session<C, F>) -> Result<[Option<Rc
     let gone = get_thread_id(s, 1, thread).err();
     few(s)?;
     let missing = get_thread_handle(s, 0, 1002).err();
-    let apart = if same && again != thread { None } else { Some(Rc::NoMem) };
+    let apart = if same && again != thread {
+        None
+    } else {
+        Some(Rc::NoMem)
+    };
     Ok([apart, kind, first, second, gone, missing])
 }
 
@@ -210,10 +240,20 @@ fn null_ends_team_numbers_and_handles(rt: HostRuntime) -> Result<(), Fail> {
             { u64::from_le_bytes(bytes) },
         );
         let (regions, numbers, refusals) = answers.ok().ok_or("refused")?;
-        assert_eq!(rt; regions, [Ok(region(1)), Ok(region(0)), Err(Rc::Unavailable)]);
+        assert_eq!(rt;
+            regions,
+            [Ok(region(1)), Ok(region(0)), Err(Rc::Unavailable)]
+        );
         assert_eq!(rt; numbers, [Ok(0), Ok(1), Err(Rc::BadInput)]);
         let bad = Some(Rc::BadInput);
-        let refused = [None, Some(Rc::Unsupported), None, bad, bad, Some(Rc::Unavailable)];
+        let refused = [
+            None,
+            Some(Rc::Unsupported),
+            None,
+            bad,
+            bad,
+            Some(Rc::Unavailable),
+        ];
         assert_eq!(rt; refusals, refused);
     }
     Ok(())

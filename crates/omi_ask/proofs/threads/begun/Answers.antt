@@ -1,4 +1,4 @@
-use Rattle.std.proofs.Common.{◌≡◌, ◌<◌, ℕ, List, Option, Some, None, true, refl, ap, ◌∙◌, arith, rules}
+use Rattle.std.proofs.Common.{◌≡◌, ◌<◌, ℕ, List, Option, Some, None, true, refl, arith}
 use Rattle.std.specs.Prelude.{is_some}
 use Rattle.omi_layout.specs.Field.{threads}
 use Rattle.omi_layout.specs.Table.{thread_count}
