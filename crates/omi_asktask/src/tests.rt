@@ -80,7 +80,11 @@ fn calls(alloc: Global, family: u8, failing: &[u64]) -> Result<MemCalls, OutOfMe
 fn few<C: Callbacks, F: ToHost>(s: &Session<C, F>) -> Result<(), Rc>
     ensures { OnOk result (s.now.handles.made ≤ 100) }
 {
-    if s.made() > 100 { Err(Rc::NoMem) } else { Ok(()) }
+    if s.made() > 100 {
+        Err(Rc::NoMem)
+    } else {
+        Ok(())
+    }
 }
 
 /// A handle of a thread, by its number. One word is read.
@@ -166,9 +170,13 @@ fn with_table<F: ToHost>(alloc: Global, calls: MemCalls, to_host: F) -> Result<A
 fn asked(alloc: Global, calls: MemCalls) -> Result<Asked, Rc>
     requires { (told_of calls).order ≡ Some 0 }
 {
-    with_table(alloc, calls, |bytes: [u8; 8]| -> u64
-        ensures { result ≡ from_le_bytes w64 bytes }
-    { u64::from_le_bytes(bytes) })
+    with_table(
+        alloc,
+        calls,
+        |bytes: [u8; 8]| -> u64
+            ensures { result ≡ from_le_bytes w64 bytes }
+        { u64::from_le_bytes(bytes) },
+    )
 }
 
 /// The name of a task of the first thread, of generation 0.
