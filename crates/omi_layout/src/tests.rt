@@ -6,8 +6,12 @@ use omi_word::{Image, MOST_WORDS, Op};
 use std::alloc::{AllocError, Global};
 use std::test::Fail;
 
+/// A value that threads may share and move, and that is copied.
+fn crosses_threads<T: Copy + Send + Sync>(_value: &T) {}
+
 #[test]
 fn images_have_their_sizes(rt: HostRuntime) -> Result<(), Fail> {
+    crosses_threads(&Layout::family(0, 1));
     assert_eq!(rt; Layout::family(0, 1).image_words(), 6966);
     assert_eq!(rt; Layout::family(7, 1).image_words(), 7514);
     Ok(())
