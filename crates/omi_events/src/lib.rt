@@ -1,0 +1,18 @@
+//! The lists that a run fills: the events that were committed and the steps that were made, in little room.
+#![tactic(auto)]
+
+mod event_list;
+mod kept;
+mod laws;
+mod made;
+mod made_list;
+mod teams;
+
+pub use event_list::EventList;
+pub use laws::steps_have_room;
+pub use made::{Made, Turn};
+pub use made_list::MadeList;
+pub use omi_list::OutOfMemory;
+
+#[cfg(test)]
+mod tests;

@@ -1,0 +1,112 @@
+//! Each call of the two lists once with memory at hand, their sizes, and teams read back.
+
+ghost use Rattle.std.specs.Prelude.{◌<◌};
+
+use crate::kept::EventRow;
+use crate::{EventList, Made, MadeList, Turn};
+use omi_model::{Event, Id, MOST_MEMBERS, Rid, Team, Tid};
+use omi_word::Op;
+use std::mem::size_of;
+use std::test::Fail;
+
+#[test]
+fn elements_have_at_most_40_and_48_bytes(rt: HostRuntime) {
+    assert!(rt; size_of::<EventRow>() <= 40);
+    assert!(rt; size_of::<(Tid, u8)>() <= 12);
+    assert!(rt; size_of::<Made>() <= 48);
+}
+
+/// The name of the object of thread 1 in this slot.
+fn id(slot: u16) -> Id {
+    Id {
+        creator: 1,
+        slot,
+        generation: 7,
+    }
+}
+
+/// A fork with so many members, or with 64, of tasks from this slot on.
+fn fork(slot: u16, size: u8) -> Event
+    requires { slot < 1000 }
+{
+    let mut team = Team::new();
+    for at in 0..size {
+        if team.len() < MOST_MEMBERS {
+            team.push(Tid(id(slot + u16::from(at))), at);
+        }
+    }
+    let region = Rid(id(slot));
+    Event::Fork { region, team }
+}
+
+#[test]
+fn teams_are_read_back(rt: HostRuntime) -> Result<(), Fail> {
+    let mut events = EventList::new(rt.alloc());
+    events.push((u64::MAX, 255, fork(3, 2)))?;
+    let task = Tid(id(5));
+    events.push((8, 1, Event::Start { task }))?;
+    events.push((9, 0, fork(9, 64)))?;
+    let copy = events.same(rt.alloc())?;
+    events.push((10, 2, fork(7, 1)))?;
+    assert_eq!(rt; copy.len(), 3);
+    assert_eq!(rt; copy.get(0), (u64::MAX, 255, fork(3, 2)));
+    assert_eq!(rt; copy.get(2), (9, 0, fork(9, 64)));
+    assert_eq!(rt; events.get(1), (8, 1, Event::Start { task }));
+    assert_eq!(rt; events.get(3), (10, 2, fork(7, 1)));
+    Ok(())
+}
+
+#[test]
+fn events_in_room_that_is_there(rt: HostRuntime) -> Result<(), Fail> {
+    let mut events = EventList::new(rt.alloc());
+    assert_eq!(rt; (events.spare(), events.seats()), (0, 0));
+    events.reserve(2, 64)?;
+    assert!(rt; events.spare() >= 2);
+    assert!(rt; events.seats() >= 64);
+    events.push_reserved((1, 0, fork(0, 64)));
+    events.push_reserved((2, 0, Event::SetTool { x: 7 }));
+    assert_eq!(rt; events.len(), 2);
+    assert_eq!(rt; events.get(0), (1, 0, fork(0, 64)));
+    assert_eq!(rt; events.get(1), (2, 0, Event::SetTool { x: 7 }));
+    Ok(())
+}
+
+#[test]
+fn made_steps(rt: HostRuntime) -> Result<(), Fail> {
+    let mut made = MadeList::new(rt.alloc());
+    assert_eq!(rt; made.spare(), 0);
+    made.reserve(1)?;
+    assert!(rt; made.spare() >= 1);
+    let quiet = Made {
+        op: Op::Cas {
+            at: 0x10008,
+            old: 4,
+            new: 9,
+        },
+        old: u64::MAX,
+        thread: 255,
+        turn: Turn::Quiet,
+    };
+    made.push_reserved(quiet);
+    let ended = Made {
+        op: Op::Load { at: 0x10000 },
+        old: 1,
+        thread: 0,
+        turn: Turn::Ended,
+    };
+    made.push(ended)?;
+    let copy = made.same(rt.alloc())?;
+    assert_eq!(rt; copy.len(), 2);
+    assert_eq!(rt; copy.get(0), quiet);
+    assert_eq!(rt; made.get(1), ended);
+    Ok(())
+}
+
+/// Takes only what may be handed to another thread.
+fn hand_over<T: Send + Drop>(_value: T) {}
+
+#[test]
+fn lists_move_between_threads(rt: HostRuntime) {
+    hand_over(EventList::new(rt.alloc()));
+    hand_over(MadeList::new(rt.alloc()));
+}
