@@ -1,0 +1,4 @@
+pub mod Idle
+pub mod Sums
+pub mod Opened
+pub mod Shown

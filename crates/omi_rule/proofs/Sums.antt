@@ -1,0 +1,24 @@
+-- Sums of which each part is 0.
+use Rattle.std.proofs.Common.{◌≡◌, ℕ, zero, suc, List, refl, ap, ◌∙◌, arith}
+use Rattle.omi_model.specs.State.{State}
+use Rattle.omi_model.specs.declared.task.Task.{Task}
+use Rattle.omi_layout.specs.Field.{tasks}
+use Rattle.omi_layout.specs.Table.{per_thread}
+use Rattle.omi_rule.specs.Owes.{Owed, nothing}
+use Rattle.omi_rule.specs.Counts.{sum_below, sum_of_owed, sum_of_slots, of_live}
+
+pub sum_none : (n : ℕ) (f : ℕ → ℕ) → ((i : ℕ) → f i ≡ 0) → sum_below n f ≡ 0
+sum_none zero f none = refl
+sum_none (suc n) f none =
+    let before = sum_none n f none in
+    let last = none n in
+    omega (arith, before, last)
+
+-- where no thread owes anything
+pub owed_none : (s : State) (owes : ℕ → Owed) (f : Owed → ℕ) → ((i : ℕ) → owes i ≡ nothing) → f nothing ≡ 0 → sum_of_owed s owes f ≡ 0
+owed_none s owes f none zero_is = sum_none s.count (λ i. f (owes i)) (λ i. ap f (none i) ∙ zero_is)
+
+pub slots_none : (w : List ℕ) (s : State) (f : ℕ → ℕ → Task → ℕ) → ((c k : ℕ) → of_live (f c k) (s.tasks c k).live ≡ 0) → sum_of_slots w s f ≡ 0
+slots_none w s f none =
+    sum_none s.count (λ c. sum_below (per_thread w tasks) (λ k. of_live (f c k) (s.tasks c k).live))
+    (λ c. sum_none (per_thread w tasks) (λ k. of_live (f c k) (s.tasks c k).live) (none c))

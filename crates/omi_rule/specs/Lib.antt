@@ -1,0 +1,9 @@
+-- The definitions to believe, in reading order: what a thread has half done, what is counted, and what holds of the words between any two steps.
+pub mod Owes
+pub mod Counts
+pub mod Threads
+pub mod Objects
+pub mod Words
+-- The laws
+pub mod Opens
+pub mod Shown
