@@ -255,7 +255,7 @@ module _ (p : Program) (w words : List ℕ) (v : IsValid w) (suits : Suits p w) 
         objects = objects_kept i;
       }
 
-  deferred_kept : KeepsDeferred w m s owes
+  deferred_kept : KeepsDeferred w (λ c. m c tasks) s owes
   deferred_kept = record {
     once = λ k t live deferred. absurd (each_first_task p (λ q u. u.progress ≡ progress.Deferred → ⊥) (λ is. absurd (cc)) k t live deferred);
     hands = λ i k within is. let nobody : (owes i).hand ≡ None = ap (λ (o : Owed). o.hand) (none i) in absurd (cc);

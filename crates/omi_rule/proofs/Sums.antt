@@ -22,3 +22,16 @@ pub slots_none : (w : List ℕ) (s : State) (f : ℕ → ℕ → Task → ℕ) �
 slots_none w s f none =
     sum_none s.count (λ c. sum_below (per_thread w tasks) (λ k. of_live (f c k) (s.tasks c k).live))
     (λ c. sum_none (per_thread w tasks) (λ k. of_live (f c k) (s.tasks c k).live) (none c))
+
+-- sums of the same parts
+pub sum_same : (n : ℕ) (f g : ℕ → ℕ) → ((i : ℕ) → f i ≡ g i) → sum_below n f ≡ sum_below n g
+sum_same zero f g same = refl
+sum_same (suc n) f g same =
+    let before = sum_same n f g same in
+    let last = same n in
+    omega (arith, before, last)
+
+pub slots_same : (w : List ℕ) (s : State) (f g : ℕ → ℕ → Task → ℕ) → ((c k : ℕ) → of_live (f c k) (s.tasks c k).live ≡ of_live (g c k) (s.tasks c k).live) → sum_of_slots w s f ≡ sum_of_slots w s g
+slots_same w s f g same =
+    sum_same s.count (λ c. sum_below (per_thread w tasks) (λ k. of_live (f c k) (s.tasks c k).live)) (λ c. sum_below (per_thread w tasks) (λ k. of_live (g c k) (s.tasks c k).live))
+    (λ c. sum_same (per_thread w tasks) (λ k. of_live (f c k) (s.tasks c k).live) (λ k. of_live (g c k) (s.tasks c k).live) (same c))

@@ -7,3 +7,4 @@ pub mod Words
 -- The laws
 pub mod Opens
 pub mod Shown
+pub mod Kinds

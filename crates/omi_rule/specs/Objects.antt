@@ -12,7 +12,7 @@ use Rattle.omi_layout.specs.declared.field.Field.{Field}
 use Rattle.omi_layout.specs.declared.field.Field.TheVariants.{RegionFunction, RegionEnclosing, RegionEncountering, RegionSize, RegionLevels, RegionActive, RegionReleased, RegionArrived, RegionPending, RegionLeft, RegionTeam, TaskImplicit, TaskRegion, TaskThread, TaskNumber, TaskGenerating, TaskScheduling, TaskFunction, TaskExit, TaskEnter, TaskDynamic, TaskNthreadsLength, TaskSchedule, TaskDevice, TaskFinal, TaskTool, TaskChildren, TaskReferences, TaskNthreads, TaskSlots}
 use Rattle.omi_layout.specs.Codes.{function_word, schedule_word}
 use Rattle.omi_layout.specs.Field.{tasks}
-use Rattle.omi_layout.specs.Memory.{Rec, Memory}
+use Rattle.omi_layout.specs.Memory.{Rec}
 use Rattle.omi_layout.specs.Named.{number}
 use Rattle.omi_layout.specs.Place.{index_of}
 use Rattle.omi_layout.specs.Table.{width}
@@ -105,18 +105,18 @@ KeepsSlots w s r row = (place : ℕ) → place < width w (number TaskSlots)
     → Has r TaskSlots place 0
     ⊎ ((k : Tid) × IsDeferredIn s row place k × Has r TaskSlots place (slot_word w k))
 
--- the slots in which a word stands
-abbrev pub slots_with : List ℕ → Memory → State → ℕ → ℕ
-slots_with w m s word =
+-- the slots of live implicit tasks in which a word stands, by the records of tasks
+abbrev pub slots_with : List ℕ → (ℕ → ℕ → Rec) → State → ℕ → ℕ
+slots_with w r s word =
     sum_of_slots w s
     (λ creator slot t. if t.implicit
     then sum_below (width w (number TaskSlots))
-    (λ place. one (m creator tasks slot (number TaskSlots) place == word))
+    (λ place. one (r creator slot (number TaskSlots) place == word))
     else 0)
 
 -- each deferred task is in exactly one slot or one hand, and nothing else is in a hand
-pub record KeepsDeferred (w : List ℕ) (m : Memory) (s : State) (owes : ℕ → Owed) : Type 0 where
+pub record KeepsDeferred (w : List ℕ) (r : ℕ → ℕ → Rec) (s : State) (owes : ℕ → Owed) : Type 0 where
   pub once : (k : Tid) (t : Task) → task_of s k ≡ Some t → t.progress ≡ progress.Deferred
-      → slots_with w m s (slot_word w k) + sum_of_owed s owes (start_owed k) ≡ 1
+      → slots_with w r s (slot_word w k) + sum_of_owed s owes (start_owed k) ≡ 1
   pub hands : (i : ℕ) (k : Tid) → i < s.count → (owes i).hand ≡ Some k
       → (t : Task) × (task_of s k ≡ Some t) × (t.progress ≡ progress.Deferred)

@@ -100,4 +100,4 @@ pub record KeepsMade (w : List ℕ) (s : State) (owes : ℕ → Owed) (i : ℕ) 
 pub record KeepsWords (w : List ℕ) (m : Memory) (s : State) (owes : ℕ → Owed) : Type 0 where
   pub runtime_record : KeepsRuntime w (m 0 runtime 0) s
   pub made : (i : ℕ) → i < s.count → KeepsMade w s owes i (m i)
-  pub deferred : KeepsDeferred w m s owes
+  pub deferred : KeepsDeferred w (λ creator. m creator tasks) s owes

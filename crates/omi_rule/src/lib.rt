@@ -3,4 +3,7 @@
 
 mod laws;
 
-pub use laws::{kept_words_show, opening_keeps_words};
+pub use laws::{
+    kept_words_show, moves_keep_words, opening_keeps_words, private_stores_keep_words,
+    thread_stores_keep_words,
+};

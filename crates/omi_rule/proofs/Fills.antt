@@ -1,0 +1,130 @@
+-- Private stores into a record in the making.
+use Rattle.std.proofs.Common.{◌≡◌, ◌≢◌, ◌==◌, ◌&&◌, ℕ, Bool, true, false, List, None, refl, sym, ap, subst, ◌∙◌, arith, if◌then◌else◌}
+use mathlib.Core.Path.{fun_ext}
+use Rattle.std.proofs.lemmas.Bool.Decides.{nat_tests}
+use Rattle.omi_model.specs.declared.slot.Slot.{Slot}
+use Rattle.omi_model.specs.declared.task.Task.{Task}
+use Rattle.omi_model.specs.State.{State}
+use Rattle.omi_layout.specs.declared.field.Field.{Field}
+use Rattle.omi_layout.specs.declared.field.Field.TheVariants.{RegionLife, TaskLife, TaskSlots}
+use Rattle.omi_layout.specs.Field.{runtime, threads, regions, tasks}
+use Rattle.omi_layout.specs.Memory.{Rec, Memory, with_word}
+use Rattle.omi_layout.specs.Named.{number}
+use Rattle.omi_layout.specs.Table.{width}
+use Rattle.omi_layout.proofs.Puts.{record_stays, word_stays}
+use Rattle.omi_rule.specs.Owes.{Owed}
+use Rattle.omi_rule.specs.Counts.{of_live, one, sum_below, has_slot, has_region_slot}
+use Rattle.omi_rule.specs.Threads.{KeepsAssign, KeepsRuntime, KeepsThread}
+use Rattle.omi_rule.specs.Objects.{KeepsDeferred, KeepsLife, slot_word, slots_with}
+use Rattle.omi_rule.specs.Words.{KeepsRegionSlot, KeepsTaskSlot, KeepsWords}
+use Rattle.omi_rule.specs.Kinds.{RegionFillsKeep, TaskFillsKeep}
+use Rattle.omi_rule.proofs.Sums.{slots_same}
+
+-- a life word that stays
+life_same : {A : Type 0} (r q : Rec) (life : Field) (slot : Slot A) (owed : Bool) → q (number life) 0 ≡ r (number life) 0 → KeepsLife r life slot owed → KeepsLife q life slot owed
+life_same {A} r q life slot owed same o = record {
+  live = λ x is. let before = o.live x is in omega (arith, before, same);
+  taken = λ none taken. same ∙ o.taken none taken;
+  free = λ none free. same ∙ o.free none free;
+}
+
+pub region_fills_keep : RegionFillsKeep
+region_fills_keep = λ w m s owes i slot f at word keeps none other. kept w m s owes i slot f at word keeps none other
+  where
+    kept : (w : List ℕ) (m : Memory) (s : State) (owes : ℕ → Owed) (i slot : ℕ) (f : Field) (at word : ℕ) → KeepsWords w m s owes → (s.regions i slot).live ≡ None
+        → number f ≢ number RegionLife → KeepsWords w (with_word m i regions slot (number f) at word) s owes
+    kept w m s owes i slot f at word keeps none other = record {
+      runtime_record = subst (λ (r : Rec). KeepsRuntime w r s) (sym (stays 0 runtime 0 (λ kind. absurd (omega (arith, kind))))) keeps.runtime_record;
+      made = λ j known.
+          let o = keeps.made j known in
+          let thread : n j threads 0 ≡ m j threads 0 = stays j threads 0 (λ kind. absurd (omega (arith, kind))) in
+          record {
+            thread = subst (λ (r : Rec). KeepsThread w j r (s.threads j)) (sym thread) o.thread;
+            assign = subst (λ (r : Rec). KeepsAssign w s owes j r) (sym thread) o.assign;
+            regions = λ k within. region j k (o.regions k within) (j == i && k == slot) refl;
+            tasks = λ k within. subst (λ (r : Rec). KeepsTaskSlot w s owes j k r) (sym (stays j tasks k (λ kind. absurd (omega (arith, kind))))) (o.tasks k within);
+            making = o.making;
+            objects = o.objects;
+          };
+      deferred = subst (λ (r : ℕ → ℕ → Rec). KeepsDeferred w r s owes) (sym tasks_same) keeps.deferred;
+    }
+      where
+        n : Memory
+        n = with_word m i regions slot (number f) at word
+
+        stays : (c kind k : ℕ) → (kind ≡ regions → ⊥) → n c kind k ≡ m c kind k
+        stays c kind k ne = record_stays m i regions slot (number f) at word c kind k (λ _ same _. ne same)
+
+        tasks_same : ◌≡◌ {A = ℕ → ℕ → Rec} (λ c. n c tasks) (λ c. m c tasks)
+        tasks_same = fun_ext (λ c. fun_ext (λ k. stays c tasks k (λ kind. absurd (omega (arith, kind)))))
+
+        region : (j k : ℕ) → KeepsRegionSlot w s owes j k (m j regions k) → (b : Bool) → (j == i && k == slot) ≡ b → KeepsRegionSlot w s owes j k (n j regions k)
+        region j k o true e =
+            let creator : j ≡ i = grind (arith, nat_tests) in
+            let place : k ≡ slot = grind (arith, nat_tests) in
+            let empty : (s.regions j k).live ≡ None = subst (λ c. (s.regions c k).live ≡ None) (sym creator) (subst (λ q. (s.regions i q).live ≡ None) (sym place) none) in
+            record {
+              life = life_same (m j regions k) (n j regions k) RegionLife (s.regions j k) (has_region_slot k (owes j).region)
+                  (word_stays m i regions slot (number f) at word j regions k (number RegionLife) 0 (λ _ _ _ field _. other (sym field))) o.life;
+              live = λ x is. absurd (cc);
+            }
+        region j k o false e =
+            subst (λ (r : Rec). KeepsRegionSlot w s owes j k r)
+            (sym (record_stays m i regions slot (number f) at word j regions k (λ creator _ place. grind (arith, nat_tests)))) o
+
+pub task_fills_keep : TaskFillsKeep
+task_fills_keep = λ w m s owes i slot f at word keeps none other. kept w m s owes i slot f at word keeps none other
+  where
+    kept : (w : List ℕ) (m : Memory) (s : State) (owes : ℕ → Owed) (i slot : ℕ) (f : Field) (at word : ℕ) → KeepsWords w m s owes → (s.tasks i slot).live ≡ None
+        → number f ≢ number TaskLife → KeepsWords w (with_word m i tasks slot (number f) at word) s owes
+    kept w m s owes i slot f at word keeps none other = record {
+      runtime_record = subst (λ (r : Rec). KeepsRuntime w r s) (sym (stays 0 runtime 0 (λ kind. absurd (omega (arith, kind))))) keeps.runtime_record;
+      made = λ j known.
+          let o = keeps.made j known in
+          let thread : n j threads 0 ≡ m j threads 0 = stays j threads 0 (λ kind. absurd (omega (arith, kind))) in
+          record {
+            thread = subst (λ (r : Rec). KeepsThread w j r (s.threads j)) (sym thread) o.thread;
+            assign = subst (λ (r : Rec). KeepsAssign w s owes j r) (sym thread) o.assign;
+            regions = λ k within. subst (λ (r : Rec). KeepsRegionSlot w s owes j k r) (sym (stays j regions k (λ kind. absurd (omega (arith, kind))))) (o.regions k within);
+            tasks = λ k within. task j k (o.tasks k within) (j == i && k == slot) refl;
+            making = o.making;
+            objects = o.objects;
+          };
+      deferred = record { once = λ k t live deferred. let was = keeps.deferred.once k t live deferred in let same = slots_stay (slot_word w k) in omega (arith, was, same); hands = keeps.deferred.hands };
+    }
+      where
+        n : Memory
+        n = with_word m i tasks slot (number f) at word
+
+        stays : (c kind k : ℕ) → (kind ≡ tasks → ⊥) → n c kind k ≡ m c kind k
+        stays c kind k ne = record_stays m i tasks slot (number f) at word c kind k (λ _ same _. ne same)
+
+        same_record : (j k : ℕ) → (j == i && k == slot) ≡ false → n j tasks k ≡ m j tasks k
+        same_record j k e = record_stays m i tasks slot (number f) at word j tasks k (λ creator _ place. grind (arith, nat_tests))
+
+        empty : (j k : ℕ) → (j == i && k == slot) ≡ true → (s.tasks j k).live ≡ None
+        empty j k e =
+            let creator : j ≡ i = grind (arith, nat_tests) in
+            let place : k ≡ slot = grind (arith, nat_tests) in
+            subst (λ c. (s.tasks c k).live ≡ None) (sym creator) (subst (λ q. (s.tasks i q).live ≡ None) (sym place) none)
+
+        task : (j k : ℕ) → KeepsTaskSlot w s owes j k (m j tasks k) → (b : Bool) → (j == i && k == slot) ≡ b → KeepsTaskSlot w s owes j k (n j tasks k)
+        task j k o true e =
+            let none_there = empty j k e in
+            record {
+              life = life_same (m j tasks k) (n j tasks k) TaskLife (s.tasks j k) (has_slot k (owes j).tasks)
+                  (word_stays m i tasks slot (number f) at word j tasks k (number TaskLife) 0 (λ _ _ _ field _. other (sym field))) o.life;
+              live = λ x is. absurd (cc);
+            }
+        task j k o false e = subst (λ (r : Rec). KeepsTaskSlot w s owes j k r) (sym (same_record j k e)) o
+
+        -- the slots that hold a word, in the records of a memory
+        held : Memory → ℕ → ℕ → ℕ → Task → ℕ
+        held x code c k t = if t.implicit then sum_below (width w (number TaskSlots)) (λ place. one (x c tasks k (number TaskSlots) place == code)) else 0
+
+        slots_stay : (code : ℕ) → slots_with w (λ c. n c tasks) s code ≡ slots_with w (λ c. m c tasks) s code
+        slots_stay code = slots_same w s (held n code) (held m code) (λ c k. go c k (c == i && k == slot) refl)
+          where
+            go : (c k : ℕ) → (b : Bool) → (c == i && k == slot) ≡ b → of_live (held n code c k) (s.tasks c k).live ≡ of_live (held m code c k) (s.tasks c k).live
+            go c k true e = ap (of_live (held n code c k)) (empty c k e) ∙ sym (ap (of_live (held m code c k)) (empty c k e))
+            go c k false e = ap (λ (r : Rec). of_live (λ t. if t.implicit then sum_below (width w (number TaskSlots)) (λ place. one (r (number TaskSlots) place == code)) else 0) (s.tasks c k).live) (same_record c k e)

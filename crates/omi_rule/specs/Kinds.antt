@@ -1,0 +1,50 @@
+-- Kinds of steps: what each keeps of the words, whatever thread makes it.
+use Rattle.std.specs.Prelude.{◌≡◌, ◌≢◌, ℕ, List, None}
+use Rattle.omi_model.specs.declared.thread.Thread.{Thread}
+use Rattle.omi_model.specs.State.{State}
+use Rattle.omi_layout.specs.declared.field.Field.{Field}
+use Rattle.omi_layout.specs.declared.field.Field.TheVariants.{ThreadAssign, RegionLife, TaskLife}
+use Rattle.omi_layout.specs.Field.{threads, regions, tasks}
+use Rattle.omi_layout.specs.Memory.{Memory, put, with_word, with_word_in}
+use Rattle.omi_layout.specs.Named.{number}
+use Rattle.omi_pc.specs.declared.actor.Actor.{Actor}
+use Rattle.omi_rule.specs.Owes.{Owed, all_owed, owed}
+use Rattle.omi_rule.specs.Threads.{KeepsThread}
+use Rattle.omi_rule.specs.Words.{KeepsWords}
+
+-- a state in which a thread is another
+abbrev pub with_thread : State → ℕ → Thread → State
+with_thread s i h = record s { threads = put s.threads i h }
+
+-- A word of a thread's record is stored, and the thread of the state is another, so that the record has its codes: `begin`, `offer`,
+-- a state, and the exchange on the claim word of a thread that is asked
+abbrev pub ThreadStoresKeep : Type 0
+ThreadStoresKeep = (w : List ℕ) (m : Memory) (s : State) (owes : ℕ → Owed) (i : ℕ) (h : Thread)
+    (f : Field) (word : ℕ) → KeepsWords w m s owes → number f ≢ number ThreadAssign
+    → KeepsThread w i (with_word_in (m i threads 0) (number f) 0 word) h
+    → KeepsWords w (with_word m i threads 0 (number f) 0 word) (with_thread s i h) owes
+
+-- No word is stored, and the thread of the state is another with the same codes: what it wants and has asked
+abbrev pub ThreadChangesKeep : Type 0
+ThreadChangesKeep = (w : List ℕ) (m : Memory) (s : State) (owes : ℕ → Owed) (i : ℕ) (h : Thread)
+    → KeepsWords w m s owes → KeepsThread w i (m i threads 0) h
+    → KeepsWords w m (with_thread s i h) owes
+
+-- A word of a record in the making, but for its life word: the private stores
+abbrev pub RegionFillsKeep : Type 0
+RegionFillsKeep = (w : List ℕ) (m : Memory) (s : State) (owes : ℕ → Owed) (i slot : ℕ) (f : Field)
+    (at word : ℕ) → KeepsWords w m s owes → (s.regions i slot).live ≡ None
+    → number f ≢ number RegionLife
+    → KeepsWords w (with_word m i regions slot (number f) at word) s owes
+
+abbrev pub TaskFillsKeep : Type 0
+TaskFillsKeep = (w : List ℕ) (m : Memory) (s : State) (owes : ℕ → Owed) (i slot : ℕ) (f : Field)
+    (at word : ℕ) → KeepsWords w m s owes → (s.tasks i slot).live ≡ None
+    → number f ≢ number TaskLife
+    → KeepsWords w (with_word m i tasks slot (number f) at word) s owes
+
+-- An actor goes on and owes the same: private loads, and each other step that leaves words and state
+abbrev pub MovesKeep : Type 0
+MovesKeep = (w : List ℕ) (m : Memory) (s : State) (actors : ℕ → Actor) (i : ℕ) (a : Actor)
+    → KeepsWords w m s (all_owed actors) → owed a ≡ owed (actors i)
+    → KeepsWords w m s (all_owed (put actors i a))
