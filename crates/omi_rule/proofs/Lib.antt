@@ -6,3 +6,4 @@ pub mod OtherThreads
 pub mod ThreadStores
 pub mod Fills
 pub mod Moves
+pub mod OtherOwes

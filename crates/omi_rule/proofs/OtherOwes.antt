@@ -1,0 +1,106 @@
+-- Threads that owe other records or assign words, and else the same: counts and slots are as they were.
+use Rattle.std.proofs.Common.{◌≡◌, ◌<◌, ◌+◌, ℕ, List, Option, Some, refl, ap, ap₂, ◌∙◌, sym, subst, arith}
+use Rattle.std.specs.Prelude.{All}
+use Rattle.std.specs.Option.{option_and_then}
+use Rattle.omi_model.specs.declared.id.Rid.{Rid}
+use Rattle.omi_model.specs.declared.id.Tid.{Tid}
+use Rattle.omi_model.specs.declared.region.Region.{Region}
+use Rattle.omi_model.specs.declared.task.Task.{Task}
+use Rattle.omi_model.specs.State.{State}
+use Rattle.omi_layout.specs.Memory.{Rec}
+use Rattle.omi_pc.specs.declared.place.Place.{Place}
+use Rattle.omi_rule.specs.Owes.{Owed}
+use Rattle.omi_rule.specs.Counts.{sum_of_owed, pending_owed, left_owed, children_owed, references_owed, free_owed, start_owed, one, is_some_region, is_some_task, is_at_some, generating_of, unfinished_in, unfinished_children, live_children, is_unfinished}
+use Rattle.omi_rule.specs.Objects.{KeepsCounts, KeepsDeferred, KeepsRegion, slots_with, slot_word}
+use Rattle.omi_rule.specs.Threads.{WaitsFor}
+use Rattle.omi_rule.specs.Words.{KeepsTask, OwesOnLive}
+use Rattle.omi_rule.proofs.Sums.{sum_same}
+
+-- two threads owe the same, but for records in the making, assign words and tasks that were met
+pub record OwesAlike (p o : Owed) : Type 0 where
+  pub pending : p.pending ≡ o.pending
+  pub raised : p.raised ≡ o.raised
+  pub lowered : p.lowered ≡ o.lowered
+  pub referenced : p.referenced ≡ o.referenced
+  pub own : p.own ≡ o.own
+  pub above : p.above ≡ o.above
+  pub free : p.free ≡ o.free
+  pub left : p.left ≡ o.left
+  pub hand : p.hand ≡ o.hand
+
+pub owes_alike : (o : Owed) → OwesAlike o o
+owes_alike o = record { pending = refl; raised = refl; lowered = refl; referenced = refl; own = refl; above = refl; free = refl; left = refl; hand = refl }
+
+module _ (w : List ℕ) (s : State) (owes other : ℕ → Owed) (alike : (j : ℕ) → OwesAlike (other j) (owes j)) where
+  same : (f : Owed → ℕ) → ((j : ℕ) → f (other j) ≡ f (owes j)) → sum_of_owed s other f ≡ sum_of_owed s owes f
+  same f each = sum_same s.count (λ j. f (other j)) (λ j. f (owes j)) each
+
+  pub region_owed : (n : Rid) (r : Rec) (x : Region) → KeepsRegion w s owes n r x → KeepsRegion w s other n r x
+  region_owed n r x o = record {
+    function = o.function;
+    enclosing = o.enclosing;
+    encountering = o.encountering;
+    size = o.size;
+    levels = o.levels;
+    active = o.active;
+    team = o.team;
+    released = o.released;
+    arrived = o.arrived;
+    pending =
+        let was = o.pending in
+        let owed = same (pending_owed n) (λ j. ap (λ q. one (is_some_region n q)) (alike j).pending) in
+        omega (arith, was, owed);
+    left =
+        let was = o.left in
+        let owed = same (left_owed n) (λ j. ap (λ q. one (is_some_region n q)) (alike j).left) in
+        omega (arith, was, owed);
+  }
+
+  counts_owed : (k : Tid) (r : Rec) (t : Task) → KeepsCounts w s owes k r t → KeepsCounts w s other k r t
+  counts_owed k r t o = record {
+    children =
+        let was = o.children in
+        let owed = same (children_owed s k) (λ j. ap₂ (λ a b. one (is_some_task k a) + one (is_some_task k (option_and_then (generating_of s) b))) (alike j).raised (alike j).lowered) in
+        omega (arith, was, owed);
+    references =
+        let was = o.references in
+        let owed = same (references_owed k) (references k) in
+        omega (arith, was, owed);
+    last = λ explicit.
+        let was = o.last explicit in
+        let owed = same (free_owed k) (λ j. ap (λ q. one (is_some_task k q)) (alike j).free) in
+        owed ∙ was;
+  }
+    where
+      references : (k : Tid) (j : ℕ) → references_owed k (other j) ≡ references_owed k (owes j)
+      references k j =
+          let a : one (is_some_task k (other j).referenced) ≡ one (is_some_task k (owes j).referenced) = ap (λ q. one (is_some_task k q)) (alike j).referenced in
+          let b : one (is_some_task k (other j).own) ≡ one (is_some_task k (owes j).own) = ap (λ q. one (is_some_task k q)) (alike j).own in
+          let c : one (is_at_some k (other j).above) ≡ one (is_at_some k (owes j).above) = ap (λ q. one (is_at_some k q)) (alike j).above in
+          omega (arith, a, b, c)
+
+  pub task_owed : (k : Tid) (r : Rec) (t : Task) → KeepsTask w s owes k r t → KeepsTask w s other k r t
+  task_owed k r t o = record { environment = o.environment; place = o.place; counts = counts_owed k r t o.counts; slots = o.slots }
+
+  pub deferred_owed : (r : ℕ → ℕ → Rec) → KeepsDeferred w r s owes → KeepsDeferred w r s other
+  deferred_owed r o = record {
+    once = λ k t live deferred.
+        let was = o.once k t live deferred in
+        let owed = same (start_owed k) (λ j. ap (λ q. one (is_some_task k q)) (alike j).hand) in
+        omega (arith, was, owed);
+    hands = λ i k known is. o.hands i k known (sym (alike i).hand ∙ is);
+  }
+
+-- and what a thread owes on lives
+pub objects_owed : (s : State) (o p : Owed) → OwesAlike p o → All (λ m. WaitsFor s m.1 m.0) p.assigns → OwesOnLive s o → OwesOnLive s p
+objects_owed s o p alike assigns x = record {
+  pending = λ n is. x.pending n (sym alike.pending ∙ is);
+  left = λ n is. x.left n (sym alike.left ∙ is);
+  raised = λ k is. x.raised k (sym alike.raised ∙ is);
+  referenced = λ k is. x.referenced k (sym alike.referenced ∙ is);
+  lowered = λ k is. x.lowered k (sym alike.lowered ∙ is);
+  own = λ k is. x.own k (sym alike.own ∙ is);
+  free = λ k is. x.free k (sym alike.free ∙ is);
+  above = λ at is. x.above at (sym alike.above ∙ is);
+  assigns = assigns;
+}
