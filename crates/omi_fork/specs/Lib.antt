@@ -1,0 +1,10 @@
+-- The definitions, in reading order.
+pub mod Words
+pub mod Members
+pub mod Placed
+pub mod Plan
+pub mod Moving
+pub mod WorkerSteps
+pub mod TeamParts
+pub mod TeamSteps
+pub mod Steps

@@ -1,0 +1,176 @@
+//! The operations and the outcomes of a `parallel` construct.
+
+ghost use Rattle.std.specs.Prelude.{◌≡◌, ◌<◌};
+ghost use Rattle.omi_layout.specs.Memory.{IsRecordWord};
+ghost use Rattle.omi_layout.specs.Named.{number};
+ghost use Rattle.omi_layout.specs.Field.{tasks};
+ghost use Rattle.omi_layout.specs.Place.{IsSlot};
+ghost use Rattle.omi_layout.specs.Table.{thread_count};
+ghost use Rattle.omi_pc.specs.Fits.{Fits};
+ghost use Rattle.omi_pc.specs.declared.limits.TheConstants.{TASK_WORDS, VARIABLE_WORDS};
+ghost use Rattle.omi_pc.specs.declared.counter.Counter.TheVariants as counter;
+ghost use Rattle.omi_fork.specs.Placed.{HasOptionalTask, HasRegion, HasTask, IsPlaced};
+ghost use Rattle.omi_fork.specs.Plan.{task_plan};
+ghost use Rattle.omi_fork.specs.TeamSteps.{filling, of_variable, own_place, search_outcome, team_next, team_outcome};
+
+use crate::ops::{fill, load, of_place, of_region, of_runtime, of_task, of_thread, store};
+use crate::team_parts::{member_of, new_member, new_region, wanted_size};
+use crate::words::{is_free, used_word};
+use crate::{NewTask, region_plan, task_plan, variable_at};
+use omi_layout::{Field, Layout};
+use omi_model::{Event, Id};
+use omi_pc::{Actor, Place, TeamCounter};
+use omi_rep::Outcome;
+use omi_script::Program;
+use omi_word::Op;
+
+/// The state of a thread that makes a team.
+const OVERHEAD: u32 = 0x101;
+
+/// A slot of an actor's thread.
+pub fn own_place(a: &Actor, slot: u16) -> Place
+    ensures { result ≡ own_place a.now slot }
+{
+    Place {
+        creator: a.thread,
+        slot,
+    }
+}
+
+/// The address of a word of a task's data environment.
+fn of_variable(l: &Layout, task: Id, word: u8) -> u64
+    requires word { word < VARIABLE_WORDS }
+    requires slot { IsSlot l.now.table tasks task.creator task.slot }
+    ensures { result ≡ of_variable l.now.table task word }
+{
+    let (field, at) = variable_at(l, word);
+    l.word_at(task.creator, task.slot, field, at)
+}
+
+/// The store of a word into the record of a new task.
+fn fill_task(l: &Layout, task: Id, new: &NewTask, word: u8) -> Op
+    requires word { word < TASK_WORDS }
+    requires slot { IsSlot l.now.table tasks task.creator task.slot }
+    requires region { HasRegion l.now.table new.now.region }
+    requires thread { new.now.thread < thread_count l.now.table }
+    requires generating { HasTask l.now.table new.now.generating }
+    requires scheduling { HasOptionalTask l.now.table new.now.scheduling }
+    ensures { result ≡ filling l.now.table task (task_plan l.now.table new.now word) }
+{
+    fill(l, task, task_plan(l, new, word))
+}
+
+/// The operation that a thread makes next in a `parallel` construct.
+pub fn team_next(p: &Program, l: &Layout, a: &Actor, c: TeamCounter) -> Op
+    requires fits { Fits p.now a.now }
+    requires threads { p.now.threads ≡ thread_count l.now.table }
+    requires placed { IsPlaced l.now.table a.now }
+    requires at { a.now.counter ≡ counter.Team c }
+    ensures { result ≡ team_next p.now l.now.table a.now c }
+{
+    let i = a.thread;
+    match c {
+        TeamCounter::OverheadState => store(
+            of_thread(l, i, Field::ThreadState),
+            u64::from(OVERHEAD),
+        ),
+        TeamCounter::LoadLevels => load(of_region(l, a.context.region, Field::RegionLevels)),
+        TeamCounter::LoadActive => load(of_region(l, a.context.region, Field::RegionActive)),
+        TeamCounter::LoadVariable { word } => { load(of_variable(l, a.context.task.0, word)) }
+        TeamCounter::Want => load(of_runtime(l, Field::RuntimeMaxActive)),
+        TeamCounter::Ask => Op::Cas {
+            at: of_thread(l, a.gathered.asked, Field::ThreadClaim),
+            old: 1,
+            new: 2 + u64::from(i),
+        },
+        TeamCounter::LoadRegionLife { slot } => {
+            load(of_place(l, own_place(a, slot), Field::RegionLife))
+        }
+        TeamCounter::TakeRegion { region } => {
+            store(of_region(l, region, Field::RegionLife), used_word(region.0))
+        }
+        TeamCounter::FillRegion { region, word } => {
+            fill(l, region.0, region_plan(l, &new_region(p, a), word))
+        }
+        TeamCounter::LoadTaskLife { slot, .. } => {
+            load(of_place(l, own_place(a, slot), Field::TaskLife))
+        }
+        TeamCounter::TakeTask { task, .. } => {
+            store(of_task(l, task, Field::TaskLife), used_word(task.0))
+        }
+        TeamCounter::FillTask {
+            region,
+            member,
+            task,
+            word,
+        } => {
+            let new = new_member(p, a, region, member);
+            fill_task(l, task.0, &new, word)
+        }
+        TeamCounter::StoreMember {
+            region,
+            member,
+            task,
+        } => {
+            let at = l.word_at(region.0.creator, region.0.slot, Field::RegionTeam, member);
+            store(at, l.task_at(task.0.creator, task.0.slot))
+        }
+        TeamCounter::Fork { .. } => {
+            let task = member_of(&a.gathered.team, 0).0;
+            let record = l.task_at(task.0.creator, task.0.slot);
+            store(of_thread(l, i, Field::ThreadCurrent), record)
+        }
+        TeamCounter::Assign { member } => {
+            let (task, thread) = member_of(&a.gathered.team, member);
+            let record = l.task_at(task.0.creator, task.0.slot);
+            store(of_thread(l, thread, Field::ThreadAssign), record)
+        }
+    }
+}
+
+/// What the look at the life word of a slot answers in a search.
+fn search_outcome(l: &Layout, a: &Actor, slot: u16, life: Field, old: u64) -> Outcome
+    requires { IsRecordWord l.now.table a.now.thread slot (number life) 0 }
+    ensures { result ≡ search_outcome l.now.table a.now life slot old }
+{
+    if is_free(old) {
+        Outcome::Quiet
+    } else {
+        Outcome::NotReady {
+            addr: of_place(l, own_place(a, slot), life),
+            word: old,
+        }
+    }
+}
+
+/// What a step of a `parallel` construct answers, by the word that it found.
+pub fn team_outcome(p: &Program, l: &Layout, a: &Actor, c: TeamCounter, old: u64) -> Outcome
+    requires fits { Fits p.now a.now }
+    requires threads { p.now.threads ≡ thread_count l.now.table }
+    requires placed { IsPlaced l.now.table a.now }
+    requires at { a.now.counter ≡ counter.Team c }
+    ensures { result ≡ team_outcome p.now l.now.table a.now c old }
+{
+    match c {
+        TeamCounter::OverheadState => Outcome::Event(Event::State {
+            state: OVERHEAD,
+            wait: 0,
+        }),
+        TeamCounter::Want => Outcome::Event(Event::Want {
+            n: wanted_size(p, a, old),
+        }),
+        TeamCounter::Ask => Outcome::Event(Event::Ask {
+            w: a.gathered.asked,
+            got: old == 1,
+        }),
+        TeamCounter::LoadRegionLife { slot } => {
+            search_outcome(l, a, slot, Field::RegionLife, old)
+        }
+        TeamCounter::LoadTaskLife { slot, .. } => search_outcome(l, a, slot, Field::TaskLife, old),
+        TeamCounter::Fork { region } => Outcome::Event(Event::Fork {
+            region,
+            team: a.gathered.team,
+        }),
+        _ => Outcome::Quiet,
+    }
+}

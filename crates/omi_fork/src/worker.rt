@@ -1,0 +1,210 @@
+//! The steps of a worker.
+
+ghost use Rattle.std.specs.Prelude.{◌≡◌, ◌<◌};
+ghost use Rattle.omi_layout.specs.Table.{thread_count};
+ghost use Rattle.omi_pc.specs.Fits.{Fits};
+ghost use Rattle.omi_pc.specs.declared.counter.Counter.TheVariants as counter;
+ghost use Rattle.omi_fork.specs.Placed.{IsPlaced};
+ghost use Rattle.omi_fork.specs.WorkerSteps.{idle_counter, member_context, worker_moved, worker_next, worker_outcome};
+
+use crate::ops::{load, of_place, of_region, of_task, of_thread, store};
+use crate::words::{function_at, object_in, region_place, task_place};
+use omi_layout::{Field, Layout};
+use omi_model::{Event, Rid, Tid};
+use omi_pc::{Actor, Context, Counter, WorkerCounter};
+use omi_rep::Outcome;
+use omi_script::Program;
+use omi_word::Op;
+
+/// The state of a worker without a task.
+const IDLE: u32 = 0x100;
+
+/// What a member but member 0 knows of its implicit task as it begins.
+fn member_context(task: Tid, region: Rid, size: u64, number: u64) -> Context
+    ensures { result ≡ member_context task region size number }
+{
+    Context {
+        task,
+        region,
+        row: task,
+        number,
+        size,
+        arrivals: 0,
+        implicit: true,
+        is_final: false,
+        depth: 1,
+    }
+}
+
+/// The counter of a worker that has ended its task.
+fn idle(p: &Program) -> WorkerCounter
+    ensures { result ≡ idle_counter p.now }
+{
+    if p.env.debug {
+        WorkerCounter::IdleState
+    } else {
+        WorkerCounter::Offer
+    }
+}
+
+/// The operation that a worker makes next.
+pub fn worker_next(p: &Program, l: &Layout, a: &Actor, c: WorkerCounter) -> Op
+    requires fits { Fits p.now a.now }
+    requires threads { p.now.threads ≡ thread_count l.now.table }
+    requires placed { IsPlaced l.now.table a.now }
+    requires at { a.now.counter ≡ counter.Worker c }
+    ensures { result ≡ worker_next l.now.table a.now c }
+{
+    let i = a.thread;
+    match c {
+        WorkerCounter::Begin => store(of_thread(l, i, Field::ThreadLife), 1),
+        WorkerCounter::Offer => store(of_thread(l, i, Field::ThreadClaim), 1),
+        WorkerCounter::LoadAssign => load(of_thread(l, i, Field::ThreadAssign)),
+        WorkerCounter::ClearAssign { .. } => store(of_thread(l, i, Field::ThreadAssign), 0),
+        WorkerCounter::LoadLife { task } => load(of_place(l, task, Field::TaskLife)),
+        WorkerCounter::LoadFunction { task } => load(of_task(l, task, Field::TaskFunction)),
+        WorkerCounter::LoadRegion { task, .. } => load(of_task(l, task, Field::TaskRegion)),
+        WorkerCounter::LoadRegionLife { region, .. } => load(of_place(
+            l,
+            region,
+            Field::RegionLife,
+        )),
+        WorkerCounter::LoadSize { region, .. } => load(of_region(l, region, Field::RegionSize)),
+        WorkerCounter::LoadNumber { task, .. } => load(of_task(l, task, Field::TaskNumber)),
+        WorkerCounter::ImplicitBegin { task, .. } => {
+            let record = l.task_at(task.0.creator, task.0.slot);
+            store(of_thread(l, i, Field::ThreadCurrent), record)
+        }
+        WorkerCounter::ImplicitEnd => store(of_thread(l, i, Field::ThreadCurrent), 0),
+        WorkerCounter::AddLeft { region } => Op::Add {
+            at: of_region(l, region, Field::RegionLeft),
+            by: 1,
+        },
+        WorkerCounter::IdleState => store(of_thread(l, i, Field::ThreadState), u64::from(IDLE)),
+    }
+}
+
+/// Moves a worker on, behind the operation of its counter.
+fn worker_move(p: &Program, l: &Layout, a: &mut Actor, c: WorkerCounter, old: u64)
+    requires fits { Fits p.now a.old }
+    requires at { a.old.counter ≡ counter.Worker c }
+    ensures { a.new ≡ worker_moved p.now l.now.table a.old c old }
+{
+    let next = match c {
+        WorkerCounter::Begin => WorkerCounter::Offer,
+        WorkerCounter::Offer => WorkerCounter::LoadAssign,
+        WorkerCounter::LoadAssign => {
+            if old == 0 {
+                return;
+            }
+            WorkerCounter::ClearAssign {
+                task: task_place(l, old),
+            }
+        }
+        WorkerCounter::ClearAssign { task } => WorkerCounter::LoadLife { task },
+        WorkerCounter::LoadLife { task } => WorkerCounter::LoadFunction {
+            task: Tid(object_in(task, old)),
+        },
+        WorkerCounter::LoadFunction { task } => WorkerCounter::LoadRegion {
+            task,
+            function: function_at(old),
+        },
+        WorkerCounter::LoadRegion { task, function } => WorkerCounter::LoadRegionLife {
+            task,
+            function,
+            region: region_place(l, old),
+        },
+        WorkerCounter::LoadRegionLife {
+            task,
+            function,
+            region,
+        } => WorkerCounter::LoadSize {
+            task,
+            function,
+            region: Rid(object_in(region, old)),
+        },
+        WorkerCounter::LoadSize {
+            task,
+            function,
+            region,
+        } => WorkerCounter::LoadNumber {
+            task,
+            function,
+            region,
+            size: old,
+        },
+        WorkerCounter::LoadNumber {
+            task,
+            function,
+            region,
+            size,
+        } => WorkerCounter::ImplicitBegin {
+            task,
+            function,
+            region,
+            size,
+            number: old,
+        },
+        WorkerCounter::ImplicitBegin {
+            task,
+            function,
+            region,
+            size,
+            number,
+        } => {
+            a.begin_worker(function, member_context(task, region, size, number));
+            a.work(p);
+            return;
+        }
+        WorkerCounter::ImplicitEnd => {
+            let region = a.context.region;
+            a.close();
+            WorkerCounter::AddLeft { region }
+        }
+        WorkerCounter::AddLeft { .. } => idle(p),
+        WorkerCounter::IdleState => WorkerCounter::Offer,
+    };
+    a.counter = Counter::Worker(next);
+}
+
+/// What a step of a worker answers, by the word that it found.
+fn worker_outcome(l: &Layout, a: &Actor, c: WorkerCounter, old: u64) -> Outcome
+    requires thread { a.now.thread < thread_count l.now.table }
+    ensures { result ≡ worker_outcome l.now.table a.now c old }
+{
+    match c {
+        WorkerCounter::Begin => Outcome::Event(Event::Begin),
+        WorkerCounter::Offer => Outcome::Event(Event::Offer),
+        WorkerCounter::LoadAssign => {
+            if old != 0 {
+                return Outcome::Quiet;
+            }
+            Outcome::NotReady {
+                addr: of_thread(l, a.thread, Field::ThreadAssign),
+                word: old,
+            }
+        }
+        WorkerCounter::ImplicitBegin { task, .. } => Outcome::Event(Event::ImplicitBegin { task }),
+        WorkerCounter::ImplicitEnd => Outcome::Event(Event::ImplicitEnd {
+            task: a.context.task,
+        }),
+        WorkerCounter::IdleState => Outcome::Event(Event::State {
+            state: IDLE,
+            wait: 0,
+        }),
+        _ => Outcome::Quiet,
+    }
+}
+
+/// Takes the word that a worker's operation found: moves the worker on, and answers what came of the step.
+pub fn worker_resume(p: &Program, l: &Layout, a: &mut Actor, c: WorkerCounter, old: u64) -> Outcome
+    requires fits { Fits p.now a.old }
+    requires threads { p.now.threads ≡ thread_count l.now.table }
+    requires at { a.old.counter ≡ counter.Worker c }
+    ensures moved { a.new ≡ worker_moved p.now l.now.table a.old c old }
+    ensures outcome { result ≡ worker_outcome l.now.table a.old c old }
+{
+    let outcome = worker_outcome(l, a, c, old);
+    worker_move(p, l, a, c, old);
+    outcome
+}
