@@ -7,4 +7,6 @@ pub mod Moving
 pub mod WorkerSteps
 pub mod TeamParts
 pub mod TeamSteps
+pub mod BarrierSteps
+pub mod JoinSteps
 pub mod Steps

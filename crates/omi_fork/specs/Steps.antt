@@ -9,6 +9,8 @@ use Rattle.omi_rep.specs.declared.outcome.Outcome.TheVariants as outcome
 use Rattle.omi_pc.specs.declared.actor.Actor.{Actor}
 use Rattle.omi_pc.specs.declared.counter.Counter.{Counter}
 use Rattle.omi_pc.specs.declared.counter.Counter.TheVariants as counter
+use Rattle.omi_fork.specs.BarrierSteps.{barrier_moved, barrier_next, barrier_outcome}
+use Rattle.omi_fork.specs.JoinSteps.{join_moved, join_next, join_outcome}
 use Rattle.omi_fork.specs.TeamSteps.{team_moved, team_next, team_outcome}
 use Rattle.omi_fork.specs.WorkerSteps.{worker_moved, worker_next, worker_outcome}
 
@@ -16,12 +18,16 @@ use Rattle.omi_fork.specs.WorkerSteps.{worker_moved, worker_next, worker_outcome
 abbrev pub IsForkCounter : Counter → Type 0
 IsForkCounter (counter.Worker c) = Unit {0}
 IsForkCounter (counter.Team c) = Unit {0}
+IsForkCounter (counter.Barrier c) = Unit {0}
+IsForkCounter (counter.Join c) = Unit {0}
 IsForkCounter _ = ⊥
 
 -- the operation at a counter. Of other counters nothing is said: a load stands for theirs
 abbrev pub next_at : Program → List ℕ → Actor → Counter → Op
 next_at p w a (counter.Worker c) = worker_next w a c
 next_at p w a (counter.Team c) = team_next p w a c
+next_at p w a (counter.Barrier c) = barrier_next w a c
+next_at p w a (counter.Join c) = join_next w a c
 next_at p w a _ = op.Load 0
 
 abbrev pub next_of : Program → List ℕ → Actor → Op
@@ -32,6 +38,9 @@ abbrev pub resumed_at : Program → List ℕ → Actor → Counter → ℕ → A
 resumed_at p w a (counter.Worker c) old =
     (worker_moved p w a c old, worker_outcome w a c old)
 resumed_at p w a (counter.Team c) old = (team_moved p w a c old, team_outcome p w a c old)
+resumed_at p w a (counter.Barrier c) old =
+    (barrier_moved p a c old, barrier_outcome w a c old)
+resumed_at p w a (counter.Join c) old = (join_moved p w a c old, join_outcome w a c old)
 resumed_at p w a _ old = (a, outcome.Quiet)
 
 abbrev pub resumed : Program → List ℕ → Actor → Res → Actor × Outcome

@@ -1,6 +1,8 @@
 //! The steps of teams: workers, `parallel` constructs, barriers and joins.
 #![tactic(auto)]
 
+mod barrier;
+mod join;
 mod ops;
 mod plan;
 mod steps;
@@ -10,6 +12,8 @@ mod team_parts;
 mod words;
 mod worker;
 
+pub use barrier::{barrier_next, barrier_resume};
+pub use join::{join_next, join_resume};
 pub use plan::{NewRegion, NewTask, Planned, inherited_words, region_plan, task_plan, variable_at};
 pub use steps::{fork_next, fork_resume};
 pub use team::team_next;

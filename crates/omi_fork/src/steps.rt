@@ -6,7 +6,10 @@ ghost use Rattle.omi_pc.specs.Fits.{Fits};
 ghost use Rattle.omi_fork.specs.Placed.{IsPlaced};
 ghost use Rattle.omi_fork.specs.Steps.{IsForkCounter, next_of, resumed};
 
-use crate::{team_next, team_resume, worker_next, worker_resume};
+use crate::{
+    barrier_next, barrier_resume, join_next, join_resume, team_next, team_resume, worker_next,
+    worker_resume,
+};
 use omi_layout::Layout;
 use omi_pc::{Actor, Counter};
 use omi_rep::Outcome;
@@ -24,6 +27,8 @@ pub fn fork_next(p: &Program, l: &Layout, a: &Actor) -> Op
     match a.counter {
         Counter::Worker(c) => worker_next(p, l, a, c),
         Counter::Team(c) => team_next(p, l, a, c),
+        Counter::Barrier(c) => barrier_next(p, l, a, c),
+        Counter::Join(c) => join_next(p, l, a, c),
         _ => unreachable!(),
     }
 }
@@ -41,6 +46,8 @@ pub fn fork_resume(p: &Program, l: &Layout, a: &mut Actor, r: Res) -> Outcome
     match a.counter {
         Counter::Worker(c) => worker_resume(p, l, a, c, r.old),
         Counter::Team(c) => team_resume(p, l, a, c, r.old),
+        Counter::Barrier(c) => barrier_resume(p, l, a, c, r.old),
+        Counter::Join(c) => join_resume(p, l, a, c, r.old),
         _ => unreachable!(),
     }
 }

@@ -1,0 +1,82 @@
+-- The steps of a join: member 0 waits until the others have left, and the encountering task goes on. And those that give the records
+-- of the team and of the region back.
+use Rattle.std.specs.Prelude.{ℕ, ◌+◌, ◌-◌, ◌*◌, nat_lt, Bool, List, if◌then◌else◌}
+use Rattle.omi_word.specs.declared.op.Op.{Op}
+use Rattle.omi_word.specs.declared.op.Op.TheVariants as op
+use Rattle.omi_script.specs.declared.program.Program.{Program}
+use Rattle.omi_model.specs.declared.event.Event.TheVariants as event
+use Rattle.omi_model.specs.declared.id.Id.{Id}
+use Rattle.omi_model.specs.declared.id.Rid.{Rid}
+use Rattle.omi_model.specs.declared.id.Tid.{Tid}
+use Rattle.omi_layout.specs.declared.field.Field.TheVariants.{ThreadCurrent, RegionLife, RegionLeft, TaskLife}
+use Rattle.omi_rep.specs.declared.outcome.Outcome.{Outcome}
+use Rattle.omi_rep.specs.declared.outcome.Outcome.TheVariants as outcome
+use Rattle.omi_rep.specs.Records.{task_address}
+use Rattle.omi_pc.specs.declared.actor.Actor.{Actor}
+use Rattle.omi_pc.specs.declared.team_counter.JoinCounter.{JoinCounter}
+use Rattle.omi_pc.specs.declared.team_counter.JoinCounter.TheVariants as join
+use Rattle.omi_pc.specs.Moves.{closed, working}
+use Rattle.omi_fork.specs.Moving.{to_join}
+use Rattle.omi_fork.specs.TeamSteps.{of_member}
+use Rattle.omi_fork.specs.Words.{object_in, of_place, of_region, of_task, of_thread, task_place}
+
+-- ---- operations
+
+-- the task from which the current one is scheduled
+abbrev pub task_under : Actor → Tid
+task_under a = (closed a).context.task
+
+-- the life word of a record whose object is given back
+abbrev pub unused_word : Id → ℕ
+unused_word n = 2 * n.generation + 2
+
+abbrev pub join_next : List ℕ → Actor → JoinCounter → Op
+join_next w a join.LoadLeft = op.Load (of_region w a.context.region RegionLeft)
+join_next w a join.Join =
+    op.Store (of_thread w a.thread ThreadCurrent) (task_address w (task_under a))
+join_next w a (join.LoadMember r size member) = op.Load (of_member w r member)
+join_next w a (join.LoadLife r size member t) = op.Load (of_place w t TaskLife)
+join_next w a (join.FreeTask r size member t) =
+    op.Store (of_task w t TaskLife) (unused_word t.0)
+join_next w a (join.FreeRegion r size) = op.Store (of_region w r RegionLife) (unused_word r.0)
+
+-- ---- conditions
+
+-- some member but member 0 has not left
+abbrev pub some_inside : Actor → ℕ → Bool
+some_inside a old = nat_lt old (a.context.size - 1)
+
+-- ---- moves
+
+-- the region is over, and the encountering task goes on. The records stay: no step leads to the counters that give them back yet
+abbrev pub joined : Program → Actor → Actor
+joined p a = working p (closed a)
+
+-- behind the record of a member's task, that of the next one is given back, and at last that of the region
+abbrev pub behind_free : Rid → ℕ → ℕ → JoinCounter
+behind_free r size member =
+    if nat_lt (member + 1) size then join.LoadMember r size (member + 1) else join.FreeRegion r size
+
+-- where the step found the word `old`
+abbrev pub join_moved : Program → List ℕ → Actor → JoinCounter → ℕ → Actor
+join_moved p w a join.LoadLeft old = if some_inside a old then a else to_join join.Join a
+join_moved p w a join.Join old = joined p a
+join_moved p w a (join.LoadMember r size member) old =
+    to_join (join.LoadLife r size member (task_place w old)) a
+join_moved p w a (join.LoadLife r size member t) old =
+    to_join (join.FreeTask r size member (record { 0 = object_in t old })) a
+join_moved p w a (join.FreeTask r size member t) old =
+    to_join (behind_free r size member) a
+join_moved p w a (join.FreeRegion r size) old = working p a
+
+-- ---- outcomes
+
+abbrev pub join_outcome : List ℕ → Actor → JoinCounter → ℕ → Outcome
+join_outcome w a join.LoadLeft old =
+    if some_inside a old then outcome.NotReady (of_region w a.context.region RegionLeft) old
+    else outcome.Quiet
+join_outcome w a join.Join old = outcome.Event (event.Join a.context.region)
+join_outcome w a (join.LoadMember r size member) old = outcome.Quiet
+join_outcome w a (join.LoadLife r size member t) old = outcome.Quiet
+join_outcome w a (join.FreeTask r size member t) old = outcome.Event (event.FreeTask t)
+join_outcome w a (join.FreeRegion r size) old = outcome.Event (event.FreeRegion r)
