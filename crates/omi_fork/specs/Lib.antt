@@ -10,3 +10,4 @@ pub mod TeamSteps
 pub mod BarrierSteps
 pub mod JoinSteps
 pub mod Steps
+pub mod WordLaws

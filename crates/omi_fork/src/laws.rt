@@ -1,0 +1,11 @@
+//! Laws of the definitions. Each is a function that does nothing, and says its law in `specs/`.
+
+ghost use Rattle.omi_fork.specs.WordLaws.{FunctionsAreReadBack, GenerationsAreReadBack, LifeGoesUpByOne, PlacesAreReadBack};
+
+/// What a word names is read back from it, and a record is taken by the life word that is one more than the one found.
+pub fn words_are_read_back()
+    ensures places { PlacesAreReadBack }
+    ensures functions { FunctionsAreReadBack }
+    ensures generations { GenerationsAreReadBack }
+    ensures taken { LifeGoesUpByOne }
+{}
