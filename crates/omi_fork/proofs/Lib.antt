@@ -1,3 +1,4 @@
 pub mod Places
 pub mod Forks
 pub mod ReadBack
+pub mod Rising

@@ -11,3 +11,4 @@ pub mod BarrierSteps
 pub mod JoinSteps
 pub mod Steps
 pub mod WordLaws
+pub mod PlanLaws

@@ -15,7 +15,7 @@ mod worker;
 
 pub use barrier::{barrier_next, barrier_resume};
 pub use join::{join_next, join_resume};
-pub use laws::words_are_read_back;
+pub use laws::{fills_go_up, words_are_read_back};
 pub use plan::{NewRegion, NewTask, Planned, inherited_words, region_plan, task_plan, variable_at};
 pub use steps::{fork_next, fork_resume};
 pub use team::team_next;
