@@ -28,6 +28,30 @@ life_same {A} r q life slot owed same o = record {
   free = λ none free. same ∙ o.free none free;
 }
 
+-- a slot word stands in as many slots as before, where the record of a slot without a live object is another
+pub slots_stay : (w : List ℕ) (m : Memory) (s : State) (i slot f at word : ℕ) → (s.tasks i slot).live ≡ None → (code : ℕ)
+    → slots_with w (λ c. with_word m i tasks slot f at word c tasks) s code ≡ slots_with w (λ c. m c tasks) s code
+slots_stay w m s i slot f at word none code = slots_same w s (held n) (held m) (λ c k. go c k (c == i && k == slot) refl)
+  where
+    n : Memory
+    n = with_word m i tasks slot f at word
+
+    -- the slots of a task that hold the word
+    in_record : Rec → Task → ℕ
+    in_record r t = if t.implicit then sum_below (width w (number TaskSlots)) (λ place. one (r (number TaskSlots) place == code)) else 0
+
+    held : Memory → ℕ → ℕ → Task → ℕ
+    held x c k = in_record (x c tasks k)
+
+    go : (c k : ℕ) → (b : Bool) → (c == i && k == slot) ≡ b → of_live (held n c k) (s.tasks c k).live ≡ of_live (held m c k) (s.tasks c k).live
+    go c k true e =
+        let creator : c ≡ i = grind (arith, nat_tests) in
+        let place : k ≡ slot = grind (arith, nat_tests) in
+        let empty : (s.tasks c k).live ≡ None = subst (λ d. (s.tasks d k).live ≡ None) (sym creator) (subst (λ q. (s.tasks i q).live ≡ None) (sym place) none) in
+        ap (of_live (held n c k)) empty ∙ sym (ap (of_live (held m c k)) empty)
+    go c k false e =
+        ap (λ (r : Rec). of_live (in_record r) (s.tasks c k).live) (record_stays m i tasks slot f at word c tasks k (λ creator _ place. grind (arith, nat_tests)))
+
 pub region_fills_keep : RegionFillsKeep
 region_fills_keep = λ w m s owes i slot f at word keeps none other. kept w m s owes i slot f at word keeps none other
   where
@@ -90,7 +114,7 @@ task_fills_keep = λ w m s owes i slot f at word keeps none other. kept w m s ow
             making = o.making;
             objects = o.objects;
           };
-      deferred = record { once = λ k t live deferred. let was = keeps.deferred.once k t live deferred in let same = slots_stay (slot_word w k) in omega (arith, was, same); hands = keeps.deferred.hands };
+      deferred = record { once = λ k t live deferred. let was = keeps.deferred.once k t live deferred in let same = slots_stay w m s i slot (number f) at word none (slot_word w k) in omega (arith, was, same); hands = keeps.deferred.hands };
     }
       where
         n : Memory
@@ -98,9 +122,6 @@ task_fills_keep = λ w m s owes i slot f at word keeps none other. kept w m s ow
 
         stays : (c kind k : ℕ) → (kind ≡ tasks → ⊥) → n c kind k ≡ m c kind k
         stays c kind k ne = record_stays m i tasks slot (number f) at word c kind k (λ _ same _. ne same)
-
-        same_record : (j k : ℕ) → (j == i && k == slot) ≡ false → n j tasks k ≡ m j tasks k
-        same_record j k e = record_stays m i tasks slot (number f) at word j tasks k (λ creator _ place. grind (arith, nat_tests))
 
         empty : (j k : ℕ) → (j == i && k == slot) ≡ true → (s.tasks j k).live ≡ None
         empty j k e =
@@ -116,15 +137,4 @@ task_fills_keep = λ w m s owes i slot f at word keeps none other. kept w m s ow
                   (word_stays m i tasks slot (number f) at word j tasks k (number TaskLife) 0 (λ _ _ _ field _. other (sym field))) o.life;
               live = λ x is. absurd (cc);
             }
-        task j k o false e = subst (λ (r : Rec). KeepsTaskSlot w s owes j k r) (sym (same_record j k e)) o
-
-        -- the slots that hold a word, in the records of a memory
-        held : Memory → ℕ → ℕ → ℕ → Task → ℕ
-        held x code c k t = if t.implicit then sum_below (width w (number TaskSlots)) (λ place. one (x c tasks k (number TaskSlots) place == code)) else 0
-
-        slots_stay : (code : ℕ) → slots_with w (λ c. n c tasks) s code ≡ slots_with w (λ c. m c tasks) s code
-        slots_stay code = slots_same w s (held n code) (held m code) (λ c k. go c k (c == i && k == slot) refl)
-          where
-            go : (c k : ℕ) → (b : Bool) → (c == i && k == slot) ≡ b → of_live (held n code c k) (s.tasks c k).live ≡ of_live (held m code c k) (s.tasks c k).live
-            go c k true e = ap (of_live (held n code c k)) (empty c k e) ∙ sym (ap (of_live (held m code c k)) (empty c k e))
-            go c k false e = ap (λ (r : Rec). of_live (λ t. if t.implicit then sum_below (width w (number TaskSlots)) (λ place. one (r (number TaskSlots) place == code)) else 0) (s.tasks c k).live) (same_record c k e)
+        task j k o false e = subst (λ (r : Rec). KeepsTaskSlot w s owes j k r) (sym (record_stays m i tasks slot (number f) at word j tasks k (λ creator _ place. grind (arith, nat_tests)))) o

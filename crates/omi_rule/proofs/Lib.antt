@@ -7,3 +7,5 @@ pub mod ThreadStores
 pub mod Fills
 pub mod Moves
 pub mod OtherOwes
+pub mod RegionTakes
+pub mod TaskTakes

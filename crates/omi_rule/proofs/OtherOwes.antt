@@ -1,5 +1,5 @@
 -- Threads that owe other records or assign words, and else the same: counts and slots are as they were.
-use Rattle.std.proofs.Common.{◌≡◌, ◌<◌, ◌+◌, ℕ, List, Option, Some, refl, ap, ap₂, ◌∙◌, sym, subst, arith}
+use Rattle.std.proofs.Common.{◌≡◌, ◌+◌, ℕ, List, refl, ap, ap₂, ◌∙◌, sym, arith}
 use Rattle.std.specs.Prelude.{All}
 use Rattle.std.specs.Option.{option_and_then}
 use Rattle.omi_model.specs.declared.id.Rid.{Rid}
@@ -8,11 +8,10 @@ use Rattle.omi_model.specs.declared.region.Region.{Region}
 use Rattle.omi_model.specs.declared.task.Task.{Task}
 use Rattle.omi_model.specs.State.{State}
 use Rattle.omi_layout.specs.Memory.{Rec}
-use Rattle.omi_pc.specs.declared.place.Place.{Place}
 use Rattle.omi_rule.specs.Owes.{Owed}
-use Rattle.omi_rule.specs.Counts.{sum_of_owed, pending_owed, left_owed, children_owed, references_owed, free_owed, start_owed, one, is_some_region, is_some_task, is_at_some, generating_of, unfinished_in, unfinished_children, live_children, is_unfinished}
-use Rattle.omi_rule.specs.Objects.{KeepsCounts, KeepsDeferred, KeepsRegion, slots_with, slot_word}
-use Rattle.omi_rule.specs.Threads.{WaitsFor}
+use Rattle.omi_rule.specs.Counts.{sum_of_owed, pending_owed, left_owed, children_owed, references_owed, free_owed, start_owed, assign_owed, assigns_in, one, is_some_region, is_some_task, is_at_some, generating_of}
+use Rattle.omi_rule.specs.Objects.{KeepsCounts, KeepsDeferred, KeepsRegion}
+use Rattle.omi_rule.specs.Threads.{KeepsAssign, WaitsFor}
 use Rattle.omi_rule.specs.Words.{KeepsTask, OwesOnLive}
 use Rattle.omi_rule.proofs.Sums.{sum_same}
 
@@ -103,4 +102,18 @@ objects_owed s o p alike assigns x = record {
   free = λ k is. x.free k (sym alike.free ∙ is);
   above = λ at is. x.above at (sym alike.above ∙ is);
   assigns = assigns;
+}
+
+-- threads that owe the same assign words, and have met the same tasks
+pub assign_owed_same : (w : List ℕ) (s : State) (owes other : ℕ → Owed) → ((j : ℕ) → (other j).assigns ≡ (owes j).assigns) → ((j : ℕ) → (other j).met ≡ (owes j).met)
+    → (i : ℕ) (r : Rec) → KeepsAssign w s owes i r → KeepsAssign w s other i r
+assign_owed_same w s owes other assigns met i r o = record {
+  waiting = λ k waits.
+      let was = o.waiting k waits in
+      let sum = was.once in
+      let owed : sum_of_owed s other (assign_owed i k) ≡ sum_of_owed s owes (assign_owed i k)
+      = sum_same s.count (λ j. assign_owed i k (other j)) (λ j. assign_owed i k (owes j)) (λ j. ap (assigns_in i k) (assigns j)) in
+      let met_same : one (other i).met ≡ one (owes i).met = ap one (met i) in
+      record { word_is = was.word_is; once = omega (arith, sum, owed, met_same) };
+  none = o.none;
 }

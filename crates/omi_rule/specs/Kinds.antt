@@ -1,5 +1,7 @@
 -- Kinds of steps: what each keeps of the words, whatever thread makes it.
-use Rattle.std.specs.Prelude.{◌≡◌, ◌≢◌, ℕ, List, None}
+use Rattle.std.specs.Prelude.{◌≡◌, ◌≢◌, ℕ, ◌+◌, ◌*◌, false, List, [], ◌∷◌, ◌++◌, Some, None}
+use Rattle.omi_model.specs.declared.id.Rid.{Rid}
+use Rattle.omi_model.specs.declared.id.Tid.{Tid}
 use Rattle.omi_model.specs.declared.thread.Thread.{Thread}
 use Rattle.omi_model.specs.State.{State}
 use Rattle.omi_layout.specs.declared.field.Field.{Field}
@@ -9,8 +11,9 @@ use Rattle.omi_layout.specs.Memory.{Memory, put, with_word, with_word_in}
 use Rattle.omi_layout.specs.Named.{number}
 use Rattle.omi_pc.specs.declared.actor.Actor.{Actor}
 use Rattle.omi_rule.specs.Owes.{Owed, all_owed, owed}
+use Rattle.omi_rule.specs.Counts.{has_slot}
 use Rattle.omi_rule.specs.Threads.{KeepsThread}
-use Rattle.omi_rule.specs.Words.{KeepsWords}
+use Rattle.omi_rule.specs.Words.{IsInTheMaking, KeepsWords}
 
 -- a state in which a thread is another
 abbrev pub with_thread : State → ℕ → Thread → State
@@ -48,3 +51,19 @@ abbrev pub MovesKeep : Type 0
 MovesKeep = (w : List ℕ) (m : Memory) (s : State) (actors : ℕ → Actor) (i : ℕ) (a : Actor)
     → KeepsWords w m s (all_owed actors) → owed a ≡ owed (actors i)
     → KeepsWords w m s (all_owed (put actors i a))
+
+-- A record is taken: its life word becomes odd, and the thread owes what the record is made for
+abbrev pub RegionTakesKeep : Type 0
+RegionTakesKeep = (w : List ℕ) (m : Memory) (s : State) (owes : ℕ → Owed) (i : ℕ) (n : Rid)
+    → KeepsWords w m s owes → (owes i).region ≡ None → IsInTheMaking i (s.regions i) n.0
+    → KeepsWords w
+    (with_word m i regions n.0.slot (number RegionLife) 0 (2 * n.0.generation + 1)) s
+    (put owes i (record (owes i) { region = Some n }))
+
+abbrev pub TaskTakesKeep : Type 0
+TaskTakesKeep = (w : List ℕ) (m : Memory) (s : State) (owes : ℕ → Owed) (i : ℕ) (k : Tid)
+    → KeepsWords w m s owes → IsInTheMaking i (s.tasks i) k.0
+    → has_slot k.0.slot (owes i).tasks ≡ false
+    → KeepsWords w
+    (with_word m i tasks k.0.slot (number TaskLife) 0 (2 * k.0.generation + 1)) s
+    (put owes i (record (owes i) { tasks = (owes i).tasks ++ k ∷ [] }))

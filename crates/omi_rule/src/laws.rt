@@ -1,7 +1,7 @@
 //! Laws of the rule. Each is a function that does nothing.
 
 ghost use Rattle.omi_rule.specs.Opens.{OpeningKeepsWords};
-ghost use Rattle.omi_rule.specs.Kinds.{MovesKeep, RegionFillsKeep, TaskFillsKeep, ThreadChangesKeep, ThreadStoresKeep};
+ghost use Rattle.omi_rule.specs.Kinds.{MovesKeep, RegionFillsKeep, RegionTakesKeep, TaskFillsKeep, TaskTakesKeep, ThreadChangesKeep, ThreadStoresKeep};
 ghost use Rattle.omi_rule.specs.Shown.{KeptWordsShow};
 
 /// The opening words of a program keep the rule on words, with the opening state, and with the actors with which the program
@@ -21,6 +21,12 @@ pub fn kept_words_show()
 pub fn thread_stores_keep_words()
     ensures stored { ThreadStoresKeep }
     ensures changed { ThreadChangesKeep }
+{}
+
+/// The store that takes a free record keeps the rule on words: from then on the thread owes what the record is made for.
+pub fn takes_keep_words()
+    ensures region { RegionTakesKeep }
+    ensures task { TaskTakesKeep }
 {}
 
 /// A private store into a record in the making, but for its life word, keeps the rule on words.
