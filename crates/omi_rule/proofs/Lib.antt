@@ -9,3 +9,4 @@ pub mod Moves
 pub mod OtherOwes
 pub mod RegionTakes
 pub mod TaskTakes
+pub mod Assigns

@@ -1,5 +1,6 @@
 -- Sums of which each part is 0.
-use Rattle.std.proofs.Common.{◌≡◌, ℕ, zero, suc, List, refl, ap, ◌∙◌, arith}
+use Rattle.std.proofs.lemmas.Bool.Decides.{nat_tests}
+use Rattle.std.proofs.Common.{◌≢◌, ◌+◌, ◌==◌, ◌<◌, ◌≤◌, Bool, true, false, eqb-true, sym, ◌≡◌, ℕ, zero, suc, List, refl, ap, ◌∙◌, arith}
 use Rattle.omi_model.specs.State.{State}
 use Rattle.omi_model.specs.declared.task.Task.{Task}
 use Rattle.omi_layout.specs.Field.{tasks}
@@ -35,3 +36,28 @@ pub slots_same : (w : List ℕ) (s : State) (f g : ℕ → ℕ → Task → ℕ)
 slots_same w s f g same =
     sum_same s.count (λ c. sum_below (per_thread w tasks) (λ k. of_live (f c k) (s.tasks c k).live)) (λ c. sum_below (per_thread w tasks) (λ k. of_live (g c k) (s.tasks c k).live))
     (λ c. sum_same (per_thread w tasks) (λ k. of_live (f c k) (s.tasks c k).live) (λ k. of_live (g c k) (s.tasks c k).live) (same c))
+
+-- a sum with one part changed
+pub sum_changed : (n i : ℕ) (f g : ℕ → ℕ) → i < n → ((k : ℕ) → k ≢ i → g k ≡ f k) → sum_below n g + f i ≡ sum_below n f + g i
+sum_changed zero i f g within same = absurd (omega (arith, within))
+sum_changed (suc n) i f g within same = go (λ before. sum_changed n i f g before same) (i == n) refl
+  where
+    all_same : (n : ℕ) → n ≤ i → sum_below n g ≡ sum_below n f
+    all_same zero before = refl
+    all_same (suc n) before =
+        let front = all_same n (omega (arith, before)) in
+        let last = same n (λ is. omega (arith, is, before)) in
+        omega (arith, front, last)
+
+    go : (i < n → sum_below n g + f i ≡ sum_below n f + g i) → (b : Bool) → i == n ≡ b → sum_below n g + g n + f i ≡ sum_below n f + f n + g i
+    go front_changed true e =
+        let is : i ≡ n = eqb-true i n e in
+        let front = all_same n (omega (arith, is)) in
+        let f_is : f i ≡ f n = ap f is in
+        let g_is : g i ≡ g n = ap g is in
+        omega (arith, front, f_is, g_is)
+    go front_changed false e =
+        let ne : i ≡ n → ⊥ = λ is. grind (arith, nat_tests) in
+        let before = front_changed (omega (arith, within, ne)) in
+        let last = same n (λ is. ne (sym is)) in
+        omega (arith, before, last)

@@ -1,5 +1,5 @@
 -- Kinds of steps: what each keeps of the words, whatever thread makes it.
-use Rattle.std.specs.Prelude.{◌≡◌, ◌≢◌, ℕ, ◌+◌, ◌*◌, false, List, [], ◌∷◌, ◌++◌, Some, None}
+use Rattle.std.specs.Prelude.{◌≡◌, ◌≢◌, ℕ, ◌+◌, ◌*◌, ◌<◌, true, false, List, [], ◌∷◌, ◌++◌, Some, None}
 use Rattle.omi_model.specs.declared.id.Rid.{Rid}
 use Rattle.omi_model.specs.declared.id.Tid.{Tid}
 use Rattle.omi_model.specs.declared.thread.Thread.{Thread}
@@ -10,9 +10,10 @@ use Rattle.omi_layout.specs.Field.{threads, regions, tasks}
 use Rattle.omi_layout.specs.Memory.{Memory, put, with_word, with_word_in}
 use Rattle.omi_layout.specs.Named.{number}
 use Rattle.omi_pc.specs.declared.actor.Actor.{Actor}
+use Rattle.omi_rep.specs.Records.{task_address}
 use Rattle.omi_rule.specs.Owes.{Owed, all_owed, owed}
 use Rattle.omi_rule.specs.Counts.{has_slot}
-use Rattle.omi_rule.specs.Threads.{KeepsThread}
+use Rattle.omi_rule.specs.Threads.{KeepsThread, WaitsFor}
 use Rattle.omi_rule.specs.Words.{IsInTheMaking, KeepsWords}
 
 -- a state in which a thread is another
@@ -67,3 +68,22 @@ TaskTakesKeep = (w : List ℕ) (m : Memory) (s : State) (owes : ℕ → Owed) (i
     → KeepsWords w
     (with_word m i tasks k.0.slot (number TaskLife) 0 (2 * k.0.generation + 1)) s
     (put owes i (record (owes i) { tasks = (owes i).tasks ++ k ∷ [] }))
+
+-- A task that waits for a thread is stored into the thread's assign word, by the thread that owes it. No other task waits for that
+-- thread, and no record begins at address 0
+abbrev pub AssignStoresKeep : Type 0
+AssignStoresKeep = (w : List ℕ) (m : Memory) (s : State) (owes : ℕ → Owed) (i to : ℕ) (k : Tid)
+    (rest : List (Tid × ℕ)) → KeepsWords w m s owes → i < s.count → to < s.count
+    → (owes i).assigns ≡ (k, to) ∷ rest
+    → WaitsFor s to k → ((t : Tid) → WaitsFor s to t → t ≡ k) → task_address w k ≢ 0
+    → KeepsWords w (with_word m to threads 0 (number ThreadAssign) 0 (task_address w k)) s
+    (put owes i (record (owes i) { assigns = rest }))
+
+-- A thread has read the task in its assign word, and clears it
+abbrev pub AssignClearsKeep : Type 0
+AssignClearsKeep = (w : List ℕ) (m : Memory) (s : State) (owes : ℕ → Owed) (i : ℕ) (k : Tid)
+    → KeepsWords w m s owes → i < s.count
+    → m i threads 0 (number ThreadAssign) 0 ≡ task_address w k → (owes i).met ≡ false
+    → WaitsFor s i k → ((t : Tid) → WaitsFor s i t → t ≡ k) → task_address w k ≢ 0
+    → KeepsWords w (with_word m i threads 0 (number ThreadAssign) 0 0) s
+    (put owes i (record (owes i) { met = true }))

@@ -1,7 +1,7 @@
 //! Laws of the rule. Each is a function that does nothing.
 
 ghost use Rattle.omi_rule.specs.Opens.{OpeningKeepsWords};
-ghost use Rattle.omi_rule.specs.Kinds.{MovesKeep, RegionFillsKeep, RegionTakesKeep, TaskFillsKeep, TaskTakesKeep, ThreadChangesKeep, ThreadStoresKeep};
+ghost use Rattle.omi_rule.specs.Kinds.{AssignClearsKeep, AssignStoresKeep, MovesKeep, RegionFillsKeep, RegionTakesKeep, TaskFillsKeep, TaskTakesKeep, ThreadChangesKeep, ThreadStoresKeep};
 ghost use Rattle.omi_rule.specs.Shown.{KeptWordsShow};
 
 /// The opening words of a program keep the rule on words, with the opening state, and with the actors with which the program
@@ -21,6 +21,13 @@ pub fn kept_words_show()
 pub fn thread_stores_keep_words()
     ensures stored { ThreadStoresKeep }
     ensures changed { ThreadChangesKeep }
+{}
+
+/// The store of a task into the assign word of the thread for which it waits, and the thread's store that clears this word, keep
+/// the rule on words.
+pub fn assigns_keep_words()
+    ensures stored { AssignStoresKeep }
+    ensures cleared { AssignClearsKeep }
 {}
 
 /// The store that takes a free record keeps the rule on words: from then on the thread owes what the record is made for.

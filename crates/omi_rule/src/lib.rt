@@ -4,6 +4,6 @@
 mod laws;
 
 pub use laws::{
-    kept_words_show, moves_keep_words, opening_keeps_words, private_stores_keep_words,
-    takes_keep_words, thread_stores_keep_words,
+    assigns_keep_words, kept_words_show, moves_keep_words, opening_keeps_words,
+    private_stores_keep_words, takes_keep_words, thread_stores_keep_words,
 };
