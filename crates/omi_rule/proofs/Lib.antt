@@ -10,3 +10,5 @@ pub mod OtherOwes
 pub mod RegionTakes
 pub mod TaskTakes
 pub mod Assigns
+pub mod OtherLists
+pub mod ListMoves

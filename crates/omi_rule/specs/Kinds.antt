@@ -2,7 +2,9 @@
 use Rattle.std.specs.Prelude.{◌≡◌, ◌≢◌, ℕ, ◌+◌, ◌*◌, ◌<◌, true, false, List, [], ◌∷◌, ◌++◌, Some, None}
 use Rattle.omi_model.specs.declared.id.Rid.{Rid}
 use Rattle.omi_model.specs.declared.id.Tid.{Tid}
+use Rattle.omi_model.specs.declared.item.Item.{Item}
 use Rattle.omi_model.specs.declared.thread.Thread.{Thread}
+use Rattle.omi_model.specs.Changes.{with_list}
 use Rattle.omi_model.specs.State.{State}
 use Rattle.omi_layout.specs.declared.field.Field.{Field}
 use Rattle.omi_layout.specs.declared.field.Field.TheVariants.{ThreadAssign, RegionLife, TaskLife}
@@ -87,3 +89,8 @@ AssignClearsKeep = (w : List ℕ) (m : Memory) (s : State) (owes : ℕ → Owed)
     → WaitsFor s i k → ((t : Tid) → WaitsFor s i t → t ≡ k) → task_address w k ≢ 0
     → KeepsWords w (with_word m i threads 0 (number ThreadAssign) 0 0) s
     (put owes i (record (owes i) { met = true }))
+
+-- No word is stored, and a to-do list moves on, as with every event
+abbrev pub ListMovesKeep : Type 0
+ListMovesKeep = (w : List ℕ) (m : Memory) (s : State) (owes : ℕ → Owed) (i : ℕ) (list : List Item)
+    → KeepsWords w m s owes → i < s.count → KeepsWords w m (with_list s i list) owes

@@ -1,7 +1,7 @@
 //! Laws of the rule. Each is a function that does nothing.
 
 ghost use Rattle.omi_rule.specs.Opens.{OpeningKeepsWords};
-ghost use Rattle.omi_rule.specs.Kinds.{AssignClearsKeep, AssignStoresKeep, MovesKeep, RegionFillsKeep, RegionTakesKeep, TaskFillsKeep, TaskTakesKeep, ThreadChangesKeep, ThreadStoresKeep};
+ghost use Rattle.omi_rule.specs.Kinds.{AssignClearsKeep, AssignStoresKeep, ListMovesKeep, MovesKeep, RegionFillsKeep, RegionTakesKeep, TaskFillsKeep, TaskTakesKeep, ThreadChangesKeep, ThreadStoresKeep};
 ghost use Rattle.omi_rule.specs.Shown.{KeptWordsShow};
 
 /// The opening words of a program keep the rule on words, with the opening state, and with the actors with which the program
@@ -40,6 +40,11 @@ pub fn takes_keep_words()
 pub fn private_stores_keep_words()
     ensures region { RegionFillsKeep }
     ensures task { TaskFillsKeep }
+{}
+
+/// A to-do list that moves on, as with every event, keeps the rule on words.
+pub fn lists_keep_words()
+    ensures { ListMovesKeep }
 {}
 
 /// A step that leaves words, state and what its thread owes keeps the rule on words: the private loads.
