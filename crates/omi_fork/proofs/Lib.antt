@@ -1,4 +1,1 @@
-pub mod Places
 pub mod Forks
-pub mod ReadBack
-pub mod Rising

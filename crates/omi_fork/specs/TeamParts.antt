@@ -1,20 +1,19 @@
 -- What a `parallel` construct in the making asks for, and what it makes of what it has gathered.
-use Rattle.std.specs.Prelude.{ℕ, ◌==◌, ◌+◌, ◌%◌, nat_le, nat_lt, true, false, List, length, slice_index, Option, Some, None, if◌then◌else◌}
+use Rattle.std.specs.Prelude.{ℕ, ◌==◌, ◌+◌, ◌%◌, nat_le, nat_lt, true, false, length, slice_index, Option, Some, None, if◌then◌else◌}
 use Rattle.std.specs.Option.{unwrap_or}
 use Rattle.omi_script.specs.declared.program.Program.{Program}
 use Rattle.omi_script.specs.declared.statement.Stmt.{Stmt}
 use Rattle.omi_script.specs.declared.statement.Stmt.TheVariants as stmt
 use Rattle.omi_model.specs.declared.id.Rid.{Rid}
 use Rattle.omi_layout.specs.Codes.{exit_word}
-use Rattle.omi_layout.specs.Table.{per_thread}
 use Rattle.omi_pc.specs.declared.actor.Actor.{Actor}
 use Rattle.omi_pc.specs.declared.context.Context.{Context}
 use Rattle.omi_pc.specs.Frames.{statement_of}
-use Rattle.omi_fork.specs.declared.plan.NewRegion.{NewRegion}
-use Rattle.omi_fork.specs.declared.plan.NewTask.{NewTask}
-use Rattle.omi_fork.specs.Members.{member_of}
-use Rattle.omi_fork.specs.Plan.{inherited_words}
-use Rattle.omi_fork.specs.Words.{plus}
+use Rattle.omi_step.specs.declared.plan.NewRegion.{NewRegion}
+use Rattle.omi_step.specs.declared.plan.NewTask.{NewTask}
+use Rattle.omi_step.specs.Members.{member_of}
+use Rattle.omi_step.specs.Plan.{inherited_words}
+use Rattle.omi_step.specs.Words.{plus}
 
 -- ---- the statement
 
@@ -101,9 +100,3 @@ master_context a r =
       is_final = false;
       depth = a.context.depth + 1;
     }
-
--- ---- searches
-
--- the slot that is looked at next: the first one again behind the last
-abbrev pub next_slot : List ℕ → ℕ → ℕ → ℕ
-next_slot w kind slot = if nat_lt (slot + 1) (per_thread w kind) then slot + 1 else 0

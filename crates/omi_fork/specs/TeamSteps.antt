@@ -5,51 +5,29 @@ use Rattle.omi_word.specs.declared.op.Op.{Op}
 use Rattle.omi_word.specs.declared.op.Op.TheVariants as op
 use Rattle.omi_script.specs.declared.program.Program.{Program}
 use Rattle.omi_model.specs.declared.event.Event.TheVariants as event
-use Rattle.omi_model.specs.declared.id.Id.{Id}
 use Rattle.omi_model.specs.declared.id.Rid.{Rid}
 use Rattle.omi_model.specs.declared.id.Tid.{Tid}
 use Rattle.omi_model.specs.Columns.{with_task}
 use Rattle.omi_model.specs.Numbers.{overhead}
-use Rattle.omi_layout.specs.declared.field.Field.{Field}
-use Rattle.omi_layout.specs.declared.field.Field.TheVariants.{RuntimeMaxActive, ThreadCurrent, ThreadState, ThreadClaim, ThreadAssign, RegionLife, RegionLevels, RegionActive, RegionTeam, TaskLife}
+use Rattle.omi_layout.specs.declared.field.Field.TheVariants.{RuntimeMaxActive, ThreadCurrent, ThreadState, ThreadClaim, ThreadAssign, RegionLife, RegionLevels, RegionActive, TaskLife}
 use Rattle.omi_layout.specs.Codes.{state_word}
 use Rattle.omi_layout.specs.Field.{regions, tasks}
-use Rattle.omi_layout.specs.Memory.{word_address}
-use Rattle.omi_layout.specs.Named.{number}
 use Rattle.omi_rep.specs.declared.outcome.Outcome.{Outcome}
 use Rattle.omi_rep.specs.declared.outcome.Outcome.TheVariants as outcome
 use Rattle.omi_rep.specs.Records.{task_address}
 use Rattle.omi_pc.specs.declared.actor.Actor.{Actor}
 use Rattle.omi_pc.specs.declared.limits.TheConstants.{VARIABLE_WORDS, REGION_WORDS, TASK_WORDS}
-use Rattle.omi_pc.specs.declared.place.Place.{Place}
 use Rattle.omi_pc.specs.declared.team_counter.TeamCounter.{TeamCounter}
 use Rattle.omi_pc.specs.declared.team_counter.TeamCounter.TheVariants as team
 use Rattle.omi_pc.specs.Moves.{begun_master, working}
-use Rattle.omi_fork.specs.declared.plan.Planned.{Planned}
-use Rattle.omi_fork.specs.Members.{alone, joined_by, member_of}
-use Rattle.omi_fork.specs.Moving.{to_team, gathering}
-use Rattle.omi_fork.specs.Plan.{region_plan, task_plan, variable_at}
-use Rattle.omi_fork.specs.TeamParts.{master_context, new_member, new_region, next_slot, region_function, team_size, wanted_size}
-use Rattle.omi_fork.specs.Words.{of_runtime, of_thread, of_place, of_region, of_task, object_in, is_free, used_word}
+use Rattle.omi_step.specs.Members.{alone, joined_by, member_of}
+use Rattle.omi_step.specs.Moving.{to_team, gathering}
+use Rattle.omi_step.specs.Plan.{filling, of_variable, region_plan, task_plan}
+use Rattle.omi_step.specs.Searches.{next_slot, own_place, search_outcome}
+use Rattle.omi_fork.specs.TeamParts.{master_context, new_member, new_region, region_function, team_size, wanted_size}
+use Rattle.omi_step.specs.Words.{of_member, of_runtime, of_thread, of_place, of_region, of_task, object_in, is_free, used_word}
 
 -- ---- operations
-
--- a slot of this thread
-abbrev pub own_place : Actor → ℕ → Place
-own_place a slot = record { creator = a.thread; slot = slot }
-
--- a planned word is stored into the record of an object
-abbrev pub filling : List ℕ → Id → Planned → Op
-filling w n x = op.Store (word_address w n.creator n.slot (number x.field) x.at) x.value
-
--- the address of a word of a task's data environment
-abbrev pub of_variable : List ℕ → Id → ℕ → ℕ
-of_variable w k word =
-    let at = variable_at word in word_address w k.creator k.slot (number at.0) at.1
-
--- the address of a member's word in the team of a region
-abbrev pub of_member : List ℕ → Rid → ℕ → ℕ
-of_member w r member = word_address w r.0.creator r.0.slot (number RegionTeam) member
 
 -- a member's task is stored into the assign word of its thread
 abbrev pub assigning : List ℕ → Tid × ℕ → Op
@@ -184,12 +162,6 @@ team_moved p w a (team.Fork r) old = forked p r a
 team_moved p w a (team.Assign member) old = assigning_from p (member + 1) a
 
 -- ---- outcomes
-
--- a search goes on where the record is not free
-abbrev pub search_outcome : List ℕ → Actor → Field → ℕ → ℕ → Outcome
-search_outcome w a life slot old =
-    if is_free old then outcome.Quiet
-    else outcome.NotReady (of_place w (own_place a slot) life) old
 
 abbrev pub team_outcome : Program → List ℕ → Actor → TeamCounter → ℕ → Outcome
 team_outcome p w a team.OverheadState old = outcome.Event (event.State overhead 0)

@@ -8,16 +8,15 @@ ghost use Rattle.omi_pc.specs.declared.counter.Counter.TheVariants as counter;
 ghost use Rattle.omi_pc.specs.declared.team_counter.JoinCounter.TheVariants.{Join};
 ghost use Rattle.omi_fork.specs.JoinSteps;
 ghost use Rattle.omi_fork.specs.JoinSteps.{behind_free, join_moved, join_next, join_outcome, joined, task_under, unused_word};
-ghost use Rattle.omi_fork.specs.Moving.{to_join};
-ghost use Rattle.omi_fork.specs.Placed.{IsPlaced};
+ghost use Rattle.omi_step.specs.Moving.{to_join};
+ghost use Rattle.omi_step.specs.Placed.{IsPlaced};
 
-use crate::ops::{load, of_place, of_region, of_task, of_thread, store};
-use crate::words::{object_in, task_place};
 use omi_layout::{Field, Layout};
 use omi_model::{Event, Id, Rid, Tid};
 use omi_pc::{Actor, Counter, JoinCounter, Opened, bodies_stand};
 use omi_rep::Outcome;
 use omi_script::Program;
+use omi_step::{load, object_in, of_place, of_region, of_task, of_thread, store, task_place};
 use omi_word::Op;
 
 /// The life word of a record whose object is given back.

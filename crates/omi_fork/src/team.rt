@@ -1,51 +1,30 @@
 //! The operations and the outcomes of a `parallel` construct.
 
 ghost use Rattle.std.specs.Prelude.{◌≡◌, ◌<◌};
-ghost use Rattle.omi_layout.specs.Memory.{IsRecordWord};
-ghost use Rattle.omi_layout.specs.Named.{number};
 ghost use Rattle.omi_layout.specs.Field.{tasks};
 ghost use Rattle.omi_layout.specs.Place.{IsSlot};
 ghost use Rattle.omi_layout.specs.Table.{thread_count};
 ghost use Rattle.omi_pc.specs.Fits.{Fits};
-ghost use Rattle.omi_pc.specs.declared.limits.TheConstants.{TASK_WORDS, VARIABLE_WORDS};
+ghost use Rattle.omi_pc.specs.declared.limits.TheConstants.{TASK_WORDS};
 ghost use Rattle.omi_pc.specs.declared.counter.Counter.TheVariants as counter;
-ghost use Rattle.omi_fork.specs.Placed.{HasOptionalTask, HasRegion, HasTask, IsPlaced};
-ghost use Rattle.omi_fork.specs.Plan.{task_plan};
-ghost use Rattle.omi_fork.specs.TeamSteps.{filling, of_variable, own_place, search_outcome, team_next, team_outcome};
+ghost use Rattle.omi_step.specs.Placed.{HasOptionalTask, HasRegion, HasTask, IsPlaced};
+ghost use Rattle.omi_step.specs.Plan.{filling, task_plan};
+ghost use Rattle.omi_fork.specs.TeamSteps.{team_next, team_outcome};
 
-use crate::ops::{fill, load, of_place, of_region, of_runtime, of_task, of_thread, store};
 use crate::team_parts::{member_of, new_member, new_region, wanted_size};
-use crate::words::{is_free, used_word};
-use crate::{NewTask, region_plan, task_plan, variable_at};
 use omi_layout::{Field, Layout};
 use omi_model::{Event, Id};
-use omi_pc::{Actor, Place, TeamCounter};
+use omi_pc::{Actor, TeamCounter};
 use omi_rep::Outcome;
 use omi_script::Program;
+use omi_step::{
+    NewTask, fill, is_free, load, of_place, of_region, of_runtime, of_task, of_thread, of_variable,
+    own_place, region_plan, search_outcome, store, task_plan, used_word,
+};
 use omi_word::Op;
 
 /// The state of a thread that makes a team.
 const OVERHEAD: u32 = 0x101;
-
-/// A slot of an actor's thread.
-pub fn own_place(a: &Actor, slot: u16) -> Place
-    ensures { result ≡ own_place a.now slot }
-{
-    Place {
-        creator: a.thread,
-        slot,
-    }
-}
-
-/// The address of a word of a task's data environment.
-fn of_variable(l: &Layout, task: Id, word: u8) -> u64
-    requires word { word < VARIABLE_WORDS }
-    requires slot { IsSlot l.now.table tasks task.creator task.slot }
-    ensures { result ≡ of_variable l.now.table task word }
-{
-    let (field, at) = variable_at(l, word);
-    l.word_at(task.creator, task.slot, field, at)
-}
 
 /// The store of a word into the record of a new task.
 fn fill_task(l: &Layout, task: Id, new: &NewTask, word: u8) -> Op
@@ -124,21 +103,6 @@ pub fn team_next(p: &Program, l: &Layout, a: &Actor, c: TeamCounter) -> Op
             let (task, thread) = member_of(&a.gathered.team, member);
             let record = l.task_at(task.0.creator, task.0.slot);
             store(of_thread(l, thread, Field::ThreadAssign), record)
-        }
-    }
-}
-
-/// What the look at the life word of a slot answers in a search.
-fn search_outcome(l: &Layout, a: &Actor, slot: u16, life: Field, old: u64) -> Outcome
-    requires { IsRecordWord l.now.table a.now.thread slot (number life) 0 }
-    ensures { result ≡ search_outcome l.now.table a.now life slot old }
-{
-    if is_free(old) {
-        Outcome::Quiet
-    } else {
-        Outcome::NotReady {
-            addr: of_place(l, own_place(a, slot), life),
-            word: old,
         }
     }
 }

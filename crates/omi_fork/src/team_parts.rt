@@ -1,19 +1,15 @@
 //! What a `parallel` construct in the making asks for, and what it makes of what it has gathered.
 
 ghost use Rattle.std.specs.Prelude.{◌≡◌, ◌<◌, ◌≤◌, ◌+◌, length};
-ghost use Rattle.omi_layout.specs.Codes.{exit_word};
-ghost use Rattle.omi_layout.specs.Field.{regions, tasks};
 ghost use Rattle.omi_pc.specs.Fits.{HasVariables};
-ghost use Rattle.omi_fork.specs.Members.{member_of};
-ghost use Rattle.omi_fork.specs.Placed.{Searches};
+ghost use Rattle.omi_step.specs.Members.{member_of};
 ghost use Rattle.omi_fork.specs.TeamParts;
-ghost use Rattle.omi_fork.specs.TeamParts.{master_context, new_member, new_region, next_slot, requested, wanted_size};
+ghost use Rattle.omi_fork.specs.TeamParts.{master_context, new_member, new_region, requested, wanted_size};
 
-use crate::{NewRegion, NewTask, inherited_words};
-use omi_layout::Layout;
 use omi_model::{Rid, Team, Tid};
 use omi_pc::{Actor, Context};
 use omi_script::{Program, Stmt};
+use omi_step::{NewRegion, NewTask, exit_word, inherited_words};
 
 /// The function of the `parallel` construct in work, and 0 where there is none.
 pub fn region_function(p: &Program, a: &Actor) -> u8
@@ -71,14 +67,6 @@ pub fn new_region(p: &Program, a: &Actor) -> NewRegion
     }
 }
 
-/// The exit frame of a thread's task, where so many tasks are on the thread's chain, this one included.
-fn exit_word(thread: u8, depth: u64) -> u64
-    requires { depth ≤ 65536 }
-    ensures { result ≡ exit_word thread depth }
-{
-    0x7f00_0000_0000 + 0x10_0000 * (u64::from(thread) + 1) - 64 * depth
-}
-
 /// The implicit task of a member.
 pub fn new_member(p: &Program, a: &Actor, region: Rid, number: u8) -> NewTask
     requires variables { HasVariables a.now }
@@ -126,29 +114,5 @@ pub fn master_context(a: &Actor, region: Rid) -> Context
         implicit: true,
         is_final: false,
         depth: a.context.depth + 1,
-    }
-}
-
-/// The slot for a region that is looked at behind another.
-pub fn next_region_slot(l: &Layout, slot: u16) -> u16
-    requires { Searches l.now.table regions slot }
-    ensures { result ≡ next_slot l.now.table regions slot }
-{
-    if slot + 1 < l.regions_per_thread() {
-        slot + 1
-    } else {
-        0
-    }
-}
-
-/// The slot for a task that is looked at behind another.
-pub fn next_task_slot(l: &Layout, slot: u16) -> u16
-    requires { Searches l.now.table tasks slot }
-    ensures { result ≡ next_slot l.now.table tasks slot }
-{
-    if slot + 1 < l.tasks_per_thread() {
-        slot + 1
-    } else {
-        0
     }
 }

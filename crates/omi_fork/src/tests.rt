@@ -5,8 +5,8 @@ ghost use Rattle.omi_layout.specs.Place.{IsSlot};
 ghost use Rattle.omi_layout.specs.Table.{thread_count};
 ghost use Rattle.omi_pc.specs.Fits.{Fits, FitsTeam, HasVariables, IsAtParallel};
 ghost use Rattle.omi_pc.specs.OpenBodies.{AreOpen};
-ghost use Rattle.omi_fork.specs.Members.{member_of};
-ghost use Rattle.omi_fork.specs.Placed.{AreContextsPlaced, AreThreads, HasRegion, HasTask, IsPlacedTeam};
+ghost use Rattle.omi_step.specs.Members.{member_of};
+ghost use Rattle.omi_step.specs.Placed.{AreContextsPlaced, AreThreads, HasRegion, HasTask, IsPlacedTeam};
 
 use super::*;
 use crate::team_parts::member_of;

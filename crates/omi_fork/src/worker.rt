@@ -4,16 +4,18 @@ ghost use Rattle.std.specs.Prelude.{◌≡◌, ◌<◌};
 ghost use Rattle.omi_layout.specs.Table.{thread_count};
 ghost use Rattle.omi_pc.specs.Fits.{Fits};
 ghost use Rattle.omi_pc.specs.declared.counter.Counter.TheVariants as counter;
-ghost use Rattle.omi_fork.specs.Placed.{IsPlaced};
+ghost use Rattle.omi_step.specs.Placed.{IsPlaced};
 ghost use Rattle.omi_fork.specs.WorkerSteps.{idle_counter, member_context, worker_moved, worker_next, worker_outcome};
 
-use crate::ops::{load, of_place, of_region, of_task, of_thread, store};
-use crate::words::{function_at, object_in, region_place, task_place};
 use omi_layout::{Field, Layout};
 use omi_model::{Event, Rid, Tid};
 use omi_pc::{Actor, Context, Counter, WorkerCounter};
 use omi_rep::Outcome;
 use omi_script::Program;
+use omi_step::{
+    function_at, load, object_in, of_place, of_region, of_task, of_thread, region_place, store,
+    task_place,
+};
 use omi_word::Op;
 
 /// The state of a worker without a task.

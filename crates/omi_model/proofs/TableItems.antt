@@ -1,8 +1,9 @@
--- The items of to-do lists have states of the table of states, and schedules of the four kinds.
+-- The items of to-do lists have states of the table of states, schedules of the four kinds, and sizes of teams in their range.
 use Rattle.std.proofs.Common.{◌≡◌, ◌==◌, ℕ, zero, suc, ◌+◌, ◌*◌, ◌%◌, ◌<◌, ◌≤◌, ◌||◌, Bool, true, false, List, [], ◌∷◌, slice_get, get_or, Some, if◌then◌else◌, refl, subst, arith}
 use Rattle.std.specs.List.{Contains}
 use Rattle.omi_script.proofs.RuleLemmas.{Rules-from_accepted}
 use Rattle.omi_script.specs.Bodies.{HasStatement, body_of}
+use Rattle.omi_script.specs.Rules.{IsSize}
 use Rattle.omi_script.specs.declared.program.Program.{Program}
 use Rattle.omi_script.specs.declared.statement.Stmt.{Stmt}
 use Rattle.omi_script.specs.declared.statement.Stmt.TheVariants as stmt
@@ -21,6 +22,7 @@ abbrev pub IsKind : ℕ → Type 0
 IsKind n = (1 ≤ n) × (n ≤ 4)
 
 abbrev pub IsStmtRight : Stmt → Type 0
+IsStmtRight (stmt.SetNumThreads n) = IsSize n
 IsStmtRight (stmt.SetSchedule s) = IsKind s.kind
 IsStmtRight s = Unit {0}
 
@@ -28,7 +30,7 @@ abbrev pub IsItemRight : Item → Type 0
 IsItemRight (item.Do s) = IsStmtRight s
 IsItemRight (item.State state wait) = Contains states state
 IsItemRight (item.Tasks state) = Contains states state
-IsItemRight (item.Set icv value) = icv ≡ run_sched_var → IsKind (value % 8)
+IsItemRight (item.Set icv value) = (icv ≡ run_sched_var → IsKind (value % 8)) × (icv ≡ nthreads_var → IsSize value)
 IsItemRight x = Unit {0}
 
 abbrev pub AreRight : List Item → Type 0
@@ -66,6 +68,7 @@ barrier_right at state rest in_states h = shown_right at state 0 (item.Arrive �
 
 module _ (p : Program) where
   stmt_right : (f : ℕ) (s : Stmt) → HasStatement p.funcs f s → IsStmtRight s
+  stmt_right f (stmt.SetNumThreads n) at = (Rules-from_accepted p).ranges f (stmt.SetNumThreads n) at
   stmt_right f (stmt.SetSchedule s) at = let range = (Rules-from_accepted p).ranges f (stmt.SetSchedule s) at in (range.0, range.1)
   stmt_right f s at = tt
 
@@ -105,14 +108,14 @@ module _ (p : Program) where
       go false = (tt, h)
   row_right at (stmt.Repeat zero f) rest (is, h) = (tt, h)
   row_right at (stmt.Repeat (suc n) f) rest (is, h) = (tt, call_right f (item.Do (stmt.Repeat n f) ∷ rest) (tt, h))
-  row_right at (stmt.SetNumThreads n) rest (is, h) = (λ e. absurd (let other : nthreads_var ≡ run_sched_var = e in omega arith), h)
-  row_right at (stmt.SetDynamic x) rest (is, h) = (λ e. absurd (let other : dyn_var ≡ run_sched_var = e in omega arith), h)
-  row_right at (stmt.SetMaxActive n) rest (is, h) = (λ e. absurd (let other : max_active_levels_var ≡ run_sched_var = e in omega arith), h)
-  row_right at (stmt.SetSchedule s) rest (is, h) = (λ e. subst IsKind (kind_of s.chunk s.kind (omega (arith, is.1))) is, h)
+  row_right at (stmt.SetNumThreads n) rest (is, h) = ((λ e. absurd (let other : nthreads_var ≡ run_sched_var = e in omega arith), λ e. is), h)
+  row_right at (stmt.SetDynamic x) rest (is, h) = ((λ e. absurd (let other : dyn_var ≡ run_sched_var = e in omega arith), λ e. absurd (let other : dyn_var ≡ nthreads_var = e in omega arith)), h)
+  row_right at (stmt.SetMaxActive n) rest (is, h) = ((λ e. absurd (let other : max_active_levels_var ≡ run_sched_var = e in omega arith), λ e. absurd (let other : max_active_levels_var ≡ nthreads_var = e in omega arith)), h)
+  row_right at (stmt.SetSchedule s) rest (is, h) = ((λ e. subst IsKind (kind_of s.chunk s.kind (omega (arith, is.1))) is, λ e. absurd (let other : run_sched_var ≡ nthreads_var = e in omega arith)), h)
     where
       kind_of : (chunk kind : ℕ) → kind < 8 → kind ≡ (chunk * 8 + kind) % 8
       kind_of chunk kind less = grind arith
-  row_right at (stmt.SetDevice d) rest (is, h) = (λ e. absurd (let other : default_device_var ≡ run_sched_var = e in omega arith), h)
+  row_right at (stmt.SetDevice d) rest (is, h) = ((λ e. absurd (let other : default_device_var ≡ run_sched_var = e in omega arith), λ e. absurd (let other : default_device_var ≡ nthreads_var = e in omega arith)), h)
   row_right at (stmt.Tool x) rest (is, h) = (tt, h)
   row_right at stmt.Work rest (is, h) = (tt, h)
 

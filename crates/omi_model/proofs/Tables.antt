@@ -77,7 +77,7 @@ shown_item state wait y fit is = absurd (false_true fit)
 set_item : (icv value : ℕ) (y : Item) → fits (event.Set icv value) y ≡ true → IsItemRight y → icv ≡ run_sched_var → IsKind (value % 8)
 set_item icv value (item.Set v x) fit is sched =
     let icv_is = eqb-true icv v (and_left (icv == v) (value == x) fit) in
-    subst (λ n. IsKind (n % 8)) (sym (eqb-true value x (and_right (icv == v) (value == x) fit))) (is (sym icv_is ∙ sched))
+    subst (λ n. IsKind (n % 8)) (sym (eqb-true value x (and_right (icv == v) (value == x) fit))) (is.0 (sym icv_is ∙ sched))
 set_item icv value y fit is sched = absurd (false_true fit)
 
 start_right : (x : Item) (at : Encounter) (zs : List Item) → AreRight zs → AreRight (start_list x at zs)
@@ -85,10 +85,10 @@ start_right (item.Tasks state) at zs h = working_right at zs h
 start_right x at zs h = h
 
 module _ (p : Program) (s : State) (i : ℕ) (e : Event) (next : State) (step : Step p s i e next) (tables : InTables s) where
-  m : IsMove p s i e next
+  pub m : IsMove p s i e next
   m = move_of p s i e next step
 
-  list_right : AreRight (list_of s i)
+  pub list_right : AreRight (list_of s i)
   list_right = of_current (s.threads i).current
     where
       of_task : (o : Option Task) → ((t : Task) → o ≡ Some t → AreRight t.list) → AreRight (option_map_or (λ t. t.list) o (s.threads i).list)
@@ -99,10 +99,10 @@ module _ (p : Program) (s : State) (i : ℕ) (e : Event) (next : State) (step : 
       of_current None = (tables.threads i).0
       of_current (Some k) = of_task (task_of s k) (λ t live. (tables.tasks k t live).0)
 
-  item_right : IsItemRight m.item
+  pub item_right : IsItemRight m.item
   item_right = (take_right p (encounter s i) e (list_of s i) m.item m.behind m.taken list_right).0
 
-  item_fits : fits e m.item ≡ true
+  pub item_fits : fits e m.item ≡ true
   item_fits = take_fits p (encounter s i) e (list_of s i) m.item m.behind m.taken
 
   task_law : (middle : State) (y : Item) → IsRelisted s middle → Stays middle next → EachTask TaskTables middle → IsTaskLaw p middle i e y next TaskTables

@@ -18,15 +18,12 @@ use Rattle.omi_rule.specs.Threads.{KeepsAssign, KeepsRuntime, KeepsThread}
 use Rattle.omi_rule.specs.Objects.{KeepsDeferred, KeepsLife, slot_word, slots_with}
 use Rattle.omi_rule.specs.Words.{KeepsRegionSlot, KeepsTaskSlot, KeepsWords}
 use Rattle.omi_rule.specs.Kinds.{RegionFillsKeep, TaskFillsKeep}
+use Rattle.omi_rule.proofs.Alike
 use Rattle.omi_rule.proofs.Sums.{slots_same}
 
 -- a life word that stays
-life_same : {A : Type 0} (r q : Rec) (life : Field) (slot : Slot A) (owed : Bool) → q (number life) 0 ≡ r (number life) 0 → KeepsLife r life slot owed → KeepsLife q life slot owed
-life_same {A} r q life slot owed same o = record {
-  live = λ x is. let before = o.live x is in omega (arith, before, same);
-  taken = λ none taken. same ∙ o.taken none taken;
-  free = λ none free. same ∙ o.free none free;
-}
+pub life_same : {A : Type 0} (r q : Rec) (life : Field) (slot : Slot A) (owed : Bool) → q (number life) 0 ≡ r (number life) 0 → KeepsLife r life slot owed → KeepsLife q life slot owed
+life_same {A} r q life slot owed = Alike.life_alike (λ x y. x ≡ y) r q life slot slot owed (Alike.slots_same (λ x y. x ≡ y) (λ x. refl) (λ _ _. slot) 0 0)
 
 -- a slot word stands in as many slots as before, where the record of a slot without a live object is another
 pub slots_stay : (w : List ℕ) (m : Memory) (s : State) (i slot f at word : ℕ) → (s.tasks i slot).live ≡ None → (code : ℕ)

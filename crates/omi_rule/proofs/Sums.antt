@@ -61,3 +61,36 @@ sum_changed (suc n) i f g within same = go (λ before. sum_changed n i f g befor
         let before = front_changed (omega (arith, within, ne)) in
         let last = same n (λ is. ne (sym is)) in
         omega (arith, before, last)
+
+-- a part is no more than the sum
+pub part_below : (n i : ℕ) (f : ℕ → ℕ) → i < n → f i ≤ sum_below n f
+part_below zero i f within = absurd (omega (arith, within))
+part_below (suc n) i f within = go (λ before. part_below n i f before) (i == n) refl
+  where
+    go : (i < n → f i ≤ sum_below n f) → (b : Bool) → i == n ≡ b → f i ≤ sum_below n f + f n
+    go front true e = let is : f i ≡ f n = ap f (eqb-true i n e) in omega (arith, is)
+    go front false e =
+        let ne : i ≡ n → ⊥ = λ is. grind (arith, nat_tests) in
+        let before = front (omega (arith, within, ne)) in
+        omega (arith, before)
+
+-- the same, where the parts are known below the bound alone
+pub sum_same_within : (n : ℕ) (f g : ℕ → ℕ) → ((i : ℕ) → i < n → f i ≡ g i) → sum_below n f ≡ sum_below n g
+sum_same_within zero f g same = refl
+sum_same_within (suc n) f g same =
+    let before = sum_same_within n f g (λ i within. same i (omega (arith, within))) in
+    let last = same n (omega arith) in
+    omega (arith, before, last)
+
+pub sum_none_within : (n : ℕ) (f : ℕ → ℕ) → ((i : ℕ) → i < n → f i ≡ 0) → sum_below n f ≡ 0
+sum_none_within zero f none = refl
+sum_none_within (suc n) f none =
+    let before = sum_none_within n f (λ i within. none i (omega (arith, within))) in
+    let last = none n (omega arith) in
+    omega (arith, before, last)
+
+pub slots_none_within : (w : List ℕ) (s : State) (f : ℕ → ℕ → Task → ℕ) → ((c k : ℕ) → c < s.count → k < per_thread w tasks → of_live (f c k) (s.tasks c k).live ≡ 0)
+    → sum_of_slots w s f ≡ 0
+slots_none_within w s f none =
+    sum_none_within s.count (λ c. sum_below (per_thread w tasks) (λ k. of_live (f c k) (s.tasks c k).live))
+    (λ c maker. sum_none_within (per_thread w tasks) (λ k. of_live (f c k) (s.tasks c k).live) (λ k place. none c k maker place))

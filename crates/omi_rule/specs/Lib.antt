@@ -8,3 +8,7 @@ pub mod Words
 pub mod Opens
 pub mod Shown
 pub mod Kinds
+pub mod TaskKinds
+pub mod BarrierKinds
+pub mod TeamKinds
+pub mod CountKinds

@@ -1,8 +1,12 @@
 //! Laws of the rule. Each is a function that does nothing.
 
 ghost use Rattle.omi_rule.specs.Opens.{OpeningKeepsWords};
+ghost use Rattle.omi_rule.specs.BarrierKinds.{ArrivesKeep, ReleasesKeep};
+ghost use Rattle.omi_rule.specs.CountKinds.{AboveSubtractsKeep, ChildrenAddsKeep, ChildrenSubtractsKeep, OwnSubtractsKeep, PendingAddsKeep, PendingSubtractsKeep, ReferencesAddsKeep};
 ghost use Rattle.omi_rule.specs.Kinds.{AssignClearsKeep, AssignStoresKeep, ListMovesKeep, MovesKeep, RegionFillsKeep, RegionTakesKeep, TaskFillsKeep, TaskTakesKeep, ThreadChangesKeep, ThreadStoresKeep};
 ghost use Rattle.omi_rule.specs.Shown.{KeptWordsShow};
+ghost use Rattle.omi_rule.specs.TaskKinds.{RuntimeStoresKeep, TaskStoresKeep};
+ghost use Rattle.omi_rule.specs.TeamKinds.{AllHaveLeft, BeginsKeep, EndsKeep, ForksKeep, JoinsKeep, LeavesKeep};
 
 /// The opening words of a program keep the rule on words, with the opening state, and with the actors with which the program
 /// starts: no thread owes anything.
@@ -21,6 +25,42 @@ pub fn kept_words_show()
 pub fn thread_stores_keep_words()
     ensures stored { ThreadStoresKeep }
     ensures changed { ThreadChangesKeep }
+{}
+
+/// A store into a live task's record, but for its life word, counts and slots, keeps the rule on words, where the task of the
+/// state becomes the one whose codes the record has then: frames, the control variables of a data environment, the tool word.
+pub fn task_stores_keep_words()
+    ensures { TaskStoresKeep }
+{}
+
+/// A store into the runtime record keeps the rule on words, where the state has then the values whose codes the record has:
+/// max-active-levels-var, and the exchange on the word of a lock.
+pub fn runtime_stores_keep_words()
+    ensures { RuntimeStoresKeep }
+{}
+
+/// The addition of 1 to the word for a region's arrivals, as a member arrives, and the store of the number of released
+/// barriers, as member 0 releases one, keep the rule on words.
+pub fn barriers_keep_words()
+    ensures arrived { ArrivesKeep }
+    ensures released { ReleasesKeep }
+{}
+
+/// The additions of 1 for an explicit task in the making keep the rule on words: from then on the thread owes one more on the
+/// region's word for unfinished tasks, on the current task's word for unfinished children, or on its references.
+pub fn adds_keep_words()
+    ensures pending { PendingAddsKeep }
+    ensures children { ChildrenAddsKeep }
+    ensures references { ReferencesAddsKeep }
+{}
+
+/// The subtractions of 1 for an explicit task that has finished keep the rule on words: the thread owes one less on the word.
+/// Where the last reference to an explicit task was lowered, the thread owes from then on the return of its record.
+pub fn subtracts_keep_words()
+    ensures children { ChildrenSubtractsKeep }
+    ensures own { OwnSubtractsKeep }
+    ensures above { AboveSubtractsKeep }
+    ensures pending { PendingSubtractsKeep }
 {}
 
 /// The store of a task into the assign word of the thread for which it waits, and the thread's store that clears this word, keep
@@ -50,4 +90,34 @@ pub fn lists_keep_words()
 /// A step that leaves words, state and what its thread owes keeps the rule on words: the private loads.
 pub fn moves_keep_words()
     ensures { MovesKeep }
+{}
+
+/// A thread that begins the implicit task that waited for it, by the store of its record as the current one, keeps the rule on
+/// words.
+pub fn begins_keep_words()
+    ensures { BeginsKeep }
+{}
+
+/// The store of member 0's record as the current one, by which a thread forks, keeps the rule on words: the region and the
+/// members' tasks begin, whose records stand filled.
+pub fn forks_keep_words()
+    ensures { ForksKeep }
+{}
+
+/// The store by which a member's implicit task ends keeps the rule on words: from then on its thread owes the addition to the
+/// region's word for the members that have left.
+pub fn ends_keep_words()
+    ensures { EndsKeep }
+{}
+
+/// That addition keeps the rule on words, and is owed no more.
+pub fn leaves_keep_words()
+    ensures { LeavesKeep }
+{}
+
+/// The store by which member 0 joins the others keeps the rule on words, where no thread owes a departure from the region; none
+/// does where the region's word counts as many that have left as have ended.
+pub fn joins_keep_words()
+    ensures joined { JoinsKeep }
+    ensures all_left { AllHaveLeft }
 {}

@@ -1,0 +1,233 @@
+-- The registers of a thread stay right while another thread makes a step: it leaves the records in the making and what the state says.
+use Rattle.std.proofs.Common.{◌≡◌, ◌≢◌, ◌+◌, ◌<◌, ◌≤◌, ℕ, zero, suc, inl, inr, Bool, List, [], ◌∷◌, length, map, take, None, refl, sym, ap, ◌∙◌, subst, arith}
+use Rattle.std.specs.List.{All, Contains}
+use Rattle.std.proofs.lemmas.List.Elements.{All-head, All-tail}
+use Rattle.omi_script.specs.declared.program.Program.{Program}
+use Rattle.omi_model.specs.declared.id.Rid.{Rid}
+use Rattle.omi_model.specs.declared.id.Tid.{Tid}
+use Rattle.omi_model.specs.declared.task.Task.{Task}
+use Rattle.omi_model.specs.Columns.{tasks_of}
+use Rattle.omi_model.specs.State.{State}
+use Rattle.omi_model.specs.Teams.{AreAsksOver, got_threads}
+use Rattle.omi_model.proofs.Slots.{some_same}
+use Rattle.omi_layout.specs.declared.field.Field.TheVariants.{RegionLeft, RegionTeam, ThreadAssign}
+use Rattle.omi_layout.specs.Field.{regions, tasks, threads}
+use Rattle.omi_layout.specs.Memory.{Memory, Rec}
+use Rattle.omi_layout.specs.Named.{number}
+use Rattle.omi_pc.specs.declared.actor.Actor.{Actor}
+use Rattle.omi_pc.specs.declared.counter.Counter.{Counter}
+use Rattle.omi_pc.specs.declared.counter.Counter.TheVariants as counter
+use Rattle.omi_pc.specs.declared.limits.TheConstants.{VARIABLE_WORDS}
+use Rattle.omi_pc.specs.declared.team_counter.BarrierCounter.{BarrierCounter}
+use Rattle.omi_pc.specs.declared.team_counter.JoinCounter.{JoinCounter}
+use Rattle.omi_pc.specs.declared.team_counter.JoinCounter.TheVariants as join
+use Rattle.omi_pc.specs.declared.team_counter.TeamCounter.{TeamCounter}
+use Rattle.omi_pc.specs.declared.team_counter.TeamCounter.TheVariants as team
+use Rattle.omi_pc.specs.declared.team_counter.WorkerCounter.{WorkerCounter}
+use Rattle.omi_pc.specs.declared.team_counter.WorkerCounter.TheVariants as worker
+use Rattle.omi_pc.specs.declared.frame.Frame.{Frame}
+use Rattle.omi_pc.specs.declared.place.Place.{Place}
+use Rattle.omi_pc.specs.Fits.{Fits, FitsCounter, FitsTeam}
+use Rattle.omi_rule.specs.Owes.{Owed, by_team, owed, owed_at}
+use Rattle.omi_rule.specs.Threads.{WaitsFor}
+use Rattle.omi_rule.specs.Words.{IsInTheMaking, KeepsMaking}
+use Rattle.omi_step.specs.declared.plan.Planned.{Planned}
+use Rattle.omi_step.specs.Members.{member_of}
+use Rattle.omi_control.specs.Chains.{IsWorkerAhead, KeepsContext, Stands, StandsWith}
+use Rattle.omi_control.specs.LeavesOthers.{LeavesOthers}
+use Rattle.omi_control.specs.Rows.{HasAsked, HasFilled, HasSize, HasTeam, IsFilled, KeepsBarrierRow, KeepsJoinRow, KeepsRow, KeepsTeamRow, KeepsWorkerRow, Knows, KnowsActive, KnowsLevels, KnowsVariables, Meets}
+use Rattle.omi_control.proofs.OthersStand.{begun_undeferred, of_innermost}
+
+-- what a step of another thread leaves of a thread's words: its records in the making, its assign word where it is about to clear it,
+-- and of its regions' words for the members that have left that they don't fall
+pub record Spares (m n : Memory) (s : State) (j : ℕ) (a : Actor) : Type 0 where
+  pub regions_same : (slot : ℕ) → (s.regions j slot).live ≡ None → n j regions slot ≡ m j regions slot
+  pub tasks_same : (slot : ℕ) → (s.tasks j slot).live ≡ None → n j tasks slot ≡ m j tasks slot
+  pub assign_same : (t : Place) → a.counter ≡ counter.Worker (worker.ClearAssign t) → n j threads 0 (number ThreadAssign) 0 ≡ m j threads 0 (number ThreadAssign) 0
+  pub left_kept : (slot : ℕ) → m j regions slot (number RegionLeft) 0 ≤ n j regions slot (number RegionLeft) 0
+
+-- a thread that has a task has its context
+pub context_of : (p : Program) (s : State) (i : ℕ) (a : Actor) → ((c : WorkerCounter) → a.counter ≡ counter.Worker c → ⊥) → Stands p s i a → KeepsContext s i a.context
+context_of p s i a busy stands = go a.stack refl stands a.counter refl
+  where
+    go : (fs : List Frame) → a.stack ≡ fs → StandsWith p s i a fs → (c : Counter) → a.counter ≡ c → KeepsContext s i a.context
+    go (f ∷ fs) is o c e = of_innermost p s i a.context a.stack o.bodies
+    go [] is o (counter.Worker c) e = absurd (busy c e)
+    go [] is o (counter.Team c) e = absurd (subst (λ x. IsWorkerAhead s x (s.threads i).list) e o.ahead)
+    go [] is o (counter.Barrier c) e = absurd (subst (λ x. IsWorkerAhead s x (s.threads i).list) e o.ahead)
+    go [] is o (counter.Join c) e = absurd (subst (λ x. IsWorkerAhead s x (s.threads i).list) e o.ahead)
+    go [] is o (counter.Task c) e = absurd (subst (λ x. IsWorkerAhead s x (s.threads i).list) e o.ahead)
+    go [] is o (counter.Look c) e = absurd (subst (λ x. IsWorkerAhead s x (s.threads i).list) e o.ahead)
+    go [] is o (counter.Finish c) e = absurd (subst (λ x. IsWorkerAhead s x (s.threads i).list) e o.ahead)
+    go [] is o (counter.Plain c) e = absurd (subst (λ x. IsWorkerAhead s x (s.threads i).list) e o.ahead)
+
+-- of the first members' tasks
+pub of_member : (P : Tid → Type 0) (team : List (Tid × ℕ)) (n j : ℕ) → All P (take n (tasks_of team)) → j < n → j < length team → P (member_of team j).0
+of_member P [] n j all below within = absurd (omega (arith, within))
+of_member P (m ∷ ms) zero j all below within = absurd (omega (arith, below))
+of_member P (m ∷ ms) (suc n) zero all below within = All-head P m.0 (take n (tasks_of ms)) all
+of_member P (m ∷ ms) (suc n) (suc j) all below within = of_member P ms n j (All-tail P m.0 (take n (tasks_of ms)) all) (omega (arith, below)) (omega (arith, within))
+
+module _ (p : Program) (w : List ℕ) (m n : Memory) (s u : State) (i : ℕ) (leaves : LeavesOthers s u i) (j : ℕ) (other : j ≢ i) (a : Actor) (spares : Spares m n s j a) where
+  -- ---- workers
+
+  waits_stay : (k : Tid) → WaitsFor s j k → WaitsFor u j k
+  waits_stay k o = record {
+    task = o.task;
+    live = leaves.tasks k o.task o.live (λ same. other (sym o.thread ∙ same)) (λ deferred. cc (sym o.progress, deferred));
+    progress = o.progress;
+    thread = o.thread;
+  }
+
+  meets_stays : (k : Tid) (known : Task → Type 0) → Meets s j k known → Meets u j k known
+  unfolding waits_stay
+  meets_stays k known (waits, is) = (waits_stay k waits, is)
+
+  size_stays : (r : Rid) (size : ℕ) → HasSize s r size → HasSize u r size
+  size_stays r size (region, found, is) = let (q, now, same) = leaves.regions r region found in (q, now, ap length same.team ∙ is)
+
+  worker_stays : (c : WorkerCounter) → a.counter ≡ counter.Worker c → KeepsWorkerRow w m s j c → KeepsWorkerRow w n u j c
+  worker_stays worker.Begin at o = (leaves.threads j other).begun ∙ o
+  worker_stays worker.Offer at o = tt
+  worker_stays worker.LoadAssign at o = tt
+  worker_stays (worker.ClearAssign t) at (k, waits, is, word) = (k, waits_stay k waits, is, spares.assign_same t at ∙ word)
+  worker_stays (worker.LoadLife t) at (k, waits, is) = (k, waits_stay k waits, is)
+  worker_stays (worker.LoadFunction k) at waits = waits_stay k waits
+  worker_stays (worker.LoadRegion k f) at o = meets_stays k _ o
+  worker_stays (worker.LoadRegionLife k f r) at o = meets_stays k _ o
+  worker_stays (worker.LoadSize k f r) at o = meets_stays k _ o
+  worker_stays (worker.LoadNumber k f r size) at (o, has) = (meets_stays k _ o, size_stays r size has)
+  worker_stays (worker.ImplicitBegin k f r size number) at (o, has) = (meets_stays k _ o, size_stays r size has)
+  worker_stays worker.ImplicitEnd at o = tt
+  worker_stays (worker.AddLeft r) at o = tt
+  worker_stays worker.IdleState at o = tt
+
+  -- ---- what is gathered
+
+  levels_stay : KnowsLevels s a → KnowsLevels u a
+  levels_stay (r, found, levels) = let (q, now, same) = leaves.regions a.context.region r found in (q, now, same.levels ∙ levels)
+
+  active_stays : KnowsActive s a → KnowsActive u a
+  active_stays (r, found, levels, active) = let (q, now, same) = leaves.regions a.context.region r found in (q, now, same.levels ∙ levels, same.active ∙ active)
+
+  variables_stay : KeepsContext s j a.context → (k : ℕ) → KnowsVariables s a k → KnowsVariables u a k
+  variables_stay top k (t, live, are) =
+      let same : top.task ≡ t = some_same top.live live in
+      (t, leaves.tasks a.context.task t live (λ e. other (sym (ap (λ (x : Task). x.thread) (sym same) ∙ top.thread) ∙ e)) (begun_undeferred t (ap (λ (x : Task). x.progress) (sym same) ∙ top.begun)), are)
+
+  knows_stays : KeepsContext s j a.context → Knows s a → Knows u a
+  knows_stays top o = record { region = active_stays o.region; task = variables_stay top VARIABLE_WORDS o.task }
+
+  asked_stays : KeepsContext s j a.context → HasAsked s j a → HasAsked u j a
+  asked_stays top o =
+      let h = leaves.threads j other in
+      record {
+        knows = knows_stays top o.knows;
+        wanted = o.wanted ∙ sym h.wanted;
+        joined = o.joined ∙ ap (λ xs. j ∷ got_threads xs) (sym h.asks);
+        asked = ap (λ (xs : List (ℕ × Bool)). map (λ x. x.0) xs) h.asks ∙ o.asked;
+        few = subst (λ c. a.gathered.asked ≤ c) (sym leaves.count) o.few;
+      }
+
+  over_stays : AreAsksOver s j → AreAsksOver u j
+  over_stays (inl full) =
+      let h = leaves.threads j other in
+      inl (ap (λ xs. suc (length (got_threads xs))) h.asks ∙ full ∙ sym h.wanted)
+  over_stays (inr all) =
+      let h = leaves.threads j other in
+      inr (λ v known apart. subst (λ xs. Contains (map (λ x. x.0) xs) v) (sym h.asks) (all v (subst (λ c. v < c) leaves.count known) apart))
+
+  team_got_stays : KeepsContext s j a.context → HasTeam s j a → HasTeam u j a
+  team_got_stays top o = record { asks = asked_stays top o.asks; over = over_stays o.over }
+
+  -- ---- records in the making
+
+  region_made : (r : Rid) → IsInTheMaking j (s.regions j) r.0 → n r.0.creator regions r.0.slot ≡ m r.0.creator regions r.0.slot
+  region_made r o = subst (λ c. n c regions r.0.slot ≡ m c regions r.0.slot) (sym o.maker) (spares.regions_same r.0.slot o.free)
+
+  task_made : (k : Tid) → IsInTheMaking j (s.tasks j) k.0 → n k.0.creator tasks k.0.slot ≡ m k.0.creator tasks k.0.slot
+  task_made k o = subst (λ c. n c tasks k.0.slot ≡ m c tasks k.0.slot) (sym o.maker) (spares.tasks_same k.0.slot o.free)
+
+  filled_stays : (x y : Rec) (plan : ℕ → Planned) (k : ℕ) → y ≡ x → IsFilled x plan k → IsFilled y plan k
+  filled_stays x y plan k same o = subst (λ (z : Rec). IsFilled z plan k) (sym same) o
+
+  all_filled_stay : (r : Rid) (k : ℕ) → IsInTheMaking j (s.regions j) r.0 → ((l : ℕ) → l < k → IsInTheMaking j (s.tasks j) (member_of a.gathered.team l).0.0) → HasFilled p w m a r k → HasFilled p w n a r k
+  all_filled_stay r k is are o = record {
+    below = o.below;
+    region = filled_stays (m r.0.creator regions r.0.slot) (n r.0.creator regions r.0.slot) _ _ (region_made r is) o.region;
+    tasks = λ l below. filled_stays _ _ _ _ (task_made (member_of a.gathered.team l).0 (are l below)) (o.tasks l below);
+    tasks_below = o.tasks_below;
+    slots = o.slots;
+    team = λ l below. ap (λ (x : Rec). x (number RegionTeam) l) (region_made r is) ∙ o.team l below;
+  }
+
+  -- what is owed at a counter of a team
+  abbrev Owing : TeamCounter → Owed
+  Owing c = by_team a.gathered.team c
+
+  team_stays : (c : TeamCounter) → KeepsContext s j a.context → KeepsMaking s j (Owing c) → FitsTeam p a c → KeepsTeamRow p w m s j a c → KeepsTeamRow p w n u j a c
+  team_stays team.OverheadState top making fits o = tt
+  team_stays team.LoadLevels top making fits o = tt
+  team_stays team.LoadActive top making fits o = levels_stay o
+  team_stays (team.LoadVariable word) top making fits (active, variables) = (active_stays active, variables_stay top word variables)
+  team_stays team.Want top making fits o = knows_stays top o
+  team_stays team.Ask top making fits o = asked_stays top o
+  team_stays (team.LoadRegionLife slot) top making fits o = team_got_stays top o
+  team_stays (team.TakeRegion r) top making fits (o, fresh) = (team_got_stays top o, leaves.regions_fresh j r.0 other fresh)
+  team_stays (team.FillRegion r word) top making fits (o, below, filled) = (team_got_stays top o, below, filled_stays _ _ _ _ (region_made r (making.region r refl)) filled)
+  team_stays (team.LoadTaskLife r member slot) top making (got, within) (o, filled) =
+      (team_got_stays top o, all_filled_stay r member (making.region r refl) (λ l below. of_member (λ (x : Tid). IsInTheMaking j (s.tasks j) x.0) a.gathered.team member l making.tasks below (omega (arith, below, within))) filled)
+  team_stays (team.TakeTask r member t) top making (got, within, mine) (o, filled, fresh, free) =
+      (team_got_stays top o, all_filled_stay r member (making.region r refl) (λ l below. of_member (λ (x : Tid). IsInTheMaking j (s.tasks j) x.0) a.gathered.team member l making.tasks below (omega (arith, below, within))) filled, leaves.tasks_fresh j t.0 other fresh, free)
+  team_stays (team.FillTask r member t word) top making ((got, within, mine), last) (o, filled, is, below, words) =
+      let made : (l : ℕ) → l < member + 1 → IsInTheMaking j (s.tasks j) (member_of a.gathered.team l).0.0 = λ l below. of_member (λ k. IsInTheMaking j (s.tasks j) k.0) a.gathered.team (member + 1) l making.tasks below (omega (arith, below, within)) in (
+        team_got_stays top o,
+        all_filled_stay r member (making.region r refl) (λ l below. made l (omega (arith, below))) filled,
+        is,
+        below,
+        filled_stays _ _ _ _ (task_made t (subst (λ (k : Tid). IsInTheMaking j (s.tasks j) k.0) is (made member (omega arith)))) words,
+      )
+  team_stays (team.StoreMember r member t) top making (got, within, mine) (o, filled, is, below, words) =
+      let made : (l : ℕ) → l < member + 1 → IsInTheMaking j (s.tasks j) (member_of a.gathered.team l).0.0 = λ l below. of_member (λ k. IsInTheMaking j (s.tasks j) k.0) a.gathered.team (member + 1) l making.tasks below (omega (arith, below, within)) in (
+        team_got_stays top o,
+        all_filled_stay r member (making.region r refl) (λ l below. made l (omega (arith, below))) filled,
+        is,
+        below,
+        filled_stays _ _ _ _ (task_made t (subst (λ (k : Tid). IsInTheMaking j (s.tasks j) k.0) is (made member (omega arith)))) words,
+      )
+  team_stays (team.Fork r) top making fits (o, filled) =
+      (team_got_stays top o, all_filled_stay r (length a.gathered.team) (making.region r refl) (λ l below. whole (λ k. IsInTheMaking j (s.tasks j) k.0) a.gathered.team l making.tasks below) filled)
+    where
+      whole : (P : Tid → Type 0) (xs : List (Tid × ℕ)) (l : ℕ) → All P (tasks_of xs) → l < length xs → P (member_of xs l).0
+      whole P [] l all below = absurd (omega (arith, below))
+      whole P (x ∷ xs) zero all below = All-head P x.0 (tasks_of xs) all
+      whole P (x ∷ xs) (suc l) all below = whole P xs l (All-tail P x.0 (tasks_of xs) all) (omega (arith, below))
+  team_stays (team.Assign member) top making fits o = tt
+
+  -- ---- joins
+
+  join_stays : (c : JoinCounter) → KeepsJoinRow m j a c → KeepsJoinRow n j a c
+  join_stays join.LoadLeft o = tt
+  join_stays join.Join (maker, full) = let more = spares.left_kept a.context.region.0.slot in (maker, omega (arith, full, more))
+  join_stays (join.LoadMember r size member) o = tt
+  join_stays (join.LoadLife r size member t) o = tt
+  join_stays (join.FreeTask r size member t) o = tt
+  join_stays (join.FreeRegion r size) o = tt
+
+  -- ---- the whole
+
+  pub row_stays : Fits p a → Stands p s j a → KeepsMaking s j (owed a) → ((c : BarrierCounter) → a.counter ≡ counter.Barrier c → KeepsBarrierRow s a c → KeepsBarrierRow u a c)
+      → KeepsRow p w m s j a a.counter → KeepsRow p w n u j a a.counter
+  row_stays fits stands making barriers o = go a.counter refl o
+    where
+      go : (c : Counter) → a.counter ≡ c → KeepsRow p w m s j a c → KeepsRow p w n u j a c
+      go (counter.Worker c) e x = worker_stays c e x
+      go (counter.Team c) e x =
+          team_stays c (context_of p s j a (λ d f. absurd (cc (sym e, f))) stands)
+          (subst (λ (y : Counter). KeepsMaking s j (owed_at a.context a.gathered.team y)) e making) (subst (λ (y : Counter). FitsCounter p a y) e fits.counter) x
+      go (counter.Barrier c) e x = barriers c e x
+      go (counter.Join c) e x = join_stays c x
+      go (counter.Task c) e x = tt
+      go (counter.Look c) e x = tt
+      go (counter.Finish c) e x = tt
+      go (counter.Plain c) e x = tt

@@ -1,0 +1,14 @@
+-- Steps of barriers.
+pub mod Named
+pub mod RowsOfBarriers
+pub mod AtCounter
+pub mod AtBarrier
+pub mod Arrivals
+pub mod Loads
+pub mod Events
+pub mod States
+pub mod Releases
+pub mod Passes
+pub mod ArrivedBodies
+pub mod Arrives
+pub mod Counters

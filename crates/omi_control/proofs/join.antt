@@ -1,0 +1,6 @@
+-- Steps of joins.
+pub mod Departures
+pub mod LoadsLeft
+pub mod BodiesUnder
+pub mod Joined
+pub mod JoinKeeps

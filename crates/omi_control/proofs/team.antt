@@ -1,0 +1,25 @@
+-- The steps of a parallel construct.
+pub mod Within
+pub mod Loads
+pub mod Records
+pub mod Searches
+pub mod Plans
+pub mod Regions
+pub mod Members
+pub mod Tasks
+pub mod Assigns
+pub mod Events
+pub mod Overheads
+pub mod Asked
+pub mod Asks
+pub mod Sizes
+pub mod Wants
+pub mod Levels
+pub mod Unmet
+pub mod Inherits
+pub mod ForkPlans
+pub mod ForkBodies
+pub mod ForkTeams
+pub mod ForkSteps
+pub mod Forks
+pub mod TeamKeeps

@@ -1,0 +1,5 @@
+pub mod WorkerEvents
+pub mod WorkerLoads
+pub mod WorkerBegins
+pub mod WorkerEnds
+pub mod WorkerKeeps

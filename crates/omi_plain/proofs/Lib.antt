@@ -1,0 +1,5 @@
+pub mod Locks
+pub mod Sets
+pub mod Fitting
+pub mod StayPlaced
+pub mod OpeningPlaced

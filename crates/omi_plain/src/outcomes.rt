@@ -1,0 +1,82 @@
+//! What the steps of this crate answer.
+
+ghost use Rattle.std.specs.Prelude.{◌≡◌, ◌≤◌};
+ghost use Rattle.omi_layout.specs.Table.{thread_count};
+ghost use Rattle.omi_pc.specs.Fits.{Fits};
+ghost use Rattle.omi_pc.specs.Stacks.{function_of};
+ghost use Rattle.omi_pc.specs.declared.counter.Counter.TheVariants as counter;
+ghost use Rattle.omi_plain.specs.PlainSteps.{lock_outcome, plain_outcome, set_outcome};
+ghost use Rattle.omi_script.specs.declared.limits.TheConstants.{MAX_LOCK};
+
+use crate::operations::{WAIT_CRITICAL, lock_wait, of_lock, work_state};
+use crate::statements::{lock, set_number, set_word, tool_word};
+use omi_layout::Layout;
+use omi_model::Event;
+use omi_pc::{Actor, PlainCounter};
+use omi_rep::Outcome;
+use omi_script::{Program, Stmt};
+
+/// The function of the innermost body, and 0 where none is open.
+fn function_of(a: &Actor) -> u8
+    ensures { result ≡ function_of a.now.stack }
+{
+    match a.stack.top() {
+        Some(top) => top.function,
+        None => 0,
+    }
+}
+
+/// What the store of a variable answers.
+fn set_outcome(s: Option<Stmt>) -> Outcome
+    ensures { result ≡ set_outcome s }
+{
+    Outcome::Event(Event::Set {
+        icv: set_number(s),
+        value: set_word(s),
+    })
+}
+
+/// What the exchange on the word of a lock answers, by the word that it found.
+fn lock_outcome(l: &Layout, k: u8, old: u64) -> Outcome
+    requires { k ≤ MAX_LOCK }
+    ensures { result ≡ lock_outcome l.now.table k old }
+{
+    if old == 0 {
+        Outcome::Event(Event::Lock { k })
+    } else {
+        Outcome::NotReady {
+            addr: of_lock(l, k),
+            word: old,
+        }
+    }
+}
+
+/// What a step at a counter answers, by the word that it found.
+pub fn outcome_at(p: &Program, l: &Layout, a: &Actor, c: PlainCounter, old: u64) -> Outcome
+    requires fits { Fits p.now a.now }
+    requires at { a.now.counter ≡ counter.Plain c }
+    ensures { result ≡ plain_outcome p.now l.now.table a.now c old }
+{
+    match c {
+        PlainCounter::Work => Outcome::Event(Event::Work),
+        PlainCounter::Call => Outcome::Event(Event::Call { f: function_of(a) }),
+        PlainCounter::Skip => Outcome::Event(Event::Skip),
+        PlainCounter::Return => Outcome::Event(Event::Ret),
+        PlainCounter::Set => set_outcome(a.statement(p)),
+        PlainCounter::Tool => Outcome::Event(Event::SetTool { x: tool_word(p, a) }),
+        PlainCounter::Enter => Outcome::Event(Event::Enter),
+        PlainCounter::Leave => Outcome::Event(Event::Leave),
+        PlainCounter::WorkState => Outcome::Event(Event::State {
+            state: work_state(a),
+            wait: 0,
+        }),
+        PlainCounter::LockState => Outcome::Event(Event::State {
+            state: WAIT_CRITICAL,
+            wait: lock_wait(lock(p, a)),
+        }),
+        PlainCounter::Lock => lock_outcome(l, lock(p, a), old),
+        PlainCounter::Unlock => Outcome::Event(Event::Unlock { k: lock(p, a) }),
+        PlainCounter::Done => Outcome::Event(Event::Done),
+        PlainCounter::Ended => Outcome::Ended,
+    }
+}

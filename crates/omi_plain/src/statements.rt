@@ -1,0 +1,89 @@
+//! What the statement in work says: the variable that it sets, the word of a tool, the lock of a critical region.
+
+ghost use Rattle.std.specs.Prelude.{◌≡◌, ◌≤◌};
+ghost use Rattle.omi_script.specs.declared.limits.TheConstants.{MAX_LOCK};
+ghost use Rattle.omi_step.specs.Placed.{HasTask};
+ghost use Rattle.omi_plain.specs.Statements;
+ghost use Rattle.omi_plain.specs.Statements.{in_work, set_address};
+
+use omi_layout::{Field, Layout};
+use omi_pc::Actor;
+use omi_script::{Program, Stmt, program_rules};
+use omi_step::{of_runtime, of_task};
+
+/// The numbers of the variables that statements set.
+const DYNAMIC: u32 = 1;
+
+const NTHREADS: u32 = 2;
+
+const SCHEDULE: u32 = 3;
+
+const DEVICE: u32 = 4;
+
+const MAX_ACTIVE: u32 = 7;
+
+/// The number of the variable that a statement sets, and 0 where it sets none.
+pub fn set_number(s: Option<Stmt>) -> u32
+    ensures { result ≡ Statements.set_number s }
+{
+    match s {
+        Some(Stmt::SetNumThreads(_)) => NTHREADS,
+        Some(Stmt::SetDynamic(_)) => DYNAMIC,
+        Some(Stmt::SetMaxActive(_)) => MAX_ACTIVE,
+        Some(Stmt::SetSchedule(_)) => SCHEDULE,
+        Some(Stmt::SetDevice(_)) => DEVICE,
+        _ => 0,
+    }
+}
+
+/// The word to which a statement sets its variable, and 0 where it sets none.
+pub fn set_word(s: Option<Stmt>) -> u64
+    ensures { result ≡ Statements.set_word s }
+{
+    match s {
+        Some(Stmt::SetNumThreads(n)) => u64::from(n),
+        Some(Stmt::SetDynamic(b)) => u64::from(b),
+        Some(Stmt::SetMaxActive(n)) => u64::from(n),
+        Some(Stmt::SetSchedule(s)) => u64::from(s.chunk) * 8 + u64::from(s.kind),
+        Some(Stmt::SetDevice(n)) => u64::from(n),
+        _ => 0,
+    }
+}
+
+/// The address of the word of the variable that a statement sets, and 0 where it sets none.
+pub fn set_address(l: &Layout, a: &Actor, s: Option<Stmt>) -> u64
+    requires { HasTask l.now.table a.now.context.task }
+    ensures { result ≡ set_address l.now.table a.now s }
+{
+    let task = a.context.task;
+    match s {
+        Some(Stmt::SetNumThreads(_)) => of_task(l, task, Field::TaskNthreads),
+        Some(Stmt::SetDynamic(_)) => of_task(l, task, Field::TaskDynamic),
+        Some(Stmt::SetMaxActive(_)) => of_runtime(l, Field::RuntimeMaxActive),
+        Some(Stmt::SetSchedule(_)) => of_task(l, task, Field::TaskSchedule),
+        Some(Stmt::SetDevice(_)) => of_task(l, task, Field::TaskDevice),
+        _ => 0,
+    }
+}
+
+/// The word that the statement in work stores for a tool, and 0 for any other statement.
+pub fn tool_word(p: &Program, a: &Actor) -> u64
+    ensures { result ≡ Statements.tool_in (in_work p.now a.now) }
+{
+    match a.statement(p) {
+        Some(Stmt::Tool(x)) => x,
+        _ => 0,
+    }
+}
+
+/// The lock of the critical region in work, and 0 for any other statement.
+pub fn lock(p: &Program, a: &Actor) -> u8
+    ensures value { result ≡ Statements.lock_in (in_work p.now a.now) }
+    ensures range { result ≤ MAX_LOCK }
+{
+    program_rules();
+    match a.statement(p) {
+        Some(Stmt::Critical { k, .. }) => k,
+        _ => 0,
+    }
+}

@@ -1,0 +1,9 @@
+-- The definitions, in reading order.
+pub mod Words
+pub mod Members
+pub mod Placed
+pub mod Plan
+pub mod Searches
+pub mod Moving
+pub mod WordLaws
+pub mod PlanLaws

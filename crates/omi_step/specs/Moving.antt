@@ -1,0 +1,37 @@
+-- How a step leaves an actor: at another counter of a family, with another thing gathered.
+use Rattle.omi_pc.specs.declared.actor.Actor.{Actor}
+use Rattle.omi_pc.specs.declared.counter.Counter.TheVariants as counter
+use Rattle.omi_pc.specs.declared.gathered.Gathered.{Gathered}
+use Rattle.omi_pc.specs.declared.task_counter.FinishCounter.{FinishCounter}
+use Rattle.omi_pc.specs.declared.task_counter.LookCounter.{LookCounter}
+use Rattle.omi_pc.specs.declared.task_counter.TaskCounter.{TaskCounter}
+use Rattle.omi_pc.specs.declared.team_counter.BarrierCounter.{BarrierCounter}
+use Rattle.omi_pc.specs.declared.team_counter.JoinCounter.{JoinCounter}
+use Rattle.omi_pc.specs.declared.team_counter.TeamCounter.{TeamCounter}
+use Rattle.omi_pc.specs.declared.team_counter.WorkerCounter.{WorkerCounter}
+
+-- a counter of a family comes next. For the plain family this is `goes_to` of omi_pc
+abbrev pub to_worker : WorkerCounter → Actor → Actor
+to_worker c a = record a { counter = counter.Worker c }
+
+abbrev pub to_team : TeamCounter → Actor → Actor
+to_team c a = record a { counter = counter.Team c }
+
+abbrev pub to_barrier : BarrierCounter → Actor → Actor
+to_barrier c a = record a { counter = counter.Barrier c }
+
+abbrev pub to_join : JoinCounter → Actor → Actor
+to_join c a = record a { counter = counter.Join c }
+
+abbrev pub to_task : TaskCounter → Actor → Actor
+to_task c a = record a { counter = counter.Task c }
+
+abbrev pub to_look : LookCounter → Actor → Actor
+to_look c a = record a { counter = counter.Look c }
+
+abbrev pub to_finish : FinishCounter → Actor → Actor
+to_finish c a = record a { counter = counter.Finish c }
+
+-- this is gathered
+abbrev pub gathering : Gathered → Actor → Actor
+gathering g a = record a { gathered = g }
