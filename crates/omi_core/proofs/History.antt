@@ -1,0 +1,117 @@
+-- A step more at the end of a list of steps, and what the list makes then.
+use Rattle.std.proofs.Common.{◌≡◌, ◌≢◌, ◌+◌, ◌==◌, ◌++◌, ℕ, suc, Bool, true, false, List, [], ◌∷◌, length, refl, sym, ap, ◌∙◌, subst, arith, eqb-true, if◌then◌else◌}
+use Rattle.std.proofs.lemmas.List.{append_assoc, append-nil}
+use Rattle.std.proofs.lemmas.Bool.Decides.{nat_tests}
+use Rattle.omi_word.specs.Memory.{after}
+use Rattle.omi_script.specs.declared.program.Program.{Program}
+use Rattle.omi_model.specs.declared.event.Event.{Event}
+use Rattle.omi_model.specs.State.{State}
+use Rattle.omi_events.specs.declared.made.Made.{Made}
+use Rattle.omi_pc.specs.declared.actor.Actor.{Actor}
+use Rattle.omi_pc.specs.declared.counter.Counter.{Counter}
+use Rattle.omi_pc.specs.declared.counter.Counter.TheVariants as counter
+use Rattle.omi_pc.specs.declared.team_counter.WorkerCounter.TheVariants as worker
+use Rattle.omi_rep.specs.declared.outcome.Outcome.{Outcome}
+use Rattle.omi_rep.specs.declared.outcome.Outcome.TheVariants as outcome
+use Rattle.omi_actor.specs.Steps.{resumed_at}
+use Rattle.omi_control.specs.Steps.{committed}
+use Rattle.omi_core.specs.declared.entry.Entry.{Entry}
+use Rattle.omi_core.specs.Runs.{events_in}
+use Rattle.omi_core.specs.RunSteps.{event_of, made_of}
+use Rattle.omi_core.specs.Steps.{IsStepFrom, StartsAsWorker, Steps, events_behind, made_of_steps, steps_of}
+use Rattle.omi_core.specs.Kept.{IsUnderWay}
+
+-- ---- events
+
+-- the events of a list of numbered ones
+pub events_append : (xs ys : List (ℕ × ℕ × Event)) → events_in (xs ++ ys) ≡ events_in xs ++ events_in ys
+events_append [] ys = refl
+events_append (x ∷ xs) ys = ap (λ (zs : List (ℕ × Event)). (x.1, x.2) ∷ zs) (events_append xs ys)
+
+pub event_committed : (step i : ℕ) (o : Outcome) → events_in (event_of step i o) ≡ committed i o
+event_committed step i outcome.Quiet = refl
+event_committed step i (outcome.Event e) = refl
+event_committed step i (outcome.NotReady address word) = refl
+event_committed step i outcome.Ended = refl
+
+-- the events that steps commit
+abbrev pub commits_of : List (ℕ × Entry) → List (ℕ × Event)
+commits_of [] = []
+commits_of (x ∷ xs) = committed x.0 x.1.outcome ++ commits_of xs
+
+pub commits_behind : (n : ℕ) (xs : List (ℕ × Entry)) → events_in (events_behind n xs) ≡ commits_of xs
+commits_behind n [] = refl
+commits_behind n (x ∷ xs) =
+    events_append (event_of (n + 1) x.0 x.1.outcome) (events_behind (n + 1) xs)
+    ∙ ap (λ ys. ys ++ events_in (events_behind (n + 1) xs)) (event_committed (n + 1) x.0 x.1.outcome)
+    ∙ ap (λ ys. committed x.0 x.1.outcome ++ ys) (commits_behind (n + 1) xs)
+
+-- ---- one step more
+
+pub events_one_more : (n : ℕ) (xs : List (ℕ × Entry)) (i : ℕ) (e : Entry) → events_behind n (xs ++ (i, e) ∷ []) ≡ events_behind n xs ++ event_of (n + length xs + 1) i e.outcome
+events_one_more n [] i e = append-nil (event_of (n + 1) i e.outcome) ∙ ap (λ k. event_of k i e.outcome) (omega arith)
+events_one_more n (x ∷ xs) i e =
+    ap (λ ys. event_of (n + 1) x.0 x.1.outcome ++ ys) (events_one_more (n + 1) xs i e ∙ ap (λ k. events_behind (n + 1) xs ++ event_of k i e.outcome) (omega arith))
+    ∙ sym (append_assoc (event_of (n + 1) x.0 x.1.outcome) (events_behind (n + 1) xs) (event_of (n + length (x ∷ xs) + 1) i e.outcome))
+
+pub made_one_more : (xs : List (ℕ × Entry)) (i : ℕ) (e : Entry) → made_of_steps (xs ++ (i, e) ∷ []) ≡ made_of_steps xs ++ made_of i e ∷ []
+made_one_more [] i e = refl
+made_one_more (x ∷ xs) i e = ap (λ (ys : List Made). made_of x.0 x.1 ∷ ys) (made_one_more xs i e)
+
+pub made_length : (xs : List (ℕ × Entry)) → length (made_of_steps xs) ≡ length xs
+made_length [] = refl
+made_length (x ∷ xs) = ap suc (made_length xs)
+
+pub steps_one_more : (p : Program) (w words : List ℕ) (past : List (ℕ × Event)) (s : State) (xs : List (ℕ × Entry)) (last : List ℕ) (t : State) (i : ℕ) (e : Entry) (next : State)
+    → Steps p w words past s xs last t → IsStepFrom p w last (past ++ commits_of xs) t i e next → Steps p w words past s (xs ++ (i, e) ∷ []) (after last e.op) next
+steps_one_more p w words past s [] last t i e next (same, is) step = (
+  next,
+  subst (λ (z : State). IsStepFrom p w words past z i e next) is (subst (λ ws. IsStepFrom p w ws past t i e next) same (subst (λ es. IsStepFrom p w last es t i e next) (append-nil past) step)),
+  (ap (λ ws. after ws e.op) same, refl),
+)
+steps_one_more p w words past s (x ∷ xs) last t i e next (n, one, rest) step = (
+  n,
+  one,
+  steps_one_more p w (after words x.1.op) (past ++ committed x.0 x.1.outcome) n xs last t i e next rest
+      (subst (λ es. IsStepFrom p w last es t i e next) (sym (append_assoc past (committed x.0 x.1.outcome) (commits_of xs))) step),
+)
+
+-- ---- the steps of one thread
+
+pub own_one_more : (j : ℕ) (xs : List (ℕ × Entry)) (e : Entry) → steps_of j (xs ++ (j, e) ∷ []) ≡ steps_of j xs ++ e ∷ []
+own_one_more j [] e = by (j == j) refl
+  where
+    by : (b : Bool) → j == j ≡ b → (if b then e ∷ [] else []) ≡ e ∷ []
+    by true is = refl
+    by false is = absurd (grind (arith, nat_tests))
+own_one_more j (x ∷ xs) e = by (own_one_more j xs e) (x.0 == j)
+  where
+    by : steps_of j (xs ++ (j, e) ∷ []) ≡ steps_of j xs ++ e ∷ [] → (b : Bool)
+        → (if b then x.1 ∷ steps_of j (xs ++ (j, e) ∷ []) else steps_of j (xs ++ (j, e) ∷ [])) ≡ (if b then x.1 ∷ steps_of j xs else steps_of j xs) ++ e ∷ []
+    by rest true = ap (λ (ys : List Entry). x.1 ∷ ys) rest
+    by rest false = rest
+
+pub other_one_more : (j i : ℕ) (xs : List (ℕ × Entry)) (e : Entry) → i ≢ j → steps_of j (xs ++ (i, e) ∷ []) ≡ steps_of j xs
+other_one_more j i [] e other = by (i == j) refl
+  where
+    by : (b : Bool) → i == j ≡ b → (if b then e ∷ [] else []) ≡ []
+    by true is = absurd (other (eqb-true i j is))
+    by false is = refl
+other_one_more j i (x ∷ xs) e other = by (other_one_more j i xs e other) (x.0 == j)
+  where
+    by : steps_of j (xs ++ (i, e) ∷ []) ≡ steps_of j xs → (b : Bool)
+        → (if b then x.1 ∷ steps_of j (xs ++ (i, e) ∷ []) else steps_of j (xs ++ (i, e) ∷ [])) ≡ (if b then x.1 ∷ steps_of j xs else steps_of j xs)
+    by rest true = ap (λ (ys : List Entry). x.1 ∷ ys) rest
+    by rest false = rest
+
+-- a worker makes its next step
+pub goes_under_way : (p : Program) (w : List ℕ) (a : Actor) (es : List Entry) (e : Entry) → IsUnderWay es a.counter → e.outcome ≡ (resumed_at p w a a.counter e.old).1 → IsUnderWay (es ++ e ∷ []) (resumed_at p w a a.counter e.old).0.counter
+goes_under_way p w a [] e at out =
+    subst (λ (c : Counter). e.outcome ≡ (resumed_at p w a c e.old).1 → StartsAsWorker (e ∷ []) × ((resumed_at p w a c e.old).0.counter ≡ counter.Worker worker.Offer)) (sym at) (λ is. (is, refl)) out
+goes_under_way p w a (f ∷ []) e (first, at) out = subst (λ (c : Counter). e.outcome ≡ (resumed_at p w a c e.old).1 → StartsAsWorker (f ∷ e ∷ [])) (sym at) (λ is. (first, is)) out
+goes_under_way p w a (f ∷ g ∷ es) e starts out = starts
+
+pub starts_right : (es : List Entry) (c : Counter) → IsUnderWay es c → StartsAsWorker es
+starts_right [] c at = tt
+starts_right (e ∷ []) c (starts, at) = starts
+starts_right (e ∷ f ∷ es) c starts = starts

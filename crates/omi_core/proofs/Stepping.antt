@@ -1,0 +1,313 @@
+-- A step of a run keeps what a run keeps.
+use Rattle.std.proofs.Common.{◌≡◌, ◌<◌, ◌≤◌, ◌+◌, ◌/◌, ◌^◌, ◌==◌, ◌++◌, ℕ, zero, suc, Bool, true, false, List, [], ◌∷◌, length, slice_index_or, slice_set, refl, sym, ap, ◌∙◌, subst, arith, eq-eqb, eqb-true, zero-add, if◌then◌else◌}
+use mathlib.Core.Path.{fun_ext}
+use Rattle.std.specs.Prelude.{IsTrue}
+use Rattle.std.proofs.lemmas.Bool.Decides.{nat_tests}
+use Rattle.std.proofs.Math.Nat.{add-div_right, div-mul-le_self, mul-le-mul_left}
+use Rattle.std.proofs.lemmas.Nat.{le-div}
+use Rattle.std.proofs.lemmas.List.{length-append}
+use Rattle.std.proofs.lemmas.List.{get_or-set_other, get_or-set_same, length-map, length-set}
+use Rattle.omi_word.specs.declared.op.Op.{Op}
+use Rattle.omi_word.specs.Memory.{IsWordOf, address_of, after, word_at}
+use Rattle.omi_script.specs.declared.program.Program.{Program}
+use Rattle.omi_model.specs.declared.event.Event.{Event}
+use Rattle.omi_model.specs.declared.event.Event.TheVariants as event
+use Rattle.omi_model.specs.Reached.{Step}
+use Rattle.omi_model.proofs.AskedTeams.{teams_asked}
+use Rattle.omi_events.specs.Events.{team_in}
+use Rattle.omi_events.specs.declared.made.Made.{Made}
+use Rattle.omi_model.specs.State.{State}
+use Rattle.omi_layout.specs.declared.limits.TheConstants.{FRONT_WORDS, TABLE_PLACE}
+use Rattle.omi_layout.specs.Frame.{IsOnWord}
+use Rattle.omi_layout.specs.Given.{HasTables}
+use Rattle.omi_layout.specs.Memory.{Memory, memory_of, put}
+use Rattle.omi_layout.specs.Named.{number}
+use Rattle.omi_layout.specs.Place.{fits, image_words}
+use Rattle.omi_layout.specs.Valid.{IsValid}
+use Rattle.omi_rep.specs.Suits.{Suits}
+use Rattle.omi_layout.specs.SymbolTable.{words_of}
+use Rattle.omi_layout.proofs.Stored.{on_word}
+use Rattle.omi_pc.specs.declared.actor.Actor.{Actor}
+use Rattle.omi_pc.specs.Opening.{waiting_actor}
+use Rattle.omi_rep.specs.declared.outcome.Outcome.{Outcome}
+use Rattle.omi_rep.specs.declared.outcome.Outcome.TheVariants as outcome
+use Rattle.omi_rep.specs.Shows.{Shows}
+use Rattle.omi_rule.proofs.Shown.{kept_words_show}
+use Rattle.omi_rule.specs.Owes.{all_owed}
+use Rattle.omi_actor.specs.Steps.{next_of, resumed_at}
+use Rattle.omi_control.specs.Commits.{ComesOf}
+use Rattle.omi_control.specs.Rule.{KeepsThread, Rule}
+use Rattle.omi_control.specs.Steps.{KeepsRule, LeadsOn, RecordWord, StepKeeps, committed, found_in, left_in}
+use Rattle.omi_control.specs.StepsKeep.{IsKept}
+use Rattle.omi_control.proofs.StepsKept.{steps_keep}
+use Rattle.omi_core.specs.declared.entry.Entry.{Entry}
+use Rattle.omi_core.specs.Kept.{IsUnderWay, KeepsRun}
+use Rattle.omi_core.specs.Runs.{Run, actors_in, events_in, spare_in}
+use Rattle.omi_core.specs.RunSteps.{IsRight, ShowsState, event_of, made_of, seats_of}
+use Rattle.omi_core.specs.Steps.{AreStepsOf, IsStepFrom, events_behind, steps_of}
+use Rattle.omi_core.proofs.History.{commits_behind, event_committed, events_append, events_one_more, goes_under_way, made_length, made_one_more, other_one_more, own_one_more, starts_right, steps_one_more}
+use Rattle.omi_core.proofs.Reaching.{reached_one}
+
+-- ---- lists
+
+-- one actor of a list is another
+pub actors_set : (xs : List Actor) (i : ℕ) (b : Actor) → i < length xs → actors_in (slice_set xs i b) ≡ put (actors_in xs) i b
+actors_set xs i b within = fun_ext (λ j. go j (j == i) refl)
+  where
+    go : (j : ℕ) (t : Bool) → j == i ≡ t → actors_in (slice_set xs i b) j ≡ (if t then b else actors_in xs j)
+    go j true e =
+        let same : j ≡ i = eqb-true j i e in
+        subst (λ k. actors_in (slice_set xs i b) k ≡ b) (sym same) (get_or-set_same xs i b (waiting_actor i) within)
+    go j false e = get_or-set_other xs i j b (waiting_actor j) (λ same. grind (arith, nat_tests))
+
+-- a thread of the list has its actor, whatever stands for the others
+pub actor_is : (xs : List Actor) (i : ℕ) (d : Actor) → i < length xs → slice_index_or xs i d ≡ actors_in xs i
+actor_is [] i d within = absurd (omega (arith, within))
+actor_is (x ∷ xs) zero d within = refl
+actor_is (x ∷ xs) (suc i) d within = ap-default xs i d (waiting_actor (suc i)) (omega (arith, within))
+  where
+    ap-default : (xs : List Actor) (i : ℕ) (d e : Actor) → i < length xs → slice_index_or xs i d ≡ slice_index_or xs i e
+    ap-default [] i d e within = absurd (omega (arith, within))
+    ap-default (x ∷ xs) zero d e within = refl
+    ap-default (x ∷ xs) (suc i) d e within = ap-default xs i d e (omega (arith, within))
+
+-- ---- what the words show
+
+pub shows_state : (a : Run) → KeepsRun a → ShowsState a
+shows_state a k = λ s reached.
+    let same : k.state ≡ s = reached_one a.program (events_in a.events.items) k.state s k.rule.reached reached in
+    subst (λ (z : State). Shows a.table (words_of a.words) z) same
+    (kept_words_show a.table a.words k.state (all_owed (actors_in a.actors)) k.valid k.count k.tables k.rule.within k.rule.words)
+
+-- a team finds its seats where a step has room
+pub seats_there : (a : Run) → 0 < a.program.threads → 1 ≤ spare_in a → a.program.threads ≤ a.events.seats
+seats_there a some spare =
+    let whole = div-mul-le_self a.events.seats a.program.threads in
+    let one : 1 ≤ a.events.seats / a.program.threads = grind (arith, spare) in
+    let least = mul-le-mul_left a.program.threads one in
+    grind (arith, whole, least)
+
+-- a step has one event at most
+pub one_event : (step i : ℕ) (o : Outcome) → length (event_of step i o) ≤ 1
+one_event step i outcome.Quiet = omega arith
+one_event step i (outcome.Event e) = omega arith
+one_event step i (outcome.NotReady address word) = omega arith
+one_event step i outcome.Ended = omega arith
+
+-- no more events than steps
+pub few_events : (es ys more : List (ℕ × ℕ × Event)) (ms later : List Made) (x : Made) → more ≡ es ++ ys → length ys ≤ 1 → later ≡ ms ++ x ∷ [] → length es ≤ length ms → length more ≤ length later
+few_events es ys more ms later x events one made few =
+    let a : length more ≡ length es + length ys = ap length events ∙ length-append es ys in
+    let b : length later ≡ length ms + 1 = ap length made ∙ length-append ms (x ∷ []) in
+    omega (arith, a, b, one, few)
+
+-- ---- the thread that steps
+
+module _ (a : Run) (k : KeepsRun a) (i : ℕ) (thread : i < a.program.threads) where
+  abbrev memory : Memory
+  memory = memory_of a.table a.words
+
+  pub known : i < k.state.count
+  known = subst (λ n. i < n) (k.suits.threads ∙ sym k.rule.within.count) thread
+
+  pub own : KeepsThread a.program a.table (memory_of a.table a.words) (events_in a.events.items) k.state i (actors_in a.actors i)
+  own = k.rule.threads i known
+
+  module _ (spare : 1 ≤ spare_in a) (kept : IsKept (actors_in a.actors i).counter) where
+    abbrev op : Op
+    op = next_of a.program a.table (actors_in a.actors i)
+
+    abbrev behind : ℕ → Actor × Outcome
+    behind old = resumed_at a.program a.table (actors_in a.actors i) (actors_in a.actors i).counter old
+
+    pub few : length (events_in a.events.items) + 1 < 2 ^ 57
+    few =
+        let same : length (events_in a.events.items) ≡ length a.events.items = length-map a.events.items (λ (e : ℕ × ℕ × Event). (e.1, e.2)) in
+        let steps = k.few in
+        grind (arith, spare, same, steps)
+
+    pub keeps : StepKeeps a.program a.table (memory_of a.table a.words) (events_in a.events.items) k.state (actors_in a.actors) i op behind
+    keeps = steps_keep a.program a.table (memory_of a.table a.words) (events_in a.events.items) k.state (actors_in a.actors) i k.valid k.suits k.rule known few kept
+
+    abbrev x : RecordWord
+    x = keeps.0
+
+    on : IsOnWord a.table a.words op x.creator x.slot (number x.field) x.place
+    on =
+        on_word a.table k.valid a.words op x.creator x.slot (number x.field) x.place
+        (subst (λ n. IsTrue (fits a.table n)) (sym k.count) k.suits.fits) keeps.1.there keeps.1.address
+
+    -- the operation is on a word of the image
+    pub inside : IsWordOf a.words (address_of op)
+    inside = on.inside
+
+    pub rule_after : KeepsRule a.program a.table (memory_of a.table a.words) (events_in a.events.items) k.state (actors_in a.actors) i op x (behind (word_at a.words (address_of op)))
+    rule_after = subst (λ old. KeepsRule a.program a.table (memory_of a.table a.words) (events_in a.events.items) k.state (actors_in a.actors) i op x (behind old)) (sym on.finds) keeps.2
+
+    -- a team has at most all threads
+    pub few_seats : seats_of (behind (word_at a.words (address_of op))).1 ≤ a.program.threads
+    few_seats = go (behind (word_at a.words (address_of op))).1 rule_after.leads
+      where
+        go : (o : Outcome) → LeadsOn a.program a.table (events_in a.events.items) k.state i o rule_after.next → seats_of o ≤ a.program.threads
+        go outcome.Quiet leads = omega arith
+        go (outcome.NotReady address word) leads = omega arith
+        go outcome.Ended leads = omega arith
+        go (outcome.Event e) leads = by e leads
+          where
+            by : (e : Event) → Step a.program k.state i e rule_after.next → length (team_in e) ≤ a.program.threads
+            by (event.Fork region team) step =
+                let asked = teams_asked a.program (events_in a.events.items) k.state k.rule.reached i region team step.legal in
+                subst (λ n. length team ≤ n) (k.rule.within.count ∙ sym k.suits.threads) asked.few
+            by event.Begin step = omega arith
+            by event.Offer step = omega arith
+            by (event.Want n) step = omega arith
+            by (event.Ask v got) step = omega arith
+            by (event.ImplicitBegin task) step = omega arith
+            by (event.State state wait) step = omega arith
+            by event.Enter step = omega arith
+            by event.Leave step = omega arith
+            by event.Arrive step = omega arith
+            by event.Release step = omega arith
+            by event.Pass step = omega arith
+            by (event.ImplicitEnd task) step = omega arith
+            by (event.Join region) step = omega arith
+            by (event.FreeTask task) step = omega arith
+            by (event.FreeRegion region) step = omega arith
+            by (event.Seen j) step = omega arith
+            by (event.Defer task) step = omega arith
+            by (event.StartNow task) step = omega arith
+            by (event.Start task) step = omega arith
+            by (event.Finish task) step = omega arith
+            by event.WaitDone step = omega arith
+            by event.Yield step = omega arith
+            by (event.Set icv value) step = omega arith
+            by (event.SetTool y) step = omega arith
+            by (event.Lock l) step = omega arith
+            by (event.Unlock l) step = omega arith
+            by event.Work step = omega arith
+            by (event.Call f) step = omega arith
+            by event.Skip step = omega arith
+            by event.Ret step = omega arith
+            by event.Done step = omega arith
+
+    pub seats_for : (o : Outcome) → o ≡ (behind (word_at a.words (address_of op))).1 → seats_of o ≤ a.events.seats
+    seats_for o is =
+        let most : seats_of o ≤ a.program.threads = subst (λ (x : Outcome). seats_of x ≤ a.program.threads) (sym is) few_seats in
+        let there : a.program.threads ≤ a.events.seats = seats_there a (omega (arith, thread)) spare in
+        omega (arith, most, there)
+
+    -- the step, as one of a list
+    pub from : (e : Entry) → e.op ≡ op → e.old ≡ word_at a.words (address_of op) → e.outcome ≡ (behind (word_at a.words (address_of op))).1 → IsStepFrom a.program a.table a.words (events_in a.events.items) k.state i e rule_after.next
+    from e op_is old_is out_is = record {
+      thread = thread;
+      inside = subst (λ (o : Op). IsWordOf a.words (address_of o)) (sym op_is) inside;
+      found = old_is ∙ ap (λ (o : Op). word_at a.words (address_of o)) (sym op_is);
+      leads = subst (λ (o : Outcome). LeadsOn a.program a.table (events_in a.events.items) k.state i o rule_after.next) (sym out_is) rule_after.leads;
+      comes =
+          subst (λ (o : Op). ComesOf a.table k.state i o e.old e.outcome) (sym op_is)
+          (subst (λ n. ComesOf a.table k.state i op n e.outcome) (sym on.finds ∙ sym old_is)
+          (subst (λ (o : Outcome). ComesOf a.table k.state i op (found_in (memory_of a.table a.words) x) o) (sym out_is) rule_after.comes));
+    }
+
+    -- whatever state the events reach
+    pub right : (e : Entry) → e.op ≡ op → e.old ≡ word_at a.words (address_of op) → e.outcome ≡ (behind (word_at a.words (address_of op))).1 → IsRight a i e
+    right e op_is old_is out_is = λ s reached.
+        let same : k.state ≡ s = reached_one a.program (events_in a.events.items) k.state s k.rule.reached reached in
+        let step = from e op_is old_is out_is in (
+          (rule_after.next, subst (λ (z : State). LeadsOn a.program a.table (events_in a.events.items) z i e.outcome rule_after.next) same step.leads),
+          subst (λ (z : State). ComesOf a.table z i e.op e.old e.outcome) same step.comes,
+        )
+
+    -- the run afterwards
+    pub run_after : (b : Run) (e : Entry) → e.op ≡ op → e.old ≡ word_at a.words (address_of op) → e.outcome ≡ (behind (word_at a.words (address_of op))).1
+        → b.program ≡ a.program → b.table ≡ a.table → b.words ≡ after a.words e.op → b.actors ≡ slice_set a.actors i (behind (word_at a.words (address_of op))).0
+        → b.made.items ≡ a.made.items ++ made_of i e ∷ [] → b.events.items ≡ a.events.items ++ event_of (length a.made.items + 1) i e.outcome → KeepsRun b
+    run_after b e op_is old_is out_is program table words actors made events = record {
+      state = rule_after.next;
+      valid = subst IsValid (sym table) k.valid;
+      suits = subst (λ (q : Program). Suits q b.table) (sym program) (subst (λ t. Suits a.program t) (sym table) k.suits);
+      count = ap length now_words ∙ on.count ∙ k.count ∙ ap image_words (sym table);
+      tables = subst (λ t. HasTables t b.words) (sym table) (subst (HasTables a.table) (sym now_words) still);
+      actors = ap length actors ∙ length-set a.actors i _ ∙ k.actors ∙ ap (λ (q : Program). q.threads) (sym program);
+      few = few_events a.events.items _ _ a.made.items _ _ events (one_event _ i e.outcome) made k.few;
+      rule = now;
+      entries = k.entries ++ (i, e) ∷ [];
+      made_by = record {
+        steps =
+            subst (λ (q : Program). AreStepsOf q b.table (k.entries ++ (i, e) ∷ []) b.words rule_after.next) (sym program)
+            (subst (λ t. AreStepsOf a.program t (k.entries ++ (i, e) ∷ []) b.words rule_after.next) (sym table)
+            (subst (λ ws. AreStepsOf a.program a.table (k.entries ++ (i, e) ∷ []) ws rule_after.next) (sym words) are));
+        events =
+            events
+            ∙ ap (λ ys. ys ++ event_of (length a.made.items + 1) i e.outcome) k.made_by.events
+            ∙ ap (λ n. events_behind 0 k.entries ++ event_of (n + 1) i e.outcome) (ap length k.made_by.made ∙ made_length k.entries ∙ sym (zero-add (length k.entries)))
+            ∙ sym (events_one_more 0 k.entries i e);
+        made = made ∙ ap (λ (ys : List Made). ys ++ made_of i e ∷ []) k.made_by.made ∙ sym (made_one_more k.entries i e);
+      };
+      workers = under_way;
+    }
+      where
+        now_words : b.words ≡ after a.words op
+        now_words = words ∙ ap (λ (o : Op). after a.words o) op_is
+
+        still : HasTables a.table (after a.words op)
+        still = record {
+          long = subst (λ n. FRONT_WORDS ≤ n) (sym on.count) k.tables.long;
+          symbols = λ j below. on.front j (omega (arith, below)) ∙ k.tables.symbols j below;
+          table = λ j below. on.front (TABLE_PLACE + j) (omega (arith, below)) ∙ k.tables.table j below;
+        }
+
+        actors_now : actors_in b.actors ≡ put (actors_in a.actors) i (behind (word_at a.words (address_of op))).0
+        actors_now = ap actors_in actors ∙ actors_set a.actors i (behind (word_at a.words (address_of op))).0 (subst (λ n. i < n) (sym k.actors) thread)
+
+        now : Rule b.program b.table (memory_of b.table b.words) (events_in b.events.items) rule_after.next (actors_in b.actors)
+        now =
+            subst (λ (q : Program). Rule q b.table (memory_of b.table b.words) (events_in b.events.items) rule_after.next (actors_in b.actors)) (sym program)
+            (subst (λ t. Rule a.program t (memory_of t b.words) (events_in b.events.items) rule_after.next (actors_in b.actors)) (sym table)
+            (subst (λ ws. Rule a.program a.table (memory_of a.table ws) (events_in b.events.items) rule_after.next (actors_in b.actors)) (sym now_words)
+            (subst (λ (m : Memory). Rule a.program a.table m (events_in b.events.items) rule_after.next (actors_in b.actors)) (sym on.leaves)
+            (subst (λ es. Rule a.program a.table (left_in (memory_of a.table a.words) op x) es rule_after.next (actors_in b.actors))
+            (sym (ap events_in events ∙ events_append a.events.items (event_of (length a.made.items + 1) i e.outcome) ∙ ap (λ ys. events_in a.events.items ++ ys) (event_committed (length a.made.items + 1) i e.outcome)
+            ∙ ap (λ (o : Outcome). events_in a.events.items ++ committed i o) out_is))
+            (subst (λ (xs : ℕ → Actor). Rule a.program a.table (left_in (memory_of a.table a.words) op x) (events_in a.events.items ++ committed i (behind (word_at a.words (address_of op))).1) rule_after.next xs)
+            (sym actors_now) rule_after.rule)))))
+
+        outcome_is : e.outcome ≡ (behind e.old).1
+        outcome_is = out_is ∙ ap (λ n. (behind n).1) (sym old_is)
+
+        under_way : (j : ℕ) → 0 < j → IsUnderWay (steps_of j (k.entries ++ (i, e) ∷ [])) (actors_in b.actors j).counter
+        under_way j worker = subst (λ (xs : ℕ → Actor). IsUnderWay (steps_of j (k.entries ++ (i, e) ∷ [])) (xs j).counter) (sym actors_now) (go (j == i) refl)
+          where
+            go : (t : Bool) → j == i ≡ t → IsUnderWay (steps_of j (k.entries ++ (i, e) ∷ [])) (if t then (behind (word_at a.words (address_of op))).0 else actors_in a.actors j).counter
+            go true is =
+                let same : j ≡ i = eqb-true j i is in
+                subst (λ z. IsUnderWay (steps_of z (k.entries ++ (i, e) ∷ [])) (behind (word_at a.words (address_of op))).0.counter) (sym same)
+                (subst (λ es. IsUnderWay es (behind (word_at a.words (address_of op))).0.counter) (sym (own_one_more i k.entries e))
+                (subst (λ n. IsUnderWay (steps_of i k.entries ++ e ∷ []) (behind n).0.counter) old_is
+                (goes_under_way a.program a.table (actors_in a.actors i) (steps_of i k.entries) e (k.workers i (subst (λ z. 0 < z) same worker)) outcome_is)))
+            go false is =
+                subst (λ es. IsUnderWay es (actors_in a.actors j).counter) (sym (other_one_more j i k.entries e (λ same. let yes : j == i ≡ true = eq-eqb j i (sym same) in cc (is, yes))))
+                (k.workers j worker)
+
+        are : AreStepsOf a.program a.table (k.entries ++ (i, e) ∷ []) (after a.words e.op) rule_after.next
+        are = record {
+          first = k.made_by.steps.first;
+          opens = k.made_by.steps.opens;
+          steps = steps_one_more a.program a.table k.made_by.steps.first [] _ k.entries a.words k.state i e rule_after.next k.made_by.steps.steps
+              (subst (λ es. IsStepFrom a.program a.table a.words es k.state i e rule_after.next) (ap events_in k.made_by.events ∙ commits_behind 0 k.entries) (from e op_is old_is out_is));
+          workers = λ j worker. starts_right (steps_of j (k.entries ++ (i, e) ∷ [])) (actors_in b.actors j).counter (under_way j worker);
+        }
+
+-- room behind a step
+less_div : (x y n : ℕ) → 0 < n → x ≤ y + n → x / n ≤ y / n + 1
+less_div x y n some few =
+    let whole = div-mul-le_self x n in
+    let most : x / n ≤ (y + n) / n = le-div (x / n) (y + n) n some (omega (arith, whole, few)) in
+    let one_more = add-div_right y some in
+    omega (arith, most, one_more)
+
+pub spare_after : (a b : Run) → b.program ≡ a.program → 0 < a.program.threads → b.made.spare + 1 ≡ a.made.spare → a.events.spare ≤ b.events.spare + 1 → a.events.seats ≤ b.events.seats + a.program.threads → length b.made.items ≡ length a.made.items + 1 → 1 ≤ spare_in a → spare_in a ≤ spare_in b + 1
+spare_after a b program some made events seats steps spare =
+    let room : a.events.seats / a.program.threads ≤ b.events.seats / b.program.threads + 1 =
+    subst (λ (q : Program). a.events.seats / a.program.threads ≤ b.events.seats / q.threads + 1) (sym program) (less_div a.events.seats b.events.seats a.program.threads some seats) in
+    grind (arith, made, events, room, steps, spare)

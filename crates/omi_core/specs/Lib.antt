@@ -1,0 +1,10 @@
+-- The definitions to believe, in reading order: what a run is, what a step of it does and what its words show, what a list of steps
+-- makes, and what a run keeps.
+pub mod Runs
+pub mod RunSteps
+pub mod Steps
+pub mod Kept
+-- A run by a schedule: which thread makes each step, and where the run ends
+pub mod Schedules
+pub mod Ends
+pub mod ScheduledRuns

@@ -1,0 +1,76 @@
+-- A list of atomic steps by any threads, in any order, and what it makes: the words, the numbered events, and the state that these
+-- reach.
+use Rattle.std.specs.Prelude.{◌≡◌, ◌<◌, ℕ, ◌+◌, ◌++◌, List, [], ◌∷◌, map, ◌==◌, if◌then◌else◌}
+use Rattle.omi_word.specs.Memory.{IsWordOf, address_of, after, word_at}
+use Rattle.omi_script.specs.declared.program.Program.{Program}
+use Rattle.omi_model.specs.declared.event.Event.{Event}
+use Rattle.omi_model.specs.declared.event.Event.TheVariants as event
+use Rattle.omi_model.specs.Opening.{opening}
+use Rattle.omi_model.specs.State.{State}
+use Rattle.omi_events.specs.declared.made.Made.{Made}
+use Rattle.omi_layout.specs.OpeningWords.{AreOpening}
+use Rattle.omi_rep.specs.declared.outcome.Outcome.TheVariants as outcome
+use Rattle.omi_control.specs.Commits.{ComesOf}
+use Rattle.omi_control.specs.Steps.{LeadsOn, committed}
+use Rattle.omi_core.specs.declared.entry.Entry.{Entry}
+use Rattle.omi_core.specs.RunSteps.{event_of, made_of}
+
+-- ---- one step
+
+-- A step of thread i, where the events so far reach this state. Its operation is on one of the words and finds what the entry says.
+-- Its event, if it has one, is legal, leads to the next state and is committed at the event's word; a thread that is not ready waits on
+-- the word that is named; and a thread has ended where it committed `done` before
+pub record IsStepFrom (p : Program) (w words : List ℕ) (past : List (ℕ × Event)) (s : State) (i : ℕ)
+    (e : Entry) (next : State) : Type 0 where
+  pub thread : i < p.threads
+  pub inside : IsWordOf words (address_of e.op)
+  pub found : e.old ≡ word_at words (address_of e.op)
+  pub leads : LeadsOn p w past s i e.outcome next
+  pub comes : ComesOf w s i e.op e.old e.outcome
+
+-- ---- many steps
+
+-- from these words, events and state the steps lead to those words and that state
+abbrev pub Steps : Program → List ℕ → List ℕ → List (ℕ × Event) → State → List (ℕ × Entry)
+    → List ℕ → State → Type 0
+Steps p w words past s [] last t = (last ≡ words) × (t ≡ s)
+Steps p w words past s (x ∷ xs) last t = (next : State) × IsStepFrom p w words past s x.0 x.1 next
+    × Steps p w (after words x.1.op) (past ++ committed x.0 x.1.outcome) next xs last t
+
+-- the events of steps behind so many others, each with the number of its step and its thread
+abbrev pub events_behind : ℕ → List (ℕ × Entry) → List (ℕ × ℕ × Event)
+events_behind steps [] = []
+events_behind steps (x ∷ xs) =
+    event_of (steps + 1) x.0 x.1.outcome ++ events_behind (steps + 1) xs
+
+-- the threads of steps, in order, and what is kept of each
+abbrev pub threads_of : List (ℕ × Entry) → List ℕ
+threads_of xs = map (λ x. x.0) xs
+
+abbrev pub made_of_steps : List (ℕ × Entry) → List Made
+made_of_steps xs = map (λ x. made_of x.0 x.1) xs
+
+-- ---- workers
+
+-- the steps of one thread
+abbrev pub steps_of : ℕ → List (ℕ × Entry) → List Entry
+steps_of i [] = []
+steps_of i (x ∷ xs) = if x.0 == i then x.1 ∷ steps_of i xs else steps_of i xs
+
+-- the first step of a worker commits `begin`, and the second one `offer`
+abbrev pub StartsAsWorker : List Entry → Type 0
+StartsAsWorker [] = Unit {0}
+StartsAsWorker (e ∷ []) = e.outcome ≡ outcome.Event event.Begin
+StartsAsWorker (e ∷ f ∷ es) =
+    (e.outcome ≡ outcome.Event event.Begin) × (f.outcome ≡ outcome.Event event.Offer)
+
+-- ---- a run
+
+-- these are the steps of a run of a program in a layout, from its opening words and its opening state on, and they lead to these words
+-- and this state
+pub record AreStepsOf (p : Program) (w : List ℕ) (xs : List (ℕ × Entry)) (words : List ℕ)
+    (s : State) : Type 0 where
+  pub first : List ℕ
+  pub opens : AreOpening p w first
+  pub steps : Steps p w first [] (opening p) xs words s
+  pub workers : (i : ℕ) → 0 < i → StartsAsWorker (steps_of i xs)

@@ -1,0 +1,17 @@
+//! Runs of many threads, step by step, under the rule.
+#![tactic(auto)]
+
+mod entry;
+mod limits;
+mod opening;
+mod run;
+mod schedule;
+mod stop;
+
+pub use entry::Entry;
+pub use limits::MOST_STEPS;
+pub use omi_list::OutOfMemory;
+pub use opening::opening_image;
+pub use run::Core;
+pub use schedule::Schedule;
+pub use stop::{Break, End, Stop};

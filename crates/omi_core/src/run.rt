@@ -1,0 +1,217 @@
+//! A run: its words, its threads, and the steps and events so far.
+
+ghost use Rattle.std.specs.Prelude.{◌≡◌, ◌<◌, ◌≤◌, ◌+◌, ◌++◌, IfOk, OnOk, length, min, true, false};
+ghost use Rattle.omi_control.specs.StepsKeep.{IsJoinKept, IsKept};
+ghost use Rattle.omi_core.specs.declared.limits.TheConstants.{MOST_STEPS};
+ghost use Rattle.omi_core.specs.Runs.{IsOpening, IsSameRun, actors_in, spare_in};
+ghost use Rattle.omi_rep.specs.Suits.{Suits};
+ghost use Rattle.omi_core.specs.RunSteps.{IsRight, IsStep, ShowsState, event_of, seats_of};
+
+use crate::opening::{opening_actors, opening_image};
+use crate::{Entry, MOST_STEPS, OutOfMemory};
+use omi_actor::{next, resume};
+use omi_events::{EventList, Made, MadeList, Turn};
+use omi_layout::Layout;
+use omi_pc::{Actor, Counter, JoinCounter};
+use omi_rep::Outcome;
+use omi_script::Program;
+use omi_word::Image;
+use std::alloc::Global;
+use std::marker::Model;
+
+/// A run of a program in a layout, between two steps.
+#[derive(Drop)]
+pub struct Core {
+    program: Program,
+    layout: Layout,
+    image: Image,
+    /// One for each thread.
+    actors: Vec<Actor>,
+    events: EventList,
+    made: MadeList,
+}
+
+impl Model for Core {
+    ghost use Rattle.omi_core.specs.declared.limits.TheConstants.{MOST_STEPS};
+    ghost use Rattle.omi_core.specs.Kept.{KeepsRun};
+    ghost use Rattle.omi_core.specs.Runs.{Run};
+
+    ghost Value = { Run };
+
+    ghost view = { λ a. record {
+      program = a.program;
+      table = a.layout.table;
+      words = a.image;
+      actors = a.actors.items;
+      events = a.events;
+      made = a.made;
+    } };
+
+    ghost invariant = { λ a. KeepsRun (record {
+      program = a.program;
+      table = a.layout.table;
+      words = a.image;
+      actors = a.actors.items;
+      events = a.events;
+      made = a.made;
+    }) };
+}
+
+/// What is kept of an outcome.
+fn turn_of(outcome: &Outcome) -> Turn
+    ensures { result ≡ Rattle.omi_core.specs.RunSteps.turn_of outcome.now }
+{
+    match outcome {
+        Outcome::Quiet => Turn::Quiet,
+        Outcome::Event(_) => Turn::Event,
+        Outcome::NotReady { .. } => Turn::NotReady,
+        Outcome::Ended => Turn::Ended,
+    }
+}
+
+/// The smaller of two numbers.
+fn least(a: usize, b: usize) -> usize
+    ensures { result ≡ min a b }
+{
+    if a <= b { a } else { b }
+}
+
+/// Whether the step at a counter of a join is made: no record is given back yet.
+fn is_kept_join(c: JoinCounter) -> bool
+    ensures yes { result ≡ true → IsJoinKept c }
+    ensures no { result ≡ false → IsJoinKept c → ⊥ }
+{
+    matches!(c, JoinCounter::LoadLeft | JoinCounter::Join)
+}
+
+/// Whether the step at a counter is made.
+fn is_kept(c: Counter) -> bool
+    ensures yes { result ≡ true → IsKept c }
+    ensures no { result ≡ false → IsKept c → ⊥ }
+{
+    match c {
+        Counter::Worker(_) | Counter::Team(_) | Counter::Barrier(_) | Counter::Plain(_) => true,
+        Counter::Join(c) => is_kept_join(c),
+        _ => false,
+    }
+}
+
+/// Lists the event of an outcome, if it has one. Takes no memory.
+fn list_event(events: &mut EventList, step: u64, thread: u8, outcome: &Outcome)
+    requires spare { 1 ≤ events.old.spare }
+    requires seats { seats_of outcome.now ≤ events.old.seats }
+    ensures items { events.new.items ≡ events.old.items ++ event_of step thread outcome.now }
+    ensures spare { events.old.spare ≤ events.new.spare + 1 }
+    ensures seats { events.old.seats ≤ events.new.seats + seats_of outcome.now }
+{
+    if let Outcome::Event(e) = outcome {
+        events.push_reserved((step, thread, *e));
+    }
+}
+
+impl Core {
+    /// A run of a program in a layout that suits it, before its first step.
+    pub fn opening(alloc: Global, p: Program, l: Layout) -> Result<Core, OutOfMemory>
+        requires { Suits p l.table }
+        ensures { IfOk result (λ core. IsOpening p l.table core) }
+    {
+        let image = opening_image(alloc, &p, &l)?;
+        let actors = opening_actors(alloc, &p)?;
+        Ok(Core {
+            program: p,
+            layout: l,
+            image,
+            actors,
+            events: EventList::new(alloc),
+            made: MadeList::new(alloc),
+        })
+    }
+
+    /// The words.
+    pub fn image(&self) -> &Image
+        ensures words { result.now ≡ self.now.words }
+        ensures shown { ShowsState self.now }
+    {
+        &self.image
+    }
+
+    /// The events so far: step, thread and event, in order.
+    pub fn events(&self) -> &EventList
+        ensures { result.now ≡ self.now.events }
+    {
+        &self.events
+    }
+
+    /// The steps so far, in order.
+    pub fn made(&self) -> &MadeList
+        ensures { result.now ≡ self.now.made }
+    {
+        &self.made
+    }
+
+    /// The number of steps so far.
+    pub fn steps(&self) -> u64
+        ensures { result ≡ length self.now.made.items }
+    {
+        self.made.len() as u64
+    }
+
+    /// Whether a thread has come to a step that is not made yet: the looks at the slots for deferred tasks, and the steps of explicit
+    /// tasks.
+    pub fn edge(&self, i: u8) -> bool
+        requires { i < self.now.program.threads }
+        ensures goes_on { result ≡ false → IsKept (actors_in self.now.actors i).counter }
+        ensures comes { result ≡ true → IsKept (actors_in self.now.actors i).counter → ⊥ }
+    {
+        !is_kept(self.actors[i as usize].counter)
+    }
+
+    /// How many more steps take no memory.
+    pub fn spare(&self) -> usize
+        ensures { result ≡ spare_in self.now }
+    {
+        let lists = least(self.made.spare(), self.events.spare());
+        let teams = self.events.seats() / self.program.threads as usize;
+        let steps = MOST_STEPS.saturating_sub(self.made.len() as u64) as usize;
+        least(lists, least(teams, steps))
+    }
+
+    /// Makes room for so many more steps, each with an event and a team of all threads. A run has at most `MOST_STEPS`.
+    pub fn reserve(&mut self, n: usize) -> Result<(), OutOfMemory>
+        requires { n + length self.old.made.items ≤ MOST_STEPS }
+        ensures run { IsSameRun self.old self.new }
+        ensures spare { OnOk result (n ≤ spare_in self.new) }
+    {
+        self.made.reserve(n)?;
+        self.events.reserve(n, n * self.program.threads as usize)?;
+        Ok(())
+    }
+
+    /// One step of a thread: one operation on one word. Takes no memory.
+    pub fn step(&mut self, i: u8) -> Entry
+        requires thread { i < self.old.program.threads }
+        requires spare { 1 ≤ spare_in self.old }
+        requires kept { IsKept (actors_in self.old.actors i).counter }
+        ensures entry { IsStep self.old i result self.new }
+        ensures right { IsRight self.old i result }
+        ensures spare { spare_in self.old ≤ spare_in self.new + 1 }
+    {
+        let at = i as usize;
+        let op = next(&self.program, &self.layout, &self.actors[at]);
+        let found = self.image.apply(op);
+        let outcome = resume(&self.program, &self.layout, &mut self.actors[at], found);
+        let step = self.made.len() as u64 + 1;
+        self.made.push_reserved(Made {
+            op,
+            old: found.old,
+            thread: i,
+            turn: turn_of(&outcome),
+        });
+        list_event(&mut self.events, step, i, &outcome);
+        Entry {
+            op,
+            old: found.old,
+            outcome,
+        }
+    }
+}
