@@ -14,13 +14,15 @@ use Rattle.omi_fork.specs.JoinSteps.{join_moved, join_next, join_outcome}
 use Rattle.omi_fork.specs.TeamSteps.{team_moved, team_next, team_outcome}
 use Rattle.omi_fork.specs.WorkerSteps.{worker_moved, worker_next, worker_outcome}
 use Rattle.omi_plain.specs.PlainSteps.{plain_moved, plain_next, plain_outcome}
+use Rattle.omi_task.specs.LookSteps.{look_moved, look_next, look_outcome}
 
--- the counters that have steps by now. Those of explicit tasks have none yet
+-- the counters that have steps by now. Those of tasks in the making and of tasks that finish have none yet
 abbrev pub IsBuilt : Counter → Type 0
 IsBuilt (counter.Worker c) = Unit {0}
 IsBuilt (counter.Team c) = Unit {0}
 IsBuilt (counter.Barrier c) = Unit {0}
 IsBuilt (counter.Join c) = Unit {0}
+IsBuilt (counter.Look c) = Unit {0}
 IsBuilt (counter.Plain c) = Unit {0}
 IsBuilt _ = ⊥
 
@@ -30,6 +32,7 @@ next_at p w a (counter.Worker c) = worker_next w a c
 next_at p w a (counter.Team c) = team_next p w a c
 next_at p w a (counter.Barrier c) = barrier_next w a c
 next_at p w a (counter.Join c) = join_next w a c
+next_at p w a (counter.Look c) = look_next w a c
 next_at p w a (counter.Plain c) = plain_next p w a c
 next_at p w a _ = op.Load 0
 
@@ -44,6 +47,7 @@ resumed_at p w a (counter.Team c) old = (team_moved p w a c old, team_outcome p 
 resumed_at p w a (counter.Barrier c) old =
     (barrier_moved p a c old, barrier_outcome w a c old)
 resumed_at p w a (counter.Join c) old = (join_moved p w a c old, join_outcome w a c old)
+resumed_at p w a (counter.Look c) old = (look_moved p w a c old, look_outcome w a c old)
 resumed_at p w a (counter.Plain c) old = (plain_moved p a c old, plain_outcome p w a c old)
 resumed_at p w a _ old = (a, outcome.Quiet)
 

@@ -12,6 +12,7 @@ use omi_pc::{Actor, Counter};
 use omi_plain::{plain_next, plain_resume};
 use omi_rep::Outcome;
 use omi_script::Program;
+use omi_task::{task_next, task_resume};
 use omi_word::{Op, Res};
 
 /// The operation that an actor makes next, at a counter that has steps. Takes no memory.
@@ -26,6 +27,7 @@ pub fn next(p: &Program, l: &Layout, a: &Actor) -> Op
         Counter::Worker(_) | Counter::Team(_) | Counter::Barrier(_) | Counter::Join(_) => {
             fork_next(p, l, a)
         }
+        Counter::Look(_) => task_next(p, l, a),
         Counter::Plain(_) => plain_next(p, l, a),
         _ => unreachable!(),
     }
@@ -45,6 +47,7 @@ pub fn resume(p: &Program, l: &Layout, a: &mut Actor, r: Res) -> Outcome
         Counter::Worker(_) | Counter::Team(_) | Counter::Barrier(_) | Counter::Join(_) => {
             fork_resume(p, l, a, r)
         }
+        Counter::Look(_) => task_resume(p, l, a, r),
         Counter::Plain(_) => plain_resume(p, l, a, r),
         _ => unreachable!(),
     }

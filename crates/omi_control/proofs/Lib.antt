@@ -22,3 +22,4 @@ pub mod WorkerLists
 pub mod OpenedRule
 pub mod StepsKept
 pub mod join
+pub mod look

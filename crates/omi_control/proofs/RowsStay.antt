@@ -1,5 +1,5 @@
 -- The registers of a thread stay right while another thread makes a step: it leaves the records in the making and what the state says.
-use Rattle.std.proofs.Common.{◌≡◌, ◌≢◌, ◌+◌, ◌<◌, ◌≤◌, ℕ, zero, suc, inl, inr, Bool, List, [], ◌∷◌, length, map, take, None, refl, sym, ap, ◌∙◌, subst, arith}
+use Rattle.std.proofs.Common.{◌≡◌, ◌≢◌, ◌+◌, ◌<◌, ◌≤◌, ℕ, zero, suc, inl, inr, Bool, List, [], ◌∷◌, length, map, slice_get, take, Some, None, refl, sym, ap, ◌∙◌, subst, arith}
 use Rattle.std.specs.List.{All, Contains}
 use Rattle.std.proofs.lemmas.List.Elements.{All-head, All-tail}
 use Rattle.omi_script.specs.declared.program.Program.{Program}
@@ -18,6 +18,8 @@ use Rattle.omi_pc.specs.declared.actor.Actor.{Actor}
 use Rattle.omi_pc.specs.declared.counter.Counter.{Counter}
 use Rattle.omi_pc.specs.declared.counter.Counter.TheVariants as counter
 use Rattle.omi_pc.specs.declared.limits.TheConstants.{VARIABLE_WORDS}
+use Rattle.omi_pc.specs.declared.task_counter.LookCounter.{LookCounter}
+use Rattle.omi_pc.specs.declared.task_counter.LookCounter.TheVariants as look
 use Rattle.omi_pc.specs.declared.team_counter.BarrierCounter.{BarrierCounter}
 use Rattle.omi_pc.specs.declared.team_counter.JoinCounter.{JoinCounter}
 use Rattle.omi_pc.specs.declared.team_counter.JoinCounter.TheVariants as join
@@ -33,9 +35,10 @@ use Rattle.omi_rule.specs.Threads.{WaitsFor}
 use Rattle.omi_rule.specs.Words.{IsInTheMaking, KeepsMaking}
 use Rattle.omi_step.specs.declared.plan.Planned.{Planned}
 use Rattle.omi_step.specs.Members.{member_of}
+use Rattle.omi_task.specs.LookSteps.{member_at}
 use Rattle.omi_control.specs.Chains.{IsWorkerAhead, KeepsContext, Stands, StandsWith}
 use Rattle.omi_control.specs.LeavesOthers.{LeavesOthers}
-use Rattle.omi_control.specs.Rows.{HasAsked, HasFilled, HasSize, HasTeam, IsFilled, KeepsBarrierRow, KeepsJoinRow, KeepsRow, KeepsTeamRow, KeepsWorkerRow, Knows, KnowsActive, KnowsLevels, KnowsVariables, Meets}
+use Rattle.omi_control.specs.Rows.{HasAsked, HasFilled, HasSize, HasTeam, IsFilled, IsRowOf, KeepsBarrierRow, KeepsJoinRow, KeepsLookRow, KeepsRow, KeepsTeamRow, KeepsWorkerRow, Knows, KnowsActive, KnowsLevels, KnowsVariables, Meets, OfRegion, place_of}
 use Rattle.omi_control.proofs.OthersStand.{begun_undeferred, of_innermost}
 
 -- what a step of another thread leaves of a thread's words: its records in the making, its assign word where it is about to clear it,
@@ -214,6 +217,24 @@ module _ (p : Program) (w : List ℕ) (m n : Memory) (s u : State) (i : ℕ) (le
   join_stays (join.FreeTask r size member t) o = tt
   join_stays (join.FreeRegion r size) o = tt
 
+  -- ---- looks at the slots
+
+  row_of_stays : (row : Place) (k : ℕ) → OfRegion s a (IsRowOf row k) → OfRegion u a (IsRowOf row k)
+  row_of_stays row k (r, found, o) = let (q, now, same) = leaves.regions a.context.region r found in (q, now, subst (λ (xs : List (Tid × ℕ)). (x : Tid × ℕ) × (slice_get xs (member_at k) ≡ Some x) × (place_of x.0.0 ≡ row)) (sym same.team) o)
+
+  look_stays : (c : LookCounter) → KeepsLookRow s a c → KeepsLookRow u a c
+  look_stays (look.State v) o = tt
+  look_stays (look.LoadRow v k) o = tt
+  look_stays (look.LoadSlot v k row) o = row_of_stays row k o
+  look_stays (look.LoadGenerating v k row code) o = row_of_stays row k o
+  look_stays (look.Take v k row code) o = row_of_stays row k o
+  look_stays (look.LoadFunction v k code t) o = tt
+  look_stays (look.LoadFinal v k code t f) o = tt
+  look_stays (look.Fill v k code t f final word) o = tt
+  look_stays (look.Start v k code t f final) o = tt
+  look_stays look.LoadChildren o = tt
+  look_stays (look.Yield k) o = tt
+
   -- ---- the whole
 
   pub row_stays : Fits p a → Stands p s j a → KeepsMaking s j (owed a) → ((c : BarrierCounter) → a.counter ≡ counter.Barrier c → KeepsBarrierRow s a c → KeepsBarrierRow u a c)
@@ -228,6 +249,6 @@ module _ (p : Program) (w : List ℕ) (m n : Memory) (s u : State) (i : ℕ) (le
       go (counter.Barrier c) e x = barriers c e x
       go (counter.Join c) e x = join_stays c x
       go (counter.Task c) e x = tt
-      go (counter.Look c) e x = tt
+      go (counter.Look c) e x = look_stays c x
       go (counter.Finish c) e x = tt
       go (counter.Plain c) e x = tt

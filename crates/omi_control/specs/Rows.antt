@@ -25,6 +25,8 @@ use Rattle.omi_pc.specs.declared.counter.Counter.{Counter}
 use Rattle.omi_pc.specs.declared.counter.Counter.TheVariants as counter
 use Rattle.omi_pc.specs.declared.limits.TheConstants.{REGION_WORDS, TASK_WORDS, VARIABLE_WORDS}
 use Rattle.omi_pc.specs.declared.place.Place.{Place}
+use Rattle.omi_pc.specs.declared.task_counter.LookCounter.{LookCounter}
+use Rattle.omi_pc.specs.declared.task_counter.LookCounter.TheVariants as look
 use Rattle.omi_pc.specs.declared.team_counter.BarrierCounter.{BarrierCounter}
 use Rattle.omi_pc.specs.declared.team_counter.BarrierCounter.TheVariants as barrier
 use Rattle.omi_pc.specs.declared.team_counter.JoinCounter.{JoinCounter}
@@ -41,6 +43,7 @@ use Rattle.omi_step.specs.Members.{member_of}
 use Rattle.omi_step.specs.Placed.{HasTask}
 use Rattle.omi_step.specs.Plan.{region_plan, task_plan}
 use Rattle.omi_fork.specs.TeamParts.{new_member, new_region}
+use Rattle.omi_task.specs.LookSteps.{member_at}
 
 -- ---- workers
 
@@ -200,12 +203,25 @@ KeepsJoinRow m i a join.Join =
     × (a.context.size - 1 ≤ m i regions a.context.region.0.slot (number RegionLeft) 0)
 KeepsJoinRow m i a c = Unit {0}
 
+-- ---- looks at the slots
+
+-- the record whose slots are looked at is that of the member's task, by the number of the slot
+abbrev pub IsRowOf : Place → ℕ → Region → Type 0
+IsRowOf row n r = (m : Tid × ℕ) × (slice_get r.team (member_at n) ≡ Some m) × (place_of m.0.0 ≡ row)
+
+abbrev pub KeepsLookRow : State → Actor → LookCounter → Type 0
+KeepsLookRow s a (look.LoadSlot v n row) = OfRegion s a (IsRowOf row n)
+KeepsLookRow s a (look.LoadGenerating v n row code) = OfRegion s a (IsRowOf row n)
+KeepsLookRow s a (look.Take v n row code) = OfRegion s a (IsRowOf row n)
+KeepsLookRow s a c = Unit {0}
+
 -- ---- the whole
 
--- the counters of explicit tasks have no rows yet
+-- the counters of tasks in the making and of tasks that finish have no rows yet
 abbrev pub KeepsRow : Program → List ℕ → Memory → State → ℕ → Actor → Counter → Type 0
 KeepsRow p w m s i a (counter.Worker c) = KeepsWorkerRow w m s i c
 KeepsRow p w m s i a (counter.Team c) = KeepsTeamRow p w m s i a c
 KeepsRow p w m s i a (counter.Barrier c) = KeepsBarrierRow s a c
 KeepsRow p w m s i a (counter.Join c) = KeepsJoinRow m i a c
+KeepsRow p w m s i a (counter.Look c) = KeepsLookRow s a c
 KeepsRow p w m s i a c = Unit {0}

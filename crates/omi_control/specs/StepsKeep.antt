@@ -8,6 +8,9 @@ use Rattle.omi_layout.specs.Valid.{IsValid}
 use Rattle.omi_pc.specs.declared.actor.Actor.{Actor}
 use Rattle.omi_pc.specs.declared.counter.Counter.{Counter}
 use Rattle.omi_pc.specs.declared.counter.Counter.TheVariants as counter
+use Rattle.omi_pc.specs.declared.frame.Wait.TheVariants as wait
+use Rattle.omi_pc.specs.declared.task_counter.LookCounter.{LookCounter}
+use Rattle.omi_pc.specs.declared.task_counter.LookCounter.TheVariants as look
 use Rattle.omi_pc.specs.declared.team_counter.JoinCounter.{JoinCounter}
 use Rattle.omi_pc.specs.declared.team_counter.JoinCounter.TheVariants as join
 use Rattle.omi_rep.specs.Suits.{Suits}
@@ -21,12 +24,19 @@ IsJoinKept join.LoadLeft = Unit {0}
 IsJoinKept join.Join = Unit {0}
 IsJoinKept c = ⊥
 
+-- the look at the slots at a barrier, up to one that names a task
+abbrev pub IsLookKept : LookCounter → Type 0
+IsLookKept (look.LoadRow (wait.Barrier b) n) = Unit {0}
+IsLookKept (look.LoadSlot (wait.Barrier b) n row) = Unit {0}
+IsLookKept c = ⊥
+
 -- the counters of which this is proved by now
 abbrev pub IsKept : Counter → Type 0
 IsKept (counter.Worker c) = Unit {0}
 IsKept (counter.Team c) = Unit {0}
 IsKept (counter.Barrier c) = Unit {0}
 IsKept (counter.Join c) = IsJoinKept c
+IsKept (counter.Look c) = IsLookKept c
 IsKept (counter.Plain c) = Unit {0}
 IsKept c = ⊥
 

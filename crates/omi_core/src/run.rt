@@ -1,7 +1,7 @@
 //! A run: its words, its threads, and the steps and events so far.
 
 ghost use Rattle.std.specs.Prelude.{◌≡◌, ◌<◌, ◌≤◌, ◌+◌, ◌++◌, IfOk, OnOk, length, min, true, false};
-ghost use Rattle.omi_control.specs.StepsKeep.{IsJoinKept, IsKept};
+ghost use Rattle.omi_control.specs.StepsKeep.{IsJoinKept, IsKept, IsLookKept};
 ghost use Rattle.omi_core.specs.declared.limits.TheConstants.{MOST_STEPS};
 ghost use Rattle.omi_core.specs.Runs.{IsOpening, IsSameRun, actors_in, spare_in};
 ghost use Rattle.omi_rep.specs.Suits.{Suits};
@@ -12,7 +12,7 @@ use crate::{Entry, MOST_STEPS, OutOfMemory};
 use omi_actor::{next, resume};
 use omi_events::{EventList, Made, MadeList, Turn};
 use omi_layout::Layout;
-use omi_pc::{Actor, Counter, JoinCounter};
+use omi_pc::{Actor, Counter, JoinCounter, LookCounter, Wait};
 use omi_rep::Outcome;
 use omi_script::Program;
 use omi_word::Image;
@@ -84,6 +84,24 @@ fn is_kept_join(c: JoinCounter) -> bool
     matches!(c, JoinCounter::LoadLeft | JoinCounter::Join)
 }
 
+/// Whether the step at a counter of a wait is made: at a barrier, the look at the slots up to one that names a task.
+fn is_kept_look(c: LookCounter) -> bool
+    ensures yes { result ≡ true → IsLookKept c }
+    ensures no { result ≡ false → IsLookKept c → ⊥ }
+{
+    match c {
+        LookCounter::LoadRow {
+            wait: Wait::Barrier { .. },
+            ..
+        } => true,
+        LookCounter::LoadSlot {
+            wait: Wait::Barrier { .. },
+            ..
+        } => true,
+        _ => false,
+    }
+}
+
 /// Whether the step at a counter is made.
 fn is_kept(c: Counter) -> bool
     ensures yes { result ≡ true → IsKept c }
@@ -92,6 +110,7 @@ fn is_kept(c: Counter) -> bool
     match c {
         Counter::Worker(_) | Counter::Team(_) | Counter::Barrier(_) | Counter::Plain(_) => true,
         Counter::Join(c) => is_kept_join(c),
+        Counter::Look(c) => is_kept_look(c),
         _ => false,
     }
 }
@@ -156,8 +175,8 @@ impl Core {
         self.made.len() as u64
     }
 
-    /// Whether a thread has come to a step that is not made yet: the looks at the slots for deferred tasks, and the steps of explicit
-    /// tasks.
+    /// Whether a thread has come to a step that is not made yet: those of explicit tasks, and of a wait from a slot on that names a
+    /// deferred task.
     pub fn edge(&self, i: u8) -> bool
         requires { i < self.now.program.threads }
         ensures goes_on { result ≡ false → IsKept (actors_in self.now.actors i).counter }

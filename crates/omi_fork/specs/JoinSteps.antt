@@ -1,13 +1,11 @@
 -- The steps of a join: member 0 waits until the others have left, and the encountering task goes on. And those that give the records
 -- of the team and of the region back.
-use Rattle.std.specs.Prelude.{ℕ, ◌+◌, ◌-◌, ◌*◌, nat_lt, Bool, List, if◌then◌else◌}
+use Rattle.std.specs.Prelude.{ℕ, ◌+◌, ◌-◌, nat_lt, Bool, List, if◌then◌else◌}
 use Rattle.omi_word.specs.declared.op.Op.{Op}
 use Rattle.omi_word.specs.declared.op.Op.TheVariants as op
 use Rattle.omi_script.specs.declared.program.Program.{Program}
 use Rattle.omi_model.specs.declared.event.Event.TheVariants as event
-use Rattle.omi_model.specs.declared.id.Id.{Id}
 use Rattle.omi_model.specs.declared.id.Rid.{Rid}
-use Rattle.omi_model.specs.declared.id.Tid.{Tid}
 use Rattle.omi_layout.specs.declared.field.Field.TheVariants.{ThreadCurrent, RegionLife, RegionLeft, TaskLife}
 use Rattle.omi_rep.specs.declared.outcome.Outcome.{Outcome}
 use Rattle.omi_rep.specs.declared.outcome.Outcome.TheVariants as outcome
@@ -16,18 +14,10 @@ use Rattle.omi_pc.specs.declared.actor.Actor.{Actor}
 use Rattle.omi_pc.specs.declared.team_counter.JoinCounter.{JoinCounter}
 use Rattle.omi_pc.specs.declared.team_counter.JoinCounter.TheVariants as join
 use Rattle.omi_pc.specs.Moves.{closed, working}
-use Rattle.omi_step.specs.Moving.{to_join}
-use Rattle.omi_step.specs.Words.{object_in, of_member, of_place, of_region, of_task, of_thread, task_place}
+use Rattle.omi_step.specs.Moving.{task_under, to_join}
+use Rattle.omi_step.specs.Words.{object_in, of_member, of_place, of_region, of_task, of_thread, task_place, unused_word}
 
 -- ---- operations
-
--- the task from which the current one is scheduled
-abbrev pub task_under : Actor → Tid
-task_under a = (closed a).context.task
-
--- the life word of a record whose object is given back
-abbrev pub unused_word : Id → ℕ
-unused_word n = 2 * n.generation + 2
 
 abbrev pub join_next : List ℕ → Actor → JoinCounter → Op
 join_next w a join.LoadLeft = op.Load (of_region w a.context.region RegionLeft)

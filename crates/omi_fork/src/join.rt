@@ -7,37 +7,20 @@ ghost use Rattle.omi_pc.specs.OpenBodies.{AreOpen};
 ghost use Rattle.omi_pc.specs.declared.counter.Counter.TheVariants as counter;
 ghost use Rattle.omi_pc.specs.declared.team_counter.JoinCounter.TheVariants.{Join};
 ghost use Rattle.omi_fork.specs.JoinSteps;
-ghost use Rattle.omi_fork.specs.JoinSteps.{behind_free, join_moved, join_next, join_outcome, joined, task_under, unused_word};
+ghost use Rattle.omi_fork.specs.JoinSteps.{behind_free, join_moved, join_next, join_outcome, joined};
 ghost use Rattle.omi_step.specs.Moving.{to_join};
 ghost use Rattle.omi_step.specs.Placed.{IsPlaced};
 
 use omi_layout::{Field, Layout};
-use omi_model::{Event, Id, Rid, Tid};
-use omi_pc::{Actor, Counter, JoinCounter, Opened, bodies_stand};
+use omi_model::{Event, Rid, Tid};
+use omi_pc::{Actor, Counter, JoinCounter, bodies_stand};
 use omi_rep::Outcome;
 use omi_script::Program;
-use omi_step::{load, object_in, of_place, of_region, of_task, of_thread, store, task_place};
+use omi_step::{
+    load, object_in, of_place, of_region, of_task, of_thread, store, task_place, task_under,
+    unused_word,
+};
 use omi_word::Op;
-
-/// The life word of a record whose object is given back.
-fn unused_word(n: Id) -> u64
-    ensures { result ≡ unused_word n }
-{
-    2 * u64::from(n.generation) + 2
-}
-
-/// The task from which the current one is scheduled.
-fn task_under(a: &Actor) -> Tid
-    ensures { result ≡ task_under a.now }
-{
-    let Some(top) = a.stack.top() else {
-        return a.context.task;
-    };
-    match top.opened {
-        Opened::Master { saved } | Opened::Task { saved, .. } => saved.task,
-        _ => a.context.task,
-    }
-}
 
 /// The store of the encountering task into the current word.
 fn store_joined(p: &Program, l: &Layout, a: &Actor) -> Op

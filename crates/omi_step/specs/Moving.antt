@@ -1,4 +1,5 @@
 -- How a step leaves an actor: at another counter of a family, with another thing gathered.
+use Rattle.omi_model.specs.declared.id.Tid.{Tid}
 use Rattle.omi_pc.specs.declared.actor.Actor.{Actor}
 use Rattle.omi_pc.specs.declared.counter.Counter.TheVariants as counter
 use Rattle.omi_pc.specs.declared.gathered.Gathered.{Gathered}
@@ -9,6 +10,7 @@ use Rattle.omi_pc.specs.declared.team_counter.BarrierCounter.{BarrierCounter}
 use Rattle.omi_pc.specs.declared.team_counter.JoinCounter.{JoinCounter}
 use Rattle.omi_pc.specs.declared.team_counter.TeamCounter.{TeamCounter}
 use Rattle.omi_pc.specs.declared.team_counter.WorkerCounter.{WorkerCounter}
+use Rattle.omi_pc.specs.Moves.{closed}
 
 -- a counter of a family comes next. For the plain family this is `goes_to` of omi_pc
 abbrev pub to_worker : WorkerCounter → Actor → Actor
@@ -35,3 +37,7 @@ to_finish c a = record a { counter = counter.Finish c }
 -- this is gathered
 abbrev pub gathering : Gathered → Actor → Actor
 gathering g a = record a { gathered = g }
+
+-- the task from which the current one is scheduled
+abbrev pub task_under : Actor → Tid
+task_under a = (closed a).context.task

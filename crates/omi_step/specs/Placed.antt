@@ -11,6 +11,13 @@ use Rattle.omi_pc.specs.declared.counter.Counter.{Counter}
 use Rattle.omi_pc.specs.declared.counter.Counter.TheVariants as counter
 use Rattle.omi_pc.specs.declared.frame.Frame.{Frame}
 use Rattle.omi_pc.specs.declared.place.Place.{Place}
+use Rattle.omi_pc.specs.declared.task_counter.Ancestor.{Ancestor}
+use Rattle.omi_pc.specs.declared.task_counter.FinishCounter.{FinishCounter}
+use Rattle.omi_pc.specs.declared.task_counter.FinishCounter.TheVariants as finish
+use Rattle.omi_pc.specs.declared.task_counter.LookCounter.{LookCounter}
+use Rattle.omi_pc.specs.declared.task_counter.LookCounter.TheVariants as look
+use Rattle.omi_pc.specs.declared.task_counter.TaskCounter.{TaskCounter}
+use Rattle.omi_pc.specs.declared.task_counter.TaskCounter.TheVariants as task
 use Rattle.omi_pc.specs.declared.team_counter.JoinCounter.{JoinCounter}
 use Rattle.omi_pc.specs.declared.team_counter.JoinCounter.TheVariants as join
 use Rattle.omi_pc.specs.declared.team_counter.TeamCounter.{TeamCounter}
@@ -112,18 +119,67 @@ IsPlacedJoin w (join.LoadLife r size member t) = HasRegion w r × HasTaskPlace w
 IsPlacedJoin w (join.FreeTask r size member t) = HasRegion w r × HasTask w t
 IsPlacedJoin w (join.FreeRegion r size) = HasRegion w r
 
--- the counters of each family. Nothing is said yet of those whose steps are to come
+-- ---- explicit tasks
+
+-- the record of a task in the making
+abbrev pub IsPlacedTask : List ℕ → TaskCounter → Type 0
+IsPlacedTask w (task.LoadSlot place) = Unit {0}
+IsPlacedTask w (task.LoadVariable place word) = Unit {0}
+IsPlacedTask w (task.LoadLife place slot) = Searches w tasks slot
+IsPlacedTask w (task.Take place t) = HasTask w t
+IsPlacedTask w (task.Fill place t word) = HasTask w t
+IsPlacedTask w (task.AddPending place t) = HasTask w t
+IsPlacedTask w (task.AddChildren place t) = HasTask w t
+IsPlacedTask w (task.AddReferences place t) = HasTask w t
+IsPlacedTask w (task.Defer place t) = HasTask w t
+IsPlacedTask w (task.StartNow t) = HasTask w t
+
+-- the record whose slots are looked at, and that of a task in the hand
+abbrev pub IsPlacedLook : List ℕ → LookCounter → Type 0
+IsPlacedLook w (look.State v) = Unit {0}
+IsPlacedLook w (look.LoadRow v n) = Unit {0}
+IsPlacedLook w (look.LoadSlot v n row) = HasTaskPlace w row
+IsPlacedLook w (look.LoadGenerating v n row code) = HasTaskPlace w row
+IsPlacedLook w (look.Take v n row code) = HasTaskPlace w row
+IsPlacedLook w (look.LoadFunction v n code t) = HasTask w t
+IsPlacedLook w (look.LoadFinal v n code t f) = HasTask w t
+IsPlacedLook w (look.Fill v n code t f final word) = HasTask w t
+IsPlacedLook w (look.Start v n code t f final) = HasTask w t
+IsPlacedLook w look.LoadChildren = Unit {0}
+IsPlacedLook w (look.Yield n) = Unit {0}
+
+-- an explicit task above, or none
+abbrev pub HasAncestor : List ℕ → Option Ancestor → Type 0
+HasAncestor w None = Unit {0}
+HasAncestor w (Some x) = HasTask w x.task
+
+-- the record of a task that has finished, and that of its generating task
+abbrev pub IsPlacedFinish : List ℕ → FinishCounter → Type 0
+IsPlacedFinish w finish.Finish = Unit {0}
+IsPlacedFinish w (finish.LoadGenerating v t) = HasTask w t
+IsPlacedFinish w (finish.SubtractChildren v t generating) = HasTask w t × HasTaskPlace w generating
+IsPlacedFinish w (finish.SubtractReferences v t generating) =
+    HasTask w t × HasTaskPlace w generating
+IsPlacedFinish w (finish.Free v t generating) = HasTask w t × HasTaskPlace w generating
+IsPlacedFinish w (finish.LoadImplicit v generating) = HasTaskPlace w generating
+IsPlacedFinish w (finish.LoadNext v generating) = HasTaskPlace w generating
+IsPlacedFinish w (finish.LoadLife v generating next) = HasTaskPlace w generating
+IsPlacedFinish w (finish.SubtractGenerating v generating explicit) =
+    HasTaskPlace w generating × HasAncestor w explicit
+IsPlacedFinish w (finish.SubtractPending v) = Unit {0}
+
+-- ---- the whole
+
+-- the counters of each family
 abbrev pub IsPlacedCounter : List ℕ → Actor → Counter → Type 0
 IsPlacedCounter w a (counter.Worker c) = IsPlacedWorker w c
 IsPlacedCounter w a (counter.Team c) = IsPlacedTeam w a c
 IsPlacedCounter w a (counter.Barrier c) = Unit {0}
 IsPlacedCounter w a (counter.Join c) = IsPlacedJoin w c
-IsPlacedCounter w a (counter.Task c) = Unit {0}
-IsPlacedCounter w a (counter.Look c) = Unit {0}
-IsPlacedCounter w a (counter.Finish c) = Unit {0}
+IsPlacedCounter w a (counter.Task c) = IsPlacedTask w c
+IsPlacedCounter w a (counter.Look c) = IsPlacedLook w c
+IsPlacedCounter w a (counter.Finish c) = IsPlacedFinish w c
 IsPlacedCounter w a (counter.Plain c) = Unit {0}
-
--- ---- the whole
 
 -- what the registers and the contexts of an actor name are records of the layout
 pub record IsPlaced (w : List ℕ) (a : Actor) : Type 0 where

@@ -41,6 +41,10 @@ of_member w r member = word_address w r.0.creator r.0.slot (number RegionTeam) m
 abbrev pub used_word : Id → ℕ
 used_word n = 2 * n.generation + 1
 
+-- the life word of a record whose object is given back
+abbrev pub unused_word : Id → ℕ
+unused_word n = 2 * n.generation + 2
+
 -- a record that may be taken: its life word is even, and a further generation has a number
 abbrev pub is_free : ℕ → Bool
 is_free life = life % 2 == 0 && nat_lt life (2 ^ 33)

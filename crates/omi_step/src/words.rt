@@ -3,7 +3,7 @@
 ghost use Rattle.std.specs.Prelude.{◌≡◌, ◌≤◌, ◌+◌, ◌*◌};
 ghost use Rattle.omi_layout.specs.Codes.{exit_word};
 ghost use Rattle.omi_step.specs.Words;
-ghost use Rattle.omi_step.specs.Words.{used_word};
+ghost use Rattle.omi_step.specs.Words.{unused_word, used_word};
 
 use omi_layout::Layout;
 use omi_model::Id;
@@ -75,6 +75,13 @@ pub fn used_word(n: Id) -> u64
     ensures { result ≡ used_word n }
 {
     2 * u64::from(n.generation) + 1
+}
+
+/// The life word of a record whose object is given back.
+pub fn unused_word(n: Id) -> u64
+    ensures { result ≡ unused_word n }
+{
+    2 * u64::from(n.generation) + 2
 }
 
 /// The exit frame of a thread's task, where so many tasks are on the thread's chain, this one included.

@@ -1,4 +1,4 @@
--- A thread at a counter of a member, at a barrier or at a join: its task, the words of its region, and the thread where only its counter changes.
+-- A thread at a counter of a member, at a barrier, at a join or in a wait: its task, the words of its region, and the thread where only its counter changes.
 use Rattle.std.proofs.Common.{◌≡◌, ◌<◌, ◌==◌, ℕ, List, ◌∷◌, Option, Some, refl, sym, ap, ◌∙◌, subst, arith, if◌then◌else◌}
 use Rattle.std.proofs.lemmas.Bool.Decides.{nat_tests}
 use Rattle.omi_word.specs.declared.op.Op.TheVariants as op
@@ -26,12 +26,14 @@ use Rattle.omi_pc.specs.declared.counter.Counter.{Counter}
 use Rattle.omi_pc.specs.declared.counter.Counter.TheVariants as counter
 use Rattle.omi_pc.specs.declared.frame.Frame.{Frame}
 use Rattle.omi_pc.specs.declared.context.Context.{Context}
+use Rattle.omi_pc.specs.declared.task_counter.LookCounter.{LookCounter}
+use Rattle.omi_pc.specs.declared.task_counter.LookCounter.TheVariants as look
 use Rattle.omi_pc.specs.declared.team_counter.WorkerCounter.{WorkerCounter}
 use Rattle.omi_pc.specs.Fits.{FitsCounter}
 use Rattle.omi_pc.specs.OpenBodies.{AreOpen, IsContext}
 use Rattle.omi_rep.specs.declared.outcome.Outcome.TheVariants as outcome
 use Rattle.omi_rule.specs.Objects.{KeepsRegion}
-use Rattle.omi_rule.specs.Owes.{all_owed, nothing, owed, owed_at}
+use Rattle.omi_rule.specs.Owes.{all_owed, by_look, nothing, owed, owed_at}
 use Rattle.omi_rule.specs.Words.{KeepsWords, region_in}
 use Rattle.omi_rule.proofs.Moves.{moves_keep}
 use Rattle.omi_rule.proofs.OtherCounts.{name_of_slot}
@@ -51,10 +53,32 @@ use Rattle.omi_control.proofs.plain.OwnEvents.{environment_stays}
 abbrev pub at_counter : Counter → Actor → Actor
 at_counter x a = record a { counter = x }
 
--- at a barrier, or at a join
+-- in a wait, without a task in the hand
+abbrev pub IsOfWait : LookCounter → Type 0
+IsOfWait (look.LoadFunction v n code t) = ⊥
+IsOfWait (look.LoadFinal v n code t f) = ⊥
+IsOfWait (look.Fill v n code t f final word) = ⊥
+IsOfWait (look.Start v n code t f final) = ⊥
+IsOfWait c = Unit {0}
+
+wait_owes : (c : LookCounter) → IsOfWait c → by_look c ≡ nothing
+wait_owes (look.State v) o = refl
+wait_owes (look.LoadRow v n) o = refl
+wait_owes (look.LoadSlot v n row) o = refl
+wait_owes (look.LoadGenerating v n row code) o = refl
+wait_owes (look.Take v n row code) o = refl
+wait_owes (look.LoadFunction v n code t) o = absurd o
+wait_owes (look.LoadFinal v n code t f) o = absurd o
+wait_owes (look.Fill v n code t f final word) o = absurd o
+wait_owes (look.Start v n code t f final) o = absurd o
+wait_owes look.LoadChildren o = refl
+wait_owes (look.Yield n) o = refl
+
+-- at a barrier, at a join or in a wait
 abbrev pub IsOfMember : Counter → Type 0
 IsOfMember (counter.Barrier c) = Unit {0}
 IsOfMember (counter.Join c) = Unit {0}
+IsOfMember (counter.Look c) = IsOfWait c
 IsOfMember x = ⊥
 
 member_owes : (x : Counter) → IsOfMember x → (c : Context) (team : List (Tid × ℕ)) → owed_at c team x ≡ nothing
@@ -63,7 +87,7 @@ member_owes (counter.Join c) o d team = refl
 member_owes (counter.Worker c) o d team = absurd o
 member_owes (counter.Team c) o d team = absurd o
 member_owes (counter.Task c) o d team = absurd o
-member_owes (counter.Look c) o d team = absurd o
+member_owes (counter.Look c) o d team = wait_owes c o
 member_owes (counter.Finish c) o d team = absurd o
 member_owes (counter.Plain c) o d team = absurd o
 
@@ -93,6 +117,9 @@ module _ (p : Program) (w : List ℕ) (m : Memory) (events : List (ℕ × Event)
 
   pub fits_counter : FitsCounter p a x
   fits_counter = subst (λ (d : Counter). FitsCounter p a d) at own.fits.counter
+
+  pub placed_counter : IsPlacedCounter w a x
+  placed_counter = subst (λ (d : Counter). IsPlacedCounter w a d) at own.placed.counter
 
   pub row_is : KeepsRow p w m s i a x
   row_is = subst (λ (d : Counter). KeepsRow p w m s i a d) at own.row
@@ -125,7 +152,7 @@ module _ (p : Program) (w : List ℕ) (m : Memory) (events : List (ℕ × Event)
   wide : (f : ℕ) → 0 < width w f
   wide f = grind (arith, nat_tests, some_threads w before.valid)
 
-  context_placed : IsContextPlaced w a.context
+  pub context_placed : IsContextPlaced w a.context
   context_placed = let (f, fs, is, o) = body in (subst (AreContextsPlaced w a.context) is own.placed.bodies).0
 
   -- a word of the region

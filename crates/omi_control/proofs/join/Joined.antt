@@ -51,9 +51,10 @@ use Rattle.omi_rule.specs.Owes.{all_owed}
 use Rattle.omi_rule.specs.Words.{KeepsWords}
 use Rattle.omi_rule.proofs.Joins.{joins_keep}
 use Rattle.omi_rule.proofs.Moves.{moves_keep}
+use Rattle.omi_step.specs.Moving.{task_under}
 use Rattle.omi_step.specs.Placed.{AreContextsPlaced}
 use Rattle.omi_step.specs.Words.{of_thread}
-use Rattle.omi_fork.specs.JoinSteps.{join_moved, join_next, join_outcome, joined as rejoined, task_under}
+use Rattle.omi_fork.specs.JoinSteps.{join_moved, join_next, join_outcome, joined as rejoined}
 use Rattle.omi_control.specs.Ahead.{IsAhead, leaving}
 use Rattle.omi_control.specs.Ahead as Ahead
 use Rattle.omi_control.specs.Chains.{IsScheduledFrom, IsSuspended, KeepsBodies, KeepsBody, KeepsContext, Stands, StandsWith, encounter_of}

@@ -1,0 +1,123 @@
+//! The operations and the outcomes of a wait.
+
+ghost use Rattle.std.specs.Prelude.{◌≡◌, ◌<◌};
+ghost use Rattle.omi_layout.specs.Table.{thread_count};
+ghost use Rattle.omi_pc.specs.Fits.{Fits};
+ghost use Rattle.omi_pc.specs.declared.counter.Counter.TheVariants as counter;
+ghost use Rattle.omi_step.specs.Placed.{HasTaskPlace, IsPlaced};
+ghost use Rattle.omi_task.specs.LookSteps.{look_next, look_outcome, of_slot, wait_state};
+
+use crate::slots::coded_task;
+use crate::starts::start_plan;
+use omi_layout::{Field, Layout};
+use omi_model::Event;
+use omi_pc::limits::OWN_SLOTS;
+use omi_pc::{Actor, Barrier, LookCounter, Place, Wait};
+use omi_rep::Outcome;
+use omi_script::Program;
+use omi_step::{fill, load, of_task, of_thread, store};
+use omi_word::Op;
+
+/// The states of a thread that waits.
+const WAIT_EXPLICIT: u32 = 0x014;
+
+const WAIT_IMPLICIT: u32 = 0x011;
+
+const WAIT_TASKWAIT: u32 = 0x020;
+
+/// The state of a thread that waits, and 0 for a wait in which it stores none.
+fn wait_state(v: Wait) -> u32
+    ensures value { result ≡ wait_state v }
+    ensures small { result < 65536 }
+{
+    match v {
+        Wait::Barrier {
+            barrier: Barrier::Explicit,
+        } => WAIT_EXPLICIT,
+        Wait::Barrier {
+            barrier: Barrier::Implicit,
+        } => WAIT_IMPLICIT,
+        Wait::Taskwait => WAIT_TASKWAIT,
+        Wait::Taskyield => 0,
+    }
+}
+
+/// The address of a slot, by its number among those of all members.
+fn of_slot(l: &Layout, row: Place, look: u16) -> u64
+    requires { HasTaskPlace l.now.table row }
+    ensures { result ≡ of_slot l.now.table row look }
+{
+    let place = (look % u16::from(OWN_SLOTS)) as u8;
+    l.word_at(row.creator, row.slot, Field::TaskSlots, place)
+}
+
+/// The operation that a thread makes next in a wait.
+pub fn look_next(p: &Program, l: &Layout, a: &Actor, c: LookCounter) -> Op
+    requires fits { Fits p.now a.now }
+    requires threads { p.now.threads ≡ thread_count l.now.table }
+    requires placed { IsPlaced l.now.table a.now }
+    requires at { a.now.counter ≡ counter.Look c }
+    ensures { result ≡ look_next l.now.table a.now c }
+{
+    let i = a.thread;
+    match c {
+        LookCounter::State { wait } => store(
+            of_thread(l, i, Field::ThreadState),
+            u64::from(wait_state(wait)),
+        ),
+        LookCounter::LoadRow { look, .. } => {
+            let region = a.context.region.0;
+            let member = (look / u16::from(OWN_SLOTS)) as u8;
+            load(l.word_at(region.creator, region.slot, Field::RegionTeam, member))
+        }
+        LookCounter::LoadSlot { look, row, .. } => load(of_slot(l, row, look)),
+        LookCounter::LoadGenerating { code, .. } => {
+            load(of_task(l, coded_task(l, code), Field::TaskGenerating))
+        }
+        LookCounter::Take {
+            look,
+            row,
+            code,
+            ..
+        } => Op::Cas {
+            at: of_slot(l, row, look),
+            old: code,
+            new: 0,
+        },
+        LookCounter::LoadFunction { task, .. } => load(of_task(l, task, Field::TaskFunction)),
+        LookCounter::LoadFinal { task, .. } => load(of_task(l, task, Field::TaskFinal)),
+        LookCounter::Fill { task, word, .. } => fill(l, task.0, start_plan(l, a, word)),
+        LookCounter::Start { task, .. } => {
+            let record = l.task_at(task.0.creator, task.0.slot);
+            store(of_thread(l, i, Field::ThreadCurrent), record)
+        }
+        LookCounter::LoadChildren => load(of_task(l, a.context.task, Field::TaskChildren)),
+        LookCounter::Yield { .. } => load(of_thread(l, i, Field::ThreadNative)),
+    }
+}
+
+/// What a step of a wait answers, by the word that it found.
+pub fn look_outcome(p: &Program, l: &Layout, a: &Actor, c: LookCounter, old: u64) -> Outcome
+    requires fits { Fits p.now a.now }
+    requires threads { p.now.threads ≡ thread_count l.now.table }
+    requires placed { IsPlaced l.now.table a.now }
+    requires at { a.now.counter ≡ counter.Look c }
+    ensures { result ≡ look_outcome l.now.table a.now c old }
+{
+    match c {
+        LookCounter::State { wait } => Outcome::Event(Event::State {
+            state: wait_state(wait),
+            wait: 0,
+        }),
+        LookCounter::Start { task, .. } => Outcome::Event(Event::Start { task }),
+        LookCounter::LoadChildren => {
+            if old == 0 {
+                return Outcome::Event(Event::WaitDone);
+            }
+            let addr = of_task(l, a.context.task, Field::TaskChildren);
+            Outcome::NotReady { addr, word: old }
+        }
+        LookCounter::Yield { .. } => Outcome::Event(Event::Yield),
+        _ => Outcome::Quiet,
+    }
+}
