@@ -2,4 +2,6 @@ pub mod Reaching
 pub mod History
 pub mod Stepping
 pub mod Opened
+pub mod Histories
 pub mod ScheduledSteps
+pub mod without_tasks

@@ -19,7 +19,7 @@ use Rattle.omi_core.specs.declared.stop.Break.{Break}
 use Rattle.omi_core.specs.declared.stop.End.{End}
 use Rattle.omi_core.specs.declared.stop.End.TheVariants as end
 use Rattle.omi_core.specs.declared.stop.Stop.{Stop}
-use Rattle.omi_core.specs.Ends.{EndsAt, GoesOn, IsEnded, count_of, end_at, end_of_kind, is_done, is_of_kind, met_at, met_by}
+use Rattle.omi_core.specs.Ends.{EndsAt, GoesOn, IsBelow, IsEnded, count_of, end_at, end_of_kind, is_done, is_of_kind, met_at, met_by}
 use Rattle.omi_core.specs.RunSteps.{IsStep, event_of, made_of}
 use Rattle.omi_core.specs.Runs.{IsSameRun, Run}
 use Rattle.omi_core.specs.ScheduledRuns.{Adds, IsRunBy}
@@ -231,3 +231,11 @@ module _ (old : Run) (how : Schedule) (stop : Stop) where
 
   pub refused : (n met draw : ℕ) (a : Run) (why : AllocError) → SoFar n met draw a → IsRunBy old how stop (Err why) a
   refused n met draw a why so = (so.added, so.goes_on)
+
+  -- there are fewer of the kind than the number
+  pub fewer : (n met draw : ℕ) (a : Run) → SoFar n met draw a → IsBelow stop.on met
+  fewer n met draw a so = go stop.on so.goes_on.too_few so.met_are
+    where
+      go : (on : Option (Break × ℕ)) → IfSome on (λ o. count_of o.0 so.added.events < o.1) → IfSome on (λ o. count_of o.0 so.added.events ≡ met) → IsBelow on met
+      go None few are = tt
+      go (Some o) few are = subst (λ k. k < o.1) are few

@@ -12,13 +12,9 @@ use Rattle.omi_rep.specs.Suits.{Suits}
 use Rattle.omi_control.specs.Rule.{Rule}
 use Rattle.omi_core.specs.declared.entry.Entry.{Entry}
 use Rattle.omi_core.specs.Runs.{Run, actors_in, events_in}
-use Rattle.omi_core.specs.Steps.{AreStepsOf, StartsAsWorker, events_behind, made_of_steps, steps_of}
-
--- A run is what these steps make: its words, its numbered events and the steps that it keeps. Its events reach this state
-pub record IsMadeBy (a : Run) (xs : List (ℕ × Entry)) (s : State) : Type 0 where
-  pub steps : AreStepsOf a.program a.table xs a.words s
-  pub events : a.events.items ≡ events_behind 0 xs
-  pub made : a.made.items ≡ made_of_steps xs
+use Rattle.omi_core.specs.Taskless.{AreKept, IsTaskless}
+use Rattle.omi_core.specs.Histories.{IsMadeBy}
+use Rattle.omi_core.specs.Steps.{StartsAsWorker, steps_of}
 
 -- a worker that made these steps stands at this counter: at its first two steps, or behind them
 abbrev pub IsUnderWay : List Entry → Counter → Type 0
@@ -39,3 +35,8 @@ pub record KeepsRun (a : Run) : Type 0 where
   pub entries : List (ℕ × Entry)
   pub made_by : IsMadeBy a entries state
   pub workers : (i : ℕ) → 0 < i → IsUnderWay (steps_of i entries) (actors_in a.actors i).counter
+
+-- what a run of this crate keeps. Of a program without explicit tasks, besides, each thread stands at a step that is made
+pub record KeepsCore (a : Run) : Type 0 where
+  pub run : KeepsRun a
+  pub goes_on : IsTaskless a.program → AreKept a.program a.actors

@@ -6,7 +6,9 @@ mod limits;
 mod opening;
 mod run;
 mod schedule;
+mod scheduled;
 mod stop;
+mod taskless;
 
 pub use entry::Entry;
 pub use limits::MOST_STEPS;
@@ -15,3 +17,4 @@ pub use opening::opening_image;
 pub use run::Core;
 pub use schedule::Schedule;
 pub use stop::{Break, End, Stop};
+pub use taskless::is_taskless;

@@ -3,8 +3,10 @@
 ghost use Rattle.std.specs.Prelude.{◌≡◌, ◌<◌, ◌≤◌, ◌+◌, ◌++◌, IfOk, OnOk, length, min, true, false};
 ghost use Rattle.omi_control.specs.StepsKeep.{IsJoinKept, IsKept, IsLookKept};
 ghost use Rattle.omi_core.specs.declared.limits.TheConstants.{MOST_STEPS};
+ghost use Rattle.omi_core.specs.Histories.{HasHistory};
 ghost use Rattle.omi_core.specs.Runs.{IsOpening, IsSameRun, actors_in, spare_in};
 ghost use Rattle.omi_rep.specs.Suits.{Suits};
+ghost use Rattle.omi_core.specs.Taskless.{AreKept, IsTaskless};
 ghost use Rattle.omi_core.specs.RunSteps.{IsRight, IsStep, ShowsState, event_of, seats_of};
 
 use crate::opening::{opening_actors, opening_image};
@@ -33,7 +35,7 @@ pub struct Core {
 
 impl Model for Core {
     ghost use Rattle.omi_core.specs.declared.limits.TheConstants.{MOST_STEPS};
-    ghost use Rattle.omi_core.specs.Kept.{KeepsRun};
+    ghost use Rattle.omi_core.specs.Kept.{KeepsCore};
     ghost use Rattle.omi_core.specs.Runs.{Run};
 
     ghost Value = { Run };
@@ -47,7 +49,7 @@ impl Model for Core {
       made = a.made;
     } };
 
-    ghost invariant = { λ a. KeepsRun (record {
+    ghost invariant = { λ a. KeepsCore (record {
       program = a.program;
       table = a.layout.table;
       words = a.image;
@@ -161,11 +163,29 @@ impl Core {
         &self.events
     }
 
-    /// The steps so far, in order.
+    /// The steps so far, in order. There are entries of these threads, operations and words that lead from the opening words to the
+    /// run's words, with its events, and its words show the state that these events reach.
     pub fn made(&self) -> &MadeList
-        ensures { result.now ≡ self.now.made }
+        ensures made { result.now ≡ self.now.made }
+        ensures history { HasHistory self.now }
     {
         &self.made
+    }
+
+    /// The number of threads.
+    pub fn threads(&self) -> u8
+        ensures threads { result ≡ self.now.program.threads }
+        ensures some { 0 < result }
+    {
+        self.program.threads
+    }
+
+    /// Of a program without explicit tasks, each thread stands at a step that is made.
+    pub fn all_kept(&self)
+        requires { IsTaskless self.now.program }
+        ensures { AreKept self.now.program self.now.actors }
+    {
+        let _ = &self.program;
     }
 
     /// The number of steps so far.

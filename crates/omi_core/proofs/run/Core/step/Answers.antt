@@ -12,50 +12,52 @@ use Rattle.omi_core.specs.declared.entry.Entry.{Entry}
 use Rattle.omi_core.specs.RunSteps.{IsRight, IsStep, event_of, seats_of}
 use Rattle.omi_events.specs.declared.made.Turn.{Turn}
 use Rattle.std.proofs.lemmas.List.{length-append}
+use Rattle.omi_core.specs.Kept.{KeepsRun}
+use Rattle.omi_core.proofs.without_tasks.GoesOn.{step_kept}
 use Rattle.omi_core.proofs.Stepping.{actor_is, few_seats, inside, own, right, run_after, seats_for, spare_after}
 use Rattle.omi_core.proofs.run.Core.step.Goals as goal
 
 pub next-op-requires-clause-fits : goal.next-op-requires-clause-fits
 next-op-requires-clause-fits c =
     let thread = subst (λ (z : Run). c.args.i < z.program.threads) (sym c.self.view_is) c.requires.thread in
-    let here = c.index.ensures ∙ actor_is c.self.inside.actors.items c.args.i c.index.result.now (subst (λ n. c.args.i < n) (sym c.self.invariant.actors) thread) in
-    subst (λ (b : Actor). Fits c.self.inside.program b) (sym here) (own _ c.self.invariant c.args.i thread).fits
+    let here = c.index.ensures ∙ actor_is c.self.inside.actors.items c.args.i c.index.result.now (subst (λ n. c.args.i < n) (sym c.self.invariant.run.actors) thread) in
+    subst (λ (b : Actor). Fits c.self.inside.program b) (sym here) (own _ c.self.invariant.run c.args.i thread).fits
 
 pub next-op-requires-clause-placed : goal.next-op-requires-clause-placed
 next-op-requires-clause-placed c =
     let thread = subst (λ (z : Run). c.args.i < z.program.threads) (sym c.self.view_is) c.requires.thread in
-    let here = c.index.ensures ∙ actor_is c.self.inside.actors.items c.args.i c.index.result.now (subst (λ n. c.args.i < n) (sym c.self.invariant.actors) thread) in
-    subst (λ (b : Actor). IsPlaced c.self.inside.layout.table b) (sym here) (own _ c.self.invariant c.args.i thread).placed
+    let here = c.index.ensures ∙ actor_is c.self.inside.actors.items c.args.i c.index.result.now (subst (λ n. c.args.i < n) (sym c.self.invariant.run.actors) thread) in
+    subst (λ (b : Actor). IsPlaced c.self.inside.layout.table b) (sym here) (own _ c.self.invariant.run c.args.i thread).placed
 
 pub apply-found-requires : goal.apply-found-requires
 apply-found-requires c =
     let thread = subst (λ (z : Run). c.args.i < z.program.threads) (sym c.self.view_is) c.requires.thread in
     let spare = subst (λ (z : Run). 1 ≤ spare_in z) (sym c.self.view_is) c.requires.spare in
     let kept = subst (λ (z : Run). IsKept (actors_in z.actors c.args.i).counter) (sym c.self.view_is) c.requires.kept in
-    let here = c.index.ensures ∙ actor_is c.self.inside.actors.items c.args.i c.index.result.now (subst (λ n. c.args.i < n) (sym c.self.invariant.actors) thread) in
+    let here = c.index.ensures ∙ actor_is c.self.inside.actors.items c.args.i c.index.result.now (subst (λ n. c.args.i < n) (sym c.self.invariant.run.actors) thread) in
     subst (λ (o : Op). IsWordOf c.self.inside.image (address_of o)) (sym (c.next-op.ensures ∙ ap (λ (b : Actor). next_of c.self.inside.program c.self.inside.layout.table b) here))
-    (inside _ c.self.invariant c.args.i thread spare kept)
+    (inside _ c.self.invariant.run c.args.i thread spare kept)
 
 pub resume-outcome-requires-clause-fits : goal.resume-outcome-requires-clause-fits
 resume-outcome-requires-clause-fits c =
     let thread = subst (λ (z : Run). c.args.i < z.program.threads) (sym c.self.view_is) c.requires.thread in
-    let here = c.index_mut.ensures.value ∙ actor_is c.self.inside.actors.items c.args.i c.index_mut.result.now (subst (λ n. c.args.i < n) (sym c.self.invariant.actors) thread) in
-    subst (λ (b : Actor). Fits c.self.inside.program b) (sym here) (own _ c.self.invariant c.args.i thread).fits
+    let here = c.index_mut.ensures.value ∙ actor_is c.self.inside.actors.items c.args.i c.index_mut.result.now (subst (λ n. c.args.i < n) (sym c.self.invariant.run.actors) thread) in
+    subst (λ (b : Actor). Fits c.self.inside.program b) (sym here) (own _ c.self.invariant.run c.args.i thread).fits
 
 pub resume-outcome-requires-clause-placed : goal.resume-outcome-requires-clause-placed
 resume-outcome-requires-clause-placed c =
     let thread = subst (λ (z : Run). c.args.i < z.program.threads) (sym c.self.view_is) c.requires.thread in
-    let here = c.index_mut.ensures.value ∙ actor_is c.self.inside.actors.items c.args.i c.index_mut.result.now (subst (λ n. c.args.i < n) (sym c.self.invariant.actors) thread) in
-    subst (λ (b : Actor). IsPlaced c.self.inside.layout.table b) (sym here) (own _ c.self.invariant c.args.i thread).placed
+    let here = c.index_mut.ensures.value ∙ actor_is c.self.inside.actors.items c.args.i c.index_mut.result.now (subst (λ n. c.args.i < n) (sym c.self.invariant.run.actors) thread) in
+    subst (λ (b : Actor). IsPlaced c.self.inside.layout.table b) (sym here) (own _ c.self.invariant.run c.args.i thread).placed
 
 pub list_event-requires-clause-seats : goal.list_event-requires-clause-seats
 list_event-requires-clause-seats c =
     let thread = subst (λ (z : Run). c.args.i < z.program.threads) (sym c.self.view_is) c.requires.thread in
     let spare = subst (λ (z : Run). 1 ≤ spare_in z) (sym c.self.view_is) c.requires.spare in
     let kept = subst (λ (z : Run). IsKept (actors_in z.actors c.args.i).counter) (sym c.self.view_is) c.requires.kept in
-    let within = subst (λ n. c.args.i < n) (sym c.self.invariant.actors) thread in
+    let within = subst (λ n. c.args.i < n) (sym c.self.invariant.run.actors) thread in
     let found = c.apply-found.ensures.old ∙ ap (λ (o : Op). word_at c.self.inside.image (address_of o)) (c.next-op.ensures ∙ ap (λ (b : Actor). next_of c.self.inside.program c.self.inside.layout.table b) (c.index.ensures ∙ actor_is c.self.inside.actors.items c.args.i c.index.result.now within)) in
-    seats_for _ c.self.invariant c.args.i thread spare kept c.resume-outcome.result
+    seats_for _ c.self.invariant.run c.args.i thread spare kept c.resume-outcome.result
     (c.resume-outcome.ensures.outcome
     ∙ ap (λ (b : Actor). (resumed_at c.self.inside.program c.self.inside.layout.table b b.counter c.apply-found.result.old).1) (c.index_mut.ensures.value ∙ actor_is c.self.inside.actors.items c.args.i c.index_mut.result.now within)
     ∙ ap (λ n. (resumed_at c.self.inside.program c.self.inside.layout.table (actors_in c.self.inside.actors.items c.args.i) (actors_in c.self.inside.actors.items c.args.i).counter n).1) found)
@@ -72,7 +74,7 @@ is_kept : (c : goal.After-list_event) → IsKept (actors_in c.self.inside.actors
 is_kept c = subst (λ (z : Run). IsKept (actors_in z.actors c.args.i).counter) (sym c.self.view_is) c.requires.kept
 
 in_list : (c : goal.After-list_event) → c.args.i < length c.self.inside.actors.items
-in_list c = subst (λ n. c.args.i < n) (sym c.self.invariant.actors) (threads_known c)
+in_list c = subst (λ n. c.args.i < n) (sym c.self.invariant.run.actors) (threads_known c)
 
 -- the operation, and the word that it found
 op_is : (c : goal.After-list_event) → c.next-op.result ≡ next_of c.self.inside.program c.self.inside.layout.table (actors_in c.self.inside.actors.items c.args.i)
@@ -125,12 +127,22 @@ outcome_found : (c : goal.After-list_event) → c.resume-outcome.result ≡ (res
     (word_at c.self.inside.image (address_of (next_of c.self.inside.program c.self.inside.layout.table (actors_in c.self.inside.actors.items c.args.i))))).1
 outcome_found c = outcome_is c ∙ ap (λ n. (resumed_at c.self.inside.program c.self.inside.layout.table (actors_in c.self.inside.actors.items c.args.i) (actors_in c.self.inside.actors.items c.args.i).counter n).1) (found_is c)
 
-pub invariant_of-self : goal.invariant_of-self
-invariant_of-self c =
+-- the actors behind the step, by the word that it found
+actors_are : (c : goal.After-list_event) → (run_now c).actors ≡ slice_set (run_before c).actors c.args.i (resumed_at c.self.inside.program c.self.inside.layout.table (actors_in c.self.inside.actors.items c.args.i) (actors_in c.self.inside.actors.items c.args.i).counter
+    (word_at c.self.inside.image (address_of (next_of c.self.inside.program c.self.inside.layout.table (actors_in c.self.inside.actors.items c.args.i))))).0
+actors_are c = (is_step c).actors ∙ ap (λ n. slice_set c.self.inside.actors.items c.args.i (resumed_at c.self.inside.program c.self.inside.layout.table (actors_in c.self.inside.actors.items c.args.i) (actors_in c.self.inside.actors.items c.args.i).counter n).0) (found_is c)
+
+keeps_run : (c : goal.After-list_event) → KeepsRun (run_now c)
+keeps_run c =
     let step = is_step c in
-    run_after (run_before c) c.self.invariant c.args.i (threads_known c) (some_spare c) (is_kept c) _ (entry_of c) (op_is c) (found_is c) (outcome_found c) refl refl step.words
-    (step.actors ∙ ap (λ n. slice_set c.self.inside.actors.items c.args.i (resumed_at c.self.inside.program c.self.inside.layout.table (actors_in c.self.inside.actors.items c.args.i) (actors_in c.self.inside.actors.items c.args.i).counter n).0) (found_is c))
-    step.made step.events
+    run_after (run_before c) c.self.invariant.run c.args.i (threads_known c) (some_spare c) (is_kept c) _ (entry_of c) (op_is c) (found_is c) (outcome_found c) refl refl step.words
+    (actors_are c) step.made step.events
+
+pub invariant_of-self : goal.invariant_of-self
+invariant_of-self c = record {
+  run = keeps_run c;
+  goes_on = λ taskless. step_kept (run_before c) (run_now c) c.self.invariant.run (keeps_run c) c.args.i (threads_known c) taskless (c.self.invariant.goes_on taskless) refl (actors_are c);
+}
 
 pub returns-clause-entry : goal.returns-clause-entry
 returns-clause-entry c = subst (λ (z : Run). IsStep z c.args.i (entry_of c) (run_now c)) c.self.view_is (is_step c)
@@ -138,14 +150,14 @@ returns-clause-entry c = subst (λ (z : Run). IsStep z c.args.i (entry_of c) (ru
 pub returns-clause-right : goal.returns-clause-right
 returns-clause-right c = subst (λ (z : Run). IsRight z c.args.i (record { op = c.next-op.result; old = c.apply-found.result.old; outcome = c.resume-outcome.result })) c.self.view_is
     (right (record { program = c.self.inside.program; table = c.self.inside.layout.table; words = c.self.inside.image; actors = c.self.inside.actors.items; events = c.self.inside.events; made = c.self.inside.made })
-    c.self.invariant c.args.i (threads_known c) (some_spare c) (is_kept c) _ (op_is c) (found_is c) (outcome_found c))
+    c.self.invariant.run c.args.i (threads_known c) (some_spare c) (is_kept c) _ (op_is c) (found_is c) (outcome_found c))
 
 pub returns-clause-spare : goal.returns-clause-spare
 returns-clause-spare c =
     let teams : seats_of c.resume-outcome.result ≤ c.self.inside.program.threads =
     subst (λ (o : Outcome). seats_of o ≤ c.self.inside.program.threads)
     (sym (outcome_found c))
-    (few_seats (run_before c) c.self.invariant c.args.i (threads_known c) (some_spare c) (is_kept c)) in
+    (few_seats (run_before c) c.self.invariant.run c.args.i (threads_known c) (some_spare c) (is_kept c)) in
     let room = c.list_event.ensures.seats in
     subst (λ (z : Run). spare_in z ≤ spare_in (run_now c) + 1) c.self.view_is
     (spare_after (run_before c) (run_now c) refl (let known = threads_known c in omega (arith, known)) c.push_reserved.ensures.spare c.list_event.ensures.spare (omega (arith, room, teams))

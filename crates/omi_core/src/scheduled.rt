@@ -1,0 +1,60 @@
+//! Runs by a schedule.
+
+ghost use Rattle.std.specs.Prelude.{◌≡◌, ◌≤◌, IfSome, OnOk};
+ghost use Rattle.omi_core.specs.Runs.{IsSameRun, spare_in};
+ghost use Rattle.omi_core.specs.ScheduledRuns.{IsRunBy};
+ghost use Rattle.omi_core.specs.Schedules.{IsListed};
+ghost use Rattle.omi_core.specs.Taskless.{IsTaskless};
+
+use crate::schedule::{first_draw, next_number, thread_at};
+use crate::stop::{end_at, met_at};
+use crate::{Core, End, MOST_STEPS, OutOfMemory, Schedule, Stop};
+use std::alloc::AllocError;
+
+/// For so many steps room is taken at a time.
+const PORTION: u64 = 1024;
+
+impl Core {
+    /// Makes room for a step, where there is none, and then for a portion of the steps that are left.
+    fn make_room(&mut self, left: u64) -> Result<(), OutOfMemory>
+        requires { 1 ≤ left }
+        ensures run { IsSameRun self.old self.new }
+        ensures spare { OnOk result (1 ≤ spare_in self.new) }
+    {
+        if self.spare() > 0 {
+            return Ok(());
+        }
+        let steps = left
+            .min(PORTION)
+            .min(MOST_STEPS.saturating_sub(self.steps()));
+        if steps == 0 {
+            return Err(AllocError);
+        }
+        self.reserve(steps as usize)
+    }
+
+    /// Makes steps of the schedule's threads, in order, until the program is done, the event at which the run is to stop was committed,
+    /// or so many steps were made. Room is taken in portions between steps. Where memory is wanting, the run stands behind the
+    /// steps that it made.
+    pub fn run(&mut self, how: &Schedule, stop: Stop) -> Result<End, OutOfMemory>
+        requires count { IfSome stop.on (λ on. 1 ≤ on.1) }
+        requires listed { IsListed how.now self.old.program.threads stop.steps }
+        requires taskless { IsTaskless self.old.program }
+        ensures { IsRunBy self.old how.now stop result self.new }
+    {
+        let threads = self.threads();
+        let mut draw = first_draw(how);
+        let mut met = 0;
+        for step in 0..stop.steps {
+            self.make_room(stop.steps - step)?;
+            self.all_kept();
+            let entry = self.step(thread_at(how, threads, step, draw));
+            if let Some(end) = end_at(stop.on, met, &entry.outcome) {
+                return Ok(end);
+            }
+            met = met_at(stop.on, met, &entry.outcome);
+            draw = next_number(draw);
+        }
+        Ok(End::Steps)
+    }
+}
