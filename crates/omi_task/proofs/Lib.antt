@@ -1,1 +1,2 @@
+pub mod CodesBack
 pub mod StartedBodies

@@ -1,6 +1,8 @@
 -- The bodies of a thread that starts an explicit task: there is room for one more, and that of the task stands on the wait.
-use Rattle.std.proofs.Common.{ℕ, ◌<◌, Bool, true, false, cond, List, [], ◌∷◌, length, Some, refl, arith}
+use Rattle.std.proofs.Common.{◌≡◌, ℕ, ◌<◌, Bool, true, false, cond, List, [], ◌∷◌, length, Some, None, refl, ap, arith}
 use Rattle.omi_script.specs.declared.program.Program.{Program}
+use Rattle.omi_script.specs.declared.statement.Stmt.{Stmt}
+use Rattle.omi_script.specs.declared.statement.Stmt.TheVariants as stmt
 use Rattle.omi_model.specs.declared.id.Tid.{Tid}
 use Rattle.omi_pc.specs.declared.actor.Actor.{Actor}
 use Rattle.omi_pc.specs.declared.context.Context.{Context}
@@ -10,11 +12,13 @@ use Rattle.omi_pc.specs.declared.frame.Opened.TheVariants.{Task}
 use Rattle.omi_pc.specs.declared.frame.Wait.{Wait}
 use Rattle.omi_pc.specs.declared.frame.Wait.TheVariants as wait
 use Rattle.omi_pc.specs.FitLaws.{OpenedBodyStands}
-use Rattle.omi_pc.specs.Fits.{Fits}
+use Rattle.omi_pc.specs.Fits.{Fits, IsTask, IsTaskGot}
 use Rattle.omi_pc.specs.Frames.{at_start}
 use Rattle.omi_pc.specs.Moves.{context_under}
-use Rattle.omi_pc.specs.OpenBodies.{AreOpen, IsContext, IsWaiting}
+use Rattle.omi_pc.specs.OpenBodies.{AreOpen, IsAt, IsContext, IsWaiting}
 use Rattle.omi_pc.specs.Stacks.{opens_task, task_function}
+use Rattle.omi_pc.proofs.Settled.{named_there}
+use Rattle.omi_task.specs.MakingSteps.{function_in, made_function, makes_final}
 use Rattle.omi_task.specs.Starts.{task_context}
 
 -- a body is open where a task waits
@@ -58,3 +62,34 @@ start_opens p a v t f final stands fits waits maker below =
     })
     ((below, waits), record { implicit = refl; region = refl; row = refl; number = refl; size = refl; arrivals = refl; depth = refl })
     fits.bodies
+
+-- a body is open where a statement is in work
+pub some_at : (p : Program) (fs : List Frame) (s : Stmt) → IsAt p fs s → 0 < length fs
+some_at p [] s at = absurd (cc)
+some_at p (f ∷ fs) s at = omega arith
+
+-- the bodies once a task is current that starts at once
+module _ (p : Program) (a : Actor) (t : Tid) (stands : OpenedBodyStands) (fits : Fits p a) (maker : t.0.creator ≡ a.thread) where
+  opens : (s : Stmt) → IsAt p a.stack s → IsTask s
+      → AreOpen p (task_context a t (makes_final p a)) (at_start (made_function p a) (Task None a.context) ∷ a.stack)
+  opens (stmt.Task f undeferred final) at is =
+      let c = context_there p a.context a.stack fits.bodies (some_at p a.stack (stmt.Task f undeferred final) at) in
+      let function : made_function p a ≡ f = ap function_in at in
+      rw function
+      (stands p (task_context a t (makes_final p a)) f (Task None a.context) a.stack (named_there p a.context a.stack (stmt.Task f undeferred final) f fits.bodies at refl)
+      (record {
+        size = c.size;
+        number = c.number;
+        arrivals = c.arrivals;
+        task = (let own = fits.thread in omega (arith, maker, own));
+        region = c.region;
+        row = c.row;
+        implicit = λ so. absurd (cc);
+      })
+      ((undeferred, final, at), record { implicit = refl; region = refl; row = refl; number = refl; size = refl; arrivals = refl; depth = refl })
+      fits.bodies)
+  opens _ at never = absurd never
+
+pub start_now_opens : (p : Program) (a : Actor) (t : Tid) → OpenedBodyStands → Fits p a → IsTaskGot p a None t
+    → AreOpen p (task_context a t (makes_final p a)) (at_start (made_function p a) (Task None a.context) ∷ a.stack)
+start_now_opens p a t stands fits (((s, at, is), own), maker) = opens p a t stands fits maker s at is

@@ -1,5 +1,8 @@
 -- The definitions, in reading order.
 pub mod Slots
 pub mod Starts
+pub mod MakingSteps
 pub mod LookSteps
+pub mod FinishSteps
 pub mod Steps
+pub mod SlotLaws

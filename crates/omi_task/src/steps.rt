@@ -6,7 +6,7 @@ ghost use Rattle.omi_pc.specs.Fits.{Fits};
 ghost use Rattle.omi_step.specs.Placed.{IsPlaced};
 ghost use Rattle.omi_task.specs.Steps.{IsTaskCounter, next_of, resumed};
 
-use crate::{look_next, look_resume};
+use crate::{finish_next, finish_resume, look_next, look_resume, making_next, making_resume};
 use omi_layout::Layout;
 use omi_pc::{Actor, Counter};
 use omi_rep::Outcome;
@@ -19,10 +19,12 @@ pub fn task_next(p: &Program, l: &Layout, a: &Actor) -> Op
     requires threads { p.now.threads ≡ thread_count l.now.table }
     requires placed { IsPlaced l.now.table a.now }
     requires counter { IsTaskCounter a.now.counter }
-    ensures { result ≡ next_of l.now.table a.now }
+    ensures { result ≡ next_of p.now l.now.table a.now }
 {
     match a.counter {
+        Counter::Task(c) => making_next(p, l, a, c),
         Counter::Look(c) => look_next(p, l, a, c),
+        Counter::Finish(c) => finish_next(p, l, a, c),
         _ => unreachable!(),
     }
 }
@@ -38,7 +40,9 @@ pub fn task_resume(p: &Program, l: &Layout, a: &mut Actor, r: Res) -> Outcome
     ensures outcome { result ≡ (resumed p.now l.now.table a.old r).1 }
 {
     match a.counter {
+        Counter::Task(c) => making_resume(p, l, a, c, r.old),
         Counter::Look(c) => look_resume(p, l, a, c, r.old),
+        Counter::Finish(c) => finish_resume(p, l, a, c, r.old),
         _ => unreachable!(),
     }
 }
