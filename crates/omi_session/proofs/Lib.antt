@@ -6,3 +6,6 @@ pub mod Slots
 pub mod Asked
 pub mod Handed
 pub mod LookedLaws
+pub mod ShownObjects
+pub mod ShownParts
+pub mod ShownAnswers

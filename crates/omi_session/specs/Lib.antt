@@ -11,3 +11,6 @@ pub mod Made
 pub mod Handles
 -- That these are plain looks at the words.
 pub mod Looked
+-- What a state answers, and what calls do where the words show it.
+pub mod Answers
+pub mod Shown

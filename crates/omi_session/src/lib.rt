@@ -25,4 +25,6 @@ pub use session::Session;
 pub use version::{API_VERSION, get_api_version, get_version_string};
 
 #[cfg(test)]
+mod rows;
+#[cfg(test)]
 mod tests;

@@ -1,0 +1,67 @@
+-- Over words that show a state, the records of its threads that have begun and of its visible regions and tasks are those of live objects.
+use Rattle.std.proofs.Common.{◌≡◌, ◌==◌, ℕ, ◌+◌, ◌*◌, ◌%◌, ◌^◌, ◌<◌, ◌&&◌, Bool, true, List, Option, Some, None, refl, ap, ◌∙◌, arith, nat_lt}
+use Rattle.std.specs.Prelude.{is_some}
+use Rattle.std.proofs.lemmas.Bool.Decides.{nat_tests}
+use Rattle.omi_calls.specs.Told.{Words}
+use Rattle.omi_handle.specs.declared.handle.Kind.{Kind}
+use Rattle.omi_handle.specs.declared.handle.Kind.TheVariants.{Thread, Region, Task}
+use Rattle.omi_layout.specs.Field.{threads, regions, tasks}
+use Rattle.omi_layout.specs.Named.{number}
+use Rattle.omi_layout.specs.Place.{slot_address, IsSlot}
+use Rattle.omi_layout.specs.Valid.{IsValid}
+use Rattle.omi_model.specs.declared.id.Rid.{Rid}
+use Rattle.omi_model.specs.declared.id.Tid.{Tid}
+use Rattle.omi_model.specs.Numbers.{flag}
+use Rattle.omi_model.specs.State.{State}
+use Rattle.omi_model.specs.Visible.{IsVisibleRegion, IsVisibleTask}
+use Rattle.omi_model.specs.WellFormed.{HasBegun}
+use Rattle.omi_rep.specs.Look.{life_of, slot_at, is_live}
+use Rattle.omi_rep.specs.Records.{record_at, thread_address, region_address, task_address}
+use Rattle.omi_rep.specs.Shows.{Shows}
+use Rattle.omi_rep.proofs.Same.{region_slot, task_slot, region_life, task_life}
+use Rattle.omi_session.specs.Named.{record_kind}
+use Rattle.omi_session.specs.Shown.{AreNames}
+use Rattle.omi_session.proofs.Slots.{slot_none}
+
+-- the record of a live object of a kind begins at this address, with this life word
+pub record Lives (w : List ℕ) (memory : Words) (kind : Kind) (address life : ℕ) : Type 0 where
+  pub place : is_some (slot_at w (record_kind kind) address) ≡ true
+  pub word : record_at w memory address (number (life_of (record_kind kind))) 0 ≡ Some life
+  pub live : is_live (record_kind kind) life ≡ true
+
+-- a slot's record begins at its address
+slot_begins : (w : List ℕ) (kind creator slot : ℕ) → IsSlot w kind creator slot → is_some (slot_at w kind (slot_address w kind creator slot)) ≡ true
+slot_begins w kind creator slot is = go (slot_at w kind (slot_address w kind creator slot)) refl
+  where
+    go : (o : Option (ℕ × ℕ)) → slot_at w kind (slot_address w kind creator slot) ≡ o → is_some o ≡ true
+    go None e = absurd (slot_none w kind (slot_address w kind creator slot) creator slot e is refl)
+    go (Some at) e = refl
+
+-- the life word of a generation of 32 bits is one of a live record
+generation_lives : (g : ℕ) → g < 2 ^ 32 → (2 * g + 1) % 2 == 1 && nat_lt (2 * g + 1) (2 ^ 33) ≡ true
+generation_lives g low =
+    let odd : (2 * g + 1) % 2 ≡ 1 = omega arith in
+    let small : 2 * g + 1 < 2 ^ 33 = omega (arith, low) in
+    grind (arith, nat_tests)
+
+module _ (w : List ℕ) (memory : Words) (s : State) (valid : IsValid w) (shows : Shows w memory s) where
+  pub thread_lives : (i : ℕ) → HasBegun s i → Lives w memory Thread (thread_address w i) 1
+  thread_lives i is = record {
+    place = slot_begins w threads i 0 (record { made_by = omega (arith, is.known, shows.within.count); within = omega arith });
+    word = (shows.records.lives i is.known).life ∙ ap (λ (b : Bool). Some (flag b)) is.begun;
+    live = refl;
+  }
+
+  pub region_lives : AreNames s → (n : Rid) → IsVisibleRegion s n → Lives w memory Region (region_address w n) (2 * n.0.generation + 1)
+  region_lives names n seen = record {
+    place = slot_begins w regions n.0.creator n.0.slot (region_slot w memory valid s shows n seen);
+    word = region_life w memory valid s shows n seen;
+    live = generation_lives n.0.generation (names.regions n seen);
+  }
+
+  pub task_lives : AreNames s → (k : Tid) → IsVisibleTask s k → Lives w memory Task (task_address w k) (2 * k.0.generation + 1)
+  task_lives names k seen = record {
+    place = slot_begins w tasks k.0.creator k.0.slot (task_slot w memory valid s shows k seen);
+    word = task_life w memory valid s shows k seen;
+    live = generation_lives k.0.generation (names.tasks k seen);
+  }

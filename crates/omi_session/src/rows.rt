@@ -1,0 +1,61 @@
+//! Worked rows of what states answer. Each is a clause of a function that does nothing.
+
+ghost use Rattle.std.specs.Prelude.{◌≡◌, [], ◌∷◌, Ok, Err};
+ghost use Rattle.omi_model.specs.Opening.{opening, opening_region, opening_task, initial_region, initial_task};
+ghost use Rattle.omi_model.specs.Teams.{new_region, member_task};
+ghost use Rattle.omi_model.specs.WorkedRun.{run_program, run_region, master, worker};
+ghost use Rattle.omi_session.specs.Answers as answer;
+
+use crate::rc::Rc;
+use std::test::Fail;
+
+/// Null ends: a program of two threads starts with one region and one task, and thread 1 has not begun.
+fn null_ends()
+    ensures enclosing { answer.enclosing_region (opening_region run_program) ≡ Err Rc.Unavailable }
+    ensures generating { answer.generating_task (opening_task run_program) ≡ Err Rc.Unavailable }
+    ensures scheduling { answer.scheduling_task (opening_task run_program) ≡ Err Rc.Unavailable }
+    ensures begun { answer.thread_with (opening run_program) 0 1000 ≡ Ok 0 }
+    ensures waiting { answer.thread_with (opening run_program) 0 1001 ≡ Err Rc.Unavailable }
+    ensures past { answer.thread_with (opening run_program) 0 1002 ≡ Err Rc.Unavailable }
+    ensures other_kind { answer.thread_with (opening run_program) 1 1000 ≡ Err Rc.Unsupported }
+    ensures task { answer.task_of_thread (opening run_program) 0 ≡ Ok initial_task }
+    ensures region { answer.region_of_thread (opening run_program) 0 ≡ Ok initial_region }
+    ensures no_task { answer.task_of_thread (opening run_program) 1 ≡ Err Rc.Unavailable }
+    ensures no_region { answer.region_of_thread (opening run_program) 1 ≡ Err Rc.Unavailable }
+{}
+
+/// Team numbers: the initial task forks a region of two members.
+fn team_numbers()
+    ensures enclosing { answer.enclosing_region (new_region initial_task (opening_task run_program)
+        (opening_region run_program) ((master, 0) ∷ (worker, 1) ∷ []) 2) ≡ Ok initial_region }
+    ensures task { answer.task_of_member (new_region initial_task (opening_task run_program)
+        (opening_region run_program) ((master, 0) ∷ (worker, 1) ∷ []) 2) 1 ≡ Ok worker }
+    ensures thread { answer.thread_of_member (new_region initial_task (opening_task run_program)
+        (opening_region run_program) ((master, 0) ∷ (worker, 1) ∷ []) 2) 1 ≡ Ok 1 }
+    ensures past { answer.task_of_member (new_region initial_task (opening_task run_program)
+        (opening_region run_program) ((master, 0) ∷ (worker, 1) ∷ []) 2) 2 ≡ Err Rc.BadInput }
+    ensures no_thread { answer.thread_of_member (new_region initial_task (opening_task run_program)
+        (opening_region run_program) ((master, 0) ∷ (worker, 1) ∷ []) 2) 2 ≡ Err Rc.BadInput }
+{}
+
+/// The commit: both members' tasks were made by the initial task, and the master's alone was scheduled from it.
+fn forked_tasks()
+    ensures region { answer.region_of_task (member_task run_program run_region initial_task
+        (opening_task run_program) (opening_region run_program) 2 1 1) ≡ Ok run_region }
+    ensures generating { answer.generating_task (member_task run_program run_region initial_task
+        (opening_task run_program) (opening_region run_program) 2 1 1) ≡ Ok initial_task }
+    ensures scheduling { answer.scheduling_task (member_task run_program run_region initial_task
+        (opening_task run_program) (opening_region run_program) 2 0 0) ≡ Ok initial_task }
+    ensures none { answer.scheduling_task (member_task run_program run_region initial_task
+        (opening_task run_program) (opening_region run_program) 2 1 1) ≡ Err Rc.Unavailable }
+    ensures function { answer.function_of_task (member_task run_program run_region initial_task
+        (opening_task run_program) (opening_region run_program) 2 1 1) ≡ Ok 0x400020 }
+{}
+
+#[test]
+fn states_answer_the_worked_rows(_rt: HostRuntime) -> Result<(), Fail> {
+    null_ends();
+    team_numbers();
+    forked_tasks();
+    Ok(())
+}
