@@ -9,3 +9,4 @@ pub mod LookedLaws
 pub mod ShownObjects
 pub mod ShownParts
 pub mod ShownAnswers
+pub mod NamesReached

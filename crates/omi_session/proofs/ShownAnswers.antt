@@ -24,7 +24,7 @@ use Rattle.omi_session.specs.Inquiry.{word_of, object_of, follow, follow_some, c
 use Rattle.omi_session.specs.Reads.{Reads, Answer, answer_on, Answers}
 use Rattle.omi_session.specs.Made.{IsMade, IsHanded}
 use Rattle.omi_session.specs.Answers.{task_of_thread, task_of_member}
-use Rattle.omi_session.specs.Shown.{ShowsTold, IsThreadOf, IsRegionOf, IsTaskOf, IsGiven, held_thread, held_region, held_task, as_held}
+use Rattle.omi_session.specs.Shown.{ShowsTold, HoldsThread, HoldsRegion, HoldsTask, IsGiven, held_thread, held_region, held_task, as_held}
 use Rattle.omi_session.proofs.Handed.{handed_answered}
 use Rattle.omi_session.proofs.ShownObjects.{thread_lives, region_lives, task_lives}
 use Rattle.omi_session.proofs.ShownParts.{then_answered, word_told, object_told, follow_told, optional_told}
@@ -58,13 +58,13 @@ module _ (told : Told) (w : List ℕ) (s : State) (shown : ShowsTold told w s) w
   given_value result reads answer answers is = λ ne. answers shown.memory shown.tells ne ∙ is
 
   -- the objects of handles
-  pub thread_object : (found : Option Held) (t : IsThreadOf w s found) → answer_on shown.memory (object_of w kind.Thread found) ≡ Ok (held_thread w t.thread)
+  pub thread_object : (found : Option Held) (t : HoldsThread w s found) → answer_on shown.memory (object_of w kind.Thread found) ≡ Ok (held_thread w t.thread)
   thread_object found t = object_told w shown.memory kind.Thread 1 (thread_address w t.thread) found t.is (thread_lives w shown.memory s shown.valid shown.shows t.thread t.begun)
 
-  pub region_object : (found : Option Held) (r : IsRegionOf w s found) → answer_on shown.memory (object_of w kind.Region found) ≡ Ok (held_region w r.name)
+  pub region_object : (found : Option Held) (r : HoldsRegion w s found) → answer_on shown.memory (object_of w kind.Region found) ≡ Ok (held_region w r.name)
   region_object found r = object_told w shown.memory kind.Region (2 * r.name.0.generation + 1) (region_address w r.name) found r.is (region_lives w shown.memory s shown.valid shown.shows shown.names r.name r.seen)
 
-  pub task_object : (found : Option Held) (t : IsTaskOf w s found) → answer_on shown.memory (object_of w kind.Task found) ≡ Ok (held_task w t.name)
+  pub task_object : (found : Option Held) (t : HoldsTask w s found) → answer_on shown.memory (object_of w kind.Task found) ≡ Ok (held_task w t.name)
   task_object found t = object_told w shown.memory kind.Task (2 * t.name.0.generation + 1) (task_address w t.name) found t.is (task_lives w shown.memory s shown.valid shown.shows shown.names t.name t.seen)
 
   -- the region or the task that a word names, where it may name none
@@ -98,7 +98,7 @@ module _ (told : Told) (w : List ℕ) (s : State) (shown : ShowsTold told w s) w
       (thread_lives w shown.memory s shown.valid shown.shows seen.task.thread (shown.shows.within.well_formed.tasks k seen).begun)
 
   -- the current task of a thread
-  pub thread_task : (found : Option Held) (t : IsThreadOf w s found) → answer_on shown.memory (current_task w found) ≡ as_held (held_task w) (task_of_thread s t.thread)
+  pub thread_task : (found : Option Held) (t : HoldsThread w s found) → answer_on shown.memory (current_task w found) ≡ as_held (held_task w) (task_of_thread s t.thread)
   unfolding current_task
   thread_task found t =
       then_answered shown.memory (object_of w kind.Thread found) _ (held_thread w t.thread) (thread_object found t)
@@ -122,7 +122,7 @@ module _ (told : Told) (w : List ℕ) (s : State) (shown : ShowsTold told w s) w
       element_of_all (λ (u : Tid × ℕ). IsMember s u.0 u.1) seen.region.team num m (shown.shows.within.well_formed.regions n seen).members is
 
   -- the task of a member of a region
-  pub region_member : (found : Option Held) (r : IsRegionOf w s found) (num : ℕ) → answer_on shown.memory (member w found num) ≡ as_held (held_task w) (task_of_member r.seen.region num)
+  pub region_member : (found : Option Held) (r : HoldsRegion w s found) (num : ℕ) → answer_on shown.memory (member w found num) ≡ as_held (held_task w) (task_of_member r.seen.region num)
   unfolding member
   region_member found r num =
       then_answered shown.memory (object_of w kind.Region found) _ (held_region w r.name) (region_object found r)

@@ -14,3 +14,4 @@ pub mod Looked
 -- What a state answers, and what calls do where the words show it.
 pub mod Answers
 pub mod Shown
+pub mod NamesReached

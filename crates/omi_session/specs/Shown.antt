@@ -45,17 +45,17 @@ pub record ShowsTold (told : Told) (w : List ℕ) (s : State) : Type 0 where
   pub shows : Shows w memory s
 
 -- what is held is a thread of the state that has begun, a visible region, or a visible task
-pub record IsThreadOf (w : List ℕ) (s : State) (found : Option Held) : Type 0 where
+pub record HoldsThread (w : List ℕ) (s : State) (found : Option Held) : Type 0 where
   pub thread : ℕ
   pub begun : HasBegun s thread
   pub is : found ≡ Some (held_thread w thread)
 
-pub record IsRegionOf (w : List ℕ) (s : State) (found : Option Held) : Type 0 where
+pub record HoldsRegion (w : List ℕ) (s : State) (found : Option Held) : Type 0 where
   pub name : Rid
   pub seen : IsVisibleRegion s name
   pub is : found ≡ Some (held_region w name)
 
-pub record IsTaskOf (w : List ℕ) (s : State) (found : Option Held) : Type 0 where
+pub record HoldsTask (w : List ℕ) (s : State) (found : Option Held) : Type 0 where
   pub name : Tid
   pub seen : IsVisibleTask s name
   pub is : found ≡ Some (held_task w name)
@@ -67,15 +67,15 @@ OfState told w Holds = (s : State) → ShowsTold told w s → Holds s
 -- and of the thread, the region or the task of it that is held
 abbrev pub OfThread : Told → List ℕ → Option Held → (State → ℕ → Type 0) → Type 0
 OfThread told w found Holds =
-    OfState told w (λ s. (t : IsThreadOf w s found) → Holds s t.thread)
+    OfState told w (λ s. (t : HoldsThread w s found) → Holds s t.thread)
 
 abbrev pub OfRegion : Told → List ℕ → Option Held → (Region → Type 0) → Type 0
 OfRegion told w found Holds =
-    OfState told w (λ s. (r : IsRegionOf w s found) → Holds r.seen.region)
+    OfState told w (λ s. (r : HoldsRegion w s found) → Holds r.seen.region)
 
 abbrev pub OfTask : Told → List ℕ → Option Held → (Task → Type 0) → Type 0
 OfTask told w found Holds =
-    OfState told w (λ s. (t : IsTaskOf w s found) → Holds t.seen.task)
+    OfState told w (λ s. (t : HoldsTask w s found) → Holds t.seen.task)
 
 -- the object that an answer names
 abbrev pub as_held : {N : Type 0} → (N → Held) → Result N Rc → Result Held Rc

@@ -16,7 +16,7 @@ mod version;
 pub use asking::{follow, follow_some, lead, live_handle, object, unchanged, word};
 pub use handing::{hand_region, hand_task, hand_thread};
 pub use handled::{compare, let_go, name};
-pub use laws::inquiries_look;
+pub use laws::{inquiries_look, reached_names_fit};
 pub use library::{Library, initialize};
 pub use members::{current_task, member};
 pub use parted::Parted;
