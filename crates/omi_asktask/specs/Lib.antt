@@ -2,4 +2,5 @@
 pub mod Tasks
 pub mod Frame
 pub mod TaskWords
+pub mod FramesOf
 pub mod Names

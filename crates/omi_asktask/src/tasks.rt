@@ -7,8 +7,10 @@ ghost use Rattle.omi_handle.specs.declared.handle.Kind.TheVariants.{Task};
 ghost use Rattle.omi_session.specs.Named.{IsOfKind};
 ghost use Rattle.omi_session.specs.Opened.{Stays, StaysWhole};
 ghost use Rattle.omi_session.specs.Reads.{Answers};
-ghost use Rattle.omi_session.specs.Made.{Makes, Answered, as_pair, task_pair};
+ghost use Rattle.omi_session.specs.Made.{Makes, Answered, as_pair, region_pair, task_pair, thread_pair};
 ghost use Rattle.omi_session.specs.Inquiry as part;
+ghost use Rattle.omi_session.specs.Answers as answer;
+ghost use Rattle.omi_session.specs.Shown.{OfThread, OfRegion, OfTask, GivesTask};
 ghost use Rattle.omi_asktask.specs.Tasks as inquiry;
 
 use omi_calls::{Callbacks, ToHost};
@@ -58,6 +60,9 @@ pub fn get_curr_task_handle<C: Callbacks, F: ToHost>(
     requires { s.old.handles.made < 2 ^ 64 - 1 }
     ensures answer { Answered (C.told s.old.table.calls) s.new.handles (as_pair task_pair result)
         (part.current_task s.old.layout (get s.old.handles.held (t.key, t.serial))) }
+    ensures shown { OfThread (C.told s.old.table.calls) s.old.layout
+        (get s.old.handles.held (thread_pair t)) (λ state thread. GivesTask s.old.layout
+        s.new.handles (as_pair task_pair result) (answer.task_of_thread state thread)) }
     ensures handles { Makes Task s.old.handles s.new.handles (as_pair task_pair result) }
     ensures room { s.old.handles.room ≤ s.new.handles.room + 1 }
     ensures stays { Stays C.told s.old s.new }
@@ -76,6 +81,9 @@ pub fn get_generating_task_handle<C: Callbacks, F: ToHost>(
     requires { s.old.handles.made < 2 ^ 64 - 1 }
     ensures answer { Answered (C.told s.old.table.calls) s.new.handles (as_pair task_pair result)
         (inquiry.generating_task s.old.layout (get s.old.handles.held (k.key, k.serial))) }
+    ensures shown { OfTask (C.told s.old.table.calls) s.old.layout
+        (get s.old.handles.held (task_pair k)) (λ task. GivesTask s.old.layout
+        s.new.handles (as_pair task_pair result) (answer.generating_task task)) }
     ensures handles { Makes Task s.old.handles s.new.handles (as_pair task_pair result) }
     ensures room { s.old.handles.room ≤ s.new.handles.room + 1 }
     ensures stays { Stays C.told s.old s.new }
@@ -94,6 +102,9 @@ pub fn get_scheduling_task_handle<C: Callbacks, F: ToHost>(
     requires { s.old.handles.made < 2 ^ 64 - 1 }
     ensures answer { Answered (C.told s.old.table.calls) s.new.handles (as_pair task_pair result)
         (inquiry.scheduling_task s.old.layout (get s.old.handles.held (k.key, k.serial))) }
+    ensures shown { OfTask (C.told s.old.table.calls) s.old.layout
+        (get s.old.handles.held (task_pair k)) (λ task. GivesTask s.old.layout
+        s.new.handles (as_pair task_pair result) (answer.scheduling_task task)) }
     ensures handles { Makes Task s.old.handles s.new.handles (as_pair task_pair result) }
     ensures room { s.old.handles.room ≤ s.new.handles.room + 1 }
     ensures stays { Stays C.told s.old s.new }
@@ -113,6 +124,9 @@ pub fn get_task_in_parallel<C: Callbacks, F: ToHost>(
     requires { s.old.handles.made < 2 ^ 64 - 1 }
     ensures answer { Answered (C.told s.old.table.calls) s.new.handles (as_pair task_pair result)
         (part.member s.old.layout (get s.old.handles.held (r.key, r.serial)) num) }
+    ensures shown { OfRegion (C.told s.old.table.calls) s.old.layout
+        (get s.old.handles.held (region_pair r)) (λ region. GivesTask s.old.layout
+        s.new.handles (as_pair task_pair result) (answer.task_of_member region num)) }
     ensures handles { Makes Task s.old.handles s.new.handles (as_pair task_pair result) }
     ensures room { s.old.handles.room ≤ s.new.handles.room + 1 }
     ensures stays { Stays C.told s.old s.new }

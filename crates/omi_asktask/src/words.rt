@@ -5,7 +5,11 @@ ghost use Rattle.std.specs.FinMap.{get};
 ghost use Rattle.omi_outside.specs.Outside.{HasCause};
 ghost use Rattle.omi_session.specs.Opened.{StaysWhole};
 ghost use Rattle.omi_session.specs.Reads.{Answers};
+ghost use Rattle.omi_session.specs.Made.{task_pair};
+ghost use Rattle.omi_session.specs.Answers.{function_of_task};
+ghost use Rattle.omi_session.specs.Shown.{OfTask, IsGiven};
 ghost use Rattle.omi_asktask.specs.Frame.{flag_of};
+ghost use Rattle.omi_asktask.specs.FramesOf.{frames_of_task};
 ghost use Rattle.omi_asktask.specs.TaskWords as inquiry;
 
 use omi_calls::{Callbacks, ToHost};
@@ -37,6 +41,8 @@ pub fn get_task_function<C: Callbacks, F: ToHost>(
 ) -> Result<u64, Rc>
     ensures answer { Answers (C.told s.old.table.calls) result
         (inquiry.function s.old.layout (get s.old.handles.held (k.key, k.serial))) }
+    ensures shown { OfTask (C.told s.old.table.calls) s.old.layout
+        (get s.old.handles.held (task_pair k)) (λ task. IsGiven result (function_of_task task)) }
     ensures memory { result ≢ Err Rc.NoMem }
     ensures same { StaysWhole C.told s.old s.new }
     ensures cause { HasCause (C.faults s.old.table.calls) (C.faults s.new.table.calls)
@@ -53,6 +59,8 @@ pub fn get_task_frame<C: Callbacks, F: ToHost>(
 ) -> Result<Frames, Rc>
     ensures answer { Answers (C.told s.old.table.calls) result
         (inquiry.frames s.old.layout (get s.old.handles.held (k.key, k.serial))) }
+    ensures shown { OfTask (C.told s.old.table.calls) s.old.layout
+        (get s.old.handles.held (task_pair k)) (λ task. IsGiven result (frames_of_task task)) }
     ensures memory { result ≢ Err Rc.NoMem }
     ensures same { StaysWhole C.told s.old s.new }
     ensures cause { HasCause (C.faults s.old.table.calls) (C.faults s.new.table.calls)

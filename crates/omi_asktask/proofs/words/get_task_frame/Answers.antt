@@ -5,7 +5,9 @@ use Rattle.omi_layout.specs.declared.field.Field.TheVariants.{TaskExit, TaskEnte
 use Rattle.omi_session.specs.Reads.{Answers}
 use Rattle.omi_session.specs.Inquiry.{word_of}
 use Rattle.omi_session.proofs.Asked.{asked_then, asked_refused, asked_answer}
+use Rattle.omi_session.proofs.ShownAnswers.{given_value}
 use Rattle.omi_asktask.specs.TaskWords.{frames}
+use Rattle.omi_asktask.proofs.ShownTasks.{frames_told}
 use Rattle.omi_asktask.proofs.words.get_task_frame.Goals as goal
 
 pub returns-in_err-task-clause-answer : goal.returns-in_err-task-clause-answer
@@ -41,3 +43,23 @@ returns-clause-answer g c =
     (asked_then _ (g.C.Callbacks.told c.word.new.s.table.calls) _ _ c.in_ok-exit.exit _ c.word.ensures.same.table.same exit
     (asked_then _ (g.C.Callbacks.told c.word-2.new.s.table.calls) _ _ c.in_ok-enter.enter _ c.word-2.ensures.same.table.same enter
     (asked_answer _ _ _ (λ i. Ok (record { exit = c.in_ok-exit.exit; exit_flag = c.flag.ensures i; enter = c.in_ok-enter.enter; enter_flag = c.flag-2.ensures i })))))
+
+pub returns-in_err-task-clause-shown : goal.returns-in_err-task-clause-shown
+returns-in_err-task-clause-shown g c = λ s shown t.
+    given_value (g.C.Callbacks.told c.args.s.now.table.calls) c.args.s.now.layout s shown _ (frames c.args.s.now.layout _) _ (returns-in_err-task-clause-answer g c)
+    (frames_told (g.C.Callbacks.told c.args.s.now.table.calls) c.args.s.now.layout s shown _ t)
+
+pub returns-in_err-exit-clause-shown : goal.returns-in_err-exit-clause-shown
+returns-in_err-exit-clause-shown g c = λ s shown t.
+    given_value (g.C.Callbacks.told c.args.s.now.table.calls) c.args.s.now.layout s shown _ (frames c.args.s.now.layout _) _ (returns-in_err-exit-clause-answer g c)
+    (frames_told (g.C.Callbacks.told c.args.s.now.table.calls) c.args.s.now.layout s shown _ t)
+
+pub returns-in_err-enter-clause-shown : goal.returns-in_err-enter-clause-shown
+returns-in_err-enter-clause-shown g c = λ s shown t.
+    given_value (g.C.Callbacks.told c.args.s.now.table.calls) c.args.s.now.layout s shown _ (frames c.args.s.now.layout _) _ (returns-in_err-enter-clause-answer g c)
+    (frames_told (g.C.Callbacks.told c.args.s.now.table.calls) c.args.s.now.layout s shown _ t)
+
+pub returns-clause-shown : goal.returns-clause-shown
+returns-clause-shown g c = λ s shown t.
+    given_value (g.C.Callbacks.told c.args.s.now.table.calls) c.args.s.now.layout s shown _ (frames c.args.s.now.layout _) _ (returns-clause-answer g c)
+    (frames_told (g.C.Callbacks.told c.args.s.now.table.calls) c.args.s.now.layout s shown _ t)

@@ -4,7 +4,9 @@ use Rattle.omi_layout.specs.declared.field.Field.TheVariants.{TaskFunction}
 use Rattle.omi_session.specs.Reads.{Answers}
 use Rattle.omi_session.specs.Inquiry.{word_of}
 use Rattle.omi_session.proofs.Asked.{asked_then, asked_refused}
+use Rattle.omi_session.proofs.ShownAnswers.{given_value}
 use Rattle.omi_asktask.specs.TaskWords.{function}
+use Rattle.omi_asktask.proofs.ShownTasks.{function_told}
 use Rattle.omi_asktask.proofs.words.get_task_function.Goals as goal
 
 pub returns-in_err-task-clause-answer : goal.returns-in_err-task-clause-answer
@@ -18,3 +20,13 @@ unfolding function
 returns-clause-answer g c =
     asked_then _ (g.C.Callbacks.told c.object.new.s.table.calls) _ _ c.in_ok-task.task _ c.object.ensures.same.table.same c.in_ok-task.ensures.answer
     (subst (λ w. Answers (g.C.Callbacks.told c.object.new.s.table.calls) c.word.result (word_of w c.in_ok-task.task.addr TaskFunction 0)) c.object.ensures.same.layout c.word.ensures.answer)
+
+pub returns-in_err-task-clause-shown : goal.returns-in_err-task-clause-shown
+returns-in_err-task-clause-shown g c = λ s shown t.
+    given_value (g.C.Callbacks.told c.args.s.now.table.calls) c.args.s.now.layout s shown _ (function c.args.s.now.layout _) _ (returns-in_err-task-clause-answer g c)
+    (function_told (g.C.Callbacks.told c.args.s.now.table.calls) c.args.s.now.layout s shown _ t)
+
+pub returns-clause-shown : goal.returns-clause-shown
+returns-clause-shown g c = λ s shown t.
+    given_value (g.C.Callbacks.told c.args.s.now.table.calls) c.args.s.now.layout s shown _ (function c.args.s.now.layout _) _ (returns-clause-answer g c)
+    (function_told (g.C.Callbacks.told c.args.s.now.table.calls) c.args.s.now.layout s shown _ t)
