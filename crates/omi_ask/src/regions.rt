@@ -7,7 +7,9 @@ ghost use Rattle.omi_handle.specs.declared.handle.Kind.TheVariants.{Region};
 ghost use Rattle.omi_session.specs.Named.{IsOfKind};
 ghost use Rattle.omi_session.specs.Opened.{Stays, StaysWhole};
 ghost use Rattle.omi_session.specs.Reads.{Answers};
-ghost use Rattle.omi_session.specs.Made.{Makes, Answered, as_pair, region_pair};
+ghost use Rattle.omi_session.specs.Made.{Makes, Answered, as_pair, region_pair, task_pair, thread_pair};
+ghost use Rattle.omi_session.specs.Answers as answer;
+ghost use Rattle.omi_session.specs.Shown.{OfThread, OfRegion, OfTask, GivesRegion};
 ghost use Rattle.omi_ask.specs.Regions as inquiry;
 
 use omi_calls::{Callbacks, ToHost};
@@ -71,6 +73,9 @@ pub fn get_curr_parallel_handle<C: Callbacks, F: ToHost>(
     requires { s.old.handles.made < 2 ^ 64 - 1 }
     ensures answer { Answered (C.told s.old.table.calls) s.new.handles (as_pair region_pair result)
         (inquiry.current_region s.old.layout (get s.old.handles.held (t.key, t.serial))) }
+    ensures shown { OfThread (C.told s.old.table.calls) s.old.layout
+        (get s.old.handles.held (thread_pair t)) (λ state thread. GivesRegion s.old.layout
+        s.new.handles (as_pair region_pair result) (answer.region_of_thread state thread)) }
     ensures handles { Makes Region s.old.handles s.new.handles (as_pair region_pair result) }
     ensures room { s.old.handles.room ≤ s.new.handles.room + 1 }
     ensures stays { Stays C.told s.old s.new }
@@ -89,6 +94,9 @@ pub fn get_enclosing_parallel_handle<C: Callbacks, F: ToHost>(
     requires { s.old.handles.made < 2 ^ 64 - 1 }
     ensures answer { Answered (C.told s.old.table.calls) s.new.handles (as_pair region_pair result)
         (inquiry.enclosing_region s.old.layout (get s.old.handles.held (r.key, r.serial))) }
+    ensures shown { OfRegion (C.told s.old.table.calls) s.old.layout
+        (get s.old.handles.held (region_pair r)) (λ region. GivesRegion s.old.layout
+        s.new.handles (as_pair region_pair result) (answer.enclosing_region region)) }
     ensures handles { Makes Region s.old.handles s.new.handles (as_pair region_pair result) }
     ensures room { s.old.handles.room ≤ s.new.handles.room + 1 }
     ensures stays { Stays C.told s.old s.new }
@@ -107,6 +115,9 @@ pub fn get_task_parallel_handle<C: Callbacks, F: ToHost>(
     requires { s.old.handles.made < 2 ^ 64 - 1 }
     ensures answer { Answered (C.told s.old.table.calls) s.new.handles (as_pair region_pair result)
         (inquiry.region_of_task s.old.layout (get s.old.handles.held (k.key, k.serial))) }
+    ensures shown { OfTask (C.told s.old.table.calls) s.old.layout
+        (get s.old.handles.held (task_pair k)) (λ task. GivesRegion s.old.layout
+        s.new.handles (as_pair region_pair result) (answer.region_of_task task)) }
     ensures handles { Makes Region s.old.handles s.new.handles (as_pair region_pair result) }
     ensures room { s.old.handles.room ≤ s.new.handles.room + 1 }
     ensures stays { Stays C.told s.old s.new }

@@ -9,7 +9,9 @@ ghost use Rattle.omi_handle.specs.declared.handle.Kind.TheVariants.{Thread};
 ghost use Rattle.omi_session.specs.Named.{IsOfKind};
 ghost use Rattle.omi_session.specs.Opened.{Stays, StaysWhole};
 ghost use Rattle.omi_session.specs.Reads.{Answers};
-ghost use Rattle.omi_session.specs.Made.{Makes, Answered, as_pair, thread_pair};
+ghost use Rattle.omi_session.specs.Made.{Makes, Answered, as_pair, region_pair, thread_pair};
+ghost use Rattle.omi_session.specs.Answers as answer;
+ghost use Rattle.omi_session.specs.Shown.{OfState, OfThread, OfRegion, GivesThread, IsGiven};
 ghost use Rattle.omi_ask.specs.Threads as inquiry;
 
 use omi_calls::{Callbacks, ToHost};
@@ -115,6 +117,9 @@ pub fn get_thread_handle<C: Callbacks, F: ToHost>(
     requires { s.old.handles.made < 2 ^ 64 - 1 }
     ensures answer { Answered (C.told s.old.table.calls) s.new.handles (as_pair thread_pair result)
         (inquiry.thread_with s.old.layout kind native) }
+    ensures shown { OfState (C.told s.old.table.calls) s.old.layout (λ state.
+        GivesThread s.old.layout s.new.handles (as_pair thread_pair result)
+        (answer.thread_with state kind native)) }
     ensures handles { Makes Thread s.old.handles s.new.handles (as_pair thread_pair result) }
     ensures room { s.old.handles.room ≤ s.new.handles.room + 1 }
     ensures stays { Stays C.told s.old s.new }
@@ -134,6 +139,9 @@ pub fn get_thread_in_parallel<C: Callbacks, F: ToHost>(
     requires { s.old.handles.made < 2 ^ 64 - 1 }
     ensures answer { Answered (C.told s.old.table.calls) s.new.handles (as_pair thread_pair result)
         (inquiry.thread_of_member s.old.layout (get s.old.handles.held (r.key, r.serial)) num) }
+    ensures shown { OfRegion (C.told s.old.table.calls) s.old.layout
+        (get s.old.handles.held (region_pair r)) (λ region. GivesThread s.old.layout
+        s.new.handles (as_pair thread_pair result) (answer.thread_of_member region num)) }
     ensures handles { Makes Thread s.old.handles s.new.handles (as_pair thread_pair result) }
     ensures room { s.old.handles.room ≤ s.new.handles.room + 1 }
     ensures stays { Stays C.told s.old s.new }
@@ -152,6 +160,9 @@ pub fn get_thread_id<C: Callbacks, F: ToHost>(
 ) -> Result<u64, Rc>
     ensures answer { Answers (C.told s.old.table.calls) result
         (inquiry.native_id s.old.layout kind (get s.old.handles.held (t.key, t.serial))) }
+    ensures shown { OfThread (C.told s.old.table.calls) s.old.layout
+        (get s.old.handles.held (thread_pair t))
+        (λ state thread. IsGiven result (answer.id_of_thread kind thread)) }
     ensures memory { result ≢ Err Rc.NoMem }
     ensures same { StaysWhole C.told s.old s.new }
     ensures cause { HasCause (C.faults s.old.table.calls) (C.faults s.new.table.calls)

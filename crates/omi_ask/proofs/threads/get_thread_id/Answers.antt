@@ -5,7 +5,9 @@ use Rattle.omi_layout.specs.declared.field.Field.TheVariants.{ThreadNative}
 use Rattle.omi_session.specs.Reads.{Answers}
 use Rattle.omi_session.specs.Inquiry.{word_of}
 use Rattle.omi_session.proofs.Asked.{asked_then, asked_refused, asked_true, asked_false, asked_answer}
+use Rattle.omi_session.proofs.ShownAnswers.{given_value}
 use Rattle.omi_ask.specs.Threads.{native_id}
+use Rattle.omi_ask.proofs.ShownThreads.{native_id_told}
 use Rattle.omi_ask.proofs.threads.get_thread_id.Goals as goal
 
 pub returns-in_err-thread-clause-answer : goal.returns-in_err-thread-clause-answer
@@ -35,3 +37,13 @@ returns-clause-answer g c =
     (asked_true _ _ _ _ _ (eq-eqb _ _ c.if-kind-ne0.false)
     (asked_then _ (g.C.Callbacks.told c.unchanged.new.s.table.calls) _ _ c.in_ok-thread-2.thread _ c.unchanged.ensures.same.table.same c.in_ok-thread-2.ensures.answer
     (subst (λ w. Answers (g.C.Callbacks.told c.unchanged.new.s.table.calls) c.word.result (word_of w c.in_ok-thread-2.thread.addr ThreadNative 0)) c.unchanged.ensures.same.layout c.word.ensures.answer)))
+
+pub returns-in_err-thread-2-clause-shown : goal.returns-in_err-thread-2-clause-shown
+returns-in_err-thread-2-clause-shown g c = λ s shown t.
+    given_value (g.C.Callbacks.told c.args.s.now.table.calls) c.args.s.now.layout s shown _ (native_id c.args.s.now.layout c.args.kind _) _ (returns-in_err-thread-2-clause-answer g c)
+    (native_id_told (g.C.Callbacks.told c.args.s.now.table.calls) c.args.s.now.layout s shown c.args.kind _ t)
+
+pub returns-clause-shown : goal.returns-clause-shown
+returns-clause-shown g c = λ s shown t.
+    given_value (g.C.Callbacks.told c.args.s.now.table.calls) c.args.s.now.layout s shown _ (native_id c.args.s.now.layout c.args.kind _) _ (returns-clause-answer g c)
+    (native_id_told (g.C.Callbacks.told c.args.s.now.table.calls) c.args.s.now.layout s shown c.args.kind _ t)

@@ -1,0 +1,2 @@
+pub mod ShownThreads
+pub mod ShownRegions
