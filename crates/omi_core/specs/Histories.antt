@@ -7,6 +7,7 @@ use Rattle.omi_model.specs.State.{State}
 use Rattle.omi_model.specs.Visible.{IsVisibleRegion}
 use Rattle.omi_layout.specs.declared.field.Field.TheVariants.{RegionArrived, RegionReleased}
 use Rattle.omi_layout.specs.Field.{regions}
+use Rattle.omi_layout.specs.Given.{HasTables}
 use Rattle.omi_layout.specs.SymbolTable.{words_of}
 use Rattle.omi_rep.specs.Records.{Seen, records_of}
 use Rattle.omi_rep.specs.Shows.{Shows, Stands}
@@ -30,9 +31,10 @@ Counts w words s = (n : Rid) → (seen : IsVisibleRegion s n)
     → Stands (record_of w words n) RegionArrived 0 (sum seen.region.arrivals)
     × Stands (record_of w words n) RegionReleased 0 seen.region.released
 
--- these steps and this state are those of a run
+-- these steps and this state are those of a run, whose words begin with the tables of its layout
 pub record IsHistory (a : Run) (xs : List (ℕ × Entry)) (s : State) : Type 0 where
   pub made_by : IsMadeBy a xs s
+  pub tables : HasTables a.table a.words
   pub reached : Reached a.program (events_in a.events.items) s
   pub shows : Shows a.table (words_of a.words) s
   pub counts : Counts a.table a.words s

@@ -1,5 +1,5 @@
 -- What the clauses of the top call say of `show`, from what it leaves.
-use Rattle.std.proofs.Common.{◌≡◌, inl, inr, ℕ, List, [], ◌∷◌, Option, Some, None, Ok, refl, sym, ◌∙◌, ap, subst}
+use Rattle.std.proofs.Common.{◌≡◌, inl, inr, ℕ, List, Option, Some, None, Ok, refl, sym, ◌∙◌, ap, subst}
 use Rattle.omi_outside.specs.Outside.{Told, put_on}
 use Rattle.omi_outside.specs.declared.status.Status.{Status}
 use Rattle.omi_outside.specs.declared.status.Status.TheVariants as status
@@ -21,12 +21,13 @@ use Rattle.omi_top.specs.declared.refusal.Refusal.{Refusal}
 use Rattle.omi_top.specs.Answer.{Refuses, IsShowAnswer, IsOtherCore, IsIncompatibleCore, IsDamagedCore, IsReportOf, IsStopped, IsLeft, ComesWhere, IsShownAgain}
 use Rattle.omi_top.specs.Cores.{one_thread, IsPlainCore, IsUnreadCore}
 use Rattle.omi_top.specs.Refusal.{status_of}
+use Rattle.omi_top.specs.Run.{thread_ids}
 use Rattle.omi_script.specs.declared.program.Program.{Program}
 use Rattle.omi_model.specs.State.{State}
 use Rattle.omi_model.specs.Views.{IsViewOf}
 use Rattle.omi_model.specs.declared.view.View.{View}
 use Rattle.omi_top.proofs.Statuses.{RefusesWith, GivesText, comes_where}
-use Rattle.omi_top.proofs.Showing.{one_image, plain_not_other, plain_not_unread, other_not_unread, incompatible_not_damaged}
+use Rattle.omi_top.proofs.Showing.{one_image_of, plain_not_other, plain_not_unread, other_not_unread, incompatible_not_damaged}
 
 -- no file is a core and has a fault
 abbrev HasFault : List ℕ → Type 0
@@ -170,21 +171,22 @@ module _ (name : List ℕ) (old new : Told) (counted : Type 0) (out after : Opti
           (w, words, v, plain, looked, put ∙ ap (λ (t : List ℕ). put_on out t) same, report_shown w words text bytes plain (v, looked, same))
       go (Some core, text, is, held, put) = absurd is
 
-  -- what is put of the core that a run left
-  pub shown_again : (s : Status) (bytes : List ℕ) (p : Program) (budget : ℕ) (text : List ℕ) (run : IsStopped p budget bytes text) → IsLeft name (IsShowAnswer (Some bytes)) s old new counted out after → IsShownAgain run.state s out after
-  shown_again status.Success bytes p budget text run left =
-      let (w, words, v, plain, looked, put, view) = report_put status.Success bytes refl left in
-      let words_are : run.words ≡ words = one_image bytes run.words words run.plain.image_core plain.image_core in
-      let gives : GivesLayout (words_of words) run.w = subst (λ (ws : List ℕ). GivesLayout (words_of ws) run.w) words_are run.plain.layout in
-      let layout : run.w ≡ w = one_layout (words_of words) run.w w gives plain.layout in
-      (v, view run.state (subst (λ (u : List ℕ). Shows u (words_of words) run.state) layout (subst (λ (ws : List ℕ). Shows run.w (words_of ws) run.state) words_are run.run.shows)), put)
-  shown_again status.ReadFault bytes p budget text run left = tt
-  shown_again status.WriteFault bytes p budget text run left = tt
-  shown_again status.OutOfMemory bytes p budget text run left = tt
-  shown_again status.Usage bytes p budget text run (r, is, answer, same, said) = plain_answered bytes run.w run.words r run.plain answer
-  shown_again status.NoFile bytes p budget text run (r, is, answer, same, said) = plain_answered bytes run.w run.words r run.plain answer
-  shown_again status.Script bytes p budget text run (r, is, answer, same, said) = plain_answered bytes run.w run.words r run.plain answer
-  shown_again status.Core bytes p budget text run (r, is, answer, same, said) = plain_answered bytes run.w run.words r run.plain answer
-  shown_again status.NotBuilt bytes p budget text run (r, is, answer, same, said) = plain_answered bytes run.w run.words r run.plain answer
-  shown_again status.Damaged bytes p budget text run (r, is, answer, same, said) = plain_answered bytes run.w run.words r run.plain answer
-  shown_again status.Incompatible bytes p budget text run (r, is, answer, same, said) = plain_answered bytes run.w run.words r run.plain answer
+  -- what is put of the core that a run left, where that is plain
+  pub shown_again : (s : Status) (bytes : List ℕ) (p : Program) (budget : ℕ) (text : List ℕ) (run : IsStopped p budget bytes text) (u plain : List ℕ) → IsPlainCore bytes u plain → IsLeft name (IsShowAnswer (Some bytes)) s old new counted out after
+      → IsShownAgain run.state s out after
+  shown_again status.Success bytes p budget text run u plain is_plain left =
+      let (w, words, v, read, looked, put, view) = report_put status.Success bytes refl left in
+      let words_are : run.words ≡ words = one_image_of (thread_ids p.threads) one_thread bytes run.words words run.core_of read.image_core in
+      let gives : GivesLayout (words_of words) run.w = subst (λ (ws : List ℕ). GivesLayout (words_of ws) run.w) words_are run.run.shows.layout in
+      let layout : run.w ≡ w = one_layout (words_of words) run.w w gives read.layout in
+      (v, view run.state (subst (λ (x : List ℕ). Shows x (words_of words) run.state) layout (subst (λ (ws : List ℕ). Shows run.w (words_of ws) run.state) words_are run.run.shows)), put)
+  shown_again status.ReadFault bytes p budget text run u plain is_plain left = tt
+  shown_again status.WriteFault bytes p budget text run u plain is_plain left = tt
+  shown_again status.OutOfMemory bytes p budget text run u plain is_plain left = tt
+  shown_again status.Usage bytes p budget text run u plain is_plain (r, is, answer, same, said) = plain_answered bytes u plain r is_plain answer
+  shown_again status.NoFile bytes p budget text run u plain is_plain (r, is, answer, same, said) = plain_answered bytes u plain r is_plain answer
+  shown_again status.Script bytes p budget text run u plain is_plain (r, is, answer, same, said) = plain_answered bytes u plain r is_plain answer
+  shown_again status.Core bytes p budget text run u plain is_plain (r, is, answer, same, said) = plain_answered bytes u plain r is_plain answer
+  shown_again status.NotBuilt bytes p budget text run u plain is_plain (r, is, answer, same, said) = plain_answered bytes u plain r is_plain answer
+  shown_again status.Damaged bytes p budget text run u plain is_plain (r, is, answer, same, said) = plain_answered bytes u plain r is_plain answer
+  shown_again status.Incompatible bytes p budget text run u plain is_plain (r, is, answer, same, said) = plain_answered bytes u plain r is_plain answer

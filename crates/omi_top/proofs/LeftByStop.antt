@@ -6,12 +6,12 @@ use Rattle.omi_outside.specs.declared.status.Status.TheVariants as status
 use Rattle.std.specs.Prelude.{IsTrue}
 use Rattle.std.specs.List.{list_all}
 use Rattle.omi_script.specs.Grammar.{AreEqual, Grammar, Refused}
-use Rattle.omi_script.specs.Small.{IsSmall, is_small_function}
 use Rattle.omi_script.specs.declared.function.Func.{Func}
 use Rattle.omi_script.proofs.VerdictLemmas.{AreEqual-from_workload, not_both}
 use Rattle.omi_script.specs.declared.fault.ScriptFault.{ScriptFault}
 use Rattle.omi_script.specs.declared.program.Program.{Program}
 use Rattle.omi_top.specs.declared.refusal.Refusal.{Refusal}
+use Rattle.omi_top.specs.Built.{IsBuilt, is_built_function}
 use Rattle.omi_top.specs.Answer.{Refuses, IsStopAnswer, IsOtherProgram, IsLeft, IsStopped, ComesWhere}
 use Rattle.omi_top.specs.Refusal.{status_of}
 use Rattle.omi_top.proofs.Statuses.{RefusesWith, GivesText, comes_where}
@@ -20,12 +20,9 @@ use Rattle.omi_top.proofs.Statuses.{RefusesWith, GivesText, comes_where}
 abbrev HasFault : List ℕ → Type 0
 HasFault bytes = (fault : ScriptFault) × Refused bytes fault
 
--- a program that is equal to a small one is small
-same_small : (p q : Program) → AreEqual p q → IsSmall p → IsSmall q
-same_small p q same small = record {
-  threads = sym same.threads ∙ small.threads;
-  statements = subst (λ (funcs : List Func). IsTrue (list_all is_small_function funcs)) same.funcs small.statements;
-}
+-- a program that is equal to one that is run is run too
+same_built : (p q : Program) → AreEqual p q → IsBuilt p → IsBuilt q
+same_built p q same built = subst (λ (funcs : List Func). IsTrue (list_all is_built_function funcs)) same.funcs built
 
 module _ (name : List ℕ) (budget : ℕ) (old new : Told) (counted : Type 0) (out after : Option (List ℕ)) where
   -- there is no file exactly where the status says so
@@ -59,7 +56,7 @@ module _ (name : List ℕ) (budget : ℕ) (old new : Told) (counted : Type 0) (o
 
       none : HasFault bytes → GivesText (IsStopAnswer budget (Some bytes)) → ⊥
       none (fault, why) (None, text, is) = is
-      none (fault, why) (Some core, text, (p, grammar, small, stopped)) = not_both bytes p fault grammar why
+      none (fault, why) (Some core, text, (p, grammar, built, stopped)) = not_both bytes p fault grammar why
 
   -- it is another program exactly where the status says so
   pub other_program : (s : Status) (bytes : List ℕ) → IsLeft name (IsStopAnswer budget (Some bytes)) s old new counted out after → ComesWhere status.NotBuilt s (IsOtherProgram bytes)
@@ -75,14 +72,14 @@ module _ (name : List ℕ) (budget : ℕ) (old new : Told) (counted : Type 0) (o
 
       none : IsOtherProgram bytes → GivesText (IsStopAnswer budget (Some bytes)) → ⊥
       none other (None, text, is) = is
-      none other (Some core, text, (p, grammar, small, stopped)) = other.other (same_small p other.program (AreEqual-from_workload bytes p other.program grammar other.says) small)
+      none other (Some core, text, (p, grammar, built, stopped)) = other.other (same_built p other.program (AreEqual-from_workload bytes p other.program grammar other.says) built)
 
   -- what success leaves
   pub success : (s : Status) (bytes : List ℕ) → s ≡ status.Success → IsLeft name (IsStopAnswer budget (Some bytes)) s old new counted out after
-      → (p : Program) × (core : List ℕ) × (text : List ℕ) × Grammar bytes p × IsSmall p × IsStopped p budget core text × (new ≡ holding old core) × (after ≡ put_on out text)
+      → (p : Program) × (core : List ℕ) × (text : List ℕ) × Grammar bytes p × IsBuilt p × IsStopped p budget core text × (new ≡ holding old core) × (after ≡ put_on out text)
   success s bytes is left = go (subst (λ (x : Status). IsLeft name (IsStopAnswer budget (Some bytes)) x old new counted out after) is left)
     where
       go : IsLeft name (IsStopAnswer budget (Some bytes)) status.Success old new counted out after
-          → (p : Program) × (core : List ℕ) × (text : List ℕ) × Grammar bytes p × IsSmall p × IsStopped p budget core text × (new ≡ holding old core) × (after ≡ put_on out text)
+          → (p : Program) × (core : List ℕ) × (text : List ℕ) × Grammar bytes p × IsBuilt p × IsStopped p budget core text × (new ≡ holding old core) × (after ≡ put_on out text)
       go (None, text, is, held, put) = absurd is
-      go (Some core, text, (p, grammar, small, stopped), held, put) = (p, core, text, grammar, small, stopped, held, put)
+      go (Some core, text, (p, grammar, built, stopped), held, put) = (p, core, text, grammar, built, stopped, held, put)

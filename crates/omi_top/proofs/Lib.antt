@@ -1,11 +1,7 @@
 pub mod Digits
-pub mod Alone
-pub mod Small
-pub mod Held
-pub mod Moves
-pub mod Accepted
-pub mod Shown
-pub mod Runs
+pub mod BuiltPrograms
+pub mod ThreadIds
+pub mod EventLines
 pub mod Stopping
 pub mod Statuses
 pub mod Left

@@ -1,5 +1,5 @@
 -- The exits of `show`: what each result is an answer to.
-use Rattle.std.proofs.Common.{◌+◌, ◌≡◌, ◌⊎◌, ◌<◌, ◌≤◌, inl, inr, ℕ, Bool, true, false, List, [], ◌∷◌, length, take, Option, Some, None, Ok, Err, refl, sym, ◌∙◌, ap, subst, arith, take_all, length-take-le, leb-false}
+use Rattle.std.proofs.Common.{◌≡◌, ◌⊎◌, ◌<◌, ◌≤◌, inl, inr, ℕ, Bool, true, false, List, [], ◌∷◌, length, take, Option, Some, None, Ok, Err, refl, sym, ◌∙◌, ap, subst, arith, take_all, length-take-le, leb-false}
 use Rattle.std.specs.Prelude.{Result, IfOk, IfErr, IsTrue, nat_le, slice_get}
 use Rattle.std.specs.Global.{Vec}
 use Rattle.std.proofs.lemmas.Bool.{leb-true}
@@ -25,7 +25,7 @@ use Rattle.omi_layout.specs.declared.reading.LayoutError.{LayoutError}
 use Rattle.omi_layout.specs.declared.reading.LayoutError.TheVariants as error
 use Rattle.omi_layout.proofs.OneAnswer.{one_layout, one_cause, not_both}
 use Rattle.omi_rep.specs.Plain.{is_plain}
-use Rattle.omi_top.specs.Cores.{one_thread, IsImageCore, IsPlainCore, IsOtherImage, IsOtherShape, IsUnreadCore, LacksTable, IsWrongAt}
+use Rattle.omi_top.specs.Cores.{one_thread, IsCoreOf, IsImageCore, IsPlainCore, IsOtherShape, IsUnreadCore, LacksTable, IsWrongAt}
 use Rattle.omi_top.specs.Refusal.{refusal_of_core, refusal_of_layout}
 use Rattle.omi_top.specs.declared.refusal.Refusal.{Refusal}
 use Rattle.omi_top.specs.declared.refusal.Refusal.TheVariants as refusal
@@ -62,11 +62,14 @@ first_words [] = []
 first_words (s ∷ ss) = s.words
 
 -- a file is one core, and its image has one list of words
-pub one_image : (bytes words others : List ℕ) → IsImageCore bytes words → IsImageCore bytes others → words ≡ others
-one_image bytes words others p q =
+pub one_image_of : (ids others_ids bytes words others : List ℕ) → IsCoreOf ids bytes words → IsCoreOf others_ids bytes others → words ≡ others
+one_image_of ids others_ids bytes words others p q =
     let same : p.core ≡ q.core = core_unique bytes p.core q.core p.spelled q.spelled in
     let segments : record { start = FIRST_ADDRESS; words = words } ∷ [] ≡ record { start = FIRST_ADDRESS; words = others } ∷ [] = sym p.image.segments ∙ ap (λ (c : CoreImage). c.segments) same ∙ q.image.segments in
     ap first_words segments
+
+one_image : (bytes words others : List ℕ) → IsImageCore bytes words → IsImageCore bytes others → words ≡ others
+one_image = one_image_of one_thread one_thread
 
 -- two files that are one image give alike
 same_given : (bytes words others w : List ℕ) → IsImageCore bytes words → IsImageCore bytes others → GivesLayout (words_of words) w → GivesLayout (words_of others) w

@@ -1,6 +1,6 @@
 -- The exits of `stop`: what each result is an answer to.
-use Rattle.std.proofs.Common.{◌≡◌, ◌==◌, ◌&&◌, ◌⊎◌, ◌<◌, inl, inr, ℕ, Bool, true, false, List, [], ◌∷◌, length, take, Option, Some, None, Ok, Err, if◌then◌else◌, refl, sym, ◌∙◌, ap, subst, arith, take_all, length-take-le, leb-false}
-use Rattle.std.specs.Prelude.{nat_le, IsTrue, Result}
+use Rattle.std.proofs.Common.{◌≡◌, ◌≤◌, ◌++◌, ◌⊎◌, ◌<◌, inl, inr, ℕ, Bool, true, false, List, [], ◌∷◌, length, map, take, Option, Some, None, Ok, Err, if◌then◌else◌, refl, sym, ◌∙◌, ap, subst, arith, take_all, length-take-le, leb-false}
+use Rattle.std.specs.Prelude.{nat_le, Result}
 use Rattle.std.specs.Global.{Vec}
 use Rattle.std.proofs.lemmas.Bool.{leb-true}
 use Rattle.omi_outside.specs.Outside.{Told, holding, IsCut}
@@ -10,7 +10,6 @@ use Rattle.omi_script.specs.Errors.{IfFault}
 use Rattle.omi_script.specs.Grammar.{Grammar, Refused}
 use Rattle.omi_script.specs.Lines.{lines}
 use Rattle.omi_script.specs.ParserState.{first_state}
-use Rattle.omi_script.specs.Small.{IsSmall}
 use Rattle.omi_script.specs.Verdict.{Refuses as RefusesText, judge, verdict}
 use Rattle.omi_script.specs.declared.fault.ScriptError.{ScriptError}
 use Rattle.omi_script.specs.declared.fault.ScriptError.TheVariants as error
@@ -19,18 +18,26 @@ use Rattle.omi_script.specs.declared.program.Program.{Program}
 use Rattle.omi_corefile.specs.Spelling.{Core, HoldsImage, core_bytes}
 use Rattle.omi_corefile.specs.declared.core_image.CoreImage.{CoreImage}
 use Rattle.omi_layout.specs.Family.{IsFamily}
-use Rattle.omi_layout.specs.Table.{thread_count}
-use Rattle.omi_layout.proofs.Arenas.{test_left}
-use Rattle.omi_layout.specs.Place.{image_words}
-use Rattle.omi_layout.specs.Valid.{IsValid}
-use Rattle.omi_rep.specs.Plain.{is_plain, is_plain_image, is_plain_thread, is_plain_region, is_plain_task, is_plain_list}
-use Rattle.omi_model.specs.State.{State}
+use Rattle.omi_layout.specs.SymbolTable.{words_of}
+use Rattle.omi_model.specs.declared.event.Event.{Event}
+use Rattle.omi_model.specs.Reached.{Reached}
+use Rattle.omi_rep.specs.Shows.{Shows}
+use Rattle.omi_events.specs.declared.made.Made.{Made}
+use Rattle.omi_core.specs.declared.entry.Entry.{Entry}
+use Rattle.omi_core.specs.declared.schedule.Schedule.TheVariants.{RoundRobin}
+use Rattle.omi_core.specs.declared.stop.End.{End}
+use Rattle.omi_core.specs.Ends.{IsEnded}
+use Rattle.omi_core.specs.Histories.{Counts, HasHistory}
+use Rattle.omi_core.specs.Runs.{IsOpening, Run, events_in}
+use Rattle.omi_core.specs.ScheduledRuns.{IsRunBy}
+use Rattle.omi_core.specs.Schedules.{threads_by}
+use Rattle.omi_core.specs.Steps.{AreStepsOf, events_behind, made_of_steps, threads_of}
+use Rattle.omi_core.proofs.History.{made_length}
 use Rattle.omi_top.specs.declared.limits.TheConstants.{SCRIPT_FRONT}
 use Rattle.omi_top.specs.Answer.{Answer, Refuses, Gives, IsAnswered, IsEarly, IsLate, IsStopAnswer, IsStopped, IsUnwritten, IsOfCore}
+use Rattle.omi_top.specs.Built.{IsBuilt}
 use Rattle.omi_top.specs.Lines.{run_text}
-use Rattle.omi_top.specs.Run.{IsRun}
-use Rattle.omi_top.specs.declared.entry.Entry.{Entry}
-use Rattle.omi_top.specs.declared.entry.End.{End}
+use Rattle.omi_top.specs.Run.{after_steps, thread_ids}
 use Rattle.omi_top.specs.Refusal.{refusal_of_write, refusal_of_script, status_of}
 use Rattle.omi_top.specs.declared.refusal.Refusal.{Refusal}
 use Rattle.omi_top.specs.declared.refusal.Refusal.TheVariants as refusal
@@ -62,7 +69,7 @@ front_answered : (budget : ℕ) (bytes : List ℕ) (answer : Answer) → IsStopA
 front_answered budget bytes (Refuses r) (inl (fault, why, same)) = inl (fault, record { says = sym (front_verdict bytes) ∙ why.says }, same)
 front_answered budget bytes (Refuses r) (inr (other, same)) = inr (record { program = other.program; says = front_grammar bytes other.program other.says; other = other.other }, same)
 front_answered budget bytes (Gives None text) is = is
-front_answered budget bytes (Gives (Some core) text) (p, grammar, small, stopped) = (p, front_grammar bytes p grammar, small, stopped)
+front_answered budget bytes (Gives (Some core) text) (p, grammar, built, stopped) = (p, front_grammar bytes p grammar, built, stopped)
 
 -- the answer, from the bytes that were read
 read_answered : (budget : ℕ) (content : Option (List ℕ)) (whole bytes : List ℕ) (answer : Answer) → content ≡ Some bytes → whole ≡ take SCRIPT_FRONT bytes → IsStopAnswer budget (Some whole) answer → IsStopAnswer budget content answer
@@ -82,8 +89,8 @@ refused_answered budget content whole bytes r old is read (inr same) = inr (inl 
 
 -- the answer of a program's run
 stop_answer : (budget : ℕ) (content : Option (List ℕ)) (whole bytes core text : List ℕ) (p : Program) → content ≡ Some bytes → whole ≡ take SCRIPT_FRONT bytes
-    → Grammar whole p → IsSmall p → IsStopped p budget core text → IsStopAnswer budget content (Gives (Some core) text)
-stop_answer budget content whole bytes core text p is read grammar small stopped = read_answered budget content whole bytes (Gives (Some core) text) is read (p, grammar, small, stopped)
+    → Grammar whole p → IsBuilt p → IsStopped p budget core text → IsStopAnswer budget content (Gives (Some core) text)
+stop_answer budget content whole bytes core text p is read grammar built stopped = read_answered budget content whole bytes (Gives (Some core) text) is read (p, grammar, built, stopped)
 
 late : (r : RefusedWrite) → IsLate (refusal_of_write r)
 late refused.Failed = tt
@@ -91,41 +98,69 @@ late refused.OutOfMemory = tt
 
 -- the core is partly written
 pub partly_answered : (budget : ℕ) (content : Option (List ℕ)) (whole bytes core text : List ℕ) (p : Program) (r : RefusedWrite) (old new : Told) → content ≡ Some bytes → whole ≡ take SCRIPT_FRONT bytes
-    → Grammar whole p → IsSmall p → IsStopped p budget core text → IsCut old new core → IsAnswered (IsStopAnswer budget content) (Err (refusal_of_write r)) old new
-partly_answered budget content whole bytes core text p r old new is read grammar small stopped partly =
-    inr (inr (late r, Some core, text, stop_answer budget content whole bytes core text p is read grammar small stopped, partly))
+    → Grammar whole p → IsBuilt p → IsStopped p budget core text → IsCut old new core → IsAnswered (IsStopAnswer budget content) (Err (refusal_of_write r)) old new
+partly_answered budget content whole bytes core text p r old new is read grammar built stopped partly =
+    inr (inr (late r, Some core, text, stop_answer budget content whole bytes core text p is read grammar built stopped, partly))
 
 -- the core is written, and the text is handed up
 pub done_answered : (budget : ℕ) (content : Option (List ℕ)) (whole bytes core : List ℕ) (text : Vec ℕ) (p : Program) (old new : Told) → content ≡ Some bytes → whole ≡ take SCRIPT_FRONT bytes
-    → Grammar whole p → IsSmall p → IsStopped p budget core text.items → new ≡ holding old core → IsAnswered (IsStopAnswer budget content) (Ok text) old new
-done_answered budget content whole bytes core text p old new is read grammar small stopped held =
-    (Some core, stop_answer budget content whole bytes core text.items p is read grammar small stopped, held)
+    → Grammar whole p → IsBuilt p → IsStopped p budget core text.items → new ≡ holding old core → IsAnswered (IsStopAnswer budget content) (Ok text) old new
+done_answered budget content whole bytes core text p old new is read grammar built stopped held =
+    (Some core, stop_answer budget content whole bytes core text.items p is read grammar built stopped, held)
 
--- a run that was made, with its core and its text
-pub made_stopped : (w : List ℕ) (p : Program) (budget : ℕ) (entries : List Entry) (end : End) (words contexts core text : List ℕ) → IsValid w → IsFamily 0 p.threads w
-    → (s : State) × IsRun w p budget entries end words s → IsTrue (is_plain w words) → contexts ≡ 1000 ∷ []
-    → (0 < length words → core ≡ core_bytes contexts words) → (0 < length words → (c : CoreImage) × Core core c × HoldsImage contexts words c) → text ≡ run_text entries end → IsStopped p budget core text
-made_stopped w p budget entries end words contexts core text valid family (s, run) plain are bytes image lines =
-    let image_is : is_plain_image w words ≡ true = test_left (is_plain_image w words) (is_plain_thread w words && (is_plain_region w words && (is_plain_task w words && is_plain_list w words))) plain in
-    let long = leb-true (image_words w) (length words) (test_left (nat_le (image_words w) (length words)) (thread_count w == 1) image_is) in
-    let some : 0 < length words = omega (arith, long) in
+-- ---- a run that was made
+
+kept_threads : (xs : List (ℕ × Entry)) → map (λ (m : Made). m.thread) (made_of_steps xs) ≡ threads_of xs
+kept_threads [] = refl
+kept_threads (x ∷ xs) = ap (λ ns. x.0 ∷ ns) (kept_threads xs)
+
+-- with its core and its text
+pub made_stopped : (w : List ℕ) (p : Program) (budget : ℕ) (first last : Run) (why : End) (ids core text : List ℕ) → IsFamily 0 p.threads w → IsOpening p w first → IsRunBy first RoundRobin (after_steps budget) (Ok why) last → HasHistory last
+    → ids ≡ thread_ids p.threads → (0 < length last.words → core ≡ core_bytes ids last.words) → (0 < length last.words → (c : CoreImage) × Core core c × HoldsImage ids last.words c)
+    → text ≡ run_text last.events.items (length last.made.items) why → IsStopped p budget core text
+made_stopped w p budget first last why ids core text family opens (added, ends) (xs, s, h) are bytes image lines =
+    let program : last.program ≡ p = added.program ∙ opens.program in
+    let table : last.table ≡ w = added.table ∙ opens.table in
+    let all : last.made.items ≡ added.made = added.made_are ∙ ap (λ (ms : List Made). ms ++ added.made) opens.made in
+    let many : length added.made ≡ length xs = ap length (sym all ∙ h.made_by.made) ∙ made_length xs in
+    let events : added.events ≡ events_behind 0 xs = sym (added.events_are ∙ ap (λ (es : List (ℕ × ℕ × Event)). es ++ added.events) opens.events) ∙ h.made_by.events in
+    let steps : AreStepsOf p w xs last.words s = subst (λ (q : Program). AreStepsOf q w xs last.words s) program (subst (λ t. AreStepsOf last.program t xs last.words s) table h.made_by.steps) in
+    let shows : Shows w (words_of last.words) s = subst (λ t. Shows t (words_of last.words) s) table h.shows in
+    let long = h.tables.long in
+    let some : 0 < length last.words = omega (arith, long) in
     let (c, spelled, holds) = image some in
     record {
       w = w;
       family = family;
-      entries = entries;
-      end = end;
-      words = words;
+      entries = xs;
+      end = why;
+      words = last.words;
       state = s;
-      run = run;
-      core_is = bytes some ∙ ap (λ (ids : List ℕ). core_bytes ids words) are;
-      plain = record {
-        image_core = record { core = c; spelled = spelled; image = record { order = holds.order; contexts_are = holds.contexts_are ∙ are; segments = holds.segments } };
-        layout = run.shows.layout;
-        valid = valid;
-        plain = plain;
+      run = record {
+        steps = steps;
+        threads =
+            sym (kept_threads xs)
+            ∙ ap (map (λ (m : Made). m.thread)) (sym (sym all ∙ h.made_by.made))
+            ∙ added.threads
+            ∙ ap (λ (q : Program). threads_by RoundRobin q.threads (length added.made)) opens.program
+            ∙ ap (threads_by RoundRobin p.threads) many;
+        few = subst (λ n. n ≤ budget) many added.within;
+        ended =
+            subst (λ (es : List (ℕ × ℕ × Event)). IsEnded (after_steps budget) (length xs) (length xs) es why) events
+            (subst (λ n. IsEnded (after_steps budget) n (length xs) added.events why) many
+            (subst (λ n. IsEnded (after_steps budget) (length added.made) n added.events why) (ap length all ∙ many) ends));
+        reached =
+            subst (λ (es : List (ℕ × ℕ × Event)). Reached p (events_in es) s) h.made_by.events
+            (subst (λ (q : Program). Reached q (events_in last.events.items) s) program h.reached);
+        shows = shows;
+        counts = subst (λ t. Counts t last.words s) table h.counts;
       };
-      text_is = lines;
+      core_is = bytes some ∙ ap (λ ns. core_bytes ns last.words) are;
+      core_of = record { core = c; spelled = spelled; image = subst (λ ns. HoldsImage ns last.words c) are holds };
+      text_is =
+          lines
+          ∙ ap (λ (es : List (ℕ × ℕ × Event)). run_text es (length last.made.items) why) h.made_by.events
+          ∙ ap (λ n. run_text (events_behind 0 xs) n why) (ap length all ∙ many);
     }
 
 -- a refusal of the words, or a fault of files

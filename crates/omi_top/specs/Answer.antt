@@ -1,5 +1,5 @@
 -- What a command is to answer, by what is told of the file that it reads, and what a call leaves.
-use Rattle.std.specs.Prelude.{◌≡◌, ◌⊎◌, ℕ, List, [], ◌∷◌, Option, Some, None, Result, Ok, Err, ⊤}
+use Rattle.std.specs.Prelude.{◌≡◌, ◌⊎◌, ℕ, List, length, Option, Some, None, Result, Ok, Err, ⊤}
 use Rattle.std.specs.Global.{Vec}
 use Rattle.omi_outside.specs.Outside.{Told, holding, IsCut, IsPutCut, put_on, Rose}
 use Rattle.omi_outside.specs.declared.status.Status.{Status}
@@ -12,35 +12,37 @@ use Rattle.omi_rep.specs.LookView.{look_view}
 use Rattle.omi_corefile.specs.Refusals.{CoreRefused}
 use Rattle.omi_corefile.specs.declared.fault.CoreFault.{CoreFault}
 use Rattle.omi_script.specs.Grammar.{Grammar, Refused}
-use Rattle.omi_script.specs.Small.{IsSmall}
 use Rattle.omi_script.specs.declared.fault.ScriptFault.{ScriptFault}
 use Rattle.omi_script.specs.declared.program.Program.{Program}
 use Rattle.omi_model.specs.State.{State}
 use Rattle.omi_model.specs.Views.{IsViewOf}
 use Rattle.omi_model.specs.declared.view.View.{View}
-use Rattle.omi_top.specs.declared.entry.Entry.{Entry}
-use Rattle.omi_top.specs.declared.entry.End.{End}
+use Rattle.omi_core.specs.declared.entry.Entry.{Entry}
+use Rattle.omi_core.specs.declared.stop.End.{End}
+use Rattle.omi_core.specs.Steps.{events_behind}
+use Rattle.omi_top.specs.Built.{IsBuilt}
 use Rattle.omi_top.specs.declared.refusal.Refusal.{Refusal}
 use Rattle.omi_top.specs.declared.refusal.Refusal.TheVariants as refusal
 use Rattle.omi_top.specs.Command.{Command, Stop, Show, Faulty}
 use Rattle.omi_text.specs.Report.{report}
-use Rattle.omi_top.specs.Cores.{one_thread, IsPlainCore, IsOtherImage, IsOtherShape, IsUnreadCore, LacksTable, IsWrongAt}
+use Rattle.omi_top.specs.Cores.{one_thread, IsCoreOf, IsPlainCore, IsOtherImage, IsOtherShape, IsUnreadCore, LacksTable, IsWrongAt}
 use Rattle.omi_top.specs.Lines.{run_text}
 use Rattle.omi_top.specs.Refusal.{line_of, status_of}
-use Rattle.omi_top.specs.Run.{IsRun}
+use Rattle.omi_top.specs.Run.{IsRun, thread_ids}
 
--- a run of the program in the layout of family 0, whose last words are this core, and whose events and end are this text. The core is plain, so that `show` reads it
+-- a run of the program in the layout of family 0, whose last words are this core, with the contexts of all threads, and whose events
+-- and end are this text
 pub record IsStopped (p : Program) (budget : ℕ) (core text : List ℕ) : Type 0 where
   pub w : List ℕ
   pub family : IsFamily 0 p.threads w
-  pub entries : List Entry
+  pub entries : List (ℕ × Entry)
   pub end : End
   pub words : List ℕ
   pub state : State
   pub run : IsRun w p budget entries end words state
-  pub core_is : core ≡ core_bytes one_thread words
-  pub plain : IsPlainCore core w words
-  pub text_is : text ≡ run_text entries end
+  pub core_is : core ≡ core_bytes (thread_ids p.threads) words
+  pub core_of : IsCoreOf (thread_ids p.threads) core words
+  pub text_is : text ≡ run_text (events_behind 0 entries) (length entries) end
 
 -- the answer to a command: a refusal, or the bytes of the core that it writes, if it writes one, and a text
 pub data Answer : Type 0 where
@@ -51,9 +53,9 @@ pub data Answer : Type 0 where
 pub record IsOtherProgram (bytes : List ℕ) : Type 0 where
   pub program : Program
   pub says : Grammar bytes program
-  pub other : IsSmall program → ⊥
+  pub other : IsBuilt program → ⊥
 
--- an answer of `stop`, by the content of the script's file: none, a text that the grammar refuses, another program, or a small one
+-- an answer of `stop`, by the content of the script's file: none, a text that the grammar refuses, another program, or one that is run
 abbrev pub IsStopAnswer : ℕ → Option (List ℕ) → Answer → Type 0
 IsStopAnswer budget None (Refuses r) = r ≡ refusal.NoFile
 IsStopAnswer budget None (Gives core text) = ⊥
@@ -62,7 +64,7 @@ IsStopAnswer budget (Some bytes) (Refuses r) =
     ⊎ (IsOtherProgram bytes × (r ≡ refusal.NotBuilt))
 IsStopAnswer budget (Some bytes) (Gives None text) = ⊥
 IsStopAnswer budget (Some bytes) (Gives (Some core) text) = (p : Program) × Grammar bytes p
-    × IsSmall p × IsStopped p budget core text
+    × IsBuilt p × IsStopped p budget core text
 
 -- a file is a core, and none that `show` reads yet
 abbrev pub IsOtherCore : List ℕ → Type 0

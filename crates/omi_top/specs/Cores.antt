@@ -16,11 +16,16 @@ use Rattle.omi_rep.specs.Plain.{is_plain}
 abbrev pub one_thread : List ℕ
 one_thread = native_word 0 ∷ []
 
--- a file is a core of one thread with these words as its image: byte order 0, the one context 1000, and one segment, from the first address on
-pub record IsImageCore (bytes words : List ℕ) : Type 0 where
+-- a file is a core of threads with these native ids, and these words are its image: byte order 0, the ids as contexts, and one segment,
+-- from the first address on
+pub record IsCoreOf (ids bytes words : List ℕ) : Type 0 where
   pub core : CoreImage
   pub spelled : Core bytes core
-  pub image : HoldsImage one_thread words core
+  pub image : HoldsImage ids words core
+
+-- a core of one thread
+abbrev pub IsImageCore : List ℕ → List ℕ → Type 0
+IsImageCore bytes words = IsCoreOf one_thread bytes words
 
 -- a file is a plain core with these words, which give this layout
 pub record IsPlainCore (bytes w words : List ℕ) : Type 0 where

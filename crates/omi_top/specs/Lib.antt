@@ -1,11 +1,11 @@
--- The definitions to believe, in reading order: what a command line asks for, what its answer is, what a core is to `show`, and what a run is.
+-- The definitions to believe, in reading order: what a command line asks for, what its answer is, what a core is to
+-- `show`, which programs are run by now, and what a run is.
 pub mod Command
 pub mod Answer
 pub mod Cores
 pub mod Refusal
+pub mod Built
 pub mod Run
-pub mod Steps
 pub mod Lines
--- What private functions of the code stand on: a request as a command, and the one-thread run counter by counter.
+-- What private functions of the code stand on: a request as a command
 pub mod Asked
-pub mod Runner

@@ -1,19 +1,20 @@
 -- What a run prints: a line for each event, and the end line.
-use Rattle.std.specs.Prelude.{ℕ, ◌+◌, List, [], ◌∷◌, ◌++◌, length, codes}
+use Rattle.std.specs.Prelude.{ℕ, List, [], ◌∷◌, ◌++◌, length, codes}
 use Rattle.std.specs.Fmt.{decimal}
+use Rattle.omi_model.specs.declared.event.Event.{Event}
 use Rattle.omi_text.specs.Events.{event_line}
-use Rattle.omi_top.specs.declared.entry.Entry.{Entry}
-use Rattle.omi_top.specs.declared.entry.End.{End}
-use Rattle.omi_top.specs.declared.entry.End.TheVariants as end
+use Rattle.omi_core.specs.declared.stop.End.{End}
+use Rattle.omi_core.specs.declared.stop.End.TheVariants as end
 
--- the event lines of steps of thread 0, of which the first has this number
-abbrev pub event_lines : ℕ → List Entry → List ℕ
-event_lines step [] = []
-event_lines step (e ∷ es) = event_line step 0 e.event ++ event_lines (step + 1) es
+-- the lines of events, each with the number of its step and its thread
+abbrev pub event_lines : List (ℕ × ℕ × Event) → List ℕ
+event_lines [] = []
+event_lines (x ∷ xs) = event_line x.0 x.1 x.2 ++ event_lines xs
 
 -- why a run ended
 abbrev pub end_word : End → List ℕ
 end_word end.Steps = codes "steps"
+end_word end.Break = codes "break"
 end_word end.Done = codes "done"
 
 -- the end line: how many steps and events there were, and why they ended
@@ -22,6 +23,6 @@ end_line steps events why =
     codes "end steps " ++ (decimal steps ++ (codes " events " ++ (decimal events
     ++ (codes " by " ++ (end_word why ++ 10 ∷ [])))))
 
--- all that a run prints. Each step commits an event.
-abbrev pub run_text : List Entry → End → List ℕ
-run_text es why = event_lines 1 es ++ end_line (length es) (length es) why
+-- all that a run of so many steps prints
+abbrev pub run_text : List (ℕ × ℕ × Event) → ℕ → End → List ℕ
+run_text es steps why = event_lines es ++ end_line steps (length es) why

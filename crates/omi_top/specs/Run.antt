@@ -1,51 +1,39 @@
--- A run of a program: its steps from the opening words and the opening state, how it ends, and what its last words show. The words are those of a layout, `w`.
-use Rattle.std.specs.Prelude.{◌≡◌, ◌≢◌, ◌≤◌, ℕ, List, [], ◌∷◌, ◌++◌, length, sum}
-use Rattle.std.specs.List.{AllByRecursion}
+-- A run of a program for `stop`: steps of its threads in turn, from the opening words and the opening state on, how they end, and what
+-- the last words show. The words are those of a layout, `w`.
+use Rattle.std.specs.Prelude.{◌≡◌, ◌≤◌, ℕ, List, length, map, None}
+use Rattle.std.specs.List.{range_with_len}
 use Rattle.omi_script.specs.declared.program.Program.{Program}
-use Rattle.omi_model.specs.declared.event.Event.TheVariants as event
-use Rattle.omi_model.specs.declared.id.Rid.{Rid}
-use Rattle.omi_model.specs.Opening.{opening}
 use Rattle.omi_model.specs.Reached.{Reached}
 use Rattle.omi_model.specs.State.{State}
-use Rattle.omi_model.specs.Visible.{IsVisibleRegion}
-use Rattle.omi_layout.specs.declared.field.Field.TheVariants.{RegionReleased, RegionArrived}
-use Rattle.omi_layout.specs.Field.{regions}
-use Rattle.omi_layout.specs.OpeningWords.{AreOpening}
+use Rattle.omi_layout.specs.Codes.{native_word}
 use Rattle.omi_layout.specs.SymbolTable.{words_of}
-use Rattle.omi_rep.specs.Records.{Seen, records_of}
-use Rattle.omi_rep.specs.Shows.{Shows, Stands}
-use Rattle.omi_top.specs.Steps.{Steps, events_of}
-use Rattle.omi_top.specs.declared.entry.Entry.{Entry}
-use Rattle.omi_top.specs.declared.entry.End.{End}
-use Rattle.omi_top.specs.declared.entry.End.TheVariants as end
+use Rattle.omi_rep.specs.Shows.{Shows}
+use Rattle.omi_core.specs.declared.entry.Entry.{Entry}
+use Rattle.omi_core.specs.declared.schedule.Schedule.TheVariants.{RoundRobin}
+use Rattle.omi_core.specs.declared.stop.End.{End}
+use Rattle.omi_core.specs.declared.stop.Stop.{Stop}
+use Rattle.omi_core.specs.Ends.{IsEnded}
+use Rattle.omi_core.specs.Histories.{Counts}
+use Rattle.omi_core.specs.Runs.{events_in}
+use Rattle.omi_core.specs.Schedules.{threads_by}
+use Rattle.omi_core.specs.Steps.{AreStepsOf, events_behind, threads_of}
 
--- none of the steps commits `done`
-abbrev pub GoesOn : List Entry → Type 0
-GoesOn es = AllByRecursion (λ (e : Entry). e.event ≢ event.Done) es
+-- the native ids of so many threads
+abbrev pub thread_ids : ℕ → List ℕ
+thread_ids threads = map native_word (range_with_len 0 threads)
 
--- the steps end at the event `done`, or else after as many as were asked for
-abbrev pub IsEnded : ℕ → List Entry → End → Type 0
-IsEnded steps es end.Done = (front : List Entry) × (last : Entry) × (es ≡ front ++ last ∷ [])
-    × GoesOn front × (last.event ≡ event.Done) × (length es ≤ steps)
-IsEnded steps es end.Steps = GoesOn es × (length es ≡ steps)
+-- a run stops after so many steps, and at no event but `done`
+abbrev pub after_steps : ℕ → Stop
+after_steps budget = record { steps = budget; on = None }
 
--- the record of a region
-abbrev pub record_of : List ℕ → List ℕ → Rid → Seen
-record_of w words n = records_of w (words_of words) n.0.creator regions n.0.slot
-
--- the words that count arrivals and releases of a visible region have the state's counts
-abbrev pub Counts : List ℕ → List ℕ → State → Type 0
-Counts w words s = (n : Rid) → (seen : IsVisibleRegion s n)
-    → Stands (record_of w words n) RegionArrived 0 (sum seen.region.arrivals)
-    × Stands (record_of w words n) RegionReleased 0 seen.region.released
-
--- a run of so many steps, unless the program is done before
-pub record IsRun (w : List ℕ) (p : Program) (budget : ℕ) (es : List Entry) (end : End)
+-- A run of a program: each entry is a thread and the step that it made. The steps are legal, event by event, and lead from the opening
+-- words to the last words and from the opening state to the state that these show
+pub record IsRun (w : List ℕ) (p : Program) (budget : ℕ) (xs : List (ℕ × Entry)) (why : End)
     (words : List ℕ) (s : State) : Type 0 where
-  pub first : List ℕ
-  pub opens : AreOpening p w first
-  pub steps : Steps w p first (opening p) es words s
-  pub reached : Reached p (events_of es) s
-  pub ended : IsEnded budget es end
+  pub steps : AreStepsOf p w xs words s
+  pub threads : threads_of xs ≡ threads_by RoundRobin p.threads (length xs)
+  pub few : length xs ≤ budget
+  pub ended : IsEnded (after_steps budget) (length xs) (length xs) (events_behind 0 xs) why
+  pub reached : Reached p (events_in (events_behind 0 xs)) s
   pub shows : Shows w (words_of words) s
   pub counts : Counts w words s

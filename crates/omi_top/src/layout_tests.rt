@@ -3,29 +3,32 @@
 
 ghost use Rattle.std.specs.Prelude.{◌<◌};
 
-use crate::runner::run;
 use crate::show_tests::{FINISHED, expect};
-use crate::stop::opening_image;
 use crate::tests::CHANGED;
+use omi_core::{Core, Schedule, Stop, is_taskless};
 use omi_corefile::core_bytes_of;
 use omi_layout::Layout;
 use omi_outside::Status;
 use omi_rep::suits;
-use omi_script::{Program, is_small, parse};
+use omi_script::{Program, parse};
 use omi_word::Natives;
 use std::alloc::{AllocError, Global};
 use std::test::Fail;
 
-/// The core that a finished run of a small program leaves in a layout of one thread.
+/// The core that a finished run of a program without explicit tasks leaves in a layout of one thread.
 fn core_in(alloc: Global, layout: &Layout, p: &Program) -> Result<Vec<u8>, AllocError> {
-    if !suits(p, layout) || !is_small(p) {
+    if !suits(p, layout) || !is_taskless(p) {
         return Ok(Vec::new(alloc));
     }
-    let mut image = opening_image(alloc, layout, p)?;
-    run(alloc, layout, p, &mut image, 1000)?;
+    let mut core = Core::opening(alloc, p.same(alloc)?, *layout)?;
+    let stop = Stop {
+        steps: 1000,
+        on: None,
+    };
+    core.run(&Schedule::RoundRobin, stop)?;
     let mut contexts = Natives::new(alloc);
     contexts.push(1000)?;
-    core_bytes_of(alloc, &image, &contexts)
+    core_bytes_of(alloc, core.image(), &contexts)
 }
 
 #[test]

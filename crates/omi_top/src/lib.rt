@@ -1,19 +1,17 @@
 //! All that the program `ompdi` does: a command line, files to read, files to write, and where to print.
 #![tactic(auto)]
 
+mod built;
 mod command;
-mod entry;
 mod limits;
 mod lines;
 mod load;
 mod refusal;
 mod refusal_line;
-mod runner;
 mod show;
 mod stop;
 mod top;
 
-pub use entry::{End, Entry};
 pub use refusal::Refusal;
 pub use top::run_top;
 
@@ -23,5 +21,7 @@ mod layout_tests;
 mod show_tests;
 #[cfg(test)]
 mod size_tests;
+#[cfg(test)]
+mod team_tests;
 #[cfg(test)]
 mod tests;

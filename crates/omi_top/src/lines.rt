@@ -3,41 +3,48 @@
 ghost use Rattle.std.specs.Prelude.{◌≡◌, ◌++◌, ◌≤◌, IfOk, OnOk, string_bytes};
 ghost use Rattle.omi_top.specs.Lines.{event_lines, end_word, end_line, run_text};
 
-use crate::entry::{End, Entry};
+use omi_core::End;
+use omi_events::EventList;
 use omi_text::push_event_line;
 use std::alloc::{AllocError, Global};
 use std::fmt::Write;
 
-/// Adds the line of each step. The first has the number 1.
-fn push_lines(text: &mut String, entries: &Vec<Entry>) -> Result<(), AllocError>
+/// Adds the line of each event.
+fn push_lines(text: &mut String, events: &EventList) -> Result<(), AllocError>
     ensures { OnOk result
-        (string_bytes text.new ≡ string_bytes text.old ++ event_lines 1 entries.now.items) }
+        (string_bytes text.new ≡ string_bytes text.old ++ event_lines events.now.items) }
 {
-    for at in 0..entries.len() {
-        let entry = &entries[at];
-        push_event_line(text, at as u64 + 1, 0, &entry.event)?;
+    for at in 0..events.len() {
+        let (step, thread, event) = events.get(at);
+        push_event_line(text, step, thread, &event)?;
     }
     Ok(())
 }
 
 /// The word for why a run ended.
-fn word_of(end: End) -> &'static str
-    ensures { result.now ≡ end_word end }
+fn word_of(why: End) -> &'static str
+    ensures { result.now ≡ end_word why }
 {
-    match end {
+    match why {
         End::Steps => "steps",
+        End::Break => "break",
         End::Done => "done",
     }
 }
 
-/// All that a run prints: a line for each event, and the end line.
-pub fn text_of(alloc: Global, entries: &Vec<Entry>, end: End) -> Result<String, AllocError>
-    ensures { IfOk result (λ text. string_bytes text ≡ run_text entries.now.items end) }
+/// All that a run of so many steps prints: a line for each event, and the end line.
+pub fn text_of(
+    alloc: Global,
+    events: &EventList,
+    steps: u64,
+    why: End,
+) -> Result<String, AllocError>
+    ensures { IfOk result (λ text. string_bytes text ≡ run_text events.now.items steps why) }
 {
     let mut text = String::new(alloc);
-    push_lines(&mut text, entries)?;
-    let count = entries.len();
-    let why = word_of(end);
-    write!(text, "end steps {count} events {count} by {why}\n")?;
+    push_lines(&mut text, events)?;
+    let count = events.len();
+    let why = word_of(why);
+    write!(text, "end steps {steps} events {count} by {why}\n")?;
     Ok(text)
 }

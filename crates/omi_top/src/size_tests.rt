@@ -34,7 +34,7 @@ fn the_largest_script(rt: HostRuntime) -> Result<(), Fail> {
         ),
         (
             "999999",
-            "4038 t0 done\nend steps 4038 events 4038 by done\n",
+            "4045 t0 done\nend steps 4045 events 4038 by done\n",
         ),
     ] {
         let line = ["stop", steps, "s", "c"];

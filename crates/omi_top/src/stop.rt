@@ -1,64 +1,71 @@
 //! The command `stop`.
 
 ghost use Rattle.std.specs.Prelude.{◌≡◌, ◌≢◌, ◌⊎◌, ◌≤◌, List, ℕ, Option, Some, IfOk, IfErr, IsErrOf, take, string_bytes};
-ghost use Rattle.omi_layout.specs.OpeningWords.{AreOpening};
-ghost use Rattle.omi_rep.specs.Suits.{Suits};
 ghost use Rattle.omi_outside.specs.Outside.{HasCause};
 ghost use Rattle.omi_script.specs.Grammar.{Grammar};
-ghost use Rattle.omi_script.specs.Small.{IsSmall};
 ghost use Rattle.omi_top.specs.Answer.{Refuses, IsAnswered, IsEarly, IsStopAnswer, IsStopped, IsUnwritten, IsOfCore};
+ghost use Rattle.omi_top.specs.Built.{IsBuilt};
 ghost use Rattle.omi_top.specs.Refusal.{status_of};
+ghost use Rattle.omi_top.specs.Run.{thread_ids};
 
 use crate::Refusal;
+use crate::built::is_built;
 use crate::limits::SCRIPT_FRONT;
 use crate::lines::text_of;
 use crate::load::load;
-use crate::runner::run;
+use omi_core::{Core, Schedule, Stop};
 use omi_corefile::core_bytes_of;
 use omi_layout::Layout;
 use omi_outside::{Files, write_whole};
-use omi_script::{Program, is_small, parse};
-use omi_word::{Image, Natives, OutOfMemory};
+use omi_rep::families_suit;
+use omi_script::{Program, parse};
+use omi_word::{Natives, OutOfMemory};
 use std::alloc::Global;
 
-/// The small program of a script.
+/// The program of a script, where it is one that is run by now.
 fn program(alloc: Global, bytes: &[u8]) -> Result<Program, Refusal>
     ensures accepted { IfOk result (λ p. Grammar bytes.now p) }
-    ensures small { IfOk result (λ p. IsSmall p) }
+    ensures built { IfOk result (λ p. IsBuilt p) }
     ensures refused { (budget : ℕ)
         → IfErr result (λ r. IsStopAnswer budget (Some bytes.now) (Refuses r)
         ⊎ (r ≡ Refusal.OutOfMemory)) }
 {
     let p = parse(alloc, bytes)?;
-    if !is_small(&p) {
+    if !is_built(&p) {
         return Err(Refusal::NotBuilt);
     }
     Ok(p)
 }
 
-/// The opening words of a program in a layout.
-pub fn opening_image(alloc: Global, layout: &Layout, p: &Program) -> Result<Image, OutOfMemory>
-    requires { Suits p.now layout.now.table }
-    ensures { IfOk result (λ image. AreOpening p.now layout.now.table image) }
+/// The native ids of so many threads.
+fn contexts_of(alloc: Global, threads: u8) -> Result<Natives, OutOfMemory>
+    ensures { IfOk result (λ ids. ids ≡ thread_ids threads) }
 {
-    let mut image = Image::zeroed(alloc, layout.image_words())?;
-    layout.open(p, &mut image);
-    Ok(image)
+    let mut ids = Natives::new(alloc);
+    for thread in 0..threads {
+        ids.push(1000 + u64::from(thread))?;
+    }
+    Ok(ids)
 }
 
-/// Runs a program, and answers the bytes of its core and what it prints.
-fn stopped(alloc: Global, p: &Program, budget: u64) -> Result<(Vec<u8>, String), OutOfMemory>
-    requires { IsSmall p.now }
-    ensures { IfOk result (λ made. IsStopped p.now budget made.0.items (string_bytes made.1)) }
+/// Runs a program in the layout of family 0, its threads in turn, and answers the bytes of its core and what it prints.
+fn stopped(alloc: Global, p: Program, budget: u64) -> Result<(Vec<u8>, String), OutOfMemory>
+    requires { IsBuilt p }
+    ensures { IfOk result (λ made. IsStopped p budget made.0.items (string_bytes made.1)) }
 {
+    families_suit();
     let layout = Layout::family(0, p.threads);
-    let mut image = opening_image(alloc, &layout, p)?;
-    let (entries, end) = run(alloc, &layout, p, &mut image, budget)?;
-    let mut contexts = Natives::new(alloc);
-    contexts.push(1000)?;
-    let core = core_bytes_of(alloc, &image, &contexts)?;
-    let text = text_of(alloc, &entries, end)?;
-    Ok((core, text))
+    let contexts = contexts_of(alloc, p.threads)?;
+    let mut core = Core::opening(alloc, p, layout)?;
+    let stop = Stop {
+        steps: budget,
+        on: None,
+    };
+    let end = core.run(&Schedule::RoundRobin, stop)?;
+    let steps = core.made().len() as u64;
+    let bytes = core_bytes_of(alloc, core.image(), &contexts)?;
+    let text = text_of(alloc, core.events(), steps, end)?;
+    Ok((bytes, text))
 }
 
 /// Runs the program of a script for at most `budget` steps, writes its core, and answers what it prints.
@@ -89,7 +96,7 @@ pub fn stop<F: Files, W: Files>(
 {
     let bytes = load(alloc, script, SCRIPT_FRONT, files)?;
     let p = program(alloc, &bytes)?;
-    let (image, text) = stopped(alloc, &p, budget)?;
+    let (image, text) = stopped(alloc, p, budget)?;
     write_whole(dest, core, &image)?;
     Ok(text.into_bytes())
 }

@@ -20,10 +20,10 @@ const CHANGED_LINES: &str = "1 t0 set nthreads-var 3
 3 t0 work
 4 t0 state wait_barrier_implicit_parallel 0
 5 t0 arrive
-6 t0 release
-7 t0 pass
-8 t0 done
-end steps 8 events 8 by done
+13 t0 release
+14 t0 pass
+15 t0 done
+end steps 15 events 8 by done
 ";
 
 pub fn words(alloc: Global, line: &[&str]) -> Result<Vec<String>, AllocError> {
@@ -158,7 +158,7 @@ fn an_empty_run(rt: HostRuntime) -> Result<(), Fail> {
 #[test]
 fn a_list_with_a_changed_head(rt: HostRuntime) -> Result<(), Fail> {
     let alloc = rt.alloc();
-    for steps in ["8", "1000", "1000000"] {
+    for steps in ["15", "1000", "1000000"] {
         let line = ["stop", steps, "s", "c"];
         let done = call(
             alloc,
@@ -339,10 +339,14 @@ fn programs_that_are_not_built(rt: HostRuntime) -> Result<(), Fail> {
     let alloc = rt.alloc();
     let line = ["stop", "0", "s", "c"];
     for script in [
-        "threads 2\nfunc main\nend\n",
+        "func a\nend\nfunc main\ntask a\nend\n",
+        "func main\ntaskwait\nend\n",
+        "func a\ntaskyield\nend\nfunc main\nend\n",
+        "func a\nend\nfunc main\nwork\ncritical 0 a\nend\n",
         "func main\ntool 1\nend\n",
-        "func a\nbarrier\nend\nfunc main\nend\n",
-        "func a\nend\nfunc main\nwork\ncall a\nend\n",
+        "func main\nset_max_active_levels 1\nend\n",
+        "threads 2\nfunc main\nset_schedule static 0\nend\n",
+        "func main\nset_default_device 0\nend\n",
     ] {
         expect_refusal(
             &rt,
@@ -372,7 +376,7 @@ fn an_untracked_run(rt: HostRuntime) -> Result<(), Fail> {
     assert_eq!(rt; done.status, Status::Success);
     assert_eq!(rt;
         done.out.bytes(),
-        b"1 t0 arrive\n2 t0 release\n3 t0 pass\n4 t0 done\nend steps 4 events 4 by done\n".as_slice()
+        b"1 t0 arrive\n9 t0 release\n10 t0 pass\n11 t0 done\nend steps 11 events 4 by done\n".as_slice()
     );
     Ok(())
 }

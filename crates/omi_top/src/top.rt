@@ -6,7 +6,7 @@ ghost use Rattle.omi_outside.specs.Outside.{HasCause, Rose, IsPutCut, holding, p
 ghost use Rattle.omi_corefile.specs.Refusals.{CoreRefused};
 ghost use Rattle.omi_corefile.specs.declared.fault.CoreFault.{CoreFault};
 ghost use Rattle.omi_script.specs.Grammar.{Grammar, Refused as RefusedScript};
-ghost use Rattle.omi_script.specs.Small.{IsSmall};
+ghost use Rattle.omi_top.specs.Built.{IsBuilt};
 ghost use Rattle.omi_script.specs.declared.fault.ScriptFault.{ScriptFault};
 ghost use Rattle.omi_script.specs.declared.program.Program.{Program};
 ghost use Rattle.omi_top.specs.Command.{Command, Stop, Show, Faulty, command_in, read_name, written_name, Writes};
@@ -252,7 +252,7 @@ pub fn run_top<F: Files, W: Files, K: Sink>(
         → command_in words.now ≡ Stop budget script core
         → F.told files.old script ≡ Some (Some bytes)
         → result ≡ Status.Success
-        → (p : Program) × (written text : List ℕ) × Grammar bytes p × IsSmall p
+        → (p : Program) × (written text : List ℕ) × Grammar bytes p × IsBuilt p
         × IsStopped p budget written text
         × (W.told dest.new core ≡ holding (W.told dest.old core) written)
         × (K.told out.new ≡ put_on (K.told out.old) text) }
@@ -286,11 +286,12 @@ pub fn run_top<F: Files, W: Files, K: Sink>(
         × (K.told out.new ≡ put_on (K.told out.old) (report_of v))
         × ((s : State) → Shows w (words_of plain) s → IsViewOf s one_thread v) }
 
-    // Of the core that `stop` wrote, `show` puts the report of the state that the run's events
-    // reach: it has one view alone.
+    // Of the core that `stop` wrote, where that is plain, `show` puts the report of the state that
+    // the run's events reach: it has one view alone.
     ensures shown_again { (core bytes : List ℕ)
         → command_in words.now ≡ Show core → F.told files.old core ≡ Some (Some bytes)
         → (p : Program) (budget : ℕ) (text : List ℕ) (run : IsStopped p budget bytes text)
+        → (w plain : List ℕ) → IsPlainCore bytes w plain
         → IsShownAgain run.state result (K.told out.old) (K.told out.new) }
 
     // What is left of the core and of the output with every status.

@@ -1,4 +1,4 @@
-use Rattle.std.proofs.Common.{◌≡◌, ◌++◌, ◌∷◌, [], ◌<◌, ◌^◌, ℕ, List, false, string_bytes, codes, sym, ap, ◌∙◌, append_assoc, arith}
+use Rattle.std.proofs.Common.{◌≡◌, ◌++◌, ◌∷◌, [], ℕ, List, false, string_bytes, codes, ap, ◌∙◌, append_assoc, arith}
 use Rattle.std.specs.Fmt.{digits_onto}
 use Rattle.omi_layout.specs.Field.{name_of}
 use Rattle.omi_top.proofs.Digits.{hexadecimal_is}

@@ -8,12 +8,12 @@ returns-in_err-p-clause-refused c =
     let p = err_from_is_err_and c.from_residual.result c.from_residual.ensures.1 in
     rw (p.1, p.2) (script_refused c.args.bytes.now c.in_err-p.field-0.0 c.in_err-p.ensures.refused)
 
-pub returns-then-not-is_small-clause-refused : goal.returns-then-not-is_small-clause-refused
-returns-then-not-is_small-clause-refused c = λ budget. inl (inr (
+pub returns-then-not-is_built-clause-refused : goal.returns-then-not-is_built-clause-refused
+returns-then-not-is_built-clause-refused c = λ budget. inl (inr (
   record {
     program = c.in_ok-p.p;
     says = c.in_ok-p.ensures.accepted;
-    other = λ small. let yes = c.is_small.ensures.1 small in let no = c.if-not-is_small.true in cc (yes, no);
+    other = λ built. let passed = c.is_built.ensures.1 built in let failed = c.if-not-is_built.true in cc (passed, failed);
   },
   refl,
 ))

@@ -1,10 +1,38 @@
-use Rattle.std.proofs.Common.{List, ℕ, [], ◌∷◌, ◌++◌, ap, ◌∙◌, string_bytes}
+use Rattle.std.proofs.Common.{◌≡◌, ◌≤◌, ◌<◌, ◌∙◌, ℕ, List, length, sym, ap, subst, arith, string_bytes}
+use Rattle.std.specs.Prelude.{IsTrue}
+use Rattle.omi_corefile.specs.declared.limits.TheConstants.{MOST_CONTEXTS}
+use Rattle.omi_corefile.specs.Limits.{rises_from}
+use Rattle.omi_corefile.specs.Spelling.{Core, HoldsImage, core_bytes}
+use Rattle.omi_corefile.specs.declared.core_image.CoreImage.{CoreImage}
+use Rattle.omi_events.specs.Events.{Events}
+use Rattle.omi_events.specs.Steps.{Steps}
+use Rattle.omi_script.specs.declared.program.Program.{Program}
+use Rattle.omi_script.proofs.RuleLemmas.{Rules-from_accepted}
+use Rattle.omi_core.specs.Taskless.{IsTaskless}
+use Rattle.omi_top.specs.Lines.{run_text}
+use Rattle.omi_top.proofs.BuiltPrograms.{built_taskless}
 use Rattle.omi_top.proofs.Stopping.{made_stopped}
+use Rattle.omi_top.proofs.ThreadIds.{count, rising}
 use Rattle.omi_top.proofs.stop.stopped.Goals as goal
+
+pub run-requires-clause-taskless : goal.run-requires-clause-taskless
+run-requires-clause-taskless c = subst (λ (q : Program). IsTaskless q) (sym c.in_ok-core.ensures.program) (built_taskless c.args.p c.requires)
+
+pub core_bytes_of-requires-clause-rising : goal.core_bytes_of-requires-clause-rising
+core_bytes_of-requires-clause-rising c = subst (λ (ids : List ℕ). IsTrue (rises_from 0 ids)) (sym c.in_ok-contexts.ensures) (rising c.args.p.threads)
+
+pub core_bytes_of-requires-clause-count : goal.core_bytes_of-requires-clause-count
+core_bytes_of-requires-clause-count c =
+    let few = (Rules-from_accepted c.args.p).threads.1 in
+    let many = count c.args.p.threads in
+    subst (λ (ids : List ℕ). length ids ≤ MOST_CONTEXTS) (sym c.in_ok-contexts.ensures) (omega (arith, few, many))
 
 pub returns : goal.returns
 returns c =
-    made_stopped c.family-layout.result.table c.args.p.now c.args.budget c.in_ok-entries.entries.items c.in_ok-entries.end c.run.new.image c.push.new.self c.in_ok-core.core.items (string_bytes c.in_ok-text.text)
-    c.family-layout.result.valid c.family-layout.ensures.family
-    c.in_ok-entries.ensures.run c.in_ok-entries.ensures.plain (c.in_ok-push.ensures.added ∙ ap (λ (ids : List ℕ). ids ++ 1000 ∷ []) c.new-contexts.ensures)
-    c.in_ok-core.ensures.value c.in_ok-core.ensures.core c.in_ok-text.ensures
+    let words : c.image.result.now ≡ c.run.new.self.words = c.image.ensures.words in
+    let steps : c.len-steps.result ≡ length c.run.new.self.made.items = c.len-steps.ensures ∙ ap (λ (made : Steps). length made.items) c.made.ensures.made in
+    made_stopped c.family-layout.result.table c.args.p c.args.budget c.in_ok-core.core c.run.new.self c.in_ok-end.end c.in_ok-contexts.contexts c.in_ok-bytes.bytes.items (string_bytes c.in_ok-text.text)
+    c.family-layout.ensures.family c.in_ok-core.ensures c.in_ok-end.ensures c.made.ensures.history c.in_ok-contexts.ensures
+    (λ some. c.in_ok-bytes.ensures.value (subst (λ (ws : List ℕ). 0 < length ws) (sym words) some) ∙ ap (core_bytes c.in_ok-contexts.contexts) words)
+    (λ some. subst (λ (ws : List ℕ). (x : CoreImage) × Core c.in_ok-bytes.bytes.items x × HoldsImage c.in_ok-contexts.contexts ws x) words (c.in_ok-bytes.ensures.core (subst (λ (ws : List ℕ). 0 < length ws) (sym words) some)))
+    (c.in_ok-text.ensures ∙ ap (λ (events : Events). run_text events.items c.len-steps.result c.in_ok-end.end) c.events.ensures ∙ ap (λ n. run_text c.run.new.self.events.items n c.in_ok-end.end) steps)

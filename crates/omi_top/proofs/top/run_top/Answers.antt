@@ -47,7 +47,7 @@ pub returns-clause-report : goal.returns-clause-report
 returns-clause-report g c = λ core bytes command told done. report_put _ _ _ _ _ _ _ bytes done (left_of g c (Show core) (Some bytes) (c.request_of.ensures.asked ∙ command) told)
 
 pub returns-clause-shown_again : goal.returns-clause-shown_again
-returns-clause-shown_again g c = λ core bytes command told p budget text run. shown_again _ _ _ _ _ _ _ bytes p budget text run (left_of g c (Show core) (Some bytes) (c.request_of.ensures.asked ∙ command) told)
+returns-clause-shown_again g c = λ core bytes command told p budget text run w plain is_plain. shown_again _ _ _ _ _ _ _ bytes p budget text run w plain is_plain (left_of g c (Show core) (Some bytes) (c.request_of.ensures.asked ∙ command) told)
 
 pub returns-clause-incompatible : goal.returns-clause-incompatible
 returns-clause-incompatible g c = λ core bytes command told. incompatible _ _ _ _ _ _ _ bytes (left_of g c (Show core) (Some bytes) (c.request_of.ensures.asked ∙ command) told)
