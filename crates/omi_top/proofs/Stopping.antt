@@ -19,6 +19,7 @@ use Rattle.omi_corefile.specs.Spelling.{Core, HoldsImage, core_bytes}
 use Rattle.omi_corefile.specs.declared.core_image.CoreImage.{CoreImage}
 use Rattle.omi_layout.specs.Family.{IsFamily}
 use Rattle.omi_layout.specs.SymbolTable.{words_of}
+use Rattle.omi_layout.specs.Valid.{IsValid}
 use Rattle.omi_model.specs.declared.event.Event.{Event}
 use Rattle.omi_model.specs.Reached.{Reached}
 use Rattle.omi_rep.specs.Shows.{Shows}
@@ -36,9 +37,11 @@ use Rattle.omi_core.proofs.History.{made_length}
 use Rattle.omi_top.specs.declared.limits.TheConstants.{SCRIPT_FRONT}
 use Rattle.omi_top.specs.Answer.{Answer, Refuses, Gives, IsAnswered, IsEarly, IsLate, IsStopAnswer, IsStopped, IsUnwritten, IsOfCore}
 use Rattle.omi_top.specs.Built.{IsBuilt}
+use Rattle.omi_top.specs.Cores.{IsCoreOf}
 use Rattle.omi_top.specs.Lines.{run_text}
 use Rattle.omi_top.specs.Run.{after_steps, thread_ids}
 use Rattle.omi_top.specs.Refusal.{refusal_of_write, refusal_of_script, status_of}
+use Rattle.omi_top.proofs.PlainCores.{plain, run_length}
 use Rattle.omi_top.specs.declared.refusal.Refusal.{Refusal}
 use Rattle.omi_top.specs.declared.refusal.Refusal.TheVariants as refusal
 
@@ -115,10 +118,10 @@ kept_threads [] = refl
 kept_threads (x ∷ xs) = ap (λ ns. x.0 ∷ ns) (kept_threads xs)
 
 -- with its core and its text
-pub made_stopped : (w : List ℕ) (p : Program) (budget : ℕ) (first last : Run) (why : End) (ids core text : List ℕ) → IsFamily 0 p.threads w → IsOpening p w first → IsRunBy first RoundRobin (after_steps budget) (Ok why) last → HasHistory last
+pub made_stopped : (w : List ℕ) (p : Program) (budget : ℕ) (first last : Run) (why : End) (ids core text : List ℕ) → IsValid w → IsFamily 0 p.threads w → IsOpening p w first → IsRunBy first RoundRobin (after_steps budget) (Ok why) last → HasHistory last
     → ids ≡ thread_ids p.threads → (0 < length last.words → core ≡ core_bytes ids last.words) → (0 < length last.words → (c : CoreImage) × Core core c × HoldsImage ids last.words c)
     → text ≡ run_text last.events.items (length last.made.items) why → IsStopped p budget core text
-made_stopped w p budget first last why ids core text family opens (added, ends) (xs, s, h) are bytes image lines =
+made_stopped w p budget first last why ids core text valid family opens (added, ends) (xs, s, h) are bytes image lines =
     let program : last.program ≡ p = added.program ∙ opens.program in
     let table : last.table ≡ w = added.table ∙ opens.table in
     let all : last.made.items ≡ added.made = added.made_are ∙ ap (λ (ms : List Made). ms ++ added.made) opens.made in
@@ -129,6 +132,10 @@ made_stopped w p budget first last why ids core text family opens (added, ends) 
     let long = h.tables.long in
     let some : 0 < length last.words = omega (arith, long) in
     let (c, spelled, holds) = image some in
+    let core_of : IsCoreOf (thread_ids p.threads) core last.words = record { core = c; spelled = spelled; image = subst (λ ns. HoldsImage ns last.words c) are holds } in
+    let reached : Reached p (events_in (events_behind 0 xs)) s =
+        subst (λ (es : List (ℕ × ℕ × Event)). Reached p (events_in es) s) h.made_by.events
+        (subst (λ (q : Program). Reached q (events_in last.events.items) s) program h.reached) in
     record {
       w = w;
       family = family;
@@ -149,14 +156,18 @@ made_stopped w p budget first last why ids core text family opens (added, ends) 
             subst (λ (es : List (ℕ × ℕ × Event)). IsEnded (after_steps budget) (length xs) (length xs) es why) events
             (subst (λ n. IsEnded (after_steps budget) n (length xs) added.events why) many
             (subst (λ n. IsEnded (after_steps budget) (length added.made) n added.events why) (ap length all ∙ many) ends));
-        reached =
-            subst (λ (es : List (ℕ × ℕ × Event)). Reached p (events_in es) s) h.made_by.events
-            (subst (λ (q : Program). Reached q (events_in last.events.items) s) program h.reached);
+        reached = reached;
         shows = shows;
         counts = subst (λ t. Counts t last.words s) table h.counts;
       };
       core_is = bytes some ∙ ap (λ ns. core_bytes ns last.words) are;
-      core_of = record { core = c; spelled = spelled; image = subst (λ ns. HoldsImage ns last.words c) are holds };
+      core_of = core_of;
+      plain = λ one current. record {
+        image_core = subst (λ n. IsCoreOf (thread_ids n) core last.words) one core_of;
+        layout = shows.layout;
+        valid = valid;
+        plain = plain p (events_in (events_behind 0 xs)) s reached one current w last.words valid (family.threads ∙ one) (run_length p w xs last.words s steps) shows;
+      };
       text_is =
           lines
           ∙ ap (λ (es : List (ℕ × ℕ × Event)). run_text es (length last.made.items) why) h.made_by.events

@@ -14,6 +14,7 @@ use Rattle.omi_corefile.specs.declared.fault.CoreFault.{CoreFault}
 use Rattle.omi_script.specs.Grammar.{Grammar, Refused}
 use Rattle.omi_script.specs.declared.fault.ScriptFault.{ScriptFault}
 use Rattle.omi_script.specs.declared.program.Program.{Program}
+use Rattle.omi_model.specs.Opening.{initial_task}
 use Rattle.omi_model.specs.State.{State}
 use Rattle.omi_model.specs.Views.{IsViewOf}
 use Rattle.omi_model.specs.declared.view.View.{View}
@@ -31,7 +32,7 @@ use Rattle.omi_top.specs.Refusal.{line_of, status_of}
 use Rattle.omi_top.specs.Run.{IsRun, thread_ids}
 
 -- a run of the program in the layout of family 0, whose last words are this core, with the contexts of all threads, and whose events
--- and end are this text
+-- and end are this text. Where the initial task is current on the one thread of a program, the core is plain, so that `show` reads it
 pub record IsStopped (p : Program) (budget : ℕ) (core text : List ℕ) : Type 0 where
   pub w : List ℕ
   pub family : IsFamily 0 p.threads w
@@ -42,6 +43,8 @@ pub record IsStopped (p : Program) (budget : ℕ) (core text : List ℕ) : Type 
   pub run : IsRun w p budget entries end words state
   pub core_is : core ≡ core_bytes (thread_ids p.threads) words
   pub core_of : IsCoreOf (thread_ids p.threads) core words
+  pub plain : p.threads ≡ 1 → (state.threads 0).current ≡ Some initial_task
+      → IsPlainCore core w words
   pub text_is : text ≡ run_text (events_behind 0 entries) (length entries) end
 
 -- the answer to a command: a refusal, or the bytes of the core that it writes, if it writes one, and a text
