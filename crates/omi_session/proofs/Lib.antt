@@ -10,3 +10,4 @@ pub mod ShownObjects
 pub mod ShownParts
 pub mod ShownAnswers
 pub mod NamesReached
+pub mod ShownNames
