@@ -133,9 +133,7 @@ made_stopped w p budget first last why ids core text valid family opens (added, 
     let some : 0 < length last.words = omega (arith, long) in
     let (c, spelled, holds) = image some in
     let core_of : IsCoreOf (thread_ids p.threads) core last.words = record { core = c; spelled = spelled; image = subst (λ ns. HoldsImage ns last.words c) are holds } in
-    let reached : Reached p (events_in (events_behind 0 xs)) s =
-        subst (λ (es : List (ℕ × ℕ × Event)). Reached p (events_in es) s) h.made_by.events
-        (subst (λ (q : Program). Reached q (events_in last.events.items) s) program h.reached) in
+    let reached : Reached p (events_in (events_behind 0 xs)) s = subst (λ (es : List (ℕ × ℕ × Event)). Reached p (events_in es) s) h.made_by.events (subst (λ (q : Program). Reached q (events_in last.events.items) s) program h.reached) in
     record {
       w = w;
       family = family;
