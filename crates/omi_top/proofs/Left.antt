@@ -1,133 +1,104 @@
 -- What a command's result and its printing say of the whole call.
-use Rattle.std.proofs.Common.{◌≡◌, ◌⊎◌, inl, inr, ℕ, List, Option, Some, None, Ok, Err, refl, sym, ◌∙◌, subst}
+use Rattle.std.proofs.Common.{◌≡◌, ◌⊎◌, inl, inr, ℕ, Bool, true, false, List, Option, Some, None, Ok, Err, refl, sym, ◌∙◌, ap, subst}
 use Rattle.std.specs.Global.{Vec}
+use Rattle.std.specs.Prelude.{Result}
 use Rattle.omi_outside.specs.Outside.{Told, IsPutCut, put_on}
 use Rattle.omi_outside.specs.declared.status.Status.{Status}
 use Rattle.omi_outside.specs.declared.status.Status.TheVariants as status
-use Rattle.omi_top.specs.Command.{Command, Stop, Show, Faulty, read_name, written_name}
-use Rattle.omi_top.specs.Answer.{Answer, Refuses, IsAnswer, IsStopAnswer, IsShowAnswer, IsAnswered, IsLeft, IsSaid}
+use Rattle.omi_top.specs.Command.{Command, Stop, Show, Faulty, written_name}
+use Rattle.omi_top.specs.Answer.{Answer, Gives, AreTold, IsAnswer, IsStopAnswer, IsShowAnswer, IsAnswered, IsLeft, IsSaid}
 use Rattle.omi_top.specs.Refusal.{line_of, status_of}
 use Rattle.omi_top.specs.declared.refusal.Refusal.{Refusal}
 use Rattle.omi_top.specs.declared.refusal.Refusal.TheVariants as refusal
 
 -- a fault of the outside, or want of memory
-abbrev IsFault : Refusal → Type 0
-IsFault refusal.ReadFault = Unit {0}
-IsFault refusal.WriteFault = Unit {0}
-IsFault refusal.OutOfMemory = Unit {0}
-IsFault r = ⊥
+abbrev is_fault : Refusal → Bool
+is_fault (refusal.ReadFault read) = true
+is_fault refusal.WriteFault = true
+is_fault refusal.OutOfMemory = true
+is_fault r = false
 
--- no fault is the answer to a command
-stop_proper : (budget : ℕ) (content : Option (List ℕ)) (r : Refusal) → IsFault r → IsStopAnswer budget content (Refuses r) → ⊥
-stop_proper budget None refusal.ReadFault fault is = cc
-stop_proper budget None refusal.WriteFault fault is = cc
-stop_proper budget None refusal.OutOfMemory fault is = cc
-stop_proper budget (Some bytes) refusal.ReadFault fault (inl (f, why, is)) = cc
-stop_proper budget (Some bytes) refusal.ReadFault fault (inr (other, is)) = cc
-stop_proper budget (Some bytes) refusal.WriteFault fault (inl (f, why, is)) = cc
-stop_proper budget (Some bytes) refusal.WriteFault fault (inr (other, is)) = cc
-stop_proper budget (Some bytes) refusal.OutOfMemory fault (inl (f, why, is)) = cc
-stop_proper budget (Some bytes) refusal.OutOfMemory fault (inr (other, is)) = cc
-stop_proper budget content refusal.Usage fault is = fault
-stop_proper budget content refusal.NoFile fault is = fault
-stop_proper budget content (refusal.Script f) fault is = fault
-stop_proper budget content (refusal.Core at why) fault is = fault
-stop_proper budget content refusal.NotBuilt fault is = fault
-stop_proper budget content (refusal.Damaged at) fault is = fault
-stop_proper budget content refusal.Incompatible fault is = fault
+-- a refusal that is one of the others is none of these
+another : (r s : Refusal) → is_fault r ≡ true → r ≡ s → is_fault s ≡ false → ⊥
+another r s fault same proper = let wrong : true ≡ false = sym fault ∙ ap is_fault same ∙ proper in cc
 
-show_proper : (content : Option (List ℕ)) (r : Refusal) → IsFault r → IsShowAnswer content (Refuses r) → ⊥
-show_proper None refusal.ReadFault fault is = cc
-show_proper None refusal.WriteFault fault is = cc
-show_proper None refusal.OutOfMemory fault is = cc
-show_proper (Some bytes) refusal.ReadFault fault (inl (at, why, refused, is)) = cc
-show_proper (Some bytes) refusal.ReadFault fault (inr (inl (other, is))) = cc
-show_proper (Some bytes) refusal.ReadFault fault (inr (inr (inl (cause, is)))) = cc
-show_proper (Some bytes) refusal.ReadFault fault (inr (inr (inr (at, cause, is)))) = cc
-show_proper (Some bytes) refusal.WriteFault fault (inl (at, why, refused, is)) = cc
-show_proper (Some bytes) refusal.WriteFault fault (inr (inl (other, is))) = cc
-show_proper (Some bytes) refusal.WriteFault fault (inr (inr (inl (cause, is)))) = cc
-show_proper (Some bytes) refusal.WriteFault fault (inr (inr (inr (at, cause, is)))) = cc
-show_proper (Some bytes) refusal.OutOfMemory fault (inl (at, why, refused, is)) = cc
-show_proper (Some bytes) refusal.OutOfMemory fault (inr (inl (other, is))) = cc
-show_proper (Some bytes) refusal.OutOfMemory fault (inr (inr (inl (cause, is)))) = cc
-show_proper (Some bytes) refusal.OutOfMemory fault (inr (inr (inr (at, cause, is)))) = cc
-show_proper content refusal.Usage fault is = fault
-show_proper content refusal.NoFile fault is = fault
-show_proper content (refusal.Script f) fault is = fault
-show_proper content (refusal.Core at why) fault is = fault
-show_proper content refusal.NotBuilt fault is = fault
-show_proper content (refusal.Damaged at) fault is = fault
-show_proper content refusal.Incompatible fault is = fault
+-- no fault is what an answer says
+stop_proper : (budget : ℕ) (content core : Option (List ℕ)) (r : Refusal) → is_fault r ≡ true → IsStopAnswer budget content (Gives core (Err r)) → ⊥
+stop_proper budget None None r fault is = another r _ fault is refl
+stop_proper budget (Some bytes) None r fault (inl (f, why, is)) = another r _ fault is refl
+stop_proper budget (Some bytes) None r fault (inr (other, is)) = another r _ fault is refl
+stop_proper budget None (Some core) r fault is = is
+stop_proper budget (Some bytes) (Some core) r fault is = is
 
-proper : (command : Command) (content : Option (List ℕ)) (r : Refusal) → IsFault r → IsAnswer command content (Refuses r) → ⊥
-proper (Stop budget script core) content r fault is = stop_proper budget content r fault is
-proper (Show core) content r fault is = show_proper content r fault is
-proper Faulty content refusal.ReadFault fault is = cc
-proper Faulty content refusal.WriteFault fault is = cc
-proper Faulty content refusal.OutOfMemory fault is = cc
-proper Faulty content refusal.Usage fault is = fault
-proper Faulty content refusal.NoFile fault is = fault
-proper Faulty content (refusal.Script f) fault is = fault
-proper Faulty content (refusal.Core at why) fault is = fault
-proper Faulty content refusal.NotBuilt fault is = fault
-proper Faulty content (refusal.Damaged at) fault is = fault
-proper Faulty content refusal.Incompatible fault is = fault
+show_proper : (content core : Option (List ℕ)) (r : Refusal) → is_fault r ≡ true → IsShowAnswer content (Gives core (Err r)) → ⊥
+show_proper None None r fault is = another r _ fault is refl
+show_proper (Some bytes) None r fault (inl (at, why, refused, is)) = another r _ fault is refl
+show_proper (Some bytes) None r fault (inr (inl (other, is))) = another r _ fault is refl
+show_proper (Some bytes) None r fault (inr (inr (inl (cause, is)))) = another r _ fault is refl
+show_proper (Some bytes) None r fault (inr (inr (inr (at, cause, is)))) = another r _ fault is refl
+show_proper None (Some core) r fault is = is
+show_proper (Some bytes) (Some core) r fault is = is
+
+-- what the answer to refused words says
+abbrev said_of : Answer → Refusal
+said_of (Gives core (Ok text)) = refusal.Usage
+said_of (Gives core (Err r)) = r
+
+proper : (command : Command) (told : List ℕ → Told) (core : Option (List ℕ)) (r : Refusal) → is_fault r ≡ true → IsAnswer command told (Gives core (Err r)) → ⊥
+proper (Stop budget script written) told core r fault (content, is, answer) = stop_proper budget content core r fault answer
+proper (Show written) told core r fault (content, is, answer) = show_proper content core r fault answer
+proper Faulty told core r fault is = another r refusal.Usage fault (ap said_of is) refl
 
 -- printing ended well, with a fault, or for want of memory
 abbrev pub IsPrinting : Status → Type 0
 IsPrinting s = (s ≡ status.Success) ⊎ ((s ≡ status.WriteFault) ⊎ (s ≡ status.OutOfMemory))
 
--- after a text and an end of its printing
-pub ok_left : (name : List ℕ) (P : Answer → Type 0) (text : Vec ℕ) (old new : Told) (s : Status) (counted : Type 0) (out after : Option (List ℕ))
-    → IsAnswered P (Ok text) old new → IsPrinting s → (s ≡ status.Success → after ≡ put_on out text.items) → (s ≡ status.Success) ⊎ IsPutCut text.items out after
-    → IsLeft name P s old new counted out after
-ok_left name P text old new s counted out after (core, is, held) (inl e) put partly =
-    subst (λ (x : Status). IsLeft name P x old new counted out after) (sym e) (core, text.items, is, held, put e)
-ok_left name P text old new s counted out after (core, is, held) (inr (inl e)) put (inl done) = let wrong : status.WriteFault ≡ status.Success = sym e ∙ done in absurd (cc)
-ok_left name P text old new s counted out after (core, is, held) (inr (inl e)) put (inr cut) =
-    subst (λ (x : Status). IsLeft name P x old new counted out after) (sym e) (core, text.items, is, inr (held, cut))
-ok_left name P text old new s counted out after (core, is, held) (inr (inr e)) put (inl done) = let wrong : status.OutOfMemory ≡ status.Success = sym e ∙ done in absurd (cc)
-ok_left name P text old new s counted out after (core, is, held) (inr (inr e)) put (inr cut) =
-    subst (λ (x : Status). IsLeft name P x old new counted out after) (sym e) (inr (core, text.items, is, inr (held, cut)))
+module _ (command : Command) (told : List ℕ → Told) (old new : Told) (counted : Type 0) (out after : Option (List ℕ)) where
+  -- after a text and an end of its printing
+  pub ok_left : (text : Vec ℕ) (s : Status) → IsAnswered command told (Ok text) old new → IsPrinting s → (s ≡ status.Success → after ≡ put_on out text.items) → (s ≡ status.Success) ⊎ IsPutCut text.items out after
+      → IsLeft command told s old new counted out after
+  ok_left text s (core, is, held) (inl e) put partly = subst (λ (x : Status). IsLeft command told x old new counted out after) (sym e) (core, text.items, is, held, put e)
+  ok_left text s (core, is, held) (inr (inl e)) put (inl done) = let wrong : status.WriteFault ≡ status.Success = sym e ∙ done in absurd (cc)
+  ok_left text s (core, is, held) (inr (inl e)) put (inr cut) = subst (λ (x : Status). IsLeft command told x old new counted out after) (sym e) (inr (core, text.items, is, held, cut))
+  ok_left text s (core, is, held) (inr (inr e)) put (inl done) = let wrong : status.OutOfMemory ≡ status.Success = sym e ∙ done in absurd (cc)
+  ok_left text s (core, is, held) (inr (inr e)) put (inr cut) = subst (λ (x : Status). IsLeft command told x old new counted out after) (sym e) (inr (inr (core, text.items, is, held, cut)))
 
--- after a refusal
-pub err_left : (name : List ℕ) (command : Command) (content : Option (List ℕ)) (r : Refusal) (old new : Told) (counted : Type 0) (out after : Option (List ℕ))
-    → IsAnswered (IsAnswer command content) (Err r) old new → IsSaid (line_of name r) counted out after → IsLeft name (IsAnswer command content) (status_of r) old new counted out after
-err_left name command content refusal.Usage old new counted out after (inl (is, same)) said = (refusal.Usage, refl, is, same, said)
-err_left name command content refusal.Usage old new counted out after (inr (inl (early, same))) said = absurd early
-err_left name command content refusal.Usage old new counted out after (inr (inr (late, core, text, is, partly))) said = absurd late
-err_left name command content refusal.NoFile old new counted out after (inl (is, same)) said = (refusal.NoFile, refl, is, same, said)
-err_left name command content refusal.NoFile old new counted out after (inr (inl (early, same))) said = absurd early
-err_left name command content refusal.NoFile old new counted out after (inr (inr (late, core, text, is, partly))) said = absurd late
-err_left name command content (refusal.Script f) old new counted out after (inl (is, same)) said = (refusal.Script f, refl, is, same, said)
-err_left name command content (refusal.Script f) old new counted out after (inr (inl (early, same))) said = absurd early
-err_left name command content (refusal.Script f) old new counted out after (inr (inr (late, core, text, is, partly))) said = absurd late
-err_left name command content (refusal.Core at why) old new counted out after (inl (is, same)) said = (refusal.Core at why, refl, is, same, said)
-err_left name command content (refusal.Core at why) old new counted out after (inr (inl (early, same))) said = absurd early
-err_left name command content (refusal.Core at why) old new counted out after (inr (inr (late, core, text, is, partly))) said = absurd late
-err_left name command content refusal.NotBuilt old new counted out after (inl (is, same)) said = (refusal.NotBuilt, refl, is, same, said)
-err_left name command content refusal.NotBuilt old new counted out after (inr (inl (early, same))) said = absurd early
-err_left name command content refusal.NotBuilt old new counted out after (inr (inr (late, core, text, is, partly))) said = absurd late
-err_left name command content (refusal.Damaged at) old new counted out after (inl (is, same)) said = (refusal.Damaged at, refl, is, same, said)
-err_left name command content (refusal.Damaged at) old new counted out after (inr (inl (early, same))) said = absurd early
-err_left name command content (refusal.Damaged at) old new counted out after (inr (inr (late, core, text, is, partly))) said = absurd late
-err_left name command content refusal.Incompatible old new counted out after (inl (is, same)) said = (refusal.Incompatible, refl, is, same, said)
-err_left name command content refusal.Incompatible old new counted out after (inr (inl (early, same))) said = absurd early
-err_left name command content refusal.Incompatible old new counted out after (inr (inr (late, core, text, is, partly))) said = absurd late
-err_left name command content refusal.ReadFault old new counted out after (inl (is, same)) said = (same, said)
-err_left name command content refusal.ReadFault old new counted out after (inr (inl (early, same))) said = (same, said)
-err_left name command content refusal.ReadFault old new counted out after (inr (inr (late, core, text, is, partly))) said = absurd late
-err_left name command content refusal.WriteFault old new counted out after (inl (is, same)) said = absurd (proper command content refusal.WriteFault tt is)
-err_left name command content refusal.WriteFault old new counted out after (inr (inl (early, same))) said = absurd early
-err_left name command content refusal.WriteFault old new counted out after (inr (inr (late, core, text, is, partly))) said = (core, text, is, inl (partly, said))
-err_left name command content refusal.OutOfMemory old new counted out after (inl (is, same)) said = inl (same, said)
-err_left name command content refusal.OutOfMemory old new counted out after (inr (inl (early, same))) said = inl (same, said)
-err_left name command content refusal.OutOfMemory old new counted out after (inr (inr (late, core, text, is, partly))) said = inr (core, text, is, inl (partly, said))
+  -- after a refusal
+  pub err_left : (r : Refusal) → IsAnswered command told (Err r) old new → IsSaid (line_of command r) counted out after → IsLeft command told (status_of r) old new counted out after
+  err_left refusal.Usage (inl (core, is, held)) said = (refusal.Usage, refl, core, is, held, said)
+  err_left refusal.Usage (inr (inl (early, same))) said = absurd early
+  err_left refusal.Usage (inr (inr (late, half))) said = absurd late
+  err_left (refusal.NoFile read) (inl (core, is, held)) said = (refusal.NoFile read, refl, core, is, held, said)
+  err_left (refusal.NoFile read) (inr (inl (early, same))) said = absurd early
+  err_left (refusal.NoFile read) (inr (inr (late, half))) said = absurd late
+  err_left (refusal.Script f) (inl (core, is, held)) said = (refusal.Script f, refl, core, is, held, said)
+  err_left (refusal.Script f) (inr (inl (early, same))) said = absurd early
+  err_left (refusal.Script f) (inr (inr (late, half))) said = absurd late
+  err_left (refusal.Core at why) (inl (core, is, held)) said = (refusal.Core at why, refl, core, is, held, said)
+  err_left (refusal.Core at why) (inr (inl (early, same))) said = absurd early
+  err_left (refusal.Core at why) (inr (inr (late, half))) said = absurd late
+  err_left refusal.NotBuilt (inl (core, is, held)) said = (refusal.NotBuilt, refl, core, is, held, said)
+  err_left refusal.NotBuilt (inr (inl (early, same))) said = absurd early
+  err_left refusal.NotBuilt (inr (inr (late, half))) said = absurd late
+  err_left (refusal.Damaged at) (inl (core, is, held)) said = (refusal.Damaged at, refl, core, is, held, said)
+  err_left (refusal.Damaged at) (inr (inl (early, same))) said = absurd early
+  err_left (refusal.Damaged at) (inr (inr (late, half))) said = absurd late
+  err_left refusal.Incompatible (inl (core, is, held)) said = (refusal.Incompatible, refl, core, is, held, said)
+  err_left refusal.Incompatible (inr (inl (early, same))) said = absurd early
+  err_left refusal.Incompatible (inr (inr (late, half))) said = absurd late
+  err_left (refusal.ReadFault read) (inl (core, is, held)) said = absurd (proper command told core (refusal.ReadFault read) refl is)
+  err_left (refusal.ReadFault read) (inr (inl (early, same))) said = (read, early, same, said)
+  err_left (refusal.ReadFault read) (inr (inr (late, half))) said = absurd late
+  err_left refusal.WriteFault (inl (core, is, held)) said = absurd (proper command told core refusal.WriteFault refl is)
+  err_left refusal.WriteFault (inr (inl (early, same))) said = absurd early
+  err_left refusal.WriteFault (inr (inr (late, half))) said = inl (half, said)
+  err_left refusal.OutOfMemory (inl (core, is, held)) said = absurd (proper command told core refusal.OutOfMemory refl is)
+  err_left refusal.OutOfMemory (inr (inl (early, same))) said = inl (same, said)
+  err_left refusal.OutOfMemory (inr (inr (late, half))) said = inr (inl (half, said))
 
 -- What a request leaves is what its command leaves.
-pub left_by : (asked command : Command) (content : Option (List ℕ)) (s : Status) (files old new : List ℕ → Told) (counted : Type 0) (out after : Option (List ℕ)) → asked ≡ command → files (read_name command) ≡ Some content
-    → ((c : Option (List ℕ)) → files (read_name asked) ≡ Some c → IsLeft (read_name asked) (IsAnswer asked c) s (old (written_name asked)) (new (written_name asked)) counted out after)
-    → IsLeft (read_name command) (IsAnswer command content) s (old (written_name command)) (new (written_name command)) counted out after
-left_by asked command content s files old new counted out after is told left =
-    subst (λ (k : Command). files (read_name k) ≡ Some content → IsLeft (read_name k) (IsAnswer k content) s (old (written_name k)) (new (written_name k)) counted out after) is (left content) told
+pub left_by : (asked command : Command) (s : Status) (files old new : List ℕ → Told) (counted : Type 0) (out after : Option (List ℕ)) → asked ≡ command
+    → (AreTold asked files → IsLeft asked files s (old (written_name asked)) (new (written_name asked)) counted out after)
+    → AreTold command files → IsLeft command files s (old (written_name command)) (new (written_name command)) counted out after
+left_by asked command s files old new counted out after is left =
+    subst (λ (k : Command). AreTold k files → IsLeft k files s (old (written_name k)) (new (written_name k)) counted out after) is left

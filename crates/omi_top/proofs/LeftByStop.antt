@@ -1,5 +1,5 @@
 -- What the clauses of the top call say of `stop`, from what it leaves.
-use Rattle.std.proofs.Common.{◌≡◌, inl, inr, ℕ, List, Option, Some, None, refl, sym, ◌∙◌, ap, subst}
+use Rattle.std.proofs.Common.{◌≡◌, inl, inr, ℕ, List, Option, Some, None, Ok, Err, refl, sym, ◌∙◌, ap, subst}
 use Rattle.omi_outside.specs.Outside.{Told, holding, put_on}
 use Rattle.omi_outside.specs.declared.status.Status.{Status}
 use Rattle.omi_outside.specs.declared.status.Status.TheVariants as status
@@ -12,9 +12,10 @@ use Rattle.omi_script.specs.declared.fault.ScriptFault.{ScriptFault}
 use Rattle.omi_script.specs.declared.program.Program.{Program}
 use Rattle.omi_top.specs.declared.refusal.Refusal.{Refusal}
 use Rattle.omi_top.specs.Built.{IsBuilt, is_built_function}
-use Rattle.omi_top.specs.Answer.{Refuses, IsStopAnswer, IsOtherProgram, IsLeft, IsStopped, ComesWhere}
+use Rattle.omi_top.specs.Answer.{Answer, Gives, IsAnswer, IsStopAnswer, IsStopRefusal, IsOtherProgram, IsLeft, IsStopped, IsFaultStatus, ComesWhere}
+use Rattle.omi_top.specs.Command.{Stop}
 use Rattle.omi_top.specs.Refusal.{status_of}
-use Rattle.omi_top.proofs.Statuses.{RefusesWith, GivesText, comes_where}
+use Rattle.omi_top.proofs.Statuses.{DoesMore, IsDoneStatus, one_content, comes_where}
 
 -- the text has a fault
 abbrev HasFault : List ℕ → Type 0
@@ -24,62 +25,97 @@ HasFault bytes = (fault : ScriptFault) × Refused bytes fault
 same_built : (p q : Program) → AreEqual p q → IsBuilt p → IsBuilt q
 same_built p q same built = subst (λ (funcs : List Func). IsTrue (list_all is_built_function funcs)) same.funcs built
 
-module _ (name : List ℕ) (budget : ℕ) (old new : Told) (counted : Type 0) (out after : Option (List ℕ)) where
-  -- there is no file exactly where the status says so
-  pub no_file : (s : Status) (content : Option (List ℕ)) → IsLeft name (IsStopAnswer budget content) s old new counted out after → ComesWhere status.NoFile s (content ≡ None)
-  no_file s content = comes_where name (IsStopAnswer budget content) old new counted out after status.NoFile s (content ≡ None) (λ no. no) (λ no. no) (says content) (all content) (none content)
-    where
-      says : (c : Option (List ℕ)) → RefusesWith (IsStopAnswer budget c) status.NoFile → c ≡ None
-      says None refuses = refl
-      says (Some bytes) (r, is, inl (fault, why, same)) = let wrong : status.Script ≡ status.NoFile = ap status_of (sym same) ∙ is in absurd (cc)
-      says (Some bytes) (r, is, inr (other, same)) = let wrong : status.NotBuilt ≡ status.NoFile = ap status_of (sym same) ∙ is in absurd (cc)
+-- the script's file holds a program that is run
+abbrev HoldsProgram : Option (List ℕ) → Type 0
+HoldsProgram None = ⊥
+HoldsProgram (Some bytes) = (p : Program) × Grammar bytes p × IsBuilt p
 
-      all : (c : Option (List ℕ)) → c ≡ None → (r : Refusal) → IsStopAnswer budget c (Refuses r) → status_of r ≡ status.NoFile
+-- what an answer says of the script, where the script's content is told
+module _ (budget : ℕ) (script core : List ℕ) (told : List ℕ → Told) (content : Option (List ℕ)) (is : told script ≡ Some content) where
+  stop_answer : (a : Answer) → IsAnswer (Stop budget script core) told a → IsStopAnswer budget content a
+  stop_answer a (c, here, answer) = subst (λ (x : Option (List ℕ)). IsStopAnswer budget x a) (one_content (told script) c content here is) answer
+
+  refusals : (written : Option (List ℕ)) (r : Refusal) → IsAnswer (Stop budget script core) told (Gives written (Err r)) → IsStopRefusal content r
+  refusals written r answer = go content written (stop_answer (Gives written (Err r)) answer)
+    where
+      go : (c written : Option (List ℕ)) → IsStopAnswer budget c (Gives written (Err r)) → IsStopRefusal c r
+      go None None said = said
+      go (Some bytes) None said = said
+      go None (Some core) said = absurd said
+      go (Some bytes) (Some core) said = absurd said
+
+  runs : (a : Answer) → DoesMore a → IsAnswer (Stop budget script core) told a → HoldsProgram content
+  runs a more answer = go content a more (stop_answer a answer)
+    where
+      go : (c : Option (List ℕ)) (a : Answer) → DoesMore a → IsStopAnswer budget c a → HoldsProgram c
+      go c (Gives None (Err r)) more said = absurd more
+      go None (Gives None (Ok text)) more said = absurd said
+      go None (Gives (Some core) (Ok text)) more said = absurd said
+      go None (Gives (Some core) (Err r)) more said = absurd said
+      go (Some bytes) (Gives None (Ok text)) more said = absurd said
+      go (Some bytes) (Gives (Some core) (Err r)) more said = absurd said
+      go (Some bytes) (Gives (Some core) (Ok text)) more (p, grammar, built, stopped) = (p, grammar, built)
+
+module _ (budget : ℕ) (script core : List ℕ) (told : List ℕ → Told) (old new : Told) (counted : Type 0) (out after : Option (List ℕ)) where
+  -- a status comes exactly where a fact holds of the script's content
+  comes : (content : Option (List ℕ)) → told script ≡ Some content → (refused s : Status) (fact : Type 0) → (IsFaultStatus refused → ⊥) → (IsDoneStatus refused → ⊥)
+      → ((r : Refusal) → IsStopRefusal content r → status_of r ≡ refused → fact) → (fact → (r : Refusal) → IsStopRefusal content r → status_of r ≡ refused) → (fact → HoldsProgram content → ⊥)
+      → IsLeft (Stop budget script core) told s old new counted out after → ComesWhere refused s fact
+  comes content is = comes_where (Stop budget script core) told old new counted out after (IsStopRefusal content) (HoldsProgram content) (refusals budget script core told content is) (runs budget script core told content is)
+
+  -- there is no file exactly where the status says so
+  pub no_file : (s : Status) (content : Option (List ℕ)) → told script ≡ Some content → IsLeft (Stop budget script core) told s old new counted out after → ComesWhere status.NoFile s (content ≡ None)
+  no_file s content is = comes content is status.NoFile s (content ≡ None) (λ no. no) (λ no. no) (says content) (all content) (none content)
+    where
+      says : (c : Option (List ℕ)) (r : Refusal) → IsStopRefusal c r → status_of r ≡ status.NoFile → c ≡ None
+      says None r refuses is = refl
+      says (Some bytes) r (inl (fault, why, same)) is = let wrong : status.Script ≡ status.NoFile = ap status_of (sym same) ∙ is in absurd (cc)
+      says (Some bytes) r (inr (other, same)) is = let wrong : status.NotBuilt ≡ status.NoFile = ap status_of (sym same) ∙ is in absurd (cc)
+
+      all : (c : Option (List ℕ)) → c ≡ None → (r : Refusal) → IsStopRefusal c r → status_of r ≡ status.NoFile
       all None missing r is = ap status_of is
       all (Some bytes) missing r is = absurd (cc)
 
-      none : (c : Option (List ℕ)) → c ≡ None → GivesText (IsStopAnswer budget c) → ⊥
-      none None missing (core, text, is) = is
-      none (Some bytes) missing gives = absurd (cc)
+      none : (c : Option (List ℕ)) → c ≡ None → HoldsProgram c → ⊥
+      none None missing holds = holds
+      none (Some bytes) missing holds = cc missing
 
   -- the grammar refuses exactly where the status says so
-  pub script : (s : Status) (bytes : List ℕ) → IsLeft name (IsStopAnswer budget (Some bytes)) s old new counted out after → ComesWhere status.Script s (HasFault bytes)
-  script s bytes = comes_where name (IsStopAnswer budget (Some bytes)) old new counted out after status.Script s (HasFault bytes) (λ no. no) (λ no. no) says all none
+  pub script_refused : (s : Status) (bytes : List ℕ) → told script ≡ Some (Some bytes) → IsLeft (Stop budget script core) told s old new counted out after → ComesWhere status.Script s (HasFault bytes)
+  script_refused s bytes is = comes (Some bytes) is status.Script s (HasFault bytes) (λ no. no) (λ no. no) says all none
     where
-      says : RefusesWith (IsStopAnswer budget (Some bytes)) status.Script → HasFault bytes
-      says (r, is, inl (fault, why, same)) = (fault, why)
-      says (r, is, inr (other, same)) = let wrong : status.NotBuilt ≡ status.Script = ap status_of (sym same) ∙ is in absurd (cc)
+      says : (r : Refusal) → IsStopRefusal (Some bytes) r → status_of r ≡ status.Script → HasFault bytes
+      says r (inl (fault, why, same)) is = (fault, why)
+      says r (inr (other, same)) is = let wrong : status.NotBuilt ≡ status.Script = ap status_of (sym same) ∙ is in absurd (cc)
 
-      all : HasFault bytes → (r : Refusal) → IsStopAnswer budget (Some bytes) (Refuses r) → status_of r ≡ status.Script
+      all : HasFault bytes → (r : Refusal) → IsStopRefusal (Some bytes) r → status_of r ≡ status.Script
       all refused r (inl (fault, why, same)) = ap status_of same
       all (fault, why) r (inr (other, same)) = absurd (not_both bytes other.program fault other.says why)
 
-      none : HasFault bytes → GivesText (IsStopAnswer budget (Some bytes)) → ⊥
-      none (fault, why) (None, text, is) = is
-      none (fault, why) (Some core, text, (p, grammar, built, stopped)) = not_both bytes p fault grammar why
+      none : HasFault bytes → HoldsProgram (Some bytes) → ⊥
+      none (fault, why) (p, grammar, built) = not_both bytes p fault grammar why
 
   -- it is another program exactly where the status says so
-  pub other_program : (s : Status) (bytes : List ℕ) → IsLeft name (IsStopAnswer budget (Some bytes)) s old new counted out after → ComesWhere status.NotBuilt s (IsOtherProgram bytes)
-  other_program s bytes = comes_where name (IsStopAnswer budget (Some bytes)) old new counted out after status.NotBuilt s (IsOtherProgram bytes) (λ no. no) (λ no. no) says all none
+  pub other_program : (s : Status) (bytes : List ℕ) → told script ≡ Some (Some bytes) → IsLeft (Stop budget script core) told s old new counted out after → ComesWhere status.NotBuilt s (IsOtherProgram bytes)
+  other_program s bytes is = comes (Some bytes) is status.NotBuilt s (IsOtherProgram bytes) (λ no. no) (λ no. no) says all none
     where
-      says : RefusesWith (IsStopAnswer budget (Some bytes)) status.NotBuilt → IsOtherProgram bytes
-      says (r, is, inl (fault, why, same)) = let wrong : status.Script ≡ status.NotBuilt = ap status_of (sym same) ∙ is in absurd (cc)
-      says (r, is, inr (other, same)) = other
+      says : (r : Refusal) → IsStopRefusal (Some bytes) r → status_of r ≡ status.NotBuilt → IsOtherProgram bytes
+      says r (inl (fault, why, same)) is = let wrong : status.Script ≡ status.NotBuilt = ap status_of (sym same) ∙ is in absurd (cc)
+      says r (inr (other, same)) is = other
 
-      all : IsOtherProgram bytes → (r : Refusal) → IsStopAnswer budget (Some bytes) (Refuses r) → status_of r ≡ status.NotBuilt
+      all : IsOtherProgram bytes → (r : Refusal) → IsStopRefusal (Some bytes) r → status_of r ≡ status.NotBuilt
       all other r (inl (fault, why, same)) = absurd (not_both bytes other.program fault other.says why)
       all other r (inr (is, same)) = ap status_of same
 
-      none : IsOtherProgram bytes → GivesText (IsStopAnswer budget (Some bytes)) → ⊥
-      none other (None, text, is) = is
-      none other (Some core, text, (p, grammar, built, stopped)) = other.other (same_built p other.program (AreEqual-from_workload bytes p other.program grammar other.says) built)
+      none : IsOtherProgram bytes → HoldsProgram (Some bytes) → ⊥
+      none other (p, grammar, built) = other.other (same_built p other.program (AreEqual-from_workload bytes p other.program grammar other.says) built)
 
   -- what success leaves
-  pub success : (s : Status) (bytes : List ℕ) → s ≡ status.Success → IsLeft name (IsStopAnswer budget (Some bytes)) s old new counted out after
-      → (p : Program) × (core : List ℕ) × (text : List ℕ) × Grammar bytes p × IsBuilt p × IsStopped p budget core text × (new ≡ holding old core) × (after ≡ put_on out text)
-  success s bytes is left = go (subst (λ (x : Status). IsLeft name (IsStopAnswer budget (Some bytes)) x old new counted out after) is left)
+  pub success : (s : Status) (bytes : List ℕ) → told script ≡ Some (Some bytes) → s ≡ status.Success → IsLeft (Stop budget script core) told s old new counted out after
+      → (p : Program) × (written : List ℕ) × (text : List ℕ) × Grammar bytes p × IsBuilt p × IsStopped p budget written text × (new ≡ holding old written) × (after ≡ put_on out text)
+  success s bytes is done left = go (subst (λ (x : Status). IsLeft (Stop budget script core) told x old new counted out after) done left)
     where
-      go : IsLeft name (IsStopAnswer budget (Some bytes)) status.Success old new counted out after
-          → (p : Program) × (core : List ℕ) × (text : List ℕ) × Grammar bytes p × IsBuilt p × IsStopped p budget core text × (new ≡ holding old core) × (after ≡ put_on out text)
-      go (None, text, is, held, put) = absurd is
-      go (Some core, text, (p, grammar, built, stopped), held, put) = (p, core, text, grammar, built, stopped, held, put)
+      go : IsLeft (Stop budget script core) told status.Success old new counted out after
+          → (p : Program) × (written : List ℕ) × (text : List ℕ) × Grammar bytes p × IsBuilt p × IsStopped p budget written text × (new ≡ holding old written) × (after ≡ put_on out text)
+      go (None, text, answer, held, put) = absurd (stop_answer budget script core told (Some bytes) is (Gives None (Ok text)) answer)
+      go (Some written, text, answer, held, put) = let (p, grammar, built, stopped) = stop_answer budget script core told (Some bytes) is (Gives (Some written) (Ok text)) answer in (p, written, text, grammar, built, stopped, held, put)

@@ -16,7 +16,8 @@ use Rattle.omi_corefile.specs.declared.fault.CoreError.TheVariants as core
 use Rattle.omi_corefile.proofs.FileLaws.{core_unique}
 use Rattle.omi_corefile.proofs.Fronts.{front_enough}
 use Rattle.omi_corefile.proofs.Lengths.{length-spelling_of}
-use Rattle.omi_top.specs.Answer.{Answer, Refuses, Gives, IsAnswered, IsEarly, IsOtherCore, IsIncompatibleCore, IsDamagedCore, IsShowAnswer}
+use Rattle.omi_top.specs.Answer.{Gives, IsAnswered, IsEarly, IsOtherCore, IsIncompatibleCore, IsDamagedCore, IsShowAnswer, IsShowRefusal}
+use Rattle.omi_top.specs.Command.{Show}
 use Rattle.omi_layout.specs.Given.{GivesLayout}
 use Rattle.omi_layout.specs.NoLayout.{GivesNone}
 use Rattle.omi_layout.specs.SymbolTable.{words_of}
@@ -26,7 +27,8 @@ use Rattle.omi_layout.specs.declared.reading.LayoutError.TheVariants as error
 use Rattle.omi_layout.proofs.OneAnswer.{one_layout, one_cause, not_both}
 use Rattle.omi_rep.specs.Plain.{is_plain}
 use Rattle.omi_top.specs.Cores.{one_thread, IsCoreOf, IsImageCore, IsPlainCore, IsOtherShape, IsUnreadCore, LacksTable, IsWrongAt}
-use Rattle.omi_top.specs.Refusal.{refusal_of_core, refusal_of_layout}
+use Rattle.omi_top.specs.Refusal.{refusal_of_core, refusal_of_layout, IsUnread}
+use Rattle.omi_top.specs.declared.refusal.Input.TheVariants as input
 use Rattle.omi_top.specs.declared.refusal.Refusal.{Refusal}
 use Rattle.omi_top.specs.declared.refusal.Refusal.TheVariants as refusal
 
@@ -120,27 +122,27 @@ front_image bytes words p = record { core = p.core; spelled = front_core bytes p
 front_unread : (bytes : List ℕ) (e : LayoutError) → IsUnreadCore (take CORE_FRONT bytes) e → IsUnreadCore bytes e
 front_unread bytes e p = record { words = p.words; image_core = front_image bytes p.words p.image_core; none = p.none }
 
-pub front_answered : (bytes : List ℕ) (answer : Answer) → IsShowAnswer (Some (take CORE_FRONT bytes)) answer → IsShowAnswer (Some bytes) answer
-front_answered bytes (Refuses r) (inl (at, why, refused, same)) = inl (at, why, sym (front_enough bytes) ∙ refused, same)
-front_answered bytes (Refuses r) (inr (inl (inl shape, same))) = inr (inl (inl (record { core = shape.core; spelled = front_core bytes shape.core shape.spelled; other = shape.other }), same))
-front_answered bytes (Refuses r) (inr (inl (inr other, same))) =
+front_refused : (bytes : List ℕ) (r : Refusal) → IsShowRefusal (Some (take CORE_FRONT bytes)) r → IsShowRefusal (Some bytes) r
+front_refused bytes r (inl (at, why, refused, same)) = inl (at, why, sym (front_enough bytes) ∙ refused, same)
+front_refused bytes r (inr (inl (inl shape, same))) = inr (inl (inl (record { core = shape.core; spelled = front_core bytes shape.core shape.spelled; other = shape.other }), same))
+front_refused bytes r (inr (inl (inr other, same))) =
     inr (inl (inr (record { w = other.w; words = other.words; image_core = front_image bytes other.words other.image_core; layout = other.layout; valid = other.valid; other = other.other }), same))
-front_answered bytes (Refuses r) (inr (inr (inl ((e, unread, lacks), same)))) = inr (inr (inl ((e, front_unread bytes e unread, lacks), same)))
-front_answered bytes (Refuses r) (inr (inr (inr (at, (e, unread, wrong), same)))) = inr (inr (inr (at, (e, front_unread bytes e unread, wrong), same)))
-front_answered bytes (Gives None text) (w, words, plain, said) =
-    (w, words, record { image_core = front_image bytes words plain.image_core; layout = plain.layout; valid = plain.valid; plain = plain.plain }, said)
-front_answered bytes (Gives (Some core) text) is = is
+front_refused bytes r (inr (inr (inl ((e, unread, lacks), same)))) = inr (inr (inl ((e, front_unread bytes e unread, lacks), same)))
+front_refused bytes r (inr (inr (inr (at, (e, unread, wrong), same)))) = inr (inr (inr (at, (e, front_unread bytes e unread, wrong), same)))
 
--- the error of reading a core as an answer
-pub core_refused : (bytes : List ℕ) (e : CoreError) → IsFaultOf bytes e → IsShowAnswer (Some bytes) (Refuses (refusal_of_core e)) ⊎ (refusal_of_core e ≡ refusal.OutOfMemory)
+front_reported : (bytes text : List ℕ) → IsShowAnswer (Some (take CORE_FRONT bytes)) (Gives None (Ok text)) → IsShowAnswer (Some bytes) (Gives None (Ok text))
+front_reported bytes text (w, words, plain, said) = (w, words, record { image_core = front_image bytes words plain.image_core; layout = plain.layout; valid = plain.valid; plain = plain.plain }, said)
+
+-- the error of reading a core as a refusal
+pub core_refused : (bytes : List ℕ) (e : CoreError) → IsFaultOf bytes e → IsShowRefusal (Some bytes) (refusal_of_core e) ⊎ (refusal_of_core e ≡ refusal.OutOfMemory)
 core_refused bytes (core.Fault at why) fault = inl (inl (at, why, fault, refl))
 core_refused bytes core.OutOfMemory fault = inr refl
 
 -- and that of reading the layout in its words
-pub layout_refused : (bytes words : List ℕ) (e : LayoutError) → IsImageCore bytes words → GivesNone (words_of words) e → IsShowAnswer (Some bytes) (Refuses (refusal_of_layout e))
+pub layout_refused : (bytes words : List ℕ) (e : LayoutError) → IsImageCore bytes words → GivesNone (words_of words) e → IsShowRefusal (Some bytes) (refusal_of_layout e)
 layout_refused bytes words e image none = answered e (record { words = words; image_core = image; none = none })
   where
-    answered : (f : LayoutError) → IsUnreadCore bytes f → IsShowAnswer (Some bytes) (Refuses (refusal_of_layout f))
+    answered : (f : LayoutError) → IsUnreadCore bytes f → IsShowRefusal (Some bytes) (refusal_of_layout f)
     answered error.NoSymbol unread = inr (inr (inl ((error.NoSymbol, unread, tt), refl)))
     answered (error.Unmapped addr) unread = inr (inr (inl ((error.Unmapped addr, unread, tt), refl)))
     answered (error.Refused addr (Version v)) unread = inr (inr (inl ((error.Refused addr (Version v), unread, tt), refl)))
@@ -149,16 +151,16 @@ layout_refused bytes words e image none = answered e (record { words = words; im
     answered (error.Refused addr (BadArena p)) unread = inr (inr (inr (addr, (error.Refused addr (BadArena p), unread, refl), refl)))
 
 -- the answer, from the bytes that were read
-pub show_answered : (content : Option (List ℕ)) (whole bytes : List ℕ) (result : Result (Vec ℕ) Refusal) (old : Told) → content ≡ Some bytes → whole ≡ take CORE_FRONT bytes
-    → IfOk result (λ text. IsShowAnswer (Some whole) (Gives None text.items)) → IfErr result (λ r. IsShowAnswer (Some whole) (Refuses r) ⊎ (r ≡ refusal.OutOfMemory)) → IsAnswered (IsShowAnswer content) result old old
-show_answered content whole bytes result old is read accepted refused =
-    subst (λ (c : Option (List ℕ)). IsAnswered (IsShowAnswer c) result old old) (sym is) (go result accepted refused)
-  where
-    answered : (answer : Answer) → IsShowAnswer (Some whole) answer → IsShowAnswer (Some bytes) answer
-    answered answer said = front_answered bytes answer (subst (λ (xs : List ℕ). IsShowAnswer (Some xs) answer) read said)
+pub show_answered : (core : List ℕ) (told : List ℕ → Told) (whole bytes : List ℕ) (result : Result (Vec ℕ) Refusal) (old : Told) → told core ≡ Some (Some bytes) → whole ≡ take CORE_FRONT bytes
+    → IfOk result (λ text. IsShowAnswer (Some whole) (Gives None (Ok text.items))) → IfErr result (λ r. IsShowRefusal (Some whole) r ⊎ (r ≡ refusal.OutOfMemory)) → IsAnswered (Show core) told result old old
+show_answered core told whole bytes (Ok text) old is read accepted refused =
+    (None, (Some bytes, is, front_reported bytes text.items (subst (λ (xs : List ℕ). IsShowAnswer (Some xs) (Gives None (Ok text.items))) read accepted)), refl)
+show_answered core told whole bytes (Err r) old is read accepted (inl refuses) =
+    inl (None, (Some bytes, is, front_refused bytes r (subst (λ (xs : List ℕ). IsShowRefusal (Some xs) r) read refuses)), refl)
+show_answered core told whole bytes (Err r) old is read accepted (inr memory) = inr (inl (subst (λ (x : Refusal). IsEarly (Show core) x) (sym memory) tt, refl))
 
-    go : (r : Result (Vec ℕ) Refusal) → IfOk r (λ text. IsShowAnswer (Some whole) (Gives None text.items)) → IfErr r (λ e. IsShowAnswer (Some whole) (Refuses e) ⊎ (e ≡ refusal.OutOfMemory))
-        → IsAnswered (IsShowAnswer (Some bytes)) r old old
-    go (Ok text) said refused = (None, answered (Gives None text.items) said, refl)
-    go (Err r) said (inl refuses) = inl (answered (Refuses r) refuses, refl)
-    go (Err r) said (inr memory) = inr (inl (subst (λ (x : Refusal). IsEarly x) (sym memory) tt, refl))
+-- the core can't be read
+pub show_unread : (core : List ℕ) (told : List ℕ → Told) (content : Option (List ℕ)) (r : Refusal) (old : Told) → told core ≡ Some content → ((r ≡ refusal.NoFile input.Core) × (content ≡ None)) ⊎ IsUnread input.Core r → IsAnswered (Show core) told (Err r) old old
+show_unread core told content r old is (inl (missing, none)) = inl (None, (content, is, subst (λ (c : Option (List ℕ)). IsShowRefusal c r) (sym none) missing), refl)
+show_unread core told content r old is (inr (inl failed)) = inr (inl (subst (λ (x : Refusal). IsEarly (Show core) x) (sym failed) tt, refl))
+show_unread core told content r old is (inr (inr memory)) = inr (inl (subst (λ (x : Refusal). IsEarly (Show core) x) (sym memory) tt, refl))

@@ -1,52 +1,73 @@
 -- What a status says of the answer to a command, and so where each refusal's status comes.
-use Rattle.std.proofs.Common.{◌≡◌, ◌⊎◌, inl, inr, ℕ, List, Option, sym, ◌∙◌, subst}
-use Rattle.std.specs.Prelude.{⊤}
+use Rattle.std.proofs.Common.{◌≡◌, ◌⊎◌, inl, inr, ℕ, List, Option, Some, None, Ok, Err, sym, ◌∙◌, subst}
+use Rattle.std.specs.Prelude.{⊤, Result}
 use Rattle.omi_outside.specs.Outside.{Told}
 use Rattle.omi_outside.specs.declared.status.Status.{Status}
 use Rattle.omi_outside.specs.declared.status.Status.TheVariants as status
 use Rattle.omi_top.specs.declared.refusal.Refusal.{Refusal}
-use Rattle.omi_top.specs.Answer.{Answer, Refuses, Gives, IsLeft, IsFaultStatus, ComesWhere}
+use Rattle.omi_top.specs.Answer.{Answer, Gives, IsAnswer, IsLeft, IsPartlyDone, IsFaultStatus, ComesWhere}
+use Rattle.omi_top.specs.Command.{Command}
 use Rattle.omi_top.specs.Refusal.{status_of}
 
--- the command had an answer with a text: it is put, or the core or the output failed
-abbrev pub IsTextStatus : Status → Type 0
-IsTextStatus status.Success = ⊤
-IsTextStatus status.WriteFault = ⊤
-IsTextStatus other = ⊥
+-- an answer writes a core or says a text
+abbrev pub DoesMore : Answer → Type 0
+DoesMore (Gives None (Err r)) = ⊥
+DoesMore answer = ⊤
 
--- an answer of a refusal with this status, and an answer with a text
-abbrev pub RefusesWith : (Answer → Type 0) → Status → Type 0
-RefusesWith P s = (r : Refusal) × (status_of r ≡ s) × P (Refuses r)
+-- the command had such an answer: its text is put, or the core or the output failed
+abbrev pub IsDoneStatus : Status → Type 0
+IsDoneStatus status.Success = ⊤
+IsDoneStatus status.WriteFault = ⊤
+IsDoneStatus other = ⊥
 
-abbrev pub GivesText : (Answer → Type 0) → Type 0
-GivesText P = (core : Option (List ℕ)) × (text : List ℕ) × P (Gives core text)
+-- such an answer, and one that says a refusal with this status
+abbrev pub GivesMore : (Answer → Type 0) → Type 0
+GivesMore P = (answer : Answer) × DoesMore answer × P answer
 
-module _ (name : List ℕ) (P : Answer → Type 0) (old new : Told) (counted : Type 0) (out after : Option (List ℕ)) where
-  -- a fault, a refusal, or a text
-  pub kind : (s : Status) → IsLeft name P s old new counted out after → IsFaultStatus s ⊎ (RefusesWith P s ⊎ (GivesText P × IsTextStatus s))
-  kind status.Success (core, text, is, held, put) = inr (inr ((core, text, is), tt))
-  kind status.Usage (r, is, answer, same, said) = inr (inl (r, is, answer))
-  kind status.NoFile (r, is, answer, same, said) = inr (inl (r, is, answer))
+abbrev pub SaysWith : (Answer → Type 0) → Status → Type 0
+SaysWith P s = (r : Refusal) × (status_of r ≡ s) × (core : Option (List ℕ)) × P (Gives core (Err r))
+
+-- a text is more than a refusal, whether a core is written or not
+text_more : (core : Option (List ℕ)) (text : List ℕ) → DoesMore (Gives core (Ok text))
+text_more None text = tt
+text_more (Some core) text = tt
+
+-- one content is told of a name
+pub one_content : (x : Told) (a b : Option (List ℕ)) → x ≡ Some a → x ≡ Some b → a ≡ b
+one_content x a b first second = cc
+
+module _ (command : Command) (told : List ℕ → Told) (old new : Told) (counted : Type 0) (out after : Option (List ℕ)) where
+  partly_more : IsPartlyDone command told old new out after → GivesMore (IsAnswer command told)
+  partly_more (inl ((core, says, is, cut), same)) = (Gives (Some core) says, tt, is)
+  partly_more (inr (core, text, is, held, cut)) = (Gives core (Ok text), text_more core text, is)
+
+  -- a fault, a refusal, or more
+  pub kind : (s : Status) → IsLeft command told s old new counted out after → IsFaultStatus s ⊎ (SaysWith (IsAnswer command told) s ⊎ (GivesMore (IsAnswer command told) × IsDoneStatus s))
+  kind status.Success (core, text, is, held, put) = inr (inr ((Gives core (Ok text), text_more core text, is), tt))
+  kind status.Usage (r, is, core, answer, held, said) = inr (inl (r, is, core, answer))
+  kind status.NoFile (r, is, core, answer, held, said) = inr (inl (r, is, core, answer))
   kind status.ReadFault left = inl tt
-  kind status.WriteFault (core, text, is, left) = inr (inr ((core, text, is), tt))
-  kind status.Script (r, is, answer, same, said) = inr (inl (r, is, answer))
-  kind status.Core (r, is, answer, same, said) = inr (inl (r, is, answer))
-  kind status.Damaged (r, is, answer, same, said) = inr (inl (r, is, answer))
-  kind status.Incompatible (r, is, answer, same, said) = inr (inl (r, is, answer))
+  kind status.WriteFault left = inr (inr (partly_more left, tt))
+  kind status.Script (r, is, core, answer, held, said) = inr (inl (r, is, core, answer))
+  kind status.Core (r, is, core, answer, held, said) = inr (inl (r, is, core, answer))
+  kind status.Damaged (r, is, core, answer, held, said) = inr (inl (r, is, core, answer))
+  kind status.Incompatible (r, is, core, answer, held, said) = inr (inl (r, is, core, answer))
   kind status.OutOfMemory left = inl tt
-  kind status.NotBuilt (r, is, answer, same, said) = inr (inl (r, is, answer))
+  kind status.NotBuilt (r, is, core, answer, held, said) = inr (inl (r, is, core, answer))
 
-  -- The status of a refusal comes exactly where a fact holds: such a refusal says the fact, and where the fact holds, each refusal has this status and no text is given.
-  pub comes_where : (refused s : Status) (fact : Type 0) → (IsFaultStatus refused → ⊥) → (IsTextStatus refused → ⊥)
-      → (RefusesWith P refused → fact) → (fact → (r : Refusal) → P (Refuses r) → status_of r ≡ refused) → (fact → GivesText P → ⊥)
-      → IsLeft name P s old new counted out after → ComesWhere refused s fact
-  comes_where refused s fact no_fault no_text says all none left = (from, to)
+  -- The status of a refusal comes exactly where a fact holds, where R is what the command's refusals say and M what its other
+  -- answers say: a refusal with this status says the fact, and where the fact holds, each refusal has this status and there is no other answer.
+  pub comes_where : (R : Refusal → Type 0) (M : Type 0) → ((core : Option (List ℕ)) (r : Refusal) → IsAnswer command told (Gives core (Err r)) → R r) → ((a : Answer) → DoesMore a → IsAnswer command told a → M)
+      → (refused s : Status) (fact : Type 0) → (IsFaultStatus refused → ⊥) → (IsDoneStatus refused → ⊥)
+      → ((r : Refusal) → R r → status_of r ≡ refused → fact) → (fact → (r : Refusal) → R r → status_of r ≡ refused) → (fact → M → ⊥)
+      → IsLeft command told s old new counted out after → ComesWhere refused s fact
+  comes_where R M refusals others refused s fact no_fault no_text says all none left = (from, to)
     where
       from : s ≡ refused → fact
       from is =
-          elim (kind refused (subst (λ (x : Status). IsLeft name P x old new counted out after) is left)) [
+          elim (kind refused (subst (λ (x : Status). IsLeft command told x old new counted out after) is left)) [
             | inl fault ↦ absurd (no_fault fault)
-            | inr (inl refuses) ↦ says refuses
+            | inr (inl (r, same, core, answer)) ↦ says r (refusals core r answer) same
             | inr (inr gives) ↦ absurd (no_text gives.1)
           ]
 
@@ -54,6 +75,6 @@ module _ (name : List ℕ) (P : Answer → Type 0) (old new : Told) (counted : T
       to holds =
           elim (kind s left) [
             | inl fault ↦ inr fault
-            | inr (inl (r, is, answer)) ↦ inl (sym is ∙ all holds r answer)
-            | inr (inr gives) ↦ absurd (none holds gives.0)
+            | inr (inl (r, same, core, answer)) ↦ inl (sym same ∙ all holds r (refusals core r answer))
+            | inr (inr ((answer, more, is), done)) ↦ absurd (none holds (others answer more is))
           ]

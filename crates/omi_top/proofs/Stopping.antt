@@ -35,13 +35,15 @@ use Rattle.omi_core.specs.Schedules.{threads_by}
 use Rattle.omi_core.specs.Steps.{AreStepsOf, events_behind, made_of_steps, threads_of}
 use Rattle.omi_core.proofs.History.{made_length}
 use Rattle.omi_top.specs.declared.limits.TheConstants.{SCRIPT_FRONT}
-use Rattle.omi_top.specs.Answer.{Answer, Refuses, Gives, IsAnswered, IsEarly, IsLate, IsStopAnswer, IsStopped, IsUnwritten, IsOfCore}
+use Rattle.omi_top.specs.Answer.{Gives, IsAnswer, IsAnswered, IsEarly, IsLate, IsStopRefusal, IsStopped, IsUnwritten, IsOfCore}
 use Rattle.omi_top.specs.Built.{IsBuilt}
+use Rattle.omi_top.specs.Command.{Stop as StopCommand}
 use Rattle.omi_top.specs.Cores.{IsCoreOf}
 use Rattle.omi_top.specs.Lines.{run_text}
 use Rattle.omi_top.specs.Run.{after_steps, thread_ids}
-use Rattle.omi_top.specs.Refusal.{refusal_of_write, refusal_of_script, status_of}
+use Rattle.omi_top.specs.Refusal.{refusal_of_write, refusal_of_script, status_of, IsReadFault, IsUnread}
 use Rattle.omi_top.proofs.PlainCores.{plain, run_length}
+use Rattle.omi_top.specs.declared.refusal.Input.TheVariants as input
 use Rattle.omi_top.specs.declared.refusal.Refusal.{Refusal}
 use Rattle.omi_top.specs.declared.refusal.Refusal.TheVariants as refusal
 
@@ -67,49 +69,47 @@ front_verdict bytes = go (nat_le (length bytes) SCRIPT_FRONT) refl
 front_grammar : (bytes : List ℕ) (p : Program) → Grammar (take SCRIPT_FRONT bytes) p → Grammar bytes p
 front_grammar bytes p g = record { state = g.state; says = sym (front_verdict bytes) ∙ g.says; program = g.program }
 
--- the answer to the first 65,537 bytes is the answer to the text
-front_answered : (budget : ℕ) (bytes : List ℕ) (answer : Answer) → IsStopAnswer budget (Some (take SCRIPT_FRONT bytes)) answer → IsStopAnswer budget (Some bytes) answer
-front_answered budget bytes (Refuses r) (inl (fault, why, same)) = inl (fault, record { says = sym (front_verdict bytes) ∙ why.says }, same)
-front_answered budget bytes (Refuses r) (inr (other, same)) = inr (record { program = other.program; says = front_grammar bytes other.program other.says; other = other.other }, same)
-front_answered budget bytes (Gives None text) is = is
-front_answered budget bytes (Gives (Some core) text) (p, grammar, built, stopped) = (p, front_grammar bytes p grammar, built, stopped)
+-- the refusal of the first 65,537 bytes is the refusal of the text
+front_refused : (bytes : List ℕ) (r : Refusal) → IsStopRefusal (Some (take SCRIPT_FRONT bytes)) r → IsStopRefusal (Some bytes) r
+front_refused bytes r (inl (fault, why, same)) = inl (fault, record { says = sym (front_verdict bytes) ∙ why.says }, same)
+front_refused bytes r (inr (other, same)) = inr (record { program = other.program; says = front_grammar bytes other.program other.says; other = other.other }, same)
 
--- the answer, from the bytes that were read
-read_answered : (budget : ℕ) (content : Option (List ℕ)) (whole bytes : List ℕ) (answer : Answer) → content ≡ Some bytes → whole ≡ take SCRIPT_FRONT bytes → IsStopAnswer budget (Some whole) answer → IsStopAnswer budget content answer
-read_answered budget content whole bytes answer is read said =
-    subst (λ (c : Option (List ℕ)). IsStopAnswer budget c answer) (sym is) (front_answered budget bytes answer (subst (λ (xs : List ℕ). IsStopAnswer budget (Some xs) answer) read said))
-
--- the error of reading a script as an answer
-pub script_refused : (bytes : List ℕ) (e : ScriptError) → IfFault (Refused bytes) e → (budget : ℕ) → IsStopAnswer budget (Some bytes) (Refuses (refusal_of_script e)) ⊎ (refusal_of_script e ≡ refusal.OutOfMemory)
-script_refused bytes (error.Fault fault) why budget = inl (inl (fault, why, refl))
-script_refused bytes error.OutOfMemory why budget = inr refl
-
--- the script is refused, or memory ran out
-pub refused_answered : (budget : ℕ) (content : Option (List ℕ)) (whole bytes : List ℕ) (r : Refusal) (old : Told) → content ≡ Some bytes → whole ≡ take SCRIPT_FRONT bytes
-    → IsStopAnswer budget (Some whole) (Refuses r) ⊎ (r ≡ refusal.OutOfMemory) → IsAnswered (IsStopAnswer budget content) (Err r) old old
-refused_answered budget content whole bytes r old is read (inl refuses) = inl (read_answered budget content whole bytes (Refuses r) is read refuses, refl)
-refused_answered budget content whole bytes r old is read (inr same) = inr (inl (subst (λ (x : Refusal). IsEarly x) (sym same) tt, refl))
-
--- the answer of a program's run
-stop_answer : (budget : ℕ) (content : Option (List ℕ)) (whole bytes core text : List ℕ) (p : Program) → content ≡ Some bytes → whole ≡ take SCRIPT_FRONT bytes
-    → Grammar whole p → IsBuilt p → IsStopped p budget core text → IsStopAnswer budget content (Gives (Some core) text)
-stop_answer budget content whole bytes core text p is read grammar built stopped = read_answered budget content whole bytes (Gives (Some core) text) is read (p, grammar, built, stopped)
+-- the error of reading a script as a refusal
+pub script_refused : (bytes : List ℕ) (e : ScriptError) → IfFault (Refused bytes) e → IsStopRefusal (Some bytes) (refusal_of_script e) ⊎ (refusal_of_script e ≡ refusal.OutOfMemory)
+script_refused bytes (error.Fault fault) why = inl (inl (fault, why, refl))
+script_refused bytes error.OutOfMemory why = inr refl
 
 late : (r : RefusedWrite) → IsLate (refusal_of_write r)
 late refused.Failed = tt
 late refused.OutOfMemory = tt
 
--- the core is partly written
-pub partly_answered : (budget : ℕ) (content : Option (List ℕ)) (whole bytes core text : List ℕ) (p : Program) (r : RefusedWrite) (old new : Told) → content ≡ Some bytes → whole ≡ take SCRIPT_FRONT bytes
-    → Grammar whole p → IsBuilt p → IsStopped p budget core text → IsCut old new core → IsAnswered (IsStopAnswer budget content) (Err (refusal_of_write r)) old new
-partly_answered budget content whole bytes core text p r old new is read grammar built stopped partly =
-    inr (inr (late r, Some core, text, stop_answer budget content whole bytes core text p is read grammar built stopped, partly))
+module _ (budget : ℕ) (script core : List ℕ) (told : List ℕ → Told) where
+  -- the script can't be read
+  pub unread_answered : (content : Option (List ℕ)) (r : Refusal) (old : Told) → told script ≡ Some content → ((r ≡ refusal.NoFile input.Script) × (content ≡ None)) ⊎ IsUnread input.Script r
+      → IsAnswered (StopCommand budget script core) told (Err r) old old
+  unread_answered content r old is (inl (missing, none)) = inl (None, (content, is, subst (λ (c : Option (List ℕ)). IsStopRefusal c r) (sym none) missing), refl)
+  unread_answered content r old is (inr (inl failed)) = inr (inl (subst (λ (x : Refusal). IsEarly (StopCommand budget script core) x) (sym failed) tt, refl))
+  unread_answered content r old is (inr (inr memory)) = inr (inl (subst (λ (x : Refusal). IsEarly (StopCommand budget script core) x) (sym memory) tt, refl))
 
--- the core is written, and the text is handed up
-pub done_answered : (budget : ℕ) (content : Option (List ℕ)) (whole bytes core : List ℕ) (text : Vec ℕ) (p : Program) (old new : Told) → content ≡ Some bytes → whole ≡ take SCRIPT_FRONT bytes
-    → Grammar whole p → IsBuilt p → IsStopped p budget core text.items → new ≡ holding old core → IsAnswered (IsStopAnswer budget content) (Ok text) old new
-done_answered budget content whole bytes core text p old new is read grammar built stopped held =
-    (Some core, stop_answer budget content whole bytes core text.items p is read grammar built stopped, held)
+  module _ (content : Option (List ℕ)) (is : told script ≡ Some content) (whole bytes : List ℕ) (holds : content ≡ Some bytes) (read : whole ≡ take SCRIPT_FRONT bytes) where
+    -- the script is refused, or memory ran out
+    pub refused_answered : (r : Refusal) (old : Told) → IsStopRefusal (Some whole) r ⊎ (r ≡ refusal.OutOfMemory) → IsAnswered (StopCommand budget script core) told (Err r) old old
+    refused_answered r old (inl refuses) = inl (None, (Some bytes, is ∙ ap Some holds, front_refused bytes r (subst (λ (xs : List ℕ). IsStopRefusal (Some xs) r) read refuses)), refl)
+    refused_answered r old (inr memory) = inr (inl (subst (λ (x : Refusal). IsEarly (StopCommand budget script core) x) (sym memory) tt, refl))
+
+    -- the answer of a program's run
+    run_answer : (written text : List ℕ) (p : Program) → Grammar whole p → IsBuilt p → IsStopped p budget written text → IsAnswer (StopCommand budget script core) told (Gives (Some written) (Ok text))
+    run_answer written text p grammar built stopped = (Some bytes, is ∙ ap Some holds, (p, front_grammar bytes p (subst (λ (xs : List ℕ). Grammar xs p) read grammar), built, stopped))
+
+    -- the core is partly written
+    pub partly_answered : (written text : List ℕ) (p : Program) (r : RefusedWrite) (old new : Told) → Grammar whole p → IsBuilt p → IsStopped p budget written text → IsCut old new written
+        → IsAnswered (StopCommand budget script core) told (Err (refusal_of_write r)) old new
+    partly_answered written text p r old new grammar built stopped cut = inr (inr (late r, (written, Ok text, run_answer written text p grammar built stopped, cut)))
+
+    -- the core is written, and the text is handed up
+    pub done_answered : (written : List ℕ) (text : Vec ℕ) (p : Program) (old new : Told) → Grammar whole p → IsBuilt p → IsStopped p budget written text.items → new ≡ holding old written
+        → IsAnswered (StopCommand budget script core) told (Ok text) old new
+    done_answered written text p old new grammar built stopped held = (Some written, run_answer written text.items p grammar built stopped, held)
 
 -- ---- a run that was made
 
@@ -175,26 +175,27 @@ made_stopped w p budget first last why ids core text valid family opens (added, 
 -- a refusal of the words, or a fault of files
 abbrev is_outside : Refusal → Bool
 is_outside refusal.Usage = true
-is_outside refusal.ReadFault = true
+is_outside (refusal.ReadFault read) = true
 is_outside refusal.WriteFault = true
 is_outside r = false
+
+-- a script's refusal is none of these
+inside : (bytes : List ℕ) (r : Refusal) → IsStopRefusal (Some bytes) r ⊎ (r ≡ refusal.OutOfMemory) → is_outside r ≡ false
+inside bytes r (inl (inl (fault, why, same))) = ap is_outside same
+inside bytes r (inl (inr (other, same))) = ap is_outside same
+inside bytes r (inr same) = ap is_outside same
 
 abbrev ends_outside : Result (Vec ℕ) Refusal → Bool
 ends_outside (Ok text) = false
 ends_outside (Err r) = is_outside r
 
--- a script's refusal is none of these
-pub never_outside : (budget : ℕ) (bytes : List ℕ) (r s : Refusal) → IsStopAnswer budget (Some bytes) (Refuses r) ⊎ (r ≡ refusal.OutOfMemory) → is_outside s ≡ true → (let ended : Refusal → Result (Vec ℕ) Refusal = λ x. Err x in ended r ≡ ended s) → ⊥
-never_outside budget bytes r s said outside is =
-    let same : is_outside r ≡ is_outside s = ap ends_outside is in
-    let inside : is_outside r ≡ false = kind said in
-    let both : false ≡ true = sym inside ∙ same ∙ outside in
-    cc both
-  where
-    kind : IsStopAnswer budget (Some bytes) (Refuses r) ⊎ (r ≡ refusal.OutOfMemory) → is_outside r ≡ false
-    kind (inl (inl (fault, why, same))) = ap is_outside same
-    kind (inl (inr (other, same))) = ap is_outside same
-    kind (inr same) = ap is_outside same
+pub never_outside : (bytes : List ℕ) (r s : Refusal) → IsStopRefusal (Some bytes) r ⊎ (r ≡ refusal.OutOfMemory) → is_outside s ≡ true → (let ended : Refusal → Result (Vec ℕ) Refusal = λ x. Err x in ended r ≡ ended s) → ⊥
+never_outside bytes r s said outside is = let both : false ≡ true = sym (inside bytes r said) ∙ ap ends_outside is ∙ outside in cc both
+
+pub never_read_fault : (bytes : List ℕ) (r : Refusal) → IsStopRefusal (Some bytes) r ⊎ (r ≡ refusal.OutOfMemory) → IsReadFault r → ⊥
+never_read_fault bytes r (inl (inl (fault, why, same))) is = subst (λ (x : Refusal). IsReadFault x) same is
+never_read_fault bytes r (inl (inr (other, same))) is = subst (λ (x : Refusal). IsReadFault x) same is
+never_read_fault bytes r (inr same) is = subst (λ (x : Refusal). IsReadFault x) same is
 
 -- what a refused write is handed on as: never a refusal of the words or a fault of reading, and a fault of writing where the write failed
 abbrev pub handed_on : RefusedWrite → Result (Vec ℕ) Refusal
@@ -204,9 +205,9 @@ pub never_usage : (e : RefusedWrite) → handed_on e ≡ Err refusal.Usage → �
 never_usage refused.Failed is = cc
 never_usage refused.OutOfMemory is = cc
 
-pub never_read_fault : (e : RefusedWrite) → handed_on e ≡ Err refusal.ReadFault → ⊥
-never_read_fault refused.Failed is = cc
-never_read_fault refused.OutOfMemory is = cc
+pub write_not_read : (e : RefusedWrite) → IsReadFault (refusal_of_write e) → ⊥
+write_not_read refused.Failed is = is
+write_not_read refused.OutOfMemory is = is
 
 pub write_failed : (e : RefusedWrite) → handed_on e ≡ Err refusal.WriteFault → e ≡ refused.Failed
 write_failed refused.Failed is = refl
@@ -218,10 +219,10 @@ never_unwritten refused.Failed unwritten = unwritten
 never_unwritten refused.OutOfMemory unwritten = unwritten
 
 -- no refusal of `stop` is one of a core
-pub never_of_core : (budget : ℕ) (bytes : List ℕ) (r : Refusal) → IsStopAnswer budget (Some bytes) (Refuses r) ⊎ (r ≡ refusal.OutOfMemory) → IsOfCore (status_of r) → ⊥
-never_of_core budget bytes r (inl (inl (fault, why, same))) is = subst (λ (x : Refusal). IsOfCore (status_of x)) same is
-never_of_core budget bytes r (inl (inr (other, same))) is = subst (λ (x : Refusal). IsOfCore (status_of x)) same is
-never_of_core budget bytes r (inr same) is = subst (λ (x : Refusal). IsOfCore (status_of x)) same is
+pub never_of_core : (bytes : List ℕ) (r : Refusal) → IsStopRefusal (Some bytes) r ⊎ (r ≡ refusal.OutOfMemory) → IsOfCore (status_of r) → ⊥
+never_of_core bytes r (inl (inl (fault, why, same))) is = subst (λ (x : Refusal). IsOfCore (status_of x)) same is
+never_of_core bytes r (inl (inr (other, same))) is = subst (λ (x : Refusal). IsOfCore (status_of x)) same is
+never_of_core bytes r (inr same) is = subst (λ (x : Refusal). IsOfCore (status_of x)) same is
 
 pub write_not_of_core : (r : RefusedWrite) → IsOfCore (status_of (refusal_of_write r)) → ⊥
 write_not_of_core refused.Failed is = is

@@ -22,9 +22,11 @@ use Rattle.omi_core.specs.declared.entry.Entry.{Entry}
 use Rattle.omi_core.specs.declared.stop.End.{End}
 use Rattle.omi_core.specs.Steps.{events_behind}
 use Rattle.omi_top.specs.Built.{IsBuilt}
+use Rattle.omi_top.specs.declared.refusal.Input.{Input}
+use Rattle.omi_top.specs.declared.refusal.Input.TheVariants as input
 use Rattle.omi_top.specs.declared.refusal.Refusal.{Refusal}
 use Rattle.omi_top.specs.declared.refusal.Refusal.TheVariants as refusal
-use Rattle.omi_top.specs.Command.{Command, Stop, Show, Faulty}
+use Rattle.omi_top.specs.Command.{Command, Stop, Show, Faulty, Reads}
 use Rattle.omi_text.specs.Report.{report}
 use Rattle.omi_top.specs.Cores.{one_thread, IsCoreOf, IsPlainCore, IsOtherImage, IsOtherShape, IsUnreadCore, LacksTable, IsWrongAt}
 use Rattle.omi_top.specs.Lines.{run_text}
@@ -47,10 +49,10 @@ pub record IsStopped (p : Program) (budget : ℕ) (core text : List ℕ) : Type 
       → IsPlainCore core w words
   pub text_is : text ≡ run_text (events_behind 0 entries) (length entries) end
 
--- the answer to a command: a refusal, or the bytes of the core that it writes, if it writes one, and a text
+-- The answer to a command: the bytes of the core that it writes, if it writes one, and what it says, a text or a refusal. So a command
+-- can write a core and then refuse what it reads.
 pub data Answer : Type 0 where
-  Refuses : (refusal : Refusal) → Answer
-  Gives : (core : Option (List ℕ)) (text : List ℕ) → Answer
+  Gives : (core : Option (List ℕ)) (says : Result (List ℕ) Refusal) → Answer
 
 -- a text is a program, and none that `stop` runs yet
 pub record IsOtherProgram (bytes : List ℕ) : Type 0 where
@@ -58,16 +60,19 @@ pub record IsOtherProgram (bytes : List ℕ) : Type 0 where
   pub says : Grammar bytes program
   pub other : IsBuilt program → ⊥
 
--- an answer of `stop`, by the content of the script's file: none, a text that the grammar refuses, another program, or one that is run
-abbrev pub IsStopAnswer : ℕ → Option (List ℕ) → Answer → Type 0
-IsStopAnswer budget None (Refuses r) = r ≡ refusal.NoFile
-IsStopAnswer budget None (Gives core text) = ⊥
-IsStopAnswer budget (Some bytes) (Refuses r) =
+-- why `stop` refuses, by the content of the script's file: there is none, the grammar refuses its text, or it is another program
+abbrev pub IsStopRefusal : Option (List ℕ) → Refusal → Type 0
+IsStopRefusal None r = r ≡ refusal.NoFile input.Script
+IsStopRefusal (Some bytes) r =
     ((fault : ScriptFault) × Refused bytes fault × (r ≡ refusal.Script fault))
     ⊎ (IsOtherProgram bytes × (r ≡ refusal.NotBuilt))
-IsStopAnswer budget (Some bytes) (Gives None text) = ⊥
-IsStopAnswer budget (Some bytes) (Gives (Some core) text) = (p : Program) × Grammar bytes p
+
+-- an answer of `stop`, by the content of the script's file: a refusal alone, or the core and the text of a run of its program
+abbrev pub IsStopAnswer : ℕ → Option (List ℕ) → Answer → Type 0
+IsStopAnswer budget content (Gives None (Err r)) = IsStopRefusal content r
+IsStopAnswer budget (Some bytes) (Gives (Some core) (Ok text)) = (p : Program) × Grammar bytes p
     × IsBuilt p × IsStopped p budget core text
+IsStopAnswer budget content answer = ⊥
 
 -- a file is a core, and none that `show` reads yet
 abbrev pub IsOtherCore : List ℕ → Type 0
@@ -86,55 +91,64 @@ abbrev pub IsReportOf : List ℕ → List ℕ → List ℕ → Type 0
 IsReportOf w words text = (v : View) × (look_view w (words_of words) one_thread ≡ Ok v)
     × (text ≡ report v)
 
--- an answer of `show`, by the content of the core's file: none, bytes that are no core, another core, one that gives no layout, or a plain core
-abbrev pub IsShowAnswer : Option (List ℕ) → Answer → Type 0
-IsShowAnswer None (Refuses r) = r ≡ refusal.NoFile
-IsShowAnswer None (Gives core text) = ⊥
-IsShowAnswer (Some bytes) (Refuses r) =
+-- why `show` refuses, by the content of the core's file: there is none, its bytes are no core, it is another core, or one that gives no layout
+abbrev pub IsShowRefusal : Option (List ℕ) → Refusal → Type 0
+IsShowRefusal None r = r ≡ refusal.NoFile input.Core
+IsShowRefusal (Some bytes) r =
     ((at : ℕ) × (why : CoreFault) × CoreRefused bytes at why × (r ≡ refusal.Core at why))
     ⊎ ((IsOtherCore bytes × (r ≡ refusal.NotBuilt))
     ⊎ ((IsIncompatibleCore bytes × (r ≡ refusal.Incompatible))
     ⊎ ((at : ℕ) × IsDamagedCore bytes at × (r ≡ refusal.Damaged at))))
-IsShowAnswer (Some bytes) (Gives None text) = (w : List ℕ) × (words : List ℕ)
+
+-- an answer of `show`, by the content of the core's file: a refusal, or the report of a plain core
+abbrev pub IsShowAnswer : Option (List ℕ) → Answer → Type 0
+IsShowAnswer content (Gives None (Err r)) = IsShowRefusal content r
+IsShowAnswer (Some bytes) (Gives None (Ok text)) = (w : List ℕ) × (words : List ℕ)
     × IsPlainCore bytes w words × IsReportOf w words text
-IsShowAnswer (Some bytes) (Gives (Some core) text) = ⊥
+IsShowAnswer content answer = ⊥
 
--- an answer of a command, by the content of the file that it reads
-abbrev pub IsAnswer : Command → Option (List ℕ) → Answer → Type 0
-IsAnswer (Stop budget script core) content answer = IsStopAnswer budget content answer
-IsAnswer (Show core) content answer = IsShowAnswer content answer
-IsAnswer Faulty content (Refuses r) = r ≡ refusal.Usage
-IsAnswer Faulty content (Gives core text) = ⊥
+-- the content of each file that a command reads is told
+abbrev pub AreTold : Command → (List ℕ → Told) → Type 0
+AreTold (Stop budget script core) told = (content : Option (List ℕ)) × (told script ≡ Some content)
+AreTold (Show core) told = (content : Option (List ℕ)) × (told core ≡ Some content)
+AreTold Faulty told = ⊤
 
--- a fault before anything is written, and one while the core is written
-abbrev pub IsEarly : Refusal → Type 0
-IsEarly refusal.ReadFault = ⊤
-IsEarly refusal.OutOfMemory = ⊤
-IsEarly r = ⊥
+-- an answer of a command, by what is told of the files that it reads
+abbrev pub IsAnswer : Command → (List ℕ → Told) → Answer → Type 0
+IsAnswer (Stop budget script core) told answer = (content : Option (List ℕ))
+    × (told script ≡ Some content) × IsStopAnswer budget content answer
+IsAnswer (Show core) told answer = (content : Option (List ℕ)) × (told core ≡ Some content)
+    × IsShowAnswer content answer
+IsAnswer Faulty told answer = answer ≡ Gives None (Err refusal.Usage)
+
+-- a fault before anything is written, of a file that the command reads or of memory; and one while the core is written
+abbrev pub IsEarly : Command → Refusal → Type 0
+IsEarly command (refusal.ReadFault read) = Reads command read
+IsEarly command refusal.OutOfMemory = ⊤
+IsEarly command r = ⊥
 
 abbrev pub IsLate : Refusal → Type 0
 IsLate refusal.WriteFault = ⊤
 IsLate refusal.OutOfMemory = ⊤
 IsLate r = ⊥
 
--- the file holds what a command writes, or is as before or holds a front of that which is not all. A command that writes nothing leaves it.
+-- the file holds what a command writes; a command that writes nothing leaves it
 abbrev pub Holds : Option (List ℕ) → Told → Told → Type 0
 Holds None old new = new ≡ old
 Holds (Some core) old new = new ≡ holding old core
 
-abbrev pub HoldsPart : Option (List ℕ) → Told → Told → Type 0
-HoldsPart None old new = new ≡ old
-HoldsPart (Some core) old new = IsCut old new core
+-- an answer's core is not written to its end: the file is as before, or holds a front of the core that is not all
+abbrev pub IsHalfWritten : Command → (List ℕ → Told) → Told → Told → Type 0
+IsHalfWritten command told old new = (core : List ℕ) × (says : Result (List ℕ) Refusal)
+    × IsAnswer command told (Gives (Some core) says) × IsCut old new core
 
--- What a command gave, and what it left of the file that it writes: the answer and the core; the answer's refusal; or a fault, before the core or within it.
-abbrev pub IsAnswered : (Answer → Type 0) → Result (Vec ℕ) Refusal → Told → Told → Type 0
-IsAnswered P (Ok text) old new = (core : Option (List ℕ)) × P (Gives core text.items)
-    × Holds core old new
-IsAnswered P (Err r) old new =
-    (P (Refuses r) × (new ≡ old))
-    ⊎ ((IsEarly r × (new ≡ old))
-    ⊎ (IsLate r × (core : Option (List ℕ)) × (text : List ℕ) × P (Gives core text)
-    × HoldsPart core old new))
+-- What a command gave, and what it left of the file that it writes: what an answer says and its core; or a fault, before the core or within it.
+abbrev pub IsAnswered : Command → (List ℕ → Told) → Result (Vec ℕ) Refusal → Told → Told → Type 0
+IsAnswered command told (Ok text) old new = (core : Option (List ℕ))
+    × IsAnswer command told (Gives core (Ok text.items)) × Holds core old new
+IsAnswered command told (Err r) old new =
+    ((core : Option (List ℕ)) × IsAnswer command told (Gives core (Err r)) × Holds core old new)
+    ⊎ ((IsEarly command r × (new ≡ old)) ⊎ (IsLate r × IsHalfWritten command told old new))
 
 -- a sink's count of faults rose, or its count of puts that were refused for want of memory
 abbrev pub IsCounted : ℕ → ℕ → ℕ → ℕ → Type 0
@@ -145,45 +159,42 @@ abbrev pub IsSaid : Option (List ℕ) → Type 0 → Option (List ℕ) → Optio
 IsSaid None counted old new = new ≡ old
 IsSaid (Some line) counted old new = (new ≡ put_on old line) ⊎ ((new ≡ old) × counted)
 
--- the file and the output after a fault: an answer's core is partly written and nothing put, or the core is whole and a front of its text put, which is not all
-abbrev pub IsPartlyDone : (Answer → Type 0) → Told → Told → Option (List ℕ) → Option (List ℕ)
+-- the file and the output after a fault: an answer's core is not written to its end and nothing put, or the core is whole and a front of the answer's text put, which is not all
+abbrev pub IsPartlyDone : Command → (List ℕ → Told) → Told → Told → Option (List ℕ)
+    → Option (List ℕ) → Type 0
+IsPartlyDone command told old new out after = (IsHalfWritten command told old new × (after ≡ out))
+    ⊎ ((core : Option (List ℕ)) × (text : List ℕ) × IsAnswer command told (Gives core (Ok text))
+    × Holds core old new × IsPutCut text out after)
+
+-- an answer says a refusal with this status: its core is written, and the refusal's line is said
+abbrev pub IsRefused : Command → (List ℕ → Told) → Status → Told → Told → Type 0 → Option (List ℕ)
+    → Option (List ℕ) → Type 0
+IsRefused command told status old new counted out after =
+    (r : Refusal) × (status_of r ≡ status) × (core : Option (List ℕ))
+    × IsAnswer command told (Gives core (Err r)) × Holds core old new
+    × IsSaid (line_of command r) counted out after
+
+-- a file that the command reads can't be read: nothing is written, and the line with that file's name is said
+abbrev pub IsReadFailed : Command → Told → Told → Type 0 → Option (List ℕ) → Option (List ℕ)
     → Type 0
-IsPartlyDone P old new out after = (core : Option (List ℕ)) × (text : List ℕ) × P (Gives core text)
-    × ((HoldsPart core old new × (after ≡ out)) ⊎ (Holds core old new × IsPutCut text out after))
+IsReadFailed command old new counted out after = (read : Input) × Reads command read × (new ≡ old)
+    × IsSaid (line_of command (refusal.ReadFault read)) counted out after
 
--- a refusal with this status is the answer, nothing is written, and its line is said
-abbrev pub IsRefused : List ℕ → (Answer → Type 0) → Status → Told → Told → Type 0 → Option (List ℕ)
+-- What a call with this status leaves of the file that it writes and of the output, where a line that isn't put is counted by
+-- the sink.
+abbrev pub IsLeft : Command → (List ℕ → Told) → Status → Told → Told → Type 0 → Option (List ℕ)
     → Option (List ℕ) → Type 0
-IsRefused name P status old new counted out after =
-    (r : Refusal) × (status_of r ≡ status) × P (Refuses r) × (new ≡ old)
-    × IsSaid (line_of name r) counted out after
-
--- What a call with this status leaves of the file that it writes and of the output, where the file that it reads has this
--- name, and where a line that isn't put is counted by the sink.
-abbrev pub IsLeft : List ℕ → (Answer → Type 0) → Status → Told → Told → Type 0 → Option (List ℕ)
-    → Option (List ℕ) → Type 0
-IsLeft name P status.Success old new counted out after =
-    (core : Option (List ℕ)) × (text : List ℕ) × P (Gives core text) × Holds core old new
-    × (after ≡ put_on out text)
-IsLeft name P status.Usage old new counted out after =
-    IsRefused name P status.Usage old new counted out after
-IsLeft name P status.NoFile old new counted out after =
-    IsRefused name P status.NoFile old new counted out after
-IsLeft name P status.Script old new counted out after =
-    IsRefused name P status.Script old new counted out after
-IsLeft name P status.Core old new counted out after =
-    IsRefused name P status.Core old new counted out after
-IsLeft name P status.NotBuilt old new counted out after =
-    IsRefused name P status.NotBuilt old new counted out after
-IsLeft name P status.Damaged old new counted out after =
-    IsRefused name P status.Damaged old new counted out after
-IsLeft name P status.Incompatible old new counted out after =
-    IsRefused name P status.Incompatible old new counted out after
-IsLeft name P status.ReadFault old new counted out after =
-    (new ≡ old) × IsSaid (line_of name refusal.ReadFault) counted out after
-IsLeft name P status.WriteFault old new counted out after = IsPartlyDone P old new out after
-IsLeft name P status.OutOfMemory old new counted out after = ((new ≡ old) × (after ≡ out))
-    ⊎ IsPartlyDone P old new out after
+IsLeft command told status.Success old new counted out after =
+    (core : Option (List ℕ)) × (text : List ℕ) × IsAnswer command told (Gives core (Ok text))
+    × Holds core old new × (after ≡ put_on out text)
+IsLeft command told status.ReadFault old new counted out after =
+    IsReadFailed command old new counted out after
+IsLeft command told status.WriteFault old new counted out after =
+    IsPartlyDone command told old new out after
+IsLeft command told status.OutOfMemory old new counted out after =
+    ((new ≡ old) × (after ≡ out)) ⊎ IsPartlyDone command told old new out after
+IsLeft command told refused old new counted out after =
+    IsRefused command told refused old new counted out after
 
 -- a call with this status wrote nothing
 abbrev pub IsUnwritten : Status → Type 0

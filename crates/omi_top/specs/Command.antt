@@ -1,9 +1,11 @@
 -- What a command line asks for.
-use Rattle.std.specs.Prelude.{◌≡◌, ℕ, List, [], ◌∷◌, if◌then◌else◌, codes, bytes_eq, map, string_bytes, String, Vec}
+use Rattle.std.specs.Prelude.{◌≡◌, ℕ, List, [], ◌∷◌, if◌then◌else◌, codes, bytes_eq, map, string_bytes, String, Vec, ⊤}
 use Rattle.std.specs.declared.alloc.Global.{Global}
 use Rattle.std.specs.Option.{option_map_or}
 use Rattle.omi_script.specs.Numbers.{number_of}
 use Rattle.omi_top.specs.declared.limits.TheConstants.{MOST_STEPS}
+use Rattle.omi_top.specs.declared.refusal.Input.{Input}
+use Rattle.omi_top.specs.declared.refusal.Input.TheVariants as input
 
 -- a command of the program, or words that are none
 pub data Command : Type 0 where
@@ -24,12 +26,21 @@ command_of words = Faulty
 abbrev pub command_in : Vec (String Global) Global → Command
 command_in words = command_of (map string_bytes words.items)
 
--- the name of the file that a command reads, and of the one that it writes
-abbrev pub read_name : Command → List ℕ
-read_name (Stop steps script core) = script
-read_name (Show core) = core
-read_name Faulty = []
+-- a command reads this
+abbrev pub Reads : Command → Input → Type 0
+Reads (Stop steps script core) input.Script = ⊤
+Reads (Show core) input.Core = ⊤
+Reads command read = ⊥
 
+-- the name that a command's words give to a script or to a core
+abbrev pub input_name : Command → Input → List ℕ
+input_name (Stop steps script core) input.Script = script
+input_name (Stop steps script core) input.Core = core
+input_name (Show core) input.Script = []
+input_name (Show core) input.Core = core
+input_name Faulty named = []
+
+-- the name of the file that a command writes
 abbrev pub written_name : Command → List ℕ
 written_name (Stop steps script core) = core
 written_name (Show core) = []

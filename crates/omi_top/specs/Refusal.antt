@@ -1,5 +1,5 @@
 -- Why a command ends without an answer, what it prints then, and what the program ends with.
-use Rattle.std.specs.Prelude.{ℕ, List, [], ◌∷◌, ◌++◌, Option, Some, None, codes}
+use Rattle.std.specs.Prelude.{◌≡◌, ◌⊎◌, ℕ, List, [], ◌∷◌, ◌++◌, Option, Some, None, codes, ⊤}
 use Rattle.std.specs.Fmt.{decimal}
 use Rattle.omi_script.specs.Faults.{number_of_fault, text_of_fault}
 use Rattle.omi_script.specs.declared.fault.ScriptFault.{ScriptFault}
@@ -18,6 +18,8 @@ use Rattle.omi_layout.specs.declared.fault.LayoutFault.TheVariants.{Version}
 use Rattle.omi_layout.specs.declared.reading.LayoutError.{LayoutError}
 use Rattle.omi_layout.specs.declared.reading.LayoutError.TheVariants as layout
 use Rattle.omi_text.specs.Numbers.{hexadecimal}
+use Rattle.omi_top.specs.Command.{Command, input_name}
+use Rattle.omi_top.specs.declared.refusal.Input.{Input}
 use Rattle.omi_top.specs.declared.refusal.Refusal.{Refusal}
 use Rattle.omi_top.specs.declared.refusal.Refusal.TheVariants as refusal
 
@@ -40,11 +42,20 @@ refusal_of_layout (layout.Unmapped addr) = refusal.Incompatible
 refusal_of_layout (layout.Refused addr (Version v)) = refusal.Incompatible
 refusal_of_layout (layout.Refused addr other) = refusal.Damaged addr
 
+-- a file can't be read
+abbrev pub IsReadFault : Refusal → Type 0
+IsReadFault (refusal.ReadFault read) = ⊤
+IsReadFault r = ⊥
+
+-- a file of this kind can't be read, or memory ran out
+abbrev pub IsUnread : Input → Refusal → Type 0
+IsUnread read r = (r ≡ refusal.ReadFault read) ⊎ (r ≡ refusal.OutOfMemory)
+
 -- the status of a refusal
 abbrev pub status_of : Refusal → Status
 status_of refusal.Usage = status.Usage
-status_of refusal.NoFile = status.NoFile
-status_of refusal.ReadFault = status.ReadFault
+status_of (refusal.NoFile read) = status.NoFile
+status_of (refusal.ReadFault read) = status.ReadFault
 status_of refusal.WriteFault = status.WriteFault
 status_of (refusal.Script fault) = status.Script
 status_of (refusal.Core at why) = status.Core
@@ -69,15 +80,16 @@ core_fault_line at why =
 abbrev pub damaged_line : ℕ → List ℕ
 damaged_line at = codes "damaged " ++ (hexadecimal at ++ (codes " " ++ (name_of 0 ++ 10 ∷ [])))
 
--- the line that a refusal prints, where the command reads the file of this name
-abbrev pub line_of : List ℕ → Refusal → Option (List ℕ)
-line_of name refusal.Usage = Some (codes "usage" ++ 10 ∷ [])
-line_of name refusal.NoFile = Some (codes "no file " ++ (name ++ 10 ∷ []))
-line_of name refusal.ReadFault = Some (codes "read fault " ++ (name ++ 10 ∷ []))
-line_of name (refusal.Script fault) = Some (fault_line fault)
-line_of name (refusal.Core at why) = Some (core_fault_line at why)
-line_of name refusal.NotBuilt = Some (codes "not built" ++ 10 ∷ [])
-line_of name (refusal.Damaged at) = Some (damaged_line at)
-line_of name refusal.Incompatible = Some (codes "incompatible" ++ 10 ∷ [])
-line_of name refusal.WriteFault = None
-line_of name refusal.OutOfMemory = None
+-- the line that a refusal of a command prints
+abbrev pub line_of : Command → Refusal → Option (List ℕ)
+line_of command refusal.Usage = Some (codes "usage" ++ 10 ∷ [])
+line_of command (refusal.NoFile read) = Some (codes "no file " ++ (input_name command read ++ 10 ∷ []))
+line_of command (refusal.ReadFault read) =
+    Some (codes "read fault " ++ (input_name command read ++ 10 ∷ []))
+line_of command (refusal.Script fault) = Some (fault_line fault)
+line_of command (refusal.Core at why) = Some (core_fault_line at why)
+line_of command refusal.NotBuilt = Some (codes "not built" ++ 10 ∷ [])
+line_of command (refusal.Damaged at) = Some (damaged_line at)
+line_of command refusal.Incompatible = Some (codes "incompatible" ++ 10 ∷ [])
+line_of command refusal.WriteFault = None
+line_of command refusal.OutOfMemory = None

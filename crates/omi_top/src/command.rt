@@ -1,10 +1,11 @@
 //! What a command line asks for.
 
-ghost use Rattle.std.specs.Prelude.{◌≡◌, ◌≤◌, map, string_bytes};
-ghost use Rattle.omi_top.specs.Command.{command_of, read_name};
+ghost use Rattle.std.specs.Prelude.{◌≡◌, ◌≤◌, ◌<◌, length, map, string_bytes};
+ghost use Rattle.omi_top.specs.Command.{command_of, input_name as named};
 ghost use Rattle.omi_top.specs.Asked.{asked, IsBounded};
 
 use crate::limits::MOST_STEPS;
+use crate::refusal::Input;
 use omi_script::number;
 
 /// What a command line asks for.
@@ -44,13 +45,32 @@ pub fn request_of(words: &Vec<String>) -> Request<'_>
     }
 }
 
-/// The name of the file that a request reads.
-pub fn input_name(request: Request<'_>) -> &str
-    ensures { result.now ≡ read_name (asked request.entry) }
+/// The name that a request gives to a script or to a core.
+pub fn input_name(request: Request<'_>, input: Input) -> &str
+    ensures { result.now ≡ named (asked request.entry) input }
 {
     match request {
-        Request::Stop { script, .. } => script,
-        Request::Show { core } => core,
+        Request::Stop { script, core, .. } => match input {
+            Input::Script => script,
+            Input::Core => core,
+        },
+        Request::Show { core } => match input {
+            Input::Script => "",
+            Input::Core => core,
+        },
         Request::Faulty => "",
+    }
+}
+
+/// The number of bytes of the longest name in a request.
+pub fn longest_name(request: Request<'_>) -> usize
+    ensures script { length (named (asked request.entry) Input.Script) ≤ result }
+    ensures core { length (named (asked request.entry) Input.Core) ≤ result }
+    ensures small { result < 9223372036854775808 }
+{
+    match request {
+        Request::Stop { script, core, .. } => script.len().max(core.len()),
+        Request::Show { core } => core.len(),
+        Request::Faulty => 0,
     }
 }

@@ -12,7 +12,7 @@ mod show;
 mod stop;
 mod top;
 
-pub use refusal::Refusal;
+pub use refusal::{Input, Refusal};
 pub use top::run_top;
 
 #[cfg(test)]

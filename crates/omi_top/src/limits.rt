@@ -11,3 +11,6 @@ pub const SCRIPT_FRONT: u64 = MAX_BYTES as u64 + 1;
 
 /// The most bytes that are read of a core: one more than a core may have.
 pub const CORE_FRONT: u64 = MOST_BYTES + 1;
+
+/// The most bytes of a refusal's line besides the name of a file.
+pub const LINE_ROOM: usize = 128;

@@ -1,16 +1,18 @@
-//! Reading the file that a command reads.
+//! Reading a file that a command reads.
 
-ghost use Rattle.std.specs.Prelude.{◌≡◌, ◌⊎◌, List, ℕ, Option, Some, None, IfOk, IfErr, IsErrOf, take};
+ghost use Rattle.std.specs.Prelude.{◌≡◌, ◌⊎◌, List, ℕ, Option, Some, None, IfOk, IfErr, IsErrAnd, take};
 ghost use Rattle.omi_outside.specs.Outside.{HasCause};
-ghost use Rattle.omi_top.specs.Answer.{IsEarly};
+ghost use Rattle.omi_top.specs.Refusal.{IsReadFault, IsUnread};
 
 use crate::Refusal;
+use crate::refusal::Input;
 use omi_outside::{Files, ReadError, read_whole};
 use std::alloc::Global;
 
-/// The first `most` bytes of the file that a command reads, or all of them where it has fewer.
+/// The first `most` bytes of a file that a command reads, or all of them where it has fewer. A refusal says what the file is read as.
 pub fn load<F: Files>(
     alloc: Global,
+    input: Input,
     name: &str,
     most: u64,
     files: &mut F,
@@ -19,17 +21,17 @@ pub fn load<F: Files>(
         → IfOk result (λ whole. (bytes : List ℕ) × (content ≡ Some bytes)
         × (whole.items ≡ take most bytes)) }
     ensures no_file { (content : Option (List ℕ)) → F.told files.old name.now ≡ Some content
-        → IfErr result (λ r. (r ≡ Refusal.NoFile × content ≡ None) ⊎ IsEarly r) }
-    ensures kind { IfErr result (λ r. (r ≡ Refusal.NoFile) ⊎ IsEarly r) }
+        → IfErr result (λ r. (r ≡ Refusal.NoFile input × content ≡ None) ⊎ IsUnread input r) }
+    ensures kind { IfErr result (λ r. (r ≡ Refusal.NoFile input) ⊎ IsUnread input r) }
     ensures cause { HasCause (F.reads files.old) (F.reads files.new)
-        (IsErrOf result Refusal.ReadFault) }
+        (IsErrAnd result IsReadFault) }
     ensures same { F.told files.new ≡ F.told files.old }
     ensures writes { F.writes files.new ≡ F.writes files.old }
 {
     match read_whole(alloc, files, name, most) {
         Ok(bytes) => Ok(bytes),
-        Err(ReadError::NoFile) => Err(Refusal::NoFile),
-        Err(ReadError::Failed) => Err(Refusal::ReadFault),
+        Err(ReadError::NoFile) => Err(Refusal::NoFile(input)),
+        Err(ReadError::Failed) => Err(Refusal::ReadFault(input)),
         Err(ReadError::OutOfMemory) => Err(Refusal::OutOfMemory),
     }
 }

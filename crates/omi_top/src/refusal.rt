@@ -11,15 +11,22 @@ use omi_outside::{Refused, Status};
 use omi_script::{ScriptError, ScriptFault};
 use std::alloc::{AllocError, AllocFailed};
 
+/// What a command reads a file as.
+#[derive(Clone, Copy)]
+pub enum Input {
+    Script,
+    Core,
+}
+
 /// Why a command ends without an answer.
 #[derive(Clone, Copy)]
 pub enum Refusal {
     /// The words of the command line are refused.
     Usage,
     /// There is no file of the name that is read.
-    NoFile,
+    NoFile(Input),
     /// A read of this file failed.
-    ReadFault,
+    ReadFault(Input),
     /// A write of a file failed.
     WriteFault,
     /// The grammar of scripts refuses the script.
@@ -107,8 +114,8 @@ impl Refusal {
     {
         match self {
             Refusal::Usage => Status::Usage,
-            Refusal::NoFile => Status::NoFile,
-            Refusal::ReadFault => Status::ReadFault,
+            Refusal::NoFile(_) => Status::NoFile,
+            Refusal::ReadFault(_) => Status::ReadFault,
             Refusal::WriteFault => Status::WriteFault,
             Refusal::Script(_) => Status::Script,
             Refusal::Core(_, _) => Status::Core,

@@ -5,22 +5,22 @@ ghost use Rattle.std.specs.Fmt.{digit_glyph, digits_onto};
 ghost use Rattle.std.specs.String.{string_len, string_capacity};
 ghost use Rattle.std.specs.List.{flat_map, sum_by};
 ghost use Rattle.std.specs.Option.{option_map};
+ghost use Rattle.omi_top.specs.Asked.{asked, HasRoom};
 ghost use Rattle.omi_top.specs.Refusal.{damaged_line, line_of as refusal_line};
 
 use crate::Refusal;
+use crate::command::{Request, input_name, longest_name};
+use crate::limits::LINE_ROOM;
 use itoa::Buffer;
 use omi_layout::field_name;
 use std::alloc::{AllocError, Global};
 
-/// The most bytes of a refusal's line besides the name of a file.
-pub const LINE_ROOM: usize = 128;
-
-/// Room for the line of any refusal of a command that reads the file of this name.
-pub fn room_for(alloc: Global, name: &str) -> Result<String, AllocError>
+/// Room for the line of any refusal of a request.
+pub fn room_for(alloc: Global, request: Request<'_>) -> Result<String, AllocError>
     ensures empty { IfOk result (λ room. string_bytes room ≡ []) }
-    ensures enough { IfOk result (λ room. length name.now + LINE_ROOM ≤ string_capacity room) }
+    ensures enough { IfOk result (λ room. HasRoom (asked request.entry) (string_capacity room)) }
 {
-    String::with_capacity(alloc, name.len() + LINE_ROOM)
+    String::with_capacity(alloc, longest_name(request) + LINE_ROOM)
 }
 
 /// Adds pieces of text, for which there is room.
@@ -90,19 +90,21 @@ fn push_damaged(room: &mut String, at: u64)
     push_all(room, &[" ", field_name(0), "\n"]);
 }
 
-/// The line of a refusal of a command that reads the file of this name, if it prints one.
-pub fn line_of<'a>(name: &str, refusal: Refusal, room: &'a mut String) -> Option<&'a str>
+/// The line of a refusal of a request, if it prints one.
+pub fn line_of<'a>(request: Request<'_>, refusal: Refusal, room: &'a mut String) -> Option<&'a str>
     requires empty { string_bytes room.old ≡ [] }
-    requires enough { length name.now + LINE_ROOM ≤ string_capacity room.old }
-    ensures { option_map (λ line. line.now) result ≡ refusal_line name.now refusal }
+    requires enough { HasRoom (asked request) (string_capacity room.old) }
+    ensures { option_map (λ line. line.now) result ≡ refusal_line (asked request.entry) refusal }
 {
     match refusal {
         Refusal::Usage => return Some("usage\n"),
         Refusal::NotBuilt => return Some("not built\n"),
         Refusal::Incompatible => return Some("incompatible\n"),
         Refusal::WriteFault | Refusal::OutOfMemory => return None,
-        Refusal::NoFile => push_all(room, &["no file ", name, "\n"]),
-        Refusal::ReadFault => push_all(room, &["read fault ", name, "\n"]),
+        Refusal::NoFile(input) => push_all(room, &["no file ", input_name(request, input), "\n"]),
+        Refusal::ReadFault(input) => {
+            push_all(room, &["read fault ", input_name(request, input), "\n"]);
+        }
         Refusal::Script(fault) => {
             let mut line = Buffer::new();
             let mut number = Buffer::new();

@@ -1,14 +1,17 @@
 //! The command `show`.
 
-ghost use Rattle.std.specs.Prelude.{◌≡◌, ◌≢◌, ◌⊎◌, List, ℕ, Option, Some, None, IfOk, IfErr, IfSome, IsErrOf};
+ghost use Rattle.std.specs.Prelude.{◌≡◌, ◌≢◌, ◌⊎◌, List, ℕ, Some, None, IfOk, IfErr, IfSome, IsErrAnd, Ok};
 ghost use Rattle.omi_corefile.specs.Spelling.{HoldsImage};
 ghost use Rattle.omi_outside.specs.Outside.{HasCause, Told};
-ghost use Rattle.omi_top.specs.Answer.{Refuses, Gives, IsAnswered, IsShowAnswer};
+ghost use Rattle.omi_top.specs.Answer.{Gives, AreTold, IsAnswered, IsShowAnswer, IsShowRefusal};
+ghost use Rattle.omi_top.specs.Command.{Show};
+ghost use Rattle.omi_top.specs.Refusal.{IsReadFault};
 ghost use Rattle.omi_top.specs.Cores.{one_thread};
 
 use crate::Refusal;
 use crate::limits::CORE_FRONT;
 use crate::load::load;
+use crate::refusal::Input;
 use omi_corefile::{CoreImage, decode};
 use omi_layout::Layout;
 use omi_outside::Files;
@@ -39,9 +42,10 @@ fn image_of(core: &CoreImage) -> Option<&Natives>
 
 /// The report of the core that a file's bytes spell, read through the layout that its words give.
 fn reported(alloc: Global, bytes: &[u8]) -> Result<Vec<u8>, Refusal>
-    ensures report { IfOk result (λ text. IsShowAnswer (Some bytes.now) (Gives None text.items)) }
+    ensures report { IfOk result (λ text. IsShowAnswer (Some bytes.now)
+        (Gives None (Ok text.items))) }
     ensures refused { IfErr result
-        (λ r. IsShowAnswer (Some bytes.now) (Refuses r) ⊎ (r ≡ Refusal.OutOfMemory)) }
+        (λ r. IsShowRefusal (Some bytes.now) r ⊎ (r ≡ Refusal.OutOfMemory)) }
 {
     let core = decode(alloc, bytes)?;
     let Some(words) = image_of(&core) else {
@@ -58,16 +62,16 @@ fn reported(alloc: Global, bytes: &[u8]) -> Result<Vec<u8>, Refusal>
 
 /// Reads a core, and answers its report.
 pub fn show<F: Files>(alloc: Global, core: &str, files: &mut F) -> Result<Vec<u8>, Refusal>
-    ensures answer { (content : Option (List ℕ)) (old : Told)
-        → F.told files.old core.now ≡ Some content
-        → IsAnswered (IsShowAnswer content) result old old }
+    ensures answer { (old : Told) → let command = Show core.now in
+        AreTold command (F.told files.old)
+        → IsAnswered command (F.told files.old) result old old }
     ensures usage { result ≢ Err Refusal.Usage }
     ensures write { result ≢ Err Refusal.WriteFault }
     ensures read { HasCause (F.reads files.old) (F.reads files.new)
-        (IsErrOf result Refusal.ReadFault) }
+        (IsErrAnd result IsReadFault) }
     ensures files_told { F.told files.new ≡ F.told files.old }
     ensures files_writes { F.writes files.new ≡ F.writes files.old }
 {
-    let bytes = load(alloc, core, CORE_FRONT, files)?;
+    let bytes = load(alloc, Input::Core, core, CORE_FRONT, files)?;
     reported(alloc, &bytes)
 }

@@ -1,11 +1,12 @@
 //! The command `stop`.
 
-ghost use Rattle.std.specs.Prelude.{◌≡◌, ◌≢◌, ◌⊎◌, ◌≤◌, List, ℕ, Option, Some, IfOk, IfErr, IsErrOf, take, string_bytes};
+ghost use Rattle.std.specs.Prelude.{◌≡◌, ◌≢◌, ◌⊎◌, List, ℕ, Some, IfOk, IfErr, IsErrAnd, IsErrOf, take, string_bytes};
 ghost use Rattle.omi_outside.specs.Outside.{HasCause};
 ghost use Rattle.omi_script.specs.Grammar.{Grammar};
-ghost use Rattle.omi_top.specs.Answer.{Refuses, IsAnswered, IsEarly, IsStopAnswer, IsStopped, IsUnwritten, IsOfCore};
+ghost use Rattle.omi_top.specs.Answer.{AreTold, IsAnswered, IsStopRefusal, IsStopped, IsUnwritten, IsOfCore};
 ghost use Rattle.omi_top.specs.Built.{IsBuilt};
-ghost use Rattle.omi_top.specs.Refusal.{status_of};
+ghost use Rattle.omi_top.specs.Command.{Stop as StopCommand};
+ghost use Rattle.omi_top.specs.Refusal.{IsReadFault, status_of};
 ghost use Rattle.omi_top.specs.Run.{thread_ids};
 
 use crate::Refusal;
@@ -13,6 +14,7 @@ use crate::built::is_built;
 use crate::limits::SCRIPT_FRONT;
 use crate::lines::text_of;
 use crate::load::load;
+use crate::refusal::Input;
 use omi_core::{Core, Schedule, Stop};
 use omi_corefile::core_bytes_of;
 use omi_layout::Layout;
@@ -26,9 +28,8 @@ use std::alloc::Global;
 fn program(alloc: Global, bytes: &[u8]) -> Result<Program, Refusal>
     ensures accepted { IfOk result (λ p. Grammar bytes.now p) }
     ensures built { IfOk result (λ p. IsBuilt p) }
-    ensures refused { (budget : ℕ)
-        → IfErr result (λ r. IsStopAnswer budget (Some bytes.now) (Refuses r)
-        ⊎ (r ≡ Refusal.OutOfMemory)) }
+    ensures refused { IfErr result
+        (λ r. IsStopRefusal (Some bytes.now) r ⊎ (r ≡ Refusal.OutOfMemory)) }
 {
     let p = parse(alloc, bytes)?;
     if !is_built(&p) {
@@ -77,13 +78,14 @@ pub fn stop<F: Files, W: Files>(
     files: &mut F,
     dest: &mut W,
 ) -> Result<Vec<u8>, Refusal>
-    ensures answer { (content : Option (List ℕ)) → F.told files.old script.now ≡ Some content
-        → IsAnswered (IsStopAnswer budget content) result (W.told dest.old core.now)
+    ensures answer { let command = StopCommand budget script.now core.now in
+        AreTold command (F.told files.old)
+        → IsAnswered command (F.told files.old) result (W.told dest.old core.now)
         (W.told dest.new core.now) }
     ensures usage { result ≢ Err Refusal.Usage }
     ensures of_core { IfErr result (λ r. IsOfCore (status_of r) → ⊥) }
     ensures read { HasCause (F.reads files.old) (F.reads files.new)
-        (IsErrOf result Refusal.ReadFault) }
+        (IsErrAnd result IsReadFault) }
     ensures write { HasCause (W.writes dest.old) (W.writes dest.new)
         (IsErrOf result Refusal.WriteFault) }
     ensures unwritten { IfErr result
@@ -94,7 +96,7 @@ pub fn stop<F: Files, W: Files>(
     ensures others { (other : List ℕ) → other ≢ core.now
         → W.told dest.new other ≡ W.told dest.old other }
 {
-    let bytes = load(alloc, script, SCRIPT_FRONT, files)?;
+    let bytes = load(alloc, Input::Script, script, SCRIPT_FRONT, files)?;
     let p = program(alloc, &bytes)?;
     let (image, text) = stopped(alloc, p, budget)?;
     write_whole(dest, core, &image)?;

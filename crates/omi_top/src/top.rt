@@ -1,6 +1,6 @@
 //! The one call that the program makes, with the clause for each of its promises.
 
-ghost use Rattle.std.specs.Prelude.{◌≡◌, ◌≢◌, ◌⊎◌, ◌↔◌, ◌+◌, ◌≤◌, ◌^◌, ◌∷◌, ◌++◌, [], codes, length, List, ℕ, Option, Some, None, IfOk, IfErr, IsErrOf, map, string_bytes};
+ghost use Rattle.std.specs.Prelude.{◌≡◌, ◌⊎◌, ◌↔◌, ◌≤◌, ◌∷◌, ◌++◌, [], codes, List, ℕ, Option, Some, None, IfOk, IfErr, IsErrAnd, IsErrOf, map, string_bytes};
 ghost use Rattle.std.specs.String.{string_capacity};
 ghost use Rattle.omi_outside.specs.Outside.{HasCause, Rose, IsPutCut, holding, put_on};
 ghost use Rattle.omi_corefile.specs.Refusals.{CoreRefused};
@@ -9,13 +9,13 @@ ghost use Rattle.omi_script.specs.Grammar.{Grammar, Refused as RefusedScript};
 ghost use Rattle.omi_top.specs.Built.{IsBuilt};
 ghost use Rattle.omi_script.specs.declared.fault.ScriptFault.{ScriptFault};
 ghost use Rattle.omi_script.specs.declared.program.Program.{Program};
-ghost use Rattle.omi_top.specs.Command.{Command, Stop, Show, Faulty, command_in, read_name, written_name, Writes};
-ghost use Rattle.omi_top.specs.Asked.{asked, IsBounded};
-ghost use Rattle.omi_top.specs.Answer.{IsAnswer, IsAnswered, IsOtherCore, IsIncompatibleCore, IsDamagedCore, IsOtherProgram, IsStopped, IsSaid, IsCounted, IsLeft, IsUnwritten, ComesWhere, IsShownAgain, IsOfCore};
+ghost use Rattle.omi_top.specs.Command.{Command, Stop, Show, Faulty, command_in, written_name, Writes};
+ghost use Rattle.omi_top.specs.Asked.{asked, HasRoom, IsBounded};
+ghost use Rattle.omi_top.specs.Answer.{AreTold, IsAnswered, IsOtherCore, IsIncompatibleCore, IsDamagedCore, IsOtherProgram, IsStopped, IsSaid, IsCounted, IsLeft, IsUnwritten, ComesWhere, IsShownAgain, IsOfCore};
 ghost use Rattle.omi_top.specs.Cores.{one_thread, IsPlainCore};
 ghost use Rattle.omi_rep.specs.LookView.{look_view};
 ghost use Rattle.omi_layout.specs.SymbolTable.{words_of};
-ghost use Rattle.omi_top.specs.Refusal.{line_of as refusal_line, status_of};
+ghost use Rattle.omi_top.specs.Refusal.{IsReadFault, line_of as refusal_line, status_of};
 ghost use Rattle.omi_rep.specs.Shows.{Shows};
 ghost use Rattle.omi_model.specs.State.{State};
 ghost use Rattle.omi_model.specs.Views.{IsViewOf};
@@ -23,8 +23,8 @@ ghost use Rattle.omi_model.specs.declared.view.View.{View};
 ghost use Rattle.omi_text.specs.Report.{report as report_of};
 
 use crate::Refusal;
-use crate::command::{Request, input_name, request_of};
-use crate::refusal_line::{LINE_ROOM, line_of, room_for};
+use crate::command::{Request, request_of};
+use crate::refusal_line::{line_of, room_for};
 use crate::show::show;
 use crate::stop::stop;
 use omi_outside::{Files, Refused, Sink, Status, put_whole};
@@ -38,17 +38,16 @@ fn perform<F: Files, W: Files>(
     dest: &mut W,
 ) -> Result<Vec<u8>, Refusal>
     requires { IsBounded request }
-    ensures answer { (content : Option (List ℕ))
-        → F.told files.old (read_name (asked request.entry)) ≡ Some content
-        → IsAnswered (IsAnswer (asked request.entry) content) result
-        (W.told dest.old (written_name (asked request.entry)))
-        (W.told dest.new (written_name (asked request.entry))) }
+    ensures answer { let command = asked request.entry in
+        AreTold command (F.told files.old)
+        → IsAnswered command (F.told files.old) result
+        (W.told dest.old (written_name command)) (W.told dest.new (written_name command)) }
     ensures usage { IsErrOf result Refusal.Usage → asked request.entry ≡ Faulty }
     ensures faulty { asked request.entry ≡ Faulty → IsErrOf result Refusal.Usage }
     ensures of_core { IfErr result (λ r. IsOfCore (status_of r)
         → (core : List ℕ) × (asked request.entry ≡ Show core)) }
     ensures read { HasCause (F.reads files.old) (F.reads files.new)
-        (IsErrOf result Refusal.ReadFault) }
+        (IsErrAnd result IsReadFault) }
     ensures write { HasCause (W.writes dest.old) (W.writes dest.new)
         (IsErrOf result Refusal.WriteFault) }
     ensures unwritten { IfErr result
@@ -74,15 +73,15 @@ fn perform<F: Files, W: Files>(
 /// line can't be put.
 fn refuse<K: Sink>(request: Request<'_>, refusal: Refusal, room: &mut String, out: &mut K) -> Status
     requires empty { string_bytes room.old ≡ [] }
-    requires enough { length (read_name (asked request)) + LINE_ROOM ≤ string_capacity room.old }
+    requires enough { HasRoom (asked request) (string_capacity room.old) }
     ensures status { result ≡ status_of refusal }
-    ensures line { IsSaid (refusal_line (read_name (asked request.entry)) refusal)
+    ensures line { IsSaid (refusal_line (asked request.entry) refusal)
         (IsCounted (K.faults out.old) (K.faults out.new) (K.wants out.old) (K.wants out.new))
         (K.told out.old) (K.told out.new) }
     ensures faults { K.faults out.old ≤ K.faults out.new }
     ensures wants { K.wants out.old ≤ K.wants out.new }
 {
-    if let Some(line) = line_of(input_name(request), refusal, room) {
+    if let Some(line) = line_of(request, refusal, room) {
         let _ = out.put(line.as_bytes());
     }
     refusal.status()
@@ -130,18 +129,16 @@ fn carry_out_in<F: Files, W: Files, K: Sink>(
 ) -> Status
     requires bounded { IsBounded request }
     requires empty { string_bytes room.old ≡ [] }
-    requires enough { length (read_name (asked request)) + LINE_ROOM ≤ string_capacity room.old }
+    requires enough { HasRoom (asked request) (string_capacity room.old) }
     ensures of_core { IsOfCore result → (core : List ℕ) × (asked request.entry ≡ Show core) }
     ensures usage { result ≡ Status.Usage → asked request.entry ≡ Faulty }
     ensures read_fault { result ≡ Status.ReadFault → Rose (F.reads files.old) (F.reads files.new) }
     ensures write_fault { result ≡ Status.WriteFault
         → Rose (W.writes dest.old) (W.writes dest.new)
         ⊎ Rose (K.faults out.old) (K.faults out.new) }
-    ensures left { (content : Option (List ℕ))
-        → F.told files.old (read_name (asked request.entry)) ≡ Some content
-        → IsLeft (read_name (asked request.entry)) (IsAnswer (asked request.entry) content) result
-        (W.told dest.old (written_name (asked request.entry)))
-        (W.told dest.new (written_name (asked request.entry)))
+    ensures left { let command = asked request.entry in
+        AreTold command (F.told files.old) → IsLeft command (F.told files.old) result
+        (W.told dest.old (written_name command)) (W.told dest.new (written_name command))
         (IsCounted (K.faults out.old) (K.faults out.new) (K.wants out.old) (K.wants out.new))
         (K.told out.old) (K.told out.new) }
     ensures unwritten { IsUnwritten result → W.told dest.new ≡ W.told dest.old }
@@ -181,11 +178,9 @@ fn carry_out<F: Files, W: Files, K: Sink>(
     ensures write_fault { result ≡ Status.WriteFault
         → Rose (W.writes dest.old) (W.writes dest.new)
         ⊎ Rose (K.faults out.old) (K.faults out.new) }
-    ensures left { (content : Option (List ℕ))
-        → F.told files.old (read_name (asked request.entry)) ≡ Some content
-        → IsLeft (read_name (asked request.entry)) (IsAnswer (asked request.entry) content) result
-        (W.told dest.old (written_name (asked request.entry)))
-        (W.told dest.new (written_name (asked request.entry)))
+    ensures left { let command = asked request.entry in
+        AreTold command (F.told files.old) → IsLeft command (F.told files.old) result
+        (W.told dest.old (written_name command)) (W.told dest.new (written_name command))
         (IsCounted (K.faults out.old) (K.faults out.new) (K.wants out.old) (K.wants out.new))
         (K.told out.old) (K.told out.new) }
     ensures unwritten { IsUnwritten result → W.told dest.new ≡ W.told dest.old }
@@ -202,7 +197,7 @@ fn carry_out<F: Files, W: Files, K: Sink>(
     if let Request::Faulty = request {
         return refuse_words(out);
     }
-    match room_for(alloc, input_name(request)) {
+    match room_for(alloc, request) {
         Ok(mut room) => carry_out_in(alloc, request, &mut room, files, dest, out),
         Err(_) => Status::OutOfMemory,
     }
@@ -295,10 +290,8 @@ pub fn run_top<F: Files, W: Files, K: Sink>(
         → IsShownAgain run.state result (K.told out.old) (K.told out.new) }
 
     // What is left of the core and of the output with every status.
-    ensures left { (content : Option (List ℕ))
-        → let command = command_in words.now in
-        F.told files.old (read_name command) ≡ Some content
-        → IsLeft (read_name command) (IsAnswer command content) result
+    ensures left { let command = command_in words.now in
+        AreTold command (F.told files.old) → IsLeft command (F.told files.old) result
         (W.told dest.old (written_name command)) (W.told dest.new (written_name command))
         (IsCounted (K.faults out.old) (K.faults out.new) (K.wants out.old) (K.wants out.new))
         (K.told out.old) (K.told out.new) }

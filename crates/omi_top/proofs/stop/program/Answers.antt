@@ -9,7 +9,7 @@ returns-in_err-p-clause-refused c =
     rw (p.1, p.2) (script_refused c.args.bytes.now c.in_err-p.field-0.0 c.in_err-p.ensures.refused)
 
 pub returns-then-not-is_built-clause-refused : goal.returns-then-not-is_built-clause-refused
-returns-then-not-is_built-clause-refused c = λ budget. inl (inr (
+returns-then-not-is_built-clause-refused c = inl (inr (
   record {
     program = c.in_ok-p.p;
     says = c.in_ok-p.ensures.accepted;

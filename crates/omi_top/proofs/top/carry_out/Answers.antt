@@ -1,7 +1,6 @@
-use Rattle.std.proofs.Common.{refl}
+use Rattle.std.proofs.Common.{None, refl}
 use Rattle.omi_top.specs.declared.refusal.Refusal.TheVariants as refusal
 use Rattle.omi_top.proofs.top.carry_out.Goals as goal
 
 pub returns-in-Faulty-clause-left : goal.returns-in-Faulty-clause-left
-returns-in-Faulty-clause-left g c = λ content told.
-    rw (c.in-Faulty.is, c.refuse_words.ensures.status) (refusal.Usage, refl, refl, refl, c.refuse_words.ensures.line)
+returns-in-Faulty-clause-left g c = λ told. rw (c.in-Faulty.is, c.refuse_words.ensures.status) (refusal.Usage, refl, None, refl, refl, c.refuse_words.ensures.line)

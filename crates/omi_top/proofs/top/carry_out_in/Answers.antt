@@ -1,16 +1,14 @@
 use Rattle.omi_top.specs.Asked.{asked}
-use Rattle.omi_top.specs.Answer.{IsAnswer}
-use Rattle.omi_top.specs.Command.{read_name}
 use Rattle.omi_top.proofs.Left.{ok_left, err_left}
 use Rattle.omi_top.proofs.top.carry_out_in.Goals as goal
 
 pub returns-in-Ok-clause-left : goal.returns-in-Ok-clause-left
-returns-in-Ok-clause-left g c = λ content told.
-    ok_left (read_name (asked c.args.request)) (IsAnswer (asked c.args.request) content) c.in-Ok.text _ _ c.print.result _ (g.K.Sink.told c.args.out.now) (g.K.Sink.told c.print.new.out)
-    (c.in-Ok.ensures.answer content told) c.print.ensures.status (λ done. rw (← c.deref.ensures.value) (c.print.ensures.success done)) (rw (← c.deref.ensures.value) c.print.ensures.cut)
+returns-in-Ok-clause-left g c = λ told.
+    ok_left (asked c.args.request) (g.F.Files.told c.args.files.now) _ _ _ (g.K.Sink.told c.args.out.now) (g.K.Sink.told c.print.new.out) c.in-Ok.text c.print.result
+    (c.in-Ok.ensures.answer told) c.print.ensures.status (λ done. rw (← c.deref.ensures.value) (c.print.ensures.success done)) (rw (← c.deref.ensures.value) c.print.ensures.cut)
 
 pub returns-in-Err-clause-left : goal.returns-in-Err-clause-left
-returns-in-Err-clause-left g c = λ content told.
+returns-in-Err-clause-left g c = λ told.
     rw c.refuse.ensures.status
-    (err_left (read_name (asked c.args.request)) (asked c.args.request) content c.in-Err.refusal _ _ _ (g.K.Sink.told c.args.out.now) (g.K.Sink.told c.refuse.new.out)
-    (c.in-Err.ensures.answer content told) c.refuse.ensures.line)
+    (err_left (asked c.args.request) (g.F.Files.told c.args.files.now) _ _ _ (g.K.Sink.told c.args.out.now) (g.K.Sink.told c.refuse.new.out) c.in-Err.refusal
+    (c.in-Err.ensures.answer told) c.refuse.ensures.line)

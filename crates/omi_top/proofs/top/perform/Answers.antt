@@ -11,7 +11,7 @@ pub returns-in-Stop-clause-answer : goal.returns-in-Stop-clause-answer
 returns-in-Stop-clause-answer g c = rw c.in-Stop.is c.stop.ensures.answer
 
 pub returns-in-Show-clause-answer : goal.returns-in-Show-clause-answer
-returns-in-Show-clause-answer g c = rw c.in-Show.is (λ content told. c.show.ensures.answer content (g.W.Files.told c.args.dest.now []) told)
+returns-in-Show-clause-answer g c = rw c.in-Show.is (λ told. c.show.ensures.answer (g.W.Files.told c.args.dest.now []) told)
 
 -- whatever the result is, the command is this one
 by_show : {C : Type 0} (r : Result (Vec ℕ) Refusal) → ((x : Refusal) → IsOfCore (status_of x) → C) → IfErr r (λ x. IsOfCore (status_of x) → C)
