@@ -10,6 +10,3 @@ pub use line::{Line, LineError, split};
 pub use numbers::number;
 pub use omi_list::OutOfMemory;
 pub use text::{Text, TextList};
-
-#[cfg(test)]
-mod tests;

@@ -40,8 +40,3 @@ pub use schedule::{kind_name, kind_number};
 pub use small::is_small;
 pub use statement::{Sched, Stmt, StmtList};
 pub use verdicts::one_verdict;
-
-#[cfg(test)]
-mod row_tests;
-#[cfg(test)]
-mod tests;

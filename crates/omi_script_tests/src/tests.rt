@@ -1,8 +1,11 @@
 //! Each public call once on its happy path, and each limit on both sides.
-use super::*;
-use crate::limits::{MAX_BYTES, MAX_DEPTH, MAX_FUNCTIONS, MAX_STATEMENTS};
 use crate::row_tests::{accepts, refuses};
+use omi_script::limits::{MAX_BYTES, MAX_DEPTH, MAX_FUNCTIONS, MAX_STATEMENTS};
+use omi_script::{
+    OutOfMemory, Sched, Stmt, Why, is_small, kind_name, kind_number, number, parse, print,
+};
 use std::alloc::Global;
+use std::process::Abort;
 use std::test::Fail;
 
 /// Texts, each with its canonical text.
@@ -34,14 +37,18 @@ const CANONICAL: [(&str, &str); 5] = [
     ),
 ];
 
-#[test]
-fn canonical(rt: HostRuntime) -> Result<(), Fail> {
-    let alloc = rt.alloc();
-    for (text, canonical) in CANONICAL {
+/// Each text has its canonical text.
+fn print_all(rt: &impl Abort, alloc: Global, rows: &[(&str, &str)]) -> Result<(), Fail> {
+    for (text, canonical) in rows {
         let printed = print(alloc, &parse(alloc, text.as_bytes())?)?;
         assert_eq!(rt; printed[..], *canonical.as_bytes(), "{text}");
     }
     Ok(())
+}
+
+#[test]
+fn canonical(rt: HostRuntime) -> Result<(), Fail> {
+    print_all(&rt, rt.alloc(), &CANONICAL)
 }
 
 /// A value that threads may share and move.
@@ -53,14 +60,14 @@ fn programs(rt: HostRuntime) -> Result<(), Fail> {
     let text = b"env num_threads 4,2\nfunc f\nend\nfunc main\nset_num_threads 3\ncall f\nend\n";
     let p = parse(alloc, text)?.same(alloc)?;
     crosses_threads(&p);
-    assert_eq!(rt; p.threads, 1);
-    assert_eq!(rt; p.main, 1);
+    let numbers = (p.threads, p.main, p.env.procs, p.funcs.len());
+    assert_eq!(rt;
+        (numbers, p.env.sched),
+        ((1, 1, 4, 2), Sched { kind: 1, chunk: 0 })
+    );
     assert_eq!(rt; *p.env.nthreads.as_slice(), [4, 2][..]);
-    assert_eq!(rt; p.env.sched, Sched { kind: 1, chunk: 0 });
-    assert_eq!(rt; p.env.procs, 4);
-    assert_eq!(rt; p.funcs.len(), 2);
     let main = p.funcs.get(1);
-    assert_eq!(rt; main.name.bytes[..5], b"main\0"[..]);
+    assert!(rt; main.name.bytes.starts_with(b"main\0"));
     assert_eq!(rt;
         *main.body.as_slice(),
         [Stmt::SetNumThreads(3), Stmt::Call { f: 0 }][..]
@@ -71,17 +78,13 @@ fn programs(rt: HostRuntime) -> Result<(), Fail> {
 
 #[test]
 fn words(rt: HostRuntime) {
-    assert_eq!(rt; number(b"10", 0, 10), Some(10));
-    assert_eq!(rt; number(b"11", 0, 10), None);
-    assert_eq!(rt;
-        number(b"18446744073709551615", 0, u64::MAX),
-        Some(u64::MAX)
-    );
-    assert_eq!(rt; kind_name(3), Some("guided"));
-    assert_eq!(rt; kind_name(5), None);
-    assert_eq!(rt; kind_number(b"auto"), Some(4));
-    assert_eq!(rt; Why::NotText.number(), 1);
-    assert_eq!(rt; Why::Unclosed.text(), "Unclosed");
+    let most = number(b"18446744073709551615", 0, u64::MAX);
+    let numbers = (number(b"10", 0, 10), number(b"11", 0, 10), most);
+    assert_eq!(rt; numbers, (Some(10), None, Some(u64::MAX)));
+    let kinds = (kind_name(3), kind_name(5), kind_number(b"auto"));
+    assert_eq!(rt; kinds, (Some("guided"), None, Some(4)));
+    let names = (Why::NotText.number(), Why::Unclosed.text());
+    assert_eq!(rt; names, (1, "Unclosed"));
 }
 
 /// A text, then the same piece so many times, and an end.

@@ -1,6 +1,6 @@
 //! Rows of lines and texts, each accepted or refused as the documents say.
-use super::*;
-use crate::limits::MAX_THREADS;
+use omi_script::limits::MAX_THREADS;
+use omi_script::{OutOfMemory, ScriptError, Why, parse};
 use std::alloc::Global;
 use std::process::Abort;
 use std::test::Fail;
