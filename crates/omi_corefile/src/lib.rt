@@ -21,6 +21,3 @@ pub use limits::{MOST_BYTES, MOST_CONTEXTS, MOST_SEGMENT_WORDS, MOST_SEGMENTS};
 pub use making::core_of;
 pub use omi_list::OutOfMemory;
 pub use segment::{SegList, Segment};
-
-#[cfg(test)]
-mod tests;

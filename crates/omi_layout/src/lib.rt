@@ -24,6 +24,3 @@ pub use limits::{
 };
 pub use looking::{WordMemory, look_up};
 pub use reading::LayoutError;
-
-#[cfg(test)]
-mod tests;

@@ -17,8 +17,3 @@ pub use report::report_text;
 
 /// Memory ran out.
 pub type OutOfMemory = omi_word::OutOfMemory;
-
-#[cfg(test)]
-mod event_tests;
-#[cfg(test)]
-mod tests;

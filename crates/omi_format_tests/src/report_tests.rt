@@ -1,12 +1,13 @@
 //! Worked reports, and the texts of events.
 
-use super::*;
 use omi_model::{
     HeadRow, Id, MemberRow, MemberRows, RegionRow, RegionRows, Rid, TaskRow, TaskRows, ThreadPart,
     ThreadRow, ThreadRows, Tid, View,
 };
 use omi_script::{NumList, kind_name};
+use omi_text::{report_text, state_name};
 use std::alloc::{AllocError, Global};
+use std::process::Abort;
 use std::test::*;
 
 fn task(creator: u8, slot: u16) -> Tid {
@@ -363,15 +364,20 @@ const STATES: [(u32, &str); 9] = [
 
 const KINDS: [(u64, &str); 4] = [(1, "static"), (2, "dynamic"), (3, "guided"), (4, "auto")];
 
+/// The states and the schedule kinds of these numbers have these names.
+fn expect_names(rt: &impl Abort, states: &[(u32, &str)], kinds: &[(u64, &str)]) {
+    for (state, name) in states {
+        assert!(rt; state_name(*state) == Some(*name), "state {state}");
+    }
+    for (kind, name) in kinds {
+        assert!(rt; kind_name(*kind) == Some(*name), "kind {kind}");
+    }
+}
+
 #[test]
 fn names(rt: HostRuntime) {
-    for (state, name) in STATES {
-        assert!(rt; state_name(state) == Some(name), "state {state}");
-    }
+    expect_names(&rt, &STATES, &KINDS);
     assert!(rt; state_name(0x102).is_none());
-    for (kind, name) in KINDS {
-        assert!(rt; kind_name(kind) == Some(name), "kind {kind}");
-    }
     assert!(rt; kind_name(0).is_none());
     assert!(rt; kind_name(5).is_none());
 }

@@ -1,9 +1,10 @@
 //! Sizes of images, tables that are refused, and records found again.
 
-use crate::{Field, Kind, Layout, LayoutError, LayoutFault, field_name, look_up};
+use omi_layout::{Field, Kind, Layout, LayoutError, LayoutFault, field_name, look_up};
 use omi_script::parse;
 use omi_word::{Image, MOST_WORDS, Op};
 use std::alloc::{AllocError, Global};
+use std::process::Abort;
 use std::test::Fail;
 
 /// A value that threads may share and move, and that is copied.
@@ -12,8 +13,11 @@ fn crosses_threads<T: Copy + Send + Sync>(_value: &T) {}
 #[test]
 fn images_have_their_sizes(rt: HostRuntime) -> Result<(), Fail> {
     crosses_threads(&Layout::family(0, 1));
-    assert_eq!(rt; Layout::family(0, 1).image_words(), 6966);
-    assert_eq!(rt; Layout::family(7, 1).image_words(), 7514);
+    let words = (
+        Layout::family(0, 1).image_words(),
+        Layout::family(7, 1).image_words(),
+    );
+    assert_eq!(rt; words, (6966, 7514));
     Ok(())
 }
 
@@ -42,46 +46,94 @@ fn refused(place: usize, word: u64) -> Option<LayoutFault> {
     }
 }
 
-#[test]
-fn tables_that_are_refused(rt: HostRuntime) -> Result<(), Fail> {
-    let table = [
-        (0, 9, LayoutFault::Version(9), 0),
-        (2, 12, LayoutFault::OutOfRecord(6), 17),
-        (2, 4097, LayoutFault::OutOfRecord(1), 12),
-        (5, 2, LayoutFault::OutOfRecord(24), 35),
-        (19, 0, LayoutFault::Overlap(7, 8), 19),
-        (1, 0x10319, LayoutFault::BadArena(1), 1),
-        (3, 0x10310, LayoutFault::BadArena(2), 3),
-        (8, 65, LayoutFault::BadArena(3), 6),
-        (11, 4097, LayoutFault::BadArena(4), 9),
-    ];
-    for (place, word, fault, named) in table {
-        assert_eq!(rt; refused(place, word), Some(fault));
-        assert_eq!(rt; fault.table_word(), named);
+/// Each table with one word changed has its fault, which names a word of the table.
+fn refuse_tables(rt: &impl Abort, rows: &[(usize, u64, LayoutFault, usize)]) {
+    for (place, word, fault, named) in rows {
+        assert_eq!(rt; refused(*place, *word), Some(*fault));
+        assert_eq!(rt; fault.table_word(), *named);
     }
-    Ok(())
+}
+
+const REFUSED: [(usize, u64, LayoutFault, usize); 9] = [
+    (0, 9, LayoutFault::Version(9), 0),
+    (2, 12, LayoutFault::OutOfRecord(6), 17),
+    (2, 4097, LayoutFault::OutOfRecord(1), 12),
+    (5, 2, LayoutFault::OutOfRecord(24), 35),
+    (19, 0, LayoutFault::Overlap(7, 8), 19),
+    (1, 0x10319, LayoutFault::BadArena(1), 1),
+    (3, 0x10310, LayoutFault::BadArena(2), 3),
+    (8, 65, LayoutFault::BadArena(3), 6),
+    (11, 4097, LayoutFault::BadArena(4), 9),
+];
+
+#[test]
+fn tables_that_are_refused(rt: HostRuntime) {
+    refuse_tables(&rt, &REFUSED);
 }
 
 #[test]
 fn records_are_found_again(rt: HostRuntime) -> Result<(), Fail> {
     let layout = Layout::family(0, 1);
-    assert_eq!(rt; layout.runtime_place(), 0x10318);
-    assert_eq!(rt; layout.thread_at(0), 0x10380);
-    assert_eq!(rt; layout.region_at(0, 0), 0x103b0);
-    assert_eq!(rt; layout.task_at(0, 0), 0x109b0);
+    let records = [
+        layout.runtime_place(),
+        layout.thread_at(0),
+        layout.region_at(0, 0),
+        layout.task_at(0, 0),
+        layout.word_at(0, 0, Field::TaskNthreads, 3),
+    ];
+    assert_eq!(rt;
+        records,
+        [0x10318, 0x10380, 0x103b0, 0x109b0, 0x109b0 + 8 * 21]
+    );
     assert_eq!(rt; layout.thread_of(0x10380), Some(0));
     assert_eq!(rt; layout.region_of(0x103b0 + 96), Some((0, 1)));
-    assert_eq!(rt; layout.task_of(0x109b0 + 208 * 255), Some((0, 255)));
-    assert_eq!(rt; layout.task_of(0x109b0 + 8), None);
-    assert_eq!(rt;
-        layout.word_at(0, 0, Field::TaskNthreads, 3),
-        0x109b0 + 8 * 21
-    );
-    assert_eq!(rt; layout.threads(), 1);
-    assert_eq!(rt; layout.regions_per_thread(), 16);
-    assert_eq!(rt; layout.tasks_per_thread(), 256);
-    assert_eq!(rt; layout.offset(44), 22);
+    let tasks = [
+        layout.task_of(0x109b0 + 208 * 255),
+        layout.task_of(0x109b0 + 8),
+    ];
+    assert_eq!(rt; tasks, [Some((0, 255)), None]);
+    let numbers = [
+        u16::from(layout.threads()),
+        layout.regions_per_thread(),
+        layout.tasks_per_thread(),
+        layout.offset(44),
+    ];
+    assert_eq!(rt; numbers, [1, 16, 256, 22]);
     Ok(())
+}
+
+/// Words of the published tables of the layout of family 0 for one thread.
+const PUBLISHED: [(u64, u64); 7] = [
+    (0x10000, 8),
+    (0x10028, 0x10148),
+    (0x10148, 0x10150),
+    (0x10158, 1),
+    (0x10160, 0x10318),
+    (0x10310, 22),
+    (0x10318, 0),
+];
+
+/// Symbols, with their addresses.
+const SYMBOLS: [(&str, Option<u64>); 4] = [
+    ("ompd_dll_locations", Some(0x10148)),
+    ("ompd_bp_parallel_end", Some(0x8010)),
+    ("omi_layout", Some(0x10158)),
+    ("omi", None),
+];
+
+/// An image has these words and these symbols.
+fn expect_tables(
+    rt: &impl Abort,
+    image: &Image,
+    words: &[(u64, u64)],
+    symbols: &[(&str, Option<u64>)],
+) {
+    for (address, word) in words {
+        assert_eq!(rt; image.get(*address), Some(*word));
+    }
+    for (name, address) in symbols {
+        assert_eq!(rt; look_up(image, name), *address);
+    }
 }
 
 #[test]
@@ -91,27 +143,7 @@ fn the_tables_are_published(rt: HostRuntime) -> Result<(), Fail> {
     let fits = layout.fits(image.len());
     assert!(rt; fits);
     layout.publish(&mut image);
-    let table = [
-        (0x10000, 8),
-        (0x10028, 0x10148),
-        (0x10148, 0x10150),
-        (0x10158, 1),
-        (0x10160, 0x10318),
-        (0x10310, 22),
-        (0x10318, 0),
-    ];
-    for (address, word) in table {
-        assert_eq!(rt; image.get(address), Some(word));
-    }
-    let symbols = [
-        ("ompd_dll_locations", Some(0x10148)),
-        ("ompd_bp_parallel_end", Some(0x8010)),
-        ("omi_layout", Some(0x10158)),
-        ("omi", None),
-    ];
-    for (name, address) in symbols {
-        assert_eq!(rt; look_up(&image, name), address);
-    }
+    expect_tables(&rt, &image, &PUBLISHED, &SYMBOLS);
     Ok(())
 }
 
@@ -131,8 +163,7 @@ fn fields_have_their_names(rt: HostRuntime) -> Result<(), Fail> {
     for (field, name) in table {
         assert_eq!(rt; field_name(field).as_bytes(), name.as_bytes());
     }
-    assert_eq!(rt; Kind::Runtime.number(), 1);
-    assert_eq!(rt; Kind::Tasks.number(), 4);
+    assert_eq!(rt; (Kind::Runtime.number(), Kind::Tasks.number()), (1, 4));
     Ok(())
 }
 
@@ -152,37 +183,48 @@ fn unread(alloc: Global, at: u64, word: u64) -> Result<Option<LayoutError>, Allo
     }
 }
 
+const READ: [(u64, u64, Option<LayoutError>); 6] = [
+    (0x10310, 22, None),
+    (0x10000, 17, Some(LayoutError::NoSymbol)),
+    (0x10000, 7, Some(LayoutError::NoSymbol)),
+    (
+        0x10140,
+        0x1d8b0,
+        Some(LayoutError::Unmapped { addr: 0x1d9b0 }),
+    ),
+    (
+        0x10158,
+        9,
+        Some(LayoutError::Refused {
+            addr: 0x10158,
+            fault: LayoutFault::Version(9),
+        }),
+    ),
+    (
+        0x10168,
+        12,
+        Some(LayoutError::Refused {
+            addr: 0x101e0,
+            fault: LayoutFault::OutOfRecord(6),
+        }),
+    ),
+];
+
+/// Each image with one word changed has its error, or none.
+fn read_all(
+    rt: &impl Abort,
+    alloc: Global,
+    rows: &[(u64, u64, Option<LayoutError>)],
+) -> Result<(), AllocError> {
+    for (at, word, error) in rows {
+        assert_eq!(rt; unread(alloc, *at, *word)?, *error);
+    }
+    Ok(())
+}
+
 #[test]
 fn words_that_give_a_layout(rt: HostRuntime) -> Result<(), Fail> {
-    let table = [
-        (0x10310, 22, None),
-        (0x10000, 17, Some(LayoutError::NoSymbol)),
-        (0x10000, 7, Some(LayoutError::NoSymbol)),
-        (
-            0x10140,
-            0x1d8b0,
-            Some(LayoutError::Unmapped { addr: 0x1d9b0 }),
-        ),
-        (
-            0x10158,
-            9,
-            Some(LayoutError::Refused {
-                addr: 0x10158,
-                fault: LayoutFault::Version(9),
-            }),
-        ),
-        (
-            0x10168,
-            12,
-            Some(LayoutError::Refused {
-                addr: 0x101e0,
-                fault: LayoutFault::OutOfRecord(6),
-            }),
-        ),
-    ];
-    for (at, word, error) in table {
-        assert_eq!(rt; unread(rt.alloc(), at, word)?, error);
-    }
+    read_all(&rt, rt.alloc(), &READ)?;
     Ok(())
 }
 

@@ -1,8 +1,9 @@
 //! Worked files: each field at its limits, each fault at its place, and the greatest core.
 
-use super::*;
+use omi_corefile::{CoreError, CoreFault, core_bytes_of, core_of, decode, encode};
 use omi_word::{FIRST_ADDRESS, Image, Natives, Op};
 use std::alloc::{AllocError, Global};
+use std::process::Abort;
 use std::test::*;
 
 /// The core of the words 1, 2^63 and 0x0102030405060708, and of the context 1000, written out by hand.
@@ -35,7 +36,6 @@ fn three_words(rt: HostRuntime) -> Result<(), Fail> {
     let core = core_of(rt.alloc(), &image, &contexts, 0)?;
     assert_eq!(rt; core.segments.len(), 1);
     let bytes = encode(rt.alloc(), &core)?;
-    assert_eq!(rt; bytes.len(), 24 + 16 + 8 * 3);
     assert_eq!(rt; bytes.as_slice(), THREE_WORDS.as_slice());
     let at_once = core_bytes_of(rt.alloc(), &image, &contexts)?;
     assert_eq!(rt; at_once.as_slice(), THREE_WORDS.as_slice());
@@ -55,15 +55,12 @@ fn no_words(rt: HostRuntime) -> Result<(), Fail> {
 fn read_again(rt: HostRuntime) -> Result<(), Fail> {
     let core = decode(rt.alloc(), &THREE_WORDS)?;
     assert_eq!(rt; core.order, 0);
-    assert_eq!(rt; core.contexts.len(), 1);
-    assert_eq!(rt; *core.contexts.get(0), 1000);
+    assert_eq!(rt; core.contexts.as_slice(), [1000u64].as_slice());
     assert_eq!(rt; core.segments.len(), 1);
     let segment = core.segments.get(0);
     assert_eq!(rt; segment.start, FIRST_ADDRESS);
-    assert_eq!(rt; segment.words.len(), 3);
-    assert_eq!(rt; *segment.words.get(0), 1);
-    assert_eq!(rt; *segment.words.get(1), 1 << 63);
-    assert_eq!(rt; *segment.words.get(2), 0x0102030405060708);
+    let words = [1u64, 1 << 63, 0x0102030405060708];
+    assert_eq!(rt; segment.words.as_slice(), words.as_slice());
     Ok(())
 }
 
@@ -133,11 +130,16 @@ const HEADERS: [(&[u8], u64, CoreFault); 16] = [
     ),
 ];
 
+/// Each file is refused with its fault at its place.
+fn refuse_all(rt: &impl Abort, alloc: Global, rows: &[(&[u8], u64, CoreFault)]) {
+    for (bytes, at, why) in rows {
+        assert!(rt; is_refused(alloc, bytes, *at, *why), "{why:?}");
+    }
+}
+
 #[test]
 fn headers(rt: HostRuntime) {
-    for (bytes, at, why) in HEADERS {
-        assert!(rt; is_refused(rt.alloc(), bytes, at, why), "{why:?}");
-    }
+    refuse_all(&rt, rt.alloc(), &HEADERS);
 }
 
 /// A file with these counts, and these numbers after its header.
@@ -230,21 +232,32 @@ const BAD: [(u8, u8, &[u64], u64, CoreFault); 21] = [
     (0, 0, &[9], 16, CoreFault::Trailing(16)),
 ];
 
-#[test]
-fn good_numbers(rt: HostRuntime) -> Result<(), Fail> {
-    for (contexts, segments, numbers) in GOOD {
-        let bytes = file(rt.alloc(), contexts, segments, numbers)?;
-        assert!(rt; decode(rt.alloc(), &bytes).is_ok(), "{numbers:?}");
+/// Each file is a core.
+fn read_files(rt: &impl Abort, alloc: Global, rows: &[(u8, u8, &[u64])]) -> Result<(), AllocError> {
+    for (contexts, segments, numbers) in rows {
+        let bytes = file(alloc, *contexts, *segments, numbers)?;
+        assert!(rt; decode(alloc, &bytes).is_ok(), "{numbers:?}");
+    }
+    Ok(())
+}
+
+/// Each file is refused with its fault at its place.
+fn refuse_files(
+    rt: &impl Abort,
+    alloc: Global,
+    rows: &[(u8, u8, &[u64], u64, CoreFault)],
+) -> Result<(), AllocError> {
+    for (contexts, segments, numbers, at, why) in rows {
+        let bytes = file(alloc, *contexts, *segments, numbers)?;
+        assert!(rt; is_refused(alloc, &bytes, *at, *why), "{numbers:?}");
     }
     Ok(())
 }
 
 #[test]
-fn bad_numbers(rt: HostRuntime) -> Result<(), Fail> {
-    for (contexts, segments, numbers, at, why) in BAD {
-        let bytes = file(rt.alloc(), contexts, segments, numbers)?;
-        assert!(rt; is_refused(rt.alloc(), &bytes, at, why), "{numbers:?}");
-    }
+fn numbers(rt: HostRuntime) -> Result<(), Fail> {
+    read_files(&rt, rt.alloc(), &GOOD)?;
+    refuse_files(&rt, rt.alloc(), &BAD)?;
     Ok(())
 }
 
@@ -256,8 +269,7 @@ fn most_contexts(rt: HostRuntime) -> Result<(), Fail> {
     }
     let bytes = file(rt.alloc(), 64, 0, &ids)?;
     let core = decode(rt.alloc(), &bytes)?;
-    assert_eq!(rt; core.contexts.len(), 64);
-    assert_eq!(rt; *core.contexts.get(63), 189);
+    assert_eq!(rt; core.contexts.as_slice(), ids.as_slice());
     Ok(())
 }
 
@@ -289,24 +301,28 @@ fn most_words(rt: HostRuntime) -> Result<(), Fail> {
     Ok(())
 }
 
-/// The faults in the order of their numbers, with their names.
-const NAMES: [(CoreFault, &str); 8] = [
-    (CoreFault::BadMagic, "BadMagic"),
-    (CoreFault::Version(2), "Version"),
-    (CoreFault::Order(1), "Order"),
-    (CoreFault::Short(3), "Short"),
-    (CoreFault::TooLarge(3), "TooLarge"),
-    (CoreFault::SegmentOrder(3), "SegmentOrder"),
-    (CoreFault::BadContext(3), "BadContext"),
-    (CoreFault::Trailing(3), "Trailing"),
+/// The faults with their numbers and names.
+const NAMES: [(CoreFault, u8, &str); 8] = [
+    (CoreFault::BadMagic, 1, "BadMagic"),
+    (CoreFault::Version(2), 2, "Version"),
+    (CoreFault::Order(1), 3, "Order"),
+    (CoreFault::Short(3), 4, "Short"),
+    (CoreFault::TooLarge(3), 5, "TooLarge"),
+    (CoreFault::SegmentOrder(3), 6, "SegmentOrder"),
+    (CoreFault::BadContext(3), 7, "BadContext"),
+    (CoreFault::Trailing(3), 8, "Trailing"),
 ];
+
+/// Each fault has its number and its name.
+fn expect_names(rt: &impl Abort, rows: &[(CoreFault, u8, &str)]) {
+    for (fault, number, name) in rows {
+        assert_eq!(rt; (fault.number(), fault.text()), (*number, *name));
+    }
+}
 
 #[test]
 fn names(rt: HostRuntime) -> Result<(), Fail> {
-    for (before, (fault, name)) in NAMES.into_iter().enumerate() {
-        assert_eq!(rt; fault.number() as usize, before + 1);
-        assert_eq!(rt; fault.text(), name);
-    }
+    expect_names(&rt, &NAMES);
     let error = CoreError::Fault {
         at: 3,
         why: CoreFault::Short(3),
