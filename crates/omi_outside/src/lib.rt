@@ -29,10 +29,3 @@ pub use whole::{ReadError, put_whole, read_whole, write_whole};
 
 /// Memory ran out.
 pub type OutOfMemory = std::alloc::AllocError;
-
-#[cfg(test)]
-mod edge_tests;
-#[cfg(test)]
-mod stand_in;
-#[cfg(test)]
-mod tests;

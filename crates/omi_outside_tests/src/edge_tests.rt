@@ -1,6 +1,8 @@
-// Tests of the edge over real files and standard output, which no clause reaches.
-use super::*;
+//! Tests of the edge over real files and standard output, which no clause reaches.
 use crate::stand_in::{Unruly, UnrulyOutput, letters};
+use omi_outside::{
+    DiskFiles, Failed, Files, ReadError, Refused, Sink, StdSink, put_whole, read_whole, write_whole,
+};
 use std::alloc::Global;
 use std::fs::Permissions;
 use std::io::ErrorKind;

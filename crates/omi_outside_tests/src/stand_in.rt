@@ -1,6 +1,6 @@
-// Stand-ins for the system's files and output, which take few bytes a call, are interrupted and
-// fail. The bytes go to real files.
-use super::*;
+//! Stand-ins for the system's files and output, which take few bytes a call, are interrupted and
+//! fail. The bytes go to real files.
+use omi_outside::OutOfMemory;
 use std::alloc::{Allocator, Global};
 use std::cell::Cell;
 use std::fmt::Display;
