@@ -10,16 +10,3 @@ mod rows;
 mod viewing;
 
 pub use viewing::view_of;
-
-#[cfg(test)]
-mod list_tests;
-#[cfg(test)]
-mod read_events;
-#[cfg(test)]
-mod report_tests;
-#[cfg(test)]
-mod row_tests;
-#[cfg(test)]
-mod walk_tests;
-#[cfg(test)]
-mod well_formed;

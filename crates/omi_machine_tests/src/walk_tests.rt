@@ -2,26 +2,30 @@
 ghost use Rattle.std.specs.Prelude.{◌<◌};
 ghost use Rattle.omi_machine.specs.Kept.{state_of};
 
-use crate::view_of;
 use crate::well_formed::{is_well_formed, name_at};
+use omi_list::List;
 use omi_machine::{State, after, head_item, legal, may_pass_over, opening};
-use omi_model::{Event, EventList, Id, Item, Progress, Rid, Rows, Slot, Team, Tid};
+use omi_model::{Event, Id, Item, Progress, Rid, Rows, Slot, Team, Tid};
 use omi_script::{Program, parse};
+use omi_view::view_of;
 use omi_word::{Natives, OutOfMemory};
 use std::alloc::Global;
 use std::test::Fail;
 
 /// Programs of every statement. Critical regions contain no waits, so that no walk is stuck.
-const SCRIPTS: [&[u8]; 8] = [
-    b"threads 2\nfunc w\nwork\nend\nfunc a\ntask w\ntask w final 1\ntaskwait\ntaskyield\nend\nfunc main\nparallel a\ntask a\ntaskwait\nend\n",
-    b"threads 3\nfunc w\nwork\nend\nfunc c\ncritical 0 w\ncritical 3 w\nend\nfunc b\nbarrier\nonly 0 c\nrepeat 3 w\nbarrier\ncall c\nend\nfunc main\nparallel b num 3\nend\n",
-    b"threads 4\nenv num_threads 3,2\nfunc w\nwork\nend\nfunc m\nparallel w\nset_num_threads 2\nparallel w num 4\nend\nfunc main\nparallel m\nend\n",
-    b"threads 3\nenv debug disabled\nfunc w\nwork\nend\nfunc a\ntask w\ntask w\ntaskwait\nbarrier\nend\nfunc main\nparallel a num 2\ntask w if 0\nend\n",
-    b"threads 2\nfunc w\nwork\nend\nfunc m\nset_schedule guided 7\nset_default_device 3\nparallel w\ntool 77\nend\nfunc main\nset_max_active_levels 1\nset_dynamic 1\nset_num_threads 5\nparallel m\nend\n",
-    b"threads 2\nfunc w\nwork\nend\nfunc f\ntask w\ntask w if 0\ntaskyield\nend\nfunc main\ntask f\ntask f final 1\ntask w\ntask w\ntask w\ntask w\ntask w\ntask f if 0\nend\n",
-    b"threads 3\nfunc w\nwork\nend\nfunc h\nparallel w num 2\nend\nfunc g\ntask h\nonly 1 h\ntaskyield\nend\nfunc main\nparallel g num 2\nend\n",
-    b"threads 3\nfunc w\nwork\nend\nfunc t\ntask w\nend\nfunc c\ncritical 1 t\nrepeat 2 t\ncritical 7 w\nend\nfunc main\nparallel c\nend\n",
+const SCRIPTS: [&str; 8] = [
+    "threads 2\nfunc w\nwork\nend\nfunc a\ntask w\ntask w final 1\ntaskwait\ntaskyield\nend\nfunc main\nparallel a\ntask a\ntaskwait\nend\n",
+    "threads 3\nfunc w\nwork\nend\nfunc c\ncritical 0 w\ncritical 3 w\nend\nfunc b\nbarrier\nonly 0 c\nrepeat 3 w\nbarrier\ncall c\nend\nfunc main\nparallel b num 3\nend\n",
+    "threads 4\nenv num_threads 3,2\nfunc w\nwork\nend\nfunc m\nparallel w\nset_num_threads 2\nparallel w num 4\nend\nfunc main\nparallel m\nend\n",
+    "threads 3\nenv debug disabled\nfunc w\nwork\nend\nfunc a\ntask w\ntask w\ntaskwait\nbarrier\nend\nfunc main\nparallel a num 2\ntask w if 0\nend\n",
+    "threads 2\nfunc w\nwork\nend\nfunc m\nset_schedule guided 7\nset_default_device 3\nparallel w\ntool 77\nend\nfunc main\nset_max_active_levels 1\nset_dynamic 1\nset_num_threads 5\nparallel m\nend\n",
+    "threads 2\nfunc w\nwork\nend\nfunc f\ntask w\ntask w if 0\ntaskyield\nend\nfunc main\ntask f\ntask f final 1\ntask w\ntask w\ntask w\ntask w\ntask w\ntask f if 0\nend\n",
+    "threads 3\nfunc w\nwork\nend\nfunc h\nparallel w num 2\nend\nfunc g\ntask h\nonly 1 h\ntaskyield\nend\nfunc main\nparallel g num 2\nend\n",
+    "threads 3\nfunc w\nwork\nend\nfunc t\ntask w\nend\nfunc c\ncritical 1 t\nrepeat 2 t\ncritical 7 w\nend\nfunc main\nparallel c\nend\n",
 ];
+
+/// Events that are proposed, each of a thread.
+type Proposals = List<(u8, Event)>;
 
 /// More events than a walk has.
 const MOST: usize = 5000;
@@ -78,7 +82,7 @@ fn new_team(s: &State, i: u8, from: usize) -> Team
 }
 
 /// Proposes that tasks begin: the thread's implicit tasks, or deferred ones.
-fn propose_tasks(s: &State, i: u8, list: &mut EventList) -> Result<(), OutOfMemory> {
+fn propose_tasks(s: &State, i: u8, list: &mut Proposals) -> Result<(), OutOfMemory> {
     let tasks = s.tasks();
     for c in 0..tasks.len() {
         let row = tasks.get(c);
@@ -90,10 +94,10 @@ fn propose_tasks(s: &State, i: u8, list: &mut EventList) -> Result<(), OutOfMemo
             let task = Tid(n);
             match &slot.live {
                 Some(t) if t.progress == Progress::NotBegun => {
-                    list.push((0, i, Event::ImplicitBegin { task }))?
+                    list.push((i, Event::ImplicitBegin { task }))?
                 }
                 Some(t) if t.progress == Progress::Deferred => {
-                    list.push((0, i, Event::Start { task }))?
+                    list.push((i, Event::Start { task }))?
                 }
                 _ => (),
             }
@@ -103,34 +107,34 @@ fn propose_tasks(s: &State, i: u8, list: &mut EventList) -> Result<(), OutOfMemo
 }
 
 /// Proposes asks for each thread, that joins or not.
-fn propose_asks(s: &State, i: u8, list: &mut EventList) -> Result<(), OutOfMemory> {
+fn propose_asks(s: &State, i: u8, list: &mut Proposals) -> Result<(), OutOfMemory> {
     for w in 0..s.count() {
         let w = u8::try_from(w).unwrap_or(u8::MAX);
-        list.push((0, i, Event::Ask { w, got: true }))?;
-        list.push((0, i, Event::Ask { w, got: false }))?;
+        list.push((i, Event::Ask { w, got: true }))?;
+        list.push((i, Event::Ask { w, got: false }))?;
     }
     Ok(())
 }
 
 /// Proposes each size of a team.
-fn propose_sizes(i: u8, list: &mut EventList) -> Result<(), OutOfMemory> {
+fn propose_sizes(i: u8, list: &mut Proposals) -> Result<(), OutOfMemory> {
     for n in 0..65 {
-        list.push((0, i, Event::Want { n }))?;
+        list.push((i, Event::Want { n }))?;
     }
     Ok(())
 }
 
 /// Proposes what ends by the current task: an implicit task, a region or an explicit task.
-fn propose_ends(s: &State, i: u8, list: &mut EventList) -> Result<(), OutOfMemory>
+fn propose_ends(s: &State, i: u8, list: &mut Proposals) -> Result<(), OutOfMemory>
     requires { i < (state_of s.now).count }
 {
     let Some(task) = s.thread(i as usize).current else {
         return Ok(());
     };
-    list.push((0, i, Event::ImplicitEnd { task }))?;
-    list.push((0, i, Event::Finish { task }))?;
+    list.push((i, Event::ImplicitEnd { task }))?;
+    list.push((i, Event::Finish { task }))?;
     match s.task_of(task) {
-        Some(t) => list.push((0, i, Event::Join { region: t.region })),
+        Some(t) => list.push((i, Event::Join { region: t.region })),
         None => Ok(()),
     }
 }
@@ -141,17 +145,17 @@ fn propose_new(
     i: u8,
     seen: u8,
     dice: &mut Dice,
-    list: &mut EventList,
+    list: &mut Proposals,
 ) -> Result<(), OutOfMemory> {
     let past = kept(s.tasks(), i as usize).saturating_add(dice.roll(3));
     let task = Tid(fresh(i, past));
-    list.push((0, i, Event::Seen { j: seen }))?;
-    list.push((0, i, Event::Defer { task }))?;
-    list.push((0, i, Event::StartNow { task }))
+    list.push((i, Event::Seen { j: seen }))?;
+    list.push((i, Event::Defer { task }))?;
+    list.push((i, Event::StartNow { task }))
 }
 
 /// Proposes a fork in free slots.
-fn propose_fork(s: &State, i: u8, dice: &mut Dice, list: &mut EventList) -> Result<(), OutOfMemory>
+fn propose_fork(s: &State, i: u8, dice: &mut Dice, list: &mut Proposals) -> Result<(), OutOfMemory>
     requires { i < (state_of s.now).count }
 {
     let region = Rid(fresh(
@@ -163,7 +167,7 @@ fn propose_fork(s: &State, i: u8, dice: &mut Dice, list: &mut EventList) -> Resu
         i,
         kept(s.tasks(), i as usize).saturating_add(dice.roll(3)),
     );
-    list.push((0, i, Event::Fork { region, team }))
+    list.push((i, Event::Fork { region, team }))
 }
 
 /// The event of an item that stands for one event, whatever the state.
@@ -198,7 +202,7 @@ fn propose(
     i: u8,
     x: Item,
     dice: &mut Dice,
-    list: &mut EventList,
+    list: &mut Proposals,
 ) -> Result<(), OutOfMemory>
     requires { i < (state_of s.now).count }
 {
@@ -211,7 +215,7 @@ fn propose(
         Item::Defer { seen, .. } => propose_new(s, i, seen, dice, list),
         Item::StartNow { .. } => propose_new(s, i, 0, dice, list),
         _ => match event_of(x) {
-            Some(e) => list.push((0, i, e)),
+            Some(e) => list.push((i, e)),
             None => Ok(()),
         },
     }
@@ -222,7 +226,7 @@ fn propose_thread(
     s: &State,
     i: u8,
     dice: &mut Dice,
-    list: &mut EventList,
+    list: &mut Proposals,
 ) -> Result<(), OutOfMemory>
     requires { i < (state_of s.now).count }
 {
@@ -238,8 +242,8 @@ fn propose_thread(
 }
 
 /// Proposes the events of all threads.
-fn proposals(alloc: Global, s: &State, dice: &mut Dice) -> Result<EventList, OutOfMemory> {
-    let mut list = EventList::new(alloc);
+fn proposals(alloc: Global, s: &State, dice: &mut Dice) -> Result<Proposals, OutOfMemory> {
+    let mut list = Proposals::new(alloc);
     for i in 0..s.count() {
         let Ok(thread) = u8::try_from(i) else {
             return Ok(list);
@@ -250,9 +254,9 @@ fn proposals(alloc: Global, s: &State, dice: &mut Dice) -> Result<EventList, Out
 }
 
 /// The first legal event from some place on.
-fn pick(p: &Program, s: &State, list: &EventList, from: usize) -> Option<(u8, Event)> {
+fn pick(p: &Program, s: &State, list: &Proposals, from: usize) -> Option<(u8, Event)> {
     for k in 0..list.len() {
-        let (_, thread, e) = *list.get(k.saturating_add(from) % list.len());
+        let (thread, e) = *list.get(k.saturating_add(from) % list.len());
         if legal(p, s, thread, &e) {
             return Some((thread, e));
         }
@@ -302,7 +306,7 @@ fn two_thousand_walks(rt: HostRuntime) -> Result<(), Fail> {
     }
     let mut events = 0usize;
     for n in 0..2000 {
-        let p = parse(alloc, SCRIPTS[n % 8])?;
+        let p = parse(alloc, SCRIPTS[n % 8].as_bytes())?;
         match walk(alloc, &p, &contexts, &mut dice)? {
             Some(more) => events = events.saturating_add(more),
             None => assert!(rt; false, "walk {n}"),

@@ -1,14 +1,14 @@
 //! The whole report of a half-made fork, and that of the fork.
 use crate::read_events::event;
-use crate::view_of;
 use omi_machine::{State, after, legal, opening};
 use omi_script::parse;
 use omi_text::report_text;
+use omi_view::view_of;
 use omi_word::Natives;
 use std::test::Fail;
 
 /// A function that works, and a team of two threads over it.
-const SCRIPT: &[u8] = b"threads 2\nfunc f\nwork\nend\nfunc main\nparallel f num 2\nend\n";
+const SCRIPT: &str = "threads 2\nfunc f\nwork\nend\nfunc main\nparallel f num 2\nend\n";
 
 /// The events before the fork.
 const BEFORE: &str = "t1 begin; t1 offer; t0 enter; t0 state overhead 0; t0 want 2; t0 ask 1 got";
@@ -17,7 +17,7 @@ const BEFORE: &str = "t1 begin; t1 offer; t0 enter; t0 state overhead 0; t0 want
 const FORK: &str = "t0 fork r0.1.0 size 2 team k0.1.0@0 k0.2.0@1";
 
 /// The report before the fork.
-const HALF_MADE: &[u8] = b"ompd 201811 threads 2 debug enabled
+const HALF_MADE: &str = "ompd 201811 threads 2 debug enabled
 icv num-procs-var=4 max-active-levels-var=8
 thread 0 native 1000 state overhead wait 0 thread-num-var=0 current k0.0.0
 thread 1 native 1001 state idle wait 0 thread-num-var=none current none
@@ -28,7 +28,7 @@ icv dyn-var=0 nthreads-var=2 run-sched-var=static,0 default-device-var=0 final-t
 ";
 
 /// The report after it.
-const FORKED: &[u8] = b"ompd 201811 threads 2 debug enabled
+const FORKED: &str = "ompd 201811 threads 2 debug enabled
 icv num-procs-var=4 max-active-levels-var=8
 thread 0 native 1000 state overhead wait 0 thread-num-var=0 current k0.1.0
 thread 1 native 1001 state idle wait 0 thread-num-var=none current none
@@ -45,7 +45,7 @@ icv dyn-var=0 nthreads-var=2 run-sched-var=static,0 default-device-var=0 final-t
 
 /// The state behind these events, each of them legal.
 fn state_behind(rt: &HostRuntime, events: &str) -> Result<State, Fail> {
-    let p = parse(rt.alloc(), SCRIPT)?;
+    let p = parse(rt.alloc(), SCRIPT.as_bytes())?;
     let mut s = opening(rt.alloc(), &p)?;
     for line in events.split(';') {
         let (thread, e) = event(line).ok_or("no event")?;
@@ -69,7 +69,7 @@ fn report(rt: &HostRuntime, s: &State) -> Result<Vec<u8>, Fail> {
 #[test]
 fn half_made_update(rt: HostRuntime) -> Result<(), Fail> {
     let text = report(&rt, &state_behind(&rt, BEFORE)?)?;
-    assert!(rt; text.as_slice() == HALF_MADE);
+    assert!(rt; text.as_slice() == HALF_MADE.as_bytes());
     Ok(())
 }
 
@@ -77,6 +77,6 @@ fn half_made_update(rt: HostRuntime) -> Result<(), Fail> {
 fn the_commit(rt: HostRuntime) -> Result<(), Fail> {
     let events = format!(in rt.alloc(); "{BEFORE}; {FORK}")?;
     let text = report(&rt, &state_behind(&rt, &events)?)?;
-    assert!(rt; text.as_slice() == FORKED);
+    assert!(rt; text.as_slice() == FORKED.as_bytes());
     Ok(())
 }
