@@ -1,0 +1,13 @@
+//! Stopped runs as targets of a debugger: their words, changed or not, behind callbacks that count. For tests of the library.
+#![tactic(auto)]
+
+mod stopped;
+mod target;
+mod words;
+
+pub use stopped::{
+    A_TEAM_OF_TWO, AN_EMPTY_RUN, Stopped, Wrong, after, at_fork, core_at, few, library, open,
+    two_stops,
+};
+pub use target::{Asked, BIG, ByteOrder, LITTLE, Target};
+pub use words::{Change, Words};

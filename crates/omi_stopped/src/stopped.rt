@@ -1,0 +1,177 @@
+//! Stopped runs: the core of a script's run, its threads in turn, and a session over it.
+
+ghost use Rattle.std.specs.Prelude.{◌≡◌, ◌≤◌, IfOk, IfSome, OnOk, if◌then◌else◌};
+ghost use Rattle.omi_calls.specs.Kept.{GivesNumbers, TakesAll};
+ghost use Rattle.omi_core.specs.Taskless.{IsTaskless};
+
+use crate::{Asked, ByteOrder, Target};
+use omi_calls::{Callbacks, MemCalls, Table, ToHost};
+use omi_core::{Break, Core, Schedule, Stop, is_taskless};
+use omi_corefile::{CoreImage, core_of};
+use omi_layout::{Layout, MOST_THREADS};
+use omi_rep::suits;
+use omi_script::parse;
+use omi_session::{Library, Rc, Session, initialize};
+use omi_word::{Natives, OutOfMemory};
+use std::alloc::{AllocFailed, Global};
+
+/// A script with a region of two members.
+pub const A_TEAM_OF_TWO: &str = "threads 2
+func f
+work
+end
+func main
+parallel f num 2
+end
+";
+
+/// A script without a region but the initial one.
+pub const AN_EMPTY_RUN: &str = "func main
+end
+";
+
+/// Why there is no session over a stopped run.
+#[derive(Clone, Copy, Debug, PartialEq, Eq)]
+pub enum Wrong {
+    /// The script has no program that is run.
+    NoProgram,
+    /// The bytes are no core.
+    NoCore,
+    NoMemory,
+    Refused(Rc),
+}
+
+impl From<OutOfMemory> for Wrong {
+    fn from(_e: OutOfMemory) -> Wrong {
+        Wrong::NoMemory
+    }
+}
+
+impl<T: Drop> From<AllocFailed<T>> for Wrong {
+    fn from(_e: AllocFailed<T>) -> Wrong {
+        Wrong::NoMemory
+    }
+}
+
+impl From<Rc> for Wrong {
+    fn from(rc: Rc) -> Wrong {
+        Wrong::Refused(rc)
+    }
+}
+
+/// A run that stops after so many steps.
+pub fn after(steps: u64) -> Stop
+    ensures { IfSome result.on (λ on. 1 ≤ on.1) }
+{
+    Stop { steps, on: None }
+}
+
+/// A run that stops at its first fork.
+pub fn at_fork() -> Stop
+    ensures { IfSome result.on (λ on. 1 ≤ on.1) }
+{
+    Stop {
+        steps: 10_000,
+        on: Some((Break::ParallelBegin, 1)),
+    }
+}
+
+/// A run of a script in the layout of a family, before its first step.
+fn opened(alloc: Global, script: &str, family: u8) -> Result<Core, Wrong>
+    ensures { IfOk result (λ core. IsTaskless core.program) }
+{
+    let Ok(program) = parse(alloc, script.as_bytes()) else {
+        return Err(Wrong::NoProgram);
+    };
+    let threads = program.threads;
+    if family > 15 || threads < 1 || u64::from(threads) > MOST_THREADS {
+        return Err(Wrong::NoProgram);
+    }
+    let layout = Layout::family(family, threads);
+    if !suits(&program, &layout) || !is_taskless(&program) {
+        return Err(Wrong::NoProgram);
+    }
+    Ok(Core::opening(alloc, program, layout)?)
+}
+
+/// The core of a script's run in the layout of a family, its threads in turn.
+pub fn core_at(alloc: Global, script: &str, family: u8, stop: Stop) -> Result<CoreImage, Wrong>
+    requires { IfSome stop.on (λ on. 1 ≤ on.1) }
+    ensures { IfOk result (λ core. core.order ≡ 0) }
+{
+    let mut run = opened(alloc, script, family)?;
+    run.run(&Schedule::RoundRobin, stop)?;
+    Ok(core_of(alloc, run.image(), &Natives::new(alloc), 0)?)
+}
+
+/// The cores of a script's run in the layout of family 0: after so many steps, its threads in turn, and after so many more.
+pub fn two_stops(
+    alloc: Global,
+    script: &str,
+    steps: [u64; 2],
+) -> Result<(CoreImage, CoreImage), Wrong>
+    ensures { IfOk result (λ cores. cores.0.order ≡ 0 × cores.1.order ≡ 0) }
+{
+    let mut run = opened(alloc, script, 0)?;
+    run.run(&Schedule::RoundRobin, after(steps[0]))?;
+    let first = core_of(alloc, run.image(), &Natives::new(alloc), 0)?;
+    run.run(&Schedule::RoundRobin, after(steps[1]))?;
+    let second = core_of(alloc, run.image(), &Natives::new(alloc), 0)?;
+    Ok((first, second))
+}
+
+/// A session with a target.
+pub type Stopped<'a, F> = Session<Target<'a>, F>;
+
+/// A library over a core, in an order of the bytes of a word. The calls of these numbers fail.
+pub fn library<'a, F: ToHost>(
+    alloc: Global,
+    core: CoreImage,
+    order: ByteOrder,
+    to_host: F,
+    failing: &[u64],
+    asked: &'a Asked,
+) -> Result<Library<Target<'a>, F>, Wrong>
+    requires takes { TakesAll (F.takes to_host) }
+    requires gives { GivesNumbers (F.gives to_host) (if order.highest_first then 1 else 0) }
+{
+    let calls = MemCalls::over(core, failing.to_vec(alloc)?);
+    let target = Target {
+        calls,
+        order,
+        asked,
+    };
+    match initialize(201811, Table::new(target, order.number(), to_host)) {
+        Ok(library) => Ok(library),
+        Err((rc, _)) => Err(Wrong::Refused(rc)),
+    }
+}
+
+/// A session over a core, in an order of the bytes of a word.
+pub fn open<'a, F: ToHost>(
+    alloc: Global,
+    core: CoreImage,
+    order: ByteOrder,
+    to_host: F,
+    asked: &'a Asked,
+) -> Result<Stopped<'a, F>, Wrong>
+    requires takes { TakesAll (F.takes to_host) }
+    requires gives { GivesNumbers (F.gives to_host) (if order.highest_first then 1 else 0) }
+{
+    let library = library(alloc, core, order, to_host, &[], asked)?;
+    match library.process_initialize(alloc) {
+        Ok(session) => Ok(session),
+        Err((rc, _)) => Err(Wrong::Refused(rc)),
+    }
+}
+
+/// Whether few handles were made, so that there are pairs for more.
+pub fn few<C: Callbacks, F: ToHost>(s: &Session<C, F>) -> Result<(), Rc>
+    ensures { OnOk result (s.now.handles.made ≤ 100) }
+{
+    if s.made() > 100 {
+        Err(Rc::NoMem)
+    } else {
+        Ok(())
+    }
+}
