@@ -1,4 +1,5 @@
 //! Tests of the edge over real files and standard output, which no clause reaches.
+use crate::expecting::expect_equal;
 use crate::stand_in::{Unruly, UnrulyOutput, letters};
 use omi_outside::{
     DiskFiles, Failed, Files, ReadError, Refused, Sink, StdSink, put_whole, read_whole, write_whole,
@@ -49,8 +50,8 @@ fn real_files_write_and_read(rt: HostRuntime) -> Result<(), Fail> {
     let shorter = write_whole(&mut files, name, b"short");
     let left = holds(&rt, name, b"short");
     fs::remove_file(&rt, name)?;
-    assert_eq!(rt; (missing, written), (Ok(None), (Ok(()), Ok(()))));
-    assert_eq!(rt; (whole, shorter, left), ((true, true), Ok(()), true));
+    expect_equal(&rt, &(missing, written), &(Ok(None), (Ok(()), Ok(()))));
+    expect_equal(&rt, &(whole, shorter, left), &((true, true), Ok(()), true));
     Ok(())
 }
 
@@ -66,10 +67,11 @@ fn real_files_read_in_pieces(rt: HostRuntime) -> Result<(), Fail> {
     let other = files.read_at("other", 0, &mut piece);
     let past = files.read_at(name, 5, &mut piece);
     fs::remove_file(&rt, name)?;
-    assert_eq!(rt; (written, size, last), (Ok(()), Ok(Some(5)), Ok(2)));
-    assert_eq!(rt;
-        (other, past, piece),
-        (Err(Failed), Err(Failed), [b'd', b'e', 0, 0])
+    expect_equal(&rt, &(written, size, last), &(Ok(()), Ok(Some(5)), Ok(2)));
+    expect_equal(
+        &rt,
+        &(other, past, piece),
+        &(Err(Failed), Err(Failed), [b'd', b'e', 0, 0]),
     );
     Ok(())
 }
@@ -84,7 +86,11 @@ fn real_files_append(rt: HostRuntime) -> Result<(), Fail> {
     let again = DiskFiles::new(rt.clone()?).append(name, b"ef");
     let added = holds(&rt, name, b"abcdef");
     fs::remove_file(&rt, name)?;
-    assert_eq!(rt; (made, again, added), ((Ok(()), Ok(())), Ok(()), true));
+    expect_equal(
+        &rt,
+        &(made, again, added),
+        &((Ok(()), Ok(())), Ok(()), true),
+    );
     Ok(())
 }
 
@@ -98,9 +104,10 @@ fn files_that_are_written_stay_open(rt: HostRuntime) -> Result<(), Fail> {
     let followed = (files.append(name, b"gh"), files.append(name, b"ij"));
     let left = (holds(&rt, name, b""), holds(&rt, elsewhere, b"ghij"));
     fs::remove_file(&rt, elsewhere)?;
-    assert_eq!(rt;
-        (created, followed, left),
-        (Ok(()), (Ok(()), Ok(())), (false, true))
+    expect_equal(
+        &rt,
+        &(created, followed, left),
+        &(Ok(()), (Ok(()), Ok(())), (false, true)),
     );
     Ok(())
 }
@@ -116,11 +123,12 @@ fn names_that_are_no_files(rt: HostRuntime) -> Result<(), Fail> {
     let through = (files.size(below.as_str()), files.create(below.as_str()));
     fs::remove_file(&rt, name)?;
     let gone = files.append(below.as_str(), b"x");
-    assert_eq!(rt;
-        (written, through),
-        (Ok(()), (Ok(None), Err(Refused::Failed)))
+    expect_equal(
+        &rt,
+        &(written, through),
+        &(Ok(()), (Ok(None), Err(Refused::Failed))),
     );
-    assert_eq!(rt; gone, Err(Refused::Failed));
+    expect_equal(&rt, &gone, &Err(Refused::Failed));
     Ok(())
 }
 
@@ -133,13 +141,15 @@ fn the_empty_name_and_folders(rt: HostRuntime) -> Result<(), Fail> {
     // A folder is there, and can be neither read nor written.
     let read = read_whole(rt.alloc(), &mut files, folder.as_str(), 4096).err();
     let written = write_whole(&mut files, folder.as_str(), b"x");
-    assert_eq!(rt;
-        empty,
-        (Ok(None), Err(Refused::Failed), Err(Refused::Failed))
+    expect_equal(
+        &rt,
+        &empty,
+        &(Ok(None), Err(Refused::Failed), Err(Refused::Failed)),
     );
-    assert_eq!(rt;
-        (read, written),
-        (Some(ReadError::Failed), Err(Refused::Failed))
+    expect_equal(
+        &rt,
+        &(read, written),
+        &(Some(ReadError::Failed), Err(Refused::Failed)),
     );
     Ok(())
 }
@@ -158,7 +168,7 @@ fn forbidden_files_are_there(rt: HostRuntime) -> Result<(), Fail> {
     let written = DiskFiles::new(rt.clone()?).append(name, b"y");
     fs::remove_file(&rt, name)?;
     let refused = size == Err(Refused::Failed) && written == Err(Refused::Failed);
-    assert_eq!(rt; (made, refused || !forbidden), (Ok(()), true));
+    expect_equal(&rt, &(made, refused || !forbidden), &(Ok(()), true));
     Ok(())
 }
 
@@ -173,9 +183,10 @@ fn devices(rt: HostRuntime) -> Result<(), Fail> {
     // What can't be handed over is no fault.
     let null = (write_whole(&mut files, "/dev/null", b"x"), files.sync());
     let empty = gives(rt.alloc(), &mut files, "/dev/null", b"");
-    assert_eq!(rt;
-        (full, null, empty),
-        (Err(Refused::Failed), (Ok(()), Ok(())), true)
+    expect_equal(
+        &rt,
+        &(full, null, empty),
+        &(Err(Refused::Failed), (Ok(()), Ok(())), true),
     );
     Ok(())
 }
@@ -192,7 +203,7 @@ fn short_and_interrupted_calls(rt: HostRuntime) -> Result<(), Fail> {
         gives(rt.alloc(), &mut files, name, &bytes),
     );
     fs::remove_file(&rt, name)?;
-    assert_eq!(rt; (written, whole), (Ok(()), (true, true)));
+    expect_equal(&rt, &(written, whole), &(Ok(()), (true, true)));
     Ok(())
 }
 
@@ -206,7 +217,7 @@ fn writes_that_fail(rt: HostRuntime) -> Result<(), Fail> {
     let written = write_whole(&mut DiskFiles::new((unruly, rt.alloc())), name, &bytes);
     let left = holds(&rt, name, bytes.get(..6_096).unwrap_or(b""));
     fs::remove_file(&rt, name)?;
-    assert_eq!(rt; (written, left), (Err(Refused::Failed), true));
+    expect_equal(&rt, &(written, left), &(Err(Refused::Failed), true));
     Ok(())
 }
 
@@ -220,7 +231,7 @@ fn reads_that_fail(rt: HostRuntime) -> Result<(), Fail> {
     let mut files = DiskFiles::new((unruly, rt.alloc()));
     let read = read_whole(rt.alloc(), &mut files, name, u64::MAX).err();
     fs::remove_file(&rt, name)?;
-    assert_eq!(rt; read, Some(ReadError::Failed));
+    expect_equal(&rt, &read, &Some(ReadError::Failed));
     Ok(())
 }
 
@@ -234,14 +245,14 @@ fn opens_that_fail(rt: HostRuntime) -> Result<(), Fail> {
     ] {
         let unruly = Unruly::new(rt.clone()?).failing_open(kind);
         let mut files = DiskFiles::new((unruly, rt.alloc()));
-        assert_eq!(rt; files.size("s"), Err(Refused::Failed));
-        assert_eq!(rt; files.create("s"), Err(Refused::Failed));
-        assert_eq!(rt; files.append("s", b"x"), Err(Refused::Failed));
+        expect_equal(&rt, &files.size("s"), &Err(Refused::Failed));
+        expect_equal(&rt, &files.create("s"), &Err(Refused::Failed));
+        expect_equal(&rt, &files.append("s", b"x"), &Err(Refused::Failed));
     }
     for kind in [ErrorKind::NotFound, ErrorKind::NotADirectory] {
         let unruly = Unruly::new(rt.clone()?).failing_open(kind);
         let mut files = DiskFiles::new((unruly, rt.alloc()));
-        assert_eq!(rt; files.size("s"), Ok(None));
+        expect_equal(&rt, &files.size("s"), &Ok(None));
     }
     Ok(())
 }
@@ -255,7 +266,7 @@ fn faults_told_at_the_end(rt: HostRuntime) -> Result<(), Fail> {
     let nothing = files.sync();
     let late = (write_whole(&mut files, name, b"x"), files.sync());
     fs::remove_file(&rt, name)?;
-    assert_eq!(rt; (nothing, late), (Ok(()), (Ok(()), Err(Failed))));
+    expect_equal(&rt, &(nothing, late), &(Ok(()), (Ok(()), Err(Failed))));
     Ok(())
 }
 
@@ -267,7 +278,7 @@ fn files_that_cannot_be_flushed(rt: HostRuntime) -> Result<(), Fail> {
     let mut files = DiskFiles::new((unruly, rt.alloc()));
     let pipe = (write_whole(&mut files, name, b"x"), files.sync());
     fs::remove_file(&rt, name)?;
-    assert_eq!(rt; pipe, (Ok(()), Ok(())));
+    expect_equal(&rt, &pipe, &(Ok(()), Ok(())));
     Ok(())
 }
 
@@ -282,11 +293,12 @@ fn output(rt: HostRuntime) -> Result<(), Fail> {
     let cut = put_whole(&mut out, &bytes);
     let front = holds(&rt, name, bytes.get(..8_192).unwrap_or(b""));
     fs::remove_file(&rt, name)?;
-    assert_eq!(rt;
-        (whole, cut, front),
-        ((Ok(()), true), Err(Refused::Failed), true)
+    expect_equal(
+        &rt,
+        &(whole, cut, front),
+        &((Ok(()), true), Err(Refused::Failed), true),
     );
     let mut out = StdSink::new(rt.clone()?);
-    assert_eq!(rt; put_whole(&mut out, b"put by a test\n"), Ok(()));
+    expect_equal(&rt, &put_whole(&mut out, b"put by a test\n"), &Ok(()));
     Ok(())
 }

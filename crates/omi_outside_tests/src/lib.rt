@@ -4,6 +4,8 @@
 #[cfg(test)]
 mod edge_tests;
 #[cfg(test)]
+mod expecting;
+#[cfg(test)]
 mod stand_in;
 #[cfg(test)]
 mod tests;

@@ -1,4 +1,5 @@
 //! Tests of the forms in memory: a happy path of each, and a call that fails in mid-stream.
+use crate::expecting::expect_equal;
 use omi_outside::{
     Call, Files, FreeGate, Gate, MemFiles, MemSink, NeverFiles, NeverSink, OutOfMemory, ReadError,
     Refused, Sink, Status, put_whole, read_whole, write_whole,
@@ -47,11 +48,12 @@ fn memory_files_write_and_read(rt: HostRuntime) -> Result<(), Fail> {
     let mut files = MemFiles::new(rt.alloc(), Vec::new(rt.alloc()));
     let missing = files.size("s");
     let written = write_whole(&mut files, "s", &bytes);
-    assert_eq!(rt;
-        (missing, written, files.size("s")),
-        (Ok(None), Ok(()), Ok(Some(5000)))
+    expect_equal(
+        &rt,
+        &(missing, written, files.size("s")),
+        &(Ok(None), Ok(()), Ok(Some(5000))),
     );
-    assert_eq!(rt; files.bytes("s"), Some(bytes.as_slice()));
+    expect_equal(&rt, &files.bytes("s"), &Some(bytes.as_slice()));
     let whole = gives(rt.alloc(), &mut files, 5001, &bytes);
     let front = gives(
         rt.alloc(),
@@ -59,9 +61,9 @@ fn memory_files_write_and_read(rt: HostRuntime) -> Result<(), Fail> {
         4097,
         bytes.get(..4097).ok_or("short")?,
     );
-    assert_eq!(rt; (whole, front), (true, true));
+    expect_equal(&rt, &(whole, front), &(true, true));
     let missing = read_whole(rt.alloc(), &mut files, "c", 1);
-    assert_eq!(rt; missing.err(), Some(ReadError::NoFile));
+    expect_equal(&rt, &missing.err(), &Some(ReadError::NoFile));
     Ok(())
 }
 
@@ -90,22 +92,25 @@ fn memory_files_fail_in_mid_stream(rt: HostRuntime) -> Result<(), Fail> {
     ];
     let mut files = MemFiles::new(rt.alloc(), failing.to_vec(rt.alloc())?);
     let cut = write_whole(&mut files, "s", &bytes);
-    assert_eq!(rt;
-        (cut, files.bytes("s")),
-        (Err(Refused::Failed), bytes.get(..4096))
+    expect_equal(
+        &rt,
+        &(cut, files.bytes("s")),
+        &(Err(Refused::Failed), bytes.get(..4096)),
     );
     files.put("s", &bytes)?;
     let failed = read_whole(rt.alloc(), &mut files, "s", u64::MAX).err();
     let again = gives(rt.alloc(), &mut files, u64::MAX, &bytes);
     let no_size = read_whole(rt.alloc(), &mut files, "s", u64::MAX).err();
-    assert_eq!(rt;
-        (failed, again, no_size),
-        (Some(ReadError::Failed), true, Some(ReadError::Failed))
+    expect_equal(
+        &rt,
+        &(failed, again, no_size),
+        &(Some(ReadError::Failed), true, Some(ReadError::Failed)),
     );
     let refused = write_whole(&mut files, "s", b"x");
-    assert_eq!(rt;
-        (refused, files.bytes("s")),
-        (Err(Refused::Failed), Some(bytes.as_slice()))
+    expect_equal(
+        &rt,
+        &(refused, files.bytes("s")),
+        &(Err(Refused::Failed), Some(bytes.as_slice())),
     );
     Ok(())
 }
@@ -115,12 +120,13 @@ fn memory_sink_fails_in_mid_stream(rt: HostRuntime) -> Result<(), Fail> {
     let bytes = two_pieces(rt.alloc())?;
     let mut out = MemSink::new(rt.alloc(), [2].to_vec(rt.alloc())?);
     let cut = put_whole(&mut out, &bytes);
-    assert_eq!(rt;
-        (cut, Some(out.bytes())),
-        (Err(Refused::Failed), bytes.get(..4096))
+    expect_equal(
+        &rt,
+        &(cut, Some(out.bytes())),
+        &(Err(Refused::Failed), bytes.get(..4096)),
     );
     let rest = put_whole(&mut out, bytes.get(4096..).ok_or("short")?);
-    assert_eq!(rt; (rest, out.bytes()), (Ok(()), bytes.as_slice()));
+    expect_equal(&rt, &(rest, out.bytes()), &(Ok(()), bytes.as_slice()));
     Ok(())
 }
 
@@ -133,12 +139,12 @@ fn forms_without_faults(rt: HostRuntime) -> Result<(), Fail> {
     let missing = print_file(alloc, &mut files, &mut out, "s").code();
     let written = write_whole(&mut files, "s", &bytes);
     let printed = print_file(alloc, &mut files, &mut out, "s").code();
-    assert_eq!(rt; (missing, written, printed), (2, Ok(()), 0));
-    assert_eq!(rt; files.bytes("s"), Some(bytes.as_slice()));
-    assert_eq!(rt; out.bytes(), bytes.as_slice());
+    expect_equal(&rt, &(missing, written, printed), &(2, Ok(()), 0));
+    expect_equal(&rt, &files.bytes("s"), &Some(bytes.as_slice()));
+    expect_equal(&rt, &out.bytes(), &bytes.as_slice());
     files.put("s", b"")?;
     let empty = print_file(alloc, &mut files, &mut out, "s");
-    assert_eq!(rt; empty, Status::Success);
+    expect_equal(&rt, &empty, &Status::Success);
     pass_step(&FreeGate);
     Ok(())
 }
