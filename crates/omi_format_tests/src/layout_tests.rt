@@ -1,7 +1,9 @@
 //! Sizes of images, tables that are refused, and records found again.
 
+ghost use Rattle.std.specs.Prelude.{◌<◌};
+
 use omi_layout::{Field, Kind, Layout, LayoutError, LayoutFault, field_name, look_up};
-use omi_script::parse;
+use omi_script::{Program, parse};
 use omi_word::{Image, MOST_WORDS, Op};
 use std::alloc::{AllocError, Global};
 use std::process::Abort;
@@ -228,6 +230,47 @@ fn words_that_give_a_layout(rt: HostRuntime) -> Result<(), Fail> {
     Ok(())
 }
 
+/// The words of these fields of records, each at a place within its field.
+fn expect_words(rt: &impl Abort, layout: &Layout, image: &Image, rows: &[(u64, Field, u64, u64)]) {
+    for (record, field, place, word) in rows {
+        let front = u64::from(layout.offset(field.number())).wrapping_add(*place);
+        let at = record.wrapping_add(front.wrapping_mul(8));
+        assert_eq!(rt; image.get(at), Some(*word));
+    }
+}
+
+/// The opening words of a program of two threads, in the layout of this family.
+fn open_in(rt: &impl Abort, alloc: Global, program: &Program, k: u8) -> Result<(), AllocError>
+    requires { k < 16 }
+{
+    let layout = Layout::family(k, 2);
+    let count = layout.image_words();
+    let fits = layout.fits(count);
+    assert!(rt; fits);
+    assert!(rt; count as u64 <= MOST_WORDS);
+    assert_eq!(rt; program.threads, layout.threads());
+    assert!(rt; layout.regions_per_thread() == 16);
+    assert!(rt; layout.tasks_per_thread() == 256);
+    let mut image = Image::zeroed(alloc, count)?;
+    layout.open(program, &mut image);
+    assert!(rt; Layout::read(&image).is_ok());
+    let task = layout.task_at(0, 0);
+    let rows = [
+        (layout.runtime_place(), Field::RuntimeThreads, 0, 2),
+        (layout.thread_at(0), Field::ThreadCurrent, 0, task),
+        (layout.thread_at(1), Field::ThreadNative, 0, 1001),
+        (layout.thread_at(1), Field::ThreadState, 0, 0x100),
+        (layout.region_at(0, 0), Field::RegionTeam, 0, task),
+        (layout.region_at(0, 0), Field::RegionTeam, 1, 0),
+        (task, Field::TaskExit, 0, 0x7f00_000f_ffc0),
+        (task, Field::TaskNthreads, 1, 2),
+        (task, Field::TaskNthreads, 2, 0),
+        (layout.task_at(0, 1), Field::TaskLife, 0, 0),
+    ];
+    expect_words(rt, &layout, &image, &rows);
+    Ok(())
+}
+
 #[test]
 fn opening_words(rt: HostRuntime) -> Result<(), Fail> {
     let text = b"threads 2\nenv num_threads 4,2\nfunc main\nend\n";
@@ -235,36 +278,7 @@ fn opening_words(rt: HostRuntime) -> Result<(), Fail> {
         return Err("no program".into());
     };
     for k in 0..16u8 {
-        let layout = Layout::family(k, 2);
-        let count = layout.image_words();
-        let fits = layout.fits(count);
-        assert!(rt; fits);
-        assert!(rt; count as u64 <= MOST_WORDS);
-        assert_eq!(rt; program.threads, layout.threads());
-        assert!(rt; layout.regions_per_thread() == 16);
-        assert!(rt; layout.tasks_per_thread() == 256);
-        let mut image = Image::zeroed(rt.alloc(), count)?;
-        layout.open(&program, &mut image);
-        let read = Layout::read(&image).is_ok();
-        assert!(rt; read);
-        let task = layout.task_at(0, 0);
-        let table = [
-            (layout.runtime_place(), Field::RuntimeThreads, 0, 2),
-            (layout.thread_at(0), Field::ThreadCurrent, 0, task),
-            (layout.thread_at(1), Field::ThreadNative, 0, 1001),
-            (layout.thread_at(1), Field::ThreadState, 0, 0x100),
-            (layout.region_at(0, 0), Field::RegionTeam, 0, task),
-            (layout.region_at(0, 0), Field::RegionTeam, 1, 0),
-            (task, Field::TaskExit, 0, 0x7f00_000f_ffc0),
-            (task, Field::TaskNthreads, 1, 2),
-            (task, Field::TaskNthreads, 2, 0),
-            (layout.task_at(0, 1), Field::TaskLife, 0, 0),
-        ];
-        for (record, field, place, word) in table {
-            let front = u64::from(layout.offset(field.number())).wrapping_add(place);
-            let at = record.wrapping_add(front.wrapping_mul(8));
-            assert_eq!(rt; image.get(at), Some(word));
-        }
+        open_in(&rt, rt.alloc(), &program, k)?;
     }
     Ok(())
 }

@@ -26,14 +26,6 @@ fn region(creator: u8, slot: u16) -> Rid {
     })
 }
 
-fn numbers(alloc: Global, given: &[u64]) -> Result<NumList, AllocError> {
-    let mut list = NumList::new(alloc);
-    for n in given {
-        list.push(*n)?;
-    }
-    Ok(list)
-}
-
 /// A view with no rows.
 fn bare(alloc: Global, threads: u8, debug: u64) -> View {
     View {
@@ -50,14 +42,15 @@ fn bare(alloc: Global, threads: u8, debug: u64) -> View {
     }
 }
 
-/// The row of a thread with its native id.
-fn thread(
+/// The view with one more thread, of its native id.
+fn with_thread(
+    mut view: View,
     thread: u8,
     state: Option<(u32, u64)>,
     number: Option<u64>,
     current: Option<Tid>,
-) -> ThreadRow {
-    ThreadRow {
+) -> Result<View, AllocError> {
+    view.threads.push(ThreadRow {
         native: 1000 + u64::from(thread),
         found: Some(ThreadPart {
             thread,
@@ -65,29 +58,67 @@ fn thread(
             number,
             current,
         }),
+    })?;
+    Ok(view)
+}
+
+/// What is told of a region but for its members.
+#[derive(Clone, Copy)]
+struct Plain {
+    slot: u16,
+    func: u64,
+    /// levels-var and active-levels-var.
+    levels: (u64, u64),
+    enclosing: Option<Rid>,
+}
+
+/// The initial region, whose function has this address.
+fn initial_region(func: u64) -> Plain {
+    Plain {
+        slot: 0,
+        func,
+        levels: (0, 0),
+        enclosing: None,
     }
 }
 
-/// The row of the initial region, whose function has this address.
-fn initial_region(alloc: Global, func: u64) -> Result<RegionRow, AllocError> {
-    let mut members = MemberRows::new(alloc);
-    members.push(MemberRow {
-        thread: 0,
-        task: task(0, 0),
+/// The view with one more region of thread 0, with these members, each a thread and the slot of its task.
+fn with_region(
+    alloc: Global,
+    mut view: View,
+    plain: Plain,
+    members: &[(u8, u16)],
+) -> Result<View, AllocError> {
+    let mut rows = MemberRows::new(alloc);
+    for (thread, slot) in members {
+        rows.push(MemberRow {
+            thread: *thread,
+            task: task(0, *slot),
+        })?;
+    }
+    view.regions.push(RegionRow {
+        region: region(0, plain.slot),
+        func: plain.func,
+        levels: plain.levels.0,
+        active: plain.levels.1,
+        size: members.len() as u64,
+        enclosing: plain.enclosing,
+        members: rows,
     })?;
-    Ok(RegionRow {
-        region: region(0, 0),
-        func,
-        levels: 0,
-        active: 0,
-        size: 1,
-        enclosing: None,
-        members,
-    })
+    Ok(view)
 }
 
-/// The row of the initial task, whose function has this address.
-fn initial_task(func: u64, enter: u64, dyn_var: u64, nthreads: NumList) -> TaskRow {
+/// The view with one more task, of this nthreads-var.
+fn with_task(mut view: View, mut row: TaskRow, nthreads: &[u64]) -> Result<View, AllocError> {
+    for n in nthreads {
+        row.nthreads.push(*n)?;
+    }
+    view.tasks.push(row)?;
+    Ok(view)
+}
+
+/// The row of the initial task, whose function has this address. Its nthreads-var has no values yet.
+fn initial_task(alloc: Global, func: u64) -> TaskRow {
     TaskRow {
         task: task(0, 0),
         thread: 0,
@@ -97,10 +128,10 @@ fn initial_task(func: u64, enter: u64, dyn_var: u64, nthreads: NumList) -> TaskR
         generating: None,
         scheduling: None,
         exit: 0x7f00000fffc0,
-        enter,
+        enter: 0,
         tool: 0,
-        dyn_var,
-        nthreads,
+        dyn_var: 0,
+        nthreads: NumList::new(alloc),
         sched: 1,
         device: 0,
         final_task: 0,
@@ -115,12 +146,12 @@ fn alone(
     dyn_var: u64,
     nthreads: &[u64],
 ) -> Result<Vec<u8>, AllocError> {
-    let mut view = bare(alloc, 1, debug);
-    view.threads
-        .push(thread(0, state, Some(0), Some(task(0, 0))))?;
-    view.regions.push(initial_region(alloc, 0x400000)?)?;
-    let list = numbers(alloc, nthreads)?;
-    view.tasks.push(initial_task(0x400000, 0, dyn_var, list))?;
+    let view = bare(alloc, 1, debug);
+    let view = with_thread(view, 0, state, Some(0), Some(task(0, 0)))?;
+    let view = with_region(alloc, view, initial_region(0x400000), &[(0, 0)])?;
+    let mut row = initial_task(alloc, 0x400000);
+    row.dyn_var = dyn_var;
+    let view = with_task(view, row, nthreads)?;
     report_text(alloc, &view)
 }
 
@@ -172,19 +203,6 @@ fn states_are_not_kept(rt: HostRuntime) -> Result<(), Fail> {
     Ok(())
 }
 
-/// A region of the function at 0x400000 inside r0.0.0 or r0.1.0, with no members yet.
-fn inner_region(alloc: Global, slot: u16, levels: u64, size: u64, around: Rid) -> RegionRow {
-    RegionRow {
-        region: region(0, slot),
-        func: 0x400000,
-        levels,
-        active: 1,
-        size,
-        enclosing: Some(around),
-        members: MemberRows::new(alloc),
-    }
-}
-
 const COMMIT: &str = "ompd 201811 threads 2 debug enabled
 icv num-procs-var=4 max-active-levels-var=8
 thread 0 native 1000 state overhead wait 0 thread-num-var=0 current k0.1.0
@@ -200,40 +218,41 @@ task k0.0.0 thread 0 kind implicit region r0.0.0 function 0x400010 generating no
 icv dyn-var=0 nthreads-var=2 run-sched-var=static,0 default-device-var=0 final-task-var=0 implicit-task-var=1
 ";
 
-#[test]
-fn the_commit(rt: HostRuntime) -> Result<(), Fail> {
-    let alloc = rt.alloc();
-    let mut view = bare(alloc, 2, 1);
-    view.threads
-        .push(thread(0, Some((0x101, 0)), Some(0), Some(task(0, 1))))?;
-    view.threads.push(thread(1, Some((0x100, 0)), None, None))?;
-    view.regions.push(initial_region(alloc, 0x400010)?)?;
-    let mut row = inner_region(alloc, 1, 1, 2, region(0, 0));
-    row.members.push(MemberRow {
-        thread: 0,
-        task: task(0, 1),
-    })?;
-    row.members.push(MemberRow {
-        thread: 1,
-        task: task(0, 2),
-    })?;
-    view.regions.push(row)?;
-    let mut row = initial_task(0x400000, 0, 0, numbers(alloc, &[2])?);
+/// The tasks of the two threads at the commit.
+fn with_commit_tasks(alloc: Global, view: View) -> Result<View, AllocError> {
+    let mut row = initial_task(alloc, 0x400000);
     row.task = task(0, 1);
     row.region = region(0, 1);
     row.generating = Some(task(0, 0));
     row.scheduling = Some(task(0, 0));
     row.exit = 0x7f00000fff80;
-    view.tasks.push(row)?;
-    let list = numbers(alloc, &[2])?;
-    view.tasks
-        .push(initial_task(0x400010, 0x7f00000fffa0, 0, list))?;
+    let view = with_task(view, row, &[2])?;
+    let mut row = initial_task(alloc, 0x400010);
+    row.enter = 0x7f00000fffa0;
+    with_task(view, row, &[2])
+}
+
+#[test]
+fn the_commit(rt: HostRuntime) -> Result<(), Fail> {
+    let alloc = rt.alloc();
+    let view = bare(alloc, 2, 1);
+    let view = with_thread(view, 0, Some((0x101, 0)), Some(0), Some(task(0, 1)))?;
+    let view = with_thread(view, 1, Some((0x100, 0)), None, None)?;
+    let view = with_region(alloc, view, initial_region(0x400010), &[(0, 0)])?;
+    let forked = Plain {
+        slot: 1,
+        func: 0x400000,
+        levels: (1, 1),
+        enclosing: Some(region(0, 0)),
+    };
+    let view = with_region(alloc, view, forked, &[(0, 1), (1, 2)])?;
+    let view = with_commit_tasks(alloc, view)?;
     let text = report_text(alloc, &view)?;
     assert_eq!(rt; text.as_slice(), COMMIT.as_bytes());
     Ok(())
 }
 
-/// A task of thread 1, made by a task and run on top of another.
+/// A task of thread 1, made by a task and run on top of another. Its nthreads-var has no values yet.
 fn chained(
     alloc: Global,
     name: Tid,
@@ -241,8 +260,8 @@ fn chained(
     part_of: Rid,
     generating: Tid,
     scheduling: Option<Tid>,
-) -> Result<TaskRow, AllocError> {
-    Ok(TaskRow {
+) -> TaskRow {
+    TaskRow {
         task: name,
         thread: 1,
         implicit,
@@ -254,11 +273,11 @@ fn chained(
         enter: 0,
         tool: 0,
         dyn_var: 0,
-        nthreads: numbers(alloc, &[2])?,
+        nthreads: NumList::new(alloc),
         sched: 1,
         device: 0,
         final_task: 0,
-    })
+    }
 }
 
 const CHAIN: &str = "ompd 201811 threads 2 debug enabled
@@ -271,36 +290,26 @@ task k0.2.0 thread 1 kind implicit region r0.1.0 function 0x400030 generating k0
 icv dyn-var=0 nthreads-var=2 run-sched-var=static,0 default-device-var=0 final-task-var=0 implicit-task-var=1
 ";
 
-#[test]
-fn a_nested_chain(rt: HostRuntime) -> Result<(), Fail> {
-    let alloc = rt.alloc();
-    let mut view = bare(alloc, 2, 1);
-    let row = chained(
-        alloc,
-        task(1, 0),
-        1,
-        region(1, 0),
-        task(0, 3),
-        Some(task(0, 3)),
-    )?;
-    view.tasks.push(row)?;
-    let mut row = chained(
-        alloc,
-        task(0, 3),
-        0,
-        region(0, 1),
-        task(0, 1),
-        Some(task(0, 2)),
-    )?;
+/// The three tasks of the chain, the current one first.
+fn with_chain(alloc: Global, view: View) -> Result<View, AllocError> {
+    let above = task(0, 3);
+    let row = chained(alloc, task(1, 0), 1, region(1, 0), above, Some(above));
+    let view = with_task(view, row, &[2])?;
+    let mut row = chained(alloc, above, 0, region(0, 1), task(0, 1), Some(task(0, 2)));
     row.func = 0x400010;
     row.exit = 0x7f00001fff80;
     row.enter = 0x7f00001fff60;
-    view.tasks.push(row)?;
-    let mut row = chained(alloc, task(0, 2), 1, region(0, 1), task(0, 0), None)?;
+    let view = with_task(view, row, &[2])?;
+    let mut row = chained(alloc, task(0, 2), 1, region(0, 1), task(0, 0), None);
     row.func = 0x400030;
     row.exit = 0x7f00001fffc0;
-    view.tasks.push(row)?;
-    let text = report_text(alloc, &view)?;
+    with_task(view, row, &[2])
+}
+
+#[test]
+fn a_nested_chain(rt: HostRuntime) -> Result<(), Fail> {
+    let view = with_chain(rt.alloc(), bare(rt.alloc(), 2, 1))?;
+    let text = report_text(rt.alloc(), &view)?;
     assert_eq!(rt; text.as_slice(), CHAIN.as_bytes());
     Ok(())
 }
@@ -315,6 +324,15 @@ task k0.0.0 thread 0 kind implicit region r0.0.0 function 0xffffffffffffffff gen
 icv dyn-var=2 nthreads-var=1,64,3,2 run-sched-var=5,7 default-device-var=4 final-task-var=3 implicit-task-var=1
 ";
 
+/// The view with one more context, of no thread.
+fn with_unknown(mut view: View, native: u64) -> Result<View, AllocError> {
+    view.threads.push(ThreadRow {
+        native,
+        found: None,
+    })?;
+    Ok(view)
+}
+
 /// Values that a damaged core may hold: a state and a schedule kind that no table lists, and a context of no thread. The
 /// region is one at the limit of active levels.
 #[test]
@@ -322,29 +340,28 @@ fn strange_values(rt: HostRuntime) -> Result<(), Fail> {
     let alloc = rt.alloc();
     let mut view = bare(alloc, 3, 2);
     view.head.version = u64::MAX;
-    view.threads.push(ThreadRow {
-        native: 7,
-        found: None,
-    })?;
+    let view = with_unknown(view, 7)?;
     let greatest = Tid(Id {
         creator: 255,
         slot: 65535,
         generation: 4294967295,
     });
-    view.threads
-        .push(thread(2, Some((0x22, 9)), Some(5), Some(greatest)))?;
-    let mut row = inner_region(alloc, 2, 2, 1, region(0, 1));
-    row.members.push(MemberRow {
-        thread: 0,
-        task: task(0, 3),
-    })?;
-    view.regions.push(row)?;
-    let mut row = initial_task(u64::MAX, 0xabcdef, 2, numbers(alloc, &[1, 64, 3, 2])?);
+    let view = with_thread(view, 2, Some((0x22, 9)), Some(5), Some(greatest))?;
+    let inner = Plain {
+        slot: 2,
+        func: 0x400000,
+        levels: (2, 1),
+        enclosing: Some(region(0, 1)),
+    };
+    let view = with_region(alloc, view, inner, &[(0, 3)])?;
+    let mut row = initial_task(alloc, u64::MAX);
+    row.enter = 0xabcdef;
+    row.dyn_var = 2;
     row.tool = u64::MAX;
     row.sched = 7 * 8 + 5;
     row.device = 4;
     row.final_task = 3;
-    view.tasks.push(row)?;
+    let view = with_task(view, row, &[1, 64, 3, 2])?;
     let text = report_text(alloc, &view)?;
     assert_eq!(rt; text.as_slice(), STRANGE.as_bytes());
     Ok(())
