@@ -14,14 +14,3 @@ mod top;
 
 pub use refusal::{Input, Refusal};
 pub use top::run_top;
-
-#[cfg(test)]
-mod layout_tests;
-#[cfg(test)]
-mod show_tests;
-#[cfg(test)]
-mod size_tests;
-#[cfg(test)]
-mod team_tests;
-#[cfg(test)]
-mod tests;

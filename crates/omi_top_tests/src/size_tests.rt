@@ -3,7 +3,7 @@
 ghost use Rattle.std.specs.Prelude.{◌≤◌};
 
 use crate::show_tests::{OPENING, core_of, expect};
-use crate::tests::{EMPTY, call, expect_refusal};
+use crate::tests::{EMPTY, expect_refusal, run};
 use omi_outside::{Call, Status};
 use std::alloc::{AllocError, Global};
 use std::test::Fail;
@@ -38,15 +38,7 @@ fn the_largest_script(rt: HostRuntime) -> Result<(), Fail> {
         ),
     ] {
         let line = ["stop", steps, "s", "c"];
-        let none = Vec::new(alloc);
-        let done = call(
-            alloc,
-            &line,
-            &script,
-            none,
-            Vec::new(alloc),
-            Vec::new(alloc),
-        )?;
+        let done = run(alloc, &line, &script)?;
         assert_eq!(rt; done.status, Status::Success);
         assert!(rt; done.out.bytes().ends_with(end.as_bytes()));
         assert_eq!(rt; done.dest.bytes("c").ok_or("no core")?.len(), 55_768);

@@ -1,8 +1,8 @@
 //! Runs of `show` through the top call, and each of its refusals.
 
-use crate::run_top;
-use crate::tests::{CHANGED, Done, EMPTY, UNTRACKED, call, words};
+use crate::tests::{CHANGED, EMPTY, UNTRACKED, run, words};
 use omi_outside::{Call, MemFiles, MemSink, Status};
+use omi_top::run_top;
 use std::alloc::{AllocError, Global};
 use std::process::Abort;
 use std::test::Fail;
@@ -68,40 +68,42 @@ native 1000 none
 
 /// The core that `stop` writes.
 pub fn core_of(alloc: Global, steps: &str, script: &str) -> Result<Vec<u8>, AllocError> {
-    let line = ["stop", steps, "s", "c"];
-    let done = call(
-        alloc,
-        &line,
-        script,
-        Vec::new(alloc),
-        Vec::new(alloc),
-        Vec::new(alloc),
-    )?;
-    let mut core = Vec::new(alloc);
-    if let Some(bytes) = done.dest.bytes("c") {
-        core.extend_from_slice(bytes)?;
+    let done = run(alloc, &["stop", steps, "s", "c"], script)?;
+    match done.dest.bytes("c") {
+        Some(bytes) => bytes.to_vec(alloc),
+        None => Ok(Vec::new(alloc)),
     }
-    Ok(core)
 }
 
-/// Runs a line over a core, with reads that are to fail.
-fn show(
+/// A line over a core, with a read that may fail, ends with this status and puts this text, and the core that may be written
+/// stays.
+fn expect_line(
+    rt: &impl Abort,
     alloc: Global,
     line: &[&str],
     core: &[u8],
-    reads: Vec<(Call, u64)>,
-) -> Result<Done, AllocError> {
+    failing: Option<(Call, u64)>,
+    status: Status,
+    text: &str,
+) -> Result<(), AllocError> {
+    let mut reads = Vec::new(alloc);
+    if let Some(read) = failing {
+        reads.push(read)?;
+    }
     let mut files = MemFiles::new(alloc, reads);
     files.put("c", core)?;
     let mut dest = MemFiles::new(alloc, Vec::new(alloc));
     dest.put("c", b"stays")?;
     let mut out = MemSink::new(alloc, Vec::new(alloc));
     let line = words(alloc, line)?;
-    let status = run_top(alloc, &line, &mut files, &mut dest, &mut out);
-    Ok(Done { status, dest, out })
+    let ended = run_top(alloc, &line, &mut files, &mut dest, &mut out);
+    assert_eq!(rt; ended, status);
+    assert_eq!(rt; out.bytes(), text.as_bytes());
+    assert_eq!(rt; dest.bytes("c"), Some(b"stays".as_slice()));
+    Ok(())
 }
 
-/// `show` of these bytes ends with this status and puts this text, and the core that may be written stays.
+/// `show` of these bytes ends with this status and puts this text.
 pub fn expect(
     rt: &impl Abort,
     alloc: Global,
@@ -109,12 +111,7 @@ pub fn expect(
     status: Status,
     text: &str,
 ) -> Result<(), AllocError> {
-    let line = ["show", "c"];
-    let done = show(alloc, &line, core, Vec::new(alloc))?;
-    assert_eq!(rt; done.status, status);
-    assert_eq!(rt; done.out.bytes(), text.as_bytes());
-    assert_eq!(rt; done.dest.bytes("c"), Some(b"stays".as_slice()));
-    Ok(())
+    expect_line(rt, alloc, &["show", "c"], core, None, status, text)
 }
 
 /// The core with another byte at a place.
@@ -127,91 +124,134 @@ fn with_byte(alloc: Global, core: &[u8], at: usize, byte: u8) -> Result<Vec<u8>,
     Ok(changed)
 }
 
-#[test]
-fn reports_of_stopped_runs(rt: HostRuntime) -> Result<(), Fail> {
-    let alloc = rt.alloc();
-    let opening = core_of(alloc, "0", EMPTY)?;
-    expect(&rt, alloc, &opening, Status::Success, OPENING)?;
-    let finished = core_of(alloc, "1000", CHANGED)?;
-    expect(&rt, alloc, &finished, Status::Success, FINISHED)?;
-    let untracked = core_of(alloc, "1000", UNTRACKED)?;
-    expect(&rt, alloc, &untracked, Status::Success, NOT_KEPT)?;
-    let heads = core_of(alloc, "0", HEADS)?;
-    expect(&rt, alloc, &heads, Status::Success, HEADS_SHOWN)?;
-    // The entry point words, from place 41 on, are no part of the tables.
-    let entry = with_byte(alloc, &opening, 40 + 8 * 41, 3)?;
-    expect(&rt, alloc, &entry, Status::Success, OPENING)?;
-    // Place 113 is the native id of thread 0.
-    let unknown = with_byte(alloc, &opening, 40 + 8 * 113, 0)?;
-    expect(&rt, alloc, &unknown, Status::Success, UNKNOWN)?;
+/// `show` of the core of an empty run, with another byte at any of these places, ends with this status and puts this text.
+fn expect_changed(
+    rt: &impl Abort,
+    alloc: Global,
+    changes: &[(usize, u8)],
+    status: Status,
+    text: &str,
+) -> Result<(), AllocError> {
+    let core = core_of(alloc, "0", EMPTY)?;
+    for (at, byte) in changes {
+        let changed = with_byte(alloc, &core, *at, *byte)?;
+        expect(rt, alloc, &changed, status, text)?;
+    }
     Ok(())
 }
+
+/// The same, with a text of its own for each place.
+fn expect_each(
+    rt: &impl Abort,
+    alloc: Global,
+    changes: &[(usize, u8, &str)],
+    status: Status,
+) -> Result<(), AllocError> {
+    for (at, byte, text) in changes {
+        expect_changed(rt, alloc, &[(*at, *byte)], status, text)?;
+    }
+    Ok(())
+}
+
+/// Runs by their steps and scripts have these reports.
+fn expect_reports(
+    rt: &impl Abort,
+    alloc: Global,
+    rows: &[(&str, &str, &str)],
+) -> Result<(), AllocError> {
+    for (steps, script, report) in rows {
+        let core = core_of(alloc, steps, script)?;
+        expect(rt, alloc, &core, Status::Success, report)?;
+    }
+    Ok(())
+}
+
+const REPORTS: [(&str, &str, &str); 4] = [
+    ("0", EMPTY, OPENING),
+    ("1000", CHANGED, FINISHED),
+    ("1000", UNTRACKED, NOT_KEPT),
+    ("0", HEADS, HEADS_SHOWN),
+];
+
+/// The entry point words, from place 41 on, are no part of the tables. Place 113 is the native id of thread 0.
+const SHOWN: [(usize, u8, &str); 2] = [(40 + 8 * 41, 3, OPENING), (40 + 8 * 113, 0, UNKNOWN)];
+
+#[test]
+fn reports_of_stopped_runs(rt: HostRuntime) -> Result<(), Fail> {
+    expect_reports(&rt, rt.alloc(), &REPORTS)?;
+    expect_each(&rt, rt.alloc(), &SHOWN, Status::Success)?;
+    Ok(())
+}
+
+/// The context, the start address, and the words of a plain core.
+const NOT_PLAIN: [(usize, u8); 15] = [
+    (16, 3),
+    (26, 3),
+    (40 + 8 * 112, 3),
+    (40 + 8 * 114, 3),
+    (40 + 8 * 118, 3),
+    (40 + 8 * 120, 3),
+    (40 + 8 * 122, 3),
+    (40 + 8 * 129, 3),
+    (40 + 8 * 310, 3),
+    (40 + 8 * 312, 3),
+    (40 + 8 * 313, 3),
+    (40 + 8 * 315, 3),
+    (40 + 8 * 316, 3),
+    (40 + 8 * 321, 0),
+    (40 + 8 * 321, 5),
+];
 
 #[test]
 fn cores_that_are_not_plain(rt: HostRuntime) -> Result<(), Fail> {
     let alloc = rt.alloc();
-    let core = core_of(alloc, "0", EMPTY)?;
-    let text = "not built\n";
-    // The context, the start address, and the words of a plain core.
-    for at in [16, 26] {
-        let other = with_byte(alloc, &core, at, 3)?;
-        expect(&rt, alloc, &other, Status::NotBuilt, text)?;
-    }
-    for place in [112, 114, 118, 120, 122, 129, 310, 312, 313, 315, 316] {
-        let other = with_byte(alloc, &core, 40 + 8 * place, 3)?;
-        expect(&rt, alloc, &other, Status::NotBuilt, text)?;
-    }
-    for count in [0, 5] {
-        let other = with_byte(alloc, &core, 40 + 8 * 321, count)?;
-        expect(&rt, alloc, &other, Status::NotBuilt, text)?;
-    }
+    expect_changed(&rt, alloc, &NOT_PLAIN, Status::NotBuilt, "not built\n")?;
     Ok(())
 }
+
+/// The count of symbols, a letter and the address of `omi_layout`, and the version of its table. A table that ends behind the
+/// segment is not found either.
+const NO_LAYOUT: [(usize, u8); 5] = [
+    (40, 17),
+    (40 + 8 * 36, b'O'),
+    (40 + 8 * 40, 0),
+    (40 + 8 * 40 + 1, 0xd8),
+    (40 + 8 * 43, 9),
+];
+
+/// Each refusal of the table, at the word that it names.
+const BAD_LAYOUT: [(usize, u8, &str); 7] = [
+    (40 + 8 * 45, 12, "damaged 0x101e0 layout\n"),
+    (40 + 8 * 48, 0, "damaged 0x10170 layout\n"),
+    (40 + 8 * 48, 2, "damaged 0x10270 layout\n"),
+    (40 + 8 * 55, 13, "damaged 0x101b8 layout\n"),
+    (40 + 8 * 56, 0, "damaged 0x101c0 layout\n"),
+    (40 + 8 * 44, 0x19, "damaged 0x10160 layout\n"),
+    (40 + 8 * 51, 65, "damaged 0x10188 layout\n"),
+];
 
 #[test]
 fn cores_that_give_no_layout(rt: HostRuntime) -> Result<(), Fail> {
     let alloc = rt.alloc();
-    let core = core_of(alloc, "0", EMPTY)?;
-    // The count of symbols, a letter and the address of `omi_layout`, and the version of its table. A table that ends behind
-    // the segment is not found either.
-    for (place, byte) in [(0, 17), (36, b'O'), (40, 0), (43, 9)] {
-        let other = with_byte(alloc, &core, 40 + 8 * place, byte)?;
-        expect(&rt, alloc, &other, Status::Incompatible, "incompatible\n")?;
-    }
-    let behind = with_byte(alloc, &core, 40 + 8 * 40 + 1, 0xd8)?;
-    expect(&rt, alloc, &behind, Status::Incompatible, "incompatible\n")?;
-    // Each refusal of the table, at the word that it names.
-    for (place, byte, text) in [
-        (45, 12, "damaged 0x101e0 layout\n"),
-        (48, 0, "damaged 0x10170 layout\n"),
-        (48, 2, "damaged 0x10270 layout\n"),
-        (55, 13, "damaged 0x101b8 layout\n"),
-        (56, 0, "damaged 0x101c0 layout\n"),
-        (44, 0x19, "damaged 0x10160 layout\n"),
-        (51, 65, "damaged 0x10188 layout\n"),
-    ] {
-        let other = with_byte(alloc, &core, 40 + 8 * place, byte)?;
-        expect(&rt, alloc, &other, Status::Damaged, text)?;
-    }
+    let text = "incompatible\n";
+    expect_changed(&rt, alloc, &NO_LAYOUT, Status::Incompatible, text)?;
+    expect_each(&rt, alloc, &BAD_LAYOUT, Status::Damaged)?;
     Ok(())
 }
 
+const NO_CORE: [(usize, u8, &str); 7] = [
+    (0, b'o', "core 0 1 BadMagic\n"),
+    (8, 2, "core 8 2 Version\n"),
+    (9, 1, "core 9 3 Order\n"),
+    (10, 65, "core 10 7 BadContext\n"),
+    (12, 65, "core 12 6 SegmentOrder\n"),
+    (24, 4, "core 24 6 SegmentOrder\n"),
+    (35, 1, "core 32 5 TooLarge\n"),
+];
+
 #[test]
 fn bytes_that_are_no_core(rt: HostRuntime) -> Result<(), Fail> {
-    let alloc = rt.alloc();
-    let core = core_of(alloc, "0", EMPTY)?;
-    for (at, byte, text) in [
-        (0, b'o', "core 0 1 BadMagic\n"),
-        (8, 2, "core 8 2 Version\n"),
-        (9, 1, "core 9 3 Order\n"),
-        (10, 65, "core 10 7 BadContext\n"),
-        (12, 65, "core 12 6 SegmentOrder\n"),
-        (24, 4, "core 24 6 SegmentOrder\n"),
-        (35, 1, "core 32 5 TooLarge\n"),
-    ] {
-        let other = with_byte(alloc, &core, at, byte)?;
-        expect(&rt, alloc, &other, Status::Core, text)?;
-    }
+    expect_each(&rt, rt.alloc(), &NO_CORE, Status::Core)?;
     Ok(())
 }
 
@@ -236,18 +276,29 @@ fn cores_that_are_cut_or_too_long(rt: HostRuntime) -> Result<(), Fail> {
 fn cores_that_are_missing_or_fail(rt: HostRuntime) -> Result<(), Fail> {
     let alloc = rt.alloc();
     let core = core_of(alloc, "0", EMPTY)?;
+    let second = Some((Call::ReadAt, 2));
     let line = ["show", "c"];
-    let second = show(alloc, &line, &core, vec![in alloc; (Call::ReadAt, 2)]?)?;
-    assert_eq!(rt; second.status, Status::ReadFault);
-    assert_eq!(rt; second.out.bytes(), b"read fault c\n".as_slice());
+    expect_line(
+        &rt,
+        alloc,
+        &line,
+        &core,
+        second,
+        Status::ReadFault,
+        "read fault c\n",
+    )?;
     let gone = ["show", "gone"];
-    let missing = show(alloc, &gone, &core, Vec::new(alloc))?;
-    assert_eq!(rt; missing.status, Status::NoFile);
-    assert_eq!(rt; missing.out.bytes(), b"no file gone\n".as_slice());
+    expect_line(
+        &rt,
+        alloc,
+        &gone,
+        &core,
+        None,
+        Status::NoFile,
+        "no file gone\n",
+    )?;
     for line in [["show"].as_slice(), ["show", "c", "d"].as_slice()] {
-        let usage = show(alloc, line, &core, Vec::new(alloc))?;
-        assert_eq!(rt; usage.status, Status::Usage);
-        assert_eq!(rt; usage.out.bytes(), b"usage\n".as_slice());
+        expect_line(&rt, alloc, line, &core, None, Status::Usage, "usage\n")?;
     }
     Ok(())
 }

@@ -1,6 +1,6 @@
 //! Runs of `stop` with more than one thread.
 
-use crate::tests::call;
+use crate::tests::run;
 use omi_outside::Status;
 use std::alloc::Global;
 use std::process::Abort;
@@ -29,8 +29,7 @@ end
 /// What `stop` prints of a script after at most so many steps.
 fn printed(rt: &impl Abort, alloc: Global, script: &str, steps: &str) -> Result<String, Fail> {
     let line = ["stop", steps, "s", "c"];
-    let none = Vec::new(alloc);
-    let done = call(alloc, &line, script, none, Vec::new(alloc), Vec::new(alloc))?;
+    let done = run(alloc, &line, script)?;
     assert_eq!(rt; done.status, Status::Success);
     Ok(String::from_utf8(done.out.bytes().to_vec(alloc)?).map_err(|_| "no text")?)
 }

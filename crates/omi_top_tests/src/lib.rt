@@ -1,0 +1,13 @@
+//! Tests of omi_top: whole runs of `stop` and `show` through the top call.
+#![tactic(auto)]
+
+#[cfg(test)]
+mod layout_tests;
+#[cfg(test)]
+mod show_tests;
+#[cfg(test)]
+mod size_tests;
+#[cfg(test)]
+mod team_tests;
+#[cfg(test)]
+mod tests;
