@@ -1,0 +1,29 @@
+//! Tests of whole runs: the steps of many threads, in many orders, judged by the abstract machine.
+#![tactic(auto)]
+
+#[cfg(test)]
+mod compare;
+#[cfg(test)]
+mod end_tests;
+#[cfg(test)]
+mod family_tests;
+#[cfg(test)]
+mod lines;
+#[cfg(test)]
+mod look;
+#[cfg(test)]
+mod look_tests;
+#[cfg(test)]
+mod moves;
+#[cfg(test)]
+mod orders;
+#[cfg(test)]
+mod random_tests;
+#[cfg(test)]
+mod row_tests;
+#[cfg(test)]
+mod scripts;
+#[cfg(test)]
+mod trial;
+#[cfg(test)]
+mod waiting_tests;

@@ -1,0 +1,79 @@
+//! The workloads of the tests.
+
+/// A team of two threads over a function that works.
+pub const A_TEAM_OF_TWO: &str = "threads 2\nfunc f\nwork\nend\nfunc main\nparallel f num 2\nend\n";
+
+pub const TOO_FEW_THREADS: &str =
+    "threads 3\nfunc f\nwork\nend\nfunc main\nparallel f num 4\nend\n";
+
+pub const A_CONTESTED_WORKER: &str =
+    "threads 3\nfunc leaf\nwork\nend\nfunc mid\nparallel leaf num 2\nend\nfunc main\nparallel mid num 2\nend\n";
+
+pub const LIMIT_OF_ACTIVE_LEVELS: &str =
+    "threads 2\nenv max_active_levels 1\nfunc leaf\nwork\nend\nfunc mid\nparallel leaf num 2\nend\nfunc main\nparallel mid num 2\nend\n";
+
+/// No statement, and one thread.
+pub const EMPTY: &str = "func main\nend\n";
+
+/// The head of a list of sizes is changed, and no team is made.
+pub const A_CHANGED_HEAD: &str =
+    "threads 1\nenv num_threads 4,2\nfunc main\nset_num_threads 3\nset_dynamic 1\nwork\nend\n";
+
+/// The head of a list of sizes is changed in front of a team, whose members make teams of the sizes behind it.
+pub const A_CHANGED_HEAD_OF_TEAMS: &str =
+    "threads 5\nenv num_threads 4,2,5\nfunc c\nwork\nend\nfunc inner\nparallel c\nend\nfunc b\nonly 0 inner\nend\nfunc main\nset_num_threads 3\nparallel b\nend\n";
+
+/// A team of three threads at a barrier of its own, and at the one at its end.
+pub const TWO_BARRIERS: &str =
+    "threads 3\nfunc b\nbarrier\nend\nfunc main\nparallel b num 3\nend\n";
+
+/// A team of two threads at one lock.
+pub const ONE_LOCK: &str =
+    "threads 2\nfunc w\nwork\nend\nfunc b\ncritical 3 w\nend\nfunc main\nparallel b num 2\nend\n";
+
+/// More teams than a thread has records of regions.
+pub const SIXTEEN_TEAMS: &str =
+    "threads 1\nfunc w\nwork\nend\nfunc b\nparallel w num 1\nend\nfunc main\nrepeat 16 b\nend\n";
+
+/// The workloads of the examples.
+pub const EXAMPLES: [&str; 6] = [
+    "func main\nend\n",
+    "env num_threads 8,4,2,1\nthreads 1\nfunc main\n  set_dynamic 1\n  set_num_threads 16\n  work\n  set_dynamic 0\n  set_num_threads 64\nend\n",
+    "threads 2\nfunc leaf\n  work\nend\nfunc main\n  task leaf\n  task leaf if 0\n  taskwait\nend\n",
+    "threads 1\nenv dynamic true\nenv max_active_levels 2\nenv schedule guided,7\nenv device 9\nenv debug disabled\nenv procs 16\nfunc main\n  work\nend\n",
+    "threads 1\nenv num_threads 4,2\nfunc main\n  set_num_threads 3\n  set_dynamic 1\n  work\nend\n",
+    "func main\n  work\n  work\n\n  # a third unit\n  work\nend\n",
+];
+
+/// Teams in teams, and teams that want more threads than there are.
+pub const TEAMS: [&str; 2] = [
+    "threads 4\nenv num_threads 3,2\nfunc c\nwork\nend\nfunc b\nparallel c\nwork\nend\nfunc main\nparallel b\nend\n",
+    "threads 3\nfunc c\nwork\nend\nfunc b\nwork\nparallel c num 64\nend\nfunc main\nparallel b num 64\nend\n",
+];
+
+/// Teams at and below the limit of active levels.
+pub const LEVELS: [&str; 3] = [
+    "threads 5\nenv max_active_levels 2\nfunc d\nwork\nend\nfunc c\nparallel d num 2\nend\nfunc b\nparallel c num 2\nend\nfunc main\nparallel b num 2\nend\n",
+    "threads 4\nenv debug disabled\nfunc c\nwork\nend\nfunc b\nparallel c num 2\nend\nfunc main\nparallel b num 3\nend\n",
+    "threads 2\nenv max_active_levels 0\nfunc c\nwork\nend\nfunc b\nparallel c num 2\nend\nfunc main\nparallel b num 2\nend\n",
+];
+
+/// Teams in teams of many threads, which ask one another.
+pub const MANY_THREADS: [&str; 2] = [
+    "threads 16\nfunc c\nwork\nend\nfunc b\nparallel c num 3\nend\nfunc main\nparallel b num 9\nend\n",
+    "threads 12\nfunc w\nwork\nend\nfunc d\ncritical 4 w\nend\nfunc c\nparallel d num 3\nend\nfunc b\nonly 0 c\nonly 3 c\nonly 5 w\nset_num_threads 4\nend\nfunc main\nparallel b num 8\nend\n",
+];
+
+/// Calls and locks.
+pub const CALLS: [&str; 3] = [
+    "threads 4\nfunc w\nwork\nend\nfunc c\nonly 0 w\nonly 2 w\nrepeat 3 w\nrepeat 0 w\ncall w\nend\nfunc b\ncall c\nonly 1 c\nend\nfunc main\nrepeat 2 w\nparallel b num 4\nend\n",
+    "threads 4\nfunc w\nwork\nwork\nend\nfunc n\ncritical 3 w\nend\nfunc b\ncritical 0 w\ncritical 7 n\ncritical 0 n\nend\nfunc main\ncritical 5 w\nparallel b num 4\nend\n",
+    "threads 3\nfunc w\nwork\nend\nfunc a\ncritical 1 w\nend\nfunc z\ncritical 2 w\nend\nfunc b\nonly 0 a\ncritical 2 a\ncritical 1 z\nend\nfunc main\nparallel b num 3\nend\n",
+];
+
+/// Variables that are set, and barriers.
+pub const SETTINGS: [&str; 3] = [
+    "threads 4\nenv num_threads 2,4,3\nfunc c\nwork\nset_num_threads 5\nend\nfunc b\nset_dynamic 1\nset_schedule guided 9\nset_default_device 7\nset_max_active_levels 1\ntool 18446744073709551615\nparallel c\nend\nfunc main\nset_num_threads 3\nset_max_active_levels 3\ntool 12\nparallel b\nend\n",
+    "threads 4\nfunc w\nwork\nend\nfunc s\nset_max_active_levels 0\nset_max_active_levels 4\nend\nfunc f\nparallel w num 2\nend\nfunc b\nonly 0 s\nonly 1 f\nonly 1 w\nend\nfunc main\nparallel b num 2\nend\n",
+    "threads 3\nenv debug disabled\nfunc w\nwork\nend\nfunc b\ncritical 0 w\nbarrier\nonly 1 w\nbarrier\nend\nfunc main\nparallel b num 2\nparallel b num 3\nend\n",
+];
