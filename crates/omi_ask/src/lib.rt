@@ -14,6 +14,3 @@ pub use regions::{
     get_curr_parallel_handle, get_enclosing_parallel_handle, get_task_parallel_handle,
 };
 pub use threads::{get_thread_handle, get_thread_id, get_thread_in_parallel};
-
-#[cfg(test)]
-mod tests;

@@ -13,6 +13,3 @@ pub use tasks::{
     get_task_in_parallel,
 };
 pub use words::{Frames, get_task_frame, get_task_function};
-
-#[cfg(test)]
-mod tests;

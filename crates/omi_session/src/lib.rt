@@ -23,8 +23,3 @@ pub use parted::Parted;
 pub use rc::Rc;
 pub use session::Session;
 pub use version::{API_VERSION, get_api_version, get_version_string};
-
-#[cfg(test)]
-mod rows;
-#[cfg(test)]
-mod tests;

@@ -6,7 +6,7 @@ ghost use Rattle.omi_model.specs.Teams.{new_region, member_task};
 ghost use Rattle.omi_model.specs.WorkedRun.{run_program, run_region, master, worker};
 ghost use Rattle.omi_session.specs.Answers as answer;
 
-use crate::rc::Rc;
+use omi_session::Rc;
 use std::test::Fail;
 
 /// Null ends: a program of two threads starts with one region and one task, and thread 1 has not begun.
