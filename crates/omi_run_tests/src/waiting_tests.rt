@@ -1,5 +1,5 @@
 //! Each place at which a thread waits by now: the word at which it is not ready, and that it goes on once the others have
-//! made their steps. In the layouts of all families.
+//! made their steps. In the layouts of all families, but for the search that finds no free record.
 
 use crate::moves::follow;
 use crate::orders::until;

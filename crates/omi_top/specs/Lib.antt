@@ -7,5 +7,5 @@ pub mod Refusal
 pub mod Built
 pub mod Run
 pub mod Lines
--- What private functions of the code stand on: a request as a command
+-- What private functions of the code stand on: a request as a command, and room for its lines
 pub mod Asked
