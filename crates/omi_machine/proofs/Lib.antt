@@ -1,6 +1,4 @@
 pub mod TakenItems
-pub mod KeptSlots
-pub mod NewTeams
 pub mod KeptLists
 pub mod KeptSlotLemmas
 pub mod StateChanges

@@ -1,6 +1,5 @@
--- What the plain program keeps of a state, and the parts of event rules that it decides one by one.
+-- What the plain program keeps of a state. Behind it stands glue of private functions.
 pub mod Kept
 pub mod KeptSlots
 pub mod NewMembers
 pub mod Needs
-pub mod Decided

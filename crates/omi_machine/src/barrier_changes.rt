@@ -6,8 +6,8 @@ ghost use Rattle.omi_model.specs.Changes.{OfCurrentRegion, by_current};
 ghost use Rattle.omi_machine.specs.Kept.{state_of};
 
 use crate::State;
-use crate::barrier_rules::arrivals_of;
 use crate::slot_changes::{put_live, take_live};
+use crate::state::arrivals_of;
 use omi_model::{Region, Rows};
 use omi_word::OutOfMemory;
 use std::alloc::{AllocError, Global};

@@ -1,6 +1,6 @@
 //! The state of the machine, as the plain program keeps it.
 
-ghost use Rattle.std.specs.Prelude.{◌≡◌, ◌<◌, IfSome, None, Some, unwrap_or};
+ghost use Rattle.std.specs.Prelude.{◌≡◌, ◌<◌, IfSome, None, Some, slice_index, unwrap_or};
 ghost use Rattle.std.specs.Option.{option_map};
 ghost use Rattle.omi_model.specs.Changes.{IsCurrent, encounter, level_of, list_of};
 ghost use Rattle.omi_machine.specs.Kept.{slots_of, state_of};
@@ -43,6 +43,18 @@ pub fn live_in<T: Drop>(slots: &Rows<Rows<Slot<T>>>, n: Id) -> Option<&T>
     }
 }
 
+/// The arrivals of a member of a region, 0 where it has no such member.
+pub fn arrivals_of(r: &Region, number: u64) -> u64
+    ensures { result ≡ slice_index r.now.arrivals number }
+{
+    let number = number as usize;
+    if number < r.arrivals.len() {
+        *r.arrivals.get(number)
+    } else {
+        0
+    }
+}
+
 impl State {
     /// The environment of the program.
     pub fn environment(&self) -> &Env
@@ -56,6 +68,16 @@ impl State {
         ensures { result ≡ (state_of self.now).max_active }
     {
         self.max_active
+    }
+
+    /// The holder of a lock.
+    pub fn holder_of(&self, k: u8) -> Option<u8>
+        ensures { result ≡ (state_of self.now).locks k }
+    {
+        match self.locks.find(k as usize) {
+            Some(holder) => *holder,
+            None => None,
+        }
     }
 
     /// The slots of regions that are kept, by the thread that makes them.
@@ -113,7 +135,7 @@ impl State {
     }
 
     /// The current task of a thread by name, where it has one that is live.
-    pub(crate) fn current(&self, i: usize) -> Option<(Tid, &Task)>
+    pub fn current(&self, i: usize) -> Option<(Tid, &Task)>
         requires { i < (state_of self.now).count }
         ensures found { IfSome result (λ x. IsCurrent (state_of self.now) i x.0 x.1.now) }
         ensures none { result ≡ None → (k : Tid) (t : Task) → IsCurrent (state_of self.now) i k t
@@ -125,7 +147,7 @@ impl State {
     }
 
     /// The current task of a thread and its region, where both are live.
-    pub(crate) fn current_region(&self, i: usize) -> Option<(Tid, &Task, &Region)>
+    pub fn current_region(&self, i: usize) -> Option<(Tid, &Task, &Region)>
         requires { i < (state_of self.now).count }
         ensures found { IfSome result (λ x.
             IsCurrent (state_of self.now) i x.0 x.1.now

@@ -8,7 +8,7 @@ pub(crate) const WAIT_BARRIER_IMPLICIT_PARALLEL: u32 = 0x011;
 
 pub(crate) const WAIT_BARRIER_EXPLICIT: u32 = 0x014;
 
-pub(crate) const WAIT_TASKWAIT: u32 = 0x020;
+pub const WAIT_TASKWAIT: u32 = 0x020;
 
 pub(crate) const WAIT_CRITICAL: u32 = 0x042;
 

@@ -1,14 +1,14 @@
-//! Tests of omi_machine and omi_view: worked runs and random walks, and what is reported of their states.
+//! Tests of omi_machine, omi_legal and omi_view: worked runs and random walks, and what is reported of their states.
 #![tactic(auto)]
 
-#[cfg(test)]
-mod list_tests;
 #[cfg(test)]
 mod read_events;
 #[cfg(test)]
 mod report_tests;
 #[cfg(test)]
 mod row_tests;
+#[cfg(test)]
+mod team_tests;
 #[cfg(test)]
 mod walk_tests;
 #[cfg(test)]

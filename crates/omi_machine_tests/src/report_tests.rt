@@ -1,6 +1,7 @@
 //! The whole report of a half-made fork, and that of the fork.
 use crate::read_events::event;
-use omi_machine::{State, after, legal, opening};
+use omi_legal::legal;
+use omi_machine::{State, after, opening};
 use omi_script::parse;
 use omi_text::report_text;
 use omi_view::view_of;

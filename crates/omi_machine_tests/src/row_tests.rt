@@ -5,7 +5,8 @@ use crate::worked_rows::{
     A_CONTESTED_WORKER, A_FULL_ROW_OF_SLOTS, A_LIST_WITH_A_CHANGED_HEAD, ALL, AN_ENDED_ANCESTOR,
     LIMIT_OF_ACTIVE_LEVELS, NESTED_CHAIN, Row, TOO_FEW_THREADS, Version, WAITS_AND_A_LOCK,
 };
-use omi_machine::{State, after, legal, opening};
+use omi_legal::legal;
+use omi_machine::{State, after, opening};
 use omi_model::Event;
 use omi_script::{Program, parse};
 use omi_text::report_text;

@@ -3,8 +3,9 @@ ghost use Rattle.std.specs.Prelude.{◌<◌};
 ghost use Rattle.omi_machine.specs.Kept.{state_of};
 
 use crate::well_formed::{is_well_formed, name_at};
+use omi_legal::legal;
 use omi_list::List;
-use omi_machine::{State, after, head_item, legal, may_pass_over, opening};
+use omi_machine::{State, after, head_item, may_pass_over, opening};
 use omi_model::{Event, Id, Item, Progress, Rid, Rows, Slot, Team, Tid};
 use omi_script::{Program, parse};
 use omi_view::view_of;

@@ -5,7 +5,6 @@
 mod claim;
 mod encounter;
 mod event;
-mod events;
 mod id;
 mod item;
 mod item_list;
@@ -24,7 +23,6 @@ mod view;
 pub use claim::Claim;
 pub use encounter::Encounter;
 pub use event::Event;
-pub use events::EventList;
 pub use id::{Id, Rid, Tid};
 pub use item::Item;
 pub use item_list::ItemList;

@@ -1,0 +1,26 @@
+//! Which item of a thread's list an event takes.
+
+ghost use Rattle.std.specs.Prelude.{◌≡◌};
+ghost use Rattle.std.specs.Option.{option_map};
+ghost use Rattle.omi_script.specs.declared.program.Program.{Program};
+ghost use Rattle.omi_model.specs.Lists.{take_item};
+
+use omi_machine::{head_item, is_events_item, may_pass_over};
+use omi_model::{Encounter, Event, Item, ItemList};
+
+/// The item that an event takes off a list, where the list allows the event.
+pub fn taken_item(at: Encounter, e: &Event, list: &ItemList) -> Option<Item>
+    ensures { (p : Program) → option_map (λ t. t.0) (take_item p at e.now list.now) ≡ result }
+{
+    for k in 0..list.len() {
+        let x = *list.get(k);
+        let head = head_item(at, x);
+        if is_events_item(e, head) {
+            return Some(head);
+        }
+        if !may_pass_over(x) {
+            return None;
+        }
+    }
+    None
+}
