@@ -4,6 +4,3 @@
 mod steps;
 
 pub use steps::{next, resume};
-
-#[cfg(test)]
-mod tests;

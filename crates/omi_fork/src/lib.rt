@@ -15,6 +15,3 @@ pub use steps::{fork_next, fork_resume};
 pub use team::team_next;
 pub use team_moves::team_resume;
 pub use worker::{worker_next, worker_resume};
-
-#[cfg(test)]
-mod tests;

@@ -27,6 +27,3 @@ pub use place::Place;
 pub use stack::Stack;
 pub use task_counter::{Ancestor, FinishCounter, LookCounter, TaskCounter};
 pub use team_counter::{BarrierCounter, JoinCounter, TeamCounter, WorkerCounter};
-
-#[cfg(test)]
-mod tests;

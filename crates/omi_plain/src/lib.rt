@@ -10,6 +10,3 @@ mod steps;
 
 pub use laws::{plain_steps_fit, variables_are_set_as_rows_say};
 pub use steps::{plain_next, plain_resume};
-
-#[cfg(test)]
-mod tests;

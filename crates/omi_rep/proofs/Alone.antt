@@ -1,6 +1,6 @@
 -- Words show a state in which nothing lives but the initial region and the initial task, where their records hold its values.
 use Rattle.std.proofs.Common.{◌≡◌, ◌==◌, ◌<◌, ℕ, zero, suc, ◌+◌, ◌*◌, ◌≤◌, ◌&&◌, Bool, true, false, cond, List, [], ◌∷◌, length, Some, None, refl, sym, ap, subst, ◌∙◌, arith, lit≤, lit<, eqb-true, if◌then◌else◌}
-use Rattle.std.specs.Prelude.{slice_get, slice_index, Contains, IsSome, IsTrue, nat_le, sum, unwrap_or}
+use Rattle.std.specs.Prelude.{slice_get, slice_index, Contains, IsSome}
 use Rattle.std.proofs.lemmas.Bool.Decides.{nat_tests}
 use Rattle.std.proofs.lemmas.List.Elements.{All-from_recursion}
 use Rattle.std.proofs.lemmas.Option.{get_or_from_slice_get, slice_get_within}
@@ -35,7 +35,6 @@ use Rattle.omi_layout.proofs.Arenas.{some_threads, some_regions, some_tasks}
 use Rattle.omi_layout.proofs.Numbers.{numbered_field}
 use Rattle.omi_layout.proofs.Stored.{mapped}
 use Rattle.omi_layout.proofs.Tables.{tables_give}
-use Rattle.omi_rep.specs.Plain.{is_plain, word_in}
 use Rattle.omi_rep.specs.Records.{records_of, task_address, task_word}
 use Rattle.omi_rep.specs.Shows.{Shows, ShowsGlobals, ShowsLife, ShowsThread, ShowsSlot, ShowsRegion, ShowsTask, RecordsShow, IsWithin, Stands}
 
@@ -144,16 +143,6 @@ alone_free {A} x c k = go (c == 0 && k == 0)
     go : (b : Bool) → (if b then record { generations = 1; live = Some x } else unused).live ≡ None → (if b then record { generations = 1; live = Some x } else unused).generations ≡ 0
     go true is = absurd (cc)
     go false is = refl
-
-both : (a b : Bool) → a ≡ true → b ≡ true → a && b ≡ true
-both true b x y = y
-both false b x y = absurd (cc)
-
-le_test : (a b : ℕ) → a ≤ b → nat_le a b ≡ true
-le_test a b h = grind (arith, nat_tests)
-
-eq_test : (a b : ℕ) → a ≡ b → a == b ≡ true
-eq_test a b h = grind (arith, nat_tests)
 
 pub flags : (b : Bool) → flag_word b ≡ flag b
 flags true = refl
@@ -380,46 +369,3 @@ module _ (p : Program) (w words : List ℕ) (a : Values) (v : IsValid w) (suits 
 
   pub alone_shown : Shows w g s
   alone_shown = record { layout = tables_give w words v holds.tables; within = within; records = records_shown }
-
-  -- the counts of arrivals and releases
-  pub alone_counted : (n : Rid) (seen : IsVisibleRegion s n)
-      → Stands (records_of w g n.0.creator regions n.0.slot) RegionArrived 0 (sum seen.region.arrivals) × Stands (records_of w g n.0.creator regions n.0.slot) RegionReleased 0 seen.region.released
-  alone_counted n seen = counted_in n seen.region (alone_found (region_at p a) seen.region n.0.creator n.0.slot n.0.generation seen.live)
-    where
-      first : Stands (records_of w g 0 regions 0) RegionArrived 0 (sum (a.arrived ∷ [])) × Stands (records_of w g 0 regions 0) RegionReleased 0 a.released
-      first = (of_region RegionArrived _ refl (holds.region.arrivals ∙ only a.arrived), of_region RegionReleased _ refl holds.region.releases)
-        where
-          only : (x : ℕ) → x ≡ sum (x ∷ [])
-          only x = omega arith
-
-      counted_in : (n : Rid) (r : Region) → Alone (region_at p a) r n.0.creator n.0.slot n.0.generation
-          → Stands (records_of w g n.0.creator regions n.0.slot) RegionArrived 0 (sum r.arrivals) × Stands (records_of w g n.0.creator regions n.0.slot) RegionReleased 0 r.released
-      counted_in n r at =
-          subst (λ (d : ℕ). Stands (records_of w g d regions n.0.slot) RegionArrived 0 (sum r.arrivals) × Stands (records_of w g d regions n.0.slot) RegionReleased 0 r.released) (sym at.creator)
-          (subst (λ (j : ℕ). Stands (records_of w g 0 regions j) RegionArrived 0 (sum r.arrivals) × Stands (records_of w g 0 regions j) RegionReleased 0 r.released) (sym at.place)
-          (subst (λ (q : Region). Stands (records_of w g 0 regions 0) RegionArrived 0 (sum q.arrivals) × Stands (records_of w g 0 regions 0) RegionReleased 0 q.released) at.same first))
-
-  -- the word that stands is the one that is read
-  read : (kind : ℕ) (f : Field) (at x : ℕ) → Stands (records_of w g 0 kind 0) f at x → word_in w words (slot_address w kind 0 0) f at ≡ x
-  read kind f at x there = ap (λ o. unwrap_or o 0) there
-
-  -- and it passes a test for its value
-  reads : (kind : ℕ) (f : Field) (at x : ℕ) → Stands (records_of w g 0 kind 0) f at x → word_in w words (slot_address w kind 0 0) f at == x ≡ true
-  reads kind f at x there = eq_test (word_in w words (slot_address w kind 0 0) f at) x (read kind f at x there)
-
-  -- in a layout of one thread the words are plain
-  pub alone_plain : thread_count w ≡ 1 → IsTrue (is_plain w words)
-  alone_plain one =
-      let r = holds.region in
-      let t = holds.task in
-      let o = holds.thread 0 (some_threads w v) in
-      let size : ℕ = word_in w words (slot_address w tasks 0 0) TaskNthreadsLength 0 in
-      let sizes : size ≡ length a.nthreads = read tasks TaskNthreadsLength 0 _ (of_task TaskNthreadsLength _ refl t.nthreads_length) in
-      both _ _ (both _ _ (le_test (image_words w) (length words) (omega (arith, holds.count))) (eq_test (thread_count w) 1 one))
-      (both _ _ (both _ _ (reads threads ThreadLife 0 1 (of_thread 0 (some_threads w v) ThreadLife _ refl o.life)) (reads threads ThreadCurrent 0 _ (of_thread 0 (some_threads w v) ThreadCurrent _ refl o.current)))
-      (both _ _ (both _ _ (both _ _ (reads regions RegionLife 0 1 (of_region RegionLife _ refl r.life)) (reads regions RegionEnclosing 0 0 (of_region RegionEnclosing _ refl r.enclosing)))
-      (both _ _ (reads regions RegionSize 0 1 (of_region RegionSize _ refl r.size)) (reads regions RegionTeam 0 _ (of_region RegionTeam _ refl r.member))))
-      (both _ _ (both _ _ (both _ _ (reads tasks TaskLife 0 1 (of_task TaskLife _ refl t.life)) (reads tasks TaskRegion 0 _ (of_task TaskRegion _ refl t.region)))
-      (both _ _ (reads tasks TaskThread 0 _ (of_task TaskThread _ refl t.thread))
-      (both _ _ (reads tasks TaskGenerating 0 0 (of_task TaskGenerating _ refl t.generating)) (reads tasks TaskScheduling 0 0 (of_task TaskScheduling _ refl t.scheduling)))))
-      (both _ _ (le_test 1 size (omega (arith, sizes, at_least))) (le_test size 4 (omega (arith, sizes, at_most)))))))

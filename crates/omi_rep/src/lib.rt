@@ -12,6 +12,3 @@ pub use fault::LookFault;
 pub use laws::{families_suit, opening_words_shown, plain_words_looked, words_fix_the_report};
 pub use outcome::Outcome;
 pub use plain::{is_plain, plain_view};
-
-#[cfg(test)]
-mod tests;

@@ -69,6 +69,14 @@ impl<'a> Look<'a> {
         Ok(())
     }
 
+    /// The same of the first words of fields of several records.
+    pub fn have(&self, words: &[(Place, Field, u64)]) -> Result<(), Difference> {
+        for (record, field, wanted) in words {
+            self.is(*record, *field, *wanted)?;
+        }
+        Ok(())
+    }
+
     /// The runtime record. The locks are given by what their words are to be.
     fn globals(&self, s: &State, locks: &[u64; 8]) -> Result<(), Difference> {
         let environment = s.environment();

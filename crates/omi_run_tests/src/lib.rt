@@ -16,6 +16,8 @@ mod look_tests;
 #[cfg(test)]
 mod moves;
 #[cfg(test)]
+mod operation_tests;
+#[cfg(test)]
 mod orders;
 #[cfg(test)]
 mod random_tests;

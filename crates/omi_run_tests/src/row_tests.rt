@@ -1,6 +1,5 @@
 //! Worked runs, in the layout of family 0: their events, and the words of a fork, one step before it and at it.
 
-use crate::compare::Look;
 use crate::lines::tells;
 use crate::look::{Place, RUNTIME};
 use crate::moves::follow;
@@ -36,11 +35,21 @@ const OTHER: Place = Place {
     slot: 0,
 };
 
-/// The byte address of a word by its place in the image. For two threads the arenas begin at the words 99, 112, 124 and 540,
-/// and their records have 13, 6, 13 and 26 words.
-fn address(place: u16) -> u64 {
-    0x10000 + 8 * u64::from(place)
-}
+/// Byte addresses of words by their place in the image. For two threads the arenas begin at the words 99, 112, 124 and 540, and their
+/// records have 13, 6, 13 and 26 words.
+const WORD_112: u64 = 0x10000 + 8 * 112;
+
+const WORD_118: u64 = 0x10000 + 8 * 118;
+
+const WORD_124: u64 = 0x10000 + 8 * 124;
+
+const WORD_137: u64 = 0x10000 + 8 * 137;
+
+const WORD_540: u64 = 0x10000 + 8 * 540;
+
+const WORD_566: u64 = 0x10000 + 8 * 566;
+
+const WORD_592: u64 = 0x10000 + 8 * 592;
 
 /// Two workers wait; thread 0 gets one of them, and forks again behind its fork.
 const TO_TWO_FORKS: &str = "\
@@ -57,90 +66,79 @@ const TO_A_TEAM_OF_ONE: &str = "\
 0 until fork";
 
 /// What both cores have of thread 1, the initial region and the initial task.
-fn has_the_rest(look: &Look) -> Result<(), Wrong> {
-    for (record, field, word) in [
-        (RUNTIME, Field::RuntimeVersion, 201811),
-        (RUNTIME, Field::RuntimeThreads, 2),
-        (RUNTIME, Field::RuntimeProcs, 4),
-        (RUNTIME, Field::RuntimeDebug, 1),
-        (RUNTIME, Field::RuntimeMaxActive, 8),
-        (FIRST, Field::ThreadState, 0x101),
-        (OTHER, Field::ThreadLife, 1),
-        (OTHER, Field::ThreadNative, 1001),
-        (OTHER, Field::ThreadState, 0x100),
-        (OTHER, Field::ThreadCurrent, 0),
-        (FIRST, Field::RegionLife, 1),
-        (FIRST, Field::RegionFunction, 0x40_0010),
-        (FIRST, Field::RegionLevels, 0),
-        (FIRST, Field::RegionActive, 0),
-        (FIRST, Field::RegionSize, 1),
-        (FIRST, Field::RegionEnclosing, 0),
-        (FIRST, Field::RegionTeam, address(540)),
-        (FIRST, Field::TaskLife, 1),
-        (FIRST, Field::TaskImplicit, 1),
-        (FIRST, Field::TaskRegion, address(124)),
-        (FIRST, Field::TaskFunction, 0x40_0010),
-        (FIRST, Field::TaskGenerating, 0),
-        (FIRST, Field::TaskScheduling, 0),
-        (FIRST, Field::TaskExit, 0x7f00_000f_ffc0),
-        (FIRST, Field::TaskEnter, 0x7f00_000f_ffa0),
-        (FIRST, Field::TaskTool, 0),
-        (FIRST, Field::TaskDynamic, 0),
-        (FIRST, Field::TaskNthreadsLength, 1),
-        (FIRST, Field::TaskNthreads, 2),
-        (FIRST, Field::TaskSchedule, 1),
-        (FIRST, Field::TaskDevice, 0),
-        (FIRST, Field::TaskFinal, 0),
-    ] {
-        look.is(record, field, word)?;
-    }
-    Ok(())
-}
+const THE_REST: [(Place, Field, u64); 32] = [
+    (RUNTIME, Field::RuntimeVersion, 201811),
+    (RUNTIME, Field::RuntimeThreads, 2),
+    (RUNTIME, Field::RuntimeProcs, 4),
+    (RUNTIME, Field::RuntimeDebug, 1),
+    (RUNTIME, Field::RuntimeMaxActive, 8),
+    (FIRST, Field::ThreadState, 0x101),
+    (OTHER, Field::ThreadLife, 1),
+    (OTHER, Field::ThreadNative, 1001),
+    (OTHER, Field::ThreadState, 0x100),
+    (OTHER, Field::ThreadCurrent, 0),
+    (FIRST, Field::RegionLife, 1),
+    (FIRST, Field::RegionFunction, 0x40_0010),
+    (FIRST, Field::RegionLevels, 0),
+    (FIRST, Field::RegionActive, 0),
+    (FIRST, Field::RegionSize, 1),
+    (FIRST, Field::RegionEnclosing, 0),
+    (FIRST, Field::RegionTeam, WORD_540),
+    (FIRST, Field::TaskLife, 1),
+    (FIRST, Field::TaskImplicit, 1),
+    (FIRST, Field::TaskRegion, WORD_124),
+    (FIRST, Field::TaskFunction, 0x40_0010),
+    (FIRST, Field::TaskGenerating, 0),
+    (FIRST, Field::TaskScheduling, 0),
+    (FIRST, Field::TaskExit, 0x7f00_000f_ffc0),
+    (FIRST, Field::TaskEnter, 0x7f00_000f_ffa0),
+    (FIRST, Field::TaskTool, 0),
+    (FIRST, Field::TaskDynamic, 0),
+    (FIRST, Field::TaskNthreadsLength, 1),
+    (FIRST, Field::TaskNthreads, 2),
+    (FIRST, Field::TaskSchedule, 1),
+    (FIRST, Field::TaskDevice, 0),
+    (FIRST, Field::TaskFinal, 0),
+];
 
 /// The region and the tasks of the team.
-fn has_the_team(look: &Look) -> Result<(), Wrong> {
-    for (record, field, word) in [
-        (SECOND, Field::RegionLife, 1),
-        (SECOND, Field::RegionFunction, 0x40_0000),
-        (SECOND, Field::RegionLevels, 1),
-        (SECOND, Field::RegionActive, 1),
-        (SECOND, Field::RegionSize, 2),
-        (SECOND, Field::RegionEnclosing, address(124)),
-        (SECOND, Field::RegionEncountering, address(540)),
-        (SECOND, Field::RegionTeam, address(566)),
-        (SECOND, Field::TaskLife, 1),
-        (SECOND, Field::TaskImplicit, 1),
-        (SECOND, Field::TaskRegion, address(137)),
-        (SECOND, Field::TaskThread, address(112)),
-        (SECOND, Field::TaskNumber, 0),
-        (SECOND, Field::TaskFunction, 0x40_0000),
-        (SECOND, Field::TaskGenerating, address(540)),
-        (SECOND, Field::TaskScheduling, address(540)),
-        (SECOND, Field::TaskExit, 0x7f00_000f_ff80),
-        (SECOND, Field::TaskEnter, 0),
-        (SECOND, Field::TaskTool, 0),
-        (SECOND, Field::TaskDynamic, 0),
-        (SECOND, Field::TaskNthreadsLength, 1),
-        (SECOND, Field::TaskNthreads, 2),
-        (SECOND, Field::TaskSchedule, 1),
-        (SECOND, Field::TaskDevice, 0),
-        (SECOND, Field::TaskFinal, 0),
-        (THIRD, Field::TaskLife, 1),
-        (THIRD, Field::TaskImplicit, 1),
-        (THIRD, Field::TaskRegion, address(137)),
-        (THIRD, Field::TaskThread, address(118)),
-        (THIRD, Field::TaskNumber, 1),
-        (THIRD, Field::TaskFunction, 0x40_0000),
-        (THIRD, Field::TaskGenerating, address(540)),
-        (THIRD, Field::TaskScheduling, 0),
-        (THIRD, Field::TaskExit, 0x7f00_001f_ffc0),
-        (THIRD, Field::TaskNthreads, 2),
-    ] {
-        look.is(record, field, word)?;
-    }
-    look.is_at(SECOND, Field::RegionTeam, 1, Some(address(592)))?;
-    Ok(())
-}
+const THE_TEAM: [(Place, Field, u64); 35] = [
+    (SECOND, Field::RegionLife, 1),
+    (SECOND, Field::RegionFunction, 0x40_0000),
+    (SECOND, Field::RegionLevels, 1),
+    (SECOND, Field::RegionActive, 1),
+    (SECOND, Field::RegionSize, 2),
+    (SECOND, Field::RegionEnclosing, WORD_124),
+    (SECOND, Field::RegionEncountering, WORD_540),
+    (SECOND, Field::RegionTeam, WORD_566),
+    (SECOND, Field::TaskLife, 1),
+    (SECOND, Field::TaskImplicit, 1),
+    (SECOND, Field::TaskRegion, WORD_137),
+    (SECOND, Field::TaskThread, WORD_112),
+    (SECOND, Field::TaskNumber, 0),
+    (SECOND, Field::TaskFunction, 0x40_0000),
+    (SECOND, Field::TaskGenerating, WORD_540),
+    (SECOND, Field::TaskScheduling, WORD_540),
+    (SECOND, Field::TaskExit, 0x7f00_000f_ff80),
+    (SECOND, Field::TaskEnter, 0),
+    (SECOND, Field::TaskTool, 0),
+    (SECOND, Field::TaskDynamic, 0),
+    (SECOND, Field::TaskNthreadsLength, 1),
+    (SECOND, Field::TaskNthreads, 2),
+    (SECOND, Field::TaskSchedule, 1),
+    (SECOND, Field::TaskDevice, 0),
+    (SECOND, Field::TaskFinal, 0),
+    (THIRD, Field::TaskLife, 1),
+    (THIRD, Field::TaskImplicit, 1),
+    (THIRD, Field::TaskRegion, WORD_137),
+    (THIRD, Field::TaskThread, WORD_118),
+    (THIRD, Field::TaskNumber, 1),
+    (THIRD, Field::TaskFunction, 0x40_0000),
+    (THIRD, Field::TaskGenerating, WORD_540),
+    (THIRD, Field::TaskScheduling, 0),
+    (THIRD, Field::TaskExit, 0x7f00_001f_ffc0),
+    (THIRD, Field::TaskNthreads, 2),
+];
 
 /// The places at which the words of two runs differ: the last one, and how many there are.
 fn differing(a: &Trial, b: &Trial) -> (usize, usize) {
@@ -165,17 +163,19 @@ fn run_in_turn(alloc: Global, steps: u64) -> Result<Trial, Wrong> {
 
 /// The words and events one step before the fork.
 fn is_half_made(alloc: Global, t: &Trial) -> Result<bool, Wrong> {
-    has_the_rest(&t.look())?;
-    t.look().is(FIRST, Field::ThreadCurrent, address(540))?;
+    t.look().have(&THE_REST)?;
+    t.look().is(FIRST, Field::ThreadCurrent, WORD_540)?;
     let events = "enter; state overhead 0; want 2; ask 1 got";
     Ok(tells(alloc, t.core(), 0, events)? && tells(alloc, t.core(), 1, "begin; offer")?)
 }
 
 /// The words and events at the fork.
 fn is_forked(alloc: Global, t: &Trial) -> Result<bool, Wrong> {
-    has_the_rest(&t.look())?;
-    has_the_team(&t.look())?;
-    t.look().is(FIRST, Field::ThreadCurrent, address(566))?;
+    t.look().have(&THE_REST)?;
+    t.look().have(&THE_TEAM)?;
+    t.look()
+        .is_at(SECOND, Field::RegionTeam, 1, Some(WORD_592))?;
+    t.look().is(FIRST, Field::ThreadCurrent, WORD_566)?;
     let events =
         "enter; state overhead 0; want 2; ask 1 got; fork r0.1.0 size 2 team k0.1.0@0 k0.2.0@1";
     Ok(tells(alloc, t.core(), 0, events)? && tells(alloc, t.core(), 1, "begin; offer")?)
@@ -250,7 +250,7 @@ fn is_limited(alloc: Global, t: &mut Trial) -> Result<bool, Wrong> {
             (Field::RegionLevels, Some(2)),
             (Field::RegionActive, Some(1)),
             (Field::RegionSize, Some(1)),
-            (Field::RegionEnclosing, Some(address(137))),
+            (Field::RegionEnclosing, Some(WORD_137)),
         ],
     )?;
     let events =

@@ -35,6 +35,10 @@ pub const ONE_LOCK: &str =
 pub const SIXTEEN_TEAMS: &str =
     "threads 1\nfunc w\nwork\nend\nfunc b\nparallel w num 1\nend\nfunc main\nrepeat 16 b\nend\n";
 
+/// Each statement that makes no team and no task, on thread 0 of two.
+pub const EACH_PLAIN_STATEMENT: &str =
+    "threads 2\nfunc inner\nwork\nend\nfunc main\nset_dynamic 1\nset_num_threads 3\nset_max_active_levels 5\nset_schedule dynamic 4\nset_default_device 2\ntool 7\ncall inner\nrepeat 2 inner\nonly 1 inner\ncritical 3 inner\nend\n";
+
 /// The workloads of the examples.
 pub const EXAMPLES: [&str; 6] = [
     "func main\nend\n",

@@ -15,13 +15,11 @@ pub mod LineFaults
 pub mod Faults
 pub mod Verdict
 pub mod Grammar
--- What a program is, its rules as plain facts, its canonical text, and the programs that are
--- built today.
+-- What a program is, its rules as plain facts, and its canonical text.
 pub mod Program
 pub mod Bodies
 pub mod Rules
 pub mod Canonical
-pub mod Small
 pub mod Errors
 -- Glue of private functions: nothing that a reader has to believe.
 pub mod Separators

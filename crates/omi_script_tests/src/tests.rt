@@ -1,9 +1,7 @@
 //! Each public call once on its happy path, and each limit on both sides.
 use crate::row_tests::{accepts, refuses};
 use omi_script::limits::{MAX_BYTES, MAX_DEPTH, MAX_FUNCTIONS, MAX_STATEMENTS};
-use omi_script::{
-    OutOfMemory, Sched, Stmt, Why, is_small, kind_name, kind_number, number, parse, print,
-};
+use omi_script::{OutOfMemory, Sched, Stmt, Why, kind_name, kind_number, number, parse, print};
 use std::alloc::Global;
 use std::process::Abort;
 use std::test::Fail;
@@ -72,7 +70,6 @@ fn programs(rt: HostRuntime) -> Result<(), Fail> {
         *main.body.as_slice(),
         [Stmt::SetNumThreads(3), Stmt::Call { f: 0 }][..]
     );
-    assert!(rt; !is_small(&p));
     Ok(())
 }
 

@@ -18,6 +18,3 @@ pub use look_moves::look_resume;
 pub use making::making_next;
 pub use making_moves::making_resume;
 pub use steps::{task_next, task_resume};
-
-#[cfg(test)]
-mod tests;

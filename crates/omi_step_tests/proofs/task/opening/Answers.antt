@@ -5,7 +5,7 @@ use Rattle.omi_pc.specs.declared.actor.Actor.{Actor}
 use Rattle.omi_pc.specs.FitLaws.{OpeningFits}
 use Rattle.omi_pc.specs.Fits.{Fits}
 use Rattle.omi_pc.specs.Opening.{opening_actor}
-use Rattle.omi_task.proofs.tests.opening.Goals as goal
+use Rattle.omi_step_tests.proofs.task.opening.Goals as goal
 
 fits : {E : Type 0} (p : Program) (r : Result Actor E) → OpeningFits → 0 < p.threads → IfOk r (λ a. a ≡ opening_actor p 0) → IfOk r (Fits p)
 fits p (Ok a) law some is = subst (Fits p) (sym is) (law p 0 some)

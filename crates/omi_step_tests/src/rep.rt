@@ -1,9 +1,9 @@
-//! Plain words of several layouts: a list with a changed head, read through the layout. Layouts that suit a program.
+//! Tests of omi_rep: plain words of several layouts: a list with a changed head, read through the layout. Layouts that suit a program.
 
 ghost use Rattle.std.specs.Prelude.{◌<◌};
 
-use crate::{is_plain, plain_view, suits};
 use omi_layout::{Field, Layout};
+use omi_rep::{is_plain, plain_view, suits};
 use omi_script::parse;
 use omi_word::{Image, MOST_WORDS, Natives, Op};
 use std::alloc::{AllocError, Global};

@@ -1,4 +1,4 @@
-//! Walks through the steps of explicit tasks, step by step, in the layout of family 0 for two threads.
+//! Tests of omi_task: walks through the steps of explicit tasks, step by step, in the layout of family 0 for two threads.
 
 ghost use Rattle.std.specs.Prelude.{◌≡◌, ◌<◌, IfOk, IsTrue, length};
 ghost use Rattle.omi_layout.specs.Table.{thread_count};
@@ -8,8 +8,6 @@ ghost use Rattle.omi_pc.specs.Stacks.{task_function};
 ghost use Rattle.omi_step.specs.Placed.{AreContextsPlaced, HasRegion, HasTask, HasTaskPlace, IsPlacedCounter, IsPlacedFinish, IsPlacedLook, IsPlacedTask};
 ghost use Rattle.omi_task.specs.Steps.{IsTaskCounter};
 
-use super::*;
-use crate::finish::finish_resume;
 use omi_layout::Layout;
 use omi_model::{Event, Id, OutOfMemory, Rid, Tid};
 use omi_pc::limits::VARIABLE_WORDS;
@@ -19,6 +17,7 @@ use omi_pc::{
 };
 use omi_rep::Outcome;
 use omi_script::{Program, Stmt, parse};
+use omi_task::{finish_resume, task_next, task_resume};
 use omi_word::{Op, Res};
 use std::alloc::Global;
 use std::process::Abort;

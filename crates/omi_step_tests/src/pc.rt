@@ -1,11 +1,13 @@
-//! A walk through the bodies of a script.
+//! Tests of omi_pc: a walk through the bodies of a script.
 
 ghost use Rattle.std.specs.Prelude.{◌≡◌, ◌<◌, length, IfOk};
 ghost use Rattle.omi_pc.specs.OpenBodies.{AreOpen};
 
-use super::*;
-use crate::limits::STACK_ROOM;
-use omi_model::{Id, Rid, Tid};
+use omi_model::{Id, OutOfMemory, Rid, Tid};
+use omi_pc::limits::STACK_ROOM;
+use omi_pc::{
+    Actor, Barrier, BarrierCounter, Context, Counter, Opened, PlainCounter, WorkerCounter,
+};
 use omi_script::{Program, Stmt, parse};
 use std::alloc::Global;
 use std::process::Abort;
