@@ -44,7 +44,7 @@ pub record NothingNew (s u : State) : Type 0 where
 none_same : {A : Type 0} (x : Slots A) → IsNoneNew x x
 none_same {A} x = record { generations = λ c j. refl; empty = λ c j e. e }
 
-none_on : {A : Type 0} (x : Slots A) (k : Id) (f : A → A) → IsNoneNew x (on x k f)
+pub none_on : {A : Type 0} (x : Slots A) (k : Id) (f : A → A) → IsNoneNew x (on x k f)
 none_on {A} x k f = record { generations = on_generations x k f; empty = on_empty x k f }
 
 nothing_trans : (s t u : State) → NothingNew s t → NothingNew t u → NothingNew s u
@@ -110,7 +110,7 @@ module _ (z : State) (i : ℕ) where
   effect_new p event.Ret y not rule = nothing
   effect_new p event.Done y not rule = nothing
 
-  list_new : (zs : List Item) → NothingNew z (with_list z i zs)
+  pub list_new : (zs : List Item) → NothingNew z (with_list z i zs)
   list_new zs = list_moves z i zs of_nothing (λ k is. by_task k _) (λ none. by_slots _ (none_same z.regions) (none_same z.tasks))
 
 pub nothing_new : (p : Program) (s : State) (i : ℕ) (e : Event) (next : State) → (Makes e → ⊥) → Step p s i e next → NothingNew s next

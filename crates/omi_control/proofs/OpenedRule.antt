@@ -39,6 +39,8 @@ use Rattle.omi_control.proofs.Forgotten.{at_counter, settled_forgets}
 use Rattle.omi_control.proofs.OwnTask.{bodies_are_of_bodies}
 use Rattle.omi_control.proofs.Settling.{settled_ahead}
 use Rattle.omi_control.proofs.plain.Firsts.{IsFirst, IsGrounded, grounds_are_of_bodies, plain_first, settled_first, some_frame}
+use Rattle.omi_control.specs.Chains.{RunsFunctions}
+use Rattle.omi_control.proofs.Runs.{runs_are_of_bodies}
 
 module _ (p : Program) (w words : List ℕ) (valid : IsValid w) (suits : Suits p w) (are : AreOpening p w words) where
   within : IsWithin w (opening p)
@@ -105,6 +107,7 @@ module _ (p : Program) (w words : List ℕ) (valid : IsValid w) (suits : Suits p
               (some_same refl (subst (λ (c : Context). task_of (opening p) c.task ≡ Some t) differs.context live))
               (settled_ahead p (encounter_of (opening p) initial_context) refl a (at_start p.main Main) [] refl));
         });
+        runs = settled_of (RunsFunctions (opening p)) (runs_are_of_bodies (opening p)) p a (λ opens t live. ap (λ (x : Task). x.function) (some_same {x = t} live refl), tt);
         row = first.row p w (memory_of w words) (opening p) 0 (settled p a);
         ended = first.ended [] 0;
       }
@@ -120,6 +123,7 @@ module _ (p : Program) (w words : List ℕ) (valid : IsValid w) (suits : Suits p
     fits = opened_fits p (suc i) known;
     placed = record { bodies = tt; counter = tt };
     stands = record { current = ap (λ (h : Thread). h.current) (worker_is i); ahead = ap (λ (h : Thread). h.list) (worker_is i) };
+    runs = tt;
     row = ap (λ (h : Thread). h.begun) (worker_is i);
     ended = tt;
   }

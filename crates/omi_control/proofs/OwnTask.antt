@@ -45,7 +45,7 @@ called_says_nothing p s c (opened.Repeat left) fs called = tt
 called_says_nothing p s c (opened.Critical k) fs called = tt
 
 -- and stands in the same task
-called_under : (c : Context) (o : Opened) → IsCalled o → context_under c o ≡ c
+pub called_under : (c : Context) (o : Opened) → IsCalled o → context_under c o ≡ c
 called_under c opened.Main called = refl
 called_under c opened.Worker called = refl
 called_under c (opened.Master saved) called = absurd (cc called)

@@ -1,15 +1,19 @@
 -- The registers of a thread stay right while another thread makes a step: it leaves the records in the making and what the state says.
-use Rattle.std.proofs.Common.{◌≡◌, ◌≢◌, ◌+◌, ◌<◌, ◌≤◌, ℕ, zero, suc, inl, inr, Bool, List, [], ◌∷◌, length, map, slice_get, take, Some, None, refl, sym, ap, ◌∙◌, subst, arith}
+use Rattle.std.proofs.Common.{◌≡◌, ◌≢◌, ◌+◌, ◌<◌, ◌≤◌, ℕ, zero, suc, inl, inr, Bool, true, List, [], ◌∷◌, length, map, slice_get, take, Option, Some, None, refl, sym, ap, ◌∙◌, subst, arith}
 use Rattle.std.specs.List.{All, Contains}
 use Rattle.std.proofs.lemmas.List.Elements.{All-head, All-tail}
 use Rattle.omi_script.specs.declared.program.Program.{Program}
 use Rattle.omi_model.specs.declared.id.Rid.{Rid}
 use Rattle.omi_model.specs.declared.id.Tid.{Tid}
+use Rattle.omi_model.specs.declared.progress.Progress.{Progress}
+use Rattle.omi_model.specs.declared.progress.Progress.TheVariants as progress
 use Rattle.omi_model.specs.declared.task.Task.{Task}
 use Rattle.omi_model.specs.Columns.{tasks_of}
-use Rattle.omi_model.specs.State.{State}
+use Rattle.omi_model.specs.LawStays.{IsSameTask, stage_of}
+use Rattle.omi_model.specs.State.{State, task_of}
 use Rattle.omi_model.specs.Teams.{AreAsksOver, got_threads}
 use Rattle.omi_model.proofs.Slots.{some_same}
+use Rattle.omi_layout.specs.declared.field.Field.{Field}
 use Rattle.omi_layout.specs.declared.field.Field.TheVariants.{RegionLeft, RegionTeam, ThreadAssign}
 use Rattle.omi_layout.specs.Field.{regions, tasks, threads}
 use Rattle.omi_layout.specs.Memory.{Memory, Rec}
@@ -17,9 +21,13 @@ use Rattle.omi_layout.specs.Named.{number}
 use Rattle.omi_pc.specs.declared.actor.Actor.{Actor}
 use Rattle.omi_pc.specs.declared.counter.Counter.{Counter}
 use Rattle.omi_pc.specs.declared.counter.Counter.TheVariants as counter
-use Rattle.omi_pc.specs.declared.limits.TheConstants.{VARIABLE_WORDS}
+use Rattle.omi_pc.specs.declared.limits.TheConstants.{START_WORDS, TASK_WORDS, VARIABLE_WORDS}
+use Rattle.omi_pc.specs.declared.task_counter.FinishCounter.{FinishCounter}
+use Rattle.omi_pc.specs.declared.task_counter.FinishCounter.TheVariants as finish
 use Rattle.omi_pc.specs.declared.task_counter.LookCounter.{LookCounter}
 use Rattle.omi_pc.specs.declared.task_counter.LookCounter.TheVariants as look
+use Rattle.omi_pc.specs.declared.task_counter.TaskCounter.{TaskCounter}
+use Rattle.omi_pc.specs.declared.task_counter.TaskCounter.TheVariants as task
 use Rattle.omi_pc.specs.declared.team_counter.BarrierCounter.{BarrierCounter}
 use Rattle.omi_pc.specs.declared.team_counter.JoinCounter.{JoinCounter}
 use Rattle.omi_pc.specs.declared.team_counter.JoinCounter.TheVariants as join
@@ -28,26 +36,36 @@ use Rattle.omi_pc.specs.declared.team_counter.TeamCounter.TheVariants as team
 use Rattle.omi_pc.specs.declared.team_counter.WorkerCounter.{WorkerCounter}
 use Rattle.omi_pc.specs.declared.team_counter.WorkerCounter.TheVariants as worker
 use Rattle.omi_pc.specs.declared.frame.Frame.{Frame}
+use Rattle.omi_pc.specs.declared.frame.Wait.{Wait}
+use Rattle.omi_pc.specs.declared.frame.Wait.TheVariants as wait
 use Rattle.omi_pc.specs.declared.place.Place.{Place}
 use Rattle.omi_pc.specs.Fits.{Fits, FitsCounter, FitsTeam}
-use Rattle.omi_rule.specs.Owes.{Owed, by_team, owed, owed_at}
+use Rattle.omi_rule.specs.ExplicitKinds.{IsPlaceField, IsRow, OfEnter, OfExit, OfNumber, OfScheduling, OfThread, slot_of}
+use Rattle.omi_rule.specs.Owes.{Owed, by_task, by_team, owed, owed_at}
 use Rattle.omi_rule.specs.Threads.{WaitsFor}
 use Rattle.omi_rule.specs.Words.{IsInTheMaking, KeepsMaking}
 use Rattle.omi_step.specs.declared.plan.Planned.{Planned}
 use Rattle.omi_step.specs.Members.{member_of}
 use Rattle.omi_task.specs.LookSteps.{member_at}
+use Rattle.omi_task.specs.Slots.{coded_task}
+use Rattle.omi_task.specs.Starts.{start_plan}
 use Rattle.omi_control.specs.Chains.{IsWorkerAhead, KeepsContext, Stands, StandsWith}
 use Rattle.omi_control.specs.LeavesOthers.{LeavesOthers}
-use Rattle.omi_control.specs.Rows.{HasAsked, HasFilled, HasSize, HasTeam, IsFilled, IsRowOf, KeepsBarrierRow, KeepsJoinRow, KeepsLookRow, KeepsRow, KeepsTeamRow, KeepsWorkerRow, Knows, KnowsActive, KnowsLevels, KnowsVariables, Meets, OfRegion, place_of}
+use Rattle.omi_control.specs.Rows.{HasAsked, HasEndedUnder, HasFilled, HasFilledTask, HasLoaded, HasPlace, HasPlaced, HasSize, HasTested, IsInHand, KeepsFinishRow, KeepsTaskRow, MayStartIn, WasMade, HasTeam, IsFilled, IsRowOf, KeepsBarrierRow, KeepsJoinRow, KeepsLookRow, KeepsRow, KeepsTeamRow, KeepsWorkerRow, Knows, KnowsActive, KnowsLevels, KnowsVariables, Meets, OfRegion, place_of}
+use Rattle.omi_control.proofs.NamesStay.{NamesStay}
 use Rattle.omi_control.proofs.OthersStand.{begun_undeferred, of_innermost}
 
 -- what a step of another thread leaves of a thread's words: its records in the making, its assign word where it is about to clear it,
--- and of its regions' words for the members that have left that they don't fall
+-- of its regions' words for the members that have left that they don't fall, the empty slots of its implicit tasks, and the place of
+-- the deferred task in its hand
 pub record Spares (m n : Memory) (s : State) (j : ℕ) (a : Actor) : Type 0 where
   pub regions_same : (slot : ℕ) → (s.regions j slot).live ≡ None → n j regions slot ≡ m j regions slot
   pub tasks_same : (slot : ℕ) → (s.tasks j slot).live ≡ None → n j tasks slot ≡ m j tasks slot
   pub assign_same : (t : Place) → a.counter ≡ counter.Worker (worker.ClearAssign t) → n j threads 0 (number ThreadAssign) 0 ≡ m j threads 0 (number ThreadAssign) 0
   pub left_kept : (slot : ℕ) → m j regions slot (number RegionLeft) 0 ≤ n j regions slot (number RegionLeft) 0
+  pub slots_kept : (row : Tid) (t : Task) (place : ℕ) → task_of s row ≡ Some t → t.implicit ≡ true → t.thread ≡ j → slot_of m row place ≡ 0 → slot_of n row place ≡ 0
+  pub hand_same : (k : Tid) (t : Task) (f : Field) (at : ℕ) → j < s.count → (owed a).hand ≡ Some k → task_of s k ≡ Some t → t.progress ≡ progress.Deferred → IsPlaceField f
+      → n k.0.creator tasks k.0.slot (number f) at ≡ m k.0.creator tasks k.0.slot (number f) at
 
 -- a thread that has a task has its context
 pub context_of : (p : Program) (s : State) (i : ℕ) (a : Actor) → ((c : WorkerCounter) → a.counter ≡ counter.Worker c → ⊥) → Stands p s i a → KeepsContext s i a.context
@@ -71,7 +89,23 @@ of_member P (m ∷ ms) zero j all below within = absurd (omega (arith, below))
 of_member P (m ∷ ms) (suc n) zero all below within = All-head P m.0 (take n (tasks_of ms)) all
 of_member P (m ∷ ms) (suc n) (suc j) all below within = of_member P ms n j (All-tail P m.0 (take n (tasks_of ms)) all) (omega (arith, below)) (omega (arith, within))
 
-module _ (p : Program) (w : List ℕ) (m n : Memory) (s u : State) (i : ℕ) (leaves : LeavesOthers s u i) (j : ℕ) (other : j ≢ i) (a : Actor) (spares : Spares m n s j a) where
+-- the words of a start are of a task's place
+start_field : (w : List ℕ) (a : Actor) (l : ℕ) → IsPlaceField (start_plan w a l).field
+start_field w a zero = OfThread
+start_field w a (suc zero) = OfNumber
+start_field w a (suc (suc zero)) = OfScheduling
+start_field w a (suc (suc (suc zero))) = OfExit
+start_field w a (suc (suc (suc (suc zero)))) = OfEnter
+start_field w a (suc (suc (suc (suc (suc l))))) = OfEnter
+
+-- what has finished stays so
+finished_stays : (x y : Progress) → stage_of x ≤ stage_of y → x ≡ progress.Finished → y ≡ progress.Finished
+finished_stays x progress.Finished more is = refl
+finished_stays x progress.Begun more is = let done = ap stage_of is in absurd (omega (arith, more, done))
+finished_stays x progress.NotBegun more is = let done = ap stage_of is in absurd (omega (arith, more, done))
+finished_stays x progress.Deferred more is = let done = ap stage_of is in absurd (omega (arith, more, done))
+
+module _ (p : Program) (w : List ℕ) (m n : Memory) (s u : State) (i : ℕ) (leaves : LeavesOthers s u i) (names : NamesStay s u) (j : ℕ) (other : j ≢ i) (a : Actor) (spares : Spares m n s j a) where
   -- ---- workers
 
   waits_stay : (k : Tid) → WaitsFor s j k → WaitsFor u j k
@@ -222,24 +256,120 @@ module _ (p : Program) (w : List ℕ) (m n : Memory) (s u : State) (i : ℕ) (le
   row_of_stays : (row : Place) (k : ℕ) → OfRegion s a (IsRowOf row k) → OfRegion u a (IsRowOf row k)
   row_of_stays row k (r, found, o) = let (q, now, same) = leaves.regions a.context.region r found in (q, now, subst (λ (xs : List (Tid × ℕ)). (x : Tid × ℕ) × (slice_get xs (member_at k) ≡ Some x) × (place_of x.0.0 ≡ row)) (sym same.team) o)
 
-  look_stays : (c : LookCounter) → KeepsLookRow s a c → KeepsLookRow u a c
-  look_stays (look.State v) o = tt
-  look_stays (look.LoadRow v k) o = tt
-  look_stays (look.LoadSlot v k row) o = row_of_stays row k o
-  look_stays (look.LoadGenerating v k row code) o = row_of_stays row k o
-  look_stays (look.Take v k row code) o = row_of_stays row k o
-  look_stays (look.LoadFunction v k code t) o = tt
-  look_stays (look.LoadFinal v k code t f) o = tt
-  look_stays (look.Fill v k code t f final word) o = tt
-  look_stays (look.Start v k code t f final) o = tt
-  look_stays look.LoadChildren o = tt
-  look_stays (look.Yield k) o = tt
+  made_stays : (code : ℕ) → WasMade w s code → WasMade w u code
+  made_stays code o = let k : Tid = coded_task w code in let more = names.tasks.grow k.0.creator k.0.slot in omega (arith, o, more)
+
+  may_stays : (v : Wait) (t x : Task) → IsSameTask t x → MayStartIn v a t → MayStartIn v a x
+  may_stays (wait.Barrier b) t x same may = tt
+  may_stays wait.Taskwait t x same may = same.generating ∙ may
+  may_stays wait.Taskyield t x same may = same.generating ∙ may
+
+  may_stay : (v : Wait) (k : Tid) → k.0.generation < (s.tasks k.0.creator k.0.slot).generations → ((t : Task) → task_of s k ≡ Some t → MayStartIn v a t) → (t : Task) → task_of u k ≡ Some t → MayStartIn v a t
+  may_stay v k made may t live =
+      let (x, was) = names.tasks.back k.0 t made live in
+      let (y, later, same) = names.stays.tasks k x was in
+      subst (MayStartIn v a) (some_same later live) (may_stays v x y same (may x was))
+
+  tested_stays : (v : Wait) (code : ℕ) → HasTested w s a v code → HasTested w u a v code
+  tested_stays (wait.Barrier b) code o = tt
+  tested_stays wait.Taskwait code (made, may) = (made_stays code made, may_stay wait.Taskwait (coded_task w code) made may)
+  tested_stays wait.Taskyield code (made, may) = (made_stays code made, may_stay wait.Taskyield (coded_task w code) made may)
+
+  abbrev in_the_hand : Counter → Option Tid
+  in_the_hand c = (owed_at a.context a.gathered.team c).hand
+
+  -- the deferred task in the hand stays one
+  abbrev StaysInHand : Tid → Type 0
+  StaysInHand k = (t : Task) × (task_of u k ≡ Some t) × (t.progress ≡ progress.Deferred)
+
+  in_hand_stays : (v : Wait) (k : Tid) (known : Task → Type 0) → ((t x : Task) → IsSameTask t x → known t → known x) → StaysInHand k → IsInHand s a v k known → IsInHand u a v k known
+  in_hand_stays v k known keeps (t, now, deferred) o =
+      let (x, later, same) = names.stays.tasks k o.task o.is.live in
+      record {
+        task = x;
+        is = record { live = later; explicit = same.implicit ∙ o.is.explicit; progress = ap (λ (y : Task). y.progress) (some_same later now) ∙ deferred };
+        region = same.region ∙ o.region;
+        may = may_stays v o.task x same o.may;
+        knows = keeps o.task x same o.knows;
+      }
+
+  placed_stays : (v : Wait) (k : Tid) (f : ℕ) (final : Bool) (l : ℕ) → j < s.count → (owed a).hand ≡ Some k → StaysInHand k → HasPlaced w m s a v k f final l → HasPlaced w n u a v k f final l
+  placed_stays v k f final l known hand now (o, filled) = (
+    in_hand_stays v k (λ t. (t.function ≡ f) × (t.is_final ≡ final)) (λ t x same (g, h). (same.function ∙ g, same.is_final ∙ h)) now o,
+    λ q below. spares.hand_same k o.task (start_plan w a q).field (start_plan w a q).at known hand o.is.live o.is.progress (start_field w a q) ∙ filled q below,
+  )
+
+  look_stays : (c : LookCounter) → a.counter ≡ counter.Look c → j < s.count → ((k : Tid) → (owed a).hand ≡ Some k → StaysInHand k) → KeepsLookRow w m s a c → KeepsLookRow w n u a c
+  look_stays (look.State v) at known now o = tt
+  look_stays (look.LoadRow v k) at known now o = tt
+  look_stays (look.LoadSlot v k row) at known now o = row_of_stays row k o
+  look_stays (look.LoadGenerating v k row code) at known now (o, made) = (row_of_stays row k o, made_stays code made)
+  look_stays (look.Take v k row code) at known now (o, tested) = (row_of_stays row k o, tested_stays v code tested)
+  look_stays (look.LoadFunction v k code t) at known now o = in_hand_stays v t (λ x. Unit {0}) (λ x y same h. tt) (now t (ap in_the_hand at)) o
+  look_stays (look.LoadFinal v k code t f) at known now o = in_hand_stays v t (λ x. x.function ≡ f) (λ x y same h. same.function ∙ h) (now t (ap in_the_hand at)) o
+  look_stays (look.Fill v k code t f final word) at known now o = placed_stays v t f final word known (ap in_the_hand at) (now t (ap in_the_hand at)) o
+  look_stays (look.Start v k code t f final) at known now o = placed_stays v t f final START_WORDS known (ap in_the_hand at) (now t (ap in_the_hand at)) o
+  look_stays look.LoadChildren at known now o = tt
+  look_stays (look.Yield k) at known now o = tt
+
+  -- ---- explicit tasks in the making
+
+  place_stays : (t : Task) → IsRow s j a.context.row t → (place : Option ℕ) → HasPlace p m a place → HasPlace p n a place
+  place_stays t row None o = tt
+  place_stays t row (Some place) (defers, empty) = (defers, spares.slots_kept a.context.row row.task place row.live row.implicit row.thread empty)
+
+  loaded_stays : (top : KeepsContext s j a.context) → IsRow s j a.context.row top.task → (place : Option ℕ) → HasLoaded p m s a place → HasLoaded p n u a place
+  loaded_stays top row place (o, variables) = (place_stays top.task row place o, variables_stay top VARIABLE_WORDS variables)
+
+  task_filled_stays : (top : KeepsContext s j a.context) → IsRow s j a.context.row top.task → (place : Option ℕ) (t : Tid) (l : ℕ) → All (λ k. IsInTheMaking j (s.tasks j) k.0) (t ∷ []) → HasFilledTask p w m s a place t l → HasFilledTask p w n u a place t l
+  task_filled_stays top row place t l making (o, below, filled) =
+      (loaded_stays top row place o, below, filled_stays _ _ _ _ (task_made t (All-head (λ k. IsInTheMaking j (s.tasks j) k.0) t [] making)) filled)
+
+  task_stays : (c : TaskCounter) (top : KeepsContext s j a.context) → IsRow s j a.context.row top.task → KeepsMaking s j (by_task a.context c) → KeepsTaskRow p w m s j a c → KeepsTaskRow p w n u j a c
+  task_stays (task.LoadSlot place) top row making o = o
+  task_stays (task.LoadVariable place word) top row making (o, variables) = (place_stays top.task row place o, variables_stay top word variables)
+  task_stays (task.LoadLife place slot) top row making o = loaded_stays top row place o
+  task_stays (task.Take place t) top row making (o, fresh) = (loaded_stays top row place o, leaves.tasks_fresh j t.0 other fresh)
+  task_stays (task.Fill place t word) top row making o = task_filled_stays top row place t word making.tasks o
+  task_stays (task.AddPending place t) top row making o = task_filled_stays top row place t TASK_WORDS making.tasks o
+  task_stays (task.AddChildren place t) top row making o = task_filled_stays top row place t TASK_WORDS making.tasks o
+  task_stays (task.AddReferences place t) top row making o = task_filled_stays top row place t TASK_WORDS making.tasks o
+  task_stays (task.Defer place t) top row making o = task_filled_stays top row (Some place) t TASK_WORDS making.tasks o
+  task_stays (task.StartNow t) top row making o = task_filled_stays top row None t TASK_WORDS making.tasks o
+
+  -- ---- explicit tasks that have finished
+
+  ended_stays : (k : Tid) (known : Tid → Type 0) → HasEndedUnder s a k known → HasEndedUnder u a k known
+  ended_stays k known o =
+      let (x, later, same) = names.stays.tasks k o.task o.live in
+      record {
+        task = x;
+        live = later;
+        explicit = same.implicit ∙ o.explicit;
+        progress = finished_stays o.task.progress x.progress same.stage o.progress;
+        region = same.region ∙ o.region;
+        generating = o.generating;
+        made_by = same.generating ∙ o.made_by;
+        knows = o.knows;
+      }
+
+  finish_stays : (c : FinishCounter) → KeepsFinishRow s a c → KeepsFinishRow u a c
+  finish_stays finish.Finish o = tt
+  finish_stays (finish.LoadGenerating v t) o = ended_stays t _ o
+  finish_stays (finish.SubtractChildren v t at) o = ended_stays t _ o
+  finish_stays (finish.SubtractReferences v t at) o = tt
+  finish_stays (finish.Free v t at) o = tt
+  finish_stays (finish.LoadImplicit v at) o = tt
+  finish_stays (finish.LoadNext v at) o = tt
+  finish_stays (finish.LoadLife v at next) o = tt
+  finish_stays (finish.SubtractGenerating v at explicit) o = tt
+  finish_stays (finish.SubtractPending v) o = tt
 
   -- ---- the whole
 
-  pub row_stays : Fits p a → Stands p s j a → KeepsMaking s j (owed a) → ((c : BarrierCounter) → a.counter ≡ counter.Barrier c → KeepsBarrierRow s a c → KeepsBarrierRow u a c)
+  pub row_stays : Fits p a → Stands p s j a → ((top : KeepsContext s j a.context) → IsRow s j a.context.row top.task) → j < s.count → ((k : Tid) → (owed a).hand ≡ Some k → StaysInHand k) → KeepsMaking s j (owed a) → ((c : BarrierCounter) → a.counter ≡ counter.Barrier c → KeepsBarrierRow s a c → KeepsBarrierRow u a c)
       → KeepsRow p w m s j a a.counter → KeepsRow p w n u j a a.counter
-  row_stays fits stands making barriers o = go a.counter refl o
+  row_stays fits stands rows known hands making barriers o = go a.counter refl o
     where
       go : (c : Counter) → a.counter ≡ c → KeepsRow p w m s j a c → KeepsRow p w n u j a c
       go (counter.Worker c) e x = worker_stays c e x
@@ -248,7 +378,9 @@ module _ (p : Program) (w : List ℕ) (m n : Memory) (s u : State) (i : ℕ) (le
           (subst (λ (y : Counter). KeepsMaking s j (owed_at a.context a.gathered.team y)) e making) (subst (λ (y : Counter). FitsCounter p a y) e fits.counter) x
       go (counter.Barrier c) e x = barriers c e x
       go (counter.Join c) e x = join_stays c x
-      go (counter.Task c) e x = tt
-      go (counter.Look c) e x = look_stays c x
-      go (counter.Finish c) e x = tt
+      go (counter.Task c) e x =
+          let top = context_of p s j a (λ d f. absurd (cc (sym e, f))) stands in
+          task_stays c top (rows top) (subst (λ (y : Counter). KeepsMaking s j (owed_at a.context a.gathered.team y)) e making) x
+      go (counter.Look c) e x = look_stays c e known hands x
+      go (counter.Finish c) e x = finish_stays c x
       go (counter.Plain c) e x = tt

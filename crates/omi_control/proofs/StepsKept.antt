@@ -13,9 +13,11 @@ use Rattle.omi_control.specs.StepsKeep.{IsKept, StepsKeepRule}
 use Rattle.omi_control.proofs.Assembly.{Before}
 use Rattle.omi_control.proofs.barrier.Counters.{barrier_keeps}
 use Rattle.omi_control.proofs.barrier.RowsOfBarriers.{barrier_rows_stay}
+use Rattle.omi_control.proofs.finish.FinishKeeps.{finish_steps_keep}
 use Rattle.omi_control.proofs.join.JoinKeeps.{join_steps_keep}
 use Rattle.omi_control.proofs.look.LookKeeps.{look_keeps}
 use Rattle.omi_control.proofs.plain.PlainKeeps.{plain_keeps}
+use Rattle.omi_control.proofs.task.TaskKeeps.{task_keeps}
 use Rattle.omi_control.proofs.team.TeamKeeps.{team_keeps}
 use Rattle.omi_control.proofs.worker.WorkerKeeps.{worker_keeps}
 
@@ -25,9 +27,9 @@ module _ (p : Program) (w : List ℕ) (m : Memory) (events : List (ℕ × Event)
   by_family (counter.Team c) at kept = team_keeps p w m events s actors i before c at
   by_family (counter.Barrier c) at kept = barrier_keeps p w m events s actors i before c at
   by_family (counter.Join c) at kept = join_steps_keep p w m events s actors i before c kept at
-  by_family (counter.Task c) at kept = absurd kept
-  by_family (counter.Look c) at kept = look_keeps p w m events s actors i before c kept at
-  by_family (counter.Finish c) at kept = absurd kept
+  by_family (counter.Task c) at kept = task_keeps p w m events s actors i before c kept at
+  by_family (counter.Look c) at kept = look_keeps p w m events s actors i before c at
+  by_family (counter.Finish c) at kept = finish_steps_keep p w m events s actors i before c kept at
   by_family (counter.Plain c) at kept = plain_keeps p w m events s actors i before c at
 
 pub steps_keep : StepsKeepRule

@@ -1,6 +1,6 @@
 -- Where a thread stands against the state: the contexts of its tasks, from the current one down by the tasks that these were scheduled
 -- from, are what the state says of them, and their to-do lists are what is ahead in their bodies.
-use Rattle.std.specs.Prelude.{◌≡◌, ℕ, List, [], ◌∷◌, length, slice_get, slice_index, Some, None, if◌then◌else◌}
+use Rattle.std.specs.Prelude.{◌≡◌, ℕ, true, List, [], ◌∷◌, length, slice_get, slice_index, Some, None, if◌then◌else◌}
 use Rattle.omi_script.specs.declared.program.Program.{Program}
 use Rattle.omi_model.specs.declared.encounter.Encounter.{Encounter}
 use Rattle.omi_model.specs.declared.item.Item.{Item}
@@ -23,6 +23,7 @@ use Rattle.omi_pc.specs.declared.frame.Opened.TheVariants as opened
 use Rattle.omi_pc.specs.declared.team_counter.WorkerCounter.{WorkerCounter}
 use Rattle.omi_pc.specs.declared.team_counter.WorkerCounter.TheVariants as worker
 use Rattle.omi_pc.specs.Moves.{context_under}
+use Rattle.omi_pc.specs.Stacks.{opens_task}
 use Rattle.omi_control.specs.Ahead.{IsAhead, leaving, resuming}
 
 -- ---- contexts
@@ -80,6 +81,17 @@ KeepsBodies p s i c [] = KeepsContext s i c
 KeepsBodies p s i c (f ∷ fs) =
     KeepsContext s i c × KeepsBody p s c f.opened fs
     × KeepsBodies p s i (context_under c f.opened) fs
+
+-- ---- functions
+
+-- the body with which a task begins is that of the task's function
+abbrev pub RunsBody : State → Context → Frame → Type 0
+RunsBody s c f = opens_task f.opened ≡ true → (t : Task) → task_of s c.task ≡ Some t
+    → t.function ≡ f.function
+
+abbrev pub RunsFunctions : State → Context → List Frame → Type 0
+RunsFunctions s c [] = Unit {0}
+RunsFunctions s c (f ∷ fs) = RunsBody s c f × RunsFunctions s (context_under c f.opened) fs
 
 -- ---- threads
 

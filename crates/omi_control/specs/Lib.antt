@@ -10,5 +10,6 @@ pub mod Commits
 pub mod Steps
 -- The laws
 pub mod LeavesOthers
+pub mod Descends
 pub mod Opens
 pub mod StepsKeep

@@ -1,10 +1,12 @@
 -- What the registers of a thread say of the state and of the words of its records in the making, by its counter. A row names the
 -- thread's own registers, its own words and the state, and never another thread.
-use Rattle.std.specs.Prelude.{◌≡◌, ℕ, zero, suc, ◌-◌, ◌^◌, ◌<◌, ◌≤◌, false, List, ◌∷◌, length, map, slice_get, slice_index, take, Some}
+use Rattle.std.specs.Prelude.{◌≡◌, ℕ, zero, suc, ◌-◌, ◌^◌, ◌<◌, ◌≤◌, false, List, ◌∷◌, length, map, slice_get, slice_index, take, Some, Bool, Option, None}
 use Rattle.omi_script.specs.declared.program.Program.{Program}
+use Rattle.omi_script.specs.declared.statement.Stmt.TheVariants as stmt
 use Rattle.omi_model.specs.declared.id.Id.{Id}
 use Rattle.omi_model.specs.declared.id.Rid.{Rid}
 use Rattle.omi_model.specs.declared.id.Tid.{Tid}
+use Rattle.omi_model.specs.declared.progress.Progress.TheVariants as progress
 use Rattle.omi_model.specs.declared.region.Region.{Region}
 use Rattle.omi_model.specs.declared.task.Task.{Task}
 use Rattle.omi_model.specs.declared.task.Variables.{Variables}
@@ -23,10 +25,16 @@ use Rattle.omi_layout.specs.Named.{number}
 use Rattle.omi_pc.specs.declared.actor.Actor.{Actor}
 use Rattle.omi_pc.specs.declared.counter.Counter.{Counter}
 use Rattle.omi_pc.specs.declared.counter.Counter.TheVariants as counter
-use Rattle.omi_pc.specs.declared.limits.TheConstants.{REGION_WORDS, TASK_WORDS, VARIABLE_WORDS}
+use Rattle.omi_pc.specs.declared.limits.TheConstants.{REGION_WORDS, TASK_WORDS, VARIABLE_WORDS, START_WORDS}
+use Rattle.omi_pc.specs.declared.frame.Wait.{Wait}
+use Rattle.omi_pc.specs.declared.frame.Wait.TheVariants as wait
 use Rattle.omi_pc.specs.declared.place.Place.{Place}
+use Rattle.omi_pc.specs.declared.task_counter.FinishCounter.{FinishCounter}
+use Rattle.omi_pc.specs.declared.task_counter.FinishCounter.TheVariants as finish
 use Rattle.omi_pc.specs.declared.task_counter.LookCounter.{LookCounter}
 use Rattle.omi_pc.specs.declared.task_counter.LookCounter.TheVariants as look
+use Rattle.omi_pc.specs.declared.task_counter.TaskCounter.{TaskCounter}
+use Rattle.omi_pc.specs.declared.task_counter.TaskCounter.TheVariants as task
 use Rattle.omi_pc.specs.declared.team_counter.BarrierCounter.{BarrierCounter}
 use Rattle.omi_pc.specs.declared.team_counter.BarrierCounter.TheVariants as barrier
 use Rattle.omi_pc.specs.declared.team_counter.JoinCounter.{JoinCounter}
@@ -35,8 +43,10 @@ use Rattle.omi_pc.specs.declared.team_counter.TeamCounter.{TeamCounter}
 use Rattle.omi_pc.specs.declared.team_counter.TeamCounter.TheVariants as team
 use Rattle.omi_pc.specs.declared.team_counter.WorkerCounter.{WorkerCounter}
 use Rattle.omi_pc.specs.declared.team_counter.WorkerCounter.TheVariants as worker
+use Rattle.omi_pc.specs.OpenBodies.{IsAt}
 use Rattle.omi_rep.specs.Records.{task_address}
 use Rattle.omi_rule.specs.Counts.{has_slot}
+use Rattle.omi_rule.specs.ExplicitKinds.{IsDeferred, slot_of}
 use Rattle.omi_rule.specs.Threads.{WaitsFor}
 use Rattle.omi_step.specs.declared.plan.Planned.{Planned}
 use Rattle.omi_step.specs.Members.{member_of}
@@ -44,6 +54,9 @@ use Rattle.omi_step.specs.Placed.{HasTask}
 use Rattle.omi_step.specs.Plan.{region_plan, task_plan}
 use Rattle.omi_fork.specs.TeamParts.{new_member, new_region}
 use Rattle.omi_task.specs.LookSteps.{member_at}
+use Rattle.omi_task.specs.MakingSteps.{new_task}
+use Rattle.omi_task.specs.Slots.{coded_task}
+use Rattle.omi_task.specs.Starts.{start_plan}
 
 -- ---- workers
 
@@ -203,25 +216,111 @@ KeepsJoinRow m i a join.Join =
     × (a.context.size - 1 ≤ m i regions a.context.region.0.slot (number RegionLeft) 0)
 KeepsJoinRow m i a c = Unit {0}
 
+-- ---- explicit tasks in the making
+
+-- a `task` construct is in work whose task is deferred where a slot is empty
+abbrev pub Defers : Program → Actor → Type 0
+Defers p a = (f : ℕ) × (final : Bool) × IsAt p a.stack (stmt.Task f false final)
+    × (a.context.is_final ≡ false)
+
+-- the own slot into which the task goes is empty, where there is one
+abbrev pub HasPlace : Program → Memory → Actor → Option ℕ → Type 0
+HasPlace p m a None = Unit {0}
+HasPlace p m a (Some place) = Defers p a × (slot_of m a.context.row place ≡ 0)
+
+-- and the data environment of the current task is loaded
+abbrev pub HasLoaded : Program → Memory → State → Actor → Option ℕ → Type 0
+HasLoaded p m s a place = HasPlace p m a place × KnowsVariables s a VARIABLE_WORDS
+
+-- and the first words of the record stand
+abbrev pub HasFilledTask : Program → List ℕ → Memory → State → Actor → Option ℕ → Tid → ℕ → Type 0
+HasFilledTask p w m s a place t n = HasLoaded p m s a place × HasGeneration t.0
+    × IsFilled (m t.0.creator tasks t.0.slot) (task_plan w (new_task p a)) n
+
+abbrev pub KeepsTaskRow : Program → List ℕ → Memory → State → ℕ → Actor → TaskCounter → Type 0
+KeepsTaskRow p w m s i a (task.LoadSlot place) = Defers p a
+KeepsTaskRow p w m s i a (task.LoadVariable place word) = HasPlace p m a place × KnowsVariables s a word
+KeepsTaskRow p w m s i a (task.LoadLife place slot) = HasLoaded p m s a place
+KeepsTaskRow p w m s i a (task.Take place t) = HasLoaded p m s a place × IsFresh s.tasks i t.0
+KeepsTaskRow p w m s i a (task.Fill place t word) = HasFilledTask p w m s a place t word
+KeepsTaskRow p w m s i a (task.AddPending place t) = HasFilledTask p w m s a place t TASK_WORDS
+KeepsTaskRow p w m s i a (task.AddChildren place t) = HasFilledTask p w m s a place t TASK_WORDS
+KeepsTaskRow p w m s i a (task.AddReferences place t) = HasFilledTask p w m s a place t TASK_WORDS
+KeepsTaskRow p w m s i a (task.Defer place t) = HasFilledTask p w m s a (Some place) t TASK_WORDS
+KeepsTaskRow p w m s i a (task.StartNow t) = HasFilledTask p w m s a None t TASK_WORDS
+
 -- ---- looks at the slots
 
 -- the record whose slots are looked at is that of the member's task, by the number of the slot
 abbrev pub IsRowOf : Place → ℕ → Region → Type 0
 IsRowOf row n r = (m : Tid × ℕ) × (slice_get r.team (member_at n) ≡ Some m) × (place_of m.0.0 ≡ row)
 
-abbrev pub KeepsLookRow : State → Actor → LookCounter → Type 0
-KeepsLookRow s a (look.LoadSlot v n row) = OfRegion s a (IsRowOf row n)
-KeepsLookRow s a (look.LoadGenerating v n row code) = OfRegion s a (IsRowOf row n)
-KeepsLookRow s a (look.Take v n row code) = OfRegion s a (IsRowOf row n)
-KeepsLookRow s a c = Unit {0}
+-- the task that a code names was made: its name never lives again
+abbrev pub WasMade : List ℕ → State → ℕ → Type 0
+WasMade w s code = (coded_task w code).0.generation
+    < (s.tasks (coded_task w code).0.creator (coded_task w code).0.slot).generations
+
+-- in this wait a task may start: at a barrier any one of the region, and elsewhere a child of the current task alone
+abbrev pub MayStartIn : Wait → Actor → Task → Type 0
+MayStartIn (wait.Barrier b) a t = Unit {0}
+MayStartIn wait.Taskwait a t = t.generating ≡ Some a.context.task
+MayStartIn wait.Taskyield a t = t.generating ≡ Some a.context.task
+
+-- a task that was found and passed the test of its wait: where it is live, it may start
+abbrev pub HasTested : List ℕ → State → Actor → Wait → ℕ → Type 0
+HasTested w s a (wait.Barrier b) code = Unit {0}
+HasTested w s a v code = WasMade w s code
+    × ((t : Task) → task_of s (coded_task w code) ≡ Some t → MayStartIn v a t)
+
+-- a deferred task of the region that was taken from a slot and may start
+pub record IsInHand (s : State) (a : Actor) (v : Wait) (k : Tid) (known : Task → Type 0) : Type 0 where
+  pub task : Task
+  pub is : IsDeferred s k task
+  pub region : task.region ≡ a.context.region
+  pub may : MayStartIn v a task
+  pub knows : known task
+
+-- with its function and its final flag, and the first words of its place stand
+abbrev pub HasPlaced : List ℕ → Memory → State → Actor → Wait → Tid → ℕ → Bool → ℕ → Type 0
+HasPlaced w m s a v k f final n = IsInHand s a v k (λ t. (t.function ≡ f) × (t.is_final ≡ final))
+    × IsFilled (m k.0.creator tasks k.0.slot) (start_plan w a) n
+
+abbrev pub KeepsLookRow : List ℕ → Memory → State → Actor → LookCounter → Type 0
+KeepsLookRow w m s a (look.LoadSlot v n row) = OfRegion s a (IsRowOf row n)
+KeepsLookRow w m s a (look.LoadGenerating v n row code) = OfRegion s a (IsRowOf row n) × WasMade w s code
+KeepsLookRow w m s a (look.Take v n row code) = OfRegion s a (IsRowOf row n) × HasTested w s a v code
+KeepsLookRow w m s a (look.LoadFunction v n code t) = IsInHand s a v t (λ u. Unit {0})
+KeepsLookRow w m s a (look.LoadFinal v n code t f) = IsInHand s a v t (λ u. u.function ≡ f)
+KeepsLookRow w m s a (look.Fill v n code t f final word) = HasPlaced w m s a v t f final word
+KeepsLookRow w m s a (look.Start v n code t f final) = HasPlaced w m s a v t f final START_WORDS
+KeepsLookRow w m s a c = Unit {0}
+
+-- ---- explicit tasks that have finished
+
+-- an explicit task of this thread has finished, made by the task of this name, from which or in whose wait it started
+pub record HasEndedUnder (s : State) (a : Actor) (k : Tid) (known : Tid → Type 0) : Type 0 where
+  pub task : Task
+  pub live : task_of s k ≡ Some task
+  pub explicit : task.implicit ≡ false
+  pub progress : task.progress ≡ progress.Finished
+  pub region : task.region ≡ a.context.region
+  pub generating : Tid
+  pub made_by : task.generating ≡ Some generating
+  pub knows : known generating
+
+abbrev pub KeepsFinishRow : State → Actor → FinishCounter → Type 0
+KeepsFinishRow s a (finish.LoadGenerating v t) = HasEndedUnder s a t (λ g. Unit {0})
+KeepsFinishRow s a (finish.SubtractChildren v t at) = HasEndedUnder s a t (λ g. place_of g.0 ≡ at)
+KeepsFinishRow s a c = Unit {0}
 
 -- ---- the whole
 
--- the counters of tasks in the making and of tasks that finish have no rows yet
 abbrev pub KeepsRow : Program → List ℕ → Memory → State → ℕ → Actor → Counter → Type 0
 KeepsRow p w m s i a (counter.Worker c) = KeepsWorkerRow w m s i c
 KeepsRow p w m s i a (counter.Team c) = KeepsTeamRow p w m s i a c
 KeepsRow p w m s i a (counter.Barrier c) = KeepsBarrierRow s a c
 KeepsRow p w m s i a (counter.Join c) = KeepsJoinRow m i a c
-KeepsRow p w m s i a (counter.Look c) = KeepsLookRow s a c
-KeepsRow p w m s i a c = Unit {0}
+KeepsRow p w m s i a (counter.Task c) = KeepsTaskRow p w m s i a c
+KeepsRow p w m s i a (counter.Look c) = KeepsLookRow w m s a c
+KeepsRow p w m s i a (counter.Finish c) = KeepsFinishRow s a c
+KeepsRow p w m s i a (counter.Plain c) = Unit {0}

@@ -21,7 +21,7 @@ use Rattle.omi_rep.specs.Shows.{IsWithin}
 use Rattle.omi_rule.specs.Owes.{all_owed}
 use Rattle.omi_rule.specs.Words.{KeepsWords}
 use Rattle.omi_step.specs.Placed.{IsPlaced}
-use Rattle.omi_control.specs.Chains.{Stands}
+use Rattle.omi_control.specs.Chains.{RunsFunctions, Stands}
 use Rattle.omi_control.specs.Rows.{KeepsRow}
 
 -- a thread has ended where it committed `done`
@@ -29,13 +29,15 @@ abbrev pub HasEnded : List (ℕ × Event) → ℕ → Counter → Type 0
 HasEnded events i (counter.Plain plain.Ended) = Contains events (i, event.Done)
 HasEnded events i c = Unit {0}
 
--- a thread: its actor fits the program, names records of the layout, stands where the thread does, and its registers are right
+-- a thread: its actor fits the program, names records of the layout, stands where the thread does, runs the functions of its tasks,
+-- and its registers are right
 pub record KeepsThread (p : Program) (w : List ℕ) (m : Memory) (events : List (ℕ × Event)) (s : State)
     (i : ℕ) (a : Actor) : Type 0 where
   pub thread : a.thread ≡ i
   pub fits : Fits p a
   pub placed : IsPlaced w a
   pub stands : Stands p s i a
+  pub runs : RunsFunctions s a.context a.stack
   pub row : KeepsRow p w m s i a a.counter
   pub ended : HasEnded events i a.counter
 

@@ -8,9 +8,10 @@ use Rattle.omi_layout.specs.Valid.{IsValid}
 use Rattle.omi_pc.specs.declared.actor.Actor.{Actor}
 use Rattle.omi_pc.specs.declared.counter.Counter.{Counter}
 use Rattle.omi_pc.specs.declared.counter.Counter.TheVariants as counter
-use Rattle.omi_pc.specs.declared.frame.Wait.TheVariants as wait
-use Rattle.omi_pc.specs.declared.task_counter.LookCounter.{LookCounter}
-use Rattle.omi_pc.specs.declared.task_counter.LookCounter.TheVariants as look
+use Rattle.omi_pc.specs.declared.task_counter.FinishCounter.{FinishCounter}
+use Rattle.omi_pc.specs.declared.task_counter.FinishCounter.TheVariants as finish
+use Rattle.omi_pc.specs.declared.task_counter.TaskCounter.{TaskCounter}
+use Rattle.omi_pc.specs.declared.task_counter.TaskCounter.TheVariants as task
 use Rattle.omi_pc.specs.declared.team_counter.JoinCounter.{JoinCounter}
 use Rattle.omi_pc.specs.declared.team_counter.JoinCounter.TheVariants as join
 use Rattle.omi_rep.specs.Suits.{Suits}
@@ -24,21 +25,29 @@ IsJoinKept join.LoadLeft = Unit {0}
 IsJoinKept join.Join = Unit {0}
 IsJoinKept c = ⊥
 
--- the look at the slots at a barrier, up to one that names a task
-abbrev pub IsLookKept : LookCounter → Type 0
-IsLookKept (look.LoadRow (wait.Barrier b) n) = Unit {0}
-IsLookKept (look.LoadSlot (wait.Barrier b) n row) = Unit {0}
-IsLookKept c = ⊥
+-- the steps of a `task` construct but for the raise of references, to which no step leads yet
+abbrev pub IsTaskKept : TaskCounter → Type 0
+IsTaskKept (task.AddReferences place t) = ⊥
+IsTaskKept c = Unit {0}
 
--- the counters of which this is proved by now
+-- the steps of the end of an explicit task but for those that give records back, to which no step leads yet
+abbrev pub IsFinishKept : FinishCounter → Type 0
+IsFinishKept finish.Finish = Unit {0}
+IsFinishKept (finish.LoadGenerating v t) = Unit {0}
+IsFinishKept (finish.SubtractChildren v t generating) = Unit {0}
+IsFinishKept (finish.SubtractPending v) = Unit {0}
+IsFinishKept c = ⊥
+
+-- so each step but those that give records back
 abbrev pub IsKept : Counter → Type 0
 IsKept (counter.Worker c) = Unit {0}
 IsKept (counter.Team c) = Unit {0}
 IsKept (counter.Barrier c) = Unit {0}
 IsKept (counter.Join c) = IsJoinKept c
-IsKept (counter.Look c) = IsLookKept c
+IsKept (counter.Task c) = IsTaskKept c
+IsKept (counter.Look c) = Unit {0}
+IsKept (counter.Finish c) = IsFinishKept c
 IsKept (counter.Plain c) = Unit {0}
-IsKept c = ⊥
 
 -- For fewer than 2^57 events, which every list in memory meets, no count wraps
 abbrev pub StepsKeepRule : Type 0

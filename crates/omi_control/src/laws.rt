@@ -1,5 +1,6 @@
 //! Laws of the rule. Each is a function that does nothing.
 
+ghost use Rattle.omi_control.specs.Descends.{TasksDescend};
 ghost use Rattle.omi_control.specs.LeavesOthers.{EventsLeaveOthers};
 ghost use Rattle.omi_control.specs.Opens.{OpeningKeepsRule};
 ghost use Rattle.omi_control.specs.StepsKeep.{StepsKeepRule};
@@ -15,9 +16,15 @@ pub fn events_leave_others()
     ensures { EventsLeaveOthers }
 {}
 
-/// A step of any thread keeps the rule, in every valid layout that suits the program: its operation is on one word of a record, it
-/// commits no event or one that is legal, at the word that is the event's, and a thread that is not ready waits on the word that
-/// it names.
+/// In every reached state each explicit task runs a smaller function than the task that made it.
+pub fn tasks_descend()
+    ensures { TasksDescend }
+{}
+
+/// A step of any thread keeps the rule, at each counter of workers, `parallel` and `task` constructs, barriers, joins, waits for
+/// tasks, ends of explicit tasks and plain statements (`IsKept`), in every valid layout that suits the program: its operation is on
+/// one word of a record, it commits no event or one that is legal, at the word that is the event's, and a thread that is not ready
+/// waits on the word that it names.
 pub fn steps_keep_rule()
     ensures { StepsKeepRule }
 {}

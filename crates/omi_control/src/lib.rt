@@ -3,4 +3,4 @@
 
 mod laws;
 
-pub use laws::{events_leave_others, opening_keeps, steps_keep_rule};
+pub use laws::{events_leave_others, opening_keeps, steps_keep_rule, tasks_descend};

@@ -4,4 +4,4 @@ pub mod Stepping
 pub mod Opened
 pub mod Histories
 pub mod ScheduledSteps
-pub mod without_tasks
+pub mod KeptCounters

@@ -1,18 +1,20 @@
 -- What a run keeps between any two steps: it is what its steps made of the opening words, and it keeps the rule.
 use Rattle.std.specs.Prelude.{◌≡◌, ◌≤◌, ◌<◌, ℕ, List, [], ◌∷◌, length}
+use Rattle.omi_script.specs.declared.program.Program.{Program}
 use Rattle.omi_model.specs.State.{State}
 use Rattle.omi_layout.specs.Given.{HasTables}
 use Rattle.omi_layout.specs.Memory.{memory_of}
 use Rattle.omi_layout.specs.Place.{image_words}
 use Rattle.omi_layout.specs.Valid.{IsValid}
+use Rattle.omi_pc.specs.declared.actor.Actor.{Actor}
 use Rattle.omi_pc.specs.declared.counter.Counter.{Counter}
 use Rattle.omi_pc.specs.declared.counter.Counter.TheVariants as counter
 use Rattle.omi_pc.specs.declared.team_counter.WorkerCounter.TheVariants as worker
 use Rattle.omi_rep.specs.Suits.{Suits}
 use Rattle.omi_control.specs.Rule.{Rule}
+use Rattle.omi_control.specs.StepsKeep.{IsKept}
 use Rattle.omi_core.specs.declared.entry.Entry.{Entry}
 use Rattle.omi_core.specs.Runs.{Run, actors_in, events_in}
-use Rattle.omi_core.specs.Taskless.{AreKept, IsTaskless}
 use Rattle.omi_core.specs.Histories.{IsMadeBy}
 use Rattle.omi_core.specs.Steps.{StartsAsWorker, steps_of}
 
@@ -36,7 +38,11 @@ pub record KeepsRun (a : Run) : Type 0 where
   pub made_by : IsMadeBy a entries state
   pub workers : (i : ℕ) → 0 < i → IsUnderWay (steps_of i entries) (actors_in a.actors i).counter
 
--- what a run of this crate keeps. Of a program without explicit tasks, besides, each thread stands at a step that is made
+-- each thread stands at a counter whose step is made, so not where records are given back
+abbrev pub AreKept : Program → List Actor → Type 0
+AreKept p actors = (i : ℕ) → i < p.threads → IsKept (actors_in actors i).counter
+
+-- what a run of this crate keeps
 pub record KeepsCore (a : Run) : Type 0 where
   pub run : KeepsRun a
-  pub goes_on : IsTaskless a.program → AreKept a.program a.actors
+  pub goes_on : AreKept a.program a.actors

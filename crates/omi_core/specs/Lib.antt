@@ -4,7 +4,6 @@ pub mod Runs
 pub mod RunSteps
 pub mod Steps
 pub mod Histories
-pub mod Taskless
 pub mod Kept
 -- A run by a schedule: which thread makes each step, and where the run ends
 pub mod Schedules

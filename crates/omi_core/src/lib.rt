@@ -8,7 +8,6 @@ mod run;
 mod schedule;
 mod scheduled;
 mod stop;
-mod taskless;
 
 pub use entry::Entry;
 pub use limits::MOST_STEPS;
@@ -17,4 +16,3 @@ pub use opening::opening_image;
 pub use run::Core;
 pub use schedule::Schedule;
 pub use stop::{Break, End, Stop};
-pub use taskless::is_taskless;

@@ -1,12 +1,10 @@
 //! A run: its words, its threads, and the steps and events so far.
 
-ghost use Rattle.std.specs.Prelude.{◌≡◌, ◌<◌, ◌≤◌, ◌+◌, ◌++◌, IfOk, OnOk, length, min, true, false};
-ghost use Rattle.omi_control.specs.StepsKeep.{IsJoinKept, IsKept, IsLookKept};
+ghost use Rattle.std.specs.Prelude.{◌≡◌, ◌<◌, ◌≤◌, ◌+◌, ◌++◌, IfOk, OnOk, length, min};
 ghost use Rattle.omi_core.specs.declared.limits.TheConstants.{MOST_STEPS};
 ghost use Rattle.omi_core.specs.Histories.{HasHistory};
-ghost use Rattle.omi_core.specs.Runs.{IsOpening, IsSameRun, actors_in, spare_in};
+ghost use Rattle.omi_core.specs.Runs.{IsOpening, IsSameRun, spare_in};
 ghost use Rattle.omi_rep.specs.Suits.{Suits};
-ghost use Rattle.omi_core.specs.Taskless.{AreKept, IsTaskless};
 ghost use Rattle.omi_core.specs.RunSteps.{IsRight, IsStep, ShowsState, event_of, seats_of};
 
 use crate::opening::{opening_actors, opening_image};
@@ -14,7 +12,7 @@ use crate::{Entry, MOST_STEPS, OutOfMemory};
 use omi_actor::{next, resume};
 use omi_events::{EventList, Made, MadeList, Turn};
 use omi_layout::Layout;
-use omi_pc::{Actor, Counter, JoinCounter, LookCounter, Wait};
+use omi_pc::Actor;
 use omi_rep::Outcome;
 use omi_script::Program;
 use omi_word::Image;
@@ -76,45 +74,6 @@ fn least(a: usize, b: usize) -> usize
     ensures { result ≡ min a b }
 {
     if a <= b { a } else { b }
-}
-
-/// Whether the step at a counter of a join is made: no record is given back yet.
-fn is_kept_join(c: JoinCounter) -> bool
-    ensures yes { result ≡ true → IsJoinKept c }
-    ensures no { result ≡ false → IsJoinKept c → ⊥ }
-{
-    matches!(c, JoinCounter::LoadLeft | JoinCounter::Join)
-}
-
-/// Whether the step at a counter of a wait is made: at a barrier, the look at the slots up to one that names a task.
-fn is_kept_look(c: LookCounter) -> bool
-    ensures yes { result ≡ true → IsLookKept c }
-    ensures no { result ≡ false → IsLookKept c → ⊥ }
-{
-    match c {
-        LookCounter::LoadRow {
-            wait: Wait::Barrier { .. },
-            ..
-        } => true,
-        LookCounter::LoadSlot {
-            wait: Wait::Barrier { .. },
-            ..
-        } => true,
-        _ => false,
-    }
-}
-
-/// Whether the step at a counter is made.
-fn is_kept(c: Counter) -> bool
-    ensures yes { result ≡ true → IsKept c }
-    ensures no { result ≡ false → IsKept c → ⊥ }
-{
-    match c {
-        Counter::Worker(_) | Counter::Team(_) | Counter::Barrier(_) | Counter::Plain(_) => true,
-        Counter::Join(c) => is_kept_join(c),
-        Counter::Look(c) => is_kept_look(c),
-        _ => false,
-    }
 }
 
 /// Lists the event of an outcome, if it has one. Takes no memory.
@@ -180,29 +139,11 @@ impl Core {
         self.program.threads
     }
 
-    /// Of a program without explicit tasks, each thread stands at a step that is made.
-    pub fn all_kept(&self)
-        requires { IsTaskless self.now.program }
-        ensures { AreKept self.now.program self.now.actors }
-    {
-        let _ = &self.program;
-    }
-
     /// The number of steps so far.
     pub fn steps(&self) -> u64
         ensures { result ≡ length self.now.made.items }
     {
         self.made.len() as u64
-    }
-
-    /// Whether a thread has come to a step that is not made yet: those of explicit tasks, and of a wait from a slot on that names a
-    /// deferred task.
-    pub fn edge(&self, i: u8) -> bool
-        requires { i < self.now.program.threads }
-        ensures goes_on { result ≡ false → IsKept (actors_in self.now.actors i).counter }
-        ensures comes { result ≡ true → IsKept (actors_in self.now.actors i).counter → ⊥ }
-    {
-        !is_kept(self.actors[i as usize].counter)
     }
 
     /// How many more steps take no memory.
@@ -230,7 +171,6 @@ impl Core {
     pub fn step(&mut self, i: u8) -> Entry
         requires thread { i < self.old.program.threads }
         requires spare { 1 ≤ spare_in self.old }
-        requires kept { IsKept (actors_in self.old.actors i).counter }
         ensures entry { IsStep self.old i result self.new }
         ensures right { IsRight self.old i result }
         ensures spare { spare_in self.old ≤ spare_in self.new + 1 }

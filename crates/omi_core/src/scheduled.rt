@@ -4,7 +4,6 @@ ghost use Rattle.std.specs.Prelude.{◌≡◌, ◌≤◌, IfSome, OnOk};
 ghost use Rattle.omi_core.specs.Runs.{IsSameRun, spare_in};
 ghost use Rattle.omi_core.specs.ScheduledRuns.{IsRunBy};
 ghost use Rattle.omi_core.specs.Schedules.{IsListed};
-ghost use Rattle.omi_core.specs.Taskless.{IsTaskless};
 
 use crate::schedule::{first_draw, next_number, thread_at};
 use crate::stop::{end_at, met_at};
@@ -39,7 +38,6 @@ impl Core {
     pub fn run(&mut self, how: &Schedule, stop: Stop) -> Result<End, OutOfMemory>
         requires count { IfSome stop.on (λ on. 1 ≤ on.1) }
         requires listed { IsListed how.now self.old.program.threads stop.steps }
-        requires taskless { IsTaskless self.old.program }
         ensures { IsRunBy self.old how.now stop result self.new }
     {
         let threads = self.threads();
@@ -47,7 +45,6 @@ impl Core {
         let mut met = 0;
         for step in 0..stop.steps {
             self.make_room(stop.steps - step)?;
-            self.all_kept();
             let entry = self.step(thread_at(how, threads, step, draw));
             if let Some(end) = end_at(stop.on, met, &entry.outcome) {
                 return Ok(end);

@@ -255,13 +255,9 @@ module _ (a b : State) (regions_alike : SlotsAlike IsSameRegion a.regions b.regi
         let (q, now, same) = region_after n r live in
         (q, now, same.joined ∙ joined);
     raised = λ k is. some_task a b regions_alike tasks_alike k (x.raised k is);
-    referenced = λ k is. some_task a b regions_alike tasks_alike k (x.referenced k is);
     lowered = λ k is.
         let (finished, live) = x.lowered k is in
         (finished_after k finished, subst (λ (g : Option Tid). IsSome (option_and_then (task_of b) g)) (sym (generating_same a b regions_alike tasks_alike k)) (parent (generating_of a k) live));
-    own = λ k is. finished_after k (x.own k is);
-    free = λ k is. finished_after k (x.free k is);
-    above = λ at is. some_after IsSameTask (a.tasks at.creator at.slot).live (b.tasks at.creator at.slot).live (tasks_alike at.creator at.slot).live (x.above at is);
     assigns = All-weaker (λ (m : Tid × ℕ). WaitsFor a m.1 m.0) (λ (m : Tid × ℕ). WaitsFor b m.1 m.0) (λ m. waits_after m.1 m.0) o.assigns x.assigns;
   }
     where

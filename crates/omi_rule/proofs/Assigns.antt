@@ -123,7 +123,7 @@ assign_stores_keep = λ w m s owes i to k rest keeps maker known owed waits alon
         other = put owes i p
 
         alike_own : OwesAlike p (owes i)
-        alike_own = record { pending = refl; raised = refl; lowered = refl; referenced = refl; own = refl; above = refl; free = refl; left = refl; hand = refl }
+        alike_own = record { pending = refl; raised = refl; lowered = refl; left = refl; hand = refl }
 
         met : (j : ℕ) → one (other j).met ≡ one (owes j).met
         met j = each_put (λ c (x : Owed). one x.met ≡ one (owes c).met) owes i p refl j (λ _. refl)
@@ -188,7 +188,7 @@ assign_clears_keep = λ w m s owes i k keeps known stored unmet waits alone some
         other = put owes i p
 
         alike_own : OwesAlike p (owes i)
-        alike_own = record { pending = refl; raised = refl; lowered = refl; referenced = refl; own = refl; above = refl; free = refl; left = refl; hand = refl }
+        alike_own = record { pending = refl; raised = refl; lowered = refl; left = refl; hand = refl }
 
         same_sum : (j : ℕ) (t : Tid) → sum_of_owed s other (assign_owed j t) ≡ sum_of_owed s owes (assign_owed j t)
         same_sum j t = sum_same s.count (λ c. assign_owed j t (other c)) (λ c. assign_owed j t (owes c)) (λ c. each_put (λ d (x : Owed). assign_owed j t x ≡ assign_owed j t (owes d)) owes i p refl c (λ _. refl))

@@ -35,7 +35,9 @@ use Rattle.omi_rule.specs.Threads.{IsAssignedOnce, KeepsAssign, WaitsFor}
 use Rattle.omi_rule.specs.Words.{AreApart, IsInTheMaking, KeepsMaking, KeepsWords}
 use Rattle.omi_rule.specs.TeamKinds.{ForkIsFilled, ForksKeep, HasNoTask}
 use Rattle.omi_rule.proofs.Changed.{current_stored}
-use Rattle.omi_rule.proofs.Grown.{Begins, Grows, NewRegion, NewTask, grown, none_found, some_found, waits_after}
+use Rattle.omi_rule.proofs.Begun.{Begins, Grows, NewRegion, NewTask, making_same, none_found, some_found}
+use Rattle.omi_rule.proofs.Grown.{OwesLess, owes_less, waits_after}
+use Rattle.omi_rule.proofs.GrownMembers.{IsMember, members_grown}
 use Rattle.omi_rule.proofs.MadeMembers.{IsBeside, IsMadeAt, all_at, apart_behind_first, behind_first, behind_second, each_task, has_member_slot, has_no_slot, made_at, none_in, once_in, one_member}
 use Rattle.omi_rule.proofs.OtherOwes.{OwesAlike, owes_alike}
 use Rattle.omi_rule.proofs.Sums.{sum_changed, sum_none_within}
@@ -72,10 +74,6 @@ is_task_turned a b e =
     same : (k : Tid) → is_task k k ≡ true
     same k = grind (arith, nat_tests)
 
--- a slot that is as it was has no other record in the making
-making_same : {A : Type 0} (i : ℕ) (was now : ℕ → Slot A) (n : Id) → now n.slot ≡ was n.slot → IsInTheMaking i was n → IsInTheMaking i now n
-making_same i was now n same is = record { maker = is.maker; free = ap (λ x. x.live) same ∙ is.free; next = is.next ∙ sym (ap (λ x. x.generations) same) }
-
 module _ (p : Program) (w : List ℕ) (m : Memory) (s : State) (owes : ℕ → Owed) (i : ℕ) (region : Rid) (team : List (Tid × ℕ)) (f : ℕ) (k : Tid) (t : Task) (r : Region)
     (keeps : KeepsWords w m s owes) (known : i < s.count) (owed : owes i ≡ record nothing { region = Some region; tasks = tasks_of team }) (filled : ForkIsFilled p w (m i) region team f k t r)
     (idle : All (λ x. HasNoTask s owes x.1) (drop 1 team)) (names : AreNamesLive s) (v : IsValid w) where
@@ -101,7 +99,10 @@ module _ (p : Program) (w : List ℕ) (m : Memory) (s : State) (owes : ℕ → O
   alike j = each_put (λ c (x : Owed). OwesAlike x (owes c)) owes i given (subst (λ (o : Owed). OwesAlike given o) (sym owed) own) j (λ _. owes_alike (owes j))
     where
       own : OwesAlike given (record nothing { region = Some region; tasks = tasks_of team })
-      own = record { pending = refl; raised = refl; lowered = refl; referenced = refl; own = refl; above = refl; free = refl; left = refl; hand = refl }
+      own = record { pending = refl; raised = refl; lowered = refl; left = refl; hand = refl }
+
+  less : (j : ℕ) → OwesLess (other j) (owes j)
+  less j = owes_less (other j) (owes j) (alike j)
 
   -- ---- the records in the making
 
@@ -146,7 +147,7 @@ module _ (p : Program) (w : List ℕ) (m : Memory) (s : State) (owes : ℕ → O
           (λ ne. sym (ap (λ (o : Owed). has_region_slot j o.region) owed ∙ ne_eqb region.0.slot j (λ same. ne (sym region_making.maker) (sym same)))) c (λ _ _. refl) beside
 
   abbrev TaskGrows : ℕ → ℕ → Slot Task → Type 0
-  TaskGrows c j y = Grows (has_slot j (other c).tasks ≡ has_slot j (owes c).tasks) (NewTask w (m c tasks j) (has_slot j (owes c).tasks)) (s.tasks c j) y
+  TaskGrows c j y = Grows (has_slot j (other c).tasks ≡ has_slot j (owes c).tasks) (NewTask w (m c tasks j) (has_slot j (owes c).tasks) IsMember) (s.tasks c j) y
 
   going : (j : ℕ) → (if j == 0 then progress.Begun else progress.NotBegun) ≡ progress.Deferred → ⊥
   going j = go (j == 0)
@@ -165,9 +166,11 @@ module _ (p : Program) (w : List ℕ) (m : Memory) (s : State) (owes : ℕ → O
         live = ap (λ (z : Slot Task). z.live) now;
         new = record {
           taken_is = ap (λ (o : Owed). has_slot x.0.0.slot o.tasks) owed ∙ has_member_slot team j x is;
-          filled = filled.members j x is;
-          implicit = refl;
-          undeferred = going j;
+          environment = (filled.members j x is).environment;
+          place = λ _. (filled.members j x is).place;
+          children = (filled.members j x is).children;
+          slots = λ _. (filled.members j x is).slots;
+          kind = record { implicit = refl; undeferred = going j };
         };
       })
 
@@ -259,7 +262,7 @@ module _ (p : Program) (w : List ℕ) (m : Memory) (s : State) (owes : ℕ → O
               go (inr y) = y.same
 
   abbrev still : (j : ℕ) (q : Tid) → WaitsFor s j q → WaitsFor after j q
-  still = waits_after w m s rs ts owes other keeps names alike region_slots task_slots
+  still = waits_after w m s rs ts owes other IsMember keeps names less region_slots task_slots
 
   assigns : (j : ℕ) → j < s.count → All (λ q. WaitsFor after q.1 q.0) (other j).assigns
   assigns j within =
@@ -332,7 +335,7 @@ module _ (p : Program) (w : List ℕ) (m : Memory) (s : State) (owes : ℕ → O
           by_number (suc h) is thread waits = assigned_new j within h x is thread
 
   task_forks : KeepsWords w (with_word m i threads 0 (number ThreadCurrent) 0 (task_word w (master_of team))) (forked p s i region team f k t r) other
-  task_forks = current_stored w m after other i (master_of team) (grown w m s rs ts owes other keeps names alike region_slots task_slots making_kept assigns assigned) known
+  task_forks = current_stored w m after other i (master_of team) (members_grown w m s rs ts owes other keeps names alike region_slots task_slots making_kept assigns assigned) known
 
 pub forks_keep : ForksKeep
 forks_keep = λ p w m s owes i region team f k t r keeps known owed filled idle names v. task_forks p w m s owes i region team f k t r keeps known owed filled idle names v

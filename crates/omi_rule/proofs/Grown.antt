@@ -1,7 +1,7 @@
--- A state in which regions and implicit tasks begin, whose records stand filled: what is kept of words but for assign words and records in the
--- making. New objects count nothing, and nothing names them yet.
-use Rattle.std.proofs.Common.{◌≡◌, ◌==◌, ◌+◌, ◌&&◌, ◌<◌, ◌-◌, ℕ, Bool, true, false, inl, inr, List, Option, Some, None, not, refl, sym, ap, ap₂, subst, ◌∙◌, arith, eq-eqb, ne_eqb, if◌then◌else◌}
-use Rattle.std.specs.Prelude.{◌⊎◌, All, IsSome, MatchBool, get_or, sum}
+-- A state in which objects begin, whose records stand filled, and that counts as before with what threads owe: what is kept of words but for
+-- assign words, records in the making and hands. Nothing names new objects yet.
+use Rattle.std.proofs.Common.{◌≡◌, ◌==◌, ◌+◌, ◌&&◌, ◌<◌, ◌-◌, ℕ, Bool, true, false, inl, inr, List, Option, Some, None, refl, sym, ap, subst, ◌∙◌, arith, eq-eqb, if◌then◌else◌}
+use Rattle.std.specs.Prelude.{◌⊎◌, All, IsSome, MatchBool, get_or}
 use Rattle.std.specs.Option.{option_and_then}
 use Rattle.std.proofs.lemmas.Bool.Decides.{nat_tests}
 use Rattle.std.proofs.lemmas.Option.{slice_get-get_or}
@@ -12,132 +12,42 @@ use Rattle.omi_model.specs.declared.region.Region.{Region}
 use Rattle.omi_model.specs.declared.slot.Slot.{Slot}
 use Rattle.omi_model.specs.declared.task.Task.{Task}
 use Rattle.omi_model.specs.LawNames.{AreNamesLive}
-use Rattle.omi_model.specs.Put.{Slots, found}
+use Rattle.omi_model.specs.Put.{Slots}
 use Rattle.omi_model.specs.State.{State, region_of, task_of}
 use Rattle.omi_model.specs.Visible.{HasStarted, IsVisibleRegion, IsVisibleTask}
 use Rattle.omi_model.proofs.Slots.{some_same}
-use Rattle.omi_layout.specs.declared.field.Field.{Field}
 use Rattle.omi_layout.specs.declared.field.Field.TheVariants.{RegionLife, TaskLife, TaskSlots}
 use Rattle.omi_layout.specs.Field.{threads, regions, tasks}
 use Rattle.omi_layout.specs.Memory.{Rec, Memory}
-use Rattle.omi_layout.specs.Named.{number}
-use Rattle.omi_layout.specs.Table.{per_thread, width}
-use Rattle.omi_pc.specs.declared.place.Place.{Place}
+use Rattle.omi_layout.specs.Table.{per_thread}
 use Rattle.omi_rule.specs.Owes.{Owed}
-use Rattle.omi_rule.specs.Counts.{children_owed, ended_members, free_owed, generating_of, has_region_slot, has_slot, is_at, is_at_some, is_finished, is_region, is_some_region, is_some_task, is_task, is_unfinished, left_owed, live_children, of_live, one, pending_owed, references_owed, start_owed, sum_below, sum_of_owed, sum_of_slots, unfinished_children, unfinished_in}
+use Rattle.omi_rule.specs.Counts.{children_owed, generating_of, has_region_slot, has_slot, is_region, is_some_region, is_some_task, is_task, is_unfinished, left_owed, of_live, one, pending_owed, sum_below, sum_of_owed, sum_of_slots, unfinished_children, unfinished_in}
 use Rattle.omi_rule.specs.Threads.{Has, KeepsAssign, WaitsFor}
-use Rattle.omi_rule.specs.Objects.{IsDeferredIn, KeepsCounts, KeepsDeferred, KeepsLife, KeepsRegion, KeepsSlots, slot_word, slots_with}
+use Rattle.omi_rule.specs.Objects.{IsDeferredIn, KeepsCounts, KeepsDeferred, KeepsLife, KeepsRegion, KeepsSlots, slot_word}
 use Rattle.omi_rule.specs.Words.{HasFinished, KeepsMaking, KeepsRegionSlot, KeepsTask, KeepsTaskSlot, KeepsWords, OwesOnLive, region_in, task_in}
-use Rattle.omi_rule.specs.TeamKinds.{MemberIsFilled, RegionIsFilled}
+use Rattle.omi_rule.proofs.Begun.{Grows, IsNew, NewRegion, NewTask, begun_life, found_stays, found_was, none_found, one_none, some_found, some_stays}
 use Rattle.omi_rule.proofs.OtherOwes.{OwesAlike}
+use Rattle.omi_rule.proofs.PlaceStores.{unseen}
 use Rattle.omi_rule.proofs.Sums.{slots_none_within, sum_none_within, sum_same, sum_same_within}
 
--- ---- slots in which an object begins
+-- a thread owes what it owed, or less on raises
+pub record OwesLess (p o : Owed) : Type 0 where
+  pub pending : (n : Rid) → p.pending ≡ Some n → o.pending ≡ Some n
+  pub raised : (k : Tid) → p.raised ≡ Some k → o.raised ≡ Some k
+  pub lowered : p.lowered ≡ o.lowered
+  pub left : p.left ≡ o.left
 
--- a slot had no object and has a new one
-pub record Begins {A : Type 0} (New : A → Type 0) (x y : Slot A) : Type 0 where
-  pub empty : x.live ≡ None
-  pub generations : y.generations ≡ x.generations + 1
-  pub object : A
-  pub live : y.live ≡ Some object
-  pub new : New object
+pub owes_less : (p o : Owed) → OwesAlike p o → OwesLess p o
+owes_less p o alike = record { pending = λ n is. sym alike.pending ∙ is; raised = λ k is. sym alike.raised ∙ is; lowered = alike.lowered; left = alike.left }
 
--- a slot is as it was, with a fact, or a new object begins
-abbrev pub Grows : {A : Type 0} → Type 0 → (A → Type 0) → Slot A → Slot A → Type 0
-Grows Stays New x y = (record { same : y ≡ x; fact : Stays }) ⊎ Begins New x y
-
--- an object that has begun, under a name
-pub record IsNew {A : Type 0} (New : A → Type 0) (g : ℕ) (x : Slot A) (v : A) : Type 0 where
-  pub empty : x.live ≡ None
-  pub next : x.generations ≡ g
-  pub new : New v
-
--- nothing is found in an empty slot
-pub none_found : {A : Type 0} (g : ℕ) (x : Slot A) → x.live ≡ None → IsSome (found g x) → ⊥
-none_found {A} g x empty is = go (x.generations == g + 1) x.live empty is
-  where
-    go : (b : Bool) (o : Option A) → o ≡ None → IsSome (if b then o else None) → ⊥
-    go true (Some z) e is = absurd (cc)
-    go true None e is = absurd (cc)
-    go false o e is = absurd (cc)
-
-none_live : {A : Type 0} (o : Option A) → o ≡ None → IsSome o → ⊥
-none_live None e is = absurd (cc)
-none_live (Some z) e is = absurd (cc)
-
-pub some_found : {A : Type 0} (o : Option A) (u : A) → o ≡ Some u → IsSome o
-some_found o u is = subst (λ p. IsSome p) (sym is) refl
-
--- where something is found, something is live
-found_there : {A : Type 0} (g : ℕ) (x : Slot A) (u : A) → x.live ≡ None → found g x ≡ Some u → ⊥
-found_there g x u empty is = none_found g x empty (some_found (found g x) u is)
-
-module _ {A : Type 0} (Stays : Type 0) (New : A → Type 0) (x y : Slot A) where
-  found_stays : Grows Stays New x y → (g : ℕ) (u : A) → found g x ≡ Some u → found g y ≡ Some u
-  found_stays (inl stays) g u is = ap (found g) stays.same ∙ is
-  found_stays (inr begins) g u is = absurd (found_there g x u begins.empty is)
-
-  found_was : Grows Stays New x y → (g : ℕ) (v : A) → found g y ≡ Some v → (found g x ≡ Some v) ⊎ IsNew New g x v
-  found_was (inl stays) g v is = inl (sym (ap (found g) stays.same) ∙ is)
-  found_was (inr begins) g v is = inr (go (y.generations == g + 1) refl is)
-    where
-      go : (b : Bool) → y.generations == g + 1 ≡ b → (if b then y.live else None) ≡ Some v → IsNew New g x v
-      go true e there =
-          let more = begins.generations in
-          let same : begins.object ≡ v = some_same begins.live there in
-          record { empty = begins.empty; next = (let at : y.generations ≡ g + 1 = grind (arith, nat_tests) in omega (arith, more, at)); new = subst New same begins.new }
-      go false e there = absurd (cc)
-
-  some_stays : Grows Stays New x y → (g : ℕ) → IsSome (found g x) → IsSome (found g y)
-  some_stays (inl stays) g is = subst (λ (z : Slot A). IsSome (found g z)) (sym stays.same) is
-  some_stays (inr begins) g is = absurd (none_found g x begins.empty is)
-
-  live_stays : Grows Stays New x y → IsSome x.live → IsSome y.live
-  live_stays (inl stays) is = subst (λ (z : Slot A). IsSome z.live) (sym stays.same) is
-  live_stays (inr begins) is = some_found y.live begins.object begins.live
-
--- ---- new objects
-
--- a record that was taken is filled for this region or task, which is new
-pub record NewRegion (w : List ℕ) (r : Rec) (taken : Bool) (x : Region) : Type 0 where
-  pub taken_is : taken ≡ true
-  pub filled : RegionIsFilled w r x
-  pub arrivals : sum x.arrivals ≡ 0
-  pub released : x.released ≡ 0
-  pub ended : ended_members x ≡ 0
-
-pub record NewTask (w : List ℕ) (r : Rec) (taken : Bool) (t : Task) : Type 0 where
-  pub taken_is : taken ≡ true
-  pub filled : MemberIsFilled w r t
-  pub implicit : t.implicit ≡ true
-  pub undeferred : t.progress ≡ progress.Deferred → ⊥
-
-one_none : (b c : Bool) → c ≡ false → one (b && c) ≡ 0
-one_none b c none = ap (λ x. one (b && x)) none ∙ go b
-  where
-    go : (b : Bool) → one (b && false) ≡ 0
-    go true = refl
-    go false = refl
-
-implicit_none : (t : Task) → t.implicit ≡ true → is_unfinished t ≡ false
-implicit_none t implicit = ap (λ b. not b && not (is_finished t.progress)) implicit
-
--- the life word of a record that was taken
-begun_life : {A : Type 0} (r : Rec) (f : Field) (x y : Slot A) (New : A → Type 0) (before now : Bool) → Begins New x y → before ≡ true → KeepsLife r f x before → KeepsLife r f y now
-begun_life r f x y New before now begins taken o = record {
-  live = λ u is. let was = o.taken begins.empty taken in let more = begins.generations in omega (arith, was, more);
-  taken = λ none _. let some = begins.live in absurd (cc);
-  free = λ none _. let some = begins.live in absurd (cc);
-}
-
-module _ (w : List ℕ) (m : Memory) (s : State) (rs : Slots Region) (ts : Slots Task) (owes other : ℕ → Owed) (keeps : KeepsWords w m s owes) (names : AreNamesLive s) (alike : (j : ℕ) → OwesAlike (other j) (owes j))
+module _ (w : List ℕ) (m : Memory) (s : State) (rs : Slots Region) (ts : Slots Task) (owes other : ℕ → Owed) (Kind : Task → Type 0) (keeps : KeepsWords w m s owes) (names : AreNamesLive s) (alike : (j : ℕ) → OwesLess (other j) (owes j))
     (region_slots : (c k : ℕ) → Grows (has_region_slot k (other c).region ≡ has_region_slot k (owes c).region) (NewRegion w (m c regions k) (has_region_slot k (owes c).region)) (s.regions c k) (rs c k))
-    (task_slots : (c k : ℕ) → Grows (has_slot k (other c).tasks ≡ has_slot k (owes c).tasks) (NewTask w (m c tasks k) (has_slot k (owes c).tasks)) (s.tasks c k) (ts c k)) where
+    (task_slots : (c k : ℕ) → Grows (has_slot k (other c).tasks ≡ has_slot k (owes c).tasks) (NewTask w (m c tasks k) (has_slot k (owes c).tasks) Kind) (s.tasks c k) (ts c k)) where
   abbrev after : State
   after = record s { regions = rs; tasks = ts }
 
   abbrev NewAt : ℕ → ℕ → Task → Type 0
-  NewAt c k = NewTask w (m c tasks k) (has_slot k (owes c).tasks)
+  NewAt c k = NewTask w (m c tasks k) (has_slot k (owes c).tasks) Kind
 
   -- ---- what was live is live
 
@@ -186,7 +96,7 @@ module _ (w : List ℕ) (m : Memory) (s : State) (rs : Slots Region) (ts : Slots
 
   -- ---- what is counted
 
-  tasks_counted : (f : ℕ → ℕ → Task → ℕ) → ((c k : ℕ) (t : Task) → NewAt c k t → f c k t ≡ 0) → sum_of_slots w after f ≡ sum_of_slots w s f
+  pub tasks_counted : (f : ℕ → ℕ → Task → ℕ) → ((c k : ℕ) (t : Task) → NewAt c k t → f c k t ≡ 0) → sum_of_slots w after f ≡ sum_of_slots w s f
   tasks_counted f none =
       sum_same s.count (λ c. sum_below (per_thread w tasks) (λ k. of_live (f c k) (ts c k).live)) (λ c. sum_below (per_thread w tasks) (λ k. of_live (f c k) (s.tasks c k).live))
       (λ c. sum_same (per_thread w tasks) (λ k. of_live (f c k) (ts c k).live) (λ k. of_live (f c k) (s.tasks c k).live)
@@ -196,111 +106,21 @@ module _ (w : List ℕ) (m : Memory) (s : State) (rs : Slots Region) (ts : Slots
       counted c k (inl stays) = ap (λ (x : Slot Task). of_live (f c k) x.live) stays.same
       counted c k (inr begins) = ap (of_live (f c k)) begins.live ∙ (none c k begins.object begins.new ∙ sym (ap (of_live (f c k)) begins.empty))
 
-  unfinished_in_same : (n : Rid) → unfinished_in w after n ≡ unfinished_in w s n
-  unfinished_in_same n = tasks_counted (λ c k t. one (is_unfinished t && is_region n t.region)) (λ c k t new. ap (λ b. one (b && is_region n t.region)) (implicit_none t new.implicit))
-
-  unfinished_children_same : (k : Tid) → unfinished_children w after k ≡ unfinished_children w s k
-  unfinished_children_same k = tasks_counted (λ c j t. one (is_unfinished t && is_some_task k t.generating)) (λ c j t new. ap (λ b. one (b && is_some_task k t.generating)) (implicit_none t new.implicit))
-
-  live_children_same : (k : Tid) → live_children w after k ≡ live_children w s k
-  live_children_same k = tasks_counted (λ c j t. one (not t.implicit && is_some_task k t.generating)) (λ c j t new. ap (λ b. one (not b && is_some_task k t.generating)) new.implicit)
-
   owed_same : (f : Owed → ℕ) → ((j : ℕ) → f (other j) ≡ f (owes j)) → sum_of_owed s other f ≡ sum_of_owed s owes f
   owed_same f each = sum_same s.count (λ j. f (other j)) (λ j. f (owes j)) each
 
-  lowered_same : (k : Tid) (j : ℕ) → j < s.count → children_owed after k (other j) ≡ children_owed s k (owes j)
-  lowered_same k j known =
-      ap₂ (λ a b. one (is_some_task k a) + one (is_some_task k (option_and_then (generating_of after) b))) (alike j).raised (alike j).lowered
-      ∙ go (owes j).lowered (λ q is. ((keeps.made j known).objects.lowered q is).0)
+  lowered_same : (k : Tid) (j : ℕ) → j < s.count → children_owed after k (other j) ≡ children_owed s k (other j)
+  lowered_same k j known = go (other j).lowered (λ q is. ((keeps.made j known).objects.lowered q (sym (alike j).lowered ∙ is)).0)
     where
-      go : (o : Option Tid) → ((q : Tid) → o ≡ Some q → HasFinished s q) → one (is_some_task k (owes j).raised) + one (is_some_task k (option_and_then (generating_of after) o)) ≡ one (is_some_task k (owes j).raised) + one (is_some_task k (option_and_then (generating_of s) o))
+      go : (o : Option Tid) → ((q : Tid) → o ≡ Some q → HasFinished s q) → one (is_some_task k (other j).raised) + one (is_some_task k (option_and_then (generating_of after) o)) ≡ one (is_some_task k (other j).raised) + one (is_some_task k (option_and_then (generating_of s) o))
       go None finished = refl
-      go (Some q) finished = ap (λ g. one (is_some_task k (owes j).raised) + one (is_some_task k g)) (generating_after q (finished q refl))
+      go (Some q) finished = ap (λ g. one (is_some_task k (other j).raised) + one (is_some_task k g)) (generating_after q (finished q refl))
 
-  references_same : (k : Tid) (j : ℕ) → references_owed k (other j) ≡ references_owed k (owes j)
-  references_same k j =
-      let a : one (is_some_task k (other j).referenced) ≡ one (is_some_task k (owes j).referenced) = ap (λ q. one (is_some_task k q)) (alike j).referenced in
-      let b : one (is_some_task k (other j).own) ≡ one (is_some_task k (owes j).own) = ap (λ q. one (is_some_task k q)) (alike j).own in
-      let c : one (is_at_some k (other j).above) ≡ one (is_at_some k (owes j).above) = ap (λ q. one (is_at_some k q)) (alike j).above in
-      omega (arith, a, b, c)
-
-  pending_same : (n : Rid) → sum_of_owed s other (pending_owed n) ≡ sum_of_owed s owes (pending_owed n)
-  pending_same n = owed_same (pending_owed n) (λ j. ap (λ q. one (is_some_region n q)) (alike j).pending)
+  children_same : (k : Tid) → sum_of_owed after other (children_owed after k) ≡ sum_of_owed s other (children_owed s k)
+  children_same k = sum_same_within s.count (λ j. children_owed after k (other j)) (λ j. children_owed s k (other j)) (lowered_same k)
 
   left_same : (n : Rid) → sum_of_owed s other (left_owed n) ≡ sum_of_owed s owes (left_owed n)
   left_same n = owed_same (left_owed n) (λ j. ap (λ q. one (is_some_region n q)) (alike j).left)
-
-  -- ---- objects that were live
-
-  region_kept : (n : Rid) (r : Rec) (x : Region) → KeepsRegion w s owes n r x → KeepsRegion w after other n r x
-  region_kept n r x o = record {
-    function = o.function;
-    enclosing = o.enclosing;
-    encountering = o.encountering;
-    size = o.size;
-    levels = o.levels;
-    active = o.active;
-    team = o.team;
-    released = o.released;
-    arrived = o.arrived;
-    pending = let was = o.pending in let same = unfinished_in_same n in let owed = pending_same n in omega (arith, was, same, owed);
-    left = let was = o.left in let owed = left_same n in omega (arith, was, owed);
-  }
-
-  counts_kept : (k : Tid) (r : Rec) (t : Task) → KeepsCounts w s owes k r t → KeepsCounts w after other k r t
-  counts_kept k r t o = record {
-    children =
-        let was = o.children in
-        let same = unfinished_children_same k in
-        let owed : sum_of_owed after other (children_owed after k) ≡ sum_of_owed s owes (children_owed s k)
-        = sum_same_within s.count (λ j. children_owed after k (other j)) (λ j. children_owed s k (owes j)) (lowered_same k) in
-        omega (arith, was, same, owed);
-    references =
-        let was = o.references in
-        let same = live_children_same k in
-        let owed = owed_same (references_owed k) (references_same k) in
-        omega (arith, was, same, owed);
-    last = λ explicit. owed_same (free_owed k) (λ j. ap (λ q. one (is_some_task k q)) (alike j).free) ∙ o.last explicit;
-  }
-
-  slots_kept : (r : Rec) (t : Task) → KeepsSlots w s r t → KeepsSlots w after r t
-  slots_kept r t o = λ place within. go place (o place within)
-    where
-      go : (place : ℕ) → Has r TaskSlots place 0 ⊎ ((k : Tid) × IsDeferredIn s t place k × Has r TaskSlots place (slot_word w k))
-          → Has r TaskSlots place 0 ⊎ ((k : Tid) × IsDeferredIn after t place k × Has r TaskSlots place (slot_word w k))
-      go place (inl none) = inl none
-      go place (inr (k, x, is)) = inr (k, record { task = x.task; live = task_after k x.task x.live; progress = x.progress; region = x.region; place_is = x.place_is; maker = x.maker }, is)
-
-  task_kept : (k : Tid) (r : Rec) (t : Task) → (s.tasks k.0.creator k.0.slot).live ≡ Some t → KeepsTask w s owes k r t → KeepsTask w after other k r t
-  task_kept k r t there o = record {
-    environment = λ seen. o.environment (go seen);
-    place = λ seen. o.place (task_seen k t there seen);
-    counts = counts_kept k r t o.counts;
-    slots = λ implicit. slots_kept r t (o.slots implicit);
-  }
-    where
-      go : IsVisibleTask after k ⊎ (t.progress ≡ progress.Deferred) → IsVisibleTask s k ⊎ (t.progress ≡ progress.Deferred)
-      go (inl seen) = inl (task_seen k t there seen)
-      go (inr deferred) = inr deferred
-
-  objects_kept : (j : ℕ) → All (λ q. WaitsFor after q.1 q.0) (other j).assigns → OwesOnLive s (owes j) → OwesOnLive after (other j)
-  objects_kept j assigns x = record {
-    pending = λ n is. some_region_after n (x.pending n (sym (alike j).pending ∙ is));
-    left = λ n is. let (r, live, open_) = x.left n (sym (alike j).left ∙ is) in (r, region_after n r live, open_);
-    raised = λ k is. some_task_after k (x.raised k (sym (alike j).raised ∙ is));
-    referenced = λ k is. some_task_after k (x.referenced k (sym (alike j).referenced ∙ is));
-    lowered = λ k is.
-        let (finished, live) = x.lowered k (sym (alike j).lowered ∙ is) in
-        (finished_after k finished, subst (λ (g : Option Tid). IsSome (option_and_then (task_of after) g)) (sym (generating_after k finished)) (parent (generating_of s k) live));
-    own = λ k is. finished_after k (x.own k (sym (alike j).own ∙ is));
-    free = λ k is. finished_after k (x.free k (sym (alike j).free ∙ is));
-    above = λ at is. live_stays _ (NewAt at.creator at.slot) (s.tasks at.creator at.slot) (ts at.creator at.slot) (task_slots at.creator at.slot) (x.above at (sym (alike j).above ∙ is));
-    assigns = assigns;
-  }
-    where
-      parent : (g : Option Tid) → IsSome (option_and_then (task_of s) g) → IsSome (option_and_then (task_of after) g)
-      parent None is = is
-      parent (Some q) is = some_task_after q is
 
   -- ---- new objects: nothing names them
 
@@ -381,156 +201,163 @@ module _ (w : List ℕ) (m : Memory) (s : State) (rs : Slots Region) (ts : Slots
           let b : one (is_some_task k (option_and_then (generating_of s) (owes j).lowered)) ≡ 0 = ap one (made_by (owes j).lowered (λ q is. (o.lowered q is).1)) in
           omega (arith, a, b)
 
-  references_unowed : (k : Tid) → (s.tasks k.0.creator k.0.slot).live ≡ None → sum_of_owed s owes (references_owed k) ≡ 0
-  references_unowed k empty = sum_none_within s.count (λ j. references_owed k (owes j)) each
-    where
-      at_none : (o : Option Place) → ((at : Place) → o ≡ Some at → IsSome (s.tasks at.creator at.slot).live) → is_at_some k o ≡ false
-      at_none None live = refl
-      at_none (Some at) live = go (is_at k at) refl
-        where
-          go : (b : Bool) → is_at k at ≡ b → b ≡ false
-          go false e = refl
-          go true e =
-              let creator : k.0.creator ≡ at.creator = grind (arith, nat_tests) in
-              let place : k.0.slot ≡ at.slot = grind (arith, nat_tests) in
-              let none : (s.tasks at.creator at.slot).live ≡ None = subst (λ c. (s.tasks c at.slot).live ≡ None) creator (subst (λ j. (s.tasks k.0.creator j).live ≡ None) place empty) in
-              absurd (none_live (s.tasks at.creator at.slot).live none (live at refl))
+  module _ (pending_counted : (n : Rid) → unfinished_in w after n + sum_of_owed s other (pending_owed n) ≡ unfinished_in w s n + sum_of_owed s owes (pending_owed n))
+      (children_counted : (k : Tid) → unfinished_children w after k + sum_of_owed s other (children_owed s k) ≡ unfinished_children w s k + sum_of_owed s owes (children_owed s k)) where
+    -- ---- objects that were live
 
-      each : (j : ℕ) → j < s.count → references_owed k (owes j) ≡ 0
-      each j known =
-          let o = (keeps.made j known).objects in
-          let a : one (is_some_task k (owes j).referenced) ≡ 0 = ap one (unnamed k empty (owes j).referenced o.referenced) in
-          let b : one (is_some_task k (owes j).own) ≡ 0 = ap one (unnamed k empty (owes j).own (λ q is. let x = o.own q is in some_found (task_of s q) x.task x.live)) in
-          let c : one (is_at_some k (owes j).above) ≡ 0 = ap one (at_none (owes j).above o.above) in
-          omega (arith, a, b, c)
+    region_kept : (n : Rid) (r : Rec) (x : Region) → KeepsRegion w s owes n r x → KeepsRegion w after other n r x
+    region_kept n r x o = record {
+      function = o.function;
+      enclosing = o.enclosing;
+      encountering = o.encountering;
+      size = o.size;
+      levels = o.levels;
+      active = o.active;
+      team = o.team;
+      released = o.released;
+      arrived = o.arrived;
+      pending = let was = o.pending in let change = pending_counted n in omega (arith, was, change);
+      left = let was = o.left in let owed = left_same n in omega (arith, was, owed);
+    }
 
-  region_begun : (n : Rid) (r : Rec) (taken : Bool) (x : Region) → (s.regions n.0.creator n.0.slot).live ≡ None → NewRegion w r taken x → KeepsRegion w after other n r x
-  region_begun n r taken x empty new =
-      let o = new.filled in
-      record {
-        function = o.function;
-        enclosing = o.enclosing;
-        encountering = o.encountering;
-        size = o.size;
-        levels = o.levels;
-        active = o.active;
-        team = o.team;
-        released = o.released ∙ sym new.released;
-        arrived = o.arrived ∙ sym new.arrivals;
-        pending =
-            let word = o.pending in
-            let same = unfinished_in_same n in
-            let none = no_tasks n empty in
-            let owed = pending_same n in
-            let nobody = (region_unowed n empty).0 in
-            omega (arith, word, same, none, owed, nobody);
-        left =
-            let word = o.left in
-            let owed = left_same n in
-            let nobody = (region_unowed n empty).1 in
-            let ended = new.ended in
-            omega (arith, word, owed, nobody, ended);
-      }
+    counts_kept : (k : Tid) (r : Rec) → KeepsCounts w s owes k r → KeepsCounts w after other k r
+    counts_kept k r o = record {
+      children =
+          let was = o.children in
+          let change = children_counted k in
+          let owed = children_same k in
+          omega (arith, was, change, owed);
+    }
 
-  task_begun : (k : Tid) (r : Rec) (taken : Bool) (t : Task) → (s.tasks k.0.creator k.0.slot).live ≡ None → NewTask w r taken t → KeepsTask w after other k r t
-  task_begun k r taken t empty new =
-      let o = new.filled in
-      record {
-        environment = λ _. o.environment;
-        place = λ _. o.place;
-        counts = record {
-          children =
-              let word = o.children in
-              let same = unfinished_children_same k in
-              let none : unfinished_children w s k ≡ 0 = no_children k empty is_unfinished in
-              let owed : sum_of_owed after other (children_owed after k) ≡ sum_of_owed s owes (children_owed s k)
-              = sum_same_within s.count (λ j. children_owed after k (other j)) (λ j. children_owed s k (owes j)) (lowered_same k) in
-              let nobody = children_unowed k empty in
-              omega (arith, word, same, none, owed, nobody);
-          references =
-              let word = o.references in
-              let same = live_children_same k in
-              let none : live_children w s k ≡ 0 = no_children k empty (λ t. not t.implicit) in
-              let owed = owed_same (references_owed k) (references_same k) in
-              let nobody = references_unowed k empty in
-              let own : one (is_unfinished t) ≡ 0 = ap one (implicit_none t new.implicit) in
-              omega (arith, word, same, none, owed, nobody, own);
-          last = λ explicit. let implicit = new.implicit in absurd (cc);
-        };
-        slots = λ implicit place within. inl (o.slots place within);
-      }
+    slots_kept : (r : Rec) (t : Task) → KeepsSlots w s r t → KeepsSlots w after r t
+    slots_kept r t o = λ place within. go place (o place within)
+      where
+        go : (place : ℕ) → Has r TaskSlots place 0 ⊎ ((k : Tid) × IsDeferredIn s t place k × Has r TaskSlots place (slot_word w k))
+            → Has r TaskSlots place 0 ⊎ ((k : Tid) × IsDeferredIn after t place k × Has r TaskSlots place (slot_word w k))
+        go place (inl none) = inl none
+        go place (inr (k, x, is)) = inr (k, record { task = x.task; live = task_after k x.task x.live; progress = x.progress; region = x.region; place_is = x.place_is; maker = x.maker }, is)
 
-  -- ---- the whole
+    task_kept : (k : Tid) (r : Rec) (t : Task) → (s.tasks k.0.creator k.0.slot).live ≡ Some t → KeepsTask w s owes k r t → KeepsTask w after other k r t
+    task_kept k r t there o = record {
+      environment = λ seen. o.environment (go seen);
+      place = λ seen. o.place (task_seen k t there seen);
+      counts = counts_kept k r o.counts;
+      slots = λ implicit. slots_kept r t (o.slots implicit);
+    }
+      where
+        go : IsVisibleTask after k ⊎ (t.progress ≡ progress.Deferred) → IsVisibleTask s k ⊎ (t.progress ≡ progress.Deferred)
+        go (inl seen) = inl (task_seen k t there seen)
+        go (inr deferred) = inr deferred
 
-  region_slot_kept : (c k : ℕ) → KeepsRegionSlot w s owes c k (m c regions k) → KeepsRegionSlot w after other c k (m c regions k)
-  region_slot_kept c k o = go (region_slots c k)
-    where
-      go : Grows (has_region_slot k (other c).region ≡ has_region_slot k (owes c).region) (NewRegion w (m c regions k) (has_region_slot k (owes c).region)) (s.regions c k) (rs c k) → KeepsRegionSlot w after other c k (m c regions k)
-      go (inl stays) = record {
-        life = subst (λ (x : Slot Region). KeepsLife (m c regions k) RegionLife x (has_region_slot k (other c).region)) (sym stays.same)
-            (subst (λ b. KeepsLife (m c regions k) RegionLife (s.regions c k) b) (sym stays.fact) o.life);
-        live = λ x is.
-            let there : (s.regions c k).live ≡ Some x = sym (ap (λ (y : Slot Region). y.live) stays.same) ∙ is in
-            subst (λ (y : Slot Region). KeepsRegion w after other (region_in c k y) (m c regions k) x) (sym stays.same) (region_kept (region_in c k (s.regions c k)) (m c regions k) x (o.live x there));
-      }
-      go (inr begins) = record {
-        life = begun_life (m c regions k) RegionLife (s.regions c k) (rs c k) (NewRegion w (m c regions k) (has_region_slot k (owes c).region)) (has_region_slot k (owes c).region) (has_region_slot k (other c).region) begins begins.new.taken_is o.life;
-        live = λ x is. region_begun (region_in c k (rs c k)) (m c regions k) (has_region_slot k (owes c).region) x begins.empty
-            (subst (λ (y : Region). NewRegion w (m c regions k) (has_region_slot k (owes c).region) y) (some_same begins.live is) begins.new);
-      }
+    objects_kept : (j : ℕ) → All (λ q. WaitsFor after q.1 q.0) (other j).assigns → OwesOnLive s (owes j) → OwesOnLive after (other j)
+    objects_kept j assigns x = record {
+      pending = λ n is. some_region_after n (x.pending n ((alike j).pending n is));
+      left = λ n is. let (r, live, open_) = x.left n (sym (alike j).left ∙ is) in (r, region_after n r live, open_);
+      raised = λ k is. some_task_after k (x.raised k ((alike j).raised k is));
+      lowered = λ k is.
+          let (finished, live) = x.lowered k (sym (alike j).lowered ∙ is) in
+          (finished_after k finished, subst (λ (g : Option Tid). IsSome (option_and_then (task_of after) g)) (sym (generating_after k finished)) (parent (generating_of s k) live));
+      assigns = assigns;
+    }
+      where
+        parent : (g : Option Tid) → IsSome (option_and_then (task_of s) g) → IsSome (option_and_then (task_of after) g)
+        parent None is = is
+        parent (Some q) is = some_task_after q is
 
-  task_slot_kept : (c k : ℕ) → KeepsTaskSlot w s owes c k (m c tasks k) → KeepsTaskSlot w after other c k (m c tasks k)
-  task_slot_kept c k o = go (task_slots c k)
-    where
-      go : Grows (has_slot k (other c).tasks ≡ has_slot k (owes c).tasks) (NewAt c k) (s.tasks c k) (ts c k) → KeepsTaskSlot w after other c k (m c tasks k)
-      go (inl stays) = record {
-        life = subst (λ (x : Slot Task). KeepsLife (m c tasks k) TaskLife x (has_slot k (other c).tasks)) (sym stays.same)
-            (subst (λ b. KeepsLife (m c tasks k) TaskLife (s.tasks c k) b) (sym stays.fact) o.life);
-        live = λ t is.
-            let there : (s.tasks c k).live ≡ Some t = sym (ap (λ (y : Slot Task). y.live) stays.same) ∙ is in
-            subst (λ (y : Slot Task). KeepsTask w after other (task_in c k y) (m c tasks k) t) (sym stays.same) (task_kept (task_in c k (s.tasks c k)) (m c tasks k) t there (o.live t there));
-      }
-      go (inr begins) = record {
-        life = begun_life (m c tasks k) TaskLife (s.tasks c k) (ts c k) (NewAt c k) (has_slot k (owes c).tasks) (has_slot k (other c).tasks) begins begins.new.taken_is o.life;
-        live = λ t is. task_begun (task_in c k (ts c k)) (m c tasks k) (has_slot k (owes c).tasks) t begins.empty (subst (NewAt c k) (some_same begins.live is) begins.new);
-      }
-
-  deferred_kept : KeepsDeferred w (λ c. m c tasks) after other
-  deferred_kept = record {
-    once = λ k t is deferred. go k t deferred (task_before k t is);
-    hands = λ i k known is. let (t, live, deferred) = keeps.deferred.hands i k known (sym (alike i).hand ∙ is) in (t, task_after k t live, deferred);
-  }
-    where
-      slots_same : (k : Tid) → slots_with w (λ c. m c tasks) after (slot_word w k) ≡ slots_with w (λ c. m c tasks) s (slot_word w k)
-      slots_same k =
-          tasks_counted (λ c j x. if x.implicit then sum_below (width w (number TaskSlots)) (λ place. one (m c tasks j (number TaskSlots) place == slot_word w k)) else 0)
-          (λ c j t new.
-          ap (λ b. if b then sum_below (width w (number TaskSlots)) (λ place. one (m c tasks j (number TaskSlots) place == slot_word w k)) else 0) new.implicit
-          ∙ sum_none_within (width w (number TaskSlots)) (λ place. one (m c tasks j (number TaskSlots) place == slot_word w k))
-          (λ place within. ap one (ne_eqb _ _ (λ same. let none = new.filled.slots place within in absurd (omega (arith, same, none))))))
-
-      go : (k : Tid) (t : Task) → t.progress ≡ progress.Deferred → (task_of s k ≡ Some t) ⊎ IsNew (NewAt k.0.creator k.0.slot) k.0.generation (s.tasks k.0.creator k.0.slot) t
-          → slots_with w (λ c. m c tasks) after (slot_word w k) + sum_of_owed after other (start_owed k) ≡ 1
-      go k t deferred (inl live) =
-          let was = keeps.deferred.once k t live deferred in
-          let same = slots_same k in
-          let owed = owed_same (start_owed k) (λ j. ap (λ q. one (is_some_task k q)) (alike j).hand) in
-          omega (arith, was, same, owed)
-      go k t deferred (inr new) = absurd (new.new.undeferred deferred)
-
-  pub grown : ((j : ℕ) → j < s.count → KeepsMaking after j (other j)) → ((j : ℕ) → j < s.count → All (λ q. WaitsFor after q.1 q.0) (other j).assigns)
-      → ((j : ℕ) → j < s.count → KeepsAssign w after other j (m j threads 0)) → KeepsWords w m after other
-  grown making assigns assigned = record {
-    runtime_record = let o = keeps.runtime_record in record { version = o.version; threads = o.threads; procs = o.procs; debug = o.debug; max_active = o.max_active; locks = o.locks };
-    made = λ j known.
-        let o = keeps.made j known in
+    region_begun : (n : Rid) (r : Rec) (taken : Bool) (x : Region) → (s.regions n.0.creator n.0.slot).live ≡ None → NewRegion w r taken x → KeepsRegion w after other n r x
+    region_begun n r taken x empty new =
+        let o = new.filled in
         record {
-          thread = o.thread;
-          assign = assigned j known;
-          regions = λ k within. region_slot_kept j k (o.regions k within);
-          tasks = λ k within. task_slot_kept j k (o.tasks k within);
-          making = making j known;
-          objects = objects_kept j (assigns j known) o.objects;
-        };
-    deferred = deferred_kept;
-  }
+          function = o.function;
+          enclosing = o.enclosing;
+          encountering = o.encountering;
+          size = o.size;
+          levels = o.levels;
+          active = o.active;
+          team = o.team;
+          released = o.released ∙ sym new.released;
+          arrived = o.arrived ∙ sym new.arrivals;
+          pending =
+              let word = o.pending in
+              let none = no_tasks n empty in
+              let change = pending_counted n in
+              let nobody = (region_unowed n empty).0 in
+              omega (arith, word, none, change, nobody);
+          left =
+              let word = o.left in
+              let owed = left_same n in
+              let nobody = (region_unowed n empty).1 in
+              let ended = new.ended in
+              omega (arith, word, owed, nobody, ended);
+        }
+
+    task_begun : (k : Tid) (r : Rec) (taken : Bool) (t : Task) → (s.tasks k.0.creator k.0.slot).live ≡ None → task_of after k ≡ Some t → NewTask w r taken Kind t → KeepsTask w after other k r t
+    task_begun k r taken t empty live new = record {
+      environment = λ _. new.environment;
+      place = λ seen. new.place (λ explicit deferred. unseen after k t (record { live = live; explicit = explicit; progress = deferred }) seen);
+      counts = record {
+        children =
+            let word = new.children in
+            let none : unfinished_children w s k ≡ 0 = no_children k empty is_unfinished in
+            let change = children_counted k in
+            let owed = children_same k in
+            let nobody = children_unowed k empty in
+            omega (arith, word, none, change, owed, nobody);
+      };
+      slots = λ implicit place within. inl (new.slots implicit place within);
+    }
+
+    -- ---- the whole
+
+    region_slot_kept : (c k : ℕ) → KeepsRegionSlot w s owes c k (m c regions k) → KeepsRegionSlot w after other c k (m c regions k)
+    region_slot_kept c k o = go (region_slots c k)
+      where
+        go : Grows (has_region_slot k (other c).region ≡ has_region_slot k (owes c).region) (NewRegion w (m c regions k) (has_region_slot k (owes c).region)) (s.regions c k) (rs c k) → KeepsRegionSlot w after other c k (m c regions k)
+        go (inl stays) = record {
+          life = subst (λ (x : Slot Region). KeepsLife (m c regions k) RegionLife x (has_region_slot k (other c).region)) (sym stays.same)
+              (subst (λ b. KeepsLife (m c regions k) RegionLife (s.regions c k) b) (sym stays.fact) o.life);
+          live = λ x is.
+              let there : (s.regions c k).live ≡ Some x = sym (ap (λ (y : Slot Region). y.live) stays.same) ∙ is in
+              subst (λ (y : Slot Region). KeepsRegion w after other (region_in c k y) (m c regions k) x) (sym stays.same) (region_kept (region_in c k (s.regions c k)) (m c regions k) x (o.live x there));
+        }
+        go (inr begins) = record {
+          life = begun_life (m c regions k) RegionLife (s.regions c k) (rs c k) (NewRegion w (m c regions k) (has_region_slot k (owes c).region)) (has_region_slot k (owes c).region) (has_region_slot k (other c).region) begins begins.new.taken_is o.life;
+          live = λ x is. region_begun (region_in c k (rs c k)) (m c regions k) (has_region_slot k (owes c).region) x begins.empty
+              (subst (λ (y : Region). NewRegion w (m c regions k) (has_region_slot k (owes c).region) y) (some_same begins.live is) begins.new);
+        }
+
+    task_slot_kept : (c k : ℕ) → KeepsTaskSlot w s owes c k (m c tasks k) → KeepsTaskSlot w after other c k (m c tasks k)
+    task_slot_kept c k o = go (task_slots c k)
+      where
+        go : Grows (has_slot k (other c).tasks ≡ has_slot k (owes c).tasks) (NewAt c k) (s.tasks c k) (ts c k) → KeepsTaskSlot w after other c k (m c tasks k)
+        go (inl stays) = record {
+          life = subst (λ (x : Slot Task). KeepsLife (m c tasks k) TaskLife x (has_slot k (other c).tasks)) (sym stays.same)
+              (subst (λ b. KeepsLife (m c tasks k) TaskLife (s.tasks c k) b) (sym stays.fact) o.life);
+          live = λ t is.
+              let there : (s.tasks c k).live ≡ Some t = sym (ap (λ (y : Slot Task). y.live) stays.same) ∙ is in
+              subst (λ (y : Slot Task). KeepsTask w after other (task_in c k y) (m c tasks k) t) (sym stays.same) (task_kept (task_in c k (s.tasks c k)) (m c tasks k) t there (o.live t there));
+        }
+        go (inr begins) = record {
+          life = begun_life (m c tasks k) TaskLife (s.tasks c k) (ts c k) (NewAt c k) (has_slot k (owes c).tasks) (has_slot k (other c).tasks) begins begins.new.taken_is o.life;
+          live = λ t is.
+              let more = begins.generations in
+              let test : (ts c k).generations == (ts c k).generations - 1 + 1 ≡ true = eq-eqb _ _ (omega (arith, more)) in
+              task_begun (task_in c k (ts c k)) (m c tasks k) (has_slot k (owes c).tasks) t begins.empty (ap (λ b. if b then (ts c k).live else None) test ∙ is) (subst (NewAt c k) (some_same begins.live is) begins.new);
+        }
+
+    pub grown : ((j : ℕ) → j < s.count → KeepsMaking after j (other j)) → ((j : ℕ) → j < s.count → All (λ q. WaitsFor after q.1 q.0) (other j).assigns)
+        → ((j : ℕ) → j < s.count → KeepsAssign w after other j (m j threads 0)) → KeepsDeferred w (λ c. m c tasks) after other → KeepsWords w m after other
+    grown making assigns assigned deferred = record {
+      runtime_record = let o = keeps.runtime_record in record { version = o.version; threads = o.threads; procs = o.procs; debug = o.debug; max_active = o.max_active; locks = o.locks };
+      made = λ j known.
+          let o = keeps.made j known in
+          record {
+            thread = o.thread;
+            assign = assigned j known;
+            regions = λ k within. region_slot_kept j k (o.regions k within);
+            tasks = λ k within. task_slot_kept j k (o.tasks k within);
+            making = making j known;
+            objects = objects_kept j (assigns j known) o.objects;
+          };
+      deferred = deferred;
+    }

@@ -25,7 +25,7 @@ Relisted t u = u ≡ record t { list = u.list }
 -- its record has the same codes
 relisted_kept : (w : List ℕ) (s : State) (owes : ℕ → Owed) (k : Tid) (r : Rec) (t : Task) (list : List Item) → KeepsTask w s owes k r t → KeepsTask w s owes k r (record t { list = list })
 relisted_kept w s owes k r t list =
-    task_rewritten w s owes k r r t (record t { list = list }) (record { implicit = refl; region = refl; thread = refl; generating = refl; progress = refl; place = refl }) refl refl (λ _. refl)
+    task_rewritten w s owes k r r t (record t { list = list }) (record { implicit = refl; region = refl; thread = refl; generating = refl; progress = refl; place = refl }) refl (λ _. refl)
     (λ e. record { implicit = e.implicit; region = e.region; generating = e.generating; function = e.function; dynamic = e.dynamic; nthreads_length = e.nthreads_length; schedule = e.schedule; device = e.device; final = e.final; tool = e.tool; nthreads = e.nthreads })
     (λ e. record { thread = e.thread; member = e.member; scheduling = e.scheduling; exit = e.exit; enter = e.enter })
 

@@ -1,5 +1,5 @@
 -- The opening words of a program keep the rule on words.
-use Rattle.std.proofs.Common.{◌≡◌, inl, ◌==◌, ◌<◌, ℕ, zero, suc, ◌&&◌, Bool, true, false, not, List, [], Some, None, refl, sym, ap, subst, ◌∙◌, arith, if◌then◌else◌}
+use Rattle.std.proofs.Common.{◌≡◌, inl, ◌==◌, ◌<◌, ℕ, zero, suc, ◌&&◌, Bool, true, false, List, [], Some, None, refl, sym, ap, subst, ◌∙◌, arith, if◌then◌else◌}
 use Rattle.std.specs.Prelude.{slice_get}
 use Rattle.std.proofs.lemmas.Bool.Decides.{nat_tests}
 use Rattle.std.proofs.lemmas.List.Elements.{All-from_recursion}
@@ -30,7 +30,7 @@ use Rattle.omi_rep.specs.Records.{task_address, task_word}
 use Rattle.omi_rep.specs.Suits.{Suits}
 use Rattle.omi_rep.proofs.Alone.{flags}
 use Rattle.omi_rule.specs.Owes.{Owed, all_owed, nothing}
-use Rattle.omi_rule.specs.Counts.{of_live, one, has_slot, has_region_slot, is_region, is_some_task, is_unfinished, pending_owed, left_owed, children_owed, references_owed}
+use Rattle.omi_rule.specs.Counts.{of_live, one, has_slot, has_region_slot, is_region, is_some_task, is_unfinished, pending_owed, left_owed, children_owed}
 use Rattle.omi_rule.specs.Threads.{Has, KeepsRuntime, KeepsThread, KeepsAssign, WaitsFor, claim_word}
 use Rattle.omi_rule.specs.Objects.{KeepsLife, KeepsRegion, KeepsCounts, KeepsDeferred}
 use Rattle.omi_rule.specs.Words.{KeepsTask, KeepsRegionSlot, KeepsTaskSlot, KeepsMaking, OwesOnLive, KeepsMade, KeepsWords, IsInTheMaking, region_in, task_in}
@@ -161,19 +161,13 @@ module _ (p : Program) (w words : List ℕ) (v : IsValid w) (suits : Suits p w) 
           subst (λ (q : Tid × ℕ). Has r RegionTeam 0 (task_address w q.0)) same o.member
       team (suc j) x is = absurd (cc)
 
-  counts_kept : (k : Tid) (r : Rec) → OpensTask p w r → KeepsCounts w s owes k r (opening_task p)
+  counts_kept : (k : Tid) (r : Rec) → OpensTask p w r → KeepsCounts w s owes k r
   counts_kept k r o = record {
     children =
         let unfinished = slots_none w s (λ c j t. one (is_unfinished t && is_some_task k t.generating)) (none_counted p (λ t. one (is_unfinished t && is_some_task k t.generating)) refl) in
         let owed = owed_none s owes (children_owed s k) none refl in
         let is = o.children in
         omega (arith, unfinished, owed, is);
-    references =
-        let live = slots_none w s (λ c j t. one (not t.implicit && is_some_task k t.generating)) (none_counted p (λ t. one (not t.implicit && is_some_task k t.generating)) refl) in
-        let owed = owed_none s owes (references_owed k) none refl in
-        let is = o.references in
-        omega (arith, live, owed, is);
-    last = λ explicit. absurd (cc);
   }
 
   task_kept : (k : Tid) (r : Rec) → OpensTask p w r → KeepsTask w s owes k r (opening_task p)
@@ -234,11 +228,7 @@ module _ (p : Program) (w words : List ℕ) (v : IsValid w) (suits : Suits p w) 
     pending = λ n is. absurd (cc);
     left = λ n is. absurd (cc);
     raised = λ k is. absurd (cc);
-    referenced = λ k is. absurd (cc);
     lowered = λ k is. absurd (cc);
-    own = λ k is. absurd (cc);
-    free = λ k is. absurd (cc);
-    above = λ at is. absurd (cc);
     assigns = All-from_recursion (λ (m : Tid × ℕ). WaitsFor s m.1 m.0) [] tt;
   })
 

@@ -10,16 +10,15 @@ use Rattle.omi_model.specs.declared.task.Task.{Task}
 use Rattle.omi_model.specs.Put.{Slots, found, named}
 use Rattle.omi_model.specs.State.{State}
 use Rattle.omi_model.proofs.Slots.{id_same}
-use Rattle.omi_layout.specs.declared.field.Field.TheVariants.{RegionArrived, RegionLeft, RegionLife, RegionPending, RegionReleased, TaskChildren, TaskDevice, TaskDynamic, TaskEnter, TaskExit, TaskFinal, TaskFunction, TaskGenerating, TaskImplicit, TaskLife, TaskNthreads, TaskNthreadsLength, TaskNumber, TaskReferences, TaskRegion, TaskSchedule, TaskScheduling, TaskSlots, TaskThread, TaskTool}
+use Rattle.omi_layout.specs.declared.field.Field.TheVariants.{RegionArrived, RegionLeft, RegionLife, RegionPending, RegionReleased, TaskChildren, TaskLife, TaskSlots}
 use Rattle.omi_layout.specs.declared.field.Field.{Field}
 use Rattle.omi_layout.specs.Field.{runtime, threads, regions, tasks}
 use Rattle.omi_layout.specs.Memory.{Memory, Rec, put}
 use Rattle.omi_layout.specs.Named.{number}
 use Rattle.omi_layout.specs.Table.{per_thread}
 use Rattle.omi_layout.proofs.Puts.{each_put, put_other, put_same}
-use Rattle.omi_pc.specs.declared.place.Place.{Place}
 use Rattle.omi_rule.specs.Owes.{Owed}
-use Rattle.omi_rule.specs.Counts.{children_owed, free_owed, has_region_slot, has_slot, is_at, is_id, left_owed, one, pending_owed, references_owed, start_owed, sum_of_owed, unfinished_in}
+use Rattle.omi_rule.specs.Counts.{children_owed, has_region_slot, has_slot, is_id, left_owed, pending_owed, start_owed, sum_of_owed, unfinished_in}
 use Rattle.omi_rule.specs.Threads.{Has, KeepsAssign, KeepsRuntime, KeepsThread}
 use Rattle.omi_rule.specs.Objects.{IsDeferredIn, KeepsCounts, KeepsLife, KeepsRegion, slot_word}
 use Rattle.omi_rule.specs.Words.{AreApart, IsInTheMaking, KeepsMade, KeepsTask, KeepsWords, OwesOnLive, region_in, task_in}
@@ -28,6 +27,7 @@ use Rattle.omi_rule.proofs.OtherOwes.{assign_owed_same}
 use Rattle.omi_rule.proofs.OtherStates.{slots_as_before}
 use Rattle.omi_rule.proofs.RegionStores.{region_rewritten}
 use Rattle.omi_rule.proofs.Sums.{sum_changed, sum_same}
+use Rattle.omi_rule.proofs.TaskFields.{environment_same, is_environment, is_place, place_same, told_apart}
 
 -- ---- names
 
@@ -55,17 +55,6 @@ is_other_id q n apart = go (q.creator == n.creator) refl (q.slot == n.slot) refl
   where
     go : (a : Bool) → q.creator == n.creator ≡ a → (b : Bool) → q.slot == n.slot ≡ b → a && (b && q.generation == n.generation) ≡ false
     go true e true f = absurd (apart (eqb-true q.creator n.creator e) (eqb-true q.slot n.slot f))
-    go true e false f = refl
-    go false e b f = refl
-
-pub is_at_own : (k : Tid) (at : Place) → k.0.creator ≡ at.creator → k.0.slot ≡ at.slot → is_at k at ≡ true
-is_at_own k at creator slot = ap (λ (b : Bool). b && k.0.slot == at.slot) (eq-eqb k.0.creator at.creator creator) ∙ eq-eqb k.0.slot at.slot slot
-
-pub is_at_other : (q : Tid) (at : Place) → (q.0.creator ≡ at.creator → q.0.slot ≡ at.slot → ⊥) → is_at q at ≡ false
-is_at_other q at apart = go (q.0.creator == at.creator) refl (q.0.slot == at.slot) refl
-  where
-    go : (a : Bool) → q.0.creator == at.creator ≡ a → (b : Bool) → q.0.slot == at.slot ≡ b → a && b ≡ false
-    go true e true f = absurd (apart (eqb-true q.0.creator at.creator e) (eqb-true q.0.slot at.slot f))
     go true e false f = refl
     go false e b f = refl
 
@@ -115,53 +104,30 @@ module _ (w : List ℕ) (m n : Memory) (s : State) (owes : ℕ → Owed) (i : �
       o
 
   -- the counts of a task on which the same is owed
-  pub counts_same : (k : Tid) (a b : Rec) (t : Task) → b (number TaskChildren) 0 ≡ a (number TaskChildren) 0 → b (number TaskReferences) 0 ≡ a (number TaskReferences) 0
-      → children_owed s k p ≡ children_owed s k (owes i) → references_owed k p ≡ references_owed k (owes i) → free_owed k p ≡ free_owed k (owes i)
-      → KeepsCounts w s owes k a t → KeepsCounts w s other k b t
-  counts_same k a b t children references children_is references_is free_is o = record {
+  pub counts_same : (k : Tid) (a b : Rec) → b (number TaskChildren) 0 ≡ a (number TaskChildren) 0
+      → children_owed s k p ≡ children_owed s k (owes i)
+      → KeepsCounts w s owes k a → KeepsCounts w s other k b
+  counts_same k a b children children_is o = record {
     children =
         let was = o.children in
         let owed = owed_put_same s owes i p (children_owed s k) children_is in
         omega (arith, was, children, owed);
-    references =
-        let was = o.references in
-        let owed = owed_put_same s owes i p (references_owed k) references_is in
-        omega (arith, was, references, owed);
-    last = λ explicit. owed_put_same s owes i p (free_owed k) free_is ∙ o.last explicit ∙ ap (λ x. one (x == 0)) (sym references);
   }
 
-  -- the record of a task that has other counts
-  pub task_counted : (k : Tid) (a b : Rec) (t : Task) → ((g : Field) (at : ℕ) → number g ≢ number TaskChildren → number g ≢ number TaskReferences → b (number g) at ≡ a (number g) at)
-      → (KeepsCounts w s owes k a t → KeepsCounts w s other k b t) → KeepsTask w s owes k a t → KeepsTask w s other k b t
+  -- the record of a task that counts otherwise
+  pub task_counted : (k : Tid) (a b : Rec) (t : Task) → ((g : Field) (at : ℕ) → number g ≢ number TaskChildren → b (number g) at ≡ a (number g) at)
+      → (KeepsCounts w s owes k a → KeepsCounts w s other k b) → KeepsTask w s owes k a t → KeepsTask w s other k b t
   task_counted k a b t same counts o = record {
-    environment = λ seen. let e = o.environment seen in record {
-      implicit = same TaskImplicit 0 (λ is. omega (arith, is)) (λ is. omega (arith, is)) ∙ e.implicit;
-      region = same TaskRegion 0 (λ is. omega (arith, is)) (λ is. omega (arith, is)) ∙ e.region;
-      generating = same TaskGenerating 0 (λ is. omega (arith, is)) (λ is. omega (arith, is)) ∙ e.generating;
-      function = same TaskFunction 0 (λ is. omega (arith, is)) (λ is. omega (arith, is)) ∙ e.function;
-      dynamic = same TaskDynamic 0 (λ is. omega (arith, is)) (λ is. omega (arith, is)) ∙ e.dynamic;
-      nthreads_length = same TaskNthreadsLength 0 (λ is. omega (arith, is)) (λ is. omega (arith, is)) ∙ e.nthreads_length;
-      schedule = same TaskSchedule 0 (λ is. omega (arith, is)) (λ is. omega (arith, is)) ∙ e.schedule;
-      device = same TaskDevice 0 (λ is. omega (arith, is)) (λ is. omega (arith, is)) ∙ e.device;
-      final = same TaskFinal 0 (λ is. omega (arith, is)) (λ is. omega (arith, is)) ∙ e.final;
-      tool = same TaskTool 0 (λ is. omega (arith, is)) (λ is. omega (arith, is)) ∙ e.tool;
-      nthreads = λ j x is. same TaskNthreads j (λ is. omega (arith, is)) (λ is. omega (arith, is)) ∙ e.nthreads j x is;
-    };
-    place = λ seen. let e = o.place seen in record {
-      thread = same TaskThread 0 (λ is. omega (arith, is)) (λ is. omega (arith, is)) ∙ e.thread;
-      member = same TaskNumber 0 (λ is. omega (arith, is)) (λ is. omega (arith, is)) ∙ e.member;
-      scheduling = same TaskScheduling 0 (λ is. omega (arith, is)) (λ is. omega (arith, is)) ∙ e.scheduling;
-      exit = same TaskExit 0 (λ is. omega (arith, is)) (λ is. omega (arith, is)) ∙ e.exit;
-      enter = same TaskEnter 0 (λ is. omega (arith, is)) (λ is. omega (arith, is)) ∙ e.enter;
-    };
+    environment = λ seen. environment_same w a b t (λ g at holds. same g at (told_apart is_environment (number g) (number TaskChildren) holds refl)) (o.environment seen);
+    place = λ seen. place_same w a b t (λ g at holds. same g at (told_apart is_place (number g) (number TaskChildren) holds refl)) (o.place seen);
     counts = counts o.counts;
     slots = λ implicit at within. slot at (o.slots implicit at within);
   }
     where
       slot : (at : ℕ) → Has a TaskSlots at 0 ⊎ ((j : Tid) × IsDeferredIn s t at j × Has a TaskSlots at (slot_word w j))
           → Has b TaskSlots at 0 ⊎ ((j : Tid) × IsDeferredIn s t at j × Has b TaskSlots at (slot_word w j))
-      slot at (inl none) = inl (same TaskSlots at (λ is. omega (arith, is)) (λ is. omega (arith, is)) ∙ none)
-      slot at (inr (j, x, is)) = inr (j, x, same TaskSlots at (λ is. omega (arith, is)) (λ is. omega (arith, is)) ∙ is)
+      slot at (inl none) = inl (same TaskSlots at (λ is. omega (arith, is)) ∙ none)
+      slot at (inr (j, x, is)) = inr (j, x, same TaskSlots at (λ is. omega (arith, is)) ∙ is)
 
   -- all is kept, where the words of live regions and tasks are right
   pub other_counts : ((c kind j : ℕ) → (kind ≡ regions → ⊥) → (kind ≡ tasks → ⊥) → n c kind j ≡ m c kind j)

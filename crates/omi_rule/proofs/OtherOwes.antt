@@ -9,7 +9,7 @@ use Rattle.omi_model.specs.declared.task.Task.{Task}
 use Rattle.omi_model.specs.State.{State}
 use Rattle.omi_layout.specs.Memory.{Rec}
 use Rattle.omi_rule.specs.Owes.{Owed}
-use Rattle.omi_rule.specs.Counts.{sum_of_owed, pending_owed, left_owed, children_owed, references_owed, free_owed, start_owed, assign_owed, assigns_in, one, is_some_region, is_some_task, is_at_some, generating_of}
+use Rattle.omi_rule.specs.Counts.{sum_of_owed, pending_owed, left_owed, children_owed, start_owed, assign_owed, assigns_in, one, is_some_region, is_some_task, generating_of}
 use Rattle.omi_rule.specs.Objects.{KeepsCounts, KeepsDeferred, KeepsRegion}
 use Rattle.omi_rule.specs.Threads.{KeepsAssign, WaitsFor}
 use Rattle.omi_rule.specs.Words.{KeepsTask, OwesOnLive}
@@ -20,15 +20,11 @@ pub record OwesAlike (p o : Owed) : Type 0 where
   pub pending : p.pending ≡ o.pending
   pub raised : p.raised ≡ o.raised
   pub lowered : p.lowered ≡ o.lowered
-  pub referenced : p.referenced ≡ o.referenced
-  pub own : p.own ≡ o.own
-  pub above : p.above ≡ o.above
-  pub free : p.free ≡ o.free
   pub left : p.left ≡ o.left
   pub hand : p.hand ≡ o.hand
 
 pub owes_alike : (o : Owed) → OwesAlike o o
-owes_alike o = record { pending = refl; raised = refl; lowered = refl; referenced = refl; own = refl; above = refl; free = refl; left = refl; hand = refl }
+owes_alike o = record { pending = refl; raised = refl; lowered = refl; left = refl; hand = refl }
 
 module _ (w : List ℕ) (s : State) (owes other : ℕ → Owed) (alike : (j : ℕ) → OwesAlike (other j) (owes j)) where
   same : (f : Owed → ℕ) → ((j : ℕ) → f (other j) ≡ f (owes j)) → sum_of_owed s other f ≡ sum_of_owed s owes f
@@ -55,31 +51,16 @@ module _ (w : List ℕ) (s : State) (owes other : ℕ → Owed) (alike : (j : �
         omega (arith, was, owed);
   }
 
-  counts_owed : (k : Tid) (r : Rec) (t : Task) → KeepsCounts w s owes k r t → KeepsCounts w s other k r t
-  counts_owed k r t o = record {
+  counts_owed : (k : Tid) (r : Rec) → KeepsCounts w s owes k r → KeepsCounts w s other k r
+  counts_owed k r o = record {
     children =
         let was = o.children in
         let owed = same (children_owed s k) (λ j. ap₂ (λ a b. one (is_some_task k a) + one (is_some_task k (option_and_then (generating_of s) b))) (alike j).raised (alike j).lowered) in
         omega (arith, was, owed);
-    references =
-        let was = o.references in
-        let owed = same (references_owed k) (references k) in
-        omega (arith, was, owed);
-    last = λ explicit.
-        let was = o.last explicit in
-        let owed = same (free_owed k) (λ j. ap (λ q. one (is_some_task k q)) (alike j).free) in
-        owed ∙ was;
   }
-    where
-      references : (k : Tid) (j : ℕ) → references_owed k (other j) ≡ references_owed k (owes j)
-      references k j =
-          let a : one (is_some_task k (other j).referenced) ≡ one (is_some_task k (owes j).referenced) = ap (λ q. one (is_some_task k q)) (alike j).referenced in
-          let b : one (is_some_task k (other j).own) ≡ one (is_some_task k (owes j).own) = ap (λ q. one (is_some_task k q)) (alike j).own in
-          let c : one (is_at_some k (other j).above) ≡ one (is_at_some k (owes j).above) = ap (λ q. one (is_at_some k q)) (alike j).above in
-          omega (arith, a, b, c)
 
   pub task_owed : (k : Tid) (r : Rec) (t : Task) → KeepsTask w s owes k r t → KeepsTask w s other k r t
-  task_owed k r t o = record { environment = o.environment; place = o.place; counts = counts_owed k r t o.counts; slots = o.slots }
+  task_owed k r t o = record { environment = o.environment; place = o.place; counts = counts_owed k r o.counts; slots = o.slots }
 
   pub deferred_owed : (r : ℕ → ℕ → Rec) → KeepsDeferred w r s owes → KeepsDeferred w r s other
   deferred_owed r o = record {
@@ -96,11 +77,7 @@ objects_owed s o p alike assigns x = record {
   pending = λ n is. x.pending n (sym alike.pending ∙ is);
   left = λ n is. x.left n (sym alike.left ∙ is);
   raised = λ k is. x.raised k (sym alike.raised ∙ is);
-  referenced = λ k is. x.referenced k (sym alike.referenced ∙ is);
   lowered = λ k is. x.lowered k (sym alike.lowered ∙ is);
-  own = λ k is. x.own k (sym alike.own ∙ is);
-  free = λ k is. x.free k (sym alike.free ∙ is);
-  above = λ at is. x.above at (sym alike.above ∙ is);
   assigns = assigns;
 }
 

@@ -1,5 +1,5 @@
 -- A state whose regions and tasks go on as what they are, with other words in their records: what has to be shown of these words so that all is kept.
-use Rattle.std.proofs.Common.{◌≡◌, ◌==◌, ◌+◌, ◌<◌, ◌&&◌, ℕ, not, inl, inr, ◌-◌, List, Option, Some, None, refl, sym, ap, subst, ◌∙◌, arith, if◌then◌else◌}
+use Rattle.std.proofs.Common.{◌≡◌, ◌==◌, ◌+◌, ◌<◌, ◌&&◌, ℕ, inl, inr, ◌-◌, List, Option, Some, None, refl, sym, ap, subst, ◌∙◌, arith, if◌then◌else◌}
 use Rattle.std.specs.Prelude.{◌⊎◌}
 use Rattle.std.specs.Option.{option_and_then}
 use Rattle.omi_model.specs.declared.id.Rid.{Rid}
@@ -11,13 +11,13 @@ use Rattle.omi_model.specs.declared.thread.Thread.{Thread}
 use Rattle.omi_model.specs.Put.{Slots}
 use Rattle.omi_model.specs.State.{State}
 use Rattle.omi_model.specs.Visible.{IsVisibleTask}
-use Rattle.omi_layout.specs.declared.field.Field.TheVariants.{RegionLife, TaskChildren, TaskLife, TaskReferences, TaskSlots, ThreadAssign}
+use Rattle.omi_layout.specs.declared.field.Field.TheVariants.{RegionLife, TaskChildren, TaskLife, TaskSlots, ThreadAssign}
 use Rattle.omi_layout.specs.Field.{runtime, threads, regions, tasks}
 use Rattle.omi_layout.specs.Memory.{Rec, Memory}
 use Rattle.omi_layout.specs.Named.{number}
 use Rattle.omi_layout.specs.Table.{per_thread, width}
 use Rattle.omi_rule.specs.Owes.{Owed}
-use Rattle.omi_rule.specs.Counts.{assign_owed, children_owed, free_owed, generating_of, has_region_slot, has_slot, is_region, is_some_task, is_unfinished, left_owed, live_children, of_live, one, pending_owed, references_owed, start_owed, sum_below, sum_of_owed, sum_of_slots, unfinished_children, unfinished_in}
+use Rattle.omi_rule.specs.Counts.{assign_owed, children_owed, generating_of, has_region_slot, has_slot, is_region, is_some_task, is_unfinished, left_owed, of_live, one, pending_owed, start_owed, sum_below, sum_of_owed, sum_of_slots, unfinished_children, unfinished_in}
 use Rattle.omi_rule.specs.Threads.{Has, IsAssignedOnce, KeepsAssign, KeepsRuntime, KeepsThread, WaitsFor}
 use Rattle.omi_rule.specs.Objects.{IsDeferredIn, KeepsCounts, KeepsDeferred, KeepsEnvironment, KeepsPlace, KeepsRegion, KeepsSlots, slot_word, slots_with}
 use Rattle.omi_rule.specs.Words.{KeepsMade, KeepsTask, KeepsWords, region_in, task_in}
@@ -90,21 +90,14 @@ module _ (w : List ℕ) (s u : State) (owes : ℕ → Owed) (count : u.count ≡
         omega (arith, was, owed);
   }
 
-  counts_kept : (k : Tid) (r : Rec) (t : Task) → KeepsCounts w s owes k r t → KeepsCounts w u owes k r t
-  counts_kept k r t o = record {
+  counts_kept : (k : Tid) (r : Rec) → KeepsCounts w s owes k r → KeepsCounts w u owes k r
+  counts_kept k r o = record {
     children =
         let was = o.children in
         let same : unfinished_children w u k ≡ unfinished_children w s k
         = tasks_counted (λ c j x. one (is_unfinished x && is_some_task k x.generating)) (λ c j x v alike. parts_same (λ i p q g. one (is_unfinished (record v { implicit = i; progress = p }) && is_some_task k g)) x v alike) in
         let owed : sum_of_owed u owes (children_owed u k) ≡ sum_of_owed s owes (children_owed s k) = owed_counted (children_owed u k) (children_owed s k) (λ o. of_lowered o.raised o.lowered) in
         omega (arith, was, same, owed);
-    references =
-        let was = o.references in
-        let same : live_children w u k ≡ live_children w s k
-        = tasks_counted (λ c j x. one (not x.implicit && is_some_task k x.generating)) (λ c j x v alike. parts_same (λ i p q g. one (not i && is_some_task k g)) x v alike) in
-        let owed : sum_of_owed u owes (references_owed k) ≡ sum_of_owed s owes (references_owed k) = owed_counted (references_owed k) (references_owed k) (λ o. refl) in
-        omega (arith, was, same, owed);
-    last = λ explicit. owed_counted (free_owed k) (free_owed k) (λ o. refl) ∙ o.last explicit;
   }
     where
       of_lowered : (raised lowered : Option Tid) → one (is_some_task k raised) + one (is_some_task k (option_and_then (generating_of u) lowered)) ≡ one (is_some_task k raised) + one (is_some_task k (option_and_then (generating_of s) lowered))
@@ -123,7 +116,7 @@ module _ (w : List ℕ) (s u : State) (owes : ℕ → Owed) (count : u.count ≡
   task_kept k r t o = record {
     environment = λ seen. o.environment (go seen);
     place = λ seen. o.place (task_seen u s regions_back tasks_back k seen);
-    counts = counts_kept k r t o.counts;
+    counts = counts_kept k r o.counts;
     slots = λ implicit. slots_kept r t (o.slots implicit);
   }
     where
@@ -202,18 +195,13 @@ runtime_kept w r s hs rs ts o = record { version = o.version; threads = o.thread
 
 -- a task that is another, and whose record has other words than its counts and slots
 pub task_rewritten : (w : List ℕ) (s : State) (owes : ℕ → Owed) (k : Tid) (r q : Rec) (t u : Task) → IsSameTask t u
-    → q (number TaskChildren) 0 ≡ r (number TaskChildren) 0 → q (number TaskReferences) 0 ≡ r (number TaskReferences) 0 → ((place : ℕ) → q (number TaskSlots) place ≡ r (number TaskSlots) place)
+    → q (number TaskChildren) 0 ≡ r (number TaskChildren) 0 → ((place : ℕ) → q (number TaskSlots) place ≡ r (number TaskSlots) place)
     → (KeepsEnvironment w r t → KeepsEnvironment w q u) → (KeepsPlace w r t → KeepsPlace w q u) → KeepsTask w s owes k r t → KeepsTask w s owes k q u
-task_rewritten w s owes k r q t u same children references slots environment place o = record {
+task_rewritten w s owes k r q t u same children slots environment place o = record {
   environment = λ seen. environment (o.environment (go seen));
   place = λ seen. place (o.place seen);
   counts = record {
     children = children ∙ o.counts.children;
-    references =
-        let was = o.counts.references in
-        let unfinished : one (is_unfinished u) ≡ one (is_unfinished t) = parts_same (λ i p n g. one (is_unfinished (record u { implicit = i; progress = p }))) t u same in
-        omega (arith, was, references, unfinished);
-    last = λ explicit. o.counts.last (sym same.implicit ∙ explicit) ∙ ap (λ x. one (x == 0)) (sym references);
   };
   slots = λ implicit at within. slot at (o.slots (sym same.implicit ∙ implicit) at within);
 }

@@ -7,13 +7,13 @@ use Rattle.omi_model.specs.declared.id.Rid.{Rid}
 use Rattle.omi_model.specs.declared.id.Tid.{Tid}
 use Rattle.omi_model.specs.declared.region.Region.{Region}
 use Rattle.omi_model.specs.State.{State, region_of}
-use Rattle.omi_layout.specs.declared.field.Field.TheVariants.{RegionLife, RegionPending, TaskChildren, TaskLife, TaskReferences, TaskSlots}
+use Rattle.omi_layout.specs.declared.field.Field.TheVariants.{RegionLife, RegionPending, TaskChildren, TaskLife, TaskSlots}
 use Rattle.omi_layout.specs.Field.{regions, tasks}
 use Rattle.omi_layout.specs.Memory.{Memory, Rec, put}
 use Rattle.omi_layout.specs.Named.{number}
 use Rattle.omi_layout.proofs.Puts.{record_stays, word_read, word_stays}
 use Rattle.omi_rule.specs.Owes.{Owed}
-use Rattle.omi_rule.specs.Counts.{children_owed, free_owed, is_some_region, one, pending_owed, references_owed, sum_of_owed}
+use Rattle.omi_rule.specs.Counts.{children_owed, is_some_region, one, pending_owed, sum_of_owed}
 use Rattle.omi_rule.specs.Objects.{KeepsRegion}
 use Rattle.omi_rule.specs.Words.{KeepsWords, OwesOnLive, region_in, task_in}
 use Rattle.omi_rule.specs.BarrierKinds.{one_more, with_region_word, word_of_region}
@@ -30,12 +30,12 @@ module _ (w : List ℕ) (m : Memory) (s : State) (owes : ℕ → Owed) (i : ℕ)
 
   -- the word is right where as much is added to it as is owed more, and no less is owed on other regions
   pub pending_stored : (region : Region) → region_of s n ≡ Some region
-      → ((k : Tid) → children_owed s k p ≡ children_owed s k (owes i)) → ((k : Tid) → references_owed k p ≡ references_owed k (owes i)) → ((k : Tid) → free_owed k p ≡ free_owed k (owes i))
+      → ((k : Tid) → children_owed s k p ≡ children_owed s k (owes i))
       → ((q : Rid) → (q.0.creator ≡ n.0.creator → q.0.slot ≡ n.0.slot → ⊥) → pending_owed q p ≡ pending_owed q (owes i))
       → (pending_owed n (owes i) ≤ word_of_region m n RegionPending → word + pending_owed n (owes i) ≡ word_of_region m n RegionPending + pending_owed n p)
       → (OwesOnLive s (owes i) → OwesOnLive s p)
       → KeepsWords w after s (put owes i p)
-  pending_stored region live children references free beside here objects =
+  pending_stored region live children beside here objects =
       other_counts w m after s owes i p keeps alike (λ c kind j ne _. stays c kind j ne)
       (λ c j. word_stays m n.0.creator regions n.0.slot (number RegionPending) 0 word c regions j (number RegionLife) 0 (λ _ _ _ is _. absurd (omega (arith, is))))
       (λ c j. ap (λ (r : Rec). r (number TaskLife) 0) (stays c tasks j (λ kind. absurd (omega (arith, kind)))))
@@ -44,9 +44,9 @@ module _ (w : List ℕ) (m : Memory) (s : State) (owes : ℕ → Owed) (i : ℕ)
       (λ c j within _ x there o. in_record c j x o (cases_eq c n.0.creator) (cases_eq j n.0.slot))
       (λ c j within _ t there o.
       let same = stays c tasks j (λ kind. absurd (omega (arith, kind))) in
-      task_counted w m after s owes i p keeps alike (task_in c j (s.tasks c j)) (m c tasks j) (after c tasks j) t (λ g at _ _. ap (λ (r : Rec). r (number g) at) same)
-      (counts_same w m after s owes i p keeps alike (task_in c j (s.tasks c j)) (m c tasks j) (after c tasks j) t (ap (λ (r : Rec). r (number TaskChildren) 0) same) (ap (λ (r : Rec). r (number TaskReferences) 0) same)
-      (children (task_in c j (s.tasks c j))) (references (task_in c j (s.tasks c j))) (free (task_in c j (s.tasks c j)))) o)
+      task_counted w m after s owes i p keeps alike (task_in c j (s.tasks c j)) (m c tasks j) (after c tasks j) t (λ g at _. ap (λ (r : Rec). r (number g) at) same)
+      (counts_same w m after s owes i p keeps alike (task_in c j (s.tasks c j)) (m c tasks j) (after c tasks j) (ap (λ (r : Rec). r (number TaskChildren) 0) same)
+      (children (task_in c j (s.tasks c j)))) o)
     where
       name_is : region_in n.0.creator n.0.slot (s.regions n.0.creator n.0.slot) ≡ n
       name_is = ap (λ (q : Id). record { 0 = q }) (name_of_slot s.regions n.0 region live)
@@ -97,7 +97,7 @@ pending_adds_keep = λ w m s owes i n keeps known none live small. kept w m s ow
     kept w m s owes i n keeps known none live small =
         let (region, is) = live_of (region_of s n) live in
         pending_stored w m s owes i p n (one_more (word_of_region m n RegionPending)) keeps known (record { region = refl; tasks = refl; left = refl; assigns = refl; met = refl; hand = refl })
-        region is (λ k. refl) (λ k. refl) (λ k. refl)
+        region is (λ k. refl)
         (λ q apart.
         let unowed : pending_owed q (owes i) ≡ 0 = ap (λ (o : Option Rid). one (is_some_region q o)) none in
         ap one (is_other_id q.0 n.0 apart) ∙ sym unowed)
@@ -109,11 +109,7 @@ pending_adds_keep = λ w m s owes i n keeps known none live small. kept w m s ow
           pending = λ q same. let name : n ≡ q = cc in subst (λ (r : Rid). IsSome (region_of s r)) name live;
           left = x.left;
           raised = x.raised;
-          referenced = x.referenced;
           lowered = x.lowered;
-          own = x.own;
-          free = x.free;
-          above = x.above;
           assigns = x.assigns;
         })
       where
@@ -128,7 +124,7 @@ pending_subtracts_keep = λ w m s owes i n keeps known owed small. kept w m s ow
     kept w m s owes i n keeps known owed small =
         let (region, is) = live_of (region_of s n) ((keeps.made i known).objects.pending n owed) in
         pending_stored w m s owes i p n (one_less (word_of_region m n RegionPending)) keeps known (record { region = refl; tasks = refl; left = refl; assigns = refl; met = refl; hand = refl })
-        region is (λ k. refl) (λ k. refl) (λ k. refl)
+        region is (λ k. refl)
         (λ q apart. sym (ap (λ (o : Option Rid). one (is_some_region q o)) owed ∙ ap one (is_other_id q.0 n.0 apart)))
         (λ least.
         let before : pending_owed n (owes i) ≡ 1 = ap (λ (o : Option Rid). one (is_some_region n o)) owed ∙ ap one (is_own_id n.0) in
@@ -138,11 +134,7 @@ pending_subtracts_keep = λ w m s owes i n keeps known owed small. kept w m s ow
           pending = λ q same. absurd (cc);
           left = x.left;
           raised = x.raised;
-          referenced = x.referenced;
           lowered = x.lowered;
-          own = x.own;
-          free = x.free;
-          above = x.above;
           assigns = x.assigns;
         })
       where

@@ -26,7 +26,7 @@ use Rattle.omi_layout.specs.Table.{per_thread, width}
 use Rattle.omi_layout.specs.Codes.{function_word}
 use Rattle.omi_rep.specs.Records.{region_word, task_word}
 use Rattle.omi_rule.specs.Owes.{Owed}
-use Rattle.omi_rule.specs.Counts.{children_owed, ended_members, free_owed, generating_of, has_region_slot, has_slot, is_at_some, is_finished, is_region, is_some_region, is_some_task, is_unfinished, left_owed, live_children, of_live, one, pending_owed, references_owed, start_owed, sum_below, sum_of_owed, sum_of_slots, unfinished_children, unfinished_in}
+use Rattle.omi_rule.specs.Counts.{children_owed, ended_members, generating_of, has_region_slot, has_slot, is_finished, is_region, is_some_region, is_some_task, is_unfinished, left_owed, of_live, one, pending_owed, start_owed, sum_below, sum_of_owed, sum_of_slots, unfinished_children, unfinished_in}
 use Rattle.omi_rule.specs.Threads.{Has, KeepsAssign, KeepsRuntime, KeepsThread, WaitsFor}
 use Rattle.omi_rule.specs.Objects.{IsDeferredIn, KeepsCounts, KeepsDeferred, KeepsEnvironment, KeepsLife, KeepsPlace, KeepsRegion, KeepsSlots, slot_word, slots_with}
 use Rattle.omi_rule.specs.Words.{AreApart, HasFinished, IsInTheMaking, KeepsMaking, KeepsRegionSlot, KeepsTask, KeepsTaskSlot, KeepsWords, OwesOnLive, region_in, task_in}
@@ -61,12 +61,6 @@ module _ {A : Type 0} (R : A → A → Type 0) where
   none_after (Some u) q r is = absurd (cc)
   none_after None (Some z) r is = absurd r
   none_after None None r is = refl
-
-  some_live : (p q : Option A) → Becomes R p q → IsSome p → IsSome q
-  some_live (Some u) (Some z) r is = refl
-  some_live (Some u) None r is = absurd r
-  some_live None (Some z) r is = absurd r
-  some_live None None r is = is
 
   -- what is found of a generation
   found_before : (g : ℕ) (x y : Slot A) → SlotBecomes R x y → (v : A) → found g y ≡ Some v → (u : A) × (found g x ≡ Some u) × R u v
@@ -205,14 +199,10 @@ pub record OwesSame (p o : Owed) : Type 0 where
   pub pending : p.pending ≡ o.pending
   pub raised : p.raised ≡ o.raised
   pub lowered : p.lowered ≡ o.lowered
-  pub referenced : p.referenced ≡ o.referenced
-  pub own : p.own ≡ o.own
-  pub above : p.above ≡ o.above
-  pub free : p.free ≡ o.free
   pub hand : p.hand ≡ o.hand
 
 pub owes_same : (o : Owed) → OwesSame o o
-owes_same o = record { region = refl; tasks = refl; pending = refl; raised = refl; lowered = refl; referenced = refl; own = refl; above = refl; free = refl; hand = refl }
+owes_same o = record { region = refl; tasks = refl; pending = refl; raised = refl; lowered = refl; hand = refl }
 
 module _ (w : List ℕ) (m n : Memory) (s : State) (rs : Slots Region) (ts : Slots Task) (owes other : ℕ → Owed) (keeps : KeepsWords w m s owes)
     (region_slots : (c k : ℕ) → SlotBecomes RegionRenews (s.regions c k) (rs c k)) (task_slots : (c k : ℕ) → SlotBecomes TaskRenews (s.tasks c k) (ts c k))
@@ -339,8 +329,8 @@ module _ (w : List ℕ) (m n : Memory) (s : State) (rs : Slots Region) (ts : Slo
           free = λ none free. word ∙ l.free none free;
         }
 
-  counts_kept : (k : Tid) (r : Rec) (t u : Task) → TaskRenews t u → KeepsCounts w s owes k r t → KeepsCounts w after other k r u
-  counts_kept k r t u related o = record {
+  counts_kept : (k : Tid) (r : Rec) → KeepsCounts w s owes k r → KeepsCounts w after other k r
+  counts_kept k r o = record {
     children =
         let was = o.children in
         let same : unfinished_children w after k ≡ unfinished_children w s k
@@ -348,29 +338,11 @@ module _ (w : List ℕ) (m n : Memory) (s : State) (rs : Slots Region) (ts : Slo
         let owed = owed_same (children_owed after k) (children_owed s k) (λ j. ap₂ (λ a b. one (is_some_task k a) + one (is_some_task k (option_and_then (generating_of after) b))) (alike j).raised (alike j).lowered
         ∙ of_lowered (owes j).raised (owes j).lowered) in
         omega (arith, was, same, owed);
-    references =
-        let was = o.references in
-        let same : live_children w after k ≡ live_children w s k
-        = tasks_counted (λ c j x. one (not x.implicit && is_some_task k x.generating)) (λ c j x y a. ap (λ (z : Task). one (not z.implicit && is_some_task k z.generating)) a.is) in
-        let owed = owed_same (references_owed k) (references_owed k) references in
-        let own : one (is_unfinished u) ≡ one (is_unfinished t) = ap one (unfinished_same t u related) in
-        omega (arith, was, same, owed, own);
-    last = λ explicit.
-        let was = o.last (sym (ap (λ (z : Task). z.implicit) related.is) ∙ explicit) in
-        let owed = owed_same (free_owed k) (free_owed k) (λ j. ap (λ q. one (is_some_task k q)) (alike j).free) in
-        owed ∙ was;
   }
     where
       of_lowered : (raised lowered : Option Tid) → one (is_some_task k raised) + one (is_some_task k (option_and_then (generating_of after) lowered)) ≡ one (is_some_task k raised) + one (is_some_task k (option_and_then (generating_of s) lowered))
       of_lowered raised None = refl
       of_lowered raised (Some q) = ap (λ g. one (is_some_task k raised) + one (is_some_task k g)) (generating_same q)
-
-      references : (j : ℕ) → references_owed k (other j) ≡ references_owed k (owes j)
-      references j =
-          let a : one (is_some_task k (other j).referenced) ≡ one (is_some_task k (owes j).referenced) = ap (λ q. one (is_some_task k q)) (alike j).referenced in
-          let b : one (is_some_task k (other j).own) ≡ one (is_some_task k (owes j).own) = ap (λ q. one (is_some_task k q)) (alike j).own in
-          let c : one (is_at_some k (other j).above) ≡ one (is_at_some k (owes j).above) = ap (λ q. one (is_at_some k q)) (alike j).above in
-          omega (arith, a, b, c)
 
   deferred_in : (t u : Task) → TaskRenews t u → (place : ℕ) (k : Tid) → IsDeferredIn s t place k → IsDeferredIn after u place k
   deferred_in t u r place k x =
@@ -398,7 +370,7 @@ module _ (w : List ℕ) (m n : Memory) (s : State) (rs : Slots Region) (ts : Slo
         (let e = o.environment (go seen) in record { implicit = e.implicit; region = e.region; generating = e.generating; function = e.function; dynamic = e.dynamic; nthreads_length = e.nthreads_length; schedule = e.schedule; device = e.device; final = e.final; tool = e.tool; nthreads = e.nthreads });
     place = λ seen. subst (λ (x : Task). KeepsPlace w r x) (sym related.is)
         (let e = o.place (task_seen k seen) in record { thread = e.thread; member = e.member; scheduling = e.scheduling; exit = e.exit; enter = e.enter });
-    counts = counts_kept k r t u related o.counts;
+    counts = counts_kept k r o.counts;
     slots = λ implicit. slots_kept r t u related (o.slots (sym (ap (λ (z : Task). z.implicit) related.is) ∙ implicit));
   }
     where
@@ -433,13 +405,9 @@ module _ (w : List ℕ) (m n : Memory) (s : State) (rs : Slots Region) (ts : Slo
     pending = λ r is. some_region_after r (x.pending r (sym (alike j).pending ∙ is));
     left = left;
     raised = λ k is. some_task_after k (x.raised k (sym (alike j).raised ∙ is));
-    referenced = λ k is. some_task_after k (x.referenced k (sym (alike j).referenced ∙ is));
     lowered = λ k is.
         let (finished, live) = x.lowered k (sym (alike j).lowered ∙ is) in
         (finished_after k finished, subst (λ (g : Option Tid). IsSome (option_and_then (task_of after) g)) (sym (generating_same k)) (parent (generating_of s k) live));
-    own = λ k is. finished_after k (x.own k (sym (alike j).own ∙ is));
-    free = λ k is. finished_after k (x.free k (sym (alike j).free ∙ is));
-    above = λ at is. some_live TaskRenews (s.tasks at.creator at.slot).live (ts at.creator at.slot).live (task_slots at.creator at.slot).live (x.above at (sym (alike j).above ∙ is));
     assigns = assigns;
   }
     where

@@ -1,6 +1,6 @@
 -- Sums of which each part is 0.
 use Rattle.std.proofs.lemmas.Bool.Decides.{nat_tests}
-use Rattle.std.proofs.Common.{◌≢◌, ◌+◌, ◌==◌, ◌<◌, ◌≤◌, Bool, true, false, eqb-true, sym, ◌≡◌, ℕ, zero, suc, List, refl, ap, ◌∙◌, arith}
+use Rattle.std.proofs.Common.{◌≢◌, ◌+◌, ◌==◌, ◌<◌, ◌≤◌, Bool, true, false, eqb-true, eq-eqb, ne_eqb, if◌then◌else◌, sym, ◌≡◌, ℕ, zero, suc, List, refl, ap, ◌∙◌, arith}
 use Rattle.omi_model.specs.State.{State}
 use Rattle.omi_model.specs.declared.task.Task.{Task}
 use Rattle.omi_layout.specs.Field.{tasks}
@@ -73,6 +73,16 @@ part_below (suc n) i f within = go (λ before. part_below n i f before) (i == n)
         let ne : i ≡ n → ⊥ = λ is. grind (arith, nat_tests) in
         let before = front (omega (arith, within, ne)) in
         omega (arith, before)
+
+-- and two parts are together
+pub parts_below : (n i j : ℕ) (f : ℕ → ℕ) → i < n → j < n → j ≢ i → f i + f j ≤ sum_below n f
+parts_below n i j f first second apart =
+    let rest : ℕ → ℕ = λ k. if k == i then 0 else f k in
+    let none : rest i ≡ 0 = ap (λ b. if b then 0 else f i) (eq-eqb i i refl) in
+    let there : rest j ≡ f j = ap (λ b. if b then 0 else f j) (ne_eqb j i apart) in
+    let change = sum_changed n i f rest first (λ k ne. ap (λ b. if b then 0 else f k) (ne_eqb k i ne)) in
+    let part = part_below n j rest second in
+    omega (arith, none, there, change, part)
 
 -- the same, where the parts are known below the bound alone
 pub sum_same_within : (n : ℕ) (f g : ℕ → ℕ) → ((i : ℕ) → i < n → f i ≡ g i) → sum_below n f ≡ sum_below n g

@@ -190,7 +190,7 @@ module _ (w : List ℕ) (m : Memory) (s : State) (owes : ℕ → Owed) (i : ℕ)
   alike_all j = each_put (λ c (x : Owed). OwesSame x (owes c)) owes i given (subst (λ (o : Owed). OwesSame given o) (sym owed) own) j (λ _. owes_same (owes j))
     where
       own : OwesSame given nothing
-      own = record { region = refl; tasks = refl; pending = refl; raised = refl; lowered = refl; referenced = refl; own = refl; above = refl; free = refl; hand = refl }
+      own = record { region = refl; tasks = refl; pending = refl; raised = refl; lowered = refl; hand = refl }
 
   same_assigns : (j : ℕ) → (given_all j).assigns ≡ (owes j).assigns
   same_assigns j = each_put (λ c (x : Owed). x.assigns ≡ (owes c).assigns) owes i given (sym (ap (λ (o : Owed). o.assigns) owed)) j (λ _. refl)

@@ -58,7 +58,7 @@ module _ (w : List ℕ) (m : Memory) (s : State) (owes : ℕ → Owed) (i : ℕ)
   stays c kind k ne = record_stays m i tasks slot (number TaskLife) 0 (2 * n.0.generation + 1) c kind k (λ _ same _. ne same)
 
   alike : (j : ℕ) → OwesAlike (other j) (owes j)
-  alike j = each_put (λ k (x : Owed). OwesAlike x (owes k)) owes i p (record { pending = refl; raised = refl; lowered = refl; referenced = refl; own = refl; above = refl; free = refl; left = refl; hand = refl }) j (λ _. owes_alike (owes j))
+  alike j = each_put (λ k (x : Owed). OwesAlike x (owes k)) owes i p (record { pending = refl; raised = refl; lowered = refl; left = refl; hand = refl }) j (λ _. owes_alike (owes j))
 
   assigns : (j : ℕ) → (other j).assigns ≡ (owes j).assigns
   assigns j = each_put (λ k (x : Owed). x.assigns ≡ (owes k).assigns) owes i p refl j (λ _. refl)

@@ -1,18 +1,15 @@
 -- Kinds of steps on what is counted of explicit tasks: before its event a thread raises the words for a task in the making, and after it the thread lowers those for one that has finished.
-use Rattle.std.specs.Prelude.{◌≡◌, ◌==◌, ◌&&◌, ℕ, ◌+◌, ◌-◌, ◌%◌, ◌^◌, ◌<◌, false, not, List, Some, None, IsSome, if◌then◌else◌}
+use Rattle.std.specs.Prelude.{◌≡◌, ℕ, ◌+◌, ◌-◌, ◌%◌, ◌^◌, ◌<◌, List, Some, None, IsSome}
 use Rattle.omi_model.specs.declared.id.Rid.{Rid}
 use Rattle.omi_model.specs.declared.id.Tid.{Tid}
-use Rattle.omi_model.specs.declared.task.Task.{Task}
 use Rattle.omi_model.specs.State.{State, region_of, task_of}
 use Rattle.omi_layout.specs.declared.field.Field.{Field}
-use Rattle.omi_layout.specs.declared.field.Field.TheVariants.{RegionPending, TaskChildren, TaskReferences}
+use Rattle.omi_layout.specs.declared.field.Field.TheVariants.{RegionPending, TaskChildren}
 use Rattle.omi_layout.specs.Field.{tasks}
 use Rattle.omi_layout.specs.Memory.{Memory, put, with_word}
 use Rattle.omi_layout.specs.Named.{number}
-use Rattle.omi_layout.specs.Table.{per_thread}
-use Rattle.omi_pc.specs.declared.place.Place.{Place}
 use Rattle.omi_rule.specs.Owes.{Owed}
-use Rattle.omi_rule.specs.Counts.{generating_of, is_finished}
+use Rattle.omi_rule.specs.Counts.{generating_of}
 use Rattle.omi_rule.specs.Words.{KeepsWords}
 use Rattle.omi_rule.specs.BarrierKinds.{one_more, word_of_region, with_region_word}
 
@@ -46,15 +43,6 @@ ChildrenAddsKeep = (w : List ℕ) (m : Memory) (s : State) (owes : ℕ → Owed)
     → KeepsWords w (with_task_word m k TaskChildren (one_more (word_of_task m k TaskChildren))) s
     (put owes i (record (owes i) { raised = Some k }))
 
--- 1 is added to the word for references to a task that has not finished
-abbrev pub ReferencesAddsKeep : Type 0
-ReferencesAddsKeep = (w : List ℕ) (m : Memory) (s : State) (owes : ℕ → Owed) (i : ℕ) (k : Tid)
-    (t : Task) → KeepsWords w m s owes → i < s.count → (owes i).referenced ≡ None
-    → task_of s k ≡ Some t → is_finished t.progress ≡ false
-    → word_of_task m k TaskReferences < 2 ^ 57
-    → KeepsWords w (with_task_word m k TaskReferences (one_more (word_of_task m k TaskReferences))) s
-    (put owes i (record (owes i) { referenced = Some k }))
-
 -- ---- what is lowered for a task that has finished
 
 -- 1 is subtracted from the generating task's word for unfinished explicit children
@@ -64,32 +52,6 @@ ChildrenSubtractsKeep = (w : List ℕ) (m : Memory) (s : State) (owes : ℕ → 
     → generating_of s k ≡ Some g → word_of_task m g TaskChildren < 2 ^ 64
     → KeepsWords w (with_task_word m g TaskChildren (one_less (word_of_task m g TaskChildren))) s
     (put owes i (record (owes i) { lowered = None }))
-
--- The task's own reference is lowered. Where it was the last one, the thread owes the record's return
-abbrev pub OwnSubtractsKeep : Type 0
-OwnSubtractsKeep = (w : List ℕ) (m : Memory) (s : State) (owes : ℕ → Owed) (i : ℕ) (k : Tid)
-    → KeepsWords w m s owes → i < s.count → (owes i).own ≡ Some k → (owes i).free ≡ None
-    → word_of_task m k TaskReferences < 2 ^ 64
-    → KeepsWords w (with_task_word m k TaskReferences (one_less (word_of_task m k TaskReferences))) s
-    (put owes i (record (owes i) {
-      own = None;
-      free = if word_of_task m k TaskReferences == 1 then Some k else None;
-    }))
-
--- The reference of a child whose record was given back is lowered, in the record of the task that made it. Where it was the last
--- one and this task is explicit, the thread owes the return of its record
-abbrev pub AboveSubtractsKeep : Type 0
-AboveSubtractsKeep = (w : List ℕ) (m : Memory) (s : State) (owes : ℕ → Owed) (i : ℕ) (at : Place)
-    (k : Tid) (t : Task) → KeepsWords w m s owes → i < s.count → (owes i).above ≡ Some at
-    → (owes i).free ≡ None → k.0.creator ≡ at.creator → k.0.slot ≡ at.slot
-    → k.0.creator < s.count → k.0.slot < per_thread w tasks → task_of s k ≡ Some t
-    → word_of_task m k TaskReferences < 2 ^ 64
-    → KeepsWords w (with_task_word m k TaskReferences (one_less (word_of_task m k TaskReferences))) s
-    (put owes i (record (owes i) {
-      above = None;
-      free =
-          if word_of_task m k TaskReferences == 1 && not t.implicit then Some k else None;
-    }))
 
 -- 1 is subtracted from a region's word for unfinished explicit tasks
 abbrev pub PendingSubtractsKeep : Type 0

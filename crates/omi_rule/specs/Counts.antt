@@ -11,7 +11,6 @@ use Rattle.omi_model.specs.declared.task.Task.{Task}
 use Rattle.omi_model.specs.State.{State, task_of}
 use Rattle.omi_layout.specs.Field.{tasks}
 use Rattle.omi_layout.specs.Table.{per_thread}
-use Rattle.omi_pc.specs.declared.place.Place.{Place}
 use Rattle.omi_rule.specs.Owes.{Owed}
 
 -- ---- sums
@@ -61,13 +60,6 @@ is_some_task k t = option_map_or (is_task k) t false
 abbrev pub is_some_region : Rid → Option Rid → Bool
 is_some_region n r = option_map_or (is_region n) r false
 
--- a task has the record at a place
-abbrev pub is_at : Tid → Place → Bool
-is_at k at = k.0.creator == at.creator && k.0.slot == at.slot
-
-abbrev pub is_at_some : Tid → Option Place → Bool
-is_at_some k at = option_map_or (is_at k) at false
-
 -- one of these tasks has this slot of the thread that made it, and so of a region that there may be
 abbrev pub has_slot : ℕ → List Tid → Bool
 has_slot slot [] = false
@@ -88,16 +80,13 @@ is_finished Finished = true
 abbrev pub is_unfinished : Task → Bool
 is_unfinished t = not t.implicit && not (is_finished t.progress)
 
--- the unfinished explicit tasks of a region, and the unfinished and all live explicit children of a task
+-- the unfinished explicit tasks of a region, and the unfinished explicit children of a task
 abbrev pub unfinished_in : List ℕ → State → Rid → ℕ
 unfinished_in w s n = sum_of_tasks w s (λ t. one (is_unfinished t && is_region n t.region))
 
 abbrev pub unfinished_children : List ℕ → State → Tid → ℕ
 unfinished_children w s k =
     sum_of_tasks w s (λ t. one (is_unfinished t && is_some_task k t.generating))
-
-abbrev pub live_children : List ℕ → State → Tid → ℕ
-live_children w s k = sum_of_tasks w s (λ t. one (not t.implicit && is_some_task k t.generating))
 
 -- ---- members
 
@@ -129,15 +118,6 @@ abbrev pub children_owed : State → Tid → Owed → ℕ
 children_owed s k o =
     one (is_some_task k o.raised)
     + one (is_some_task k (option_and_then (generating_of s) o.lowered))
-
--- on the word of a task for the references to it
-abbrev pub references_owed : Tid → Owed → ℕ
-references_owed k o =
-    one (is_some_task k o.referenced) + one (is_some_task k o.own) + one (is_at_some k o.above)
-
--- to give back the record of a task
-abbrev pub free_owed : Tid → Owed → ℕ
-free_owed k o = one (is_some_task k o.free)
 
 -- to store a task into the assign word of a thread
 abbrev pub assigns_in : ℕ → Tid → List (Tid × ℕ) → ℕ

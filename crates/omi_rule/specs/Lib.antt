@@ -12,3 +12,4 @@ pub mod TaskKinds
 pub mod BarrierKinds
 pub mod TeamKinds
 pub mod CountKinds
+pub mod ExplicitKinds

@@ -9,7 +9,7 @@ use Rattle.omi_model.specs.declared.task.Task.{Task}
 use Rattle.omi_model.specs.Numbers.{flag}
 use Rattle.omi_model.specs.State.{State, task_of}
 use Rattle.omi_layout.specs.declared.field.Field.{Field}
-use Rattle.omi_layout.specs.declared.field.Field.TheVariants.{RegionFunction, RegionEnclosing, RegionEncountering, RegionSize, RegionLevels, RegionActive, RegionReleased, RegionArrived, RegionPending, RegionLeft, RegionTeam, TaskImplicit, TaskRegion, TaskThread, TaskNumber, TaskGenerating, TaskScheduling, TaskFunction, TaskExit, TaskEnter, TaskDynamic, TaskNthreadsLength, TaskSchedule, TaskDevice, TaskFinal, TaskTool, TaskChildren, TaskReferences, TaskNthreads, TaskSlots}
+use Rattle.omi_layout.specs.declared.field.Field.TheVariants.{RegionFunction, RegionEnclosing, RegionEncountering, RegionSize, RegionLevels, RegionActive, RegionReleased, RegionArrived, RegionPending, RegionLeft, RegionTeam, TaskImplicit, TaskRegion, TaskThread, TaskNumber, TaskGenerating, TaskScheduling, TaskFunction, TaskExit, TaskEnter, TaskDynamic, TaskNthreadsLength, TaskSchedule, TaskDevice, TaskFinal, TaskTool, TaskChildren, TaskNthreads, TaskSlots}
 use Rattle.omi_layout.specs.Codes.{function_word, schedule_word}
 use Rattle.omi_layout.specs.Field.{tasks}
 use Rattle.omi_layout.specs.Memory.{Rec}
@@ -18,7 +18,7 @@ use Rattle.omi_layout.specs.Place.{index_of}
 use Rattle.omi_layout.specs.Table.{width}
 use Rattle.omi_rep.specs.Records.{thread_address, region_address, task_address, region_word, task_word}
 use Rattle.omi_rule.specs.Owes.{Owed}
-use Rattle.omi_rule.specs.Counts.{sum_below, sum_of_owed, sum_of_slots, one, is_unfinished, unfinished_in, unfinished_children, live_children, ended_members, pending_owed, left_owed, children_owed, references_owed, free_owed, start_owed}
+use Rattle.omi_rule.specs.Counts.{sum_below, sum_of_owed, sum_of_slots, one, unfinished_in, unfinished_children, ended_members, pending_owed, left_owed, children_owed, start_owed}
 use Rattle.omi_rule.specs.Threads.{Has}
 
 -- ---- life words
@@ -72,16 +72,10 @@ pub record KeepsPlace (w : List ℕ) (r : Rec) (t : Task) : Type 0 where
   pub exit : Has r TaskExit 0 t.exit
   pub enter : Has r TaskEnter 0 t.enter
 
--- the counts of a live task. An explicit one has a reference of its own until its thread has lowered it, and where no reference
--- is left exactly one thread gives its record back
-pub record KeepsCounts (w : List ℕ) (s : State) (owes : ℕ → Owed) (k : Tid) (r : Rec) (t : Task)
-    : Type 0 where
+-- the count of a live task. As long as records are not given back, the word for references counts nothing
+pub record KeepsCounts (w : List ℕ) (s : State) (owes : ℕ → Owed) (k : Tid) (r : Rec) : Type 0 where
   pub children : Has r TaskChildren 0
       (unfinished_children w s k + sum_of_owed s owes (children_owed s k))
-  pub references : Has r TaskReferences 0
-      (live_children w s k + sum_of_owed s owes (references_owed k) + one (is_unfinished t))
-  pub last : t.implicit ≡ false
-      → sum_of_owed s owes (free_owed k) ≡ one (r (number TaskReferences) 0 == 0)
 
 -- ---- slots for deferred tasks
 

@@ -7,7 +7,6 @@ use Rattle.omi_pc.specs.declared.actor.Actor.{Actor}
 use Rattle.omi_pc.specs.declared.context.Context.{Context}
 use Rattle.omi_pc.specs.declared.counter.Counter.{Counter}
 use Rattle.omi_pc.specs.declared.counter.Counter.TheVariants as counter
-use Rattle.omi_pc.specs.declared.place.Place.{Place}
 use Rattle.omi_pc.specs.declared.task_counter.FinishCounter.{FinishCounter}
 use Rattle.omi_pc.specs.declared.task_counter.FinishCounter.TheVariants as finish
 use Rattle.omi_pc.specs.declared.task_counter.LookCounter.{LookCounter}
@@ -30,13 +29,6 @@ pub record Owed : Type 0 where
   -- generating task's is to be lowered
   pub raised : Option Tid
   pub lowered : Option Tid
-  -- the task whose word for references was raised for a child in the making, the finished task whose own reference is to be
-  -- lowered, and the place of the task whose child's record was given back, where that child's reference is to be lowered
-  pub referenced : Option Tid
-  pub own : Option Tid
-  pub above : Option Place
-  -- the task whose record is to be given back
-  pub free : Option Tid
   -- the region that a member has left, where the word for those that left is to be raised
   pub left : Option Rid
   -- the tasks that are to be stored into the assign words of these threads
@@ -54,10 +46,6 @@ nothing =
       pending = None;
       raised = None;
       lowered = None;
-      referenced = None;
-      own = None;
-      above = None;
-      free = None;
       left = None;
       assigns = [];
       met = false;
@@ -98,24 +86,17 @@ by_team members _ = nothing
 abbrev pub in_the_making : Tid → Owed
 in_the_making t = record nothing { tasks = t ∷ [] }
 
+-- with both raises
+abbrev pub with_raises : Context → Tid → Owed
+with_raises c t = record nothing { tasks = t ∷ []; pending = Some c.region; raised = Some c.task }
+
 abbrev pub by_task : Context → TaskCounter → Owed
 by_task c (task.Fill place t word) = in_the_making t
 by_task c (task.AddPending place t) = in_the_making t
 by_task c (task.AddChildren place t) = record (in_the_making t) { pending = Some c.region }
-by_task c (task.AddReferences place t) =
-    record (in_the_making t) { pending = Some c.region; raised = Some c.task }
-by_task c (task.Defer place t) =
-    record (in_the_making t) {
-      pending = Some c.region;
-      raised = Some c.task;
-      referenced = Some c.task;
-    }
-by_task c (task.StartNow t) =
-    record (in_the_making t) {
-      pending = Some c.region;
-      raised = Some c.task;
-      referenced = Some c.task;
-    }
+by_task c (task.AddReferences place t) = with_raises c t
+by_task c (task.Defer place t) = with_raises c t
+by_task c (task.StartNow t) = with_raises c t
 by_task c _ = nothing
 
 abbrev pub by_look : LookCounter → Owed
@@ -128,23 +109,10 @@ by_look _ = nothing
 -- after a task has finished
 abbrev pub by_finish : Context → FinishCounter → Owed
 by_finish c finish.Finish = nothing
-by_finish c (finish.LoadGenerating w t) =
-    record nothing { pending = Some c.region; lowered = Some t; own = Some t }
+by_finish c (finish.LoadGenerating w t) = record nothing { pending = Some c.region; lowered = Some t }
 by_finish c (finish.SubtractChildren w t generating) =
-    record nothing { pending = Some c.region; lowered = Some t; own = Some t }
-by_finish c (finish.SubtractReferences w t generating) =
-    record nothing { pending = Some c.region; own = Some t }
-by_finish c (finish.Free w t generating) =
-    record nothing { pending = Some c.region; free = Some t }
-by_finish c (finish.LoadImplicit w generating) =
-    record nothing { pending = Some c.region; above = Some generating }
-by_finish c (finish.LoadNext w generating) =
-    record nothing { pending = Some c.region; above = Some generating }
-by_finish c (finish.LoadLife w generating next) =
-    record nothing { pending = Some c.region; above = Some generating }
-by_finish c (finish.SubtractGenerating w generating explicit) =
-    record nothing { pending = Some c.region; above = Some generating }
-by_finish c (finish.SubtractPending w) = record nothing { pending = Some c.region }
+    record nothing { pending = Some c.region; lowered = Some t }
+by_finish c at = record nothing { pending = Some c.region }
 
 -- ---- the whole
 

@@ -14,7 +14,6 @@ use Rattle.omi_layout.specs.declared.field.Field.TheVariants.{RegionLife, TaskLi
 use Rattle.omi_layout.specs.Field.{runtime, threads, regions, tasks}
 use Rattle.omi_layout.specs.Memory.{Rec, Made, Memory}
 use Rattle.omi_layout.specs.Table.{per_thread}
-use Rattle.omi_pc.specs.declared.place.Place.{Place}
 use Rattle.omi_rule.specs.Owes.{Owed}
 use Rattle.omi_rule.specs.Counts.{has_slot, has_region_slot, generating_of}
 use Rattle.omi_rule.specs.Threads.{KeepsRuntime, KeepsThread, WaitsFor, KeepsAssign}
@@ -53,12 +52,8 @@ pub record OwesOnLive (s : State) (o : Owed) : Type 0 where
   pub left : (n : Rid) → o.left ≡ Some n
       → (r : Region) × (region_of s n ≡ Some r) × (r.joined ≡ false)
   pub raised : (k : Tid) → o.raised ≡ Some k → IsSome (task_of s k)
-  pub referenced : (k : Tid) → o.referenced ≡ Some k → IsSome (task_of s k)
   pub lowered : (k : Tid) → o.lowered ≡ Some k
       → HasFinished s k × IsSome (option_and_then (task_of s) (generating_of s k))
-  pub own : (k : Tid) → o.own ≡ Some k → HasFinished s k
-  pub free : (k : Tid) → o.free ≡ Some k → HasFinished s k
-  pub above : (at : Place) → o.above ≡ Some at → IsSome (s.tasks at.creator at.slot).live
   pub assigns : All (λ m. WaitsFor s m.1 m.0) o.assigns
 
 -- ---- the records that a thread makes
@@ -78,7 +73,7 @@ pub record KeepsRegionSlot (w : List ℕ) (s : State) (owes : ℕ → Owed) (i s
 pub record KeepsTask (w : List ℕ) (s : State) (owes : ℕ → Owed) (k : Tid) (r : Rec) (t : Task) : Type 0 where
   pub environment : IsVisibleTask s k ⊎ (t.progress ≡ progress.Deferred) → KeepsEnvironment w r t
   pub place : IsVisibleTask s k → KeepsPlace w r t
-  pub counts : KeepsCounts w s owes k r t
+  pub counts : KeepsCounts w s owes k r
   pub slots : t.implicit ≡ true → KeepsSlots w s r t
 
 pub record KeepsTaskSlot (w : List ℕ) (s : State) (owes : ℕ → Owed) (i slot : ℕ) (r : Rec) : Type 0 where

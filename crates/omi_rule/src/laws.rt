@@ -2,7 +2,8 @@
 
 ghost use Rattle.omi_rule.specs.Opens.{OpeningKeepsWords};
 ghost use Rattle.omi_rule.specs.BarrierKinds.{ArrivesKeep, ReleasesKeep};
-ghost use Rattle.omi_rule.specs.CountKinds.{AboveSubtractsKeep, ChildrenAddsKeep, ChildrenSubtractsKeep, OwnSubtractsKeep, PendingAddsKeep, PendingSubtractsKeep, ReferencesAddsKeep};
+ghost use Rattle.omi_rule.specs.CountKinds.{ChildrenAddsKeep, ChildrenSubtractsKeep, PendingAddsKeep, PendingSubtractsKeep};
+ghost use Rattle.omi_rule.specs.ExplicitKinds.{AllChildrenFinished, DefersKeep, FinishesKeep, PlaceStoresKeep, SlotTakesKeep, StartsAloneKeep, StartsKeep, StartsNowKeep};
 ghost use Rattle.omi_rule.specs.Kinds.{AssignClearsKeep, AssignStoresKeep, ListMovesKeep, MovesKeep, RegionFillsKeep, RegionTakesKeep, TaskFillsKeep, TaskTakesKeep, ThreadChangesKeep, ThreadStoresKeep};
 ghost use Rattle.omi_rule.specs.Shown.{KeptWordsShow};
 ghost use Rattle.omi_rule.specs.TaskKinds.{RuntimeStoresKeep, TaskStoresKeep};
@@ -47,19 +48,15 @@ pub fn barriers_keep_words()
 {}
 
 /// The additions of 1 for an explicit task in the making keep the rule on words: from then on the thread owes one more on the
-/// region's word for unfinished tasks, on the current task's word for unfinished children, or on its references.
+/// region's word for unfinished tasks, or on the current task's word for unfinished children.
 pub fn adds_keep_words()
     ensures pending { PendingAddsKeep }
     ensures children { ChildrenAddsKeep }
-    ensures references { ReferencesAddsKeep }
 {}
 
 /// The subtractions of 1 for an explicit task that has finished keep the rule on words: the thread owes one less on the word.
-/// Where the last reference to an explicit task was lowered, the thread owes from then on the return of its record.
 pub fn subtracts_keep_words()
     ensures children { ChildrenSubtractsKeep }
-    ensures own { OwnSubtractsKeep }
-    ensures above { AboveSubtractsKeep }
     ensures pending { PendingSubtractsKeep }
 {}
 
@@ -120,4 +117,34 @@ pub fn leaves_keep_words()
 pub fn joins_keep_words()
     ensures joined { JoinsKeep }
     ensures all_left { AllHaveLeft }
+{}
+
+/// The store of a new explicit task's code into an empty slot of the thread's row, by which the thread defers the task, and the
+/// store of the task's record as the current one, by which it starts at once, keep the rule on words: the task begins, whose
+/// record stands filled, and the raises in its region and in the task that makes it are settled.
+pub fn defers_keep_words()
+    ensures deferred { DefersKeep }
+    ensures started_now { StartsNowKeep }
+{}
+
+/// The exchange by which a thread takes a deferred task from its slot, the stores of the task's place on the thread, and the store
+/// of its record as the current one, by which it starts, in a wait or at `taskyield`, keep the rule on words: from the exchange to
+/// the start the task is in the thread's hand.
+pub fn starts_keep_words()
+    ensures taken { SlotTakesKeep }
+    ensures placed { PlaceStoresKeep }
+    ensures started { StartsKeep }
+    ensures started_alone { StartsAloneKeep }
+{}
+
+/// The store by which an explicit task finishes keeps the rule on words: from then on its thread owes the subtractions from the
+/// words for unfinished children of the task that made it and for unfinished tasks of its region.
+pub fn finishes_keep_words()
+    ensures { FinishesKeep }
+{}
+
+/// Where the word of a live task for its unfinished explicit children is 0, each of its children has finished, whatever threads
+/// owe.
+pub fn children_are_counted()
+    ensures { AllChildrenFinished }
 {}

@@ -6,7 +6,7 @@ use crate::look::{Place, RUNTIME, region_word, task_word};
 use crate::moves::follow;
 use crate::scripts::{A_CHANGED_HEAD, A_CHANGED_HEAD_OF_TEAMS, A_TEAM_OF_TWO, EMPTY};
 use crate::trial::{Looks, Trial, Wrong, program_in};
-use omi_core::{Core, End, Schedule, Stop, is_taskless};
+use omi_core::{Core, End, Schedule, Stop};
 use omi_layout::{Field, Layout};
 use omi_model::{Id, Rid, Tid};
 use omi_rep::suits;
@@ -48,7 +48,7 @@ struct Ended {
 /// A run of a script for so many steps, its threads in turn, in the layout of a family.
 fn run(alloc: Global, script: &str, k: u8, steps: u64) -> Result<Ended, Wrong> {
     let (program, layout) = program_in(alloc, script, k)?;
-    if !is_taskless(&program) || !suits(&program, &layout) {
+    if !suits(&program, &layout) {
         return Err(Wrong::NoProgram);
     }
     let mut core = Core::opening(alloc, program, layout)?;

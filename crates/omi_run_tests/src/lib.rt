@@ -26,6 +26,8 @@ mod row_tests;
 #[cfg(test)]
 mod scripts;
 #[cfg(test)]
+mod task_tests;
+#[cfg(test)]
 mod trial;
 #[cfg(test)]
 mod waiting_tests;

@@ -49,8 +49,10 @@ fn field_named(name: &str) -> Option<Field> {
         "thread.assign" => Some(Field::ThreadAssign),
         "region.life" => Some(Field::RegionLife),
         "region.arrived" => Some(Field::RegionArrived),
+        "region.pending" => Some(Field::RegionPending),
         "region.released" => Some(Field::RegionReleased),
         "region.left" => Some(Field::RegionLeft),
+        "task.children" => Some(Field::TaskChildren),
         "task.life" => Some(Field::TaskLife),
         _ => None,
     }

@@ -2,7 +2,7 @@
 //! and 540, and their records have 13, 6, 13 and 26 words.
 
 use crate::moves::follow;
-use crate::scripts::{A_TEAM_OF_TWO, EACH_PLAIN_STATEMENT};
+use crate::scripts::{A_TEAM_OF_TWO, EACH_PLAIN_STATEMENT, TWO_TASKS};
 use crate::trial::{Looks, Trial, Wrong};
 use omi_core::Core;
 use omi_events::Made;
@@ -30,7 +30,11 @@ fn argument_text(alloc: Global, op: Op) -> Result<String, OutOfMemory> {
             let new = word_text(alloc, new)?;
             Ok(format!(in alloc; " {new}")?)
         }
-        Op::Cas { old, new, .. } => Ok(format!(in alloc; " {old} to {new}")?),
+        Op::Cas { old, new, .. } => {
+            let old = word_text(alloc, old)?;
+            let new = word_text(alloc, new)?;
+            Ok(format!(in alloc; " {old} to {new}")?)
+        }
         Op::Add { by, .. } | Op::Sub { by, .. } => Ok(format!(in alloc; " {by}")?),
     }
 }
@@ -215,5 +219,130 @@ fn variables_calls_and_a_lock(rt: HostRuntime) -> Result<(), Fail> {
         THE_STATEMENTS,
     )?;
     assert!(rt; done);
+    Ok(())
+}
+
+/// A task is deferred into the first empty slot of its thread, twice: the slots, the data environment, the record, the two counts, the
+/// slot. At the barrier the first is taken from its slot and starts, and finishes: its generating task, and the two counts. Then the
+/// second starts.
+const THE_TASKS: &str = "\
+store @549 0x7f00000fffa0 found 0
+load @562 found 0
+load @550 found 0
+load @551 found 1
+load @552 found 1
+load @553 found 0
+load @558 found 2
+load @559 found 0
+load @560 found 0
+load @561 found 0
+load @540 found 1
+load @566 found 0
+store @566 1 found 0
+store @567 0 found 0
+store @568 @124 found 0
+store @569 @112 found 0
+store @570 0 found 0
+store @571 @540 found 0
+store @572 @540 found 0
+store @573 0x400000 found 0
+store @574 0x7f00000fff80 found 0
+store @575 0 found 0
+store @576 0 found 0
+store @577 1 found 0
+store @578 1 found 0
+store @579 0 found 0
+store @580 1 found 0
+store @581 0 found 0
+store @582 0 found 0
+store @583 0 found 0
+store @584 2 found 0
+store @585 0 found 0
+store @586 0 found 0
+store @587 0 found 0
+store @588 0 found 0
+store @589 0 found 0
+store @590 0 found 0
+store @591 0 found 0
+add @133 1 found 0
+add @556 1 found 0
+store @562 0x1000001 found 0
+store @549 0 found 0x7f00000fffa0
+store @549 0x7f00000fffa0 found 0
+load @562 found 0x1000001
+load @563 found 0
+load @550 found 0
+load @551 found 1
+load @552 found 1
+load @553 found 0
+load @558 found 2
+load @559 found 0
+load @560 found 0
+load @561 found 0
+load @540 found 1
+load @566 found 1
+load @592 found 0
+store @592 1 found 0
+store @593 0 found 0
+store @594 @124 found 0
+store @595 @112 found 0
+store @596 0 found 0
+store @597 @540 found 0
+store @598 @540 found 0
+store @599 0x400000 found 0
+store @600 0x7f00000fff80 found 0
+store @601 0 found 0
+store @602 0 found 0
+store @603 1 found 0
+store @604 1 found 0
+store @605 0 found 0
+store @606 0 found 0
+store @607 0 found 0
+store @608 0 found 0
+store @609 0 found 0
+store @610 2 found 0
+store @611 0 found 0
+store @612 0 found 0
+store @613 0 found 0
+store @614 0 found 0
+store @615 0 found 0
+store @616 0 found 0
+store @617 0 found 0
+add @133 1 found 1
+add @556 1 found 1
+store @563 0x1000002 found 0
+store @549 0 found 0x7f00000fffa0
+add @132 1 found 0
+load @135 found @540
+load @562 found 0x1000001
+exchange @562 0x1000001 to 0 found 0x1000001
+load @573 found 0x400000
+load @580 found 1
+store @569 @112 found @112
+store @570 0 found 0
+store @572 @540 found @540
+store @574 0x7f00000fff80 found 0x7f00000fff80
+store @575 0 found 0
+store @114 @566 found @540
+store @114 @540 found @566
+load @571 found @540
+subtract @556 1 found 2
+subtract @133 1 found 2
+load @135 found @540
+load @562 found 0
+load @563 found 0x1000002
+exchange @563 0x1000002 to 0 found 0x1000002
+load @599 found 0x400000
+load @606 found 0
+store @595 @112 found @112
+store @596 0 found 0
+store @598 @540 found @540
+store @600 0x7f00000fff80 found 0x7f00000fff80
+store @601 0 found 0
+store @114 @592 found @540";
+
+#[test]
+fn two_tasks(rt: HostRuntime) -> Result<(), Fail> {
+    assert!(rt; runs(rt.alloc(), TWO_TASKS, "0 until start k0.2.0", THE_TASKS)?);
     Ok(())
 }

@@ -1,7 +1,7 @@
 //! Random orders of threads over many workloads, each step judged by the machine.
 
 use crate::orders::{Dice, Manner, at_random};
-use crate::scripts::{CALLS, EXAMPLES, LEVELS, MANY_THREADS, SETTINGS, TEAMS};
+use crate::scripts::{CALLS, EXAMPLES, LEVELS, MANY_THREADS, SETTINGS, TASKS, TEAMS};
 use crate::trial::{Looks, Trial, Wrong};
 use std::alloc::Global;
 use std::test::Fail;
@@ -99,5 +99,12 @@ fn calls(rt: HostRuntime) -> Result<(), Fail> {
 fn settings(rt: HostRuntime) -> Result<(), Fail> {
     let events = all_judged(rt.alloc(), &SETTINGS, ORDERS, 5)?;
     assert!(rt; events > 10_000, "{events}");
+    Ok(())
+}
+
+#[test]
+fn tasks(rt: HostRuntime) -> Result<(), Fail> {
+    let events = all_judged(rt.alloc(), &TASKS, ORDERS_OF_MANY, 7)?;
+    assert!(rt; events > 20_000, "{events}");
     Ok(())
 }

@@ -39,6 +39,38 @@ pub const SIXTEEN_TEAMS: &str =
 pub const EACH_PLAIN_STATEMENT: &str =
     "threads 2\nfunc inner\nwork\nend\nfunc main\nset_dynamic 1\nset_num_threads 3\nset_max_active_levels 5\nset_schedule dynamic 4\nset_default_device 2\ntool 7\ncall inner\nrepeat 2 inner\nonly 1 inner\ncritical 3 inner\nend\n";
 
+/// Two tasks that a thread makes and runs, without states.
+pub const TWO_TASKS: &str =
+    "threads 2\nenv debug disabled\nfunc leaf\nend\nfunc main\ntask leaf final 1\ntask leaf\nend\n";
+
+/// A task makes a task and finishes before that one starts.
+pub const AN_ENDED_ANCESTOR: &str =
+    "threads 1\nfunc b\nwork\nend\nfunc a\ntask b\nend\nfunc main\ntask a\nend\n";
+
+/// More tasks than a thread has slots for deferred ones.
+pub const A_FULL_ROW: &str =
+    "threads 1\nfunc t\nwork\nend\nfunc main\ntask t\ntask t\ntask t\ntask t\ntask t\ntask t\ntask t\ntask t\nend\n";
+
+/// A team in a task of a team.
+pub const A_NESTED_CHAIN: &str =
+    "threads 2\nfunc leaf\nwork\nend\nfunc h\nparallel leaf num 1\nend\nfunc g\ntask h\nend\nfunc f\nonly 0 g\nend\nfunc main\nparallel f num 2\nend\n";
+
+/// Each of two members makes a task.
+pub const A_TASK_OF_EACH_MEMBER: &str =
+    "threads 2\nfunc w\nwork\nend\nfunc b\ntask w\nend\nfunc main\nparallel b num 2\nend\n";
+
+/// A member's task waits for a child that the other member runs, which waits for one of its own.
+pub const WAITS_FOR_TASKS: &str =
+    "threads 2\nfunc w\nwork\nend\nfunc c\ntask w\ntaskwait\nend\nfunc g\ntask c\nend\nfunc b\nonly 1 g\nend\nfunc main\nparallel b num 2\nend\n";
+
+/// Tasks that are deferred, start at once, and make tasks; waits for children and single yields; with states and without.
+pub const TASKS: [&str; 4] = [
+    "threads 3\nfunc w\nwork\nend\nfunc t\ntask w\ntaskwait\ntask w\nend\nfunc b\nrepeat 3 t\ntask t\ntaskyield\ntask t if 0\nend\nfunc main\nparallel b num 3\nend\n",
+    "threads 2\nenv debug disabled\nfunc w\nwork\nend\nfunc t\ntask w final 1\ntaskyield\ntaskwait\nend\nfunc u\ntask t\ntask t final 1\ntaskwait\nend\nfunc b\ntask u\nbarrier\ntask u\nend\nfunc main\nparallel b num 2\ntask u\nend\n",
+    "threads 4\nfunc w\nwork\nend\nfunc c\nparallel w num 2\nend\nfunc t\ntask w\ntask c\nend\nfunc b\nonly 0 t\ntask c\ntaskwait\ncritical 1 t\nend\nfunc main\nparallel b num 3\nend\n",
+    "threads 2\nfunc w\nwork\nend\nfunc t\nset_num_threads 3\ntool 5\ntask w\ntask w\ntask w\ntask w\ntask w\ntask w\ntaskyield\nend\nfunc main\ntask t\ntask t\ntask t final 1\ntaskwait\nend\n",
+];
+
 /// The workloads of the examples.
 pub const EXAMPLES: [&str; 6] = [
     "func main\nend\n",

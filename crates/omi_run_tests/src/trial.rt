@@ -230,10 +230,10 @@ impl Trial {
         Ok(())
     }
 
-    /// One step of a thread, judged. None where the thread is at an edge.
+    /// One step of a thread, judged. None where the program has no such thread.
     pub fn step(&mut self, i: u8) -> Result<Option<Outcome>, Wrong> {
         self.make_room()?;
-        if i >= self.core.threads() || self.core.edge(i) {
+        if i >= self.core.threads() {
             return Ok(None);
         }
         let outcome = self.core.step(i).outcome;

@@ -1,9 +1,12 @@
-//! Each place at which a thread waits by now: the word at which it is not ready, and that it goes on once the others have
+//! Each place at which a thread waits: the word at which it is not ready, and that it goes on once the others have
 //! made their steps. In the layouts of all families, but for the search that finds no free record.
 
 use crate::moves::follow;
 use crate::orders::until;
-use crate::scripts::{A_TEAM_OF_TWO, ONE_LOCK, SIXTEEN_TEAMS, TWO_BARRIERS};
+use crate::scripts::{
+    A_FULL_ROW, A_TASK_OF_EACH_MEMBER, A_TEAM_OF_TWO, ONE_LOCK, SIXTEEN_TEAMS, TWO_BARRIERS,
+    WAITS_FOR_TASKS,
+};
 use crate::trial::{Looks, Trial, Wrong};
 use std::alloc::Global;
 use std::test::Fail;
@@ -66,6 +69,40 @@ const A_LOCK: &str = "\
 0 waits at region.arrived 0 1 0 1
 1 until unlock 3";
 
+/// Member 0 waits at the barrier for the explicit task that the other member runs, until its thread has lowered the count.
+const TASKS_OF_A_REGION: &str = "\
+1 waits at thread.assign 1 0 0 0
+0 until fork
+0 until arrive
+1 until start k0.3.0
+0 until finish k1.0.0
+0 waits at region.pending 0 1 0 1
+0 waits at region.pending 0 1 0 1
+1 until finish k0.3.0
+0 waits at region.pending 0 1 0 1
+1 goes on to state wait_barrier_implicit_parallel 0
+0 goes on to release";
+
+/// A task waits for a child that the other member runs, until its thread has lowered the count.
+const CHILDREN: &str = "\
+1 waits at thread.assign 1 0 0 0
+0 until fork
+0 waits at region.arrived 0 1 0 1
+1 until defer k1.1.0
+0 until start k1.1.0
+1 waits at task.children 1 0 0 1
+1 waits at task.children 1 0 0 1
+0 until finish k1.1.0
+1 waits at task.children 1 0 0 1
+0 goes on to state wait_barrier_implicit_parallel 0
+1 goes on to wait_done";
+
+/// A search for the record of an explicit task finds one in use, and goes on at the next.
+const A_TASK_RECORD: &str = "\
+0 until enter
+0 waits at task.life 0 0 0 1
+0 goes on to defer k0.1.0";
+
 /// Makes moves and compares the words behind them.
 fn follow_and_compare(t: &mut Trial, moves: &str) -> Result<(), Wrong> {
     follow(t, moves)?;
@@ -101,6 +138,24 @@ fn two_barriers(rt: HostRuntime) -> Result<(), Fail> {
 #[test]
 fn a_lock(rt: HostRuntime) -> Result<(), Fail> {
     in_all_families(rt.alloc(), ONE_LOCK, A_LOCK)?;
+    Ok(())
+}
+
+#[test]
+fn tasks_of_a_region(rt: HostRuntime) -> Result<(), Fail> {
+    in_all_families(rt.alloc(), A_TASK_OF_EACH_MEMBER, TASKS_OF_A_REGION)?;
+    Ok(())
+}
+
+#[test]
+fn children(rt: HostRuntime) -> Result<(), Fail> {
+    in_all_families(rt.alloc(), WAITS_FOR_TASKS, CHILDREN)?;
+    Ok(())
+}
+
+#[test]
+fn a_task_record(rt: HostRuntime) -> Result<(), Fail> {
+    in_all_families(rt.alloc(), A_FULL_ROW, A_TASK_RECORD)?;
     Ok(())
 }
 

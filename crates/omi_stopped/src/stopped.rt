@@ -2,11 +2,10 @@
 
 ghost use Rattle.std.specs.Prelude.{◌≡◌, ◌≤◌, IfOk, IfSome, OnOk, if◌then◌else◌};
 ghost use Rattle.omi_calls.specs.Kept.{GivesNumbers, TakesAll};
-ghost use Rattle.omi_core.specs.Taskless.{IsTaskless};
 
 use crate::{Asked, ByteOrder, Target};
 use omi_calls::{Callbacks, MemCalls, Table, ToHost};
-use omi_core::{Break, Core, Schedule, Stop, is_taskless};
+use omi_core::{Break, Core, Schedule, Stop};
 use omi_corefile::{CoreImage, core_of};
 use omi_layout::{Layout, MOST_THREADS};
 use omi_rep::suits;
@@ -77,9 +76,7 @@ pub fn at_fork() -> Stop
 }
 
 /// A run of a script in the layout of a family, before its first step.
-fn opened(alloc: Global, script: &str, family: u8) -> Result<Core, Wrong>
-    ensures { IfOk result (λ core. IsTaskless core.program) }
-{
+fn opened(alloc: Global, script: &str, family: u8) -> Result<Core, Wrong> {
     let Ok(program) = parse(alloc, script.as_bytes()) else {
         return Err(Wrong::NoProgram);
     };
@@ -88,7 +85,7 @@ fn opened(alloc: Global, script: &str, family: u8) -> Result<Core, Wrong>
         return Err(Wrong::NoProgram);
     }
     let layout = Layout::family(family, threads);
-    if !suits(&program, &layout) || !is_taskless(&program) {
+    if !suits(&program, &layout) {
         return Err(Wrong::NoProgram);
     }
     Ok(Core::opening(alloc, program, layout)?)

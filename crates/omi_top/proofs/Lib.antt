@@ -1,5 +1,4 @@
 pub mod Digits
-pub mod BuiltPrograms
 pub mod ThreadIds
 pub mod EventLines
 pub mod PlainCores

@@ -6,11 +6,8 @@ use Rattle.omi_script.specs.declared.program.Program.{Program}
 use Rattle.omi_script.specs.declared.statement.Stmt.{Stmt}
 use Rattle.omi_script.specs.declared.statement.Stmt.TheVariants as stmt
 
--- every statement but those of explicit tasks, `critical`, `tool`, and three that set variables
+-- every statement but `critical`, `tool`, and three that set variables
 abbrev pub is_built_statement : Stmt → Bool
-is_built_statement (stmt.Task f undeferred final) = false
-is_built_statement stmt.Taskwait = false
-is_built_statement stmt.Taskyield = false
 is_built_statement (stmt.Critical k f) = false
 is_built_statement (stmt.Tool x) = false
 is_built_statement (stmt.SetMaxActive n) = false

@@ -11,10 +11,7 @@ fn is_built_statement(s: &Stmt) -> bool
 {
     !matches!(
         s,
-        Stmt::Task { .. }
-            | Stmt::Taskwait
-            | Stmt::Taskyield
-            | Stmt::Critical { .. }
+        Stmt::Critical { .. }
             | Stmt::Tool(_)
             | Stmt::SetMaxActive(_)
             | Stmt::SetSchedule(_)

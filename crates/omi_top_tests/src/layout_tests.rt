@@ -5,7 +5,7 @@ ghost use Rattle.std.specs.Prelude.{◌<◌};
 
 use crate::show_tests::{FINISHED, expect};
 use crate::tests::CHANGED;
-use omi_core::{Core, Schedule, Stop, is_taskless};
+use omi_core::{Core, Schedule, Stop};
 use omi_corefile::core_bytes_of;
 use omi_layout::Layout;
 use omi_outside::Status;
@@ -15,9 +15,9 @@ use omi_word::Natives;
 use std::alloc::{AllocError, Global};
 use std::test::Fail;
 
-/// The core that a finished run of a program without explicit tasks leaves in a layout of one thread.
+/// The core that a finished run leaves in a layout of one thread.
 fn core_in(alloc: Global, layout: &Layout, p: &Program) -> Result<Vec<u8>, AllocError> {
-    if !suits(p, layout) || !is_taskless(p) {
+    if !suits(p, layout) {
         return Ok(Vec::new(alloc));
     }
     let mut core = Core::opening(alloc, p.same(alloc)?, *layout)?;

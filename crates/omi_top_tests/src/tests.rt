@@ -289,10 +289,7 @@ const NO_SCRIPTS: [(&str, &str); 9] = [
 ];
 
 /// Programs that are not run so far.
-const NOT_BUILT: [(&str, &str); 8] = [
-    ("func a\nend\nfunc main\ntask a\nend\n", "not built\n"),
-    ("func main\ntaskwait\nend\n", "not built\n"),
-    ("func a\ntaskyield\nend\nfunc main\nend\n", "not built\n"),
+const NOT_BUILT: [(&str, &str); 5] = [
     (
         "func a\nend\nfunc main\nwork\ncritical 0 a\nend\n",
         "not built\n",
@@ -329,6 +326,18 @@ fn texts_that_are_refused(rt: HostRuntime) -> Result<(), Fail> {
 #[test]
 fn programs_that_are_not_built(rt: HostRuntime) -> Result<(), Fail> {
     refuse_scripts(&rt, rt.alloc(), Status::NotBuilt, &NOT_BUILT)?;
+    Ok(())
+}
+
+/// A task that starts at once. Behind its `enter` stand the loads of its data environment and of two life words, the stores of its record, and the
+/// two counts; behind its end the load of its generating task, and the two counts.
+#[test]
+fn a_task_that_starts_at_once(rt: HostRuntime) -> Result<(), Fail> {
+    let script = "func a\nend\nfunc main\ntask a if 0\nend\n";
+    let text = "1 t0 enter\n40 t0 start_now k0.1.0\n41 t0 finish k0.1.0\n45 t0 leave\n\
+        46 t0 state wait_barrier_implicit_parallel 0\n47 t0 arrive\n55 t0 release\n56 t0 pass\n57 t0 done\n\
+        end steps 57 events 9 by done\n";
+    stopped(&rt, rt.alloc(), "1000", script, text)?;
     Ok(())
 }
 

@@ -30,7 +30,7 @@ use Rattle.omi_pc.specs.Moves.{context_under}
 use Rattle.omi_pc.specs.OpenBodies.{AreOpen, IsMasterOf, StandsOn}
 use Rattle.omi_step.specs.Placed.{AreContextsPlaced, IsContextPlaced}
 use Rattle.omi_control.specs.Ahead.{leaving, resuming}
-use Rattle.omi_control.specs.Chains.{IsScheduledFrom, IsSuspended, KeepsBodies, KeepsBody, KeepsContext, encounter_of}
+use Rattle.omi_control.specs.Chains.{IsScheduledFrom, IsSuspended, KeepsBodies, KeepsBody, KeepsContext, RunsFunctions, encounter_of}
 use Rattle.omi_control.proofs.OthersStand.{of_innermost}
 
 -- ---- the tasks under a member
@@ -231,3 +231,18 @@ module _ (w : List ℕ) (n : ℕ) where
   pub contexts_arrive : (fs : List Frame) (c : Context) → AreContextsPlaced w c fs → AreContextsPlaced w (arrived n c) fs
   contexts_arrive [] c o = tt
   contexts_arrive (f ∷ fs) c (o, rest) = (context_placed c o, under_placed fs c f.opened rest (λ x. contexts_arrive fs c x))
+
+-- and their tasks run the same functions
+module _ (u : State) (n : ℕ) where
+  under_runs : (fs : List Frame) (c : Context) (x : Opened) → RunsFunctions u (context_under c x) fs → (RunsFunctions u c fs → RunsFunctions u (arrived n c) fs) → RunsFunctions u (context_under (arrived n c) x) fs
+  under_runs fs c opened.Main o own = own o
+  under_runs fs c opened.Worker o own = own o
+  under_runs fs c (opened.Master saved) o own = o
+  under_runs fs c (opened.Task x saved) o own = o
+  under_runs fs c opened.Call o own = own o
+  under_runs fs c (opened.Repeat left) o own = own o
+  under_runs fs c (opened.Critical k) o own = own o
+
+  pub functions_arrive : (fs : List Frame) (c : Context) → RunsFunctions u c fs → RunsFunctions u (arrived n c) fs
+  functions_arrive [] c o = tt
+  functions_arrive (f ∷ fs) c (o, rest) = (o, under_runs fs c f.opened rest (λ x. functions_arrive fs c x))

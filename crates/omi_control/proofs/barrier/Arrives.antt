@@ -46,8 +46,11 @@ use Rattle.omi_control.proofs.OwnTask.{is_current, own_below, relisted_ahead}
 use Rattle.omi_control.proofs.barrier.ArrivedBodies.{arrived_once, bodies_arrive, contexts_arrive, encounter_stays}
 use Rattle.omi_control.proofs.barrier.Arrivals.{arrivals_few, part_sum}
 use Rattle.omi_control.proofs.barrier.AtBarrier.{fits_barrier, list_is}
-use Rattle.omi_control.proofs.barrier.AtCounter.{body, here, is_context, own, owes_nothing, region_there, region_word, sees, stands, word_of}
+use Rattle.omi_control.proofs.barrier.AtCounter.{body, here, is_context, own, owes_now, region_there, region_word, sees, stands, word_of}
 use Rattle.omi_control.proofs.barrier.Events.{none_new, relisted_changes, relisted_state, relisted_words, steps}
+use Rattle.omi_model.proofs.StaysKept.{stays_step}
+use Rattle.omi_control.proofs.Runs.{stack_runs}
+use Rattle.omi_control.proofs.barrier.ArrivedBodies.{functions_arrive}
 
 module _ (p : Program) (w : List ℕ) (m : Memory) (events : List (ℕ × Event)) (s : State) (actors : ℕ → Actor) (i : ℕ) (before : Before p w m events s actors i) (b : Barrier) (at : (actors i).counter ≡ counter.Barrier (barrier.Arrive b)) where
   abbrev a : Actor
@@ -177,6 +180,9 @@ module _ (p : Program) (w : List ℕ) (m : Memory) (events : List (ℕ × Event)
     fits = fits_after;
     placed = placed_after;
     stands = stands_after;
+    runs =
+        let o = own p w m events s actors i before (counter.Barrier c) at tt in
+        functions_arrive next (a.context.arrivals + 1) a.stack a.context (stack_runs p s next i (stays_step p s i event.Arrive next step) a o.stands o.runs);
     row = tt;
     ended = tt;
   }
@@ -190,7 +196,7 @@ module _ (p : Program) (w : List ℕ) (m : Memory) (events : List (ℕ × Event)
     plain_event_keeps p w m events s actors i before (op.Add (of_current w a RegionArrived) 1) on_arrived (after, outcome.Event event.Arrive) event.Arrive next (λ no_object. no_object) refl step
         (a.context.task, mine.task, current, ap (λ n. op.Add (of_region w n RegionArrived) 1) (sym mine.region_is))
         (none_new p w m events s actors i before (counter.Barrier c) at tt event.Arrive item.Arrive behind next taken step (λ f e. absurd (cc e)))
-        (moves_keep w (with_region_word m a.context.region RegionArrived (one_more (word_of_region m a.context.region RegionArrived))) next actors i after words (sym (owes_nothing p w m events s actors i before (counter.Barrier c) at tt)))
+        (moves_keep w (with_region_word m a.context.region RegionArrived (one_more (word_of_region m a.context.region RegionArrived))) next actors i after words (sym (owes_now p w m events s actors i before (counter.Barrier c) at tt)))
         (λ j other. spares_region m s a.context.region mine.region RegionArrived 0 (one_more (word_of_region m a.context.region RegionArrived)) j (actors j) mine.found (inl (λ same. omega (arith, same))))
         (thread_after (with_region_word m a.context.region RegionArrived (one_more (word_of_region m a.context.region RegionArrived)))),
   )

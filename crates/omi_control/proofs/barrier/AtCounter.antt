@@ -1,13 +1,13 @@
 -- A thread at a counter of a member, at a barrier, at a join or in a wait: its task, the words of its region, and the thread where only its counter changes.
 use Rattle.std.proofs.Common.{◌≡◌, ◌<◌, ◌==◌, ℕ, List, ◌∷◌, Option, Some, refl, sym, ap, ◌∙◌, subst, arith, if◌then◌else◌}
 use Rattle.std.proofs.lemmas.Bool.Decides.{nat_tests}
+use Rattle.omi_word.specs.declared.op.Op.{Op}
 use Rattle.omi_word.specs.declared.op.Op.TheVariants as op
 use Rattle.omi_script.specs.declared.env.Env.{Env}
 use Rattle.omi_script.specs.declared.program.Program.{Program}
 use Rattle.omi_model.specs.declared.encounter.Encounter.{Encounter}
 use Rattle.omi_model.specs.declared.event.Event.{Event}
 use Rattle.omi_model.specs.declared.id.Rid.{Rid}
-use Rattle.omi_model.specs.declared.id.Tid.{Tid}
 use Rattle.omi_model.specs.declared.region.Region.{Region}
 use Rattle.omi_model.specs.declared.task.Task.{Task}
 use Rattle.omi_model.specs.Changes.{OfCurrentRegion, encounter_by}
@@ -25,15 +25,12 @@ use Rattle.omi_pc.specs.declared.actor.Actor.{Actor}
 use Rattle.omi_pc.specs.declared.counter.Counter.{Counter}
 use Rattle.omi_pc.specs.declared.counter.Counter.TheVariants as counter
 use Rattle.omi_pc.specs.declared.frame.Frame.{Frame}
-use Rattle.omi_pc.specs.declared.context.Context.{Context}
-use Rattle.omi_pc.specs.declared.task_counter.LookCounter.{LookCounter}
-use Rattle.omi_pc.specs.declared.task_counter.LookCounter.TheVariants as look
 use Rattle.omi_pc.specs.declared.team_counter.WorkerCounter.{WorkerCounter}
 use Rattle.omi_pc.specs.Fits.{FitsCounter}
 use Rattle.omi_pc.specs.OpenBodies.{AreOpen, IsContext}
 use Rattle.omi_rep.specs.declared.outcome.Outcome.TheVariants as outcome
 use Rattle.omi_rule.specs.Objects.{KeepsRegion}
-use Rattle.omi_rule.specs.Owes.{all_owed, by_look, nothing, owed, owed_at}
+use Rattle.omi_rule.specs.Owes.{all_owed, owed, owed_at}
 use Rattle.omi_rule.specs.Words.{KeepsWords, region_in}
 use Rattle.omi_rule.proofs.Moves.{moves_keep}
 use Rattle.omi_rule.proofs.OtherCounts.{name_of_slot}
@@ -42,7 +39,7 @@ use Rattle.omi_control.specs.Ahead.{IsAhead}
 use Rattle.omi_control.specs.Chains.{KeepsContext, Stands, StandsInTask, StandsWith, encounter_of}
 use Rattle.omi_control.specs.Rows.{KeepsRow}
 use Rattle.omi_control.specs.Rule.{HasEnded, KeepsThread}
-use Rattle.omi_control.specs.Steps.{KeepsRule, RecordWord, found_in}
+use Rattle.omi_control.specs.Steps.{KeepsRule, RecordWord, found_in, left_in}
 use Rattle.omi_control.specs.Waits.{Waits}
 use Rattle.omi_control.proofs.Assembly.{Before, of_load, quiet_keeps, spares_none, waits_keep}
 use Rattle.omi_control.proofs.OwnTask.{in_task, is_current, own_ahead, top}
@@ -53,43 +50,13 @@ use Rattle.omi_control.proofs.plain.OwnEvents.{environment_stays}
 abbrev pub at_counter : Counter → Actor → Actor
 at_counter x a = record a { counter = x }
 
--- in a wait, without a task in the hand
-abbrev pub IsOfWait : LookCounter → Type 0
-IsOfWait (look.LoadFunction v n code t) = ⊥
-IsOfWait (look.LoadFinal v n code t f) = ⊥
-IsOfWait (look.Fill v n code t f final word) = ⊥
-IsOfWait (look.Start v n code t f final) = ⊥
-IsOfWait c = Unit {0}
-
-wait_owes : (c : LookCounter) → IsOfWait c → by_look c ≡ nothing
-wait_owes (look.State v) o = refl
-wait_owes (look.LoadRow v n) o = refl
-wait_owes (look.LoadSlot v n row) o = refl
-wait_owes (look.LoadGenerating v n row code) o = refl
-wait_owes (look.Take v n row code) o = refl
-wait_owes (look.LoadFunction v n code t) o = absurd o
-wait_owes (look.LoadFinal v n code t f) o = absurd o
-wait_owes (look.Fill v n code t f final word) o = absurd o
-wait_owes (look.Start v n code t f final) o = absurd o
-wait_owes look.LoadChildren o = refl
-wait_owes (look.Yield n) o = refl
-
--- at a barrier, at a join or in a wait
+-- at a barrier, at a join, in a wait or at the end of an explicit task
 abbrev pub IsOfMember : Counter → Type 0
 IsOfMember (counter.Barrier c) = Unit {0}
 IsOfMember (counter.Join c) = Unit {0}
-IsOfMember (counter.Look c) = IsOfWait c
+IsOfMember (counter.Look c) = Unit {0}
+IsOfMember (counter.Finish c) = Unit {0}
 IsOfMember x = ⊥
-
-member_owes : (x : Counter) → IsOfMember x → (c : Context) (team : List (Tid × ℕ)) → owed_at c team x ≡ nothing
-member_owes (counter.Barrier c) o d team = refl
-member_owes (counter.Join c) o d team = refl
-member_owes (counter.Worker c) o d team = absurd o
-member_owes (counter.Team c) o d team = absurd o
-member_owes (counter.Task c) o d team = absurd o
-member_owes (counter.Look c) o d team = wait_owes c o
-member_owes (counter.Finish c) o d team = absurd o
-member_owes (counter.Plain c) o d team = absurd o
 
 module _ (p : Program) (w : List ℕ) (m : Memory) (events : List (ℕ × Event)) (s : State) (actors : ℕ → Actor) (i : ℕ) (before : Before p w m events s actors i) (x : Counter) (at : (actors i).counter ≡ x) (of_member : IsOfMember x) where
   abbrev pub a : Actor
@@ -135,8 +102,8 @@ module _ (p : Program) (w : List ℕ) (m : Memory) (events : List (ℕ × Event)
       ap (λ (o : Option Task). (encounter_by s o).debug) here.live
       ∙ ap (λ (e : Env). e.debug) (environment_stays p events s before.rule.reached)
 
-  pub owes_nothing : owed a ≡ nothing
-  owes_nothing = ap (λ (d : Counter). owed_at a.context a.gathered.team d) at ∙ member_owes x of_member a.context a.gathered.team
+  pub owes_now : owed a ≡ owed_at a.context a.gathered.team x
+  owes_now = ap (λ (d : Counter). owed_at a.context a.gathered.team d) at
 
   pub is_context : IsContext p a.context
   is_context = let (f, fs, is, o) = body in (subst (AreOpen p a.context) is own.fits.bodies).0.context
@@ -149,7 +116,7 @@ module _ (p : Program) (w : List ℕ) (m : Memory) (events : List (ℕ × Event)
   pub of_own_region : (P : Task → Region → Type 0) → P here.task here.region → OfCurrentRegion s i (λ k t r. P t r)
   of_own_region P o = (a.context.task, here.task, here.region, is_current p s i a stands, region_there, o)
 
-  wide : (f : ℕ) → 0 < width w f
+  pub wide : (f : ℕ) → 0 < width w f
   wide f = grind (arith, nat_tests, some_threads w before.valid)
 
   pub context_placed : IsContextPlaced w a.context
@@ -186,7 +153,7 @@ module _ (p : Program) (w : List ℕ) (m : Memory) (events : List (ℕ × Event)
     pub fits : FitsCounter p (at_counter to a) to
     pub placed : IsPlacedCounter w (at_counter to a) to
     pub ahead : IsAhead p sees a.stack to here.task.list
-    pub owes : owed (at_counter to a) ≡ nothing
+    pub owes : owed (at_counter to a) ≡ owed_at a.context a.gathered.team x
     pub row : KeepsRow p w m s i (at_counter to a) to
     pub ended : HasEnded events i to
 
@@ -200,27 +167,41 @@ module _ (p : Program) (w : List ℕ) (m : Memory) (events : List (ℕ × Event)
         ahead = λ t live. subst (λ (v : Task). IsAhead p sees a.stack to v.list) (some_same here.live live) is;
       })
 
-  thread_at : (to : Counter) → GoesTo to → KeepsThread p w m events s i (at_counter to a)
-  thread_at to goes = record {
+  -- the thread at another counter, whatever it owes there
+  pub record StandsAt (n : Memory) (to : Counter) : Type 0 where
+    pub fits : FitsCounter p (at_counter to a) to
+    pub placed : IsPlacedCounter w (at_counter to a) to
+    pub ahead : IsAhead p sees a.stack to here.task.list
+    pub row : KeepsRow p w n s i (at_counter to a) to
+    pub ended : HasEnded events i to
+
+  pub thread_with : (n : Memory) (to : Counter) → StandsAt n to → KeepsThread p w n events s i (at_counter to a)
+  thread_with n to goes = record {
     thread = own.thread;
     fits = record { thread = own.fits.thread; variables = own.fits.variables; bodies = own.fits.bodies; counter = goes.fits };
     placed = record { bodies = own.placed.bodies; counter = goes.placed };
     stands = stands_at to goes.ahead;
+    runs = own.runs;
     row = goes.row;
     ended = goes.ended;
   }
 
-  words_at : (to : Counter) → GoesTo to → KeepsWords w m s (all_owed (λ j. if j == i then at_counter to a else actors j))
-  words_at to goes = moves_keep w m s actors i (at_counter to a) before.rule.words (goes.owes ∙ sym owes_nothing)
+  thread_at : (to : Counter) → GoesTo to → KeepsThread p w m events s i (at_counter to a)
+  thread_at to goes = thread_with m to (record { fits = goes.fits; placed = goes.placed; ahead = goes.ahead; row = goes.row; ended = goes.ended })
 
-  -- a load that leads to another counter
-  pub load_quiet : (address : ℕ) (y : RecordWord) (to : Counter) → GoesTo to → KeepsRule p w m events s actors i (op.Load address) y (at_counter to a, outcome.Quiet)
-  load_quiet address y to goes =
-      let same = of_load p w m events s actors i before address y in
-      quiet_keeps p w m events s actors i before (op.Load address) y (at_counter to a, outcome.Quiet) refl
+  words_at : (to : Counter) → GoesTo to → KeepsWords w m s (all_owed (λ j. if j == i then at_counter to a else actors j))
+  words_at to goes = moves_keep w m s actors i (at_counter to a) before.rule.words (goes.owes ∙ sym owes_now)
+
+  -- an operation that leaves the memory and leads to another counter
+  pub same_quiet : (o : Op) (y : RecordWord) (to : Counter) → left_in m o y ≡ m → GoesTo to → KeepsRule p w m events s actors i o y (at_counter to a, outcome.Quiet)
+  same_quiet o y to same goes =
+      quiet_keeps p w m events s actors i before o y (at_counter to a, outcome.Quiet) refl
       (subst (λ (n : Memory). KeepsWords w n s (all_owed (λ j. if j == i then at_counter to a else actors j))) (sym same) (words_at to goes))
       (λ j other. subst (λ (n : Memory). Spares m n s j (actors j)) (sym same) (spares_none m s j (actors j)))
       (subst (λ (n : Memory). KeepsThread p w n events s i (at_counter to a)) (sym same) (thread_at to goes))
+
+  pub load_quiet : (address : ℕ) (y : RecordWord) (to : Counter) → GoesTo to → KeepsRule p w m events s actors i (op.Load address) y (at_counter to a, outcome.Quiet)
+  load_quiet address y to goes = same_quiet (op.Load address) y to (of_load p w m events s actors i before address y) goes
 
   -- and one at which the thread waits
   pub load_waits : (address : ℕ) (y : RecordWord) (to : Counter) → GoesTo to → Waits w s i address (found_in m y) → KeepsRule p w m events s actors i (op.Load address) y (at_counter to a, outcome.NotReady address (found_in m y))

@@ -28,8 +28,8 @@ use Rattle.omi_pc.specs.declared.team_counter.BarrierCounter.{BarrierCounter}
 use Rattle.omi_pc.specs.declared.team_counter.BarrierCounter.TheVariants as barrier
 use Rattle.omi_pc.specs.declared.team_counter.JoinCounter.TheVariants.{LoadLeft}
 use Rattle.omi_pc.specs.declared.team_counter.WorkerCounter.TheVariants.{ImplicitEnd}
-use Rattle.omi_pc.specs.Frames.{body_in, statement_before}
-use Rattle.omi_pc.specs.Moves.{worked, worked_at, worked_in}
+use Rattle.omi_pc.specs.Frames.{body_in}
+use Rattle.omi_pc.specs.Moves.{worked}
 use Rattle.omi_pc.specs.OpenBodies.{IsAt, IsAtBarrier, IsAtEnd, IsMain, IsMaster, IsMember, IsWorker}
 use Rattle.omi_rep.specs.declared.outcome.Outcome.TheVariants as outcome
 use Rattle.omi_rule.specs.Owes.{all_owed}
@@ -45,6 +45,7 @@ use Rattle.omi_control.proofs.OwnTask.{is_current}
 use Rattle.omi_control.proofs.RowsStay.{Spares}
 use Rattle.omi_control.proofs.barrier.AtBarrier.{fits_barrier, list_is}
 use Rattle.omi_control.proofs.barrier.AtCounter.{at_counter, body, here, keeps_region, region_there, region_word, sees, sees_debug, sees_number, stands}
+use Rattle.omi_control.proofs.barrier.Constructs.{at_construct}
 use Rattle.omi_control.proofs.barrier.Events.{IsReadyAt, event_leads_to, relisted_changes, relisted_state, relisted_words, steps}
 use Rattle.omi_control.proofs.barrier.Loads.{closed_keeps, first_released, on_released, other_arrives, other_released, released_word}
 
@@ -99,7 +100,7 @@ module _ (p : Program) (w : List ℕ) (m : Memory) (events : List (ℕ × Event)
   passes : is_closed a word ≡ false → (y : Counter) → ((n : Memory) → IsReadyAt p w n later next i At a y behind) → KeepsRule p w m events s actors i (op.Load (of_current w a RegionReleased)) (on_released p w m events s actors i before b at) (at_counter y a, outcome.Event event.Pass)
   passes free y ready =
       let same = of_load p w m events s actors i before (of_current w a RegionReleased) (on_released p w m events s actors i before b at) in
-      event_leads_to p w m events s actors i before (counter.Barrier c) at tt (op.Load (of_current w a RegionReleased)) (on_released p w m events s actors i before b at) y (outcome.Event event.Pass) event.Pass item.Pass behind next refl (λ no_object. no_object) (λ f e. absurd (cc e)) takes_pass (step free)
+      event_leads_to p w m events s actors i before (counter.Barrier c) at tt refl (op.Load (of_current w a RegionReleased)) (on_released p w m events s actors i before b at) y (outcome.Event event.Pass) event.Pass item.Pass behind next refl (λ no_object. no_object) (λ f e. absurd (cc e)) takes_pass (step free)
       (a.context.task, own.task, current, ap (λ n. op.Load (of_region w n RegionReleased)) (sym own.region_is))
       (subst (λ (n : Memory). KeepsWords w n next (all_owed actors)) (sym same) (relisted_words p w m events s actors i before (counter.Barrier c) at tt behind))
       (λ j other. subst (λ (n : Memory). Spares m n s j (actors j)) (sym same) (spares_none m s j (actors j)))
@@ -114,18 +115,9 @@ module _ (p : Program) (w : List ℕ) (m : Memory) (events : List (ℕ × Event)
   construct_goes : is_closed a word ≡ false → b ≡ Explicit → IsAt p a.stack stmt.Barrier → Goes (passed p Explicit a)
   construct_goes free explicit here_is =
       let (f, fs, is, task) = body p w m events s actors i before (counter.Barrier c) at tt in
-      let (k, next_is) = begun f fs (subst (λ (xs : List Frame). IsAt p xs stmt.Barrier) is here_is) in
-      let goes_on : worked p a ≡ at_counter (counter.Plain plain.Leave) a = ap (λ (xs : List Frame). worked_in p xs a) is ∙ ap (λ n. worked_at p n a) next_is in
-      let ahead_is : Ahead.worked p At a.stack ≡ leaving p At a.stack = ap (λ (xs : List Frame). Ahead.worked p At xs) is ∙ ap (λ n. Ahead.working_at p At n (f ∷ fs)) next_is ∙ ap (leaving p At) (sym is) in
-      go p.env.debug refl goes_on ahead_is
+      let (goes_on, ahead_is) = at_construct p a f fs stmt.Barrier is here_is in
+      go p.env.debug refl goes_on (ahead_is At)
     where
-      begun : (f : Frame) (fs : List Frame) → IsAt p (f ∷ fs) stmt.Barrier → (k : ℕ) × (f.next ≡ suc k)
-      begun f fs there = by f.next refl there
-        where
-          by : (n : ℕ) → f.next ≡ n → statement_before (body_in p f) n ≡ Some stmt.Barrier → (k : ℕ) × (f.next ≡ suc k)
-          by zero e x = absurd (cc x)
-          by (suc k) e x = (k, e)
-
       list_is : (d : Bool) → p.env.debug ≡ d → behind ≡ (if d then item.State (work_state At.level) 0 ∷ leaving p At a.stack else leaving p At a.stack)
       list_is d e =
           ap (λ x. behind_barrier p At a.stack x) explicit

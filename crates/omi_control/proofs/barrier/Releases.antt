@@ -141,7 +141,7 @@ module _ (p : Program) (w : List ℕ) (m : Memory) (events : List (ℕ × Event)
   release_keeps = (
     on_released,
     record { there = region_word p w m events s actors i before (counter.Barrier c) at tt RegionReleased refl; address = refl },
-    event_leads_to p w m events s actors i before (counter.Barrier c) at tt (op.Store (of_current w a RegionReleased) a.context.arrivals) on_released (counter.Barrier (barrier.LoadReleased b)) (outcome.Event event.Release) event.Release
+    event_leads_to p w m events s actors i before (counter.Barrier c) at tt refl (op.Store (of_current w a RegionReleased) a.context.arrivals) on_released (counter.Barrier (barrier.LoadReleased b)) (outcome.Event event.Release) event.Release
         item.Release behind next refl (λ no_object. no_object) (λ f e. absurd (cc e)) takes_release step
         (a.context.task, own.task, current, (a.context.arrivals, ap (λ n. op.Store (of_region w n RegionReleased) a.context.arrivals) (sym own.region_is)))
         words

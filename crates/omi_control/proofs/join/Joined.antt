@@ -65,10 +65,13 @@ use Rattle.omi_control.proofs.Own.{AreBelow, IsBelow}
 use Rattle.omi_control.proofs.OthersStand.{of_innermost}
 use Rattle.omi_control.proofs.OwnTask.{is_current, own_below}
 use Rattle.omi_control.proofs.barrier.ArrivedBodies.{met_by}
-use Rattle.omi_control.proofs.barrier.AtCounter.{ahead_is, body, fits_counter, here, own, owes_nothing, region_there, sees, stands}
+use Rattle.omi_control.proofs.barrier.AtCounter.{ahead_is, body, fits_counter, here, own, owes_now, region_there, sees, stands}
 use Rattle.omi_control.proofs.barrier.Events.{none_new, relisted_state, relisted_words, steps}
 use Rattle.omi_control.proofs.plain.OwnEvents.{environment_stays}
 use Rattle.omi_control.proofs.join.BodiesUnder.{LeavesUnder, encounter_kept, task_kept, under_kept}
+use Rattle.omi_model.proofs.StaysKept.{stays_step}
+use Rattle.omi_control.specs.Chains.{RunsFunctions}
+use Rattle.omi_control.proofs.Runs.{bodies_run}
 
 module _ (p : Program) (w : List ℕ) (m : Memory) (events : List (ℕ × Event)) (s : State) (actors : ℕ → Actor) (i : ℕ) (before : Before p w m events s actors i) (at : (actors i).counter ≡ counter.Join join.Join) where
   abbrev a : Actor
@@ -159,6 +162,9 @@ module _ (p : Program) (w : List ℕ) (m : Memory) (events : List (ℕ × Event)
     abbrev back : Actor
     back = record a { context = saved; stack = fs }
 
+    runs_under : RunsFunctions s saved fs
+    runs_under = subst (λ (o : Opened). RunsFunctions s (context_under a.context o) fs) how (subst (RunsFunctions s a.context) stack (own p w m events s actors i before x at tt).runs).1
+
     closed_is : closed a ≡ back
     closed_is = ap (λ (xs : List Frame). closed_in a xs) stack ∙ ap (λ (o : Opened). record a { context = context_under a.context o; stack = fs }) how
 
@@ -218,13 +224,14 @@ module _ (p : Program) (w : List ℕ) (m : Memory) (events : List (ℕ × Event)
         plain_event_keeps p w m events s actors i before (op.Store (of_thread w a.thread ThreadCurrent) v) on_current (record back { counter = counter.Plain y }, outcome.Event (event.Join a.context.region)) (event.Join a.context.region) next
         (λ no_object. no_object) refl step (v, ap (λ j. op.Store (of_thread w j ThreadCurrent) v) o.thread)
         (none_new p w m events s actors i before x at tt (event.Join a.context.region) item.Join [] next taken step (λ g e. absurd (cc e)))
-        (moves_keep w (with_word m i threads 0 (number ThreadCurrent) 0 v) next actors i (record back { counter = counter.Plain y }) words (sym (owes_nothing p w m events s actors i before x at tt)))
+        (moves_keep w (with_word m i threads 0 (number ThreadCurrent) 0 v) next actors i (record back { counter = counter.Plain y }) words (sym (owes_now p w m events s actors i before x at tt)))
         (λ j other. spares_threads m s i ThreadCurrent v j (actors j) (λ same. omega (arith, same)))
         (record {
           thread = o.thread;
           fits = record { thread = o.fits.thread; variables = o.fits.variables; bodies = open_under; counter = fits };
           placed = record { bodies = placed_under; counter = tt };
           stands = stands_back (counter.Plain y) ahead;
+          runs = bodies_run p s next i (stays_step p s i (event.Join a.context.region) next step) saved fs under runs_under;
           row = tt;
           ended = over;
         })

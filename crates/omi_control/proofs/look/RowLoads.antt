@@ -1,4 +1,4 @@
--- A member that waits at a barrier loads the task of a member from the region's team, to look at its slots.
+-- A thread in a wait loads the task of a member from the region's team, to look at its slots.
 use Rattle.std.proofs.Common.{◌≡◌, ◌%◌, ◌<◌, ℕ, List, get_or, refl, sym, ap, subst, arith, ◌∙◌}
 use Rattle.std.specs.Prelude.{Some, slice_get}
 use Rattle.std.proofs.lemmas.Option.{slice_get-get_or}
@@ -18,8 +18,7 @@ use Rattle.omi_layout.proofs.Numbers.{numbered_field}
 use Rattle.omi_pc.specs.declared.actor.Actor.{Actor}
 use Rattle.omi_pc.specs.declared.counter.Counter.{Counter}
 use Rattle.omi_pc.specs.declared.counter.Counter.TheVariants as counter
-use Rattle.omi_pc.specs.declared.frame.Barrier.{Barrier}
-use Rattle.omi_pc.specs.declared.frame.Wait.TheVariants as wait
+use Rattle.omi_pc.specs.declared.frame.Wait.{Wait}
 use Rattle.omi_pc.specs.declared.limits.TheConstants.{OWN_SLOTS}
 use Rattle.omi_pc.specs.declared.place.Place.{Place}
 use Rattle.omi_pc.specs.declared.task_counter.LookCounter.TheVariants as look
@@ -35,12 +34,12 @@ use Rattle.omi_control.proofs.Assembly.{Before}
 use Rattle.omi_control.proofs.KeptObjects.{task_there}
 use Rattle.omi_control.proofs.barrier.AtCounter.{GoesTo, ahead_is, context_placed, fits_counter, here, is_context, keeps_region, load_quiet}
 
-module _ (p : Program) (w : List ℕ) (m : Memory) (events : List (ℕ × Event)) (s : State) (actors : ℕ → Actor) (i : ℕ) (before : Before p w m events s actors i) (b : Barrier) (n : ℕ) (at : (actors i).counter ≡ counter.Look (look.LoadRow (wait.Barrier b) n)) where
+module _ (p : Program) (w : List ℕ) (m : Memory) (events : List (ℕ × Event)) (s : State) (actors : ℕ → Actor) (i : ℕ) (before : Before p w m events s actors i) (v : Wait) (n : ℕ) (at : (actors i).counter ≡ counter.Look (look.LoadRow v n)) where
   abbrev a : Actor
   a = actors i
 
   abbrev standing : Counter
-  standing = counter.Look (look.LoadRow (wait.Barrier b) n)
+  standing = counter.Look (look.LoadRow v n)
 
   abbrev on_row : RecordWord
   on_row = record { creator = a.context.region.0.creator; slot = a.context.region.0.slot; field = RegionTeam; place = member_at n }
@@ -51,7 +50,7 @@ module _ (p : Program) (w : List ℕ) (m : Memory) (events : List (ℕ × Event)
   abbrev known : KeepsContext s i (actors i).context
   known = here p w m events s actors i before standing at tt
 
-  fits : Looks p a (wait.Barrier b) n × (n % OWN_SLOTS ≡ 0)
+  fits : Looks p a v n × (n % OWN_SLOTS ≡ 0)
   fits = fits_counter p w m events s actors i before standing at tt
 
   of_team : member_at n < a.context.size
@@ -89,7 +88,7 @@ module _ (p : Program) (w : List ℕ) (m : Memory) (events : List (ℕ × Event)
         omega (arith, below, few, same);
   }
 
-  goes : GoesTo p w m events s actors i before standing at tt (counter.Look (look.LoadSlot (wait.Barrier b) n (task_place w row_word)))
+  goes : GoesTo p w m events s actors i before standing at tt (counter.Look (look.LoadSlot v n (task_place w row_word)))
   goes = record {
     fits = (fits.0, subst (λ (q : Place). q.creator < p.threads) (sym read_back) maker);
     placed = subst (λ (q : Place). HasTaskPlace w q) (sym read_back) has_task;
@@ -99,9 +98,9 @@ module _ (p : Program) (w : List ℕ) (m : Memory) (events : List (ℕ × Event)
     ended = tt;
   }
 
-  pub load_row_keeps : StepKeeps p w m events s actors i (look_next w (actors i) (look.LoadRow (wait.Barrier b) n)) (λ old. (look_moved p w (actors i) (look.LoadRow (wait.Barrier b) n) old, look_outcome w (actors i) (look.LoadRow (wait.Barrier b) n) old))
+  pub load_row_keeps : StepKeeps p w m events s actors i (look_next w (actors i) (look.LoadRow v n)) (λ old. (look_moved p w (actors i) (look.LoadRow v n) old, look_outcome w (actors i) (look.LoadRow v n) old))
   load_row_keeps = (
     on_row,
     record { there = row_there; address = refl },
-    load_quiet p w m events s actors i before standing at tt (of_member w a.context.region (member_at n)) on_row (counter.Look (look.LoadSlot (wait.Barrier b) n (task_place w row_word))) goes,
+    load_quiet p w m events s actors i before standing at tt (of_member w a.context.region (member_at n)) on_row (counter.Look (look.LoadSlot v n (task_place w row_word))) goes,
   )

@@ -36,13 +36,12 @@ use Rattle.omi_plain.proofs.StayPlaced.{steps_stay_placed}
 use Rattle.omi_rep.specs.declared.outcome.Outcome.TheVariants as outcome
 use Rattle.omi_step.specs.Placed.{IsPlaced}
 use Rattle.omi_control.specs.Ahead.{ahead, behind_body, called, called_by, passed_over, passing_over, plain_ahead}
-use Rattle.omi_control.specs.Chains.{KeepsBodies}
 use Rattle.omi_control.specs.Commits.{CommitsAt}
 use Rattle.omi_control.specs.Steps.{StepKeeps}
 use Rattle.omi_control.proofs.Assembly.{Before}
 use Rattle.omi_control.proofs.BodyMoves.{returned_of}
 use Rattle.omi_control.proofs.NothingNew.{Makes}
-use Rattle.omi_control.proofs.OwnTask.{bodies_are_of_bodies, top}
+use Rattle.omi_control.proofs.OwnTask.{top}
 use Rattle.omi_control.proofs.Settling.{behind_return, in_work_is, returned_ahead, returns}
 use Rattle.omi_control.proofs.plain.Firsts.{IsBefore, IsGrounded, grounds_are_of_bodies, returned_first, settled_first}
 use Rattle.omi_control.proofs.plain.OwnEvents.{at_debug, body, fits_counter}
@@ -165,7 +164,7 @@ module _ (p : Program) (w : List ℕ) (m : Memory) (events : List (ℕ × Event)
             (returned_fits p (actors i) (has_task p w m events s actors i before plain.Return at_counter) (fits_counter p w m events s actors i before plain.Return at_counter))
             (steps_stay_placed p w (actors i) plain.Return 0 own.placed at_counter)
             (returned_of (λ d gs. IsGrounded gs) grounds_are_of_bodies p (actors i) f fs is end.1 (on_ground p w m events s actors i before plain.Return at_counter)) first
-            (λ u. returned_of (KeepsBodies p u i) (bodies_are_of_bodies p u i) p (actors i) f fs is end.1)
+            (λ P laws. returned_of P laws p (actors i) f fs is end.1)
             (returned_ahead p at debug (actors i) f fs is end.1 open_bodies.0.stands))
             (first.ended (events ++ (i, event.Ret) ∷ []) i),
       )

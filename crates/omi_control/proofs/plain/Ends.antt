@@ -72,8 +72,9 @@ module _ (p : Program) (w : List ℕ) (m : Memory) (events : List (ℕ × Event)
         placed = steps_stay_placed p w (actors i) plain.Done 0 own.placed at_counter;
         grounded = on_ground p w m events s actors i before plain.Done at_counter;
         owes = refl;
-        row = λ n u. tt;
+        row = λ n u o. tt;
         bodies = λ u o. o;
+        runs = λ u o. o;
         ahead = refl;
       } in (
         native p w m events s actors i before,

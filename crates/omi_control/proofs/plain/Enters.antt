@@ -1,5 +1,5 @@
 -- The plain step by which a task enters the runtime: what comes next is by the statement in work.
-use Rattle.std.proofs.Common.{◌≡◌, ◌+◌, ◌-◌, ◌==◌, ◌||◌, ℕ, Bool, true, false, List, [], ◌∷◌, ◌++◌, Option, Some, None, refl, sym, ap, ◌∙◌, subst, if◌then◌else◌}
+use Rattle.std.proofs.Common.{◌≡◌, ◌+◌, ◌-◌, ◌==◌, ◌||◌, ℕ, Bool, true, false, List, [], ◌∷◌, ◌++◌, Option, Some, None, refl, sym, ap, ◌∙◌, subst, arith, if◌then◌else◌}
 use Rattle.omi_script.specs.declared.program.Program.{Program}
 use Rattle.omi_script.specs.declared.statement.Stmt.{Stmt}
 use Rattle.omi_script.specs.declared.statement.Stmt.TheVariants as stmt
@@ -27,6 +27,8 @@ use Rattle.omi_layout.specs.declared.field.Field.TheVariants.{TaskEnter}
 use Rattle.omi_layout.specs.Codes.{exit_word}
 use Rattle.omi_layout.specs.Memory.{Memory}
 use Rattle.omi_pc.specs.declared.actor.Actor.{Actor}
+use Rattle.omi_pc.specs.declared.context.Context.{Context}
+use Rattle.omi_pc.specs.declared.counter.Counter.{Counter}
 use Rattle.omi_pc.specs.declared.counter.Counter.TheVariants as counter
 use Rattle.omi_pc.specs.declared.counter.PlainCounter.TheVariants as plain
 use Rattle.omi_pc.specs.declared.frame.Frame.{Frame}
@@ -36,14 +38,18 @@ use Rattle.omi_plain.specs.PlainSteps.{behind_enter, enter_word, entered, plain_
 use Rattle.omi_plain.specs.StepLaws.{IsImplicitAtBarrier}
 use Rattle.omi_plain.proofs.Fitting.{steps_fit}
 use Rattle.omi_plain.proofs.StayPlaced.{steps_stay_placed}
+use Rattle.omi_rule.specs.Owes.{nothing, owed_at}
 use Rattle.omi_rep.specs.declared.outcome.Outcome.TheVariants as outcome
 use Rattle.omi_control.specs.Ahead.{IsAhead, ahead, behind_leave, leaving, locking_in, lock_of, plain_ahead, task_item, wanting_in}
+use Rattle.omi_control.specs.Chains.{KeepsContext}
+use Rattle.omi_control.specs.Rows.{KeepsRow}
+use Rattle.omi_control.specs.Rule.{HasEnded}
 use Rattle.omi_control.specs.Steps.{StepKeeps}
 use Rattle.omi_control.proofs.Assembly.{Before}
 use Rattle.omi_control.proofs.Settling.{in_work_is}
 use Rattle.omi_control.proofs.plain.Firsts.{IsFirst, plain_first}
 use Rattle.omi_control.proofs.plain.OwnEvents.{GoesOn, at_debug, fits_counter, steps}
-use Rattle.omi_control.proofs.plain.Loads.{goes_on, on_ground, sees, takes_head}
+use Rattle.omi_control.proofs.plain.Loads.{goes_to_row, on_ground, sees, takes_head}
 use Rattle.omi_control.proofs.plain.Leaves.{enter_environment, enter_of_task, enter_place}
 use Rattle.omi_control.proofs.plain.TaskWords.{has_environment, has_place, middle, middle_current, now_current, own_task, task_event, task_on, task_word_at, twice}
 
@@ -137,22 +143,33 @@ module _ (p : Program) (at : Encounter) (fs : List Frame) where
 
 -- ---- the counter
 
-task_first : (b : Bool) → IsFirst (task_counter b)
-task_first true = record { owes = λ c ms. refl; row = λ p w m s i a. tt; ended = λ events i. tt }
-task_first false = record { owes = λ c ms. refl; row = λ p w m s i a. tt; ended = λ events i. tt }
+-- a thread owes nothing at a counter behind the entry, and its registers are right there, whatever state its task is in
+record IsEntered (p : Program) (a : Actor) (x : Counter) : Type 0 where
+  owes : (c : Context) (members : List (Tid × ℕ)) → owed_at c members x ≡ nothing
+  row : (w : List ℕ) (m : Memory) (s : State) (i : ℕ) → KeepsContext s i a.context → KeepsRow p w m s i a x
+  ended : (events : List (ℕ × Event)) (i : ℕ) → HasEnded events i x
 
-enter_first : (d final : Bool) (x : Stmt) → Enters x → IsFirst (behind_enter d final (Some x))
-enter_first true final (stmt.Parallel f num) enters = record { owes = λ c ms. refl; row = λ p w m s i a. tt; ended = λ events i. tt }
-enter_first false final (stmt.Parallel f num) enters = record { owes = λ c ms. refl; row = λ p w m s i a. tt; ended = λ events i. tt }
-enter_first d final (stmt.Task f undeferred given) enters = task_first (undeferred || final)
-enter_first true final stmt.Taskwait enters = record { owes = λ c ms. refl; row = λ p w m s i a. tt; ended = λ events i. tt }
-enter_first false final stmt.Taskwait enters = record { owes = λ c ms. refl; row = λ p w m s i a. tt; ended = λ events i. tt }
-enter_first d final stmt.Taskyield enters = record { owes = λ c ms. refl; row = λ p w m s i a. tt; ended = λ events i. tt }
-enter_first true final stmt.Barrier enters = record { owes = λ c ms. refl; row = λ p w m s i a. tt; ended = λ events i. tt }
-enter_first false final stmt.Barrier enters = record { owes = λ c ms. refl; row = λ p w m s i a. tt; ended = λ events i. tt }
-enter_first true final (stmt.Critical l f) enters = plain_first plain.LockState tt
-enter_first false final (stmt.Critical l f) enters = plain_first plain.Lock tt
-enter_first d final _ enters = absurd enters
+entered_first : (p : Program) (a : Actor) (x : Counter) → IsFirst x → IsEntered p a x
+entered_first p a x first = record { owes = first.owes; row = λ w m s i o. first.row p w m s i a; ended = first.ended }
+
+-- the making of a task begins with a look at the first slot where it may be deferred
+task_entered : (p : Program) (a : Actor) (f : ℕ) (undeferred given : Bool) → IsAt p a.stack (stmt.Task f undeferred given) → (b final : Bool) → undeferred ≡ b → a.context.is_final ≡ final → IsEntered p a (task_counter (b || final))
+task_entered p a f undeferred given is true final e q = record { owes = λ c ms. refl; row = λ w m s i o. (tt, (o.task, o.live, λ j below. absurd (omega (arith, below)))); ended = λ events i. tt }
+task_entered p a f undeferred given is false true e q = record { owes = λ c ms. refl; row = λ w m s i o. (tt, (o.task, o.live, λ j below. absurd (omega (arith, below)))); ended = λ events i. tt }
+task_entered p a f undeferred given is false false e q = record { owes = λ c ms. refl; row = λ w m s i o. (f, given, subst (λ (b : Bool). IsAt p a.stack (stmt.Task f b given)) e is, q); ended = λ events i. tt }
+
+enter_first : (p : Program) (a : Actor) (d : Bool) (x : Stmt) → IsAt p a.stack x → Enters x → IsEntered p a (behind_enter d a.context.is_final (Some x))
+enter_first p a true (stmt.Parallel f num) is enters = entered_first p a _ (record { owes = λ c ms. refl; row = λ q w m s i b. tt; ended = λ events i. tt })
+enter_first p a false (stmt.Parallel f num) is enters = entered_first p a _ (record { owes = λ c ms. refl; row = λ q w m s i b. tt; ended = λ events i. tt })
+enter_first p a d (stmt.Task f undeferred given) is enters = task_entered p a f undeferred given is undeferred a.context.is_final refl refl
+enter_first p a true stmt.Taskwait is enters = entered_first p a _ (record { owes = λ c ms. refl; row = λ q w m s i b. tt; ended = λ events i. tt })
+enter_first p a false stmt.Taskwait is enters = entered_first p a _ (record { owes = λ c ms. refl; row = λ q w m s i b. tt; ended = λ events i. tt })
+enter_first p a d stmt.Taskyield is enters = entered_first p a _ (record { owes = λ c ms. refl; row = λ q w m s i b. tt; ended = λ events i. tt })
+enter_first p a true stmt.Barrier is enters = entered_first p a _ (record { owes = λ c ms. refl; row = λ q w m s i b. tt; ended = λ events i. tt })
+enter_first p a false stmt.Barrier is enters = entered_first p a _ (record { owes = λ c ms. refl; row = λ q w m s i b. tt; ended = λ events i. tt })
+enter_first p a true (stmt.Critical l f) is enters = entered_first p a _ (plain_first plain.LockState tt)
+enter_first p a false (stmt.Critical l f) is enters = entered_first p a _ (plain_first plain.Lock tt)
+enter_first p a d _ is enters = absurd enters
 
 -- ---- the step
 
@@ -215,12 +232,13 @@ module _ (p : Program) (w : List ℕ) (m : Memory) (events : List (ℕ × Event)
       let own = before.rule.threads i before.known in
       let o = own_task p w m events s actors i before plain.Enter at_counter in
       let final : at.is_final ≡ a.context.is_final = ap (λ (q : Option Task). (encounter_by s q).is_final) o.live ∙ o.final in
-      goes_on p w m events s actors i before plain.Enter at_counter (entered p a) (zs x) (record { thread = refl; context = refl; gathered = refl })
+      let first : IsEntered p (entered p a) (entered p a).counter = subst (λ (q : Option Stmt). IsEntered p (entered p a) (behind_enter p.env.debug a.context.is_final q)) (sym is) (enter_first p (entered p a) p.env.debug x is enters) in
+      goes_to_row p w m events s actors i before plain.Enter at_counter (entered p a) (zs x) (record { thread = refl; context = refl; gathered = refl })
       (steps_fit p a plain.Enter 0 own.fits at_counter implicit_at_barrier)
       (steps_stay_placed p w a plain.Enter 0 own.placed at_counter)
       (on_ground p w m events s actors i before plain.Enter at_counter)
-      (subst (λ (q : Option Stmt). IsFirst (behind_enter p.env.debug a.context.is_final q)) (sym is) (enter_first p.env.debug a.context.is_final x enters))
-      (λ u all. all)
+      (first.owes a.context a.gathered.team) (λ n u o. first.row w n u i o)
+      (λ P laws all. all)
       (subst (λ (q : Option Stmt). IsAhead p at a.stack (behind_enter p.env.debug a.context.is_final q) (zs x)) (sym is)
       (enter_ahead p at a.stack p.env.debug (at_debug p w m events s actors i before plain.Enter at_counter) a.context.is_final final x is enters))
 
@@ -232,7 +250,7 @@ module _ (p : Program) (w : List ℕ) (m : Memory) (events : List (ℕ × Event)
       let word : ℕ = enter_word a in
       let word_is : word ≡ t.exit - 32 = ap (λ n. n - 32) (ap (λ j. exit_word j a.context.depth) own.thread ∙ sym o.exit) in
       let z : State = middle p w m events s actors i before plain.Enter at_counter (zs x) in
-      let first : IsFirst (entered p a).counter = subst (λ (q : Option Stmt). IsFirst (behind_enter p.env.debug a.context.is_final q)) (sym is) (enter_first p.env.debug a.context.is_final x enters) in (
+      let first : IsEntered p (entered p a) (entered p a).counter = subst (λ (q : Option Stmt). IsEntered p (entered p a) (behind_enter p.env.debug a.context.is_final q)) (sym is) (enter_first p (entered p a) p.env.debug x is enters) in (
         task_word_at p w m events s actors i before plain.Enter at_counter TaskEnter,
         task_on p w m events s actors i before plain.Enter at_counter TaskEnter word refl,
         task_event p w m events s actors i before plain.Enter at_counter (zs x) TaskEnter word shown refl enter_of_task

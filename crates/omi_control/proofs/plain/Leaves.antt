@@ -33,10 +33,8 @@ use Rattle.omi_rule.specs.Objects.{KeepsEnvironment, KeepsPlace}
 use Rattle.omi_rule.specs.TaskKinds.{IsOfTask}
 use Rattle.omi_step.specs.Placed.{IsPlaced}
 use Rattle.omi_control.specs.Ahead.{ahead, behind_leave}
-use Rattle.omi_control.specs.Chains.{KeepsBodies}
 use Rattle.omi_control.specs.Steps.{StepKeeps}
 use Rattle.omi_control.proofs.Assembly.{Before}
-use Rattle.omi_control.proofs.OwnTask.{bodies_are_of_bodies}
 use Rattle.omi_control.proofs.Settling.{in_work_is}
 use Rattle.omi_control.proofs.plain.Firsts.{IsFirst, plain_first, settled_first}
 use Rattle.omi_control.proofs.plain.OwnEvents.{GoesOn, body, fits_counter}
@@ -118,10 +116,10 @@ module _ (p : Program) (w : List ℕ) (m : Memory) (events : List (ℕ × Event)
           counter = (refl, refl);
         })
         placed (λ called. on_ground p w m events s actors i before plain.Leave at_counter) (plain_first plain.Call tt)
-        (λ u all.
+        (λ P laws all.
         let (g, gs, stack, rest) = body p w m events s actors i before plain.Leave at_counter in
-        subst (λ (y : List Frame). KeepsBodies p u i a.context (record { function = f; next = 0; opened = bodies.Critical l } ∷ y)) (sym stack)
-        ((bodies_are_of_bodies p u i).calls a.context f (bodies.Critical l) g gs refl (subst (λ (y : List Frame). KeepsBodies p u i a.context y) stack all)))
+        subst (λ (y : List Frame). P a.context (record { function = f; next = 0; opened = bodies.Critical l } ∷ y)) (sym stack)
+        (laws.calls a.context f (bodies.Critical l) g gs refl (subst (λ (y : List Frame). P a.context y) stack all)))
         refl
     leaves_by (stmt.Parallel f num) is placed = settles placed
     leaves_by (stmt.Task f undeferred given) is placed = settles placed

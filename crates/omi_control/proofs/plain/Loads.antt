@@ -44,7 +44,7 @@ use Rattle.omi_rule.proofs.ListMoves.{list_moves_keep}
 use Rattle.omi_step.specs.Placed.{IsPlaced}
 use Rattle.omi_step.specs.Words.{of_thread}
 use Rattle.omi_control.specs.Ahead.{IsAhead, ahead, plain_ahead}
-use Rattle.omi_control.specs.Chains.{KeepsBodies, StandsInTask, encounter_of}
+use Rattle.omi_control.specs.Chains.{KeepsBodies, KeepsContext, RunsFunctions, StandsInTask, encounter_of}
 use Rattle.omi_control.specs.Commits.{CommitsAt}
 use Rattle.omi_control.specs.Rule.{HasEnded}
 use Rattle.omi_control.specs.Steps.{IsOn, KeepsRule, RecordWord, StepKeeps, left_in}
@@ -56,6 +56,12 @@ use Rattle.omi_control.proofs.RowsStay.{Spares}
 use Rattle.omi_control.proofs.Settling.{in_work_is, settled_ahead}
 use Rattle.omi_control.proofs.plain.Firsts.{IsBefore, IsFirst, IsGrounded, grounded, grounds_are_of_bodies, plain_first, settled_first}
 use Rattle.omi_control.proofs.plain.OwnEvents.{GoesOn, at_debug, body, fits_counter, own_event, stands, steps}
+use Rattle.omi_rule.specs.Owes.{nothing, owed}
+use Rattle.omi_control.specs.Rows.{KeepsRow}
+use Rattle.omi_control.proofs.Runs.{runs_are_of_bodies}
+use Rattle.omi_control.proofs.BodyMoves.{IsOfBodies}
+use Rattle.omi_pc.specs.declared.frame.Frame.{Frame}
+use Rattle.omi_pc.specs.declared.context.Context.{Context}
 
 -- ---- the head of a list
 
@@ -135,18 +141,27 @@ module _ (p : Program) (w : List ℕ) (m : Memory) (events : List (ℕ × Event)
     pub was_first : IsBefore c → IsFirst (actors i).counter
     was_first b = subst IsFirst (sym at_counter) (plain_first c b)
 
-    pub goes_on : (b : Actor) (list : List Item) → DifferInBodies (actors i) b → Fits p b → IsPlaced w b → IsGrounded b.stack → IsFirst b.counter
-        → ((u : State) → KeepsBodies p u i (actors i).context (actors i).stack → KeepsBodies p u i b.context b.stack) → IsAhead p sees b.stack b.counter list → GoesOn p w i sees (actors i) b list
-    goes_on b list differs fits placed ground first all is = record {
+    -- what moves between the bodies of a task leaves what holds of open bodies
+    abbrev MovesTo : Actor → Type 1
+    MovesTo b = (P : Context → List Frame → Type 0) → IsOfBodies P → P (actors i).context (actors i).stack → P b.context b.stack
+
+    pub goes_to_row : (b : Actor) (list : List Item) → DifferInBodies (actors i) b → Fits p b → IsPlaced w b → IsGrounded b.stack → owed b ≡ nothing
+        → ((n : Memory) (u : State) → KeepsContext u i (actors i).context → KeepsRow p w n u i b b.counter) → MovesTo b → IsAhead p sees b.stack b.counter list → GoesOn p w i sees (actors i) b list
+    goes_to_row b list differs fits placed ground owes row all is = record {
       differs = differs;
       fits = fits;
       placed = placed;
       grounded = ground;
-      owes = first.owes b.context b.gathered.team;
-      row = λ n u. first.row p w n u i b;
-      bodies = λ u o. subst (λ (d : Context). KeepsBodies p u i d b.stack) differs.context (all u o);
+      owes = owes;
+      row = row;
+      bodies = λ u o. subst (λ (d : Context). KeepsBodies p u i d b.stack) differs.context (all (KeepsBodies p u i) (bodies_are_of_bodies p u i) o);
+      runs = λ u o. subst (λ (d : Context). RunsFunctions u d b.stack) differs.context (all (RunsFunctions u) (runs_are_of_bodies u) o);
       ahead = is;
     }
+
+    pub goes_on : (b : Actor) (list : List Item) → DifferInBodies (actors i) b → Fits p b → IsPlaced w b → IsGrounded b.stack → IsFirst b.counter → MovesTo b → IsAhead p sees b.stack b.counter list → GoesOn p w i sees (actors i) b list
+    goes_on b list differs fits placed ground first all is =
+        goes_to_row b list differs fits placed ground (first.owes b.context b.gathered.team) (λ n u o. first.row p w n u i b) all is
 
     pub settled_goes : IsBefore c → IsPlaced w (settled p (actors i)) → GoesOn p w i sees (actors i) (settled p (actors i)) (ahead p sees (actors i).stack)
     settled_goes b placed =
@@ -154,7 +169,7 @@ module _ (p : Program) (w : List ℕ) (m : Memory) (events : List (ℕ × Event)
         goes_on (settled p (actors i)) (ahead p sees (actors i).stack) (settled_differs p (actors i)) (settled_fits p (actors i) has_task) placed
         (settled_of (λ d gs. IsGrounded gs) grounds_are_of_bodies p (actors i) on_ground)
         (settled_first p (actors i) (was_first b))
-        (λ u. settled_of (KeepsBodies p u i) (bodies_are_of_bodies p u i) p (actors i))
+        (λ P laws. settled_of P laws p (actors i))
         (settled_ahead p sees (at_debug p w m events s actors i before c at_counter) (actors i) f fs is)
 
   -- ---- work

@@ -60,7 +60,6 @@ use Rattle.omi_rule.proofs.Moves.{moves_keep}
 use Rattle.omi_rule.proofs.RuntimeStores.{runtime_stores_keep}
 use Rattle.omi_control.specs.Ahead as Ahead
 use Rattle.omi_control.specs.Ahead.{IsAhead, ahead, leaving, locking_in, lock_of, plain_ahead}
-use Rattle.omi_control.specs.Chains.{KeepsBodies}
 use Rattle.omi_control.specs.Commits.{CommitsAt}
 use Rattle.omi_control.specs.Rule.{HasEnded, KeepsThread}
 use Rattle.omi_control.specs.Steps.{KeepsRule, RecordWord, StepKeeps, found_in, left_in}
@@ -69,7 +68,7 @@ use Rattle.omi_control.specs.Waits.Waits.{ForLock}
 use Rattle.omi_control.proofs.Assembly.{Before, spares_none, spares_runtime, waits_keep}
 use Rattle.omi_control.proofs.BodyMoves.{working_of}
 use Rattle.omi_control.proofs.NothingNew.{Makes}
-use Rattle.omi_control.proofs.OwnTask.{bodies_are_of_bodies, own_changes, relisted_ahead, relisted_alike}
+use Rattle.omi_control.proofs.OwnTask.{own_changes, relisted_ahead, relisted_alike}
 use Rattle.omi_control.proofs.RowsStay.{Spares}
 use Rattle.omi_control.proofs.Settling.{in_work_is, working_ahead}
 use Rattle.omi_control.proofs.plain.Firsts.{IsGrounded, grounds_are_of_bodies, settled_first, working_first}
@@ -255,7 +254,7 @@ module _ (p : Program) (w : List ℕ) (m : Memory) (events : List (ℕ × Event)
         (steps_stay_placed p w a plain.Lock 0 own.placed at_counter)
         (working_of (λ d fs. IsGrounded fs) grounds_are_of_bodies p a (on_ground p w m events s actors i before plain.Lock at_counter))
         (working_first p a (was_first p w m events s actors i before plain.Lock at_counter tt))
-        (λ u. working_of (KeepsBodies p u i) (bodies_are_of_bodies p u i) p a)
+        (λ P laws. working_of P laws p a)
         (subst (λ (xs : List Item). IsAhead p sees_here (working p a).stack (working p a).counter (Rows.working sees_here xs)) (worked_leaves sees_here a.stack (stmt.Critical taken f) is)
         (working_ahead p sees_here debug a g gs stack))
 

@@ -35,7 +35,7 @@ use Rattle.omi_rule.specs.Words.{KeepsWords}
 use Rattle.omi_rule.proofs.Moves.{moves_keep}
 use Rattle.omi_step.specs.Placed.{IsPlaced}
 use Rattle.omi_control.specs.Ahead.{IsAhead, plain_ahead}
-use Rattle.omi_control.specs.Chains.{KeepsBodies, StandsInTask, encounter_of}
+use Rattle.omi_control.specs.Chains.{KeepsBodies, KeepsContext, RunsFunctions, StandsInTask, encounter_of}
 use Rattle.omi_control.specs.Commits.{CommitsAt}
 use Rattle.omi_control.specs.Rows.{KeepsRow}
 use Rattle.omi_control.specs.Rule.{AreNewMembers, HasEnded, KeepsThread}
@@ -44,10 +44,13 @@ use Rattle.omi_control.proofs.Assembly.{Before, plain_event_keeps}
 use Rattle.omi_control.proofs.NewMembers.{waiting_step}
 use Rattle.omi_control.proofs.NothingNew.{Makes}
 use Rattle.omi_control.proofs.Others.{events_leave_others}
-use Rattle.omi_control.proofs.Own.{ChangesTask}
+use Rattle.omi_control.proofs.Own.{ChangesTask, context_kept}
 use Rattle.omi_control.proofs.OwnTask.{in_task, list_moved, own_ahead, own_encounter, own_list, own_stands, top}
 use Rattle.omi_control.proofs.RowsStay.{Spares}
 use Rattle.omi_control.proofs.plain.Firsts.{IsGrounded, some_frame}
+use Rattle.omi_model.specs.LawStays.{Stays}
+use Rattle.omi_model.proofs.StaysKept.{stays_step}
+use Rattle.omi_control.proofs.Runs.{stack_runs}
 
 -- the environment of a reached state is the program's
 pub environment_stays : (p : Program) (events : List (ℕ × Event)) (s : State) → Reached p events s → s.environment ≡ p.env
@@ -61,8 +64,9 @@ pub record GoesOn (p : Program) (w : List ℕ) (i : ℕ) (at : Encounter) (a b :
   pub placed : IsPlaced w b
   pub grounded : IsGrounded b.stack
   pub owes : owed b ≡ nothing
-  pub row : (m : Memory) (u : State) → KeepsRow p w m u i b b.counter
+  pub row : (m : Memory) (u : State) → KeepsContext u i a.context → KeepsRow p w m u i b b.counter
   pub bodies : (u : State) → KeepsBodies p u i a.context a.stack → KeepsBodies p u i a.context b.stack
+  pub runs : (u : State) → RunsFunctions u a.context a.stack → RunsFunctions u a.context b.stack
   pub ahead : IsAhead p at b.stack b.counter list
 
 module _ (p : Program) (w : List ℕ) (m : Memory) (events : List (ℕ × Event)) (s : State) (actors : ℕ → Actor) (i : ℕ) (before : Before p w m events s actors i) (c : PlainCounter) (at_counter : (actors i).counter ≡ counter.Plain c) where
@@ -128,9 +132,9 @@ module _ (p : Program) (w : List ℕ) (m : Memory) (events : List (ℕ × Event)
 
   -- ---- the thread afterwards
 
-  pub own_after : (n : Memory) (later : List (ℕ × Event)) (u : State) (b : Actor) (zs : List Item) → ChangesTask s u i a.context.task → ((t : Task) → task_of u a.context.task ≡ Some t → t.list ≡ zs)
+  pub own_after : (n : Memory) (later : List (ℕ × Event)) (u : State) (b : Actor) (zs : List Item) → Stays s u → ChangesTask s u i a.context.task → ((t : Task) → task_of u a.context.task ≡ Some t → t.list ≡ zs)
       → GoesOn p w i at a b zs → HasEnded later i b.counter → KeepsThread p w n later u i b
-  own_after n later u b zs changes list goes ended =
+  own_after n later u b zs stay changes list goes ended =
       let (f, fs, is_open) = some_frame b.stack goes.grounded in
       record {
         thread = goes.differs.thread ∙ own.thread;
@@ -140,7 +144,8 @@ module _ (p : Program) (w : List ℕ) (m : Memory) (events : List (ℕ × Event)
             own_stands p s i a stands events before.rule.reached u changes b f fs is_open goes.differs.context
             (λ o. subst (λ (d : Context). KeepsBodies p u i d b.stack) (sym goes.differs.context) (goes.bodies u o))
             (λ t live. subst (IsAhead p at b.stack b.counter) (sym (list t live)) goes.ahead);
-        row = goes.row n u;
+        runs = subst (λ (d : Context). RunsFunctions u d b.stack) (sym goes.differs.context) (goes.runs u (stack_runs p s u i stay a own.stands own.runs));
+        row = goes.row n u (context_kept p s u i a.context.task changes a.context (top p s i a stands));
         ended = ended;
       }
 
@@ -153,4 +158,4 @@ module _ (p : Program) (w : List ℕ) (m : Memory) (events : List (ℕ × Event)
   own_event o x b out e y zs u is not none taken step commits words spares changes list goes ended =
       plain_event_keeps p w m events s actors i before o x (b, out) e u not is step commits (none_new e y zs u taken step none)
       (moves_keep w (left_in m o x) u actors i b words (goes.owes ∙ sym owes_nothing)) spares
-      (own_after (left_in m o x) (events ++ (i, e) ∷ []) u b zs changes list goes ended)
+      (own_after (left_in m o x) (events ++ (i, e) ∷ []) u b zs (stays_step p s i e u step) changes list goes ended)

@@ -53,12 +53,11 @@ use Rattle.omi_rule.proofs.ThreadStores.{thread_stores_keep}
 use Rattle.omi_step.specs.Words.{of_thread}
 use Rattle.omi_control.specs.Ahead as Ahead
 use Rattle.omi_control.specs.Ahead.{in_work, lock_of, locking_in, plain_ahead}
-use Rattle.omi_control.specs.Chains.{KeepsBodies}
 use Rattle.omi_control.specs.Rule.{HasEnded}
 use Rattle.omi_control.specs.Steps.{RecordWord, StepKeeps}
 use Rattle.omi_control.proofs.Assembly.{Before, spares_threads}
 use Rattle.omi_control.proofs.BodyMoves.{worked_of}
-use Rattle.omi_control.proofs.OwnTask.{bodies_are_of_bodies, own_changes, relisted_ahead, relisted_alike}
+use Rattle.omi_control.proofs.OwnTask.{own_changes, relisted_ahead, relisted_alike}
 use Rattle.omi_control.proofs.Settling.{in_work_is, worked_ahead}
 use Rattle.omi_control.proofs.plain.Firsts.{IsGrounded, grounds_are_of_bodies, plain_first, worked_first}
 use Rattle.omi_control.proofs.plain.OwnEvents.{GoesOn, at_debug, body, fits_counter, own_event, steps}
@@ -158,7 +157,7 @@ module _ (p : Program) (w : List ℕ) (m : Memory) (events : List (ℕ × Event)
       (worked_fits p (actors i) (has_task p w m events s actors i before plain.WorkState at_counter) (fits_counter p w m events s actors i before plain.WorkState at_counter))
       (steps_stay_placed p w (actors i) plain.WorkState 0 own.placed at_counter)
       (worked_of (λ d gs. IsGrounded gs) grounds_are_of_bodies p (actors i) (on_ground p w m events s actors i before plain.WorkState at_counter)) first
-      (λ u. worked_of (KeepsBodies p u i) (bodies_are_of_bodies p u i) p (actors i))
+      (λ P laws. worked_of P laws p (actors i))
       (worked_ahead p sees_here debug (actors i) f fs stack))
       (first.ended (events ++ (i, event.State (work_state (actors i)) 0) ∷ []) i)
 
@@ -179,5 +178,5 @@ module _ (p : Program) (w : List ℕ) (m : Memory) (events : List (ℕ × Event)
       (record { thread = refl; context = refl; gathered = refl })
       (record { thread = own.fits.thread; variables = own.fits.variables; bodies = own.fits.bodies; counter = critical })
       (steps_stay_placed p w (actors i) plain.LockState 0 own.placed at_counter)
-      (on_ground p w m events s actors i before plain.LockState at_counter) (plain_first plain.Lock tt) (λ u o. o) refl)
+      (on_ground p w m events s actors i before plain.LockState at_counter) (plain_first plain.Lock tt) (λ P laws o. o) refl)
       tt

@@ -45,7 +45,7 @@ use Rattle.omi_control.specs.Chains.{KeepsContext}
 use Rattle.omi_control.specs.Commits.{CommitsAt}
 use Rattle.omi_control.specs.Rule.{HasEnded}
 use Rattle.omi_control.specs.Steps.{IsOn, KeepsRule, RecordWord, left_in}
-use Rattle.omi_control.proofs.Assembly.{Before, spares_task}
+use Rattle.omi_control.proofs.Assembly.{Before, spares_begun}
 use Rattle.omi_control.proofs.NothingNew.{Makes}
 use Rattle.omi_control.proofs.Own.{ChangesTask, IsAlike}
 use Rattle.omi_control.proofs.OwnTask.{is_current, list_moved, top}
@@ -158,6 +158,6 @@ module _ (p : Program) (w : List ℕ) (m : Memory) (events : List (ℕ × Event)
       (steps p w m events s actors i before c at_counter e y zs u taken rule stay done) commits
       (subst (λ (n : Memory). KeepsWords w n u (all_owed actors)) (sym stored)
       (task_stores_keep w m (middle zs) (all_owed actors) k (relisted zs own_task.task) g f 0 word (middle_words zs) (middle_current zs).live same of environment place))
-      (λ j other. subst (λ (n : Memory). Spares m n s j (actors j)) (sym stored) (spares_task m s k own_task.task f 0 word j (actors j) own_task.live))
+      (λ j other. subst (λ (n : Memory). Spares m n s j (actors j)) (sym stored) (spares_begun m s k own_task.task f 0 word i j (actors j) own_task.live own_task.begun own_task.thread other))
       (changes_task zs g alike)
       (λ t live. ap (λ (x : Task). x.list) (some_same live (twice zs g own_task.task own_task.live)) ∙ list (relisted zs own_task.task)) goes ended

@@ -13,7 +13,7 @@ use Rattle.omi_model.specs.Changes.{encounter_by}
 use Rattle.omi_model.specs.LawClaims.{IsMeantFor}
 use Rattle.omi_model.specs.State.{State}
 use Rattle.omi_model.proofs.claims.ClaimLaws.{claims_kept}
-use Rattle.omi_layout.specs.declared.field.Field.TheVariants.{RegionLeft, ThreadAssign}
+use Rattle.omi_layout.specs.declared.field.Field.TheVariants.{RegionLeft, TaskSlots, ThreadAssign}
 use Rattle.omi_layout.specs.Field.{regions, tasks, threads}
 use Rattle.omi_layout.specs.Memory.{Memory, put, with_word}
 use Rattle.omi_layout.specs.Named.{number}
@@ -138,6 +138,8 @@ module _ (p : Program) (w : List ℕ) (m : Memory) (events : List (ℕ × Event)
     regions_same = λ k e. record_stays m To threads 0 (number ThreadAssign) 0 (task_address w Task) j regions k (λ _ kind _. absurd (omega (arith, kind)));
     tasks_same = λ k e. record_stays m To threads 0 (number ThreadAssign) 0 (task_address w Task) j tasks k (λ _ kind _. absurd (omega (arith, kind)));
     assign_same = λ t is. go t is (j == To) refl;
+    slots_kept = λ row t place live im is empty. word_stays m To threads 0 (number ThreadAssign) 0 (task_address w Task) row.0.creator tasks row.0.slot (number TaskSlots) place (λ _ kind _ _ _. absurd (omega (arith, kind))) ∙ empty;
+    hand_same = λ k t g h known is live deferred of. word_stays m To threads 0 (number ThreadAssign) 0 (task_address w Task) k.0.creator tasks k.0.slot (number g) h (λ _ kind _ _ _. absurd (omega (arith, kind)));
     left_kept = λ k. not_less (m j regions k) (N j regions k) (number RegionLeft) 0 (record_stays m To threads 0 (number ThreadAssign) 0 (task_address w Task) j regions k (λ _ kind _. absurd (omega (arith, kind))));
   }
     where
@@ -162,7 +164,7 @@ module _ (p : Program) (w : List ℕ) (m : Memory) (events : List (ℕ × Event)
       (record { thread = mine.fits.thread; variables = mine.fits.variables; bodies = mine.fits.bodies; some = subst (λ (xs : List Frame). 0 < length xs) (sym stack) (omega arith) })
       (inl (master_starts (actors i).stack fit.0)) mine.placed.bodies
       (ap (λ (x : Option Model). (encounter_by s x).debug) (top p s i (actors i) o).live ∙ ap (λ (e : Env). e.debug) (environment_stays p events s before.rule.reached))
-      o.current o.bodies
+      o.current o.bodies mine.runs
       (λ t live. subst (λ (x : Counter). IsAhead p (encounter_of s (actors i).context) (actors i).stack x t.list) at (o.ahead t live))
 
   pub assign_keeps : StepKeeps p w m events s actors i (team_next p w (actors i) C) (λ old. (team_moved p w (actors i) C old, team_outcome p w (actors i) C old))

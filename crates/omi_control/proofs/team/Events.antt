@@ -42,6 +42,8 @@ use Rattle.omi_control.proofs.Own.{ChangesTask}
 use Rattle.omi_control.proofs.OwnTask.{list_moved, own_encounter, own_list, own_stands, relisted_ahead, top}
 use Rattle.omi_control.proofs.RowsStay.{Spares}
 use Rattle.omi_control.proofs.team.Within.{going, own, standing}
+use Rattle.omi_model.proofs.StaysKept.{stays_step}
+use Rattle.omi_control.proofs.Runs.{stack_runs}
 
 -- where a thread goes on within its construct, in a state and a memory
 pub record IsReady (p : Program) (w : List ℕ) (n : Memory) (u : State) (i : ℕ) (a : Actor) (d : TeamCounter) (g : Gathered) : Type 0 where
@@ -106,6 +108,7 @@ module _ (p : Program) (w : List ℕ) (m : Memory) (events : List (ℕ × Event)
         stands =
             own_stands p s i (actors i) stands events before.rule.reached u changes (going d g (actors i)) f fs stack refl (λ b. b)
             (relisted_ahead p s i (actors i) stands zs u tasks (λ xs. xs ≡ team_ahead p At (actors i).stack d) next);
+        runs = stack_runs p s u i (stays_step p s i e u done) (actors i) mine.stands mine.runs;
         row = ready.row;
         ended = tt;
       })

@@ -74,6 +74,9 @@ use Rattle.omi_control.proofs.team.ForkSteps.{done, fit, filled, fresh_region, f
 use Rattle.omi_control.proofs.team.ForkTeams.{first_master, members_each, none_arrived, there_at}
 use Rattle.omi_control.proofs.team.Members.{threads_known}
 use Rattle.omi_control.proofs.team.Within.{own, placed}
+use Rattle.omi_model.proofs.StaysKept.{stays_step}
+use Rattle.omi_control.specs.Chains.{RunsFunctions}
+use Rattle.omi_control.proofs.Runs.{stack_runs}
 
 module _ (p : Program) (w : List ℕ) (m : Memory) (events : List (ℕ × Event)) (s : State) (actors : ℕ → Actor) (i : ℕ) (before : Before p w m events s actors i) (r : Rid) (at : (actors i).counter ≡ counter.Team (team.Fork r)) where
   abbrev C : TeamCounter
@@ -188,6 +191,13 @@ module _ (p : Program) (w : List ℕ) (m : Memory) (events : List (ℕ × Event)
     bodies_grow p Z U i larger (actors i).context (actors i).stack bodies_moved,
   )
 
+  runs : RunsFunctions U context (at_start (region_function p (actors i)) (opened.Master (actors i).context) ∷ (actors i).stack)
+  runs =
+      let mine = own p w m events s actors i before C at in (
+        λ opens t live. ap (λ (x : Task). x.function) (some_same live live_first) ∙ sym (function_is p w m events s actors i before r at),
+        stack_runs p s U i (stays_step p s i (event.Fork r Members) U (done p w m events s actors i before r at)) (actors i) mine.stands mine.runs,
+      )
+
   -- ---- what is ahead
 
   seen : encounter_of U context ≡ record { debug = p.env.debug; number = 0; level = Outer.levels + 1; is_final = false }
@@ -224,7 +234,7 @@ module _ (p : Program) (w : List ℕ) (m : Memory) (events : List (ℕ × Event)
       let mine = own p w m events s actors i before C at in
       works p w N Later U i b (at_start (region_function p (actors i)) (opened.Master (actors i).context)) (actors i).stack refl mine.thread
       (record { thread = mine.fits.thread; variables = mine.fits.variables; bodies = open_bodies; some = omega arith })
-      (inl (refl, tt)) contexts_placed (ap (λ (e : Encounter). e.debug) seen) current bodies ahead
+      (inl (refl, tt)) contexts_placed (ap (λ (e : Encounter). e.debug) seen) current bodies runs ahead
 
   assigns_now : 1 < length Members → KeepsThread p w N Later U i (to_team (team.Assign 1) b)
   assigns_now more =
@@ -241,6 +251,7 @@ module _ (p : Program) (w : List ℕ) (m : Memory) (events : List (ℕ × Event)
           );
         };
         stands = record { current = current; bodies = bodies; ahead = ahead };
+        runs = runs;
         row = tt;
         ended = tt;
       }

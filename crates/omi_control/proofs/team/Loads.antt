@@ -73,7 +73,7 @@ module _ (p : Program) (w : List ℕ) (m : Memory) (events : List (ℕ × Event)
 -- ---- the data environment
 
 -- where the words of a data environment stand
-variable_field : (word : ℕ) → word < VARIABLE_WORDS → kind_of (number (variable_at word).0) ≡ tasks
+pub variable_field : (word : ℕ) → word < VARIABLE_WORDS → kind_of (number (variable_at word).0) ≡ tasks
 variable_field zero below = refl
 variable_field (suc zero) below = refl
 variable_field (suc (suc zero)) below = refl
@@ -84,7 +84,7 @@ variable_field (suc (suc (suc (suc (suc (suc zero)))))) below = refl
 variable_field (suc (suc (suc (suc (suc (suc (suc zero))))))) below = refl
 variable_field (suc (suc (suc (suc (suc (suc (suc (suc n)))))))) below = absurd (omega (arith, below))
 
-variable_word : (w : List ℕ) (k : Id) (word : ℕ) → word < VARIABLE_WORDS → IsSlot w tasks k.creator k.slot → IsRecordWord w k.creator k.slot (number (variable_at word).0) (variable_at word).1
+pub variable_word : (w : List ℕ) (k : Id) (word : ℕ) → word < VARIABLE_WORDS → IsSlot w tasks k.creator k.slot → IsRecordWord w k.creator k.slot (number (variable_at word).0) (variable_at word).1
 variable_word w k zero below o = record { field = record { from = omega arith; to = omega arith }; record_slot = o; within = omega arith }
 variable_word w k (suc zero) below o = record { field = record { from = omega arith; to = omega arith }; record_slot = o; within = omega arith }
 variable_word w k (suc (suc zero)) below o = record { field = record { from = omega arith; to = omega arith }; record_slot = o; within = omega arith }
@@ -96,7 +96,7 @@ variable_word w k (suc (suc (suc (suc (suc (suc (suc zero))))))) below o = recor
 variable_word w k (suc (suc (suc (suc (suc (suc (suc (suc n)))))))) below o = absurd (omega (arith, below))
 
 -- they are the codes of it
-variable_is : (w : List ℕ) (r : Rec) (t : Task) (word : ℕ) → word < VARIABLE_WORDS → KeepsEnvironment w r t → IsVariable t.variables word (r (number (variable_at word).0) (variable_at word).1)
+pub variable_is : (w : List ℕ) (r : Rec) (t : Task) (word : ℕ) → word < VARIABLE_WORDS → KeepsEnvironment w r t → IsVariable t.variables word (r (number (variable_at word).0) (variable_at word).1)
 variable_is w r t zero below o = o.dynamic
 variable_is w r t (suc zero) below o = o.nthreads_length
 variable_is w r t (suc (suc zero)) below o = o.schedule
@@ -106,6 +106,19 @@ variable_is w r t (suc (suc (suc (suc (suc zero))))) below o = λ n there. o.nth
 variable_is w r t (suc (suc (suc (suc (suc (suc zero)))))) below o = λ n there. o.nthreads 2 n there
 variable_is w r t (suc (suc (suc (suc (suc (suc (suc zero))))))) below o = λ n there. o.nthreads 3 n there
 variable_is w r t (suc (suc (suc (suc (suc (suc (suc (suc n)))))))) below o = absurd (omega (arith, below))
+
+-- one word more of it is gathered
+pub variables_more : (t : Task) (old : List ℕ) (word value : ℕ) → length old ≡ VARIABLE_WORDS → word < VARIABLE_WORDS → ((j : ℕ) → j < word → IsVariable t.variables j (slice_index old j)) → IsVariable t.variables word value
+    → (j : ℕ) → j < word + 1 → IsVariable t.variables j (slice_index (slice_set old word value) j)
+variables_more t old word value whole below are here j within = go (j == word) refl
+  where
+    go : (b : Bool) → j == word ≡ b → IsVariable t.variables j (slice_index (slice_set old word value) j)
+    go true e =
+        let same : j ≡ word = eqb-true j word e in
+        subst (λ k. IsVariable t.variables k (slice_index (slice_set old word value) k)) (sym same) (subst (IsVariable t.variables word) (sym (get_or-set_same old word value 0 (omega (arith, below, whole)))) here)
+    go false e =
+        let apart : j ≢ word = λ same. cc (sym (eq-eqb j word same), e) in
+        subst (IsVariable t.variables j) (sym (get_or-set_other old word j value 0 apart)) (are j (omega (arith, within, apart)))
 
 module _ (p : Program) (w : List ℕ) (m : Memory) (events : List (ℕ × Event)) (s : State) (actors : ℕ → Actor) (i : ℕ) (before : Before p w m events s actors i) (word : ℕ) (at : (actors i).counter ≡ counter.Team (team.LoadVariable word)) where
   abbrev Name : Id
@@ -134,23 +147,7 @@ module _ (p : Program) (w : List ℕ) (m : Memory) (events : List (ℕ × Event)
       subst (IsVariable t.variables word) (sym found)
       (subst (λ (v : Task). IsVariable v.variables word (m Name.creator tasks Name.slot (number (variable_at word).0) (variable_at word).1)) same
       (variable_is w (m Name.creator tasks Name.slot) o.task word below (task_record p w m events s actors i before (team.LoadVariable word) at))) in
-      (t, live, λ j within. go t are here j within (j == word) refl)
-    where
-      old : List ℕ
-      old = (actors i).gathered.variables
-
-      whole : length old ≡ VARIABLE_WORDS
-      whole = (own p w m events s actors i before (team.LoadVariable word) at).fits.variables
-
-      go : (t : Task) → ((j : ℕ) → j < word → IsVariable t.variables j (slice_index old j)) → IsVariable t.variables word (found_in m X) → (j : ℕ) → j < word + 1 → (b : Bool) → j == word ≡ b
-          → IsVariable t.variables j (slice_index (slice_set old word (found_in m X)) j)
-      go t are here j within true e =
-          let same : j ≡ word = eqb-true j word e in
-          subst (λ k. IsVariable t.variables k (slice_index (slice_set old word (found_in m X)) k)) (sym same)
-          (subst (IsVariable t.variables word) (sym (get_or-set_same old word (found_in m X) 0 (omega (arith, below, whole)))) here)
-      go t are here j within false e =
-          let apart : j ≢ word = λ same. cc (sym (eq-eqb j word same), e) in
-          subst (IsVariable t.variables j) (sym (get_or-set_other old word j (found_in m X) 0 apart)) (are j (omega (arith, within, apart)))
+      (t, live, variables_more t (actors i).gathered.variables word (found_in m X) (own p w m events s actors i before (team.LoadVariable word) at).fits.variables below are here)
 
   pub variable_keeps : StepKeeps p w m events s actors i (team_next p w (actors i) (team.LoadVariable word)) (λ old. (team_moved p w (actors i) (team.LoadVariable word) old, team_outcome p w (actors i) (team.LoadVariable word) old))
   variable_keeps = (

@@ -76,7 +76,7 @@ module _ (p : Program) (w : List ℕ) (m : Memory) (events : List (ℕ × Event)
             address = ap (λ j. word_address w j r.0.slot (number RegionLife) 0) fresh.creator;
           },
           quiet_keeps p w m events s actors i before (op.Store (of_region w r RegionLife) (used_word r.0)) X (Then, outcome.Quiet) refl taken
-              (λ j other. spares_own m s i regions r.0.slot (number RegionLife) 0 (2 * r.0.generation + 1) j (actors j) other)
+              (λ j other. spares_own m s i regions r.0.slot (number RegionLife) 0 (2 * r.0.generation + 1) j (actors j) other (λ kind. absurd (omega (arith, kind))))
               (goes_on p w m events s actors i before C at N (team.FillRegion r 0) (actors i).gathered (own p w m events s actors i before C at).fits.variables refl
               (fits p w m events s actors i before C at, omega arith)
               there
@@ -141,7 +141,7 @@ module _ (p : Program) (w : List ℕ) (m : Memory) (events : List (ℕ × Event)
         step b same thread =
             quiet_keeps p w m events s actors i before (filling w r.0 Word) Y (b, outcome.Quiet) refl
             (subst (λ (n : Memory). KeepsWords w n s (all_owed (put actors i b))) (sym left) (stored b same))
-            (λ j other. subst (λ (n : Memory). Spares m n s j (actors j)) (sym left) (spares_own m s i regions r.0.slot (number Word.field) Word.at Word.value j (actors j) other))
+            (λ j other. subst (λ (n : Memory). Spares m n s j (actors j)) (sym left) (spares_own m s i regions r.0.slot (number Word.field) Word.at Word.value j (actors j) other (λ kind. absurd (omega (arith, kind)))))
             (subst (λ (n : Memory). KeepsThread p w n events s i b) (sym left) thread)
 
         go : (b : Bool) → nat_lt (word + 1) REGION_WORDS ≡ b → KeepsRule p w m events s actors i (filling w r.0 Word) Y (to_team (if b then team.FillRegion r (word + 1) else team.LoadTaskLife r 0 0) (actors i), outcome.Quiet)

@@ -120,7 +120,7 @@ module _ (p : Program) (w : List ℕ) (m : Memory) (events : List (ℕ × Event)
             address = ap (λ j. word_address w j t.0.slot (number TaskLife) 0) fresh.creator;
           },
           quiet_keeps p w m events s actors i before (op.Store (of_task w t TaskLife) (used_word t.0)) X (Then, outcome.Quiet) refl taken
-              (λ j other. spares_own m s i tasks t.0.slot (number TaskLife) 0 (2 * t.0.generation + 1) j (actors j) other)
+              (λ j other. spares_own m s i tasks t.0.slot (number TaskLife) 0 (2 * t.0.generation + 1) j (actors j) other (λ _. fresh.empty))
               (goes_on p w m events s actors i before C at N (team.FillTask r member t 0) Got (own p w m events s actors i before C at).fits.variables refl
               (((((got.0.0.0, (let h = got.0.0.1 in omega (arith, h, size)), (let h = got.0.0.2 in omega (arith, h, size))), got.0.1), (let h = got.1 in omega (arith, h, size)), got.2)), omega arith) (
                 there_region,
@@ -218,7 +218,7 @@ module _ (p : Program) (w : List ℕ) (m : Memory) (events : List (ℕ × Event)
         step b same thread =
             quiet_keeps p w m events s actors i before (filling w t.0 Word) Y (b, outcome.Quiet) refl
             (subst (λ (n : Memory). KeepsWords w n s (all_owed (put actors i b))) (sym left) (stored b same))
-            (λ j other. subst (λ (n : Memory). Spares m n s j (actors j)) (sym left) (spares_own m s i tasks t.0.slot (number Word.field) Word.at Word.value j (actors j) other))
+            (λ j other. subst (λ (n : Memory). Spares m n s j (actors j)) (sym left) (spares_own m s i tasks t.0.slot (number Word.field) Word.at Word.value j (actors j) other (λ _. making.free)))
             (subst (λ (n : Memory). KeepsThread p w n events s i b) (sym left) thread)
 
         go : (b : Bool) → nat_lt (word + 1) TASK_WORDS ≡ b → KeepsRule p w m events s actors i (filling w t.0 Word) Y (to_team (if b then team.FillTask r member t (word + 1) else team.StoreMember r member t) (actors i), outcome.Quiet)
@@ -301,7 +301,7 @@ module _ (p : Program) (w : List ℕ) (m : Memory) (events : List (ℕ × Event)
         step : (b : Actor) → owed b ≡ owed (actors i) → KeepsThread p w Stored events s i b → KeepsRule p w m events s actors i (op.Store (of_member w r member) (task_address w t)) Z (b, outcome.Quiet)
         step b same thread =
             quiet_keeps p w m events s actors i before (op.Store (of_member w r member) (task_address w t)) Z (b, outcome.Quiet) refl
-            (member_stored b same) (λ j other. spares_own m s i regions r.0.slot (number RegionTeam) member (task_address w t) j (actors j) other) thread
+            (member_stored b same) (λ j other. spares_own m s i regions r.0.slot (number RegionTeam) member (task_address w t) j (actors j) other (λ kind. absurd (omega (arith, kind)))) thread
 
         go : (b : Bool) → nat_lt (member + 1) (team_size (actors i)) ≡ b
             → KeepsRule p w m events s actors i (op.Store (of_member w r member) (task_address w t)) Z (to_team (if b then team.LoadTaskLife r (member + 1) 0 else team.Fork r) (actors i), outcome.Quiet)

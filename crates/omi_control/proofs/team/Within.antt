@@ -95,6 +95,7 @@ module _ (p : Program) (w : List ℕ) (m : Memory) (events : List (ℕ × Event)
     fits = record { thread = own.fits.thread; variables = variables; bodies = own.fits.bodies; counter = fits_there };
     placed = record { bodies = own.placed.bodies; counter = placed_there };
     stands = stands;
+    runs = own.runs;
     row = row_there;
     ended = tt;
   }

@@ -68,6 +68,7 @@ use Rattle.omi_control.proofs.Owing.{idle_moved, owed_after, step_of}
 use Rattle.omi_control.proofs.plain.OwnEvents.{environment_stays}
 use Rattle.omi_control.proofs.worker.WorkerEvents.{own_thread, fits_worker, owes_now, row_is, stands_alone, taken_list, thread_on, thread_word}
 use Rattle.omi_control.proofs.worker.WorkerLoads.{implicit_is, one_waits}
+use Rattle.omi_control.specs.Chains.{RunsFunctions}
 
 module _ (p : Program) (w : List ℕ) (m : Memory) (events : List (ℕ × Event)) (s : State) (actors : ℕ → Actor) (i : ℕ) (before : Before p w m events s actors i)
     (k : Tid) (f : ℕ) (q : Rid) (size n : ℕ) (at : (actors i).counter ≡ counter.Worker (worker.ImplicitBegin k f q size n)) (o : WaitsFor s i k) (f_is : o.task.function ≡ f) (q_is : o.task.region ≡ q) (n_is : o.task.number ≡ n)
@@ -242,6 +243,7 @@ module _ (p : Program) (w : List ℕ) (m : Memory) (events : List (ℕ × Event)
       (ap (λ (e : Encounter). e.debug) seen)
       (ap (λ (h : Thread). h.current) (put_same z.threads i (record (z.threads i) { current = Some k })))
       (subst (KeepsBodies p u i context) (sym stack) (kept, tt, kept))
+      (subst (RunsFunctions u context) (sym stack) (λ opens t now. ap (λ (x : Task). x.function) (some_same now live) ∙ f_is, tt))
       (λ t now. ap (λ (x : Task). x.list) (some_same now live) ∙ list)
 
   pub begins_task : KeepsRule p w m events s actors i (op.Store (of_thread w (actors i).thread ThreadCurrent) (task_address w k)) (thread_word i ThreadCurrent) (Moves.working p b, outcome.Event (event.ImplicitBegin k))

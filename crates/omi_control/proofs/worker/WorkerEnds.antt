@@ -72,6 +72,7 @@ use Rattle.omi_control.proofs.plain.OwnEvents.{environment_stays}
 use Rattle.omi_control.proofs.join.Departures.{ended_few}
 use Rattle.omi_control.proofs.worker.WorkerEvents.{alone_after, fits_worker, own_thread, owes_now, stands_alone, thread_on, thread_word, worker_list}
 use Rattle.omi_control.proofs.worker.WorkerLoads.{region_maker_of, task_word}
+use Rattle.omi_control.specs.Chains.{RunsFunctions}
 
 -- behind the stored state, or without one
 idle_ahead : (p : Program) (s : State) → s.environment ≡ p.env → idling s ≡ worker_ahead s (idle_counter p)
@@ -273,6 +274,7 @@ module _ (p : Program) (w : List ℕ) (m : Memory) (events : List (ℕ × Event)
           ahead = ap (λ (h : Thread). h.list) (put_same z.threads i (record (z.threads i) { current = None })) ∙ worker_lists p events s before.rule.reached i k current.name first
               ∙ ap (λ (e : Env). if e.debug then item.State idle 0 ∷ offering else offering) (sym (environment_stays p events s before.rule.reached));
         });
+        runs = subst (RunsFunctions u (closed (actors i)).context) (sym stack_is) tt;
         row = tt;
         ended = tt;
       }

@@ -51,6 +51,7 @@ use Rattle.omi_control.proofs.NewMembers.{waiting_step}
 use Rattle.omi_control.proofs.NothingNew.{Makes}
 use Rattle.omi_control.proofs.RowsStay.{Spares}
 use Rattle.omi_control.proofs.Owing.{idle_list, idle_moved, step_of}
+use Rattle.omi_control.specs.Chains.{RunsFunctions}
 
 -- the word of a field in the record of thread i
 abbrev pub thread_word : ℕ → Field → RecordWord
@@ -98,6 +99,7 @@ module _ (p : Program) (w : List ℕ) (m : Memory) (events : List (ℕ × Event)
         fits = record { thread = o.fits.thread; variables = o.fits.variables; bodies = o.fits.bodies; counter = fits };
         placed = record { bodies = o.placed.bodies; counter = placed };
         stands = subst (StandsWith p u i (to_worker d (actors i))) (sym alone) (record { current = none; ahead = list });
+        runs = subst (RunsFunctions u (actors i).context) (sym alone) tt;
         row = row;
         ended = tt;
       }

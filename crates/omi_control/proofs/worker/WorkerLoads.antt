@@ -225,7 +225,7 @@ module _ (p : Program) (w : List ℕ) (m : Memory) (events : List (ℕ × Event)
           quiet_keeps p w m events s actors i before (op.Store (of_thread w (actors i).thread ThreadAssign) 0) (thread_word i ThreadAssign) (to_worker (worker.LoadLife t) (actors i), outcome.Quiet) refl
           (owed_after w (with_word m i threads 0 (number ThreadAssign) 0 0) s actors i (to_worker (worker.LoadLife t) (actors i)) (record (all_owed actors i) { met = true }) (ap (λ (x : Owed). record x { met = true }) (sym owes))
           (assign_clears_keep w m s (all_owed actors) i k before.rule.words before.known word (ap (λ (x : Owed). x.met) owes) o (one_waits k o) (address_some w before.valid k)))
-          (λ j other. spares_own m s i threads 0 (number ThreadAssign) 0 0 j (actors j) other)
+          (λ j other. spares_own m s i threads 0 (number ThreadAssign) 0 0 j (actors j) other (λ kind. absurd (omega (arith, kind))))
           (alone_after p w m events s actors i before (worker.ClearAssign t) at fit.0 (with_word m i threads 0 (number ThreadAssign) 0 0) events s (worker.LoadLife t) fit (placed_now at) (stands_alone p w m events s actors i before (worker.ClearAssign t) at fit.0).current
           (worker_list p w m events s actors i before (worker.ClearAssign t) at fit.0) (k, o, is))
 

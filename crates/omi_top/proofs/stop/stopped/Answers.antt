@@ -6,17 +6,11 @@ use Rattle.omi_corefile.specs.Spelling.{Core, HoldsImage, core_bytes}
 use Rattle.omi_corefile.specs.declared.core_image.CoreImage.{CoreImage}
 use Rattle.omi_events.specs.Events.{Events}
 use Rattle.omi_events.specs.Steps.{Steps}
-use Rattle.omi_script.specs.declared.program.Program.{Program}
 use Rattle.omi_script.proofs.RuleLemmas.{Rules-from_accepted}
-use Rattle.omi_core.specs.Taskless.{IsTaskless}
 use Rattle.omi_top.specs.Lines.{run_text}
-use Rattle.omi_top.proofs.BuiltPrograms.{built_taskless}
 use Rattle.omi_top.proofs.Stopping.{made_stopped}
 use Rattle.omi_top.proofs.ThreadIds.{count, rising}
 use Rattle.omi_top.proofs.stop.stopped.Goals as goal
-
-pub run-requires-clause-taskless : goal.run-requires-clause-taskless
-run-requires-clause-taskless c = subst (λ (q : Program). IsTaskless q) (sym c.in_ok-core.ensures.program) (built_taskless c.args.p c.requires)
 
 pub core_bytes_of-requires-clause-rising : goal.core_bytes_of-requires-clause-rising
 core_bytes_of-requires-clause-rising c = subst (λ (ids : List ℕ). IsTrue (rises_from 0 ids)) (sym c.in_ok-contexts.ensures) (rising c.args.p.threads)

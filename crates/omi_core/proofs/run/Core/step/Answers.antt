@@ -13,7 +13,7 @@ use Rattle.omi_core.specs.RunSteps.{IsRight, IsStep, event_of, seats_of}
 use Rattle.omi_events.specs.declared.made.Turn.{Turn}
 use Rattle.std.proofs.lemmas.List.{length-append}
 use Rattle.omi_core.specs.Kept.{KeepsRun}
-use Rattle.omi_core.proofs.without_tasks.GoesOn.{step_kept}
+use Rattle.omi_core.proofs.KeptCounters.{step_kept}
 use Rattle.omi_core.proofs.Stepping.{actor_is, few_seats, inside, own, right, run_after, seats_for, spare_after}
 use Rattle.omi_core.proofs.run.Core.step.Goals as goal
 
@@ -33,7 +33,7 @@ pub apply-found-requires : goal.apply-found-requires
 apply-found-requires c =
     let thread = subst (λ (z : Run). c.args.i < z.program.threads) (sym c.self.view_is) c.requires.thread in
     let spare = subst (λ (z : Run). 1 ≤ spare_in z) (sym c.self.view_is) c.requires.spare in
-    let kept = subst (λ (z : Run). IsKept (actors_in z.actors c.args.i).counter) (sym c.self.view_is) c.requires.kept in
+    let kept = c.self.invariant.goes_on c.args.i thread in
     let here = c.index.ensures ∙ actor_is c.self.inside.actors.items c.args.i c.index.result.now (subst (λ n. c.args.i < n) (sym c.self.invariant.run.actors) thread) in
     subst (λ (o : Op). IsWordOf c.self.inside.image (address_of o)) (sym (c.next-op.ensures ∙ ap (λ (b : Actor). next_of c.self.inside.program c.self.inside.layout.table b) here))
     (inside _ c.self.invariant.run c.args.i thread spare kept)
@@ -54,7 +54,7 @@ pub list_event-requires-clause-seats : goal.list_event-requires-clause-seats
 list_event-requires-clause-seats c =
     let thread = subst (λ (z : Run). c.args.i < z.program.threads) (sym c.self.view_is) c.requires.thread in
     let spare = subst (λ (z : Run). 1 ≤ spare_in z) (sym c.self.view_is) c.requires.spare in
-    let kept = subst (λ (z : Run). IsKept (actors_in z.actors c.args.i).counter) (sym c.self.view_is) c.requires.kept in
+    let kept = c.self.invariant.goes_on c.args.i thread in
     let within = subst (λ n. c.args.i < n) (sym c.self.invariant.run.actors) thread in
     let found = c.apply-found.ensures.old ∙ ap (λ (o : Op). word_at c.self.inside.image (address_of o)) (c.next-op.ensures ∙ ap (λ (b : Actor). next_of c.self.inside.program c.self.inside.layout.table b) (c.index.ensures ∙ actor_is c.self.inside.actors.items c.args.i c.index.result.now within)) in
     seats_for _ c.self.invariant.run c.args.i thread spare kept c.resume-outcome.result
@@ -71,7 +71,7 @@ some_spare : (c : goal.After-list_event) → 1 ≤ spare_in (record { program = 
 some_spare c = subst (λ (z : Run). 1 ≤ spare_in z) (sym c.self.view_is) c.requires.spare
 
 is_kept : (c : goal.After-list_event) → IsKept (actors_in c.self.inside.actors.items c.args.i).counter
-is_kept c = subst (λ (z : Run). IsKept (actors_in z.actors c.args.i).counter) (sym c.self.view_is) c.requires.kept
+is_kept c = c.self.invariant.goes_on c.args.i (threads_known c)
 
 in_list : (c : goal.After-list_event) → c.args.i < length c.self.inside.actors.items
 in_list c = subst (λ n. c.args.i < n) (sym c.self.invariant.run.actors) (threads_known c)
@@ -141,7 +141,7 @@ keeps_run c =
 pub invariant_of-self : goal.invariant_of-self
 invariant_of-self c = record {
   run = keeps_run c;
-  goes_on = λ taskless. step_kept (run_before c) (run_now c) c.self.invariant.run (keeps_run c) c.args.i (threads_known c) taskless (c.self.invariant.goes_on taskless) refl (actors_are c);
+  goes_on = step_kept (run_before c) (run_now c) c.args.i _ (threads_known c) c.self.invariant.run.actors c.self.invariant.goes_on refl (is_step c).actors;
 }
 
 pub returns-clause-entry : goal.returns-clause-entry

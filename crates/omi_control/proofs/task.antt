@@ -1,0 +1,13 @@
+-- The steps of a `task` construct.
+pub mod Within
+pub mod Loads
+pub mod Searches
+pub mod Fills
+pub mod Raises
+pub mod Events
+pub mod Slots
+pub mod NewTasks
+pub mod Making
+pub mod StartsNow
+pub mod Defers
+pub mod TaskKeeps
