@@ -1,9 +1,7 @@
-//! Tests of omi_pc, omi_rep and omi_task, by their public calls alone.
+//! Tests of omi_pc and omi_rep, by their public calls alone.
 #![tactic(auto)]
 
 #[cfg(test)]
 mod pc;
 #[cfg(test)]
 mod rep;
-#[cfg(test)]
-mod task;
