@@ -25,8 +25,7 @@ another r s fault same proper = let wrong : true ≡ false = sym fault ∙ ap is
 -- no fault is what an answer says
 stop_proper : (budget : ℕ) (content core : Option (List ℕ)) (r : Refusal) → is_fault r ≡ true → IsStopAnswer budget content (Gives core (Err r)) → ⊥
 stop_proper budget None None r fault is = another r _ fault is refl
-stop_proper budget (Some bytes) None r fault (inl (f, why, is)) = another r _ fault is refl
-stop_proper budget (Some bytes) None r fault (inr (other, is)) = another r _ fault is refl
+stop_proper budget (Some bytes) None r fault (f, why, is) = another r _ fault is refl
 stop_proper budget None (Some core) r fault is = is
 stop_proper budget (Some bytes) (Some core) r fault is = is
 

@@ -1,18 +1,14 @@
 -- What the clauses of the top call say of `stop`, from what it leaves.
-use Rattle.std.proofs.Common.{◌≡◌, inl, inr, ℕ, List, Option, Some, None, Ok, Err, refl, sym, ◌∙◌, ap, subst}
+use Rattle.std.proofs.Common.{◌≡◌, ℕ, List, Option, Some, None, Ok, Err, refl, sym, ◌∙◌, ap, subst}
 use Rattle.omi_outside.specs.Outside.{Told, holding, put_on}
 use Rattle.omi_outside.specs.declared.status.Status.{Status}
 use Rattle.omi_outside.specs.declared.status.Status.TheVariants as status
-use Rattle.std.specs.Prelude.{IsTrue}
-use Rattle.std.specs.List.{list_all}
-use Rattle.omi_script.specs.Grammar.{AreEqual, Grammar, Refused}
-use Rattle.omi_script.specs.declared.function.Func.{Func}
-use Rattle.omi_script.proofs.VerdictLemmas.{AreEqual-from_workload, not_both}
+use Rattle.omi_script.specs.Grammar.{Grammar, Refused}
+use Rattle.omi_script.proofs.VerdictLemmas.{not_both}
 use Rattle.omi_script.specs.declared.fault.ScriptFault.{ScriptFault}
 use Rattle.omi_script.specs.declared.program.Program.{Program}
 use Rattle.omi_top.specs.declared.refusal.Refusal.{Refusal}
-use Rattle.omi_top.specs.Built.{IsBuilt, is_built_function}
-use Rattle.omi_top.specs.Answer.{Answer, Gives, IsAnswer, IsStopAnswer, IsStopRefusal, IsOtherProgram, IsLeft, IsStopped, IsFaultStatus, ComesWhere}
+use Rattle.omi_top.specs.Answer.{Answer, Gives, IsAnswer, IsStopAnswer, IsStopRefusal, IsLeft, IsStopped, IsFaultStatus, ComesWhere}
 use Rattle.omi_top.specs.Command.{Stop}
 use Rattle.omi_top.specs.Refusal.{status_of}
 use Rattle.omi_top.proofs.Statuses.{DoesMore, IsDoneStatus, one_content, comes_where}
@@ -21,14 +17,10 @@ use Rattle.omi_top.proofs.Statuses.{DoesMore, IsDoneStatus, one_content, comes_w
 abbrev HasFault : List ℕ → Type 0
 HasFault bytes = (fault : ScriptFault) × Refused bytes fault
 
--- a program that is equal to one that is run is run too
-same_built : (p q : Program) → AreEqual p q → IsBuilt p → IsBuilt q
-same_built p q same built = subst (λ (funcs : List Func). IsTrue (list_all is_built_function funcs)) same.funcs built
-
--- the script's file holds a program that is run
+-- the script's file holds a program
 abbrev HoldsProgram : Option (List ℕ) → Type 0
 HoldsProgram None = ⊥
-HoldsProgram (Some bytes) = (p : Program) × Grammar bytes p × IsBuilt p
+HoldsProgram (Some bytes) = (p : Program) × Grammar bytes p
 
 -- what an answer says of the script, where the script's content is told
 module _ (budget : ℕ) (script core : List ℕ) (told : List ℕ → Told) (content : Option (List ℕ)) (is : told script ≡ Some content) where
@@ -54,7 +46,7 @@ module _ (budget : ℕ) (script core : List ℕ) (told : List ℕ → Told) (con
       go None (Gives (Some core) (Err r)) more said = absurd said
       go (Some bytes) (Gives None (Ok text)) more said = absurd said
       go (Some bytes) (Gives (Some core) (Err r)) more said = absurd said
-      go (Some bytes) (Gives (Some core) (Ok text)) more (p, grammar, built, stopped) = (p, grammar, built)
+      go (Some bytes) (Gives (Some core) (Ok text)) more (p, grammar, stopped) = (p, grammar)
 
 module _ (budget : ℕ) (script core : List ℕ) (told : List ℕ → Told) (old new : Told) (counted : Type 0) (out after : Option (List ℕ)) where
   -- a status comes exactly where a fact holds of the script's content
@@ -69,8 +61,7 @@ module _ (budget : ℕ) (script core : List ℕ) (told : List ℕ → Told) (old
     where
       says : (c : Option (List ℕ)) (r : Refusal) → IsStopRefusal c r → status_of r ≡ status.NoFile → c ≡ None
       says None r refuses is = refl
-      says (Some bytes) r (inl (fault, why, same)) is = let wrong : status.Script ≡ status.NoFile = ap status_of (sym same) ∙ is in absurd (cc)
-      says (Some bytes) r (inr (other, same)) is = let wrong : status.NotBuilt ≡ status.NoFile = ap status_of (sym same) ∙ is in absurd (cc)
+      says (Some bytes) r (fault, why, same) is = let wrong : status.Script ≡ status.NoFile = ap status_of (sym same) ∙ is in absurd (cc)
 
       all : (c : Option (List ℕ)) → c ≡ None → (r : Refusal) → IsStopRefusal c r → status_of r ≡ status.NoFile
       all None missing r is = ap status_of is
@@ -85,37 +76,20 @@ module _ (budget : ℕ) (script core : List ℕ) (told : List ℕ → Told) (old
   script_refused s bytes is = comes (Some bytes) is status.Script s (HasFault bytes) (λ no. no) (λ no. no) says all none
     where
       says : (r : Refusal) → IsStopRefusal (Some bytes) r → status_of r ≡ status.Script → HasFault bytes
-      says r (inl (fault, why, same)) is = (fault, why)
-      says r (inr (other, same)) is = let wrong : status.NotBuilt ≡ status.Script = ap status_of (sym same) ∙ is in absurd (cc)
+      says r (fault, why, same) is = (fault, why)
 
       all : HasFault bytes → (r : Refusal) → IsStopRefusal (Some bytes) r → status_of r ≡ status.Script
-      all refused r (inl (fault, why, same)) = ap status_of same
-      all (fault, why) r (inr (other, same)) = absurd (not_both bytes other.program fault other.says why)
+      all refused r (fault, why, same) = ap status_of same
 
       none : HasFault bytes → HoldsProgram (Some bytes) → ⊥
-      none (fault, why) (p, grammar, built) = not_both bytes p fault grammar why
-
-  -- it is another program exactly where the status says so
-  pub other_program : (s : Status) (bytes : List ℕ) → told script ≡ Some (Some bytes) → IsLeft (Stop budget script core) told s old new counted out after → ComesWhere status.NotBuilt s (IsOtherProgram bytes)
-  other_program s bytes is = comes (Some bytes) is status.NotBuilt s (IsOtherProgram bytes) (λ no. no) (λ no. no) says all none
-    where
-      says : (r : Refusal) → IsStopRefusal (Some bytes) r → status_of r ≡ status.NotBuilt → IsOtherProgram bytes
-      says r (inl (fault, why, same)) is = let wrong : status.Script ≡ status.NotBuilt = ap status_of (sym same) ∙ is in absurd (cc)
-      says r (inr (other, same)) is = other
-
-      all : IsOtherProgram bytes → (r : Refusal) → IsStopRefusal (Some bytes) r → status_of r ≡ status.NotBuilt
-      all other r (inl (fault, why, same)) = absurd (not_both bytes other.program fault other.says why)
-      all other r (inr (is, same)) = ap status_of same
-
-      none : IsOtherProgram bytes → HoldsProgram (Some bytes) → ⊥
-      none other (p, grammar, built) = other.other (same_built p other.program (AreEqual-from_workload bytes p other.program grammar other.says) built)
+      none (fault, why) (p, grammar) = not_both bytes p fault grammar why
 
   -- what success leaves
   pub success : (s : Status) (bytes : List ℕ) → told script ≡ Some (Some bytes) → s ≡ status.Success → IsLeft (Stop budget script core) told s old new counted out after
-      → (p : Program) × (written : List ℕ) × (text : List ℕ) × Grammar bytes p × IsBuilt p × IsStopped p budget written text × (new ≡ holding old written) × (after ≡ put_on out text)
+      → (p : Program) × (written : List ℕ) × (text : List ℕ) × Grammar bytes p × IsStopped p budget written text × (new ≡ holding old written) × (after ≡ put_on out text)
   success s bytes is done left = go (subst (λ (x : Status). IsLeft (Stop budget script core) told x old new counted out after) done left)
     where
       go : IsLeft (Stop budget script core) told status.Success old new counted out after
-          → (p : Program) × (written : List ℕ) × (text : List ℕ) × Grammar bytes p × IsBuilt p × IsStopped p budget written text × (new ≡ holding old written) × (after ≡ put_on out text)
+          → (p : Program) × (written : List ℕ) × (text : List ℕ) × Grammar bytes p × IsStopped p budget written text × (new ≡ holding old written) × (after ≡ put_on out text)
       go (None, text, answer, held, put) = absurd (stop_answer budget script core told (Some bytes) is (Gives None (Ok text)) answer)
-      go (Some written, text, answer, held, put) = let (p, grammar, built, stopped) = stop_answer budget script core told (Some bytes) is (Gives (Some written) (Ok text)) answer in (p, written, text, grammar, built, stopped, held, put)
+      go (Some written, text, answer, held, put) = let (p, grammar, stopped) = stop_answer budget script core told (Some bytes) is (Gives (Some written) (Ok text)) answer in (p, written, text, grammar, stopped, held, put)

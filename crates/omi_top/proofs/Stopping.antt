@@ -36,7 +36,6 @@ use Rattle.omi_core.specs.Steps.{AreStepsOf, events_behind, made_of_steps, threa
 use Rattle.omi_core.proofs.History.{made_length}
 use Rattle.omi_top.specs.declared.limits.TheConstants.{SCRIPT_FRONT}
 use Rattle.omi_top.specs.Answer.{Gives, IsAnswer, IsAnswered, IsEarly, IsLate, IsStopRefusal, IsStopped, IsUnwritten, IsOfCore}
-use Rattle.omi_top.specs.Built.{IsBuilt}
 use Rattle.omi_top.specs.Command.{Stop as StopCommand}
 use Rattle.omi_top.specs.Cores.{IsCoreOf}
 use Rattle.omi_top.specs.Lines.{run_text}
@@ -71,12 +70,11 @@ front_grammar bytes p g = record { state = g.state; says = sym (front_verdict by
 
 -- the refusal of the first 65,537 bytes is the refusal of the text
 front_refused : (bytes : List ℕ) (r : Refusal) → IsStopRefusal (Some (take SCRIPT_FRONT bytes)) r → IsStopRefusal (Some bytes) r
-front_refused bytes r (inl (fault, why, same)) = inl (fault, record { says = sym (front_verdict bytes) ∙ why.says }, same)
-front_refused bytes r (inr (other, same)) = inr (record { program = other.program; says = front_grammar bytes other.program other.says; other = other.other }, same)
+front_refused bytes r (fault, why, same) = (fault, record { says = sym (front_verdict bytes) ∙ why.says }, same)
 
 -- the error of reading a script as a refusal
 pub script_refused : (bytes : List ℕ) (e : ScriptError) → IfFault (Refused bytes) e → IsStopRefusal (Some bytes) (refusal_of_script e) ⊎ (refusal_of_script e ≡ refusal.OutOfMemory)
-script_refused bytes (error.Fault fault) why = inl (inl (fault, why, refl))
+script_refused bytes (error.Fault fault) why = inl (fault, why, refl)
 script_refused bytes error.OutOfMemory why = inr refl
 
 late : (r : RefusedWrite) → IsLate (refusal_of_write r)
@@ -98,18 +96,18 @@ module _ (budget : ℕ) (script core : List ℕ) (told : List ℕ → Told) wher
     refused_answered r old (inr memory) = inr (inl (subst (λ (x : Refusal). IsEarly (StopCommand budget script core) x) (sym memory) tt, refl))
 
     -- the answer of a program's run
-    run_answer : (written text : List ℕ) (p : Program) → Grammar whole p → IsBuilt p → IsStopped p budget written text → IsAnswer (StopCommand budget script core) told (Gives (Some written) (Ok text))
-    run_answer written text p grammar built stopped = (Some bytes, is ∙ ap Some holds, (p, front_grammar bytes p (subst (λ (xs : List ℕ). Grammar xs p) read grammar), built, stopped))
+    run_answer : (written text : List ℕ) (p : Program) → Grammar whole p → IsStopped p budget written text → IsAnswer (StopCommand budget script core) told (Gives (Some written) (Ok text))
+    run_answer written text p grammar stopped = (Some bytes, is ∙ ap Some holds, (p, front_grammar bytes p (subst (λ (xs : List ℕ). Grammar xs p) read grammar), stopped))
 
     -- the core is partly written
-    pub partly_answered : (written text : List ℕ) (p : Program) (r : RefusedWrite) (old new : Told) → Grammar whole p → IsBuilt p → IsStopped p budget written text → IsCut old new written
+    pub partly_answered : (written text : List ℕ) (p : Program) (r : RefusedWrite) (old new : Told) → Grammar whole p → IsStopped p budget written text → IsCut old new written
         → IsAnswered (StopCommand budget script core) told (Err (refusal_of_write r)) old new
-    partly_answered written text p r old new grammar built stopped cut = inr (inr (late r, (written, Ok text, run_answer written text p grammar built stopped, cut)))
+    partly_answered written text p r old new grammar stopped cut = inr (inr (late r, (written, Ok text, run_answer written text p grammar stopped, cut)))
 
     -- the core is written, and the text is handed up
-    pub done_answered : (written : List ℕ) (text : Vec ℕ) (p : Program) (old new : Told) → Grammar whole p → IsBuilt p → IsStopped p budget written text.items → new ≡ holding old written
+    pub done_answered : (written : List ℕ) (text : Vec ℕ) (p : Program) (old new : Told) → Grammar whole p → IsStopped p budget written text.items → new ≡ holding old written
         → IsAnswered (StopCommand budget script core) told (Ok text) old new
-    done_answered written text p old new grammar built stopped held = (Some written, run_answer written text.items p grammar built stopped, held)
+    done_answered written text p old new grammar stopped held = (Some written, run_answer written text.items p grammar stopped, held)
 
 -- ---- a run that was made
 
@@ -181,8 +179,7 @@ is_outside r = false
 
 -- a script's refusal is none of these
 inside : (bytes : List ℕ) (r : Refusal) → IsStopRefusal (Some bytes) r ⊎ (r ≡ refusal.OutOfMemory) → is_outside r ≡ false
-inside bytes r (inl (inl (fault, why, same))) = ap is_outside same
-inside bytes r (inl (inr (other, same))) = ap is_outside same
+inside bytes r (inl (fault, why, same)) = ap is_outside same
 inside bytes r (inr same) = ap is_outside same
 
 abbrev ends_outside : Result (Vec ℕ) Refusal → Bool
@@ -193,8 +190,7 @@ pub never_outside : (bytes : List ℕ) (r s : Refusal) → IsStopRefusal (Some b
 never_outside bytes r s said outside is = let both : false ≡ true = sym (inside bytes r said) ∙ ap ends_outside is ∙ outside in cc both
 
 pub never_read_fault : (bytes : List ℕ) (r : Refusal) → IsStopRefusal (Some bytes) r ⊎ (r ≡ refusal.OutOfMemory) → IsReadFault r → ⊥
-never_read_fault bytes r (inl (inl (fault, why, same))) is = subst (λ (x : Refusal). IsReadFault x) same is
-never_read_fault bytes r (inl (inr (other, same))) is = subst (λ (x : Refusal). IsReadFault x) same is
+never_read_fault bytes r (inl (fault, why, same)) is = subst (λ (x : Refusal). IsReadFault x) same is
 never_read_fault bytes r (inr same) is = subst (λ (x : Refusal). IsReadFault x) same is
 
 -- what a refused write is handed on as: never a refusal of the words or a fault of reading, and a fault of writing where the write failed
@@ -220,8 +216,7 @@ never_unwritten refused.OutOfMemory unwritten = unwritten
 
 -- no refusal of `stop` is one of a core
 pub never_of_core : (bytes : List ℕ) (r : Refusal) → IsStopRefusal (Some bytes) r ⊎ (r ≡ refusal.OutOfMemory) → IsOfCore (status_of r) → ⊥
-never_of_core bytes r (inl (inl (fault, why, same))) is = subst (λ (x : Refusal). IsOfCore (status_of x)) same is
-never_of_core bytes r (inl (inr (other, same))) is = subst (λ (x : Refusal). IsOfCore (status_of x)) same is
+never_of_core bytes r (inl (fault, why, same)) is = subst (λ (x : Refusal). IsOfCore (status_of x)) same is
 never_of_core bytes r (inr same) is = subst (λ (x : Refusal). IsOfCore (status_of x)) same is
 
 pub write_not_of_core : (r : RefusedWrite) → IsOfCore (status_of (refusal_of_write r)) → ⊥

@@ -21,7 +21,6 @@ use Rattle.omi_model.specs.declared.view.View.{View}
 use Rattle.omi_core.specs.declared.entry.Entry.{Entry}
 use Rattle.omi_core.specs.declared.stop.End.{End}
 use Rattle.omi_core.specs.Steps.{events_behind}
-use Rattle.omi_top.specs.Built.{IsBuilt}
 use Rattle.omi_top.specs.declared.refusal.Input.{Input}
 use Rattle.omi_top.specs.declared.refusal.Input.TheVariants as input
 use Rattle.omi_top.specs.declared.refusal.Refusal.{Refusal}
@@ -54,24 +53,17 @@ pub record IsStopped (p : Program) (budget : ℕ) (core text : List ℕ) : Type 
 pub data Answer : Type 0 where
   Gives : (core : Option (List ℕ)) (says : Result (List ℕ) Refusal) → Answer
 
--- a text is a program, and none that `stop` runs yet
-pub record IsOtherProgram (bytes : List ℕ) : Type 0 where
-  pub program : Program
-  pub says : Grammar bytes program
-  pub other : IsBuilt program → ⊥
-
--- why `stop` refuses, by the content of the script's file: there is none, the grammar refuses its text, or it is another program
+-- why `stop` refuses, by the content of the script's file: there is none, or the grammar refuses its text
 abbrev pub IsStopRefusal : Option (List ℕ) → Refusal → Type 0
 IsStopRefusal None r = r ≡ refusal.NoFile input.Script
 IsStopRefusal (Some bytes) r =
-    ((fault : ScriptFault) × Refused bytes fault × (r ≡ refusal.Script fault))
-    ⊎ (IsOtherProgram bytes × (r ≡ refusal.NotBuilt))
+    (fault : ScriptFault) × Refused bytes fault × (r ≡ refusal.Script fault)
 
 -- an answer of `stop`, by the content of the script's file: a refusal alone, or the core and the text of a run of its program
 abbrev pub IsStopAnswer : ℕ → Option (List ℕ) → Answer → Type 0
 IsStopAnswer budget content (Gives None (Err r)) = IsStopRefusal content r
-IsStopAnswer budget (Some bytes) (Gives (Some core) (Ok text)) = (p : Program) × Grammar bytes p
-    × IsBuilt p × IsStopped p budget core text
+IsStopAnswer budget (Some bytes) (Gives (Some core) (Ok text)) =
+    (p : Program) × Grammar bytes p × IsStopped p budget core text
 IsStopAnswer budget content answer = ⊥
 
 -- a file is a core, and none that `show` reads yet
@@ -228,9 +220,10 @@ IsShownAgain s status.WriteFault out after = ⊤
 IsShownAgain s status.OutOfMemory out after = ⊤
 IsShownAgain s other out after = ⊥
 
--- a core is refused: of another kind, or for the layout in its words
+-- a core is refused: for its bytes, as one that is not plain, or for the layout in its words
 abbrev pub IsOfCore : Status → Type 0
 IsOfCore status.Core = ⊤
 IsOfCore status.Damaged = ⊤
 IsOfCore status.Incompatible = ⊤
+IsOfCore status.NotBuilt = ⊤
 IsOfCore other = ⊥

@@ -1,10 +1,9 @@
 -- The definitions to believe, in reading order: what a command line asks for, what its answer is, what a core is to
--- `show`, which programs are run by now, and what a run is.
+-- `show`, and what a run is.
 pub mod Command
 pub mod Answer
 pub mod Cores
 pub mod Refusal
-pub mod Built
 pub mod Run
 pub mod Lines
 -- What private functions of the code stand on: a request as a command, and room for its lines

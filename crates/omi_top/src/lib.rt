@@ -1,7 +1,6 @@
 //! All that the program `ompdi` does: a command line, files to read, files to write, and where to print.
 #![tactic(auto)]
 
-mod built;
 mod command;
 mod limits;
 mod lines;

@@ -4,13 +4,11 @@ ghost use Rattle.std.specs.Prelude.{◌≡◌, ◌≢◌, ◌⊎◌, List, ℕ, 
 ghost use Rattle.omi_outside.specs.Outside.{HasCause};
 ghost use Rattle.omi_script.specs.Grammar.{Grammar};
 ghost use Rattle.omi_top.specs.Answer.{AreTold, IsAnswered, IsStopRefusal, IsStopped, IsUnwritten, IsOfCore};
-ghost use Rattle.omi_top.specs.Built.{IsBuilt};
 ghost use Rattle.omi_top.specs.Command.{Stop as StopCommand};
 ghost use Rattle.omi_top.specs.Refusal.{IsReadFault, status_of};
 ghost use Rattle.omi_top.specs.Run.{thread_ids};
 
 use crate::Refusal;
-use crate::built::is_built;
 use crate::limits::SCRIPT_FRONT;
 use crate::lines::text_of;
 use crate::load::load;
@@ -24,18 +22,13 @@ use omi_script::{Program, parse};
 use omi_word::{Natives, OutOfMemory};
 use std::alloc::Global;
 
-/// The program of a script, where it is one that is run by now.
+/// The program of a script.
 fn program(alloc: Global, bytes: &[u8]) -> Result<Program, Refusal>
     ensures accepted { IfOk result (λ p. Grammar bytes.now p) }
-    ensures built { IfOk result (λ p. IsBuilt p) }
     ensures refused { IfErr result
         (λ r. IsStopRefusal (Some bytes.now) r ⊎ (r ≡ Refusal.OutOfMemory)) }
 {
-    let p = parse(alloc, bytes)?;
-    if !is_built(&p) {
-        return Err(Refusal::NotBuilt);
-    }
-    Ok(p)
+    Ok(parse(alloc, bytes)?)
 }
 
 /// The native ids of so many threads.
@@ -51,7 +44,6 @@ fn contexts_of(alloc: Global, threads: u8) -> Result<Natives, OutOfMemory>
 
 /// Runs a program in the layout of family 0, its threads in turn, and answers the bytes of its core and what it prints.
 fn stopped(alloc: Global, p: Program, budget: u64) -> Result<(Vec<u8>, String), OutOfMemory>
-    requires { IsBuilt p }
     ensures { IfOk result (λ made. IsStopped p budget made.0.items (string_bytes made.1)) }
 {
     families_suit();

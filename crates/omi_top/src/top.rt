@@ -6,12 +6,11 @@ ghost use Rattle.omi_outside.specs.Outside.{HasCause, Rose, IsPutCut, holding, p
 ghost use Rattle.omi_corefile.specs.Refusals.{CoreRefused};
 ghost use Rattle.omi_corefile.specs.declared.fault.CoreFault.{CoreFault};
 ghost use Rattle.omi_script.specs.Grammar.{Grammar, Refused as RefusedScript};
-ghost use Rattle.omi_top.specs.Built.{IsBuilt};
 ghost use Rattle.omi_script.specs.declared.fault.ScriptFault.{ScriptFault};
 ghost use Rattle.omi_script.specs.declared.program.Program.{Program};
 ghost use Rattle.omi_top.specs.Command.{Command, Stop, Show, Faulty, command_in, written_name, Writes};
 ghost use Rattle.omi_top.specs.Asked.{asked, HasRoom, IsBounded};
-ghost use Rattle.omi_top.specs.Answer.{AreTold, IsAnswered, IsOtherCore, IsIncompatibleCore, IsDamagedCore, IsOtherProgram, IsStopped, IsSaid, IsCounted, IsLeft, IsUnwritten, ComesWhere, IsShownAgain, IsOfCore};
+ghost use Rattle.omi_top.specs.Answer.{AreTold, IsAnswered, IsOtherCore, IsIncompatibleCore, IsDamagedCore, IsStopped, IsSaid, IsCounted, IsLeft, IsUnwritten, ComesWhere, IsShownAgain, IsOfCore};
 ghost use Rattle.omi_top.specs.Cores.{one_thread, IsPlainCore};
 ghost use Rattle.omi_rep.specs.LookView.{look_view};
 ghost use Rattle.omi_layout.specs.SymbolTable.{words_of};
@@ -227,8 +226,8 @@ pub fn run_top<F: Files, W: Files, K: Sink>(
         → Rose (W.writes dest.old) (W.writes dest.new)
         ⊎ Rose (K.faults out.old) (K.faults out.new) }
 
-    // Where the script's file is told: there is none, the grammar refuses it, or it is a program
-    // that `stop` doesn't run yet, exactly where the status says so.
+    // Where the script's file is told: there is none, or the grammar refuses it, exactly where the
+    // status says so.
     ensures no_file { (budget : ℕ) (script core : List ℕ) (content : Option (List ℕ))
         → command_in words.now ≡ Stop budget script core → F.told files.old script ≡ Some content
         → ComesWhere Status.NoFile result (content ≡ None) }
@@ -236,10 +235,6 @@ pub fn run_top<F: Files, W: Files, K: Sink>(
         → command_in words.now ≡ Stop budget script core
         → F.told files.old script ≡ Some (Some bytes)
         → ComesWhere Status.Script result ((fault : ScriptFault) × RefusedScript bytes fault) }
-    ensures other_program { (budget : ℕ) (script core bytes : List ℕ)
-        → command_in words.now ≡ Stop budget script core
-        → F.told files.old script ≡ Some (Some bytes)
-        → ComesWhere Status.NotBuilt result (IsOtherProgram bytes) }
 
     // With success the core is that of the last words of a run, and what is put is that run's
     // events and its end.
@@ -247,7 +242,7 @@ pub fn run_top<F: Files, W: Files, K: Sink>(
         → command_in words.now ≡ Stop budget script core
         → F.told files.old script ≡ Some (Some bytes)
         → result ≡ Status.Success
-        → (p : Program) × (written text : List ℕ) × Grammar bytes p × IsBuilt p
+        → (p : Program) × (written text : List ℕ) × Grammar bytes p
         × IsStopped p budget written text
         × (W.told dest.new core ≡ holding (W.told dest.old core) written)
         × (K.told out.new ≡ put_on (K.told out.old) text) }

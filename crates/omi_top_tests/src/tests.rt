@@ -288,21 +288,6 @@ const NO_SCRIPTS: [(&str, &str); 9] = [
     ("func main\n", "script 2 10 Unclosed\n"),
 ];
 
-/// Programs that are not run so far.
-const NOT_BUILT: [(&str, &str); 5] = [
-    (
-        "func a\nend\nfunc main\nwork\ncritical 0 a\nend\n",
-        "not built\n",
-    ),
-    ("func main\ntool 1\nend\n", "not built\n"),
-    ("func main\nset_max_active_levels 1\nend\n", "not built\n"),
-    (
-        "threads 2\nfunc main\nset_schedule static 0\nend\n",
-        "not built\n",
-    ),
-    ("func main\nset_default_device 0\nend\n", "not built\n"),
-];
-
 /// `stop` of each script is refused with its line.
 fn refuse_scripts(
     rt: &impl Abort,
@@ -323,9 +308,18 @@ fn texts_that_are_refused(rt: HostRuntime) -> Result<(), Fail> {
     Ok(())
 }
 
+/// A lock, the word for a tool, and the statements that set the other control variables.
 #[test]
-fn programs_that_are_not_built(rt: HostRuntime) -> Result<(), Fail> {
-    refuse_scripts(&rt, rt.alloc(), Status::NotBuilt, &NOT_BUILT)?;
+fn a_lock_and_other_variables(rt: HostRuntime) -> Result<(), Fail> {
+    let script =
+        "func a\nwork\nend\nfunc main\nset_schedule dynamic 4\nset_default_device 7\nset_max_active_levels 2\n\
+        tool 99\ncritical 3 a\nend\n";
+    let text =
+        "1 t0 set run-sched-var dynamic,4\n2 t0 set default-device-var 7\n3 t0 set max-active-levels-var 2\n\
+        4 t0 tool 99\n5 t0 enter\n6 t0 state wait_critical 4\n7 t0 lock 3\n8 t0 state work_serial 0\n9 t0 leave\n\
+        10 t0 call 0\n11 t0 work\n12 t0 ret\n13 t0 unlock 3\n14 t0 state wait_barrier_implicit_parallel 0\n15 t0 arrive\n\
+        23 t0 release\n24 t0 pass\n25 t0 done\nend steps 25 events 18 by done\n";
+    stopped(&rt, rt.alloc(), "1000", script, text)?;
     Ok(())
 }
 

@@ -4,7 +4,7 @@ use Rattle.omi_top.specs.Answer.{AreTold, IsCounted, IsLeft}
 use Rattle.omi_top.specs.Command.{Command, Stop, Show, written_name}
 use Rattle.omi_top.proofs.Left.{left_by}
 use Rattle.omi_top.proofs.LeftByShow.{no_file as no_core, core_refused, other_core, incompatible, damaged, report_put, shown_again}
-use Rattle.omi_top.proofs.LeftByStop.{no_file, script_refused, other_program, success}
+use Rattle.omi_top.proofs.LeftByStop.{no_file, script_refused, success}
 use Rattle.omi_top.proofs.top.run_top.Given as given
 use Rattle.omi_top.proofs.top.run_top.Goals as goal
 
@@ -27,9 +27,6 @@ returns-clause-no_file g c = λ budget name core content command told. no_file b
 
 pub returns-clause-script : goal.returns-clause-script
 returns-clause-script g c = λ budget name core bytes command told. script_refused budget name core (g.F.Files.told c.args.files.now) _ _ _ _ _ _ bytes told (left_of g c (Stop budget name core) (c.request_of.ensures.asked ∙ command) (Some bytes, told))
-
-pub returns-clause-other_program : goal.returns-clause-other_program
-returns-clause-other_program g c = λ budget name core bytes command told. other_program budget name core (g.F.Files.told c.args.files.now) _ _ _ _ _ _ bytes told (left_of g c (Stop budget name core) (c.request_of.ensures.asked ∙ command) (Some bytes, told))
 
 pub returns-clause-success : goal.returns-clause-success
 returns-clause-success g c = λ budget name core bytes command told done. success budget name core (g.F.Files.told c.args.files.now) _ _ _ _ _ _ bytes told done (left_of g c (Stop budget name core) (c.request_of.ensures.asked ∙ command) (Some bytes, told))
