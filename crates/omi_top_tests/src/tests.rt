@@ -289,22 +289,17 @@ const NO_SCRIPTS: [(&str, &str); 9] = [
 ];
 
 /// `stop` of each script is refused with its line.
-fn refuse_scripts(
-    rt: &impl Abort,
-    alloc: Global,
-    status: Status,
-    rows: &[(&str, &str)],
-) -> Result<(), AllocError> {
+fn refuse_scripts(rt: &impl Abort, alloc: Global, rows: &[(&str, &str)]) -> Result<(), AllocError> {
     let line = ["stop", "0", "s", "c"];
     for (script, text) in rows {
-        expect_refusal(rt, alloc, &line, None, script, status, text)?;
+        expect_refusal(rt, alloc, &line, None, script, Status::Script, text)?;
     }
     Ok(())
 }
 
 #[test]
 fn texts_that_are_refused(rt: HostRuntime) -> Result<(), Fail> {
-    refuse_scripts(&rt, rt.alloc(), Status::Script, &NO_SCRIPTS)?;
+    refuse_scripts(&rt, rt.alloc(), &NO_SCRIPTS)?;
     Ok(())
 }
 
