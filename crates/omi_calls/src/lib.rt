@@ -12,6 +12,3 @@ pub use callbacks::{Callbacks, Got, Place, Sizes};
 pub use laws::core_tells_memory;
 pub use memory::MemCalls;
 pub use table::{CallbackFailed, Table, ToHost};
-
-#[cfg(test)]
-mod tests;

@@ -7,6 +7,7 @@ ghost use Rattle.omi_events.specs.Rows.{event_in, EndsWithin};
 
 use crate::teams::team_of;
 use omi_model::{Event, MOST_MEMBERS, Rid, Tid};
+use std::mem::size_of;
 
 /// An event as it is kept. Of a team it has the place of its first member alone, counted from 0 among the members of
 /// all teams of the list.
@@ -54,6 +55,9 @@ pub struct EventRow {
     pub size: u8,
     pub kept: Kept,
 }
+
+const _: () = prove!(size_of::<EventRow>() <= 40);
+const _: () = prove!(size_of::<(Tid, u8)>() <= 12);
 
 /// What is kept of an event whose team is put behind the first `first` members.
 pub fn keep(event: &Event, first: usize) -> Kept

@@ -13,6 +13,3 @@ pub use laws::steps_have_room;
 pub use made::{Made, Turn};
 pub use made_list::MadeList;
 pub use omi_list::OutOfMemory;
-
-#[cfg(test)]
-mod tests;

@@ -1,6 +1,7 @@
 //! What is kept of a step that was made.
 
 use omi_word::Op;
+use std::mem::size_of;
 
 /// What came of a step.
 #[derive(Clone, Copy, Debug, PartialEq, Eq)]
@@ -23,3 +24,5 @@ pub struct Made {
     pub thread: u8,
     pub turn: Turn,
 }
+
+const _: () = prove!(size_of::<Made>() <= 48);

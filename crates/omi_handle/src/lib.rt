@@ -11,6 +11,3 @@ pub use laws::given_once;
 
 /// Memory ran out.
 pub type OutOfMemory = std::alloc::AllocError;
-
-#[cfg(test)]
-mod tests;

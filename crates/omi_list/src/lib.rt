@@ -9,6 +9,3 @@ pub use same::Same;
 
 /// Memory ran out.
 pub type OutOfMemory = std::alloc::AllocError;
-
-#[cfg(test)]
-mod tests;

@@ -11,6 +11,3 @@ pub use limits::{FIRST_ADDRESS, MOST_WORDS};
 pub use natives::Natives;
 pub use omi_list::OutOfMemory;
 pub use op::{Op, Res};
-
-#[cfg(test)]
-mod tests;

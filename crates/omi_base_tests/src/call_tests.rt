@@ -5,7 +5,7 @@ ghost use Rattle.std.specs.Int.{w64, from_le_bytes, from_be_bytes};
 ghost use Rattle.omi_calls.specs.Kept.{IsOrderOf, TakesAll, GivesNumbers};
 ghost use Rattle.omi_calls.specs.Memory.{usual_sizes, told_of};
 
-use crate::{CallbackFailed, Callbacks, Got, MemCalls, Place, Sizes, Table, ToHost};
+use omi_calls::{CallbackFailed, Callbacks, Got, MemCalls, Place, Sizes, Table, ToHost};
 use omi_corefile::core_of;
 use omi_word::{Image, Natives, Op, OutOfMemory};
 use std::alloc::Global;

@@ -1,20 +1,11 @@
-//! Each call of the two lists once with memory at hand, their sizes, and teams read back.
+//! Each call of the two lists of a run once with memory at hand, and teams read back.
 
 ghost use Rattle.std.specs.Prelude.{◌<◌};
 
-use crate::kept::EventRow;
-use crate::{EventList, Made, MadeList, Turn};
+use omi_events::{EventList, Made, MadeList, Turn};
 use omi_model::{Event, Id, MOST_MEMBERS, Rid, Team, Tid};
 use omi_word::Op;
-use std::mem::size_of;
 use std::test::Fail;
-
-#[test]
-fn elements_have_at_most_40_and_48_bytes(rt: HostRuntime) {
-    assert!(rt; size_of::<EventRow>() <= 40);
-    assert!(rt; size_of::<(Tid, u8)>() <= 12);
-    assert!(rt; size_of::<Made>() <= 48);
-}
 
 /// The name of the object of thread 1 in this slot.
 fn id(slot: u16) -> Id {

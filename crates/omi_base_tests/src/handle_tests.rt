@@ -1,6 +1,6 @@
 //! Handles made, found and released, in the orders that matter.
 
-use crate::{Handles, Held, Kind};
+use omi_handle::{Handles, Held, Kind};
 use std::test::Fail;
 
 /// What a handle to some record stands for.

@@ -1,6 +1,6 @@
 //! Examples of operations, and the edges of an image.
 
-use crate::{Image, Op};
+use omi_word::{Image, Op};
 use std::test::Fail;
 
 #[test]

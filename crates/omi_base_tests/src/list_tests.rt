@@ -1,6 +1,6 @@
 //! Each call of a list once, with memory at hand.
 
-use crate::{List, OutOfMemory};
+use omi_list::{List, OutOfMemory};
 use std::rt::HostRuntime;
 
 #[test]
