@@ -107,7 +107,7 @@ module _ (told : Told) (w : List ℕ) (s : State) (shown : ShowsTold told w s) w
       (shown.shows.records.threads t.thread t.begun.known t.begun.begun).current
 
   -- the number of members of a visible region
-  size_told : (n : Rid) (seen : IsVisibleRegion s n) → answer_on shown.memory (team_size w (region_address w n)) ≡ Ok (length seen.region.team)
+  pub size_told : (n : Rid) (seen : IsVisibleRegion s n) → answer_on shown.memory (team_size w (region_address w n)) ≡ Ok (length seen.region.team)
   unfolding team_size
   size_told n seen =
       let right = shown.shows.within.well_formed.regions n seen in

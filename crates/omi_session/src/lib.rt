@@ -18,7 +18,7 @@ pub use handing::{hand_region, hand_task, hand_thread};
 pub use handled::{compare, let_go, name};
 pub use laws::{inquiries_look, reached_names_fit};
 pub use library::{Library, initialize};
-pub use members::{current_task, member};
+pub use members::{current_task, member, team_size};
 pub use parted::Parted;
 pub use rc::Rc;
 pub use session::Session;

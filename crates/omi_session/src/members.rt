@@ -35,7 +35,7 @@ pub fn current_task<C: Callbacks, F: ToHost>(
 }
 
 /// The number of members of the region at a byte address. An Error where it isn't from 1 to the number of threads.
-fn team_size<C: Callbacks, F: ToHost>(s: &mut Session<C, F>, address: u64) -> Result<u64, Rc>
+pub fn team_size<C: Callbacks, F: ToHost>(s: &mut Session<C, F>, address: u64) -> Result<u64, Rc>
     requires { address ≤ LAST_END }
     ensures answer { Answers (C.told s.old.table.calls) result
         (inquiry.team_size s.old.layout address) }
