@@ -8,7 +8,7 @@ use omi_model::HeadRow;
 use std::fmt::Write;
 
 /// The word for debug-var.
-fn debug_word(debug: u64) -> &'static str
+pub fn debug_word(debug: u64) -> &'static str
     ensures { result.now ≡ debug_text debug }
 {
     if debug == 0 { "disabled" } else { "enabled" }
