@@ -1,0 +1,22 @@
+//! Inquiries for control variables, states and tool words.
+#![tactic(auto)]
+
+mod display;
+mod enumeration;
+mod icv;
+mod icv_text;
+mod numbers;
+mod scoped;
+mod spelling;
+mod state;
+mod tool;
+mod value;
+mod variable;
+
+pub use display::get_display_control_vars;
+pub use enumeration::{enumerate_icvs, enumerate_states};
+pub use icv::get_icv_from_scope;
+pub use icv_text::get_icv_string_from_scope;
+pub use scoped::{Scope, Scoped};
+pub use state::get_state;
+pub use tool::get_tool_data;

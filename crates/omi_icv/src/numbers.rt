@@ -1,0 +1,71 @@
+//! At most four numbers, which contracts see as a list: the value of a variable.
+
+ghost use Rattle.std.specs.Prelude.{◌≡◌, ◌<◌, ◌≤◌, ◌++◌, ◌∷◌, [], length, slice_get, Some};
+
+use std::marker::Model;
+
+/// How many numbers a value has at most.
+pub const MOST: usize = 4;
+
+/// The numbers in order.
+#[derive(Drop)]
+pub struct Numbers {
+    words: [u64; MOST],
+    count: usize,
+    ghost few: { count ≤ 4 },
+}
+
+impl Model for Numbers {
+    ghost use Rattle.std.specs.Prelude.{List, ℕ, take};
+
+    ghost Value = { List ℕ };
+
+    ghost view = { λ a. take a.count a.words };
+}
+
+impl Numbers {
+    /// No number.
+    pub fn new() -> Numbers
+        ensures { result ≡ [] }
+    {
+        Numbers {
+            words: [0; MOST],
+            count: 0,
+        }
+    }
+
+    /// One number.
+    pub fn one(number: u64) -> Numbers
+        ensures { result ≡ number ∷ [] }
+    {
+        Numbers {
+            words: [number, 0, 0, 0],
+            count: 1,
+        }
+    }
+
+    /// Adds a number at the end.
+    pub fn push(&mut self, number: u64)
+        requires { length self.old < 4 }
+        ensures { self.new ≡ self.old ++ number ∷ [] }
+    {
+        self.words[self.count] = number;
+        self.count += 1;
+    }
+
+    /// How many numbers there are.
+    pub fn len(&self) -> usize
+        ensures count { result ≡ length self.now }
+        ensures few { result ≤ 4 }
+    {
+        self.count
+    }
+
+    /// The number at a place, counted from 0.
+    pub fn get(&self, at: usize) -> u64
+        requires { at < length self.now }
+        ensures { slice_get self.now at ≡ Some result }
+    {
+        self.words[at]
+    }
+}

@@ -1,0 +1,41 @@
+//! The state of a thread.
+
+ghost use Rattle.std.specs.Prelude.{◌≡◌, ◌≢◌, Err};
+ghost use Rattle.std.specs.FinMap.{get};
+ghost use Rattle.omi_outside.specs.Outside.{HasCause};
+ghost use Rattle.omi_session.specs.Made.{thread_pair};
+ghost use Rattle.omi_session.specs.Opened.{StaysWhole};
+ghost use Rattle.omi_session.specs.Reads.{Answers};
+ghost use Rattle.omi_session.specs.Shown.{OfThread, IsGiven};
+ghost use Rattle.omi_icv.specs.StateWords as inquiry;
+ghost use Rattle.omi_icv.specs.StateValues.{state_of_thread};
+
+use omi_calls::{Callbacks, ToHost};
+use omi_handle::{Kind, ThreadHandle};
+use omi_layout::Field;
+use omi_session::{Rc, Session, object, word};
+
+/// The state of a thread and the id on which it waits. NeedsStateTracking where the target keeps no states.
+pub fn get_state<C: Callbacks, F: ToHost>(
+    s: &mut Session<C, F>,
+    t: ThreadHandle,
+) -> Result<(u32, u64), Rc>
+    ensures answer { Answers (C.told s.old.table.calls) result
+        (inquiry.state s.old.layout (get s.old.handles.held (thread_pair t))) }
+    ensures shown { OfThread (C.told s.old.table.calls) s.old.layout
+        (get s.old.handles.held (thread_pair t))
+        (λ state thread. IsGiven result (state_of_thread state thread)) }
+    ensures memory { result ≢ Err Rc.NoMem }
+    ensures same { StaysWhole C.told s.old s.new }
+    ensures cause { HasCause (C.faults s.old.table.calls) (C.faults s.new.table.calls)
+        (result ≡ Err Rc.CallbackError) }
+{
+    let thread = object(s, Kind::Thread, t.key, t.serial)?;
+    let runtime = s.layout().runtime_place();
+    let debug = word(s, runtime, Field::RuntimeDebug, 0)?;
+    if debug == 0 {
+        return Err(Rc::NeedsStateTracking);
+    }
+    let state = word(s, thread.addr, Field::ThreadState, 0)?;
+    Ok(((state % (1 << 16)) as u32, state / (1 << 16)))
+}

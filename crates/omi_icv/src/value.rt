@@ -1,0 +1,154 @@
+//! The value of a control variable, by the words of the record of what is asked about: as one number, and as all its numbers.
+
+ghost use Rattle.std.specs.Prelude.{◌≡◌, ◌≢◌, ◌≤◌, Err, IfOk};
+ghost use Rattle.std.specs.FinMap.{get};
+ghost use Rattle.omi_outside.specs.Outside.{HasCause};
+ghost use Rattle.omi_layout.specs.declared.limits.TheConstants.{LAST_END};
+ghost use Rattle.omi_session.specs.Opened.{StaysWhole};
+ghost use Rattle.omi_session.specs.Reads.{Answers};
+ghost use Rattle.omi_session.specs.Inquiry.{team_size as read_team_size};
+ghost use Rattle.omi_icv.specs.Values as inquiry;
+
+use crate::numbers::{MOST, Numbers};
+use crate::variable::Source;
+use omi_calls::{Callbacks, ToHost};
+use omi_handle::Kind;
+use omi_layout::Field;
+use omi_session::{Rc, Session, follow_some, team_size, word};
+
+/// The number of elements of nthreads-var of the task whose record has this byte address. An Error where it isn't from 1 to 4.
+fn list_length<C: Callbacks, F: ToHost>(s: &mut Session<C, F>, address: u64) -> Result<u64, Rc>
+    requires { address ≤ LAST_END }
+    ensures answer { Answers (C.told s.old.table.calls) result
+        (inquiry.list_length s.old.layout address) }
+    ensures few { IfOk result (λ count. count ≤ 4) }
+    ensures memory { result ≢ Err Rc.NoMem }
+    ensures same { StaysWhole C.told s.old s.new }
+    ensures cause { HasCause (C.faults s.old.table.calls) (C.faults s.new.table.calls)
+        (result ≡ Err Rc.CallbackError) }
+{
+    let count = word(s, address, Field::TaskNthreadsLength, 0)?;
+    if 1 <= count && count <= MOST as u64 {
+        Ok(count)
+    } else {
+        Err(Rc::Error {
+            addr: address,
+            field: Field::TaskNthreadsLength.number(),
+        })
+    }
+}
+
+/// The only element of nthreads-var of a task. Incomplete, with the first one, where there are more.
+fn only_element<C: Callbacks, F: ToHost>(s: &mut Session<C, F>, address: u64) -> Result<u64, Rc>
+    requires { address ≤ LAST_END }
+    ensures answer { Answers (C.told s.old.table.calls) result
+        (inquiry.only_element s.old.layout address) }
+    ensures memory { result ≢ Err Rc.NoMem }
+    ensures same { StaysWhole C.told s.old s.new }
+    ensures cause { HasCause (C.faults s.old.table.calls) (C.faults s.new.table.calls)
+        (result ≡ Err Rc.CallbackError) }
+{
+    let count = list_length(s, address)?;
+    let first = word(s, address, Field::TaskNthreads, 0)?;
+    if count == 1 {
+        Ok(first)
+    } else {
+        Err(Rc::Incomplete(first))
+    }
+}
+
+/// The elements of nthreads-var of a task.
+fn elements<C: Callbacks, F: ToHost>(s: &mut Session<C, F>, address: u64) -> Result<Numbers, Rc>
+    requires { address ≤ LAST_END }
+    ensures answer { Answers (C.told s.old.table.calls) result
+        (inquiry.elements s.old.layout address) }
+    ensures memory { result ≢ Err Rc.NoMem }
+    ensures same { StaysWhole C.told s.old s.new }
+    ensures cause { HasCause (C.faults s.old.table.calls) (C.faults s.new.table.calls)
+        (result ≡ Err Rc.CallbackError) }
+{
+    let count = list_length(s, address)?;
+    first_elements(s, address, count)
+}
+
+/// So many elements of nthreads-var of a task.
+fn first_elements<C: Callbacks, F: ToHost>(
+    s: &mut Session<C, F>,
+    address: u64,
+    count: u64,
+) -> Result<Numbers, Rc>
+    requires low { address ≤ LAST_END }
+    requires few { count ≤ 4 }
+    ensures answer { Answers (C.told s.old.table.calls) result
+        (inquiry.first_elements s.old.layout address count) }
+    ensures memory { result ≢ Err Rc.NoMem }
+    ensures same { StaysWhole C.told s.old s.new }
+    ensures cause { HasCause (C.faults s.old.table.calls) (C.faults s.new.table.calls)
+        (result ≡ Err Rc.CallbackError) }
+{
+    let mut numbers = Numbers::new();
+    for at in 0..count {
+        let element = word(s, address, Field::TaskNthreads, at)?;
+        numbers.push(element);
+    }
+    Ok(numbers)
+}
+
+/// The number in its team of the current task of the thread whose record has this byte address. Unavailable where it has no task.
+fn member_number<C: Callbacks, F: ToHost>(s: &mut Session<C, F>, address: u64) -> Result<u64, Rc>
+    requires { address ≤ LAST_END }
+    ensures answer { Answers (C.told s.old.table.calls) result
+        (inquiry.member_number s.old.layout address) }
+    ensures memory { result ≢ Err Rc.NoMem }
+    ensures same { StaysWhole C.told s.old s.new }
+    ensures cause { HasCause (C.faults s.old.table.calls) (C.faults s.new.table.calls)
+        (result ≡ Err Rc.CallbackError) }
+{
+    let task = follow_some(s, Kind::Task, address, Field::ThreadCurrent)?;
+    word(s, task.addr, Field::TaskNumber, 0)
+}
+
+/// The value of a variable that stands in this place of the record at a byte address, as one number.
+pub fn number<C: Callbacks, F: ToHost>(
+    s: &mut Session<C, F>,
+    source: Source,
+    address: u64,
+) -> Result<u64, Rc>
+    requires { address ≤ LAST_END }
+    ensures answer { Answers (C.told s.old.table.calls) result
+        (inquiry.number_in s.old.layout source address) }
+    ensures memory { result ≢ Err Rc.NoMem }
+    ensures same { StaysWhole C.told s.old s.new }
+    ensures cause { HasCause (C.faults s.old.table.calls) (C.faults s.new.table.calls)
+        (result ≡ Err Rc.CallbackError) }
+{
+    match source {
+        Source::Word(field) => word(s, address, field, 0),
+        Source::TeamSize => team_size(s, address),
+        Source::Elements => only_element(s, address),
+        Source::MemberNumber => member_number(s, address),
+    }
+}
+
+/// The same as all its numbers.
+pub fn numbers<C: Callbacks, F: ToHost>(
+    s: &mut Session<C, F>,
+    source: Source,
+    address: u64,
+) -> Result<Numbers, Rc>
+    requires { address ≤ LAST_END }
+    ensures answer { Answers (C.told s.old.table.calls) result
+        (inquiry.numbers_in s.old.layout source address) }
+    ensures memory { result ≢ Err Rc.NoMem }
+    ensures same { StaysWhole C.told s.old s.new }
+    ensures cause { HasCause (C.faults s.old.table.calls) (C.faults s.new.table.calls)
+        (result ≡ Err Rc.CallbackError) }
+{
+    match source {
+        Source::Elements => elements(s, address),
+        _ => {
+            let number = number(s, source, address)?;
+            Ok(Numbers::one(number))
+        }
+    }
+}
