@@ -11,6 +11,10 @@ use Rattle.omi_session.specs.Inquiry.{word_of, follow_some, team_size}
 use Rattle.omi_icv.specs.declared.variable.Source.{Source}
 use Rattle.omi_icv.specs.declared.variable.Source.TheVariants.{Word, TeamSize, Elements, MemberNumber}
 
+-- one number, as the only one of a list
+unfoldable pub alone : Reads ℕ → Reads (List ℕ)
+alone reads = then_reads reads (λ number. Answer (Ok (number ∷ [])))
+
 module _ (w : List ℕ) where
   -- the number of elements of nthreads-var of a task, which is from 1 to 4
   unfoldable pub list_length : ℕ → Reads ℕ
@@ -50,10 +54,6 @@ module _ (w : List ℕ) where
   number_in TeamSize address = team_size w address
   number_in Elements address = only_element address
   number_in MemberNumber address = member_number address
-
-  -- one number, as the only one of a list
-  unfoldable pub alone : Reads ℕ → Reads (List ℕ)
-  alone reads = then_reads reads (λ number. Answer (Ok (number ∷ [])))
 
   -- the value as all its numbers
   abbrev pub numbers_in : Source → ℕ → Reads (List ℕ)

@@ -9,9 +9,10 @@ ghost use Rattle.omi_icv.specs.Display as inquiry;
 ghost use Rattle.omi_icv.specs.StateValues.{display_of};
 ghost use Rattle.omi_icv.specs.Written.{Written, IsWritten, as_bytes};
 
+use crate::runtime::runtime_word;
 use omi_calls::{Callbacks, ToHost};
 use omi_layout::Field;
-use omi_session::{Rc, Session, word};
+use omi_session::{Rc, Session};
 use omi_text::{OutOfMemory, debug_word};
 use std::alloc::Global;
 
@@ -32,10 +33,9 @@ fn space_words<C: Callbacks, F: ToHost>(s: &mut Session<C, F>) -> Result<SpaceWo
     ensures cause { HasCause (C.faults s.old.table.calls) (C.faults s.new.table.calls)
         (result ≡ Err Rc.CallbackError) }
 {
-    let runtime = s.layout().runtime_place();
-    let debug = word(s, runtime, Field::RuntimeDebug, 0)?;
-    let procs = word(s, runtime, Field::RuntimeProcs, 0)?;
-    let max_active = word(s, runtime, Field::RuntimeMaxActive, 0)?;
+    let debug = runtime_word(s, Field::RuntimeDebug)?;
+    let procs = runtime_word(s, Field::RuntimeProcs)?;
+    let max_active = runtime_word(s, Field::RuntimeMaxActive)?;
     Ok(SpaceWords {
         debug,
         procs,

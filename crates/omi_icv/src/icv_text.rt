@@ -65,7 +65,7 @@ pub fn get_icv_string_from_scope<C: Callbacks, F: ToHost>(
         (result ≡ Err Rc.CallbackError) }
 {
     let value = icv_value(s, of, icv)?;
-    match value_text(alloc, value.spelling, &value.numbers) {
+    match value_text(alloc, value.spelling, value.numbers.as_slice()) {
         Ok(text) => Ok(text),
         Err(_) => Err(Rc::NoMem),
     }

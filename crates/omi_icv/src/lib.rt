@@ -6,6 +6,7 @@ mod enumeration;
 mod icv;
 mod icv_text;
 mod numbers;
+mod runtime;
 mod scoped;
 mod spelling;
 mod state;

@@ -1,6 +1,6 @@
 //! At most four numbers, which contracts see as a list: the value of a variable.
 
-ghost use Rattle.std.specs.Prelude.{◌≡◌, ◌<◌, ◌≤◌, ◌++◌, ◌∷◌, [], length, slice_get, Some};
+ghost use Rattle.std.specs.Prelude.{◌≡◌, ◌<◌, ◌≤◌, ◌++◌, ◌∷◌, [], length};
 
 use std::marker::Model;
 
@@ -53,19 +53,10 @@ impl Numbers {
         self.count += 1;
     }
 
-    /// How many numbers there are.
-    pub fn len(&self) -> usize
-        ensures count { result ≡ length self.now }
-        ensures few { result ≤ 4 }
+    /// All of them.
+    pub fn as_slice(&self) -> &[u64]
+        ensures { result.now ≡ self.now }
     {
-        self.count
-    }
-
-    /// The number at a place, counted from 0.
-    pub fn get(&self, at: usize) -> u64
-        requires { at < length self.now }
-        ensures { slice_get self.now at ≡ Some result }
-    {
-        self.words[at]
+        &self.words[..self.count]
     }
 }

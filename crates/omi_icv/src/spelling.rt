@@ -1,9 +1,8 @@
 //! How the value of a control variable is spelled.
 
-ghost use Rattle.std.specs.Prelude.{◌≡◌, ◌++◌, IfOk, OnOk, string_bytes};
-ghost use Rattle.omi_icv.specs.Spellings.{number_text, value_text};
+ghost use Rattle.std.specs.Prelude.{◌≡◌, ◌++◌, IfOk, OnOk, drop, string_bytes};
+ghost use Rattle.omi_icv.specs.Spellings.{number_text, value_text, after_commas};
 
-use crate::numbers::Numbers;
 use crate::variable::Spelling;
 use omi_text::{OutOfMemory, debug_word, push_schedule};
 use std::alloc::Global;
@@ -21,20 +20,30 @@ fn push_number(text: &mut String, spelling: Spelling, number: u64) -> Result<(),
     }
 }
 
+/// Adds each number but the first behind a comma.
+fn push_others(text: &mut String, spelling: Spelling, numbers: &[u64]) -> Result<(), OutOfMemory>
+    ensures { OnOk result (string_bytes text.new
+        ≡ string_bytes text.old ++ after_commas spelling (drop 1 numbers.now)) }
+{
+    for at in 1..numbers.len() {
+        text.push_str(",")?;
+        push_number(text, spelling, numbers[at])?;
+    }
+    Ok(())
+}
+
 /// The text of a value: its numbers, joined by commas.
 pub fn value_text(
     alloc: Global,
     spelling: Spelling,
-    numbers: &Numbers,
+    numbers: &[u64],
 ) -> Result<String, OutOfMemory>
     ensures { IfOk result (λ text. string_bytes text ≡ value_text spelling numbers.now) }
 {
     let mut text = String::new(alloc);
-    for at in 0..numbers.len() {
-        if at > 0 {
-            text.push_str(",")?;
-        }
-        push_number(&mut text, spelling, numbers.get(at))?;
+    if numbers.len() > 0 {
+        push_number(&mut text, spelling, numbers[0])?;
+        push_others(&mut text, spelling, numbers)?;
     }
     Ok(text)
 }

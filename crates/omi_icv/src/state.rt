@@ -10,6 +10,7 @@ ghost use Rattle.omi_session.specs.Shown.{OfThread, IsGiven};
 ghost use Rattle.omi_icv.specs.StateWords as inquiry;
 ghost use Rattle.omi_icv.specs.StateValues.{state_of_thread};
 
+use crate::runtime::runtime_word;
 use omi_calls::{Callbacks, ToHost};
 use omi_handle::{Kind, ThreadHandle};
 use omi_layout::Field;
@@ -31,8 +32,7 @@ pub fn get_state<C: Callbacks, F: ToHost>(
         (result ≡ Err Rc.CallbackError) }
 {
     let thread = object(s, Kind::Thread, t.key, t.serial)?;
-    let runtime = s.layout().runtime_place();
-    let debug = word(s, runtime, Field::RuntimeDebug, 0)?;
+    let debug = runtime_word(s, Field::RuntimeDebug)?;
     if debug == 0 {
         return Err(Rc::NeedsStateTracking);
     }

@@ -130,6 +130,24 @@ pub fn number<C: Callbacks, F: ToHost>(
     }
 }
 
+/// The same as the only number of a list.
+fn number_alone<C: Callbacks, F: ToHost>(
+    s: &mut Session<C, F>,
+    source: Source,
+    address: u64,
+) -> Result<Numbers, Rc>
+    requires { address ≤ LAST_END }
+    ensures answer { Answers (C.told s.old.table.calls) result
+        (inquiry.alone (inquiry.number_in s.old.layout source address)) }
+    ensures memory { result ≢ Err Rc.NoMem }
+    ensures same { StaysWhole C.told s.old s.new }
+    ensures cause { HasCause (C.faults s.old.table.calls) (C.faults s.new.table.calls)
+        (result ≡ Err Rc.CallbackError) }
+{
+    let number = number(s, source, address)?;
+    Ok(Numbers::one(number))
+}
+
 /// The same as all its numbers.
 pub fn numbers<C: Callbacks, F: ToHost>(
     s: &mut Session<C, F>,
@@ -146,9 +164,6 @@ pub fn numbers<C: Callbacks, F: ToHost>(
 {
     match source {
         Source::Elements => elements(s, address),
-        _ => {
-            let number = number(s, source, address)?;
-            Ok(Numbers::one(number))
-        }
+        _ => number_alone(s, source, address),
     }
 }

@@ -1,0 +1,26 @@
+use Rattle.std.proofs.Common.{◌≡◌, ◌&&◌, refl, arith, true, false, nat_le}
+use Rattle.std.proofs.lemmas.Bool.Decides.{nat_tests}
+use Rattle.std.proofs.lemmas.Result.{err_from_is_err_and}
+use Rattle.omi_session.proofs.Asked.{asked_then, asked_refused, asked_answer}
+use Rattle.omi_icv.specs.Values.{list_length}
+use Rattle.omi_icv.proofs.value.list_length.Goals as goal
+
+pub returns-in_err-count-clause-answer : goal.returns-in_err-count-clause-answer
+unfolding list_length
+returns-in_err-count-clause-answer g c =
+    let p = err_from_is_err_and c.from_residual.result c.from_residual.ensures.1 in
+    rw (p.1, p.2) (asked_refused _ _ _ _ c.in_err-count.ensures.answer)
+
+pub returns-then-count-clause-answer : goal.returns-then-count-clause-answer
+unfolding list_length
+returns-then-count-clause-answer g c =
+    let within : nat_le 1 c.in_ok-count.count && nat_le c.in_ok-count.count 4 ≡ true = grind (arith, nat_tests, c.if-count.true, c.if-count-ge1.true) in
+    asked_then _ (g.C.Callbacks.told c.word.new.s.table.calls) _ _ c.in_ok-count.count _ c.word.ensures.same.table.same c.in_ok-count.ensures.answer
+    (asked_answer _ _ _ (rw within refl))
+
+pub returns-else-count-ge1-clause-answer : goal.returns-else-count-ge1-clause-answer
+unfolding list_length
+returns-else-count-ge1-clause-answer g c =
+    let past : nat_le 1 c.in_ok-count.count && nat_le c.in_ok-count.count 4 ≡ false = grind (arith, nat_tests, c.else-count-ge1.either) in
+    asked_then _ (g.C.Callbacks.told c.word.new.s.table.calls) _ _ c.in_ok-count.count _ c.word.ensures.same.table.same c.in_ok-count.ensures.answer
+    (asked_answer _ _ _ (rw (c.number.ensures.value, past) refl))

@@ -1,0 +1,42 @@
+use Rattle.std.proofs.Common.{◌≡◌, ◌==◌, ◌∙◌, refl, subst, arith, true, false, eq-eqb}
+use Rattle.std.proofs.lemmas.Bool.Decides.{nat_tests}
+use Rattle.std.proofs.lemmas.Result.{err_from_is_err_and}
+use Rattle.std.specs.Prelude.{Ok, Err}
+use Rattle.omi_layout.specs.declared.field.Field.TheVariants.{TaskNthreads}
+use Rattle.omi_session.specs.Reads.{Answers}
+use Rattle.omi_session.specs.Inquiry.{word_of}
+use Rattle.omi_session.proofs.Asked.{asked_then, asked_refused, asked_answer}
+use Rattle.omi_icv.specs.Values.{only_element}
+use Rattle.omi_icv.proofs.value.only_element.Goals as goal
+
+pub returns-in_err-count-clause-answer : goal.returns-in_err-count-clause-answer
+unfolding only_element
+returns-in_err-count-clause-answer g c =
+    let p = err_from_is_err_and c.from_residual.result c.from_residual.ensures.1 in
+    rw (p.1, p.2) (asked_refused _ _ _ _ c.in_err-count.ensures.answer)
+
+pub returns-in_err-first-clause-answer : goal.returns-in_err-first-clause-answer
+unfolding only_element
+returns-in_err-first-clause-answer g c =
+    let first = subst (λ w. Answers (g.C.Callbacks.told c.list_length.new.s.table.calls) (Err c.in_err-first.field-0.0) (word_of w c.args.address TaskNthreads 0)) c.list_length.ensures.same.layout c.in_err-first.ensures.answer in
+    let p = err_from_is_err_and c.from_residual-in_err-first.result c.from_residual-in_err-first.ensures.1 in
+    asked_then _ (g.C.Callbacks.told c.list_length.new.s.table.calls) _ _ c.in_ok-count.count _ c.list_length.ensures.same.table.same c.in_ok-count.ensures.answer
+    (rw (p.1, p.2) (asked_refused _ _ _ _ first))
+
+pub returns-then-count-eq1-clause-answer : goal.returns-then-count-eq1-clause-answer
+unfolding only_element
+returns-then-count-eq1-clause-answer g c =
+    let first = subst (λ w. Answers (g.C.Callbacks.told c.list_length.new.s.table.calls) (Ok c.in_ok-first.first) (word_of w c.args.address TaskNthreads 0)) c.list_length.ensures.same.layout c.in_ok-first.ensures.answer in
+    let alone : c.in_ok-count.count == 1 ≡ true = grind (arith, nat_tests, c.if-count-eq1.true) in
+    asked_then _ (g.C.Callbacks.told c.list_length.new.s.table.calls) _ _ c.in_ok-count.count _ c.list_length.ensures.same.table.same c.in_ok-count.ensures.answer
+    (asked_then _ (g.C.Callbacks.told c.word.new.s.table.calls) _ _ c.in_ok-first.first _ c.word.ensures.same.table.same first
+    (asked_answer _ _ _ (rw alone refl)))
+
+pub returns-else-count-eq1-clause-answer : goal.returns-else-count-eq1-clause-answer
+unfolding only_element
+returns-else-count-eq1-clause-answer g c =
+    let first = subst (λ w. Answers (g.C.Callbacks.told c.list_length.new.s.table.calls) (Ok c.in_ok-first.first) (word_of w c.args.address TaskNthreads 0)) c.list_length.ensures.same.layout c.in_ok-first.ensures.answer in
+    let more : c.in_ok-count.count == 1 ≡ false = grind (arith, nat_tests, c.if-count-eq1.false) in
+    asked_then _ (g.C.Callbacks.told c.list_length.new.s.table.calls) _ _ c.in_ok-count.count _ c.list_length.ensures.same.table.same c.in_ok-count.ensures.answer
+    (asked_then _ (g.C.Callbacks.told c.word.new.s.table.calls) _ _ c.in_ok-first.first _ c.word.ensures.same.table.same first
+    (asked_answer _ _ _ (rw more refl)))
