@@ -1,2 +1,6 @@
 pub mod Elements
 pub mod Joined
+pub mod Written
+pub mod ByNumber
+pub mod Shown
+pub mod ShownVariables

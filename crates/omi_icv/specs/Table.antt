@@ -75,11 +75,14 @@ variables =
 abbrev pub row_of : ℕ → Option Row
 row_of icv = find (λ row. icv == row.number) variables
 
+-- the variable of a row, where it has this scope
+abbrev pub in_scope : Scope → Row → Option Variable
+in_scope scope row =
+    if scope_number row.variable.scope == scope_number scope then Some row.variable else None
+
 -- the variable with a number, which has to have this scope
 abbrev pub variable_in : Scope → ℕ → Result Variable Rc
-variable_in scope icv =
-    ok_or (option_and_then (λ row. if scope_number row.variable.scope == scope_number scope
-    then Some row.variable else None) (row_of icv)) Unsupported
+variable_in scope icv = ok_or (option_and_then (in_scope scope) (row_of icv)) Unsupported
 
 -- the name of a variable of the table
 abbrev pub name_of : ℕ → List ℕ
