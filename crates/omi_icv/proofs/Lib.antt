@@ -4,3 +4,4 @@ pub mod Written
 pub mod ByNumber
 pub mod Shown
 pub mod ShownVariables
+pub mod ShownInquiries

@@ -1,0 +1,172 @@
+-- Over words that show a state, the inquiries for control variables, states and tool words answer what the state does.
+use Rattle.std.proofs.Common.{◌≡◌, ◌==◌, ◌%◌, ◌/◌, ◌^◌, ◌<◌, ℕ, Bool, true, false, cond, List, ◌∷◌, [], Option, refl, sym, ap, subst, ◌∙◌, arith}
+use Rattle.std.specs.Prelude.{Result, Ok, Err}
+use Rattle.std.specs.Fmt.{decimal}
+use Rattle.omi_calls.specs.Told.{Told, Words}
+use Rattle.omi_handle.specs.declared.handle.Kind.TheVariants as kind
+use Rattle.omi_handle.specs.declared.handle.Held.{Held}
+use Rattle.omi_layout.specs.Codes.{state_word}
+use Rattle.omi_layout.specs.declared.field.Field.TheVariants.{RuntimeDebug, RuntimeProcs, RuntimeMaxActive, ThreadState, TaskTool}
+use Rattle.omi_model.specs.Numbers.{flag, max_active_levels_var}
+use Rattle.omi_model.specs.State.{State}
+use Rattle.omi_rep.specs.Records.{runtime_address, thread_address, region_address, task_address}
+use Rattle.omi_rep.proofs.SameReport.{small_state}
+use Rattle.omi_session.specs.declared.rc.Rc.{Rc}
+use Rattle.omi_session.specs.declared.rc.Rc.TheVariants.{NeedsStateTracking}
+use Rattle.omi_session.specs.Inquiry.{object_of, word_of}
+use Rattle.omi_session.specs.Made.{thread_pair, region_pair, task_pair}
+use Rattle.omi_session.specs.Reads.{Reads, Answer, answer_on, after, then_reads, Answers}
+use Rattle.omi_session.specs.Shown.{ShowsTold, HoldsThread, HoldsRegion, HoldsTask, IsGiven, held_thread, held_region, held_task}
+use Rattle.omi_session.proofs.Asked.{answer_then}
+use Rattle.omi_session.proofs.ShownParts.{then_answered, word_told}
+use Rattle.omi_session.proofs.ShownAnswers.{given_value, thread_object, region_object, task_object}
+use Rattle.omi_text.specs.Head.{debug_text}
+use Rattle.omi_text.specs.Lines.{setting}
+use Rattle.omi_icv.specs.declared.icv_text.Value.{Value}
+use Rattle.omi_icv.specs.declared.scoped.Scoped.{Scoped}
+use Rattle.omi_icv.specs.declared.scoped.Scoped.TheVariants.{Space, Thread, Parallel, Task}
+use Rattle.omi_icv.specs.Display.{display_texts, space_words, display}
+use Rattle.omi_icv.specs.Icvs.{icv_from_scope, icv_value, icv_string_from_scope}
+use Rattle.omi_icv.specs.Records.{Handles, record_of_handle, record_of}
+use Rattle.omi_icv.specs.Scopes.{scope_of}
+use Rattle.omi_icv.specs.Spellings.{value_text}
+use Rattle.omi_icv.specs.StateValues.{Content, as_number, as_text, number_of, text_of, state_of_thread, tool_of, display_of}
+use Rattle.omi_icv.specs.StateWords.{state, tool_data}
+use Rattle.omi_icv.specs.Subjects.{Subject, OfScoped}
+use Rattle.omi_icv.specs.Table.{variable_in, debug_var, num_procs_var, name_of}
+use Rattle.omi_icv.specs.Written.{IsWritten, Written}
+use Rattle.omi_icv.proofs.Shown.{Agrees, text_read, switch_text}
+use Rattle.omi_icv.proofs.ShownVariables.{space_agrees, thread_agrees, region_agrees, task_agrees}
+
+-- a value that was read is spelled
+spelled : (memory : Words) (value : Result Value Rc) → answer_on memory (after value (λ v. Answer (Ok (value_text v.spelling v.numbers)))) ≡ text_read value
+spelled memory (Ok value) = refl
+spelled memory (Err rc) = refl
+
+-- what is read of a variable behind the record of what is asked about
+module _ (w : List ℕ) (memory : Words) (held : Handles) (of : Scoped) (icv address : ℕ) (value : Result Content Rc)
+    (there : answer_on memory (record_of w held of) ≡ Ok address) (agrees : Agrees w memory address (variable_in (scope_of of) icv) value) where
+  number_read : answer_on memory (icv_from_scope w held of icv) ≡ as_number value
+  unfolding icv_from_scope
+  number_read =
+      then_answered memory (record_of w held of) _ address there
+      ∙ answer_then memory (Answer (variable_in (scope_of of) icv)) _
+      ∙ agrees.number
+
+  string_read : answer_on memory (icv_string_from_scope w held of icv) ≡ as_text value
+  unfolding icv_string_from_scope icv_value
+  string_read =
+      answer_then memory (icv_value w held of icv) _
+      ∙ spelled memory (answer_on memory (icv_value w held of icv))
+      ∙ ap text_read (then_answered memory (record_of w held of) _ address there
+      ∙ answer_then memory (Answer (variable_in (scope_of of) icv)) _)
+      ∙ agrees.text
+
+module _ (told : Told) (w : List ℕ) where
+  -- what a call gives whose reads answer as the state does
+  written_given : {A : Type 0} (s : State) (shown : ShowsTold told w s) (result : Result A Rc) (reads : Reads A) (answer : Result A Rc)
+      → Written told result reads → answer_on shown.memory reads ≡ answer → IsWritten result answer
+  written_given s shown result reads answer written is = subst (IsWritten result) is (written shown.memory shown.tells)
+
+  -- the variables of the address space
+  display_told : (s : State) (shown : ShowsTold told w s) → answer_on shown.memory (display w) ≡ Ok (display_of s)
+  unfolding display space_words
+  display_told s shown =
+      let globals = shown.shows.records.globals in
+      answer_then shown.memory (space_words w) _
+      ∙ ap (λ r. answer_on shown.memory (after r (λ words. Answer (Ok (display_texts words)))))
+      (then_answered shown.memory (word_of w (runtime_address w) RuntimeDebug 0) _ (flag s.environment.debug) (word_told w shown.memory (runtime_address w) RuntimeDebug 0 _ globals.debug)
+      ∙ then_answered shown.memory (word_of w (runtime_address w) RuntimeProcs 0) _ s.environment.procs (word_told w shown.memory (runtime_address w) RuntimeProcs 0 _ globals.procs)
+      ∙ then_answered shown.memory (word_of w (runtime_address w) RuntimeMaxActive 0) _ s.max_active (word_told w shown.memory (runtime_address w) RuntimeMaxActive 0 _ globals.max_active))
+      ∙ ap (λ text. Ok (setting (name_of debug_var) text ∷ setting (name_of num_procs_var) (decimal s.environment.procs) ∷ setting (name_of max_active_levels_var) (decimal s.max_active) ∷ []))
+      (switch_text s.environment.debug)
+
+  pub display_given : (s : State) (shown : ShowsTold told w s) (result : Result (List (List ℕ)) Rc) → Written told result (display w) → IsWritten result (Ok (display_of s))
+  display_given s shown result written = written_given s shown result (display w) _ written (display_told s shown)
+
+module _ (told : Told) (w : List ℕ) (held : Handles) where
+  module _ (s : State) (shown : ShowsTold told w s) where
+    -- the records of the objects of handles
+    thread_record : (found : Option Held) (h : HoldsThread w s found) → answer_on shown.memory (record_of_handle w kind.Thread found) ≡ Ok (thread_address w h.thread)
+    unfolding record_of_handle
+    thread_record found h = then_answered shown.memory (object_of w kind.Thread found) _ (held_thread w h.thread) (thread_object told w s shown found h)
+
+    region_record : (found : Option Held) (h : HoldsRegion w s found) → answer_on shown.memory (record_of_handle w kind.Region found) ≡ Ok (region_address w h.name)
+    unfolding record_of_handle
+    region_record found h = then_answered shown.memory (object_of w kind.Region found) _ (held_region w h.name) (region_object told w s shown found h)
+
+    task_record : (found : Option Held) (h : HoldsTask w s found) → answer_on shown.memory (record_of_handle w kind.Task found) ≡ Ok (task_address w h.name)
+    unfolding record_of_handle
+    task_record found h = then_answered shown.memory (object_of w kind.Task found) _ (held_task w h.name) (task_object told w s shown found h)
+
+    -- the state of a thread
+    state_of_word : (state wait : ℕ) → state < 65536 → ◌≡◌ {A = ℕ × ℕ} (state_word state wait % 2 ^ 16, state_word state wait / 2 ^ 16) (state, wait)
+    state_of_word x y small =
+        let low : state_word x y % 2 ^ 16 ≡ x = omega (arith, small) in
+        let rest : state_word x y / 2 ^ 16 ≡ y = omega (arith, small) in
+        λ i. (low i, rest i)
+
+    pub state_told : (found : Option Held) (h : HoldsThread w s found) → answer_on shown.memory (state w found) ≡ state_of_thread s h.thread
+    unfolding state
+    state_told found h =
+        then_answered shown.memory (object_of w kind.Thread found) _ (held_thread w h.thread) (thread_object told w s shown found h)
+        ∙ then_answered shown.memory (word_of w (runtime_address w) RuntimeDebug 0) _ (flag s.environment.debug) (word_told w shown.memory (runtime_address w) RuntimeDebug 0 _ shown.shows.records.globals.debug)
+        ∙ go s.environment.debug
+      where
+        go : (b : Bool) → answer_on {A = ℕ × ℕ} shown.memory (cond (flag b == 0) (Answer (Err NeedsStateTracking))
+            (then_reads (word_of w (thread_address w h.thread) ThreadState 0) (λ word. Answer (Ok (word % 2 ^ 16, word / 2 ^ 16)))))
+            ≡ cond b (Ok ((s.threads h.thread).state, (s.threads h.thread).wait)) (Err NeedsStateTracking)
+        go true =
+            then_answered shown.memory (word_of w (thread_address w h.thread) ThreadState 0) _ (state_word (s.threads h.thread).state (s.threads h.thread).wait)
+            (word_told w shown.memory (thread_address w h.thread) ThreadState 0 _ (shown.shows.records.threads h.thread h.begun.known h.begun.begun).state)
+            ∙ ap Ok (state_of_word (s.threads h.thread).state (s.threads h.thread).wait (small_state _ (shown.shows.within.well_formed.states h.thread h.begun.known)))
+        go false = refl
+
+  -- a variable as a number
+  pub number_given : (of : Scoped) (icv : ℕ) (result : Result ℕ Rc) → Answers told result (icv_from_scope w held of icv)
+      → OfScoped told w held of (λ s subject. IsGiven result (number_of s subject icv))
+  number_given Space icv result answers = λ s shown.
+      given_value told w s shown result (icv_from_scope w held Space icv) _ answers
+      (number_read w shown.memory held Space icv (runtime_address w) _ refl (space_agrees w s told shown icv))
+  number_given (Thread t) icv result answers = λ s shown h.
+      given_value told w s shown result (icv_from_scope w held (Thread t) icv) _ answers
+      (number_read w shown.memory held (Thread t) icv (thread_address w h.thread) _ (thread_record s shown (held (thread_pair t)) h) (thread_agrees w s told shown h.thread h.begun icv))
+  number_given (Parallel r) icv result answers = λ s shown h.
+      given_value told w s shown result (icv_from_scope w held (Parallel r) icv) _ answers
+      (number_read w shown.memory held (Parallel r) icv (region_address w h.name) _ (region_record s shown (held (region_pair r)) h) (region_agrees w s told shown h.name h.seen icv))
+  number_given (Task k) icv result answers = λ s shown h.
+      given_value told w s shown result (icv_from_scope w held (Task k) icv) _ answers
+      (number_read w shown.memory held (Task k) icv (task_address w h.name) _ (task_record s shown (held (task_pair k)) h) (task_agrees w s told shown h.name h.seen icv))
+
+  -- and as a text
+  pub text_given : (of : Scoped) (icv : ℕ) (result : Result (List ℕ) Rc) → Written told result (icv_string_from_scope w held of icv)
+      → OfScoped told w held of (λ s subject. IsWritten result (text_of s subject icv))
+  text_given Space icv result written = λ s shown.
+      written_given told w s shown result (icv_string_from_scope w held Space icv) _ written
+      (string_read w shown.memory held Space icv (runtime_address w) _ refl (space_agrees w s told shown icv))
+  text_given (Thread t) icv result written = λ s shown h.
+      written_given told w s shown result (icv_string_from_scope w held (Thread t) icv) _ written
+      (string_read w shown.memory held (Thread t) icv (thread_address w h.thread) _ (thread_record s shown (held (thread_pair t)) h) (thread_agrees w s told shown h.thread h.begun icv))
+  text_given (Parallel r) icv result written = λ s shown h.
+      written_given told w s shown result (icv_string_from_scope w held (Parallel r) icv) _ written
+      (string_read w shown.memory held (Parallel r) icv (region_address w h.name) _ (region_record s shown (held (region_pair r)) h) (region_agrees w s told shown h.name h.seen icv))
+  text_given (Task k) icv result written = λ s shown h.
+      written_given told w s shown result (icv_string_from_scope w held (Task k) icv) _ written
+      (string_read w shown.memory held (Task k) icv (task_address w h.name) _ (task_record s shown (held (task_pair k)) h) (task_agrees w s told shown h.name h.seen icv))
+
+  -- the tool word
+  pub tool_given : (of : Scoped) (result : Result ℕ Rc) → Answers told result (tool_data w held of)
+      → OfScoped told w held of (λ s subject. IsGiven result (tool_of subject))
+  unfolding tool_data
+  tool_given Space result answers = λ s shown.
+      given_value told w s shown result (tool_data w held Space) _ answers (then_answered shown.memory (record_of w held Space) _ (runtime_address w) refl)
+  tool_given (Thread t) result answers = λ s shown h.
+      given_value told w s shown result (tool_data w held (Thread t)) _ answers
+      (then_answered shown.memory (record_of w held (Thread t)) _ (thread_address w h.thread) (thread_record s shown (held (thread_pair t)) h))
+  tool_given (Parallel r) result answers = λ s shown h.
+      given_value told w s shown result (tool_data w held (Parallel r)) _ answers
+      (then_answered shown.memory (record_of w held (Parallel r)) _ (region_address w h.name) (region_record s shown (held (region_pair r)) h))
+  tool_given (Task k) result answers = λ s shown h.
+      given_value told w s shown result (tool_data w held (Task k)) _ answers
+      (then_answered shown.memory (record_of w held (Task k)) _ (task_address w h.name) (task_record s shown (held (task_pair k)) h)
+      ∙ word_told w shown.memory (task_address w h.name) TaskTool 0 _ (shown.shows.records.tasks h.name h.seen).tool)

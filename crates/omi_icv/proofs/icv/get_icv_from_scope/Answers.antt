@@ -1,0 +1,45 @@
+use Rattle.std.proofs.Common.{◌≡◌, ◌∙◌, refl, subst, ap}
+use Rattle.std.specs.Prelude.{Ok, Err}
+use Rattle.std.specs.FinMap.{get}
+use Rattle.std.proofs.lemmas.Result.{err_from_is_err_and}
+use Rattle.omi_session.specs.Reads.{Answers}
+use Rattle.omi_session.proofs.Asked.{asked_then, asked_refused, asked_answer}
+use Rattle.omi_icv.specs.Icvs.{icv_from_scope}
+use Rattle.omi_icv.specs.Table.{variable_in}
+use Rattle.omi_icv.specs.Values.{number_in}
+use Rattle.omi_icv.proofs.ShownInquiries.{number_given}
+use Rattle.omi_icv.proofs.icv.get_icv_from_scope.Goals as goal
+
+pub returns-in_err-address-clause-answer : goal.returns-in_err-address-clause-answer
+unfolding icv_from_scope
+returns-in_err-address-clause-answer g c =
+    let p = err_from_is_err_and c.from_residual.result c.from_residual.ensures.1 in
+    rw (p.1, p.2) (asked_refused _ _ _ _ c.in_err-address.ensures.answer)
+
+pub returns-in_err-variable-clause-answer : goal.returns-in_err-variable-clause-answer
+unfolding icv_from_scope
+returns-in_err-variable-clause-answer g c =
+    let p = err_from_is_err_and c.from_residual-in_err-variable.result c.from_residual-in_err-variable.ensures.1 in
+    let unknown = c.in_err-variable.ensures ∙ ap (λ o. variable_in o c.args.icv) c.scope.ensures in
+    asked_then _ (g.C.Callbacks.told c.record_of.new.s.table.calls) _ _ c.in_ok-address.address _ c.record_of.ensures.same.table.same c.in_ok-address.ensures.answer
+    (rw (p.1, p.2) (asked_refused _ _ _ _ (asked_answer _ _ _ unknown)))
+
+pub returns-clause-answer : goal.returns-clause-answer
+unfolding icv_from_scope
+returns-clause-answer g c =
+    let known = c.in_ok-variable.ensures ∙ ap (λ o. variable_in o c.args.icv) c.scope.ensures in
+    asked_then _ (g.C.Callbacks.told c.record_of.new.s.table.calls) _ _ c.in_ok-address.address _ c.record_of.ensures.same.table.same c.in_ok-address.ensures.answer
+    (asked_then _ (g.C.Callbacks.told c.record_of.new.s.table.calls) _ _ c.in_ok-variable.variable _ refl (asked_answer _ _ _ known)
+    (subst (λ w. Answers (g.C.Callbacks.told c.record_of.new.s.table.calls) c.number.result (number_in w c.in_ok-variable.variable.source c.in_ok-address.address)) c.record_of.ensures.same.layout c.number.ensures.answer))
+
+pub returns-in_err-address-clause-shown : goal.returns-in_err-address-clause-shown
+returns-in_err-address-clause-shown g c =
+    number_given (g.C.Callbacks.told c.args.s.now.table.calls) c.args.s.now.layout (get c.args.s.now.handles.held) c.args.of c.args.icv _ (returns-in_err-address-clause-answer g c)
+
+pub returns-in_err-variable-clause-shown : goal.returns-in_err-variable-clause-shown
+returns-in_err-variable-clause-shown g c =
+    number_given (g.C.Callbacks.told c.args.s.now.table.calls) c.args.s.now.layout (get c.args.s.now.handles.held) c.args.of c.args.icv _ (returns-in_err-variable-clause-answer g c)
+
+pub returns-clause-shown : goal.returns-clause-shown
+returns-clause-shown g c =
+    number_given (g.C.Callbacks.told c.args.s.now.table.calls) c.args.s.now.layout (get c.args.s.now.handles.held) c.args.of c.args.icv _ (returns-clause-answer g c)
