@@ -1,5 +1,5 @@
 -- What holds of the number of each variable, and of every other number, holds of all numbers.
-use Rattle.std.proofs.Common.{◌≡◌, ◌==◌, ℕ, Bool, true, false, refl, sym, subst, arith}
+use Rattle.std.proofs.Common.{◌≡◌, ◌==◌, ℕ, Bool, true, false, refl, subst, arith}
 use Rattle.std.proofs.lemmas.Bool.Decides.{nat_tests}
 
 split : (P : ℕ → Type 0) (k n : ℕ) → P k → (n == k ≡ false → P n) → P n

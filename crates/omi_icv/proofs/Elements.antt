@@ -1,6 +1,6 @@
 -- The elements of nthreads-var, one after the other.
 use Rattle.std.proofs.Common.{◌≡◌, ℕ, zero, suc, ◌+◌, ◌-◌, ◌<◌, List, [], ◌∷◌, ◌++◌, subst, ◌∙◌, arith, refl}
-use Rattle.std.specs.Prelude.{Result, Ok, Err}
+use Rattle.std.specs.Prelude.{Ok, Err}
 use Rattle.omi_calls.specs.Told.{Told}
 use Rattle.omi_layout.specs.declared.field.Field.TheVariants.{TaskNthreads}
 use Rattle.omi_session.specs.declared.rc.Rc.{Rc}

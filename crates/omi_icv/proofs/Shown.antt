@@ -1,5 +1,5 @@
 -- Over words that show a state, the values of control variables are the state's.
-use Rattle.std.proofs.Common.{◌≡◌, ◌≢◌, ◌==◌, ◌+◌, ◌*◌, ◌/◌, ◌%◌, ◌&&◌, ◌≤◌, ◌<◌, ℕ, zero, suc, Bool, true, false, cond, List, [], ◌∷◌, ◌++◌, length, take, get_or, Option, Some, None, refl, sym, ap, subst, ◌∙◌, arith}
+use Rattle.std.proofs.Common.{◌≡◌, ◌==◌, ◌+◌, ◌*◌, ◌/◌, ◌%◌, ◌&&◌, ◌≤◌, ◌<◌, ℕ, zero, suc, Bool, true, false, cond, List, [], ◌∷◌, ◌++◌, length, take, Some, refl, sym, ap, ◌∙◌, arith}
 use Rattle.std.specs.Prelude.{Result, Ok, Err, nat_le, slice_get, codes}
 use Rattle.std.specs.Fmt.{decimal}
 use Rattle.std.proofs.Math.Seq.{take-suc, take-length}
@@ -14,9 +14,8 @@ use Rattle.omi_rep.specs.Records.{record_at}
 use Rattle.omi_script.specs.declared.statement.Sched.{Sched}
 use Rattle.omi_session.specs.declared.rc.Rc.{Rc}
 use Rattle.omi_session.specs.declared.rc.Rc.TheVariants.{Error, Incomplete, Unsupported}
-use Rattle.omi_session.specs.Reads.{Reads, Answer, answer_on, after, then_reads}
+use Rattle.omi_session.specs.Reads.{Answer, answer_on, after, then_reads}
 use Rattle.omi_session.specs.Inquiry.{word_of}
-use Rattle.omi_session.proofs.Asked.{answer_then}
 use Rattle.omi_session.proofs.ShownParts.{then_answered, then_refused, word_told}
 use Rattle.omi_session.proofs.ShownAnswers.{element_there}
 use Rattle.omi_text.specs.Head.{debug_text}
@@ -25,10 +24,9 @@ use Rattle.omi_text.specs.Numbers.{decimals}
 use Rattle.omi_text.specs.Tasks.{schedule_text}
 use Rattle.omi_icv.specs.declared.icv_text.Value.{Value}
 use Rattle.omi_icv.specs.declared.scoped.Scope.{Scope}
-use Rattle.omi_icv.specs.declared.variable.Source.{Source}
 use Rattle.omi_icv.specs.declared.variable.Source.TheVariants.{Word, Elements}
 use Rattle.omi_icv.specs.declared.variable.Spelling.{Spelling}
-use Rattle.omi_icv.specs.declared.variable.Spelling.TheVariants.{Decimal, Schedule, Switch}
+use Rattle.omi_icv.specs.declared.variable.Spelling.TheVariants.{Decimal}
 use Rattle.omi_icv.specs.declared.variable.Variable.{Variable}
 use Rattle.omi_icv.specs.Spellings.{number_text, value_text}
 use Rattle.omi_icv.specs.Values.{alone, list_length, only_element, first_elements, elements, number_in, numbers_in}

@@ -1,5 +1,5 @@
 -- Over words that show a state, the inquiries for control variables, states and tool words answer what the state does.
-use Rattle.std.proofs.Common.{◌≡◌, ◌==◌, ◌%◌, ◌/◌, ◌^◌, ◌<◌, ℕ, Bool, true, false, cond, List, ◌∷◌, [], Option, refl, sym, ap, subst, ◌∙◌, arith}
+use Rattle.std.proofs.Common.{◌≡◌, ◌==◌, ◌%◌, ◌/◌, ◌^◌, ◌<◌, ℕ, Bool, true, false, cond, List, ◌∷◌, [], Option, refl, ap, subst, ◌∙◌, arith}
 use Rattle.std.specs.Prelude.{Result, Ok, Err}
 use Rattle.std.specs.Fmt.{decimal}
 use Rattle.omi_calls.specs.Told.{Told, Words}
@@ -20,7 +20,6 @@ use Rattle.omi_session.specs.Shown.{ShowsTold, HoldsThread, HoldsRegion, HoldsTa
 use Rattle.omi_session.proofs.Asked.{answer_then}
 use Rattle.omi_session.proofs.ShownParts.{then_answered, word_told}
 use Rattle.omi_session.proofs.ShownAnswers.{given_value, thread_object, region_object, task_object}
-use Rattle.omi_text.specs.Head.{debug_text}
 use Rattle.omi_text.specs.Lines.{setting}
 use Rattle.omi_icv.specs.declared.icv_text.Value.{Value}
 use Rattle.omi_icv.specs.declared.scoped.Scoped.{Scoped}
@@ -32,7 +31,7 @@ use Rattle.omi_icv.specs.Scopes.{scope_of}
 use Rattle.omi_icv.specs.Spellings.{value_text}
 use Rattle.omi_icv.specs.StateValues.{Content, as_number, as_text, number_of, text_of, state_of_thread, tool_of, display_of}
 use Rattle.omi_icv.specs.StateWords.{state, tool_data}
-use Rattle.omi_icv.specs.Subjects.{Subject, OfScoped}
+use Rattle.omi_icv.specs.Subjects.{OfScoped}
 use Rattle.omi_icv.specs.Table.{variable_in, debug_var, num_procs_var, name_of}
 use Rattle.omi_icv.specs.Written.{IsWritten, Written}
 use Rattle.omi_icv.proofs.Shown.{Agrees, text_read, switch_text}

@@ -5,7 +5,6 @@ use Rattle.std.specs.Option.{option_map, option_and_then, ok_or}
 use Rattle.omi_calls.specs.Told.{Told}
 use Rattle.omi_handle.specs.declared.handle.Kind.TheVariants as kind
 use Rattle.omi_layout.specs.declared.field.Field.TheVariants.{RuntimeProcs, RuntimeDebug, RuntimeMaxActive, ThreadCurrent, RegionLevels, RegionActive, TaskImplicit, TaskNumber, TaskDynamic, TaskSchedule, TaskDevice, TaskFinal}
-use Rattle.omi_layout.specs.Named.{number}
 use Rattle.omi_model.specs.declared.id.Rid.{Rid}
 use Rattle.omi_model.specs.declared.id.Tid.{Tid}
 use Rattle.omi_model.specs.declared.task.Task.{Task}
@@ -13,11 +12,11 @@ use Rattle.omi_model.specs.Numbers.{flag}
 use Rattle.omi_model.specs.State.{State, task_of, current_task}
 use Rattle.omi_model.specs.Visible.{IsVisibleRegion, IsVisibleTask}
 use Rattle.omi_model.specs.WellFormed.{HasBegun}
-use Rattle.omi_rep.specs.Records.{record_at, task_word, runtime_address, thread_address, region_address, task_address}
+use Rattle.omi_rep.specs.Records.{runtime_address, thread_address, region_address, task_address}
 use Rattle.omi_session.specs.declared.rc.Rc.{Rc}
 use Rattle.omi_session.specs.declared.rc.Rc.TheVariants.{Unavailable, Unsupported}
 use Rattle.omi_session.specs.Reads.{answer_on}
-use Rattle.omi_session.specs.Inquiry.{follow_some, word_of}
+use Rattle.omi_session.specs.Inquiry.{follow_some}
 use Rattle.omi_session.specs.Shown.{ShowsTold, held_task, as_held}
 use Rattle.omi_session.proofs.ShownParts.{then_answered, then_refused, word_told}
 use Rattle.omi_session.proofs.ShownAnswers.{some_task, size_told}

@@ -1,5 +1,5 @@
 -- What a call leaves that makes a text, by what its reads answer.
-use Rattle.std.proofs.Common.{◌≡◌, ◌≢◌, refl, sym, ap, subst}
+use Rattle.std.proofs.Common.{◌≡◌, ◌≢◌, refl, sym, subst}
 use Rattle.std.specs.Prelude.{Result, Ok, Err, IsOk}
 use Rattle.omi_calls.specs.Told.{Told}
 use Rattle.omi_session.specs.declared.rc.Rc.{Rc}

@@ -1,10 +1,8 @@
 -- The value of a control variable, by the words of the record of what is asked about: as one number, and as all its numbers.
-use Rattle.std.specs.Prelude.{ℕ, zero, suc, ◌==◌, ◌&&◌, nat_le, List, [], ◌∷◌, ◌++◌, Option, Result, Ok, Err, if◌then◌else◌}
+use Rattle.std.specs.Prelude.{ℕ, zero, suc, ◌==◌, ◌&&◌, nat_le, List, [], ◌∷◌, ◌++◌, Ok, Err, if◌then◌else◌}
 use Rattle.omi_handle.specs.declared.handle.Kind.TheVariants as kind
-use Rattle.omi_layout.specs.declared.field.Field.{Field}
 use Rattle.omi_layout.specs.declared.field.Field.TheVariants.{ThreadCurrent, TaskNumber, TaskNthreadsLength, TaskNthreads}
 use Rattle.omi_layout.specs.Named.{number}
-use Rattle.omi_session.specs.declared.rc.Rc.{Rc}
 use Rattle.omi_session.specs.declared.rc.Rc.TheVariants.{Error, Incomplete}
 use Rattle.omi_session.specs.Reads.{Reads, Answer, then_reads}
 use Rattle.omi_session.specs.Inquiry.{word_of, follow_some, team_size}

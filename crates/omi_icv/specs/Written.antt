@@ -1,5 +1,5 @@
 -- What a call leaves that makes a text of what its reads answer.
-use Rattle.std.specs.Prelude.{◌≡◌, ℕ, List, Result, Ok, Err, IsOk}
+use Rattle.std.specs.Prelude.{◌≡◌, Result, Ok, Err, IsOk}
 use Rattle.omi_calls.specs.Told.{Told, Words}
 use Rattle.omi_session.specs.declared.rc.Rc.{Rc}
 use Rattle.omi_session.specs.declared.rc.Rc.TheVariants.{NoMem, CallbackError}

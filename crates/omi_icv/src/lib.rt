@@ -18,6 +18,6 @@ pub use display::get_display_control_vars;
 pub use enumeration::{enumerate_icvs, enumerate_states};
 pub use icv::get_icv_from_scope;
 pub use icv_text::get_icv_string_from_scope;
-pub use scoped::{Scope, Scoped};
+pub use scoped::Scoped;
 pub use state::get_state;
 pub use tool::get_tool_data;

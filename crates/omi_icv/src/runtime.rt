@@ -12,10 +12,7 @@ use omi_layout::Field;
 use omi_session::{Rc, Session, word};
 
 /// The word of a field of the runtime's record.
-pub fn runtime_word<C: Callbacks, F: ToHost>(
-    s: &mut Session<C, F>,
-    field: Field,
-) -> Result<u64, Rc>
+pub fn runtime_word<C: Callbacks, F: ToHost>(s: &mut Session<C, F>, field: Field) -> Result<u64, Rc>
     ensures answer { Answers (C.told s.old.table.calls) result
         (word_of s.old.layout (runtime_address s.old.layout) field 0) }
     ensures memory { result ≢ Err Rc.NoMem }

@@ -24,7 +24,7 @@ pub enum Scoped {
 }
 
 /// The scope of a control variable. The numbers are those of OpenMP 5.0, which has the scopes global (1) and implicit task (5) besides.
-#[derive(Clone, Copy, Debug, PartialEq, Eq)]
+#[derive(Clone, Copy)]
 pub enum Scope {
     AddressSpace = 2,
     Thread = 3,
@@ -34,7 +34,7 @@ pub enum Scope {
 
 impl Scope {
     /// The number of the scope.
-    pub fn number(self) -> u32
+    pub(crate) fn number(self) -> u32
         ensures { result ≡ scope_number self }
     {
         self as u32
@@ -43,7 +43,7 @@ impl Scope {
 
 impl Scoped {
     /// The scope of the variables that may be asked for.
-    pub fn scope(self) -> Scope
+    pub(crate) fn scope(self) -> Scope
         ensures { result ≡ scope_of self }
     {
         match self {

@@ -33,11 +33,7 @@ fn push_others(text: &mut String, spelling: Spelling, numbers: &[u64]) -> Result
 }
 
 /// The text of a value: its numbers, joined by commas.
-pub fn value_text(
-    alloc: Global,
-    spelling: Spelling,
-    numbers: &[u64],
-) -> Result<String, OutOfMemory>
+pub fn value_text(alloc: Global, spelling: Spelling, numbers: &[u64]) -> Result<String, OutOfMemory>
     ensures { IfOk result (λ text. string_bytes text ≡ value_text spelling numbers.now) }
 {
     let mut text = String::new(alloc);

@@ -46,17 +46,57 @@ fn find_variable(icv: u32) -> Option<Variable>
     ensures { result ≡ option_map (λ row. row.variable) (row_of icv) }
 {
     let (scope, source, spelling) = match icv {
-        1 => (Scope::Task, Source::Word(Field::TaskDynamic), Spelling::Decimal),
+        1 => (
+            Scope::Task,
+            Source::Word(Field::TaskDynamic),
+            Spelling::Decimal,
+        ),
         2 => (Scope::Task, Source::Elements, Spelling::Decimal),
-        3 => (Scope::Task, Source::Word(Field::TaskSchedule), Spelling::Schedule),
-        4 => (Scope::Task, Source::Word(Field::TaskDevice), Spelling::Decimal),
-        5 => (Scope::Task, Source::Word(Field::TaskFinal), Spelling::Decimal),
-        6 => (Scope::Task, Source::Word(Field::TaskImplicit), Spelling::Decimal),
-        7 => (Scope::AddressSpace, Source::Word(Field::RuntimeMaxActive), Spelling::Decimal),
-        8 => (Scope::AddressSpace, Source::Word(Field::RuntimeDebug), Spelling::Switch),
-        9 => (Scope::AddressSpace, Source::Word(Field::RuntimeProcs), Spelling::Decimal),
-        10 => (Scope::Parallel, Source::Word(Field::RegionLevels), Spelling::Decimal),
-        11 => (Scope::Parallel, Source::Word(Field::RegionActive), Spelling::Decimal),
+        3 => (
+            Scope::Task,
+            Source::Word(Field::TaskSchedule),
+            Spelling::Schedule,
+        ),
+        4 => (
+            Scope::Task,
+            Source::Word(Field::TaskDevice),
+            Spelling::Decimal,
+        ),
+        5 => (
+            Scope::Task,
+            Source::Word(Field::TaskFinal),
+            Spelling::Decimal,
+        ),
+        6 => (
+            Scope::Task,
+            Source::Word(Field::TaskImplicit),
+            Spelling::Decimal,
+        ),
+        7 => (
+            Scope::AddressSpace,
+            Source::Word(Field::RuntimeMaxActive),
+            Spelling::Decimal,
+        ),
+        8 => (
+            Scope::AddressSpace,
+            Source::Word(Field::RuntimeDebug),
+            Spelling::Switch,
+        ),
+        9 => (
+            Scope::AddressSpace,
+            Source::Word(Field::RuntimeProcs),
+            Spelling::Decimal,
+        ),
+        10 => (
+            Scope::Parallel,
+            Source::Word(Field::RegionLevels),
+            Spelling::Decimal,
+        ),
+        11 => (
+            Scope::Parallel,
+            Source::Word(Field::RegionActive),
+            Spelling::Decimal,
+        ),
         12 => (Scope::Parallel, Source::TeamSize, Spelling::Decimal),
         13 => (Scope::Thread, Source::MemberNumber, Spelling::Decimal),
         _ => return None,

@@ -1,10 +1,9 @@
-use Rattle.std.proofs.Common.{◌≡◌, ◌∙◌, refl, subst, ap}
-use Rattle.std.specs.Prelude.{Result, Ok, Err}
+use Rattle.std.proofs.Common.{◌∙◌, refl, subst, ap}
+use Rattle.std.specs.Prelude.{Ok, Err}
 use Rattle.std.proofs.lemmas.Result.{err_from_is_err_and}
 use Rattle.omi_session.specs.Reads.{Answers}
 use Rattle.omi_session.proofs.Asked.{asked_then, asked_refused, asked_answer}
 use Rattle.omi_icv.specs.Icvs.{icv_value}
-use Rattle.omi_icv.specs.Scopes.{scope_of}
 use Rattle.omi_icv.specs.Table.{variable_in}
 use Rattle.omi_icv.specs.Values.{numbers_in}
 use Rattle.omi_icv.proofs.icv_text.icv_value.Goals as goal

@@ -1,11 +1,11 @@
 use Rattle.std.proofs.Common.{◌≡◌, ℕ, List, refl, sym, subst}
-use Rattle.std.specs.Prelude.{Ok, Err}
+use Rattle.std.specs.Prelude.{Err}
 use Rattle.std.specs.FinMap.{get}
 use Rattle.std.proofs.lemmas.Result.{err_from_is_err_and}
 use Rattle.omi_handle.specs.declared.handle.TaskHandle.{TaskHandle}
 use Rattle.omi_layout.specs.declared.field.Field.TheVariants.{TaskTool}
 use Rattle.omi_session.specs.declared.rc.Rc.TheVariants.{Unsupported}
-use Rattle.omi_session.specs.Reads.{Reads, Answer, Answers}
+use Rattle.omi_session.specs.Reads.{Answer, Answers}
 use Rattle.omi_session.specs.Inquiry.{word_of}
 use Rattle.omi_session.proofs.Asked.{asked_then, asked_refused, asked_answer}
 use Rattle.omi_icv.specs.declared.scoped.Scoped.{Scoped}

@@ -1,9 +1,8 @@
-use Rattle.std.proofs.Common.{◌≡◌, ◌+◌, ◌∙◌, refl, subst, sym, ap, arith}
+use Rattle.std.proofs.Common.{◌+◌, refl, subst, sym, ap, arith}
 use Rattle.std.specs.Prelude.{Ok, Err}
 use Rattle.std.proofs.lemmas.Grind.{common_steps}
 use Rattle.std.proofs.lemmas.Result.{err_from_is_err_and}
 use Rattle.omi_layout.specs.declared.field.Field.TheVariants.{TaskNthreads}
-use Rattle.omi_session.specs.Opened.{StaysWhole}
 use Rattle.omi_session.specs.Reads.{Answers}
 use Rattle.omi_session.specs.Inquiry.{word_of}
 use Rattle.omi_session.proofs.Asked.{asked_answer}
