@@ -4,6 +4,9 @@ ghost use Rattle.std.specs.Prelude.{◌≡◌, option_map, option_copied};
 ghost use Rattle.omi_icv.specs.Table.{row_of, variable_in};
 
 use crate::scoped::Scope;
+use crate::scoped::Scope::{AddressSpace, Parallel, Task, Thread};
+use crate::variable::Source::{Elements, MemberNumber, TeamSize, Word};
+use crate::variable::Spelling::{Decimal, Schedule, Switch};
 use omi_layout::Field;
 use omi_session::Rc;
 
@@ -46,59 +49,19 @@ fn find_variable(icv: u32) -> Option<Variable>
     ensures { result ≡ option_map (λ row. row.variable) (row_of icv) }
 {
     let (scope, source, spelling) = match icv {
-        1 => (
-            Scope::Task,
-            Source::Word(Field::TaskDynamic),
-            Spelling::Decimal,
-        ),
-        2 => (Scope::Task, Source::Elements, Spelling::Decimal),
-        3 => (
-            Scope::Task,
-            Source::Word(Field::TaskSchedule),
-            Spelling::Schedule,
-        ),
-        4 => (
-            Scope::Task,
-            Source::Word(Field::TaskDevice),
-            Spelling::Decimal,
-        ),
-        5 => (
-            Scope::Task,
-            Source::Word(Field::TaskFinal),
-            Spelling::Decimal,
-        ),
-        6 => (
-            Scope::Task,
-            Source::Word(Field::TaskImplicit),
-            Spelling::Decimal,
-        ),
-        7 => (
-            Scope::AddressSpace,
-            Source::Word(Field::RuntimeMaxActive),
-            Spelling::Decimal,
-        ),
-        8 => (
-            Scope::AddressSpace,
-            Source::Word(Field::RuntimeDebug),
-            Spelling::Switch,
-        ),
-        9 => (
-            Scope::AddressSpace,
-            Source::Word(Field::RuntimeProcs),
-            Spelling::Decimal,
-        ),
-        10 => (
-            Scope::Parallel,
-            Source::Word(Field::RegionLevels),
-            Spelling::Decimal,
-        ),
-        11 => (
-            Scope::Parallel,
-            Source::Word(Field::RegionActive),
-            Spelling::Decimal,
-        ),
-        12 => (Scope::Parallel, Source::TeamSize, Spelling::Decimal),
-        13 => (Scope::Thread, Source::MemberNumber, Spelling::Decimal),
+        1 => (Task, Word(Field::TaskDynamic), Decimal),
+        2 => (Task, Elements, Decimal),
+        3 => (Task, Word(Field::TaskSchedule), Schedule),
+        4 => (Task, Word(Field::TaskDevice), Decimal),
+        5 => (Task, Word(Field::TaskFinal), Decimal),
+        6 => (Task, Word(Field::TaskImplicit), Decimal),
+        7 => (AddressSpace, Word(Field::RuntimeMaxActive), Decimal),
+        8 => (AddressSpace, Word(Field::RuntimeDebug), Switch),
+        9 => (AddressSpace, Word(Field::RuntimeProcs), Decimal),
+        10 => (Parallel, Word(Field::RegionLevels), Decimal),
+        11 => (Parallel, Word(Field::RegionActive), Decimal),
+        12 => (Parallel, TeamSize, Decimal),
+        13 => (Thread, MemberNumber, Decimal),
         _ => return None,
     };
     Some(Variable {

@@ -1,10 +1,12 @@
 //! Worked rows of what states answer. Each is a clause of a function that does nothing.
 
-ghost use Rattle.std.specs.Prelude.{◌≡◌, [], ◌∷◌, Ok, Err};
+ghost use Rattle.std.specs.Prelude.{◌≡◌, [], ◌∷◌, false, Ok, Err};
 ghost use Rattle.omi_model.specs.Opening.{opening, opening_region, opening_task, initial_region, initial_task};
 ghost use Rattle.omi_model.specs.Teams.{new_region, member_task};
 ghost use Rattle.omi_model.specs.WorkedRun.{run_program, run_region, master, worker};
 ghost use Rattle.omi_session.specs.Answers as answer;
+ghost use Rattle.omi_icv.specs.Subjects.{Space, Thread, Task};
+ghost use Rattle.omi_icv.specs.StateValues.{number_of, state_of_thread, tool_of};
 
 use omi_session::Rc;
 use std::test::Fail;
@@ -52,10 +54,28 @@ fn forked_tasks()
         (opening_task run_program) (opening_region run_program) 2 1 1) ≡ Ok 0x400020 }
 {}
 
+/// Control variables and states: an nthreads-var of two elements has no one number, a thread without a task has no number in a team, and a
+/// state that isn't kept is asked for in vain.
+fn variables()
+    ensures one { number_of (opening run_program) (Task (opening_task run_program)) 2 ≡ Ok 2 }
+    ensures several { number_of (opening run_program) (Task (record opening_task run_program {
+        variables = record (opening_task run_program).variables { nthreads = 3 ∷ 2 ∷ [] } })) 2
+        ≡ Err (Rc.Incomplete 3) }
+    ensures member { number_of (opening run_program) (Thread 0) 13 ≡ Ok 0 }
+    ensures no_member { number_of (opening run_program) (Thread 1) 13 ≡ Err Rc.Unavailable }
+    ensures other_scope { number_of (opening run_program) Space 2 ≡ Err Rc.Unsupported }
+    ensures no_tool { tool_of (Thread 0) ≡ Err Rc.Unsupported }
+    ensures state { state_of_thread (opening run_program) 1 ≡ Ok (0x100, 0) }
+    ensures untracked { state_of_thread (record opening run_program {
+        environment = record (opening run_program).environment { debug = false } }) 0
+        ≡ Err Rc.NeedsStateTracking }
+{}
+
 #[test]
 fn states_answer_the_worked_rows(_rt: HostRuntime) -> Result<(), Fail> {
     null_ends();
     team_numbers();
     forked_tasks();
+    variables();
     Ok(())
 }

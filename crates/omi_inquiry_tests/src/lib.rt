@@ -11,3 +11,5 @@ mod forks;
 mod handles;
 #[cfg(test)]
 mod opening;
+#[cfg(test)]
+mod variables;

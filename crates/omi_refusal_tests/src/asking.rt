@@ -13,6 +13,7 @@ use omi_asktask::{
 };
 use omi_calls::ToHost;
 use omi_handle::{RegionHandle, TaskHandle, ThreadHandle};
+use omi_icv::{Scoped, get_icv_from_scope, get_state, get_tool_data};
 use omi_session::Rc;
 use omi_stopped::{
     A_TEAM_OF_TWO, Asked, Change, LITTLE, Stopped, Words, Wrong, at_fork, few, library, open,
@@ -29,7 +30,8 @@ pub struct Three {
 
 /// The inquiries that read words: for the thread with the id 1001 and that of member 1, the id of thread 0, its region, the region around
 /// it and the region of its task; its task, the one that made that and the one that was left for it, the task of member 1, and the
-/// function and the frames of its task.
+/// function and the frames of its task; the thread's state and thread-num-var, the region's team-size-var, and the task's nthreads-var, as
+/// one number, and tool word.
 #[derive(Clone, Copy, Debug, PartialEq, Eq)]
 pub enum Inquiry {
     ThreadWithId,
@@ -44,10 +46,15 @@ pub enum Inquiry {
     TaskOfMember,
     Function,
     Frames,
+    State,
+    MemberNumber,
+    TeamSize,
+    Nthreads,
+    Tool,
 }
 
 /// How many they are.
-pub const COUNT: usize = 12;
+pub const COUNT: usize = 17;
 
 pub const EACH: [Inquiry; COUNT] = [
     Inquiry::ThreadWithId,
@@ -62,6 +69,11 @@ pub const EACH: [Inquiry; COUNT] = [
     Inquiry::TaskOfMember,
     Inquiry::Function,
     Inquiry::Frames,
+    Inquiry::State,
+    Inquiry::MemberNumber,
+    Inquiry::TeamSize,
+    Inquiry::Nthreads,
+    Inquiry::Tool,
 ];
 
 /// How they are refused, in this order.
@@ -99,6 +111,22 @@ fn refusal_of_finding<F: ToHost>(
     })
 }
 
+/// How an inquiry for a control variable, a state or a tool word is refused, and None of another one.
+fn refusal_of_word<F: ToHost>(
+    s: &mut Stopped<'_, F>,
+    inquiry: Inquiry,
+    h: Three,
+) -> Option<Option<Rc>> {
+    match inquiry {
+        Inquiry::State => Some(get_state(s, h.thread).err()),
+        Inquiry::MemberNumber => Some(get_icv_from_scope(s, Scoped::Thread(h.thread), 13).err()),
+        Inquiry::TeamSize => Some(get_icv_from_scope(s, Scoped::Parallel(h.region), 12).err()),
+        Inquiry::Nthreads => Some(get_icv_from_scope(s, Scoped::Task(h.task), 2).err()),
+        Inquiry::Tool => Some(get_tool_data(s, Scoped::Task(h.task)).err()),
+        _ => None,
+    }
+}
+
 /// How an inquiry is refused.
 pub fn refusal<F: ToHost>(
     s: &mut Stopped<'_, F>,
@@ -106,6 +134,9 @@ pub fn refusal<F: ToHost>(
     h: Three,
 ) -> Result<Option<Rc>, Rc> {
     few(s)?;
+    if let Some(refusal) = refusal_of_word(s, inquiry, h) {
+        return Ok(refusal);
+    }
     Ok(match inquiry {
         Inquiry::CurrentTask => get_curr_task_handle(s, h.thread).err(),
         Inquiry::Generating => get_generating_task_handle(s, h.task).err(),

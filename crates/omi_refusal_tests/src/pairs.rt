@@ -2,8 +2,8 @@
 
 use crate::asking::{Inquiry, forked};
 use crate::rows::{
-    BAD, GONE, OF_MEMBER, OF_REGION, OF_TASK, OF_THREAD, Records, Row, STALE, TO_REGION, TO_TASK,
-    error, first_wrong, pair, records_of,
+    BAD, GONE, OF_MEMBER, OF_REGION, OF_SIZE, OF_TASK, OF_THREAD, Records, Row, STALE, TO_REGION,
+    TO_TASK, error, first_wrong, pair, records_of,
 };
 use omi_layout::Field;
 use omi_session::Rc;
@@ -61,8 +61,8 @@ fn of_regions(r: &Records) -> [Row; 7] {
             error(n, life),
         )
         .and(&TO_REGION, lost),
-        pair(none, (n, team, 1, Some(8)), &OF_MEMBER, error(n, size)),
-        pair((n, size, 0, None), hole, &OF_MEMBER, error(n, size)),
+        pair(none, (n, team, 1, Some(8)), &OF_SIZE, error(n, size)),
+        pair((n, size, 0, None), hole, &OF_SIZE, error(n, size)),
         pair(one, (n, team, 1, Some(8)), &OF_MEMBER, BAD),
         pair(one, hole, &OF_MEMBER, BAD),
     ]
@@ -124,6 +124,28 @@ fn of_tasks(r: &Records) -> [Row; 7] {
     ]
 }
 
+/// What is asked of control variables and states.
+fn of_words(r: &Records) -> [Row; 5] {
+    let (m, t, u) = (r.master, r.thread, r.runtime);
+    let (count, element) = (Field::TaskNthreadsLength, Field::TaskNthreads);
+    let (debug, state, life) = (Field::RuntimeDebug, Field::ThreadState, Field::ThreadLife);
+    let (list, of_state) = ([Inquiry::Nthreads], [Inquiry::State]);
+    let off = (u, debug, 0, Some(0));
+    let hole = (m, element, 0, None);
+    [
+        pair(off, (t, life, 0, Some(3)), &OF_THREAD, STALE),
+        pair(off, (t, state, 0, None), &of_state, Rc::NeedsStateTracking),
+        pair(
+            (u, debug, 0, None),
+            (t, state, 0, None),
+            &of_state,
+            error(u, debug),
+        ),
+        pair((m, count, 0, Some(5)), hole, &list, error(m, count)),
+        pair((m, count, 0, Some(2)), hole, &list, error(m, element)),
+    ]
+}
+
 #[test]
 fn the_word_that_is_read_first_decides(rt: HostRuntime) -> Result<(), Fail> {
     let alloc = rt.alloc();
@@ -136,6 +158,7 @@ fn the_word_that_is_read_first_decides(rt: HostRuntime) -> Result<(), Fail> {
             first_wrong(alloc, &words, &of_regions(&r)),
             first_wrong(alloc, &words, &of_members(&r)),
             first_wrong(alloc, &words, &of_tasks(&r)),
+            first_wrong(alloc, &words, &of_words(&r)),
         ] {
             assert_eq!(rt; wrong, Ok(None));
         }

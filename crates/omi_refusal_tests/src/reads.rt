@@ -18,7 +18,7 @@ use std::process::Abort;
 use std::test::Fail;
 
 /// How many words each inquiry reads, the handle's life word first.
-const READS: [u64; COUNT] = [4, 6, 2, 5, 3, 3, 3, 3, 3, 4, 2, 3];
+const READS: [u64; COUNT] = [4, 6, 2, 5, 3, 3, 3, 3, 3, 4, 2, 3, 3, 4, 2, 3, 2];
 
 const FAILED: Option<Rc> = Some(Rc::CallbackError);
 
@@ -142,6 +142,8 @@ fn a_failed_read_and_another_refusal_by<F: ToHost + Copy>(
     let one = (r.inner, Field::RegionSize, 0, Some(1));
     let ended = (r.worker, Field::TaskLife, 0, Some(2));
     let not_begun = (r.thread, begun, 0, Some(0));
+    let off = (r.runtime, Field::RuntimeDebug, 0, Some(0));
+    let untracked = Some(Rc::NeedsStateTracking);
     for (inquiry, word, read, wanted) in [
         (Inquiry::ThreadWithId, not_begun, 1, FAILED),
         (Inquiry::ThreadWithId, idle, 3, FAILED),
@@ -159,6 +161,9 @@ fn a_failed_read_and_another_refusal_by<F: ToHost + Copy>(
         (Inquiry::TaskOfMember, one, 2, FAILED),
         (Inquiry::TaskOfMember, one, 3, bad),
         (Inquiry::TaskOfMember, ended, 4, FAILED),
+        (Inquiry::State, off, 2, FAILED),
+        (Inquiry::State, off, 3, untracked),
+        (Inquiry::MemberNumber, no_task, 3, gone),
     ] {
         let asked = Asked::never();
         let changes = [change(&words, word); 2];
@@ -219,10 +224,10 @@ fn handles_that_are_not_held_by<F: ToHost + Copy>(
     let stale = change(&words, (r.master, Field::TaskLife, 0, Some(3)));
     let hole = change(&words, (r.inner, Field::RegionLife, 0, None));
     let mut order = EACH;
-    order[0] = Inquiry::Frames;
-    order[11] = Inquiry::ThreadWithId;
+    order[0] = Inquiry::Tool;
+    order[COUNT - 1] = Inquiry::ThreadWithId;
     let mut wanted = [Some(BAD); COUNT];
-    wanted[11] = FAILED;
+    wanted[COUNT - 1] = FAILED;
     let asked = Asked::never();
     let (mut s, h) = changed(alloc, &words, [stale, hole], GOING_ON + 1, &asked, to_host)?;
     assert_eq!(rt; unread(&mut s, turned(h)), [Some(BAD); 10]);

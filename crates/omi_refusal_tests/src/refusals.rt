@@ -2,8 +2,8 @@
 
 use crate::asking::{Inquiry, forked};
 use crate::rows::{
-    BAD, GONE, OF_MEMBER, OF_REGION, OF_TASK, OF_THREAD, Records, Row, STALE, TO_OTHER, TO_REGION,
-    TO_TASK, alone, error, first_wrong, records_of,
+    BAD, GONE, OF_MEMBER, OF_REGION, OF_SIZE, OF_TASK, OF_THREAD, Records, Row, STALE, TO_OTHER,
+    TO_REGION, TO_TASK, alone, error, first_wrong, records_of,
 };
 use omi_layout::Field;
 use omi_session::Rc;
@@ -67,9 +67,9 @@ fn of_regions(r: &Records) -> [Row; 11] {
 fn of_teams(r: &Records) -> [Row; 9] {
     let (n, size, team) = (r.inner, Field::RegionSize, Field::RegionTeam);
     [
-        alone((n, size, 0, None), &OF_MEMBER, error(n, size)),
-        alone((n, size, 0, Some(0)), &OF_MEMBER, error(n, size)),
-        alone((n, size, 0, Some(3)), &OF_MEMBER, error(n, size)),
+        alone((n, size, 0, None), &OF_SIZE, error(n, size)),
+        alone((n, size, 0, Some(0)), &OF_SIZE, error(n, size)),
+        alone((n, size, 0, Some(3)), &OF_SIZE, error(n, size)),
         alone((n, size, 0, Some(1)), &OF_MEMBER, BAD),
         alone((n, team, 1, None), &OF_MEMBER, error(n, team)),
         alone((n, team, 1, Some(0)), &OF_MEMBER, error(0, team)),
@@ -148,6 +148,31 @@ fn of_ancestors(r: &Records) -> [Row; 10] {
     ]
 }
 
+/// The control variables, the state and the tool word. A list has one to four elements, of which the first alone is read here.
+fn of_words(r: &Records) -> [Row; 10] {
+    let (m, t, u) = (r.master, r.thread, r.runtime);
+    let (count, element) = (Field::TaskNthreadsLength, Field::TaskNthreads);
+    let (number, tool) = (Field::TaskNumber, Field::TaskTool);
+    let (debug, state) = (Field::RuntimeDebug, Field::ThreadState);
+    let (list, of_state) = ([Inquiry::Nthreads], [Inquiry::State]);
+    [
+        alone((m, count, 0, None), &list, error(m, count)),
+        alone((m, count, 0, Some(0)), &list, error(m, count)),
+        alone((m, count, 0, Some(5)), &list, error(m, count)),
+        alone((m, count, 0, Some(4)), &list, Rc::Incomplete(2)),
+        alone((m, element, 0, None), &list, error(m, element)),
+        alone(
+            (m, number, 0, None),
+            &[Inquiry::MemberNumber],
+            error(m, number),
+        ),
+        alone((m, tool, 0, None), &[Inquiry::Tool], error(m, tool)),
+        alone((u, debug, 0, None), &of_state, error(u, debug)),
+        alone((u, debug, 0, Some(0)), &of_state, Rc::NeedsStateTracking),
+        alone((t, state, 0, None), &of_state, error(t, state)),
+    ]
+}
+
 #[test]
 fn each_refusal_at_its_word(rt: HostRuntime) -> Result<(), Fail> {
     let alloc = rt.alloc();
@@ -162,6 +187,7 @@ fn each_refusal_at_its_word(rt: HostRuntime) -> Result<(), Fail> {
             first_wrong(alloc, &words, &of_members(&r)),
             first_wrong(alloc, &words, &of_tasks(&r)),
             first_wrong(alloc, &words, &of_ancestors(&r)),
+            first_wrong(alloc, &words, &of_words(&r)),
         ] {
             assert_eq!(rt; wrong, Ok(None));
         }

@@ -18,36 +18,52 @@ pub const STALE: Rc = Rc::StaleHandle;
 pub const BAD: Rc = Rc::BadInput;
 
 /// The inquiries with a handle of thread 0.
-pub const OF_THREAD: [Inquiry; 3] = [
+pub const OF_THREAD: [Inquiry; 5] = [
     Inquiry::IdOfThread,
     Inquiry::CurrentRegion,
     Inquiry::CurrentTask,
+    Inquiry::State,
+    Inquiry::MemberNumber,
 ];
 
 /// Those with a handle of the region.
-pub const OF_REGION: [Inquiry; 3] = [
+pub const OF_REGION: [Inquiry; 4] = [
     Inquiry::ThreadOfMember,
     Inquiry::Enclosing,
     Inquiry::TaskOfMember,
+    Inquiry::TeamSize,
 ];
 
 /// Those with a handle of the task.
-pub const OF_TASK: [Inquiry; 5] = [
+pub const OF_TASK: [Inquiry; 7] = [
     Inquiry::RegionOfTask,
     Inquiry::Generating,
     Inquiry::Scheduling,
     Inquiry::Function,
     Inquiry::Frames,
+    Inquiry::Nthreads,
+    Inquiry::Tool,
 ];
 
 /// Those that lead to the region.
 pub const TO_REGION: [Inquiry; 2] = [Inquiry::CurrentRegion, Inquiry::RegionOfTask];
 
 /// Those that lead to the current task.
-pub const TO_TASK: [Inquiry; 2] = [Inquiry::CurrentRegion, Inquiry::CurrentTask];
+pub const TO_TASK: [Inquiry; 3] = [
+    Inquiry::CurrentRegion,
+    Inquiry::CurrentTask,
+    Inquiry::MemberNumber,
+];
 
 /// Those that ask for member 1.
 pub const OF_MEMBER: [Inquiry; 2] = [Inquiry::ThreadOfMember, Inquiry::TaskOfMember];
+
+/// Those that read the size of the team.
+pub const OF_SIZE: [Inquiry; 3] = [
+    Inquiry::ThreadOfMember,
+    Inquiry::TaskOfMember,
+    Inquiry::TeamSize,
+];
 
 /// Those that find thread 1.
 pub const TO_OTHER: [Inquiry; 2] = [Inquiry::ThreadWithId, Inquiry::ThreadOfMember];
@@ -57,6 +73,7 @@ pub const TO_OTHER: [Inquiry; 2] = [Inquiry::ThreadWithId, Inquiry::ThreadOfMemb
 pub struct Records {
     pub thread: u64,
     pub other: u64,
+    pub runtime: u64,
     pub outer: u64,
     pub inner: u64,
     pub initial: u64,
@@ -118,6 +135,7 @@ pub fn records_of(words: &Words) -> Result<Records, Wrong> {
     Ok(Records {
         thread: layout.thread_at(0),
         other: layout.thread_at(1),
+        runtime: layout.runtime_place(),
         outer: layout.region_at(0, 0),
         inner: layout.region_at(0, 1),
         initial: layout.task_at(0, 0),
