@@ -58,16 +58,18 @@ fn forked_tasks()
 /// state that isn't kept is asked for in vain.
 fn variables()
     ensures one { number_of (opening run_program) (Task (opening_task run_program)) 2 ≡ Ok 2 }
-    ensures several { number_of (opening run_program) (Task (record opening_task run_program {
-        variables = record (opening_task run_program).variables { nthreads = 3 ∷ 2 ∷ [] } })) 2
+    ensures several { number_of (opening run_program) (Task (record (opening_task run_program) {
+      variables = record (opening_task run_program).variables { nthreads = 3 ∷ 2 ∷ [] };
+    })) 2
         ≡ Err (Rc.Incomplete 3) }
     ensures member { number_of (opening run_program) (Thread 0) 13 ≡ Ok 0 }
     ensures no_member { number_of (opening run_program) (Thread 1) 13 ≡ Err Rc.Unavailable }
     ensures other_scope { number_of (opening run_program) Space 2 ≡ Err Rc.Unsupported }
     ensures no_tool { tool_of (Thread 0) ≡ Err Rc.Unsupported }
     ensures state { state_of_thread (opening run_program) 1 ≡ Ok (0x100, 0) }
-    ensures untracked { state_of_thread (record opening run_program {
-        environment = record (opening run_program).environment { debug = false } }) 0
+    ensures untracked { state_of_thread (record (opening run_program) {
+      environment = record (opening run_program).environment { debug = false };
+    }) 0
         ≡ Err Rc.NeedsStateTracking }
 {}
 

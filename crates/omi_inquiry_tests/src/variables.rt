@@ -1,12 +1,13 @@
 //! What inquiries answer about control variables, states and tool words over the words of runs, and the enumerations.
 
-ghost use Rattle.std.specs.Prelude.{◌≡◌};
+ghost use Rattle.std.specs.Prelude.{◌≡◌, IfOk};
 ghost use Rattle.std.specs.Int.{from_le_bytes, w64};
 ghost use Rattle.omi_calls.specs.Kept.{GivesNumbers, TakesAll};
 
 use omi_ask::{get_curr_parallel_handle, get_thread_handle};
 use omi_asktask::get_curr_task_handle;
 use omi_calls::ToHost;
+use omi_corefile::CoreImage;
 use omi_icv::{
     Scoped, enumerate_icvs, enumerate_states, get_display_control_vars, get_icv_from_scope,
     get_icv_string_from_scope, get_state, get_tool_data,
@@ -142,43 +143,12 @@ fn has_tool_words<F: ToHost>(s: &mut Stopped<'_, F>) -> Result<bool, Rc> {
 }
 
 /// What is answered before the first step of an empty run.
-fn answers_of_an_empty_run<F: ToHost>(
-    s: &mut Stopped<'_, F>,
-    alloc: Global,
-) -> Result<[bool; 5], Rc> {
-    Ok([
-        has_first_variables(s, alloc)?,
-        enumerates(s),
-        displays(s, alloc, "debug-var=enabled")?,
-        has_tool_words(s)?,
-        state(s, 1000) == Ok((0, 0)),
-    ])
-}
-
-fn an_empty_run_in<F: ToHost>(alloc: Global, family: u8, to_host: F) -> Result<[bool; 5], Wrong>
-    requires takes { TakesAll (F.takes to_host) }
-    requires gives { GivesNumbers (F.gives to_host) 0 }
-{
-    let asked = Asked::never();
-    let core = core_at(alloc, AN_EMPTY_RUN, family, after(0))?;
-    let mut s = open(alloc, core, LITTLE, to_host, &asked)?;
-    let answers = answers_of_an_empty_run(&mut s, alloc)?;
-    Ok(answers)
-}
-
-#[test]
-fn an_empty_run(rt: HostRuntime) -> Result<(), Fail> {
-    for family in [0, 7] {
-        let answers = an_empty_run_in(
-            rt.alloc(),
-            family,
-            |bytes: [u8; 8]| -> u64
-                ensures { result ≡ from_le_bytes w64 bytes }
-            { u64::from_le_bytes(bytes) },
-        )?;
-        assert_eq!(rt; answers, [true; 5]);
-    }
-    Ok(())
+fn is_an_empty_run<F: ToHost>(s: &mut Stopped<'_, F>, alloc: Global) -> Result<bool, Rc> {
+    let has_variables = has_first_variables(s, alloc)?;
+    let has_tools = has_tool_words(s)?;
+    let is_displayed = displays(s, alloc, "debug-var=enabled")?;
+    let works = state(s, 1000) == Ok((0, 0));
+    Ok(has_variables && has_tools && is_displayed && works && enumerates(s))
 }
 
 /// nthreads-var has two elements at the end, the first of which was changed.
@@ -189,57 +159,11 @@ fn has_a_changed_head<F: ToHost>(s: &mut Stopped<'_, F>, alloc: Global) -> Resul
     Ok(is_listed && is_dynamic && get_icv_from_scope(s, task, 2) == Err(Rc::Incomplete(3)))
 }
 
-fn a_changed_head_in<F: ToHost>(alloc: Global, to_host: F) -> Result<bool, Wrong>
-    requires takes { TakesAll (F.takes to_host) }
-    requires gives { GivesNumbers (F.gives to_host) 0 }
-{
-    let asked = Asked::never();
-    let core = core_at(alloc, A_CHANGED_HEAD, 0, after(1000))?;
-    let mut s = open(alloc, core, LITTLE, to_host, &asked)?;
-    let has = has_a_changed_head(&mut s, alloc)?;
-    Ok(has)
-}
-
-#[test]
-fn a_list_with_a_changed_head(rt: HostRuntime) -> Result<(), Fail> {
-    let has = a_changed_head_in(
-        rt.alloc(),
-        |bytes: [u8; 8]| -> u64
-            ensures { result ≡ from_le_bytes w64 bytes }
-        { u64::from_le_bytes(bytes) },
-    )?;
-    assert!(rt; has);
-    Ok(())
-}
-
 /// No state is kept, and debug-var says so.
 fn is_untracked<F: ToHost>(s: &mut Stopped<'_, F>, alloc: Global) -> Result<bool, Rc> {
     let is_off = has_text(s, alloc, Scoped::Space, 8, "disabled")?;
     let is_displayed = displays(s, alloc, "debug-var=disabled")?;
     Ok(is_off && is_displayed && state(s, 1000) == Err(Rc::NeedsStateTracking))
-}
-
-fn tracking_off_in<F: ToHost>(alloc: Global, to_host: F) -> Result<bool, Wrong>
-    requires takes { TakesAll (F.takes to_host) }
-    requires gives { GivesNumbers (F.gives to_host) 0 }
-{
-    let asked = Asked::never();
-    let core = core_at(alloc, UNTRACKED, 0, after(0))?;
-    let mut s = open(alloc, core, LITTLE, to_host, &asked)?;
-    let is = is_untracked(&mut s, alloc)?;
-    Ok(is)
-}
-
-#[test]
-fn tracking_off(rt: HostRuntime) -> Result<(), Fail> {
-    let is = tracking_off_in(
-        rt.alloc(),
-        |bytes: [u8; 8]| -> u64
-            ensures { result ≡ from_le_bytes w64 bytes }
-        { u64::from_le_bytes(bytes) },
-    )?;
-    assert!(rt; is);
-    Ok(())
 }
 
 /// At the fork of a team the master has its place in it, and the other thread has no task yet.
@@ -257,25 +181,67 @@ fn is_at_a_fork<F: ToHost>(s: &mut Stopped<'_, F>, alloc: Global) -> Result<bool
     Ok(is_team && are_members && are_shown)
 }
 
-fn a_fork_in<F: ToHost>(alloc: Global, to_host: F) -> Result<bool, Wrong>
+/// A stopped run, and what is asked over its words.
+#[derive(Clone, Copy, Debug, PartialEq, Eq)]
+enum Row {
+    EmptyRun,
+    ChangedHead,
+    TrackingOff,
+    Fork,
+}
+
+/// Whether the words of a row's run answer as the row says.
+fn holds<F: ToHost>(s: &mut Stopped<'_, F>, alloc: Global, row: Row) -> Result<bool, Rc> {
+    match row {
+        Row::EmptyRun => is_an_empty_run(s, alloc),
+        Row::ChangedHead => has_a_changed_head(s, alloc),
+        Row::TrackingOff => is_untracked(s, alloc),
+        Row::Fork => is_at_a_fork(s, alloc),
+    }
+}
+
+/// The core of a row's run.
+fn core_of_row(alloc: Global, row: Row, family: u8) -> Result<CoreImage, Wrong>
+    ensures { IfOk result (λ core. core.order ≡ 0) }
+{
+    match row {
+        Row::EmptyRun => core_at(alloc, AN_EMPTY_RUN, family, after(0)),
+        Row::ChangedHead => core_at(alloc, A_CHANGED_HEAD, family, after(1000)),
+        Row::TrackingOff => core_at(alloc, UNTRACKED, family, after(0)),
+        Row::Fork => core_at(alloc, A_TEAM_OF_TWO, family, at_fork()),
+    }
+}
+
+/// Whether a row holds in the layout of a family.
+fn holds_in<F: ToHost>(alloc: Global, row: Row, family: u8, to_host: F) -> Result<bool, Wrong>
     requires takes { TakesAll (F.takes to_host) }
     requires gives { GivesNumbers (F.gives to_host) 0 }
 {
     let asked = Asked::never();
-    let core = core_at(alloc, A_TEAM_OF_TWO, 0, at_fork())?;
+    let core = core_of_row(alloc, row, family)?;
     let mut s = open(alloc, core, LITTLE, to_host, &asked)?;
-    let is = is_at_a_fork(&mut s, alloc)?;
+    let is = holds(&mut s, alloc, row)?;
     Ok(is)
 }
 
 #[test]
-fn a_thread_without_a_task(rt: HostRuntime) -> Result<(), Fail> {
-    let is = a_fork_in(
-        rt.alloc(),
-        |bytes: [u8; 8]| -> u64
-            ensures { result ≡ from_le_bytes w64 bytes }
-        { u64::from_le_bytes(bytes) },
-    )?;
-    assert!(rt; is);
+fn variables_states_and_tool_words(rt: HostRuntime) -> Result<(), Fail> {
+    for (row, family) in [
+        (Row::EmptyRun, 0),
+        (Row::EmptyRun, 7),
+        (Row::ChangedHead, 0),
+        (Row::TrackingOff, 0),
+        (Row::Fork, 0),
+    ] {
+        let is = holds_in(
+            rt.alloc(),
+            row,
+            family,
+            |bytes: [u8; 8]| -> u64
+                ensures { result ≡ from_le_bytes w64 bytes }
+            { u64::from_le_bytes(bytes) },
+        )?;
+        assert!(rt; is, "{row:?}");
+    }
     Ok(())
 }
