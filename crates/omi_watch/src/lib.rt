@@ -1,0 +1,7 @@
+//! The watch of a thread: how many quiet steps it makes in a row, the look at the slots before it waits, and the order in which it
+//! searches for a free record.
+#![tactic(auto)]
+
+mod laws;
+
+pub use laws::quiet_steps_are_few;
