@@ -1,1 +1,12 @@
 pub mod Quiets
+pub mod Resting
+pub mod Parts
+pub mod Standing
+pub mod OwedRecords
+pub mod Searching
+pub mod Workers
+pub mod Teams
+pub mod Making
+pub mod Waits
+pub mod Barriers
+pub mod Kept

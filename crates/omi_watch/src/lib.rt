@@ -4,4 +4,4 @@
 
 mod laws;
 
-pub use laws::quiet_steps_are_few;
+pub use laws::{openings_give_watch, quiet_steps_are_few, steps_keep_watch, words_are_one};
