@@ -3,6 +3,7 @@ use Rattle.std.proofs.Common.{◌≡◌, ◌⊎◌, inl, inr, ◌+◌, ◌*◌, 
 use Rattle.omi_word.specs.declared.op.Op.{Op}
 use Rattle.omi_word.specs.declared.op.Op.TheVariants as op
 use Rattle.omi_model.specs.declared.event.Event.{Event}
+use Rattle.omi_model.specs.declared.id.Id.{Id}
 use Rattle.omi_model.specs.State.{State}
 use Rattle.omi_layout.specs.declared.field.Field.{Field}
 use Rattle.omi_layout.specs.declared.field.Field.TheVariants.{RegionLife, TaskLife}
@@ -14,7 +15,7 @@ use Rattle.omi_rep.specs.declared.outcome.Outcome.TheVariants as outcome
 use Rattle.omi_control.specs.Steps.{IsOn, RecordWord, found_in}
 use Rattle.omi_watch.specs.Demands.{IsExpected, MeetsLook, MeetsSearch}
 use Rattle.omi_watch.specs.Given.{Has, IsLookGiven, IsSearchGiven, region_found, sought, task_found}
-use Rattle.omi_watch.specs.Watch.{Look, Search, Watch, exchanges, finds, found_after, is_gone, is_load, is_no_child, is_own, is_slot, is_waiting, life_behind, look_after, looked_at, no_look, search_after}
+use Rattle.omi_watch.specs.Watch.{Look, Search, Watch, exchanges, finds, found_after, found_in_slot, is_gone, is_load, is_no_child, is_own, is_slot, is_waiting, life_behind, look_after, looked_at, no_look, search_after}
 use Rattle.omi_watch.proofs.Resting.{Rests}
 
 -- ---- what is shown of a step
@@ -49,8 +50,8 @@ calm_at a c h none no_region no_task given = record { expected = by given.expect
     by (inr is) = is ∙ none
 
 -- nothing is found
-pub found_none : (life : Field) (i : ℕ) (x : RecordWord) (o : Op) (found : ℕ) (out : Outcome) (r : Option ℕ) → r ≡ None → finds life i x o found out ≡ false → found_after life i x o found out r ≡ None
-found_none life i x o found out r is none = ap (found_after life i x o found out) is ∙ ap (λ b. if b then Some x.slot else None) none
+pub found_none : (life : Field) (i : ℕ) (x : RecordWord) (o : Op) (found : ℕ) (out : Outcome) (r : Option Id) → r ≡ None → finds life i x o found out ≡ false → found_after life i x o found out r ≡ None
+found_none life i x o found out r is none = ap (found_after life i x o found out) is ∙ ap (λ b. if b then Some (found_in_slot x found) else None) none
 
 pub expects_none : (h : Search) (o : Op) (x : RecordWord) → h.expected ≡ None → IsExpected h.expected o x
 expects_none h o x is = subst (λ (e : Option RecordWord). IsExpected e o x) (sym is) tt

@@ -10,12 +10,12 @@ use Rattle.omi_layout.specs.Memory.{Memory}
 use Rattle.omi_pc.specs.declared.actor.Actor.{Actor}
 use Rattle.omi_rep.specs.declared.outcome.Outcome.{Outcome}
 use Rattle.omi_rep.specs.declared.outcome.Outcome.TheVariants as outcome
-use Rattle.omi_step.specs.Searches.{next_slot}
-use Rattle.omi_step.specs.Words.{is_free, used_word}
+use Rattle.omi_step.specs.Searches.{next_slot, own_place}
+use Rattle.omi_step.specs.Words.{is_free, object_in, used_word}
 use Rattle.omi_control.specs.Steps.{RecordWord, found_in}
 use Rattle.omi_watch.specs.Demands.{IsExpected, MayOweRegion, MayOweTask}
 use Rattle.omi_watch.specs.Given.{IsLookGiven, own_life, region_found, sought, task_found}
-use Rattle.omi_watch.specs.Watch.{Search, Watch, finds, found_after, is_own, look_after, looked_at, stores_odd}
+use Rattle.omi_watch.specs.Watch.{Search, Watch, finds, found_after, is_own, look_after, looked_at}
 use Rattle.omi_watch.proofs.Parts.{KeepsParts, expects_none, found_none}
 use Rattle.omi_watch.proofs.Resting.{Rests}
 use Rattle.omi_watch.proofs.Standing.{same_number, word_of}
@@ -24,10 +24,6 @@ use Rattle.omi_watch.proofs.Standing.{same_number, word_of}
 pub expects_this : (h : Search) (address : ℕ) (x : RecordWord) → (h.expected ≡ None) ⊎ (h.expected ≡ Some x) → IsExpected h.expected (op.Load address) x
 expects_this h address x (inl none) = expects_none h (op.Load address) x none
 expects_this h address x (inr some) = subst (λ (e : Option RecordWord). IsExpected e (op.Load address) x) (sym some) (tt, refl)
-
--- an odd word is stored
-used_odd : (n : Id) (address : ℕ) → stores_odd (op.Store address (used_word n)) ≡ true
-used_odd n address = eq-eqb (used_word n % 2) 1 (omega arith)
 
 module _ (w : List ℕ) (m : Memory) (s : State) (i : ℕ) (a : Actor) (mine : a.thread ≡ i) (h : Watch) (address : ℕ) where
   own_thread : a.thread == i ≡ true
@@ -39,14 +35,14 @@ module _ (w : List ℕ) (m : Memory) (s : State) (i : ℕ) (a : Actor) (mine : a
     abbrev x : RecordWord
     x = own_life a RegionLife slot
 
-    pub region_found_free : is_free (found_in m x) ≡ true → region_found b.counter ≡ Some slot → IsLookGiven b b.counter (looked_at w s i x (op.Load address) (found_in m x) h.look.looked h.look.seen) → KeepsParts w m s i (op.Load address) x (b, outcome.Quiet) h
+    pub region_found_free : is_free (found_in m x) ≡ true → region_found b.counter ≡ Some (object_in (own_place a slot) (found_in m x)) → IsLookGiven b b.counter (looked_at w s i x (op.Load address) (found_in m x) h.look.looked h.look.seen) → KeepsParts w m s i (op.Load address) x (b, outcome.Quiet) h
     region_found_free free found look = record {
       meets_search = expects_this h.search address x expected;
       search = record {
         expected = inl refl;
         region =
             ap (found_after RegionLife i x (op.Load address) (found_in m x) outcome.Quiet) region
-            ∙ ap (λ d. if d && is_free (found_in m x) then Some slot else None) own_thread ∙ ap (λ d. if d then Some slot else None) free ∙ sym found;
+            ∙ ap (λ d. if d && is_free (found_in m x) then Some (object_in (own_place a slot) (found_in m x)) else None) own_thread ∙ ap (λ d. if d then Some (object_in (own_place a slot) (found_in m x)) else None) free ∙ sym found;
         task = found_none TaskLife i x (op.Load address) (found_in m x) outcome.Quiet h.search.task task refl ∙ sym no_task;
       };
       meets_look = tt;
@@ -67,7 +63,7 @@ module _ (w : List ℕ) (m : Memory) (s : State) (i : ℕ) (a : Actor) (mine : a
     }
 
   -- the odd life word of the record that was found is stored
-  pub region_taken : (n : Id) (b : Actor) → n.creator ≡ i → h.search.expected ≡ None → h.search.region ≡ Some n.slot → h.search.task ≡ None → Rests b.counter
+  pub region_taken : (n : Id) (b : Actor) → n.creator ≡ i → h.search.expected ≡ None → h.search.region ≡ Some n → h.search.task ≡ None → Rests b.counter
       → KeepsParts w m s i (op.Store address (used_word n)) (word_of n.creator n.slot RegionLife) (b, outcome.Quiet) h
   region_taken n b maker none region task rests = record {
     meets_search = expects_none h.search (op.Store address (used_word n)) (word_of n.creator n.slot RegionLife) none;
@@ -75,9 +71,9 @@ module _ (w : List ℕ) (m : Memory) (s : State) (i : ℕ) (a : Actor) (mine : a
       expected = inl refl;
       region =
           ap (found_after RegionLife i (word_of n.creator n.slot RegionLife) (op.Store address (used_word n)) (found_in m (word_of n.creator n.slot RegionLife)) outcome.Quiet) region
-          ∙ ap (λ d. if d && (n.creator == i && n.slot == n.slot) then None else Some n.slot) (used_odd n address)
-          ∙ ap (λ d. if d && n.slot == n.slot then None else Some n.slot) (eq-eqb n.creator i maker)
-          ∙ ap (λ d. if d then None else Some n.slot) (same_number n.slot) ∙ sym rests.region;
+          ∙ ap (λ d. if d && (n.creator == i && n.slot == n.slot) then None else Some n) (same_number (used_word n))
+          ∙ ap (λ d. if d && n.slot == n.slot then None else Some n) (eq-eqb n.creator i maker)
+          ∙ ap (λ d. if d then None else Some n) (same_number n.slot) ∙ sym rests.region;
       task = found_none TaskLife i (word_of n.creator n.slot RegionLife) (op.Store address (used_word n)) (found_in m (word_of n.creator n.slot RegionLife)) outcome.Quiet h.search.task task refl ∙ sym rests.task;
     };
     meets_look = tt;
@@ -90,7 +86,7 @@ module _ (w : List ℕ) (m : Memory) (s : State) (i : ℕ) (a : Actor) (mine : a
     abbrev y : RecordWord
     y = own_life a TaskLife slot
 
-    pub task_found_free : is_free (found_in m y) ≡ true → task_found b.counter ≡ Some slot → IsLookGiven b b.counter (looked_at w s i y (op.Load address) (found_in m y) h.look.looked h.look.seen) → KeepsParts w m s i (op.Load address) y (b, outcome.Quiet) h
+    pub task_found_free : is_free (found_in m y) ≡ true → task_found b.counter ≡ Some (object_in (own_place a slot) (found_in m y)) → IsLookGiven b b.counter (looked_at w s i y (op.Load address) (found_in m y) h.look.looked h.look.seen) → KeepsParts w m s i (op.Load address) y (b, outcome.Quiet) h
     task_found_free free found look = record {
       meets_search = expects_this h.search address y expected;
       search = record {
@@ -98,7 +94,7 @@ module _ (w : List ℕ) (m : Memory) (s : State) (i : ℕ) (a : Actor) (mine : a
         region = found_none RegionLife i y (op.Load address) (found_in m y) outcome.Quiet h.search.region region refl ∙ sym no_region;
         task =
             ap (found_after TaskLife i y (op.Load address) (found_in m y) outcome.Quiet) task
-            ∙ ap (λ d. if d && is_free (found_in m y) then Some slot else None) own_thread ∙ ap (λ d. if d then Some slot else None) free ∙ sym found;
+            ∙ ap (λ d. if d && is_free (found_in m y) then Some (object_in (own_place a slot) (found_in m y)) else None) own_thread ∙ ap (λ d. if d then Some (object_in (own_place a slot) (found_in m y)) else None) free ∙ sym found;
       };
       meets_look = tt;
       look = look;
@@ -117,7 +113,7 @@ module _ (w : List ℕ) (m : Memory) (s : State) (i : ℕ) (a : Actor) (mine : a
       look = look;
     }
 
-  pub task_taken : (n : Id) (b : Actor) → n.creator ≡ i → h.search.expected ≡ None → h.search.region ≡ None → h.search.task ≡ Some n.slot → Rests b.counter
+  pub task_taken : (n : Id) (b : Actor) → n.creator ≡ i → h.search.expected ≡ None → h.search.region ≡ None → h.search.task ≡ Some n → Rests b.counter
       → KeepsParts w m s i (op.Store address (used_word n)) (word_of n.creator n.slot TaskLife) (b, outcome.Quiet) h
   task_taken n b maker none region task rests = record {
     meets_search = expects_none h.search (op.Store address (used_word n)) (word_of n.creator n.slot TaskLife) none;
@@ -126,9 +122,9 @@ module _ (w : List ℕ) (m : Memory) (s : State) (i : ℕ) (a : Actor) (mine : a
       region = found_none RegionLife i (word_of n.creator n.slot TaskLife) (op.Store address (used_word n)) (found_in m (word_of n.creator n.slot TaskLife)) outcome.Quiet h.search.region region refl ∙ sym rests.region;
       task =
           ap (found_after TaskLife i (word_of n.creator n.slot TaskLife) (op.Store address (used_word n)) (found_in m (word_of n.creator n.slot TaskLife)) outcome.Quiet) task
-          ∙ ap (λ d. if d && (n.creator == i && n.slot == n.slot) then None else Some n.slot) (used_odd n address)
-          ∙ ap (λ d. if d && n.slot == n.slot then None else Some n.slot) (eq-eqb n.creator i maker)
-          ∙ ap (λ d. if d then None else Some n.slot) (same_number n.slot) ∙ sym rests.task;
+          ∙ ap (λ d. if d && (n.creator == i && n.slot == n.slot) then None else Some n) (same_number (used_word n))
+          ∙ ap (λ d. if d && n.slot == n.slot then None else Some n) (eq-eqb n.creator i maker)
+          ∙ ap (λ d. if d then None else Some n) (same_number n.slot) ∙ sym rests.task;
     };
     meets_look = tt;
     look = rests.look b _;

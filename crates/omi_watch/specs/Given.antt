@@ -3,6 +3,7 @@ use Rattle.std.specs.Prelude.{◌≡◌, ◌≢◌, ◌⊎◌, ℕ, ◌+◌, ◌
 use Rattle.omi_layout.specs.declared.field.Field.TheVariants.{RegionLife, TaskLife}
 use Rattle.omi_layout.specs.declared.field.Field.{Field}
 use Rattle.omi_script.specs.declared.program.Program.{Program}
+use Rattle.omi_model.specs.declared.id.Id.{Id}
 use Rattle.omi_pc.specs.declared.actor.Actor.{Actor}
 use Rattle.omi_pc.specs.declared.counter.Counter.{Counter}
 use Rattle.omi_pc.specs.declared.counter.Counter.TheVariants as counter
@@ -137,14 +138,14 @@ sought a (counter.Team (team.LoadTaskLife r member slot)) = Some (own_life a Tas
 sought a (counter.Task (task.LoadLife place slot)) = Some (own_life a TaskLife slot)
 sought a c = None
 
--- the record that was found free and is taken next
-abbrev pub region_found : Counter → Option ℕ
-region_found (counter.Team (team.TakeRegion r)) = Some r.0.slot
+-- the object whose record was found free and is taken next
+abbrev pub region_found : Counter → Option Id
+region_found (counter.Team (team.TakeRegion r)) = Some r.0
 region_found c = None
 
-abbrev pub task_found : Counter → Option ℕ
-task_found (counter.Team (team.TakeTask r member t)) = Some t.0.slot
-task_found (counter.Task (task.Take place t)) = Some t.0.slot
+abbrev pub task_found : Counter → Option Id
+task_found (counter.Team (team.TakeTask r member t)) = Some t.0
+task_found (counter.Task (task.Take place t)) = Some t.0
 task_found c = None
 
 pub record IsSearchGiven (a : Actor) (c : Counter) (h : Search) : Type 0 where

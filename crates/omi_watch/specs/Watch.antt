@@ -4,6 +4,7 @@ use Rattle.std.specs.Prelude.{ℕ, ◌+◌, ◌*◌, ◌/◌, ◌%◌, ◌==◌,
 use Rattle.std.specs.Option.{option_and_then, option_map, option_map_or}
 use Rattle.omi_word.specs.declared.op.Op.{Op}
 use Rattle.omi_word.specs.declared.op.Op.TheVariants as op
+use Rattle.omi_model.specs.declared.id.Id.{Id}
 use Rattle.omi_model.specs.declared.id.Tid.{Tid}
 use Rattle.omi_model.specs.declared.item.Item.{Item}
 use Rattle.omi_model.specs.declared.item.Item.TheVariants as item
@@ -19,7 +20,7 @@ use Rattle.omi_rep.specs.declared.outcome.Outcome.{Outcome}
 use Rattle.omi_rep.specs.declared.outcome.Outcome.TheVariants as outcome
 use Rattle.omi_rep.specs.Records.{task_word}
 use Rattle.omi_step.specs.Searches.{next_slot}
-use Rattle.omi_step.specs.Words.{is_free}
+use Rattle.omi_step.specs.Words.{is_free, object_in, used_word}
 use Rattle.omi_task.specs.Slots.{coded_place}
 use Rattle.omi_control.specs.Steps.{RecordWord}
 
@@ -29,9 +30,9 @@ use Rattle.omi_control.specs.Steps.{RecordWord}
 pub record Search : Type 0 where
   -- the life word that is to be loaded next, where a search goes on
   pub expected : Option RecordWord
-  -- the own records that were found free and are not taken yet, by their slots: a region's and a task's
-  pub region : Option ℕ
-  pub task : Option ℕ
+  -- the objects whose own records were found free and are not taken yet: a region and a task
+  pub region : Option Id
+  pub task : Option Id
 
 -- the look at the slots: so many were passed, one after the other, and this code was seen in the next one
 pub record Look : Type 0 where
@@ -60,10 +61,10 @@ abbrev pub is_load : Op → Bool
 is_load (op.Load at) = true
 is_load o = false
 
--- an odd word is stored: a record is taken by its life word
-abbrev pub stores_odd : Op → Bool
-stores_odd (op.Store at word) = word % 2 == 1
-stores_odd o = false
+-- the store of this word
+abbrev pub stores : ℕ → Op → Bool
+stores word (op.Store at new) = new == word
+stores word o = false
 
 -- an exchange from this word
 abbrev pub exchanges : ℕ → Op → Bool
@@ -100,13 +101,18 @@ abbrev pub finds : Field → ℕ → RecordWord → Op → ℕ → Outcome → B
 finds life i x o found outcome.Quiet = is_load o && (is_own life i x && is_free found)
 finds life i x o found out = false
 
--- and the store of its odd life word takes it
-abbrev pub takes : Field → ℕ → RecordWord → Op → ℕ → Bool
-takes life i x o slot = stores_odd o && (is_own life i x && x.slot == slot)
+-- the object that is made in it: that of the slot's next generation
+abbrev pub found_in_slot : RecordWord → ℕ → Id
+found_in_slot x found = object_in (record { creator = x.creator; slot = x.slot }) found
 
-abbrev pub found_after : Field → ℕ → RecordWord → Op → ℕ → Outcome → Option ℕ → Option ℕ
-found_after life i x o found out None = if finds life i x o found out then Some x.slot else None
-found_after life i x o found out (Some slot) = if takes life i x o slot then None else Some slot
+-- and the store of the object's odd life word takes it
+abbrev pub takes : Field → ℕ → RecordWord → Op → Id → Bool
+takes life i x o n = stores (used_word n) o && (is_own life i x && x.slot == n.slot)
+
+abbrev pub found_after : Field → ℕ → RecordWord → Op → ℕ → Outcome → Option Id → Option Id
+found_after life i x o found out None =
+    if finds life i x o found out then Some (found_in_slot x found) else None
+found_after life i x o found out (Some n) = if takes life i x o n then None else Some n
 
 abbrev pub search_after : List ℕ → ℕ → RecordWord → Op → ℕ → Outcome → Search → Search
 search_after w i x o found out h =
