@@ -7,6 +7,7 @@ use Rattle.omi_script.specs.declared.program.Program.{Program}
 use Rattle.omi_model.specs.declared.event.Event.{Event}
 use Rattle.omi_model.specs.State.{State}
 use Rattle.omi_events.specs.declared.made.Made.{Made}
+use Rattle.omi_layout.specs.Memory.{put}
 use Rattle.omi_pc.specs.declared.actor.Actor.{Actor}
 use Rattle.omi_pc.specs.declared.counter.Counter.{Counter}
 use Rattle.omi_pc.specs.declared.counter.Counter.TheVariants as counter
@@ -15,10 +16,11 @@ use Rattle.omi_rep.specs.declared.outcome.Outcome.{Outcome}
 use Rattle.omi_rep.specs.declared.outcome.Outcome.TheVariants as outcome
 use Rattle.omi_actor.specs.Steps.{resumed_at}
 use Rattle.omi_control.specs.Steps.{committed}
+use Rattle.omi_watch.specs.Watch.{Watch}
 use Rattle.omi_core.specs.declared.entry.Entry.{Entry}
 use Rattle.omi_core.specs.Runs.{events_in}
 use Rattle.omi_core.specs.RunSteps.{event_of, made_of}
-use Rattle.omi_core.specs.Steps.{IsStepFrom, StartsAsWorker, Steps, events_behind, made_of_steps, steps_of}
+use Rattle.omi_core.specs.Steps.{IsStepFrom, IsWatched, StartsAsWorker, Steps, events_behind, made_of_steps, steps_of}
 use Rattle.omi_core.specs.Kept.{IsUnderWay}
 
 -- ---- events
@@ -62,18 +64,23 @@ pub made_length : (xs : List (ℕ × Entry)) → length (made_of_steps xs) ≡ l
 made_length [] = refl
 made_length (x ∷ xs) = ap suc (made_length xs)
 
-pub steps_one_more : (p : Program) (w words : List ℕ) (past : List (ℕ × Event)) (s : State) (xs : List (ℕ × Entry)) (last : List ℕ) (t : State) (i : ℕ) (e : Entry) (next : State)
-    → Steps p w words past s xs last t → IsStepFrom p w last (past ++ commits_of xs) t i e next → Steps p w words past s (xs ++ (i, e) ∷ []) (after last e.op) next
-steps_one_more p w words past s [] last t i e next (same, is) step = (
+pub steps_one_more : (p : Program) (w words : List ℕ) (past : List (ℕ × Event)) (s : State) (watches : ℕ → Watch) (xs : List (ℕ × Entry)) (last : List ℕ) (t : State) (later : ℕ → Watch) (i : ℕ) (e : Entry) (next : State) (watch : Watch)
+    → Steps p w words past s watches xs last t later → IsStepFrom p w last (past ++ commits_of xs) t i e next → IsWatched p w last t i e (later i) watch
+    → Steps p w words past s watches (xs ++ (i, e) ∷ []) (after last e.op) next (put later i watch)
+steps_one_more p w words past s watches [] last t later i e next watch (same, is, kept) step seen = (
   next,
+  watch,
   subst (λ (z : State). IsStepFrom p w words past z i e next) is (subst (λ ws. IsStepFrom p w ws past t i e next) same (subst (λ es. IsStepFrom p w last es t i e next) (append-nil past) step)),
-  (ap (λ ws. after ws e.op) same, refl),
+  subst (λ (z : State). IsWatched p w words z i e (watches i) watch) is (subst (λ ws. IsWatched p w ws t i e (watches i) watch) same (subst (λ (h : ℕ → Watch). IsWatched p w last t i e (h i) watch) kept seen)),
+  (ap (λ ws. after ws e.op) same, refl, ap (λ (h : ℕ → Watch). put h i watch) kept),
 )
-steps_one_more p w words past s (x ∷ xs) last t i e next (n, one, rest) step = (
+steps_one_more p w words past s watches (x ∷ xs) last t later i e next watch (n, h, one, first, rest) step seen = (
   n,
+  h,
   one,
-  steps_one_more p w (after words x.1.op) (past ++ committed x.0 x.1.outcome) n xs last t i e next rest
-      (subst (λ es. IsStepFrom p w last es t i e next) (sym (append_assoc past (committed x.0 x.1.outcome) (commits_of xs))) step),
+  first,
+  steps_one_more p w (after words x.1.op) (past ++ committed x.0 x.1.outcome) n (put watches x.0 h) xs last t later i e next watch rest
+      (subst (λ es. IsStepFrom p w last es t i e next) (sym (append_assoc past (committed x.0 x.1.outcome) (commits_of xs))) step) seen,
 )
 
 -- ---- the steps of one thread

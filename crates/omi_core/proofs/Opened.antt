@@ -14,7 +14,11 @@ use Rattle.omi_pc.specs.Opening.{opening_actor, waiting_actor}
 use Rattle.omi_rep.specs.Suits.{Suits}
 use Rattle.omi_control.specs.Rule.{Rule}
 use Rattle.omi_control.proofs.OpenedRule.{opening_keeps}
+use Rattle.omi_watch.specs.Given.{IsGiven}
+use Rattle.omi_watch.specs.Watch.{opening_watch}
+use Rattle.omi_watch.proofs.Kept.{openings_given}
 use Rattle.omi_core.specs.Kept.{IsUnderWay, KeepsRun}
+use Rattle.omi_core.specs.Steps.{opening_watches}
 use Rattle.omi_core.specs.Runs.{AreOpeningActors, Run, actors_in, events_in}
 
 -- an actor is added at the end
@@ -69,11 +73,12 @@ opened_run a valid suits words actors none no_step = record {
       (subst (λ (xs : ℕ → Actor). Rule a.program a.table (memory_of a.table a.words) [] (opening a.program) xs) (sym (actors_open a.program a.actors actors)) (opening_keeps a.program a.table a.words valid suits words));
   entries = [];
   made_by = record {
-    steps = record { first = a.words; opens = words; steps = (refl, refl); workers = λ i worker. tt };
+    steps = record { first = a.words; opens = words; watches = opening_watches; steps = (refl, refl, refl); workers = λ i worker. tt };
     events = none;
     made = no_step;
   };
   workers = at_begin;
+  watched = λ i. subst (λ (b : Actor). IsGiven a.program b opening_watch) (sym (ap (λ (xs : ℕ → Actor). xs i) (actors_open a.program a.actors actors))) (openings_given a.program i);
 }
   where
     at_begin : (i : ℕ) → 0 < i → IsUnderWay [] (actors_in a.actors i).counter

@@ -14,7 +14,8 @@ use Rattle.omi_model.specs.declared.event.Event.{Event}
 use Rattle.omi_model.specs.declared.event.Event.TheVariants as event
 use Rattle.omi_model.specs.Reached.{Step}
 use Rattle.omi_model.proofs.AskedTeams.{teams_asked}
-use Rattle.omi_events.specs.Events.{team_in}
+use Rattle.omi_events.specs.Events.{Events, team_in}
+use Rattle.omi_events.specs.Steps.{Steps}
 use Rattle.omi_events.specs.declared.made.Made.{Made}
 use Rattle.omi_model.specs.State.{State}
 use Rattle.omi_layout.specs.declared.limits.TheConstants.{FRONT_WORDS, TABLE_PLACE}
@@ -37,14 +38,19 @@ use Rattle.omi_rule.specs.Owes.{all_owed}
 use Rattle.omi_actor.specs.Steps.{next_of, resumed_at}
 use Rattle.omi_control.specs.Commits.{ComesOf}
 use Rattle.omi_control.specs.Rule.{KeepsThread, Rule}
-use Rattle.omi_control.specs.Steps.{KeepsRule, LeadsOn, RecordWord, StepKeeps, committed, found_in, left_in}
+use Rattle.omi_control.specs.Steps.{IsOn, KeepsRule, LeadsOn, RecordWord, StepKeeps, committed, found_in, left_in}
 use Rattle.omi_control.specs.StepsKeep.{IsKept}
 use Rattle.omi_control.proofs.StepsKept.{steps_keep}
+use Rattle.omi_watch.specs.Demands.{MeetsDemands}
+use Rattle.omi_watch.specs.Given.{IsGiven}
+use Rattle.omi_watch.specs.Watch.{Watch, watched}
+use Rattle.omi_watch.specs.WatchLaws.{StepKeepsWatch}
+use Rattle.omi_watch.proofs.Kept.{watch_kept}
 use Rattle.omi_core.specs.declared.entry.Entry.{Entry}
-use Rattle.omi_core.specs.Kept.{IsUnderWay, KeepsRun}
+use Rattle.omi_core.specs.Kept.{IsUnderWay, KeepsCore, KeepsRun}
 use Rattle.omi_core.specs.Runs.{Run, actors_in, events_in, spare_in}
 use Rattle.omi_core.specs.RunSteps.{IsRight, ShowsState, event_of, made_of, seats_of}
-use Rattle.omi_core.specs.Steps.{AreStepsOf, IsStepFrom, events_behind, steps_of}
+use Rattle.omi_core.specs.Steps.{IsStepFrom, IsWatched, events_behind, opening_watches, steps_of}
 use Rattle.omi_core.proofs.History.{commits_behind, event_committed, events_append, events_one_more, goes_under_way, made_length, made_one_more, other_one_more, own_one_more, starts_right, steps_one_more}
 use Rattle.omi_core.proofs.Reaching.{reached_one}
 
@@ -70,6 +76,32 @@ actor_is (x ∷ xs) (suc i) d within = ap-default xs i d (waiting_actor (suc i))
     ap-default [] i d e within = absurd (omega (arith, within))
     ap-default (x ∷ xs) zero d e within = refl
     ap-default (x ∷ xs) (suc i) d e within = ap-default xs i d e (omega (arith, within))
+
+-- ---- the same run
+
+-- a run keeps what it keeps where its lists have the same elements and other room
+pub other_room : (a : Run) → KeepsCore a → (es : Events) (made : Steps) → es.items ≡ a.events.items → made.items ≡ a.made.items → KeepsCore (record { program = a.program; table = a.table; words = a.words; actors = a.actors; events = es; made = made })
+other_room a k es made events steps =
+    let run = k.run in
+    let rule : Rule a.program a.table (memory_of a.table a.words) (events_in es.items) run.state (actors_in a.actors) = subst (λ ys. Rule a.program a.table (memory_of a.table a.words) (events_in ys) run.state (actors_in a.actors)) (sym events) run.rule in
+    let few : length es.items ≤ length made.items = subst (λ ys. length ys ≤ length made.items) (sym events) (subst (λ (ys : List Made). length a.events.items ≤ length ys) (sym steps) run.few) in
+    record {
+      run = record {
+        state = run.state;
+        valid = run.valid;
+        suits = run.suits;
+        count = run.count;
+        tables = run.tables;
+        actors = run.actors;
+        few = few;
+        rule = rule;
+        entries = run.entries;
+        made_by = record { steps = run.made_by.steps; events = events ∙ run.made_by.events; made = steps ∙ run.made_by.made };
+        workers = run.workers;
+        watched = run.watched;
+      };
+      goes_on = k.goes_on;
+    }
 
 -- ---- what the words show
 
@@ -218,85 +250,146 @@ module _ (a : Run) (k : KeepsRun a) (i : ℕ) (thread : i < a.program.threads) w
           subst (λ (z : State). ComesOf a.table z i e.op e.old e.outcome) same step.comes,
         )
 
+    -- ---- the watch
+
+    watching : StepKeepsWatch a.program a.table (memory_of a.table a.words) k.state i op behind (k.made_by.steps.watches i)
+    watching = watch_kept a.program a.table (memory_of a.table a.words) (events_in a.events.items) k.state (actors_in a.actors) i k.valid k.suits k.rule known few kept (k.made_by.steps.watches i) (k.watched i)
+
+    abbrev y : RecordWord
+    y = watching.0
+
+    on_watched : IsOnWord a.table a.words op y.creator y.slot (number y.field) y.place
+    on_watched =
+        on_word a.table k.valid a.words op y.creator y.slot (number y.field) y.place
+        (subst (λ n. IsTrue (fits a.table n)) (sym k.count) k.suits.fits) watching.1.there watching.1.address
+
+    -- by the word that was found
+    keeps_watch : (out : Outcome) (old : ℕ) → old ≡ word_at a.words (address_of op) → out ≡ (behind old).1
+        → MeetsDemands a.program a.table (memory_of a.table a.words) k.state i y op out (k.made_by.steps.watches i)
+        × IsGiven a.program (behind old).0 (watched a.table k.state i y op old out (k.made_by.steps.watches i))
+    keeps_watch out old old_is out_is =
+        let found : found_in (memory_of a.table a.words) y ≡ old = sym (old_is ∙ on_watched.finds) in
+        let meets : MeetsDemands a.program a.table (memory_of a.table a.words) k.state i y op (behind old).1 (k.made_by.steps.watches i) =
+        subst (λ n. MeetsDemands a.program a.table (memory_of a.table a.words) k.state i y op (behind n).1 (k.made_by.steps.watches i)) found watching.2.meets in
+        let given : IsGiven a.program (behind old).0 (watched a.table k.state i y op old (behind old).1 (k.made_by.steps.watches i)) =
+        subst (λ n. IsGiven a.program (behind n).0 (watched a.table k.state i y op n (behind n).1 (k.made_by.steps.watches i))) found watching.2.given in (
+          subst (λ (o : Outcome). MeetsDemands a.program a.table (memory_of a.table a.words) k.state i y op o (k.made_by.steps.watches i)) (sym out_is) meets,
+          subst (λ (o : Outcome). IsGiven a.program (behind old).0 (watched a.table k.state i y op old o (k.made_by.steps.watches i))) (sym out_is) given,
+        )
+
+    abbrev watch_of : Entry → Watch
+    watch_of e = watched a.table k.state i y e.op e.old e.outcome (k.made_by.steps.watches i)
+
+    module _ (e : Entry) (op_is : e.op ≡ op) (old_is : e.old ≡ word_at a.words (address_of op)) (out_is : e.outcome ≡ (behind (word_at a.words (address_of op))).1) where
+      outcome_is : e.outcome ≡ (behind e.old).1
+      outcome_is = out_is ∙ ap (λ n. (behind n).1) (sym old_is)
+
+      step_watched : IsWatched a.program a.table a.words k.state i e (k.made_by.steps.watches i) (watch_of e)
+      step_watched = record {
+        word = y;
+        on = subst (λ (o : Op). IsOn a.table o y) (sym op_is) watching.1;
+        meets = subst (λ (o : Op). MeetsDemands a.program a.table (memory_of a.table a.words) k.state i y o e.outcome (k.made_by.steps.watches i)) (sym op_is) (keeps_watch e.outcome e.old old_is outcome_is).0;
+        leaves = refl;
+      }
+
+      given_behind : IsGiven a.program (behind (word_at a.words (address_of op))).0 (watch_of e)
+      given_behind =
+          subst (λ n. IsGiven a.program (behind n).0 (watch_of e)) old_is
+          (subst (λ (o : Op). IsGiven a.program (behind e.old).0 (watched a.table k.state i y o e.old e.outcome (k.made_by.steps.watches i))) (sym op_is) (keeps_watch e.outcome e.old old_is outcome_is).1)
+
+      -- ---- the run afterwards
+
+      now_words : after a.words e.op ≡ after a.words op
+      now_words = ap (λ (o : Op). after a.words o) op_is
+
+      still : HasTables a.table (after a.words op)
+      still = record {
+        long = subst (λ n. FRONT_WORDS ≤ n) (sym on.count) k.tables.long;
+        symbols = λ j below. on.front j (omega (arith, below)) ∙ k.tables.symbols j below;
+        table = λ j below. on.front (TABLE_PLACE + j) (omega (arith, below)) ∙ k.tables.table j below;
+      }
+
+      abbrev actors_behind : List Actor
+      actors_behind = slice_set a.actors i (behind (word_at a.words (address_of op))).0
+
+      actors_now : actors_in (slice_set a.actors i (behind (word_at a.words (address_of op))).0) ≡ put (actors_in a.actors) i (behind (word_at a.words (address_of op))).0
+      actors_now = actors_set a.actors i (behind (word_at a.words (address_of op))).0 (subst (λ n. i < n) (sym k.actors) thread)
+
+      now : (es : Events) → es.items ≡ a.events.items ++ event_of (length a.made.items + 1) i e.outcome → Rule a.program a.table (memory_of a.table (after a.words e.op)) (events_in es.items) rule_after.next (actors_in actors_behind)
+      now es events =
+          subst (λ ws. Rule a.program a.table (memory_of a.table ws) (events_in es.items) rule_after.next (actors_in actors_behind)) (sym now_words)
+          (subst (λ (m : Memory). Rule a.program a.table m (events_in es.items) rule_after.next (actors_in actors_behind)) (sym on.leaves)
+          (subst (λ fs. Rule a.program a.table (left_in (memory_of a.table a.words) op x) fs rule_after.next (actors_in actors_behind))
+          (sym (ap events_in events ∙ events_append a.events.items (event_of (length a.made.items + 1) i e.outcome) ∙ ap (λ ys. events_in a.events.items ++ ys) (event_committed (length a.made.items + 1) i e.outcome)
+          ∙ ap (λ (o : Outcome). events_in a.events.items ++ committed i o) out_is))
+          (subst (λ (xs : ℕ → Actor). Rule a.program a.table (left_in (memory_of a.table a.words) op x) (events_in a.events.items ++ committed i (behind (word_at a.words (address_of op))).1) rule_after.next xs)
+          (sym actors_now) rule_after.rule)))
+
+      under_way : (j : ℕ) → 0 < j → IsUnderWay (steps_of j (k.entries ++ (i, e) ∷ [])) (actors_in actors_behind j).counter
+      under_way j worker = subst (λ (xs : ℕ → Actor). IsUnderWay (steps_of j (k.entries ++ (i, e) ∷ [])) (xs j).counter) (sym actors_now) (go (j == i) refl)
+        where
+          go : (t : Bool) → j == i ≡ t → IsUnderWay (steps_of j (k.entries ++ (i, e) ∷ [])) (if t then (behind (word_at a.words (address_of op))).0 else actors_in a.actors j).counter
+          go true is =
+              let same : j ≡ i = eqb-true j i is in
+              subst (λ z. IsUnderWay (steps_of z (k.entries ++ (i, e) ∷ [])) (behind (word_at a.words (address_of op))).0.counter) (sym same)
+              (subst (λ es. IsUnderWay es (behind (word_at a.words (address_of op))).0.counter) (sym (own_one_more i k.entries e))
+              (subst (λ n. IsUnderWay (steps_of i k.entries ++ e ∷ []) (behind n).0.counter) old_is
+              (goes_under_way a.program a.table (actors_in a.actors i) (steps_of i k.entries) e (k.workers i (subst (λ z. 0 < z) same worker)) outcome_is)))
+          go false is =
+              subst (λ es. IsUnderWay es (actors_in a.actors j).counter) (sym (other_one_more j i k.entries e (λ same. let yes : j == i ≡ true = eq-eqb j i (sym same) in cc (is, yes))))
+              (k.workers j worker)
+
+      -- each thread's actor gives its watch
+      all_watched : (j : ℕ) → IsGiven a.program (actors_in actors_behind j) (put k.made_by.steps.watches i (watch_of e) j)
+      all_watched j = subst (λ (xs : ℕ → Actor). IsGiven a.program (xs j) (put k.made_by.steps.watches i (watch_of e) j)) (sym actors_now) (go (j == i))
+        where
+          go : (t : Bool) → IsGiven a.program (if t then (behind (word_at a.words (address_of op))).0 else actors_in a.actors j) (if t then watch_of e else k.made_by.steps.watches j)
+          go true = given_behind
+          go false = k.watched j
+
+      -- the run with these lists
+      keeps_behind : (es : Events) (made : Steps) → es.items ≡ a.events.items ++ event_of (length a.made.items + 1) i e.outcome → made.items ≡ a.made.items ++ made_of i e ∷ []
+          → KeepsRun (record { program = a.program; table = a.table; words = after a.words e.op; actors = actors_behind; events = es; made = made })
+      keeps_behind es made events one = record {
+        state = rule_after.next;
+        valid = k.valid;
+        suits = k.suits;
+        count = ap length now_words ∙ on.count ∙ k.count;
+        tables = subst (HasTables a.table) (sym now_words) still;
+        actors = length-set a.actors i _ ∙ k.actors;
+        few = few_events a.events.items _ _ a.made.items _ _ events (one_event _ i e.outcome) one k.few;
+        rule = now es events;
+        entries = k.entries ++ (i, e) ∷ [];
+        made_by = record {
+          steps = record {
+            first = k.made_by.steps.first;
+            opens = k.made_by.steps.opens;
+            watches = put k.made_by.steps.watches i (watch_of e);
+            steps = steps_one_more a.program a.table k.made_by.steps.first [] _ opening_watches k.entries a.words k.state k.made_by.steps.watches i e rule_after.next (watch_of e) k.made_by.steps.steps
+                (subst (λ es. IsStepFrom a.program a.table a.words es k.state i e rule_after.next) (ap events_in k.made_by.events ∙ commits_behind 0 k.entries) (from e op_is old_is out_is)) step_watched;
+            workers = λ j worker. starts_right (steps_of j (k.entries ++ (i, e) ∷ [])) (actors_in actors_behind j).counter (under_way j worker);
+          };
+          events =
+              events
+              ∙ ap (λ ys. ys ++ event_of (length a.made.items + 1) i e.outcome) k.made_by.events
+              ∙ ap (λ n. events_behind 0 k.entries ++ event_of (n + 1) i e.outcome) (ap length k.made_by.made ∙ made_length k.entries ∙ sym (zero-add (length k.entries)))
+              ∙ sym (events_one_more 0 k.entries i e);
+          made = one ∙ ap (λ (ys : List Made). ys ++ made_of i e ∷ []) k.made_by.made ∙ sym (made_one_more k.entries i e);
+        };
+        workers = under_way;
+        watched = all_watched;
+      }
+
     -- the run afterwards
     pub run_after : (b : Run) (e : Entry) → e.op ≡ op → e.old ≡ word_at a.words (address_of op) → e.outcome ≡ (behind (word_at a.words (address_of op))).1
         → b.program ≡ a.program → b.table ≡ a.table → b.words ≡ after a.words e.op → b.actors ≡ slice_set a.actors i (behind (word_at a.words (address_of op))).0
         → b.made.items ≡ a.made.items ++ made_of i e ∷ [] → b.events.items ≡ a.events.items ++ event_of (length a.made.items + 1) i e.outcome → KeepsRun b
-    run_after b e op_is old_is out_is program table words actors made events = record {
-      state = rule_after.next;
-      valid = subst IsValid (sym table) k.valid;
-      suits = subst (λ (q : Program). Suits q b.table) (sym program) (subst (λ t. Suits a.program t) (sym table) k.suits);
-      count = ap length now_words ∙ on.count ∙ k.count ∙ ap image_words (sym table);
-      tables = subst (λ t. HasTables t b.words) (sym table) (subst (HasTables a.table) (sym now_words) still);
-      actors = ap length actors ∙ length-set a.actors i _ ∙ k.actors ∙ ap (λ (q : Program). q.threads) (sym program);
-      few = few_events a.events.items _ _ a.made.items _ _ events (one_event _ i e.outcome) made k.few;
-      rule = now;
-      entries = k.entries ++ (i, e) ∷ [];
-      made_by = record {
-        steps =
-            subst (λ (q : Program). AreStepsOf q b.table (k.entries ++ (i, e) ∷ []) b.words rule_after.next) (sym program)
-            (subst (λ t. AreStepsOf a.program t (k.entries ++ (i, e) ∷ []) b.words rule_after.next) (sym table)
-            (subst (λ ws. AreStepsOf a.program a.table (k.entries ++ (i, e) ∷ []) ws rule_after.next) (sym words) are));
-        events =
-            events
-            ∙ ap (λ ys. ys ++ event_of (length a.made.items + 1) i e.outcome) k.made_by.events
-            ∙ ap (λ n. events_behind 0 k.entries ++ event_of (n + 1) i e.outcome) (ap length k.made_by.made ∙ made_length k.entries ∙ sym (zero-add (length k.entries)))
-            ∙ sym (events_one_more 0 k.entries i e);
-        made = made ∙ ap (λ (ys : List Made). ys ++ made_of i e ∷ []) k.made_by.made ∙ sym (made_one_more k.entries i e);
-      };
-      workers = under_way;
-    }
-      where
-        now_words : b.words ≡ after a.words op
-        now_words = words ∙ ap (λ (o : Op). after a.words o) op_is
-
-        still : HasTables a.table (after a.words op)
-        still = record {
-          long = subst (λ n. FRONT_WORDS ≤ n) (sym on.count) k.tables.long;
-          symbols = λ j below. on.front j (omega (arith, below)) ∙ k.tables.symbols j below;
-          table = λ j below. on.front (TABLE_PLACE + j) (omega (arith, below)) ∙ k.tables.table j below;
-        }
-
-        actors_now : actors_in b.actors ≡ put (actors_in a.actors) i (behind (word_at a.words (address_of op))).0
-        actors_now = ap actors_in actors ∙ actors_set a.actors i (behind (word_at a.words (address_of op))).0 (subst (λ n. i < n) (sym k.actors) thread)
-
-        now : Rule b.program b.table (memory_of b.table b.words) (events_in b.events.items) rule_after.next (actors_in b.actors)
-        now =
-            subst (λ (q : Program). Rule q b.table (memory_of b.table b.words) (events_in b.events.items) rule_after.next (actors_in b.actors)) (sym program)
-            (subst (λ t. Rule a.program t (memory_of t b.words) (events_in b.events.items) rule_after.next (actors_in b.actors)) (sym table)
-            (subst (λ ws. Rule a.program a.table (memory_of a.table ws) (events_in b.events.items) rule_after.next (actors_in b.actors)) (sym now_words)
-            (subst (λ (m : Memory). Rule a.program a.table m (events_in b.events.items) rule_after.next (actors_in b.actors)) (sym on.leaves)
-            (subst (λ es. Rule a.program a.table (left_in (memory_of a.table a.words) op x) es rule_after.next (actors_in b.actors))
-            (sym (ap events_in events ∙ events_append a.events.items (event_of (length a.made.items + 1) i e.outcome) ∙ ap (λ ys. events_in a.events.items ++ ys) (event_committed (length a.made.items + 1) i e.outcome)
-            ∙ ap (λ (o : Outcome). events_in a.events.items ++ committed i o) out_is))
-            (subst (λ (xs : ℕ → Actor). Rule a.program a.table (left_in (memory_of a.table a.words) op x) (events_in a.events.items ++ committed i (behind (word_at a.words (address_of op))).1) rule_after.next xs)
-            (sym actors_now) rule_after.rule)))))
-
-        outcome_is : e.outcome ≡ (behind e.old).1
-        outcome_is = out_is ∙ ap (λ n. (behind n).1) (sym old_is)
-
-        under_way : (j : ℕ) → 0 < j → IsUnderWay (steps_of j (k.entries ++ (i, e) ∷ [])) (actors_in b.actors j).counter
-        under_way j worker = subst (λ (xs : ℕ → Actor). IsUnderWay (steps_of j (k.entries ++ (i, e) ∷ [])) (xs j).counter) (sym actors_now) (go (j == i) refl)
-          where
-            go : (t : Bool) → j == i ≡ t → IsUnderWay (steps_of j (k.entries ++ (i, e) ∷ [])) (if t then (behind (word_at a.words (address_of op))).0 else actors_in a.actors j).counter
-            go true is =
-                let same : j ≡ i = eqb-true j i is in
-                subst (λ z. IsUnderWay (steps_of z (k.entries ++ (i, e) ∷ [])) (behind (word_at a.words (address_of op))).0.counter) (sym same)
-                (subst (λ es. IsUnderWay es (behind (word_at a.words (address_of op))).0.counter) (sym (own_one_more i k.entries e))
-                (subst (λ n. IsUnderWay (steps_of i k.entries ++ e ∷ []) (behind n).0.counter) old_is
-                (goes_under_way a.program a.table (actors_in a.actors i) (steps_of i k.entries) e (k.workers i (subst (λ z. 0 < z) same worker)) outcome_is)))
-            go false is =
-                subst (λ es. IsUnderWay es (actors_in a.actors j).counter) (sym (other_one_more j i k.entries e (λ same. let yes : j == i ≡ true = eq-eqb j i (sym same) in cc (is, yes))))
-                (k.workers j worker)
-
-        are : AreStepsOf a.program a.table (k.entries ++ (i, e) ∷ []) (after a.words e.op) rule_after.next
-        are = record {
-          first = k.made_by.steps.first;
-          opens = k.made_by.steps.opens;
-          steps = steps_one_more a.program a.table k.made_by.steps.first [] _ k.entries a.words k.state i e rule_after.next k.made_by.steps.steps
-              (subst (λ es. IsStepFrom a.program a.table a.words es k.state i e rule_after.next) (ap events_in k.made_by.events ∙ commits_behind 0 k.entries) (from e op_is old_is out_is));
-          workers = λ j worker. starts_right (steps_of j (k.entries ++ (i, e) ∷ [])) (actors_in b.actors j).counter (under_way j worker);
-        }
+    run_after b e op_is old_is out_is program table words actors made events =
+        subst (λ (q : Program). KeepsRun (record { program = q; table = b.table; words = b.words; actors = b.actors; events = b.events; made = b.made })) (sym program)
+        (subst (λ t. KeepsRun (record { program = a.program; table = t; words = b.words; actors = b.actors; events = b.events; made = b.made })) (sym table)
+        (subst (λ ws. KeepsRun (record { program = a.program; table = a.table; words = ws; actors = b.actors; events = b.events; made = b.made })) (sym words)
+        (subst (λ (xs : List Actor). KeepsRun (record { program = a.program; table = a.table; words = after a.words e.op; actors = xs; events = b.events; made = b.made })) (sym actors)
+        (keeps_behind e op_is old_is out_is b.events b.made events made))))
 
 -- room behind a step
 less_div : (x y n : ℕ) → 0 < n → x ≤ y + n → x / n ≤ y / n + 1

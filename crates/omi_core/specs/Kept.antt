@@ -13,6 +13,7 @@ use Rattle.omi_pc.specs.declared.team_counter.WorkerCounter.TheVariants as worke
 use Rattle.omi_rep.specs.Suits.{Suits}
 use Rattle.omi_control.specs.Rule.{Rule}
 use Rattle.omi_control.specs.StepsKeep.{IsKept}
+use Rattle.omi_watch.specs.Given.{IsGiven}
 use Rattle.omi_core.specs.declared.entry.Entry.{Entry}
 use Rattle.omi_core.specs.Runs.{Run, actors_in, events_in}
 use Rattle.omi_core.specs.Histories.{IsMadeBy}
@@ -37,6 +38,7 @@ pub record KeepsRun (a : Run) : Type 0 where
   pub entries : List (ℕ × Entry)
   pub made_by : IsMadeBy a entries state
   pub workers : (i : ℕ) → 0 < i → IsUnderWay (steps_of i entries) (actors_in a.actors i).counter
+  pub watched : (i : ℕ) → IsGiven a.program (actors_in a.actors i) (made_by.steps.watches i)
 
 -- each thread stands at a counter whose step is made, so not where records are given back
 abbrev pub AreKept : Program → List Actor → Type 0

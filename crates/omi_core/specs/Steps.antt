@@ -1,5 +1,5 @@
 -- A list of atomic steps by any threads, in any order, and what it makes: the words, the numbered events, and the state that these
--- reach.
+-- reach. Each thread meets what is demanded by its watch: the bound of quiet steps, the order of a search, and the look before a wait.
 use Rattle.std.specs.Prelude.{◌≡◌, ◌<◌, ℕ, ◌+◌, ◌++◌, List, [], ◌∷◌, map, ◌==◌, if◌then◌else◌}
 use Rattle.omi_word.specs.Memory.{IsWordOf, address_of, after, word_at}
 use Rattle.omi_script.specs.declared.program.Program.{Program}
@@ -8,10 +8,13 @@ use Rattle.omi_model.specs.declared.event.Event.TheVariants as event
 use Rattle.omi_model.specs.Opening.{opening}
 use Rattle.omi_model.specs.State.{State}
 use Rattle.omi_events.specs.declared.made.Made.{Made}
+use Rattle.omi_layout.specs.Memory.{memory_of, put}
 use Rattle.omi_layout.specs.OpeningWords.{AreOpening}
 use Rattle.omi_rep.specs.declared.outcome.Outcome.TheVariants as outcome
 use Rattle.omi_control.specs.Commits.{ComesOf}
-use Rattle.omi_control.specs.Steps.{LeadsOn, committed}
+use Rattle.omi_control.specs.Steps.{IsOn, LeadsOn, RecordWord, committed}
+use Rattle.omi_watch.specs.Demands.{MeetsDemands}
+use Rattle.omi_watch.specs.Watch.{Watch, opening_watch, watched}
 use Rattle.omi_core.specs.declared.entry.Entry.{Entry}
 use Rattle.omi_core.specs.RunSteps.{event_of, made_of}
 
@@ -28,14 +31,27 @@ pub record IsStepFrom (p : Program) (w words : List ℕ) (past : List (ℕ × Ev
   pub leads : LeadsOn p w past s i e.outcome next
   pub comes : ComesOf w s i e.op e.old e.outcome
 
+-- Its operation is on a word of a record, and it meets what is demanded of thread i by the watch before it. The watch behind it is this
+pub record IsWatched (p : Program) (w words : List ℕ) (s : State) (i : ℕ) (e : Entry) (h next : Watch)
+    : Type 0 where
+  pub word : RecordWord
+  pub on : IsOn w e.op word
+  pub meets : MeetsDemands p w (memory_of w words) s i word e.op e.outcome h
+  pub leaves : next ≡ watched w s i word e.op e.old e.outcome h
+
 -- ---- many steps
 
--- from these words, events and state the steps lead to those words and that state
-abbrev pub Steps : Program → List ℕ → List ℕ → List (ℕ × Event) → State → List (ℕ × Entry)
-    → List ℕ → State → Type 0
-Steps p w words past s [] last t = (last ≡ words) × (t ≡ s)
-Steps p w words past s (x ∷ xs) last t = (next : State) × IsStepFrom p w words past s x.0 x.1 next
-    × Steps p w (after words x.1.op) (past ++ committed x.0 x.1.outcome) next xs last t
+-- From these words, events and state, with these watches of the threads, the steps lead to those words and that state, with those
+-- watches. A step changes the watch of its own thread alone
+abbrev pub Steps : Program → List ℕ → List ℕ → List (ℕ × Event) → State → (ℕ → Watch)
+    → List (ℕ × Entry) → List ℕ → State → (ℕ → Watch) → Type 0
+Steps p w words past s watches [] last t later =
+    (last ≡ words) × (t ≡ s) × (later ≡ watches)
+Steps p w words past s watches (x ∷ xs) last t later = (next : State) × (watch : Watch)
+    × IsStepFrom p w words past s x.0 x.1 next
+    × IsWatched p w words s x.0 x.1 (watches x.0) watch
+    × Steps p w (after words x.1.op) (past ++ committed x.0 x.1.outcome) next
+    (put watches x.0 watch) xs last t later
 
 -- the events of steps behind so many others, each with the number of its step and its thread
 abbrev pub events_behind : ℕ → List (ℕ × Entry) → List (ℕ × ℕ × Event)
@@ -66,11 +82,16 @@ StartsAsWorker (e ∷ f ∷ es) =
 
 -- ---- a run
 
+-- before its first step a thread has seen nothing
+abbrev pub opening_watches : ℕ → Watch
+opening_watches i = opening_watch
+
 -- these are the steps of a run of a program in a layout, from its opening words and its opening state on, and they lead to these words
 -- and this state
 pub record AreStepsOf (p : Program) (w : List ℕ) (xs : List (ℕ × Entry)) (words : List ℕ)
     (s : State) : Type 0 where
   pub first : List ℕ
   pub opens : AreOpening p w first
-  pub steps : Steps p w first [] (opening p) xs words s
+  pub watches : ℕ → Watch
+  pub steps : Steps p w first [] (opening p) opening_watches xs words s watches
   pub workers : (i : ℕ) → 0 < i → StartsAsWorker (steps_of i xs)
