@@ -20,7 +20,7 @@ use Rattle.omi_watch.specs.Watch.{Watch}
 use Rattle.omi_core.specs.declared.entry.Entry.{Entry}
 use Rattle.omi_core.specs.Runs.{events_in}
 use Rattle.omi_core.specs.RunSteps.{event_of, made_of}
-use Rattle.omi_core.specs.Steps.{IsStepFrom, IsWatched, StartsAsWorker, Steps, events_behind, made_of_steps, steps_of}
+use Rattle.omi_core.specs.Steps.{IsStepFrom, IsWatched, StartsAsWorker, Steps, Watches, events_behind, made_of_steps, steps_of}
 use Rattle.omi_core.specs.Kept.{IsUnderWay}
 
 -- ---- events
@@ -64,15 +64,15 @@ pub made_length : (xs : List (ℕ × Entry)) → length (made_of_steps xs) ≡ l
 made_length [] = refl
 made_length (x ∷ xs) = ap suc (made_length xs)
 
-pub steps_one_more : (p : Program) (w words : List ℕ) (past : List (ℕ × Event)) (s : State) (watches : ℕ → Watch) (xs : List (ℕ × Entry)) (last : List ℕ) (t : State) (later : ℕ → Watch) (i : ℕ) (e : Entry) (next : State) (watch : Watch)
+pub steps_one_more : (p : Program) (w words : List ℕ) (past : List (ℕ × Event)) (s : State) (watches : Watches) (xs : List (ℕ × Entry)) (last : List ℕ) (t : State) (later : Watches) (i : ℕ) (e : Entry) (next : State) (watch : Watch)
     → Steps p w words past s watches xs last t later → IsStepFrom p w last (past ++ commits_of xs) t i e next → IsWatched p w last t i e (later i) watch
     → Steps p w words past s watches (xs ++ (i, e) ∷ []) (after last e.op) next (put later i watch)
 steps_one_more p w words past s watches [] last t later i e next watch (same, is, kept) step seen = (
   next,
   watch,
   subst (λ (z : State). IsStepFrom p w words past z i e next) is (subst (λ ws. IsStepFrom p w ws past t i e next) same (subst (λ es. IsStepFrom p w last es t i e next) (append-nil past) step)),
-  subst (λ (z : State). IsWatched p w words z i e (watches i) watch) is (subst (λ ws. IsWatched p w ws t i e (watches i) watch) same (subst (λ (h : ℕ → Watch). IsWatched p w last t i e (h i) watch) kept seen)),
-  (ap (λ ws. after ws e.op) same, refl, ap (λ (h : ℕ → Watch). put h i watch) kept),
+  subst (λ (z : State). IsWatched p w words z i e (watches i) watch) is (subst (λ ws. IsWatched p w ws t i e (watches i) watch) same (subst (λ (h : Watches). IsWatched p w last t i e (h i) watch) kept seen)),
+  (ap (λ ws. after ws e.op) same, refl, ap (λ (h : Watches). put h i watch) kept),
 )
 steps_one_more p w words past s watches (x ∷ xs) last t later i e next watch (n, h, one, first, rest) step seen = (
   n,

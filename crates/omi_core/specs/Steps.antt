@@ -41,10 +41,14 @@ pub record IsWatched (p : Program) (w words : List ℕ) (s : State) (i : ℕ) (e
 
 -- ---- many steps
 
+-- the watch of each thread
+abbrev pub Watches : Type 0
+Watches = ℕ → Watch
+
 -- From these words, events and state, with these watches of the threads, the steps lead to those words and that state, with those
 -- watches. A step changes the watch of its own thread alone
-abbrev pub Steps : Program → List ℕ → List ℕ → List (ℕ × Event) → State → (ℕ → Watch)
-    → List (ℕ × Entry) → List ℕ → State → (ℕ → Watch) → Type 0
+abbrev pub Steps : Program → List ℕ → List ℕ → List (ℕ × Event) → State → Watches
+    → List (ℕ × Entry) → List ℕ → State → Watches → Type 0
 Steps p w words past s watches [] last t later =
     (last ≡ words) × (t ≡ s) × (later ≡ watches)
 Steps p w words past s watches (x ∷ xs) last t later = (next : State) × (watch : Watch)
@@ -83,7 +87,7 @@ StartsAsWorker (e ∷ f ∷ es) =
 -- ---- a run
 
 -- before its first step a thread has seen nothing
-abbrev pub opening_watches : ℕ → Watch
+abbrev pub opening_watches : Watches
 opening_watches i = opening_watch
 
 -- these are the steps of a run of a program in a layout, from its opening words and its opening state on, and they lead to these words
@@ -92,6 +96,6 @@ pub record AreStepsOf (p : Program) (w : List ℕ) (xs : List (ℕ × Entry)) (w
     (s : State) : Type 0 where
   pub first : List ℕ
   pub opens : AreOpening p w first
-  pub watches : ℕ → Watch
+  pub watches : Watches
   pub steps : Steps p w first [] (opening p) opening_watches xs words s watches
   pub workers : (i : ℕ) → 0 < i → StartsAsWorker (steps_of i xs)

@@ -30,19 +30,19 @@ use Rattle.omi_rep.specs.Plain.{is_plain, word_in}
 use Rattle.omi_rep.specs.Records.{records_of, region_address, region_word, task_address, task_word, thread_address}
 use Rattle.omi_rep.specs.Shows.{Shows, ShowsRegion, ShowsTask, ShowsThread, Stands}
 use Rattle.omi_core.specs.declared.entry.Entry.{Entry}
-use Rattle.omi_core.specs.Steps.{AreStepsOf, Steps}
+use Rattle.omi_core.specs.Steps.{AreStepsOf, Steps, Watches, opening_watches}
 
 -- ---- the image keeps its length
 
 after_length : (words : List ℕ) (o : Op) → length (after words o) ≡ length words
 after_length words o = length-set words (place_of (address_of o)) (left_of o (word_at words (address_of o)))
 
-steps_length : (p : Program) (w words : List ℕ) (past : List (ℕ × Event)) (s : State) (xs : List (ℕ × Entry)) (last : List ℕ) (t : State) → Steps p w words past s xs last t → length last ≡ length words
-steps_length p w words past s [] last t (same, _) = ap length same
-steps_length p w words past s (x ∷ xs) last t (next, _, rest) = steps_length p w (after words x.1.op) _ next xs last t rest ∙ after_length words x.1.op
+steps_length : (p : Program) (w words : List ℕ) (past : List (ℕ × Event)) (s : State) (watches : Watches) (xs : List (ℕ × Entry)) (last : List ℕ) (t : State) (later : Watches) → Steps p w words past s watches xs last t later → length last ≡ length words
+steps_length p w words past s watches [] last t later (same, _, _) = ap length same
+steps_length p w words past s watches (x ∷ xs) last t later (next, _, _, _, rest) = steps_length p w (after words x.1.op) _ next _ xs last t later rest ∙ after_length words x.1.op
 
 pub run_length : (p : Program) (w : List ℕ) (xs : List (ℕ × Entry)) (words : List ℕ) (s : State) → AreStepsOf p w xs words s → length words ≡ image_words w
-run_length p w xs words s are = steps_length p w are.first [] (opening p) xs words s are.steps ∙ are.opens.count
+run_length p w xs words s are = steps_length p w are.first [] (opening p) opening_watches xs words s are.watches are.steps ∙ are.opens.count
 
 -- ---- what the words of such a state are
 

@@ -27,7 +27,8 @@ abbrev pub after_steps : ℕ → Stop
 after_steps budget = record { steps = budget; on = None }
 
 -- A run of a program: each entry is a thread and the step that it made. The steps are legal, event by event, and lead from the opening
--- words to the last words and from the opening state to the state that these show
+-- words to the last words and from the opening state to the state that these show. No thread makes too many quiet steps in a row, each
+-- searches its records one after the other, and each looks at all slots of its team before it waits where deferred tasks may start
 pub record IsRun (w : List ℕ) (p : Program) (budget : ℕ) (xs : List (ℕ × Entry)) (why : End)
     (words : List ℕ) (s : State) : Type 0 where
   pub steps : AreStepsOf p w xs words s
