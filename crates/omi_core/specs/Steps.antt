@@ -32,8 +32,8 @@ pub record IsStepFrom (p : Program) (w words : List ℕ) (past : List (ℕ × Ev
   pub comes : ComesOf w s i e.op e.old e.outcome
 
 -- Its operation is on a word of a record, and it meets what is demanded of thread i by the watch before it. The watch behind it is this
-pub record IsWatched (p : Program) (w words : List ℕ) (s : State) (i : ℕ) (e : Entry) (h next : Watch)
-    : Type 0 where
+pub record IsWatched (p : Program) (w words : List ℕ) (s : State) (i : ℕ) (e : Entry)
+    (h next : Watch) : Type 0 where
   pub word : RecordWord
   pub on : IsOn w e.op word
   pub meets : MeetsDemands p w (memory_of w words) s i word e.op e.outcome h

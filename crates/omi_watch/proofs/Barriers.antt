@@ -1,5 +1,5 @@
 -- The steps of a barrier, and of the end of an explicit task.
-use Rattle.std.proofs.Common.{◌≡◌, ◌≢◌, ◌<◌, ◌*◌, ◌==◌, ltb-true, ℕ, zero, suc, Bool, true, false, List, [], ◌∷◌, Option, Some, None, refl, sym, ap, ◌∙◌, subst, arith, if◌then◌else◌}
+use Rattle.std.proofs.Common.{◌≡◌, ◌≢◌, ◌<◌, ◌==◌, ltb-true, ℕ, zero, suc, Bool, true, false, List, [], ◌∷◌, Option, Some, None, refl, ap, ◌∙◌, arith, if◌then◌else◌}
 use Rattle.omi_word.specs.declared.op.Op.TheVariants as op
 use Rattle.omi_script.specs.declared.program.Program.{Program}
 use Rattle.omi_model.specs.declared.event.Event.{Event}
@@ -42,7 +42,7 @@ use Rattle.omi_control.proofs.Assembly.{Before}
 use Rattle.omi_control.proofs.barrier.AtBarrier.{fits_barrier, row}
 use Rattle.omi_control.proofs.barrier.AtCounter.{context_placed, here, keeps_region, placed_counter}
 use Rattle.omi_watch.specs.Given.{Has, HasAll, IsLookGiven, IsSearchGiven, region_found, task_found}
-use Rattle.omi_watch.specs.Watch.{Look, Watch, no_look}
+use Rattle.omi_watch.specs.Watch.{Look, Watch}
 use Rattle.omi_watch.proofs.Parts.{IsCalm, KeepsParts, PartsKeep, calm_at, event_parts, event_rests, look_stays, quiet_parts, quiet_rests, waits_parts}
 use Rattle.omi_watch.proofs.Resting.{Rests, rests_join, rests_plain, rests_worker, rests_working}
 use Rattle.omi_watch.proofs.Standing.{record_word, some_word, word_of}

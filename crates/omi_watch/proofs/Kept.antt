@@ -1,7 +1,6 @@
 -- Each step keeps the watch, by the family of its counter.
-use Rattle.std.proofs.Common.{◌≡◌, ◌≤◌, ◌+◌, ◌*◌, inl, ℕ, zero, suc, List, [], ◌∷◌, refl, sym, ap, ◌∙◌, subst, arith}
+use Rattle.std.proofs.Common.{◌≡◌, inl, ℕ, zero, suc, List, [], ◌∷◌, refl, sym, ap, ◌∙◌, subst, arith}
 use Rattle.omi_word.specs.declared.op.Op.{Op}
-use Rattle.omi_word.specs.Memory.{address_of}
 use Rattle.omi_script.specs.declared.program.Program.{Program}
 use Rattle.omi_model.specs.declared.event.Event.{Event}
 use Rattle.omi_model.specs.State.{State}
@@ -25,9 +24,9 @@ use Rattle.omi_control.specs.Steps.{IsOn, RecordWord, found_in}
 use Rattle.omi_control.specs.StepsKeep.{IsKept}
 use Rattle.omi_control.proofs.Assembly.{Before}
 use Rattle.omi_control.proofs.barrier.RowsOfBarriers.{barrier_rows_stay}
-use Rattle.omi_watch.specs.Given.{IsGiven, IsLookGiven, IsSearchGiven, most_quiet}
+use Rattle.omi_watch.specs.Given.{IsLookGiven, IsSearchGiven}
 use Rattle.omi_watch.specs.Watch.{Watch, opening_watch}
-use Rattle.omi_watch.specs.WatchLaws.{IsQuietKept, IsSameWord, OpeningsGiveWatch, StepsKeepWatch, WordsAreOne}
+use Rattle.omi_watch.specs.WatchLaws.{IsQuietKept, OpeningsGiveWatch, StepsKeepWatch, WordsAreOne}
 use Rattle.omi_watch.proofs.Barriers.{barrier_parts, finish_parts}
 use Rattle.omi_watch.proofs.Making.{making_parts, plain_parts}
 use Rattle.omi_watch.proofs.Parts.{PartsKeep}
@@ -91,7 +90,7 @@ same_place w valid o x y on there =
 pub words_one : WordsAreOne
 words_one = λ w o x y valid on there.
     let same = are_apart w valid (number x.field) (index_of w (kind_of (number x.field)) x.creator x.slot) x.place (number y.field) (index_of w (kind_of (number y.field)) y.creator y.slot) y.place
-        (numbered w x.creator x.slot (number x.field) x.place on.there) (numbered w y.creator y.slot (number y.field) y.place there.there) (same_place w valid o x y on there) in
+    (numbered w x.creator x.slot (number x.field) x.place on.there) (numbered w y.creator y.slot (number y.field) y.place there.there) (same_place w valid o x y on there) in
     let slots = slots_apart w (kind_of (number x.field)) x.creator x.slot y.creator y.slot on.there.record_slot (subst (λ f. IsSlot w (kind_of f) y.creator y.slot) (sym same.field) there.there.record_slot)
-        (same.record_number ∙ ap (λ f. index_of w (kind_of f) y.creator y.slot) (sym same.field)) in
+    (same.record_number ∙ ap (λ f. index_of w (kind_of f) y.creator y.slot) (sym same.field)) in
     record { creator = slots.maker; slot = slots.place; field = same.field; place = same.element }

@@ -1,5 +1,5 @@
 -- The steps of a `task` construct, and the plain steps.
-use Rattle.std.proofs.Common.{◌≡◌, ◌⊎◌, inl, inr, ◌<◌, ◌+◌, ◌==◌, ◌||◌, nat_lt, ℕ, Bool, true, false, List, length, Option, Some, None, refl, sym, ap, ◌∙◌, subst, arith, if◌then◌else◌}
+use Rattle.std.proofs.Common.{◌≡◌, inl, ◌+◌, ◌==◌, ◌||◌, nat_lt, ℕ, Bool, true, false, List, length, Option, Some, None, refl, sym, ap, ◌∙◌, subst, arith, if◌then◌else◌}
 use Rattle.omi_word.specs.declared.op.Op.TheVariants as op
 use Rattle.omi_script.specs.declared.program.Program.{Program}
 use Rattle.omi_script.specs.declared.statement.Stmt.{Stmt}
@@ -11,10 +11,8 @@ use Rattle.omi_model.specs.State.{State}
 use Rattle.omi_layout.specs.declared.field.Field.TheVariants.{RuntimeLocks, TaskLife, TaskSlots}
 use Rattle.omi_layout.specs.Field.{tasks}
 use Rattle.omi_layout.specs.Memory.{Memory}
-use Rattle.omi_layout.specs.Named.{number}
 use Rattle.omi_layout.proofs.Numbers.{numbered_field}
 use Rattle.omi_pc.specs.declared.actor.Actor.{Actor}
-use Rattle.omi_pc.specs.declared.counter.Counter.{Counter}
 use Rattle.omi_pc.specs.declared.counter.Counter.TheVariants as counter
 use Rattle.omi_pc.specs.declared.counter.PlainCounter.{PlainCounter}
 use Rattle.omi_pc.specs.declared.counter.PlainCounter.TheVariants as plain
@@ -23,7 +21,6 @@ use Rattle.omi_pc.specs.declared.task_counter.TaskCounter.{TaskCounter}
 use Rattle.omi_pc.specs.declared.task_counter.TaskCounter.TheVariants as task
 use Rattle.omi_pc.specs.Fits.{FitsCounter}
 use Rattle.omi_pc.specs.Moves.{begun_explicit, working}
-use Rattle.omi_pc.specs.Settle.{goes_to, settled}
 use Rattle.omi_rep.specs.declared.outcome.Outcome.TheVariants as outcome
 use Rattle.omi_rule.specs.Owes.{Owed, all_owed}
 use Rattle.omi_step.specs.Moving.{to_task}
@@ -32,7 +29,7 @@ use Rattle.omi_step.specs.Searches.{next_slot, own_place}
 use Rattle.omi_step.specs.Words.{is_free, object_in, of_place}
 use Rattle.omi_plain.specs.PlainSteps.{behind_enter, entered, left_behind, of_lock, plain_moved, plain_next, plain_outcome}
 use Rattle.omi_plain.specs.Statements.{in_work, lock_in}
-use Rattle.omi_task.specs.MakingSteps.{behind_raises, behind_slot, made_function, makes_final, making_moved, making_next, making_outcome, of_own_slot}
+use Rattle.omi_task.specs.MakingSteps.{behind_raises, made_function, makes_final, making_moved, making_next, making_outcome, of_own_slot}
 use Rattle.omi_task.specs.Starts.{task_context}
 use Rattle.omi_control.specs.Steps.{IsOn, RecordWord, found_in}
 use Rattle.omi_control.specs.StepsKeep.{IsTaskKept}
@@ -41,7 +38,7 @@ use Rattle.omi_control.proofs.plain.Locks.{lock_there}
 use Rattle.omi_control.proofs.task.Within.{context_placed, fits, owes, placed}
 use Rattle.omi_control.proofs.team.Loads.{variable_word}
 use Rattle.omi_watch.specs.Demands.{MayOweTask}
-use Rattle.omi_watch.specs.Given.{Has, IsLookGiven, IsSearchGiven, own_life, region_found, task_found}
+use Rattle.omi_watch.specs.Given.{IsLookGiven, IsSearchGiven, own_life, region_found, task_found}
 use Rattle.omi_watch.specs.Watch.{Watch, no_look}
 use Rattle.omi_watch.proofs.OwedRecords.{tasks_owed}
 use Rattle.omi_watch.proofs.Parts.{IsCalm, KeepsParts, PartsKeep, calm_at, either_none, ended_parts, event_parts, event_rests, quiet_rests, waits_rests}
@@ -111,7 +108,7 @@ module _ (p : Program) (w : List ℕ) (m : Memory) (events : List (ℕ × Event)
         → KeepsParts w m s i (op.Load (of_place w (own_place a slot) TaskLife)) y
         (to_task (if b then task.Take place (record { 0 = object_in (own_place a slot) (found_in m y) }) else task.LoadLife place (next_slot w tasks slot)) a, if b then outcome.Quiet else outcome.NotReady (of_place w (own_place a slot) TaskLife) (found_in m y)) h
     by_life true free = task_found_free w m s i a mine h _ slot given.expected given.region given.task (to_task (task.Take place (record { 0 = object_in (own_place a slot) (found_in m y) })) a) refl free refl tt
-    by_life false taken = task_passed w m s i a mine h _ slot given.expected given.region given.task (to_task (task.LoadLife place (next_slot w tasks slot)) a) refl _ one_task refl refl tt
+    by_life false taken = task_passed w m s i a mine h _ slot given.expected given.region given.task (to_task (task.LoadLife place (next_slot w tasks slot)) a) refl _ (placed p w m events s actors i before (task.LoadLife place slot) at) one_task refl refl tt
 
     task_search : PartsKeep w m s i (making_next p w (actors i) (task.LoadLife place slot)) (λ old. (making_moved p w (actors i) (task.LoadLife place slot) old, making_outcome w (actors i) (task.LoadLife place slot) old)) h
     task_search = (
@@ -140,9 +137,12 @@ module _ (p : Program) (w : List ℕ) (m : Memory) (events : List (ℕ × Event)
     task_taken w m s i a mine h _ t.0 _ ((fits p w m events s actors i before (task.Take place t) at).1 ∙ mine) (either_none given.expected) given.region given.task (rests_making (task.Fill place t 0) refl refl),
   )
   making_parts (task.Fill place t word) at kept given =
-      let (x, on) = any (task.Fill place t word) at tt in
-      (x, on, quiet_rests w m s i _ x _ h (calm_at a (counter.Task (task.Fill place t word)) h.search refl refl refl given) refl refl
-      (rests_two (nat_lt (word + 1) TASK_WORDS) (task.Fill place t (word + 1)) (task.AddPending place t) (rests_making (task.Fill place t (word + 1)) refl refl) (rests_making (task.AddPending place t) refl refl)))
+      let (x, on) = any (task.Fill place t word) at tt in (
+        x,
+        on,
+        quiet_rests w m s i _ x _ h (calm_at a (counter.Task (task.Fill place t word)) h.search refl refl refl given) refl refl
+            (rests_two (nat_lt (word + 1) TASK_WORDS) (task.Fill place t (word + 1)) (task.AddPending place t) (rests_making (task.Fill place t (word + 1)) refl refl) (rests_making (task.AddPending place t) refl refl)),
+      )
   making_parts (task.AddPending place t) at kept given =
       let (x, on) = any (task.AddPending place t) at tt in
       (x, on, quiet_rests w m s i _ x _ h (calm_at a (counter.Task (task.AddPending place t)) h.search refl refl refl given) refl refl (rests_making (task.AddChildren place t) refl refl))
@@ -154,9 +154,12 @@ module _ (p : Program) (w : List ℕ) (m : Memory) (events : List (ℕ × Event)
       let (x, on) = any (task.Defer place t) at tt in
       (x, on, event_rests w m s i _ x _ h (calm_at a (counter.Task (task.Defer place t)) h.search refl refl refl given) _ (rests_plain plain.Leave))
   making_parts (task.StartNow t) at kept given =
-      let (x, on) = any (task.StartNow t) at tt in
-      (x, on, event_rests w m s i _ x _ h (calm_at a (counter.Task (task.StartNow t)) h.search refl refl refl given) _
-      (rests_settled p (begun_explicit (made_function p a) None (task_context a t (makes_final p a)) a) (λ none. subst Rests (sym at) (rests_making (task.StartNow t) refl refl))))
+      let (x, on) = any (task.StartNow t) at tt in (
+        x,
+        on,
+        event_rests w m s i _ x _ h (calm_at a (counter.Task (task.StartNow t)) h.search refl refl refl given) _
+            (rests_settled p (begun_explicit (made_function p a) None (task_context a t (makes_final p a)) a) (λ none. subst Rests (sym at) (rests_making (task.StartNow t) refl refl))),
+      )
 
   -- ---- plain steps
 

@@ -1,9 +1,7 @@
 -- How many records a thread owes: those that its counter says, by their odd life words.
-use Rattle.std.proofs.Common.{◌≡◌, ◌≢◌, ◌<◌, ◌≤◌, ◌+◌, ◌*◌, ◌%◌, ◌==◌, ◌&&◌, ◌||◌, ℕ, zero, suc, Bool, true, false, List, [], ◌∷◌, length, take, Option, Some, None, refl, sym, ap, ◌∙◌, subst, arith, eqb-true}
+use Rattle.std.proofs.Common.{◌≡◌, ◌<◌, ◌≤◌, ◌+◌, ◌*◌, ◌%◌, ◌==◌, ◌&&◌, ◌||◌, ℕ, zero, suc, Bool, true, false, List, [], ◌∷◌, length, take, Option, Some, None, refl, ap, arith, eqb-true}
 use Rattle.std.specs.Prelude.{is_none}
-use Rattle.std.proofs.lemmas.Bool.Decides.{nat_tests}
 use Rattle.std.proofs.lemmas.List.{length-take}
-use Rattle.omi_model.specs.declared.id.Rid.{Rid}
 use Rattle.omi_model.specs.declared.id.Tid.{Tid}
 use Rattle.omi_model.specs.declared.slot.Slot.{Slot}
 use Rattle.omi_model.specs.State.{State}
@@ -95,14 +93,14 @@ module _ (w : List ℕ) (m : Memory) (s : State) (owes : ℕ → Owed) (words : 
   pub no_region_owed : (owes i).region ≡ None → owed_regions w m s i < 1
   no_region_owed none =
       let is = sum_zero (per_thread w regions) (λ slot. one (is_in_making (s.regions i slot) (m i regions slot (number RegionLife) 0)))
-          (λ slot below. not_in_making (s.regions i slot) (m i regions slot) RegionLife (has_region_slot slot (owes i).region) ((words.made i known).regions slot below).life (ap (has_region_slot slot) none)) in
+      (λ slot below. not_in_making (s.regions i slot) (m i regions slot) RegionLife (has_region_slot slot (owes i).region) ((words.made i known).regions slot below).life (ap (has_region_slot slot) none)) in
       omega (arith, is)
 
   -- no more tasks are owed than these
   pub tasks_owed : owed_tasks w m s i ≤ length (owes i).tasks
   tasks_owed =
       let parts = sum_more (per_thread w tasks) (λ slot. one (is_in_making (s.tasks i slot) (m i tasks slot (number TaskLife) 0))) (λ slot. one (has_slot slot (owes i).tasks)) (λ slot. 0)
-          (λ slot below. let most = in_making_owed (s.tasks i slot) (m i tasks slot) TaskLife (has_slot slot (owes i).tasks) ((words.made i known).tasks slot below).life in omega (arith, most)) in
+      (λ slot below. let most = in_making_owed (s.tasks i slot) (m i tasks slot) TaskLife (has_slot slot (owes i).tasks) ((words.made i known).tasks slot below).life in omega (arith, most)) in
       let zeros = sum_zero (per_thread w tasks) (λ slot. 0) (λ slot below. refl) in
       let few = slots_few (per_thread w tasks) (owes i).tasks in
       omega (arith, parts, zeros, few)

@@ -1,7 +1,6 @@
 -- How a step leaves the search and the look of a thread, by its outcome.
-use Rattle.std.proofs.Common.{◌≡◌, ◌⊎◌, inl, inr, ◌+◌, ◌*◌, ◌==◌, ◌&&◌, ◌||◌, ℕ, Bool, true, false, List, Option, Some, None, refl, sym, ap, ◌∙◌, subst, if◌then◌else◌}
+use Rattle.std.proofs.Common.{◌≡◌, ◌⊎◌, inl, inr, ◌+◌, ◌==◌, ◌&&◌, ◌||◌, ℕ, Bool, true, false, List, Option, Some, None, refl, sym, ap, ◌∙◌, subst, if◌then◌else◌}
 use Rattle.omi_word.specs.declared.op.Op.{Op}
-use Rattle.omi_word.specs.declared.op.Op.TheVariants as op
 use Rattle.omi_model.specs.declared.event.Event.{Event}
 use Rattle.omi_model.specs.declared.id.Id.{Id}
 use Rattle.omi_model.specs.State.{State}
@@ -15,7 +14,7 @@ use Rattle.omi_rep.specs.declared.outcome.Outcome.TheVariants as outcome
 use Rattle.omi_control.specs.Steps.{IsOn, RecordWord, found_in}
 use Rattle.omi_watch.specs.Demands.{IsExpected, MeetsLook, MeetsSearch}
 use Rattle.omi_watch.specs.Given.{Has, IsLookGiven, IsSearchGiven, region_found, sought, task_found}
-use Rattle.omi_watch.specs.Watch.{Look, Search, Watch, exchanges, finds, found_after, found_in_slot, is_gone, is_load, is_no_child, is_own, is_slot, is_waiting, life_behind, look_after, looked_at, no_look, search_after}
+use Rattle.omi_watch.specs.Watch.{Look, Search, Watch, finds, found_after, found_in_slot, is_gone, is_load, is_no_child, is_own, is_slot, is_waiting, life_behind, look_after, looked_at, no_look, search_after}
 use Rattle.omi_watch.proofs.Resting.{Rests}
 
 -- ---- what is shown of a step

@@ -1,6 +1,6 @@
 -- A step of a thread leaves no more quiet steps behind it than its next counter says.
-use Rattle.std.proofs.Common.{◌≡◌, ◌≤◌, ◌<◌, ◌+◌, ◌*◌, ◌%◌, ◌==◌, ◌||◌, ℕ, zero, suc, Bool, true, false, not, List, [], ◌∷◌, Option, Some, None, refl, sym, ap, ◌∙◌, subst, arith, if◌then◌else◌}
-use Rattle.std.specs.Prelude.{nat_lt, length}
+use Rattle.std.proofs.Common.{◌≡◌, ◌≤◌, ◌<◌, ◌+◌, ◌%◌, ◌==◌, ℕ, zero, suc, Bool, true, false, List, [], ◌∷◌, Option, Some, None, refl, sym, subst, arith, if◌then◌else◌}
+use Rattle.std.specs.Prelude.{nat_lt}
 use Rattle.omi_script.specs.declared.program.Program.{Program}
 use Rattle.omi_script.specs.declared.statement.Stmt.{Stmt}
 use Rattle.omi_script.specs.declared.statement.Stmt.TheVariants as stmt
@@ -10,7 +10,6 @@ use Rattle.omi_pc.specs.declared.counter.Counter.{Counter}
 use Rattle.omi_pc.specs.declared.counter.Counter.TheVariants as counter
 use Rattle.omi_pc.specs.declared.counter.PlainCounter.{PlainCounter}
 use Rattle.omi_pc.specs.declared.counter.PlainCounter.TheVariants as plain
-use Rattle.omi_pc.specs.declared.frame.Barrier.{Barrier}
 use Rattle.omi_pc.specs.declared.frame.Barrier.TheVariants.{Explicit, Implicit}
 use Rattle.omi_pc.specs.declared.frame.Frame.{Frame}
 use Rattle.omi_pc.specs.declared.frame.Opened.{Opened}
@@ -33,23 +32,22 @@ use Rattle.omi_pc.specs.declared.team_counter.TeamCounter.{TeamCounter}
 use Rattle.omi_pc.specs.declared.team_counter.TeamCounter.TheVariants as team
 use Rattle.omi_pc.specs.declared.team_counter.WorkerCounter.{WorkerCounter}
 use Rattle.omi_pc.specs.declared.team_counter.WorkerCounter.TheVariants as worker
-use Rattle.omi_pc.specs.Fits.{Fits, FitsCounter, FitsFinish, FitsJoin, FitsLook, FitsPlain, FitsTask, FitsTeam, FitsWorker, Waits, slots_of}
+use Rattle.omi_pc.specs.Fits.{FitsCounter, FitsLook, FitsTask, FitsTeam, Waits, slots_of}
 use Rattle.omi_pc.specs.Frames.{advanced, next_statement}
 use Rattle.omi_pc.specs.Moves.{worked, worked_at, worked_in, working}
-use Rattle.omi_pc.specs.OpenBodies.{AreOpen, IsAt, IsAtBarrier, IsAtStart, IsMaster, IsWaiting}
-use Rattle.omi_pc.specs.Settle.{begun, calling, ended, goes_to, settled, settled_by, settled_in}
+use Rattle.omi_pc.specs.OpenBodies.{AreOpen, IsAt, IsAtBarrier, IsAtStart, IsMaster}
+use Rattle.omi_pc.specs.Settle.{begun, calling, ended, goes_to, settled_by, settled_in}
 use Rattle.omi_rep.specs.declared.outcome.Outcome.{Outcome}
 use Rattle.omi_rep.specs.declared.outcome.Outcome.TheVariants as outcome
-use Rattle.omi_step.specs.Moving.{to_barrier, to_finish, to_join, to_look, to_task, to_team, to_worker}
+use Rattle.omi_step.specs.Moving.{to_barrier, to_join, to_look, to_team, to_worker}
 use Rattle.omi_step.specs.Searches.{next_slot, own_place}
 use Rattle.omi_step.specs.Words.{is_free, object_in, task_place}
 use Rattle.omi_fork.specs.BarrierSteps.{barrier_moved, barrier_outcome, is_closed, looking, passed, some_missing}
 use Rattle.omi_fork.specs.JoinSteps.{join_moved, join_outcome, some_inside}
 use Rattle.omi_fork.specs.TeamParts.{team_size}
-use Rattle.omi_fork.specs.TeamSteps.{assigning_from, team_moved, team_outcome, with_variable}
+use Rattle.omi_fork.specs.TeamSteps.{assigning_from, team_moved, team_outcome}
 use Rattle.omi_fork.specs.WorkerSteps.{worker_moved, worker_outcome}
-use Rattle.omi_plain.specs.PlainSteps.{plain_moved, plain_outcome}
-use Rattle.omi_plain.specs.Statements.{in_work, lock_in}
+use Rattle.omi_plain.specs.PlainSteps.{plain_outcome}
 use Rattle.omi_task.specs.LookSteps.{behind_code, behind_look, look_at, look_moved, look_outcome, looking_on, next_look}
 use Rattle.omi_task.specs.FinishSteps.{behind_finish, finish_moved, finish_outcome}
 use Rattle.omi_task.specs.MakingSteps.{making_moved, making_outcome}
@@ -57,7 +55,7 @@ use Rattle.omi_task.specs.Slots.{coded_task}
 use Rattle.omi_actor.specs.Steps.{resumed_at}
 use Rattle.omi_control.specs.StepsKeep.{IsFinishKept, IsJoinKept, IsKept, IsTaskKept}
 use Rattle.omi_watch.specs.Demands.{most_in_row}
-use Rattle.omi_watch.specs.Given.{at_look, behind_looks, carried, finish_quiet, making_quiet, most_quiet, team_quiet}
+use Rattle.omi_watch.specs.Given.{at_look, carried, finish_quiet, making_quiet, most_quiet, team_quiet}
 use Rattle.omi_watch.specs.Watch.{quiet_after}
 use Rattle.omi_watch.specs.WatchLaws.{QuietStepsAreFew}
 

@@ -1,21 +1,23 @@
 -- A search of a thread: it goes on behind a record that is not free, and takes the first one that is.
-use Rattle.std.proofs.Common.{◌≡◌, ◌⊎◌, inl, inr, ◌+◌, ◌*◌, ◌%◌, ◌==◌, ◌&&◌, ◌||◌, ℕ, Bool, true, false, List, Option, Some, None, refl, sym, ap, ◌∙◌, subst, arith, eq-eqb, if◌then◌else◌}
-use Rattle.omi_word.specs.declared.op.Op.{Op}
+use Rattle.std.proofs.Common.{◌≡◌, ◌<◌, ◌⊎◌, inl, inr, ◌+◌, ◌%◌, ◌==◌, ◌&&◌, ◌||◌, ℕ, Bool, true, false, List, Option, Some, None, refl, sym, ap, ◌∙◌, subst, arith, eq-eqb, ltb-true, nat_lt, zero-add, if◌then◌else◌}
+use Rattle.std.proofs.lemmas.Bool.Decides.{nat_tests}
+use Rattle.std.proofs.lemmas.Nat.{mod-mul-add}
+use Rattle.std.proofs.Math.Nat.{mod_self, zero-mul}
 use Rattle.omi_word.specs.declared.op.Op.TheVariants as op
 use Rattle.omi_model.specs.declared.id.Id.{Id}
 use Rattle.omi_model.specs.State.{State}
 use Rattle.omi_layout.specs.declared.field.Field.TheVariants.{RegionLife, TaskLife}
 use Rattle.omi_layout.specs.Field.{regions, tasks}
 use Rattle.omi_layout.specs.Memory.{Memory}
+use Rattle.omi_layout.specs.Table.{per_thread}
 use Rattle.omi_pc.specs.declared.actor.Actor.{Actor}
-use Rattle.omi_rep.specs.declared.outcome.Outcome.{Outcome}
 use Rattle.omi_rep.specs.declared.outcome.Outcome.TheVariants as outcome
 use Rattle.omi_step.specs.Searches.{next_slot, own_place}
 use Rattle.omi_step.specs.Words.{is_free, object_in, used_word}
 use Rattle.omi_control.specs.Steps.{RecordWord, found_in}
 use Rattle.omi_watch.specs.Demands.{IsExpected, MayOweRegion, MayOweTask}
 use Rattle.omi_watch.specs.Given.{IsLookGiven, own_life, region_found, sought, task_found}
-use Rattle.omi_watch.specs.Watch.{Search, Watch, finds, found_after, is_own, look_after, looked_at}
+use Rattle.omi_watch.specs.Watch.{Search, Watch, found_after, looked_at}
 use Rattle.omi_watch.proofs.Parts.{KeepsParts, expects_none, found_none}
 use Rattle.omi_watch.proofs.Resting.{Rests}
 use Rattle.omi_watch.proofs.Standing.{same_number, word_of}
@@ -23,7 +25,15 @@ use Rattle.omi_watch.proofs.Standing.{same_number, word_of}
 -- the life word that is expected is loaded
 pub expects_this : (h : Search) (address : ℕ) (x : RecordWord) → (h.expected ≡ None) ⊎ (h.expected ≡ Some x) → IsExpected h.expected (op.Load address) x
 expects_this h address x (inl none) = expects_none h (op.Load address) x none
-expects_this h address x (inr some) = subst (λ (e : Option RecordWord). IsExpected e (op.Load address) x) (sym some) (tt, refl)
+expects_this h address x (inr some) = subst (λ (e : Option RecordWord). IsExpected e (op.Load address) x) (sym some) (refl, refl)
+
+-- the slot behind one
+slot_behind : (w : List ℕ) (kind slot : ℕ) → slot < per_thread w kind → (slot + 1) % per_thread w kind ≡ next_slot w kind slot
+slot_behind w kind slot within = go (nat_lt (slot + 1) (per_thread w kind)) refl
+  where
+    go : (b : Bool) → nat_lt (slot + 1) (per_thread w kind) ≡ b → (slot + 1) % per_thread w kind ≡ (if b then slot + 1 else 0)
+    go true e = sym (ap (λ n. (n + (slot + 1)) % per_thread w kind) (zero-mul (per_thread w kind)) ∙ ap (λ n. n % per_thread w kind) (zero-add (slot + 1))) ∙ mod-mul-add 0 (per_thread w kind) (slot + 1) (ltb-true (slot + 1) (per_thread w kind) e)
+    go false e = let last : slot + 1 ≡ per_thread w kind = grind (arith, nat_tests, e, within) in ap (λ n. n % per_thread w kind) last ∙ mod_self (per_thread w kind)
 
 module _ (w : List ℕ) (m : Memory) (s : State) (i : ℕ) (a : Actor) (mine : a.thread ≡ i) (h : Watch) (address : ℕ) where
   own_thread : a.thread == i ≡ true
@@ -49,12 +59,12 @@ module _ (w : List ℕ) (m : Memory) (s : State) (i : ℕ) (a : Actor) (mine : a
       look = look;
     }
 
-    pub region_passed : (word : ℕ) → MayOweRegion w m s i → sought b b.counter ≡ Some (own_life a RegionLife (next_slot w regions slot)) → region_found b.counter ≡ None
+    pub region_passed : (word : ℕ) → slot < per_thread w regions → MayOweRegion w m s i → sought b b.counter ≡ Some (own_life a RegionLife (next_slot w regions slot)) → region_found b.counter ≡ None
         → IsLookGiven b b.counter h.look → KeepsParts w m s i (op.Load address) x (b, outcome.NotReady address word) h
-    region_passed word may goes none look = record {
+    region_passed word within may goes none look = record {
       meets_search = (expects_this h.search address x expected, record { region = λ own. (region, may); task = λ own. absurd (cc own) });
       search = record {
-        expected = inr (ap (λ d. if d || false then Some (own_life a RegionLife (next_slot w regions slot)) else None) own_thread ∙ sym goes);
+        expected = inr (ap (λ d. if d || false then Some (own_life a RegionLife ((slot + 1) % per_thread w regions)) else None) own_thread ∙ ap (λ n. Some (own_life a RegionLife n)) (slot_behind w regions slot within) ∙ sym goes);
         region = found_none RegionLife i x (op.Load address) (found_in m x) (outcome.NotReady address word) h.search.region region refl ∙ sym none;
         task = found_none TaskLife i x (op.Load address) (found_in m x) (outcome.NotReady address word) h.search.task task refl ∙ sym no_task;
       };
@@ -100,12 +110,12 @@ module _ (w : List ℕ) (m : Memory) (s : State) (i : ℕ) (a : Actor) (mine : a
       look = look;
     }
 
-    pub task_passed : (word : ℕ) → MayOweTask w m s i → sought b b.counter ≡ Some (own_life a TaskLife (next_slot w tasks slot)) → task_found b.counter ≡ None
+    pub task_passed : (word : ℕ) → slot < per_thread w tasks → MayOweTask w m s i → sought b b.counter ≡ Some (own_life a TaskLife (next_slot w tasks slot)) → task_found b.counter ≡ None
         → IsLookGiven b b.counter h.look → KeepsParts w m s i (op.Load address) y (b, outcome.NotReady address word) h
-    task_passed word may goes none look = record {
+    task_passed word within may goes none look = record {
       meets_search = (expects_this h.search address y expected, record { region = λ own. absurd (cc own); task = λ own. (task, may) });
       search = record {
-        expected = inr (ap (λ d. if d then Some (own_life a TaskLife (next_slot w tasks slot)) else None) own_thread ∙ sym goes);
+        expected = inr (ap (λ d. if d then Some (own_life a TaskLife ((slot + 1) % per_thread w tasks)) else None) own_thread ∙ ap (λ n. Some (own_life a TaskLife n)) (slot_behind w tasks slot within) ∙ sym goes);
         region = found_none RegionLife i y (op.Load address) (found_in m y) (outcome.NotReady address word) h.search.region region refl ∙ sym no_region;
         task = found_none TaskLife i y (op.Load address) (found_in m y) (outcome.NotReady address word) h.search.task task refl ∙ sym none;
       };

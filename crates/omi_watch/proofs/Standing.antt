@@ -1,7 +1,6 @@
 -- Before a step of a thread: the word of a record that its operation is on.
-use Rattle.std.proofs.Common.{◌≡◌, ◌<◌, ◌*◌, ◌+◌, ◌%◌, ◌^◌, ◌==◌, ◌&&◌, nat_lt, ℕ, Bool, true, false, List, refl, sym, ap, ◌∙◌, subst, arith, eq-eqb}
+use Rattle.std.proofs.Common.{◌≡◌, ◌<◌, ◌*◌, ◌+◌, ◌%◌, ◌^◌, ◌==◌, ◌&&◌, nat_lt, ℕ, Bool, true, false, List, refl, sym, subst, arith, eq-eqb}
 use Rattle.std.proofs.lemmas.Bool.Decides.{nat_tests}
-use Rattle.omi_word.specs.declared.op.Op.{Op}
 use Rattle.omi_script.specs.declared.program.Program.{Program}
 use Rattle.omi_model.specs.declared.event.Event.{Event}
 use Rattle.omi_model.specs.declared.id.Id.{Id}
@@ -12,7 +11,6 @@ use Rattle.omi_layout.specs.Memory.{IsRecordWord, Memory}
 use Rattle.omi_layout.specs.Named.{number}
 use Rattle.omi_layout.specs.Place.{IsSlot}
 use Rattle.omi_layout.specs.Table.{thread_count, width}
-use Rattle.omi_layout.specs.Valid.{IsValid}
 use Rattle.omi_layout.proofs.Arenas.{some_threads}
 use Rattle.omi_layout.proofs.Numbers.{numbered_field}
 use Rattle.omi_pc.specs.declared.actor.Actor.{Actor}

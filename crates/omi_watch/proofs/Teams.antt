@@ -1,5 +1,5 @@
 -- The steps of a parallel construct: its searches, and everything else.
-use Rattle.std.proofs.Common.{◌≡◌, ◌≢◌, ◌⊎◌, inl, inr, ◌<◌, ◌+◌, ◌==◌, ◌&&◌, ◌||◌, nat_lt, ℕ, zero, suc, Bool, true, false, List, ◌∷◌, length, map, Option, Some, None, refl, sym, ap, ◌∙◌, subst, arith, if◌then◌else◌}
+use Rattle.std.proofs.Common.{◌≡◌, inr, ◌<◌, ◌+◌, nat_lt, ℕ, zero, suc, Bool, true, false, List, length, None, refl, sym, ap, ◌∙◌, subst, arith, if◌then◌else◌}
 use Rattle.std.proofs.lemmas.List.{length-map}
 use Rattle.omi_word.specs.declared.op.Op.TheVariants as op
 use Rattle.omi_script.specs.declared.program.Program.{Program}
@@ -12,35 +12,31 @@ use Rattle.omi_model.specs.Teams.{got_threads}
 use Rattle.omi_layout.specs.declared.field.Field.TheVariants.{RegionActive, RegionLevels, RegionLife, TaskLife}
 use Rattle.omi_layout.specs.Field.{regions, tasks}
 use Rattle.omi_layout.specs.Memory.{Memory}
-use Rattle.omi_layout.specs.Named.{number}
-use Rattle.omi_layout.specs.Place.{IsSlot}
 use Rattle.omi_pc.specs.declared.actor.Actor.{Actor}
-use Rattle.omi_pc.specs.declared.counter.Counter.{Counter}
 use Rattle.omi_pc.specs.declared.counter.Counter.TheVariants as counter
-use Rattle.omi_pc.specs.declared.gathered.Gathered.{Gathered}
 use Rattle.omi_pc.specs.declared.limits.TheConstants.{REGION_WORDS, TASK_WORDS, VARIABLE_WORDS}
 use Rattle.omi_pc.specs.declared.team_counter.TeamCounter.{TeamCounter}
 use Rattle.omi_pc.specs.declared.team_counter.TeamCounter.TheVariants as team
 use Rattle.omi_pc.specs.Moves.{begun_master, working}
 use Rattle.omi_rep.specs.declared.outcome.Outcome.TheVariants as outcome
-use Rattle.omi_rule.specs.Owes.{Owed, all_owed, owed}
+use Rattle.omi_rule.specs.Owes.{Owed, all_owed}
 use Rattle.omi_step.specs.Moving.{to_team}
 use Rattle.omi_step.specs.Plan.{of_variable, variable_at}
 use Rattle.omi_step.specs.Searches.{next_slot, own_place}
-use Rattle.omi_step.specs.Words.{is_free, object_in, of_place, used_word}
+use Rattle.omi_step.specs.Words.{is_free, object_in, of_place}
 use Rattle.omi_fork.specs.TeamParts.{master_context, region_function, team_size}
-use Rattle.omi_fork.specs.TeamSteps.{assigning_from, asks_on, behind_member, behind_region_word, behind_task_word, behind_variable, but_own, team_moved, team_next, team_outcome}
+use Rattle.omi_fork.specs.TeamSteps.{assigning_from, team_moved, team_next, team_outcome}
 use Rattle.omi_control.specs.Steps.{IsOn, RecordWord, found_in}
 use Rattle.omi_control.proofs.Assembly.{Before}
 use Rattle.omi_control.proofs.team.Loads.{variable_word}
 use Rattle.omi_control.proofs.team.Records.{is_forking}
 use Rattle.omi_control.proofs.team.Within.{context_placed, fits, owes, placed, row}
 use Rattle.omi_watch.specs.Demands.{MayOweRegion, MayOweTask}
-use Rattle.omi_watch.specs.Given.{IsSearchGiven, own_life, region_found, sought, task_found}
+use Rattle.omi_watch.specs.Given.{IsSearchGiven, own_life, region_found, task_found}
 use Rattle.omi_watch.specs.Watch.{Watch, finds}
 use Rattle.omi_watch.proofs.OwedRecords.{first_few, no_region_owed, tasks_owed}
-use Rattle.omi_watch.proofs.Parts.{IsCalm, KeepsParts, PartsKeep, calm_at, either_none, event_parts, event_rests, quiet_parts, quiet_rests}
-use Rattle.omi_watch.proofs.Resting.{Rests, rests_actor, rests_either, rests_working}
+use Rattle.omi_watch.proofs.Parts.{IsCalm, KeepsParts, PartsKeep, calm_at, either_none, event_rests, quiet_rests}
+use Rattle.omi_watch.proofs.Resting.{Rests, rests_actor, rests_working}
 use Rattle.omi_watch.proofs.Searching.{region_found_free, region_passed, region_taken, task_found_free, task_passed, task_taken}
 use Rattle.omi_watch.proofs.Standing.{own, own_maker, record_word, some_word, word_of}
 
@@ -102,7 +98,7 @@ module _ (p : Program) (w : List ℕ) (m : Memory) (events : List (ℕ × Event)
         → KeepsParts w m s i (op.Load (of_place w (own_place a slot) RegionLife)) x
         (to_team (if b then team.TakeRegion (record { 0 = object_in (own_place a slot) (found_in m x) }) else team.LoadRegionLife (next_slot w regions slot)) a, if b then outcome.Quiet else outcome.NotReady (of_place w (own_place a slot) RegionLife) (found_in m x)) h
     by_region true free = region_found_free w m s i a mine h _ slot given.expected given.region given.task (to_team (team.TakeRegion (record { 0 = object_in (own_place a slot) (found_in m x) })) a) refl free refl tt
-    by_region false taken = region_passed w m s i a mine h _ slot given.expected given.region given.task (to_team (team.LoadRegionLife (next_slot w regions slot)) a) refl _ one_region refl refl tt
+    by_region false taken = region_passed w m s i a mine h _ slot given.expected given.region given.task (to_team (team.LoadRegionLife (next_slot w regions slot)) a) refl _ (placed p w m events s actors i before (team.LoadRegionLife slot) at) one_region refl refl tt
 
     region_search : PartsKeep w m s i (team_next p w (actors i) (team.LoadRegionLife slot)) (λ old. (team_moved p w (actors i) (team.LoadRegionLife slot) old, team_outcome p w (actors i) (team.LoadRegionLife slot) old)) h
     region_search = (
@@ -138,7 +134,7 @@ module _ (p : Program) (w : List ℕ) (m : Memory) (events : List (ℕ × Event)
         → KeepsParts w m s i (op.Load (of_place w (own_place a slot) TaskLife)) y
         (to_team (if b then team.TakeTask r member (record { 0 = object_in (own_place a slot) (found_in m y) }) else team.LoadTaskLife r member (next_slot w tasks slot)) a, if b then outcome.Quiet else outcome.NotReady (of_place w (own_place a slot) TaskLife) (found_in m y)) h
     by_task true free = task_found_free w m s i a mine h _ slot given.expected given.region given.task (to_team (team.TakeTask r member (record { 0 = object_in (own_place a slot) (found_in m y) })) a) refl free refl tt
-    by_task false taken = task_passed w m s i a mine h _ slot given.expected given.region given.task (to_team (team.LoadTaskLife r member (next_slot w tasks slot)) a) refl _ one_task refl refl tt
+    by_task false taken = task_passed w m s i a mine h _ slot given.expected given.region given.task (to_team (team.LoadTaskLife r member (next_slot w tasks slot)) a) refl _ (placed p w m events s actors i before (team.LoadTaskLife r member slot) at).1 one_task refl refl tt
 
     task_search : PartsKeep w m s i (team_next p w (actors i) (team.LoadTaskLife r member slot)) (λ old. (team_moved p w (actors i) (team.LoadTaskLife r member slot) old, team_outcome p w (actors i) (team.LoadTaskLife r member slot) old)) h
     task_search = (

@@ -1,5 +1,5 @@
 -- The steps of a wait: the look at the slots of the team, the start of a task, and the ends of taskwait and taskyield.
-use Rattle.std.proofs.Common.{◌≡◌, ◌≢◌, ◌<◌, ◌+◌, ◌*◌, ◌/◌, ◌%◌, ◌==◌, ◌&&◌, ◌||◌, nat_lt, not, ℕ, Bool, true, false, List, [], ◌∷◌, length, Option, Some, None, refl, sym, ap, ◌∙◌, subst, arith, eq-eqb, if◌then◌else◌}
+use Rattle.std.proofs.Common.{◌≡◌, ◌<◌, ◌+◌, ◌*◌, ◌/◌, ◌%◌, ◌==◌, ◌&&◌, ◌||◌, nat_lt, not, ℕ, Bool, true, false, List, [], length, Option, Some, None, refl, sym, ap, ◌∙◌, subst, arith, if◌then◌else◌}
 use Rattle.std.specs.Prelude.{slice_get}
 use Rattle.std.specs.Option.{option_and_then, option_map, option_map_or}
 use Rattle.std.proofs.lemmas.Bool.Decides.{nat_tests}
@@ -8,7 +8,6 @@ use Rattle.omi_script.specs.declared.program.Program.{Program}
 use Rattle.omi_model.specs.declared.event.Event.{Event}
 use Rattle.omi_model.specs.declared.event.Event.TheVariants as event
 use Rattle.omi_model.specs.declared.id.Tid.{Tid}
-use Rattle.omi_model.specs.declared.item.Item.{Item}
 use Rattle.omi_model.specs.declared.region.Region.{Region}
 use Rattle.omi_model.specs.declared.task.Task.{Task}
 use Rattle.omi_model.specs.Changes.{list_of}
@@ -42,14 +41,14 @@ use Rattle.omi_task.specs.Slots.{coded_place, coded_task}
 use Rattle.omi_task.specs.Starts.{task_context}
 use Rattle.omi_control.specs.Ahead as Ahead
 use Rattle.omi_control.specs.Chains.{KeepsContext}
-use Rattle.omi_control.specs.Rows.{IsRowOf, OfRegion, place_of}
+use Rattle.omi_control.specs.Rows.{IsRowOf, OfRegion}
 use Rattle.omi_control.specs.Steps.{IsOn, RecordWord, found_in}
 use Rattle.omi_control.proofs.Assembly.{Before}
 use Rattle.omi_control.proofs.OwnTask.{own_list}
 use Rattle.omi_control.proofs.barrier.AtCounter.{IsOfMember, ahead_is, body, context_placed, fits_counter, here, is_context, placed_counter, row_is, sees, stands}
 use Rattle.omi_control.proofs.look.Tests.{coded_there}
 use Rattle.omi_watch.specs.Given.{Has, HasAll, IsLookGiven, IsSearchGiven, region_found, task_found}
-use Rattle.omi_watch.specs.Watch.{Look, Watch, children_start, current_region, is_generating_of, is_gone, is_no_child, is_slot, looked_at, member_task, no_look, team_size}
+use Rattle.omi_watch.specs.Watch.{Look, Watch, children_start, current_region, is_generating_of, is_gone, is_no_child, is_slot, looked_at, member_task, team_size}
 use Rattle.omi_watch.proofs.Parts.{IsCalm, KeepsParts, PartsKeep, calm_at, event_parts, event_rests, look_loads, look_passes, look_stays, quiet_parts, quiet_rests, waits_parts}
 use Rattle.omi_watch.proofs.Resting.{Rests, rests_plain, rests_settled, rests_working}
 use Rattle.omi_watch.proofs.Standing.{record_word, same_number, some_word, word_of}

@@ -1,16 +1,14 @@
 -- The steps of workers, and the join of a team: no search stands there, and no look.
-use Rattle.std.proofs.Common.{◌≡◌, ◌==◌, ℕ, Bool, true, false, List, Some, refl, sym, ap, ◌∙◌, subst, ◌&&◌, if◌then◌else◌}
+use Rattle.std.proofs.Common.{◌≡◌, ◌==◌, ℕ, Bool, true, false, List, refl, sym, ap, ◌∙◌, subst, ◌&&◌, if◌then◌else◌}
 use Rattle.omi_word.specs.declared.op.Op.TheVariants as op
 use Rattle.omi_script.specs.declared.program.Program.{Program}
 use Rattle.omi_model.specs.declared.event.Event.{Event}
-use Rattle.omi_model.specs.declared.id.Tid.{Tid}
 use Rattle.omi_model.specs.State.{State}
 use Rattle.omi_layout.specs.declared.field.Field.TheVariants.{RegionLeft, RegionLife, RegionSize, TaskFunction, TaskLife, TaskNumber, TaskRegion, ThreadAssign}
-use Rattle.omi_layout.specs.Field.{regions, tasks, threads}
+use Rattle.omi_layout.specs.Field.{regions, tasks}
 use Rattle.omi_layout.specs.Memory.{Memory}
 use Rattle.omi_layout.specs.Named.{number}
 use Rattle.omi_pc.specs.declared.actor.Actor.{Actor}
-use Rattle.omi_pc.specs.declared.counter.Counter.{Counter}
 use Rattle.omi_pc.specs.declared.counter.Counter.TheVariants as counter
 use Rattle.omi_pc.specs.declared.place.Place.{Place}
 use Rattle.omi_pc.specs.declared.team_counter.JoinCounter.{JoinCounter}
@@ -21,10 +19,9 @@ use Rattle.omi_pc.specs.Moves.{begun_worker, closed}
 use Rattle.omi_rep.specs.declared.outcome.Outcome.TheVariants as outcome
 use Rattle.omi_step.specs.Moving.{to_join, to_worker}
 use Rattle.omi_step.specs.Placed.{IsPlacedCounter, IsPlacedWorker}
-use Rattle.omi_step.specs.Words.{is_free, of_place, of_region, of_thread, task_place, used_word}
+use Rattle.omi_step.specs.Words.{is_free, of_region, of_thread, task_place}
 use Rattle.omi_fork.specs.JoinSteps.{join_moved, join_next, join_outcome, some_inside}
 use Rattle.omi_fork.specs.WorkerSteps.{idle_counter, member_context, worker_moved, worker_next, worker_outcome}
-use Rattle.omi_control.specs.Rows.{KeepsWorkerRow, place_of}
 use Rattle.omi_control.specs.Steps.{IsOn, RecordWord, found_in}
 use Rattle.omi_control.specs.StepsKeep.{IsJoinKept}
 use Rattle.omi_control.proofs.Assembly.{Before}
@@ -35,7 +32,7 @@ use Rattle.omi_model.proofs.NamesLive.{names_live}
 use Rattle.omi_watch.specs.Given.{IsSearchGiven}
 use Rattle.omi_watch.specs.Watch.{Watch, is_own}
 use Rattle.omi_watch.proofs.Parts.{IsCalm, KeepsParts, PartsKeep, calm_at, event_rests, quiet_rests, waits_rests}
-use Rattle.omi_watch.proofs.Resting.{Rests, rests_closed, rests_either, rests_join, rests_worker, rests_working}
+use Rattle.omi_watch.proofs.Resting.{Rests, rests_closed, rests_join, rests_worker, rests_working}
 use Rattle.omi_watch.proofs.Standing.{own, record_word, some_word, thread_word, used_taken, word_of}
 
 -- a word that is not free is not found

@@ -16,13 +16,12 @@ use Rattle.omi_pc.specs.declared.limits.TheConstants.{OWN_SLOTS}
 use Rattle.omi_rep.specs.declared.outcome.Outcome.{Outcome}
 use Rattle.omi_rep.specs.declared.outcome.Outcome.TheVariants as outcome
 use Rattle.omi_rule.specs.Counts.{one, sum_below}
-use Rattle.omi_control.specs.Commits.{IsLoad}
 use Rattle.omi_control.specs.Steps.{RecordWord}
-use Rattle.omi_watch.specs.Watch.{Search, Look, Watch, is_own, is_waiting, quiet_after, team_size}
+use Rattle.omi_watch.specs.Watch.{Search, Look, Watch, is_load, is_own, is_waiting, quiet_after, team_size}
 
 -- ---- quiet steps
 
--- as many threads, as many quiet steps a thread may make in a row
+-- of so many threads, each makes at most so many quiet steps in a row
 abbrev pub most_in_row : ℕ → ℕ
 most_in_row threads = 200 + 100 * threads
 
@@ -63,7 +62,7 @@ pub record SearchesOn (w : List ℕ) (m : Memory) (s : State) (i : ℕ) (x : Rec
 -- where it goes on, the next step loads the life word of the next slot
 abbrev pub IsExpected : Option RecordWord → Op → RecordWord → Type 0
 IsExpected None o x = Unit {0}
-IsExpected (Some y) o x = IsLoad o × (x ≡ y)
+IsExpected (Some y) o x = (is_load o ≡ true) × (x ≡ y)
 
 abbrev pub MeetsSearch : List ℕ → Memory → State → ℕ → RecordWord → Op → Outcome → Search → Type 0
 MeetsSearch w m s i x o (outcome.NotReady address word) h =

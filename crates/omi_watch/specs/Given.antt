@@ -1,5 +1,5 @@
 -- The watch of a thread as its counter and its registers give it.
-use Rattle.std.specs.Prelude.{◌≡◌, ◌≢◌, ◌⊎◌, ℕ, ◌+◌, ◌*◌, ◌≤◌, List, Option, Some, None}
+use Rattle.std.specs.Prelude.{◌≡◌, ◌≢◌, ◌⊎◌, ℕ, ◌+◌, ◌*◌, ◌≤◌, Option, Some, None}
 use Rattle.omi_layout.specs.declared.field.Field.TheVariants.{RegionLife, TaskLife}
 use Rattle.omi_layout.specs.declared.field.Field.{Field}
 use Rattle.omi_script.specs.declared.program.Program.{Program}

@@ -1,6 +1,6 @@
 -- The watch of a thread: what its own steps so far come to, by the operation, the word that it found and the outcome of each. A step of
 -- another thread leaves it as it is.
-use Rattle.std.specs.Prelude.{ℕ, ◌+◌, ◌*◌, ◌/◌, ◌%◌, ◌==◌, ◌&&◌, ◌||◌, Bool, true, false, not, List, [], ◌∷◌, length, slice_get, Option, Some, None, if◌then◌else◌}
+use Rattle.std.specs.Prelude.{ℕ, ◌+◌, ◌/◌, ◌%◌, ◌==◌, ◌&&◌, ◌||◌, Bool, true, false, not, List, ◌∷◌, length, slice_get, Option, Some, None, if◌then◌else◌}
 use Rattle.std.specs.Option.{option_and_then, option_map, option_map_or}
 use Rattle.omi_word.specs.declared.op.Op.{Op}
 use Rattle.omi_word.specs.declared.op.Op.TheVariants as op
@@ -15,11 +15,11 @@ use Rattle.omi_layout.specs.declared.field.Field.{Field}
 use Rattle.omi_layout.specs.declared.field.Field.TheVariants.{RegionArrived, RegionLife, RegionPending, RegionReleased, TaskChildren, TaskGenerating, TaskLife, TaskSlots}
 use Rattle.omi_layout.specs.Field.{kind_of}
 use Rattle.omi_layout.specs.Named.{number}
+use Rattle.omi_layout.specs.Table.{per_thread}
 use Rattle.omi_pc.specs.declared.limits.TheConstants.{OWN_SLOTS}
 use Rattle.omi_rep.specs.declared.outcome.Outcome.{Outcome}
 use Rattle.omi_rep.specs.declared.outcome.Outcome.TheVariants as outcome
 use Rattle.omi_rep.specs.Records.{task_word}
-use Rattle.omi_step.specs.Searches.{next_slot}
 use Rattle.omi_step.specs.Words.{is_free, object_in, used_word}
 use Rattle.omi_task.specs.Slots.{coded_place}
 use Rattle.omi_control.specs.Steps.{RecordWord}
@@ -86,9 +86,9 @@ is_own life i x = number x.field == number life && x.creator == i
 abbrev pub is_own_life : ℕ → RecordWord → Bool
 is_own_life i x = is_own RegionLife i x || is_own TaskLife i x
 
--- the life word of the slot behind it, and behind the last one that of the first
+-- the life word of the slot behind it, and behind the last one that of slot 0
 abbrev pub life_behind : List ℕ → RecordWord → RecordWord
-life_behind w x = record x { slot = next_slot w (kind_of (number x.field)) x.slot }
+life_behind w x = record x { slot = (x.slot + 1) % per_thread w (kind_of (number x.field)) }
 
 -- a search goes on behind a record that is not free
 abbrev pub expected_after : List ℕ → ℕ → RecordWord → Outcome → Option RecordWord

@@ -40,8 +40,8 @@ abbrev pub OpeningsGiveWatch : Type 0
 OpeningsGiveWatch = (p : Program) (i : ℕ) → IsGiven p (opening_actor p i) opening_watch
 
 -- a step of thread i that is this operation on this word meets the demands, and the actor behind it gives the watch behind it
-pub record KeepsWatch (p : Program) (w : List ℕ) (m : Memory) (s : State) (i : ℕ) (o : Op) (x : RecordWord)
-    (after : Actor × Outcome) (h : Watch) : Type 0 where
+pub record KeepsWatch (p : Program) (w : List ℕ) (m : Memory) (s : State) (i : ℕ) (o : Op)
+    (x : RecordWord) (after : Actor × Outcome) (h : Watch) : Type 0 where
   pub meets : MeetsDemands p w m s i x o after.1 h
   pub given : IsGiven p after.0 (watched w s i x o (found_in m x) after.1 h)
 
