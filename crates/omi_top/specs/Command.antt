@@ -1,8 +1,10 @@
 -- What a command line asks for.
-use Rattle.std.specs.Prelude.{◌≡◌, ℕ, List, [], ◌∷◌, if◌then◌else◌, codes, bytes_eq, map, string_bytes, String, Vec, ⊤}
+use Rattle.std.specs.Prelude.{◌≡◌, ◌||◌, ℕ, Bool, List, [], ◌∷◌, Option, Some, None, if◌then◌else◌, codes, bytes_eq, is_some, map, string_bytes, String, Vec, ⊤}
 use Rattle.std.specs.declared.alloc.Global.{Global}
 use Rattle.std.specs.Option.{option_map_or}
-use Rattle.omi_script.specs.Numbers.{number_of}
+use Rattle.omi_line.specs.Line.{split_of}
+use Rattle.omi_line.specs.Number.{number_of}
+use Rattle.omi_line.specs.declared.line.Line.{Line}
 use Rattle.omi_top.specs.declared.limits.TheConstants.{MOST_STEPS}
 use Rattle.omi_top.specs.declared.refusal.Input.{Input}
 use Rattle.omi_top.specs.declared.refusal.Input.TheVariants as input
@@ -13,14 +15,37 @@ pub data Command : Type 0 where
   Show : (core : List ℕ) → Command
   Faulty : Command
 
--- `stop STEPS SCRIPT CORE`, with STEPS 0 to 1,000,000, or `show CORE`
+-- the line has an option
+abbrev pub has_option : Line → Bool
+has_option line = is_some line.seed || is_some line.on || is_some line.count || is_some line.layout
+
+-- `stop STEPS SCRIPT CORE`, with STEPS 0 to 1,000,000
+abbrev pub stop_by : List (List ℕ) → Line → Command
+stop_by (steps ∷ script ∷ core ∷ []) line =
+    if has_option line then Faulty
+    else option_map_or (λ n. Stop n script core) (number_of steps 0 MOST_STEPS) Faulty
+stop_by names line = Faulty
+
+-- `show CORE`
+abbrev pub show_by : List (List ℕ) → Line → Command
+show_by (core ∷ []) line = if has_option line then Faulty else Show core
+show_by names line = Faulty
+
+-- a verb and the names behind it
+abbrev pub verb_by : List (List ℕ) → Line → Command
+verb_by [] line = Faulty
+verb_by (verb ∷ names) line =
+    if bytes_eq verb (codes "stop") then stop_by names line
+    else (if bytes_eq verb (codes "show") then show_by names line else Faulty)
+
+-- the command of a line, if words make one: its positional words are a verb and names
+abbrev pub command_by : Option Line → Command
+command_by None = Faulty
+command_by (Some line) = verb_by line.words line
+
+-- the command that words ask for, by the line that the rules of words and options make of them
 abbrev pub command_of : List (List ℕ) → Command
-command_of (verb ∷ steps ∷ script ∷ core ∷ []) =
-    if bytes_eq verb (codes "stop")
-    then option_map_or (λ n. Stop n script core) (number_of 0 MOST_STEPS steps) Faulty
-    else Faulty
-command_of (verb ∷ core ∷ []) = if bytes_eq verb (codes "show") then Show core else Faulty
-command_of words = Faulty
+command_of words = command_by (split_of words)
 
 -- the command that the words behind the program's name ask for
 abbrev pub command_in : Vec (String Global) Global → Command

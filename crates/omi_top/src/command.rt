@@ -1,12 +1,17 @@
 //! What a command line asks for.
 
-ghost use Rattle.std.specs.Prelude.{◌≡◌, ◌≤◌, ◌<◌, length, map, string_bytes};
-ghost use Rattle.omi_top.specs.Command.{command_of, input_name as named};
+ghost use Rattle.std.specs.Prelude.{◌≡◌, ◌≤◌, ◌<◌, length, map, string_bytes, IfOk, IfSome};
+ghost use Rattle.std.specs.List.{All};
+ghost use Rattle.std.specs.Str.{IsUtf8};
+ghost use Rattle.omi_line.specs.Line.{IsText, split_of};
+ghost use Rattle.omi_top.specs.Command.{command_by, has_option, input_name as named, show_by, stop_by, verb_by};
 ghost use Rattle.omi_top.specs.Asked.{asked, IsBounded};
 
 use crate::limits::MOST_STEPS;
 use crate::refusal::Input;
-use omi_script::number;
+use crate::word::text_of;
+use omi_line::{Line, LineError, OutOfMemory, Text, number, split};
+use std::alloc::{AllocError, Global};
 
 /// What a command line asks for.
 #[derive(Clone, Copy)]
@@ -22,26 +27,83 @@ pub enum Request<'a> {
     Faulty,
 }
 
-/// The request that the words behind the program's name make.
-pub fn request_of(words: &Vec<String>) -> Request<'_>
-    ensures asked { asked result ≡ command_of (map string_bytes words.now.items) }
+/// The line that words make. None where the rules of words and options refuse them.
+pub fn line_in(alloc: Global, words: &Vec<String>) -> Result<Option<Line>, OutOfMemory>
+    ensures line { IfOk result (λ line. line ≡ split_of (map string_bytes words.now.items)) }
+    ensures text { IfOk result (λ line. IfSome line IsText) }
+{
+    match split(alloc, words) {
+        Ok(line) => Ok(Some(line)),
+        Err(LineError::Usage) => Ok(None),
+        Err(LineError::OutOfMemory) => Err(AllocError),
+    }
+}
+
+/// Whether a line has an option.
+fn has_option(line: &Line) -> bool
+    ensures { result ≡ has_option line.now }
+{
+    line.seed.is_some() || line.on.is_some() || line.count.is_some() || line.layout.is_some()
+}
+
+/// What `stop` is asked for, by the names behind it.
+fn stop_by<'a>(names: &'a [Text], line: &Line) -> Request<'a>
+    requires { All IsUtf8 names.now }
+    ensures asked { asked result ≡ stop_by names.entry.now line.now }
     ensures bounded { IsBounded result }
 {
-    match words.as_slice() {
-        [verb, steps, script, core] if verb.as_str() == "stop" => {
-            match number(steps.as_bytes(), 0, MOST_STEPS) {
-                Some(steps) => Request::Stop {
-                    steps,
-                    script: script.as_str(),
-                    core: core.as_str(),
-                },
-                None => Request::Faulty,
-            }
-        }
-        [verb, core] if verb.as_str() == "show" => Request::Show {
-            core: core.as_str(),
+    let [steps, script, core] = names else {
+        return Request::Faulty;
+    };
+    match number(steps, 0, MOST_STEPS) {
+        Some(steps) if !has_option(line) => Request::Stop {
+            steps,
+            script: text_of(script),
+            core: text_of(core),
         },
         _ => Request::Faulty,
+    }
+}
+
+/// What `show` is asked for, by the names behind it.
+fn show_by<'a>(names: &'a [Text], line: &Line) -> Request<'a>
+    requires { All IsUtf8 names.now }
+    ensures asked { asked result ≡ show_by names.entry.now line.now }
+    ensures bounded { IsBounded result }
+{
+    match names {
+        [core] if !has_option(line) => Request::Show {
+            core: text_of(core),
+        },
+        _ => Request::Faulty,
+    }
+}
+
+/// What a line asks for, by its verb: its first positional word.
+fn verb_by(line: &Line) -> Request<'_>
+    requires { IsText line.now }
+    ensures asked { asked result ≡ verb_by line.now.words line.now }
+    ensures bounded { IsBounded result }
+{
+    let [verb, names @ ..] = line.words.as_slice() else {
+        return Request::Faulty;
+    };
+    match text_of(verb) {
+        "stop" => stop_by(names, line),
+        "show" => show_by(names, line),
+        _ => Request::Faulty,
+    }
+}
+
+/// The request that a line makes, where words make one.
+pub fn request_of(line: &Option<Line>) -> Request<'_>
+    requires { IfSome line.now IsText }
+    ensures asked { asked result ≡ command_by line.now }
+    ensures bounded { IsBounded result }
+{
+    match line {
+        Some(line) => verb_by(line),
+        None => Request::Faulty,
     }
 }
 

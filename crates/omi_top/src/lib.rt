@@ -10,6 +10,7 @@ mod refusal_line;
 mod show;
 mod stop;
 mod top;
+mod word;
 
 pub use refusal::{Input, Refusal};
 pub use top::run_top;

@@ -1,6 +1,6 @@
 //! The one call that the program makes, with the clause for each of its promises.
 
-ghost use Rattle.std.specs.Prelude.{◌≡◌, ◌⊎◌, ◌↔◌, ◌≤◌, ◌∷◌, ◌++◌, [], codes, List, ℕ, Option, Some, None, IfOk, IfErr, IsErrAnd, IsErrOf, map, string_bytes};
+ghost use Rattle.std.specs.Prelude.{◌≡◌, ◌⊎◌, ◌≤◌, ◌∷◌, ◌++◌, [], codes, List, ℕ, Option, Some, None, IfOk, IfErr, IsErrAnd, IsErrOf, map, string_bytes};
 ghost use Rattle.std.specs.String.{string_capacity};
 ghost use Rattle.omi_outside.specs.Outside.{HasCause, Rose, IsPutCut, holding, put_on};
 ghost use Rattle.omi_corefile.specs.Refusals.{CoreRefused};
@@ -22,7 +22,7 @@ ghost use Rattle.omi_model.specs.declared.view.View.{View};
 ghost use Rattle.omi_text.specs.Report.{report as report_of};
 
 use crate::Refusal;
-use crate::command::{Request, request_of};
+use crate::command::{Request, line_in, request_of};
 use crate::refusal_line::{line_of, room_for};
 use crate::show::show;
 use crate::stop::stop;
@@ -216,8 +216,10 @@ pub fn run_top<F: Files, W: Files, K: Sink>(
     // The causes for which no bytes need be told. Where the words are refused, that line is put
     // whole, or the sink counted why not.
     ensures of_core { IsOfCore result → (core : List ℕ) × (command_in words.now ≡ Show core) }
-    ensures usage { (result ≡ Status.Usage) ↔ (command_in words.now ≡ Faulty) }
-    ensures usage_line { command_in words.now ≡ Faulty
+    ensures usage { result ≡ Status.Usage → command_in words.now ≡ Faulty }
+    ensures faulty { command_in words.now ≡ Faulty
+        → (result ≡ Status.Usage) ⊎ (result ≡ Status.OutOfMemory) }
+    ensures usage_line { result ≡ Status.Usage
         → IsSaid (Some (codes "usage" ++ 10 ∷ []))
         (IsCounted (K.faults out.old) (K.faults out.new) (K.wants out.old) (K.wants out.new))
         (K.told out.old) (K.told out.new) }
@@ -305,5 +307,8 @@ pub fn run_top<F: Files, W: Files, K: Sink>(
     ensures files_writes { F.writes files.new ≡ F.writes files.old }
     ensures dest_reads { W.reads dest.new ≡ W.reads dest.old }
 {
-    carry_out(alloc, request_of(words), files, dest, out)
+    match line_in(alloc, words) {
+        Ok(line) => carry_out(alloc, request_of(&line), files, dest, out),
+        Err(_) => Status::OutOfMemory,
+    }
 }

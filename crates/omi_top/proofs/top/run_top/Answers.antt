@@ -1,53 +1,58 @@
-use Rattle.std.proofs.Common.{◌≡◌, ◌∙◌, ℕ, List, Option, Some}
+use Rattle.std.proofs.Common.{◌≡◌, ◌∙◌, ap, ℕ, List, Option, Some}
 use Rattle.omi_top.specs.Asked.{asked}
 use Rattle.omi_top.specs.Answer.{AreTold, IsCounted, IsLeft}
-use Rattle.omi_top.specs.Command.{Command, Stop, Show, written_name}
+use Rattle.omi_top.specs.Command.{Command, Stop, Show, command_by, command_in, written_name}
 use Rattle.omi_top.proofs.Left.{left_by}
 use Rattle.omi_top.proofs.LeftByShow.{no_file as no_core, core_refused, other_core, incompatible, damaged, report_put, shown_again}
 use Rattle.omi_top.proofs.LeftByStop.{no_file, script_refused, success}
 use Rattle.omi_top.proofs.top.run_top.Given as given
 use Rattle.omi_top.proofs.top.run_top.Goals as goal
+use Rattle.omi_top.proofs.top.run_top.Goals.{Joined-line}
 
 -- the sink counted why a line isn't put
-abbrev counted : (g : given.Over) (c : goal.After-carry_out g) → Type 0
+abbrev counted : (g : given.Over) (c : Joined-line g) → Type 0
 counted g c = IsCounted (g.K.Sink.faults c.args.out.now) (g.K.Sink.faults c.carry_out.new.out) (g.K.Sink.wants c.args.out.now) (g.K.Sink.wants c.carry_out.new.out)
 
+-- the request is the words' command
+asked_is : (g : given.Over) (c : Joined-line g) → asked c.request_of.result ≡ command_in c.args.words.now
+asked_is g c = c.request_of.ensures.asked ∙ ap command_by c.in-Ok.ensures.line
+
 -- what the call leaves, by its command
-left_of : (g : given.Over) (c : goal.After-carry_out g) (command : Command) → asked c.request_of.result ≡ command → AreTold command (g.F.Files.told c.args.files.now)
+left_of : (g : given.Over) (c : Joined-line g) (command : Command) → asked c.request_of.result ≡ command → AreTold command (g.F.Files.told c.args.files.now)
     → IsLeft command (g.F.Files.told c.args.files.now) c.carry_out.result (g.W.Files.told c.args.dest.now (written_name command)) (g.W.Files.told c.carry_out.new.dest (written_name command)) (counted g c) (g.K.Sink.told c.args.out.now) (g.K.Sink.told c.carry_out.new.out)
 left_of g c command is =
     left_by (asked c.request_of.result) command c.carry_out.result (g.F.Files.told c.args.files.now) (g.W.Files.told c.args.dest.now) (g.W.Files.told c.carry_out.new.dest) (counted g c) (g.K.Sink.told c.args.out.now) (g.K.Sink.told c.carry_out.new.out)
     is c.carry_out.ensures.left
 
-pub returns-clause-left : goal.returns-clause-left
-returns-clause-left g c = left_of g c _ c.request_of.ensures.asked
+pub returns-in-Ok-clause-left : goal.returns-in-Ok-clause-left
+returns-in-Ok-clause-left g c = left_of g c _ (asked_is g c)
 
-pub returns-clause-no_file : goal.returns-clause-no_file
-returns-clause-no_file g c = λ budget name core content command told. no_file budget name core (g.F.Files.told c.args.files.now) _ _ _ _ _ _ content told (left_of g c (Stop budget name core) (c.request_of.ensures.asked ∙ command) (content, told))
+pub returns-in-Ok-clause-no_file : goal.returns-in-Ok-clause-no_file
+returns-in-Ok-clause-no_file g c = λ budget name core content command told. no_file budget name core (g.F.Files.told c.args.files.now) _ _ _ _ _ _ content told (left_of g c (Stop budget name core) (asked_is g c ∙ command) (content, told))
 
-pub returns-clause-script : goal.returns-clause-script
-returns-clause-script g c = λ budget name core bytes command told. script_refused budget name core (g.F.Files.told c.args.files.now) _ _ _ _ _ _ bytes told (left_of g c (Stop budget name core) (c.request_of.ensures.asked ∙ command) (Some bytes, told))
+pub returns-in-Ok-clause-script : goal.returns-in-Ok-clause-script
+returns-in-Ok-clause-script g c = λ budget name core bytes command told. script_refused budget name core (g.F.Files.told c.args.files.now) _ _ _ _ _ _ bytes told (left_of g c (Stop budget name core) (asked_is g c ∙ command) (Some bytes, told))
 
-pub returns-clause-success : goal.returns-clause-success
-returns-clause-success g c = λ budget name core bytes command told done. success budget name core (g.F.Files.told c.args.files.now) _ _ _ _ _ _ bytes told done (left_of g c (Stop budget name core) (c.request_of.ensures.asked ∙ command) (Some bytes, told))
+pub returns-in-Ok-clause-success : goal.returns-in-Ok-clause-success
+returns-in-Ok-clause-success g c = λ budget name core bytes command told done. success budget name core (g.F.Files.told c.args.files.now) _ _ _ _ _ _ bytes told done (left_of g c (Stop budget name core) (asked_is g c ∙ command) (Some bytes, told))
 
-pub returns-clause-no_core : goal.returns-clause-no_core
-returns-clause-no_core g c = λ core content command told. no_core core (g.F.Files.told c.args.files.now) _ _ _ _ _ _ content told (left_of g c (Show core) (c.request_of.ensures.asked ∙ command) (content, told))
+pub returns-in-Ok-clause-no_core : goal.returns-in-Ok-clause-no_core
+returns-in-Ok-clause-no_core g c = λ core content command told. no_core core (g.F.Files.told c.args.files.now) _ _ _ _ _ _ content told (left_of g c (Show core) (asked_is g c ∙ command) (content, told))
 
-pub returns-clause-core : goal.returns-clause-core
-returns-clause-core g c = λ core bytes command told. core_refused core (g.F.Files.told c.args.files.now) _ _ _ _ _ _ bytes told (left_of g c (Show core) (c.request_of.ensures.asked ∙ command) (Some bytes, told))
+pub returns-in-Ok-clause-core : goal.returns-in-Ok-clause-core
+returns-in-Ok-clause-core g c = λ core bytes command told. core_refused core (g.F.Files.told c.args.files.now) _ _ _ _ _ _ bytes told (left_of g c (Show core) (asked_is g c ∙ command) (Some bytes, told))
 
-pub returns-clause-other_core : goal.returns-clause-other_core
-returns-clause-other_core g c = λ core bytes command told. other_core core (g.F.Files.told c.args.files.now) _ _ _ _ _ _ bytes told (left_of g c (Show core) (c.request_of.ensures.asked ∙ command) (Some bytes, told))
+pub returns-in-Ok-clause-other_core : goal.returns-in-Ok-clause-other_core
+returns-in-Ok-clause-other_core g c = λ core bytes command told. other_core core (g.F.Files.told c.args.files.now) _ _ _ _ _ _ bytes told (left_of g c (Show core) (asked_is g c ∙ command) (Some bytes, told))
 
-pub returns-clause-incompatible : goal.returns-clause-incompatible
-returns-clause-incompatible g c = λ core bytes command told. incompatible core (g.F.Files.told c.args.files.now) _ _ _ _ _ _ bytes told (left_of g c (Show core) (c.request_of.ensures.asked ∙ command) (Some bytes, told))
+pub returns-in-Ok-clause-incompatible : goal.returns-in-Ok-clause-incompatible
+returns-in-Ok-clause-incompatible g c = λ core bytes command told. incompatible core (g.F.Files.told c.args.files.now) _ _ _ _ _ _ bytes told (left_of g c (Show core) (asked_is g c ∙ command) (Some bytes, told))
 
-pub returns-clause-damaged : goal.returns-clause-damaged
-returns-clause-damaged g c = λ core bytes command told. damaged core (g.F.Files.told c.args.files.now) _ _ _ _ _ _ bytes told (left_of g c (Show core) (c.request_of.ensures.asked ∙ command) (Some bytes, told))
+pub returns-in-Ok-clause-damaged : goal.returns-in-Ok-clause-damaged
+returns-in-Ok-clause-damaged g c = λ core bytes command told. damaged core (g.F.Files.told c.args.files.now) _ _ _ _ _ _ bytes told (left_of g c (Show core) (asked_is g c ∙ command) (Some bytes, told))
 
-pub returns-clause-report : goal.returns-clause-report
-returns-clause-report g c = λ core bytes command told done. report_put core (g.F.Files.told c.args.files.now) _ _ _ _ _ _ bytes told done (left_of g c (Show core) (c.request_of.ensures.asked ∙ command) (Some bytes, told))
+pub returns-in-Ok-clause-report : goal.returns-in-Ok-clause-report
+returns-in-Ok-clause-report g c = λ core bytes command told done. report_put core (g.F.Files.told c.args.files.now) _ _ _ _ _ _ bytes told done (left_of g c (Show core) (asked_is g c ∙ command) (Some bytes, told))
 
-pub returns-clause-shown_again : goal.returns-clause-shown_again
-returns-clause-shown_again g c = λ core bytes command told p budget text run w plain is_plain. shown_again core (g.F.Files.told c.args.files.now) _ _ _ _ _ _ bytes told p budget text run w plain is_plain (left_of g c (Show core) (c.request_of.ensures.asked ∙ command) (Some bytes, told))
+pub returns-in-Ok-clause-shown_again : goal.returns-in-Ok-clause-shown_again
+returns-in-Ok-clause-shown_again g c = λ core bytes command told p budget text run w plain is_plain. shown_again core (g.F.Files.told c.args.files.now) _ _ _ _ _ _ bytes told p budget text run w plain is_plain (left_of g c (Show core) (asked_is g c ∙ command) (Some bytes, told))
