@@ -7,6 +7,7 @@ use Rattle.omi_outside.specs.declared.status.Status.{Status}
 use Rattle.omi_outside.specs.declared.status.Status.TheVariants as status
 use Rattle.omi_top.specs.Command.{Command, Stop, Show, Faulty, written_name}
 use Rattle.omi_top.specs.Answer.{Answer, Gives, AreTold, IsAnswer, IsStopAnswer, IsShowAnswer, IsAnswered, IsLeft, IsSaid}
+use Rattle.omi_top.specs.declared.plan.Plan.{Plan}
 use Rattle.omi_top.specs.Refusal.{line_of, status_of}
 use Rattle.omi_top.specs.declared.refusal.Refusal.{Refusal}
 use Rattle.omi_top.specs.declared.refusal.Refusal.TheVariants as refusal
@@ -23,11 +24,11 @@ another : (r s : Refusal) → is_fault r ≡ true → r ≡ s → is_fault s ≡
 another r s fault same proper = let wrong : true ≡ false = sym fault ∙ ap is_fault same ∙ proper in cc
 
 -- no fault is what an answer says
-stop_proper : (budget : ℕ) (content core : Option (List ℕ)) (r : Refusal) → is_fault r ≡ true → IsStopAnswer budget content (Gives core (Err r)) → ⊥
-stop_proper budget None None r fault is = another r _ fault is refl
-stop_proper budget (Some bytes) None r fault (f, why, is) = another r _ fault is refl
-stop_proper budget None (Some core) r fault is = is
-stop_proper budget (Some bytes) (Some core) r fault is = is
+stop_proper : (plan : Plan) (content core : Option (List ℕ)) (r : Refusal) → is_fault r ≡ true → IsStopAnswer plan content (Gives core (Err r)) → ⊥
+stop_proper plan None None r fault is = another r _ fault is refl
+stop_proper plan (Some bytes) None r fault (f, why, is) = another r _ fault is refl
+stop_proper plan None (Some core) r fault is = is
+stop_proper plan (Some bytes) (Some core) r fault is = is
 
 show_proper : (content core : Option (List ℕ)) (r : Refusal) → is_fault r ≡ true → IsShowAnswer content (Gives core (Err r)) → ⊥
 show_proper None None r fault is = another r _ fault is refl
@@ -44,7 +45,7 @@ said_of (Gives core (Ok text)) = refusal.Usage
 said_of (Gives core (Err r)) = r
 
 proper : (command : Command) (told : List ℕ → Told) (core : Option (List ℕ)) (r : Refusal) → is_fault r ≡ true → IsAnswer command told (Gives core (Err r)) → ⊥
-proper (Stop budget script written) told core r fault (content, is, answer) = stop_proper budget content core r fault answer
+proper (Stop plan script written) told core r fault (content, is, answer) = stop_proper plan content core r fault answer
 proper (Show written) told core r fault (content, is, answer) = show_proper content core r fault answer
 proper Faulty told core r fault is = another r refusal.Usage fault (ap said_of is) refl
 

@@ -21,6 +21,7 @@ use Rattle.omi_top.specs.declared.refusal.Refusal.{Refusal}
 use Rattle.omi_top.specs.Answer.{Answer, Gives, IsAnswer, IsShowAnswer, IsShowRefusal, IsOtherCore, IsIncompatibleCore, IsDamagedCore, IsReportOf, IsStopped, IsLeft, IsRefused, ComesWhere, IsFaultStatus, IsShownAgain}
 use Rattle.omi_top.specs.Cores.{one_thread, IsPlainCore, IsUnreadCore}
 use Rattle.omi_top.specs.Command.{Show}
+use Rattle.omi_top.specs.declared.plan.Plan.{Plan}
 use Rattle.omi_top.specs.Refusal.{status_of}
 use Rattle.omi_top.specs.Run.{thread_ids}
 use Rattle.omi_script.specs.declared.program.Program.{Program}
@@ -211,21 +212,21 @@ module _ (core : List ℕ) (told : List ℕ → Told) (old new : Told) (counted 
   never_refused s bytes w words is plain (r, same, written, answer, held, said) = absurd (plain_answered bytes w words r plain (refusals core told (Some bytes) is written r answer))
 
   -- what is put of the core that a run left, where that is plain
-  pub shown_again : (s : Status) (bytes : List ℕ) → told core ≡ Some (Some bytes) → (p : Program) (budget : ℕ) (text : List ℕ) (run : IsStopped p budget bytes text) (u plain : List ℕ) → IsPlainCore bytes u plain
+  pub shown_again : (s : Status) (bytes : List ℕ) → told core ≡ Some (Some bytes) → (p : Program) (plan : Plan) (text : List ℕ) (run : IsStopped p plan bytes text) (u plain : List ℕ) → IsPlainCore bytes u plain
       → IsLeft (Show core) told s old new counted out after → IsShownAgain run.state s out after
-  shown_again status.Success bytes is p budget text run u plain is_plain left =
+  shown_again status.Success bytes is p plan text run u plain is_plain left =
       let (w, words, v, read, looked, put, view) = report_put status.Success bytes is refl left in
       let words_are : run.words ≡ words = one_image_of (thread_ids p.threads) one_thread bytes run.words words run.core_of read.image_core in
       let gives : GivesLayout (words_of words) run.w = subst (λ (ws : List ℕ). GivesLayout (words_of ws) run.w) words_are run.run.shows.layout in
       let layout : run.w ≡ w = one_layout (words_of words) run.w w gives read.layout in
       (v, view run.state (subst (λ (x : List ℕ). Shows x (words_of words) run.state) layout (subst (λ (ws : List ℕ). Shows run.w (words_of ws) run.state) words_are run.run.shows)), put)
-  shown_again status.ReadFault bytes is p budget text run u plain is_plain left = tt
-  shown_again status.WriteFault bytes is p budget text run u plain is_plain left = tt
-  shown_again status.OutOfMemory bytes is p budget text run u plain is_plain left = tt
-  shown_again status.Usage bytes is p budget text run u plain is_plain left = never_refused status.Usage bytes u plain is is_plain left
-  shown_again status.NoFile bytes is p budget text run u plain is_plain left = never_refused status.NoFile bytes u plain is is_plain left
-  shown_again status.Script bytes is p budget text run u plain is_plain left = never_refused status.Script bytes u plain is is_plain left
-  shown_again status.Core bytes is p budget text run u plain is_plain left = never_refused status.Core bytes u plain is is_plain left
-  shown_again status.NotBuilt bytes is p budget text run u plain is_plain left = never_refused status.NotBuilt bytes u plain is is_plain left
-  shown_again status.Damaged bytes is p budget text run u plain is_plain left = never_refused status.Damaged bytes u plain is is_plain left
-  shown_again status.Incompatible bytes is p budget text run u plain is_plain left = never_refused status.Incompatible bytes u plain is is_plain left
+  shown_again status.ReadFault bytes is p plan text run u plain is_plain left = tt
+  shown_again status.WriteFault bytes is p plan text run u plain is_plain left = tt
+  shown_again status.OutOfMemory bytes is p plan text run u plain is_plain left = tt
+  shown_again status.Usage bytes is p plan text run u plain is_plain left = never_refused status.Usage bytes u plain is is_plain left
+  shown_again status.NoFile bytes is p plan text run u plain is_plain left = never_refused status.NoFile bytes u plain is is_plain left
+  shown_again status.Script bytes is p plan text run u plain is_plain left = never_refused status.Script bytes u plain is is_plain left
+  shown_again status.Core bytes is p plan text run u plain is_plain left = never_refused status.Core bytes u plain is is_plain left
+  shown_again status.NotBuilt bytes is p plan text run u plain is_plain left = never_refused status.NotBuilt bytes u plain is is_plain left
+  shown_again status.Damaged bytes is p plan text run u plain is_plain left = never_refused status.Damaged bytes u plain is is_plain left
+  shown_again status.Incompatible bytes is p plan text run u plain is_plain left = never_refused status.Incompatible bytes u plain is is_plain left

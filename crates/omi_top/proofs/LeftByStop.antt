@@ -10,6 +10,7 @@ use Rattle.omi_script.specs.declared.program.Program.{Program}
 use Rattle.omi_top.specs.declared.refusal.Refusal.{Refusal}
 use Rattle.omi_top.specs.Answer.{Answer, Gives, IsAnswer, IsStopAnswer, IsStopRefusal, IsLeft, IsStopped, IsFaultStatus, ComesWhere}
 use Rattle.omi_top.specs.Command.{Stop}
+use Rattle.omi_top.specs.declared.plan.Plan.{Plan}
 use Rattle.omi_top.specs.Refusal.{status_of}
 use Rattle.omi_top.proofs.Statuses.{DoesMore, IsDoneStatus, one_content, comes_where}
 
@@ -23,23 +24,23 @@ HoldsProgram None = ⊥
 HoldsProgram (Some bytes) = (p : Program) × Grammar bytes p
 
 -- what an answer says of the script, where the script's content is told
-module _ (budget : ℕ) (script core : List ℕ) (told : List ℕ → Told) (content : Option (List ℕ)) (is : told script ≡ Some content) where
-  stop_answer : (a : Answer) → IsAnswer (Stop budget script core) told a → IsStopAnswer budget content a
-  stop_answer a (c, here, answer) = subst (λ (x : Option (List ℕ)). IsStopAnswer budget x a) (one_content (told script) c content here is) answer
+module _ (plan : Plan) (script core : List ℕ) (told : List ℕ → Told) (content : Option (List ℕ)) (is : told script ≡ Some content) where
+  stop_answer : (a : Answer) → IsAnswer (Stop plan script core) told a → IsStopAnswer plan content a
+  stop_answer a (c, here, answer) = subst (λ (x : Option (List ℕ)). IsStopAnswer plan x a) (one_content (told script) c content here is) answer
 
-  refusals : (written : Option (List ℕ)) (r : Refusal) → IsAnswer (Stop budget script core) told (Gives written (Err r)) → IsStopRefusal content r
+  refusals : (written : Option (List ℕ)) (r : Refusal) → IsAnswer (Stop plan script core) told (Gives written (Err r)) → IsStopRefusal content r
   refusals written r answer = go content written (stop_answer (Gives written (Err r)) answer)
     where
-      go : (c written : Option (List ℕ)) → IsStopAnswer budget c (Gives written (Err r)) → IsStopRefusal c r
+      go : (c written : Option (List ℕ)) → IsStopAnswer plan c (Gives written (Err r)) → IsStopRefusal c r
       go None None said = said
       go (Some bytes) None said = said
       go None (Some core) said = absurd said
       go (Some bytes) (Some core) said = absurd said
 
-  runs : (a : Answer) → DoesMore a → IsAnswer (Stop budget script core) told a → HoldsProgram content
+  runs : (a : Answer) → DoesMore a → IsAnswer (Stop plan script core) told a → HoldsProgram content
   runs a more answer = go content a more (stop_answer a answer)
     where
-      go : (c : Option (List ℕ)) (a : Answer) → DoesMore a → IsStopAnswer budget c a → HoldsProgram c
+      go : (c : Option (List ℕ)) (a : Answer) → DoesMore a → IsStopAnswer plan c a → HoldsProgram c
       go c (Gives None (Err r)) more said = absurd more
       go None (Gives None (Ok text)) more said = absurd said
       go None (Gives (Some core) (Ok text)) more said = absurd said
@@ -48,15 +49,15 @@ module _ (budget : ℕ) (script core : List ℕ) (told : List ℕ → Told) (con
       go (Some bytes) (Gives (Some core) (Err r)) more said = absurd said
       go (Some bytes) (Gives (Some core) (Ok text)) more (p, grammar, stopped) = (p, grammar)
 
-module _ (budget : ℕ) (script core : List ℕ) (told : List ℕ → Told) (old new : Told) (counted : Type 0) (out after : Option (List ℕ)) where
+module _ (plan : Plan) (script core : List ℕ) (told : List ℕ → Told) (old new : Told) (counted : Type 0) (out after : Option (List ℕ)) where
   -- a status comes exactly where a fact holds of the script's content
   comes : (content : Option (List ℕ)) → told script ≡ Some content → (refused s : Status) (fact : Type 0) → (IsFaultStatus refused → ⊥) → (IsDoneStatus refused → ⊥)
       → ((r : Refusal) → IsStopRefusal content r → status_of r ≡ refused → fact) → (fact → (r : Refusal) → IsStopRefusal content r → status_of r ≡ refused) → (fact → HoldsProgram content → ⊥)
-      → IsLeft (Stop budget script core) told s old new counted out after → ComesWhere refused s fact
-  comes content is = comes_where (Stop budget script core) told old new counted out after (IsStopRefusal content) (HoldsProgram content) (refusals budget script core told content is) (runs budget script core told content is)
+      → IsLeft (Stop plan script core) told s old new counted out after → ComesWhere refused s fact
+  comes content is = comes_where (Stop plan script core) told old new counted out after (IsStopRefusal content) (HoldsProgram content) (refusals plan script core told content is) (runs plan script core told content is)
 
   -- there is no file exactly where the status says so
-  pub no_file : (s : Status) (content : Option (List ℕ)) → told script ≡ Some content → IsLeft (Stop budget script core) told s old new counted out after → ComesWhere status.NoFile s (content ≡ None)
+  pub no_file : (s : Status) (content : Option (List ℕ)) → told script ≡ Some content → IsLeft (Stop plan script core) told s old new counted out after → ComesWhere status.NoFile s (content ≡ None)
   no_file s content is = comes content is status.NoFile s (content ≡ None) (λ no. no) (λ no. no) (says content) (all content) (none content)
     where
       says : (c : Option (List ℕ)) (r : Refusal) → IsStopRefusal c r → status_of r ≡ status.NoFile → c ≡ None
@@ -72,7 +73,7 @@ module _ (budget : ℕ) (script core : List ℕ) (told : List ℕ → Told) (old
       none (Some bytes) missing holds = cc missing
 
   -- the grammar refuses exactly where the status says so
-  pub script_refused : (s : Status) (bytes : List ℕ) → told script ≡ Some (Some bytes) → IsLeft (Stop budget script core) told s old new counted out after → ComesWhere status.Script s (HasFault bytes)
+  pub script_refused : (s : Status) (bytes : List ℕ) → told script ≡ Some (Some bytes) → IsLeft (Stop plan script core) told s old new counted out after → ComesWhere status.Script s (HasFault bytes)
   script_refused s bytes is = comes (Some bytes) is status.Script s (HasFault bytes) (λ no. no) (λ no. no) says all none
     where
       says : (r : Refusal) → IsStopRefusal (Some bytes) r → status_of r ≡ status.Script → HasFault bytes
@@ -85,11 +86,11 @@ module _ (budget : ℕ) (script core : List ℕ) (told : List ℕ → Told) (old
       none (fault, why) (p, grammar) = not_both bytes p fault grammar why
 
   -- what success leaves
-  pub success : (s : Status) (bytes : List ℕ) → told script ≡ Some (Some bytes) → s ≡ status.Success → IsLeft (Stop budget script core) told s old new counted out after
-      → (p : Program) × (written : List ℕ) × (text : List ℕ) × Grammar bytes p × IsStopped p budget written text × (new ≡ holding old written) × (after ≡ put_on out text)
-  success s bytes is done left = go (subst (λ (x : Status). IsLeft (Stop budget script core) told x old new counted out after) done left)
+  pub success : (s : Status) (bytes : List ℕ) → told script ≡ Some (Some bytes) → s ≡ status.Success → IsLeft (Stop plan script core) told s old new counted out after
+      → (p : Program) × (written : List ℕ) × (text : List ℕ) × Grammar bytes p × IsStopped p plan written text × (new ≡ holding old written) × (after ≡ put_on out text)
+  success s bytes is done left = go (subst (λ (x : Status). IsLeft (Stop plan script core) told x old new counted out after) done left)
     where
-      go : IsLeft (Stop budget script core) told status.Success old new counted out after
-          → (p : Program) × (written : List ℕ) × (text : List ℕ) × Grammar bytes p × IsStopped p budget written text × (new ≡ holding old written) × (after ≡ put_on out text)
-      go (None, text, answer, held, put) = absurd (stop_answer budget script core told (Some bytes) is (Gives None (Ok text)) answer)
-      go (Some written, text, answer, held, put) = let (p, grammar, stopped) = stop_answer budget script core told (Some bytes) is (Gives (Some written) (Ok text)) answer in (p, written, text, grammar, stopped, held, put)
+      go : IsLeft (Stop plan script core) told status.Success old new counted out after
+          → (p : Program) × (written : List ℕ) × (text : List ℕ) × Grammar bytes p × IsStopped p plan written text × (new ≡ holding old written) × (after ≡ put_on out text)
+      go (None, text, answer, held, put) = absurd (stop_answer plan script core told (Some bytes) is (Gives None (Ok text)) answer)
+      go (Some written, text, answer, held, put) = let (p, grammar, stopped) = stop_answer plan script core told (Some bytes) is (Gives (Some written) (Ok text)) answer in (p, written, text, grammar, stopped, held, put)

@@ -2,6 +2,7 @@ pub mod Digits
 pub mod ThreadIds
 pub mod EventLines
 pub mod PlainCores
+pub mod Running
 pub mod Stopping
 pub mod Statuses
 pub mod Left

@@ -1,6 +1,6 @@
 -- What a status says of the answer to a command, and so where each refusal's status comes.
 use Rattle.std.proofs.Common.{◌≡◌, ◌⊎◌, inl, inr, ℕ, List, Option, Some, None, Ok, Err, sym, ◌∙◌, subst}
-use Rattle.std.specs.Prelude.{⊤, Result}
+use Rattle.std.specs.Prelude.{⊤}
 use Rattle.omi_outside.specs.Outside.{Told}
 use Rattle.omi_outside.specs.declared.status.Status.{Status}
 use Rattle.omi_outside.specs.declared.status.Status.TheVariants as status

@@ -1,5 +1,5 @@
 -- The exits of `stop`: what each result is an answer to.
-use Rattle.std.proofs.Common.{◌≡◌, ◌≤◌, ◌++◌, ◌⊎◌, ◌<◌, inl, inr, ℕ, Bool, true, false, List, [], ◌∷◌, length, map, take, Option, Some, None, Ok, Err, if◌then◌else◌, refl, sym, ◌∙◌, ap, subst, arith, take_all, length-take-le, leb-false}
+use Rattle.std.proofs.Common.{◌≡◌, ◌⊎◌, ◌<◌, inl, inr, ℕ, Bool, true, false, List, length, take, Option, Some, None, Ok, Err, if◌then◌else◌, refl, sym, ◌∙◌, ap, subst, arith, take_all, length-take-le, leb-false}
 use Rattle.std.specs.Prelude.{nat_le, Result}
 use Rattle.std.specs.Global.{Vec}
 use Rattle.std.proofs.lemmas.Bool.{leb-true}
@@ -17,29 +17,19 @@ use Rattle.omi_script.specs.declared.fault.Why.TheVariants.{OverLimit}
 use Rattle.omi_script.specs.declared.program.Program.{Program}
 use Rattle.omi_corefile.specs.Spelling.{Core, HoldsImage, core_bytes}
 use Rattle.omi_corefile.specs.declared.core_image.CoreImage.{CoreImage}
-use Rattle.omi_layout.specs.Family.{IsFamily}
-use Rattle.omi_layout.specs.SymbolTable.{words_of}
-use Rattle.omi_layout.specs.Valid.{IsValid}
 use Rattle.omi_model.specs.declared.event.Event.{Event}
-use Rattle.omi_model.specs.Reached.{Reached}
-use Rattle.omi_rep.specs.Shows.{Shows}
-use Rattle.omi_events.specs.declared.made.Made.{Made}
-use Rattle.omi_core.specs.declared.entry.Entry.{Entry}
-use Rattle.omi_core.specs.declared.schedule.Schedule.TheVariants.{RoundRobin}
-use Rattle.omi_core.specs.declared.stop.End.{End}
-use Rattle.omi_core.specs.Ends.{IsEnded}
-use Rattle.omi_core.specs.Histories.{Counts, HasHistory}
-use Rattle.omi_core.specs.Runs.{IsOpening, Run, events_in}
-use Rattle.omi_core.specs.ScheduledRuns.{IsRunBy}
-use Rattle.omi_core.specs.Schedules.{threads_by}
-use Rattle.omi_core.specs.Steps.{AreStepsOf, events_behind, made_of_steps, threads_of}
-use Rattle.omi_core.proofs.History.{made_length}
+use Rattle.omi_core.specs.Runs.{events_in}
+use Rattle.omi_core.specs.Steps.{events_behind}
 use Rattle.omi_top.specs.declared.limits.TheConstants.{SCRIPT_FRONT}
 use Rattle.omi_top.specs.Answer.{Gives, IsAnswer, IsAnswered, IsEarly, IsLate, IsStopRefusal, IsStopped, IsUnwritten, IsOfCore}
 use Rattle.omi_top.specs.Command.{Stop as StopCommand}
 use Rattle.omi_top.specs.Cores.{IsCoreOf}
 use Rattle.omi_top.specs.Lines.{run_text}
-use Rattle.omi_top.specs.Run.{after_steps, thread_ids}
+use Rattle.omi_top.specs.Run.{thread_ids}
+use Rattle.omi_top.specs.declared.run.Ran.{Ran}
+use Rattle.omi_top.specs.Ran.{IsRanBy}
+use Rattle.omi_top.proofs.Running.{made_run}
+use Rattle.omi_top.specs.declared.plan.Plan.{Plan}
 use Rattle.omi_top.specs.Refusal.{refusal_of_write, refusal_of_script, status_of, IsReadFault, IsUnread}
 use Rattle.omi_top.proofs.PlainCores.{plain, run_length}
 use Rattle.omi_top.specs.declared.refusal.Input.TheVariants as input
@@ -77,97 +67,70 @@ pub script_refused : (bytes : List ℕ) (e : ScriptError) → IfFault (Refused b
 script_refused bytes (error.Fault fault) why = inl (fault, why, refl)
 script_refused bytes error.OutOfMemory why = inr refl
 
-late : (r : RefusedWrite) → IsLate (refusal_of_write r)
+pub late : (r : RefusedWrite) → IsLate (refusal_of_write r)
 late refused.Failed = tt
 late refused.OutOfMemory = tt
 
-module _ (budget : ℕ) (script core : List ℕ) (told : List ℕ → Told) where
+module _ (plan : Plan) (script core : List ℕ) (told : List ℕ → Told) where
   -- the script can't be read
   pub unread_answered : (content : Option (List ℕ)) (r : Refusal) (old : Told) → told script ≡ Some content → ((r ≡ refusal.NoFile input.Script) × (content ≡ None)) ⊎ IsUnread input.Script r
-      → IsAnswered (StopCommand budget script core) told (Err r) old old
+      → IsAnswered (StopCommand plan script core) told (Err r) old old
   unread_answered content r old is (inl (missing, none)) = inl (None, (content, is, subst (λ (c : Option (List ℕ)). IsStopRefusal c r) (sym none) missing), refl)
-  unread_answered content r old is (inr (inl failed)) = inr (inl (subst (λ (x : Refusal). IsEarly (StopCommand budget script core) x) (sym failed) tt, refl))
-  unread_answered content r old is (inr (inr memory)) = inr (inl (subst (λ (x : Refusal). IsEarly (StopCommand budget script core) x) (sym memory) tt, refl))
+  unread_answered content r old is (inr (inl failed)) = inr (inl (subst (λ (x : Refusal). IsEarly (StopCommand plan script core) x) (sym failed) tt, refl))
+  unread_answered content r old is (inr (inr memory)) = inr (inl (subst (λ (x : Refusal). IsEarly (StopCommand plan script core) x) (sym memory) tt, refl))
 
   module _ (content : Option (List ℕ)) (is : told script ≡ Some content) (whole bytes : List ℕ) (holds : content ≡ Some bytes) (read : whole ≡ take SCRIPT_FRONT bytes) where
     -- the script is refused, or memory ran out
-    pub refused_answered : (r : Refusal) (old : Told) → IsStopRefusal (Some whole) r ⊎ (r ≡ refusal.OutOfMemory) → IsAnswered (StopCommand budget script core) told (Err r) old old
+    pub refused_answered : (r : Refusal) (old : Told) → IsStopRefusal (Some whole) r ⊎ (r ≡ refusal.OutOfMemory) → IsAnswered (StopCommand plan script core) told (Err r) old old
     refused_answered r old (inl refuses) = inl (None, (Some bytes, is ∙ ap Some holds, front_refused bytes r (subst (λ (xs : List ℕ). IsStopRefusal (Some xs) r) read refuses)), refl)
-    refused_answered r old (inr memory) = inr (inl (subst (λ (x : Refusal). IsEarly (StopCommand budget script core) x) (sym memory) tt, refl))
+    refused_answered r old (inr memory) = inr (inl (subst (λ (x : Refusal). IsEarly (StopCommand plan script core) x) (sym memory) tt, refl))
 
     -- the answer of a program's run
-    run_answer : (written text : List ℕ) (p : Program) → Grammar whole p → IsStopped p budget written text → IsAnswer (StopCommand budget script core) told (Gives (Some written) (Ok text))
+    run_answer : (written text : List ℕ) (p : Program) → Grammar whole p → IsStopped p plan written text → IsAnswer (StopCommand plan script core) told (Gives (Some written) (Ok text))
     run_answer written text p grammar stopped = (Some bytes, is ∙ ap Some holds, (p, front_grammar bytes p (subst (λ (xs : List ℕ). Grammar xs p) read grammar), stopped))
 
     -- the core is partly written
-    pub partly_answered : (written text : List ℕ) (p : Program) (r : RefusedWrite) (old new : Told) → Grammar whole p → IsStopped p budget written text → IsCut old new written
-        → IsAnswered (StopCommand budget script core) told (Err (refusal_of_write r)) old new
+    pub partly_answered : (written text : List ℕ) (p : Program) (r : RefusedWrite) (old new : Told) → Grammar whole p → IsStopped p plan written text → IsCut old new written
+        → IsAnswered (StopCommand plan script core) told (Err (refusal_of_write r)) old new
     partly_answered written text p r old new grammar stopped cut = inr (inr (late r, (written, Ok text, run_answer written text p grammar stopped, cut)))
 
     -- the core is written, and the text is handed up
-    pub done_answered : (written : List ℕ) (text : Vec ℕ) (p : Program) (old new : Told) → Grammar whole p → IsStopped p budget written text.items → new ≡ holding old written
-        → IsAnswered (StopCommand budget script core) told (Ok text) old new
+    pub done_answered : (written : List ℕ) (text : Vec ℕ) (p : Program) (old new : Told) → Grammar whole p → IsStopped p plan written text.items → new ≡ holding old written
+        → IsAnswered (StopCommand plan script core) told (Ok text) old new
     done_answered written text p old new grammar stopped held = (Some written, run_answer written text.items p grammar stopped, held)
 
 -- ---- a run that was made
 
-kept_threads : (xs : List (ℕ × Entry)) → map (λ (m : Made). m.thread) (made_of_steps xs) ≡ threads_of xs
-kept_threads [] = refl
-kept_threads (x ∷ xs) = ap (λ ns. x.0 ∷ ns) (kept_threads xs)
-
 -- with its core and its text
-pub made_stopped : (w : List ℕ) (p : Program) (budget : ℕ) (first last : Run) (why : End) (ids core text : List ℕ) → IsValid w → IsFamily 0 p.threads w → IsOpening p w first → IsRunBy first RoundRobin (after_steps budget) (Ok why) last → HasHistory last
-    → ids ≡ thread_ids p.threads → (0 < length last.words → core ≡ core_bytes ids last.words) → (0 < length last.words → (c : CoreImage) × Core core c × HoldsImage ids last.words c)
-    → text ≡ run_text last.events.items (length last.made.items) why → IsStopped p budget core text
-made_stopped w p budget first last why ids core text valid family opens (added, ends) (xs, s, h) are bytes image lines =
-    let program : last.program ≡ p = added.program ∙ opens.program in
-    let table : last.table ≡ w = added.table ∙ opens.table in
-    let all : last.made.items ≡ added.made = added.made_are ∙ ap (λ (ms : List Made). ms ++ added.made) opens.made in
-    let many : length added.made ≡ length xs = ap length (sym all ∙ h.made_by.made) ∙ made_length xs in
-    let events : added.events ≡ events_behind 0 xs = sym (added.events_are ∙ ap (λ (es : List (ℕ × ℕ × Event)). es ++ added.events) opens.events) ∙ h.made_by.events in
-    let steps : AreStepsOf p w xs last.words s = subst (λ (q : Program). AreStepsOf q w xs last.words s) program (subst (λ t. AreStepsOf last.program t xs last.words s) table h.made_by.steps) in
-    let shows : Shows w (words_of last.words) s = subst (λ t. Shows t (words_of last.words) s) table h.shows in
-    let long = h.tables.long in
-    let some : 0 < length last.words = omega (arith, long) in
-    let (c, spelled, holds) = image some in
-    let core_of : IsCoreOf (thread_ids p.threads) core last.words = record { core = c; spelled = spelled; image = subst (λ ns. HoldsImage ns last.words c) are holds } in
-    let reached : Reached p (events_in (events_behind 0 xs)) s = subst (λ (es : List (ℕ × ℕ × Event)). Reached p (events_in es) s) h.made_by.events (subst (λ (q : Program). Reached q (events_in last.events.items) s) program h.reached) in
+pub made_stopped : (p : Program) (plan : Plan) (ran : Ran) (ids core text : List ℕ) → IsRanBy p plan ran → ids ≡ thread_ids p.threads
+    → (0 < length ran.core.words → core ≡ core_bytes ids ran.core.words) → (0 < length ran.core.words → (c : CoreImage) × Core core c × HoldsImage ids ran.core.words c)
+    → text ≡ run_text ran.core.events.items ran.steps ran.why → IsStopped p plan core text
+made_stopped p plan ran ids core text by are bytes image lines =
+    let made = made_run p plan ran by in
+    let run = made.run in
+    let words : List ℕ = ran.core.words in
+    let (c, spelled, holds) = image made.some in
+    let core_of : IsCoreOf (thread_ids p.threads) core words = record { core = c; spelled = spelled; image = subst (λ ns. HoldsImage ns words c) are holds } in
     record {
-      w = w;
-      family = family;
-      entries = xs;
-      end = why;
-      words = last.words;
-      state = s;
-      run = record {
-        steps = steps;
-        threads =
-            sym (kept_threads xs)
-            ∙ ap (map (λ (m : Made). m.thread)) (sym (sym all ∙ h.made_by.made))
-            ∙ added.threads
-            ∙ ap (λ (q : Program). threads_by RoundRobin q.threads (length added.made)) opens.program
-            ∙ ap (threads_by RoundRobin p.threads) many;
-        few = subst (λ n. n ≤ budget) many added.within;
-        ended =
-            subst (λ (es : List (ℕ × ℕ × Event)). IsEnded (after_steps budget) (length xs) (length xs) es why) events
-            (subst (λ n. IsEnded (after_steps budget) n (length xs) added.events why) many
-            (subst (λ n. IsEnded (after_steps budget) (length added.made) n added.events why) (ap length all ∙ many) ends));
-        reached = reached;
-        shows = shows;
-        counts = subst (λ t. Counts t last.words s) table h.counts;
-      };
-      core_is = bytes some ∙ ap (λ ns. core_bytes ns last.words) are;
+      w = by.w;
+      family = by.family;
+      entries = made.entries;
+      end = ran.why;
+      words = words;
+      state = made.state;
+      run = run;
+      core_is = bytes made.some ∙ ap (λ ns. core_bytes ns words) are;
       core_of = core_of;
       plain = λ one current. record {
-        image_core = subst (λ n. IsCoreOf (thread_ids n) core last.words) one core_of;
-        layout = shows.layout;
-        valid = valid;
-        plain = plain p (events_in (events_behind 0 xs)) s reached one current w last.words valid (family.threads ∙ one) (run_length p w xs last.words s steps) shows;
+        image_core = subst (λ n. IsCoreOf (thread_ids n) core words) one core_of;
+        layout = run.shows.layout;
+        valid = by.valid;
+        plain = plain p (events_in (events_behind 0 made.entries)) made.state run.reached one current by.w words by.valid (by.family.threads ∙ one) (run_length p by.w made.entries words made.state run.steps) run.shows;
       };
       text_is =
           lines
-          ∙ ap (λ (es : List (ℕ × ℕ × Event)). run_text es (length last.made.items) why) h.made_by.events
-          ∙ ap (λ n. run_text (events_behind 0 xs) n why) (ap length all ∙ many);
+          ∙ ap (λ (es : List (ℕ × ℕ × Event)). run_text es ran.steps ran.why) made.events
+          ∙ ap (λ n. run_text (events_behind 0 made.entries) n ran.why) made.many;
     }
 
 -- a refusal of the words, or a fault of files

@@ -31,17 +31,18 @@ use Rattle.omi_top.specs.Cores.{one_thread, IsCoreOf, IsPlainCore, IsOtherImage,
 use Rattle.omi_top.specs.Lines.{run_text}
 use Rattle.omi_top.specs.Refusal.{line_of, status_of}
 use Rattle.omi_top.specs.Run.{IsRun, thread_ids}
+use Rattle.omi_top.specs.declared.plan.Plan.{Plan}
 
--- a run of the program in the layout of family 0, whose last words are this core, with the contexts of all threads, and whose events
--- and end are this text. Where the initial task is current on the one thread of a program, the core is plain, so that `show` reads it
-pub record IsStopped (p : Program) (budget : ℕ) (core text : List ℕ) : Type 0 where
+-- a run of the program by a plan, in the layout of its family, whose last words are this core, with the contexts of all threads, and
+-- whose events and end are this text. Where the initial task is current on the one thread of a program, the core is plain, so that `show` reads it
+pub record IsStopped (p : Program) (plan : Plan) (core text : List ℕ) : Type 0 where
   pub w : List ℕ
-  pub family : IsFamily 0 p.threads w
+  pub family : IsFamily plan.layout p.threads w
   pub entries : List (ℕ × Entry)
   pub end : End
   pub words : List ℕ
   pub state : State
-  pub run : IsRun w p budget entries end words state
+  pub run : IsRun w p plan entries end words state
   pub core_is : core ≡ core_bytes (thread_ids p.threads) words
   pub core_of : IsCoreOf (thread_ids p.threads) core words
   pub plain : p.threads ≡ 1 → (state.threads 0).current ≡ Some initial_task
@@ -60,11 +61,11 @@ IsStopRefusal (Some bytes) r =
     (fault : ScriptFault) × Refused bytes fault × (r ≡ refusal.Script fault)
 
 -- an answer of `stop`, by the content of the script's file: a refusal alone, or the core and the text of a run of its program
-abbrev pub IsStopAnswer : ℕ → Option (List ℕ) → Answer → Type 0
-IsStopAnswer budget content (Gives None (Err r)) = IsStopRefusal content r
-IsStopAnswer budget (Some bytes) (Gives (Some core) (Ok text)) =
-    (p : Program) × Grammar bytes p × IsStopped p budget core text
-IsStopAnswer budget content answer = ⊥
+abbrev pub IsStopAnswer : Plan → Option (List ℕ) → Answer → Type 0
+IsStopAnswer plan content (Gives None (Err r)) = IsStopRefusal content r
+IsStopAnswer plan (Some bytes) (Gives (Some core) (Ok text)) =
+    (p : Program) × Grammar bytes p × IsStopped p plan core text
+IsStopAnswer plan content answer = ⊥
 
 -- a file is a core, and none that `show` reads yet
 abbrev pub IsOtherCore : List ℕ → Type 0
@@ -101,14 +102,14 @@ IsShowAnswer content answer = ⊥
 
 -- the content of each file that a command reads is told
 abbrev pub AreTold : Command → (List ℕ → Told) → Type 0
-AreTold (Stop budget script core) told = (content : Option (List ℕ)) × (told script ≡ Some content)
+AreTold (Stop plan script core) told = (content : Option (List ℕ)) × (told script ≡ Some content)
 AreTold (Show core) told = (content : Option (List ℕ)) × (told core ≡ Some content)
 AreTold Faulty told = ⊤
 
 -- an answer of a command, by what is told of the files that it reads
 abbrev pub IsAnswer : Command → (List ℕ → Told) → Answer → Type 0
-IsAnswer (Stop budget script core) told answer = (content : Option (List ℕ))
-    × (told script ≡ Some content) × IsStopAnswer budget content answer
+IsAnswer (Stop plan script core) told answer = (content : Option (List ℕ))
+    × (told script ≡ Some content) × IsStopAnswer plan content answer
 IsAnswer (Show core) told answer = (content : Option (List ℕ)) × (told core ≡ Some content)
     × IsShowAnswer content answer
 IsAnswer Faulty told answer = answer ≡ Gives None (Err refusal.Usage)

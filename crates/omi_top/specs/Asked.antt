@@ -1,19 +1,25 @@
 -- A request of the program as a command.
-use Rattle.std.specs.Prelude.{◌≤◌, ◌+◌, ℕ, length, ⊤}
-use Rattle.omi_top.specs.declared.limits.TheConstants.{MOST_STEPS, LINE_ROOM}
+use Rattle.std.specs.Prelude.{◌≤◌, ◌+◌, ℕ, length, IfSome, ⊤}
+use Rattle.omi_top.specs.declared.limits.TheConstants.{LINE_ROOM, MOST_LAYOUT}
 use Rattle.omi_top.specs.Command.{Command, Stop, Show, Faulty, input_name}
+use Rattle.omi_top.specs.declared.plan.Plan.{Plan}
 use Rattle.omi_top.specs.declared.refusal.Input.TheVariants as input
 use Rattle.omi_top.specs.declared.command.Request.{Request}
 use Rattle.omi_top.specs.declared.command.Request.TheVariants as request
 
 abbrev pub asked : Request → Command
-asked (request.Stop steps script core) = Stop steps script.now core.now
+asked (request.Stop plan script core) = Stop plan script.now core.now
 asked (request.Show core) = Show core.now
 asked request.Faulty = Faulty
 
--- the number of steps is in its range
+-- The layout is one of the families, and the event at which the run stops is the first of its kind or a later one
+pub record IsPossible (plan : Plan) : Type 0 where
+  pub layout : plan.layout ≤ MOST_LAYOUT
+  pub count : IfSome plan.stop.on (λ on. 1 ≤ on.1)
+
+-- its numbers are in their ranges
 abbrev pub IsBounded : Request → Type 0
-IsBounded (request.Stop steps script core) = steps ≤ MOST_STEPS
+IsBounded (request.Stop plan script core) = IsPossible plan
 IsBounded (request.Show core) = ⊤
 IsBounded request.Faulty = ⊤
 

@@ -3,15 +3,15 @@ use Rattle.std.specs.Prelude.{◌≡◌, ◌||◌, ℕ, Bool, List, [], ◌∷�
 use Rattle.std.specs.declared.alloc.Global.{Global}
 use Rattle.std.specs.Option.{option_map_or}
 use Rattle.omi_line.specs.Line.{split_of}
-use Rattle.omi_line.specs.Number.{number_of}
 use Rattle.omi_line.specs.declared.line.Line.{Line}
-use Rattle.omi_top.specs.declared.limits.TheConstants.{MOST_STEPS}
+use Rattle.omi_top.specs.declared.plan.Plan.{Plan}
 use Rattle.omi_top.specs.declared.refusal.Input.{Input}
 use Rattle.omi_top.specs.declared.refusal.Input.TheVariants as input
+use Rattle.omi_top.specs.Plan.{plan_of}
 
 -- a command of the program, or words that are none
 pub data Command : Type 0 where
-  Stop : (steps : ℕ) (script core : List ℕ) → Command
+  Stop : (plan : Plan) (script core : List ℕ) → Command
   Show : (core : List ℕ) → Command
   Faulty : Command
 
@@ -19,14 +19,13 @@ pub data Command : Type 0 where
 abbrev pub has_option : Line → Bool
 has_option line = is_some line.seed || is_some line.on || is_some line.count || is_some line.layout
 
--- `stop STEPS SCRIPT CORE`, with STEPS 0 to 1,000,000
+-- `stop STEPS SCRIPT CORE`, with options
 abbrev pub stop_by : List (List ℕ) → Line → Command
 stop_by (steps ∷ script ∷ core ∷ []) line =
-    if has_option line then Faulty
-    else option_map_or (λ n. Stop n script core) (number_of steps 0 MOST_STEPS) Faulty
+    option_map_or (λ plan. Stop plan script core) (plan_of steps line) Faulty
 stop_by names line = Faulty
 
--- `show CORE`
+-- `show CORE`, without options
 abbrev pub show_by : List (List ℕ) → Line → Command
 show_by (core ∷ []) line = if has_option line then Faulty else Show core
 show_by names line = Faulty
@@ -53,26 +52,26 @@ command_in words = command_of (map string_bytes words.items)
 
 -- a command reads this
 abbrev pub Reads : Command → Input → Type 0
-Reads (Stop steps script core) input.Script = ⊤
+Reads (Stop plan script core) input.Script = ⊤
 Reads (Show core) input.Core = ⊤
 Reads command read = ⊥
 
 -- the name that a command's words give to a script or to a core
 abbrev pub input_name : Command → Input → List ℕ
-input_name (Stop steps script core) input.Script = script
-input_name (Stop steps script core) input.Core = core
+input_name (Stop plan script core) input.Script = script
+input_name (Stop plan script core) input.Core = core
 input_name (Show core) input.Script = []
 input_name (Show core) input.Core = core
 input_name Faulty named = []
 
 -- the name of the file that a command writes
 abbrev pub written_name : Command → List ℕ
-written_name (Stop steps script core) = core
+written_name (Stop plan script core) = core
 written_name (Show core) = []
 written_name Faulty = []
 
 -- a command writes the file of this name
 abbrev pub Writes : Command → List ℕ → Type 0
-Writes (Stop steps script core) name = name ≡ core
+Writes (Stop plan script core) name = name ≡ core
 Writes (Show core) name = ⊥
 Writes Faulty name = ⊥

@@ -1,10 +1,12 @@
--- The definitions to believe, in reading order: what a command line asks for, what its answer is, what a core is to
--- `show`, and what a run is.
+-- The definitions to believe, in reading order: what a run of `stop` is to be, what a command line asks for, what its answer is, what a
+-- core is to `show`, and what a run is.
+pub mod Plan
 pub mod Command
 pub mod Answer
 pub mod Cores
 pub mod Refusal
 pub mod Run
 pub mod Lines
--- What private functions of the code stand on: a request as a command, and room for its lines
+-- What private functions of the code stand on: a request as a command, and room for its lines; and a run that was made
 pub mod Asked
+pub mod Ran

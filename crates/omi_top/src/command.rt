@@ -7,17 +7,17 @@ ghost use Rattle.omi_line.specs.Line.{IsText, split_of};
 ghost use Rattle.omi_top.specs.Command.{command_by, has_option, input_name as named, show_by, stop_by, verb_by};
 ghost use Rattle.omi_top.specs.Asked.{asked, IsBounded};
 
-use crate::limits::MOST_STEPS;
+use crate::plan::{Plan, plan_of};
 use crate::refusal::Input;
 use crate::word::text_of;
-use omi_line::{Line, LineError, OutOfMemory, Text, number, split};
+use omi_line::{Line, LineError, OutOfMemory, Text, split};
 use std::alloc::{AllocError, Global};
 
 /// What a command line asks for.
 #[derive(Clone, Copy)]
 pub enum Request<'a> {
     Stop {
-        steps: u64,
+        plan: Plan,
         script: &'a str,
         core: &'a str,
     },
@@ -48,20 +48,21 @@ fn has_option(line: &Line) -> bool
 
 /// What `stop` is asked for, by the names behind it.
 fn stop_by<'a>(names: &'a [Text], line: &Line) -> Request<'a>
-    requires { All IsUtf8 names.now }
+    requires names { All IsUtf8 names.now }
+    requires line { IsText line.now }
     ensures asked { asked result ≡ stop_by names.entry.now line.now }
     ensures bounded { IsBounded result }
 {
     let [steps, script, core] = names else {
         return Request::Faulty;
     };
-    match number(steps, 0, MOST_STEPS) {
-        Some(steps) if !has_option(line) => Request::Stop {
-            steps,
+    match plan_of(steps, line) {
+        Some(plan) => Request::Stop {
+            plan,
             script: text_of(script),
             core: text_of(core),
         },
-        _ => Request::Faulty,
+        None => Request::Faulty,
     }
 }
 

@@ -6,6 +6,15 @@ use omi_script::limits::MAX_BYTES;
 /// The most steps of a run.
 pub const MOST_STEPS: u64 = 1_000_000;
 
+/// The greatest seed of pseudo-random numbers.
+pub const MOST_SEED: u64 = u64::MAX;
+
+/// The greatest number of the event at which a run stops, among those of its kind.
+pub const MOST_COUNT: u64 = 1_000_000;
+
+/// The greatest number of a family of layouts.
+pub const MOST_LAYOUT: u64 = 15;
+
 /// The most bytes that are read of a script: one more than a script may have.
 pub const SCRIPT_FRONT: u64 = MAX_BYTES as u64 + 1;
 

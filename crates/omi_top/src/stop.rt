@@ -5,6 +5,7 @@ ghost use Rattle.omi_outside.specs.Outside.{HasCause};
 ghost use Rattle.omi_script.specs.Grammar.{Grammar};
 ghost use Rattle.omi_top.specs.Answer.{AreTold, IsAnswered, IsStopRefusal, IsStopped, IsUnwritten, IsOfCore};
 ghost use Rattle.omi_top.specs.Command.{Stop as StopCommand};
+ghost use Rattle.omi_top.specs.Asked.{IsPossible};
 ghost use Rattle.omi_top.specs.Refusal.{IsReadFault, status_of};
 ghost use Rattle.omi_top.specs.Run.{thread_ids};
 
@@ -12,12 +13,11 @@ use crate::Refusal;
 use crate::limits::SCRIPT_FRONT;
 use crate::lines::text_of;
 use crate::load::load;
+use crate::plan::Plan;
 use crate::refusal::Input;
-use omi_core::{Core, Schedule, Stop};
+use crate::run::run_of;
 use omi_corefile::core_bytes_of;
-use omi_layout::Layout;
 use omi_outside::{Files, write_whole};
-use omi_rep::families_suit;
 use omi_script::{Program, parse};
 use omi_word::{Natives, OutOfMemory};
 use std::alloc::Global;
@@ -42,35 +42,29 @@ fn contexts_of(alloc: Global, threads: u8) -> Result<Natives, OutOfMemory>
     Ok(ids)
 }
 
-/// Runs a program in the layout of family 0, its threads in turn, and answers the bytes of its core and what it prints.
-fn stopped(alloc: Global, p: Program, budget: u64) -> Result<(Vec<u8>, String), OutOfMemory>
-    ensures { IfOk result (λ made. IsStopped p budget made.0.items (string_bytes made.1)) }
+/// Runs a program by a plan, and answers the bytes of its core and what it prints.
+fn stopped(alloc: Global, p: Program, plan: Plan) -> Result<(Vec<u8>, String), OutOfMemory>
+    requires { IsPossible plan }
+    ensures { IfOk result (λ made. IsStopped p plan made.0.items (string_bytes made.1)) }
 {
-    families_suit();
-    let layout = Layout::family(0, p.threads);
     let contexts = contexts_of(alloc, p.threads)?;
-    let mut core = Core::opening(alloc, p, layout)?;
-    let stop = Stop {
-        steps: budget,
-        on: None,
-    };
-    let end = core.run(&Schedule::RoundRobin, stop)?;
-    let steps = core.made().len() as u64;
-    let bytes = core_bytes_of(alloc, core.image(), &contexts)?;
-    let text = text_of(alloc, core.events(), steps, end)?;
+    let ran = run_of(alloc, p, plan)?;
+    let bytes = core_bytes_of(alloc, ran.core.image(), &contexts)?;
+    let text = text_of(alloc, ran.core.events(), ran.steps, ran.why)?;
     Ok((bytes, text))
 }
 
-/// Runs the program of a script for at most `budget` steps, writes its core, and answers what it prints.
+/// Runs the program of a script by a plan, writes its core, and answers what it prints.
 pub fn stop<F: Files, W: Files>(
     alloc: Global,
-    budget: u64,
+    plan: Plan,
     script: &str,
     core: &str,
     files: &mut F,
     dest: &mut W,
 ) -> Result<Vec<u8>, Refusal>
-    ensures answer { let command = StopCommand budget script.now core.now in
+    requires { IsPossible plan }
+    ensures answer { let command = StopCommand plan script.now core.now in
         AreTold command (F.told files.old)
         → IsAnswered command (F.told files.old) result (W.told dest.old core.now)
         (W.told dest.new core.now) }
@@ -90,7 +84,7 @@ pub fn stop<F: Files, W: Files>(
 {
     let bytes = load(alloc, Input::Script, script, SCRIPT_FRONT, files)?;
     let p = program(alloc, &bytes)?;
-    let (image, text) = stopped(alloc, p, budget)?;
+    let (image, text) = stopped(alloc, p, plan)?;
     write_whole(dest, core, &image)?;
     Ok(text.into_bytes())
 }

@@ -9,6 +9,7 @@ ghost use Rattle.omi_script.specs.Grammar.{Grammar, Refused as RefusedScript};
 ghost use Rattle.omi_script.specs.declared.fault.ScriptFault.{ScriptFault};
 ghost use Rattle.omi_script.specs.declared.program.Program.{Program};
 ghost use Rattle.omi_top.specs.Command.{Command, Stop, Show, Faulty, command_in, written_name, Writes};
+ghost use Rattle.omi_top.specs.declared.plan.Plan.{Plan};
 ghost use Rattle.omi_top.specs.Asked.{asked, HasRoom, IsBounded};
 ghost use Rattle.omi_top.specs.Answer.{AreTold, IsAnswered, IsOtherCore, IsIncompatibleCore, IsDamagedCore, IsStopped, IsSaid, IsCounted, IsLeft, IsUnwritten, ComesWhere, IsShownAgain, IsOfCore};
 ghost use Rattle.omi_top.specs.Cores.{one_thread, IsPlainCore};
@@ -58,11 +59,7 @@ fn perform<F: Files, W: Files>(
         → W.told dest.new other ≡ W.told dest.old other }
 {
     match request {
-        Request::Stop {
-            steps,
-            script,
-            core,
-        } => stop(alloc, steps, script, core, files, dest),
+        Request::Stop { plan, script, core } => stop(alloc, plan, script, core, files, dest),
         Request::Show { core } => show(alloc, core, files),
         Request::Faulty => Err(Refusal::Usage),
     }
@@ -203,7 +200,8 @@ fn carry_out<F: Files, W: Files, K: Sink>(
 }
 
 /// All that the program does with the words behind its name: `stop STEPS SCRIPT CORE` runs the
-/// program of a script for at most STEPS steps, writes its core and prints its events; `show CORE`
+/// program of a script for at most STEPS steps, writes its core and prints its events, where options
+/// say which threads make the steps, at which event they stop and in which layout; `show CORE`
 /// prints the report of a core. It reads from `files` alone, writes to `dest` alone and prints to
 /// `out`.
 pub fn run_top<F: Files, W: Files, K: Sink>(
@@ -230,22 +228,22 @@ pub fn run_top<F: Files, W: Files, K: Sink>(
 
     // Where the script's file is told: there is none, or the grammar refuses it, exactly where the
     // status says so.
-    ensures no_file { (budget : ℕ) (script core : List ℕ) (content : Option (List ℕ))
-        → command_in words.now ≡ Stop budget script core → F.told files.old script ≡ Some content
+    ensures no_file { (plan : Plan) (script core : List ℕ) (content : Option (List ℕ))
+        → command_in words.now ≡ Stop plan script core → F.told files.old script ≡ Some content
         → ComesWhere Status.NoFile result (content ≡ None) }
-    ensures script { (budget : ℕ) (script core bytes : List ℕ)
-        → command_in words.now ≡ Stop budget script core
+    ensures script { (plan : Plan) (script core bytes : List ℕ)
+        → command_in words.now ≡ Stop plan script core
         → F.told files.old script ≡ Some (Some bytes)
         → ComesWhere Status.Script result ((fault : ScriptFault) × RefusedScript bytes fault) }
 
     // With success the core is that of the last words of a run, and what is put is that run's
     // events and its end.
-    ensures success { (budget : ℕ) (script core bytes : List ℕ)
-        → command_in words.now ≡ Stop budget script core
+    ensures success { (plan : Plan) (script core bytes : List ℕ)
+        → command_in words.now ≡ Stop plan script core
         → F.told files.old script ≡ Some (Some bytes)
         → result ≡ Status.Success
         → (p : Program) × (written text : List ℕ) × Grammar bytes p
-        × IsStopped p budget written text
+        × IsStopped p plan written text
         × (W.told dest.new core ≡ holding (W.told dest.old core) written)
         × (K.told out.new ≡ put_on (K.told out.old) text) }
 
@@ -282,7 +280,7 @@ pub fn run_top<F: Files, W: Files, K: Sink>(
     // the run's events reach: it has one view alone.
     ensures shown_again { (core bytes : List ℕ)
         → command_in words.now ≡ Show core → F.told files.old core ≡ Some (Some bytes)
-        → (p : Program) (budget : ℕ) (text : List ℕ) (run : IsStopped p budget bytes text)
+        → (p : Program) (plan : Plan) (text : List ℕ) (run : IsStopped p plan bytes text)
         → (w plain : List ℕ) → IsPlainCore bytes w plain
         → IsShownAgain run.state result (K.told out.old) (K.told out.new) }
 

@@ -9,26 +9,26 @@ use Rattle.omi_top.proofs.stop.stop.Goals as goal
 pub returns-in_err-bytes-clause-answer : goal.returns-in_err-bytes-clause-answer
 returns-in_err-bytes-clause-answer g c = λ (content, told).
     let p = err_from_is_err_and c.from_residual.result c.from_residual.ensures.1 in
-    rw (p.1, p.2) (unread_answered c.args.budget c.args.script.now c.args.core.now (g.F.Files.told c.args.files.now) content c.in_err-bytes.field-0.0 _ told (c.in_err-bytes.ensures.no_file content told))
+    rw (p.1, p.2) (unread_answered c.args.plan c.args.script.now c.args.core.now (g.F.Files.told c.args.files.now) content c.in_err-bytes.field-0.0 _ told (c.in_err-bytes.ensures.no_file content told))
 
 pub returns-in_err-p-clause-answer : goal.returns-in_err-p-clause-answer
 returns-in_err-p-clause-answer g c = λ (content, told).
     let p = err_from_is_err_and c.from_residual-in_err-p.result c.from_residual-in_err-p.ensures.1 in
     let read = c.in_ok-bytes.ensures.bytes content told in
-    rw (p.1, p.2) (refused_answered c.args.budget c.args.script.now c.args.core.now (g.F.Files.told c.args.files.now) content told c.deref.result.now read.0 read.1 (c.deref.ensures.value ∙ read.2) c.in_err-p.field-0.0 _ c.in_err-p.ensures.refused)
+    rw (p.1, p.2) (refused_answered c.args.plan c.args.script.now c.args.core.now (g.F.Files.told c.args.files.now) content told c.deref.result.now read.0 read.1 (c.deref.ensures.value ∙ read.2) c.in_err-p.field-0.0 _ c.in_err-p.ensures.refused)
 
 pub returns-in_err-write_whole-clause-answer : goal.returns-in_err-write_whole-clause-answer
 returns-in_err-write_whole-clause-answer g c = λ (content, told).
     let p = err_from_is_err_and c.from_residual-in_err-write_whole.result c.from_residual-in_err-write_whole.ensures.1 in
     let read = c.in_ok-bytes.ensures.bytes content told in
-    rw (p.1, p.2) (partly_answered c.args.budget c.args.script.now c.args.core.now (g.F.Files.told c.args.files.now) content told c.deref.result.now read.0 read.1 (c.deref.ensures.value ∙ read.2)
+    rw (p.1, p.2) (partly_answered c.args.plan c.args.script.now c.args.core.now (g.F.Files.told c.args.files.now) content told c.deref.result.now read.0 read.1 (c.deref.ensures.value ∙ read.2)
     c.in_ok-image.image.items (string_bytes c.in_ok-image.text) c.in_ok-p.p c.in_err-write_whole.field-0.0 _ _ c.in_ok-p.ensures.accepted c.in_ok-image.ensures (rw (← c.deref-2.ensures.value) c.in_err-write_whole.ensures.cut))
 
 pub returns-clause-answer : goal.returns-clause-answer
 returns-clause-answer g c = λ (content, told).
     let read = c.in_ok-bytes.ensures.bytes content told in
-    done_answered c.args.budget c.args.script.now c.args.core.now (g.F.Files.told c.args.files.now) content told c.deref.result.now read.0 read.1 (c.deref.ensures.value ∙ read.2)
-    c.in_ok-image.image.items c.into_bytes.result c.in_ok-p.p _ _ c.in_ok-p.ensures.accepted (subst (λ (v : Vec ℕ). IsStopped c.in_ok-p.p c.args.budget c.in_ok-image.image.items v.items) (sym c.into_bytes.ensures.value) c.in_ok-image.ensures)
+    done_answered c.args.plan c.args.script.now c.args.core.now (g.F.Files.told c.args.files.now) content told c.deref.result.now read.0 read.1 (c.deref.ensures.value ∙ read.2)
+    c.in_ok-image.image.items c.into_bytes.result c.in_ok-p.p _ _ c.in_ok-p.ensures.accepted (subst (λ (v : Vec ℕ). IsStopped c.in_ok-p.p c.args.plan c.in_ok-image.image.items v.items) (sym c.into_bytes.ensures.value) c.in_ok-image.ensures)
     (rw (← c.deref-2.ensures.value) c.in_ok-write_whole.ensures.written)
 
 pub returns-in_err-write_whole-clause-usage : goal.returns-in_err-write_whole-clause-usage

@@ -5,7 +5,6 @@ use Rattle.omi_corefile.specs.Limits.{rises_from}
 use Rattle.omi_corefile.specs.Spelling.{Core, HoldsImage, core_bytes}
 use Rattle.omi_corefile.specs.declared.core_image.CoreImage.{CoreImage}
 use Rattle.omi_events.specs.Events.{Events}
-use Rattle.omi_events.specs.Steps.{Steps}
 use Rattle.omi_script.proofs.RuleLemmas.{Rules-from_accepted}
 use Rattle.omi_top.specs.Lines.{run_text}
 use Rattle.omi_top.proofs.Stopping.{made_stopped}
@@ -23,10 +22,9 @@ core_bytes_of-requires-clause-count c =
 
 pub returns : goal.returns
 returns c =
-    let words : c.image.result.now ≡ c.run.new.self.words = c.image.ensures.words in
-    let steps : c.len-steps.result ≡ length c.run.new.self.made.items = c.len-steps.ensures ∙ ap (λ (made : Steps). length made.items) c.made.ensures.made in
-    made_stopped c.family-layout.result.table c.args.p c.args.budget c.in_ok-core.core c.run.new.self c.in_ok-end.end c.in_ok-contexts.contexts c.in_ok-bytes.bytes.items (string_bytes c.in_ok-text.text)
-    c.family-layout.result.valid c.family-layout.ensures.family c.in_ok-core.ensures c.in_ok-end.ensures c.made.ensures.history c.in_ok-contexts.ensures
+    let words : c.image.result.now ≡ c.in_ok-ran.ran.core.words = c.image.ensures.words in
+    made_stopped c.args.p c.args.plan c.in_ok-ran.ran c.in_ok-contexts.contexts c.in_ok-bytes.bytes.items (string_bytes c.in_ok-text.text)
+    c.in_ok-ran.ensures c.in_ok-contexts.ensures
     (λ some. c.in_ok-bytes.ensures.value (subst (λ (ws : List ℕ). 0 < length ws) (sym words) some) ∙ ap (core_bytes c.in_ok-contexts.contexts) words)
     (λ some. subst (λ (ws : List ℕ). (x : CoreImage) × Core c.in_ok-bytes.bytes.items x × HoldsImage c.in_ok-contexts.contexts ws x) words (c.in_ok-bytes.ensures.core (subst (λ (ws : List ℕ). 0 < length ws) (sym words) some)))
-    (c.in_ok-text.ensures ∙ ap (λ (events : Events). run_text events.items c.len-steps.result c.in_ok-end.end) c.events.ensures ∙ ap (λ n. run_text c.run.new.self.events.items n c.in_ok-end.end) steps)
+    (c.in_ok-text.ensures ∙ ap (λ (events : Events). run_text events.items c.in_ok-ran.ran.steps c.in_ok-ran.ran.why) c.events.ensures)

@@ -1,4 +1,4 @@
-use Rattle.std.proofs.Common.{◌≡◌, ◌∙◌, ap, ℕ, List, Option, Some}
+use Rattle.std.proofs.Common.{◌≡◌, ◌∙◌, ap, Some}
 use Rattle.omi_top.specs.Asked.{asked}
 use Rattle.omi_top.specs.Answer.{AreTold, IsCounted, IsLeft}
 use Rattle.omi_top.specs.Command.{Command, Stop, Show, command_by, command_in, written_name}
@@ -28,13 +28,13 @@ pub returns-in-Ok-clause-left : goal.returns-in-Ok-clause-left
 returns-in-Ok-clause-left g c = left_of g c _ (asked_is g c)
 
 pub returns-in-Ok-clause-no_file : goal.returns-in-Ok-clause-no_file
-returns-in-Ok-clause-no_file g c = λ budget name core content command told. no_file budget name core (g.F.Files.told c.args.files.now) _ _ _ _ _ _ content told (left_of g c (Stop budget name core) (asked_is g c ∙ command) (content, told))
+returns-in-Ok-clause-no_file g c = λ plan name core content command told. no_file plan name core (g.F.Files.told c.args.files.now) _ _ _ _ _ _ content told (left_of g c (Stop plan name core) (asked_is g c ∙ command) (content, told))
 
 pub returns-in-Ok-clause-script : goal.returns-in-Ok-clause-script
-returns-in-Ok-clause-script g c = λ budget name core bytes command told. script_refused budget name core (g.F.Files.told c.args.files.now) _ _ _ _ _ _ bytes told (left_of g c (Stop budget name core) (asked_is g c ∙ command) (Some bytes, told))
+returns-in-Ok-clause-script g c = λ plan name core bytes command told. script_refused plan name core (g.F.Files.told c.args.files.now) _ _ _ _ _ _ bytes told (left_of g c (Stop plan name core) (asked_is g c ∙ command) (Some bytes, told))
 
 pub returns-in-Ok-clause-success : goal.returns-in-Ok-clause-success
-returns-in-Ok-clause-success g c = λ budget name core bytes command told done. success budget name core (g.F.Files.told c.args.files.now) _ _ _ _ _ _ bytes told done (left_of g c (Stop budget name core) (asked_is g c ∙ command) (Some bytes, told))
+returns-in-Ok-clause-success g c = λ plan name core bytes command told done. success plan name core (g.F.Files.told c.args.files.now) _ _ _ _ _ _ bytes told done (left_of g c (Stop plan name core) (asked_is g c ∙ command) (Some bytes, told))
 
 pub returns-in-Ok-clause-no_core : goal.returns-in-Ok-clause-no_core
 returns-in-Ok-clause-no_core g c = λ core content command told. no_core core (g.F.Files.told c.args.files.now) _ _ _ _ _ _ content told (left_of g c (Show core) (asked_is g c ∙ command) (content, told))
@@ -55,4 +55,4 @@ pub returns-in-Ok-clause-report : goal.returns-in-Ok-clause-report
 returns-in-Ok-clause-report g c = λ core bytes command told done. report_put core (g.F.Files.told c.args.files.now) _ _ _ _ _ _ bytes told done (left_of g c (Show core) (asked_is g c ∙ command) (Some bytes, told))
 
 pub returns-in-Ok-clause-shown_again : goal.returns-in-Ok-clause-shown_again
-returns-in-Ok-clause-shown_again g c = λ core bytes command told p budget text run w plain is_plain. shown_again core (g.F.Files.told c.args.files.now) _ _ _ _ _ _ bytes told p budget text run w plain is_plain (left_of g c (Show core) (asked_is g c ∙ command) (Some bytes, told))
+returns-in-Ok-clause-shown_again g c = λ core bytes command told p plan text run w plain is_plain. shown_again core (g.F.Files.told c.args.files.now) _ _ _ _ _ _ bytes told p plan text run w plain is_plain (left_of g c (Show core) (asked_is g c ∙ command) (Some bytes, told))

@@ -1,0 +1,73 @@
+-- A run that was made is a run of the definition.
+use Rattle.std.proofs.Common.{◌≡◌, ◌≤◌, ◌<◌, ◌++◌, ℕ, List, [], ◌∷◌, length, map, refl, sym, ◌∙◌, ap, subst, arith}
+use Rattle.omi_script.specs.declared.program.Program.{Program}
+use Rattle.omi_layout.specs.SymbolTable.{words_of}
+use Rattle.omi_model.specs.declared.event.Event.{Event}
+use Rattle.omi_model.specs.Reached.{Reached}
+use Rattle.omi_model.specs.State.{State}
+use Rattle.omi_rep.specs.Shows.{Shows}
+use Rattle.omi_events.specs.declared.made.Made.{Made}
+use Rattle.omi_core.specs.declared.entry.Entry.{Entry}
+use Rattle.omi_core.specs.declared.stop.End.{End}
+use Rattle.omi_core.specs.Ends.{IsEnded}
+use Rattle.omi_core.specs.Histories.{Counts}
+use Rattle.omi_core.specs.Runs.{Run, events_in}
+use Rattle.omi_core.specs.Schedules.{threads_by}
+use Rattle.omi_core.specs.Steps.{AreStepsOf, events_behind, made_of_steps, threads_of}
+use Rattle.omi_core.proofs.History.{made_length}
+use Rattle.omi_top.specs.declared.plan.Plan.{Plan}
+use Rattle.omi_top.specs.declared.run.Ran.{Ran}
+use Rattle.omi_top.specs.Ran.{IsRanBy}
+use Rattle.omi_top.specs.Run.{IsRun, schedule_of}
+
+kept_threads : (xs : List (ℕ × Entry)) → map (λ (m : Made). m.thread) (made_of_steps xs) ≡ threads_of xs
+kept_threads [] = refl
+kept_threads (x ∷ xs) = ap (λ ns. x.0 ∷ ns) (kept_threads xs)
+
+-- its steps, and what it keeps of them
+pub record MadeRun (w : List ℕ) (p : Program) (plan : Plan) (ran : Ran) : Type 0 where
+  pub entries : List (ℕ × Entry)
+  pub state : State
+  pub run : IsRun w p plan entries ran.why ran.core.words state
+  pub events : ran.core.events.items ≡ events_behind 0 entries
+  pub many : ran.steps ≡ length entries
+  pub some : 0 < length ran.core.words
+
+pub made_run : (p : Program) (plan : Plan) (ran : Ran) (r : IsRanBy p plan ran) → MadeRun r.w p plan ran
+made_run p plan ran r =
+    let last : Run = ran.core in
+    let why : End = ran.why in
+    let (xs, s, h) = r.history in
+    let (added, ends) = r.run in
+    let program : last.program ≡ p = added.program ∙ r.opens.program in
+    let table : last.table ≡ r.w = added.table ∙ r.opens.table in
+    let all : last.made.items ≡ added.made = added.made_are ∙ ap (λ (ms : List Made). ms ++ added.made) r.opens.made in
+    let many : length added.made ≡ length xs = ap length (sym all ∙ h.made_by.made) ∙ made_length xs in
+    let events : added.events ≡ events_behind 0 xs = sym (added.events_are ∙ ap (λ (es : List (ℕ × ℕ × Event)). es ++ added.events) r.opens.events) ∙ h.made_by.events in
+    let steps : AreStepsOf p r.w xs last.words s = subst (λ (q : Program). AreStepsOf q r.w xs last.words s) program (subst (λ t. AreStepsOf last.program t xs last.words s) table h.made_by.steps) in
+    let reached : Reached p (events_in (events_behind 0 xs)) s = subst (λ (es : List (ℕ × ℕ × Event)). Reached p (events_in es) s) h.made_by.events (subst (λ (q : Program). Reached q (events_in last.events.items) s) program h.reached) in
+    let long = h.tables.long in
+    record {
+      entries = xs;
+      state = s;
+      run = record {
+        steps = steps;
+        threads =
+            sym (kept_threads xs)
+            ∙ ap (map (λ (m : Made). m.thread)) (sym (sym all ∙ h.made_by.made))
+            ∙ added.threads
+            ∙ ap (λ (q : Program). threads_by (schedule_of plan.seed) q.threads (length added.made)) r.opens.program
+            ∙ ap (threads_by (schedule_of plan.seed) p.threads) many;
+        few = subst (λ n. n ≤ plan.stop.steps) many added.within;
+        ended =
+            subst (λ (es : List (ℕ × ℕ × Event)). IsEnded plan.stop (length xs) (length xs) es why) events
+            (subst (λ n. IsEnded plan.stop n (length xs) added.events why) many
+            (subst (λ n. IsEnded plan.stop (length added.made) n added.events why) (ap length all ∙ many) ends));
+        reached = reached;
+        shows = subst (λ t. Shows t (words_of last.words) s) table h.shows;
+        counts = subst (λ t. Counts t last.words s) table h.counts;
+      };
+      events = h.made_by.events;
+      many = r.steps ∙ ap length all ∙ many;
+      some = omega (arith, long);
+    }
