@@ -1,12 +1,11 @@
 -- What a command's result and its printing say of the whole call.
 use Rattle.std.proofs.Common.{◌≡◌, ◌⊎◌, inl, inr, ℕ, Bool, true, false, List, Option, Some, None, Ok, Err, refl, sym, ◌∙◌, ap, subst}
 use Rattle.std.specs.Global.{Vec}
-use Rattle.std.specs.Prelude.{Result}
 use Rattle.omi_outside.specs.Outside.{Told, IsPutCut, put_on}
 use Rattle.omi_outside.specs.declared.status.Status.{Status}
 use Rattle.omi_outside.specs.declared.status.Status.TheVariants as status
-use Rattle.omi_top.specs.Command.{Command, Stop, Show, Faulty, written_name}
-use Rattle.omi_top.specs.Answer.{Answer, Gives, AreTold, IsAnswer, IsStopAnswer, IsShowAnswer, IsAnswered, IsLeft, IsSaid}
+use Rattle.omi_top.specs.Command.{Command, Stop, Make, Show, Faulty, written_name}
+use Rattle.omi_top.specs.Answer.{Answer, Gives, AreTold, IsAnswer, IsStopAnswer, IsMakeAnswer, IsShowAnswer, IsAnswered, IsLeft, IsSaid}
 use Rattle.omi_top.specs.declared.plan.Plan.{Plan}
 use Rattle.omi_top.specs.Refusal.{line_of, status_of}
 use Rattle.omi_top.specs.declared.refusal.Refusal.{Refusal}
@@ -39,6 +38,10 @@ show_proper (Some bytes) None r fault (inr (inr (inr (at, cause, is)))) = anothe
 show_proper None (Some core) r fault is = is
 show_proper (Some bytes) (Some core) r fault is = is
 
+make_proper : (n : ℕ) (script : Option (List ℕ)) (r : Refusal) → IsMakeAnswer n (Gives script (Err r)) → ⊥
+make_proper n None r is = is
+make_proper n (Some script) r is = is
+
 -- what the answer to refused words says
 abbrev said_of : Answer → Refusal
 said_of (Gives core (Ok text)) = refusal.Usage
@@ -46,6 +49,7 @@ said_of (Gives core (Err r)) = r
 
 proper : (command : Command) (told : List ℕ → Told) (core : Option (List ℕ)) (r : Refusal) → is_fault r ≡ true → IsAnswer command told (Gives core (Err r)) → ⊥
 proper (Stop plan script written) told core r fault (content, is, answer) = stop_proper plan content core r fault answer
+proper (Make n written) told core r fault is = make_proper n core r is
 proper (Show written) told core r fault (content, is, answer) = show_proper content core r fault answer
 proper Faulty told core r fault is = another r refusal.Usage fault (ap said_of is) refl
 

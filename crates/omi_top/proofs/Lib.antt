@@ -1,11 +1,15 @@
 pub mod Digits
 pub mod ThreadIds
 pub mod EventLines
+pub mod EventCounts
 pub mod PlainCores
 pub mod Running
 pub mod Stopping
+pub mod MadeTexts
+pub mod Making
 pub mod Statuses
 pub mod Left
 pub mod LeftByStop
+pub mod LeftByMake
 pub mod Showing
 pub mod LeftByShow

@@ -25,10 +25,11 @@ use Rattle.omi_top.specs.declared.refusal.Input.{Input}
 use Rattle.omi_top.specs.declared.refusal.Input.TheVariants as input
 use Rattle.omi_top.specs.declared.refusal.Refusal.{Refusal}
 use Rattle.omi_top.specs.declared.refusal.Refusal.TheVariants as refusal
-use Rattle.omi_top.specs.Command.{Command, Stop, Show, Faulty, Reads}
+use Rattle.omi_top.specs.Command.{Command, Stop, Make, Show, Faulty, Reads}
 use Rattle.omi_text.specs.Report.{report}
 use Rattle.omi_top.specs.Cores.{one_thread, IsCoreOf, IsPlainCore, IsOtherImage, IsOtherShape, IsUnreadCore, LacksTable, IsWrongAt}
 use Rattle.omi_top.specs.Lines.{run_text}
+use Rattle.omi_top.specs.Make.{IsMade, make_text}
 use Rattle.omi_top.specs.Refusal.{line_of, status_of}
 use Rattle.omi_top.specs.Run.{IsRun, thread_ids}
 use Rattle.omi_top.specs.declared.plan.Plan.{Plan}
@@ -49,10 +50,10 @@ pub record IsStopped (p : Program) (plan : Plan) (core text : List ℕ) : Type 0
       → IsPlainCore core w words
   pub text_is : text ≡ run_text (events_behind 0 entries) (length entries) end
 
--- The answer to a command: the bytes of the core that it writes, if it writes one, and what it says, a text or a refusal. So a command
+-- The answer to a command: the bytes that it writes to its file, if it writes one, and what it says, a text or a refusal. So a command
 -- can write a core and then refuse what it reads.
 pub data Answer : Type 0 where
-  Gives : (core : Option (List ℕ)) (says : Result (List ℕ) Refusal) → Answer
+  Gives : (written : Option (List ℕ)) (says : Result (List ℕ) Refusal) → Answer
 
 -- why `stop` refuses, by the content of the script's file: there is none, or the grammar refuses its text
 abbrev pub IsStopRefusal : Option (List ℕ) → Refusal → Type 0
@@ -66,6 +67,12 @@ IsStopAnswer plan content (Gives None (Err r)) = IsStopRefusal content r
 IsStopAnswer plan (Some bytes) (Gives (Some core) (Ok text)) =
     (p : Program) × Grammar bytes p × IsStopped p plan core text
 IsStopAnswer plan content answer = ⊥
+
+-- an answer of `make`: its text, which is a program, and the line on a run of this program
+abbrev pub IsMakeAnswer : ℕ → Answer → Type 0
+IsMakeAnswer n (Gives (Some script) (Ok line)) =
+    (script ≡ make_text n) × ((p : Program) × Grammar script p × IsMade n p line)
+IsMakeAnswer n answer = ⊥
 
 -- a file is a core, and none that `show` reads yet
 abbrev pub IsOtherCore : List ℕ → Type 0
@@ -103,6 +110,7 @@ IsShowAnswer content answer = ⊥
 -- the content of each file that a command reads is told
 abbrev pub AreTold : Command → (List ℕ → Told) → Type 0
 AreTold (Stop plan script core) told = (content : Option (List ℕ)) × (told script ≡ Some content)
+AreTold (Make n script) told = ⊤
 AreTold (Show core) told = (content : Option (List ℕ)) × (told core ≡ Some content)
 AreTold Faulty told = ⊤
 
@@ -110,11 +118,12 @@ AreTold Faulty told = ⊤
 abbrev pub IsAnswer : Command → (List ℕ → Told) → Answer → Type 0
 IsAnswer (Stop plan script core) told answer = (content : Option (List ℕ))
     × (told script ≡ Some content) × IsStopAnswer plan content answer
+IsAnswer (Make n script) told answer = IsMakeAnswer n answer
 IsAnswer (Show core) told answer = (content : Option (List ℕ)) × (told core ≡ Some content)
     × IsShowAnswer content answer
 IsAnswer Faulty told answer = answer ≡ Gives None (Err refusal.Usage)
 
--- a fault before anything is written, of a file that the command reads or of memory; and one while the core is written
+-- a fault before anything is written, of a file that the command reads or of memory; and one while its file is written
 abbrev pub IsEarly : Command → Refusal → Type 0
 IsEarly command (refusal.ReadFault read) = Reads command read
 IsEarly command refusal.OutOfMemory = ⊤
@@ -128,14 +137,14 @@ IsLate r = ⊥
 -- the file holds what a command writes; a command that writes nothing leaves it
 abbrev pub Holds : Option (List ℕ) → Told → Told → Type 0
 Holds None old new = new ≡ old
-Holds (Some core) old new = new ≡ holding old core
+Holds (Some bytes) old new = new ≡ holding old bytes
 
--- an answer's core is not written to its end: the file is as before, or holds a front of the core that is not all
+-- an answer's file is not written to its end: it is as before, or holds a front of the bytes that is not all
 abbrev pub IsHalfWritten : Command → (List ℕ → Told) → Told → Told → Type 0
-IsHalfWritten command told old new = (core : List ℕ) × (says : Result (List ℕ) Refusal)
-    × IsAnswer command told (Gives (Some core) says) × IsCut old new core
+IsHalfWritten command told old new = (bytes : List ℕ) × (says : Result (List ℕ) Refusal)
+    × IsAnswer command told (Gives (Some bytes) says) × IsCut old new bytes
 
--- What a command gave, and what it left of the file that it writes: what an answer says and its core; or a fault, before the core or within it.
+-- What a command gave, and what it left of the file that it writes: what an answer says and its bytes; or a fault, before the file or within it.
 abbrev pub IsAnswered : Command → (List ℕ → Told) → Result (Vec ℕ) Refusal → Told → Told → Type 0
 IsAnswered command told (Ok text) old new = (core : Option (List ℕ))
     × IsAnswer command told (Gives core (Ok text.items)) × Holds core old new
@@ -152,14 +161,14 @@ abbrev pub IsSaid : Option (List ℕ) → Type 0 → Option (List ℕ) → Optio
 IsSaid None counted old new = new ≡ old
 IsSaid (Some line) counted old new = (new ≡ put_on old line) ⊎ ((new ≡ old) × counted)
 
--- the file and the output after a fault: an answer's core is not written to its end and nothing put, or the core is whole and a front of the answer's text put, which is not all
+-- the file and the output after a fault: an answer's file is not written to its end and nothing put, or it is whole and a front of the answer's text put, which is not all
 abbrev pub IsPartlyDone : Command → (List ℕ → Told) → Told → Told → Option (List ℕ)
     → Option (List ℕ) → Type 0
 IsPartlyDone command told old new out after = (IsHalfWritten command told old new × (after ≡ out))
     ⊎ ((core : Option (List ℕ)) × (text : List ℕ) × IsAnswer command told (Gives core (Ok text))
     × Holds core old new × IsPutCut text out after)
 
--- an answer says a refusal with this status: its core is written, and the refusal's line is said
+-- an answer says a refusal with this status: its file is written, and the refusal's line is said
 abbrev pub IsRefused : Command → (List ℕ → Told) → Status → Told → Told → Type 0 → Option (List ℕ)
     → Option (List ℕ) → Type 0
 IsRefused command told status old new counted out after =
@@ -206,6 +215,13 @@ abbrev pub IsFaultStatus : Status → Type 0
 IsFaultStatus status.ReadFault = ⊤
 IsFaultStatus status.OutOfMemory = ⊤
 IsFaultStatus other = ⊥
+
+-- all is done, or a write failed or memory ran out
+abbrev pub IsWritingStatus : Status → Type 0
+IsWritingStatus status.Success = ⊤
+IsWritingStatus status.WriteFault = ⊤
+IsWritingStatus status.OutOfMemory = ⊤
+IsWritingStatus other = ⊥
 
 -- a status comes exactly where a fact holds, but for a fault of reading and for want of memory
 abbrev pub ComesWhere : Status → Status → Type 0 → Type 0

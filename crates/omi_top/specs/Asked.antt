@@ -1,7 +1,8 @@
 -- A request of the program as a command.
-use Rattle.std.specs.Prelude.{◌≤◌, ◌+◌, ℕ, length, IfSome, ⊤}
-use Rattle.omi_top.specs.declared.limits.TheConstants.{LINE_ROOM, MOST_LAYOUT}
-use Rattle.omi_top.specs.Command.{Command, Stop, Show, Faulty, input_name}
+use Rattle.std.specs.Prelude.{◌≡◌, ◌≤◌, ◌+◌, ℕ, List, length, IfSome, ⊤}
+use Rattle.omi_top.specs.declared.limits.TheConstants.{LINE_ROOM, MOST_LAYOUT, MOST_NODES}
+use Rattle.omi_top.specs.Command.{Command, Stop, Make, Show, Faulty, input_name}
+use Rattle.omi_top.specs.Make.{make_text}
 use Rattle.omi_top.specs.declared.plan.Plan.{Plan}
 use Rattle.omi_top.specs.declared.refusal.Input.TheVariants as input
 use Rattle.omi_top.specs.declared.command.Request.{Request}
@@ -9,6 +10,7 @@ use Rattle.omi_top.specs.declared.command.Request.TheVariants as request
 
 abbrev pub asked : Request → Command
 asked (request.Stop plan script core) = Stop plan script.now core.now
+asked (request.Make n script) = Make n script.now
 asked (request.Show core) = Show core.now
 asked request.Faulty = Faulty
 
@@ -17,9 +19,19 @@ pub record IsPossible (plan : Plan) : Type 0 where
   pub layout : plan.layout ≤ MOST_LAYOUT
   pub count : IfSome plan.stop.on (λ on. 1 ≤ on.1)
 
+-- N of `make` is in its range
+pub record IsNodes (n : ℕ) : Type 0 where
+  pub least : 1 ≤ n
+  pub most : n ≤ MOST_NODES
+
+-- a text of `make`
+abbrev pub IsMadeText : List ℕ → Type 0
+IsMadeText text = (n : ℕ) × IsNodes n × (text ≡ make_text n)
+
 -- its numbers are in their ranges
 abbrev pub IsBounded : Request → Type 0
 IsBounded (request.Stop plan script core) = IsPossible plan
+IsBounded (request.Make n script) = IsNodes n
 IsBounded (request.Show core) = ⊤
 IsBounded request.Faulty = ⊤
 

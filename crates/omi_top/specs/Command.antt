@@ -3,7 +3,9 @@ use Rattle.std.specs.Prelude.{◌≡◌, ◌||◌, ℕ, Bool, List, [], ◌∷�
 use Rattle.std.specs.declared.alloc.Global.{Global}
 use Rattle.std.specs.Option.{option_map_or}
 use Rattle.omi_line.specs.Line.{split_of}
+use Rattle.omi_line.specs.Number.{number_of}
 use Rattle.omi_line.specs.declared.line.Line.{Line}
+use Rattle.omi_top.specs.declared.limits.TheConstants.{MOST_NODES}
 use Rattle.omi_top.specs.declared.plan.Plan.{Plan}
 use Rattle.omi_top.specs.declared.refusal.Input.{Input}
 use Rattle.omi_top.specs.declared.refusal.Input.TheVariants as input
@@ -12,6 +14,7 @@ use Rattle.omi_top.specs.Plan.{plan_of}
 -- a command of the program, or words that are none
 pub data Command : Type 0 where
   Stop : (plan : Plan) (script core : List ℕ) → Command
+  Make : (n : ℕ) (script : List ℕ) → Command
   Show : (core : List ℕ) → Command
   Faulty : Command
 
@@ -25,6 +28,13 @@ stop_by (steps ∷ script ∷ core ∷ []) line =
     option_map_or (λ plan. Stop plan script core) (plan_of steps line) Faulty
 stop_by names line = Faulty
 
+-- `make N SCRIPT`, with N 1 to 100, without options
+abbrev pub make_by : List (List ℕ) → Line → Command
+make_by (n ∷ script ∷ []) line =
+    if has_option line then Faulty
+    else option_map_or (λ nodes. Make nodes script) (number_of n 1 MOST_NODES) Faulty
+make_by names line = Faulty
+
 -- `show CORE`, without options
 abbrev pub show_by : List (List ℕ) → Line → Command
 show_by (core ∷ []) line = if has_option line then Faulty else Show core
@@ -35,7 +45,8 @@ abbrev pub verb_by : List (List ℕ) → Line → Command
 verb_by [] line = Faulty
 verb_by (verb ∷ names) line =
     if bytes_eq verb (codes "stop") then stop_by names line
-    else (if bytes_eq verb (codes "show") then show_by names line else Faulty)
+    else (if bytes_eq verb (codes "make") then make_by names line
+    else (if bytes_eq verb (codes "show") then show_by names line else Faulty))
 
 -- the command of a line, if words make one: its positional words are a verb and names
 abbrev pub command_by : Option Line → Command
@@ -60,6 +71,8 @@ Reads command read = ⊥
 abbrev pub input_name : Command → Input → List ℕ
 input_name (Stop plan script core) input.Script = script
 input_name (Stop plan script core) input.Core = core
+input_name (Make n script) input.Script = script
+input_name (Make n script) input.Core = []
 input_name (Show core) input.Script = []
 input_name (Show core) input.Core = core
 input_name Faulty named = []
@@ -67,11 +80,13 @@ input_name Faulty named = []
 -- the name of the file that a command writes
 abbrev pub written_name : Command → List ℕ
 written_name (Stop plan script core) = core
+written_name (Make n script) = script
 written_name (Show core) = []
 written_name Faulty = []
 
 -- a command writes the file of this name
 abbrev pub Writes : Command → List ℕ → Type 0
 Writes (Stop plan script core) name = name ≡ core
+Writes (Make n script) name = name ≡ script
 Writes (Show core) name = ⊥
 Writes Faulty name = ⊥

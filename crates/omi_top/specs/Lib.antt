@@ -7,6 +7,7 @@ pub mod Cores
 pub mod Refusal
 pub mod Run
 pub mod Lines
+pub mod Make
 -- What private functions of the code stand on: a request as a command, and room for its lines; and a run that was made
 pub mod Asked
 pub mod Ran

@@ -4,13 +4,14 @@ ghost use Rattle.std.specs.Prelude.{◌≡◌, ◌≤◌, ◌<◌, length, map, 
 ghost use Rattle.std.specs.List.{All};
 ghost use Rattle.std.specs.Str.{IsUtf8};
 ghost use Rattle.omi_line.specs.Line.{IsText, split_of};
-ghost use Rattle.omi_top.specs.Command.{command_by, has_option, input_name as named, show_by, stop_by, verb_by};
+ghost use Rattle.omi_top.specs.Command.{command_by, has_option, input_name as named, make_by, show_by, stop_by, verb_by};
 ghost use Rattle.omi_top.specs.Asked.{asked, IsBounded};
 
+use crate::limits::MOST_NODES;
 use crate::plan::{Plan, plan_of};
 use crate::refusal::Input;
 use crate::word::text_of;
-use omi_line::{Line, LineError, OutOfMemory, Text, split};
+use omi_line::{Line, LineError, OutOfMemory, Text, number, split};
 use std::alloc::{AllocError, Global};
 
 /// What a command line asks for.
@@ -20,6 +21,10 @@ pub enum Request<'a> {
         plan: Plan,
         script: &'a str,
         core: &'a str,
+    },
+    Make {
+        nodes: u8,
+        script: &'a str,
     },
     Show {
         core: &'a str,
@@ -66,6 +71,24 @@ fn stop_by<'a>(names: &'a [Text], line: &Line) -> Request<'a>
     }
 }
 
+/// What `make` is asked for, by the names behind it.
+fn make_by<'a>(names: &'a [Text], line: &Line) -> Request<'a>
+    requires { All IsUtf8 names.now }
+    ensures asked { asked result ≡ make_by names.entry.now line.now }
+    ensures bounded { IsBounded result }
+{
+    let [nodes, script] = names else {
+        return Request::Faulty;
+    };
+    match number(nodes, 1, MOST_NODES) {
+        Some(nodes) if !has_option(line) => Request::Make {
+            nodes: nodes as u8,
+            script: text_of(script),
+        },
+        _ => Request::Faulty,
+    }
+}
+
 /// What `show` is asked for, by the names behind it.
 fn show_by<'a>(names: &'a [Text], line: &Line) -> Request<'a>
     requires { All IsUtf8 names.now }
@@ -91,6 +114,7 @@ fn verb_by(line: &Line) -> Request<'_>
     };
     match text_of(verb) {
         "stop" => stop_by(names, line),
+        "make" => make_by(names, line),
         "show" => show_by(names, line),
         _ => Request::Faulty,
     }
@@ -117,6 +141,10 @@ pub fn input_name(request: Request<'_>, input: Input) -> &str
             Input::Script => script,
             Input::Core => core,
         },
+        Request::Make { script, .. } => match input {
+            Input::Script => script,
+            Input::Core => "",
+        },
         Request::Show { core } => match input {
             Input::Script => "",
             Input::Core => core,
@@ -133,6 +161,7 @@ pub fn longest_name(request: Request<'_>) -> usize
 {
     match request {
         Request::Stop { script, core, .. } => script.len().max(core.len()),
+        Request::Make { script, .. } => script.len(),
         Request::Show { core } => core.len(),
         Request::Faulty => 0,
     }

@@ -5,6 +5,7 @@ mod command;
 mod limits;
 mod lines;
 mod load;
+mod make;
 mod plan;
 mod refusal;
 mod refusal_line;

@@ -15,6 +15,9 @@ pub const MOST_COUNT: u64 = 1_000_000;
 /// The greatest number of a family of layouts.
 pub const MOST_LAYOUT: u64 = 15;
 
+/// The most times that a workload of `make` repeats its pair of tasks.
+pub const MOST_NODES: u64 = 100;
+
 /// The most bytes that are read of a script: one more than a script may have.
 pub const SCRIPT_FRONT: u64 = MAX_BYTES as u64 + 1;
 

@@ -22,7 +22,7 @@ fn push_lines(text: &mut String, events: &EventList) -> Result<(), AllocError>
 }
 
 /// The word for why a run ended.
-fn word_of(why: End) -> &'static str
+pub fn word_of(why: End) -> &'static str
     ensures { result.now ≡ end_word why }
 {
     match why {

@@ -8,10 +8,11 @@ ghost use Rattle.omi_corefile.specs.declared.fault.CoreFault.{CoreFault};
 ghost use Rattle.omi_script.specs.Grammar.{Grammar, Refused as RefusedScript};
 ghost use Rattle.omi_script.specs.declared.fault.ScriptFault.{ScriptFault};
 ghost use Rattle.omi_script.specs.declared.program.Program.{Program};
-ghost use Rattle.omi_top.specs.Command.{Command, Stop, Show, Faulty, command_in, written_name, Writes};
+ghost use Rattle.omi_top.specs.Command.{Command, Stop, Make, Show, Faulty, command_in, written_name, Writes};
 ghost use Rattle.omi_top.specs.declared.plan.Plan.{Plan};
 ghost use Rattle.omi_top.specs.Asked.{asked, HasRoom, IsBounded};
-ghost use Rattle.omi_top.specs.Answer.{AreTold, IsAnswered, IsOtherCore, IsIncompatibleCore, IsDamagedCore, IsStopped, IsSaid, IsCounted, IsLeft, IsUnwritten, ComesWhere, IsShownAgain, IsOfCore};
+ghost use Rattle.omi_top.specs.Answer.{AreTold, IsAnswered, IsOtherCore, IsIncompatibleCore, IsDamagedCore, IsStopped, IsSaid, IsCounted, IsLeft, IsUnwritten, ComesWhere, IsShownAgain, IsWritingStatus, IsOfCore};
+ghost use Rattle.omi_top.specs.Make.{IsMade, make_text};
 ghost use Rattle.omi_top.specs.Cores.{one_thread, IsPlainCore};
 ghost use Rattle.omi_rep.specs.LookView.{look_view};
 ghost use Rattle.omi_layout.specs.SymbolTable.{words_of};
@@ -24,6 +25,7 @@ ghost use Rattle.omi_text.specs.Report.{report as report_of};
 
 use crate::Refusal;
 use crate::command::{Request, line_in, request_of};
+use crate::make::make;
 use crate::refusal_line::{line_of, room_for};
 use crate::show::show;
 use crate::stop::stop;
@@ -60,6 +62,7 @@ fn perform<F: Files, W: Files>(
 {
     match request {
         Request::Stop { plan, script, core } => stop(alloc, plan, script, core, files, dest),
+        Request::Make { nodes, script } => make(alloc, nodes, script, dest),
         Request::Show { core } => show(alloc, core, files),
         Request::Faulty => Err(Refusal::Usage),
     }
@@ -201,8 +204,9 @@ fn carry_out<F: Files, W: Files, K: Sink>(
 
 /// All that the program does with the words behind its name: `stop STEPS SCRIPT CORE` runs the
 /// program of a script for at most STEPS steps, writes its core and prints its events, where options
-/// say which threads make the steps, at which event they stop and in which layout; `show CORE`
-/// prints the report of a core. It reads from `files` alone, writes to `dest` alone and prints to
+/// say which threads make the steps, at which event they stop and in which layout; `make N SCRIPT`
+/// writes a workload, runs it and prints how many tasks started; `show CORE` prints the report of a
+/// core. It reads from `files` alone, writes to `dest` alone and prints to
 /// `out`.
 pub fn run_top<F: Files, W: Files, K: Sink>(
     alloc: Global,
@@ -246,6 +250,17 @@ pub fn run_top<F: Files, W: Files, K: Sink>(
         × IsStopped p plan written text
         × (W.told dest.new core ≡ holding (W.told dest.old core) written)
         × (K.told out.new ≡ put_on (K.told out.old) text) }
+
+    // With success of `make` the script holds its text, which is a program, and what is put is the
+    // line on a run of this program. It is refused nothing, and ends otherwise only where a write
+    // fails or memory runs out.
+    ensures made { (n : ℕ) (script : List ℕ)
+        → command_in words.now ≡ Make n script → result ≡ Status.Success
+        → (p : Program) × (line : List ℕ) × Grammar (make_text n) p × IsMade n p line
+        × (W.told dest.new script ≡ holding (W.told dest.old script) (make_text n))
+        × (K.told out.new ≡ put_on (K.told out.old) line) }
+    ensures makes { (n : ℕ) (script : List ℕ)
+        → command_in words.now ≡ Make n script → IsWritingStatus result }
 
     // The same of the core's file, for `show`: there is none, the grammar of core files refuses
     // it, it is a core that is not plain, no layout table of this version is found in its words, or

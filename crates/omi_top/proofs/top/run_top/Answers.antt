@@ -1,9 +1,10 @@
 use Rattle.std.proofs.Common.{◌≡◌, ◌∙◌, ap, Some}
 use Rattle.omi_top.specs.Asked.{asked}
 use Rattle.omi_top.specs.Answer.{AreTold, IsCounted, IsLeft}
-use Rattle.omi_top.specs.Command.{Command, Stop, Show, command_by, command_in, written_name}
+use Rattle.omi_top.specs.Command.{Command, Stop, Make, Show, command_by, command_in, written_name}
 use Rattle.omi_top.proofs.Left.{left_by}
 use Rattle.omi_top.proofs.LeftByShow.{no_file as no_core, core_refused, other_core, incompatible, damaged, report_put, shown_again}
+use Rattle.omi_top.proofs.LeftByMake.{success as made, writing}
 use Rattle.omi_top.proofs.LeftByStop.{no_file, script_refused, success}
 use Rattle.omi_top.proofs.top.run_top.Given as given
 use Rattle.omi_top.proofs.top.run_top.Goals as goal
@@ -35,6 +36,12 @@ returns-in-Ok-clause-script g c = λ plan name core bytes command told. script_r
 
 pub returns-in-Ok-clause-success : goal.returns-in-Ok-clause-success
 returns-in-Ok-clause-success g c = λ plan name core bytes command told done. success plan name core (g.F.Files.told c.args.files.now) _ _ _ _ _ _ bytes told done (left_of g c (Stop plan name core) (asked_is g c ∙ command) (Some bytes, told))
+
+pub returns-in-Ok-clause-made : goal.returns-in-Ok-clause-made
+returns-in-Ok-clause-made g c = λ n name command done. made n name (g.F.Files.told c.args.files.now) _ _ _ _ _ _ done (left_of g c (Make n name) (asked_is g c ∙ command) tt)
+
+pub returns-in-Ok-clause-makes : goal.returns-in-Ok-clause-makes
+returns-in-Ok-clause-makes g c = λ n name command. writing n name (g.F.Files.told c.args.files.now) _ _ _ _ _ _ (left_of g c (Make n name) (asked_is g c ∙ command) tt)
 
 pub returns-in-Ok-clause-no_core : goal.returns-in-Ok-clause-no_core
 returns-in-Ok-clause-no_core g c = λ core content command told. no_core core (g.F.Files.told c.args.files.now) _ _ _ _ _ _ content told (left_of g c (Show core) (asked_is g c ∙ command) (content, told))

@@ -1,0 +1,52 @@
+-- The exits of `make`: what each result is an answer to.
+use Rattle.std.proofs.Common.{◌≡◌, inl, inr, ℕ, List, Some, Ok, Err, refl, sym, ◌∙◌, ap, subst}
+use Rattle.std.specs.Global.{Vec}
+use Rattle.omi_outside.specs.Outside.{Told, holding, IsCut}
+use Rattle.omi_outside.specs.declared.files.Refused.{Refused as RefusedWrite}
+use Rattle.omi_script.specs.Grammar.{Grammar}
+use Rattle.omi_script.specs.declared.program.Program.{Program}
+use Rattle.omi_model.specs.declared.event.Event.{Event}
+use Rattle.omi_core.specs.declared.stop.Break.TheVariants.{TaskBegin}
+use Rattle.omi_core.specs.Ends.{count_of}
+use Rattle.omi_top.specs.Answer.{Gives, IsAnswer, IsAnswered}
+use Rattle.omi_top.specs.Command.{Make}
+use Rattle.omi_top.specs.Make.{IsMade, made_line, make_plan, make_text}
+use Rattle.omi_top.specs.declared.run.Ran.{Ran}
+use Rattle.omi_top.specs.Ran.{IsRanBy}
+use Rattle.omi_top.specs.Refusal.{refusal_of_write}
+use Rattle.omi_top.specs.declared.refusal.Refusal.TheVariants as refusal
+use Rattle.omi_top.proofs.Running.{made_run}
+use Rattle.omi_top.proofs.Stopping.{late}
+
+-- a run that was made, and its line
+pub made : (n : ℕ) (p : Program) (ran : Ran) (line : List ℕ) → IsRanBy p make_plan ran → line ≡ made_line n (count_of TaskBegin ran.core.events.items) ran.why
+    → IsMade n p line
+made n p ran line by is =
+    let run = made_run p make_plan ran by in
+    record {
+      w = by.w;
+      family = by.family;
+      entries = run.entries;
+      end = ran.why;
+      words = ran.core.words;
+      state = run.state;
+      run = run.run;
+      line_is = is ∙ ap (λ (es : List (ℕ × ℕ × Event)). made_line n (count_of TaskBegin es) ran.why) run.events;
+    }
+
+module _ (n : ℕ) (script : List ℕ) (told : List ℕ → Told) where
+  -- memory ran out before anything was written
+  pub no_memory : (old : Told) → IsAnswered (Make n script) told (Err refusal.OutOfMemory) old old
+  no_memory old = inr (inl (tt, refl))
+
+  module _ (text line : List ℕ) (is : text ≡ make_text n) (tells : (p : Program) × Grammar text p × IsMade n p line) where
+    answer : IsAnswer (Make n script) told (Gives (Some text) (Ok line))
+    answer = (is, tells)
+
+    -- the text is partly written
+    pub partly_answered : (r : RefusedWrite) (old new : Told) → IsCut old new text → IsAnswered (Make n script) told (Err (refusal_of_write r)) old new
+    partly_answered r old new cut = inr (inr (late r, (text, Ok line, answer, cut)))
+
+    -- the text is written, and the line is handed up
+    pub done_answered : (v : Vec ℕ) (old new : Told) → v.items ≡ line → new ≡ holding old text → IsAnswered (Make n script) told (Ok v) old new
+    done_answered v old new same held = (Some text, subst (λ (x : List ℕ). IsAnswer (Make n script) told (Gives (Some text) (Ok x))) (sym same) answer, held)
