@@ -1,8 +1,12 @@
-//! Tests of omi_top: whole runs of `stop` and `show` through the top call.
+//! Tests of omi_top: whole runs of `stop`, `make` and `show` through the top call.
 #![tactic(auto)]
 
 #[cfg(test)]
 mod layout_tests;
+#[cfg(test)]
+mod make_tests;
+#[cfg(test)]
+mod option_tests;
 #[cfg(test)]
 mod show_tests;
 #[cfg(test)]

@@ -7,7 +7,7 @@ use std::process::Abort;
 use std::test::Fail;
 
 /// A team of two, of which the other member works as well.
-const TEAM: &str = "threads 2
+pub const TEAM: &str = "threads 2
 func f
 work
 end
