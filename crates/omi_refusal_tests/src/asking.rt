@@ -133,10 +133,10 @@ pub fn refusal<F: ToHost>(
     inquiry: Inquiry,
     h: Three,
 ) -> Result<Option<Rc>, Rc> {
-    few(s)?;
     if let Some(refusal) = refusal_of_word(s, inquiry, h) {
         return Ok(refusal);
     }
+    few(s)?;
     Ok(match inquiry {
         Inquiry::CurrentTask => get_curr_task_handle(s, h.thread).err(),
         Inquiry::Generating => get_generating_task_handle(s, h.task).err(),

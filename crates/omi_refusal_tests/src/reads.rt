@@ -100,11 +100,24 @@ fn each_read_fails_in_turn_by<F: ToHost + Copy>(
 {
     let words = forked(alloc, 0)?;
     for at in 0..COUNT {
-        for read in 1..READS[at] + 1 {
-            let refused = twice(alloc, &words, EACH[at], GOING_ON + read, to_host)?;
+        let past = READS[at].wrapping_add(1);
+        for read in 1..past {
+            let refused = twice(
+                alloc,
+                &words,
+                EACH[at],
+                GOING_ON.wrapping_add(read),
+                to_host,
+            )?;
             assert_eq!(rt; refused, [FAILED, None]);
         }
-        let refused = twice(alloc, &words, EACH[at], GOING_ON + READS[at] + 1, to_host)?;
+        let refused = twice(
+            alloc,
+            &words,
+            EACH[at],
+            GOING_ON.wrapping_add(past),
+            to_host,
+        )?;
         assert_eq!(rt; refused, [None, FAILED]);
     }
     Ok(())
