@@ -100,24 +100,12 @@ fn each_read_fails_in_turn_by<F: ToHost + Copy>(
 {
     let words = forked(alloc, 0)?;
     for at in 0..COUNT {
-        let past = READS[at].wrapping_add(1);
-        for read in 1..past {
-            let refused = twice(
-                alloc,
-                &words,
-                EACH[at],
-                GOING_ON.wrapping_add(read),
-                to_host,
-            )?;
+        let past = GOING_ON.wrapping_add(READS[at]).wrapping_add(1);
+        for failing in GOING_ON + 1..past {
+            let refused = twice(alloc, &words, EACH[at], failing, to_host)?;
             assert_eq!(rt; refused, [FAILED, None]);
         }
-        let refused = twice(
-            alloc,
-            &words,
-            EACH[at],
-            GOING_ON.wrapping_add(past),
-            to_host,
-        )?;
+        let refused = twice(alloc, &words, EACH[at], past, to_host)?;
         assert_eq!(rt; refused, [None, FAILED]);
     }
     Ok(())
