@@ -23,9 +23,7 @@ use Rattle.omi_layout.specs.Frame.{IsOnWord}
 use Rattle.omi_layout.specs.Given.{HasTables}
 use Rattle.omi_layout.specs.Memory.{Memory, memory_of, put}
 use Rattle.omi_layout.specs.Named.{number}
-use Rattle.omi_layout.specs.Place.{fits, image_words}
-use Rattle.omi_layout.specs.Valid.{IsValid}
-use Rattle.omi_rep.specs.Suits.{Suits}
+use Rattle.omi_layout.specs.Place.{fits}
 use Rattle.omi_layout.specs.SymbolTable.{words_of}
 use Rattle.omi_layout.proofs.Stored.{on_word}
 use Rattle.omi_pc.specs.declared.actor.Actor.{Actor}

@@ -1,5 +1,4 @@
 use Rattle.std.proofs.Common.{refl}
-use Rattle.omi_core.specs.Runs.{Run}
 use Rattle.omi_core.proofs.Stepping.{other_room}
 use Rattle.omi_core.proofs.run.Core.reserve.Goals as goal
 
