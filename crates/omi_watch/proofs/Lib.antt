@@ -1,3 +1,4 @@
+pub mod Cases
 pub mod Quiets
 pub mod Resting
 pub mod Parts

@@ -40,6 +40,7 @@ use Rattle.omi_control.proofs.team.Loads.{variable_word}
 use Rattle.omi_watch.specs.Demands.{MayOweTask}
 use Rattle.omi_watch.specs.Given.{IsLookGiven, IsSearchGiven, own_life, region_found, task_found}
 use Rattle.omi_watch.specs.Watch.{Watch, no_look}
+use Rattle.omi_watch.proofs.Cases.{one_of}
 use Rattle.omi_watch.proofs.OwedRecords.{tasks_owed}
 use Rattle.omi_watch.proofs.Parts.{IsCalm, KeepsParts, PartsKeep, calm_at, either_none, ended_parts, event_parts, event_rests, quiet_rests, waits_rests}
 use Rattle.omi_watch.proofs.Resting.{Rests, rests_plain, rests_returned, rests_settled, rests_task, rests_worked, rests_working}
@@ -60,8 +61,7 @@ module _ (p : Program) (w : List ℕ) (m : Memory) (events : List (ℕ × Event)
   rests_making c no_region no_task = record { region = no_region; task = no_task; look = λ a h. tt }
 
   rests_two : (b : Bool) (c d : TaskCounter) → Rests (counter.Task c) → Rests (counter.Task d) → Rests (counter.Task (if b then c else d))
-  rests_two true c d one other = one
-  rests_two false c d one other = other
+  rests_two b c d one other = one_of (λ (x : TaskCounter). Rests (counter.Task x)) b c d one other
 
   rests_raised : (place : Option ℕ) (t : Tid) → Rests (counter.Task (behind_raises place t))
   rests_raised None t = rests_making (task.StartNow t) refl refl

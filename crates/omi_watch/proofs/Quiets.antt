@@ -58,6 +58,7 @@ use Rattle.omi_watch.specs.Demands.{most_in_row}
 use Rattle.omi_watch.specs.Given.{at_look, carried, finish_quiet, making_quiet, most_quiet, team_quiet}
 use Rattle.omi_watch.specs.Watch.{quiet_after}
 use Rattle.omi_watch.specs.WatchLaws.{QuietStepsAreFew}
+use Rattle.omi_watch.proofs.Cases.{one_of, paired}
 
 -- ---- moves between statements
 
@@ -123,8 +124,7 @@ carried_working t p a starts = go p.env.debug
 
 -- a quiet step, or one behind which nothing is counted
 either : (t q : ℕ) (b : Bool) (x y : Actor) (o r : Outcome) → quiet_after o q ≤ most_quiet t x.counter → quiet_after r q ≤ most_quiet t y.counter → quiet_after (if b then o else r) q ≤ most_quiet t (if b then x else y).counter
-either t q true x y o r one other = one
-either t q false x y o r one other = other
+either t q b x y o r one other = paired (λ (out : Outcome) (z : Actor). quiet_after out q ≤ most_quiet t z.counter) b o r x y one other
 
 -- ---- the families
 
@@ -150,13 +150,11 @@ quiet_worker p w a worker.IdleState old q few = omega arith
 
 -- the counter behind a word of a fill, or behind the last one
 filled_to : (t q : ℕ) (b : Bool) (x y : TeamCounter) → q ≤ team_quiet t x → q ≤ team_quiet t y → q ≤ team_quiet t (if b then x else y)
-filled_to t q true x y one other = one
-filled_to t q false x y one other = other
+filled_to t q b x y one other = one_of (λ (c : TeamCounter). q ≤ team_quiet t c) b x y one other
 
 -- and behind a life word that was looked at
 searched_to : (t q : ℕ) (b : Bool) (waits : Outcome) (x y : TeamCounter) → quiet_after waits q ≡ 0 → q + 1 ≤ team_quiet t x → quiet_after (if b then outcome.Quiet else waits) q ≤ team_quiet t (if b then x else y)
-searched_to t q true waits x y none few = few
-searched_to t q false waits x y none few = omega (arith, none)
+searched_to t q b waits x y none few = paired (λ (out : Outcome) (c : TeamCounter). quiet_after out q ≤ team_quiet t c) b outcome.Quiet waits x y few (omega (arith, none))
 
 quiet_assigning : (p : Program) (member : ℕ) (a : Actor) (q : ℕ) → IsAtStart IsMaster a.stack → q ≤ member → q ≤ carried p.threads → q ≤ most_quiet p.threads (assigning_from p member a).counter
 quiet_assigning p member a q starts few most = go (nat_lt member (team_size a))
@@ -203,12 +201,10 @@ quiet_join p w a (join.FreeTask r size member t) old q kept few = absurd kept
 quiet_join p w a (join.FreeRegion r size) old q kept few = absurd kept
 
 made_to : (q : ℕ) (b : Bool) (x y : TaskCounter) → q ≤ making_quiet x → q ≤ making_quiet y → q ≤ making_quiet (if b then x else y)
-made_to q true x y one other = one
-made_to q false x y one other = other
+made_to q b x y one other = one_of (λ (c : TaskCounter). q ≤ making_quiet c) b x y one other
 
 made_from : (q : ℕ) (b : Bool) (other : Outcome) (x y : TaskCounter) → quiet_after other q ≡ 0 → q + 1 ≤ making_quiet x → quiet_after (if b then outcome.Quiet else other) q ≤ making_quiet (if b then x else y)
-made_from q true other x y none few = few
-made_from q false other x y none few = omega (arith, none)
+made_from q b other x y none few = paired (λ (out : Outcome) (c : TaskCounter). quiet_after out q ≤ making_quiet c) b outcome.Quiet other x y few (omega (arith, none))
 
 quiet_making : (p : Program) (w : List ℕ) (a : Actor) (c : TaskCounter) (old q : ℕ) → FitsTask p a c → IsTaskKept c → q ≤ making_quiet c → quiet_after (making_outcome w a c old) q ≤ most_quiet p.threads (making_moved p w a c old).counter
 quiet_making p w a (task.LoadSlot place) old q fits kept few =
@@ -264,8 +260,7 @@ quiet_on p a v n row q within all few = go (nat_lt (n + 1) (slots_of a))
 
 -- one of two counters behind a quiet step
 quietly : (t q : ℕ) (b : Bool) (x y : Actor) → q ≤ most_quiet t x.counter → q ≤ most_quiet t y.counter → q ≤ most_quiet t (if b then x else y).counter
-quietly t q true x y one other = one
-quietly t q false x y one other = other
+quietly t q b x y one other = one_of (λ (z : Actor). q ≤ most_quiet t z.counter) b x y one other
 
 quiet_code : (t : ℕ) (v : Wait) (n : ℕ) (row : Place) (code q : ℕ) → q ≤ at_look t n + 1 → q + 1 ≤ most_quiet t (counter.Look (behind_code v n row code))
 quiet_code t (wait.Barrier b) n row code q few = omega (arith, few)
@@ -323,8 +318,7 @@ quiet_finish p w a (finish.LoadLife v generating next) old q kept few = absurd k
 quiet_finish p w a (finish.SubtractGenerating v generating explicit) old q kept few = absurd kept
 
 not_quiet : (q : ℕ) (b : Bool) (x y : Outcome) → quiet_after x q ≡ 0 → quiet_after y q ≡ 0 → quiet_after (if b then x else y) q ≡ 0
-not_quiet q true x y one other = one
-not_quiet q false x y one other = other
+not_quiet q b x y one other = one_of (λ (out : Outcome). quiet_after out q ≡ 0) b x y one other
 
 -- no plain step is quiet
 quiet_plain : (p : Program) (w : List ℕ) (a : Actor) (c : PlainCounter) (old q : ℕ) → quiet_after (plain_outcome p w a c old) q ≡ 0

@@ -21,6 +21,7 @@ use Rattle.omi_pc.specs.Settle.{begun, calling, ended, goes_to, settled, settled
 use Rattle.omi_plain.specs.PlainSteps.{task_counter}
 use Rattle.omi_watch.specs.Given.{IsLookGiven, region_found, task_found}
 use Rattle.omi_watch.specs.Watch.{Look}
+use Rattle.omi_watch.proofs.Cases.{one_of}
 
 -- nothing was found here, and nothing is said of a look
 pub record Rests (c : Counter) : Type 0 where
@@ -38,13 +39,8 @@ pub rests_join : (c : JoinCounter) → Rests (counter.Join c)
 rests_join c = record { region = refl; task = refl; look = λ a h. tt }
 
 -- one of two
-pub rests_either : (b : Bool) (x y : Counter) → Rests x → Rests y → Rests (if b then x else y)
-rests_either true x y one other = one
-rests_either false x y one other = other
-
 pub rests_actor : (b : Bool) (x y : Actor) → Rests x.counter → Rests y.counter → Rests (if b then x else y).counter
-rests_actor true x y one other = one
-rests_actor false x y one other = other
+rests_actor b x y one other = one_of (λ (z : Actor). Rests z.counter) b x y one other
 
 -- ---- moves between statements
 

@@ -34,6 +34,7 @@ use Rattle.omi_control.proofs.team.Within.{context_placed, fits, owes, placed, r
 use Rattle.omi_watch.specs.Demands.{MayOweRegion, MayOweTask}
 use Rattle.omi_watch.specs.Given.{IsSearchGiven, own_life, region_found, task_found}
 use Rattle.omi_watch.specs.Watch.{Watch, finds}
+use Rattle.omi_watch.proofs.Cases.{one_of}
 use Rattle.omi_watch.proofs.OwedRecords.{first_few, no_region_owed, tasks_owed}
 use Rattle.omi_watch.proofs.Parts.{IsCalm, KeepsParts, PartsKeep, calm_at, either_none, event_rests, quiet_rests}
 use Rattle.omi_watch.proofs.Resting.{Rests, rests_actor, rests_working}
@@ -79,8 +80,7 @@ module _ (p : Program) (w : List ℕ) (m : Memory) (events : List (ℕ × Event)
   rests_assigning member b now = rests_actor (nat_lt member (team_size b)) (to_team (team.Assign member) b) (working p b) (rests_team (team.Assign member) refl refl) (rests_working p b (λ none. now))
 
   rests_two : (b : Bool) (c d : TeamCounter) → Rests (counter.Team c) → Rests (counter.Team d) → Rests (counter.Team (if b then c else d))
-  rests_two true c d one other = one
-  rests_two false c d one other = other
+  rests_two b c d one other = one_of (λ (x : TeamCounter). Rests (counter.Team x)) b c d one other
 
   -- ---- the searches
 
