@@ -26,8 +26,8 @@ pub struct Value {
     pub numbers: Numbers,
 }
 
-/// The value of a control variable.
-fn icv_value<C: Callbacks, F: ToHost>(
+/// The value of a control variable as it stands: its numbers, and how they are spelled. A part of inquiries that other crates can use.
+pub fn icv_value<C: Callbacks, F: ToHost>(
     s: &mut Session<C, F>,
     of: Scoped,
     icv: u32,
