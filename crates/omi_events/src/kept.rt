@@ -57,6 +57,7 @@ pub struct EventRow {
 }
 
 const _: () = prove!(size_of::<EventRow>() <= 40);
+
 const _: () = prove!(size_of::<(Tid, u8)>() <= 12);
 
 /// What is kept of an event whose team is put behind the first `first` members.
