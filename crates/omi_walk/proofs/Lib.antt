@@ -1,0 +1,11 @@
+pub mod Names
+pub mod Looked
+pub mod Steps
+pub mod MemberLooks
+pub mod WordLooks
+pub mod ThreadLooks
+pub mod Lent
+pub mod NumberLooks
+pub mod Chained
+pub mod TaskLooks
+pub mod TaskChained

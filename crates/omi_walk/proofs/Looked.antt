@@ -1,0 +1,311 @@
+-- What an inquiry on a handle answers is a plain look at the record of the handle's object.
+use Rattle.std.proofs.Common.{◌≡◌, ◌≢◌, ◌==◌, arith, ℕ, Bool, true, false, cond, List, Option, Some, None, refl, sym, ap, subst, ◌∙◌, eq-eqb}
+use Rattle.std.specs.Prelude.{Result, Ok, Err, is_some}
+use Rattle.std.specs.Option.{option_and_then, ok_or}
+use Rattle.std.specs.FinMap.{get, remove}
+use Rattle.omi_calls.specs.Kept.{Kept}
+use Rattle.omi_calls.specs.Told.{Told, Words}
+use Rattle.omi_handle.specs.declared.handle.Kind.{Kind}
+use Rattle.omi_handle.specs.declared.handle.Held.{Held}
+use Rattle.omi_handle.specs.Ledger.{Ledger}
+use Rattle.omi_model.specs.declared.id.Id.{Id}
+use Rattle.omi_layout.specs.declared.field.Field.{Field}
+use Rattle.omi_layout.specs.Named.{number}
+use Rattle.omi_rep.specs.declared.fault.LookFault.{LookFault}
+use Rattle.omi_rep.specs.declared.fault.LookFault.TheVariants as look
+use Rattle.omi_rep.specs.Look.{Look, address_of, look_word, look_object, look_optional, slot_at, life_of, is_live}
+use Rattle.omi_session.specs.declared.rc.Rc.{Rc}
+use Rattle.omi_session.specs.declared.rc.Rc.TheVariants.{Unavailable, StaleHandle, BadInput, Error, Unsupported, NeedsStateTracking, Incompatible, NoMem, Incomplete, CallbackError}
+use Rattle.omi_session.specs.Handles.{name_of}
+use Rattle.omi_session.specs.Inquiry.{object, object_of, live_handle, unchanged, place_of, word_of, lead, follow, follow_some}
+use Rattle.omi_session.specs.Looked.{IsLook, IsOf, IsOptional, IsFault}
+use Rattle.omi_session.specs.Made.{IsMade, Answered, Makes}
+use Rattle.omi_session.specs.Named.{record_kind, IsNamed}
+use Rattle.omi_session.specs.Opened.{Opened, Stays}
+use Rattle.omi_session.specs.Reads.{Reads, Answer, Read, answer_on, after, then_reads}
+use Rattle.omi_session.specs.Tells.{Tells}
+use Rattle.omi_session.proofs.LookedLaws.{word_is_looked, object_is_looked, optional_is_looked}
+use Rattle.omi_session.proofs.Asked.{answer_then}
+use Rattle.omi_session.proofs.ShownParts.{then_answered, unchanged_told}
+use Rattle.omi_session.proofs.Told.{still_tells}
+use Rattle.omi_walk.specs.declared.met.Met.{Met}
+use Rattle.omi_walk.specs.Fault.{fault_of, walked, absent}
+use Rattle.omi_walk.specs.Leaves.{Leaves}
+use Rattle.omi_walk.specs.Gives.{Gives}
+use Rattle.omi_walk.specs.Objects.{IsMet, Stands, names_met}
+use Rattle.omi_walk.proofs.Names.{named_address, restored}
+
+-- ---- faults
+
+-- a refusal that is a look's fault is that fault to a walk
+pub fault_gives : (A : Type 0) (found : Option Held) (rc : Rc) (fault : LookFault) → IsFault rc fault → Gives {A = A} (Err (fault_of found rc)) (Err fault)
+fault_gives A found rc (look.Cycle addr) is = absurd is
+fault_gives A found rc (look.Damaged addr field) is = subst (λ c. Gives {A = A} (Err (fault_of found c)) (Err (look.Damaged addr field))) (sym is) refl
+
+-- the answer of an inquiry for a value
+pub value_gives : {A : Type 0} (found : Option Held) (result answer : Result A Rc) (l : Look A) → (result ≢ Err CallbackError → result ≡ answer)
+    → IsLook {A = A} {B = A} (λ x y. x ≡ y) answer l → Gives (walked found result) l
+value_gives {A} found result answer l is looked = go result answer l is looked
+  where
+    ok : (x : A) (answer : Result A Rc) (l : Look A) → Ok x ≡ answer → IsLook {A = A} {B = A} (λ x y. x ≡ y) answer l → l ≡ Ok x
+    ok x (Ok y) (Ok z) is same = let first : x ≡ y = cc in ap Ok (sym (first ∙ same))
+    ok x (Ok y) (Err fault) is same = absurd same
+    ok x (Err rc) l is same = absurd (cc)
+
+    err : (rc : Rc) (answer : Result A Rc) (l : Look A) → Err rc ≡ answer → IsLook {A = A} {B = A} (λ x y. x ≡ y) answer l → Gives (Err (fault_of found rc)) l
+    err rc (Ok y) l is same = absurd (cc)
+    err rc (Err why) (Ok z) is same = absurd same
+    err rc (Err why) (Err fault) is same =
+        let one : rc ≡ why = cc in fault_gives A found rc fault (subst (λ c. IsFault c fault) (sym one) same)
+
+    go : (result answer : Result A Rc) (l : Look A) → (result ≢ Err CallbackError → result ≡ answer)
+        → IsLook {A = A} {B = A} (λ x y. x ≡ y) answer l → Gives (walked found result) l
+    go (Ok x) answer l is looked = ok x answer l (is (λ e. cc)) looked
+    go (Err CallbackError) answer l is looked = tt
+    go (Err Unavailable) answer l is looked = err Unavailable answer l (is (λ e. cc)) looked
+    go (Err StaleHandle) answer l is looked = err StaleHandle answer l (is (λ e. cc)) looked
+    go (Err BadInput) answer l is looked = err BadInput answer l (is (λ e. cc)) looked
+    go (Err (Error addr field)) answer l is looked = err (Error addr field) answer l (is (λ e. cc)) looked
+    go (Err Unsupported) answer l is looked = err Unsupported answer l (is (λ e. cc)) looked
+    go (Err NeedsStateTracking) answer l is looked = err NeedsStateTracking answer l (is (λ e. cc)) looked
+    go (Err Incompatible) answer l is looked = err Incompatible answer l (is (λ e. cc)) looked
+    go (Err NoMem) answer l is looked = err NoMem answer l (is (λ e. cc)) looked
+    go (Err (Incomplete first)) answer l is looked = err (Incomplete first) answer l (is (λ e. cc)) looked
+
+-- ---- handles
+
+module _ {C F : Type 0} (told : C → Told) (s : Opened C F) (kind : Kind) (pair : ℕ × ℕ) (n : Id) (st : Stands told s kind pair n) where
+  -- the record of the object is the one that its name has
+  pub stands_at : st.object.addr ≡ address_of s.layout (record_kind kind) n
+  stands_at =
+      named_address s.layout st.object n st.met.name
+      ∙ ap (λ k. address_of s.layout (record_kind k) n) st.met.of_kind
+
+  module _ (memory : Words) (t : Tells (told s.table.calls) memory) where
+    -- the object of the handle is found
+    pub object_answers : answer_on memory (object_of s.layout kind (get s.handles.held pair)) ≡ Ok st.object
+    unfolding object_of
+    object_answers =
+        then_answered memory (Answer (live_handle kind (get s.handles.held pair))) (unchanged s.layout) st.object
+        (ap (live_handle kind) st.is ∙ ap (λ (b : Bool). cond b (Ok st.object) (Err BadInput)) (eq-eqb _ _ (ap record_kind st.met.of_kind)))
+        ∙ st.met.lives memory t
+
+    pub after_object : {A : Type 0} (more : Held → Reads A)
+        → answer_on memory (then_reads (object_of s.layout kind (get s.handles.held pair)) more) ≡ answer_on memory (more st.object)
+    after_object more = then_answered memory (object_of s.layout kind (get s.handles.held pair)) more st.object object_answers
+
+    -- an inquiry for a word of its record
+    pub word_looked : (f : Field) (at : ℕ)
+        → IsLook {A = ℕ} {B = ℕ} (λ x y. x ≡ y) (answer_on memory (then_reads (object_of s.layout kind (get s.handles.held pair)) (λ o. word_of s.layout o.addr f at)))
+        (look_word s.layout memory (address_of s.layout (record_kind kind) n) f at)
+    word_looked f at =
+        subst (λ (a : Result ℕ Rc). IsLook {A = ℕ} {B = ℕ} (λ x y. x ≡ y) a (look_word s.layout memory (address_of s.layout (record_kind kind) n) f at)) (sym (after_object (λ o. word_of s.layout o.addr f at)))
+        (subst (λ a. IsLook {A = ℕ} {B = ℕ} (λ x y. x ≡ y) (answer_on memory (word_of s.layout st.object.addr f at)) (look_word s.layout memory a f at)) stands_at
+        (word_is_looked s.layout memory st.object.addr f at))
+
+    -- an inquiry for the object to which a word of its record points
+    pub object_looked : (target : Kind) (f : Field) (at : ℕ)
+        → IsLook (IsOf s.layout) (answer_on memory (then_reads (object_of s.layout kind (get s.handles.held pair)) (λ o. follow s.layout target o.addr f at)))
+        (look_object s.layout memory (record_kind target) (address_of s.layout (record_kind kind) n) f at)
+    object_looked target f at =
+        subst (λ (a : Result Held Rc). IsLook (IsOf s.layout) a (look_object s.layout memory (record_kind target) (address_of s.layout (record_kind kind) n) f at)) (sym (after_object (λ o. follow s.layout target o.addr f at)))
+        (subst (λ a. IsLook (IsOf s.layout) (answer_on memory (follow s.layout target st.object.addr f at)) (look_object s.layout memory (record_kind target) a f at)) stands_at
+        (object_is_looked s.layout memory target st.object.addr f at))
+
+    pub optional_looked : (target : Kind) (f : Field)
+        → IsOptional s.layout (answer_on memory (then_reads (object_of s.layout kind (get s.handles.held pair)) (λ o. follow_some s.layout target o.addr f)))
+        (look_optional s.layout memory (record_kind target) (address_of s.layout (record_kind kind) n) f 0)
+    optional_looked target f =
+        subst (λ (a : Result Held Rc). IsOptional s.layout a (look_optional s.layout memory (record_kind target) (address_of s.layout (record_kind kind) n) f 0)) (sym (after_object (λ o. follow_some s.layout target o.addr f)))
+        (subst (λ a. IsOptional s.layout (answer_on memory (follow_some s.layout target st.object.addr f)) (look_optional s.layout memory (record_kind target) a f 0)) stands_at
+        (optional_is_looked s.layout memory target st.object.addr f))
+
+-- ---- what was found
+
+-- a handle was made of the object that is found, whose name is this one
+pub found_gives : (w : List ℕ) (new : Ledger) (pair : ℕ × ℕ) (h : Held) (n : Id) (answer : Result Held Rc) (l : Look Id) → get new.held pair ≡ Some h → name_of w h ≡ Some n
+    → IsMade new (Ok pair) answer → IsLook (IsOf w) answer l → l ≡ Ok n
+found_gives w new pair h n answer l held named made looked =
+    let same : made.object ≡ h = (let both : Some made.object ≡ Some h = sym made.found ∙ held in cc) in
+    go answer l (made.answers ∙ ap Ok same) looked
+  where
+    go : (answer : Result Held Rc) (l : Look Id) → answer ≡ Ok h → IsLook (IsOf w) answer l → l ≡ Ok n
+    go (Ok o) (Ok m) is same =
+        let object : o ≡ h = cc in
+        let both : Some m ≡ Some n = sym same ∙ ap (name_of w) object ∙ named in
+        let one : m ≡ n = cc in ap Ok one
+    go (Ok o) (Err fault) is same = absurd same
+    go (Err rc) l is same = absurd (cc)
+
+pub found_some : (w : List ℕ) (new : Ledger) (pair : ℕ × ℕ) (h : Held) (n : Id) (answer : Result Held Rc) (l : Look (Option Id)) → get new.held pair ≡ Some h → name_of w h ≡ Some n
+    → IsMade new (Ok pair) answer → IsOptional w answer l → l ≡ Ok (Some n)
+found_some w new pair h n answer l held named made looked =
+    let same : made.object ≡ h = (let both : Some made.object ≡ Some h = sym made.found ∙ held in cc) in
+    go answer l (made.answers ∙ ap Ok same) looked
+  where
+    go : (answer : Result Held Rc) (l : Look (Option Id)) → answer ≡ Ok h → IsOptional w answer l → l ≡ Ok (Some n)
+    go (Ok o) (Ok (Some m)) is same =
+        let object : o ≡ h = cc in
+        let both : Some m ≡ Some n = sym same ∙ ap (name_of w) object ∙ named in
+        let one : m ≡ n = cc in ap (λ x. Ok (Some x)) one
+    go (Ok o) (Ok None) is same = absurd same
+    go (Ok o) (Err fault) is same = absurd same
+    go (Err rc) l is same = absurd (cc)
+
+-- there is no such object
+pub found_none : (w : List ℕ) (new : Ledger) (answer : Result Held Rc) (l : Look (Option Id)) → IsMade new (Err Unavailable) answer → IsOptional w answer l → l ≡ Ok None
+found_none w new (Ok h) l made looked = absurd (cc)
+found_none w new (Err rc) (Ok (Some m)) made looked = absurd looked
+found_none w new (Err rc) (Ok None) made looked = refl
+found_none w new (Err rc) (Err (look.Damaged addr field)) made looked =
+    let clash : Unavailable ≡ Error addr field = (let one : rc ≡ Unavailable = cc in sym one ∙ looked) in absurd (cc)
+found_none w new (Err rc) (Err (look.Cycle addr)) made looked = absurd looked
+
+-- the inquiry was refused
+module _ (w : List ℕ) (new : Ledger) (found : Option Held) where
+  object_err : (rc : Rc) (answer : Result Held Rc) (l : Look Id) → answer ≡ Err rc → IsLook (IsOf w) answer l → Gives {A = Id} (Err (fault_of found rc)) l
+  object_err rc (Ok o) l is same = absurd (cc)
+  object_err rc (Err why) (Ok z) is same = absurd same
+  object_err rc (Err why) (Err fault) is same =
+      let one : rc ≡ why = cc in fault_gives Id found rc fault (subst (λ c. IsFault c fault) (sym one) same)
+
+  optional_err : (rc : Rc) (answer : Result Held Rc) (l : Look (Option Id)) → rc ≢ Unavailable → answer ≡ Err rc → IsOptional w answer l → Gives {A = Option Id} (Err (fault_of found rc)) l
+  optional_err rc (Ok o) l ne is same = absurd (cc)
+  optional_err rc (Err why) (Ok None) ne is same = absurd (ne (let one : rc ≡ why = cc in one ∙ same))
+  optional_err rc (Err why) (Ok (Some z)) ne is same = absurd same
+  optional_err rc (Err why) (Err fault) ne is same =
+      let one : rc ≡ why = cc in fault_gives (Option Id) found rc fault (subst (λ c. IsFault c fault) (sym one) same)
+
+  pub refused_object : (rc : Rc) (answer : Result Held Rc) (l : Look Id) → IsMade new (Err rc) answer → IsLook (IsOf w) answer l → Gives {A = Id} (Err (fault_of found rc)) l
+  refused_object CallbackError answer l made looked = tt
+  refused_object NoMem answer l made looked = tt
+  refused_object Unavailable answer l made looked = object_err Unavailable answer l made looked
+  refused_object StaleHandle answer l made looked = object_err StaleHandle answer l made looked
+  refused_object BadInput answer l made looked = object_err BadInput answer l made looked
+  refused_object (Error addr field) answer l made looked = object_err (Error addr field) answer l made looked
+  refused_object Unsupported answer l made looked = object_err Unsupported answer l made looked
+  refused_object NeedsStateTracking answer l made looked = object_err NeedsStateTracking answer l made looked
+  refused_object Incompatible answer l made looked = object_err Incompatible answer l made looked
+  refused_object (Incomplete first) answer l made looked = object_err (Incomplete first) answer l made looked
+
+  pub refused_optional : (rc : Rc) (answer : Result Held Rc) (l : Look (Option Id)) → rc ≢ Unavailable → IsMade new (Err rc) answer → IsOptional w answer l
+      → Gives {A = Option Id} (Err (fault_of found rc)) l
+  refused_optional CallbackError answer l ne made looked = tt
+  refused_optional NoMem answer l ne made looked = tt
+  refused_optional Unavailable answer l ne made looked = absurd (ne refl)
+  refused_optional StaleHandle answer l ne made looked = optional_err StaleHandle answer l ne made looked
+  refused_optional BadInput answer l ne made looked = optional_err BadInput answer l ne made looked
+  refused_optional (Error addr field) answer l ne made looked = optional_err (Error addr field) answer l ne made looked
+  refused_optional Unsupported answer l ne made looked = optional_err Unsupported answer l ne made looked
+  refused_optional NeedsStateTracking answer l ne made looked = optional_err NeedsStateTracking answer l ne made looked
+  refused_optional Incompatible answer l ne made looked = optional_err Incompatible answer l ne made looked
+  refused_optional (Incomplete first) answer l ne made looked = optional_err (Incomplete first) answer l ne made looked
+
+  -- there may be none
+  pub absent_gives : (rc : Rc) (answer : Result Held Rc) (l : Look (Option Id)) → IsMade new (Err rc) answer → IsOptional w answer l
+      → Gives (names_met (absent found rc)) l
+  absent_gives Unavailable answer l made looked = found_none w new answer l made looked
+  absent_gives CallbackError answer l made looked = tt
+  absent_gives NoMem answer l made looked = tt
+  absent_gives StaleHandle answer l made looked = optional_err StaleHandle answer l (λ e. cc) made looked
+  absent_gives BadInput answer l made looked = optional_err BadInput answer l (λ e. cc) made looked
+  absent_gives (Error addr field) answer l made looked = optional_err (Error addr field) answer l (λ e. cc) made looked
+  absent_gives Unsupported answer l made looked = optional_err Unsupported answer l (λ e. cc) made looked
+  absent_gives NeedsStateTracking answer l made looked = optional_err NeedsStateTracking answer l (λ e. cc) made looked
+  absent_gives Incompatible answer l made looked = optional_err Incompatible answer l (λ e. cc) made looked
+  absent_gives (Incomplete first) answer l made looked = optional_err (Incomplete first) answer l (λ e. cc) made looked
+
+-- ---- objects that live
+
+-- the object to which an address leads lives
+lead_lives : (w : List ℕ) (memory : Words) (kind : Kind) (f : Field) (pointer : ℕ) (o : Held) → answer_on memory (lead w kind f pointer) ≡ Ok o
+    → answer_on memory (unchanged w o) ≡ Ok o
+unfolding lead
+lead_lives w memory kind f pointer o is = place (is_some (slot_at w (record_kind kind) pointer)) refl is
+  where
+    live : (x : ℕ) → memory (place_of w pointer (life_of (record_kind kind)) 0) ≡ Some x → is_some (slot_at w (record_kind kind) pointer) ≡ true
+        → (b : Bool) → is_live (record_kind kind) x ≡ b
+        → ok_or (cond b (Some (record { kind = kind; addr = pointer; life = x })) None) (Error pointer (number f)) ≡ Ok o
+        → answer_on memory (unchanged w o) ≡ Ok o
+    live x there slot true alive is =
+        let same : record { kind = kind; addr = pointer; life = x } ≡ o = cc in
+        subst (λ (h : Held). answer_on memory (unchanged w h) ≡ Ok h) same
+        (unchanged_told w memory kind x pointer (record { place = slot; word = there; live = alive }))
+    live x there slot false alive is = absurd (cc)
+
+    word : (found : Option ℕ) → memory (place_of w pointer (life_of (record_kind kind)) 0) ≡ found → is_some (slot_at w (record_kind kind) pointer) ≡ true
+        → ok_or (option_and_then (object kind pointer) found) (Error pointer (number f)) ≡ Ok o → answer_on memory (unchanged w o) ≡ Ok o
+    word None there slot is = absurd (cc)
+    word (Some x) there slot is = live x there slot (is_live (record_kind kind) x) refl is
+
+    place : (b : Bool) → is_some (slot_at w (record_kind kind) pointer) ≡ b
+        → answer_on memory (cond b (Read (place_of w pointer (life_of (record_kind kind)) 0) (λ life. Answer (ok_or (option_and_then (object kind pointer) life) (Error pointer (number f))))) (Answer (Err (Error pointer (number f))))) ≡ Ok o
+        → answer_on memory (unchanged w o) ≡ Ok o
+    place true slot is = word (memory (place_of w pointer (life_of (record_kind kind)) 0)) refl slot is
+    place false slot is = absurd (cc)
+
+-- what reads answer at their end
+pub last_part : {A : Type 0} (memory : Words) (reads : Reads A) (more : A → Reads Held) (o : Held) → answer_on memory (then_reads reads more) ≡ Ok o
+    → (x : A) × (answer_on memory (more x) ≡ Ok o)
+last_part {A} memory reads more o is = go (answer_on memory reads) (sym (answer_then memory reads more) ∙ is)
+  where
+    go : (a : Result A Rc) → answer_on memory (after a more) ≡ Ok o → (x : A) × (answer_on memory (more x) ≡ Ok o)
+    go (Ok x) is = (x, is)
+    go (Err rc) is = absurd (cc)
+
+pub followed_lives : {A : Type 0} (w : List ℕ) (memory : Words) (reads : Reads A) (kind : Kind) (f : Field) (at : ℕ) (address : A → ℕ) (o : Held)
+    → answer_on memory (then_reads reads (λ x. follow w kind (address x) f at)) ≡ Ok o → answer_on memory (unchanged w o) ≡ Ok o
+unfolding follow
+followed_lives w memory reads kind f at address o is =
+    let first = last_part memory reads (λ x. follow w kind (address x) f at) o is in
+    let second = last_part memory (word_of w (address first.0) f at) (lead w kind f) o first.1 in
+    lead_lives w memory kind f second.0 o second.1
+
+pub optional_lives : {A : Type 0} (w : List ℕ) (memory : Words) (reads : Reads A) (kind : Kind) (f : Field) (address : A → ℕ) (o : Held)
+    → answer_on memory (then_reads reads (λ x. follow_some w kind (address x) f)) ≡ Ok o → answer_on memory (unchanged w o) ≡ Ok o
+unfolding follow_some
+optional_lives w memory reads kind f address o is =
+    let first = last_part memory reads (λ x. follow_some w kind (address x) f) o is in
+    let second = last_part memory (word_of w (address first.0) f 0) (λ pointer. cond (pointer == 0) (Answer (Err Unavailable)) (lead w kind f pointer)) o first.1 in
+    go second.0 (second.0 == 0) second.1
+  where
+    go : (p : ℕ) (b : Bool) → answer_on memory (cond b (Answer (Err Unavailable)) (lead w kind f p)) ≡ Ok o → answer_on memory (unchanged w o) ≡ Ok o
+    go p true is = absurd (cc)
+    go p false is = lead_lives w memory kind f p o is
+
+-- ---- an object that was found and let go
+
+module _ {C F : Type 0} (told : C → Told) (old mid new : Opened C F) (kind : Kind) (pair : ℕ × ℕ)
+    (makes : Makes kind old.handles mid.handles (Ok pair)) (stays : Stays told old mid) (layout : new.layout ≡ mid.layout) (table : new.table ≡ mid.table) where
+  -- all handles are as they were
+  pub found_leaves : new.handles.held ≡ remove mid.handles.held pair → new.handles.made ≡ mid.handles.made → Leaves told 1 old new
+  found_leaves removed made = record {
+    stays = record {
+      table = record {
+        same = ap (λ (t : Kept C F). told t.calls) table ∙ stays.table.same;
+        order = ap (λ (t : Kept C F). t.order) table ∙ stays.table.order;
+        to_host = ap (λ (t : Kept C F). t.to_host) table ∙ stays.table.to_host;
+      };
+      layout = layout ∙ stays.layout;
+    };
+    held = removed ∙ ap (λ held. remove held pair) makes.adds.added ∙ restored old.handles.held pair makes.object makes.adds.unheld;
+    made = omega (arith, made, makes.adds.counted);
+  }
+
+  -- and it lives
+  pub found_met : (m : Met) (reads : Reads Held) → get mid.handles.held pair ≡ Some m.held → m.held.kind ≡ kind → IsNamed mid.layout m.held → name_of mid.layout m.held ≡ Some m.name
+      → Answered (told old.table.calls) mid.handles (Ok pair) reads
+      → ((memory : Words) (o : Held) → answer_on memory reads ≡ Ok o → answer_on memory (unchanged old.layout o) ≡ Ok o)
+      → IsMet told new kind m
+  found_met m reads there of_kind place name answered lives = record {
+    of_kind = of_kind;
+    place = subst (λ w. IsNamed w m.held) (sym layout) place;
+    name = ap (λ w. name_of w m.held) layout ∙ name;
+    lives = λ memory t.
+        let then : Tells (told old.table.calls) memory = still_tells (told new.table.calls) (told old.table.calls) memory
+        (sym (ap (λ (t : Kept C F). told t.calls) table ∙ stays.table.same)) t in
+        let made = answered memory then in
+        let same : made.object ≡ m.held = (let both : Some made.object ≡ Some m.held = sym made.found ∙ there in cc) in
+        subst (λ w. answer_on memory (unchanged w m.held) ≡ Ok m.held) (sym (layout ∙ stays.layout))
+        (lives memory m.held (made.answers ∙ ap Ok same));
+  }

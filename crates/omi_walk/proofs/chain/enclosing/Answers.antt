@@ -1,0 +1,104 @@
+use Rattle.std.proofs.Common.{◌≡◌, ◌∷◌, [], ℕ, ◌-◌, ◌+◌, suc, Some, refl, ap, subst, ◌∙◌, arith}
+use Rattle.std.specs.Prelude.{IfSome}
+use Rattle.std.specs.Ordering.{nat_cmp}
+use Rattle.std.specs.BTreeSet.{contains}
+use Rattle.std.proofs.lemmas.List.Elements.{All-append, All-weaker, All-nil}
+use Rattle.std.proofs.lemmas.Result.{err_from_is_err_and}
+use Rattle.omi_handle.specs.declared.handle.Kind.TheVariants.{Region}
+use Rattle.omi_layout.specs.Field.{regions}
+use Rattle.omi_layout.specs.Table.{records}
+use Rattle.omi_rep.specs.Look.{was_met}
+use Rattle.omi_walk.specs.Objects.{IsMet}
+use Rattle.omi_walk.proofs.Chained.{ChainSoFar, chain_begins, chain_next, chain_stops, chain_ends, chain_cycles, met_more, met_in_address, now_met, one_met}
+use Rattle.omi_walk.proofs.Steps.{leaves_then, look_unsaid, met_after}
+use Rattle.omi_walk.proofs.chain.enclosing.Goals as goal
+
+pub loop-init : goal.loop-init
+loop-init g c =
+    let count = c.region_count-end.ensures.value ∙ ap (λ w. records w regions) (c.layout.ensures) in
+    record {
+      leaves = record { stays = record { table = record { same = refl; order = refl; to_host = refl }; layout = refl }; held = refl; made = omega arith };
+      later = omega arith;
+      bound = count;
+      few = c.region_count-end.ensures.few;
+      current = c.requires.met;
+      chain = rw c.new-chain.ensures (All-nil (IsMet g.C.Callbacks.told c.args.s.now Region));
+      so =
+          let all : c.region_count-end.result - 0 ≡ records c.args.s.now.layout regions = omega (arith, count) in
+          rw (c.new-chain.ensures, all) (chain_begins g.C.Callbacks.told c.args.s.now c.args.first.name c.args.first (contains nat_cmp c.new-met.result) refl (λ address. rw c.new-met.ensures.empty refl));
+    }
+
+pub returns-in_default-clause-look : goal.returns-in_default-clause-look
+returns-in_default-clause-look g c =
+    let told = g.C.Callbacks.told in
+    chain_ends told c.args.s.now c.args.first.name c.loop.chain (contains nat_cmp c.loop.met) (c.region_count-end.result - c.loop.counter)
+    (subst (λ o. ChainSoFar told c.args.s.now c.args.first.name c.loop.chain (contains nat_cmp c.loop.met) (c.region_count-end.result - c.loop.counter) o) c.in_default.is c.loop.invariant.so)
+
+pub returns-in_err-insert-clause-look : goal.returns-in_err-insert-clause-look
+returns-in_err-insert-clause-look g c =
+    let p = err_from_is_err_and c.from_residual.result c.from_residual.ensures.1 in
+    rw (p.1, p.2) (look_unsaid g.C.Callbacks.told c.args.s.now _)
+
+pub returns-in_err-current-clause-look : goal.returns-in_err-current-clause-look
+returns-in_err-current-clause-look g c =
+    let p = err_from_is_err_and c.from_residual-in_err-current.result c.from_residual-in_err-current.ensures.1 in
+    let told = g.C.Callbacks.told in
+    let region = c.in-Some.region in
+    let one : c.region_count-end.result - c.loop.counter ≡ suc (c.region_count-end.result - (c.loop.counter + 1)) = omega (arith, c.loop-test.true) in
+    let so = subst (λ left. ChainSoFar told c.args.s.now c.args.first.name c.loop.chain (contains nat_cmp c.loop.met) left (Some region)) one
+    (subst (λ o. ChainSoFar told c.args.s.now c.args.first.name c.loop.chain (contains nat_cmp c.loop.met) (c.region_count-end.result - c.loop.counter) o) c.in-Some.is c.loop.invariant.so) in
+    let met = subst (λ o. IfSome o (IsMet told c.loop.s Region)) c.in-Some.is c.loop.invariant.current in
+    let there = met_in_address told c.args.s.now c.loop.s Region (Some region) c.loop.invariant.leaves.stays met region refl in
+    let seen = now_met told c.args.s.now c.args.first.name c.loop.s c.loop.invariant.leaves.stays c.loop.chain (contains nat_cmp c.loop.met) (c.region_count-end.result - (c.loop.counter + 1)) region so in
+    let same = λ (address : ℕ). met_more c.loop.met c.insert.new.self region.held.addr so.before so.same c.in_ok-insert.ensures.updates address ∙ ap (λ a. was_met (a ∷ so.before) address) there in
+    rw (p.1, p.2) (chain_stops told c.args.s.now c.args.first.name c.loop.s c.loop.invariant.leaves.stays c.loop.chain (contains nat_cmp c.loop.met) _ region so c.in_err-current.field-0.0
+    (c.in_err-current.ensures.look seen same))
+
+pub returns-in_err-push-clause-look : goal.returns-in_err-push-clause-look
+returns-in_err-push-clause-look g c =
+    let p = err_from_is_err_and c.from_residual-in_err-push.result c.from_residual-in_err-push.ensures.1 in
+    rw (p.1, p.2) (look_unsaid g.C.Callbacks.told c.args.s.now _)
+
+pub loop-preserved : goal.loop-preserved
+loop-preserved g c = record {
+  leaves = leaves_then g.C.Callbacks.told _ _ _ _ _ _ (omega arith) c.loop.invariant.leaves c.onward.ensures.leaves;
+  later = omega (arith, c.loop.invariant.later, c.onward.ensures.cause.later);
+  bound = c.loop.invariant.bound;
+  few = c.loop.invariant.few;
+  current = c.in_ok-current.ensures.met;
+  chain =
+      let told = g.C.Callbacks.told in
+      let met = subst (λ o. IfSome o (IsMet told c.loop.s Region)) c.in-Some.is c.loop.invariant.current in
+      rw c.in_ok-push.ensures.added (All-append (IsMet told c.onward.new.s Region) c.loop.chain (c.in-Some.region ∷ [])
+      (All-weaker (IsMet told c.loop.s Region) (IsMet told c.onward.new.s Region) (λ m. met_after told c.loop.s c.onward.new.s Region m c.onward.ensures.leaves.stays) c.loop.chain c.loop.invariant.chain)
+      (one_met (IsMet told c.onward.new.s Region) c.in-Some.region (met_after told c.loop.s c.onward.new.s Region c.in-Some.region c.onward.ensures.leaves.stays met)));
+  so =
+      let told = g.C.Callbacks.told in
+      let region = c.in-Some.region in
+      let one : c.region_count-end.result - c.loop.counter ≡ suc (c.region_count-end.result - (c.loop.counter + 1)) = omega (arith, c.loop-test.true) in
+      let so = subst (λ left. ChainSoFar told c.args.s.now c.args.first.name c.loop.chain (contains nat_cmp c.loop.met) left (Some region)) one
+      (subst (λ o. ChainSoFar told c.args.s.now c.args.first.name c.loop.chain (contains nat_cmp c.loop.met) (c.region_count-end.result - c.loop.counter) o) c.in-Some.is c.loop.invariant.so) in
+      let met = subst (λ o. IfSome o (IsMet told c.loop.s Region)) c.in-Some.is c.loop.invariant.current in
+      let there = met_in_address told c.args.s.now c.loop.s Region (Some region) c.loop.invariant.leaves.stays met region refl in
+      let seen = now_met told c.args.s.now c.args.first.name c.loop.s c.loop.invariant.leaves.stays c.loop.chain (contains nat_cmp c.loop.met) (c.region_count-end.result - (c.loop.counter + 1)) region so in
+      let same = λ (address : ℕ). met_more c.loop.met c.insert.new.self region.held.addr so.before so.same c.in_ok-insert.ensures.updates address ∙ ap (λ a. was_met (a ∷ so.before) address) there in
+      rw c.in_ok-push.ensures.added (chain_next told c.args.s.now c.args.first.name c.loop.s c.loop.invariant.leaves.stays c.loop.chain (contains nat_cmp c.loop.met) _ region so
+      (contains nat_cmp c.insert.new.self) c.in_ok-current.current same (c.in_ok-current.ensures.look seen same));
+}
+
+pub returns-in-None-clause-look : goal.returns-in-None-clause-look
+returns-in-None-clause-look g c =
+    let told = g.C.Callbacks.told in
+    chain_ends told c.args.s.now c.args.first.name c.loop.chain (contains nat_cmp c.loop.met) (c.region_count-end.result - c.loop.counter)
+    (subst (λ o. ChainSoFar told c.args.s.now c.args.first.name c.loop.chain (contains nat_cmp c.loop.met) (c.region_count-end.result - c.loop.counter) o) c.in-None.is c.loop.invariant.so)
+
+pub returns-clause-look : goal.returns-clause-look
+returns-clause-look g c =
+    let told = g.C.Callbacks.told in
+    let region = c.in-Some-current.region in
+    let none : c.region_count-end.result - c.loop.counter ≡ 0 = omega (arith, c.loop-test.false) in
+    let so = subst (λ left. ChainSoFar told c.args.s.now c.args.first.name c.loop.chain (contains nat_cmp c.loop.met) left (Some region)) none
+    (subst (λ o. ChainSoFar told c.args.s.now c.args.first.name c.loop.chain (contains nat_cmp c.loop.met) (c.region_count-end.result - c.loop.counter) o) c.in-Some-current.is c.loop.invariant.so) in
+    let met = subst (λ o. IfSome o (IsMet told c.loop.s Region)) c.in-Some-current.is c.loop.invariant.current in
+    chain_cycles told c.args.s.now c.args.first.name c.loop.chain (contains nat_cmp c.loop.met) region
+    (met_in_address told c.args.s.now c.loop.s Region (Some region) c.loop.invariant.leaves.stays met region refl) so

@@ -1,0 +1,20 @@
+use Rattle.std.proofs.Common.{◌≡◌, ◌≤◌, ◌*◌, ◌-◌}
+use Rattle.std.specs.List.{range_with_len}
+use Rattle.omi_handle.specs.declared.handle.Kind.TheVariants.{Region}
+use Rattle.omi_model.specs.declared.id.Id.{Id}
+use Rattle.omi_rep.specs.LookView.{look_member}
+use Rattle.omi_session.specs.Made.{region_pair}
+use Rattle.omi_walk.specs.Leaves.{Leaves}
+use Rattle.omi_walk.specs.Members.{HasSize}
+use Rattle.omi_walk.specs.Objects.{Stands}
+use Rattle.omi_walk.proofs.Steps.{EachSoFar}
+use Rattle.omi_walk.proofs.members.members.Given as goal
+
+abbrev pub invariant-loop-num : goal.invariant-loop-num
+invariant-loop-num g l = record {
+  leaves : Leaves g.C.Callbacks.told (2 * l.num) l.initial.s l.s;
+  later : g.C.Callbacks.faults l.initial.s.table.calls ≤ g.C.Callbacks.faults l.s.table.calls;
+  bound : l.num-end ≡ l.size;
+  rest : (n : Id) → Stands g.C.Callbacks.told l.initial.s Region (region_pair l.r) n → HasSize g.C.Callbacks.told l.initial.s n l.size
+      → EachSoFar g.C.Callbacks.told l.initial.s l.s (λ w memory num. look_member w memory n num) (range_with_len 0 l.size) l.rows (range_with_len l.num (l.size - l.num));
+}

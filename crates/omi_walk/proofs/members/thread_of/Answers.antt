@@ -1,0 +1,29 @@
+use Rattle.std.proofs.Common.{◌∙◌, sym, ap}
+use Rattle.std.specs.FinMap.{get}
+use Rattle.omi_handle.specs.declared.handle.Kind.TheVariants.{Thread}
+use Rattle.omi_session.specs.Handles.{name_of}
+use Rattle.omi_session.specs.Made.{region_pair}
+use Rattle.omi_walk.specs.Gives.{Looks}
+use Rattle.omi_walk.proofs.Looked.{found_gives, refused_object, found_leaves}
+use Rattle.omi_walk.proofs.MemberLooks.{member_thread_looked}
+use Rattle.omi_walk.proofs.members.thread_of.Goals as goal
+
+pub returns-in-Ok-clause-look : goal.returns-in-Ok-clause-look
+unfolding Looks
+returns-in-Ok-clause-look g c = λ n k size st has low of memory t.
+    found_gives c.args.s.now.layout c.get_thread_in_parallel.new.s.handles _ c.let_go.result.held c.let_go.result.name _ _
+    c.let_go.ensures.object (ap (λ w. name_of w c.let_go.result.held) (sym c.get_thread_in_parallel.ensures.stays.layout) ∙ c.let_go.ensures.name)
+    (c.in-Ok.ensures.answer memory t)
+    (member_thread_looked g.C.Callbacks.told c.args.s.now (region_pair c.args.r) n size c.args.num st has low memory t k (of memory t))
+
+pub returns-in-Ok-clause-leaves : goal.returns-in-Ok-clause-leaves
+returns-in-Ok-clause-leaves g c =
+    found_leaves g.C.Callbacks.told c.args.s.now c.get_thread_in_parallel.new.s c.let_go.new.s Thread _ c.in-Ok.ensures.handles c.get_thread_in_parallel.ensures.stays
+    c.let_go.ensures.layout c.let_go.ensures.table c.let_go.ensures.removed c.let_go.ensures.made
+
+pub returns-in-Err-clause-look : goal.returns-in-Err-clause-look
+unfolding Looks
+returns-in-Err-clause-look g c = λ n k size st has low of memory t.
+    rw c.fault_of.ensures (refused_object c.args.s.now.layout c.get_thread_in_parallel.new.s.handles (get c.get_thread_in_parallel.new.s.handles.held (region_pair c.args.r)) c.in-Err.rc _ _
+    (c.in-Err.ensures.answer memory t)
+    (member_thread_looked g.C.Callbacks.told c.args.s.now (region_pair c.args.r) n size c.args.num st has low memory t k (of memory t)))

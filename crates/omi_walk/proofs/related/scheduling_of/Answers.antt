@@ -1,0 +1,46 @@
+use Rattle.std.proofs.Common.{◌≡◌, ℕ, List, Option, ◌∙◌, sym, ap}
+use Rattle.std.specs.Prelude.{Ok}
+use Rattle.std.specs.FinMap.{get}
+use Rattle.omi_handle.specs.declared.handle.Kind.TheVariants.{Task}
+use Rattle.omi_layout.specs.declared.field.Field.TheVariants.{TaskScheduling}
+use Rattle.omi_session.specs.Handles.{name_of}
+use Rattle.omi_calls.specs.Told.{Words}
+use Rattle.omi_handle.specs.declared.handle.Held.{Held}
+use Rattle.omi_session.specs.Inquiry.{object_of, unchanged}
+use Rattle.omi_session.specs.Reads.{answer_on}
+use Rattle.omi_session.specs.Made.{task_pair}
+use Rattle.omi_asktask.specs.Tasks.{scheduling_task}
+use Rattle.omi_walk.specs.Gives.{Looks}
+use Rattle.omi_walk.proofs.Looked.{optional_looked, found_some, absent_gives, optional_lives, found_leaves, found_met}
+use Rattle.omi_walk.proofs.related.scheduling_of.Goals as goal
+
+pub returns-in-Ok-clause-look : goal.returns-in-Ok-clause-look
+unfolding scheduling_task Looks
+returns-in-Ok-clause-look g c = λ n st memory t.
+    found_some c.args.s.now.layout c.get_scheduling_task_handle.new.s.handles _ c.let_go.result.held c.let_go.result.name _ _
+    c.let_go.ensures.object (ap (λ w. name_of w c.let_go.result.held) (sym c.get_scheduling_task_handle.ensures.stays.layout) ∙ c.let_go.ensures.name)
+    (c.in-Ok.ensures.answer memory t)
+    (optional_looked (g.C.Callbacks.told) c.args.s.now Task (task_pair c.args.k) n st memory t Task TaskScheduling)
+
+pub returns-in-Ok-clause-met : goal.returns-in-Ok-clause-met
+unfolding scheduling_task
+returns-in-Ok-clause-met g c =
+    found_met g.C.Callbacks.told c.args.s.now c.get_scheduling_task_handle.new.s c.let_go.new.s Task _ c.in-Ok.ensures.handles c.get_scheduling_task_handle.ensures.stays
+    c.let_go.ensures.layout c.let_go.ensures.table c.let_go.result (scheduling_task c.args.s.now.layout (get c.args.s.now.handles.held (task_pair c.args.k)))
+    c.let_go.ensures.object c.let_go.ensures.kind c.let_go.ensures.place c.let_go.ensures.name c.in-Ok.ensures.answer
+    (λ memory o is. lives c.args.s.now.layout (get c.args.s.now.handles.held (task_pair c.args.k)) memory o is)
+  where
+    lives : (w : List ℕ) (found : Option Held) (memory : Words) (o : Held) → answer_on memory (scheduling_task w found) ≡ Ok o → answer_on memory (unchanged w o) ≡ Ok o
+    lives w found memory o is = optional_lives w memory (object_of w Task found) Task TaskScheduling (λ x. x.addr) o is
+
+pub returns-in-Ok-clause-leaves : goal.returns-in-Ok-clause-leaves
+returns-in-Ok-clause-leaves g c =
+    found_leaves g.C.Callbacks.told c.args.s.now c.get_scheduling_task_handle.new.s c.let_go.new.s Task _ c.in-Ok.ensures.handles c.get_scheduling_task_handle.ensures.stays
+    c.let_go.ensures.layout c.let_go.ensures.table c.let_go.ensures.removed c.let_go.ensures.made
+
+pub returns-in-Err-clause-look : goal.returns-in-Err-clause-look
+unfolding scheduling_task Looks
+returns-in-Err-clause-look g c = λ n st memory t.
+    rw c.absent.ensures (absent_gives c.args.s.now.layout c.get_scheduling_task_handle.new.s.handles (get c.get_scheduling_task_handle.new.s.handles.held (task_pair c.args.k)) c.in-Err.rc _ _
+    (c.in-Err.ensures.answer memory t)
+    (optional_looked (g.C.Callbacks.told) c.args.s.now Task (task_pair c.args.k) n st memory t Task TaskScheduling))

@@ -1,0 +1,21 @@
+use Rattle.std.proofs.Common.{◌≡◌, ◌≤◌, ◌*◌, ◌-◌}
+use Rattle.std.specs.Prelude.{IfSome}
+use Rattle.std.specs.Ordering.{nat_cmp}
+use Rattle.std.specs.BTreeSet.{contains}
+use Rattle.omi_handle.specs.declared.handle.Kind.TheVariants.{Task}
+use Rattle.omi_layout.specs.Field.{tasks}
+use Rattle.omi_layout.specs.Table.{records}
+use Rattle.omi_walk.specs.Leaves.{Leaves}
+use Rattle.omi_walk.specs.Objects.{IsMet, name_in}
+use Rattle.omi_walk.proofs.TaskChained.{TasksSoFar}
+use Rattle.omi_walk.proofs.scheduling.task_chain.Given as goal
+
+abbrev pub invariant-loop : goal.invariant-loop
+invariant-loop g l = record {
+  leaves : Leaves g.C.Callbacks.told (5 * l.counter) l.initial.s l.s;
+  later : g.C.Callbacks.faults l.initial.s.table.calls ≤ g.C.Callbacks.faults l.s.table.calls;
+  bound : l.end ≡ records l.initial.s.layout tasks;
+  few : l.end ≤ 262144;
+  met : IfSome l.current (IsMet g.C.Callbacks.told l.s Task);
+  so : TasksSoFar g.C.Callbacks.told l.initial.s l.thread (name_in l.fn.first) l.rows (contains nat_cmp l.met) (l.end - l.counter) (name_in l.current);
+}

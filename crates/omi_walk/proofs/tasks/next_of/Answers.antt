@@ -1,0 +1,20 @@
+use Rattle.std.specs.Ordering.{nat_cmp}
+use Rattle.std.specs.BTreeSet.{contains}
+use Rattle.std.proofs.lemmas.Result.{err_from_is_err_and}
+use Rattle.omi_handle.specs.declared.handle.Kind.TheVariants.{Task}
+use Rattle.omi_layout.specs.Field.{tasks}
+use Rattle.omi_walk.specs.Gives.{Looks}
+use Rattle.omi_walk.proofs.Chained.{onward_gives, met_in_address}
+use Rattle.omi_walk.proofs.Steps.{look_stops}
+use Rattle.omi_walk.proofs.tasks.next_of.Goals as goal
+
+pub returns-in_err-next-clause-look : goal.returns-in_err-next-clause-look
+returns-in_err-next-clause-look g c = λ n before st same.
+    let p = err_from_is_err_and c.from_residual.result c.from_residual.ensures.1 in
+    rw (p.1, p.2) (look_stops g.C.Callbacks.told c.args.s.now c.in_err-next.field-0.0 _ _ (c.in_err-next.ensures.look n st))
+
+pub returns-clause-look : goal.returns-clause-look
+unfolding Looks
+returns-clause-look g c = λ n before st same memory tells.
+    rw c.unmet.ensures (onward_gives c.args.s.now.layout tasks before (contains nat_cmp c.args.met.now) same c.in_ok-next.next
+    (met_in_address g.C.Callbacks.told c.args.s.now c.scheduling_of.new.s Task c.in_ok-next.next c.scheduling_of.ensures.leaves.stays c.in_ok-next.ensures.met) _ (c.in_ok-next.ensures.look n st memory tells))

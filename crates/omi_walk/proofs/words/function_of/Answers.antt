@@ -1,0 +1,14 @@
+use Rattle.std.specs.FinMap.{get}
+use Rattle.omi_handle.specs.declared.handle.Kind.TheVariants.{Task}
+use Rattle.omi_layout.specs.declared.field.Field.TheVariants.{TaskFunction}
+use Rattle.omi_session.specs.Made.{task_pair}
+use Rattle.omi_asktask.specs.TaskWords.{function}
+use Rattle.omi_walk.proofs.Looked.{word_looked}
+use Rattle.omi_walk.proofs.WordLooks.{value_looks}
+use Rattle.omi_walk.proofs.words.function_of.Goals as goal
+
+pub returns-clause-look : goal.returns-clause-look
+unfolding function
+returns-clause-look g c = λ n st.
+    value_looks g.C.Callbacks.told c.args.s.now _ c.get_task_function-answer.result _ (function c.args.s.now.layout (get c.args.s.now.handles.held (task_pair c.args.k))) _ c.walked.ensures c.get_task_function-answer.ensures.answer
+    (λ memory t. word_looked g.C.Callbacks.told c.args.s.now Task (task_pair c.args.k) n st memory t TaskFunction 0)

@@ -1,0 +1,126 @@
+//! Why a walk has no answer, and what it makes of the refusal of an inquiry.
+
+ghost use Rattle.std.specs.Prelude.{◌≡◌};
+ghost use Rattle.std.specs.FinMap.{get};
+ghost use Rattle.omi_rep.specs.Look.{life_of};
+ghost use Rattle.omi_session.specs.Named.{record_kind};
+ghost use Rattle.omi_walk.specs.declared.fault.WalkFault.TheVariants.{OutOfMemory};
+ghost use Rattle.omi_walk.specs.Fault as the;
+
+use omi_calls::{Callbacks, ToHost};
+use omi_handle::Kind;
+use omi_layout::Field;
+use omi_session::{Rc, Session};
+use std::alloc::{AllocError, AllocFailed};
+
+/// Why a walk has no answer.
+#[derive(Clone, Copy, Debug, PartialEq, Eq)]
+pub enum WalkFault {
+    /// A word of the record at this byte address isn't mapped or is out of range, by the number of its field. Or the address is
+    /// that to which this field of another record points, and no live record is there.
+    Damaged { addr: u64, field: u8 },
+    /// A chain of scheduling tasks or of enclosing regions meets this address a second time.
+    Cycle { addr: u64 },
+    /// A callback failed.
+    Callback,
+    /// Memory ran out.
+    OutOfMemory,
+}
+
+impl From<AllocError> for WalkFault {
+    ghost from_gives = { λ _ e. e ≡ OutOfMemory };
+
+    fn from(_: AllocError) -> WalkFault {
+        WalkFault::OutOfMemory
+    }
+}
+
+impl<T: Drop> From<AllocFailed<T>> for WalkFault {
+    ghost from_gives = { λ _ e. e ≡ OutOfMemory };
+
+    fn from(_: AllocFailed<T>) -> WalkFault {
+        WalkFault::OutOfMemory
+    }
+}
+
+/// The field that has the life word of a kind of object.
+fn life_field(kind: Kind) -> Field
+    ensures { result ≡ life_of (record_kind kind) }
+{
+    match kind {
+        Kind::Thread => Field::ThreadLife,
+        Kind::Region => Field::RegionLife,
+        Kind::Task => Field::TaskLife,
+    }
+}
+
+/// The fault of a handle whose record's life word is no longer the one that the handle keeps.
+fn stale<C: Callbacks, F: ToHost>(s: &Session<C, F>, pair: (u64, u64)) -> WalkFault
+    ensures { result ≡ the.stale (get s.now.handles.held pair) }
+{
+    match s.find(pair.0, pair.1) {
+        Some(held) => WalkFault::Damaged {
+            addr: held.addr,
+            field: life_field(held.kind).number(),
+        },
+        None => WalkFault::Damaged { addr: 0, field: 0 },
+    }
+}
+
+/// What the refusal of an inquiry on a handle is to a walk.
+pub(crate) fn fault_of<C: Callbacks, F: ToHost>(
+    s: &Session<C, F>,
+    pair: (u64, u64),
+    rc: Rc,
+) -> WalkFault
+    ensures { result ≡ the.fault_of (get s.now.handles.held pair) rc }
+{
+    match rc {
+        Rc::Error { addr, field } => WalkFault::Damaged { addr, field },
+        Rc::CallbackError => WalkFault::Callback,
+        Rc::NoMem => WalkFault::OutOfMemory,
+        _ => stale(s, pair),
+    }
+}
+
+/// What the answer of an inquiry on a handle is to a walk.
+pub(crate) fn walked<T: Drop, C: Callbacks, F: ToHost>(
+    s: &Session<C, F>,
+    pair: (u64, u64),
+    answer: Result<T, Rc>,
+) -> Result<T, WalkFault>
+    ensures { result ≡ the.walked (get s.now.handles.held pair) answer }
+{
+    match answer {
+        Ok(x) => Ok(x),
+        Err(rc) => Err(fault_of(s, pair, rc)),
+    }
+}
+
+/// What the refusal of an inquiry on a handle is to a walk, where there may be no such object.
+pub(crate) fn absent<T: Drop, C: Callbacks, F: ToHost>(
+    s: &Session<C, F>,
+    pair: (u64, u64),
+    rc: Rc,
+) -> Result<Option<T>, WalkFault>
+    ensures { result ≡ the.absent (get s.now.handles.held pair) rc }
+{
+    match rc {
+        Rc::Unavailable => Ok(None),
+        _ => Err(fault_of(s, pair, rc)),
+    }
+}
+
+/// The same of an inquiry for a state, where the target may keep none.
+pub(crate) fn untracked<T: Drop, C: Callbacks, F: ToHost>(
+    s: &Session<C, F>,
+    pair: (u64, u64),
+    rc: Rc,
+) -> Result<Option<T>, WalkFault>
+    ensures { result ≡ the.untracked (get s.now.handles.held pair) rc }
+{
+    match rc {
+        Rc::NeedsStateTracking => Ok(None),
+        _ => Err(fault_of(s, pair, rc)),
+    }
+}

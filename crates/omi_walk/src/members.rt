@@ -1,0 +1,119 @@
+//! The members of a region.
+
+ghost use Rattle.std.specs.Prelude.{◌≡◌, ◌<◌, ◌≤◌, ◌+◌, ◌*◌, ◌^◌, Err};
+ghost use Rattle.std.specs.List.{range_with_len};
+ghost use Rattle.omi_handle.specs.declared.handle.Kind.TheVariants.{Thread, Region, Task};
+ghost use Rattle.omi_layout.specs.Field.{threads, regions, tasks};
+ghost use Rattle.omi_layout.specs.Table.{thread_count};
+ghost use Rattle.omi_model.specs.declared.id.Id.{Id};
+ghost use Rattle.omi_outside.specs.Outside.{HasCause};
+ghost use Rattle.omi_rep.specs.Look.{address_of, look_object, look_word, and_then, each};
+ghost use Rattle.omi_rep.specs.LookView.{look_member};
+ghost use Rattle.omi_session.specs.Made.{region_pair};
+ghost use Rattle.omi_walk.specs.Gives.{Looks};
+ghost use Rattle.omi_walk.specs.Leaves.{Leaves};
+ghost use Rattle.omi_walk.specs.Members.{HasSize};
+ghost use Rattle.omi_walk.specs.Objects.{IsMet, Stands, name_met};
+
+use crate::WalkFault;
+use crate::fault::fault_of;
+use crate::met::{Met, let_go};
+use omi_ask::get_thread_in_parallel;
+use omi_asktask::get_task_in_parallel;
+use omi_calls::{Callbacks, ToHost};
+use omi_handle::{Kind, RegionHandle};
+use omi_layout::Field;
+use omi_model::{MemberRow, MemberRows, Tid};
+use omi_session::Session;
+use std::alloc::Global;
+
+/// The implicit task of a member of a region.
+fn task_of<C: Callbacks, F: ToHost>(
+    s: &mut Session<C, F>,
+    r: RegionHandle,
+    num: u32,
+) -> Result<Met, WalkFault>
+    requires { s.old.handles.made < 2 ^ 62 }
+    ensures look { (n : Id) (size : _) → Stands C.told s.old Region (region_pair r) n
+        → HasSize C.told s.old n size → num < size
+        → Looks C.told s.old (name_met result) (λ w memory.
+        look_object w memory tasks (address_of w regions n) Field.RegionTeam num) }
+    ensures leaves { Leaves C.told 1 s.old s.new }
+    ensures cause { HasCause (C.faults s.old.table.calls) (C.faults s.new.table.calls)
+        (result ≡ Err WalkFault.Callback) }
+{
+    match get_task_in_parallel(s, r, num) {
+        Ok(found) => Ok(let_go(s, Kind::Task, (found.key, found.serial))),
+        Err(rc) => Err(fault_of(s, (r.key, r.serial), rc)),
+    }
+}
+
+/// The thread of a member of a region.
+fn thread_of<C: Callbacks, F: ToHost>(
+    s: &mut Session<C, F>,
+    r: RegionHandle,
+    num: u32,
+) -> Result<Met, WalkFault>
+    requires { s.old.handles.made < 2 ^ 62 }
+    ensures look { (n k : Id) (size : _) → Stands C.told s.old Region (region_pair r) n
+        → HasSize C.told s.old n size → num < size
+        → Looks C.told s.old (Rattle.std.specs.Prelude.Ok k) (λ w memory.
+        look_object w memory tasks (address_of w regions n) Field.RegionTeam num)
+        → Looks C.told s.old (name_met result) (λ w memory.
+        look_object w memory threads (address_of w tasks k) Field.TaskThread 0) }
+    ensures leaves { Leaves C.told 1 s.old s.new }
+    ensures cause { HasCause (C.faults s.old.table.calls) (C.faults s.new.table.calls)
+        (result ≡ Err WalkFault.Callback) }
+{
+    match get_thread_in_parallel(s, r, num) {
+        Ok(found) => Ok(let_go(s, Kind::Thread, (found.key, found.serial))),
+        Err(rc) => Err(fault_of(s, (r.key, r.serial), rc)),
+    }
+}
+
+/// A member of a region.
+fn member<C: Callbacks, F: ToHost>(
+    s: &mut Session<C, F>,
+    r: RegionHandle,
+    num: u32,
+) -> Result<MemberRow, WalkFault>
+    requires { s.old.handles.made < 2 ^ 61 }
+    ensures look { (n : Id) (size : _) → Stands C.told s.old Region (region_pair r) n
+        → HasSize C.told s.old n size → num < size
+        → Looks C.told s.old result (λ w memory. look_member w memory n num) }
+    ensures leaves { Leaves C.told 2 s.old s.new }
+    ensures cause { HasCause (C.faults s.old.table.calls) (C.faults s.new.table.calls)
+        (result ≡ Err WalkFault.Callback) }
+{
+    let task = task_of(s, r, num)?;
+    let thread = thread_of(s, r, num)?;
+    Ok(MemberRow {
+        thread: thread.name.creator,
+        task: Tid(task.name),
+    })
+}
+
+/// The members of a region of this size.
+pub fn members<C: Callbacks, F: ToHost>(
+    s: &mut Session<C, F>,
+    alloc: Global,
+    r: RegionHandle,
+    size: u64,
+) -> Result<MemberRows, WalkFault>
+    requires many { s.old.handles.made < 2 ^ 60 }
+    requires few { size ≤ 64 }
+    ensures look { (n : Id) → Stands C.told s.old Region (region_pair r) n
+        → HasSize C.told s.old n size
+        → Looks C.told s.old result (λ w memory.
+        each (look_member w memory n) (range_with_len 0 size)) }
+    ensures leaves { Leaves C.told 128 s.old s.new }
+    ensures cause { HasCause (C.faults s.old.table.calls) (C.faults s.new.table.calls)
+        (result ≡ Err WalkFault.Callback) }
+{
+    let mut rows = MemberRows::new(alloc);
+    for num in 0..size as u32 {
+        let row = member(s, r, num)?;
+        rows.push(row)?;
+    }
+    Ok(rows)
+}

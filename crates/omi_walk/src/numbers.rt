@@ -1,0 +1,51 @@
+//! The elements of nthreads-var of a task.
+
+ghost use Rattle.std.specs.Prelude.{◌≡◌, Err, IfOk};
+ghost use Rattle.omi_handle.specs.declared.handle.Kind.TheVariants.{Task};
+ghost use Rattle.omi_model.specs.declared.id.Id.{Id};
+ghost use Rattle.omi_outside.specs.Outside.{HasCause};
+ghost use Rattle.omi_rep.specs.LookView.{look_nthreads};
+ghost use Rattle.omi_session.specs.Made.{task_pair};
+ghost use Rattle.omi_walk.specs.Gives.{Looks};
+ghost use Rattle.omi_walk.specs.Leaves.{Leaves};
+ghost use Rattle.omi_walk.specs.Objects.{Stands};
+
+use crate::WalkFault;
+use crate::fault::fault_of;
+use crate::variables::NTHREADS_VAR;
+use omi_calls::{Callbacks, ToHost};
+use omi_handle::TaskHandle;
+use omi_icv::{Scoped, icv_value};
+use omi_script::NumList;
+use omi_session::Session;
+use omi_word::OutOfMemory;
+use std::alloc::Global;
+
+/// A list of these numbers.
+fn list_of(alloc: Global, numbers: &[u64]) -> Result<NumList, OutOfMemory>
+    ensures { IfOk result (λ list. list ≡ numbers.now) }
+{
+    let mut list = NumList::new(alloc);
+    for number in numbers {
+        list.push(*number)?;
+    }
+    Ok(list)
+}
+
+/// The elements of nthreads-var of a task.
+pub fn nthreads_of<C: Callbacks, F: ToHost>(
+    s: &mut Session<C, F>,
+    alloc: Global,
+    k: TaskHandle,
+) -> Result<NumList, WalkFault>
+    ensures look { (n : Id) → Stands C.told s.old Task (task_pair k) n
+        → Looks C.told s.old result (λ w memory. look_nthreads w memory n) }
+    ensures leaves { Leaves C.told 0 s.old s.new }
+    ensures cause { HasCause (C.faults s.old.table.calls) (C.faults s.new.table.calls)
+        (result ≡ Err WalkFault.Callback) }
+{
+    match icv_value(s, Scoped::Task(k), NTHREADS_VAR) {
+        Ok(value) => Ok(list_of(alloc, value.numbers.as_slice())?),
+        Err(rc) => Err(fault_of(s, (k.key, k.serial), rc)),
+    }
+}

@@ -1,0 +1,65 @@
+//! The chain of a thread: its tasks, each left for the one before it.
+
+ghost use Rattle.std.specs.Prelude.{◌≡◌, ◌≤◌, ◌<◌, ◌^◌, [], Err, IfSome};
+ghost use Rattle.omi_handle.specs.declared.handle.Kind.TheVariants.{Task};
+ghost use Rattle.omi_layout.specs.Field.{tasks};
+ghost use Rattle.omi_layout.specs.Table.{records};
+ghost use Rattle.omi_outside.specs.Outside.{HasCause};
+ghost use Rattle.omi_rep.specs.LookView.{look_chain};
+ghost use Rattle.omi_walk.specs.Gives.{Looks};
+ghost use Rattle.omi_walk.specs.Leaves.{Leaves};
+ghost use Rattle.omi_walk.specs.Objects.{IsMet, name_in};
+
+use crate::WalkFault;
+use crate::met::Met;
+use crate::tasks::task_row;
+use omi_calls::{Callbacks, ToHost};
+use omi_layout::Layout;
+use omi_model::TaskRows;
+use omi_session::Session;
+use std::alloc::Global;
+use std::collections::BTreeSet;
+
+/// The number of records of tasks that a layout has.
+fn task_count(layout: &Layout) -> u32
+    ensures value { result ≡ records layout.now.table tasks }
+    ensures few { result ≤ 262144 }
+{
+    u32::from(layout.threads()) * u32::from(layout.tasks_per_thread())
+}
+
+/// The rows of the tasks of a thread from one on, each followed by its scheduling task, at most as many as the layout has records of tasks.
+/// A Cycle with the first address that is met twice.
+pub fn task_chain<C: Callbacks, F: ToHost>(
+    s: &mut Session<C, F>,
+    alloc: Global,
+    thread: u8,
+    first: Option<Met>,
+) -> Result<TaskRows, WalkFault>
+    requires many { s.old.handles.made < 2 ^ 58 }
+    requires met { IfSome first (IsMet C.told s.old Task) }
+    ensures look { Looks C.told s.old result (λ w memory.
+        look_chain w memory (records w tasks) [] thread (name_in first)) }
+    ensures leaves { Leaves C.told 1310720 s.old s.new }
+    ensures cause { HasCause (C.faults s.old.table.calls) (C.faults s.new.table.calls)
+        (result ≡ Err WalkFault.Callback) }
+{
+    let mut met = BTreeSet::new(alloc);
+    let mut rows = TaskRows::new(alloc);
+    let mut current = first;
+    for _ in 0..task_count(s.layout()) {
+        let Some(task) = current else {
+            return Ok(rows);
+        };
+        met.insert(task.held.addr)?;
+        let link = task_row(s, alloc, task, thread, &met)?;
+        current = link.next;
+        rows.push(link.row)?;
+    }
+    match current {
+        None => Ok(rows),
+        Some(task) => Err(WalkFault::Cycle {
+            addr: task.held.addr,
+        }),
+    }
+}

@@ -1,0 +1,144 @@
+//! Words that are read of an object that was met.
+
+ghost use Rattle.std.specs.Prelude.{◌≡◌, ◌≤◌, Ok, Err};
+ghost use Rattle.omi_handle.specs.declared.handle.Kind.TheVariants.{Region, Task};
+ghost use Rattle.omi_icv.specs.declared.scoped.Scoped.TheVariants as scoped;
+ghost use Rattle.omi_icv.specs.declared.variable.Source.TheVariants.{Word};
+ghost use Rattle.omi_icv.specs.declared.variable.Variable.{Variable};
+ghost use Rattle.omi_icv.specs.Scopes.{scope_of};
+ghost use Rattle.omi_icv.specs.Table.{variable_in};
+ghost use Rattle.omi_model.specs.declared.id.Id.{Id};
+ghost use Rattle.omi_outside.specs.Outside.{HasCause};
+ghost use Rattle.omi_rep.specs.Look.{and_then};
+ghost use Rattle.omi_rep.specs.LookView.{of_runtime, of_region, of_task};
+ghost use Rattle.omi_session.specs.Made.{region_pair, task_pair};
+ghost use Rattle.omi_walk.specs.Gives.{Looks};
+ghost use Rattle.omi_walk.specs.Leaves.{Leaves};
+ghost use Rattle.omi_walk.specs.Members.{HasSize};
+ghost use Rattle.omi_walk.specs.Objects.{Stands};
+ghost use Rattle.omi_walk.specs.Parts.{look_size, look_frames};
+
+use crate::WalkFault;
+use crate::fault::{fault_of, walked};
+use crate::variables::TEAM_SIZE_VAR;
+use omi_asktask::{get_task_frame, get_task_function};
+use omi_calls::{Callbacks, ToHost};
+use omi_handle::{RegionHandle, TaskHandle};
+use omi_icv::{Scoped, get_icv_from_scope, get_tool_data};
+use omi_layout::Field;
+use omi_session::Session;
+
+/// A control variable of a task that is one word of its record.
+pub fn task_variable<C: Callbacks, F: ToHost>(
+    s: &mut Session<C, F>,
+    k: TaskHandle,
+    icv: u32,
+) -> Result<u64, WalkFault>
+    ensures look { (n : Id) (f : Field) (v : Variable)
+        → variable_in (scope_of (scoped.Task k)) icv ≡ Ok v → v.source ≡ Word f
+        → Stands C.told s.old Task (task_pair k) n
+        → Looks C.told s.old result (λ w memory. of_task w memory n f) }
+    ensures leaves { Leaves C.told 0 s.old s.new }
+    ensures cause { HasCause (C.faults s.old.table.calls) (C.faults s.new.table.calls)
+        (result ≡ Err WalkFault.Callback) }
+{
+    let answer = get_icv_from_scope(s, Scoped::Task(k), icv);
+    walked(s, (k.key, k.serial), answer)
+}
+
+/// A control variable of a region that is one word of its record.
+pub fn region_variable<C: Callbacks, F: ToHost>(
+    s: &mut Session<C, F>,
+    r: RegionHandle,
+    icv: u32,
+) -> Result<u64, WalkFault>
+    ensures look { (n : Id) (f : Field) (v : Variable)
+        → variable_in (scope_of (scoped.Parallel r)) icv ≡ Ok v → v.source ≡ Word f
+        → Stands C.told s.old Region (region_pair r) n
+        → Looks C.told s.old result (λ w memory. of_region w memory n f) }
+    ensures leaves { Leaves C.told 0 s.old s.new }
+    ensures cause { HasCause (C.faults s.old.table.calls) (C.faults s.new.table.calls)
+        (result ≡ Err WalkFault.Callback) }
+{
+    let answer = get_icv_from_scope(s, Scoped::Parallel(r), icv);
+    walked(s, (r.key, r.serial), answer)
+}
+
+/// A control variable of the address space.
+pub fn space_variable<C: Callbacks, F: ToHost>(
+    s: &mut Session<C, F>,
+    icv: u32,
+) -> Result<u64, WalkFault>
+    ensures look { (f : Field) (v : Variable)
+        → variable_in (scope_of scoped.Space) icv ≡ Ok v → v.source ≡ Word f
+        → Looks C.told s.old result (λ w memory. of_runtime w memory f) }
+    ensures leaves { Leaves C.told 0 s.old s.new }
+    ensures cause { HasCause (C.faults s.old.table.calls) (C.faults s.new.table.calls)
+        (result ≡ Err WalkFault.Callback) }
+{
+    let answer = get_icv_from_scope(s, Scoped::Space, icv);
+    walked(s, (0, 0), answer)
+}
+
+/// The number of members of a region.
+pub fn size_of<C: Callbacks, F: ToHost>(
+    s: &mut Session<C, F>,
+    r: RegionHandle,
+) -> Result<u64, WalkFault>
+    ensures look { (n : Id) → Stands C.told s.old Region (region_pair r) n
+        → Looks C.told s.old result (λ w memory. look_size w memory n) }
+    ensures leaves { Leaves C.told 0 s.old s.new }
+    ensures cause { HasCause (C.faults s.old.table.calls) (C.faults s.new.table.calls)
+        (result ≡ Err WalkFault.Callback) }
+{
+    let answer = get_icv_from_scope(s, Scoped::Parallel(r), TEAM_SIZE_VAR);
+    walked(s, (r.key, r.serial), answer)
+}
+
+/// The entry address of a task's function.
+pub fn function_of<C: Callbacks, F: ToHost>(
+    s: &mut Session<C, F>,
+    k: TaskHandle,
+) -> Result<u64, WalkFault>
+    ensures look { (n : Id) → Stands C.told s.old Task (task_pair k) n
+        → Looks C.told s.old result (λ w memory. of_task w memory n Field.TaskFunction) }
+    ensures leaves { Leaves C.told 0 s.old s.new }
+    ensures cause { HasCause (C.faults s.old.table.calls) (C.faults s.new.table.calls)
+        (result ≡ Err WalkFault.Callback) }
+{
+    let answer = get_task_function(s, k);
+    walked(s, (k.key, k.serial), answer)
+}
+
+/// The word that a tool left with a task.
+pub fn tool_of<C: Callbacks, F: ToHost>(
+    s: &mut Session<C, F>,
+    k: TaskHandle,
+) -> Result<u64, WalkFault>
+    ensures look { (n : Id) → Stands C.told s.old Task (task_pair k) n
+        → Looks C.told s.old result (λ w memory. of_task w memory n Field.TaskTool) }
+    ensures leaves { Leaves C.told 0 s.old s.new }
+    ensures cause { HasCause (C.faults s.old.table.calls) (C.faults s.new.table.calls)
+        (result ≡ Err WalkFault.Callback) }
+{
+    let answer = get_tool_data(s, Scoped::Task(k));
+    walked(s, (k.key, k.serial), answer)
+}
+
+/// The addresses of the exit frame and of the enter frame of a task.
+pub fn frames_of<C: Callbacks, F: ToHost>(
+    s: &mut Session<C, F>,
+    k: TaskHandle,
+) -> Result<(u64, u64), WalkFault>
+    ensures look { (n : Id) → Stands C.told s.old Task (task_pair k) n
+        → Looks C.told s.old result (λ w memory. look_frames w memory n) }
+    ensures leaves { Leaves C.told 0 s.old s.new }
+    ensures cause { HasCause (C.faults s.old.table.calls) (C.faults s.new.table.calls)
+        (result ≡ Err WalkFault.Callback) }
+{
+    let answer = get_task_frame(s, k);
+    match answer {
+        Ok(frames) => Ok((frames.exit, frames.enter)),
+        Err(rc) => Err(fault_of(s, (k.key, k.serial), rc)),
+    }
+}
