@@ -7,5 +7,12 @@ pub mod ThreadLooks
 pub mod Lent
 pub mod NumberLooks
 pub mod Chained
+pub mod FoundRegions
+pub mod Indexed
 pub mod TaskLooks
 pub mod TaskChained
+pub mod FoundTasks
+pub mod FoundLooks
+pub mod AddedRows
+pub mod RegionSlots
+pub mod ViewLooks

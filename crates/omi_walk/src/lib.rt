@@ -1,22 +1,26 @@
-//! Parts of the report of a target by inquiries: its threads, its regions with their members, and the chains of its tasks.
+//! The whole report of a target by inquiries: its header, its threads, its regions with their members, and the chains of its tasks.
 #![tactic(auto)]
 
 mod chain;
 mod fault;
+mod found;
+mod head;
+mod index;
 mod members;
 mod met;
 mod numbers;
+mod region_rows;
 mod regions;
+mod regions_met;
 mod related;
 mod scheduling;
+mod task_rows;
 mod tasks;
+mod thread_rows;
 mod threads;
 mod variables;
+mod view;
 mod words;
 
-pub use chain::{enclosing, innermost};
 pub use fault::WalkFault;
-pub use met::Met;
-pub use regions::region_row;
-pub use scheduling::task_chain;
-pub use threads::{SeenPart, SeenThread, thread_row};
+pub use view::walk;

@@ -6,7 +6,7 @@ ghost use Rattle.omi_layout.specs.Field.{tasks};
 ghost use Rattle.omi_layout.specs.Table.{records};
 ghost use Rattle.omi_outside.specs.Outside.{HasCause};
 ghost use Rattle.omi_rep.specs.LookView.{look_chain};
-ghost use Rattle.omi_walk.specs.Gives.{Looks};
+ghost use Rattle.omi_walk.specs.Added.{AddsRows};
 ghost use Rattle.omi_walk.specs.Leaves.{Leaves};
 ghost use Rattle.omi_walk.specs.Objects.{IsMet, name_in};
 
@@ -28,28 +28,28 @@ fn task_count(layout: &Layout) -> u32
     u32::from(layout.threads()) * u32::from(layout.tasks_per_thread())
 }
 
-/// The rows of the tasks of a thread from one on, each followed by its scheduling task, at most as many as the layout has records of tasks.
-/// A Cycle with the first address that is met twice.
+/// Adds the rows of the tasks of a thread from one on, each followed by its scheduling task, at most as many as the layout has records of
+/// tasks. A Cycle with the first address that is met twice.
 pub fn task_chain<C: Callbacks, F: ToHost>(
     s: &mut Session<C, F>,
     alloc: Global,
     thread: u8,
     first: Option<Met>,
-) -> Result<TaskRows, WalkFault>
+    rows: &mut TaskRows,
+) -> Result<(), WalkFault>
     requires many { s.old.handles.made < 2 ^ 58 }
     requires met { IfSome first (IsMet C.told s.old Task) }
-    ensures look { Looks C.told s.old result (λ w memory.
+    ensures look { AddsRows C.told s.old result rows.old rows.new (λ w memory.
         look_chain w memory (records w tasks) [] thread (name_in first)) }
     ensures leaves { Leaves C.told 1310720 s.old s.new }
     ensures cause { HasCause (C.faults s.old.table.calls) (C.faults s.new.table.calls)
         (result ≡ Err WalkFault.Callback) }
 {
     let mut met = BTreeSet::new(alloc);
-    let mut rows = TaskRows::new(alloc);
     let mut current = first;
     for _ in 0..task_count(s.layout()) {
         let Some(task) = current else {
-            return Ok(rows);
+            return Ok(());
         };
         met.insert(task.held.addr)?;
         let link = task_row(s, alloc, task, thread, &met)?;
@@ -57,7 +57,7 @@ pub fn task_chain<C: Callbacks, F: ToHost>(
         rows.push(link.row)?;
     }
     match current {
-        None => Ok(rows),
+        None => Ok(()),
         Some(task) => Err(WalkFault::Cycle {
             addr: task.held.addr,
         }),

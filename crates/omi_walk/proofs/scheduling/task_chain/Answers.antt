@@ -1,4 +1,4 @@
-use Rattle.std.proofs.Common.{◌≡◌, ◌∷◌, ℕ, ◌-◌, ◌+◌, suc, Some, refl, ap, subst, ◌∙◌, arith}
+use Rattle.std.proofs.Common.{append_assoc, append-nil, ◌≡◌, ◌∷◌, ◌++◌, [], ℕ, ◌-◌, ◌+◌, suc, Some, refl, sym, ap, subst, ◌∙◌, arith}
 use Rattle.std.specs.Prelude.{IfSome}
 use Rattle.std.specs.Ordering.{nat_cmp}
 use Rattle.std.specs.BTreeSet.{contains}
@@ -22,16 +22,22 @@ loop-init g c =
       bound = count;
       few = c.task_count-end.ensures.few;
       met = c.requires.met;
+      added = [];
+      is = sym (append-nil c.args.rows.now);
       so =
           let all : c.task_count-end.result - 0 ≡ records c.args.s.now.layout tasks = omega (arith, count) in
-          rw (c.new-rows.ensures, all) (tasks_begin g.C.Callbacks.told c.args.s.now c.args.thread (name_in c.args.first) (contains nat_cmp c.new-met.result) (λ address. rw c.new-met.ensures.empty refl));
+          rw all (tasks_begin g.C.Callbacks.told c.args.s.now c.args.thread (name_in c.args.first) (contains nat_cmp c.new-met.result) (λ address. rw c.new-met.ensures.empty refl));
     }
 
 pub returns-in_default-clause-look : goal.returns-in_default-clause-look
 returns-in_default-clause-look g c =
     let told = g.C.Callbacks.told in
-    tasks_end told c.args.s.now c.args.thread (name_in c.args.first) c.loop.rows (contains nat_cmp c.loop.met) (c.task_count-end.result - c.loop.counter)
-    (subst (λ o. TasksSoFar told c.args.s.now c.args.thread (name_in c.args.first) c.loop.rows (contains nat_cmp c.loop.met) (c.task_count-end.result - c.loop.counter) (name_in o)) c.in_default.is c.loop.invariant.so)
+    record {
+      rows = c.loop.invariant.added;
+      is = c.loop.invariant.is;
+      gives = tasks_end told c.args.s.now c.args.thread (name_in c.args.first) c.loop.invariant.added (contains nat_cmp c.loop.met) (c.task_count-end.result - c.loop.counter)
+          (subst (λ o. TasksSoFar told c.args.s.now c.args.thread (name_in c.args.first) c.loop.invariant.added (contains nat_cmp c.loop.met) (c.task_count-end.result - c.loop.counter) (name_in o)) c.in_default.is c.loop.invariant.so);
+    }
 
 pub returns-in_err-insert-clause-look : goal.returns-in_err-insert-clause-look
 returns-in_err-insert-clause-look g c =
@@ -44,13 +50,13 @@ returns-in_err-link-clause-look g c =
     let told = g.C.Callbacks.told in
     let task = c.in-Some.task in
     let one : c.task_count-end.result - c.loop.counter ≡ suc (c.task_count-end.result - (c.loop.counter + 1)) = omega (arith, c.loop-test.true) in
-    let so = subst (λ left. TasksSoFar told c.args.s.now c.args.thread (name_in c.args.first) c.loop.rows (contains nat_cmp c.loop.met) left (Some task.name)) one
-    (subst (λ o. TasksSoFar told c.args.s.now c.args.thread (name_in c.args.first) c.loop.rows (contains nat_cmp c.loop.met) (c.task_count-end.result - c.loop.counter) (name_in o)) c.in-Some.is c.loop.invariant.so) in
+    let so = subst (λ left. TasksSoFar told c.args.s.now c.args.thread (name_in c.args.first) c.loop.invariant.added (contains nat_cmp c.loop.met) left (Some task.name)) one
+    (subst (λ o. TasksSoFar told c.args.s.now c.args.thread (name_in c.args.first) c.loop.invariant.added (contains nat_cmp c.loop.met) (c.task_count-end.result - c.loop.counter) (name_in o)) c.in-Some.is c.loop.invariant.so) in
     let met = subst (λ o. IfSome o (IsMet told c.loop.s Task)) c.in-Some.is c.loop.invariant.met in
     let there = met_in_address told c.args.s.now c.loop.s Task (Some task) c.loop.invariant.leaves.stays met task refl in
-    let seen = now_met told c.args.s.now c.args.thread (name_in c.args.first) c.loop.s c.loop.invariant.leaves.stays c.loop.rows (contains nat_cmp c.loop.met) (c.task_count-end.result - (c.loop.counter + 1)) task.name so in
+    let seen = now_met told c.args.s.now c.args.thread (name_in c.args.first) c.loop.s c.loop.invariant.leaves.stays c.loop.invariant.added (contains nat_cmp c.loop.met) (c.task_count-end.result - (c.loop.counter + 1)) task.name so in
     let same = λ (address : ℕ). met_more c.loop.met c.insert.new.self task.held.addr so.before so.same c.in_ok-insert.ensures.updates address ∙ ap (λ a. was_met (a ∷ so.before) address) there in
-    rw (p.1, p.2) (tasks_stop told c.args.s.now c.args.thread (name_in c.args.first) c.loop.s c.loop.invariant.leaves.stays c.loop.rows (contains nat_cmp c.loop.met) _ task.name so c.in_err-link.field-0.0
+    rw (p.1, p.2) (tasks_stop told c.args.s.now c.args.thread (name_in c.args.first) c.loop.s c.loop.invariant.leaves.stays c.loop.invariant.added (contains nat_cmp c.loop.met) _ task.name so c.in_err-link.field-0.0
     (c.in_err-link.ensures.look seen same))
 
 pub returns-in_err-push-clause-look : goal.returns-in_err-push-clause-look
@@ -65,33 +71,39 @@ loop-preserved g c = record {
   bound = c.loop.invariant.bound;
   few = c.loop.invariant.few;
   met = c.in_ok-link.ensures.met;
+  added = c.loop.invariant.added ++ c.in_ok-link.link.row ∷ [];
+  is = c.in_ok-push.ensures.added ∙ ap (λ rows. rows ++ c.in_ok-link.link.row ∷ []) c.loop.invariant.is ∙ append_assoc c.args.rows.now c.loop.invariant.added (c.in_ok-link.link.row ∷ []);
   so =
       let told = g.C.Callbacks.told in
       let task = c.in-Some.task in
       let one : c.task_count-end.result - c.loop.counter ≡ suc (c.task_count-end.result - (c.loop.counter + 1)) = omega (arith, c.loop-test.true) in
-      let so = subst (λ left. TasksSoFar told c.args.s.now c.args.thread (name_in c.args.first) c.loop.rows (contains nat_cmp c.loop.met) left (Some task.name)) one
-      (subst (λ o. TasksSoFar told c.args.s.now c.args.thread (name_in c.args.first) c.loop.rows (contains nat_cmp c.loop.met) (c.task_count-end.result - c.loop.counter) (name_in o)) c.in-Some.is c.loop.invariant.so) in
+      let so = subst (λ left. TasksSoFar told c.args.s.now c.args.thread (name_in c.args.first) c.loop.invariant.added (contains nat_cmp c.loop.met) left (Some task.name)) one
+      (subst (λ o. TasksSoFar told c.args.s.now c.args.thread (name_in c.args.first) c.loop.invariant.added (contains nat_cmp c.loop.met) (c.task_count-end.result - c.loop.counter) (name_in o)) c.in-Some.is c.loop.invariant.so) in
       let met = subst (λ o. IfSome o (IsMet told c.loop.s Task)) c.in-Some.is c.loop.invariant.met in
       let there = met_in_address told c.args.s.now c.loop.s Task (Some task) c.loop.invariant.leaves.stays met task refl in
-      let seen = now_met told c.args.s.now c.args.thread (name_in c.args.first) c.loop.s c.loop.invariant.leaves.stays c.loop.rows (contains nat_cmp c.loop.met) (c.task_count-end.result - (c.loop.counter + 1)) task.name so in
+      let seen = now_met told c.args.s.now c.args.thread (name_in c.args.first) c.loop.s c.loop.invariant.leaves.stays c.loop.invariant.added (contains nat_cmp c.loop.met) (c.task_count-end.result - (c.loop.counter + 1)) task.name so in
       let same = λ (address : ℕ). met_more c.loop.met c.insert.new.self task.held.addr so.before so.same c.in_ok-insert.ensures.updates address ∙ ap (λ a. was_met (a ∷ so.before) address) there in
-      rw c.in_ok-push.ensures.added (tasks_next told c.args.s.now c.args.thread (name_in c.args.first) c.loop.s c.loop.invariant.leaves.stays c.loop.rows (contains nat_cmp c.loop.met) _ task.name so
-      (contains nat_cmp c.insert.new.self) c.in_ok-link.link.row (name_in c.in_ok-link.link.next) same c.in_ok-link.ensures.next (c.in_ok-link.ensures.look seen same));
+      tasks_next told c.args.s.now c.args.thread (name_in c.args.first) c.loop.s c.loop.invariant.leaves.stays c.loop.invariant.added (contains nat_cmp c.loop.met) _ task.name so
+      (contains nat_cmp c.insert.new.self) c.in_ok-link.link.row (name_in c.in_ok-link.link.next) same c.in_ok-link.ensures.next (c.in_ok-link.ensures.look seen same);
 }
 
 pub returns-in-None-clause-look : goal.returns-in-None-clause-look
 returns-in-None-clause-look g c =
     let told = g.C.Callbacks.told in
-    tasks_end told c.args.s.now c.args.thread (name_in c.args.first) c.loop.rows (contains nat_cmp c.loop.met) (c.task_count-end.result - c.loop.counter)
-    (subst (λ o. TasksSoFar told c.args.s.now c.args.thread (name_in c.args.first) c.loop.rows (contains nat_cmp c.loop.met) (c.task_count-end.result - c.loop.counter) (name_in o)) c.in-None.is c.loop.invariant.so)
+    record {
+      rows = c.loop.invariant.added;
+      is = c.loop.invariant.is;
+      gives = tasks_end told c.args.s.now c.args.thread (name_in c.args.first) c.loop.invariant.added (contains nat_cmp c.loop.met) (c.task_count-end.result - c.loop.counter)
+          (subst (λ o. TasksSoFar told c.args.s.now c.args.thread (name_in c.args.first) c.loop.invariant.added (contains nat_cmp c.loop.met) (c.task_count-end.result - c.loop.counter) (name_in o)) c.in-None.is c.loop.invariant.so);
+    }
 
 pub returns-clause-look : goal.returns-clause-look
 returns-clause-look g c =
     let told = g.C.Callbacks.told in
     let task = c.in-Some-current.task in
     let none : c.task_count-end.result - c.loop.counter ≡ 0 = omega (arith, c.loop-test.false) in
-    let so = subst (λ left. TasksSoFar told c.args.s.now c.args.thread (name_in c.args.first) c.loop.rows (contains nat_cmp c.loop.met) left (Some task.name)) none
-    (subst (λ o. TasksSoFar told c.args.s.now c.args.thread (name_in c.args.first) c.loop.rows (contains nat_cmp c.loop.met) (c.task_count-end.result - c.loop.counter) (name_in o)) c.in-Some-current.is c.loop.invariant.so) in
+    let so = subst (λ left. TasksSoFar told c.args.s.now c.args.thread (name_in c.args.first) c.loop.invariant.added (contains nat_cmp c.loop.met) left (Some task.name)) none
+    (subst (λ o. TasksSoFar told c.args.s.now c.args.thread (name_in c.args.first) c.loop.invariant.added (contains nat_cmp c.loop.met) (c.task_count-end.result - c.loop.counter) (name_in o)) c.in-Some-current.is c.loop.invariant.so) in
     let met = subst (λ o. IfSome o (IsMet told c.loop.s Task)) c.in-Some-current.is c.loop.invariant.met in
-    tasks_cycle told c.args.s.now c.args.thread (name_in c.args.first) c.loop.rows (contains nat_cmp c.loop.met) task.name task.held.addr
+    tasks_cycle told c.args.s.now c.args.thread (name_in c.args.first) c.loop.invariant.added (contains nat_cmp c.loop.met) task.name task.held.addr
     (met_in_address told c.args.s.now c.loop.s Task (Some task) c.loop.invariant.leaves.stays met task refl) so

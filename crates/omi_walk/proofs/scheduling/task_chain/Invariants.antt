@@ -1,10 +1,11 @@
-use Rattle.std.proofs.Common.{◌≡◌, ◌≤◌, ◌*◌, ◌-◌}
+use Rattle.std.proofs.Common.{◌≡◌, ◌≤◌, ◌*◌, ◌-◌, ◌++◌, List}
 use Rattle.std.specs.Prelude.{IfSome}
 use Rattle.std.specs.Ordering.{nat_cmp}
 use Rattle.std.specs.BTreeSet.{contains}
 use Rattle.omi_handle.specs.declared.handle.Kind.TheVariants.{Task}
 use Rattle.omi_layout.specs.Field.{tasks}
 use Rattle.omi_layout.specs.Table.{records}
+use Rattle.omi_model.specs.declared.view.TaskRow.{TaskRow}
 use Rattle.omi_walk.specs.Leaves.{Leaves}
 use Rattle.omi_walk.specs.Objects.{IsMet, name_in}
 use Rattle.omi_walk.proofs.TaskChained.{TasksSoFar}
@@ -17,5 +18,7 @@ invariant-loop g l = record {
   bound : l.end ≡ records l.initial.s.layout tasks;
   few : l.end ≤ 262144;
   met : IfSome l.current (IsMet g.C.Callbacks.told l.s Task);
-  so : TasksSoFar g.C.Callbacks.told l.initial.s l.thread (name_in l.fn.first) l.rows (contains nat_cmp l.met) (l.end - l.counter) (name_in l.current);
+  added : List TaskRow;
+  is : l.rows ≡ l.initial.rows ++ added;
+  so : TasksSoFar g.C.Callbacks.told l.initial.s l.thread (name_in l.fn.first) added (contains nat_cmp l.met) (l.end - l.counter) (name_in l.current);
 }

@@ -1,0 +1,78 @@
+-- The threads that were found for the rows so far, and the elements of a list that are left.
+use Rattle.std.proofs.Common.{◌≡◌, ◌≤◌, ◌<◌, ◌+◌, ℕ, suc, List, [], ◌∷◌, ◌++◌, Option, Some, None, drop, get_or, length, map, refl, sym, ap, ◌∙◌, arith}
+use Rattle.std.proofs.Math.Seq.{drop-cons}
+use Rattle.std.proofs.lemmas.List.{map-append, length-append}
+use Rattle.std.proofs.lemmas.List.Elements.{filter_map-append, All-nil, All-cons, All-append, All-weaker}
+use Rattle.std.specs.List.{All, cons_option}
+use Rattle.std.specs.Option.{option_map}
+use Rattle.std.specs.Prelude.{Ok, IfSome}
+use Rattle.omi_calls.specs.Told.{Told, Words}
+use Rattle.omi_handle.specs.declared.handle.Kind.TheVariants.{Task}
+use Rattle.omi_model.specs.declared.view.ThreadPart.{ThreadPart}
+use Rattle.omi_model.specs.declared.view.ThreadRow.{ThreadRow}
+use Rattle.omi_rep.specs.LookView.{look_current, found_threads}
+use Rattle.omi_session.specs.Opened.{Opened, Stays}
+use Rattle.omi_walk.specs.declared.found.Found.{Found}
+use Rattle.omi_walk.specs.declared.met.Met.{Met}
+use Rattle.omi_walk.specs.FoundThreads.{IsFound}
+use Rattle.omi_walk.specs.Gives.{Looks}
+use Rattle.omi_walk.specs.Objects.{IsMet, name_in}
+use Rattle.omi_walk.specs.SeenThreads.{found_in}
+use Rattle.omi_walk.proofs.Steps.{looks_after, met_after}
+
+-- a row adds at most one thread
+count_in : (o : Option ThreadPart) (current : Option Met) → length (found_in o current) ≤ 1
+count_in None current = omega arith
+count_in (Some part) current = omega arith
+
+pub found_few : (found : List Found) (o : Option ThreadPart) (current : Option Met) (most : ℕ) → length found ≤ most → length (found ++ found_in o current) ≤ most + 1
+found_few found o current most few =
+    let both = length-append found (found_in o current) in
+    let one = count_in o current in
+    omega (arith, both, one, few)
+
+-- and it is the one that its row has
+number_in : (o : Option ThreadPart) (current : Option Met) → map (λ f. f.thread) (found_in o current) ≡ cons_option (option_map (λ part. part.thread) o) []
+number_in None current = refl
+number_in (Some part) current = refl
+
+pub found_more : (w : List ℕ) (memory : Words) (rows : List ThreadRow) (found : List Found) (row : ThreadRow) (current : Option Met)
+    → map (λ f. f.thread) found ≡ found_threads w memory rows → map (λ f. f.thread) (found ++ found_in row.found current) ≡ found_threads w memory (rows ++ row ∷ [])
+found_more w memory rows found row current is =
+    map-append (λ (f : Found). f.thread) found (found_in row.found current)
+    ∙ ap (λ xs. xs ++ map (λ (f : Found). f.thread) (found_in row.found current)) is
+    ∙ ap (λ xs. found_threads w memory rows ++ xs) (number_in row.found current)
+    ∙ sym (filter_map-append (λ (row : ThreadRow). option_map (λ part. part.thread) row.found) rows (row ∷ []))
+
+module _ {C F : Type 0} (told : C → Told) (s t : Opened C F) (stays : Stays told s t) where
+  -- what was found is found in a later session
+  pub found_after : (f : Found) → IsFound told s f → IsFound told t f
+  found_after f is = record {
+    met = go f.current is.met;
+    look = looks_after told s t _ _ stays is.look;
+  }
+    where
+      go : (o : Option Met) → IfSome o (IsMet told s Task) → IfSome o (IsMet told t Task)
+      go None met = met
+      go (Some m) met = met_after told s t Task m stays met
+
+  pub all_after : (found : List Found) → All (IsFound told s) found → All (IsFound told t) found
+  all_after found all = All-weaker (IsFound told s) (IsFound told t) found_after found all
+
+  found_one : (o : Option ThreadPart) (current : Option Met) → IfSome o (λ part. Looks told s (Ok (name_in current)) (λ w memory. look_current w memory part.thread))
+      → IfSome current (IsMet told t Task) → All (IsFound told t) (found_in o current)
+  found_one None current look met = All-nil (IsFound told t)
+  found_one (Some part) current look met =
+      All-cons (IsFound told t) (record { thread = part.thread; current = current }) []
+      (record { met = met; look = looks_after told s t (Ok (name_in current)) (λ w memory. look_current w memory part.thread) stays look }) (All-nil (IsFound told t))
+
+  -- so are they all, with the thread of one row more
+  pub found_all : (found : List Found) (o : Option ThreadPart) (current : Option Met) → All (IsFound told s) found
+      → IfSome o (λ part. Looks told s (Ok (name_in current)) (λ w memory. look_current w memory part.thread)) → IfSome current (IsMet told t Task)
+      → All (IsFound told t) (found ++ found_in o current)
+  found_all found o current all look met =
+      All-append (IsFound told t) found (found_in o current) (all_after found all) (found_one o current look met)
+
+-- the elements that are left begin with the next
+pub next_left : (xs : List ℕ) (i : ℕ) → i < length xs → drop i xs ≡ get_or xs i 0 ∷ drop (i + 1) xs
+next_left xs i below = drop-cons xs i 0 below ∙ ap (λ n. get_or xs i 0 ∷ drop n xs) (let one : suc i ≡ i + 1 = omega arith in one)

@@ -1,0 +1,59 @@
+-- The chains of the threads that were found, one after the other.
+use Rattle.std.proofs.Common.{◌≡◌, ◌≤◌, ℕ, ◌+◌, List, [], ◌∷◌, Option, Some, None, length, map, drop, refl, ap, subst, ◌∙◌}
+use Rattle.std.specs.Prelude.{Result, Ok, IfSome, All, slice_get}
+use Rattle.std.specs.List.{flat_map}
+use Rattle.std.proofs.lemmas.List.{drop_more, drop_all}
+use Rattle.std.proofs.lemmas.List.Elements.{All-get_or}
+use Rattle.std.proofs.lemmas.Option.{slice_get_within, get_or_from_slice_get}
+use Rattle.omi_calls.specs.Told.{Told}
+use Rattle.omi_handle.specs.declared.handle.Kind.TheVariants.{Task}
+use Rattle.omi_layout.specs.Field.{tasks}
+use Rattle.omi_layout.specs.Table.{records}
+use Rattle.omi_model.specs.declared.view.TaskRow.{TaskRow}
+use Rattle.omi_rep.specs.Look.{each, mapped}
+use Rattle.omi_rep.specs.LookView.{look_current, look_chain, look_tasks}
+use Rattle.omi_session.specs.Opened.{Opened, Stays}
+use Rattle.omi_walk.specs.declared.fault.WalkFault.{WalkFault}
+use Rattle.omi_walk.specs.declared.found.Found.{Found}
+use Rattle.omi_walk.specs.declared.met.Met.{Met}
+use Rattle.omi_walk.specs.FoundThreads.{IsFound}
+use Rattle.omi_walk.specs.Gives.{Looks}
+use Rattle.omi_walk.specs.Objects.{IsMet, name_in}
+use Rattle.omi_walk.proofs.Steps.{EachSoFar, each_ends, looks_after, look_is, look_then, met_after}
+
+-- the threads that are left begin with the next
+pub next_thread : (found : List Found) (at : ℕ) (f : Found) → slice_get found at ≡ Some f → map (λ f. f.thread) (drop at found) ≡ f.thread ∷ map (λ f. f.thread) (drop (at + 1) found)
+next_thread found at f here =
+    ap (map (λ f. f.thread)) (drop_more found at f (slice_get_within found at f here) ∙ ap (λ g. g ∷ drop (at + 1) found) (get_or_from_slice_get found at f f here))
+
+-- and past the last there is none
+pub no_thread : (found : List Found) (at : ℕ) → length found ≤ at → map (λ f. f.thread) (drop at found) ≡ []
+no_thread found at over = ap (map (λ f. f.thread)) (drop_all at found over)
+
+module _ {C F : Type 0} (told : C → Told) (s : Opened C F) where
+  stays_here : Stays told s s
+  stays_here = record { table = record { same = refl; order = refl; to_host = refl }; layout = refl }
+
+  -- each of them was found
+  pub found_at : (found : List Found) (at : ℕ) (f : Found) → slice_get found at ≡ Some f → All (IsFound told s) found → IsFound told s f
+  found_at found at f here all =
+      subst (IsFound told s) (get_or_from_slice_get found at f f here) (All-get_or (IsFound told s) found at f (slice_get_within found at f here) all)
+
+  -- a current task that was met still lives
+  pub current_after : (t : Opened C F) (o : Option Met) → Stays told s t → IfSome o (IsMet told s Task) → IfSome o (IsMet told t Task)
+  current_after t None stays met = met
+  current_after t (Some m) stays met = met_after told s t Task m stays met
+
+  -- the look at the chains gives their rows
+  pub rows_end : (t : Opened C F) (all : List ℕ) (chains : List (List TaskRow)) → EachSoFar told s t look_tasks all chains []
+      → Looks told s (Ok (flat_map (λ r. r) chains)) (λ w memory. mapped (λ rows. flat_map (λ r. r) rows) (each (look_tasks w memory) all))
+  rows_end t all chains so =
+      look_then told s s chains (Ok (flat_map (λ r. r) chains)) (λ w memory. each (look_tasks w memory) all) (λ w memory rows. Ok (flat_map (λ r. r) rows))
+      (each_ends told s look_tasks all t chains so) stays_here (look_is told s (flat_map (λ r. r) chains))
+
+-- a look at the chain from the current task of a thread is a look at its tasks
+pub tasks_looked : {C F : Type 0} (told : C → Told) (s t : Opened C F) (f : Found) (r : Result (List TaskRow) WalkFault) → IsFound told s f → Stays told s t
+    → Looks told t r (λ w memory. look_chain w memory (records w tasks) [] f.thread (name_in f.current)) → Looks told t r (λ w memory. look_tasks w memory f.thread)
+tasks_looked told s t f r is stays rest =
+    look_then told t t (name_in f.current) r (λ w memory. look_current w memory f.thread) (λ w memory. look_chain w memory (records w tasks) [] f.thread)
+    (looks_after told s t (Ok (name_in f.current)) (λ w memory. look_current w memory f.thread) stays is.look) (stays_here told t) rest

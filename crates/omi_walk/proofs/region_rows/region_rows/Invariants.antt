@@ -1,0 +1,19 @@
+use Rattle.std.proofs.Common.{◌≡◌, ◌≤◌, ◌*◌, []}
+use Rattle.std.specs.List.{flat_map, range_with_len}
+use Rattle.omi_layout.specs.Field.{regions}
+use Rattle.omi_layout.specs.Table.{thread_count, per_thread}
+use Rattle.omi_rep.specs.LookView.{look_region}
+use Rattle.omi_walk.specs.Added.{Added}
+use Rattle.omi_walk.specs.Leaves.{Leaves}
+use Rattle.omi_walk.specs.Regions.{in_own_slots}
+use Rattle.omi_walk.proofs.AddedRows.{at_each}
+use Rattle.omi_walk.proofs.region_rows.region_rows.Given as goal
+
+abbrev pub invariant-loop-creator : goal.invariant-loop-creator
+invariant-loop-creator g l = record {
+  leaves : Leaves g.C.Callbacks.told (8320 * l.creator) l.initial.s l.s;
+  later : g.C.Callbacks.faults l.initial.s.table.calls ≤ g.C.Callbacks.faults l.s.table.calls;
+  bound : l.creator-end ≡ thread_count l.initial.s.layout;
+  few : per_thread l.initial.s.layout regions ≤ 64;
+  added : Added g.C.Callbacks.told l.initial.s [] l.rows (at_each look_region (flat_map (in_own_slots l.index l.initial.s.layout) (range_with_len 0 l.creator)));
+}

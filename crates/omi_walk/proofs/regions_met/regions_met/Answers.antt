@@ -1,0 +1,93 @@
+use Rattle.std.proofs.Common.{◌<◌, ◌++◌, ◌∷◌, [], ℕ, List, map, refl, ap, subst, ◌∙◌, arith}
+use Rattle.std.proofs.lemmas.List.{map-append, flat_map_more}
+use Rattle.std.proofs.lemmas.List.Elements.{All-append, All-nil, All-weaker}
+use Rattle.std.proofs.lemmas.Result.{err_from_is_err_and}
+use Rattle.omi_handle.specs.declared.handle.Kind.TheVariants.{Region}
+use Rattle.omi_model.specs.declared.id.Id.{Id}
+use Rattle.omi_rep.specs.LookView.{look_regions}
+use Rattle.omi_walk.specs.declared.met.Met.{Met}
+use Rattle.omi_walk.specs.Objects.{IsMet}
+use Rattle.omi_walk.proofs.FoundLooks.{found_after}
+use Rattle.omi_walk.proofs.FoundTasks.{next_thread, no_thread, found_at}
+use Rattle.omi_walk.proofs.Steps.{EachSoFar, each_begins, each_next, each_stops, each_ends, leaves_then, look_unsaid, met_after}
+use Rattle.omi_walk.proofs.regions_met.regions_met.Goals as goal
+
+pub loop-at-init : goal.loop-at-init
+loop-at-init g c = record {
+  leaves = record { stays = record { table = record { same = refl; order = refl; to_host = refl }; layout = refl }; held = refl; made = omega arith };
+  later = omega arith;
+  bound = c.len-at-end.ensures;
+  met = [];
+  chains = [];
+  names = refl;
+  first = λ key. rw c.new-index.ensures.empty refl;
+  small = All-nil _;
+  live = All-nil _;
+  so = each_begins g.C.Callbacks.told c.args.s.now look_regions (map (λ f. f.thread) c.args.found.now);
+}
+
+pub regions_of-requires-clause-found : goal.regions_of-requires-clause-found
+regions_of-requires-clause-found g c =
+    let told = g.C.Callbacks.told in
+    found_after told c.args.s.now c.loop-at.s c.loop-at.invariant.leaves.stays c.get.result.now
+    (found_at told c.args.s.now c.args.found.now c.loop-at.at c.get.result.now c.get.ensures c.requires.found)
+
+pub returns-in_err-chain-clause-look : goal.returns-in_err-chain-clause-look
+returns-in_err-chain-clause-look g c =
+    let p = err_from_is_err_and c.from_residual.result c.from_residual.ensures.1 in
+    let told = g.C.Callbacks.told in
+    let f = c.get.result.now in
+    let all = map (λ f. f.thread) c.args.found.now in
+    let so = subst (λ left. EachSoFar told c.args.s.now c.loop-at.s look_regions all c.loop-at.invariant.chains left)
+    (next_thread c.args.found.now c.loop-at.at f c.get.ensures) c.loop-at.invariant.so in
+    rw (p.1, p.2) (each_stops told c.args.s.now look_regions all c.loop-at.s c.loop-at.invariant.chains f.thread _ c.in_err-chain.field-0.0 so c.in_err-chain.ensures.look)
+
+pub returns-in_err-index_all-clause-look : goal.returns-in_err-index_all-clause-look
+returns-in_err-index_all-clause-look g c =
+    let p = err_from_is_err_and c.from_residual-in_err-index_all.result c.from_residual-in_err-index_all.ensures.1 in
+    rw (p.1, p.2, c.in_err-index_all.ensures.memory) (look_unsaid g.C.Callbacks.told c.args.s.now _)
+
+pub loop-at-preserved : goal.loop-at-preserved
+loop-at-preserved g c = record {
+  leaves = leaves_then g.C.Callbacks.told _ _ _ _ _ _ (omega arith) c.loop-at.invariant.leaves c.regions_of.ensures.leaves;
+  later = omega (arith, c.loop-at.invariant.later, c.regions_of.ensures.cause.later);
+  bound = c.loop-at.invariant.bound;
+  met = c.loop-at.invariant.met ++ c.in_ok-chain.chain;
+  chains = c.loop-at.invariant.chains ++ map (λ m. m.name) c.in_ok-chain.chain ∷ [];
+  names =
+      let names : List Id = map (λ m. m.name) c.in_ok-chain.chain in
+      map-append (λ (m : Met). m.name) c.loop-at.invariant.met c.in_ok-chain.chain ∙ ap (λ xs. xs ++ names) c.loop-at.invariant.names
+      ∙ flat_map_more (λ (ids : List Id). ids) [] c.loop-at.invariant.chains names;
+  first = c.in_ok-index_all.ensures.first c.loop-at.invariant.met c.loop-at.invariant.first;
+  small = All-append (λ m. m.name.slot < 65536) c.loop-at.invariant.met c.in_ok-chain.chain c.loop-at.invariant.small c.in_ok-index_all.ensures.small;
+  live =
+      let told = g.C.Callbacks.told in
+      All-append (IsMet told c.regions_of.new.s Region) c.loop-at.invariant.met c.in_ok-chain.chain
+      (All-weaker (IsMet told c.loop-at.s Region) (IsMet told c.regions_of.new.s Region) (λ m met. met_after told c.loop-at.s c.regions_of.new.s Region m c.regions_of.ensures.leaves.stays met)
+      c.loop-at.invariant.met c.loop-at.invariant.live)
+      c.in_ok-chain.ensures.met;
+  so =
+      let told = g.C.Callbacks.told in
+      let f = c.get.result.now in
+      let all = map (λ f. f.thread) c.args.found.now in
+      let so = subst (λ left. EachSoFar told c.args.s.now c.loop-at.s look_regions all c.loop-at.invariant.chains left)
+      (next_thread c.args.found.now c.loop-at.at f c.get.ensures) c.loop-at.invariant.so in
+      each_next told c.args.s.now look_regions all c.loop-at.s c.loop-at.invariant.chains c.regions_of.new.s f.thread _ (map (λ m. m.name) c.in_ok-chain.chain) so
+      c.in_ok-chain.ensures.look c.regions_of.ensures.leaves.stays;
+}
+
+pub returns-clause-look : goal.returns-clause-look
+returns-clause-look g c =
+    let told = g.C.Callbacks.told in
+    let all = map (λ f. f.thread) c.args.found.now in
+    let so = subst (λ (left : List ℕ). EachSoFar told c.args.s.now c.loop-at.s look_regions all c.loop-at.invariant.chains left)
+    (no_thread c.args.found.now c.loop-at.at (omega (arith, c.loop-at.invariant.bound, c.loop-at-test.false))) c.loop-at.invariant.so in
+    record {
+      met = c.loop-at.invariant.met;
+      chains = c.loop-at.invariant.chains;
+      gives = each_ends told c.args.s.now look_regions all c.loop-at.s c.loop-at.invariant.chains so;
+      names = c.loop-at.invariant.names;
+      first = c.loop-at.invariant.first;
+      small = c.loop-at.invariant.small;
+      live = c.loop-at.invariant.live;
+    }

@@ -1,0 +1,25 @@
+use Rattle.std.proofs.Common.{◌≡◌, ◌≤◌, ◌*◌, List, length, map, drop}
+use Rattle.std.specs.List.{All, flat_map}
+use Rattle.omi_handle.specs.declared.handle.Kind.TheVariants.{Region}
+use Rattle.omi_model.specs.declared.id.Id.{Id}
+use Rattle.omi_rep.specs.LookView.{look_regions}
+use Rattle.omi_walk.specs.declared.met.Met.{Met}
+use Rattle.omi_walk.specs.Index.{HasFirst, AreSmall}
+use Rattle.omi_walk.specs.Leaves.{Leaves}
+use Rattle.omi_walk.specs.Objects.{IsMet}
+use Rattle.omi_walk.proofs.Steps.{EachSoFar}
+use Rattle.omi_walk.proofs.regions_met.regions_met.Given as goal
+
+abbrev pub invariant-loop-at : goal.invariant-loop-at
+invariant-loop-at g l = record {
+  leaves : Leaves g.C.Callbacks.told (8194 * l.at) l.initial.s l.s;
+  later : g.C.Callbacks.faults l.initial.s.table.calls ≤ g.C.Callbacks.faults l.s.table.calls;
+  bound : l.at-end ≡ length l.found;
+  met : List Met;
+  chains : List (List Id);
+  names : map (λ m. m.name) met ≡ flat_map (λ ids. ids) chains;
+  first : HasFirst l.index met;
+  small : AreSmall met;
+  live : All (IsMet g.C.Callbacks.told l.s Region) met;
+  so : EachSoFar g.C.Callbacks.told l.initial.s l.s look_regions (map (λ f. f.thread) l.found) chains (map (λ f. f.thread) (drop l.at l.found));
+}

@@ -1,0 +1,17 @@
+use Rattle.std.proofs.Common.{◌≡◌, ◌≤◌, ◌*◌, List, length, map, drop}
+use Rattle.std.specs.List.{flat_map}
+use Rattle.omi_model.specs.declared.view.TaskRow.{TaskRow}
+use Rattle.omi_rep.specs.LookView.{look_tasks}
+use Rattle.omi_walk.specs.Leaves.{Leaves}
+use Rattle.omi_walk.proofs.Steps.{EachSoFar}
+use Rattle.omi_walk.proofs.task_rows.task_rows.Given as goal
+
+abbrev pub invariant-loop-at : goal.invariant-loop-at
+invariant-loop-at g l = record {
+  leaves : Leaves g.C.Callbacks.told (1310720 * l.at) l.initial.s l.s;
+  later : g.C.Callbacks.faults l.initial.s.table.calls ≤ g.C.Callbacks.faults l.s.table.calls;
+  bound : l.at-end ≡ length l.found;
+  chains : List (List TaskRow);
+  is : l.rows ≡ flat_map (λ r. r) chains;
+  so : EachSoFar g.C.Callbacks.told l.initial.s l.s look_tasks (map (λ f. f.thread) l.found) chains (map (λ f. f.thread) (drop l.at l.found));
+}

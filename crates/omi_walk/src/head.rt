@@ -1,0 +1,49 @@
+//! The header of a report.
+
+ghost use Rattle.std.specs.Prelude.{◌≡◌, Err};
+ghost use Rattle.omi_outside.specs.Outside.{HasCause};
+ghost use Rattle.omi_rep.specs.LookView.{of_runtime, look_head};
+ghost use Rattle.omi_walk.specs.Gives.{Looks};
+ghost use Rattle.omi_walk.specs.Leaves.{Leaves};
+
+use crate::WalkFault;
+use crate::fault::walked;
+use crate::variables::{DEBUG_VAR, MAX_ACTIVE_LEVELS_VAR, NUM_PROCS_VAR};
+use crate::words::space_variable;
+use omi_calls::{Callbacks, ToHost};
+use omi_layout::Field;
+use omi_model::HeadRow;
+use omi_session::Session;
+
+/// The version of OpenMP that the target's runtime has.
+fn version_of<C: Callbacks, F: ToHost>(s: &mut Session<C, F>) -> Result<u64, WalkFault>
+    ensures look { Looks C.told s.old result
+        (λ w memory. of_runtime w memory Field.RuntimeVersion) }
+    ensures leaves { Leaves C.told 0 s.old s.new }
+    ensures cause { HasCause (C.faults s.old.table.calls) (C.faults s.new.table.calls)
+        (result ≡ Err WalkFault.Callback) }
+{
+    let answer = s.get_omp_version();
+    walked(s, (0, 0), answer)
+}
+
+/// What the header of a report says: the version of OpenMP, the number of threads of the layout, and the control variables of the
+/// address space.
+pub fn head<C: Callbacks, F: ToHost>(s: &mut Session<C, F>) -> Result<HeadRow, WalkFault>
+    ensures look { Looks C.told s.old result (λ w memory. look_head w memory) }
+    ensures leaves { Leaves C.told 0 s.old s.new }
+    ensures cause { HasCause (C.faults s.old.table.calls) (C.faults s.new.table.calls)
+        (result ≡ Err WalkFault.Callback) }
+{
+    let version = version_of(s)?;
+    let debug = space_variable(s, DEBUG_VAR)?;
+    let procs = space_variable(s, NUM_PROCS_VAR)?;
+    let max_active = space_variable(s, MAX_ACTIVE_LEVELS_VAR)?;
+    Ok(HeadRow {
+        version,
+        threads: s.layout().threads(),
+        debug,
+        procs,
+        max_active,
+    })
+}

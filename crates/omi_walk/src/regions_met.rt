@@ -1,0 +1,67 @@
+//! The regions of the found threads, by the slots of their records.
+
+ghost use Rattle.std.specs.Prelude.{◌≡◌, ◌<◌, ◌≤◌, ◌^◌, map, length, Err, IfOk, All};
+ghost use Rattle.omi_handle.specs.declared.handle.Kind.TheVariants.{Region};
+ghost use Rattle.omi_outside.specs.Outside.{HasCause};
+ghost use Rattle.omi_rep.specs.LookView.{look_regions};
+ghost use Rattle.omi_walk.specs.Chains.{names_of};
+ghost use Rattle.omi_walk.specs.FoundThreads.{IsFound};
+ghost use Rattle.omi_walk.specs.Gives.{Looks};
+ghost use Rattle.omi_walk.specs.Leaves.{Leaves};
+ghost use Rattle.omi_walk.specs.Objects.{IsMet};
+ghost use Rattle.omi_walk.specs.Regions.{Indexes};
+
+use crate::WalkFault;
+use crate::chain::{enclosing, innermost};
+use crate::found::Found;
+use crate::index::index_all;
+use crate::met::Met;
+use omi_calls::{Callbacks, ToHost};
+use omi_list::List;
+use omi_session::Session;
+use std::alloc::Global;
+use std::collections::BTreeMap;
+
+/// The regions of a thread that was found: that of its current task, and those which enclose it.
+fn regions_of<C: Callbacks, F: ToHost>(
+    s: &mut Session<C, F>,
+    alloc: Global,
+    found: Found,
+) -> Result<List<Met>, WalkFault>
+    requires many { s.old.handles.made < 2 ^ 58 }
+    requires found { IsFound C.told s.old found }
+    ensures look { Looks C.told s.old (names_of result)
+        (λ w memory. look_regions w memory found.thread) }
+    ensures met { IfOk result (λ chain. All (IsMet C.told s.new Region) chain) }
+    ensures leaves { Leaves C.told 8194 s.old s.new }
+    ensures cause { HasCause (C.faults s.old.table.calls) (C.faults s.new.table.calls)
+        (result ≡ Err WalkFault.Callback) }
+{
+    let Some(task) = found.current else {
+        return Ok(List::new(alloc));
+    };
+    let first = innermost(s, task)?;
+    enclosing(s, alloc, first)
+}
+
+/// The regions of each found thread, in order, of each slot the first that was met.
+pub fn regions_met<C: Callbacks, F: ToHost>(
+    s: &mut Session<C, F>,
+    alloc: Global,
+    found: &List<Found>,
+) -> Result<BTreeMap<u32, Met>, WalkFault>
+    requires many { s.old.handles.made < 2 ^ 57 }
+    requires few { length found.now ≤ 64 }
+    requires found { All (IsFound C.told s.old) found.now }
+    ensures look { Indexes C.told s.old s.new (map (λ f. f.thread) found.now) result }
+    ensures leaves { Leaves C.told 524416 s.old s.new }
+    ensures cause { HasCause (C.faults s.old.table.calls) (C.faults s.new.table.calls)
+        (result ≡ Err WalkFault.Callback) }
+{
+    let mut index = BTreeMap::new(alloc);
+    for at in 0..found.len() {
+        let chain = regions_of(s, alloc, *found.get(at))?;
+        index_all(&mut index, &chain)?;
+    }
+    Ok(index)
+}

@@ -1,0 +1,43 @@
+//! The chains of the found threads, one after the other.
+
+ghost use Rattle.std.specs.Prelude.{◌≡◌, ◌≤◌, ◌<◌, ◌^◌, Err, length, map, All};
+ghost use Rattle.std.specs.List.{flat_map};
+ghost use Rattle.omi_outside.specs.Outside.{HasCause};
+ghost use Rattle.omi_rep.specs.Look.{each, mapped};
+ghost use Rattle.omi_rep.specs.LookView.{look_tasks};
+ghost use Rattle.omi_walk.specs.FoundThreads.{IsFound};
+ghost use Rattle.omi_walk.specs.Gives.{Looks};
+ghost use Rattle.omi_walk.specs.Leaves.{Leaves};
+
+use crate::WalkFault;
+use crate::found::Found;
+use crate::scheduling::task_chain;
+use omi_calls::{Callbacks, ToHost};
+use omi_list::List;
+use omi_model::TaskRows;
+use omi_session::Session;
+use std::alloc::Global;
+
+/// The rows of the tasks of each found thread, in order.
+pub fn task_rows<C: Callbacks, F: ToHost>(
+    s: &mut Session<C, F>,
+    alloc: Global,
+    found: &List<Found>,
+) -> Result<TaskRows, WalkFault>
+    requires many { s.old.handles.made < 2 ^ 57 }
+    requires few { length found.now ≤ 64 }
+    requires found { All (IsFound C.told s.old) found.now }
+    ensures look { Looks C.told s.old result (λ w memory.
+        mapped (λ rows. flat_map (λ r. r) rows)
+        (each (look_tasks w memory) (map (λ f. f.thread) found.now))) }
+    ensures leaves { Leaves C.told 83886080 s.old s.new }
+    ensures cause { HasCause (C.faults s.old.table.calls) (C.faults s.new.table.calls)
+        (result ≡ Err WalkFault.Callback) }
+{
+    let mut rows = TaskRows::new(alloc);
+    for at in 0..found.len() {
+        let f = *found.get(at);
+        task_chain(s, alloc, f.thread, f.current, &mut rows)?;
+    }
+    Ok(rows)
+}

@@ -1,0 +1,46 @@
+//! The whole report of a target by inquiries, in the order of its lines.
+
+ghost use Rattle.std.specs.Prelude.{◌≡◌, ◌≤◌, ◌<◌, ◌^◌, Err, length};
+ghost use Rattle.omi_outside.specs.Outside.{HasCause};
+ghost use Rattle.omi_rep.specs.LookView.{look_view};
+ghost use Rattle.omi_walk.specs.Gives.{Looks};
+ghost use Rattle.omi_walk.specs.Leaves.{Leaves};
+
+use crate::WalkFault;
+use crate::head::head;
+use crate::region_rows::region_rows;
+use crate::regions_met::regions_met;
+use crate::task_rows::task_rows;
+use crate::thread_rows::{SeenThreads, thread_rows};
+use omi_calls::{Callbacks, ToHost};
+use omi_model::View;
+use omi_session::Session;
+use omi_word::Natives;
+use std::alloc::Global;
+
+/// The report for contexts with these native ids, in their order: the header, a row for each context, the regions of the found threads
+/// by name, and the chain of tasks of each.
+pub fn walk<C: Callbacks, F: ToHost>(
+    s: &mut Session<C, F>,
+    alloc: Global,
+    contexts: &Natives,
+) -> Result<View, WalkFault>
+    requires many { s.old.handles.made < 2 ^ 40 }
+    requires few { length contexts.now ≤ 64 }
+    ensures look { Looks C.told s.old result (λ w memory. look_view w memory contexts.now) }
+    ensures leaves { Leaves C.told 4294967295 s.old s.new }
+    ensures cause { HasCause (C.faults s.old.table.calls) (C.faults s.new.table.calls)
+        (result ≡ Err WalkFault.Callback) }
+{
+    let head = head(s)?;
+    let SeenThreads { rows, found } = thread_rows(s, alloc, contexts)?;
+    let index = regions_met(s, alloc, &found)?;
+    let regions = region_rows(s, alloc, &index)?;
+    let tasks = task_rows(s, alloc, &found)?;
+    Ok(View {
+        head,
+        threads: rows,
+        regions,
+        tasks,
+    })
+}
