@@ -7,7 +7,12 @@ use Rattle.omi_outside.specs.declared.status.Status.TheVariants as status
 use Rattle.omi_top.specs.Command.{Command, Stop, Make, Show, Faulty, written_name}
 use Rattle.omi_top.specs.Answer.{Answer, Gives, AreTold, IsAnswer, IsStopAnswer, IsMakeAnswer, IsShowAnswer, IsAnswered, IsLeft, IsSaid}
 use Rattle.omi_top.specs.declared.plan.Plan.{Plan}
-use Rattle.omi_top.specs.Refusal.{line_of, status_of}
+use Rattle.omi_layout.specs.declared.fault.LayoutFault.TheVariants.{Version, Overlap, OutOfRecord, BadArena}
+use Rattle.omi_layout.specs.declared.reading.LayoutError.{LayoutError}
+use Rattle.omi_layout.specs.declared.reading.LayoutError.TheVariants as layout
+use Rattle.omi_rep.specs.declared.fault.LookFault.{LookFault}
+use Rattle.omi_rep.specs.declared.fault.LookFault.TheVariants as look
+use Rattle.omi_top.specs.Refusal.{line_of, refusal_of_layout, refusal_of_look, status_of}
 use Rattle.omi_top.specs.declared.refusal.Refusal.{Refusal}
 use Rattle.omi_top.specs.declared.refusal.Refusal.TheVariants as refusal
 
@@ -29,12 +34,23 @@ stop_proper plan (Some bytes) None r fault (f, why, is) = another r _ fault is r
 stop_proper plan None (Some core) r fault is = is
 stop_proper plan (Some bytes) (Some core) r fault is = is
 
+layout_proper : (e : LayoutError) → is_fault (refusal_of_layout e) ≡ false
+layout_proper layout.NoSymbol = refl
+layout_proper (layout.Unmapped addr) = refl
+layout_proper (layout.Refused addr (Version v)) = refl
+layout_proper (layout.Refused addr (Overlap f g)) = refl
+layout_proper (layout.Refused addr (OutOfRecord f)) = refl
+layout_proper (layout.Refused addr (BadArena p)) = refl
+
+look_proper : (e : LookFault) → is_fault (refusal_of_look e) ≡ false
+look_proper (look.Damaged addr field) = refl
+look_proper (look.Cycle addr) = refl
+
 show_proper : (content core : Option (List ℕ)) (r : Refusal) → is_fault r ≡ true → IsShowAnswer content (Gives core (Err r)) → ⊥
 show_proper None None r fault is = another r _ fault is refl
 show_proper (Some bytes) None r fault (inl (at, why, refused, is)) = another r _ fault is refl
-show_proper (Some bytes) None r fault (inr (inl (other, is))) = another r _ fault is refl
-show_proper (Some bytes) None r fault (inr (inr (inl (cause, is)))) = another r _ fault is refl
-show_proper (Some bytes) None r fault (inr (inr (inr (at, cause, is)))) = another r _ fault is refl
+show_proper (Some bytes) None r fault (inr (core, spelled, inl (e, none, is))) = another r (refusal_of_layout e) fault is (layout_proper e)
+show_proper (Some bytes) None r fault (inr (core, spelled, inr (e, looked, is))) = another r (refusal_of_look e) fault is (look_proper e)
 show_proper None (Some core) r fault is = is
 show_proper (Some bytes) (Some core) r fault is = is
 
@@ -81,12 +97,12 @@ module _ (command : Command) (told : List ℕ → Told) (old new : Told) (counte
   err_left (refusal.Core at why) (inl (core, is, held)) said = (refusal.Core at why, refl, core, is, held, said)
   err_left (refusal.Core at why) (inr (inl (early, same))) said = absurd early
   err_left (refusal.Core at why) (inr (inr (late, half))) said = absurd late
-  err_left refusal.NotBuilt (inl (core, is, held)) said = (refusal.NotBuilt, refl, core, is, held, said)
-  err_left refusal.NotBuilt (inr (inl (early, same))) said = absurd early
-  err_left refusal.NotBuilt (inr (inr (late, half))) said = absurd late
-  err_left (refusal.Damaged at) (inl (core, is, held)) said = (refusal.Damaged at, refl, core, is, held, said)
-  err_left (refusal.Damaged at) (inr (inl (early, same))) said = absurd early
-  err_left (refusal.Damaged at) (inr (inr (late, half))) said = absurd late
+  err_left (refusal.Damaged addr field) (inl (core, is, held)) said = (refusal.Damaged addr field, refl, core, is, held, said)
+  err_left (refusal.Damaged addr field) (inr (inl (early, same))) said = absurd early
+  err_left (refusal.Damaged addr field) (inr (inr (late, half))) said = absurd late
+  err_left (refusal.Cycle addr) (inl (core, is, held)) said = (refusal.Cycle addr, refl, core, is, held, said)
+  err_left (refusal.Cycle addr) (inr (inl (early, same))) said = absurd early
+  err_left (refusal.Cycle addr) (inr (inr (late, half))) said = absurd late
   err_left refusal.Incompatible (inl (core, is, held)) said = (refusal.Incompatible, refl, core, is, held, said)
   err_left refusal.Incompatible (inr (inl (early, same))) said = absurd early
   err_left refusal.Incompatible (inr (inr (late, half))) said = absurd late

@@ -3,69 +3,39 @@ use Rattle.std.proofs.Common.{◌≡◌, inl, inr, ℕ, List, Option, Some, None
 use Rattle.omi_outside.specs.Outside.{Told, put_on}
 use Rattle.omi_outside.specs.declared.status.Status.{Status}
 use Rattle.omi_outside.specs.declared.status.Status.TheVariants as status
-use Rattle.omi_corefile.specs.Refusals.{CoreRefused}
-use Rattle.omi_corefile.specs.declared.fault.CoreFault.{CoreFault}
-use Rattle.omi_corefile.proofs.FileLaws.{core_not_refused}
+use Rattle.omi_corefile.specs.Spelling.{Core}
+use Rattle.omi_corefile.specs.declared.core_image.CoreImage.{CoreImage}
+use Rattle.omi_corefile.proofs.FileLaws.{core_unique}
 use Rattle.omi_text.specs.Report.{report}
-use Rattle.omi_layout.specs.Given.{GivesLayout}
-use Rattle.omi_layout.specs.SymbolTable.{words_of}
-use Rattle.omi_layout.specs.declared.reading.LayoutError.{LayoutError}
-use Rattle.omi_layout.proofs.OneAnswer.{one_layout}
-use Rattle.omi_rep.specs.Look.{Look}
-use Rattle.omi_rep.specs.LookView.{look_view}
-use Rattle.omi_rep.specs.Plain.{plain_view}
+use Rattle.omi_layout.specs.SymbolTable.{Words}
+use Rattle.omi_core.specs.Runs.{events_in}
+use Rattle.omi_core.specs.Steps.{events_behind}
+use Rattle.omi_session.proofs.NamesReached.{reached_are_names}
 use Rattle.omi_rep.specs.Shows.{Shows}
-use Rattle.omi_rep.proofs.PlainLook.{plain_looked}
-use Rattle.omi_rep.proofs.PlainShown.{plain_shown}
-use Rattle.omi_top.specs.declared.refusal.Refusal.{Refusal}
-use Rattle.omi_top.specs.Answer.{Answer, Gives, IsAnswer, IsShowAnswer, IsShowRefusal, IsOtherCore, IsIncompatibleCore, IsDamagedCore, IsReportOf, IsStopped, IsLeft, IsRefused, ComesWhere, IsFaultStatus, IsShownAgain}
-use Rattle.omi_top.specs.Cores.{one_thread, IsPlainCore, IsUnreadCore}
-use Rattle.omi_top.specs.Command.{Show}
-use Rattle.omi_top.specs.declared.plan.Plan.{Plan}
-use Rattle.omi_top.specs.Refusal.{status_of}
-use Rattle.omi_top.specs.Run.{thread_ids}
 use Rattle.omi_script.specs.declared.program.Program.{Program}
 use Rattle.omi_model.specs.State.{State}
 use Rattle.omi_model.specs.Views.{IsViewOf}
 use Rattle.omi_model.specs.declared.view.View.{View}
+use Rattle.omi_top.specs.declared.refusal.Refusal.{Refusal}
+use Rattle.omi_top.specs.declared.plan.Plan.{Plan}
+use Rattle.omi_top.specs.Answer.{Answer, Gives, IsAnswer, IsReportOf, IsShowAnswer, IsShowRefusal, IsShown, IsStopped, IsLeft, IsRefused, ComesWhere, IsFaultStatus}
+use Rattle.omi_top.specs.Command.{Show}
+use Rattle.omi_top.specs.Cores.{IsDamaged, IsIncompatible, IsLooked, ShowsState, Spells, memory_of}
+use Rattle.omi_top.specs.Refusal.{status_of}
+use Rattle.omi_top.specs.Run.{thread_ids}
+use Rattle.omi_top.proofs.ImageWords.{image_words}
+use Rattle.omi_shown.proofs.ShownViews.{shown_looked as shown_look}
+use Rattle.omi_top.proofs.ShowVerdicts.{HasFault, Refusing, all_refusing, damaged as damaged_refused, faulty, incompatible as incompatible_refused, kinds, missing, one_looked, one_view, report_not_refused}
 use Rattle.omi_top.proofs.Statuses.{DoesMore, IsDoneStatus, one_content, comes_where}
-use Rattle.omi_top.proofs.Showing.{one_image_of, plain_not_other, plain_not_unread, other_not_unread, incompatible_not_damaged}
 
--- no file is a core and has a fault
-abbrev HasFault : List ℕ → Type 0
-HasFault bytes = (at : ℕ) × (why : CoreFault) × CoreRefused bytes at why
+-- the core's file has a report
+abbrev HasReport : Option (List ℕ) → Type 0
+HasReport None = ⊥
+HasReport (Some bytes) = (text : List ℕ) × IsReportOf bytes text
 
-plain_not_refused : (bytes w words : List ℕ) → IsPlainCore bytes w words → HasFault bytes → ⊥
-plain_not_refused bytes w words plain = core_not_refused bytes (plain.image_core.core, plain.image_core.spelled)
-
-other_not_refused : (bytes : List ℕ) → IsOtherCore bytes → HasFault bytes → ⊥
-other_not_refused bytes (inl shape) = core_not_refused bytes (shape.core, shape.spelled)
-other_not_refused bytes (inr other) = core_not_refused bytes (other.image_core.core, other.image_core.spelled)
-
-unread_not_refused : (bytes : List ℕ) (e : LayoutError) → IsUnreadCore bytes e → HasFault bytes → ⊥
-unread_not_refused bytes e unread = core_not_refused bytes (unread.image_core.core, unread.image_core.spelled)
-
--- a plain core is not refused
-plain_answered : (bytes w words : List ℕ) (r : Refusal) → IsPlainCore bytes w words → IsShowRefusal (Some bytes) r → ⊥
-plain_answered bytes w words r plain (inl (at, why, refused, same)) = plain_not_refused bytes w words plain (at, why, refused)
-plain_answered bytes w words r plain (inr (inl (other, same))) = plain_not_other bytes w words plain other
-plain_answered bytes w words r plain (inr (inr (inl ((e, unread, lacks), same)))) = plain_not_unread bytes w words e plain unread
-plain_answered bytes w words r plain (inr (inr (inr (at, (e, unread, wrong), same)))) = plain_not_unread bytes w words e plain unread
-
--- a look gives one view
-one_looked : (x : Look View) (a b : View) → x ≡ Ok a → x ≡ Ok b → a ≡ b
-one_looked x a b first second = cc
-
--- what the words of a plain core show is what a look at them gives
-report_shown : (w words text : List ℕ) (bytes : List ℕ) → IsPlainCore bytes w words → (said : IsReportOf w words text) → (s : State) → Shows w (words_of words) s → IsViewOf s one_thread said.0
-report_shown w words text bytes plain (v, looked, is) s shown =
-    subst (λ (x : View). IsViewOf s one_thread x) (one_looked (look_view w (words_of words) one_thread) (plain_view w words) v (plain_looked w words plain.valid plain.plain) looked)
-    (plain_shown w words s plain.valid plain.plain shown)
-
--- the core's file holds a plain core
-abbrev HoldsPlain : Option (List ℕ) → Type 0
-HoldsPlain None = ⊥
-HoldsPlain (Some bytes) = (w : List ℕ) × (words : List ℕ) × IsPlainCore bytes w words
+not_refused : (content : Option (List ℕ)) (r : Refusal) → HasReport content → IsShowRefusal content r → ⊥
+not_refused None r none refuses = none
+not_refused (Some bytes) r (text, (v, spells, is)) refuses = report_not_refused bytes v r spells refuses
 
 -- what an answer says of the core, where the core's content is told
 module _ (core : List ℕ) (told : List ℕ → Told) (content : Option (List ℕ)) (is : told core ≡ Some content) where
@@ -81,152 +51,138 @@ module _ (core : List ℕ) (told : List ℕ → Told) (content : Option (List �
       go None (Some core) said = absurd said
       go (Some bytes) (Some core) said = absurd said
 
-  reports : (a : Answer) → DoesMore a → IsAnswer (Show core) told a → HoldsPlain content
+  reports : (a : Answer) → DoesMore a → IsAnswer (Show core) told a → HasReport content
   reports a more answer = go content a more (show_answer a answer)
     where
-      go : (c : Option (List ℕ)) (a : Answer) → DoesMore a → IsShowAnswer c a → HoldsPlain c
+      go : (c : Option (List ℕ)) (a : Answer) → DoesMore a → IsShowAnswer c a → HasReport c
       go c (Gives None (Err r)) more said = absurd more
       go None (Gives None (Ok text)) more said = said
       go None (Gives (Some core) (Ok text)) more said = said
       go None (Gives (Some core) (Err r)) more said = said
-      go (Some bytes) (Gives None (Ok text)) more (w, words, plain, said) = (w, words, plain)
+      go (Some bytes) (Gives None (Ok text)) more said = (text, said)
       go (Some bytes) (Gives (Some core) (Ok text)) more said = absurd said
       go (Some bytes) (Gives (Some core) (Err r)) more said = absurd said
+
+-- ---- a core whose words show a state
+
+-- a look at it gives the state's view
+shown_looked : (image : CoreImage) (s : State) → ShowsState image s → (v : View) × IsLooked image (Ok v) × IsViewOf s image.contexts v
+shown_looked image s shows =
+    let (v, looked, view) = shown_look shows.w (memory_of image) s image.contexts shows.valid shows.names shows.shows in
+    (v, record { w = shows.w; valid = shows.valid; layout = shows.shows.layout; is = looked }, view)
+
+-- so what a look gives is the state's view
+looked_shown : (image : CoreImage) (v : View) → IsLooked image (Ok v) → (s : State) → ShowsState image s → IsViewOf s image.contexts v
+looked_shown image v looked s shows =
+    let (u, also, view) = shown_looked image s shows in
+    subst (λ (x : View). IsViewOf s image.contexts x) (one_view u v (one_looked image (Ok u) (Ok v) also looked)) view
+
+-- the core of a run holds words that show the run's state
+run_shown : (p : Program) (plan : Plan) (bytes text : List ℕ) (run : IsStopped p plan bytes text) → ShowsState run.core_of.core run.state
+run_shown p plan bytes text run = record {
+  w = run.w;
+  valid = run.valid;
+  names = reached_are_names p (events_in (events_behind 0 run.entries)) run.state run.run.reached;
+  shows = subst (λ (words : Words). Shows run.w words run.state) (sym (image_words (thread_ids p.threads) run.words run.core_of.core run.core_of.image)) run.run.shows;
+}
 
 module _ (core : List ℕ) (told : List ℕ → Told) (old new : Told) (counted : Type 0) (out after : Option (List ℕ)) where
   -- a status comes exactly where a fact holds of the core's content
   comes : (content : Option (List ℕ)) → told core ≡ Some content → (refused s : Status) (fact : Type 0) → (IsFaultStatus refused → ⊥) → (IsDoneStatus refused → ⊥)
-      → ((r : Refusal) → IsShowRefusal content r → status_of r ≡ refused → fact) → (fact → (r : Refusal) → IsShowRefusal content r → status_of r ≡ refused) → (fact → HoldsPlain content → ⊥)
+      → ((r : Refusal) → IsShowRefusal content r → status_of r ≡ refused → fact) → (fact → Refusing content refused)
       → IsLeft (Show core) told s old new counted out after → ComesWhere refused s fact
-  comes content is = comes_where (Show core) told old new counted out after (IsShowRefusal content) (HoldsPlain content) (refusals core told content is) (reports core told content is)
+  comes content is refused s fact no_fault no_text says refusing =
+      comes_where (Show core) told old new counted out after (IsShowRefusal content) (HasReport content) (refusals core told content is) (reports core told content is)
+      refused s fact no_fault no_text says (λ holds. all_refusing content refused (refusing holds)) (λ holds reported. not_refused content (refusing holds).0 reported (refusing holds).1)
 
   -- there is no file exactly where the status says so
   pub no_file : (s : Status) (content : Option (List ℕ)) → told core ≡ Some content → IsLeft (Show core) told s old new counted out after → ComesWhere status.NoFile s (content ≡ None)
-  no_file s content is = comes content is status.NoFile s (content ≡ None) (λ no. no) (λ no. no) (says content) (all content) (none content)
+  no_file s content is = comes content is status.NoFile s (content ≡ None) (λ no. no) (λ no. no) (says content) (λ none. subst (λ (c : Option (List ℕ)). Refusing c status.NoFile) (sym none) missing)
     where
       says : (c : Option (List ℕ)) (r : Refusal) → IsShowRefusal c r → status_of r ≡ status.NoFile → c ≡ None
       says None r refuses is = refl
-      says (Some bytes) r (inl (at, why, refused, same)) is = let wrong : status.Core ≡ status.NoFile = ap status_of (sym same) ∙ is in absurd (cc)
-      says (Some bytes) r (inr (inl (other, same))) is = let wrong : status.NotBuilt ≡ status.NoFile = ap status_of (sym same) ∙ is in absurd (cc)
-      says (Some bytes) r (inr (inr (inl (cause, same)))) is = let wrong : status.Incompatible ≡ status.NoFile = ap status_of (sym same) ∙ is in absurd (cc)
-      says (Some bytes) r (inr (inr (inr (at, cause, same)))) is = let wrong : status.Damaged ≡ status.NoFile = ap status_of (sym same) ∙ is in absurd (cc)
-
-      all : (c : Option (List ℕ)) → c ≡ None → (r : Refusal) → IsShowRefusal c r → status_of r ≡ status.NoFile
-      all None missing r is = ap status_of is
-      all (Some bytes) missing r is = absurd (cc)
-
-      none : (c : Option (List ℕ)) → c ≡ None → HoldsPlain c → ⊥
-      none None missing holds = holds
-      none (Some bytes) missing holds = cc missing
+      says (Some bytes) r refuses is =
+          elim (kinds bytes r refuses) [
+            | inl k ↦ let wrong : status.Core ≡ status.NoFile = sym k.is ∙ is in absurd (cc)
+            | inr (inl k) ↦ let wrong : status.Incompatible ≡ status.NoFile = sym k.is ∙ is in absurd (cc)
+            | inr (inr k) ↦ let wrong : status.Damaged ≡ status.NoFile = sym k.is ∙ is in absurd (cc)
+          ]
 
   -- the grammar of core files refuses exactly where the status says so
   pub core_refused : (s : Status) (bytes : List ℕ) → told core ≡ Some (Some bytes) → IsLeft (Show core) told s old new counted out after → ComesWhere status.Core s (HasFault bytes)
-  core_refused s bytes is = comes (Some bytes) is status.Core s (HasFault bytes) (λ no. no) (λ no. no) says all none
+  core_refused s bytes is = comes (Some bytes) is status.Core s (HasFault bytes) (λ no. no) (λ no. no) says (faulty bytes)
     where
       says : (r : Refusal) → IsShowRefusal (Some bytes) r → status_of r ≡ status.Core → HasFault bytes
-      says r (inl (at, why, refused, same)) is = (at, why, refused)
-      says r (inr (inl (other, same))) is = let wrong : status.NotBuilt ≡ status.Core = ap status_of (sym same) ∙ is in absurd (cc)
-      says r (inr (inr (inl (cause, same)))) is = let wrong : status.Incompatible ≡ status.Core = ap status_of (sym same) ∙ is in absurd (cc)
-      says r (inr (inr (inr (at, cause, same)))) is = let wrong : status.Damaged ≡ status.Core = ap status_of (sym same) ∙ is in absurd (cc)
-
-      all : HasFault bytes → (r : Refusal) → IsShowRefusal (Some bytes) r → status_of r ≡ status.Core
-      all fact r (inl (at, why, refused, same)) = ap status_of same
-      all fact r (inr (inl (other, same))) = absurd (other_not_refused bytes other fact)
-      all fact r (inr (inr (inl (cause, same)))) = absurd (unread_not_refused bytes cause.0 cause.1 fact)
-      all fact r (inr (inr (inr (at, cause, same)))) = absurd (unread_not_refused bytes cause.0 cause.1 fact)
-
-      none : HasFault bytes → HoldsPlain (Some bytes) → ⊥
-      none fact (w, words, plain) = plain_not_refused bytes w words plain fact
-
-  -- it is a core that is not plain exactly where the status says so
-  pub other_core : (s : Status) (bytes : List ℕ) → told core ≡ Some (Some bytes) → IsLeft (Show core) told s old new counted out after → ComesWhere status.NotBuilt s (IsOtherCore bytes)
-  other_core s bytes is = comes (Some bytes) is status.NotBuilt s (IsOtherCore bytes) (λ no. no) (λ no. no) says all none
-    where
-      says : (r : Refusal) → IsShowRefusal (Some bytes) r → status_of r ≡ status.NotBuilt → IsOtherCore bytes
-      says r (inl (at, why, refused, same)) is = let wrong : status.Core ≡ status.NotBuilt = ap status_of (sym same) ∙ is in absurd (cc)
-      says r (inr (inl (other, same))) is = other
-      says r (inr (inr (inl (cause, same)))) is = let wrong : status.Incompatible ≡ status.NotBuilt = ap status_of (sym same) ∙ is in absurd (cc)
-      says r (inr (inr (inr (at, cause, same)))) is = let wrong : status.Damaged ≡ status.NotBuilt = ap status_of (sym same) ∙ is in absurd (cc)
-
-      all : IsOtherCore bytes → (r : Refusal) → IsShowRefusal (Some bytes) r → status_of r ≡ status.NotBuilt
-      all fact r (inl (at, why, refused, same)) = absurd (other_not_refused bytes fact (at, why, refused))
-      all fact r (inr (inl (other, same))) = ap status_of same
-      all fact r (inr (inr (inl (cause, same)))) = absurd (other_not_unread bytes cause.0 fact cause.1)
-      all fact r (inr (inr (inr (at, cause, same)))) = absurd (other_not_unread bytes cause.0 fact cause.1)
-
-      none : IsOtherCore bytes → HoldsPlain (Some bytes) → ⊥
-      none fact (w, words, plain) = plain_not_other bytes w words plain fact
+      says r refuses is =
+          elim (kinds bytes r refuses) [
+            | inl k ↦ k.fact
+            | inr (inl k) ↦ let wrong : status.Incompatible ≡ status.Core = sym k.is ∙ is in absurd (cc)
+            | inr (inr k) ↦ let wrong : status.Damaged ≡ status.Core = sym k.is ∙ is in absurd (cc)
+          ]
 
   -- no layout table of this version is found exactly where the status says so
-  pub incompatible : (s : Status) (bytes : List ℕ) → told core ≡ Some (Some bytes) → IsLeft (Show core) told s old new counted out after → ComesWhere status.Incompatible s (IsIncompatibleCore bytes)
-  incompatible s bytes is = comes (Some bytes) is status.Incompatible s (IsIncompatibleCore bytes) (λ no. no) (λ no. no) says all none
+  pub incompatible : (s : Status) (bytes : List ℕ) → told core ≡ Some (Some bytes) → IsLeft (Show core) told s old new counted out after → ComesWhere status.Incompatible s (Spells bytes IsIncompatible)
+  incompatible s bytes is = comes (Some bytes) is status.Incompatible s (Spells bytes IsIncompatible) (λ no. no) (λ no. no) says (incompatible_refused bytes)
     where
-      says : (r : Refusal) → IsShowRefusal (Some bytes) r → status_of r ≡ status.Incompatible → IsIncompatibleCore bytes
-      says r (inl (at, why, refused, same)) is = let wrong : status.Core ≡ status.Incompatible = ap status_of (sym same) ∙ is in absurd (cc)
-      says r (inr (inl (other, same))) is = let wrong : status.NotBuilt ≡ status.Incompatible = ap status_of (sym same) ∙ is in absurd (cc)
-      says r (inr (inr (inl (cause, same)))) is = cause
-      says r (inr (inr (inr (at, cause, same)))) is = let wrong : status.Damaged ≡ status.Incompatible = ap status_of (sym same) ∙ is in absurd (cc)
+      says : (r : Refusal) → IsShowRefusal (Some bytes) r → status_of r ≡ status.Incompatible → Spells bytes IsIncompatible
+      says r refuses is =
+          elim (kinds bytes r refuses) [
+            | inl k ↦ let wrong : status.Core ≡ status.Incompatible = sym k.is ∙ is in absurd (cc)
+            | inr (inl k) ↦ k.fact
+            | inr (inr k) ↦ let wrong : status.Damaged ≡ status.Incompatible = sym k.is ∙ is in absurd (cc)
+          ]
 
-      all : IsIncompatibleCore bytes → (r : Refusal) → IsShowRefusal (Some bytes) r → status_of r ≡ status.Incompatible
-      all fact r (inl (at, why, refused, same)) = absurd (unread_not_refused bytes fact.0 fact.1 (at, why, refused))
-      all fact r (inr (inl (other, same))) = absurd (other_not_unread bytes fact.0 other fact.1)
-      all fact r (inr (inr (inl (cause, same)))) = ap status_of same
-      all fact r (inr (inr (inr (at, cause, same)))) = absurd (incompatible_not_damaged bytes at fact cause)
-
-      none : IsIncompatibleCore bytes → HoldsPlain (Some bytes) → ⊥
-      none fact (w, words, plain) = plain_not_unread bytes w words fact.0 plain fact.1
-
-  -- the layout table is wrong exactly where the status says so
-  pub damaged : (s : Status) (bytes : List ℕ) → told core ≡ Some (Some bytes) → IsLeft (Show core) told s old new counted out after → ComesWhere status.Damaged s ((addr : ℕ) × IsDamagedCore bytes addr)
-  damaged s bytes is = comes (Some bytes) is status.Damaged s ((addr : ℕ) × IsDamagedCore bytes addr) (λ no. no) (λ no. no) says all none
+  -- the layout table is wrong or the look has a fault exactly where the status says so
+  pub damaged : (s : Status) (bytes : List ℕ) → told core ≡ Some (Some bytes) → IsLeft (Show core) told s old new counted out after → ComesWhere status.Damaged s (Spells bytes IsDamaged)
+  damaged s bytes is = comes (Some bytes) is status.Damaged s (Spells bytes IsDamaged) (λ no. no) (λ no. no) says (damaged_refused bytes)
     where
-      says : (r : Refusal) → IsShowRefusal (Some bytes) r → status_of r ≡ status.Damaged → (addr : ℕ) × IsDamagedCore bytes addr
-      says r (inl (at, why, refused, same)) is = let wrong : status.Core ≡ status.Damaged = ap status_of (sym same) ∙ is in absurd (cc)
-      says r (inr (inl (other, same))) is = let wrong : status.NotBuilt ≡ status.Damaged = ap status_of (sym same) ∙ is in absurd (cc)
-      says r (inr (inr (inl (cause, same)))) is = let wrong : status.Incompatible ≡ status.Damaged = ap status_of (sym same) ∙ is in absurd (cc)
-      says r (inr (inr (inr (at, cause, same)))) is = (at, cause)
-
-      all : (addr : ℕ) × IsDamagedCore bytes addr → (r : Refusal) → IsShowRefusal (Some bytes) r → status_of r ≡ status.Damaged
-      all fact r (inl (at, why, refused, same)) = absurd (unread_not_refused bytes fact.1.0 fact.1.1 (at, why, refused))
-      all fact r (inr (inl (other, same))) = absurd (other_not_unread bytes fact.1.0 other fact.1.1)
-      all fact r (inr (inr (inl (cause, same)))) = absurd (incompatible_not_damaged bytes fact.0 cause fact.1)
-      all fact r (inr (inr (inr (at, cause, same)))) = ap status_of same
-
-      none : (addr : ℕ) × IsDamagedCore bytes addr → HoldsPlain (Some bytes) → ⊥
-      none fact (w, words, plain) = plain_not_unread bytes w words fact.1.0 plain fact.1.1
+      says : (r : Refusal) → IsShowRefusal (Some bytes) r → status_of r ≡ status.Damaged → Spells bytes IsDamaged
+      says r refuses is =
+          elim (kinds bytes r refuses) [
+            | inl k ↦ let wrong : status.Core ≡ status.Damaged = sym k.is ∙ is in absurd (cc)
+            | inr (inl k) ↦ let wrong : status.Incompatible ≡ status.Damaged = sym k.is ∙ is in absurd (cc)
+            | inr (inr k) ↦ k.fact
+          ]
 
   -- what success puts
-  pub report_put : (s : Status) (bytes : List ℕ) → told core ≡ Some (Some bytes) → s ≡ status.Success → IsLeft (Show core) told s old new counted out after
-      → (w : List ℕ) × (words : List ℕ) × (v : View) × IsPlainCore bytes w words × (look_view w (words_of words) one_thread ≡ Ok v) × (after ≡ put_on out (report v)) × ((state : State) → Shows w (words_of words) state → IsViewOf state one_thread v)
-  report_put s bytes is done left = go (subst (λ (x : Status). IsLeft (Show core) told x old new counted out after) done left)
-    where
-      go : IsLeft (Show core) told status.Success old new counted out after
-          → (w : List ℕ) × (words : List ℕ) × (v : View) × IsPlainCore bytes w words × (look_view w (words_of words) one_thread ≡ Ok v) × (after ≡ put_on out (report v)) × ((state : State) → Shows w (words_of words) state → IsViewOf state one_thread v)
-      go (None, text, answer, held, put) =
-          let (w, words, plain, (v, looked, same)) = show_answer core told (Some bytes) is (Gives None (Ok text)) answer in
-          (w, words, v, plain, looked, put ∙ ap (λ (t : List ℕ). put_on out t) same, report_shown w words text bytes plain (v, looked, same))
-      go (Some written, text, answer, held, put) = absurd (show_answer core told (Some bytes) is (Gives (Some written) (Ok text)) answer)
+  abbrev Reported : List ℕ → Type 0
+  Reported bytes = (image : CoreImage) × (v : View) × Core bytes image × IsLooked image (Ok v) × (after ≡ put_on out (report v))
+      × ((s : State) → ShowsState image s → IsViewOf s image.contexts v)
 
-  -- no refusal is said of a plain core
-  never_refused : {C : Type 0} (s : Status) (bytes w words : List ℕ) → told core ≡ Some (Some bytes) → IsPlainCore bytes w words → IsRefused (Show core) told s old new counted out after → C
-  never_refused s bytes w words is plain (r, same, written, answer, held, said) = absurd (plain_answered bytes w words r plain (refusals core told (Some bytes) is written r answer))
+  put_by : (bytes : List ℕ) → told core ≡ Some (Some bytes) → IsLeft (Show core) told status.Success old new counted out after → Reported bytes
+  put_by bytes is (None, text, answer, held, put) =
+      let (v, (image, spelled, looked), same) = show_answer core told (Some bytes) is (Gives None (Ok text)) answer in
+      (image, v, spelled, looked, put ∙ ap (λ (t : List ℕ). put_on out t) same, looked_shown image v looked)
+  put_by bytes is (Some written, text, answer, held, put) = absurd (show_answer core told (Some bytes) is (Gives (Some written) (Ok text)) answer)
 
-  -- what is put of the core that a run left, where that is plain
-  pub shown_again : (s : Status) (bytes : List ℕ) → told core ≡ Some (Some bytes) → (p : Program) (plan : Plan) (text : List ℕ) (run : IsStopped p plan bytes text) (u plain : List ℕ) → IsPlainCore bytes u plain
-      → IsLeft (Show core) told s old new counted out after → IsShownAgain run.state s out after
-  shown_again status.Success bytes is p plan text run u plain is_plain left =
-      let (w, words, v, read, looked, put, view) = report_put status.Success bytes is refl left in
-      let words_are : run.words ≡ words = one_image_of (thread_ids p.threads) one_thread bytes run.words words run.core_of read.image_core in
-      let gives : GivesLayout (words_of words) run.w = subst (λ (ws : List ℕ). GivesLayout (words_of ws) run.w) words_are run.run.shows.layout in
-      let layout : run.w ≡ w = one_layout (words_of words) run.w w gives read.layout in
-      (v, view run.state (subst (λ (x : List ℕ). Shows x (words_of words) run.state) layout (subst (λ (ws : List ℕ). Shows run.w (words_of ws) run.state) words_are run.run.shows)), put)
-  shown_again status.ReadFault bytes is p plan text run u plain is_plain left = tt
-  shown_again status.WriteFault bytes is p plan text run u plain is_plain left = tt
-  shown_again status.OutOfMemory bytes is p plan text run u plain is_plain left = tt
-  shown_again status.Usage bytes is p plan text run u plain is_plain left = never_refused status.Usage bytes u plain is is_plain left
-  shown_again status.NoFile bytes is p plan text run u plain is_plain left = never_refused status.NoFile bytes u plain is is_plain left
-  shown_again status.Script bytes is p plan text run u plain is_plain left = never_refused status.Script bytes u plain is is_plain left
-  shown_again status.Core bytes is p plan text run u plain is_plain left = never_refused status.Core bytes u plain is is_plain left
-  shown_again status.NotBuilt bytes is p plan text run u plain is_plain left = never_refused status.NotBuilt bytes u plain is is_plain left
-  shown_again status.Damaged bytes is p plan text run u plain is_plain left = never_refused status.Damaged bytes u plain is is_plain left
-  shown_again status.Incompatible bytes is p plan text run u plain is_plain left = never_refused status.Incompatible bytes u plain is is_plain left
+  pub report_put : (s : Status) (bytes : List ℕ) → told core ≡ Some (Some bytes) → s ≡ status.Success → IsLeft (Show core) told s old new counted out after → Reported bytes
+  report_put s bytes is done left = put_by bytes is (subst (λ (x : Status). IsLeft (Show core) told x old new counted out after) done left)
+
+  -- what is put of a core whose words show a state
+  module _ (bytes : List ℕ) (is : told core ≡ Some (Some bytes)) (image : CoreImage) (spelled : Core bytes image) (state : State) (shows : ShowsState image state) where
+    never_refused : {C : Type 0} (s : Status) → IsRefused (Show core) told s old new counted out after → C
+    never_refused s (r, same, written, answer, held, said) =
+        let (v, looked, view) = shown_looked image state shows in
+        absurd (report_not_refused bytes v r (image, spelled, looked) (refusals core told (Some bytes) is written r answer))
+
+    pub shown : (s : Status) → IsLeft (Show core) told s old new counted out after → IsShown state image.contexts s out after
+    shown status.Success left =
+        let (other, v, also, looked, put, views) = put_by bytes is left in
+        (v, looked_shown image v (subst (λ (c : CoreImage). IsLooked c (Ok v)) (core_unique bytes other image also spelled) looked) state shows, put)
+    shown status.ReadFault left = tt
+    shown status.WriteFault left = tt
+    shown status.OutOfMemory left = tt
+    shown status.Usage left = never_refused status.Usage left
+    shown status.NoFile left = never_refused status.NoFile left
+    shown status.Script left = never_refused status.Script left
+    shown status.Core left = never_refused status.Core left
+    shown status.NotBuilt left = never_refused status.NotBuilt left
+    shown status.Damaged left = never_refused status.Damaged left
+    shown status.Incompatible left = never_refused status.Incompatible left
+
+  -- and of the core that a run left
+  pub shown_again : (s : Status) (bytes : List ℕ) → told core ≡ Some (Some bytes) → (p : Program) (plan : Plan) (text : List ℕ) (run : IsStopped p plan bytes text)
+      → IsLeft (Show core) told s old new counted out after → IsShown run.state (thread_ids p.threads) s out after
+  shown_again s bytes is p plan text run left =
+      subst (λ (ids : List ℕ). IsShown run.state ids s out after) run.core_of.image.contexts_are
+      (shown bytes is run.core_of.core run.core_of.spelled run.state (run_shown p plan bytes text run) s left)

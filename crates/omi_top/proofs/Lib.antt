@@ -1,8 +1,8 @@
 pub mod Digits
+pub mod FieldNames
 pub mod ThreadIds
 pub mod EventLines
 pub mod EventCounts
-pub mod PlainCores
 pub mod Running
 pub mod Stopping
 pub mod MadeTexts
@@ -12,4 +12,7 @@ pub mod Left
 pub mod LeftByStop
 pub mod LeftByMake
 pub mod Showing
+pub mod Opening
+pub mod ImageWords
+pub mod ShowVerdicts
 pub mod LeftByShow

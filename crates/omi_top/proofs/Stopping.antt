@@ -18,7 +18,6 @@ use Rattle.omi_script.specs.declared.program.Program.{Program}
 use Rattle.omi_corefile.specs.Spelling.{Core, HoldsImage, core_bytes}
 use Rattle.omi_corefile.specs.declared.core_image.CoreImage.{CoreImage}
 use Rattle.omi_model.specs.declared.event.Event.{Event}
-use Rattle.omi_core.specs.Runs.{events_in}
 use Rattle.omi_core.specs.Steps.{events_behind}
 use Rattle.omi_top.specs.declared.limits.TheConstants.{SCRIPT_FRONT}
 use Rattle.omi_top.specs.Answer.{Gives, IsAnswer, IsAnswered, IsEarly, IsLate, IsStopRefusal, IsStopped, IsUnwritten, IsOfCore}
@@ -31,7 +30,6 @@ use Rattle.omi_top.specs.Ran.{IsRanBy}
 use Rattle.omi_top.proofs.Running.{made_run}
 use Rattle.omi_top.specs.declared.plan.Plan.{Plan}
 use Rattle.omi_top.specs.Refusal.{refusal_of_write, refusal_of_script, status_of, IsReadFault, IsUnread}
-use Rattle.omi_top.proofs.PlainCores.{plain, run_length}
 use Rattle.omi_top.specs.declared.refusal.Input.TheVariants as input
 use Rattle.omi_top.specs.declared.refusal.Refusal.{Refusal}
 use Rattle.omi_top.specs.declared.refusal.Refusal.TheVariants as refusal
@@ -113,6 +111,7 @@ made_stopped p plan ran ids core text by are bytes image lines =
     let core_of : IsCoreOf (thread_ids p.threads) core words = record { core = c; spelled = spelled; image = subst (λ ns. HoldsImage ns words c) are holds } in
     record {
       w = by.w;
+      valid = by.valid;
       family = by.family;
       entries = made.entries;
       end = ran.why;
@@ -121,12 +120,6 @@ made_stopped p plan ran ids core text by are bytes image lines =
       run = run;
       core_is = bytes made.some ∙ ap (λ ns. core_bytes ns words) are;
       core_of = core_of;
-      plain = λ one current. record {
-        image_core = subst (λ n. IsCoreOf (thread_ids n) core words) one core_of;
-        layout = run.shows.layout;
-        valid = by.valid;
-        plain = plain p (events_in (events_behind 0 made.entries)) made.state run.reached one current by.w words by.valid (by.family.threads ∙ one) (run_length p by.w made.entries words made.state run.steps) run.shows;
-      };
       text_is =
           lines
           ∙ ap (λ (es : List (ℕ × ℕ × Event)). run_text es ran.steps ran.why) made.events

@@ -6,15 +6,12 @@ use Rattle.omi_outside.specs.declared.status.Status.{Status}
 use Rattle.omi_outside.specs.declared.status.Status.TheVariants as status
 use Rattle.omi_corefile.specs.Spelling.{core_bytes}
 use Rattle.omi_layout.specs.Family.{IsFamily}
-use Rattle.omi_layout.specs.SymbolTable.{words_of}
-use Rattle.omi_layout.specs.declared.reading.LayoutError.{LayoutError}
-use Rattle.omi_rep.specs.LookView.{look_view}
+use Rattle.omi_layout.specs.Valid.{IsValid}
 use Rattle.omi_corefile.specs.Refusals.{CoreRefused}
 use Rattle.omi_corefile.specs.declared.fault.CoreFault.{CoreFault}
 use Rattle.omi_script.specs.Grammar.{Grammar, Refused}
 use Rattle.omi_script.specs.declared.fault.ScriptFault.{ScriptFault}
 use Rattle.omi_script.specs.declared.program.Program.{Program}
-use Rattle.omi_model.specs.Opening.{initial_task}
 use Rattle.omi_model.specs.State.{State}
 use Rattle.omi_model.specs.Views.{IsViewOf}
 use Rattle.omi_model.specs.declared.view.View.{View}
@@ -27,7 +24,8 @@ use Rattle.omi_top.specs.declared.refusal.Refusal.{Refusal}
 use Rattle.omi_top.specs.declared.refusal.Refusal.TheVariants as refusal
 use Rattle.omi_top.specs.Command.{Command, Stop, Make, Show, Faulty, Reads}
 use Rattle.omi_text.specs.Report.{report}
-use Rattle.omi_top.specs.Cores.{one_thread, IsCoreOf, IsPlainCore, IsOtherImage, IsOtherShape, IsUnreadCore, LacksTable, IsWrongAt}
+use Rattle.omi_top.specs.Cores.{IsCoreOf, IsLooked, Spells}
+use Rattle.omi_top.specs.Shown.{IsRefusedCore}
 use Rattle.omi_top.specs.Lines.{run_text}
 use Rattle.omi_top.specs.Make.{IsMade, make_text}
 use Rattle.omi_top.specs.Refusal.{line_of, status_of}
@@ -35,9 +33,10 @@ use Rattle.omi_top.specs.Run.{IsRun, thread_ids}
 use Rattle.omi_top.specs.declared.plan.Plan.{Plan}
 
 -- a run of the program by a plan, in the layout of its family, whose last words are this core, with the contexts of all threads, and
--- whose events and end are this text. Where the initial task is current on the one thread of a program, the core is plain, so that `show` reads it
+-- whose events and end are this text
 pub record IsStopped (p : Program) (plan : Plan) (core text : List ℕ) : Type 0 where
   pub w : List ℕ
+  pub valid : IsValid w
   pub family : IsFamily plan.layout p.threads w
   pub entries : List (ℕ × Entry)
   pub end : End
@@ -46,8 +45,6 @@ pub record IsStopped (p : Program) (plan : Plan) (core text : List ℕ) : Type 0
   pub run : IsRun w p plan entries end words state
   pub core_is : core ≡ core_bytes (thread_ids p.threads) words
   pub core_of : IsCoreOf (thread_ids p.threads) core words
-  pub plain : p.threads ≡ 1 → (state.threads 0).current ≡ Some initial_task
-      → IsPlainCore core w words
   pub text_is : text ≡ run_text (events_behind 0 entries) (length entries) end
 
 -- The answer to a command: the bytes that it writes to its file, if it writes one, and what it says, a text or a refusal. So a command
@@ -74,37 +71,22 @@ IsMakeAnswer n (Gives (Some script) (Ok line)) =
     (script ≡ make_text n) × ((p : Program) × Grammar script p × IsMade n p line)
 IsMakeAnswer n answer = ⊥
 
--- a file is a core, and none that `show` reads yet
-abbrev pub IsOtherCore : List ℕ → Type 0
-IsOtherCore bytes = IsOtherShape bytes ⊎ IsOtherImage bytes
+-- a text is the report of what a look at the words of a file's core gives
+abbrev pub IsReportOf : List ℕ → List ℕ → Type 0
+IsReportOf bytes text = (v : View) × Spells bytes (λ core. IsLooked core (Ok v)) × (text ≡ report v)
 
--- a file is a core of one thread in whose words no layout table of this version is found
-abbrev pub IsIncompatibleCore : List ℕ → Type 0
-IsIncompatibleCore bytes = (cause : LayoutError) × IsUnreadCore bytes cause × LacksTable cause
-
--- a file is a core of one thread whose layout table is wrong, at the word with this byte address
-abbrev pub IsDamagedCore : List ℕ → ℕ → Type 0
-IsDamagedCore bytes at = (cause : LayoutError) × IsUnreadCore bytes cause × IsWrongAt cause at
-
--- a text is the report of these words: of what a plain look at them gives
-abbrev pub IsReportOf : List ℕ → List ℕ → List ℕ → Type 0
-IsReportOf w words text = (v : View) × (look_view w (words_of words) one_thread ≡ Ok v)
-    × (text ≡ report v)
-
--- why `show` refuses, by the content of the core's file: there is none, its bytes are no core, it is another core, or one that gives no layout
+-- why `show` refuses, by the content of the core's file: there is none, its bytes are no core, the core's words give no layout, or a look
+-- at them has a fault
 abbrev pub IsShowRefusal : Option (List ℕ) → Refusal → Type 0
 IsShowRefusal None r = r ≡ refusal.NoFile input.Core
 IsShowRefusal (Some bytes) r =
     ((at : ℕ) × (why : CoreFault) × CoreRefused bytes at why × (r ≡ refusal.Core at why))
-    ⊎ ((IsOtherCore bytes × (r ≡ refusal.NotBuilt))
-    ⊎ ((IsIncompatibleCore bytes × (r ≡ refusal.Incompatible))
-    ⊎ ((at : ℕ) × IsDamagedCore bytes at × (r ≡ refusal.Damaged at))))
+    ⊎ Spells bytes (λ core. IsRefusedCore core r)
 
--- an answer of `show`, by the content of the core's file: a refusal, or the report of a plain core
+-- an answer of `show`, by the content of the core's file: a refusal, or the report
 abbrev pub IsShowAnswer : Option (List ℕ) → Answer → Type 0
 IsShowAnswer content (Gives None (Err r)) = IsShowRefusal content r
-IsShowAnswer (Some bytes) (Gives None (Ok text)) = (w : List ℕ) × (words : List ℕ)
-    × IsPlainCore bytes w words × IsReportOf w words text
+IsShowAnswer (Some bytes) (Gives None (Ok text)) = IsReportOf bytes text
 IsShowAnswer content answer = ⊥
 
 -- the content of each file that a command reads is told
@@ -205,7 +187,6 @@ IsUnwritten status.NoFile = ⊤
 IsUnwritten status.ReadFault = ⊤
 IsUnwritten status.Script = ⊤
 IsUnwritten status.Core = ⊤
-IsUnwritten status.NotBuilt = ⊤
 IsUnwritten status.Damaged = ⊤
 IsUnwritten status.Incompatible = ⊤
 IsUnwritten other = ⊥
@@ -228,19 +209,19 @@ abbrev pub ComesWhere : Status → Status → Type 0 → Type 0
 ComesWhere status result fact = (result ≡ status → fact)
     × (fact → (result ≡ status) ⊎ IsFaultStatus result)
 
--- what `show` makes of the core that a run left: it puts the report of the run's state, unless a file or the output fails or memory runs out
-abbrev pub IsShownAgain : State → Status → Option (List ℕ) → Option (List ℕ) → Type 0
-IsShownAgain s status.Success out after = (v : View) × IsViewOf s one_thread v
+-- what `show` makes of a core whose words show a state: it puts the report of the state for these contexts, unless a file or the output
+-- fails or memory runs out
+abbrev pub IsShown : State → List ℕ → Status → Option (List ℕ) → Option (List ℕ) → Type 0
+IsShown s contexts status.Success out after = (v : View) × IsViewOf s contexts v
     × (after ≡ put_on out (report v))
-IsShownAgain s status.ReadFault out after = ⊤
-IsShownAgain s status.WriteFault out after = ⊤
-IsShownAgain s status.OutOfMemory out after = ⊤
-IsShownAgain s other out after = ⊥
+IsShown s contexts status.ReadFault out after = ⊤
+IsShown s contexts status.WriteFault out after = ⊤
+IsShown s contexts status.OutOfMemory out after = ⊤
+IsShown s contexts other out after = ⊥
 
--- a core is refused: for its bytes, as one that is not plain, or for the layout in its words
+-- a core is refused: for its bytes, for the layout in its words, or by the look at them
 abbrev pub IsOfCore : Status → Type 0
 IsOfCore status.Core = ⊤
 IsOfCore status.Damaged = ⊤
 IsOfCore status.Incompatible = ⊤
-IsOfCore status.NotBuilt = ⊤
 IsOfCore other = ⊥

@@ -1,20 +1,66 @@
--- What a core file is to `show`: a plain core, a core whose words give no layout, or another core.
-use Rattle.std.specs.Prelude.{◌≡◌, ℕ, List, [], ◌∷◌, IsTrue, ⊤}
+-- What a core file is to `show`: its words, a look at them through the layout that they give, and why there is none.
+use Rattle.std.specs.Prelude.{◌≡◌, ◌⊎◌, ℕ, List, Err, ⊤}
+use Rattle.omi_calls.specs.Told.{word_at}
+use Rattle.omi_calls.specs.CoreWords.{words_of as segment_words}
 use Rattle.omi_corefile.specs.Spelling.{Core, HoldsImage}
 use Rattle.omi_corefile.specs.declared.core_image.CoreImage.{CoreImage}
-use Rattle.omi_layout.specs.Codes.{native_word}
 use Rattle.omi_layout.specs.Given.{GivesLayout}
 use Rattle.omi_layout.specs.NoLayout.{GivesNone}
-use Rattle.omi_layout.specs.SymbolTable.{words_of}
+use Rattle.omi_layout.specs.SymbolTable.{Words}
 use Rattle.omi_layout.specs.Valid.{IsValid}
 use Rattle.omi_layout.specs.declared.fault.LayoutFault.TheVariants.{Version}
 use Rattle.omi_layout.specs.declared.reading.LayoutError.{LayoutError}
 use Rattle.omi_layout.specs.declared.reading.LayoutError.TheVariants as error
-use Rattle.omi_rep.specs.Plain.{is_plain}
+use Rattle.omi_model.specs.State.{State}
+use Rattle.omi_model.specs.declared.view.View.{View}
+use Rattle.omi_rep.specs.Look.{Look}
+use Rattle.omi_rep.specs.LookView.{look_view}
+use Rattle.omi_rep.specs.Shows.{Shows}
+use Rattle.omi_rep.specs.declared.fault.LookFault.{LookFault}
+use Rattle.omi_session.specs.Shown.{AreNames}
 
--- the native ids of the one thread
-abbrev pub one_thread : List ℕ
-one_thread = native_word 0 ∷ []
+-- the words of a core by their addresses: those of its segments, none at an unaligned address
+abbrev pub memory_of : CoreImage → Words
+memory_of core = word_at (segment_words core.segments)
+
+-- a look at the words of a core through the valid layout that they give, for the core's contexts, gives this view, or this fault
+pub record IsLooked (core : CoreImage) (look : Look View) : Type 0 where
+  pub w : List ℕ
+  pub valid : IsValid w
+  pub layout : GivesLayout (memory_of core) w
+  pub is : look_view w (memory_of core) core.contexts ≡ look
+
+-- the words of a core show a state in a valid layout, where what is visible has generations of 32 bits, as names do
+pub record ShowsState (core : CoreImage) (s : State) : Type 0 where
+  pub w : List ℕ
+  pub valid : IsValid w
+  pub names : AreNames s
+  pub shows : Shows w (memory_of core) s
+
+-- there is no layout table, or one of another version
+abbrev pub LacksTable : LayoutError → Type 0
+LacksTable error.NoSymbol = ⊤
+LacksTable (error.Refused addr (Version v)) = ⊤
+LacksTable other = ⊥
+
+-- a word of the table isn't mapped, or the table of this version is wrong
+abbrev pub IsWrongTable : LayoutError → Type 0
+IsWrongTable error.NoSymbol = ⊥
+IsWrongTable (error.Refused addr (Version v)) = ⊥
+IsWrongTable other = ⊤
+
+-- the words of a core have no layout table of this version
+abbrev pub IsIncompatible : CoreImage → Type 0
+IsIncompatible core = (cause : LayoutError) × GivesNone (memory_of core) cause × LacksTable cause
+
+-- the layout table in the words of a core is wrong, or the look at them has a fault
+abbrev pub IsDamaged : CoreImage → Type 0
+IsDamaged core = ((cause : LayoutError) × GivesNone (memory_of core) cause × IsWrongTable cause)
+    ⊎ ((fault : LookFault) × IsLooked core (Err fault))
+
+-- a file is a core of which this holds
+abbrev pub Spells : List ℕ → (CoreImage → Type 0) → Type 0
+Spells bytes holds = (core : CoreImage) × Core bytes core × holds core
 
 -- a file is a core of threads with these native ids, and these words are its image: byte order 0, the ids as contexts, and one segment,
 -- from the first address on
@@ -22,48 +68,3 @@ pub record IsCoreOf (ids bytes words : List ℕ) : Type 0 where
   pub core : CoreImage
   pub spelled : Core bytes core
   pub image : HoldsImage ids words core
-
--- a core of one thread
-abbrev pub IsImageCore : List ℕ → List ℕ → Type 0
-IsImageCore bytes words = IsCoreOf one_thread bytes words
-
--- a file is a plain core with these words, which give this layout
-pub record IsPlainCore (bytes w words : List ℕ) : Type 0 where
-  pub image_core : IsImageCore bytes words
-  pub layout : GivesLayout (words_of words) w
-  pub valid : IsValid w
-  pub plain : IsTrue (is_plain w words)
-
--- words that are not plain in the layout that they give
-pub record IsOtherImage (bytes : List ℕ) : Type 0 where
-  pub w : List ℕ
-  pub words : List ℕ
-  pub image_core : IsImageCore bytes words
-  pub layout : GivesLayout (words_of words) w
-  pub valid : IsValid w
-  pub other : IsTrue (is_plain w words) → ⊥
-
--- a core that holds no image of one thread
-pub record IsOtherShape (bytes : List ℕ) : Type 0 where
-  pub core : CoreImage
-  pub spelled : Core bytes core
-  pub other : (words : List ℕ) → HoldsImage one_thread words core → ⊥
-
--- there is no layout table, or one of another version
-abbrev pub LacksTable : LayoutError → Type 0
-LacksTable error.NoSymbol = ⊤
-LacksTable (error.Unmapped addr) = ⊤
-LacksTable (error.Refused addr (Version v)) = ⊤
-LacksTable other = ⊥
-
--- the table is wrong in another way, at the word with this byte address
-abbrev pub IsWrongAt : LayoutError → ℕ → Type 0
-IsWrongAt (error.Refused addr (Version v)) at = ⊥
-IsWrongAt (error.Refused addr fault) at = addr ≡ at
-IsWrongAt other at = ⊥
-
--- a core of one thread whose words give no layout, for this cause
-pub record IsUnreadCore (bytes : List ℕ) (cause : LayoutError) : Type 0 where
-  pub words : List ℕ
-  pub image_core : IsImageCore bytes words
-  pub none : GivesNone (words_of words) cause

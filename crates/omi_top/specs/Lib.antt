@@ -8,6 +8,8 @@ pub mod Refusal
 pub mod Run
 pub mod Lines
 pub mod Make
--- What private functions of the code stand on: a request as a command, and room for its lines; and a run that was made
+-- What private functions of the code stand on: a request as a command, and room for its lines; what a core tells; and a run that was made
 pub mod Asked
+pub mod CoreCalls
+pub mod Shown
 pub mod Ran

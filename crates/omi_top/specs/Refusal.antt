@@ -17,6 +17,8 @@ use Rattle.omi_layout.specs.Field.{name_of}
 use Rattle.omi_layout.specs.declared.fault.LayoutFault.TheVariants.{Version}
 use Rattle.omi_layout.specs.declared.reading.LayoutError.{LayoutError}
 use Rattle.omi_layout.specs.declared.reading.LayoutError.TheVariants as layout
+use Rattle.omi_rep.specs.declared.fault.LookFault.{LookFault}
+use Rattle.omi_rep.specs.declared.fault.LookFault.TheVariants as look
 use Rattle.omi_text.specs.Numbers.{hexadecimal}
 use Rattle.omi_top.specs.Command.{Command, input_name}
 use Rattle.omi_top.specs.declared.refusal.Input.{Input}
@@ -38,9 +40,14 @@ refusal_of_core core.OutOfMemory = refusal.OutOfMemory
 
 abbrev pub refusal_of_layout : LayoutError → Refusal
 refusal_of_layout layout.NoSymbol = refusal.Incompatible
-refusal_of_layout (layout.Unmapped addr) = refusal.Incompatible
+refusal_of_layout (layout.Unmapped addr) = refusal.Damaged addr 0
 refusal_of_layout (layout.Refused addr (Version v)) = refusal.Incompatible
-refusal_of_layout (layout.Refused addr other) = refusal.Damaged addr
+refusal_of_layout (layout.Refused addr other) = refusal.Damaged addr 0
+
+-- and the fault of a look at the words
+abbrev pub refusal_of_look : LookFault → Refusal
+refusal_of_look (look.Damaged addr field) = refusal.Damaged addr field
+refusal_of_look (look.Cycle addr) = refusal.Cycle addr
 
 -- a file can't be read
 abbrev pub IsReadFault : Refusal → Type 0
@@ -59,8 +66,8 @@ status_of (refusal.ReadFault read) = status.ReadFault
 status_of refusal.WriteFault = status.WriteFault
 status_of (refusal.Script fault) = status.Script
 status_of (refusal.Core at why) = status.Core
-status_of refusal.NotBuilt = status.NotBuilt
-status_of (refusal.Damaged at) = status.Damaged
+status_of (refusal.Damaged addr field) = status.Damaged
+status_of (refusal.Cycle addr) = status.Damaged
 status_of refusal.Incompatible = status.Incompatible
 status_of refusal.OutOfMemory = status.OutOfMemory
 
@@ -76,9 +83,14 @@ core_fault_line at why =
     codes "core " ++ (decimal at ++ (codes " " ++ (decimal (number_of why)
     ++ (codes " " ++ (text_of why ++ 10 ∷ [])))))
 
--- the address of a word that is wrong, and the name of what it belongs to: the layout table
-abbrev pub damaged_line : ℕ → List ℕ
-damaged_line at = codes "damaged " ++ (hexadecimal at ++ (codes " " ++ (name_of 0 ++ 10 ∷ [])))
+-- the address of a record, of a pointer or of a word of the layout table, and the name of the field, which is `layout` for the table
+abbrev pub damaged_line : ℕ → ℕ → List ℕ
+damaged_line addr field =
+    codes "damaged " ++ (hexadecimal addr ++ (codes " " ++ (name_of field ++ 10 ∷ [])))
+
+-- the address that a chain meets a second time
+abbrev pub cycle_line : ℕ → List ℕ
+cycle_line addr = codes "cycle " ++ (hexadecimal addr ++ 10 ∷ [])
 
 -- the line that a refusal of a command prints
 abbrev pub line_of : Command → Refusal → Option (List ℕ)
@@ -88,8 +100,8 @@ line_of command (refusal.ReadFault read) =
     Some (codes "read fault " ++ (input_name command read ++ 10 ∷ []))
 line_of command (refusal.Script fault) = Some (fault_line fault)
 line_of command (refusal.Core at why) = Some (core_fault_line at why)
-line_of command refusal.NotBuilt = Some (codes "not built" ++ 10 ∷ [])
-line_of command (refusal.Damaged at) = Some (damaged_line at)
+line_of command (refusal.Damaged addr field) = Some (damaged_line addr field)
+line_of command (refusal.Cycle addr) = Some (cycle_line addr)
 line_of command refusal.Incompatible = Some (codes "incompatible" ++ 10 ∷ [])
 line_of command refusal.WriteFault = None
 line_of command refusal.OutOfMemory = None

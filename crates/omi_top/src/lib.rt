@@ -2,6 +2,7 @@
 #![tactic(auto)]
 
 mod command;
+mod core_calls;
 mod limits;
 mod lines;
 mod load;

@@ -3,10 +3,9 @@
 ghost use Rattle.std.specs.Prelude.{◌≡◌, IfOk, None};
 ghost use Rattle.std.specs.Option.{option_map};
 ghost use Rattle.omi_top.specs.declared.refusal.Refusal.TheVariants.{OutOfMemory};
-ghost use Rattle.omi_top.specs.Refusal.{refusal_of_write, refusal_of_script, refusal_of_core, refusal_of_layout, status_of};
+ghost use Rattle.omi_top.specs.Refusal.{refusal_of_write, refusal_of_script, refusal_of_core, status_of};
 
 use omi_corefile::{CoreError, CoreFault};
-use omi_layout::{LayoutError, LayoutFault};
 use omi_outside::{Refused, Status};
 use omi_script::{ScriptError, ScriptFault};
 use std::alloc::{AllocError, AllocFailed};
@@ -33,10 +32,11 @@ pub enum Refusal {
     Script(ScriptFault),
     /// The grammar of core files refuses the core, at this place.
     Core(u64, CoreFault),
-    /// The program is none that `stop` runs yet, or the core is none that `show` reads yet.
-    NotBuilt,
-    /// The layout table that the core's words give is wrong, at the word with this byte address.
-    Damaged(u64),
+    /// The core's words are damaged: the byte address of a record or of a pointer, and the number of the field. Field 0 stands for the
+    /// layout table.
+    Damaged { addr: u64, field: u8 },
+    /// A chain of scheduling tasks or of enclosing regions in the core's words meets this byte address a second time.
+    Cycle { addr: u64 },
     /// There is no layout table in the core's words, or one of another version.
     Incompatible,
     /// Memory ran out.
@@ -93,20 +93,6 @@ impl From<CoreError> for Refusal {
     }
 }
 
-impl From<LayoutError> for Refusal {
-    ghost from_gives = { λ error e. e ≡ refusal_of_layout error };
-
-    fn from(error: LayoutError) -> Refusal {
-        match error {
-            LayoutError::NoSymbol | LayoutError::Unmapped { .. } => Refusal::Incompatible,
-            LayoutError::Refused { addr, fault } => match fault {
-                LayoutFault::Version(_) => Refusal::Incompatible,
-                _ => Refusal::Damaged(addr),
-            },
-        }
-    }
-}
-
 impl Refusal {
     /// What the program ends with.
     pub fn status(&self) -> Status
@@ -119,8 +105,7 @@ impl Refusal {
             Refusal::WriteFault => Status::WriteFault,
             Refusal::Script(_) => Status::Script,
             Refusal::Core(_, _) => Status::Core,
-            Refusal::NotBuilt => Status::NotBuilt,
-            Refusal::Damaged(_) => Status::Damaged,
+            Refusal::Damaged { .. } | Refusal::Cycle { .. } => Status::Damaged,
             Refusal::Incompatible => Status::Incompatible,
             Refusal::OutOfMemory => Status::OutOfMemory,
         }

@@ -5,14 +5,15 @@ ghost use Rattle.std.specs.Fmt.{digit_glyph, digits_onto};
 ghost use Rattle.std.specs.String.{string_len, string_capacity};
 ghost use Rattle.std.specs.List.{flat_map, sum_by};
 ghost use Rattle.std.specs.Option.{option_map};
+ghost use Rattle.omi_layout.specs.Field.{name_of};
 ghost use Rattle.omi_top.specs.Asked.{asked, HasRoom};
-ghost use Rattle.omi_top.specs.Refusal.{damaged_line, line_of as refusal_line};
+ghost use Rattle.omi_top.specs.Refusal.{cycle_line, damaged_line, line_of as refusal_line};
 
 use crate::Refusal;
 use crate::command::{Request, input_name, longest_name};
 use crate::limits::LINE_ROOM;
 use itoa::Buffer;
-use omi_layout::field_name;
+use omi_layout::{FIELDS, field_name};
 use std::alloc::{AllocError, Global};
 
 /// Room for the line of any refusal of a request.
@@ -80,14 +81,36 @@ fn push_digits(room: &mut String, number: u64, most: u8)
     }
 }
 
-/// Adds the line on the word of a layout table that is wrong, by its byte address.
-fn push_damaged(room: &mut String, at: u64)
+/// The name of a field, `layout` for 0, and no text where no field has the number.
+fn name_of(field: u8) -> &'static str
+    ensures name { result.now ≡ name_of field }
+    ensures short { length result.now ≤ 32 }
+{
+    if field <= FIELDS {
+        field_name(field)
+    } else {
+        ""
+    }
+}
+
+/// Adds the line on a record, a pointer or a word of the layout table that is damaged, by its byte address and the number of the field.
+fn push_damaged(room: &mut String, addr: u64, field: u8)
     requires { string_len room.old + 64 ≤ string_capacity room.old }
-    ensures { string_bytes room.new ≡ string_bytes room.old ++ damaged_line at }
+    ensures { string_bytes room.new ≡ string_bytes room.old ++ damaged_line addr field }
 {
     push_all(room, &["damaged ", "0x"]);
-    push_digits(room, at, 16);
-    push_all(room, &[" ", field_name(0), "\n"]);
+    push_digits(room, addr, 16);
+    push_all(room, &[" ", name_of(field), "\n"]);
+}
+
+/// Adds the line on a byte address that a chain meets a second time.
+fn push_cycle(room: &mut String, addr: u64)
+    requires { string_len room.old + 64 ≤ string_capacity room.old }
+    ensures { string_bytes room.new ≡ string_bytes room.old ++ cycle_line addr }
+{
+    push_all(room, &["cycle ", "0x"]);
+    push_digits(room, addr, 16);
+    push_all(room, &["\n"]);
 }
 
 /// The line of a refusal of a request, if it prints one.
@@ -98,7 +121,6 @@ pub fn line_of<'a>(request: Request<'_>, refusal: Refusal, room: &'a mut String)
 {
     match refusal {
         Refusal::Usage => return Some("usage\n"),
-        Refusal::NotBuilt => return Some("not built\n"),
         Refusal::Incompatible => return Some("incompatible\n"),
         Refusal::WriteFault | Refusal::OutOfMemory => return None,
         Refusal::NoFile(input) => push_all(room, &["no file ", input_name(request, input), "\n"]),
@@ -115,7 +137,8 @@ pub fn line_of<'a>(request: Request<'_>, refusal: Refusal, room: &'a mut String)
                 &["script ", line, " ", number, " ", fault.why.text(), "\n"],
             );
         }
-        Refusal::Damaged(at) => push_damaged(room, at),
+        Refusal::Damaged { addr, field } => push_damaged(room, addr, field),
+        Refusal::Cycle { addr } => push_cycle(room, addr),
         Refusal::Core(at, why) => {
             let mut place = Buffer::new();
             let mut number = Buffer::new();

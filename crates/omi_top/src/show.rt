@@ -1,46 +1,93 @@
 //! The command `show`.
 
-ghost use Rattle.std.specs.Prelude.{◌≡◌, ◌≢◌, ◌⊎◌, List, ℕ, Some, None, IfOk, IfErr, IfSome, IsErrAnd, Ok};
-ghost use Rattle.omi_corefile.specs.Spelling.{HoldsImage};
+ghost use Rattle.std.specs.Prelude.{◌≡◌, ◌≢◌, ◌⊎◌, List, ℕ, Some, IfOk, IfErr, IsErrAnd, Ok};
+ghost use Rattle.std.specs.Int.{from_le_bytes, w64};
+ghost use Rattle.omi_calls.specs.Kept.{GivesNumbers, TakesAll};
+ghost use Rattle.omi_calls.specs.Memory.{told_by};
+ghost use Rattle.omi_layout.specs.Given.{GivesLayout};
 ghost use Rattle.omi_outside.specs.Outside.{HasCause, Told};
+ghost use Rattle.omi_session.specs.Opened.{IsFresh};
 ghost use Rattle.omi_top.specs.Answer.{Gives, AreTold, IsAnswered, IsShowAnswer, IsShowRefusal};
 ghost use Rattle.omi_top.specs.Command.{Show};
+ghost use Rattle.omi_top.specs.CoreCalls.{told_of_core};
+ghost use Rattle.omi_top.specs.Cores.{IsLooked, memory_of};
 ghost use Rattle.omi_top.specs.Refusal.{IsReadFault};
-ghost use Rattle.omi_top.specs.Cores.{one_thread};
+ghost use Rattle.omi_top.specs.Shown.{IsRefusedCore};
 
 use crate::Refusal;
+use crate::core_calls::CoreCalls;
 use crate::limits::CORE_FRONT;
 use crate::load::load;
 use crate::refusal::Input;
+use omi_calls::{Table, ToHost};
 use omi_corefile::{CoreImage, decode};
-use omi_layout::Layout;
+use omi_model::View;
 use omi_outside::Files;
-use omi_rep::{is_plain, plain_view};
+use omi_session::{API_VERSION, Rc, Session, initialize};
 use omi_text::report_text;
-use omi_word::{FIRST_ADDRESS, Natives};
+use omi_walk::{WalkFault, walk};
 use std::alloc::Global;
 
-/// The words of the image that a core of one thread holds.
-fn image_of(core: &CoreImage) -> Option<&Natives>
-    ensures found { IfSome result (λ words. HoldsImage one_thread words.now core.now) }
-    ensures none { result ≡ None
-        → (words : List ℕ) → HoldsImage one_thread words core.now → ⊥ }
+/// A session over the words of a core, by a conversion of the bytes of a word.
+fn opened<F: ToHost>(
+    alloc: Global,
+    core: CoreImage,
+    to_host: F,
+) -> Result<Session<CoreCalls, F>, Refusal>
+    requires takes { TakesAll (F.takes to_host) }
+    requires gives { GivesNumbers (F.gives to_host) 0 }
+    ensures layout { IfOk result (λ s. GivesLayout (memory_of core) s.layout) }
+    ensures told { IfOk result (λ s. told_of_core s.table.calls ≡ told_by core) }
+    ensures fresh { IfOk result (λ s. IsFresh s.handles) }
+    ensures refused { IfErr result (IsRefusedCore core) }
 {
-    if core.order != 0
-        || core.contexts.len() != 1
-        || *core.contexts.get(0) != 1000
-        || core.segments.len() != 1
-    {
-        return None;
+    let table = Table::new(CoreCalls::over(alloc, core), 0, to_host);
+    let Ok(library) = initialize(API_VERSION, table) else {
+        unreachable!();
+    };
+    match library.process_initialize(alloc) {
+        Ok(session) => Ok(session),
+        Err((rc, _)) => match rc {
+            Rc::Incompatible => Err(Refusal::Incompatible),
+            Rc::Error { addr, field } => Err(Refusal::Damaged { addr, field }),
+            _ => unreachable!(),
+        },
     }
-    let segment = core.segments.get(0);
-    if segment.start != FIRST_ADDRESS {
-        return None;
-    }
-    Some(&segment.words)
 }
 
-/// The report of the core that a file's bytes spell, read through the layout that its words give.
+/// The view of the words of a core, by a conversion of the bytes of a word.
+fn view_by<F: ToHost>(alloc: Global, core: CoreImage, to_host: F) -> Result<View, Refusal>
+    requires takes { TakesAll (F.takes to_host) }
+    requires gives { GivesNumbers (F.gives to_host) 0 }
+    ensures view { IfOk result (λ v. IsLooked core (Ok v)) }
+    ensures refused { IfErr result (λ r. IsRefusedCore core r ⊎ (r ≡ Refusal.OutOfMemory)) }
+{
+    let contexts = core.contexts.same(alloc)?;
+    let mut session = opened(alloc, core, to_host)?;
+    match walk(&mut session, alloc, &contexts) {
+        Ok(view) => Ok(view),
+        Err(WalkFault::Damaged { addr, field }) => Err(Refusal::Damaged { addr, field }),
+        Err(WalkFault::Cycle { addr }) => Err(Refusal::Cycle { addr }),
+        Err(WalkFault::OutOfMemory) => Err(Refusal::OutOfMemory),
+        Err(WalkFault::Callback) => unreachable!(),
+    }
+}
+
+/// The view of the words of a core.
+fn view_of(alloc: Global, core: CoreImage) -> Result<View, Refusal>
+    ensures view { IfOk result (λ v. IsLooked core (Ok v)) }
+    ensures refused { IfErr result (λ r. IsRefusedCore core r ⊎ (r ≡ Refusal.OutOfMemory)) }
+{
+    view_by(
+        alloc,
+        core,
+        |bytes: [u8; 8]| -> u64
+            ensures { result ≡ from_le_bytes w64 bytes }
+        { u64::from_le_bytes(bytes) },
+    )
+}
+
+/// The report of the core that a file's bytes spell.
 fn reported(alloc: Global, bytes: &[u8]) -> Result<Vec<u8>, Refusal>
     ensures report { IfOk result (λ text. IsShowAnswer (Some bytes.now)
         (Gives None (Ok text.items))) }
@@ -48,14 +95,7 @@ fn reported(alloc: Global, bytes: &[u8]) -> Result<Vec<u8>, Refusal>
         (λ r. IsShowRefusal (Some bytes.now) r ⊎ (r ≡ Refusal.OutOfMemory)) }
 {
     let core = decode(alloc, bytes)?;
-    let Some(words) = image_of(&core) else {
-        return Err(Refusal::NotBuilt);
-    };
-    let layout = Layout::read(words)?;
-    if !is_plain(&layout, words) {
-        return Err(Refusal::NotBuilt);
-    }
-    let view = plain_view(alloc, &layout, words)?;
+    let view = view_of(alloc, core)?;
     let text = report_text(alloc, &view)?;
     Ok(text)
 }

@@ -11,13 +11,13 @@ ghost use Rattle.omi_script.specs.declared.program.Program.{Program};
 ghost use Rattle.omi_top.specs.Command.{Command, Stop, Make, Show, Faulty, command_in, written_name, Writes};
 ghost use Rattle.omi_top.specs.declared.plan.Plan.{Plan};
 ghost use Rattle.omi_top.specs.Asked.{asked, HasRoom, IsBounded};
-ghost use Rattle.omi_top.specs.Answer.{AreTold, IsAnswered, IsOtherCore, IsIncompatibleCore, IsDamagedCore, IsStopped, IsSaid, IsCounted, IsLeft, IsUnwritten, ComesWhere, IsShownAgain, IsWritingStatus, IsOfCore};
+ghost use Rattle.omi_top.specs.Answer.{AreTold, IsAnswered, IsStopped, IsSaid, IsCounted, IsLeft, IsUnwritten, ComesWhere, IsShown, IsWritingStatus, IsOfCore};
 ghost use Rattle.omi_top.specs.Make.{IsMade, make_text};
-ghost use Rattle.omi_top.specs.Cores.{one_thread, IsPlainCore};
-ghost use Rattle.omi_rep.specs.LookView.{look_view};
-ghost use Rattle.omi_layout.specs.SymbolTable.{words_of};
+ghost use Rattle.omi_top.specs.Cores.{IsDamaged, IsIncompatible, IsLooked, ShowsState, Spells};
+ghost use Rattle.omi_top.specs.Run.{thread_ids};
+ghost use Rattle.omi_corefile.specs.Spelling.{Core};
+ghost use Rattle.omi_corefile.specs.declared.core_image.CoreImage.{CoreImage};
 ghost use Rattle.omi_top.specs.Refusal.{IsReadFault, line_of as refusal_line, status_of};
-ghost use Rattle.omi_rep.specs.Shows.{Shows};
 ghost use Rattle.omi_model.specs.State.{State};
 ghost use Rattle.omi_model.specs.Views.{IsViewOf};
 ghost use Rattle.omi_model.specs.declared.view.View.{View};
@@ -263,41 +263,40 @@ pub fn run_top<F: Files, W: Files, K: Sink>(
         → command_in words.now ≡ Make n script → IsWritingStatus result }
 
     // The same of the core's file, for `show`: there is none, the grammar of core files refuses
-    // it, it is a core that is not plain, no layout table of this version is found in its words, or
-    // this table is wrong, exactly where the status says so.
+    // it, no layout table of this version is found in its words, or this table is wrong or the look
+    // at the words has a fault, exactly where the status says so.
     ensures no_core { (core : List ℕ) (content : Option (List ℕ))
         → command_in words.now ≡ Show core → F.told files.old core ≡ Some content
         → ComesWhere Status.NoFile result (content ≡ None) }
     ensures core { (core bytes : List ℕ)
         → command_in words.now ≡ Show core → F.told files.old core ≡ Some (Some bytes)
         → ComesWhere Status.Core result ((at : ℕ) × (why : CoreFault) × CoreRefused bytes at why) }
-    ensures other_core { (core bytes : List ℕ)
-        → command_in words.now ≡ Show core → F.told files.old core ≡ Some (Some bytes)
-        → ComesWhere Status.NotBuilt result (IsOtherCore bytes) }
     ensures incompatible { (core bytes : List ℕ)
         → command_in words.now ≡ Show core → F.told files.old core ≡ Some (Some bytes)
-        → ComesWhere Status.Incompatible result (IsIncompatibleCore bytes) }
+        → ComesWhere Status.Incompatible result (Spells bytes IsIncompatible) }
     ensures damaged { (core bytes : List ℕ)
         → command_in words.now ≡ Show core → F.told files.old core ≡ Some (Some bytes)
-        → ComesWhere Status.Damaged result ((addr : ℕ) × IsDamagedCore bytes addr) }
+        → ComesWhere Status.Damaged result (Spells bytes IsDamaged) }
 
-    // With success what is put is the report of the core's words, read through the layout that they
-    // give: of each state that they show, exactly its view.
+    // With success what is put is the report of a look at the core's words, through the layout that
+    // they give, for the core's contexts: of each state that they show, exactly its view.
     ensures report { (core bytes : List ℕ)
         → command_in words.now ≡ Show core → F.told files.old core ≡ Some (Some bytes)
         → result ≡ Status.Success
-        → (w plain : List ℕ) × (v : View) × IsPlainCore bytes w plain
-        × (look_view w (words_of plain) one_thread ≡ Ok v)
+        → (image : CoreImage) × (v : View) × Core bytes image × IsLooked image (Ok v)
         × (K.told out.new ≡ put_on (K.told out.old) (report_of v))
-        × ((s : State) → Shows w (words_of plain) s → IsViewOf s one_thread v) }
+        × ((s : State) → ShowsState image s → IsViewOf s image.contexts v) }
 
-    // Of the core that `stop` wrote, where that is plain, `show` puts the report of the state that
-    // the run's events reach: it has one view alone.
+    // Of a core whose words show a state, `show` puts the report of this state. So it does of the
+    // core that a run left, whose events reach the state.
+    ensures shown { (core bytes : List ℕ)
+        → command_in words.now ≡ Show core → F.told files.old core ≡ Some (Some bytes)
+        → (image : CoreImage) → Core bytes image → (s : State) → ShowsState image s
+        → IsShown s image.contexts result (K.told out.old) (K.told out.new) }
     ensures shown_again { (core bytes : List ℕ)
         → command_in words.now ≡ Show core → F.told files.old core ≡ Some (Some bytes)
         → (p : Program) (plan : Plan) (text : List ℕ) (run : IsStopped p plan bytes text)
-        → (w plain : List ℕ) → IsPlainCore bytes w plain
-        → IsShownAgain run.state result (K.told out.old) (K.told out.new) }
+        → IsShown run.state (thread_ids p.threads) result (K.told out.old) (K.told out.new) }
 
     // What is left of the core and of the output with every status.
     ensures left { let command = command_in words.now in

@@ -3,7 +3,7 @@ use Rattle.omi_top.specs.Asked.{asked}
 use Rattle.omi_top.specs.Answer.{AreTold, IsCounted, IsLeft}
 use Rattle.omi_top.specs.Command.{Command, Stop, Make, Show, command_by, command_in, written_name}
 use Rattle.omi_top.proofs.Left.{left_by}
-use Rattle.omi_top.proofs.LeftByShow.{no_file as no_core, core_refused, other_core, incompatible, damaged, report_put, shown_again}
+use Rattle.omi_top.proofs.LeftByShow.{no_file as no_core, core_refused, incompatible, damaged, report_put, shown, shown_again}
 use Rattle.omi_top.proofs.LeftByMake.{success as made, writing}
 use Rattle.omi_top.proofs.LeftByStop.{no_file, script_refused, success}
 use Rattle.omi_top.proofs.top.run_top.Given as given
@@ -49,9 +49,6 @@ returns-in-Ok-clause-no_core g c = λ core content command told. no_core core (g
 pub returns-in-Ok-clause-core : goal.returns-in-Ok-clause-core
 returns-in-Ok-clause-core g c = λ core bytes command told. core_refused core (g.F.Files.told c.args.files.now) _ _ _ _ _ _ bytes told (left_of g c (Show core) (asked_is g c ∙ command) (Some bytes, told))
 
-pub returns-in-Ok-clause-other_core : goal.returns-in-Ok-clause-other_core
-returns-in-Ok-clause-other_core g c = λ core bytes command told. other_core core (g.F.Files.told c.args.files.now) _ _ _ _ _ _ bytes told (left_of g c (Show core) (asked_is g c ∙ command) (Some bytes, told))
-
 pub returns-in-Ok-clause-incompatible : goal.returns-in-Ok-clause-incompatible
 returns-in-Ok-clause-incompatible g c = λ core bytes command told. incompatible core (g.F.Files.told c.args.files.now) _ _ _ _ _ _ bytes told (left_of g c (Show core) (asked_is g c ∙ command) (Some bytes, told))
 
@@ -61,5 +58,8 @@ returns-in-Ok-clause-damaged g c = λ core bytes command told. damaged core (g.F
 pub returns-in-Ok-clause-report : goal.returns-in-Ok-clause-report
 returns-in-Ok-clause-report g c = λ core bytes command told done. report_put core (g.F.Files.told c.args.files.now) _ _ _ _ _ _ bytes told done (left_of g c (Show core) (asked_is g c ∙ command) (Some bytes, told))
 
+pub returns-in-Ok-clause-shown : goal.returns-in-Ok-clause-shown
+returns-in-Ok-clause-shown g c = λ core bytes command told image spelled s shows. shown core (g.F.Files.told c.args.files.now) _ _ _ _ _ bytes told image spelled s shows _ (left_of g c (Show core) (asked_is g c ∙ command) (Some bytes, told))
+
 pub returns-in-Ok-clause-shown_again : goal.returns-in-Ok-clause-shown_again
-returns-in-Ok-clause-shown_again g c = λ core bytes command told p plan text run w plain is_plain. shown_again core (g.F.Files.told c.args.files.now) _ _ _ _ _ _ bytes told p plan text run w plain is_plain (left_of g c (Show core) (asked_is g c ∙ command) (Some bytes, told))
+returns-in-Ok-clause-shown_again g c = λ core bytes command told p plan text run. shown_again core (g.F.Files.told c.args.files.now) _ _ _ _ _ _ bytes told p plan text run (left_of g c (Show core) (asked_is g c ∙ command) (Some bytes, told))

@@ -1,0 +1,28 @@
+-- The texts that name fields: none is long, and a number past the last field has none.
+use Rattle.std.proofs.Common.{◌≡◌, ◌<◌, ◌≤◌, [], ℕ, Bool, true, false, List, length, refl, sym, ◌∙◌, ap, arith, leb-false}
+use Rattle.std.specs.Prelude.{nat_le}
+use Rattle.std.specs.List.{list_all}
+use Rattle.std.proofs.lemmas.Bool.{leb-true}
+use Rattle.std.proofs.lemmas.List.{get_or_past}
+use Rattle.std.proofs.lemmas.List.Folds.{list_all_at}
+use Rattle.omi_layout.specs.Field.{name_of, names}
+
+abbrev is_short : List ℕ → Bool
+is_short name = nat_le (length name) 32
+
+all_short : list_all is_short names ≡ true
+all_short = refl
+
+pub no_name : (f : ℕ) → 44 < f → name_of f ≡ []
+no_name f past = get_or_past names f [] (omega (arith, past))
+
+short_named : (f : ℕ) → f ≤ 44 → (b : Bool) → is_short (name_of f) ≡ b → length (name_of f) ≤ 32
+short_named f within true short = leb-true (length (name_of f)) 32 short
+short_named f within false long = let wrong : true ≡ false = sym all_short ∙ list_all_at is_short names f [] (omega (arith, within)) long in absurd (cc)
+
+pub short : (f : ℕ) → length (name_of f) ≤ 32
+short f = go (nat_le f 44) refl
+  where
+    go : (b : Bool) → nat_le f 44 ≡ b → length (name_of f) ≤ 32
+    go true within = short_named f (leb-true f 44 within) (is_short (name_of f)) refl
+    go false past = let none : length (name_of f) ≡ 0 = ap (λ (name : List ℕ). length name) (no_name f (leb-false f 44 past)) in omega (arith, none)

@@ -1,0 +1,73 @@
+-- A session over the words of a core: what they tell, why there is none, and what a walk in it answers.
+use Rattle.std.proofs.Common.{◌≡◌, inl, ℕ, List, Ok, Err, refl, sym, ◌∙◌, ap, subst}
+use Rattle.std.specs.Prelude.{Result}
+use Rattle.omi_calls.specs.CoreWords.{words_of as segment_words}
+use Rattle.omi_calls.specs.Memory.{told_by, usual_sizes}
+use Rattle.omi_calls.specs.Told.{Told}
+use Rattle.omi_corefile.specs.declared.core_image.CoreImage.{CoreImage}
+use Rattle.omi_layout.specs.Given.{GivesLayout}
+use Rattle.omi_layout.specs.SymbolTable.{Words}
+use Rattle.omi_layout.specs.Valid.{IsValid}
+use Rattle.omi_layout.specs.declared.fault.LayoutFault.TheVariants.{Version, Overlap, OutOfRecord, BadArena}
+use Rattle.omi_layout.specs.declared.reading.LayoutError.{LayoutError}
+use Rattle.omi_layout.specs.declared.reading.LayoutError.TheVariants as error
+use Rattle.omi_model.specs.declared.view.View.{View}
+use Rattle.omi_rep.specs.LookView.{look_view}
+use Rattle.omi_rep.specs.declared.fault.LookFault.TheVariants as look
+use Rattle.omi_session.specs.Opening.{Refuses, cause_code}
+use Rattle.omi_session.specs.Tells.{Tells}
+use Rattle.omi_session.specs.declared.rc.Rc.{Rc}
+use Rattle.omi_session.specs.declared.rc.Rc.TheVariants as code
+use Rattle.omi_top.specs.Cores.{IsLooked, memory_of}
+use Rattle.omi_top.specs.Refusal.{refusal_of_layout}
+use Rattle.omi_top.specs.Shown.{IsRefusedCore}
+use Rattle.omi_top.specs.declared.refusal.Refusal.{Refusal}
+use Rattle.omi_top.specs.declared.refusal.Refusal.TheVariants as refusal
+use Rattle.omi_walk.specs.Gives.{Gives}
+use Rattle.omi_walk.specs.declared.fault.WalkFault.{WalkFault}
+use Rattle.omi_walk.specs.declared.fault.WalkFault.TheVariants as walk
+
+-- callbacks over a core tell its words
+pub tells_core : (core : CoreImage) (told : Told) → told ≡ told_by core → Tells told (memory_of core)
+tells_core core told is =
+    subst (λ (t : Told). Tells t (memory_of core)) (sym is)
+    (record { order = core.order; order_told = refl; words = segment_words core.segments; words_told = refl; is = refl })
+
+-- what a code of a refused opening is handed on as
+abbrev pub refusal_of_code : Rc → Refusal
+refusal_of_code code.Incompatible = refusal.Incompatible
+refusal_of_code (code.Error addr field) = refusal.Damaged addr field
+refusal_of_code other = refusal.OutOfMemory
+
+code_refusal : (e : LayoutError) → refusal_of_code (cause_code e) ≡ refusal_of_layout e
+code_refusal error.NoSymbol = refl
+code_refusal (error.Unmapped addr) = refl
+code_refusal (error.Refused addr (Version v)) = refl
+code_refusal (error.Refused addr (Overlap f g)) = refl
+code_refusal (error.Refused addr (OutOfRecord f)) = refl
+code_refusal (error.Refused addr (BadArena p)) = refl
+
+pub open_refused : (core : CoreImage) (told : Told) (rc : Rc) → told ≡ told_by core → ((memory : Words) → Tells told memory → told.sizes ≡ usual_sizes → Refuses memory rc) → (rc ≡ code.CallbackError → ⊥)
+    → IsRefusedCore core (refusal_of_code rc)
+open_refused core told rc is words known =
+    let cause = words (memory_of core) (tells_core core told is) (ap (λ (t : Told). t.sizes) is) known in
+    inl (cause.error, cause.gives_none, ap refusal_of_code cause.is ∙ code_refusal cause.error)
+
+-- what a walk over the words of a core answers, where no callback fails and there is memory
+abbrev pub Walked : CoreImage → Result View WalkFault → Type 0
+Walked core (Ok v) = IsLooked core (Ok v)
+Walked core (Err (walk.Damaged addr field)) = IsLooked core (Err (look.Damaged addr field))
+Walked core (Err (walk.Cycle addr)) = IsLooked core (Err (look.Cycle addr))
+Walked core (Err walk.Callback) = Unit {0}
+Walked core (Err walk.OutOfMemory) = Unit {0}
+
+pub walked : (core : CoreImage) (told : Told) (w contexts : List ℕ) (result : Result View WalkFault) → told ≡ told_by core → contexts ≡ core.contexts → IsValid w → GivesLayout (memory_of core) w
+    → ((memory : Words) → Tells told memory → Gives result (look_view w memory contexts)) → Walked core result
+walked core told w contexts result is same valid layout looks = go result (subst (λ (ids : List ℕ). Gives result (look_view w (memory_of core) ids)) same (looks (memory_of core) (tells_core core told is)))
+  where
+    go : (r : Result View WalkFault) → Gives r (look_view w (memory_of core) core.contexts) → Walked core r
+    go (Ok v) gives = record { w = w; valid = valid; layout = layout; is = gives }
+    go (Err (walk.Damaged addr field)) gives = record { w = w; valid = valid; layout = layout; is = gives }
+    go (Err (walk.Cycle addr)) gives = record { w = w; valid = valid; layout = layout; is = gives }
+    go (Err walk.Callback) gives = tt
+    go (Err walk.OutOfMemory) gives = tt

@@ -1,0 +1,150 @@
+-- A core has one refusal or one report: what each says of its bytes and of its words.
+use Rattle.std.proofs.Common.{◌≡◌, ◌⊎◌, inl, inr, ℕ, List, Option, Some, None, Ok, Err, refl, sym, ◌∙◌, ap, subst}
+use Rattle.std.specs.Prelude.{Result}
+use Rattle.omi_outside.specs.declared.status.Status.{Status}
+use Rattle.omi_outside.specs.declared.status.Status.TheVariants as status
+use Rattle.omi_corefile.specs.Refusals.{CoreRefused, Refusal as Reason}
+use Rattle.omi_corefile.specs.declared.core_image.CoreImage.{CoreImage}
+use Rattle.omi_corefile.specs.declared.fault.CoreFault.{CoreFault}
+use Rattle.omi_corefile.proofs.FileLaws.{core_not_refused, core_unique}
+use Rattle.omi_layout.specs.declared.fault.LayoutFault.TheVariants.{Version, Overlap, OutOfRecord, BadArena}
+use Rattle.omi_layout.specs.declared.reading.LayoutError.{LayoutError}
+use Rattle.omi_layout.specs.declared.reading.LayoutError.TheVariants as error
+use Rattle.omi_layout.proofs.OneAnswer.{one_layout, one_cause, not_both}
+use Rattle.omi_model.specs.declared.view.View.{View}
+use Rattle.omi_rep.specs.Look.{Look}
+use Rattle.omi_rep.specs.LookView.{look_view}
+use Rattle.omi_rep.specs.declared.fault.LookFault.{LookFault}
+use Rattle.omi_rep.specs.declared.fault.LookFault.TheVariants as look
+use Rattle.omi_top.specs.Answer.{IsShowRefusal}
+use Rattle.omi_top.specs.Cores.{IsDamaged, IsIncompatible, IsLooked, IsWrongTable, LacksTable, Spells, memory_of}
+use Rattle.omi_top.specs.Refusal.{refusal_of_layout, refusal_of_look, status_of}
+use Rattle.omi_top.specs.Shown.{IsRefusedCore}
+use Rattle.omi_top.specs.declared.refusal.Input.TheVariants as input
+use Rattle.omi_top.specs.declared.refusal.Refusal.{Refusal}
+use Rattle.omi_top.specs.declared.refusal.Refusal.TheVariants as refusal
+
+-- no file is a core and has a fault
+abbrev pub HasFault : List ℕ → Type 0
+HasFault bytes = (at : ℕ) × (why : CoreFault) × CoreRefused bytes at why
+
+-- ---- one answer
+
+-- a look at a core gives one thing
+pub one_looked : (core : CoreImage) (x y : Look View) → IsLooked core x → IsLooked core y → x ≡ y
+one_looked core x y a b =
+    sym a.is
+    ∙ ap (λ (w : List ℕ). look_view w (memory_of core) core.contexts) (one_layout (memory_of core) a.w b.w a.layout b.layout)
+    ∙ b.is
+
+one_fault : (e f : LookFault) → (let failed : LookFault → Look View = λ x. Err x in failed e ≡ failed f) → e ≡ f
+one_fault e f same = cc
+
+pub one_view : (u v : View) → (let gives : View → Look View = λ x. Ok x in gives u ≡ gives v) → u ≡ v
+one_view u v same = cc
+
+view_no_fault : (v : View) (e : LookFault) → (let gives : Look View = Ok v in gives ≡ Err e) → ⊥
+view_no_fault v e same = cc
+
+one_of_core : (core : CoreImage) (r s : Refusal) → IsRefusedCore core r → IsRefusedCore core s → r ≡ s
+one_of_core core r s (inl (e, a, p)) (inl (f, b, q)) = p ∙ ap refusal_of_layout (one_cause (memory_of core) e f a b) ∙ sym q
+one_of_core core r s (inl (e, a, p)) (inr (f, b, q)) = absurd (not_both (memory_of core) b.w e b.valid b.layout a)
+one_of_core core r s (inr (e, a, p)) (inl (f, b, q)) = absurd (not_both (memory_of core) a.w f a.valid a.layout b)
+one_of_core core r s (inr (e, a, p)) (inr (f, b, q)) = p ∙ ap refusal_of_look (one_fault e f (one_looked core (Err e) (Err f) a b)) ∙ sym q
+
+-- the refusal of a file's bytes
+abbrev said_by : {A : Type 0} → Result A Reason → Refusal
+said_by (Err reason) = refusal.Core reason.0 reason.1
+said_by (Ok x) = refusal.Usage
+
+pub one_refusal : (content : Option (List ℕ)) (r s : Refusal) → IsShowRefusal content r → IsShowRefusal content s → r ≡ s
+one_refusal None r s p q = p ∙ sym q
+one_refusal (Some bytes) r s (inl (at, why, a, p)) (inl (place, fault, b, q)) = p ∙ ap said_by (sym a ∙ b) ∙ sym q
+one_refusal (Some bytes) r s (inl (at, why, a, p)) (inr (core, spelled, b)) = absurd (core_not_refused bytes (core, spelled) (at, why, a))
+one_refusal (Some bytes) r s (inr (core, spelled, a)) (inl (at, why, b, q)) = absurd (core_not_refused bytes (core, spelled) (at, why, b))
+one_refusal (Some bytes) r s (inr (core, spelled, a)) (inr (other, also, b)) =
+    one_of_core core r s a (subst (λ (c : CoreImage). IsRefusedCore c s) (core_unique bytes other core also spelled) b)
+
+looked_not_refused : (core : CoreImage) (v : View) (r : Refusal) → IsLooked core (Ok v) → IsRefusedCore core r → ⊥
+looked_not_refused core v r looked (inl (e, a, p)) = not_both (memory_of core) looked.w e looked.valid looked.layout a
+looked_not_refused core v r looked (inr (e, a, p)) = view_no_fault v e (one_looked core (Ok v) (Err e) looked a)
+
+pub report_not_refused : (bytes : List ℕ) (v : View) (r : Refusal) → Spells bytes (λ core. IsLooked core (Ok v)) → IsShowRefusal (Some bytes) r → ⊥
+report_not_refused bytes v r (core, spelled, looked) (inl (at, why, a, p)) = core_not_refused bytes (core, spelled) (at, why, a)
+report_not_refused bytes v r (core, spelled, looked) (inr (other, also, a)) =
+    looked_not_refused core v r looked (subst (λ (c : CoreImage). IsRefusedCore c r) (core_unique bytes other core also spelled) a)
+
+-- ---- the status of each
+
+look_status : (fault : LookFault) → status_of (refusal_of_look fault) ≡ status.Damaged
+look_status (look.Damaged addr field) = refl
+look_status (look.Cycle addr) = refl
+
+lacking_status : (e : LayoutError) → LacksTable e → status_of (refusal_of_layout e) ≡ status.Incompatible
+lacking_status error.NoSymbol lacks = refl
+lacking_status (error.Unmapped addr) lacks = absurd lacks
+lacking_status (error.Refused addr (Version v)) lacks = refl
+lacking_status (error.Refused addr (Overlap f g)) lacks = absurd lacks
+lacking_status (error.Refused addr (OutOfRecord f)) lacks = absurd lacks
+lacking_status (error.Refused addr (BadArena p)) lacks = absurd lacks
+
+wrong_status : (e : LayoutError) → IsWrongTable e → status_of (refusal_of_layout e) ≡ status.Damaged
+wrong_status error.NoSymbol wrong = absurd wrong
+wrong_status (error.Unmapped addr) wrong = refl
+wrong_status (error.Refused addr (Version v)) wrong = absurd wrong
+wrong_status (error.Refused addr (Overlap f g)) wrong = refl
+wrong_status (error.Refused addr (OutOfRecord f)) wrong = refl
+wrong_status (error.Refused addr (BadArena p)) wrong = refl
+
+either_table : (e : LayoutError) → LacksTable e ⊎ IsWrongTable e
+either_table error.NoSymbol = inl tt
+either_table (error.Unmapped addr) = inr tt
+either_table (error.Refused addr (Version v)) = inl tt
+either_table (error.Refused addr (Overlap f g)) = inr tt
+either_table (error.Refused addr (OutOfRecord f)) = inr tt
+either_table (error.Refused addr (BadArena p)) = inr tt
+
+-- what a refusal of a file's bytes says of them, by its status
+pub record SaysCore (bytes : List ℕ) (s : Status) : Type 0 where
+  pub is : s ≡ status.Core
+  pub fact : HasFault bytes
+
+pub record SaysIncompatible (bytes : List ℕ) (s : Status) : Type 0 where
+  pub is : s ≡ status.Incompatible
+  pub fact : Spells bytes IsIncompatible
+
+pub record SaysDamaged (bytes : List ℕ) (s : Status) : Type 0 where
+  pub is : s ≡ status.Damaged
+  pub fact : Spells bytes IsDamaged
+
+pub kinds : (bytes : List ℕ) (r : Refusal) → IsShowRefusal (Some bytes) r
+    → SaysCore bytes (status_of r) ⊎ (SaysIncompatible bytes (status_of r) ⊎ SaysDamaged bytes (status_of r))
+kinds bytes r (inl (at, why, refused, same)) = inl (record { is = ap status_of same; fact = (at, why, refused) })
+kinds bytes r (inr (core, spelled, inr (fault, looked, same))) =
+    inr (inr (record { is = ap status_of same ∙ look_status fault; fact = (core, spelled, inr (fault, looked)) }))
+kinds bytes r (inr (core, spelled, inl (e, none, same))) = go (either_table e)
+  where
+    go : LacksTable e ⊎ IsWrongTable e → SaysCore bytes (status_of r) ⊎ (SaysIncompatible bytes (status_of r) ⊎ SaysDamaged bytes (status_of r))
+    go (inl lacks) = inr (inl (record { is = ap status_of same ∙ lacking_status e lacks; fact = (core, spelled, (e, none, lacks)) }))
+    go (inr wrong) = inr (inr (record { is = ap status_of same ∙ wrong_status e wrong; fact = (core, spelled, inl (e, none, wrong)) }))
+
+-- and each such fact is the cause of a refusal with this status
+abbrev pub Refusing : Option (List ℕ) → Status → Type 0
+Refusing content s = (r : Refusal) × IsShowRefusal content r × (status_of r ≡ s)
+
+pub missing : Refusing None status.NoFile
+missing = (refusal.NoFile input.Core, refl, refl)
+
+pub faulty : (bytes : List ℕ) → HasFault bytes → Refusing (Some bytes) status.Core
+faulty bytes (at, why, refused) = (refusal.Core at why, inl (at, why, refused, refl), refl)
+
+pub incompatible : (bytes : List ℕ) → Spells bytes IsIncompatible → Refusing (Some bytes) status.Incompatible
+incompatible bytes (core, spelled, (e, none, lacks)) = (refusal_of_layout e, inr (core, spelled, inl (e, none, refl)), lacking_status e lacks)
+
+pub damaged : (bytes : List ℕ) → Spells bytes IsDamaged → Refusing (Some bytes) status.Damaged
+damaged bytes (core, spelled, inl (e, none, wrong)) = (refusal_of_layout e, inr (core, spelled, inl (e, none, refl)), wrong_status e wrong)
+damaged bytes (core, spelled, inr (fault, looked)) = (refusal_of_look fault, inr (core, spelled, inr (fault, looked, refl)), look_status fault)
+
+-- nothing else is refused where a refusal with this status is
+pub all_refusing : (content : Option (List ℕ)) (s : Status) → Refusing content s → (r : Refusal) → IsShowRefusal content r → status_of r ≡ s
+all_refusing content s (one, is, same) r refuses = ap status_of (one_refusal content r one refuses is) ∙ same
