@@ -4,8 +4,8 @@ use Rattle.std.specs.Global.{Vec}
 use Rattle.omi_outside.specs.Outside.{Told, IsPutCut, put_on}
 use Rattle.omi_outside.specs.declared.status.Status.{Status}
 use Rattle.omi_outside.specs.declared.status.Status.TheVariants as status
-use Rattle.omi_top.specs.Command.{Command, Stop, Make, Show, Faulty, written_name}
-use Rattle.omi_top.specs.Answer.{Answer, Gives, AreTold, IsAnswer, IsStopAnswer, IsMakeAnswer, IsShowAnswer, IsAnswered, IsLeft, IsSaid}
+use Rattle.omi_top.specs.Command.{Command, Stop, Make, Show, Run, Faulty, written_name}
+use Rattle.omi_top.specs.Answer.{Answer, Gives, AreTold, IsAnswer, IsStopAnswer, IsMakeAnswer, IsRunAnswer, IsShowAnswer, IsAnswered, IsLeft, IsSaid}
 use Rattle.omi_top.specs.declared.plan.Plan.{Plan}
 use Rattle.omi_layout.specs.declared.fault.LayoutFault.TheVariants.{Version, Overlap, OutOfRecord, BadArena}
 use Rattle.omi_layout.specs.declared.reading.LayoutError.{LayoutError}
@@ -58,6 +58,10 @@ make_proper : (n : ℕ) (script : Option (List ℕ)) (r : Refusal) → IsMakeAns
 make_proper n None r is = is
 make_proper n (Some script) r is = is
 
+run_proper : (plan : Plan) (text content core : Option (List ℕ)) (r : Refusal) → is_fault r ≡ true → IsRunAnswer plan text content (Gives core (Err r)) → ⊥
+run_proper plan text content None r fault is = stop_proper plan text None r fault is
+run_proper plan text content (Some core) r fault (lines, is, said) = show_proper content None r fault said
+
 -- what the answer to refused words says
 abbrev said_of : Answer → Refusal
 said_of (Gives core (Ok text)) = refusal.Usage
@@ -67,6 +71,7 @@ proper : (command : Command) (told : List ℕ → Told) (core : Option (List ℕ
 proper (Stop plan script written) told core r fault (content, is, answer) = stop_proper plan content core r fault answer
 proper (Make n written) told core r fault is = make_proper n core r is
 proper (Show written) told core r fault (content, is, answer) = show_proper content core r fault answer
+proper (Run plan script written) told core r fault (text, here, content, is, answer) = run_proper plan text content core r fault answer
 proper Faulty told core r fault is = another r refusal.Usage fault (ap said_of is) refl
 
 -- printing ended well, with a fault, or for want of memory
@@ -87,34 +92,44 @@ module _ (command : Command) (told : List ℕ → Told) (old new : Told) (counte
   pub err_left : (r : Refusal) → IsAnswered command told (Err r) old new → IsSaid (line_of command r) counted out after → IsLeft command told (status_of r) old new counted out after
   err_left refusal.Usage (inl (core, is, held)) said = (refusal.Usage, refl, core, is, held, said)
   err_left refusal.Usage (inr (inl (early, same))) said = absurd early
-  err_left refusal.Usage (inr (inr (late, half))) said = absurd late
+  err_left refusal.Usage (inr (inr (inl (late, half)))) said = absurd late
+  err_left refusal.Usage (inr (inr (inr (behind, whole)))) said = absurd behind
   err_left (refusal.NoFile read) (inl (core, is, held)) said = (refusal.NoFile read, refl, core, is, held, said)
   err_left (refusal.NoFile read) (inr (inl (early, same))) said = absurd early
-  err_left (refusal.NoFile read) (inr (inr (late, half))) said = absurd late
+  err_left (refusal.NoFile read) (inr (inr (inl (late, half)))) said = absurd late
+  err_left (refusal.NoFile read) (inr (inr (inr (behind, whole)))) said = absurd behind
   err_left (refusal.Script f) (inl (core, is, held)) said = (refusal.Script f, refl, core, is, held, said)
   err_left (refusal.Script f) (inr (inl (early, same))) said = absurd early
-  err_left (refusal.Script f) (inr (inr (late, half))) said = absurd late
+  err_left (refusal.Script f) (inr (inr (inl (late, half)))) said = absurd late
+  err_left (refusal.Script f) (inr (inr (inr (behind, whole)))) said = absurd behind
   err_left (refusal.Core at why) (inl (core, is, held)) said = (refusal.Core at why, refl, core, is, held, said)
   err_left (refusal.Core at why) (inr (inl (early, same))) said = absurd early
-  err_left (refusal.Core at why) (inr (inr (late, half))) said = absurd late
+  err_left (refusal.Core at why) (inr (inr (inl (late, half)))) said = absurd late
+  err_left (refusal.Core at why) (inr (inr (inr (behind, whole)))) said = absurd behind
   err_left (refusal.Damaged addr field) (inl (core, is, held)) said = (refusal.Damaged addr field, refl, core, is, held, said)
   err_left (refusal.Damaged addr field) (inr (inl (early, same))) said = absurd early
-  err_left (refusal.Damaged addr field) (inr (inr (late, half))) said = absurd late
+  err_left (refusal.Damaged addr field) (inr (inr (inl (late, half)))) said = absurd late
+  err_left (refusal.Damaged addr field) (inr (inr (inr (behind, whole)))) said = absurd behind
   err_left (refusal.Cycle addr) (inl (core, is, held)) said = (refusal.Cycle addr, refl, core, is, held, said)
   err_left (refusal.Cycle addr) (inr (inl (early, same))) said = absurd early
-  err_left (refusal.Cycle addr) (inr (inr (late, half))) said = absurd late
+  err_left (refusal.Cycle addr) (inr (inr (inl (late, half)))) said = absurd late
+  err_left (refusal.Cycle addr) (inr (inr (inr (behind, whole)))) said = absurd behind
   err_left refusal.Incompatible (inl (core, is, held)) said = (refusal.Incompatible, refl, core, is, held, said)
   err_left refusal.Incompatible (inr (inl (early, same))) said = absurd early
-  err_left refusal.Incompatible (inr (inr (late, half))) said = absurd late
+  err_left refusal.Incompatible (inr (inr (inl (late, half)))) said = absurd late
+  err_left refusal.Incompatible (inr (inr (inr (behind, whole)))) said = absurd behind
   err_left (refusal.ReadFault read) (inl (core, is, held)) said = absurd (proper command told core (refusal.ReadFault read) refl is)
-  err_left (refusal.ReadFault read) (inr (inl (early, same))) said = (read, early, same, said)
-  err_left (refusal.ReadFault read) (inr (inr (late, half))) said = absurd late
+  err_left (refusal.ReadFault read) (inr (inl (early, same))) said = (read, inl (early, same), said)
+  err_left (refusal.ReadFault read) (inr (inr (inl (late, half)))) said = absurd late
+  err_left (refusal.ReadFault read) (inr (inr (inr (behind, whole)))) said = (read, inr (behind, whole), said)
   err_left refusal.WriteFault (inl (core, is, held)) said = absurd (proper command told core refusal.WriteFault refl is)
   err_left refusal.WriteFault (inr (inl (early, same))) said = absurd early
-  err_left refusal.WriteFault (inr (inr (late, half))) said = inl (half, said)
+  err_left refusal.WriteFault (inr (inr (inl (late, half)))) said = inl (half, said)
+  err_left refusal.WriteFault (inr (inr (inr (behind, whole)))) said = absurd behind
   err_left refusal.OutOfMemory (inl (core, is, held)) said = absurd (proper command told core refusal.OutOfMemory refl is)
-  err_left refusal.OutOfMemory (inr (inl (early, same))) said = inl (same, said)
-  err_left refusal.OutOfMemory (inr (inr (late, half))) said = inr (inl (half, said))
+  err_left refusal.OutOfMemory (inr (inl (early, same))) said = inl (inl same, said)
+  err_left refusal.OutOfMemory (inr (inr (inl (late, half)))) said = inr (inl (half, said))
+  err_left refusal.OutOfMemory (inr (inr (inr (behind, whole)))) said = inl (inr (behind, whole), said)
 
 -- What a request leaves is what its command leaves.
 pub left_by : (asked command : Command) (s : Status) (files old new : List ℕ → Told) (counted : Type 0) (out after : Option (List ℕ)) → asked ≡ command

@@ -1,5 +1,5 @@
 -- What the clauses of the top call say of `make`, from what it leaves.
-use Rattle.std.proofs.Common.{◌≡◌, ℕ, List, Option, Some, None, Err, subst}
+use Rattle.std.proofs.Common.{◌≡◌, inl, inr, ℕ, List, Option, Some, None, Err, subst}
 use Rattle.omi_outside.specs.Outside.{Told, holding, put_on}
 use Rattle.omi_outside.specs.declared.status.Status.{Status}
 use Rattle.omi_outside.specs.declared.status.Status.TheVariants as status
@@ -23,7 +23,8 @@ module _ (n : ℕ) (script : List ℕ) (told : List ℕ → Told) (old new : Tol
   writing status.Success left = tt
   writing status.WriteFault left = tt
   writing status.OutOfMemory left = tt
-  writing status.ReadFault (read, reads, same, said) = reads
+  writing status.ReadFault (read, inl (reads, same), said) = reads
+  writing status.ReadFault (read, inr (reads, written), said) = reads
   writing status.Usage left = no_refusal status.Usage left
   writing status.NoFile left = no_refusal status.NoFile left
   writing status.Script left = no_refusal status.Script left

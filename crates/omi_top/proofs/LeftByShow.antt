@@ -1,5 +1,5 @@
 -- What the clauses of the top call say of `show`, from what it leaves.
-use Rattle.std.proofs.Common.{◌≡◌, inl, inr, ℕ, List, Option, Some, None, Ok, Err, refl, sym, ◌∙◌, ap, subst}
+use Rattle.std.proofs.Common.{◌≡◌, inl, inr, ℕ, List, Option, Some, None, Ok, Err, sym, ◌∙◌, ap, subst}
 use Rattle.omi_outside.specs.Outside.{Told, put_on}
 use Rattle.omi_outside.specs.declared.status.Status.{Status}
 use Rattle.omi_outside.specs.declared.status.Status.TheVariants as status
@@ -25,15 +25,15 @@ use Rattle.omi_top.specs.Refusal.{status_of}
 use Rattle.omi_top.specs.Run.{thread_ids}
 use Rattle.omi_top.proofs.ImageWords.{image_words}
 use Rattle.omi_shown.proofs.ShownViews.{shown_looked as shown_look}
-use Rattle.omi_top.proofs.ShowVerdicts.{HasFault, Refusing, all_refusing, damaged as damaged_refused, faulty, incompatible as incompatible_refused, kinds, missing, one_looked, one_view, report_not_refused}
-use Rattle.omi_top.proofs.Statuses.{DoesMore, IsDoneStatus, one_content, comes_where}
+use Rattle.omi_top.proofs.ShowVerdicts.{HasFault, Refusing, all_refusing, damaged as damaged_refused, faulty, incompatible as incompatible_refused, missing, one_looked, one_view, report_not_refused, says_core, says_damaged, says_incompatible, says_missing}
+use Rattle.omi_top.proofs.Statuses.{DidMore, DoesMore, IsDoneStatus, one_content, comes_where, written_more}
 
 -- the core's file has a report
-abbrev HasReport : Option (List ℕ) → Type 0
+abbrev pub HasReport : Option (List ℕ) → Type 0
 HasReport None = ⊥
 HasReport (Some bytes) = (text : List ℕ) × IsReportOf bytes text
 
-not_refused : (content : Option (List ℕ)) (r : Refusal) → HasReport content → IsShowRefusal content r → ⊥
+pub not_refused : (content : Option (List ℕ)) (r : Refusal) → HasReport content → IsShowRefusal content r → ⊥
 not_refused None r none refuses = none
 not_refused (Some bytes) r (text, (v, spells, is)) refuses = report_not_refused bytes v r spells refuses
 
@@ -63,22 +63,26 @@ module _ (core : List ℕ) (told : List ℕ → Told) (content : Option (List �
       go (Some bytes) (Gives (Some core) (Ok text)) more said = absurd said
       go (Some bytes) (Gives (Some core) (Err r)) more said = absurd said
 
+  did : DidMore (Show core) told → HasReport content
+  did (inl (a, more, answer)) = reports a more answer
+  did (inr (bytes, (says, answer))) = reports (Gives (Some bytes) says) (written_more bytes says) answer
+
 -- ---- a core whose words show a state
 
 -- a look at it gives the state's view
-shown_looked : (image : CoreImage) (s : State) → ShowsState image s → (v : View) × IsLooked image (Ok v) × IsViewOf s image.contexts v
+pub shown_looked : (image : CoreImage) (s : State) → ShowsState image s → (v : View) × IsLooked image (Ok v) × IsViewOf s image.contexts v
 shown_looked image s shows =
     let (v, looked, view) = shown_look shows.w (memory_of image) s image.contexts shows.valid shows.names shows.shows in
     (v, record { w = shows.w; valid = shows.valid; layout = shows.shows.layout; is = looked }, view)
 
 -- so what a look gives is the state's view
-looked_shown : (image : CoreImage) (v : View) → IsLooked image (Ok v) → (s : State) → ShowsState image s → IsViewOf s image.contexts v
+pub looked_shown : (image : CoreImage) (v : View) → IsLooked image (Ok v) → (s : State) → ShowsState image s → IsViewOf s image.contexts v
 looked_shown image v looked s shows =
     let (u, also, view) = shown_looked image s shows in
     subst (λ (x : View). IsViewOf s image.contexts x) (one_view u v (one_looked image (Ok u) (Ok v) also looked)) view
 
 -- the core of a run holds words that show the run's state
-run_shown : (p : Program) (plan : Plan) (bytes text : List ℕ) (run : IsStopped p plan bytes text) → ShowsState run.core_of.core run.state
+pub run_shown : (p : Program) (plan : Plan) (bytes text : List ℕ) (run : IsStopped p plan bytes text) → ShowsState run.core_of.core run.state
 run_shown p plan bytes text run = record {
   w = run.w;
   valid = run.valid;
@@ -92,57 +96,25 @@ module _ (core : List ℕ) (told : List ℕ → Told) (old new : Told) (counted 
       → ((r : Refusal) → IsShowRefusal content r → status_of r ≡ refused → fact) → (fact → Refusing content refused)
       → IsLeft (Show core) told s old new counted out after → ComesWhere refused s fact
   comes content is refused s fact no_fault no_text says refusing =
-      comes_where (Show core) told old new counted out after (IsShowRefusal content) (HasReport content) (refusals core told content is) (reports core told content is)
+      comes_where (Show core) told old new counted out after (IsShowRefusal content) (HasReport content) (refusals core told content is) (did core told content is)
       refused s fact no_fault no_text says (λ holds. all_refusing content refused (refusing holds)) (λ holds reported. not_refused content (refusing holds).0 reported (refusing holds).1)
 
   -- there is no file exactly where the status says so
   pub no_file : (s : Status) (content : Option (List ℕ)) → told core ≡ Some content → IsLeft (Show core) told s old new counted out after → ComesWhere status.NoFile s (content ≡ None)
-  no_file s content is = comes content is status.NoFile s (content ≡ None) (λ no. no) (λ no. no) (says content) (λ none. subst (λ (c : Option (List ℕ)). Refusing c status.NoFile) (sym none) missing)
-    where
-      says : (c : Option (List ℕ)) (r : Refusal) → IsShowRefusal c r → status_of r ≡ status.NoFile → c ≡ None
-      says None r refuses is = refl
-      says (Some bytes) r refuses is =
-          elim (kinds bytes r refuses) [
-            | inl k ↦ let wrong : status.Core ≡ status.NoFile = sym k.is ∙ is in absurd (cc)
-            | inr (inl k) ↦ let wrong : status.Incompatible ≡ status.NoFile = sym k.is ∙ is in absurd (cc)
-            | inr (inr k) ↦ let wrong : status.Damaged ≡ status.NoFile = sym k.is ∙ is in absurd (cc)
-          ]
+  no_file s content is =
+      comes content is status.NoFile s (content ≡ None) (λ no. no) (λ no. no) (says_missing content) (λ none. subst (λ (c : Option (List ℕ)). Refusing c status.NoFile) (sym none) missing)
 
   -- the grammar of core files refuses exactly where the status says so
   pub core_refused : (s : Status) (bytes : List ℕ) → told core ≡ Some (Some bytes) → IsLeft (Show core) told s old new counted out after → ComesWhere status.Core s (HasFault bytes)
-  core_refused s bytes is = comes (Some bytes) is status.Core s (HasFault bytes) (λ no. no) (λ no. no) says (faulty bytes)
-    where
-      says : (r : Refusal) → IsShowRefusal (Some bytes) r → status_of r ≡ status.Core → HasFault bytes
-      says r refuses is =
-          elim (kinds bytes r refuses) [
-            | inl k ↦ k.fact
-            | inr (inl k) ↦ let wrong : status.Incompatible ≡ status.Core = sym k.is ∙ is in absurd (cc)
-            | inr (inr k) ↦ let wrong : status.Damaged ≡ status.Core = sym k.is ∙ is in absurd (cc)
-          ]
+  core_refused s bytes is = comes (Some bytes) is status.Core s (HasFault bytes) (λ no. no) (λ no. no) (says_core bytes) (faulty bytes)
 
   -- no layout table of this version is found exactly where the status says so
   pub incompatible : (s : Status) (bytes : List ℕ) → told core ≡ Some (Some bytes) → IsLeft (Show core) told s old new counted out after → ComesWhere status.Incompatible s (Spells bytes IsIncompatible)
-  incompatible s bytes is = comes (Some bytes) is status.Incompatible s (Spells bytes IsIncompatible) (λ no. no) (λ no. no) says (incompatible_refused bytes)
-    where
-      says : (r : Refusal) → IsShowRefusal (Some bytes) r → status_of r ≡ status.Incompatible → Spells bytes IsIncompatible
-      says r refuses is =
-          elim (kinds bytes r refuses) [
-            | inl k ↦ let wrong : status.Core ≡ status.Incompatible = sym k.is ∙ is in absurd (cc)
-            | inr (inl k) ↦ k.fact
-            | inr (inr k) ↦ let wrong : status.Damaged ≡ status.Incompatible = sym k.is ∙ is in absurd (cc)
-          ]
+  incompatible s bytes is = comes (Some bytes) is status.Incompatible s (Spells bytes IsIncompatible) (λ no. no) (λ no. no) (says_incompatible bytes) (incompatible_refused bytes)
 
   -- the layout table is wrong or the look has a fault exactly where the status says so
   pub damaged : (s : Status) (bytes : List ℕ) → told core ≡ Some (Some bytes) → IsLeft (Show core) told s old new counted out after → ComesWhere status.Damaged s (Spells bytes IsDamaged)
-  damaged s bytes is = comes (Some bytes) is status.Damaged s (Spells bytes IsDamaged) (λ no. no) (λ no. no) says (damaged_refused bytes)
-    where
-      says : (r : Refusal) → IsShowRefusal (Some bytes) r → status_of r ≡ status.Damaged → Spells bytes IsDamaged
-      says r refuses is =
-          elim (kinds bytes r refuses) [
-            | inl k ↦ let wrong : status.Core ≡ status.Damaged = sym k.is ∙ is in absurd (cc)
-            | inr (inl k) ↦ let wrong : status.Incompatible ≡ status.Damaged = sym k.is ∙ is in absurd (cc)
-            | inr (inr k) ↦ k.fact
-          ]
+  damaged s bytes is = comes (Some bytes) is status.Damaged s (Spells bytes IsDamaged) (λ no. no) (λ no. no) (says_damaged bytes) (damaged_refused bytes)
 
   -- what success puts
   abbrev Reported : List ℕ → Type 0

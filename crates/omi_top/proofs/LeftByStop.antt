@@ -1,5 +1,5 @@
 -- What the clauses of the top call say of `stop`, from what it leaves.
-use Rattle.std.proofs.Common.{◌≡◌, ℕ, List, Option, Some, None, Ok, Err, refl, sym, ◌∙◌, ap, subst}
+use Rattle.std.proofs.Common.{◌≡◌, inl, inr, ℕ, List, Option, Some, None, Ok, Err, refl, sym, ◌∙◌, ap, subst}
 use Rattle.omi_outside.specs.Outside.{Told, holding, put_on}
 use Rattle.omi_outside.specs.declared.status.Status.{Status}
 use Rattle.omi_outside.specs.declared.status.Status.TheVariants as status
@@ -8,20 +8,15 @@ use Rattle.omi_script.proofs.VerdictLemmas.{not_both}
 use Rattle.omi_script.specs.declared.fault.ScriptFault.{ScriptFault}
 use Rattle.omi_script.specs.declared.program.Program.{Program}
 use Rattle.omi_top.specs.declared.refusal.Refusal.{Refusal}
-use Rattle.omi_top.specs.Answer.{Answer, Gives, IsAnswer, IsStopAnswer, IsStopRefusal, IsLeft, IsStopped, IsFaultStatus, ComesWhere}
+use Rattle.omi_top.specs.Answer.{Answer, Gives, IsAnswer, IsStopAnswer, IsStopRefusal, HoldsProgram, IsLeft, IsStopped, IsFaultStatus, ComesWhere}
 use Rattle.omi_top.specs.Command.{Stop}
 use Rattle.omi_top.specs.declared.plan.Plan.{Plan}
 use Rattle.omi_top.specs.Refusal.{status_of}
-use Rattle.omi_top.proofs.Statuses.{DoesMore, IsDoneStatus, one_content, comes_where}
+use Rattle.omi_top.proofs.Statuses.{DidMore, DoesMore, IsDoneStatus, one_content, comes_where, written_more}
 
 -- the text has a fault
 abbrev HasFault : List ℕ → Type 0
 HasFault bytes = (fault : ScriptFault) × Refused bytes fault
-
--- the script's file holds a program
-abbrev HoldsProgram : Option (List ℕ) → Type 0
-HoldsProgram None = ⊥
-HoldsProgram (Some bytes) = (p : Program) × Grammar bytes p
 
 -- what an answer says of the script, where the script's content is told
 module _ (plan : Plan) (script core : List ℕ) (told : List ℕ → Told) (content : Option (List ℕ)) (is : told script ≡ Some content) where
@@ -49,12 +44,16 @@ module _ (plan : Plan) (script core : List ℕ) (told : List ℕ → Told) (cont
       go (Some bytes) (Gives (Some core) (Err r)) more said = absurd said
       go (Some bytes) (Gives (Some core) (Ok text)) more (p, grammar, stopped) = (p, grammar)
 
+  did : DidMore (Stop plan script core) told → HoldsProgram content
+  did (inl (a, more, answer)) = runs a more answer
+  did (inr (bytes, (says, answer))) = runs (Gives (Some bytes) says) (written_more bytes says) answer
+
 module _ (plan : Plan) (script core : List ℕ) (told : List ℕ → Told) (old new : Told) (counted : Type 0) (out after : Option (List ℕ)) where
   -- a status comes exactly where a fact holds of the script's content
   comes : (content : Option (List ℕ)) → told script ≡ Some content → (refused s : Status) (fact : Type 0) → (IsFaultStatus refused → ⊥) → (IsDoneStatus refused → ⊥)
       → ((r : Refusal) → IsStopRefusal content r → status_of r ≡ refused → fact) → (fact → (r : Refusal) → IsStopRefusal content r → status_of r ≡ refused) → (fact → HoldsProgram content → ⊥)
       → IsLeft (Stop plan script core) told s old new counted out after → ComesWhere refused s fact
-  comes content is = comes_where (Stop plan script core) told old new counted out after (IsStopRefusal content) (HoldsProgram content) (refusals plan script core told content is) (runs plan script core told content is)
+  comes content is = comes_where (Stop plan script core) told old new counted out after (IsStopRefusal content) (HoldsProgram content) (refusals plan script core told content is) (did plan script core told content is)
 
   -- there is no file exactly where the status says so
   pub no_file : (s : Status) (content : Option (List ℕ)) → told script ≡ Some content → IsLeft (Stop plan script core) told s old new counted out after → ComesWhere status.NoFile s (content ≡ None)

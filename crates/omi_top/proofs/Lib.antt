@@ -16,3 +16,5 @@ pub mod Opening
 pub mod ImageWords
 pub mod ShowVerdicts
 pub mod LeftByShow
+pub mod RunAnswers
+pub mod LeftByRun

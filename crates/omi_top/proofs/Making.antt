@@ -45,7 +45,7 @@ module _ (n : ℕ) (script : List ℕ) (told : List ℕ → Told) where
 
     -- the text is partly written
     pub partly_answered : (r : RefusedWrite) (old new : Told) → IsCut old new text → IsAnswered (Make n script) told (Err (refusal_of_write r)) old new
-    partly_answered r old new cut = inr (inr (late r, (text, Ok line, answer, cut)))
+    partly_answered r old new cut = inr (inr (inl (late r, (text, (Ok line, answer), cut))))
 
     -- the text is written, and the line is handed up
     pub done_answered : (v : Vec ℕ) (old new : Told) → v.items ≡ line → new ≡ holding old text → IsAnswered (Make n script) told (Ok v) old new

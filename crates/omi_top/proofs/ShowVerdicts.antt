@@ -128,6 +128,40 @@ kinds bytes r (inr (core, spelled, inl (e, none, same))) = go (either_table e)
     go (inl lacks) = inr (inl (record { is = ap status_of same ∙ lacking_status e lacks; fact = (core, spelled, (e, none, lacks)) }))
     go (inr wrong) = inr (inr (record { is = ap status_of same ∙ wrong_status e wrong; fact = (core, spelled, inl (e, none, wrong)) }))
 
+pub says_core : (bytes : List ℕ) (r : Refusal) → IsShowRefusal (Some bytes) r → status_of r ≡ status.Core → HasFault bytes
+says_core bytes r refuses is =
+    elim (kinds bytes r refuses) [
+      | inl k ↦ k.fact
+      | inr (inl k) ↦ let wrong : status.Incompatible ≡ status.Core = sym k.is ∙ is in absurd (cc)
+      | inr (inr k) ↦ let wrong : status.Damaged ≡ status.Core = sym k.is ∙ is in absurd (cc)
+    ]
+
+pub says_incompatible : (bytes : List ℕ) (r : Refusal) → IsShowRefusal (Some bytes) r → status_of r ≡ status.Incompatible → Spells bytes IsIncompatible
+says_incompatible bytes r refuses is =
+    elim (kinds bytes r refuses) [
+      | inl k ↦ let wrong : status.Core ≡ status.Incompatible = sym k.is ∙ is in absurd (cc)
+      | inr (inl k) ↦ k.fact
+      | inr (inr k) ↦ let wrong : status.Damaged ≡ status.Incompatible = sym k.is ∙ is in absurd (cc)
+    ]
+
+pub says_damaged : (bytes : List ℕ) (r : Refusal) → IsShowRefusal (Some bytes) r → status_of r ≡ status.Damaged → Spells bytes IsDamaged
+says_damaged bytes r refuses is =
+    elim (kinds bytes r refuses) [
+      | inl k ↦ let wrong : status.Core ≡ status.Damaged = sym k.is ∙ is in absurd (cc)
+      | inr (inl k) ↦ let wrong : status.Incompatible ≡ status.Damaged = sym k.is ∙ is in absurd (cc)
+      | inr (inr k) ↦ k.fact
+    ]
+
+-- a content that is refused as no file is none
+pub says_missing : (content : Option (List ℕ)) (r : Refusal) → IsShowRefusal content r → status_of r ≡ status.NoFile → content ≡ None
+says_missing None r refuses is = refl
+says_missing (Some bytes) r refuses is =
+    elim (kinds bytes r refuses) [
+      | inl k ↦ let wrong : status.Core ≡ status.NoFile = sym k.is ∙ is in absurd (cc)
+      | inr (inl k) ↦ let wrong : status.Incompatible ≡ status.NoFile = sym k.is ∙ is in absurd (cc)
+      | inr (inr k) ↦ let wrong : status.Damaged ≡ status.NoFile = sym k.is ∙ is in absurd (cc)
+    ]
+
 -- and each such fact is the cause of a refusal with this status
 abbrev pub Refusing : Option (List ℕ) → Status → Type 0
 Refusing content s = (r : Refusal) × IsShowRefusal content r × (status_of r ≡ s)

@@ -1,11 +1,11 @@
 -- What a status says of the answer to a command, and so where each refusal's status comes.
 use Rattle.std.proofs.Common.{◌≡◌, ◌⊎◌, inl, inr, ℕ, List, Option, Some, None, Ok, Err, sym, ◌∙◌, subst}
-use Rattle.std.specs.Prelude.{⊤}
+use Rattle.std.specs.Prelude.{Result, ⊤}
 use Rattle.omi_outside.specs.Outside.{Told}
 use Rattle.omi_outside.specs.declared.status.Status.{Status}
 use Rattle.omi_outside.specs.declared.status.Status.TheVariants as status
 use Rattle.omi_top.specs.declared.refusal.Refusal.{Refusal}
-use Rattle.omi_top.specs.Answer.{Answer, Gives, IsAnswer, IsLeft, IsPartlyDone, IsFaultStatus, ComesWhere}
+use Rattle.omi_top.specs.Answer.{Answer, Gives, IsAnswer, IsLeft, IsPartlyDone, IsFaultStatus, IsToWrite, ComesWhere}
 use Rattle.omi_top.specs.Command.{Command}
 use Rattle.omi_top.specs.Refusal.{status_of}
 
@@ -20,14 +20,20 @@ IsDoneStatus status.Success = ⊤
 IsDoneStatus status.WriteFault = ⊤
 IsDoneStatus other = ⊥
 
--- such an answer, and one that says a refusal with this status
-abbrev pub GivesMore : (Answer → Type 0) → Type 0
-GivesMore P = (answer : Answer) × DoesMore answer × P answer
+-- there is such an answer, or the command was to write its file
+abbrev pub DidMore : Command → (List ℕ → Told) → Type 0
+DidMore command told = ((answer : Answer) × DoesMore answer × IsAnswer command told answer)
+    ⊎ ((bytes : List ℕ) × IsToWrite command told bytes)
 
+-- an answer says a refusal with this status
 abbrev pub SaysWith : (Answer → Type 0) → Status → Type 0
 SaysWith P s = (r : Refusal) × (status_of r ≡ s) × (core : Option (List ℕ)) × P (Gives core (Err r))
 
--- a text is more than a refusal, whether a core is written or not
+-- what is written is more than a refusal, and so is a text
+pub written_more : (bytes : List ℕ) (says : Result (List ℕ) Refusal) → DoesMore (Gives (Some bytes) says)
+written_more bytes (Ok text) = tt
+written_more bytes (Err r) = tt
+
 text_more : (core : Option (List ℕ)) (text : List ℕ) → DoesMore (Gives core (Ok text))
 text_more None text = tt
 text_more (Some core) text = tt
@@ -37,13 +43,13 @@ pub one_content : (x : Told) (a b : Option (List ℕ)) → x ≡ Some a → x �
 one_content x a b first second = cc
 
 module _ (command : Command) (told : List ℕ → Told) (old new : Told) (counted : Type 0) (out after : Option (List ℕ)) where
-  partly_more : IsPartlyDone command told old new out after → GivesMore (IsAnswer command told)
-  partly_more (inl ((core, says, is, cut), same)) = (Gives (Some core) says, tt, is)
-  partly_more (inr (core, text, is, held, cut)) = (Gives core (Ok text), text_more core text, is)
+  partly_more : IsPartlyDone command told old new out after → DidMore command told
+  partly_more (inl ((bytes, is, cut), same)) = inr (bytes, is)
+  partly_more (inr (core, text, is, held, cut)) = inl (Gives core (Ok text), text_more core text, is)
 
   -- a fault, a refusal, or more
-  pub kind : (s : Status) → IsLeft command told s old new counted out after → IsFaultStatus s ⊎ (SaysWith (IsAnswer command told) s ⊎ (GivesMore (IsAnswer command told) × IsDoneStatus s))
-  kind status.Success (core, text, is, held, put) = inr (inr ((Gives core (Ok text), text_more core text, is), tt))
+  pub kind : (s : Status) → IsLeft command told s old new counted out after → IsFaultStatus s ⊎ (SaysWith (IsAnswer command told) s ⊎ (DidMore command told × IsDoneStatus s))
+  kind status.Success (core, text, is, held, put) = inr (inr (inl (Gives core (Ok text), text_more core text, is), tt))
   kind status.Usage (r, is, core, answer, held, said) = inr (inl (r, is, core, answer))
   kind status.NoFile (r, is, core, answer, held, said) = inr (inl (r, is, core, answer))
   kind status.ReadFault left = inl tt
@@ -57,7 +63,7 @@ module _ (command : Command) (told : List ℕ → Told) (old new : Told) (counte
 
   -- The status of a refusal comes exactly where a fact holds, where R is what the command's refusals say and M what its other
   -- answers say: a refusal with this status says the fact, and where the fact holds, each refusal has this status and there is no other answer.
-  pub comes_where : (R : Refusal → Type 0) (M : Type 0) → ((core : Option (List ℕ)) (r : Refusal) → IsAnswer command told (Gives core (Err r)) → R r) → ((a : Answer) → DoesMore a → IsAnswer command told a → M)
+  pub comes_where : (R : Refusal → Type 0) (M : Type 0) → ((core : Option (List ℕ)) (r : Refusal) → IsAnswer command told (Gives core (Err r)) → R r) → (DidMore command told → M)
       → (refused s : Status) (fact : Type 0) → (IsFaultStatus refused → ⊥) → (IsDoneStatus refused → ⊥)
       → ((r : Refusal) → R r → status_of r ≡ refused → fact) → (fact → (r : Refusal) → R r → status_of r ≡ refused) → (fact → M → ⊥)
       → IsLeft command told s old new counted out after → ComesWhere refused s fact
@@ -76,5 +82,5 @@ module _ (command : Command) (told : List ℕ → Told) (old new : Told) (counte
           elim (kind s left) [
             | inl fault ↦ inr fault
             | inr (inl (r, same, core, answer)) ↦ inl (sym same ∙ all holds r (refusals core r answer))
-            | inr (inr ((answer, more, is), done)) ↦ absurd (none holds (others answer more is))
+            | inr (inr (more, done)) ↦ absurd (none holds (others more))
           ]

@@ -21,7 +21,7 @@ use Rattle.omi_model.specs.declared.event.Event.{Event}
 use Rattle.omi_core.specs.Steps.{events_behind}
 use Rattle.omi_top.specs.declared.limits.TheConstants.{SCRIPT_FRONT}
 use Rattle.omi_top.specs.Answer.{Gives, IsAnswer, IsAnswered, IsEarly, IsLate, IsStopRefusal, IsStopped, IsUnwritten, IsOfCore}
-use Rattle.omi_top.specs.Command.{Stop as StopCommand}
+use Rattle.omi_top.specs.Command.{Command, Stop as StopCommand}
 use Rattle.omi_top.specs.Cores.{IsCoreOf}
 use Rattle.omi_top.specs.Lines.{run_text}
 use Rattle.omi_top.specs.Run.{thread_ids}
@@ -90,7 +90,7 @@ module _ (plan : Plan) (script core : List ℕ) (told : List ℕ → Told) where
     -- the core is partly written
     pub partly_answered : (written text : List ℕ) (p : Program) (r : RefusedWrite) (old new : Told) → Grammar whole p → IsStopped p plan written text → IsCut old new written
         → IsAnswered (StopCommand plan script core) told (Err (refusal_of_write r)) old new
-    partly_answered written text p r old new grammar stopped cut = inr (inr (late r, (written, Ok text, run_answer written text p grammar stopped, cut)))
+    partly_answered written text p r old new grammar stopped cut = inr (inr (inl (late r, (written, (Ok text, run_answer written text p grammar stopped), cut))))
 
     -- the core is written, and the text is handed up
     pub done_answered : (written : List ℕ) (text : Vec ℕ) (p : Program) (old new : Told) → Grammar whole p → IsStopped p plan written text.items → new ≡ holding old written
@@ -166,9 +166,9 @@ write_failed refused.Failed is = refl
 write_failed refused.OutOfMemory is = absurd (cc)
 
 -- a refused write is no refusal after which nothing was written
-pub never_unwritten : (r : RefusedWrite) → IsUnwritten (status_of (refusal_of_write r)) → ⊥
-never_unwritten refused.Failed unwritten = unwritten
-never_unwritten refused.OutOfMemory unwritten = unwritten
+pub never_unwritten : (command : Command) (r : RefusedWrite) → IsUnwritten command (status_of (refusal_of_write r)) → ⊥
+never_unwritten command refused.Failed unwritten = unwritten
+never_unwritten command refused.OutOfMemory unwritten = unwritten
 
 -- no refusal of `stop` is one of a core
 pub never_of_core : (bytes : List ℕ) (r : Refusal) → IsStopRefusal (Some bytes) r ⊎ (r ≡ refusal.OutOfMemory) → IsOfCore (status_of r) → ⊥

@@ -1,5 +1,5 @@
 -- What a command is to answer, by what is told of the file that it reads, and what a call leaves.
-use Rattle.std.specs.Prelude.{◌≡◌, ◌⊎◌, ℕ, List, length, Option, Some, None, Result, Ok, Err, ⊤}
+use Rattle.std.specs.Prelude.{◌≡◌, ◌⊎◌, ◌++◌, ℕ, List, length, Option, Some, None, Result, Ok, Err, ⊤}
 use Rattle.std.specs.Global.{Vec}
 use Rattle.omi_outside.specs.Outside.{Told, holding, IsCut, IsPutCut, put_on, Rose}
 use Rattle.omi_outside.specs.declared.status.Status.{Status}
@@ -22,7 +22,7 @@ use Rattle.omi_top.specs.declared.refusal.Input.{Input}
 use Rattle.omi_top.specs.declared.refusal.Input.TheVariants as input
 use Rattle.omi_top.specs.declared.refusal.Refusal.{Refusal}
 use Rattle.omi_top.specs.declared.refusal.Refusal.TheVariants as refusal
-use Rattle.omi_top.specs.Command.{Command, Stop, Make, Show, Faulty, Reads}
+use Rattle.omi_top.specs.Command.{Command, Stop, Make, Show, Run, Faulty, ReadsBack, ReadsFirst, WritesLast}
 use Rattle.omi_text.specs.Report.{report}
 use Rattle.omi_top.specs.Cores.{IsCoreOf, IsLooked, Spells}
 use Rattle.omi_top.specs.Shown.{IsRefusedCore}
@@ -58,6 +58,11 @@ IsStopRefusal None r = r ≡ refusal.NoFile input.Script
 IsStopRefusal (Some bytes) r =
     (fault : ScriptFault) × Refused bytes fault × (r ≡ refusal.Script fault)
 
+-- the script's file holds a program
+abbrev pub HoldsProgram : Option (List ℕ) → Type 0
+HoldsProgram None = ⊥
+HoldsProgram (Some bytes) = (p : Program) × Grammar bytes p
+
 -- an answer of `stop`, by the content of the script's file: a refusal alone, or the core and the text of a run of its program
 abbrev pub IsStopAnswer : Plan → Option (List ℕ) → Answer → Type 0
 IsStopAnswer plan content (Gives None (Err r)) = IsStopRefusal content r
@@ -89,11 +94,28 @@ IsShowAnswer content (Gives None (Err r)) = IsShowRefusal content r
 IsShowAnswer (Some bytes) (Gives None (Ok text)) = IsReportOf bytes text
 IsShowAnswer content answer = ⊥
 
+-- what `run` says behind the lines of its run, by the content under CORE in the files that it reads: the report that `show` puts for it,
+-- or the refusal of `show` alone
+abbrev pub IsReadBack : List ℕ → Option (List ℕ) → Result (List ℕ) Refusal → Type 0
+IsReadBack lines content (Ok text) =
+    (shown : List ℕ) × IsShowAnswer content (Gives None (Ok shown)) × (text ≡ lines ++ shown)
+IsReadBack lines content (Err r) = IsShowAnswer content (Gives None (Err r))
+
+-- an answer of `run`, by the contents of the script's file and of the core's: that of `stop` where this is a refusal; or the core of
+-- `stop`, and what is read back
+abbrev pub IsRunAnswer : Plan → Option (List ℕ) → Option (List ℕ) → Answer → Type 0
+IsRunAnswer plan script content (Gives None says) = IsStopAnswer plan script (Gives None says)
+IsRunAnswer plan script content (Gives (Some core) says) =
+    (lines : List ℕ) × IsStopAnswer plan script (Gives (Some core) (Ok lines))
+    × IsReadBack lines content says
+
 -- the content of each file that a command reads is told
 abbrev pub AreTold : Command → (List ℕ → Told) → Type 0
 AreTold (Stop plan script core) told = (content : Option (List ℕ)) × (told script ≡ Some content)
 AreTold (Make n script) told = ⊤
 AreTold (Show core) told = (content : Option (List ℕ)) × (told core ≡ Some content)
+AreTold (Run plan script core) told = ((content : Option (List ℕ)) × (told script ≡ Some content))
+    × ((content : Option (List ℕ)) × (told core ≡ Some content))
 AreTold Faulty told = ⊤
 
 -- an answer of a command, by what is told of the files that it reads
@@ -103,11 +125,14 @@ IsAnswer (Stop plan script core) told answer = (content : Option (List ℕ))
 IsAnswer (Make n script) told answer = IsMakeAnswer n answer
 IsAnswer (Show core) told answer = (content : Option (List ℕ)) × (told core ≡ Some content)
     × IsShowAnswer content answer
+IsAnswer (Run plan script core) told answer = (text : Option (List ℕ)) × (told script ≡ Some text)
+    × (content : Option (List ℕ)) × (told core ≡ Some content) × IsRunAnswer plan text content answer
 IsAnswer Faulty told answer = answer ≡ Gives None (Err refusal.Usage)
 
--- a fault before anything is written, of a file that the command reads or of memory; and one while its file is written
+-- a fault before anything is written, of a file that the command reads or of memory; one while its file is written; and one after that,
+-- of the file that the command reads back or of memory
 abbrev pub IsEarly : Command → Refusal → Type 0
-IsEarly command (refusal.ReadFault read) = Reads command read
+IsEarly command (refusal.ReadFault read) = ReadsFirst command read
 IsEarly command refusal.OutOfMemory = ⊤
 IsEarly command r = ⊥
 
@@ -116,23 +141,45 @@ IsLate refusal.WriteFault = ⊤
 IsLate refusal.OutOfMemory = ⊤
 IsLate r = ⊥
 
+abbrev pub IsBehind : Command → Refusal → Type 0
+IsBehind command (refusal.ReadFault read) = ReadsBack command read
+IsBehind command refusal.OutOfMemory = ReadsBack command input.Core
+IsBehind command r = ⊥
+
 -- the file holds what a command writes; a command that writes nothing leaves it
 abbrev pub Holds : Option (List ℕ) → Told → Told → Type 0
 Holds None old new = new ≡ old
 Holds (Some bytes) old new = new ≡ holding old bytes
 
--- an answer's file is not written to its end: it is as before, or holds a front of the bytes that is not all
-abbrev pub IsHalfWritten : Command → (List ℕ → Told) → Told → Told → Type 0
-IsHalfWritten command told old new = (bytes : List ℕ) × (says : Result (List ℕ) Refusal)
-    × IsAnswer command told (Gives (Some bytes) says) × IsCut old new bytes
+-- the part of a command that writes its file
+abbrev pub writing : Command → Command
+writing (Run plan script core) = Stop plan script core
+writing command = command
 
--- What a command gave, and what it left of the file that it writes: what an answer says and its bytes; or a fault, before the file or within it.
+-- a command writes these bytes to its file
+abbrev pub IsToWrite : Command → (List ℕ → Told) → List ℕ → Type 0
+IsToWrite command told bytes =
+    (says : Result (List ℕ) Refusal) × IsAnswer (writing command) told (Gives (Some bytes) says)
+
+-- a command's file is not written to its end: it is as before, or holds a front of the bytes that is not all. Or it is written whole
+abbrev pub IsHalfWritten : Command → (List ℕ → Told) → Told → Told → Type 0
+IsHalfWritten command told old new = (bytes : List ℕ) × IsToWrite command told bytes
+    × IsCut old new bytes
+
+abbrev pub IsWritten : Command → (List ℕ → Told) → Told → Told → Type 0
+IsWritten command told old new = (bytes : List ℕ) × IsToWrite command told bytes
+    × (new ≡ holding old bytes)
+
+-- What a command gave, and what it left of the file that it writes: what an answer says and its bytes; or a fault, before the file, within
+-- it or behind it.
 abbrev pub IsAnswered : Command → (List ℕ → Told) → Result (Vec ℕ) Refusal → Told → Told → Type 0
 IsAnswered command told (Ok text) old new = (core : Option (List ℕ))
     × IsAnswer command told (Gives core (Ok text.items)) × Holds core old new
 IsAnswered command told (Err r) old new =
     ((core : Option (List ℕ)) × IsAnswer command told (Gives core (Err r)) × Holds core old new)
-    ⊎ ((IsEarly command r × (new ≡ old)) ⊎ (IsLate r × IsHalfWritten command told old new))
+    ⊎ ((IsEarly command r × (new ≡ old))
+    ⊎ ((IsLate r × IsHalfWritten command told old new)
+    ⊎ (IsBehind command r × IsWritten command told old new)))
 
 -- a sink's count of faults rose, or its count of puts that were refused for want of memory
 abbrev pub IsCounted : ℕ → ℕ → ℕ → ℕ → Type 0
@@ -143,7 +190,7 @@ abbrev pub IsSaid : Option (List ℕ) → Type 0 → Option (List ℕ) → Optio
 IsSaid None counted old new = new ≡ old
 IsSaid (Some line) counted old new = (new ≡ put_on old line) ⊎ ((new ≡ old) × counted)
 
--- the file and the output after a fault: an answer's file is not written to its end and nothing put, or it is whole and a front of the answer's text put, which is not all
+-- the file and the output after a fault: the file is not written to its end and nothing put, or it is whole and a front of the answer's text put, which is not all
 abbrev pub IsPartlyDone : Command → (List ℕ → Told) → Told → Told → Option (List ℕ)
     → Option (List ℕ) → Type 0
 IsPartlyDone command told old new out after = (IsHalfWritten command told old new × (after ≡ out))
@@ -158,11 +205,20 @@ IsRefused command told status old new counted out after =
     × IsAnswer command told (Gives core (Err r)) × Holds core old new
     × IsSaid (line_of command r) counted out after
 
--- a file that the command reads can't be read: nothing is written, and the line with that file's name is said
-abbrev pub IsReadFailed : Command → Told → Told → Type 0 → Option (List ℕ) → Option (List ℕ)
-    → Type 0
-IsReadFailed command old new counted out after = (read : Input) × Reads command read × (new ≡ old)
+-- a file that the command reads can't be read, before anything is written or after all is, and the line with that file's name is said
+abbrev pub IsReadFailed : Command → (List ℕ → Told) → Told → Told → Type 0 → Option (List ℕ)
+    → Option (List ℕ) → Type 0
+IsReadFailed command told old new counted out after = (read : Input)
+    × ((ReadsFirst command read × (new ≡ old))
+    ⊎ (ReadsBack command read × IsWritten command told old new))
     × IsSaid (line_of command (refusal.ReadFault read)) counted out after
+
+-- memory ran out before anything was written, or after all was and before anything was put
+abbrev pub IsUnsaid : Command → (List ℕ → Told) → Told → Told → Option (List ℕ) → Option (List ℕ)
+    → Type 0
+IsUnsaid command told old new out after =
+    ((new ≡ old) ⊎ (ReadsBack command input.Core × IsWritten command told old new))
+    × (after ≡ out)
 
 -- What a call with this status leaves of the file that it writes and of the output, where a line that isn't put is counted by
 -- the sink.
@@ -172,24 +228,24 @@ IsLeft command told status.Success old new counted out after =
     (core : Option (List ℕ)) × (text : List ℕ) × IsAnswer command told (Gives core (Ok text))
     × Holds core old new × (after ≡ put_on out text)
 IsLeft command told status.ReadFault old new counted out after =
-    IsReadFailed command old new counted out after
+    IsReadFailed command told old new counted out after
 IsLeft command told status.WriteFault old new counted out after =
     IsPartlyDone command told old new out after
 IsLeft command told status.OutOfMemory old new counted out after =
-    ((new ≡ old) × (after ≡ out)) ⊎ IsPartlyDone command told old new out after
+    IsUnsaid command told old new out after ⊎ IsPartlyDone command told old new out after
 IsLeft command told refused old new counted out after =
     IsRefused command told refused old new counted out after
 
--- a call with this status wrote nothing
-abbrev pub IsUnwritten : Status → Type 0
-IsUnwritten status.Usage = ⊤
-IsUnwritten status.NoFile = ⊤
-IsUnwritten status.ReadFault = ⊤
-IsUnwritten status.Script = ⊤
-IsUnwritten status.Core = ⊤
-IsUnwritten status.Damaged = ⊤
-IsUnwritten status.Incompatible = ⊤
-IsUnwritten other = ⊥
+-- a call of a command with this status wrote nothing
+abbrev pub IsUnwritten : Command → Status → Type 0
+IsUnwritten command status.Usage = ⊤
+IsUnwritten command status.Script = ⊤
+IsUnwritten command status.NoFile = WritesLast command
+IsUnwritten command status.ReadFault = WritesLast command
+IsUnwritten command status.Core = WritesLast command
+IsUnwritten command status.Damaged = WritesLast command
+IsUnwritten command status.Incompatible = WritesLast command
+IsUnwritten command other = ⊥
 
 -- a fault of the outside before the command answers, or want of memory
 abbrev pub IsFaultStatus : Status → Type 0
@@ -209,6 +265,27 @@ abbrev pub ComesWhere : Status → Status → Type 0 → Type 0
 ComesWhere status result fact = (result ≡ status → fact)
     × (fact → (result ≡ status) ⊎ IsFaultStatus result)
 
+-- a fault of the outside, or want of memory
+abbrev pub IsOutsideStatus : Status → Type 0
+IsOutsideStatus status.ReadFault = ⊤
+IsOutsideStatus status.WriteFault = ⊤
+IsOutsideStatus status.OutOfMemory = ⊤
+IsOutsideStatus other = ⊥
+
+-- a status comes exactly where a fact holds of what is read back, but for a fault of reading or of writing and for want of memory
+abbrev pub ComesBehind : Status → Status → Type 0 → Type 0
+ComesBehind status result fact = (result ≡ status → fact)
+    × (fact → (result ≡ status) ⊎ IsOutsideStatus result)
+
+-- the core of the run was written, where the script is a program: a report was put, or what was read back was refused
+abbrev pub IsReadBackStatus : Status → Type 0
+IsReadBackStatus status.Success = ⊤
+IsReadBackStatus status.NoFile = ⊤
+IsReadBackStatus status.Core = ⊤
+IsReadBackStatus status.Damaged = ⊤
+IsReadBackStatus status.Incompatible = ⊤
+IsReadBackStatus other = ⊥
+
 -- what `show` makes of a core whose words show a state: it puts the report of the state for these contexts, unless a file or the output
 -- fails or memory runs out
 abbrev pub IsShown : State → List ℕ → Status → Option (List ℕ) → Option (List ℕ) → Type 0
@@ -218,6 +295,19 @@ IsShown s contexts status.ReadFault out after = ⊤
 IsShown s contexts status.WriteFault out after = ⊤
 IsShown s contexts status.OutOfMemory out after = ⊤
 IsShown s contexts other out after = ⊥
+
+-- what `run` makes of a script where it reads back the core that it left: the lines of a run of its program and the report of the state
+-- that the run's events reach. The core is never refused
+abbrev pub IsRunShown : List ℕ → Plan → List ℕ → Status → Option (List ℕ) → Option (List ℕ) → Type 0
+IsRunShown script plan core status.Success out after =
+    (p : Program) × (lines : List ℕ) × Grammar script p × (run : IsStopped p plan core lines)
+    × (v : View) × IsViewOf run.state (thread_ids p.threads) v
+    × (after ≡ put_on out (lines ++ report v))
+IsRunShown script plan core status.NoFile out after = ⊥
+IsRunShown script plan core status.Core out after = ⊥
+IsRunShown script plan core status.Damaged out after = ⊥
+IsRunShown script plan core status.Incompatible out after = ⊥
+IsRunShown script plan core other out after = ⊤
 
 -- a core is refused: for its bytes, for the layout in its words, or by the look at them
 abbrev pub IsOfCore : Status → Type 0

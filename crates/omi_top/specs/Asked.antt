@@ -1,7 +1,7 @@
 -- A request of the program as a command.
 use Rattle.std.specs.Prelude.{◌≡◌, ◌≤◌, ◌+◌, ℕ, List, length, IfSome, ⊤}
 use Rattle.omi_top.specs.declared.limits.TheConstants.{LINE_ROOM, MOST_LAYOUT, MOST_NODES}
-use Rattle.omi_top.specs.Command.{Command, Stop, Make, Show, Faulty, input_name}
+use Rattle.omi_top.specs.Command.{Command, Stop, Make, Show, Run, Faulty, input_name}
 use Rattle.omi_top.specs.Make.{make_text}
 use Rattle.omi_top.specs.declared.plan.Plan.{Plan}
 use Rattle.omi_top.specs.declared.refusal.Input.TheVariants as input
@@ -12,6 +12,7 @@ abbrev pub asked : Request → Command
 asked (request.Stop plan script core) = Stop plan script.now core.now
 asked (request.Make n script) = Make n script.now
 asked (request.Show core) = Show core.now
+asked (request.Run plan script core) = Run plan script.now core.now
 asked request.Faulty = Faulty
 
 -- The layout is one of the families, and the event at which the run stops is the first of its kind or a later one
@@ -33,6 +34,7 @@ abbrev pub IsBounded : Request → Type 0
 IsBounded (request.Stop plan script core) = IsPossible plan
 IsBounded (request.Make n script) = IsNodes n
 IsBounded (request.Show core) = ⊤
+IsBounded (request.Run plan script core) = IsPossible plan
 IsBounded request.Faulty = ⊤
 
 -- a line with any name of a command has room in so many bytes

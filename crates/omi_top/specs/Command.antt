@@ -16,6 +16,7 @@ pub data Command : Type 0 where
   Stop : (plan : Plan) (script core : List ℕ) → Command
   Make : (n : ℕ) (script : List ℕ) → Command
   Show : (core : List ℕ) → Command
+  Run : (plan : Plan) (script core : List ℕ) → Command
   Faulty : Command
 
 -- the line has an option
@@ -40,13 +41,22 @@ abbrev pub show_by : List (List ℕ) → Line → Command
 show_by (core ∷ []) line = if has_option line then Faulty else Show core
 show_by names line = Faulty
 
+-- `run STEPS SCRIPT CORE`, with the options of `stop`
+abbrev pub and_shown : Command → Command
+and_shown (Stop plan script core) = Run plan script core
+and_shown other = other
+
+abbrev pub run_by : List (List ℕ) → Line → Command
+run_by names line = and_shown (stop_by names line)
+
 -- a verb and the names behind it
 abbrev pub verb_by : List (List ℕ) → Line → Command
 verb_by [] line = Faulty
 verb_by (verb ∷ names) line =
     if bytes_eq verb (codes "stop") then stop_by names line
     else (if bytes_eq verb (codes "make") then make_by names line
-    else (if bytes_eq verb (codes "show") then show_by names line else Faulty))
+    else (if bytes_eq verb (codes "show") then show_by names line
+    else (if bytes_eq verb (codes "run") then run_by names line else Faulty)))
 
 -- the command of a line, if words make one: its positional words are a verb and names
 abbrev pub command_by : Option Line → Command
@@ -61,11 +71,28 @@ command_of words = command_by (split_of words)
 abbrev pub command_in : Vec (String Global) Global → Command
 command_in words = command_of (map string_bytes words.items)
 
--- a command reads this
-abbrev pub Reads : Command → Input → Type 0
-Reads (Stop plan script core) input.Script = ⊤
-Reads (Show core) input.Core = ⊤
-Reads command read = ⊥
+-- a command reads this before it writes
+abbrev pub ReadsFirst : Command → Input → Type 0
+ReadsFirst (Stop plan script core) input.Script = ⊤
+ReadsFirst (Show core) input.Core = ⊤
+ReadsFirst (Run plan script core) input.Script = ⊤
+ReadsFirst command read = ⊥
+
+-- a command reads this after it wrote
+abbrev pub ReadsBack : Command → Input → Type 0
+ReadsBack (Run plan script core) input.Core = ⊤
+ReadsBack command read = ⊥
+
+-- a command writes after all that it reads
+abbrev pub WritesLast : Command → Type 0
+WritesLast (Run plan script core) = ⊥
+WritesLast command = ⊤
+
+-- a command prints the report of a core
+abbrev pub ReadsCore : Command → Type 0
+ReadsCore (Show core) = ⊤
+ReadsCore (Run plan script core) = ⊤
+ReadsCore command = ⊥
 
 -- the name that a command's words give to a script or to a core
 abbrev pub input_name : Command → Input → List ℕ
@@ -75,6 +102,8 @@ input_name (Make n script) input.Script = script
 input_name (Make n script) input.Core = []
 input_name (Show core) input.Script = []
 input_name (Show core) input.Core = core
+input_name (Run plan script core) input.Script = script
+input_name (Run plan script core) input.Core = core
 input_name Faulty named = []
 
 -- the name of the file that a command writes
@@ -82,6 +111,7 @@ abbrev pub written_name : Command → List ℕ
 written_name (Stop plan script core) = core
 written_name (Make n script) = script
 written_name (Show core) = []
+written_name (Run plan script core) = core
 written_name Faulty = []
 
 -- a command writes the file of this name
@@ -89,4 +119,5 @@ abbrev pub Writes : Command → List ℕ → Type 0
 Writes (Stop plan script core) name = name ≡ core
 Writes (Make n script) name = name ≡ script
 Writes (Show core) name = ⊥
+Writes (Run plan script core) name = name ≡ core
 Writes Faulty name = ⊥

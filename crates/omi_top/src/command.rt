@@ -4,7 +4,7 @@ ghost use Rattle.std.specs.Prelude.{◌≡◌, ◌≤◌, ◌<◌, length, map, 
 ghost use Rattle.std.specs.List.{All};
 ghost use Rattle.std.specs.Str.{IsUtf8};
 ghost use Rattle.omi_line.specs.Line.{IsText, split_of};
-ghost use Rattle.omi_top.specs.Command.{command_by, has_option, input_name as named, make_by, show_by, stop_by, verb_by};
+ghost use Rattle.omi_top.specs.Command.{command_by, has_option, input_name as named, make_by, run_by, show_by, stop_by, verb_by};
 ghost use Rattle.omi_top.specs.Asked.{asked, IsBounded};
 
 use crate::limits::MOST_NODES;
@@ -27,6 +27,11 @@ pub enum Request<'a> {
         script: &'a str,
     },
     Show {
+        core: &'a str,
+    },
+    Run {
+        plan: Plan,
+        script: &'a str,
         core: &'a str,
     },
     Faulty,
@@ -103,6 +108,19 @@ fn show_by<'a>(names: &'a [Text], line: &Line) -> Request<'a>
     }
 }
 
+/// What `run` is asked for, by the names behind it: a run as of `stop`, and the report of its core.
+fn run_by<'a>(names: &'a [Text], line: &Line) -> Request<'a>
+    requires names { All IsUtf8 names.now }
+    requires line { IsText line.now }
+    ensures asked { asked result ≡ run_by names.entry.now line.now }
+    ensures bounded { IsBounded result }
+{
+    match stop_by(names, line) {
+        Request::Stop { plan, script, core } => Request::Run { plan, script, core },
+        other => other,
+    }
+}
+
 /// What a line asks for, by its verb: its first positional word.
 fn verb_by(line: &Line) -> Request<'_>
     requires { IsText line.now }
@@ -116,6 +134,7 @@ fn verb_by(line: &Line) -> Request<'_>
         "stop" => stop_by(names, line),
         "make" => make_by(names, line),
         "show" => show_by(names, line),
+        "run" => run_by(names, line),
         _ => Request::Faulty,
     }
 }
@@ -137,7 +156,7 @@ pub fn input_name(request: Request<'_>, input: Input) -> &str
     ensures { result.now ≡ named (asked request.entry) input }
 {
     match request {
-        Request::Stop { script, core, .. } => match input {
+        Request::Stop { script, core, .. } | Request::Run { script, core, .. } => match input {
             Input::Script => script,
             Input::Core => core,
         },
@@ -160,7 +179,9 @@ pub fn longest_name(request: Request<'_>) -> usize
     ensures small { result < 9223372036854775808 }
 {
     match request {
-        Request::Stop { script, core, .. } => script.len().max(core.len()),
+        Request::Stop { script, core, .. } | Request::Run { script, core, .. } => {
+            script.len().max(core.len())
+        }
         Request::Make { script, .. } => script.len(),
         Request::Show { core } => core.len(),
         Request::Faulty => 0,

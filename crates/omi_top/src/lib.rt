@@ -11,6 +11,7 @@ mod plan;
 mod refusal;
 mod refusal_line;
 mod run;
+mod run_and_show;
 mod show;
 mod stop;
 mod top;

@@ -11,7 +11,8 @@ ghost use Rattle.omi_top.specs.Answer.{Gives, AreTold, IsAnswered, IsShowAnswer,
 ghost use Rattle.omi_top.specs.Command.{Show};
 ghost use Rattle.omi_top.specs.CoreCalls.{told_of_core};
 ghost use Rattle.omi_top.specs.Cores.{IsLooked, memory_of};
-ghost use Rattle.omi_top.specs.Refusal.{IsReadFault};
+ghost use Rattle.omi_top.specs.Refusal.{IsReadFault, status_of};
+ghost use Rattle.omi_outside.specs.declared.status.Status.TheVariants.{Script};
 ghost use Rattle.omi_top.specs.Shown.{IsRefusedCore};
 
 use crate::Refusal;
@@ -107,6 +108,7 @@ pub fn show<F: Files>(alloc: Global, core: &str, files: &mut F) -> Result<Vec<u8
         → IsAnswered command (F.told files.old) result old old }
     ensures usage { result ≢ Err Refusal.Usage }
     ensures write { result ≢ Err Refusal.WriteFault }
+    ensures script { IfErr result (λ r. status_of r ≢ Script) }
     ensures read { HasCause (F.reads files.old) (F.reads files.new)
         (IsErrAnd result IsReadFault) }
     ensures files_told { F.told files.new ≡ F.told files.old }

@@ -75,7 +75,8 @@ pub fn stop<F: Files, W: Files>(
     ensures write { HasCause (W.writes dest.old) (W.writes dest.new)
         (IsErrOf result Refusal.WriteFault) }
     ensures unwritten { IfErr result
-        (λ r. IsUnwritten (status_of r) → W.told dest.new ≡ W.told dest.old) }
+        (λ r. IsUnwritten (StopCommand plan script.now core.now) (status_of r)
+        → W.told dest.new ≡ W.told dest.old) }
     ensures files_told { F.told files.new ≡ F.told files.old }
     ensures files_writes { F.writes files.new ≡ F.writes files.old }
     ensures dest_reads { W.reads dest.new ≡ W.reads dest.old }

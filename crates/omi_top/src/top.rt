@@ -8,10 +8,10 @@ ghost use Rattle.omi_corefile.specs.declared.fault.CoreFault.{CoreFault};
 ghost use Rattle.omi_script.specs.Grammar.{Grammar, Refused as RefusedScript};
 ghost use Rattle.omi_script.specs.declared.fault.ScriptFault.{ScriptFault};
 ghost use Rattle.omi_script.specs.declared.program.Program.{Program};
-ghost use Rattle.omi_top.specs.Command.{Command, Stop, Make, Show, Faulty, command_in, written_name, Writes};
+ghost use Rattle.omi_top.specs.Command.{Command, Stop, Make, Show, Run, Faulty, ReadsCore, command_in, written_name, Writes};
 ghost use Rattle.omi_top.specs.declared.plan.Plan.{Plan};
 ghost use Rattle.omi_top.specs.Asked.{asked, HasRoom, IsBounded};
-ghost use Rattle.omi_top.specs.Answer.{AreTold, IsAnswered, IsStopped, IsSaid, IsCounted, IsLeft, IsUnwritten, ComesWhere, IsShown, IsWritingStatus, IsOfCore};
+ghost use Rattle.omi_top.specs.Answer.{AreTold, IsAnswered, IsStopped, IsSaid, IsCounted, IsLeft, IsUnwritten, ComesWhere, ComesBehind, HoldsProgram, IsReadBackStatus, IsReportOf, IsRunShown, IsShown, IsWritingStatus, IsOfCore};
 ghost use Rattle.omi_top.specs.Make.{IsMade, make_text};
 ghost use Rattle.omi_top.specs.Cores.{IsDamaged, IsIncompatible, IsLooked, ShowsState, Spells};
 ghost use Rattle.omi_top.specs.Run.{thread_ids};
@@ -27,6 +27,7 @@ use crate::Refusal;
 use crate::command::{Request, line_in, request_of};
 use crate::make::make;
 use crate::refusal_line::{line_of, room_for};
+use crate::run_and_show::run_and_show;
 use crate::show::show;
 use crate::stop::stop;
 use omi_outside::{Files, Refused, Sink, Status, put_whole};
@@ -46,14 +47,14 @@ fn perform<F: Files, W: Files>(
         (W.told dest.old (written_name command)) (W.told dest.new (written_name command)) }
     ensures usage { IsErrOf result Refusal.Usage → asked request.entry ≡ Faulty }
     ensures faulty { asked request.entry ≡ Faulty → IsErrOf result Refusal.Usage }
-    ensures of_core { IfErr result (λ r. IsOfCore (status_of r)
-        → (core : List ℕ) × (asked request.entry ≡ Show core)) }
+    ensures of_core { IfErr result
+        (λ r. IsOfCore (status_of r) → ReadsCore (asked request.entry)) }
     ensures read { HasCause (F.reads files.old) (F.reads files.new)
         (IsErrAnd result IsReadFault) }
     ensures write { HasCause (W.writes dest.old) (W.writes dest.new)
         (IsErrOf result Refusal.WriteFault) }
-    ensures unwritten { IfErr result
-        (λ r. IsUnwritten (status_of r) → W.told dest.new ≡ W.told dest.old) }
+    ensures unwritten { IfErr result (λ r. IsUnwritten (asked request.entry) (status_of r)
+        → W.told dest.new ≡ W.told dest.old) }
     ensures files_told { F.told files.new ≡ F.told files.old }
     ensures files_writes { F.writes files.new ≡ F.writes files.old }
     ensures dest_reads { W.reads dest.new ≡ W.reads dest.old }
@@ -64,6 +65,9 @@ fn perform<F: Files, W: Files>(
         Request::Stop { plan, script, core } => stop(alloc, plan, script, core, files, dest),
         Request::Make { nodes, script } => make(alloc, nodes, script, dest),
         Request::Show { core } => show(alloc, core, files),
+        Request::Run { plan, script, core } => {
+            run_and_show(alloc, plan, script, core, files, dest)
+        }
         Request::Faulty => Err(Refusal::Usage),
     }
 }
@@ -129,7 +133,7 @@ fn carry_out_in<F: Files, W: Files, K: Sink>(
     requires bounded { IsBounded request }
     requires empty { string_bytes room.old ≡ [] }
     requires enough { HasRoom (asked request) (string_capacity room.old) }
-    ensures of_core { IsOfCore result → (core : List ℕ) × (asked request.entry ≡ Show core) }
+    ensures of_core { IsOfCore result → ReadsCore (asked request.entry) }
     ensures usage { result ≡ Status.Usage → asked request.entry ≡ Faulty }
     ensures read_fault { result ≡ Status.ReadFault → Rose (F.reads files.old) (F.reads files.new) }
     ensures write_fault { result ≡ Status.WriteFault
@@ -140,7 +144,8 @@ fn carry_out_in<F: Files, W: Files, K: Sink>(
         (W.told dest.old (written_name command)) (W.told dest.new (written_name command))
         (IsCounted (K.faults out.old) (K.faults out.new) (K.wants out.old) (K.wants out.new))
         (K.told out.old) (K.told out.new) }
-    ensures unwritten { IsUnwritten result → W.told dest.new ≡ W.told dest.old }
+    ensures unwritten { IsUnwritten (asked request.entry) result
+        → W.told dest.new ≡ W.told dest.old }
     ensures files_told { F.told files.new ≡ F.told files.old }
     ensures files_writes { F.writes files.new ≡ F.writes files.old }
     ensures dest_reads { W.reads dest.new ≡ W.reads dest.old }
@@ -166,7 +171,7 @@ fn carry_out<F: Files, W: Files, K: Sink>(
     out: &mut K,
 ) -> Status
     requires { IsBounded request }
-    ensures of_core { IsOfCore result → (core : List ℕ) × (asked request.entry ≡ Show core) }
+    ensures of_core { IsOfCore result → ReadsCore (asked request.entry) }
     ensures usage { result ≡ Status.Usage → asked request.entry ≡ Faulty }
     ensures faulty { asked request.entry ≡ Faulty → result ≡ Status.Usage }
     ensures said { asked request.entry ≡ Faulty
@@ -182,7 +187,8 @@ fn carry_out<F: Files, W: Files, K: Sink>(
         (W.told dest.old (written_name command)) (W.told dest.new (written_name command))
         (IsCounted (K.faults out.old) (K.faults out.new) (K.wants out.old) (K.wants out.new))
         (K.told out.old) (K.told out.new) }
-    ensures unwritten { IsUnwritten result → W.told dest.new ≡ W.told dest.old }
+    ensures unwritten { IsUnwritten (asked request.entry) result
+        → W.told dest.new ≡ W.told dest.old }
     ensures files_told { F.told files.new ≡ F.told files.old }
     ensures files_writes { F.writes files.new ≡ F.writes files.old }
     ensures dest_reads { W.reads dest.new ≡ W.reads dest.old }
@@ -206,7 +212,7 @@ fn carry_out<F: Files, W: Files, K: Sink>(
 /// program of a script for at most STEPS steps, writes its core and prints its events, where options
 /// say which threads make the steps, at which event they stop and in which layout; `make N SCRIPT`
 /// writes a workload, runs it and prints how many tasks started; `show CORE` prints the report of a
-/// core. It reads from `files` alone, writes to `dest` alone and prints to
+/// core; `run STEPS SCRIPT CORE` does what `stop` does, reads CORE back and prints its report as well. It reads from `files` alone, writes to `dest` alone and prints to
 /// `out`.
 pub fn run_top<F: Files, W: Files, K: Sink>(
     alloc: Global,
@@ -217,7 +223,7 @@ pub fn run_top<F: Files, W: Files, K: Sink>(
 ) -> Status
     // The causes for which no bytes need be told. Where the words are refused, that line is put
     // whole, or the sink counted why not.
-    ensures of_core { IsOfCore result → (core : List ℕ) × (command_in words.now ≡ Show core) }
+    ensures of_core { IsOfCore result → ReadsCore (command_in words.now) }
     ensures usage { result ≡ Status.Usage → command_in words.now ≡ Faulty }
     ensures faulty { command_in words.now ≡ Faulty
         → (result ≡ Status.Usage) ⊎ (result ≡ Status.OutOfMemory) }
@@ -298,6 +304,58 @@ pub fn run_top<F: Files, W: Files, K: Sink>(
         → (p : Program) (plan : Plan) (text : List ℕ) (run : IsStopped p plan bytes text)
         → IsShown run.state (thread_ids p.threads) result (K.told out.old) (K.told out.new) }
 
+    // With `run` the core is written as with `stop`, and then the bytes under CORE in `files` are
+    // read and judged as with `show`. The script is judged first.
+    ensures run_script { (plan : Plan) (script core bytes : List ℕ) (content : Option (List ℕ))
+        → command_in words.now ≡ Run plan script core
+        → F.told files.old script ≡ Some (Some bytes) → F.told files.old core ≡ Some content
+        → ComesWhere Status.Script result ((fault : ScriptFault) × RefusedScript bytes fault) }
+    ensures run_no_file { (plan : Plan) (script core : List ℕ) (text content : Option (List ℕ))
+        → command_in words.now ≡ Run plan script core
+        → F.told files.old script ≡ Some text → F.told files.old core ≡ Some content
+        → ComesBehind Status.NoFile result
+        ((text ≡ None) ⊎ (HoldsProgram text × (content ≡ None))) }
+    ensures run_core { (plan : Plan) (script core bytes : List ℕ) (text : Option (List ℕ))
+        → command_in words.now ≡ Run plan script core
+        → F.told files.old script ≡ Some text → F.told files.old core ≡ Some (Some bytes)
+        → ComesBehind Status.Core result (HoldsProgram text
+        × ((at : ℕ) × (why : CoreFault) × CoreRefused bytes at why)) }
+    ensures run_incompatible { (plan : Plan) (script core bytes : List ℕ) (text : Option (List ℕ))
+        → command_in words.now ≡ Run plan script core
+        → F.told files.old script ≡ Some text → F.told files.old core ≡ Some (Some bytes)
+        → ComesBehind Status.Incompatible result (HoldsProgram text × Spells bytes IsIncompatible) }
+    ensures run_damaged { (plan : Plan) (script core bytes : List ℕ) (text : Option (List ℕ))
+        → command_in words.now ≡ Run plan script core
+        → F.told files.old script ≡ Some text → F.told files.old core ≡ Some (Some bytes)
+        → ComesBehind Status.Damaged result (HoldsProgram text × Spells bytes IsDamaged) }
+
+    // With success, and with a refusal of what is read back, CORE holds the core of the last words
+    // of a run. With success what is put is that run's events and its end, and the report of what is
+    // read back.
+    ensures run_written { (plan : Plan) (script core bytes : List ℕ) (content : Option (List ℕ))
+        → command_in words.now ≡ Run plan script core
+        → F.told files.old script ≡ Some (Some bytes) → F.told files.old core ≡ Some content
+        → IsReadBackStatus result
+        → (p : Program) × (written lines : List ℕ) × Grammar bytes p
+        × IsStopped p plan written lines
+        × (W.told dest.new core ≡ holding (W.told dest.old core) written) }
+    ensures run_report { (plan : Plan) (script core text bytes : List ℕ)
+        → command_in words.now ≡ Run plan script core
+        → F.told files.old script ≡ Some (Some text) → F.told files.old core ≡ Some (Some bytes)
+        → result ≡ Status.Success
+        → (p : Program) × (written lines shown : List ℕ) × Grammar text p
+        × IsStopped p plan written lines
+        × (W.told dest.new core ≡ holding (W.told dest.old core) written)
+        × IsReportOf bytes shown × (K.told out.new ≡ put_on (K.told out.old) (lines ++ shown)) }
+
+    // Where the bytes under CORE in `files` are those that `dest` holds under CORE at the end, what
+    // is put is the events and the end of a run, and the report of the state that the events reach.
+    ensures run_shown { (plan : Plan) (script core text bytes : List ℕ)
+        → command_in words.now ≡ Run plan script core
+        → F.told files.old script ≡ Some (Some text) → F.told files.old core ≡ Some (Some bytes)
+        → W.told dest.new core ≡ Some (Some bytes)
+        → IsRunShown text plan bytes result (K.told out.old) (K.told out.new) }
+
     // What is left of the core and of the output with every status.
     ensures left { let command = command_in words.now in
         AreTold command (F.told files.old) → IsLeft command (F.told files.old) result
@@ -305,8 +363,10 @@ pub fn run_top<F: Files, W: Files, K: Sink>(
         (IsCounted (K.faults out.old) (K.faults out.new) (K.wants out.old) (K.wants out.new))
         (K.told out.old) (K.told out.new) }
 
-    // What stays, whatever is told: after a refusal all that may be written is as before.
-    ensures unwritten { IsUnwritten result → W.told dest.new ≡ W.told dest.old }
+    // What stays, whatever is told: after a refusal all that may be written is as before, but for
+    // the core that `run` reads back.
+    ensures unwritten { IsUnwritten (command_in words.now) result
+        → W.told dest.new ≡ W.told dest.old }
     ensures files_told { F.told files.new ≡ F.told files.old }
     ensures others { (other : List ℕ) → (Writes (command_in words.now) other → ⊥)
         → W.told dest.new other ≡ W.told dest.old other }

@@ -4,6 +4,7 @@ use Rattle.std.proofs.lemmas.Result.{err_from_is_err_and}
 use Rattle.omi_top.specs.Answer.{IsStopped}
 use Rattle.omi_top.specs.declared.refusal.Refusal.TheVariants as refusal
 use Rattle.omi_top.proofs.Stopping.{unread_answered, refused_answered, partly_answered, done_answered, never_outside, never_usage, never_read_fault, write_not_read, never_unwritten, never_of_core, write_not_of_core, write_failed}
+use Rattle.omi_top.specs.Command.{Stop as StopCommand}
 use Rattle.omi_top.proofs.stop.stop.Goals as goal
 
 pub returns-in_err-bytes-clause-answer : goal.returns-in_err-bytes-clause-answer
@@ -73,7 +74,7 @@ returns-in_err-p-clause-write g c =
 pub returns-in_err-write_whole-clause-unwritten : goal.returns-in_err-write_whole-clause-unwritten
 returns-in_err-write_whole-clause-unwritten g c =
     let p = err_from_is_err_and c.from_residual-in_err-write_whole.result c.from_residual-in_err-write_whole.ensures.1 in
-    rw (p.1, p.2) (λ is. absurd (never_unwritten c.in_err-write_whole.field-0.0 is))
+    rw (p.1, p.2) (λ is. absurd (never_unwritten (StopCommand c.args.plan c.args.script.now c.args.core.now) c.in_err-write_whole.field-0.0 is))
 
 pub returns-in_err-p-clause-of_core : goal.returns-in_err-p-clause-of_core
 returns-in_err-p-clause-of_core g c =

@@ -1,9 +1,10 @@
 use Rattle.std.proofs.Common.{◌≡◌, ◌∙◌, ap, Some}
 use Rattle.omi_top.specs.Asked.{asked}
 use Rattle.omi_top.specs.Answer.{AreTold, IsCounted, IsLeft}
-use Rattle.omi_top.specs.Command.{Command, Stop, Make, Show, command_by, command_in, written_name}
+use Rattle.omi_top.specs.Command.{Command, Stop, Make, Show, Run, command_by, command_in, written_name}
 use Rattle.omi_top.proofs.Left.{left_by}
 use Rattle.omi_top.proofs.LeftByShow.{no_file as no_core, core_refused, incompatible, damaged, report_put, shown, shown_again}
+use Rattle.omi_top.proofs.LeftByRun.{core_refused as run_core_refused, damaged as run_damaged, incompatible as run_incompatible, no_file as run_no_file, put_report, script_refused as run_script_refused, shown as run_shown, wrote}
 use Rattle.omi_top.proofs.LeftByMake.{success as made, writing}
 use Rattle.omi_top.proofs.LeftByStop.{no_file, script_refused, success}
 use Rattle.omi_top.proofs.top.run_top.Given as given
@@ -63,3 +64,27 @@ returns-in-Ok-clause-shown g c = λ core bytes command told image spelled s show
 
 pub returns-in-Ok-clause-shown_again : goal.returns-in-Ok-clause-shown_again
 returns-in-Ok-clause-shown_again g c = λ core bytes command told p plan text run. shown_again core (g.F.Files.told c.args.files.now) _ _ _ _ _ _ bytes told p plan text run (left_of g c (Show core) (asked_is g c ∙ command) (Some bytes, told))
+
+pub returns-in-Ok-clause-run_script : goal.returns-in-Ok-clause-run_script
+returns-in-Ok-clause-run_script g c = λ plan script core bytes content command told back. run_script_refused plan script core (g.F.Files.told c.args.files.now) _ _ _ _ _ _ bytes content told back (left_of g c (Run plan script core) (asked_is g c ∙ command) ((Some bytes, told), (content, back)))
+
+pub returns-in-Ok-clause-run_no_file : goal.returns-in-Ok-clause-run_no_file
+returns-in-Ok-clause-run_no_file g c = λ plan script core text content command told back. run_no_file plan script core (g.F.Files.told c.args.files.now) _ _ _ _ _ text content told back _ (left_of g c (Run plan script core) (asked_is g c ∙ command) ((text, told), (content, back)))
+
+pub returns-in-Ok-clause-run_core : goal.returns-in-Ok-clause-run_core
+returns-in-Ok-clause-run_core g c = λ plan script core bytes text command told back. run_core_refused plan script core (g.F.Files.told c.args.files.now) _ _ _ _ _ text bytes told back _ (left_of g c (Run plan script core) (asked_is g c ∙ command) ((text, told), (Some bytes, back)))
+
+pub returns-in-Ok-clause-run_incompatible : goal.returns-in-Ok-clause-run_incompatible
+returns-in-Ok-clause-run_incompatible g c = λ plan script core bytes text command told back. run_incompatible plan script core (g.F.Files.told c.args.files.now) _ _ _ _ _ text bytes told back _ (left_of g c (Run plan script core) (asked_is g c ∙ command) ((text, told), (Some bytes, back)))
+
+pub returns-in-Ok-clause-run_damaged : goal.returns-in-Ok-clause-run_damaged
+returns-in-Ok-clause-run_damaged g c = λ plan script core bytes text command told back. run_damaged plan script core (g.F.Files.told c.args.files.now) _ _ _ _ _ text bytes told back _ (left_of g c (Run plan script core) (asked_is g c ∙ command) ((text, told), (Some bytes, back)))
+
+pub returns-in-Ok-clause-run_written : goal.returns-in-Ok-clause-run_written
+returns-in-Ok-clause-run_written g c = λ plan script core bytes content command told back read_back. wrote plan script core (g.F.Files.told c.args.files.now) _ _ _ _ _ bytes content told back _ read_back (left_of g c (Run plan script core) (asked_is g c ∙ command) ((Some bytes, told), (content, back)))
+
+pub returns-in-Ok-clause-run_report : goal.returns-in-Ok-clause-run_report
+returns-in-Ok-clause-run_report g c = λ plan script core text bytes command told back done. put_report plan script core (g.F.Files.told c.args.files.now) _ _ _ _ _ text bytes told back _ done (left_of g c (Run plan script core) (asked_is g c ∙ command) ((Some text, told), (Some bytes, back)))
+
+pub returns-in-Ok-clause-run_shown : goal.returns-in-Ok-clause-run_shown
+returns-in-Ok-clause-run_shown g c = λ plan script core text bytes command told back same. run_shown plan script core (g.F.Files.told c.args.files.now) _ _ _ _ _ text bytes told back same _ (left_of g c (Run plan script core) (asked_is g c ∙ command) ((Some text, told), (Some bytes, back)))

@@ -1,0 +1,123 @@
+-- The exits of `run`: what each result is an answer to.
+use Rattle.std.proofs.Common.{◌≡◌, ◌++◌, inl, inr, ℕ, List, Option, Some, None, Ok, Err}
+use Rattle.std.specs.Global.{Vec}
+use Rattle.std.specs.Prelude.{Result}
+use Rattle.omi_outside.specs.Outside.{Told}
+use Rattle.omi_top.specs.Answer.{Gives, IsAnswered, IsBehind, IsEarly, IsShowAnswer, IsStopAnswer, IsWritten}
+use Rattle.omi_top.specs.Command.{Run, Show, Stop}
+use Rattle.omi_top.specs.declared.plan.Plan.{Plan}
+use Rattle.omi_top.specs.declared.refusal.Input.TheVariants as input
+use Rattle.omi_top.specs.declared.refusal.Refusal.{Refusal}
+use Rattle.omi_top.specs.declared.refusal.Refusal.TheVariants as refusal
+
+early : (plan : Plan) (script core : List ℕ) (r : Refusal) → IsEarly (Stop plan script core) r → IsEarly (Run plan script core) r
+early plan script core (refusal.ReadFault input.Script) is = tt
+early plan script core (refusal.ReadFault input.Core) is = is
+early plan script core refusal.OutOfMemory is = tt
+early plan script core refusal.Usage is = is
+early plan script core (refusal.NoFile read) is = is
+early plan script core refusal.WriteFault is = is
+early plan script core (refusal.Script fault) is = is
+early plan script core (refusal.Core at why) is = is
+early plan script core (refusal.Damaged addr field) is = is
+early plan script core (refusal.Cycle addr) is = is
+early plan script core refusal.Incompatible is = is
+
+never_behind : (plan : Plan) (script core : List ℕ) (r : Refusal) → IsBehind (Stop plan script core) r → ⊥
+never_behind plan script core (refusal.ReadFault read) is = is
+never_behind plan script core refusal.OutOfMemory is = is
+never_behind plan script core refusal.Usage is = is
+never_behind plan script core (refusal.NoFile read) is = is
+never_behind plan script core refusal.WriteFault is = is
+never_behind plan script core (refusal.Script fault) is = is
+never_behind plan script core (refusal.Core at why) is = is
+never_behind plan script core (refusal.Damaged addr field) is = is
+never_behind plan script core (refusal.Cycle addr) is = is
+never_behind plan script core refusal.Incompatible is = is
+
+-- a fault before `show` reads is one behind the core that was written
+read_back : (plan : Plan) (script core : List ℕ) (r : Refusal) → IsEarly (Show core) r → IsBehind (Run plan script core) r
+read_back plan script core (refusal.ReadFault input.Script) is = is
+read_back plan script core (refusal.ReadFault input.Core) is = tt
+read_back plan script core refusal.OutOfMemory is = tt
+read_back plan script core refusal.Usage is = is
+read_back plan script core (refusal.NoFile read) is = is
+read_back plan script core refusal.WriteFault is = is
+read_back plan script core (refusal.Script fault) is = is
+read_back plan script core (refusal.Core at why) is = is
+read_back plan script core (refusal.Damaged addr field) is = is
+read_back plan script core (refusal.Cycle addr) is = is
+read_back plan script core refusal.Incompatible is = is
+
+show_never_behind : (core : List ℕ) (r : Refusal) → IsBehind (Show core) r → ⊥
+show_never_behind core (refusal.ReadFault read) is = is
+show_never_behind core refusal.OutOfMemory is = is
+show_never_behind core refusal.Usage is = is
+show_never_behind core (refusal.NoFile read) is = is
+show_never_behind core refusal.WriteFault is = is
+show_never_behind core (refusal.Script fault) is = is
+show_never_behind core (refusal.Core at why) is = is
+show_never_behind core (refusal.Damaged addr field) is = is
+show_never_behind core (refusal.Cycle addr) is = is
+show_never_behind core refusal.Incompatible is = is
+
+-- `show` writes nothing
+show_writes_none : (content : Option (List ℕ)) (bytes : List ℕ) (says : Result (List ℕ) Refusal) → IsShowAnswer content (Gives (Some bytes) says) → ⊥
+show_writes_none None bytes (Ok text) is = is
+show_writes_none None bytes (Err r) is = is
+show_writes_none (Some core) bytes (Ok text) is = is
+show_writes_none (Some core) bytes (Err r) is = is
+
+module _ (plan : Plan) (script core : List ℕ) (told : List ℕ → Told) (content : Option (List ℕ)) (is : told core ≡ Some content) where
+  -- `stop` is refused, or fails
+  pub stop_failed : (r : Refusal) (old new : Told) → IsAnswered (Stop plan script core) told (Err r) old new → IsAnswered (Run plan script core) told (Err r) old new
+  stop_failed r old new (inl (None, (text, here, answer), held)) = inl (None, (text, here, content, is, answer), held)
+  stop_failed r old new (inl (Some written, (text, here, answer), held)) = absurd (go text answer)
+    where
+      go : (t : Option (List ℕ)) → IsStopAnswer plan t (Gives (Some written) (Err r)) → ⊥
+      go None said = said
+      go (Some bytes) said = said
+  stop_failed r old new (inr (inl (first, same))) = inr (inl (early plan script core r first, same))
+  stop_failed r old new (inr (inr (inl (late, half)))) = inr (inr (inl (late, half)))
+  stop_failed r old new (inr (inr (inr (behind, whole)))) = absurd (never_behind plan script core r behind)
+
+  -- the core that `stop` wrote
+  module _ (lines : Vec ℕ) (old new : Told) where
+    pub written_by_stop : IsAnswered (Stop plan script core) told (Ok lines) old new → IsWritten (Run plan script core) told old new
+    written_by_stop (Some written, answer, held) = (written, (Ok lines.items, answer), held)
+    written_by_stop (None, (text, here, answer), held) = absurd (go text answer)
+      where
+        go : (t : Option (List ℕ)) → IsStopAnswer plan t (Gives None (Ok lines.items)) → ⊥
+        go None said = said
+        go (Some bytes) said = said
+
+    -- memory runs out behind it
+    pub no_memory : IsAnswered (Stop plan script core) told (Ok lines) old new → IsAnswered (Run plan script core) told (Err refusal.OutOfMemory) old new
+    no_memory stopped = inr (inr (inr (tt, written_by_stop stopped)))
+
+    -- `show` is refused, or fails
+    pub show_failed : (r : Refusal) (before after : Told) → IsAnswered (Stop plan script core) told (Ok lines) old new → IsAnswered (Show core) told (Err r) before after
+        → IsAnswered (Run plan script core) told (Err r) old new
+    show_failed r before after (Some written, (text, here, answer), held) (inl (None, (found, there, said), same)) =
+        inl (Some written, (text, here, found, there, (lines.items, answer, said)), held)
+    show_failed r before after stopped (inl (Some bytes, (found, there, said), same)) = absurd (show_writes_none found bytes (Err r) said)
+    show_failed r before after stopped (inr (inl (first, same))) = inr (inr (inr (read_back plan script core r first, written_by_stop stopped)))
+    show_failed r before after stopped (inr (inr (inl (late, (bytes, (says, (found, there, said)), cut))))) = absurd (show_writes_none found bytes says said)
+    show_failed r before after stopped (inr (inr (inr (behind, whole)))) = absurd (show_never_behind core r behind)
+    show_failed r before after (None, (text, here, answer), held) (inl (None, (found, there, said), same)) = absurd (go text answer)
+      where
+        go : (t : Option (List ℕ)) → IsStopAnswer plan t (Gives None (Ok lines.items)) → ⊥
+        go None said = said
+        go (Some bytes) said = said
+
+    -- the report is put behind the lines
+    pub shown_behind : (report text : Vec ℕ) (before after : Told) → text.items ≡ lines.items ++ report.items → IsAnswered (Stop plan script core) told (Ok lines) old new → IsAnswered (Show core) told (Ok report) before after
+        → IsAnswered (Run plan script core) told (Ok text) old new
+    shown_behind report text before after joined (Some written, (script_text, here, answer), held) (None, (found, there, said), same) =
+        (Some written, (script_text, here, found, there, (lines.items, answer, (report.items, said, joined))), held)
+    shown_behind report text before after joined stopped (Some bytes, (found, there, said), same) = absurd (show_writes_none found bytes (Ok report.items) said)
+    shown_behind report text before after joined (None, (script_text, here, answer), held) (None, (found, there, said), same) = absurd (go script_text answer)
+      where
+        go : (t : Option (List ℕ)) → IsStopAnswer plan t (Gives None (Ok lines.items)) → ⊥
+        go None said = said
+        go (Some bytes) said = said

@@ -1,0 +1,48 @@
+//! The command `run`.
+
+ghost use Rattle.std.specs.Prelude.{◌≡◌, ◌≢◌, List, ℕ, IfErr, IsErrAnd, IsErrOf};
+ghost use Rattle.omi_outside.specs.Outside.{HasCause};
+ghost use Rattle.omi_top.specs.Answer.{AreTold, IsAnswered, IsUnwritten};
+ghost use Rattle.omi_top.specs.Asked.{IsPossible};
+ghost use Rattle.omi_top.specs.Command.{Run};
+ghost use Rattle.omi_top.specs.Refusal.{IsReadFault, status_of};
+
+use crate::Refusal;
+use crate::plan::Plan;
+use crate::show::show;
+use crate::stop::stop;
+use omi_outside::Files;
+use std::alloc::Global;
+
+/// Does what `stop` does, reads the core back, and answers what `stop` prints with the core's report behind it.
+pub fn run_and_show<F: Files, W: Files>(
+    alloc: Global,
+    plan: Plan,
+    script: &str,
+    core: &str,
+    files: &mut F,
+    dest: &mut W,
+) -> Result<Vec<u8>, Refusal>
+    requires { IsPossible plan }
+    ensures answer { let command = Run plan script.now core.now in
+        AreTold command (F.told files.old)
+        → IsAnswered command (F.told files.old) result (W.told dest.old core.now)
+        (W.told dest.new core.now) }
+    ensures usage { result ≢ Err Refusal.Usage }
+    ensures read { HasCause (F.reads files.old) (F.reads files.new)
+        (IsErrAnd result IsReadFault) }
+    ensures write { HasCause (W.writes dest.old) (W.writes dest.new)
+        (IsErrOf result Refusal.WriteFault) }
+    ensures unwritten { IfErr result (λ r. IsUnwritten (Run plan script.now core.now) (status_of r)
+        → W.told dest.new ≡ W.told dest.old) }
+    ensures files_told { F.told files.new ≡ F.told files.old }
+    ensures files_writes { F.writes files.new ≡ F.writes files.old }
+    ensures dest_reads { W.reads dest.new ≡ W.reads dest.old }
+    ensures others { (other : List ℕ) → other ≢ core.now
+        → W.told dest.new other ≡ W.told dest.old other }
+{
+    let mut text = stop(alloc, plan, script, core, files, dest)?;
+    let report = show(alloc, core, files)?;
+    text.extend_from_slice(&report)?;
+    Ok(text)
+}
