@@ -10,6 +10,8 @@ mod option_tests;
 #[cfg(test)]
 mod show_tests;
 #[cfg(test)]
+mod shown_team_tests;
+#[cfg(test)]
 mod size_tests;
 #[cfg(test)]
 mod team_tests;

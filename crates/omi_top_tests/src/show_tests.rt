@@ -60,10 +60,43 @@ task k0.0.0 thread 0 kind implicit region r0.0.0 function 0x400010 generating no
 icv dyn-var=1 nthreads-var=5,6,7 run-sched-var=guided,7 default-device-var=9 final-task-var=0 implicit-task-var=1
 ";
 
-/// The report of a core whose one context is the native id of no thread.
-const UNKNOWN: &str = "ompd 201811 threads 1 debug enabled
+/// The report of a core whose one context is the native id of no thread, of one whose thread has not begun, and of one with another context.
+const UNKNOWN_THREAD: &str = "ompd 201811 threads 1 debug enabled
 icv num-procs-var=4 max-active-levels-var=8
 native 1000 none
+";
+
+const OTHER_CONTEXT: &str = "ompd 201811 threads 1 debug enabled
+icv num-procs-var=4 max-active-levels-var=8
+native 771 none
+";
+
+/// The report of the opening words with the next generation of the region, of the task, and with another level.
+const LATER_REGION: &str = "ompd 201811 threads 1 debug enabled
+icv num-procs-var=4 max-active-levels-var=8
+thread 0 native 1000 state work_serial wait 0 thread-num-var=0 current k0.0.0
+region r0.0.1 function 0x400000 levels-var=0 active-levels-var=0 team-size-var=1 enclosing none
+member 0 thread 0 task k0.0.0
+task k0.0.0 thread 0 kind implicit region r0.0.1 function 0x400000 generating none scheduling none exit 0x7f00000fffc0 enter 0x0 tool 0
+icv dyn-var=0 nthreads-var=1 run-sched-var=static,0 default-device-var=0 final-task-var=0 implicit-task-var=1
+";
+
+const LATER_TASK: &str = "ompd 201811 threads 1 debug enabled
+icv num-procs-var=4 max-active-levels-var=8
+thread 0 native 1000 state work_serial wait 0 thread-num-var=0 current k0.0.1
+region r0.0.0 function 0x400000 levels-var=0 active-levels-var=0 team-size-var=1 enclosing none
+member 0 thread 0 task k0.0.1
+task k0.0.1 thread 0 kind implicit region r0.0.0 function 0x400000 generating none scheduling none exit 0x7f00000fffc0 enter 0x0 tool 0
+icv dyn-var=0 nthreads-var=1 run-sched-var=static,0 default-device-var=0 final-task-var=0 implicit-task-var=1
+";
+
+const OTHER_LEVEL: &str = "ompd 201811 threads 1 debug enabled
+icv num-procs-var=4 max-active-levels-var=8
+thread 0 native 1000 state work_serial wait 0 thread-num-var=0 current k0.0.0
+region r0.0.0 function 0x400000 levels-var=44 active-levels-var=0 team-size-var=1 enclosing none
+member 0 thread 0 task k0.0.0
+task k0.0.0 thread 0 kind implicit region r0.0.0 function 0x400000 generating none scheduling none exit 0x7f00000fffc0 enter 0x0 tool 0
+icv dyn-var=0 nthreads-var=1 run-sched-var=static,0 default-device-var=0 final-task-var=0 implicit-task-var=1
 ";
 
 /// The core that `stop` writes.
@@ -174,7 +207,10 @@ const REPORTS: [(&str, &str, &str); 4] = [
 ];
 
 /// The entry point words, from place 41 on, are no part of the tables. Place 113 is the native id of thread 0.
-const SHOWN: [(usize, u8, &str); 2] = [(40 + 8 * 41, 3, OPENING), (40 + 8 * 113, 0, UNKNOWN)];
+const SHOWN: [(usize, u8, &str); 2] = [
+    (40 + 8 * 41, 3, OPENING),
+    (40 + 8 * 113, 0, UNKNOWN_THREAD),
+];
 
 #[test]
 fn reports_of_stopped_runs(rt: HostRuntime) -> Result<(), Fail> {
@@ -183,44 +219,76 @@ fn reports_of_stopped_runs(rt: HostRuntime) -> Result<(), Fail> {
     Ok(())
 }
 
-/// The context, the start address, and the words of a plain core.
-const NOT_PLAIN: [(usize, u8); 15] = [
-    (16, 3),
-    (26, 3),
-    (40 + 8 * 112, 3),
-    (40 + 8 * 114, 3),
-    (40 + 8 * 118, 3),
-    (40 + 8 * 120, 3),
-    (40 + 8 * 122, 3),
-    (40 + 8 * 129, 3),
-    (40 + 8 * 310, 3),
-    (40 + 8 * 312, 3),
-    (40 + 8 * 313, 3),
-    (40 + 8 * 315, 3),
-    (40 + 8 * 316, 3),
-    (40 + 8 * 321, 0),
-    (40 + 8 * 321, 5),
+/// The context, the life words of the thread, of its region and of its task, and a level: the report says what the words say.
+const OTHER_REPORTS: [(usize, u8, &str); 5] = [
+    (16, 3, OTHER_CONTEXT),
+    (40 + 8 * 112, 3, UNKNOWN_THREAD),
+    (40 + 8 * 118, 3, LATER_REGION),
+    (40 + 8 * 123, 44, OTHER_LEVEL),
+    (40 + 8 * 310, 3, LATER_TASK),
 ];
 
+/// A pointer that leads to no live record, a size or a length that is out of range, and two chains that meet an address again. Each is refused at the
+/// first line that reads it.
+const DAMAGED: [(usize, u8, &str); 13] = [
+    (40 + 8 * 114, 3, "damaged 0x10903 thread.cur\n"),
+    (40 + 8 * 120, 3, "damaged 0x3 region.enclosing\n"),
+    (40 + 8 * 122, 0, "damaged 0x103b0 region.size\n"),
+    (40 + 8 * 122, 3, "damaged 0x103b0 region.size\n"),
+    (40 + 8 * 129, 3, "damaged 0x10903 region.team\n"),
+    (40 + 8 * 310, 0, "damaged 0x109b0 thread.cur\n"),
+    (40 + 8 * 310, 2, "damaged 0x109b0 thread.cur\n"),
+    (40 + 8 * 312, 3, "damaged 0x10303 task.region\n"),
+    (40 + 8 * 313, 3, "damaged 0x10303 task.thread\n"),
+    (40 + 8 * 315, 3, "damaged 0x3 task.generating\n"),
+    (40 + 8 * 316, 3, "damaged 0x3 task.scheduling\n"),
+    (40 + 8 * 321, 0, "damaged 0x109b0 task.nthn\n"),
+    (40 + 8 * 321, 5, "damaged 0x109b0 task.nthn\n"),
+];
+
+/// Words by their place, each with what it is set to.
+const HOSTILE: [(usize, u64, &str); 4] = [
+    (316, 0x109b0, "cycle 0x109b0\n"),
+    (120, 0x103b0, "cycle 0x103b0\n"),
+    (315, 0x90_0000, "damaged 0x900000 task.generating\n"),
+    (114, 0x109b8, "damaged 0x109b8 thread.cur\n"),
+];
+
+/// The core with another word at a place.
+fn with_word(alloc: Global, core: &[u8], place: usize, word: u64) -> Result<Vec<u8>, AllocError> {
+    let mut changed = core.to_vec(alloc)?;
+    let at = place.wrapping_mul(8).wrapping_add(40);
+    if at <= changed.len() && changed.len() - at >= 8 {
+        changed[at..at + 8].copy_from_slice(&word.to_le_bytes());
+    }
+    Ok(changed)
+}
+
 #[test]
-fn cores_that_are_not_plain(rt: HostRuntime) -> Result<(), Fail> {
+fn words_that_were_changed(rt: HostRuntime) -> Result<(), Fail> {
     let alloc = rt.alloc();
-    expect_changed(&rt, alloc, &NOT_PLAIN, Status::NotBuilt, "not built\n")?;
+    expect_each(&rt, alloc, &OTHER_REPORTS, Status::Success)?;
+    expect_each(&rt, alloc, &DAMAGED, Status::Damaged)?;
+    let core = core_of(alloc, "0", EMPTY)?;
+    for (place, word, text) in &HOSTILE {
+        let changed = with_word(alloc, &core, *place, *word)?;
+        expect(&rt, alloc, &changed, Status::Damaged, text)?;
+    }
     Ok(())
 }
 
-/// The count of symbols, a letter and the address of `omi_layout`, and the version of its table. A table that ends behind the
-/// segment is not found either.
+/// The start address, the count of symbols, a letter and the address of `omi_layout`, and the version of its table.
 const NO_LAYOUT: [(usize, u8); 5] = [
+    (26, 3),
     (40, 17),
     (40 + 8 * 36, b'O'),
     (40 + 8 * 40, 0),
-    (40 + 8 * 40 + 1, 0xd8),
     (40 + 8 * 43, 9),
 ];
 
-/// Each refusal of the table, at the word that it names.
-const BAD_LAYOUT: [(usize, u8, &str); 7] = [
+/// A table that ends behind the segment, and each refusal of the table, at the word that it names.
+const BAD_LAYOUT: [(usize, u8, &str); 8] = [
+    (40 + 8 * 40 + 1, 0xd8, "damaged 0x1d9b0 layout\n"),
     (40 + 8 * 45, 12, "damaged 0x101e0 layout\n"),
     (40 + 8 * 48, 0, "damaged 0x10170 layout\n"),
     (40 + 8 * 48, 2, "damaged 0x10270 layout\n"),
