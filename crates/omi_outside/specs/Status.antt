@@ -1,7 +1,7 @@
--- The exit status of a process: the numbers 0 to 10, in the order of the variants.
+-- The exit status of a process: the numbers 0 to 9, in the order of the variants.
 use Rattle.std.specs.Prelude.{ℕ}
 use Rattle.omi_outside.specs.declared.status.Status.{Status}
-use Rattle.omi_outside.specs.declared.status.Status.TheVariants.{Success, Usage, NoFile, ReadFault, WriteFault, Script, Core, Damaged, Incompatible, OutOfMemory, NotBuilt}
+use Rattle.omi_outside.specs.declared.status.Status.TheVariants.{Success, Usage, NoFile, ReadFault, WriteFault, Script, Core, Damaged, Incompatible, OutOfMemory}
 
 abbrev pub code_of : Status → ℕ
 code_of Success = 0
@@ -14,4 +14,3 @@ code_of Core = 6
 code_of Damaged = 7
 code_of Incompatible = 8
 code_of OutOfMemory = 9
-code_of NotBuilt = 10

@@ -25,8 +25,6 @@ pub enum Status {
     Incompatible,
     /// Memory ran out.
     OutOfMemory,
-    /// What is asked for isn't built yet.
-    NotBuilt,
 }
 
 impl Status {
@@ -45,7 +43,6 @@ impl Status {
             Status::Damaged => 7,
             Status::Incompatible => 8,
             Status::OutOfMemory => 9,
-            Status::NotBuilt => 10,
         }
     }
 }

@@ -1,8 +1,6 @@
 pub mod Same
 pub mod SameRows
 pub mod SameReport
-pub mod Firsts
-pub mod PlainLook
-pub mod PlainShown
+pub mod Looks
 pub mod Alone
 pub mod Opened

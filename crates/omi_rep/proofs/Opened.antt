@@ -1,11 +1,9 @@
 -- The opening words of a program show its opening state.
-use Rattle.std.proofs.Common.{◌≡◌, ◌==◌, ◌<◌, ◌≤◌, ℕ, List, [], ◌∷◌, length, refl, lit<}
-use Rattle.omi_script.specs.Bodies.{body_of}
+use Rattle.std.proofs.Common.{ℕ, List, refl, lit<}
 use Rattle.omi_script.specs.declared.program.Program.{Program}
 use Rattle.omi_script.proofs.RuleLemmas.{Rules-from_accepted}
 use Rattle.omi_model.specs.Opening.{opening_task}
 use Rattle.omi_layout.specs.OpeningWords.{AreOpening}
-use Rattle.omi_layout.specs.Table.{thread_count}
 use Rattle.omi_layout.specs.Valid.{IsValid}
 use Rattle.omi_layout.proofs.Arenas.{some_threads}
 use Rattle.omi_rep.specs.Opened.{OpeningIsShown}

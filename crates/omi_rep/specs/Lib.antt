@@ -3,7 +3,6 @@ pub mod Records
 pub mod Shows
 pub mod Look
 pub mod LookView
-pub mod Plain
 pub mod Suits
 -- The laws
 pub mod Unique

@@ -1,20 +1,12 @@
 //! Laws of the definitions. Each is a function that does nothing, whose clauses hold of all memories.
 
 ghost use Rattle.omi_rep.specs.Opened.{OpeningIsShown};
-ghost use Rattle.omi_rep.specs.Plain.{PlainIsLooked, PlainIsShown};
 ghost use Rattle.omi_rep.specs.Suits.{FamiliesSuit};
 ghost use Rattle.omi_rep.specs.Unique.{FixTheReport};
 
 /// Two states that the same words of one layout show have the same report, for the same contexts.
 pub fn words_fix_the_report()
     ensures { FixTheReport }
-{}
-
-/// A look at plain words, of any valid layout with one thread, is never refused and gives the view of the definition. Where the
-/// words show a state, it is the view of this state.
-pub fn plain_words_looked()
-    ensures looked { PlainIsLooked }
-    ensures shown { PlainIsShown }
 {}
 
 /// The opening words of a program show its opening state, in each layout that has as many threads as the program.

@@ -5,10 +5,8 @@ mod agreement;
 mod fault;
 mod laws;
 mod outcome;
-mod plain;
 
 pub use agreement::suits;
 pub use fault::LookFault;
-pub use laws::{families_suit, opening_words_shown, plain_words_looked, words_fix_the_report};
+pub use laws::{families_suit, opening_words_shown, words_fix_the_report};
 pub use outcome::Outcome;
-pub use plain::{is_plain, plain_view};

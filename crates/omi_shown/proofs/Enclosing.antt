@@ -23,7 +23,7 @@ use Rattle.omi_rep.specs.Records.{region_address}
 use Rattle.omi_rep.specs.Look.{optional, address_of, look_object}
 use Rattle.omi_rep.specs.LookView.{look_innermost, look_enclosing, look_regions}
 use Rattle.omi_rep.specs.Shows.{Shows}
-use Rattle.omi_rep.proofs.Firsts.{step}
+use Rattle.omi_rep.proofs.Looks.{step}
 use Rattle.omi_rep.proofs.Same.{same_region, region_slot}
 use Rattle.omi_session.specs.Shown.{AreNames}
 use Rattle.omi_shown.proofs.Lists.{here, later, nowhere, either, in_map, from_map, in_joined, from_joined, zip_left, zip_right}

@@ -22,7 +22,7 @@ use Rattle.omi_rep.specs.Records.{record_at}
 use Rattle.omi_rep.specs.Look.{Look, mapped, each, is_live, life_of, address_of, was_met, live_at, lead, look_word, look_object, look_optional, look_onward}
 use Rattle.omi_rep.specs.LookView.{look_within}
 use Rattle.omi_rep.specs.Shows.{Shows}
-use Rattle.omi_rep.proofs.Firsts.{step}
+use Rattle.omi_rep.proofs.Looks.{step}
 use Rattle.omi_rep.proofs.Same.{region_slot, task_slot}
 use Rattle.omi_session.specs.Shown.{AreNames}
 use Rattle.omi_session.proofs.ShownObjects.{thread_lives, region_lives, task_lives}

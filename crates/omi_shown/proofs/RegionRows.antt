@@ -25,7 +25,7 @@ use Rattle.omi_rep.specs.Records.{records_of}
 use Rattle.omi_rep.specs.Look.{each, slots_of, address_of}
 use Rattle.omi_rep.specs.LookView.{met_in, look_member, look_region}
 use Rattle.omi_rep.specs.Shows.{Shows, ShowsRegion}
-use Rattle.omi_rep.proofs.Firsts.{step}
+use Rattle.omi_rep.proofs.Looks.{step}
 use Rattle.omi_rep.proofs.Same.{same_region, region_slot}
 use Rattle.omi_session.specs.Shown.{AreNames}
 use Rattle.omi_shown.proofs.Lists.{among, in_given, from_given, from_found, one_found, in_map, zip_left, zip_right, Ordered, given_ordered}

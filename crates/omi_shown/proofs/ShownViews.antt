@@ -10,7 +10,7 @@ use Rattle.omi_model.specs.Views.{IsViewOf, AreRegions, AreChains, IsChain, head
 use Rattle.omi_model.specs.WellFormed.{HasBegun}
 use Rattle.omi_rep.specs.LookView.{look_regions, look_tasks, look_view, found_threads}
 use Rattle.omi_rep.specs.Shows.{Shows}
-use Rattle.omi_rep.proofs.Firsts.{step}
+use Rattle.omi_rep.proofs.Looks.{step}
 use Rattle.omi_session.specs.Shown.{AreNames}
 use Rattle.omi_shown.specs.ShownLooks.{ShownIsLooked}
 use Rattle.omi_shown.proofs.Lists.{from_given}

@@ -22,7 +22,7 @@ use Rattle.omi_rep.specs.Records.{records_of, task_address}
 use Rattle.omi_rep.specs.Look.{address_of, was_met, live_at, look_word}
 use Rattle.omi_rep.specs.LookView.{look_nthreads, look_task, look_chain, look_tasks}
 use Rattle.omi_rep.specs.Shows.{Shows, ShowsTask}
-use Rattle.omi_rep.proofs.Firsts.{step}
+use Rattle.omi_rep.proofs.Looks.{step}
 use Rattle.omi_rep.proofs.Same.{same_task, task_slot}
 use Rattle.omi_session.specs.Shown.{AreNames}
 use Rattle.omi_shown.proofs.ReadWords.{places_looked, word_looked, within_looked, object_looked, optional_looked, onward_looked, region_live, task_live, task_somewhere}

@@ -24,7 +24,7 @@ use Rattle.omi_rep.specs.Records.{runtime_address, thread_address}
 use Rattle.omi_rep.specs.Look.{Look, and_then, mapped, each, optional, address_of, look_word}
 use Rattle.omi_rep.specs.LookView.{look_head, look_for, look_state, look_current, look_part, look_thread, found_threads}
 use Rattle.omi_rep.specs.Shows.{Shows}
-use Rattle.omi_rep.proofs.Firsts.{step}
+use Rattle.omi_rep.proofs.Looks.{step}
 use Rattle.omi_rep.proofs.SameReport.{small_state}
 use Rattle.omi_session.specs.Shown.{AreNames}
 use Rattle.omi_shown.proofs.Lists.{here, later, nowhere, either, in_range, from_range}

@@ -29,7 +29,6 @@ module _ (n : ℕ) (script : List ℕ) (told : List ℕ → Told) (old new : Tol
   writing status.NoFile left = no_refusal status.NoFile left
   writing status.Script left = no_refusal status.Script left
   writing status.Core left = no_refusal status.Core left
-  writing status.NotBuilt left = no_refusal status.NotBuilt left
   writing status.Damaged left = no_refusal status.Damaged left
   writing status.Incompatible left = no_refusal status.Incompatible left
 

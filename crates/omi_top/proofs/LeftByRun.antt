@@ -164,7 +164,6 @@ module _ (plan : Plan) (script core : List ℕ) (told : List ℕ → Told) (old 
   ends status.Core (r, is, written, answer, held, said) = inr (inl (r, is, written, answer))
   ends status.Damaged (r, is, written, answer, held, said) = inr (inl (r, is, written, answer))
   ends status.Incompatible (r, is, written, answer, held, said) = inr (inl (r, is, written, answer))
-  ends status.NotBuilt (r, is, written, answer, held, said) = inr (inl (r, is, written, answer))
 
   -- the script is refused exactly where the status says so
   pub script_refused : (s : Status) (bytes : List ℕ) (content : Option (List ℕ)) → told script ≡ Some (Some bytes) → told core ≡ Some content
@@ -311,7 +310,6 @@ module _ (plan : Plan) (script core : List ℕ) (told : List ℕ → Told) (old 
     wrote status.ReadFault read_back left = absurd read_back
     wrote status.WriteFault read_back left = absurd read_back
     wrote status.OutOfMemory read_back left = absurd read_back
-    wrote status.NotBuilt read_back left = absurd read_back
 
   module _ (text bytes : List ℕ) (is : told script ≡ Some (Some text)) (back : told core ≡ Some (Some bytes)) where
     -- with success what is put is the lines of the run and the report of what is read back
@@ -352,4 +350,3 @@ module _ (plan : Plan) (script core : List ℕ) (told : List ℕ → Told) (old 
       shown status.ReadFault left = tt
       shown status.WriteFault left = tt
       shown status.OutOfMemory left = tt
-      shown status.NotBuilt left = tt

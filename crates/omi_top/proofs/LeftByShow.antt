@@ -148,7 +148,6 @@ module _ (core : List ℕ) (told : List ℕ → Told) (old new : Told) (counted 
     shown status.NoFile left = never_refused status.NoFile left
     shown status.Script left = never_refused status.Script left
     shown status.Core left = never_refused status.Core left
-    shown status.NotBuilt left = never_refused status.NotBuilt left
     shown status.Damaged left = never_refused status.Damaged left
     shown status.Incompatible left = never_refused status.Incompatible left
 

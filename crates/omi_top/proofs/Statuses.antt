@@ -59,7 +59,6 @@ module _ (command : Command) (told : List ℕ → Told) (old new : Told) (counte
   kind status.Damaged (r, is, core, answer, held, said) = inr (inl (r, is, core, answer))
   kind status.Incompatible (r, is, core, answer, held, said) = inr (inl (r, is, core, answer))
   kind status.OutOfMemory left = inl tt
-  kind status.NotBuilt (r, is, core, answer, held, said) = inr (inl (r, is, core, answer))
 
   -- The status of a refusal comes exactly where a fact holds, where R is what the command's refusals say and M what its other
   -- answers say: a refusal with this status says the fact, and where the fact holds, each refusal has this status and there is no other answer.
