@@ -5,11 +5,10 @@ use crate::lines::{begins, found, tells};
 use crate::look::{Place, RUNTIME, region_word, task_word};
 use crate::moves::follow;
 use crate::scripts::{A_CHANGED_HEAD, A_CHANGED_HEAD_OF_TEAMS, A_TEAM_OF_TWO, EMPTY};
-use crate::trial::{Looks, Trial, Wrong, program_in};
+use crate::trial::{Looks, Trial, Wrong, core_of, program_in};
 use omi_core::{Core, End, Schedule, Stop};
 use omi_layout::{Field, Layout};
 use omi_model::{Id, Rid, Tid};
-use omi_rep::suits;
 use std::alloc::Global;
 use std::test::Fail;
 
@@ -38,20 +37,26 @@ const INITIAL: Id = Id {
 };
 
 /// A run, its layout, and why it ended.
-#[derive(Drop)]
 struct Ended {
     core: Core,
     layout: Layout,
     end: End,
 }
 
+impl Drop for Ended {
+    fn drop(self) {
+        let Ended {
+            core: _core,
+            layout: _layout,
+            end: _end,
+        } = self;
+    }
+}
+
 /// A run of a script for so many steps, its threads in turn, in the layout of a family.
 fn run(alloc: Global, script: &str, k: u8, steps: u64) -> Result<Ended, Wrong> {
     let (program, layout) = program_in(alloc, script, k)?;
-    if !suits(&program, &layout) {
-        return Err(Wrong::NoProgram);
-    }
-    let mut core = Core::opening(alloc, program, layout)?;
+    let mut core = core_of(alloc, program, layout)?;
     let stop = Stop { steps, on: None };
     let end = core.run(&Schedule::RoundRobin, stop)?;
     Ok(Ended { core, layout, end })

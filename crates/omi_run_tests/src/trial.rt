@@ -64,7 +64,6 @@ pub enum Looks {
 }
 
 /// A run of a program, and the state that its events reach.
-#[derive(Drop)]
 pub struct Trial {
     alloc: Global,
     program: Program,
@@ -78,25 +77,51 @@ pub struct Trial {
     pub compared: u64,
 }
 
-/// The program of a script, and the layout of a family for its threads.
-pub fn program_in(alloc: Global, script: &str, k: u8) -> Result<(Program, Layout), Wrong> {
-    let Ok(program) = parse(alloc, script.as_bytes()) else {
-        return Err(Wrong::NoProgram);
-    };
-    let threads = program.threads;
+/// Written out, so that a test which lets a trial go owes one call, and not the drops of all its parts at each of its exits.
+impl Drop for Trial {
+    fn drop(self) {
+        let Trial {
+            alloc: _alloc,
+            program: _program,
+            layout: _layout,
+            core: _core,
+            state: _state,
+            locks: _locks,
+            looks: _looks,
+            compared: _compared,
+        } = self;
+    }
+}
+
+/// The program of a script.
+fn program_of(alloc: Global, script: &str) -> Result<Program, Wrong> {
+    match parse(alloc, script.as_bytes()) {
+        Ok(program) => Ok(program),
+        Err(_) => Err(Wrong::NoProgram),
+    }
+}
+
+/// The layout of a family for so many threads.
+fn layout_for(threads: u8, k: u8) -> Result<Layout, Wrong> {
     if k > 15 || threads < 1 || u64::from(threads) > MOST_THREADS {
         return Err(Wrong::NoProgram);
     }
-    Ok((program, Layout::family(k, threads)))
+    Ok(Layout::family(k, threads))
+}
+
+/// The program of a script, and the layout of a family for its threads.
+pub fn program_in(alloc: Global, script: &str, k: u8) -> Result<(Program, Layout), Wrong> {
+    let program = program_of(alloc, script)?;
+    let layout = layout_for(program.threads, k)?;
+    Ok((program, layout))
 }
 
 /// The run of a program in a layout, where this suits it.
-fn core_of(alloc: Global, p: &Program, l: Layout) -> Result<Core, Wrong> {
-    let copy = p.same(alloc)?;
-    if !suits(&copy, &l) {
+pub fn core_of(alloc: Global, p: Program, l: Layout) -> Result<Core, Wrong> {
+    if !suits(&p, &l) {
         return Err(Wrong::NoProgram);
     }
-    Ok(Core::opening(alloc, copy, l)?)
+    Ok(Core::opening(alloc, p, l)?)
 }
 
 /// A word that an event gives to a lock, with the number of the lock.
@@ -112,7 +137,7 @@ impl Trial {
     /// A run of a script before its first step, in the layout of a family.
     pub fn opening(alloc: Global, script: &str, k: u8, looks: Looks) -> Result<Trial, Wrong> {
         let (program, layout) = program_in(alloc, script, k)?;
-        let core = core_of(alloc, &program, layout)?;
+        let core = core_of(alloc, program.same(alloc)?, layout)?;
         let state = opening(alloc, &program)?;
         let mut trial = Trial {
             alloc,
