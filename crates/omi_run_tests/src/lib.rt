@@ -22,6 +22,8 @@ mod orders;
 #[cfg(test)]
 mod random_tests;
 #[cfg(test)]
+mod reports;
+#[cfg(test)]
 mod row_tests;
 #[cfg(test)]
 mod scripts;

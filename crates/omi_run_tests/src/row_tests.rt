@@ -4,6 +4,7 @@ use crate::lines::tells;
 use crate::look::{Place, RUNTIME};
 use crate::moves::follow;
 use crate::orders::in_turn;
+use crate::reports::{has_lines, report};
 use crate::scripts::{A_CONTESTED_WORKER, A_TEAM_OF_TWO, LIMIT_OF_ACTIVE_LEVELS, TOO_FEW_THREADS};
 use crate::trial::{Looks, Trial, Wrong};
 use omi_layout::Field;
@@ -259,9 +260,18 @@ fn is_limited(alloc: Global, t: &mut Trial) -> Result<bool, Wrong> {
     Ok(tells(alloc, t.core(), 0, events)?)
 }
 
+/// The row of its region: two levels, of which one is active.
+const THE_LIMITED_REGION: &str =
+    "region r0.2.0 function 0x400000 levels-var=2 active-levels-var=1 team-size-var=1 enclosing r0.1.0";
+
 #[test]
 fn the_limit_of_active_levels(rt: HostRuntime) -> Result<(), Fail> {
     let mut t = Trial::opening(rt.alloc(), LIMIT_OF_ACTIVE_LEVELS, 0, Looks::EachStep)?;
     assert!(rt; is_limited(rt.alloc(), &mut t)?);
+    let report = report(rt.alloc(), &t)?;
+    assert!(rt;
+        has_lines(&report, "region r0.2", THE_LIMITED_REGION),
+        "{report}"
+    );
     Ok(())
 }

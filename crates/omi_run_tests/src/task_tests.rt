@@ -5,6 +5,7 @@ use crate::lines::tells;
 use crate::look::Place;
 use crate::moves::follow;
 use crate::orders::until;
+use crate::reports::{has_lines, report};
 use crate::scripts::{A_FULL_ROW, A_NESTED_CHAIN, AN_ENDED_ANCESTOR};
 use crate::trial::{Looks, Trial, Wrong};
 use omi_layout::Field;
@@ -107,11 +108,15 @@ fn has_arrived(t: &Trial) -> Result<(), Wrong> {
     Ok(())
 }
 
-/// From the arrival up to one step before the first start these words stay, and how many steps these are.
-fn stays_in_transit(t: &mut Trial) -> Result<u32, Wrong> {
+/// From the arrival up to one step before the first start these words and the report stay, and how many steps these are.
+fn stays_in_transit(alloc: Global, t: &mut Trial) -> Result<u32, Wrong> {
     until(t, 0, "arrive")?;
+    let first = report(alloc, t)?;
     for steps in 0..MANY {
         has_arrived(t)?;
+        if report(alloc, t)? != first {
+            return Err(Wrong::NoReport);
+        }
         if let Some(Outcome::Event(_)) = t.step(0)? {
             return Ok(steps);
         }
@@ -124,7 +129,7 @@ fn stays_in_transit(t: &mut Trial) -> Result<u32, Wrong> {
 #[test]
 fn in_transit(rt: HostRuntime) -> Result<(), Fail> {
     let mut t = Trial::opening(rt.alloc(), A_FULL_ROW, 0, Looks::EachStep)?;
-    assert_eq!(rt; stays_in_transit(&mut t)?, 10);
+    assert_eq!(rt; stays_in_transit(rt.alloc(), &mut t)?, 10);
     Ok(())
 }
 
@@ -164,9 +169,19 @@ fn has_a_nested_chain(t: &mut Trial) -> Result<(), Wrong> {
     Ok(())
 }
 
+/// The tasks of the report: the chain of thread 0, which is still in its `task` construct, and that of thread 1.
+const THE_CHAINS: &str = "\
+task k0.1.0 thread 0 kind implicit region r0.1.0 function 0x400030 generating k0.0.0 scheduling k0.0.0 exit 0x7f00000fff80 enter 0x7f00000fff60 tool 0
+task k0.0.0 thread 0 kind implicit region r0.0.0 function 0x400040 generating none scheduling none exit 0x7f00000fffc0 enter 0x7f00000fffa0 tool 0
+task k1.0.0 thread 1 kind implicit region r1.0.0 function 0x400000 generating k0.3.0 scheduling k0.3.0 exit 0x7f00001fff40 enter 0x0 tool 0
+task k0.3.0 thread 1 kind explicit region r0.1.0 function 0x400010 generating k0.1.0 scheduling k0.2.0 exit 0x7f00001fff80 enter 0x7f00001fff60 tool 0
+task k0.2.0 thread 1 kind implicit region r0.1.0 function 0x400030 generating k0.0.0 scheduling none exit 0x7f00001fffc0 enter 0x0 tool 0";
+
 #[test]
 fn a_nested_chain(rt: HostRuntime) -> Result<(), Fail> {
     let mut t = Trial::opening(rt.alloc(), A_NESTED_CHAIN, 0, Looks::EachStep)?;
     has_a_nested_chain(&mut t)?;
+    let report = report(rt.alloc(), &t)?;
+    assert!(rt; has_lines(&report, "task ", THE_CHAINS), "{report}");
     Ok(())
 }

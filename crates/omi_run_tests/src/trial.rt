@@ -38,6 +38,8 @@ pub enum Wrong {
     Waits { thread: u8, step: u64 },
     /// A line that is no move.
     NoMove,
+    /// The words have no report.
+    NoReport,
     /// A word differs from the state.
     Differs(Difference),
 }
