@@ -4,6 +4,7 @@ pub mod Plan
 pub mod Command
 pub mod Answer
 pub mod Cores
+pub mod Shown
 pub mod Refusal
 pub mod Run
 pub mod Lines
@@ -11,5 +12,4 @@ pub mod Make
 -- What private functions of the code stand on: a request as a command, and room for its lines; what a core tells; and a run that was made
 pub mod Asked
 pub mod CoreCalls
-pub mod Shown
 pub mod Ran

@@ -1,4 +1,4 @@
--- What private functions of `show` answer of a core.
+-- Why there is no report of a core.
 use Rattle.std.specs.Prelude.{◌≡◌, ◌⊎◌, Err}
 use Rattle.omi_corefile.specs.declared.core_image.CoreImage.{CoreImage}
 use Rattle.omi_layout.specs.NoLayout.{GivesNone}

@@ -1,4 +1,4 @@
-//! Tests of omi_top: whole runs of `stop`, `make` and `show` through the top call.
+//! Tests of omi_top: whole runs of `stop`, `make`, `show` and `run` through the top call.
 #![tactic(auto)]
 
 #[cfg(test)]
@@ -7,6 +7,8 @@ mod layout_tests;
 mod make_tests;
 #[cfg(test)]
 mod option_tests;
+#[cfg(test)]
+mod run_tests;
 #[cfg(test)]
 mod show_tests;
 #[cfg(test)]

@@ -9,7 +9,7 @@ use std::process::Abort;
 use std::test::Fail;
 
 /// The words of a line, which are separated by blanks.
-fn words_of<'a>(alloc: Global, line: &'a str) -> Result<Vec<&'a str>, AllocError> {
+pub fn words_of<'a>(alloc: Global, line: &'a str) -> Result<Vec<&'a str>, AllocError> {
     let mut words = Vec::new(alloc);
     for word in line.split(' ') {
         words.push(word)?;
@@ -56,7 +56,7 @@ fn two_layouts(rt: HostRuntime) -> Result<(), Fail> {
 }
 
 /// Eight threads, whose members each make four trees of tasks.
-const TREES: &str = "threads 8
+pub const TREES: &str = "threads 8
 env num_threads 4,2
 func t0
 work
@@ -112,7 +112,7 @@ end
 ";
 
 /// Whether the line of an event starts an explicit task.
-fn starts_task(line: &str) -> bool {
+pub fn starts_task(line: &str) -> bool {
     match line.splitn(3, ' ').nth(2) {
         Some(event) => event.starts_with("start ") || event.starts_with("start_now "),
         None => false,
@@ -247,7 +247,7 @@ const LINES: [&str; 34] = [
     "make 010 s",
     "make s",
     "make 10 s c",
-    "run 5 s c",
+    "run 5 s c d",
     "follow c c",
     "fly c",
     "-- --layout 0",

@@ -255,7 +255,12 @@ const HOSTILE: [(usize, u64, &str); 4] = [
 ];
 
 /// The core with another word at a place.
-fn with_word(alloc: Global, core: &[u8], place: usize, word: u64) -> Result<Vec<u8>, AllocError> {
+pub fn with_word(
+    alloc: Global,
+    core: &[u8],
+    place: usize,
+    word: u64,
+) -> Result<Vec<u8>, AllocError> {
     let mut changed = core.to_vec(alloc)?;
     let at = place.wrapping_mul(8).wrapping_add(40);
     if at <= changed.len() && changed.len() - at >= 8 {

@@ -9,7 +9,7 @@ use std::process::Abort;
 use std::test::Fail;
 
 /// The report of a team of two one step before its fork: no record that is made for it is shown.
-const BEFORE_THE_FORK: &str = "ompd 201811 threads 2 debug enabled
+pub const BEFORE_THE_FORK: &str = "ompd 201811 threads 2 debug enabled
 icv num-procs-var=4 max-active-levels-var=8
 thread 0 native 1000 state overhead wait 0 thread-num-var=0 current k0.0.0
 thread 1 native 1001 state idle wait 0 thread-num-var=none current none
@@ -20,7 +20,7 @@ icv dyn-var=0 nthreads-var=2 run-sched-var=static,0 default-device-var=0 final-t
 ";
 
 /// And at the fork.
-const AT_THE_FORK: &str = "ompd 201811 threads 2 debug enabled
+pub const AT_THE_FORK: &str = "ompd 201811 threads 2 debug enabled
 icv num-procs-var=4 max-active-levels-var=8
 thread 0 native 1000 state overhead wait 0 thread-num-var=0 current k0.1.0
 thread 1 native 1001 state idle wait 0 thread-num-var=none current none
@@ -36,7 +36,12 @@ icv dyn-var=0 nthreads-var=2 run-sched-var=static,0 default-device-var=0 final-t
 ";
 
 /// The number of the step of the first event that ends so, and of the one before it.
-fn step_of(alloc: Global, line: &[&str], script: &str, event: &str) -> Result<[String; 2], Fail> {
+pub fn step_of(
+    alloc: Global,
+    line: &[&str],
+    script: &str,
+    event: &str,
+) -> Result<[String; 2], Fail> {
     let done = run(alloc, line, script)?;
     let text = String::from_utf8(done.out.bytes().to_vec(alloc)?).map_err(|_| "no text")?;
     for line in text.lines() {
