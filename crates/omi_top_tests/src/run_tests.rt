@@ -146,30 +146,50 @@ fn a_break_under_a_seed(rt: HostRuntime) -> Result<(), Fail> {
     Ok(())
 }
 
-/// A read of the core that fails, behind the core that was written whole; a write of the core that fails, before anything is read back;
-/// and a put that fails.
+/// `run 0` of an empty script over this core, where these calls of reading, writing and putting fail, ends with this status, puts this text and leaves
+/// this under `c`.
+fn expect_failed(
+    rt: &impl Abort,
+    alloc: Global,
+    core: &[u8],
+    failing: (&[(Call, u64)], &[(Call, u64)], &[u64]),
+    ended: (Status, &str),
+    left: Option<&[u8]>,
+) -> Result<(), AllocError> {
+    let line = ["run", "0", "s", "c"];
+    let (reads, writes, puts) = failing;
+    let done = call_over(alloc, &line, EMPTY, Some(core), reads, writes, puts)?;
+    let (status, text) = ended;
+    assert_eq!(rt; done.status, status);
+    assert_eq!(rt; done.out.bytes(), text.as_bytes());
+    assert_eq!(rt; done.dest.bytes("c"), left);
+    Ok(())
+}
+
+/// A read of the core that fails, behind the core that was written whole, and one of the script; a write of the core that fails, before anything is
+/// read back; and a put that fails.
 #[test]
 fn failing_reads_writes_and_puts(rt: HostRuntime) -> Result<(), Fail> {
     let alloc = rt.alloc();
-    let line = ["run", "0", "s", "c"];
     let own = core_of(alloc, "0", EMPTY)?;
-    let core = Some(own.as_slice());
-    let done = call_over(alloc, &line, EMPTY, core, &[(Call::Size, 2)], &[], &[])?;
-    assert_eq!(rt; done.status, Status::ReadFault);
-    assert_eq!(rt; done.out.bytes(), b"read fault c\n".as_slice());
-    assert_eq!(rt; done.dest.bytes("c"), core);
-    let done = call_over(alloc, &line, EMPTY, core, &[(Call::Size, 1)], &[], &[])?;
-    assert_eq!(rt; done.status, Status::ReadFault);
-    assert_eq!(rt; done.out.bytes(), b"read fault s\n".as_slice());
-    assert!(rt; done.dest.bytes("c").is_none());
-    let done = call_over(alloc, &line, EMPTY, core, &[], &[(Call::Append, 2)], &[])?;
-    assert_eq!(rt; done.status, Status::WriteFault);
-    assert_eq!(rt; done.out.bytes(), b"".as_slice());
-    assert_eq!(rt; done.dest.bytes("c"), Some(&own[..4096]));
-    let done = call_over(alloc, &line, EMPTY, core, &[], &[], &[1])?;
-    assert_eq!(rt; done.status, Status::WriteFault);
-    assert_eq!(rt; done.out.bytes(), b"".as_slice());
-    assert_eq!(rt; done.dest.bytes("c"), core);
+    let whole = Some(own.as_slice());
+    let second = [(Call::Size, 2)];
+    let back = (Status::ReadFault, "read fault c\n");
+    expect_failed(&rt, alloc, &own, (&second, &[], &[]), back, whole)?;
+    let first = [(Call::Size, 1)];
+    let unread = (Status::ReadFault, "read fault s\n");
+    expect_failed(&rt, alloc, &own, (&first, &[], &[]), unread, None)?;
+    let faulty = (Status::WriteFault, "");
+    let append = [(Call::Append, 2)];
+    expect_failed(
+        &rt,
+        alloc,
+        &own,
+        (&[], &append, &[]),
+        faulty,
+        own.get(..4096),
+    )?;
+    expect_failed(&rt, alloc, &own, (&[], &[], &[1]), faulty, whole)?;
     Ok(())
 }
 
