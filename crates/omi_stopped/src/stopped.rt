@@ -9,7 +9,7 @@ use omi_core::{Break, Core, Schedule, Stop};
 use omi_corefile::{CoreImage, core_of};
 use omi_layout::{Layout, MOST_THREADS};
 use omi_rep::suits;
-use omi_script::parse;
+use omi_script::{Program, parse};
 use omi_session::{Library, Rc, Session, initialize};
 use omi_word::{Natives, OutOfMemory};
 use std::alloc::{AllocFailed, Global};
@@ -75,20 +75,54 @@ pub fn at_fork() -> Stop
     }
 }
 
-/// A run of a script in the layout of a family, before its first step.
-fn opened(alloc: Global, script: &str, family: u8) -> Result<Core, Wrong> {
-    let Ok(program) = parse(alloc, script.as_bytes()) else {
-        return Err(Wrong::NoProgram);
-    };
-    let threads = program.threads;
+/// A run. Its drop is written out, so that what lets a run go owes one call, and not the drops of all its parts at each exit.
+struct Run {
+    core: Core,
+}
+
+impl Drop for Run {
+    fn drop(self) {
+        let Run { core: _core } = self;
+    }
+}
+
+/// The program of a script.
+fn program_of(alloc: Global, script: &str) -> Result<Program, Wrong> {
+    match parse(alloc, script.as_bytes()) {
+        Ok(program) => Ok(program),
+        Err(_) => Err(Wrong::NoProgram),
+    }
+}
+
+/// The layout of a family for so many threads.
+fn layout_for(threads: u8, family: u8) -> Result<Layout, Wrong> {
     if family > 15 || threads < 1 || u64::from(threads) > MOST_THREADS {
         return Err(Wrong::NoProgram);
     }
-    let layout = Layout::family(family, threads);
+    Ok(Layout::family(family, threads))
+}
+
+/// The run of a program in a layout, where this suits it, before its first step.
+fn run_of(alloc: Global, program: Program, layout: Layout) -> Result<Run, Wrong> {
     if !suits(&program, &layout) {
         return Err(Wrong::NoProgram);
     }
-    Ok(Core::opening(alloc, program, layout)?)
+    let core = Core::opening(alloc, program, layout)?;
+    Ok(Run { core })
+}
+
+/// A run of a script in the layout of a family, before its first step.
+fn run_in(alloc: Global, script: &str, family: u8) -> Result<Run, Wrong> {
+    let program = program_of(alloc, script)?;
+    let layout = layout_for(program.threads, family)?;
+    run_of(alloc, program, layout)
+}
+
+/// The core of a run.
+fn core_now(alloc: Global, run: &Run) -> Result<CoreImage, Wrong>
+    ensures { IfOk result (λ core. core.order ≡ 0) }
+{
+    Ok(core_of(alloc, run.core.image(), &Natives::new(alloc), 0)?)
 }
 
 /// The core of a script's run in the layout of a family, its threads in turn.
@@ -96,9 +130,9 @@ pub fn core_at(alloc: Global, script: &str, family: u8, stop: Stop) -> Result<Co
     requires { IfSome stop.on (λ on. 1 ≤ on.1) }
     ensures { IfOk result (λ core. core.order ≡ 0) }
 {
-    let mut run = opened(alloc, script, family)?;
-    run.run(&Schedule::RoundRobin, stop)?;
-    Ok(core_of(alloc, run.image(), &Natives::new(alloc), 0)?)
+    let mut run = run_in(alloc, script, family)?;
+    run.core.run(&Schedule::RoundRobin, stop)?;
+    core_now(alloc, &run)
 }
 
 /// The cores of a script's run in the layout of family 0: after so many steps, its threads in turn, and after so many more.
@@ -109,16 +143,44 @@ pub fn two_stops(
 ) -> Result<(CoreImage, CoreImage), Wrong>
     ensures { IfOk result (λ cores. cores.0.order ≡ 0 × cores.1.order ≡ 0) }
 {
-    let mut run = opened(alloc, script, 0)?;
-    run.run(&Schedule::RoundRobin, after(steps[0]))?;
-    let first = core_of(alloc, run.image(), &Natives::new(alloc), 0)?;
-    run.run(&Schedule::RoundRobin, after(steps[1]))?;
-    let second = core_of(alloc, run.image(), &Natives::new(alloc), 0)?;
+    let mut run = run_in(alloc, script, 0)?;
+    run.core.run(&Schedule::RoundRobin, after(steps[0]))?;
+    let first = core_now(alloc, &run)?;
+    run.core.run(&Schedule::RoundRobin, after(steps[1]))?;
+    let second = core_now(alloc, &run)?;
     Ok((first, second))
 }
 
 /// A session with a target.
 pub type Stopped<'a, F> = Session<Target<'a>, F>;
+
+/// A session that a test holds. Its drop is written out, so that a test owes one call at each of its exits.
+pub struct Opened<'a, F: ToHost> {
+    pub session: Stopped<'a, F>,
+}
+
+impl<F: ToHost> Drop for Opened<'_, F> {
+    fn drop(self) {
+        let Opened { session: _session } = self;
+    }
+}
+
+impl<'a, F: ToHost> Opened<'a, F> {
+    /// The session alone.
+    pub fn alone(self) -> Stopped<'a, F> {
+        let Opened { session } = self;
+        session
+    }
+
+    /// Goes on over other callbacks with all handles.
+    pub fn over(self, table: Table<Target<'a>, F>) -> Result<Opened<'a, F>, Wrong> {
+        let (parted, _) = self.alone().part();
+        match parted.over(table) {
+            Ok(session) => Ok(Opened { session }),
+            Err((rc, _, _)) => Err(Wrong::Refused(rc)),
+        }
+    }
+}
 
 /// A library over a core, in an order of the bytes of a word. The calls of these numbers fail.
 pub fn library<'a, F: ToHost>(

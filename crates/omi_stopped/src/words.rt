@@ -13,10 +13,18 @@ use std::alloc::Global;
 const FRONT: usize = 32;
 
 /// The words of a stopped run, and their layout.
-#[derive(Drop)]
 pub struct Words {
     pub layout: Layout,
     bytes: Vec<u8>,
+}
+
+impl Drop for Words {
+    fn drop(self) {
+        let Words {
+            layout: _layout,
+            bytes: _bytes,
+        } = self;
+    }
 }
 
 /// The address of a word, and what stands there instead. None: it isn't mapped.
