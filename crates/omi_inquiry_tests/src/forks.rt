@@ -17,8 +17,8 @@ use omi_handle::{RegionHandle, TaskHandle, ThreadHandle};
 use omi_model::{Id, Rid, Tid};
 use omi_session::Rc;
 use omi_stopped::{
-    A_TEAM_OF_TWO, AN_EMPTY_RUN, Asked, BIG, ByteOrder, LITTLE, Stopped, Wrong, after, at_fork,
-    core_at, few, open,
+    A_TEAM_OF_TWO, AN_EMPTY_RUN, Asked, BIG, ByteOrder, LITTLE, Opened, Stopped, Wrong, after,
+    at_fork, core_at, few, open,
 };
 use std::alloc::Global;
 use std::test::Fail;
@@ -145,8 +145,9 @@ fn null_ends_in<F: ToHost>(alloc: Global, order: ByteOrder, to_host: F) -> Resul
 {
     let asked = Asked::never();
     let core = core_at(alloc, AN_EMPTY_RUN, 0, after(0))?;
-    let mut s = open(alloc, core, order, to_host, &asked)?;
-    let has = has_null_ends(&mut s)?;
+    let session = open(alloc, core, order, to_host, &asked)?;
+    let mut s = Opened { session };
+    let has = has_null_ends(&mut s.session)?;
     Ok(has)
 }
 
@@ -189,8 +190,9 @@ fn team_numbers_in<F: ToHost>(alloc: Global, order: ByteOrder, to_host: F) -> Re
 {
     let asked = Asked::never();
     let core = core_at(alloc, A_TEAM_OF_TWO, 0, at_fork())?;
-    let mut s = open(alloc, core, order, to_host, &asked)?;
-    let has = has_two_members(&mut s)?;
+    let session = open(alloc, core, order, to_host, &asked)?;
+    let mut s = Opened { session };
+    let has = has_two_members(&mut s.session)?;
     Ok(has)
 }
 
@@ -254,8 +256,9 @@ fn a_fork_in<F: ToHost>(alloc: Global, family: u8, to_host: F) -> Result<bool, W
 {
     let asked = Asked::never();
     let core = core_at(alloc, A_TEAM_OF_TWO, family, at_fork())?;
-    let mut s = open(alloc, core, LITTLE, to_host, &asked)?;
-    let is = is_forked(&mut s)?;
+    let session = open(alloc, core, LITTLE, to_host, &asked)?;
+    let mut s = Opened { session };
+    let is = is_forked(&mut s.session)?;
     Ok(is)
 }
 

@@ -12,12 +12,13 @@ use omi_asktask::{
     get_curr_task_handle, get_generating_task_handle, get_task_function, rel_task_handle,
     task_handle_compare,
 };
-use omi_calls::ToHost;
+use omi_calls::{Table, ToHost};
 use omi_handle::{Held, Kind, RegionHandle, TaskHandle, ThreadHandle};
 use omi_layout::Field;
 use omi_session::{Rc, lead};
 use omi_stopped::{
-    A_TEAM_OF_TWO, Asked, LITTLE, Stopped, Wrong, after, at_fork, core_at, few, library, open,
+    A_TEAM_OF_TWO, Asked, LITTLE, Opened, Stopped, Target, Wrong, after, at_fork, core_at, few,
+    library, open,
 };
 use std::alloc::Global;
 use std::cmp::Ordering;
@@ -80,9 +81,10 @@ fn a_task_handle_by<F: ToHost>(alloc: Global, to_host: F) -> Result<bool, Wrong>
 {
     let asked = Asked::never();
     let core = core_at(alloc, A_TEAM_OF_TWO, 0, at_fork())?;
-    let mut s = open(alloc, core, LITTLE, to_host, &asked)?;
-    s.reserve(3)?;
-    let is = is_order_kept(&mut s)?;
+    let session = open(alloc, core, LITTLE, to_host, &asked)?;
+    let mut s = Opened { session };
+    s.session.reserve(3)?;
+    let is = is_order_kept(&mut s.session)?;
     Ok(is)
 }
 
@@ -148,8 +150,9 @@ fn thread_and_region_handles_by<F: ToHost>(alloc: Global, to_host: F) -> Result<
 {
     let asked = Asked::never();
     let core = core_at(alloc, A_TEAM_OF_TWO, 7, at_fork())?;
-    let mut s = open(alloc, core, LITTLE, to_host, &asked)?;
-    let are = are_kept_in_order(&mut s)?;
+    let session = open(alloc, core, LITTLE, to_host, &asked)?;
+    let mut s = Opened { session };
+    let are = are_kept_in_order(&mut s.session)?;
     Ok(are)
 }
 
@@ -218,20 +221,13 @@ fn goes_on<F: ToHost>(
 
 /// Goes on with a session over callbacks that tell another layout, which are refused, and then over the same callbacks.
 fn over_another_layout<'a, F: ToHost>(
-    alloc: Global,
-    s: Stopped<'a, F>,
-    to_host: F,
-    asked: &'a Asked,
-) -> Result<Stopped<'a, F>, Wrong>
-    requires takes { TakesAll (F.takes to_host) }
-    requires gives { GivesNumbers (F.gives to_host) 0 }
-{
-    let (parted, table) = s.part();
-    let other = core_at(alloc, A_TEAM_OF_TWO, 7, at_fork())?;
-    let other = library(alloc, other, LITTLE, to_host, &[], asked)?.finalize();
+    s: Opened<'a, F>,
+    other: Table<Target<'a>, F>,
+) -> Result<Opened<'a, F>, Wrong> {
+    let (parted, table) = s.alone().part();
     match parted.over(other) {
         Err((Rc::Incompatible, parted, _)) => match parted.over(table) {
-            Ok(s) => Ok(s),
+            Ok(session) => Ok(Opened { session }),
             Err((rc, _, _)) => Err(Wrong::Refused(rc)),
         },
         _ => Err(Wrong::NoCore),
@@ -244,11 +240,14 @@ fn handles_are_kept_by<F: ToHost + Copy>(alloc: Global, to_host: F) -> Result<bo
 {
     let asked = Asked::never();
     let core = core_at(alloc, A_TEAM_OF_TWO, 0, after(0))?;
-    let mut s = open(alloc, core, LITTLE, to_host, &asked)?;
-    s.reserve(2)?;
-    let (first, second, is_right) = one_gone_and_one_kept(&mut s)?;
-    let mut s = over_another_layout(alloc, s, to_host, &asked)?;
-    let is_kept = goes_on(&mut s, first, second)?;
+    let session = open(alloc, core, LITTLE, to_host, &asked)?;
+    let mut s = Opened { session };
+    s.session.reserve(2)?;
+    let (first, second, is_right) = one_gone_and_one_kept(&mut s.session)?;
+    let other = core_at(alloc, A_TEAM_OF_TWO, 7, at_fork())?;
+    let other = library(alloc, other, LITTLE, to_host, &[], &asked)?;
+    let mut s = over_another_layout(s, other.finalize())?;
+    let is_kept = goes_on(&mut s.session, first, second)?;
     Ok(is_right && is_kept)
 }
 

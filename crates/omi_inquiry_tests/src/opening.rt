@@ -8,8 +8,8 @@ use omi_calls::{MemCalls, Table, ToHost};
 use omi_corefile::CoreImage;
 use omi_session::{Rc, get_api_version, get_version_string, initialize};
 use omi_stopped::{
-    A_TEAM_OF_TWO, AN_EMPTY_RUN, Asked, BIG, ByteOrder, LITTLE, Stopped, Target, Words, Wrong,
-    after, core_at, library, open,
+    A_TEAM_OF_TWO, AN_EMPTY_RUN, Asked, BIG, ByteOrder, LITTLE, Opened, Stopped, Target, Words,
+    Wrong, after, core_at, library, open,
 };
 use std::alloc::Global;
 use std::test::Fail;
@@ -88,9 +88,10 @@ fn opens_in<F: ToHost>(alloc: Global, order: ByteOrder, to_host: F) -> Result<bo
 {
     let asked = Asked::never();
     let core = core_at(alloc, AN_EMPTY_RUN, 0, after(0))?;
-    let mut s = open(alloc, core, order, to_host, &asked)?;
-    let answers = answers_versions(&mut s, &asked);
-    let table = s.rel_address_space_handle().finalize();
+    let session = open(alloc, core, order, to_host, &asked)?;
+    let mut s = Opened { session };
+    let answers = answers_versions(&mut s.session, &asked);
+    let table = s.alone().rel_address_space_handle().finalize();
     Ok(answers && initialize(201811, table).is_ok())
 }
 

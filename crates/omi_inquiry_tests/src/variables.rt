@@ -14,7 +14,8 @@ use omi_icv::{
 };
 use omi_session::Rc;
 use omi_stopped::{
-    A_TEAM_OF_TWO, AN_EMPTY_RUN, Asked, LITTLE, Stopped, Wrong, after, at_fork, core_at, few, open,
+    A_TEAM_OF_TWO, AN_EMPTY_RUN, Asked, LITTLE, Opened, Stopped, Wrong, after, at_fork, core_at,
+    few, open,
 };
 use std::alloc::Global;
 use std::test::Fail;
@@ -219,8 +220,9 @@ fn holds_in<F: ToHost>(alloc: Global, row: Row, family: u8, to_host: F) -> Resul
 {
     let asked = Asked::never();
     let core = core_of_row(alloc, row, family)?;
-    let mut s = open(alloc, core, LITTLE, to_host, &asked)?;
-    let is = holds(&mut s, alloc, row)?;
+    let session = open(alloc, core, LITTLE, to_host, &asked)?;
+    let mut s = Opened { session };
+    let is = holds(&mut s.session, alloc, row)?;
     Ok(is)
 }
 

@@ -16,7 +16,8 @@ use omi_handle::{RegionHandle, TaskHandle, ThreadHandle};
 use omi_icv::{Scoped, get_icv_from_scope, get_state, get_tool_data};
 use omi_session::Rc;
 use omi_stopped::{
-    A_TEAM_OF_TWO, Asked, Change, LITTLE, Stopped, Words, Wrong, at_fork, few, library, open,
+    A_TEAM_OF_TWO, Asked, Change, LITTLE, Opened, Stopped, Words, Wrong, at_fork, few, library,
+    open,
 };
 use std::alloc::Global;
 
@@ -192,18 +193,16 @@ pub fn changed<'a, F: ToHost + Copy>(
     failing: u64,
     asked: &'a Asked,
     to_host: F,
-) -> Result<(Stopped<'a, F>, Three), Wrong>
+) -> Result<(Opened<'a, F>, Three), Wrong>
     requires takes { TakesAll (F.takes to_host) }
     requires gives { GivesNumbers (F.gives to_host) 0 }
 {
     let first = words.core(alloc, [(0, Some(0)); 2])?;
-    let mut s = open(alloc, first, LITTLE, to_host, asked)?;
-    let h = make_three(&mut s)?;
-    let (parted, _) = s.part();
+    let session = open(alloc, first, LITTLE, to_host, asked)?;
+    let mut s = Opened { session };
+    let h = make_three(&mut s.session)?;
     let core = words.core(alloc, changes)?;
     let other = library(alloc, core, LITTLE, to_host, &[failing], asked)?;
-    match parted.over(other.finalize()) {
-        Ok(s) => Ok((s, h)),
-        Err((rc, _, _)) => Err(Wrong::Refused(rc)),
-    }
+    let s = s.over(other.finalize())?;
+    Ok((s, h))
 }

@@ -53,11 +53,11 @@ fn reads_and_look_ups_by<F: ToHost + Copy>(
     assert_eq!(rt; asked.look_ups.get(), 2);
     for at in 0..COUNT {
         asked.reads.set(0);
-        assert_eq!(rt; refusal(&mut s, EACH[at], h), Ok(None));
+        assert_eq!(rt; refusal(&mut s.session, EACH[at], h), Ok(None));
         assert_eq!(rt; asked.reads.get(), READS[at], "{at}");
     }
     asked.reads.set(0);
-    assert_eq!(rt; unread(&mut s, h)[0], None);
+    assert_eq!(rt; unread(&mut s.session, h)[0], None);
     assert_eq!(rt; (asked.reads.get(), asked.look_ups.get()), (0, 2));
     Ok(())
 }
@@ -75,7 +75,10 @@ fn twice<F: ToHost + Copy>(
 {
     let asked = Asked::never();
     let (mut s, h) = changed(alloc, words, NONE, failing, &asked, to_host)?;
-    Ok([refusal(&mut s, inquiry, h)?, refusal(&mut s, inquiry, h)?])
+    Ok([
+        refusal(&mut s.session, inquiry, h)?,
+        refusal(&mut s.session, inquiry, h)?,
+    ])
 }
 
 /// Each read of an inquiry fails, and the inquiry is made again with the same handle. The read behind its last one is the next inquiry's.
@@ -176,7 +179,7 @@ fn a_failed_read_and_another_refusal_by<F: ToHost + Copy>(
             &asked,
             to_host,
         )?;
-        assert_eq!(rt; refusal(&mut s, inquiry, h), Ok(wanted));
+        assert_eq!(rt; refusal(&mut s.session, inquiry, h), Ok(wanted));
     }
     Ok(())
 }
@@ -231,15 +234,15 @@ fn handles_that_are_not_held_by<F: ToHost + Copy>(
     wanted[COUNT - 1] = FAILED;
     let asked = Asked::never();
     let (mut s, h) = changed(alloc, &words, [stale, hole], GOING_ON + 1, &asked, to_host)?;
-    assert_eq!(rt; unread(&mut s, turned(h)), [Some(BAD); 10]);
-    assert_eq!(rt; refusals(&mut s, order, turned(h)), Ok(wanted));
+    assert_eq!(rt; unread(&mut s.session, turned(h)), [Some(BAD); 10]);
+    assert_eq!(rt; refusals(&mut s.session, order, turned(h)), Ok(wanted));
     let asked = Asked::never();
     let (mut s, h) = changed(alloc, &words, [stale, hole], GOING_ON + 1, &asked, to_host)?;
-    assert_eq!(rt; rel_thread_handle(&mut s, h.thread), Ok(()));
-    assert_eq!(rt; rel_parallel_handle(&mut s, h.region), Ok(()));
-    assert_eq!(rt; rel_task_handle(&mut s, h.task), Ok(()));
-    assert_eq!(rt; unread(&mut s, h), [Some(BAD); 10]);
-    assert_eq!(rt; refusals(&mut s, order, h), Ok(wanted));
+    assert_eq!(rt; rel_thread_handle(&mut s.session, h.thread), Ok(()));
+    assert_eq!(rt; rel_parallel_handle(&mut s.session, h.region), Ok(()));
+    assert_eq!(rt; rel_task_handle(&mut s.session, h.task), Ok(()));
+    assert_eq!(rt; unread(&mut s.session, h), [Some(BAD); 10]);
+    assert_eq!(rt; refusals(&mut s.session, order, h), Ok(wanted));
     Ok(())
 }
 
@@ -268,10 +271,22 @@ fn ids_of_another_kind_by<F: ToHost + Copy>(
     let stale = change(&words, (r.thread, Field::ThreadLife, 0, Some(3)));
     let asked = Asked::never();
     let (mut s, h) = changed(alloc, &words, [stale; 2], GOING_ON + 1, &asked, to_host)?;
-    few(&s)?;
-    assert_eq!(rt; get_thread_handle(&mut s, 1, 1001), Err(Rc::Unsupported));
-    assert_eq!(rt; get_thread_id(&mut s, 1, h.thread), Err(Rc::Unsupported));
-    assert_eq!(rt; get_thread_id(&mut s, 0, h.thread), Err(Rc::CallbackError));
-    assert_eq!(rt; get_thread_id(&mut s, 0, h.thread), Err(Rc::StaleHandle));
+    few(&s.session)?;
+    assert_eq!(rt;
+        get_thread_handle(&mut s.session, 1, 1001),
+        Err(Rc::Unsupported)
+    );
+    assert_eq!(rt;
+        get_thread_id(&mut s.session, 1, h.thread),
+        Err(Rc::Unsupported)
+    );
+    assert_eq!(rt;
+        get_thread_id(&mut s.session, 0, h.thread),
+        Err(Rc::CallbackError)
+    );
+    assert_eq!(rt;
+        get_thread_id(&mut s.session, 0, h.thread),
+        Err(Rc::StaleHandle)
+    );
     Ok(())
 }

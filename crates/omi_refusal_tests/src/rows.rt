@@ -177,8 +177,8 @@ fn holds<F: ToHost + Copy>(
     let changes = [change(words, row.words[0]), change(words, row.words[1])];
     let asked = Asked::never();
     let (mut s, h) = changed(alloc, words, changes, 0, &asked, to_host)?;
-    let refused = refusals(&mut s, EACH, h)?;
-    Ok(refused == row.refusals && unread(&mut s, h) == UNREAD)
+    let refused = refusals(&mut s.session, EACH, h)?;
+    Ok(refused == row.refusals && unread(&mut s.session, h) == UNREAD)
 }
 
 /// The number of the first of these rows that doesn't hold.
