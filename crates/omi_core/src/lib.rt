@@ -8,11 +8,13 @@ mod run;
 mod schedule;
 mod scheduled;
 mod stop;
+mod thread_run;
 
 pub use entry::Entry;
 pub use limits::MOST_STEPS;
 pub use omi_list::OutOfMemory;
 pub use opening::opening_image;
-pub use run::Core;
+pub use run::{Core, list_event, turn_of};
 pub use schedule::Schedule;
 pub use stop::{Break, End, Stop};
+pub use thread_run::{RunList, ThreadRun, Until};

@@ -20,7 +20,6 @@ use std::alloc::Global;
 use std::marker::Model;
 
 /// A run of a program in a layout, between two steps.
-#[derive(Drop)]
 pub struct Core {
     program: Program,
     layout: Layout,
@@ -29,6 +28,20 @@ pub struct Core {
     actors: Vec<Actor>,
     events: EventList,
     made: MadeList,
+}
+
+// Written out: docs/DECISIONS.md, "A drop written out".
+impl Drop for Core {
+    fn drop(self) {
+        let Core {
+            program: _program,
+            layout: _layout,
+            image: _image,
+            actors: _actors,
+            events: _events,
+            made: _made,
+        } = self;
+    }
 }
 
 impl Model for Core {
@@ -58,7 +71,7 @@ impl Model for Core {
 }
 
 /// What is kept of an outcome.
-fn turn_of(outcome: &Outcome) -> Turn
+pub fn turn_of(outcome: &Outcome) -> Turn
     ensures { result ≡ Rattle.omi_core.specs.RunSteps.turn_of outcome.now }
 {
     match outcome {
@@ -77,7 +90,7 @@ fn least(a: usize, b: usize) -> usize
 }
 
 /// Lists the event of an outcome, if it has one. Takes no memory.
-fn list_event(events: &mut EventList, step: u64, thread: u8, outcome: &Outcome)
+pub fn list_event(events: &mut EventList, step: u64, thread: u8, outcome: &Outcome)
     requires spare { 1 ≤ events.old.spare }
     requires seats { seats_of outcome.now ≤ events.old.seats }
     ensures items { events.new.items ≡ events.old.items ++ event_of step thread outcome.now }

@@ -14,10 +14,16 @@ use std::marker::Model;
 /// many more events, with how many members of teams, take no memory.
 ///
 /// An event takes 40 bytes, and each member of its team 12 more.
-#[derive(Drop)]
 pub struct EventList {
     rows: Vec<EventRow>,
     members: Vec<(Tid, u8)>,
+}
+
+// Written out: docs/DECISIONS.md, "A drop written out".
+impl Drop for EventList {
+    fn drop(self) {
+        let EventList { rows: _rows, members: _members } = self;
+    }
 }
 
 impl Model for EventList {

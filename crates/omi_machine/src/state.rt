@@ -15,7 +15,6 @@ use omi_script::Env;
 
 /// A state: the program's environment, the number of threads, max-active-levels-var, the holder of each lock, the threads,
 /// and the regions and tasks in the slots of their creators. The state of the machine that it means is `specs/Kept.antt`'s.
-#[derive(Drop)]
 pub struct State {
     pub(crate) environment: Env,
     pub(crate) max_active: u64,
@@ -23,6 +22,20 @@ pub struct State {
     pub(crate) threads: Rows<Thread>,
     pub(crate) regions: Rows<Rows<Slot<Region>>>,
     pub(crate) tasks: Rows<Rows<Slot<Task>>>,
+}
+
+// Written out: docs/DECISIONS.md, "A drop written out".
+impl Drop for State {
+    fn drop(self) {
+        let State {
+            environment: _environment,
+            max_active: _max_active,
+            locks: _locks,
+            threads: _threads,
+            regions: _regions,
+            tasks: _tasks,
+        } = self;
+    }
 }
 
 /// A slot that is kept.

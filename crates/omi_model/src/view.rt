@@ -4,12 +4,18 @@ use crate::{MemberRows, RegionRows, Rid, TaskRows, ThreadRows, Tid};
 use omi_script::NumList;
 
 /// What a report says: its header, and its rows of threads, regions and tasks in their order.
-#[derive(Drop)]
 pub struct View {
     pub head: HeadRow,
     pub threads: ThreadRows,
     pub regions: RegionRows,
     pub tasks: TaskRows,
+}
+
+// Written out: docs/DECISIONS.md, "A drop written out".
+impl Drop for View {
+    fn drop(self) {
+        let View { head: _head, threads: _threads, regions: _regions, tasks: _tasks } = self;
+    }
 }
 
 /// The two header lines. `debug` is 0 where states are not kept.

@@ -6,7 +6,6 @@ use crate::{Env, FuncList, OutOfMemory};
 use std::alloc::Global;
 
 /// What a script says. `main` is the number of the function with the name `main`.
-#[derive(Drop)]
 pub struct Program {
     /// The number of threads, 1 to `MAX_THREADS`.
     pub threads: u8,
@@ -15,6 +14,13 @@ pub struct Program {
     pub main: u8,
     /// Every rule of the language but for the size of a text.
     pub ghost accepted: { IsTrue (is_program threads env funcs main) },
+}
+
+// Written out: docs/DECISIONS.md, "A drop written out".
+impl Drop for Program {
+    fn drop(self) {
+        let Program { threads: _threads, env: _env, funcs: _funcs, main: _main } = self;
+    }
 }
 
 impl Program {

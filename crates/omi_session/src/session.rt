@@ -27,11 +27,17 @@ use std::marker::Model;
 /// An open session. Contracts see the callbacks, the words of the layout's table, and the handles that are held.
 ///
 /// The type keeps of each handle that a record of its kind begins at its address, and that its life word is one of a live record.
-#[derive(Drop)]
 pub struct Session<C: Callbacks, F: ToHost> {
     table: Table<C, F>,
     layout: Layout,
     handles: Handles,
+}
+
+// Written out: docs/DECISIONS.md, "A drop written out".
+impl<C: Callbacks + Drop, F: ToHost + Drop> Drop for Session<C, F> {
+    fn drop(self) {
+        let Session { table: _table, layout: _layout, handles: _handles } = self;
+    }
 }
 
 impl<C: Callbacks, F: ToHost> Model for Session<C, F> {
@@ -161,7 +167,12 @@ impl<C: Callbacks, F: ToHost> Session<C, F> {
     pub fn rel_address_space_handle(self) -> Library<C, F>
         ensures { result ≡ self.table }
     {
-        Library::of(self.table)
+        let Session {
+            table,
+            layout: _layout,
+            handles: _handles,
+        } = self;
+        Library::of(table)
     }
 
     /// Parts the session from its callbacks, so that what they borrow is free again.
