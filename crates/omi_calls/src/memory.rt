@@ -25,7 +25,12 @@ pub struct MemCalls {
 // Written out: docs/DECISIONS.md, "A drop written out".
 impl Drop for MemCalls {
     fn drop(self) {
-        let MemCalls { core: _core, failing: _failing, made: _made, faults: _faults } = self;
+        let MemCalls {
+            core: _core,
+            failing: _failing,
+            made: _made,
+            faults: _faults,
+        } = self;
     }
 }
 

@@ -346,7 +346,7 @@ module _ (a : Run) (k : KeepsRun a) (i : ℕ) (thread : i < a.program.threads) w
           go false = k.watched j
 
       -- the run with these lists
-      keeps_behind : (es : Events) (made : Steps) → es.items ≡ a.events.items ++ event_of (length a.made.items + 1) i e.outcome → made.items ≡ a.made.items ++ made_of i e ∷ []
+      pub keeps_behind : (es : Events) (made : Steps) → es.items ≡ a.events.items ++ event_of (length a.made.items + 1) i e.outcome → made.items ≡ a.made.items ++ made_of i e ∷ []
           → KeepsRun (record { program = a.program; table = a.table; words = after a.words e.op; actors = actors_behind; events = es; made = made })
       keeps_behind es made events one = record {
         state = rule_after.next;

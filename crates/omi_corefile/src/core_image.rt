@@ -17,6 +17,10 @@ pub struct CoreImage {
 // Written out: docs/DECISIONS.md, "A drop written out".
 impl Drop for CoreImage {
     fn drop(self) {
-        let CoreImage { order: _order, contexts: _contexts, segments: _segments } = self;
+        let CoreImage {
+            order: _order,
+            contexts: _contexts,
+            segments: _segments,
+        } = self;
     }
 }

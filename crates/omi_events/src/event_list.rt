@@ -22,7 +22,10 @@ pub struct EventList {
 // Written out: docs/DECISIONS.md, "A drop written out".
 impl Drop for EventList {
     fn drop(self) {
-        let EventList { rows: _rows, members: _members } = self;
+        let EventList {
+            rows: _rows,
+            members: _members,
+        } = self;
     }
 }
 

@@ -14,7 +14,12 @@ pub struct View {
 // Written out: docs/DECISIONS.md, "A drop written out".
 impl Drop for View {
     fn drop(self) {
-        let View { head: _head, threads: _threads, regions: _regions, tasks: _tasks } = self;
+        let View {
+            head: _head,
+            threads: _threads,
+            regions: _regions,
+            tasks: _tasks,
+        } = self;
     }
 }
 

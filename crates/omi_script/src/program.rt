@@ -19,7 +19,12 @@ pub struct Program {
 // Written out: docs/DECISIONS.md, "A drop written out".
 impl Drop for Program {
     fn drop(self) {
-        let Program { threads: _threads, env: _env, funcs: _funcs, main: _main } = self;
+        let Program {
+            threads: _threads,
+            env: _env,
+            funcs: _funcs,
+            main: _main,
+        } = self;
     }
 }
 

@@ -36,7 +36,11 @@ pub struct Session<C: Callbacks, F: ToHost> {
 // Written out: docs/DECISIONS.md, "A drop written out".
 impl<C: Callbacks + Drop, F: ToHost + Drop> Drop for Session<C, F> {
     fn drop(self) {
-        let Session { table: _table, layout: _layout, handles: _handles } = self;
+        let Session {
+            table: _table,
+            layout: _layout,
+            handles: _handles,
+        } = self;
     }
 }
 
