@@ -16,5 +16,5 @@ pub use omi_list::OutOfMemory;
 pub use opening::opening_image;
 pub use run::{Core, list_event, turn_of};
 pub use schedule::Schedule;
-pub use stop::{Break, End, Stop};
+pub use stop::{Break, End, Stop, end_at};
 pub use thread_run::{RunList, ThreadRun, Until};
