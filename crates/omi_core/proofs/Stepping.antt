@@ -101,6 +101,10 @@ other_room a k es made events steps =
       goes_on = k.goes_on;
     }
 
+pub same_entries : (a : Run) (k : KeepsCore a) (es : Events) (made : Steps) (events : es.items ≡ a.events.items) (steps : made.items ≡ a.made.items) → (other_room a k es made events steps).run.entries ≡ k.run.entries
+unfolding other_room
+same_entries a k es made events steps = refl
+
 -- ---- what the words show
 
 pub shows_state : (a : Run) → KeepsRun a → ShowsState a
@@ -377,6 +381,10 @@ module _ (a : Run) (k : KeepsRun a) (i : ℕ) (thread : i < a.program.threads) w
         workers = under_way;
         watched = all_watched;
       }
+
+      pub entries_behind : (es : Events) (made : Steps) (events : es.items ≡ a.events.items ++ event_of (length a.made.items + 1) i e.outcome) (one : made.items ≡ a.made.items ++ made_of i e ∷ []) → (keeps_behind es made events one).entries ≡ k.entries ++ (i, e) ∷ []
+      unfolding keeps_behind
+      entries_behind es made events one = refl
 
     -- the run afterwards
     pub run_after : (b : Run) (e : Entry) → e.op ≡ op → e.old ≡ word_at a.words (address_of op) → e.outcome ≡ (behind (word_at a.words (address_of op))).1
