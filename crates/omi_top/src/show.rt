@@ -4,6 +4,7 @@ ghost use Rattle.std.specs.Prelude.{◌≡◌, ◌≢◌, ◌⊎◌, List, ℕ, 
 ghost use Rattle.std.specs.Int.{from_le_bytes, w64};
 ghost use Rattle.omi_calls.specs.Kept.{GivesNumbers, TakesAll};
 ghost use Rattle.omi_calls.specs.Memory.{told_by};
+ghost use Rattle.omi_layout.specs.Valid.{IsValid};
 ghost use Rattle.omi_layout.specs.Given.{GivesLayout};
 ghost use Rattle.omi_outside.specs.Outside.{HasCause, Told};
 ghost use Rattle.omi_session.specs.Opened.{IsFresh};
@@ -28,6 +29,13 @@ use omi_session::{API_VERSION, Rc, Session, initialize};
 use omi_text::report_text;
 use omi_walk::{WalkFault, walk};
 use std::alloc::Global;
+
+/// The layout in a session is one that a type keeps, so it is valid.
+fn has_valid_layout<F: ToHost>(session: &Session<CoreCalls, F>)
+    ensures { IsValid session.now.layout }
+{
+    let _layout = session.layout();
+}
 
 /// A session over the words of a core, by a conversion of the bytes of a word.
 fn opened<F: ToHost>(
@@ -65,6 +73,7 @@ fn view_by<F: ToHost>(alloc: Global, core: CoreImage, to_host: F) -> Result<View
 {
     let contexts = core.contexts.same(alloc)?;
     let mut session = opened(alloc, core, to_host)?;
+    has_valid_layout(&session);
     match walk(&mut session, alloc, &contexts) {
         Ok(view) => Ok(view),
         Err(WalkFault::Damaged { addr, field }) => Err(Refusal::Damaged { addr, field }),

@@ -12,16 +12,14 @@ use Rattle.omi_top.proofs.show.view_by.Goals as goal
 pub returns-in-Ok-clause-view : goal.returns-in-Ok-clause-view
 unfolding Looks
 returns-in-Ok-clause-view g c =
-    let same : c.session.inside.layout.table ≡ c.in_ok-session.session.layout = ap (λ (s : Opened CoreCalls _). s.layout) c.session.view_is ∙ c.in-Ok.ensures.leaves.stays.layout in
-    let valid : IsValid c.in_ok-session.session.layout = subst (λ (w : List ℕ). IsValid w) same c.session.inside.layout.valid in
+    let valid : IsValid c.in_ok-session.session.layout = c.has_valid_layout.ensures in
     walked c.args.core (told_of_core c.in_ok-session.session.table.calls) c.in_ok-session.session.layout c.in_ok-contexts.contexts (Ok c.in-Ok.view)
     c.in_ok-session.ensures.told c.in_ok-contexts.ensures valid c.in_ok-session.ensures.layout c.in-Ok.ensures.look
 
 pub returns-in-Err-Damaged-clause-refused : goal.returns-in-Err-Damaged-clause-refused
 unfolding Looks
 returns-in-Err-Damaged-clause-refused g c =
-    let same : c.session.inside.layout.table ≡ c.in_ok-session.session.layout = ap (λ (s : Opened CoreCalls _). s.layout) c.session.view_is ∙ c.in-Err-Damaged.ensures.leaves.stays.layout in
-    let valid : IsValid c.in_ok-session.session.layout = subst (λ (w : List ℕ). IsValid w) same c.session.inside.layout.valid in
+    let valid : IsValid c.in_ok-session.session.layout = c.has_valid_layout.ensures in
     let looked : Walked c.args.core (Err c.in-Err-Damaged.field-0) =
     walked c.args.core (told_of_core c.in_ok-session.session.table.calls) c.in_ok-session.session.layout c.in_ok-contexts.contexts (Err c.in-Err-Damaged.field-0)
     c.in_ok-session.ensures.told c.in_ok-contexts.ensures valid c.in_ok-session.ensures.layout c.in-Err-Damaged.ensures.look in
@@ -30,8 +28,7 @@ returns-in-Err-Damaged-clause-refused g c =
 pub returns-in-Err-Cycle-clause-refused : goal.returns-in-Err-Cycle-clause-refused
 unfolding Looks
 returns-in-Err-Cycle-clause-refused g c =
-    let same : c.session.inside.layout.table ≡ c.in_ok-session.session.layout = ap (λ (s : Opened CoreCalls _). s.layout) c.session.view_is ∙ c.in-Err-Cycle.ensures.leaves.stays.layout in
-    let valid : IsValid c.in_ok-session.session.layout = subst (λ (w : List ℕ). IsValid w) same c.session.inside.layout.valid in
+    let valid : IsValid c.in_ok-session.session.layout = c.has_valid_layout.ensures in
     let looked : Walked c.args.core (Err c.in-Err-Cycle.field-0) =
     walked c.args.core (told_of_core c.in_ok-session.session.table.calls) c.in_ok-session.session.layout c.in_ok-contexts.contexts (Err c.in-Err-Cycle.field-0)
     c.in_ok-session.ensures.told c.in_ok-contexts.ensures valid c.in_ok-session.ensures.layout c.in-Err-Cycle.ensures.look in
