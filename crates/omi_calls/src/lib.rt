@@ -5,7 +5,7 @@ mod callbacks;
 mod core_words;
 mod laws;
 mod memory;
-mod symbol_table;
+pub mod symbol_table;
 mod table;
 
 pub use callbacks::{Callbacks, Got, Place, Sizes};

@@ -8,16 +8,16 @@ use crate::core_words::core_word;
 use omi_corefile::CoreImage;
 
 /// The byte address of the word that counts the symbols.
-const COUNT_PLACE: u64 = 0x10000;
+pub const COUNT_PLACE: u64 = 0x10000;
 
 /// The byte address of the first symbol.
-const FIRST_PLACE: u64 = 0x10008;
+pub const FIRST_PLACE: u64 = 0x10008;
 
 /// The most symbols of a table.
-const MOST_SYMBOLS: u64 = 16;
+pub const MOST_SYMBOLS: u64 = 16;
 
 /// The bytes that a symbol takes: five words.
-const SYMBOL_BYTES: u64 = 40;
+pub const SYMBOL_BYTES: u64 = 40;
 
 /// The words of a symbol at a byte address, where each of them is mapped.
 fn five_words(core: &CoreImage, at: u64) -> Option<[u64; 5]>
@@ -38,7 +38,7 @@ fn five_words(core: &CoreImage, at: u64) -> Option<[u64; 5]>
 }
 
 /// Whether the symbol that five words spell has this name.
-fn has_name(words: &[u64; 5], name: &str) -> bool
+pub fn has_name(words: &[u64; 5], name: &str) -> bool
     ensures { result ≡ is_named name.now (symbol_of words.now) }
 {
     let mut filled = [0u8; 32];

@@ -14,12 +14,12 @@ use Rattle.omi_corefile.specs.Refusals.{Refusal, Step, ◌>>=◌, place, byte_at
 use Rattle.omi_corefile.proofs.FileLaws.{ended}
 
 -- What a step gives of a front of a file, and what it gives of the front and a tail: the same fault, or the same value. What is left of the front has enough for what comes next.
-abbrev Same : {A : Type 0} → (A → ℕ → Type 0) → List ℕ → Step A → Step A → Type 0
+abbrev pub Same : {A : Type 0} → (A → ℕ → Type 0) → List ℕ → Step A → Step A → Type 0
 Same Enough tail (Ok x) whole = (whole ≡ Ok (x.0, x.1 ++ tail)) × Enough x.0 (length x.1)
 Same Enough tail (Err e) whole = whole ≡ Err e
 
 -- one step after another
-same_then : {A B : Type 0} (Enough : A → ℕ → Type 0) (After : B → ℕ → Type 0) (tail : List ℕ) (front whole : Step A) (f g : A × List ℕ → Step B) → Same Enough tail front whole
+pub same_then : {A B : Type 0} (Enough : A → ℕ → Type 0) (After : B → ℕ → Type 0) (tail : List ℕ) (front whole : Step A) (f g : A × List ℕ → Step B) → Same Enough tail front whole
     → ((x : A) (rest : List ℕ) → Enough x (length rest) → Same After tail (f (x, rest)) (g (x, rest ++ tail))) → Same After tail (front >>= f) (whole >>= g)
 same_then Enough After tail (Ok x) whole f g same then = subst (λ y. Same After tail (f x) (y >>= g)) (sym same.0) (then x.0 x.1 same.1)
 same_then Enough After tail (Err e) whole f g same then = ap (λ y. y >>= g) same
@@ -30,7 +30,7 @@ same_less Enough After tail (Ok x) whole same less = (same.0, less x.0 (length x
 same_less Enough After tail (Err e) whole same less = same
 
 -- at least so many bytes are left
-abbrev Leaves : {A : Type 0} → ℕ → A → ℕ → Type 0
+abbrev pub Leaves : {A : Type 0} → ℕ → A → ℕ → Type 0
 Leaves more x k = more ≤ k
 
 same_byte : (len other more : ℕ) (front tail : List ℕ) → 1 + more ≤ length front → Same (Leaves more) tail (byte_at len front) (byte_at other (front ++ tail))
@@ -44,7 +44,7 @@ same_number w len other more front tail long =
     rw (here, there, take-append-le (byte_len w) front tail (omega (arith, long)), drop-append-le (byte_len w) front tail (omega (arith, long))) (refl, omega (arith, long, length-drop (byte_len w) front))
 
 -- a number that a rule judges
-abbrev Allowed : (ℕ → Bool) → ℕ → ℕ → ℕ → Type 0
+abbrev pub Allowed : (ℕ → Bool) → ℕ → ℕ → ℕ → Type 0
 Allowed allowed more n k = (allowed n ≡ true) × (more ≤ k)
 
 same_judged : (allowed : ℕ → Bool) (fault : ℕ → ℕ → CoreFault) (at other more : ℕ) (tail : List ℕ) (front whole : Step ℕ) → at ≡ other → Same (Leaves more) tail front whole
@@ -62,7 +62,7 @@ same_place : (len : ℕ) (front tail : List ℕ) → place len front ≡ place (
 same_place len front tail = omega (arith, length-append front tail)
 
 -- a number that a rule judges by where it stands
-same_field : (w : Width) (allowed : ℕ → Bool) (fault : ℕ → ℕ → CoreFault) (len more : ℕ) (front tail : List ℕ) → byte_len w + more ≤ length front
+pub same_field : (w : Width) (allowed : ℕ → Bool) (fault : ℕ → ℕ → CoreFault) (len more : ℕ) (front tail : List ℕ) → byte_len w + more ≤ length front
     → Same (Allowed allowed more) tail (judged allowed fault (place len front) (number_at w len front)) (judged allowed fault (place (len + length tail) (front ++ tail)) (number_at w (len + length tail) (front ++ tail)))
 same_field w allowed fault len more front tail long =
     same_judged allowed fault (place len front) (place (len + length tail) (front ++ tail)) more tail _ _ (same_place len front tail) (same_number w len (len + length tail) more front tail long)
@@ -98,7 +98,7 @@ same_words len more count front tail long =
     (λ rest s bytes enough. same_number w64 len (len + length tail) (8 * rest + more) bytes tail (omega (arith, enough))) count 0 front long)
     (λ row k ended. (ended.0, omega (arith, ended.1.1)))
 
-same_contexts : (len more count : ℕ) (front tail : List ℕ) → 8 * count + more ≤ length front
+pub same_contexts : (len more count : ℕ) (front tail : List ℕ) → 8 * count + more ≤ length front
     → Same (Leaves more) tail (contexts_at len count front) (contexts_at (len + length tail) count (front ++ tail))
 same_contexts len more count front tail long =
     same_less (Ended (Numbers more) count) (Leaves more) tail _ _
@@ -160,10 +160,10 @@ magic_then After more tail (Ok rest) whole f g same then = subst (λ y. Same Aft
 magic_then After more tail (Err e) whole f g same then = ap (λ y. y >>= g) same
 
 -- a header, with few contexts and segments
-abbrev Few : ℕ → Header → ℕ → Type 0
+abbrev pub Few : ℕ → Header → ℕ → Type 0
 Few more counts k = (counts.contexts ≤ MOST_CONTEXTS) × (counts.segments ≤ MOST_SEGMENTS) × (more ≤ k)
 
-same_header : (len more : ℕ) (front tail : List ℕ) → 16 + more ≤ length front → Same (Few more) tail (header_at len front) (header_at (len + length tail) (front ++ tail))
+pub same_header : (len more : ℕ) (front tail : List ℕ) → 16 + more ≤ length front → Same (Few more) tail (header_at len front) (header_at (len + length tail) (front ++ tail))
 unfolding header_at
 same_header len more front tail long =
     let other : ℕ = len + length tail in

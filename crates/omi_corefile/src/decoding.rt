@@ -16,15 +16,15 @@ use std::alloc::Global;
 
 /// What a header says: the order, and how many contexts and segments follow.
 #[derive(Clone, Copy)]
-struct Counts {
-    order: u8,
-    contexts: u16,
-    segments: u32,
+pub struct Counts {
+    pub order: u8,
+    pub contexts: u16,
+    pub segments: u32,
 }
 
 /// The header of a file of `len` bytes.
 #[tactic(auto, unfolding(crate::specs::Refusals::header_at))]
-fn header(len: usize, bytes: &[u8]) -> Result<(Counts, &[u8]), CoreError>
+pub fn header(len: usize, bytes: &[u8]) -> Result<(Counts, &[u8]), CoreError>
     ensures { Gives
         (λ x. (
           record {
@@ -65,7 +65,7 @@ fn words(alloc: Global, len: usize, count: u64, bytes: &[u8]) -> Result<(Natives
 }
 
 /// So many native ids, each above the one before.
-fn contexts(
+pub fn contexts(
     alloc: Global,
     len: usize,
     count: u16,

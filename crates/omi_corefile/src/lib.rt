@@ -2,11 +2,11 @@
 #![tactic(auto)]
 
 mod core_image;
-mod decoding;
+pub mod decoding;
 mod encoding;
 mod fault;
-mod fields;
-mod judging;
+pub mod fields;
+pub mod judging;
 mod laws;
 mod limits;
 mod making;

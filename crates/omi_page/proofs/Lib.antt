@@ -1,0 +1,5 @@
+pub mod Pieces
+pub mod Taking
+pub mod FrontsOfFiles
+pub mod Segments
+pub mod WholeFiles

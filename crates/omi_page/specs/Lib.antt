@@ -1,0 +1,10 @@
+-- What the refusal of a lower crate is here.
+pub mod Faults
+-- Where the words of a core stand in its file.
+pub mod Spans
+-- What an opening call answers beside what reading gives.
+pub mod Bounds
+pub mod Outcomes
+-- What is told, and what is kept of a file.
+pub mod Told
+pub mod Paging

@@ -1,0 +1,42 @@
+-- What an opening call answers beside what reading a core file gives. Want of memory and a failed read may stand in place of any
+-- answer.
+use Rattle.std.specs.Prelude.{◌≡◌, ℕ, List, length, Option, Some, Result, Ok, Err}
+use Rattle.omi_outside.specs.Outside.{Told, content_len}
+use Rattle.omi_corefile.specs.Refusals.{Refusal, CoreRefused}
+use Rattle.omi_page.specs.declared.fault.PageError.{PageError}
+use Rattle.omi_page.specs.declared.fault.PageError.TheVariants.{Fault, NoFile, Failed, OutOfMemory}
+
+-- a refusal of a file that is there: reading gives this fault, or what may stand in place of any answer
+abbrev pub Fails : {Y : Type 0} → PageError → Result Y Refusal → Type 0
+Fails (Fault at why) read = read ≡ Err (at, why)
+Fails NoFile read = ⊥
+Fails Failed read = Unit {0}
+Fails OutOfMemory read = Unit {0}
+
+-- what was answered, seen by `view`, is what reading gives
+abbrev pub Gives : {X Y : Type 0} → (X → Y) → Result X PageError → Result Y Refusal → Type 0
+Gives view (Ok x) read = read ≡ Ok (view x)
+Gives view (Err e) read = Fails e read
+
+-- the file has this many bytes
+abbrev pub IsLength : Told → ℕ → Type 0
+IsLength told len = (content : Option (List ℕ)) → told ≡ Some content → content_len content ≡ len
+
+-- the file holds these bytes
+abbrev pub Holds : Told → List ℕ → Type 0
+Holds told bytes = told ≡ Some (Some bytes)
+
+-- the fault of a refusal is that of the file's bytes
+abbrev pub IsFaultOf : List ℕ → PageError → Type 0
+IsFaultOf bytes (Fault at why) = CoreRefused bytes at why
+IsFaultOf bytes NoFile = ⊥
+IsFaultOf bytes Failed = Unit {0}
+IsFaultOf bytes OutOfMemory = Unit {0}
+
+-- a fact about an answer, unless a read failed or memory ran out
+abbrev pub UnlessFree : {X : Type 0} → Result X PageError → Type 0 → Type 0
+UnlessFree (Ok x) P = P
+UnlessFree (Err (Fault at why)) P = P
+UnlessFree (Err NoFile) P = P
+UnlessFree (Err Failed) P = Unit {0}
+UnlessFree (Err OutOfMemory) P = Unit {0}

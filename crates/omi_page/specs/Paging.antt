@@ -1,0 +1,38 @@
+-- What is kept of a core file, and that it is right for the file's bytes.
+use Rattle.std.specs.Prelude.{◌≡◌, ◌⊎◌, ℕ, ◌+◌, ◌*◌, ◌%◌, ◌<◌, List, length, Some, Ok, Contains, Vec}
+use Rattle.std.specs.declared.alloc.Global.{Global}
+use Rattle.omi_outside.specs.Outside.{Told}
+use Rattle.omi_corefile.specs.Refusals.{Parts, reading}
+use Rattle.omi_page.specs.declared.span.Span.{Span}
+use Rattle.omi_page.specs.declared.limits.TheConstants.{PAGE_BYTES}
+use Rattle.omi_page.specs.Spans.{eight_at, segments_there, place_in}
+use Rattle.omi_page.specs.Bounds.{EndWithin}
+use Rattle.omi_page.specs.Outcomes.{IsLength, Holds}
+
+-- the pages that are kept, by their numbers
+abbrev pub Kept : Type 0
+Kept = List (ℕ × Vec ℕ Global)
+
+-- a page holds the file's bytes of each word that stands in it: the page of this number begins at PAGE_BYTES times the number
+abbrev pub IsPage : List ℕ → List Span → ℕ → List ℕ → Type 0
+IsPage bytes spans page items =
+    (offset at : ℕ) → offset % 8 ≡ 0 → offset < PAGE_BYTES
+    → place_in spans (PAGE_BYTES * page + offset) ≡ Some at
+    → eight_at items offset ≡ eight_at bytes at
+
+-- each kept page has the length of a page
+abbrev pub AreLong : Kept → Type 0
+AreLong kept = (page : ℕ) (items : Vec ℕ Global) → Contains kept (page, items)
+    → length items.items ≡ PAGE_BYTES
+
+-- each kept page is the file's
+abbrev pub ArePages : Told → List Span → Kept → Type 0
+ArePages told spans kept =
+    (bytes : List ℕ) → Holds told bytes → (page : ℕ) (items : Vec ℕ Global)
+    → Contains kept (page, items) → IsPage bytes spans page items.items
+
+-- the parts of the core that the file's bytes are
+abbrev pub ArePartsOf : Told → List ℕ → List Span → Type 0
+ArePartsOf told contexts spans =
+    (bytes : List ℕ) (parts : Parts) → Holds told bytes → reading bytes ≡ Ok parts
+    → (parts.order ≡ 0) × (parts.contexts ≡ contexts) × (parts.segments ≡ segments_there bytes spans)

@@ -1,0 +1,28 @@
+-- What a core file tells as a target: the order, the words and the symbols of the core that its bytes are.
+use Rattle.std.specs.Prelude.{ℕ, List, Option, Some, None, Result, Ok, Err}
+use Rattle.omi_outside.specs.Outside.{Told as FileTold}
+use Rattle.omi_corefile.specs.Refusals.{Refusal, Parts, reading}
+use Rattle.omi_calls.specs.Told.{Told}
+use Rattle.omi_calls.specs.CoreWords.{words_of}
+use Rattle.omi_calls.specs.SymbolTable.{symbol_in}
+use Rattle.omi_calls.specs.Memory.{usual_sizes}
+
+-- nothing but the sizes of the basic types
+abbrev pub told_nothing : Told
+told_nothing = record { order = None; words = None; symbols = None; sizes = usual_sizes }
+
+-- what was read of a file
+abbrev pub told_by_reading : Result Parts Refusal → Told
+told_by_reading (Ok parts) = record {
+  order = Some parts.order;
+  words = Some (words_of parts.segments);
+  symbols = Some (symbol_in (words_of parts.segments));
+  sizes = usual_sizes;
+}
+told_by_reading (Err refusal) = told_nothing
+
+-- a file whose bytes aren't told, one that isn't there and one that is no core tell nothing
+abbrev pub told_by_file : FileTold → Told
+told_by_file (Some (Some bytes)) = told_by_reading (reading bytes)
+told_by_file (Some None) = told_nothing
+told_by_file None = told_nothing

@@ -1,0 +1,16 @@
+//! Cores that are read on demand, a page of words at a time.
+#![tactic(auto)]
+
+mod fault;
+mod keeping;
+mod limits;
+mod loading;
+mod opening;
+mod pages;
+mod reading;
+mod span;
+mod symbol_table;
+
+pub use fault::PageError;
+pub use limits::{MOST_PAGES, PAGE_BYTES};
+pub use pages::Pages;

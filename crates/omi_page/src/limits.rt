@@ -1,0 +1,16 @@
+//! The sizes of pages. Each stands here alone: definitions and code name it.
+
+/// The bytes of a page: 512 words.
+pub const PAGE_BYTES: usize = 4_096;
+
+/// The most pages that are kept.
+pub const MOST_PAGES: usize = 16;
+
+/// The bytes of a core file before its contexts.
+pub const HEADER_BYTES: usize = 16;
+
+/// The bytes of the most contexts that a core has.
+pub const CONTEXT_BYTES: usize = 512;
+
+/// The bytes of a segment before its words: its start address and their number.
+pub const SPAN_BYTES: usize = 16;

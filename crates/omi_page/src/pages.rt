@@ -1,0 +1,167 @@
+//! A core file that is read on demand.
+
+ghost use Rattle.std.specs.Prelude.{◌≡◌, ◌≤◌, List, ℕ, Some, None, IfOk, IsOk, IfErr, Err, vec_len, []};
+ghost use Rattle.omi_outside.specs.Outside.{HasCause};
+ghost use Rattle.omi_corefile.specs.Spelling.{Core};
+ghost use Rattle.omi_corefile.specs.Refusals.{CoreRefused};
+ghost use Rattle.omi_corefile.specs.declared.core_image.CoreImage.{CoreImage};
+ghost use Rattle.omi_corefile.specs.declared.fault.CoreFault.{CoreFault};
+ghost use Rattle.omi_calls.specs.Told.{Words, Symbols, word_at, number_of};
+ghost use Rattle.omi_calls.specs.Answers.{SaysMapped, SaysPlace};
+ghost use Rattle.omi_calls.specs.SymbolTable.{symbol_in};
+ghost use Rattle.omi_calls.specs.Memory.{told_by};
+ghost use Rattle.omi_page.specs.declared.limits.TheConstants.{PAGE_BYTES};
+ghost use Rattle.omi_page.specs.Outcomes.{IsLength, Holds, IsFaultOf, UnlessFree};
+ghost use Rattle.omi_page.specs.Bounds.{EndWithin};
+ghost use Rattle.omi_page.specs.Paging.{AreLong, ArePages, ArePartsOf};
+ghost use Rattle.omi_page.specs.Told.{told_by_file};
+
+use crate::keeping::{Kept, keep, kept_word};
+use crate::loading::{load, stands};
+use crate::opening::{Opened, open};
+use crate::span::SpanList;
+use crate::{MOST_PAGES, PAGE_BYTES, PageError};
+use lru::LruCache;
+use omi_calls::{Callbacks, Got, Place, Sizes};
+use omi_outside::Files;
+use omi_word::Natives;
+use std::alloc::Global;
+use std::num::NonZeroUsize;
+
+/// A core file that is read on demand. It borrows the files and the name, and tells what the core tells that the file's bytes are.
+/// At most `MOST_PAGES` pages of `PAGE_BYTES` bytes are kept.
+#[derive(Drop)]
+pub struct Pages<'a, F: Files> {
+    alloc: Global,
+    files: &'a mut F,
+    name: &'a str,
+    len: u64,
+    contexts: Natives,
+    spans: SpanList,
+    kept: Kept,
+    buffer: Vec<u8>,
+    ghost room: { vec_len buffer ≡ PAGE_BYTES },
+    ghost length: { IsLength (F.told files.now name.now) len },
+    ghost ends: { EndWithin len spans },
+    ghost long: { AreLong kept.entries },
+    ghost pages: { ArePages (F.told files.now name.now) spans kept.entries },
+    ghost parts: { ArePartsOf (F.told files.now name.now) contexts spans },
+}
+
+/// Room for the pages that are kept.
+fn no_pages(alloc: Global) -> Result<Kept, PageError>
+    ensures { IfOk result (λ kept. kept.entries ≡ []) }
+{
+    let most = NonZeroUsize::new(MOST_PAGES).unwrap();
+    Ok(LruCache::sparse(alloc, most)?)
+}
+
+impl<'a, F: Files> Pages<'a, F> {
+    /// Opens a core file. It reads the header, the contexts, and each segment's start address and number of words, and no word.
+    pub fn over(
+        alloc: Global,
+        files: &'a mut F,
+        name: &'a str,
+    ) -> Result<Pages<'a, F>, PageError>
+        // What is told of a file that is a core, and what is answered of one that isn't or isn't there.
+        ensures accepts { (bytes : List ℕ) (c : CoreImage) → Holds (F.told files.old name.now) bytes
+            → Core bytes c → UnlessFree result (IsOk result) }
+        ensures contexts { (bytes : List ℕ) (c : CoreImage)
+            → Holds (F.told files.old name.now) bytes → Core bytes c
+            → IfOk result (λ pages. pages.contexts ≡ c.contexts) }
+        ensures told { (bytes : List ℕ) (c : CoreImage) → Holds (F.told files.old name.now) bytes
+            → Core bytes c
+            → IfOk result (λ pages. ⟦<Pages<'a, F> as Callbacks>⟧.told pages ≡ told_by c) }
+        ensures fault { (bytes : List ℕ) → Holds (F.told files.old name.now) bytes
+            → IfErr result (IsFaultOf bytes) }
+        ensures refuses { (bytes : List ℕ) (at : ℕ) (why : CoreFault)
+            → Holds (F.told files.old name.now) bytes → CoreRefused bytes at why
+            → UnlessFree result (result ≡ Err (PageError.Fault at why)) }
+        ensures missing { F.told files.old name.now ≡ Some None
+            → UnlessFree result (result ≡ Err PageError.NoFile) }
+
+        // What the pages hold of the files.
+        ensures same_reference { IfOk result (λ pages. pages.files.ghost_name ≡ files.entry.ghost_name) }
+        ensures same_name { IfOk result (λ pages. pages.name.now ≡ name.now) }
+        ensures same { IfOk result (λ pages. F.told pages.files.now ≡ F.told files.old) }
+        ensures later { IfOk result (λ pages. F.reads files.old ≤ F.reads pages.files.now) }
+        ensures writes { IfOk result (λ pages. F.writes pages.files.now ≡ F.writes files.old) }
+    {
+        let Opened {
+            len,
+            contexts,
+            spans,
+            ..
+        } = open(alloc, files, name)?;
+        let kept = no_pages(alloc)?;
+        let buffer = vec![in alloc; 0u8; PAGE_BYTES]?;
+        Ok(Pages {
+            alloc,
+            files,
+            name,
+            len,
+            contexts,
+            spans,
+            kept,
+            buffer,
+        })
+    }
+
+    /// The native ids of the core's threads, which rise.
+    pub fn contexts(&self) -> &Natives
+        ensures { result.now ≡ self.now.contexts }
+    {
+        &self.contexts
+    }
+}
+
+impl<'a, F: Files> Callbacks for Pages<'a, F> {
+    ghost told = { λ pages. told_by_file (F.told pages.files.now pages.name.now) };
+
+    ghost faults = { λ pages. F.reads pages.files.now };
+
+    fn read_memory(&mut self, addr: u64, to: &mut [u8; 8]) -> Got {
+        if addr % 8 != 0 || !stands(&self.spans, addr) {
+            return Got::NotMapped;
+        }
+        let page = addr / PAGE_BYTES as u64;
+        let offset = (addr % PAGE_BYTES as u64) as usize;
+        if let Some(word) = kept_word(&mut self.kept, page, offset) {
+            *to = word;
+            return Got::Bytes;
+        }
+        let loaded = load(
+            self.files,
+            self.name,
+            self.len,
+            &self.spans,
+            page,
+            &mut self.buffer,
+        );
+        if loaded.is_err() {
+            return Got::Failed;
+        }
+        keep(self.alloc, &mut self.kept, page, &self.buffer);
+        to.copy_from_slice(&self.buffer[offset..offset + 8]);
+        Got::Bytes
+    }
+
+    fn symbol_addr_lookup(&mut self, name: &str) -> Place {
+        match self.symbol(name) {
+            Ok(Some(addr)) => Place::At(addr),
+            Ok(None) => Place::NoSuch,
+            Err(_) => Place::Failed,
+        }
+    }
+
+    fn sizeof_type(&self) -> Sizes {
+        Sizes {
+            char_size: 1,
+            short_size: 2,
+            int_size: 4,
+            long_size: 8,
+            long_long_size: 8,
+            pointer_size: 8,
+        }
+    }
+}

@@ -1,0 +1,77 @@
+//! The look-up of a symbol in the table that the words of a core file hold.
+
+ghost use Rattle.std.specs.Prelude.{◌≡◌, ◌≤◌, Some, IfOk, IsErr};
+ghost use Rattle.omi_outside.specs.Outside.{HasCause};
+ghost use Rattle.omi_calls.specs.Told.{Words, word_at};
+ghost use Rattle.omi_calls.specs.SymbolTable.{words_from, symbol_in};
+
+use crate::Pages;
+use omi_calls::symbol_table::{COUNT_PLACE, FIRST_PLACE, MOST_SYMBOLS, SYMBOL_BYTES, has_name};
+use omi_calls::{CallbackFailed, Callbacks, Got};
+use omi_outside::Files;
+
+impl<'a, F: Files> Pages<'a, F> {
+    /// The word at a byte address. None where the address is unaligned or no word stands there.
+    fn word(&mut self, addr: u64) -> Result<Option<u64>, CallbackFailed>
+        ensures word { (words : Words) → (⟦<Pages<'a, F> as Callbacks>⟧.told self.old).words ≡ Some words
+            → IfOk result (λ word. word ≡ word_at words addr) }
+        ensures same { ⟦<Pages<'a, F> as Callbacks>⟧.told self.new ≡ ⟦<Pages<'a, F> as Callbacks>⟧.told self.old }
+        ensures cause { HasCause (⟦<Pages<'a, F> as Callbacks>⟧.faults self.old)
+            (⟦<Pages<'a, F> as Callbacks>⟧.faults self.new) (IsErr result) }
+    {
+        let mut bytes = [0; 8];
+        match self.read_memory(addr, &mut bytes) {
+            Got::Bytes => Ok(Some(u64::from_le_bytes(bytes))),
+            Got::NotMapped => Ok(None),
+            Got::Failed => Err(CallbackFailed),
+        }
+    }
+
+    /// The words of a symbol at a byte address, where each of them is mapped.
+    fn five_words(&mut self, at: u64) -> Result<Option<[u64; 5]>, CallbackFailed>
+        requires { at ≤ 66184 }
+        ensures words { (words : Words) → (⟦<Pages<'a, F> as Callbacks>⟧.told self.old).words ≡ Some words
+            → IfOk result (λ five. five ≡ words_from words at 5) }
+        ensures same { ⟦<Pages<'a, F> as Callbacks>⟧.told self.new ≡ ⟦<Pages<'a, F> as Callbacks>⟧.told self.old }
+        ensures cause { HasCause (⟦<Pages<'a, F> as Callbacks>⟧.faults self.old)
+            (⟦<Pages<'a, F> as Callbacks>⟧.faults self.new) (IsErr result) }
+    {
+        let mut words = [0; 5];
+        for place in 0..5 {
+            let Some(word) = self.word(at + 8 * place as u64)? else {
+                return Ok(None);
+            };
+            words[place] = word;
+        }
+        Ok(Some(words))
+    }
+
+    /// The address of the first symbol of this name. None where the count or a word of the symbols that it counts isn't mapped, where
+    /// the count exceeds 16, or where no symbol has the name.
+    pub fn symbol(&mut self, name: &str) -> Result<Option<u64>, CallbackFailed>
+        ensures symbol { (words : Words) → (⟦<Pages<'a, F> as Callbacks>⟧.told self.old).words ≡ Some words
+            → IfOk result (λ addr. addr ≡ symbol_in words name.now) }
+        ensures same { ⟦<Pages<'a, F> as Callbacks>⟧.told self.new ≡ ⟦<Pages<'a, F> as Callbacks>⟧.told self.old }
+        ensures cause { HasCause (⟦<Pages<'a, F> as Callbacks>⟧.faults self.old)
+            (⟦<Pages<'a, F> as Callbacks>⟧.faults self.new) (IsErr result) }
+    {
+        let Some(count) = self.word(COUNT_PLACE)? else {
+            return Ok(None);
+        };
+        if count > MOST_SYMBOLS {
+            return Ok(None);
+        }
+        let mut found = None;
+        let mut left = count;
+        while left > 0 {
+            left -= 1;
+            let Some(words) = self.five_words(FIRST_PLACE + SYMBOL_BYTES * left)? else {
+                return Ok(None);
+            };
+            if has_name(&words, name) {
+                found = Some(words[4]);
+            }
+        }
+        Ok(found)
+    }
+}
