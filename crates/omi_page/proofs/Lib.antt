@@ -3,3 +3,5 @@ pub mod Taking
 pub mod FrontsOfFiles
 pub mod Segments
 pub mod WholeFiles
+pub mod Placing
+pub mod KeptPages

@@ -1,6 +1,6 @@
 //! The pages that are kept, the most recently used first.
 
-ghost use Rattle.std.specs.Prelude.{◌≡◌, ◌⊎◌, ◌+◌, ◌≤◌, ℕ, IfSome, Contains, Vec as Items};
+ghost use Rattle.std.specs.Prelude.{◌≡◌, ◌⊎◌, ◌+◌, ◌≤◌, ℕ, IfSome, length, Contains, Vec as Items};
 ghost use Rattle.std.specs.declared.alloc.Global.{Global as Heap};
 ghost use Rattle.omi_page.specs.Spans.{eight_at};
 ghost use Rattle.omi_page.specs.Paging.{AreLong};
@@ -12,6 +12,16 @@ use std::alloc::Global;
 /// The pages that are kept, by their numbers.
 pub type Kept = LruCache<u64, Vec<u8>>;
 
+/// The eight bytes from an offset on.
+pub fn word_of(bytes: &[u8], offset: usize) -> [u8; 8]
+    requires { offset + 8 ≤ length bytes.now }
+    ensures { result ≡ eight_at bytes.now offset }
+{
+    let mut word = [0; 8];
+    word.copy_from_slice(&bytes[offset..offset + 8]);
+    word
+}
+
 /// The eight bytes from an offset on of a page, where it is kept.
 pub fn kept_word(kept: &mut Kept, page: u64, offset: usize) -> Option<[u8; 8]>
     requires long { AreLong kept.old.entries }
@@ -22,9 +32,7 @@ pub fn kept_word(kept: &mut Kept, page: u64, offset: usize) -> Option<[u8; 8]>
         → Contains kept.old.entries (other, items) }
 {
     let items = kept.get(&page)?;
-    let mut word = [0; 8];
-    word.copy_from_slice(&items[offset..offset + 8]);
-    Some(word)
+    Some(word_of(items, offset))
 }
 
 /// Keeps a page, where memory is there.

@@ -16,7 +16,7 @@ ghost use Rattle.omi_page.specs.Bounds.{EndWithin};
 ghost use Rattle.omi_page.specs.Paging.{AreLong, ArePages, ArePartsOf};
 ghost use Rattle.omi_page.specs.Told.{told_by_file};
 
-use crate::keeping::{Kept, keep, kept_word};
+use crate::keeping::{Kept, keep, kept_word, word_of};
 use crate::loading::{load, stands};
 use crate::opening::{Opened, open};
 use crate::span::SpanList;
@@ -142,7 +142,7 @@ impl<'a, F: Files> Callbacks for Pages<'a, F> {
             return Got::Failed;
         }
         keep(self.alloc, &mut self.kept, page, &self.buffer);
-        to.copy_from_slice(&self.buffer[offset..offset + 8]);
+        *to = word_of(&self.buffer, offset);
         Got::Bytes
     }
 
