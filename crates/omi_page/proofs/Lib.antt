@@ -5,3 +5,4 @@ pub mod Segments
 pub mod WholeFiles
 pub mod Placing
 pub mod KeptPages
+pub mod Answering

@@ -1,10 +1,10 @@
 -- Where words stand in the pages of a core file.
 use Rattle.std.proofs.Common.{◌≡◌, ℕ, zero, suc, ◌+◌, ◌-◌, ◌*◌, ◌%◌, ◌<◌, ◌≤◌, Bool, true, false, cond, ltb, leb, List, [], ◌∷◌, ◌++◌, length, take, drop, Option, Some, None, refl, sym, ap, subst, ◌∙◌, arith, inl, inr}
-use Rattle.std.specs.Prelude.{slice_get, ◌&&◌, min}
+use Rattle.std.specs.Prelude.{slice_get, ◌&&◌, min, max}
 use Rattle.std.specs.Option.{option_or, is_some}
 use Rattle.std.proofs.Math.Seq.{drop-append-add}
 use Rattle.std.proofs.lemmas.Bool.{and_parts, leb-true, ltb-true, cases_lt, lt-ltb, le-leb}
-use Rattle.std.proofs.lemmas.List.{drop-take, take-take, length-take-le, drop-drop}
+use Rattle.std.proofs.lemmas.List.{drop-take, take-take, length-take-le, length-drop, drop-drop}
 use Rattle.std.proofs.lemmas.Slice.{take-put_mid_below, take-put_mid, drop-put_mid}
 use borrow.Rule.Slice.PartMut.{put_mid}
 use Rattle.omi_page.specs.declared.span.Span.{Span}
@@ -94,3 +94,75 @@ pub stands_more : (spans : List Span) (place next : ℕ) (s : Span) (addr : ℕ)
     → is_some (place_in (drop place spans) addr) ≡ cond (is_in s addr) true (is_some (place_in (drop next spans) addr))
 stands_more spans place next s addr after is =
     ap is_some (place_more spans place next s addr after is) ∙ some_by (is_in s addr) s addr (place_in (drop next spans) addr) refl
+
+-- ---- the part of a page that a span has
+
+-- what is read of a span for a page: from the higher of two starts to the lower of two ends
+pub record Part (s : Span) (base low high : ℕ) (old part : List ℕ) : Type 0 where
+  pub aligned : base % 8 ≡ 0
+  pub low_is : low ≡ max s.start base
+  pub high_is : high ≡ min (s.start + 8 * s.count) (base + 4096)
+  pub some : low < high
+  pub room : length old ≡ 4096
+  pub fits : length part ≡ high - base - (low - base)
+
+-- the words of the span are those that were read
+pub part_here : (s : Span) (base low high : ℕ) (old part bytes : List ℕ) (offset at : ℕ) → Part s base low high old part
+    → part ≡ take (high - base - (low - base)) (drop (s.place + (low - s.start)) bytes)
+    → offset % 8 ≡ 0 → offset < 4096 → place_of s (base + offset) ≡ Some at
+    → eight_at (put_mid (low - base) (high - base - (low - base)) old part) offset ≡ eight_at bytes at
+part_here s base low high old part bytes offset at p read aligned within there =
+    let here = stands_in s (base + offset) at there in
+    let inner : ℕ = base + offset - low in
+    let after : low ≤ base + offset = omega (arith, p.low_is, here.from) in
+    let start_aligned : s.start % 8 ≡ 0 = s.aligned in
+    let before : base + offset + 8 ≤ high = omega (arith, p.high_is, here.below, start_aligned, p.aligned, aligned, within) in
+    let from : base ≤ low = omega (arith, p.low_is) in
+    let inside : inner + 8 ≤ high - base - (low - base) = omega (arith, after, before, from) in
+    let place : s.place + (low - s.start) + inner ≡ at = omega (arith, here.is, here.from, after, p.low_is) in
+    eight_inside (low - base) (high - base - (low - base)) old part offset inner (omega (arith, after, from)) inside (omega (arith, p.room, p.some, p.high_is, from)) p.fits
+    ∙ ap (λ (l : List ℕ). eight_at l inner) read
+    ∙ eight_read bytes (s.place + (low - s.start)) (high - base - (low - base)) inner inside
+    ∙ ap (eight_at bytes) place
+
+-- the other words stay
+pub part_others : (s : Span) (base low high : ℕ) (old part : List ℕ) (offset : ℕ) → Part s base low high old part
+    → offset % 8 ≡ 0 → offset < 4096 → place_of s (base + offset) ≡ None
+    → eight_at (put_mid (low - base) (high - base - (low - base)) old part) offset ≡ eight_at old offset
+part_others s base low high old part offset p aligned within none =
+    let start_aligned : s.start % 8 ≡ 0 = s.aligned in
+    let from : base ≤ low = omega (arith, p.low_is) in
+    let room : low - base ≤ length old = omega (arith, p.room, p.some, p.high_is, from) in
+    elim (cases_lt (base + offset) s.start) [
+      | inl before ↦
+          eight_below (low - base) (high - base - (low - base)) old part offset (omega (arith, before, p.low_is, from, start_aligned, p.aligned, aligned)) room
+      | inr after ↦
+          let past = apart s (base + offset) none after in
+          eight_above (low - base) (high - base - (low - base)) old part offset (omega (arith, past, p.high_is, p.some, from)) room p.fits
+    ]
+
+-- the bytes of the part
+pub part_length : (base low high : ℕ) (old : List ℕ) → base ≤ low → high ≤ base + 4096 → length old ≡ 4096
+    → length (take (high - base - (low - base)) (drop (low - base) old)) ≡ high - base - (low - base)
+part_length base low high old from to room = length-take-le (high - base - (low - base)) (drop (low - base) old) (omega (arith, from, to, room, length-drop (low - base) old))
+
+-- ---- a page, read span by span
+
+module _ (s : Span) (addr at offset : ℕ) (new old bytes : List ℕ) (rest : Option ℕ) where
+  by_place : (o : Option ℕ) → place_of s addr ≡ o
+      → ((p : ℕ) → place_of s addr ≡ Some p → eight_at new offset ≡ eight_at bytes p)
+      → (place_of s addr ≡ None → eight_at new offset ≡ eight_at old offset)
+      → ((p : ℕ) → rest ≡ Some p → eight_at old offset ≡ eight_at bytes p)
+      → option_or o rest ≡ Some at → eight_at new offset ≡ eight_at bytes at
+  by_place (Some p) is here others so_far there = here at (is ∙ there)
+  by_place None is here others so_far there = others is ∙ so_far at there
+
+-- one span more was read
+pub page_more : (spans : List Span) (place next : ℕ) (s : Span) (addr at offset : ℕ) (new old bytes : List ℕ) → next ≡ suc place → slice_get spans place ≡ Some s
+    → ((p : ℕ) → place_of s addr ≡ Some p → eight_at new offset ≡ eight_at bytes p)
+    → (place_of s addr ≡ None → eight_at new offset ≡ eight_at old offset)
+    → ((p : ℕ) → place_in (drop next spans) addr ≡ Some p → eight_at old offset ≡ eight_at bytes p)
+    → place_in (drop place spans) addr ≡ Some at → eight_at new offset ≡ eight_at bytes at
+page_more spans place next s addr at offset new old bytes after is here others so_far there =
+    by_place s addr at offset new old bytes (place_in (drop next spans) addr) (place_of s addr) refl here others so_far
+    (sym (place_more spans place next s addr after is) ∙ there)

@@ -1,0 +1,7 @@
+-- Facts about an answer.
+use Rattle.std.proofs.Common.{OnOk, Result, Ok, Err}
+
+-- a fact of an `Ok` gives another
+pub on_ok : {T E : Type 0} (r : Result T E) (P Q : Type 0) → (P → Q) → OnOk r P → OnOk r Q
+on_ok (Ok x) P Q f p = f p
+on_ok (Err e) P Q f p = tt
