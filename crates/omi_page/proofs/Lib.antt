@@ -6,3 +6,5 @@ pub mod WholeFiles
 pub mod Placing
 pub mod KeptPages
 pub mod Answering
+pub mod Telling
+pub mod OpenedFiles

@@ -33,10 +33,14 @@ IsFaultOf bytes NoFile = ⊥
 IsFaultOf bytes Failed = Unit {0}
 IsFaultOf bytes OutOfMemory = Unit {0}
 
+-- a fact about a refusal, unless a read failed or memory ran out
+abbrev pub UnlessFreeError : PageError → Type 0 → Type 0
+UnlessFreeError (Fault at why) P = P
+UnlessFreeError NoFile P = P
+UnlessFreeError Failed P = Unit {0}
+UnlessFreeError OutOfMemory P = Unit {0}
+
 -- a fact about an answer, unless a read failed or memory ran out
 abbrev pub UnlessFree : {X : Type 0} → Result X PageError → Type 0 → Type 0
 UnlessFree (Ok x) P = P
-UnlessFree (Err (Fault at why)) P = P
-UnlessFree (Err NoFile) P = P
-UnlessFree (Err Failed) P = Unit {0}
-UnlessFree (Err OutOfMemory) P = Unit {0}
+UnlessFree (Err error) P = UnlessFreeError error P

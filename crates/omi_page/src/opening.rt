@@ -37,6 +37,7 @@ pub fn read_header<F: Files>(files: &mut F, name: &str, len: u64) -> Result<Coun
         result (header_at len bytes) }
     ensures long { IfOk result (λ _. HEADER_BYTES ≤ len) }
     ensures few { IfOk result (λ counts. counts.contexts ≤ MOST_CONTEXTS) }
+    ensures order { IfOk result (λ counts. counts.order ≡ 0) }
 
     // No bytes change. A fault is counted as one of reading.
     ensures same { F.told files.new ≡ F.told files.old }
@@ -213,6 +214,7 @@ pub fn open<F: Files>(alloc: Global, files: &mut F, name: &str) -> Result<Opened
         → UnlessFree result (result ≡ Err PageError.NoFile) }
     ensures len { IfOk result (λ x. IsLength (F.told files.old name.now) x.len) }
     ensures ends { IfOk result (λ x. EndWithin x.len x.spans) }
+    ensures order { IfOk result (λ x. x.order ≡ 0) }
 
     // No bytes change. A fault is counted as one of reading.
     ensures same { F.told files.new ≡ F.told files.old }

@@ -23,6 +23,7 @@ use crate::span::SpanList;
 use crate::{MOST_PAGES, PAGE_BYTES, PageError};
 use lru::LruCache;
 use omi_calls::{Callbacks, Got, Place, Sizes};
+use omi_list::OutOfMemory;
 use omi_outside::Files;
 use omi_word::Natives;
 use std::alloc::Global;
@@ -49,11 +50,11 @@ pub struct Pages<'a, F: Files> {
 }
 
 /// Room for the pages that are kept.
-fn no_pages(alloc: Global) -> Result<Kept, PageError>
+fn no_pages(alloc: Global) -> Result<Kept, OutOfMemory>
     ensures { IfOk result (λ kept. kept.entries ≡ []) }
 {
     let most = NonZeroUsize::new(MOST_PAGES).unwrap();
-    Ok(LruCache::sparse(alloc, most)?)
+    LruCache::sparse(alloc, most)
 }
 
 impl<'a, F: Files> Pages<'a, F> {

@@ -24,3 +24,6 @@ returns-clause-long g c = let took = header_took c.in_ok-count.count _ _ c.in_ok
 
 pub returns-clause-few : goal.returns-clause-few
 returns-clause-few g c = (header_took c.in_ok-count.count _ _ c.in_ok-counts.ensures).few_contexts
+
+pub returns-clause-order : goal.returns-clause-order
+returns-clause-order g c = (header_took c.in_ok-count.count _ _ c.in_ok-counts.ensures).order_is

@@ -1,0 +1,175 @@
+-- What a core file tells, by the places of its words.
+use Rattle.std.proofs.Common.{◌≡◌, ℕ, zero, suc, ◌+◌, ◌-◌, ◌*◌, ◌/◌, ◌%◌, ◌<◌, ◌≤◌, Bool, true, false, cond, ltb, leb, eqb, List, [], ◌∷◌, Option, Some, None, Result, Ok, Err, IsSome, refl, sym, ap, subst, ◌∙◌, arith, inl, inr}
+use Rattle.std.specs.Prelude.{slice_get, ◌&&◌, ◌==◌, IsTrue}
+use Rattle.std.specs.Int.{w64, from_le_bytes}
+use Rattle.std.specs.Option.{option_or, option_map, is_some}
+use Rattle.std.proofs.lemmas.Bool.{cases_lt, lt-ltb, le-ltb, le-leb, eq-eqb, ne_eqb}
+use Rattle.std.proofs.lemmas.Bool.Decides.{nat_tests}
+use Rattle.omi_outside.specs.Outside.{Told as FileTold}
+use Rattle.omi_corefile.specs.Refusals.{Refusal, Parts, reading}
+use Rattle.omi_calls.specs.Told.{Words, word_at, number_of}
+use Rattle.omi_calls.specs.CoreWords.{word_of, words_of}
+use Rattle.omi_page.specs.declared.span.Span.{Span}
+use Rattle.omi_page.specs.Outcomes.{Holds}
+use Rattle.omi_page.specs.Spans.{eight_at, word_there, words_there, segment_there, segments_there, is_in, place_of, place_in}
+use Rattle.omi_page.specs.Told.{told_by_reading, told_by_file}
+use Rattle.omi_page.specs.Paging.{IsPage, ArePartsOf}
+
+-- ---- the words of a span
+
+words_get : (bytes : List ℕ) (at count j : ℕ) → j < count → slice_get (words_there bytes at count) j ≡ Some (word_there bytes (at + 8 * j))
+unfolding words_there
+words_get bytes at zero j below = absurd (omega arith)
+words_get bytes at (suc count) zero below =
+    let here : at ≡ at + 8 * 0 = omega arith in
+    ap (λ (n : ℕ). Some (word_there bytes n)) here
+words_get bytes at (suc count) (suc j) below =
+    let here : at + 8 + 8 * j ≡ at + 8 * suc j = omega arith in
+    words_get bytes (at + 8) count j (omega arith) ∙ ap (λ (n : ℕ). Some (word_there bytes n)) here
+
+words_past : (bytes : List ℕ) (at count j : ℕ) → count ≤ j → slice_get (words_there bytes at count) j ≡ None
+unfolding words_there
+words_past bytes at zero j past = refl
+words_past bytes at (suc count) zero past = absurd (omega arith)
+words_past bytes at (suc count) (suc j) past = words_past bytes (at + 8) count j (omega arith)
+
+span_words : (bytes : List ℕ) (s : Span) (addr : ℕ) → addr % 8 ≡ 0 → word_of (segment_there bytes s) addr ≡ option_map (word_there bytes) (place_of s addr)
+span_words bytes s addr aligned =
+    elim (cases_lt addr s.start) [
+      | inl before ↦ let low : leb s.start addr ≡ false = grind (arith, nat_tests) in rw low refl
+      | inr from ↦
+          let low : leb s.start addr ≡ true = le-leb s.start addr from in
+          let start_aligned : s.start % 8 ≡ 0 = s.aligned in
+          let j : ℕ = (addr - s.start) / 8 in
+          let there : 8 * j ≡ addr - s.start = omega arith in
+          elim (cases_lt addr (s.start + 8 * s.count)) [
+            | inl below ↦
+                let high : ltb addr (s.start + 8 * s.count) ≡ true = lt-ltb addr (s.start + 8 * s.count) below in
+                rw (low, high) (words_get bytes s.place s.count j (omega arith) ∙ ap (λ (n : ℕ). Some (word_there bytes (s.place + n))) there)
+            | inr past ↦
+                let high : ltb addr (s.start + 8 * s.count) ≡ false = le-ltb addr (s.start + 8 * s.count) past in
+                rw (low, high) (words_past bytes s.place s.count j (omega arith))
+          ]
+    ]
+
+map_or : {A B : Type 0} (f : A → B) (a b : Option A) → option_or (option_map f a) (option_map f b) ≡ option_map f (option_or a b)
+map_or f None b = refl
+map_or f (Some x) b = refl
+
+-- the word at an address is the one at its place
+pub place_words : (bytes : List ℕ) (spans : List Span) (addr : ℕ) → addr % 8 ≡ 0 → words_of (segments_there bytes spans) addr ≡ option_map (word_there bytes) (place_in spans addr)
+place_words bytes [] addr aligned = refl
+place_words bytes (s ∷ spans) addr aligned =
+    (λ i. option_or (span_words bytes s addr aligned i) (place_words bytes spans addr aligned i))
+    ∙ map_or (word_there bytes) (place_of s addr) (place_in spans addr)
+
+-- ---- what is told
+
+-- the words that are told are those of the file's core
+pub record Tells (told : FileTold) (words : Words) : Type 0 where
+  pub bytes : List ℕ
+  pub parts : Parts
+  pub holds : Holds told bytes
+  pub read : reading bytes ≡ Ok parts
+  pub words_are : words_of parts.segments ≡ words
+  pub order_is : (told_by_file told).order ≡ Some parts.order
+
+same_words : (a b : Words) → (let some : Words → Option Words = λ w. Some w in some a ≡ some b) → a ≡ b
+same_words a b e = ap (λ o. unwrapped o) e
+  where
+    unwrapped : Option Words → Words
+    unwrapped (Some w) = w
+    unwrapped None = a
+
+by_reading : (bytes : List ℕ) (words : Words) (read : Result Parts Refusal) → reading bytes ≡ read → (told_by_reading read).words ≡ Some words → Tells (Some (Some bytes)) words
+by_reading bytes words (Ok parts) is e = record {
+  bytes = bytes;
+  parts = parts;
+  holds = refl;
+  read = is;
+  words_are = same_words (words_of parts.segments) words e;
+  order_is = ap (λ r. (told_by_reading r).order) is;
+}
+by_reading bytes words (Err refusal) is e = absurd cc
+
+pub tells : (told : FileTold) (words : Words) → (told_by_file told).words ≡ Some words → Tells told words
+tells (Some (Some bytes)) words e = by_reading bytes words (reading bytes) refl e
+tells (Some None) words e = absurd cc
+tells None words e = absurd cc
+
+-- the word at an aligned address is the one at its place, and the order is 0
+pub record TellsPlaces (told : FileTold) (spans : List Span) (words : Words) (addr : ℕ) : Type 0 where
+  pub bytes : List ℕ
+  pub holds : Holds told bytes
+  pub order_is : (order : ℕ) → (told_by_file told).order ≡ Some order → order ≡ 0
+  pub word_is : word_at words addr ≡ option_map (word_there bytes) (place_in spans addr)
+
+same_order : (a b : ℕ) → (let some : ℕ → Option ℕ = λ n. Some n in some a ≡ some b) → a ≡ b
+same_order a b e = cc
+
+pub tells_places : (told : FileTold) (contexts : List ℕ) (spans : List Span) (words : Words) (addr : ℕ) → (told_by_file told).words ≡ Some words
+    → ArePartsOf told contexts spans → addr % 8 ≡ 0 → TellsPlaces told spans words addr
+tells_places told contexts spans words addr e parts aligned =
+    let t = tells told words e in
+    let are = parts t.bytes t.parts t.holds t.read in
+    let test : eqb (addr % 8) 0 ≡ true = eq-eqb (addr % 8) 0 aligned in
+    record {
+      bytes = t.bytes;
+      holds = t.holds;
+      order_is = λ order told_order. same_order order t.parts.order (sym told_order ∙ t.order_is) ∙ are.0;
+      word_is = rw test (ap (λ w. w addr) (sym t.words_are) ∙ ap (λ ss. words_of ss addr) are.2 ∙ place_words t.bytes spans addr aligned);
+    }
+
+-- ---- the answers of a read
+
+pub unaligned : (words : Words) (addr : ℕ) → (addr % 8 ≡ 0 → ⊥) → word_at words addr ≡ None
+unaligned words addr lacks = let test : eqb (addr % 8) 0 ≡ false = ne_eqb (addr % 8) 0 lacks in rw test refl
+
+none_there : (f : ℕ → ℕ) (o : Option ℕ) → is_some o ≡ false → option_map f o ≡ None
+none_there f None lacks = refl
+none_there f (Some at) lacks = absurd cc
+
+some_there : (f : ℕ → ℕ) (o : Option ℕ) → is_some o ≡ true → IsSome (option_map f o)
+some_there f None stands = absurd cc
+some_there f (Some at) stands = refl
+
+-- no word stands there
+pub not_mapped : (told : FileTold) (contexts : List ℕ) (spans : List Span) (words : Words) (addr : ℕ) → (told_by_file told).words ≡ Some words
+    → ArePartsOf told contexts spans → addr % 8 ≡ 0 → is_some (place_in spans addr) ≡ false → word_at words addr ≡ None
+not_mapped told contexts spans words addr e parts aligned lacks =
+    let t = tells_places told contexts spans words addr e parts aligned in
+    t.word_is ∙ none_there (word_there t.bytes) (place_in spans addr) lacks
+
+-- a word stands there
+pub mapped : (told : FileTold) (contexts : List ℕ) (spans : List Span) (words : Words) (addr : ℕ) → (told_by_file told).words ≡ Some words
+    → ArePartsOf told contexts spans → addr % 8 ≡ 0 → is_some (place_in spans addr) ≡ true → IsSome (word_at words addr)
+mapped told contexts spans words addr e parts aligned stands =
+    let t = tells_places told contexts spans words addr e parts aligned in
+    subst IsSome (sym t.word_is) (some_there (word_there t.bytes) (place_in spans addr) stands)
+
+by_place : (bytes word : List ℕ) (o : Option ℕ) → is_some o ≡ true → ((at : ℕ) → o ≡ Some at → word ≡ eight_at bytes at)
+    → option_map (word_there bytes) o ≡ Some (number_of 0 word)
+by_place bytes word None stands is = absurd cc
+by_place bytes word (Some at) stands is = ap (λ (w : List ℕ). Some (from_le_bytes w64 w)) (sym (is at refl))
+
+-- the word is the one in the page
+pub in_page : (told : FileTold) (contexts : List ℕ) (spans : List Span) (words : Words) (order addr : ℕ) (word items : List ℕ) → (told_by_file told).words ≡ Some words → (told_by_file told).order ≡ Some order
+    → ArePartsOf told contexts spans → addr % 8 ≡ 0 → is_some (place_in spans addr) ≡ true
+    → ((bytes : List ℕ) → Holds told bytes → IsPage bytes spans (addr / 4096) items) → word ≡ eight_at items (addr % 4096)
+    → word_at words addr ≡ Some (number_of order word)
+in_page told contexts spans words order addr word items e told_order parts aligned stands page is =
+    let t = tells_places told contexts spans words addr e parts aligned in
+    let here : 4096 * (addr / 4096) + addr % 4096 ≡ addr = omega arith in
+    let offset_aligned : addr % 4096 % 8 ≡ 0 = omega arith in
+    let inside : addr % 4096 < 4096 = omega arith in
+    t.word_is
+    ∙ by_place t.bytes word (place_in spans addr) stands (λ at there. is ∙ page t.bytes t.holds (addr % 4096) at offset_aligned inside (ap (place_in spans) here ∙ there))
+    ∙ ap (λ o. Some (number_of o word)) (sym (t.order_is order told_order))
+
+-- where words are told, the order that is told is 0
+pub told_order : (told : FileTold) (contexts : List ℕ) (spans : List Span) (words : Words) → (told_by_file told).words ≡ Some words → ArePartsOf told contexts spans
+    → (told_by_file told).order ≡ Some 0
+told_order told contexts spans words e parts =
+    let t = tells told words e in
+    let are = parts t.bytes t.parts t.holds t.read in
+    t.order_is ∙ ap (λ (n : ℕ). Some n) are.0
