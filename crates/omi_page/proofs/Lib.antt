@@ -8,3 +8,4 @@ pub mod KeptPages
 pub mod Answering
 pub mod Telling
 pub mod OpenedFiles
+pub mod Symbols

@@ -8,3 +8,5 @@ pub mod Outcomes
 -- What is told, and what is kept of a file.
 pub mod Told
 pub mod Paging
+-- Words of which each may be missing.
+pub mod AllWords

@@ -1,6 +1,7 @@
 //! The look-up of a symbol in the table that the words of a core file hold.
 
-ghost use Rattle.std.specs.Prelude.{◌≡◌, ◌≤◌, Some, IfOk, IsErr};
+ghost use Rattle.std.specs.Prelude.{◌≡◌, ◌≤◌, [], ◌∷◌, Some, IfOk, IsErr};
+ghost use Rattle.omi_page.specs.AllWords.{all_words};
 ghost use Rattle.omi_outside.specs.Outside.{HasCause};
 ghost use Rattle.omi_calls.specs.Told.{Words, word_at};
 ghost use Rattle.omi_calls.specs.SymbolTable.{words_from, symbol_in};
@@ -9,6 +10,19 @@ use crate::Pages;
 use omi_calls::symbol_table::{COUNT_PLACE, FIRST_PLACE, MOST_SYMBOLS, SYMBOL_BYTES, has_name};
 use omi_calls::{CallbackFailed, Callbacks, Got};
 use omi_outside::Files;
+
+/// Five words, where each of them is there.
+fn all_of(
+    first: Option<u64>,
+    second: Option<u64>,
+    third: Option<u64>,
+    fourth: Option<u64>,
+    fifth: Option<u64>,
+) -> Option<[u64; 5]>
+    ensures { result ≡ all_words (first ∷ second ∷ third ∷ fourth ∷ fifth ∷ []) }
+{
+    Some([first?, second?, third?, fourth?, fifth?])
+}
 
 impl<'a, F: Files> Pages<'a, F> {
     /// The word at a byte address. None where the address is unaligned or no word stands there.
@@ -36,14 +50,12 @@ impl<'a, F: Files> Pages<'a, F> {
         ensures cause { HasCause (⟦<Pages<'a, F> as Callbacks>⟧.faults self.old)
             (⟦<Pages<'a, F> as Callbacks>⟧.faults self.new) (IsErr result) }
     {
-        let mut words = [0; 5];
-        for place in 0..5 {
-            let Some(word) = self.word(at + 8 * place as u64)? else {
-                return Ok(None);
-            };
-            words[place] = word;
-        }
-        Ok(Some(words))
+        let first = self.word(at)?;
+        let second = self.word(at + 8)?;
+        let third = self.word(at + 16)?;
+        let fourth = self.word(at + 24)?;
+        let fifth = self.word(at + 32)?;
+        Ok(all_of(first, second, third, fourth, fifth))
     }
 
     /// The address of the first symbol of this name. None where the count or a word of the symbols that it counts isn't mapped, where

@@ -1,4 +1,4 @@
-use Rattle.std.proofs.Common.{◌≡◌, sym, ap, ◌∙◌, Some}
+use Rattle.std.proofs.Common.{◌≡◌, refl, sym, ap, ◌∙◌, Some}
 use Rattle.omi_calls.specs.Told.{number_of}
 use Rattle.omi_page.proofs.Telling.{told_order}
 use Rattle.omi_page.proofs.pages.Pages.word.Goals as goal
@@ -6,4 +6,4 @@ use Rattle.omi_page.proofs.pages.Pages.word.Goals as goal
 pub returns-in-Bytes-clause-word : goal.returns-in-Bytes-clause-word
 returns-in-Bytes-clause-word g c = λ words told.
     let order = told_order _ c.args.self.now.contexts c.args.self.now.spans words told c.args.self.now.parts in
-    ap (λ n. Some n) c.from_le_bytes.ensures ∙ sym (c.in-Bytes.ensures.bytes words 0 told order c.in-Bytes.is)
+    ap (λ n. Some n) c.from_le_bytes.ensures ∙ sym (c.in-Bytes.ensures.bytes words 0 told order refl)
