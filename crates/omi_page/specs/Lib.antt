@@ -8,5 +8,6 @@ pub mod Outcomes
 -- What is told, and what is kept of a file.
 pub mod Told
 pub mod Paging
+pub mod Borrowed
 -- Words of which each may be missing.
 pub mod AllWords

@@ -3,6 +3,7 @@ use Rattle.std.specs.Prelude.{◌≡◌, ◌⊎◌, ℕ, ◌+◌, ◌*◌, ◌%�
 use Rattle.std.specs.declared.alloc.Global.{Global}
 use Rattle.omi_outside.specs.Outside.{Told}
 use Rattle.omi_corefile.specs.Refusals.{Parts, reading}
+use Rattle.omi_page.specs.declared.opening.Contents.{Contents}
 use Rattle.omi_page.specs.declared.span.Span.{Span}
 use Rattle.omi_page.specs.declared.limits.TheConstants.{PAGE_BYTES}
 use Rattle.omi_page.specs.Spans.{eight_at, segments_there, place_in}
@@ -36,3 +37,9 @@ abbrev pub ArePartsOf : Told → List ℕ → List Span → Type 0
 ArePartsOf told contexts spans =
     (bytes : List ℕ) (parts : Parts) → Holds told bytes → reading bytes ≡ Ok parts
     → (parts.order ≡ 0) × (parts.contexts ≡ contexts) × (parts.segments ≡ segments_there bytes spans)
+
+-- what was read of a file beside its words is right for its bytes
+pub record IsOpened (told : Told) (contents : Contents) : Type 0 where
+  pub length : IsLength told contents.len
+  pub ends : EndWithin contents.len contents.spans
+  pub parts : ArePartsOf told contents.contexts contents.spans

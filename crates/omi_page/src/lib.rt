@@ -5,6 +5,7 @@ mod fault;
 mod keeping;
 mod limits;
 mod loading;
+mod opened;
 mod opening;
 mod pages;
 mod reading;
@@ -13,4 +14,5 @@ mod symbol_table;
 
 pub use fault::PageError;
 pub use limits::{MOST_PAGES, PAGE_BYTES};
+pub use opened::{Opened, open};
 pub use pages::Pages;

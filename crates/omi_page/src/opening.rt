@@ -171,15 +171,6 @@ pub fn read_spans<F: Files>(
     Ok((spans, at))
 }
 
-/// What stands in a core file beside its words.
-#[derive(Drop)]
-pub struct Opened {
-    pub len: u64,
-    pub order: u8,
-    pub contexts: Natives,
-    pub spans: SpanList,
-}
-
 /// The length of a file.
 fn len_of<F: Files>(files: &mut F, name: &str) -> Result<u64, PageError>
     ensures len { IfOk result (IsLength (F.told files.old name.now)) }
@@ -201,8 +192,21 @@ fn len_of<F: Files>(files: &mut F, name: &str) -> Result<u64, PageError>
     }
 }
 
+/// What stands in a core file beside its words.
+#[derive(Drop)]
+pub struct Contents {
+    pub len: u64,
+    pub order: u8,
+    pub contexts: Natives,
+    pub spans: SpanList,
+}
+
 /// What stands in a core file beside its words. No word is read.
-pub fn open<F: Files>(alloc: Global, files: &mut F, name: &str) -> Result<Opened, PageError>
+pub fn read_contents<F: Files>(
+    alloc: Global,
+    files: &mut F,
+    name: &str,
+) -> Result<Contents, PageError>
     ensures read { (bytes : List ℕ) → Holds (F.told files.old name.now) bytes → Gives
         (λ x. record {
           order = x.order;
@@ -231,7 +235,7 @@ pub fn open<F: Files>(alloc: Global, files: &mut F, name: &str) -> Result<Opened
         let why = CoreFault::Trailing(end);
         return Err(PageError::Fault { at: end, why });
     }
-    Ok(Opened {
+    Ok(Contents {
         len,
         order: counts.order,
         contexts,

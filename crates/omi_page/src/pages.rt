@@ -13,21 +13,19 @@ ghost use Rattle.omi_calls.specs.Memory.{told_by};
 ghost use Rattle.omi_page.specs.declared.limits.TheConstants.{PAGE_BYTES};
 ghost use Rattle.omi_page.specs.Outcomes.{IsLength, Holds, IsFaultOf, UnlessFree};
 ghost use Rattle.omi_page.specs.Bounds.{EndWithin};
-ghost use Rattle.omi_page.specs.Paging.{AreLong, ArePages, ArePartsOf};
+ghost use Rattle.omi_page.specs.Paging.{AreLong, ArePages, ArePartsOf, IsOpened};
 ghost use Rattle.omi_page.specs.Told.{told_by_file};
 
 use crate::keeping::{Kept, keep, kept_word, word_of};
 use crate::loading::{load, stands};
-use crate::opening::{Opened, open};
+use crate::opened::{Opened, open};
+use crate::opening::Contents;
 use crate::span::SpanList;
-use crate::{MOST_PAGES, PAGE_BYTES, PageError};
-use lru::LruCache;
+use crate::{PAGE_BYTES, PageError};
 use omi_calls::{Callbacks, Got, Place, Sizes};
-use omi_list::OutOfMemory;
 use omi_outside::Files;
 use omi_word::Natives;
 use std::alloc::Global;
-use std::num::NonZeroUsize;
 
 /// A core file that is read on demand. It borrows the files and the name, and tells what the core tells that the file's bytes are.
 /// At most `MOST_PAGES` pages of `PAGE_BYTES` bytes are kept.
@@ -49,15 +47,9 @@ pub struct Pages<'a, F: Files> {
     ghost parts: { ArePartsOf (F.told files.now name.now) contexts spans },
 }
 
-/// Room for the pages that are kept.
-fn no_pages(alloc: Global) -> Result<Kept, OutOfMemory>
-    ensures { IfOk result (λ kept. kept.entries ≡ []) }
-{
-    let most = NonZeroUsize::new(MOST_PAGES).unwrap();
-    LruCache::sparse(alloc, most)
-}
-
 impl<'a, F: Files> Pages<'a, F> {
+    ghost use Rattle.omi_page.specs.Borrowed.{contexts_of, files_of, name_of};
+
     /// Opens a core file. It reads the header, the contexts, and each segment's start address and number of words, and no word.
     pub fn over(
         alloc: Global,
@@ -69,7 +61,7 @@ impl<'a, F: Files> Pages<'a, F> {
             → Core bytes c → UnlessFree result (IsOk result) }
         ensures contexts { (bytes : List ℕ) (c : CoreImage)
             → Holds (F.told files.old name.now) bytes → Core bytes c
-            → IfOk result (λ pages. pages.contexts ≡ c.contexts) }
+            → IfOk result (λ pages. contexts_of pages ≡ c.contexts) }
         ensures told { (bytes : List ℕ) (c : CoreImage) → Holds (F.told files.old name.now) bytes
             → Core bytes c
             → IfOk result (λ pages. ⟦<Pages<'a, F> as Callbacks>⟧.told pages ≡ told_by c) }
@@ -81,22 +73,40 @@ impl<'a, F: Files> Pages<'a, F> {
         ensures missing { F.told files.old name.now ≡ Some None
             → UnlessFree result (result ≡ Err PageError.NoFile) }
 
-        // What the pages hold of the files.
-        ensures same_reference { IfOk result (λ pages. pages.files.ghost_name ≡ files.entry.ghost_name) }
-        ensures same_name { IfOk result (λ pages. pages.name.now ≡ name.now) }
-        ensures same { IfOk result (λ pages. F.told pages.files.now ≡ F.told files.old) }
-        ensures later { IfOk result (λ pages. F.reads files.old ≤ F.reads pages.files.now) }
-        ensures writes { IfOk result (λ pages. F.writes pages.files.now ≡ F.writes files.old) }
+        // The pages borrow the files and the name, and no bytes changed.
+        ensures same_reference { IfOk result (λ pages. (files_of pages).ghost_name
+            ≡ files.entry.ghost_name) }
+        ensures same_name { IfOk result (λ pages. name_of pages ≡ name.now) }
+        ensures same { IfOk result (λ pages. F.told (files_of pages).now ≡ F.told files.old) }
+        ensures later { IfOk result (λ pages. F.reads files.old ≤ F.reads (files_of pages).now) }
+        ensures writes { IfOk result (λ pages. F.writes (files_of pages).now
+            ≡ F.writes files.old) }
+    {
+        let opened = open(alloc, files, name)?;
+        Ok(Pages::of(files, name, opened))
+    }
+
+    /// The pages of a file that was opened. It does nothing else.
+    pub fn of(files: &'a mut F, name: &'a str, opened: Opened) -> Pages<'a, F>
+        requires { IsOpened (F.told files.old name.now) opened.contents }
+        ensures contexts { contexts_of result ≡ opened.contents.contexts }
+        ensures same_reference { (files_of result).ghost_name ≡ files.entry.ghost_name }
+        ensures same_name { name_of result ≡ name.now }
+        ensures same { (files_of result).now ≡ files.old }
     {
         let Opened {
+            alloc,
+            contents,
+            kept,
+            buffer,
+        } = opened;
+        let Contents {
             len,
             contexts,
             spans,
             ..
-        } = open(alloc, files, name)?;
-        let kept = no_pages(alloc)?;
-        let buffer = vec![in alloc; 0u8; PAGE_BYTES]?;
-        Ok(Pages {
+        } = contents;
+        Pages {
             alloc,
             files,
             name,
@@ -105,12 +115,12 @@ impl<'a, F: Files> Pages<'a, F> {
             spans,
             kept,
             buffer,
-        })
+        }
     }
 
     /// The native ids of the core's threads, which rise.
     pub fn contexts(&self) -> &Natives
-        ensures { result.now ≡ self.now.contexts }
+        ensures { result.now ≡ contexts_of self.now }
     {
         &self.contexts
     }

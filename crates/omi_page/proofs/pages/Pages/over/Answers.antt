@@ -1,23 +1,21 @@
-use Rattle.std.proofs.Common.{◌≡◌, List, ℕ, Some, sym, ap, ◌∙◌, subst}
+use Rattle.std.proofs.Common.{◌≡◌, ap, ◌∙◌}
 use Rattle.std.proofs.lemmas.Result.{err_from_is_err_and}
-use Rattle.omi_page.specs.Told.{told_by_file}
-use Rattle.omi_page.proofs.OpenedFiles.{core_opens, fault_of, read_core, same_parts, tells_core, none_kept}
+use Rattle.omi_page.proofs.OpenedFiles.{tells_core}
 use Rattle.omi_page.proofs.pages.Pages.over.Goals as goal
 
-pub returns-in_err-len-clause-accepts : goal.returns-in_err-len-clause-accepts
-returns-in_err-len-clause-accepts g c = λ bytes core holds is.
+pub returns-in_err-opened-clause-accepts : goal.returns-in_err-opened-clause-accepts
+returns-in_err-opened-clause-accepts g c = λ bytes core holds is.
     let p = err_from_is_err_and c.from_residual.result c.from_residual.ensures.1 in
-    rw (p.1, p.2) (core_opens c.in_err-len.field-0.0 bytes core _ (c.in_err-len.ensures.read bytes holds) is)
-
-pub returns-in_err-len-clause-fault : goal.returns-in_err-len-clause-fault
-returns-in_err-len-clause-fault g c = λ bytes holds.
-    let p = err_from_is_err_and c.from_residual.result c.from_residual.ensures.1 in
-    rw (p.1, p.2) (fault_of c.in_err-len.field-0.0 bytes (c.in_err-len.ensures.read bytes holds))
+    rw (p.1, p.2) (c.in_err-opened.ensures.accepts bytes core holds is)
 
 pub returns-clause-contexts : goal.returns-clause-contexts
-returns-clause-contexts g c = λ bytes core holds is.
-    ap (λ p. p.contexts) (same_parts bytes _ _ (c.in_ok-len.ensures.read bytes holds) (read_core bytes core is))
+returns-clause-contexts g c = λ bytes core holds is. c.of.ensures.contexts ∙ c.in_ok-opened.ensures.contexts bytes core holds is
 
 pub returns-clause-told : goal.returns-clause-told
 returns-clause-told g c = λ bytes core holds is.
-    tells_core _ bytes core (ap (λ t. t c.args.name.now) c.in_ok-len.ensures.same ∙ holds) is
+    tells_core _ bytes core
+    ((λ i. g.F.Files.told (c.of.ensures.same i) (c.of.ensures.same_name i)) ∙ ap (λ t. t c.args.name.now) c.in_ok-opened.ensures.same ∙ holds) is
+
+pub returns-clause-refuses : goal.returns-clause-refuses
+returns-clause-refuses g c = λ bytes at why holds refused.
+    let never = c.in_ok-opened.ensures.refuses bytes at why holds refused in absurd cc

@@ -2,7 +2,7 @@ use Rattle.std.proofs.Common.{◌≡◌, List, ℕ, Some, arith, ap, ◌∙◌}
 use Rattle.std.proofs.lemmas.Result.{err_from_is_err_and}
 use Rattle.omi_page.specs.Outcomes.{Holds}
 use Rattle.omi_page.proofs.WholeFiles.{header_fails, contexts_fail, segments_fail, file_whole, file_trailing}
-use Rattle.omi_page.proofs.opening.open.Goals as goal
+use Rattle.omi_page.proofs.opening.read_contents.Goals as goal
 
 pub returns-in_err-counts-clause-read : goal.returns-in_err-counts-clause-read
 returns-in_err-counts-clause-read g c = λ bytes told.

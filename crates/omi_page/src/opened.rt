@@ -1,0 +1,73 @@
+//! A core file that was opened: what stands in it beside its words, and room for pages.
+
+ghost use Rattle.std.specs.Prelude.{◌≡◌, ◌≤◌, List, ℕ, Some, None, IfOk, IsOk, IfErr, IsErrOf, Err, vec_len, []};
+ghost use Rattle.omi_outside.specs.Outside.{HasCause};
+ghost use Rattle.omi_corefile.specs.Spelling.{Core};
+ghost use Rattle.omi_corefile.specs.Refusals.{CoreRefused};
+ghost use Rattle.omi_corefile.specs.declared.core_image.CoreImage.{CoreImage};
+ghost use Rattle.omi_corefile.specs.declared.fault.CoreFault.{CoreFault};
+ghost use Rattle.omi_page.specs.declared.limits.TheConstants.{PAGE_BYTES};
+ghost use Rattle.omi_page.specs.Outcomes.{Holds, IsFaultOf, UnlessFree};
+ghost use Rattle.omi_page.specs.Paging.{IsOpened};
+
+use crate::keeping::Kept;
+use crate::opening::{Contents, read_contents};
+use crate::{MOST_PAGES, PAGE_BYTES, PageError};
+use lru::LruCache;
+use omi_list::OutOfMemory;
+use omi_outside::Files;
+use std::alloc::Global;
+use std::num::NonZeroUsize;
+
+/// A core file that was opened. All memory that its pages need is taken, but for the pages that are kept.
+#[derive(Drop)]
+pub struct Opened {
+    pub alloc: Global,
+    pub contents: Contents,
+    pub kept: Kept,
+    pub buffer: Vec<u8>,
+    pub ghost room: { vec_len buffer ≡ PAGE_BYTES },
+    pub ghost none: { kept.entries ≡ [] },
+}
+
+/// Room for the pages that are kept.
+fn no_pages(alloc: Global) -> Result<Kept, OutOfMemory>
+    ensures { IfOk result (λ kept. kept.entries ≡ []) }
+{
+    let most = NonZeroUsize::new(MOST_PAGES).unwrap();
+    LruCache::sparse(alloc, most)
+}
+
+/// Opens a core file. It reads the header, the contexts, and each segment's start address and number of words, and no word.
+pub fn open<F: Files>(alloc: Global, files: &mut F, name: &str) -> Result<Opened, PageError>
+    // What is answered of a file that is a core, of one that isn't, and of one that isn't there.
+    ensures accepts { (bytes : List ℕ) (c : CoreImage) → Holds (F.told files.old name.now) bytes
+        → Core bytes c → UnlessFree result (IsOk result) }
+    ensures contexts { (bytes : List ℕ) (c : CoreImage)
+        → Holds (F.told files.old name.now) bytes → Core bytes c
+        → IfOk result (λ opened. opened.contents.contexts ≡ c.contexts) }
+    ensures fault { (bytes : List ℕ) → Holds (F.told files.old name.now) bytes
+        → IfErr result (IsFaultOf bytes) }
+    ensures refuses { (bytes : List ℕ) (at : ℕ) (why : CoreFault)
+        → Holds (F.told files.old name.now) bytes → CoreRefused bytes at why
+        → UnlessFree result (result ≡ Err (PageError.Fault at why)) }
+    ensures missing { F.told files.old name.now ≡ Some None
+        → UnlessFree result (result ≡ Err PageError.NoFile) }
+    ensures opened { IfOk result (λ opened. IsOpened (F.told files.new name.now) opened.contents) }
+
+    // No bytes change. A fault is counted as one of reading.
+    ensures same { F.told files.new ≡ F.told files.old }
+    ensures cause { HasCause (F.reads files.old) (F.reads files.new)
+        (IsErrOf result PageError.Failed) }
+    ensures writes { F.writes files.new ≡ F.writes files.old }
+{
+    let contents = read_contents(alloc, files, name)?;
+    let kept = no_pages(alloc)?;
+    let buffer = vec![in alloc; 0u8; PAGE_BYTES]?;
+    Ok(Opened {
+        alloc,
+        contents,
+        kept,
+        buffer,
+    })
+}
