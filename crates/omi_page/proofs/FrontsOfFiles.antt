@@ -1,5 +1,5 @@
 -- A step of reading gives of a front of what is left, which has all that the step takes, what it gives of all that is left.
-use Rattle.std.proofs.Common.{◌≡◌, ℕ, ◌+◌, ◌-◌, ◌*◌, ◌<◌, ◌≤◌, cond, eqb, ltb, List, ◌++◌, length, take, drop, min, Result, Ok, Err, refl, sym, ap, subst, ◌∙◌, inl, inr, arith, take_all}
+use Rattle.std.proofs.Common.{◌≡◌, ℕ, ◌+◌, ◌-◌, ◌*◌, ◌≤◌, cond, eqb, ltb, List, ◌++◌, length, take, drop, min, Ok, Err, refl, sym, ap, subst, ◌∙◌, inl, inr, arith, take_all}
 use Rattle.std.specs.Prelude.{nat_le, ◌&&◌}
 use Rattle.std.specs.Int.{w64}
 use Rattle.std.proofs.lemmas.Bool.{cases_lt}
@@ -9,12 +9,12 @@ use Rattle.omi_corefile.specs.declared.fault.CoreError.{CoreError}
 use Rattle.omi_corefile.specs.declared.fault.CoreError.TheVariants.{Fault, OutOfMemory}
 use Rattle.omi_corefile.specs.Limits.{is_start}
 use Rattle.omi_corefile.specs.Outcomes.{Fails as CoreFails}
-use Rattle.omi_corefile.specs.Refusals.{Refusal, Step, ◌>>=◌, start_at, word_count_at, contexts_at, Header, header_at, Left}
+use Rattle.omi_corefile.specs.Refusals.{Step, contexts_at, header_at, Left}
 use Rattle.omi_corefile.proofs.Fronts.{Same, Leaves, Allowed, Few, same_then, same_field, same_header, same_contexts}
 use Rattle.omi_page.specs.Bounds.{bounds_at}
 use Rattle.omi_page.specs.Faults.{page_error_of}
 use Rattle.omi_page.specs.Outcomes.{Fails}
-use Rattle.omi_page.proofs.Taking.{Took, TookHeader, TookBounds, header_took, contexts_took, bounds_took}
+use Rattle.omi_page.proofs.Taking.{Took, header_took, contexts_took, bounds_took}
 
 -- a step that takes so many bytes gives the same of a front that has them
 pub record IsLocal {A : Type 0} (n : ℕ) (step : ℕ → List ℕ → Step A) (Enough : A → ℕ → Type 0) : Type 0 where

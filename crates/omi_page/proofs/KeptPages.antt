@@ -1,5 +1,5 @@
 -- What is kept after a look-up and after a page more.
-use Rattle.std.proofs.Common.{◌≡◌, ℕ, true, eqb, List, Contains, Result, Ok, Err, OnOk, OnErr, Some, refl, sym, ap, subst, ◌∙◌, ◌⊎◌, inl, inr, nat_eq}
+use Rattle.std.proofs.Common.{◌≡◌, ℕ, true, List, Contains, Result, Ok, Err, OnOk, OnErr, Some, sym, subst, ◌⊎◌, inl, inr, nat_eq}
 use Rattle.std.specs.Map.{lookup}
 use Rattle.std.proofs.lemmas.Bool.{eqb-true}
 use Rattle.lru.specs.LruCache.{LruCache, lru_cache, put_entries}

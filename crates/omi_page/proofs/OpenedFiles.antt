@@ -1,10 +1,9 @@
 -- What is known of a file once it was opened, or refused.
-use Rattle.std.proofs.Common.{◌≡◌, ℕ, ◌<◌, List, [], Contains, Result, Ok, Err, Some, refl, sym, ap, ◌∙◌, length, arith}
+use Rattle.std.proofs.Common.{◌≡◌, ℕ, List, [], Contains, Ok, sym, ap, ◌∙◌, arith}
 use Rattle.omi_outside.specs.Outside.{Told as FileTold}
 use Rattle.omi_corefile.specs.declared.core_image.CoreImage.{CoreImage}
-use Rattle.omi_corefile.specs.declared.fault.CoreFault.{CoreFault}
 use Rattle.omi_corefile.specs.Spelling.{Core}
-use Rattle.omi_corefile.specs.Refusals.{Parts, reading, CoreRefused}
+use Rattle.omi_corefile.specs.Refusals.{Parts, reading}
 use Rattle.omi_corefile.proofs.Numbers.{ok_is}
 use Rattle.omi_corefile.proofs.FileLaws.{parts_of, reading_again}
 use Rattle.omi_calls.specs.Memory.{told_by}

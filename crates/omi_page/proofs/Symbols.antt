@@ -1,5 +1,5 @@
 -- The words of a symbol, read one after the other.
-use Rattle.std.proofs.Common.{◌≡◌, ℕ, ◌+◌, List, [], ◌∷◌, Option, ap, ◌∙◌, arith}
+use Rattle.std.proofs.Common.{◌≡◌, ℕ, ◌+◌, [], ◌∷◌, Option, ap, ◌∙◌, arith}
 use Rattle.omi_calls.specs.Told.{Words, word_at}
 use Rattle.omi_calls.specs.SymbolTable.{words_from}
 use Rattle.omi_page.specs.AllWords.{all_words}

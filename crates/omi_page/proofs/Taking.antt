@@ -1,5 +1,5 @@
 -- How many bytes each step of reading a core file takes.
-use Rattle.std.proofs.Common.{◌≡◌, ℕ, zero, suc, ◌+◌, ◌-◌, ◌*◌, ◌<◌, ◌≤◌, Bool, true, false, cond, eqb, ltb, leb, List, [], ◌∷◌, length, take, drop, Result, Ok, Err, refl, sym, ap, subst, ◌∙◌, arith}
+use Rattle.std.proofs.Common.{◌≡◌, ℕ, zero, suc, ◌+◌, ◌-◌, ◌*◌, ◌≤◌, true, cond, eqb, ltb, leb, List, [], ◌∷◌, length, take, drop, Ok, Err, sym, ap, subst, ◌∙◌, arith}
 use Rattle.std.specs.Prelude.{codes, nat_eq, ◌&&◌}
 use Rattle.std.specs.List.{starts_with}
 use Rattle.std.specs.Int.{Width, w16, w32, w64, byte_len, from_le_bytes}
@@ -8,7 +8,7 @@ use Rattle.std.proofs.lemmas.List.{drop-drop, length-drop}
 use Rattle.omi_corefile.specs.declared.fault.CoreFault.TheVariants.{BadMagic, Version, Order, SegmentOrder, BadContext, TooLarge}
 use Rattle.omi_corefile.specs.declared.limits.TheConstants.{MOST_CONTEXTS, MOST_SEGMENTS}
 use Rattle.omi_corefile.specs.Limits.{is_start}
-use Rattle.omi_corefile.specs.Refusals.{Refusal, Step, ◌>>=◌, place, short, number_at, byte_at, magic_at, version_at, order_at, context_count_at, segment_count_at, id_at, start_at, word_count_at, row_at, contexts_at, Header, header_at, Left}
+use Rattle.omi_corefile.specs.Refusals.{◌>>=◌, place, short, number_at, byte_at, magic_at, version_at, order_at, context_count_at, segment_count_at, id_at, start_at, word_count_at, row_at, Header, header_at, Left}
 use Rattle.omi_corefile.proofs.Numbers.{bind_ok, bind_again, passed, not_failed, ok_is, judged_taken}
 use Rattle.omi_page.specs.Bounds.{bounds_at}
 

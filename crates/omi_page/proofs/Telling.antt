@@ -1,6 +1,6 @@
 -- What a core file tells, by the places of its words.
-use Rattle.std.proofs.Common.{◌≡◌, ℕ, zero, suc, ◌+◌, ◌-◌, ◌*◌, ◌/◌, ◌%◌, ◌<◌, ◌≤◌, Bool, true, false, cond, ltb, leb, eqb, List, [], ◌∷◌, Option, Some, None, Result, Ok, Err, IsSome, refl, sym, ap, subst, ◌∙◌, arith, inl, inr}
-use Rattle.std.specs.Prelude.{slice_get, ◌&&◌, ◌==◌, IsTrue}
+use Rattle.std.proofs.Common.{◌≡◌, ℕ, zero, suc, ◌+◌, ◌-◌, ◌*◌, ◌/◌, ◌%◌, ◌<◌, ◌≤◌, true, false, ltb, leb, eqb, List, [], ◌∷◌, Option, Some, None, Result, Ok, Err, IsSome, refl, sym, ap, subst, ◌∙◌, arith, inl, inr}
+use Rattle.std.specs.Prelude.{slice_get}
 use Rattle.std.specs.Int.{w64, from_le_bytes}
 use Rattle.std.specs.Option.{option_or, option_map, is_some}
 use Rattle.std.proofs.lemmas.Bool.{cases_lt, lt-ltb, le-ltb, le-leb, eq-eqb, ne_eqb}
@@ -12,7 +12,7 @@ use Rattle.omi_calls.specs.SymbolTable.{symbol_in}
 use Rattle.omi_calls.specs.CoreWords.{word_of, words_of}
 use Rattle.omi_page.specs.declared.span.Span.{Span}
 use Rattle.omi_page.specs.Outcomes.{Holds}
-use Rattle.omi_page.specs.Spans.{eight_at, word_there, words_there, segment_there, segments_there, is_in, place_of, place_in}
+use Rattle.omi_page.specs.Spans.{eight_at, word_there, words_there, segment_there, segments_there, place_of, place_in}
 use Rattle.omi_page.specs.Told.{told_by_reading, told_by_file}
 use Rattle.omi_page.specs.Paging.{IsPage, ArePartsOf}
 

@@ -1,10 +1,10 @@
 -- A whole core file, read field by field.
-use Rattle.std.proofs.Common.{◌≡◌, ℕ, ◌+◌, ◌-◌, ◌<◌, ◌≤◌, true, false, cond, eqb, List, length, drop, Result, Ok, Err, refl, sym, ap, subst, ◌∙◌, arith}
+use Rattle.std.proofs.Common.{◌≡◌, ℕ, ◌<◌, ◌≤◌, true, false, eqb, List, length, drop, Result, Ok, Err, refl, sym, ap, subst, ◌∙◌, arith}
 use Rattle.std.proofs.lemmas.Bool.{eq-eqb, ne_eqb}
 use Rattle.std.proofs.lemmas.List.{length-drop}
 use Rattle.omi_corefile.specs.declared.segment.Segment.{Segment}
 use Rattle.omi_corefile.specs.declared.fault.CoreFault.TheVariants.{Trailing}
-use Rattle.omi_corefile.specs.Refusals.{Refusal, Step, ◌>>=◌, place, trailing, contexts_at, segments_at, Header, header_at, Parts, parts_at, reading}
+use Rattle.omi_corefile.specs.Refusals.{Refusal, ◌>>=◌, place, contexts_at, segments_at, Header, header_at, Parts, parts_at, reading}
 use Rattle.omi_corefile.proofs.Numbers.{bind_again}
 use Rattle.omi_corefile.proofs.Readings.{bind_failed}
 use Rattle.omi_corefile.proofs.FileLaws.{after_header, after_contexts, after_segments, ended}

@@ -1,6 +1,6 @@
 -- What an opening call answers beside what reading a core file gives. Want of memory and a failed read may stand in place of any
 -- answer.
-use Rattle.std.specs.Prelude.{◌≡◌, ℕ, List, length, Option, Some, Result, Ok, Err}
+use Rattle.std.specs.Prelude.{◌≡◌, ℕ, List, Option, Some, Result, Ok, Err}
 use Rattle.omi_outside.specs.Outside.{Told, content_len}
 use Rattle.omi_corefile.specs.Refusals.{Refusal, CoreRefused}
 use Rattle.omi_page.specs.declared.fault.PageError.{PageError}

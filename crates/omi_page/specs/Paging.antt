@@ -1,5 +1,5 @@
 -- What is kept of a core file, and that it is right for the file's bytes.
-use Rattle.std.specs.Prelude.{◌≡◌, ◌⊎◌, ℕ, ◌+◌, ◌*◌, ◌%◌, ◌<◌, List, length, Some, Ok, Contains, Vec}
+use Rattle.std.specs.Prelude.{◌≡◌, ℕ, ◌+◌, ◌*◌, ◌%◌, ◌<◌, List, length, Some, Ok, Contains, Vec}
 use Rattle.std.specs.declared.alloc.Global.{Global}
 use Rattle.omi_outside.specs.Outside.{Told}
 use Rattle.omi_corefile.specs.Refusals.{Parts, reading}

@@ -1,5 +1,5 @@
 -- What a core file tells as a target: the order, the words and the symbols of the core that its bytes are.
-use Rattle.std.specs.Prelude.{ℕ, List, Option, Some, None, Result, Ok, Err}
+use Rattle.std.specs.Prelude.{Some, None, Result, Ok, Err}
 use Rattle.omi_outside.specs.Outside.{Told as FileTold}
 use Rattle.omi_corefile.specs.Refusals.{Refusal, Parts, reading}
 use Rattle.omi_calls.specs.Told.{Told}

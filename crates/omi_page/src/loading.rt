@@ -67,7 +67,12 @@ fn load_part<F: Files>(
     }
     let from = (low - base) as usize;
     let to = (high - base) as usize;
-    fill(files, name, span.place + (low - span.start), &mut buffer[from..to])
+    fill(
+        files,
+        name,
+        span.place + (low - span.start),
+        &mut buffer[from..to],
+    )
 }
 
 /// Reads a page, segment by segment, into a buffer.

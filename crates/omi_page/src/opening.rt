@@ -10,10 +10,10 @@ ghost use Rattle.omi_page.specs.Outcomes.{Gives, IsLength, Holds, UnlessFree};
 ghost use Rattle.omi_page.specs.Spans.{segment_there, segments_there};
 ghost use Rattle.omi_page.specs.Bounds.{bounds_at, EndWithin};
 
+use crate::PageError;
 use crate::limits::{CONTEXT_BYTES, HEADER_BYTES, SPAN_BYTES};
 use crate::reading::front;
 use crate::span::{Span, SpanList};
-use crate::PageError;
 use omi_corefile::decoding::{Counts, contexts, header};
 use omi_corefile::fields::short;
 use omi_corefile::judging::{start, word_count};

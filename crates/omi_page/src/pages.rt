@@ -51,11 +51,7 @@ impl<'a, F: Files> Pages<'a, F> {
     ghost use Rattle.omi_page.specs.Borrowed.{contexts_of, files_of, name_of};
 
     /// Opens a core file. It reads the header, the contexts, and each segment's start address and number of words, and no word.
-    pub fn over(
-        alloc: Global,
-        files: &'a mut F,
-        name: &'a str,
-    ) -> Result<Pages<'a, F>, PageError>
+    pub fn over(alloc: Global, files: &'a mut F, name: &'a str) -> Result<Pages<'a, F>, PageError>
         // What is told of a file that is a core, and what is answered of one that isn't or isn't there.
         ensures accepts { (bytes : List ℕ) (c : CoreImage) → Holds (F.told files.old name.now) bytes
             → Core bytes c → UnlessFree result (IsOk result) }

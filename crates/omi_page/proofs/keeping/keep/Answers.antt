@@ -1,4 +1,4 @@
-use Rattle.std.proofs.Common.{ap, ◌∙◌, inl, inr, ◌⊎◌}
+use Rattle.std.proofs.Common.{ap, ◌∙◌, inl, inr}
 use Rattle.omi_page.proofs.KeptPages.{kept_more}
 use Rattle.omi_page.proofs.keeping.keep.Goals as goal
 

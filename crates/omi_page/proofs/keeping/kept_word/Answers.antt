@@ -1,4 +1,4 @@
-use Rattle.std.proofs.Common.{◌≡◌, ◌≤◌, ◌+◌, Contains, ap, ◌∙◌, arith, length, nat_eq, subst, sym}
+use Rattle.std.proofs.Common.{Contains, ap, ◌∙◌, arith, length, nat_eq, subst, sym}
 use Rattle.lru.proofs.CallerLemmas.{Contains-promoted}
 use Rattle.omi_page.specs.Spans.{eight_at}
 use Rattle.omi_page.proofs.KeptPages.{looked_up}
@@ -15,9 +15,11 @@ word_of-requires c =
     omega (arith, long, ap length c.deref.ensures.value, c.requires.within)
 
 pub returns-clause-word : goal.returns-clause-word
-returns-clause-word c =
-    (c.in_ok-items.items.now, looked_up c.args.kept.now.entries c.args.page c.in_ok-items.items.now (sym c.in_ok-items.ensures.value),
-    c.word_of.ensures ∙ ap (λ items. eight_at items c.args.offset) c.deref.ensures.value)
+returns-clause-word c = (
+  c.in_ok-items.items.now,
+  looked_up c.args.kept.now.entries c.args.page c.in_ok-items.items.now (sym c.in_ok-items.ensures.value),
+  c.word_of.ensures ∙ ap (λ items. eight_at items c.args.offset) c.deref.ensures.value,
+)
 
 pub returns-clause-others : goal.returns-clause-others
 returns-clause-others c = λ other items contained.

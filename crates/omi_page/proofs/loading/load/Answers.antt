@@ -1,4 +1,4 @@
-use Rattle.std.proofs.Common.{rules, ◌≡◌, ◌+◌, ◌-◌, ◌*◌, List, ℕ, Some, arith, ap, ◌∙◌}
+use Rattle.std.proofs.Common.{rules, ◌+◌, ◌-◌, ◌*◌, arith, ap, ◌∙◌}
 use Rattle.omi_page.specs.Outcomes.{Holds}
 use Rattle.omi_page.proofs.Placing.{page_more}
 use Rattle.omi_page.proofs.loading.load.Goals as goal

@@ -1,4 +1,4 @@
-use Rattle.std.proofs.Common.{◌≡◌, ◌-◌, ◌+◌, length, take, drop, arith, ap, ◌∙◌}
+use Rattle.std.proofs.Common.{◌-◌, ◌+◌, take, drop, arith, ap, ◌∙◌}
 use Rattle.omi_page.proofs.Placing.{part_here, part_others, part_length}
 use Rattle.omi_page.proofs.Answering.{on_ok}
 use Rattle.omi_page.proofs.loading.load_part.Goals as goal

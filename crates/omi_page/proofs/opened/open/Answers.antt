@@ -1,7 +1,6 @@
-use Rattle.std.proofs.Common.{◌≡◌, List, ℕ, Some, sym, ap, ◌∙◌, subst}
+use Rattle.std.proofs.Common.{sym, ap, ◌∙◌}
 use Rattle.std.proofs.lemmas.Result.{err_from_is_err_and}
-use Rattle.omi_page.specs.Told.{told_by_file}
-use Rattle.omi_page.proofs.OpenedFiles.{core_opens, fault_of, read_core, same_parts, tells_core, none_kept}
+use Rattle.omi_page.proofs.OpenedFiles.{core_opens, fault_of, read_core, same_parts}
 use Rattle.omi_page.proofs.opened.open.Goals as goal
 
 pub returns-in_err-contents-clause-accepts : goal.returns-in_err-contents-clause-accepts

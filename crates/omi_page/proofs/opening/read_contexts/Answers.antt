@@ -1,4 +1,4 @@
-use Rattle.std.proofs.Common.{Some, ◌+◌, ◌*◌, arith, length, length-take}
+use Rattle.std.proofs.Common.{Some, ◌+◌, ◌*◌, arith, length-take}
 use Rattle.std.proofs.lemmas.Result.{err_from_is_err_and}
 use Rattle.omi_corefile.specs.Refusals.{contexts_at}
 use Rattle.omi_page.proofs.FrontsOfFiles.{front_value, front_fault, local_contexts}

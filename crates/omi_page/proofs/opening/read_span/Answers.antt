@@ -1,6 +1,5 @@
-use Rattle.std.proofs.Common.{Some, ◌+◌, ◌*◌, ◌≡◌, arith, length, length-take, subst, sym, ap}
+use Rattle.std.proofs.Common.{Some, ◌+◌, ◌≡◌, arith, length-take}
 use Rattle.std.proofs.lemmas.Result.{err_from_is_err_and}
-use Rattle.omi_corefile.specs.Refusals.{segment_at}
 use Rattle.omi_page.specs.Bounds.{bounds_at}
 use Rattle.omi_page.proofs.FrontsOfFiles.{front_value, front_fault, local_bounds}
 use Rattle.omi_page.proofs.Segments.{segment_whole, segment_short, segment_fault}

@@ -1,8 +1,7 @@
-use Rattle.std.proofs.Common.{rules, ◌≡◌, ◌+◌, ◌*◌, List, ℕ, Some, arith, ap, ◌∙◌, subst, sym}
+use Rattle.std.proofs.Common.{rules, arith, ap, ◌∙◌, subst, sym}
 use Rattle.std.proofs.lemmas.Result.{err_from_is_err_and}
 use Rattle.omi_corefile.specs.Refusals.{segment_at, left_after, segments_at}
 use Rattle.omi_corefile.proofs.Rows.{row_ends}
-use Rattle.omi_page.specs.declared.span.Span.{Span}
 use Rattle.omi_page.specs.Outcomes.{Holds}
 use Rattle.omi_page.specs.Bounds.{EndWithin}
 use Rattle.omi_page.specs.Spans.{segments_there}

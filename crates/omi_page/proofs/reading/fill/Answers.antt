@@ -1,4 +1,4 @@
-use Rattle.std.proofs.Common.{rules, ◌≡◌, ◌+◌, Some, List, ℕ, arith, ap, ◌∙◌}
+use Rattle.std.proofs.Common.{rules, arith, ap, ◌∙◌}
 use Rattle.omi_page.specs.Outcomes.{Holds}
 use Rattle.omi_page.proofs.Pieces.{read_on}
 use Rattle.omi_page.proofs.reading.fill.Goals as goal

@@ -1,4 +1,4 @@
-use Rattle.std.proofs.Common.{◌≡◌, ap, ◌∙◌}
+use Rattle.std.proofs.Common.{ap, ◌∙◌}
 use Rattle.omi_page.proofs.Symbols.{five_are}
 use Rattle.omi_page.proofs.pages.Pages.five_words.Goals as goal
 

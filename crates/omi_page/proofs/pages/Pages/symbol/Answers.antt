@@ -1,4 +1,4 @@
-use Rattle.std.proofs.Common.{rules, ◌≡◌, ◌+◌, ◌-◌, ◌*◌, Some, sym, ap, ◌∙◌, subst, arith, cond}
+use Rattle.std.proofs.Common.{◌≡◌, ◌+◌, ◌-◌, ◌*◌, Some, sym, ap, ◌∙◌, subst, arith, cond}
 use Rattle.std.specs.Prelude.{slice_index}
 use Rattle.omi_calls.proofs.Symbols.{Reads, unmapped_table, reads_more, not_mapped, looked_up}
 use Rattle.omi_page.proofs.pages.Pages.symbol.Goals as goal

@@ -1,5 +1,4 @@
-use Rattle.std.proofs.Common.{◌≡◌, refl, sym, ap, ◌∙◌, Some}
-use Rattle.omi_calls.specs.Told.{number_of}
+use Rattle.std.proofs.Common.{refl, sym, ap, ◌∙◌, Some}
 use Rattle.omi_page.proofs.Telling.{told_order}
 use Rattle.omi_page.proofs.pages.Pages.word.Goals as goal
 

@@ -1,4 +1,4 @@
-use Rattle.std.proofs.Common.{rules, ◌≡◌, ◌+◌, ◌/◌, ◌%◌, length, false, inl, inr, sym, ap, ◌∙◌, subst, arith}
+use Rattle.std.proofs.Common.{◌≡◌, ◌/◌, ◌%◌, length, inl, inr, sym, ap, ◌∙◌, subst}
 use Rattle.omi_page.specs.Spans.{eight_at}
 use Rattle.omi_page.specs.Paging.{IsPage}
 use Rattle.omi_page.proofs.Answering.{not_err, lent_whole}

@@ -1,4 +1,4 @@
-use Rattle.std.proofs.Common.{◌≡◌, sym, ap, ◌∙◌}
+use Rattle.std.proofs.Common.{sym, ap, ◌∙◌}
 use Rattle.omi_page.proofs.Telling.{tells_symbols}
 use Rattle.omi_page.proofs.pages.PagesCallbacks.symbol_addr_lookup.Goals as goal
 

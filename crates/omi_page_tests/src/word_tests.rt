@@ -1,0 +1,168 @@
+//! Words and symbols, against those of the core in memory, and how much of the file is read.
+
+use crate::cores::{SEGMENTS, three_segments};
+use crate::sparing::Sparing;
+use omi_calls::{Callbacks, Got, MemCalls, Place};
+use omi_corefile::decode;
+use omi_outside::{Call, MemFiles};
+use omi_page::{PageError, Pages};
+use std::alloc::Global;
+use std::test::Fail;
+
+/// Whether two targets answer the same of each eighth address from one to another, and of one that is unaligned.
+fn alike<A: Callbacks, B: Callbacks>(a: &mut A, b: &mut B, from: u64, count: u64) -> bool {
+    let mut same = true;
+    for k in 0..count {
+        let addr = from.wrapping_add(k.wrapping_mul(8));
+        let mut first = [0u8; 8];
+        let mut second = [0u8; 8];
+        let one = a.read_memory(addr, &mut first);
+        let other = b.read_memory(addr, &mut second);
+        same = same && one == other && first == second;
+    }
+    let mut left = [0u8; 8];
+    let unaligned = a.read_memory(from.wrapping_add(12), &mut left);
+    same && unaligned == Got::NotMapped
+}
+
+/// Whether pages over a file, read so many bytes at a time, tell the words and symbols of the core in memory.
+fn pages_alike(alloc: Global, bytes: &[u8], most: usize) -> bool {
+    let Ok(core) = decode(alloc, bytes) else {
+        return false;
+    };
+    let mut calls = MemCalls::over(core, Vec::new(alloc));
+    let Ok(mut files) = Sparing::with(alloc, bytes, most, &[]) else {
+        return false;
+    };
+    let Ok(mut pages) = Pages::over(alloc, &mut files, "c") else {
+        return false;
+    };
+    let mut same = pages.contexts().as_slice() == [5, 9].as_slice();
+    for (start, count) in SEGMENTS {
+        same = same
+            && alike(
+                &mut pages,
+                &mut calls,
+                start.wrapping_sub(16),
+                count.wrapping_add(4),
+            );
+    }
+    let layout = pages.symbol_addr_lookup("omi_layout");
+    let other = pages.symbol_addr_lookup("omi_layou");
+    same && layout == Place::At(0x10158) && other == Place::NoSuch
+}
+
+#[test]
+fn the_words_of_a_core_in_memory(rt: HostRuntime) -> Result<(), Fail> {
+    let bytes = three_segments(rt.alloc())?;
+    assert!(rt; pages_alike(rt.alloc(), &bytes, 4096));
+    Ok(())
+}
+
+#[test]
+fn short_reads(rt: HostRuntime) -> Result<(), Fail> {
+    let bytes = three_segments(rt.alloc())?;
+    assert!(rt; pages_alike(rt.alloc(), &bytes, 1));
+    assert!(rt; pages_alike(rt.alloc(), &bytes, 7));
+    Ok(())
+}
+
+/// How many bytes are read where the file is opened, and then a word of its last page is read twice.
+fn bytes_read(alloc: Global, bytes: &[u8]) -> Option<(u64, bool)> {
+    let Ok(mut files) = Sparing::with(alloc, bytes, 4096, &[]) else {
+        return None;
+    };
+    let mut word = [0u8; 8];
+    let twice = match Pages::over(alloc, &mut files, "c") {
+        Ok(mut pages) => {
+            let first = pages.read_memory(0x21000, &mut word);
+            let second = pages.read_memory(0x21000, &mut word);
+            first == Got::Bytes && second == Got::Bytes
+        }
+        Err(_) => false,
+    };
+    Some((files.given, twice && word == 0x63000u64.to_le_bytes()))
+}
+
+#[test]
+fn fewer_bytes_than_the_file_has(rt: HostRuntime) -> Result<(), Fail> {
+    let bytes = three_segments(rt.alloc())?;
+    assert_eq!(rt; bytes.len(), 4984);
+    // The header, two contexts, the bounds of three segments, and one word.
+    assert_eq!(rt; bytes_read(rt.alloc(), &bytes), Some((88, true)));
+    Ok(())
+}
+
+/// What two reads of a word answer, and how the opening ends, where the reads of these numbers fail.
+fn failing(alloc: Global, bytes: &[u8], numbers: &[u64]) -> Option<Result<(Got, Got), PageError>> {
+    let Ok(mut files) = Sparing::with(alloc, bytes, 4096, numbers) else {
+        return None;
+    };
+    let mut word = [0u8; 8];
+    Some(match Pages::over(alloc, &mut files, "c") {
+        Ok(mut pages) => {
+            let first = pages.read_memory(0x10800, &mut word);
+            Ok((first, pages.read_memory(0x10800, &mut word)))
+        }
+        Err(error) => Err(error),
+    })
+}
+
+#[test]
+fn a_read_that_fails(rt: HostRuntime) -> Result<(), Fail> {
+    let bytes = three_segments(rt.alloc())?;
+    for number in 1..6 {
+        let answer = failing(rt.alloc(), &bytes, &[number]);
+        assert_eq!(rt; answer, Some(Err(PageError::Failed)));
+    }
+    let second_part = failing(rt.alloc(), &bytes, &[7]);
+    assert_eq!(rt; second_part, Some(Ok((Got::Failed, Got::Bytes))));
+    let never = failing(rt.alloc(), &bytes, &[8]);
+    assert_eq!(rt; never, Some(Ok((Got::Bytes, Got::Bytes))));
+    Ok(())
+}
+
+/// Whether there are no pages over a name, with this error, where the call of `size` of this number fails.
+fn is_not_opened(alloc: Global, number: u64, wanted: PageError) -> bool {
+    let mut failing = Vec::new(alloc);
+    if failing.push((Call::Size, number)).is_err() {
+        return false;
+    }
+    let mut files = MemFiles::new(alloc, failing);
+    match Pages::over(alloc, &mut files, "c") {
+        Ok(_) => false,
+        Err(error) => error == wanted,
+    }
+}
+
+#[test]
+fn no_file(rt: HostRuntime) {
+    assert!(rt; is_not_opened(rt.alloc(), 1, PageError::Failed));
+    assert!(rt; is_not_opened(rt.alloc(), 2, PageError::NoFile));
+}
+
+/// How many bytes are read where a word of each of so many pages is read, and then one of the first page.
+fn read_of_pages(alloc: Global, bytes: &[u8], pages_read: u64) -> u64 {
+    let Ok(mut files) = Sparing::with(alloc, bytes, 4096, &[]) else {
+        return 0;
+    };
+    if let Ok(mut pages) = Pages::over(alloc, &mut files, "c") {
+        let mut word = [0u8; 8];
+        for page in 0..pages_read {
+            pages.read_memory(page.wrapping_mul(4096).wrapping_add(0x10000), &mut word);
+        }
+        pages.read_memory(0x10000, &mut word);
+    }
+    files.given
+}
+
+#[test]
+fn sixteen_pages_are_kept(rt: HostRuntime) -> Result<(), Fail> {
+    let mut bytes = Vec::from_slice(rt.alloc(), b"OMPDCOR1\x01\x00\x00\x00\x01\x00\x00\x00")?;
+    bytes.extend_from_slice(&0x10000u64.to_le_bytes())?;
+    bytes.extend_from_slice(&8704u64.to_le_bytes())?;
+    bytes.resize(69664, 0)?;
+    assert_eq!(rt; read_of_pages(rt.alloc(), &bytes, 16), 65568);
+    assert_eq!(rt; read_of_pages(rt.alloc(), &bytes, 17), 73760);
+    Ok(())
+}
