@@ -1,15 +1,27 @@
--- What pages hold: the files and the name that they borrow, and the native ids.
+-- What pages hold, and what they tell and count by it.
 use Rattle.std.specs.Prelude.{ℕ, List}
 use Rattle.std.specs.Borrow.{MutBor}
 use Rattle.omi_outside.specs.declared.files.Files as files
+use Rattle.omi_calls.specs.Told.{Told}
 use Rattle.omi_page.specs.declared.pages.Pages.{Pages}
+use Rattle.omi_page.specs.Told.{told_by_file}
 
 module _ {F : Type 0} {g : files.Ghosts F} where
+  -- the files and the name that they borrow
   abbrev pub files_of : Pages F g → MutBor F
   files_of pages = pages.files
 
   abbrev pub name_of : Pages F g → List ℕ
   name_of pages = pages.name.now
 
+  -- the native ids
   abbrev pub contexts_of : Pages F g → List ℕ
   contexts_of pages = pages.contexts
+
+  -- they tell what the file tells as a target
+  abbrev pub told_of : Pages F g → Told
+  told_of pages = told_by_file (g.told pages.files.now pages.name.now)
+
+  -- a fault of theirs is a fault of reading the files
+  abbrev pub faults_counted : Pages F g → ℕ
+  faults_counted pages = g.reads pages.files.now

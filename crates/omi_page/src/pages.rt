@@ -14,7 +14,6 @@ ghost use Rattle.omi_page.specs.declared.limits.TheConstants.{PAGE_BYTES};
 ghost use Rattle.omi_page.specs.Outcomes.{IsLength, Holds, IsFaultOf, UnlessFree};
 ghost use Rattle.omi_page.specs.Bounds.{EndWithin};
 ghost use Rattle.omi_page.specs.Paging.{AreLong, ArePages, ArePartsOf, IsOpened};
-ghost use Rattle.omi_page.specs.Told.{told_by_file};
 
 use crate::keeping::{Kept, keep, kept_word, word_of};
 use crate::loading::{load, stands};
@@ -48,7 +47,7 @@ pub struct Pages<'a, F: Files> {
 }
 
 impl<'a, F: Files> Pages<'a, F> {
-    ghost use Rattle.omi_page.specs.Borrowed.{contexts_of, files_of, name_of};
+    ghost use Rattle.omi_page.specs.Borrowed.{contexts_of, files_of, name_of, told_of, faults_counted};
 
     /// Opens a core file. It reads the header, the contexts, and each segment's start address and number of words, and no word.
     pub fn over(alloc: Global, files: &'a mut F, name: &'a str) -> Result<Pages<'a, F>, PageError>
@@ -60,7 +59,7 @@ impl<'a, F: Files> Pages<'a, F> {
             → IfOk result (λ pages. contexts_of pages ≡ c.contexts) }
         ensures told { (bytes : List ℕ) (c : CoreImage) → Holds (F.told files.old name.now) bytes
             → Core bytes c
-            → IfOk result (λ pages. ⟦<Pages<'a, F> as Callbacks>⟧.told pages ≡ told_by c) }
+            → IfOk result (λ pages. told_of pages ≡ told_by c) }
         ensures fault { (bytes : List ℕ) → Holds (F.told files.old name.now) bytes
             → IfErr result (IsFaultOf bytes) }
         ensures refuses { (bytes : List ℕ) (at : ℕ) (why : CoreFault)
@@ -74,7 +73,7 @@ impl<'a, F: Files> Pages<'a, F> {
             ≡ files.entry.ghost_name) }
         ensures same_name { IfOk result (λ pages. name_of pages ≡ name.now) }
         ensures same { IfOk result (λ pages. F.told (files_of pages).now ≡ F.told files.old) }
-        ensures later { IfOk result (λ pages. F.reads files.old ≤ F.reads (files_of pages).now) }
+        ensures later { IfOk result (λ pages. F.reads files.old ≤ faults_counted pages) }
         ensures writes { IfOk result (λ pages. F.writes (files_of pages).now
             ≡ F.writes files.old) }
     {
@@ -123,9 +122,11 @@ impl<'a, F: Files> Pages<'a, F> {
 }
 
 impl<'a, F: Files> Callbacks for Pages<'a, F> {
-    ghost told = { λ pages. told_by_file (F.told pages.files.now pages.name.now) };
+    ghost use Rattle.omi_page.specs.Borrowed.{told_of, faults_counted};
 
-    ghost faults = { λ pages. F.reads pages.files.now };
+    ghost told = { told_of };
+
+    ghost faults = { faults_counted };
 
     fn read_memory(&mut self, addr: u64, to: &mut [u8; 8]) -> Got {
         if addr % 8 != 0 || !stands(&self.spans, addr) {

@@ -25,13 +25,15 @@ fn all_of(
 }
 
 impl<'a, F: Files> Pages<'a, F> {
+    ghost use Rattle.omi_page.specs.Borrowed.{told_of, faults_counted};
+
     /// The word at a byte address. None where the address is unaligned or no word stands there.
     fn word(&mut self, addr: u64) -> Result<Option<u64>, CallbackFailed>
-        ensures word { (words : Words) → (⟦<Pages<'a, F> as Callbacks>⟧.told self.old).words ≡ Some words
+        ensures word { (words : Words) → (told_of self.old).words ≡ Some words
             → IfOk result (λ word. word ≡ word_at words addr) }
-        ensures same { ⟦<Pages<'a, F> as Callbacks>⟧.told self.new ≡ ⟦<Pages<'a, F> as Callbacks>⟧.told self.old }
-        ensures cause { HasCause (⟦<Pages<'a, F> as Callbacks>⟧.faults self.old)
-            (⟦<Pages<'a, F> as Callbacks>⟧.faults self.new) (IsErr result) }
+        ensures same { told_of self.new ≡ told_of self.old }
+        ensures cause { HasCause (faults_counted self.old) (faults_counted self.new)
+            (IsErr result) }
     {
         let mut bytes = [0; 8];
         match self.read_memory(addr, &mut bytes) {
@@ -44,11 +46,11 @@ impl<'a, F: Files> Pages<'a, F> {
     /// The words of a symbol at a byte address, where each of them is mapped.
     fn five_words(&mut self, at: u64) -> Result<Option<[u64; 5]>, CallbackFailed>
         requires { at ≤ 66184 }
-        ensures words { (words : Words) → (⟦<Pages<'a, F> as Callbacks>⟧.told self.old).words ≡ Some words
+        ensures words { (words : Words) → (told_of self.old).words ≡ Some words
             → IfOk result (λ five. five ≡ words_from words at 5) }
-        ensures same { ⟦<Pages<'a, F> as Callbacks>⟧.told self.new ≡ ⟦<Pages<'a, F> as Callbacks>⟧.told self.old }
-        ensures cause { HasCause (⟦<Pages<'a, F> as Callbacks>⟧.faults self.old)
-            (⟦<Pages<'a, F> as Callbacks>⟧.faults self.new) (IsErr result) }
+        ensures same { told_of self.new ≡ told_of self.old }
+        ensures cause { HasCause (faults_counted self.old) (faults_counted self.new)
+            (IsErr result) }
     {
         let first = self.word(at)?;
         let second = self.word(at + 8)?;
@@ -61,11 +63,11 @@ impl<'a, F: Files> Pages<'a, F> {
     /// The address of the first symbol of this name. None where the count or a word of the symbols that it counts isn't mapped, where
     /// the count exceeds 16, or where no symbol has the name.
     pub fn symbol(&mut self, name: &str) -> Result<Option<u64>, CallbackFailed>
-        ensures symbol { (words : Words) → (⟦<Pages<'a, F> as Callbacks>⟧.told self.old).words ≡ Some words
+        ensures symbol { (words : Words) → (told_of self.old).words ≡ Some words
             → IfOk result (λ addr. addr ≡ symbol_in words name.now) }
-        ensures same { ⟦<Pages<'a, F> as Callbacks>⟧.told self.new ≡ ⟦<Pages<'a, F> as Callbacks>⟧.told self.old }
-        ensures cause { HasCause (⟦<Pages<'a, F> as Callbacks>⟧.faults self.old)
-            (⟦<Pages<'a, F> as Callbacks>⟧.faults self.new) (IsErr result) }
+        ensures same { told_of self.new ≡ told_of self.old }
+        ensures cause { HasCause (faults_counted self.old) (faults_counted self.new)
+            (IsErr result) }
     {
         let Some(count) = self.word(COUNT_PLACE)? else {
             return Ok(None);
