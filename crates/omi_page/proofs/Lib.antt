@@ -9,3 +9,4 @@ pub mod Answering
 pub mod Telling
 pub mod OpenedFiles
 pub mod Symbols
+pub mod Borrowing

@@ -1,5 +1,5 @@
 -- What pages hold, and what they tell and count by it.
-use Rattle.std.specs.Prelude.{ℕ, List}
+use Rattle.std.specs.Prelude.{◌≡◌, ℕ, List}
 use Rattle.std.specs.Borrow.{MutBor}
 use Rattle.omi_outside.specs.declared.files.Files as files
 use Rattle.omi_calls.specs.Told.{Told}
@@ -25,3 +25,11 @@ module _ {F : Type 0} {g : files.Ghosts F} where
   -- a fault of theirs is a fault of reading the files
   abbrev pub faults_counted : Pages F g → ℕ
   faults_counted pages = g.reads pages.files.now
+
+  -- what is borrowed stays as it was, but for the count of reads that failed
+  pub record StaysBorrowed (old new : Pages F g) : Type 0 where
+    pub reference : new.files.ghost_name ≡ old.files.ghost_name
+    pub told : g.told new.files.now ≡ g.told old.files.now
+    pub writes : g.writes new.files.now ≡ g.writes old.files.now
+    pub name : new.name.now ≡ old.name.now
+    pub contexts : new.contexts ≡ old.contexts

@@ -113,6 +113,25 @@ impl<'a, F: Files> Pages<'a, F> {
         }
     }
 
+    /// The files, which the pages let go.
+    pub fn into_files(self) -> &'a mut F
+        ensures same_reference { result.ghost_name ≡ (files_of self.entry).ghost_name }
+        ensures same { result.now ≡ (files_of self.entry).now }
+    {
+        let Pages {
+            alloc: _,
+            files,
+            name: _,
+            len: _,
+            contexts,
+            spans,
+            kept,
+            buffer,
+        } = self;
+        drop((contexts, spans, kept, buffer));
+        files
+    }
+
     /// The native ids of the core's threads, which rise.
     pub fn contexts(&self) -> &Natives
         ensures { result.now ≡ contexts_of self.now }
@@ -122,13 +141,23 @@ impl<'a, F: Files> Pages<'a, F> {
 }
 
 impl<'a, F: Files> Callbacks for Pages<'a, F> {
-    ghost use Rattle.omi_page.specs.Borrowed.{told_of, faults_counted};
+    ghost use Rattle.omi_page.specs.Borrowed.{told_of, faults_counted, StaysBorrowed};
 
     ghost told = { told_of };
 
     ghost faults = { faults_counted };
 
-    fn read_memory(&mut self, addr: u64, to: &mut [u8; 8]) -> Got {
+    fn read_memory(&mut self, addr: u64, to: &mut [u8; 8]) -> Got
+        ensures mapped { (words : Words) → (told_of self.old).words ≡ Some words
+            → SaysMapped result (word_at words addr) }
+        ensures bytes { (words : Words) (order : ℕ) → (told_of self.old).words ≡ Some words
+            → (told_of self.old).order ≡ Some order → result ≡ Got.Bytes
+            → word_at words addr ≡ Some (number_of order to.new) }
+        ensures same { told_of self.new ≡ told_of self.old }
+        ensures cause { HasCause (faults_counted self.old) (faults_counted self.new)
+            (result ≡ Got.Failed) }
+        ensures stays { StaysBorrowed self.old self.new }
+    {
         if addr % 8 != 0 || !stands(&self.spans, addr) {
             return Got::NotMapped;
         }
@@ -154,7 +183,16 @@ impl<'a, F: Files> Callbacks for Pages<'a, F> {
         Got::Bytes
     }
 
-    fn symbol_addr_lookup(&mut self, name: &str) -> Place {
+    fn symbol_addr_lookup(&mut self, name: &str) -> Place
+        ensures symbol { (symbols : Symbols) → (told_of self.old).symbols ≡ Some symbols
+            → SaysPlace result (symbols name.now) }
+        ensures table { (words : Words) → (told_of self.old).words ≡ Some words
+            → SaysPlace result (symbol_in words name.now) }
+        ensures same { told_of self.new ≡ told_of self.old }
+        ensures cause { HasCause (faults_counted self.old) (faults_counted self.new)
+            (result ≡ Place.Failed) }
+        ensures stays { StaysBorrowed self.old self.new }
+    {
         match self.symbol(name) {
             Ok(Some(addr)) => Place::At(addr),
             Ok(None) => Place::NoSuch,

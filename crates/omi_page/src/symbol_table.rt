@@ -25,7 +25,7 @@ fn all_of(
 }
 
 impl<'a, F: Files> Pages<'a, F> {
-    ghost use Rattle.omi_page.specs.Borrowed.{told_of, faults_counted};
+    ghost use Rattle.omi_page.specs.Borrowed.{told_of, faults_counted, StaysBorrowed};
 
     /// The word at a byte address. None where the address is unaligned or no word stands there.
     fn word(&mut self, addr: u64) -> Result<Option<u64>, CallbackFailed>
@@ -34,6 +34,7 @@ impl<'a, F: Files> Pages<'a, F> {
         ensures same { told_of self.new ≡ told_of self.old }
         ensures cause { HasCause (faults_counted self.old) (faults_counted self.new)
             (IsErr result) }
+        ensures stays { StaysBorrowed self.old self.new }
     {
         let mut bytes = [0; 8];
         match self.read_memory(addr, &mut bytes) {
@@ -51,6 +52,7 @@ impl<'a, F: Files> Pages<'a, F> {
         ensures same { told_of self.new ≡ told_of self.old }
         ensures cause { HasCause (faults_counted self.old) (faults_counted self.new)
             (IsErr result) }
+        ensures stays { StaysBorrowed self.old self.new }
     {
         let first = self.word(at)?;
         let second = self.word(at + 8)?;
@@ -68,6 +70,7 @@ impl<'a, F: Files> Pages<'a, F> {
         ensures same { told_of self.new ≡ told_of self.old }
         ensures cause { HasCause (faults_counted self.old) (faults_counted self.new)
             (IsErr result) }
+        ensures stays { StaysBorrowed self.old self.new }
     {
         let Some(count) = self.word(COUNT_PLACE)? else {
             return Ok(None);

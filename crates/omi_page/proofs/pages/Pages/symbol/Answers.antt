@@ -1,6 +1,7 @@
 use Rattle.std.proofs.Common.{◌≡◌, ◌+◌, ◌-◌, ◌*◌, Some, sym, ap, ◌∙◌, subst, arith, cond}
 use Rattle.std.specs.Prelude.{slice_index}
 use Rattle.omi_calls.proofs.Symbols.{Reads, unmapped_table, reads_more, not_mapped, looked_up}
+use Rattle.omi_page.proofs.Borrowing.{stays_then}
 use Rattle.omi_page.proofs.pages.Pages.symbol.Goals as goal
 
 pub returns-in_default-2-clause-symbol : goal.returns-in_default-2-clause-symbol
@@ -18,6 +19,7 @@ loop-left-preserved-then-has_name g c = record {
       (sym (c.in_ok-words.ensures.words words now) ∙ c.in-Some-2.is) (omega arith) (omega arith) (c.loop-left.invariant.read words told)
       (ap (λ named. cond named (Some (slice_index c.in-Some-2.words 4)) c.loop-left.found) (sym c.if-has_name.true ∙ c.has_name.ensures));
   same = c.in_ok-words.ensures.same ∙ c.loop-left.invariant.same;
+  stays = stays_then _ _ _ c.loop-left.invariant.stays c.in_ok-words.ensures.stays;
   later = omega arith;
 }
 
@@ -30,6 +32,7 @@ loop-left-preserved g c = record {
       (sym (c.in_ok-words.ensures.words words now) ∙ c.in-Some-2.is) (omega arith) (omega arith) (c.loop-left.invariant.read words told)
       (ap (λ named. cond named (Some (slice_index c.in-Some-2.words 4)) c.loop-left.found) (sym c.if-has_name.false ∙ c.has_name.ensures));
   same = c.in_ok-words.ensures.same ∙ c.loop-left.invariant.same;
+  stays = stays_then _ _ _ c.loop-left.invariant.stays c.in_ok-words.ensures.stays;
   later = omega arith;
 }
 
