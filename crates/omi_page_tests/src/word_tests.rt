@@ -1,11 +1,14 @@
 //! Words and symbols, against those of the core in memory, and how much of the file is read.
 
+ghost use Rattle.std.specs.Prelude.{◌≡◌, ◌⊎◌, Ok, Err};
+ghost use Rattle.omi_outside.specs.Outside.{HasCause};
+
 use crate::cores::{SEGMENTS, three_segments};
 use crate::sparing::Sparing;
 use omi_calls::{Callbacks, Got, MemCalls, Place};
 use omi_corefile::decode;
-use omi_outside::{Call, MemFiles};
-use omi_page::{PageError, Pages};
+use omi_outside::{Call, Files, MemFiles};
+use omi_page::{PageError, Pages, open};
 use std::alloc::Global;
 use std::test::Fail;
 
@@ -64,6 +67,39 @@ fn short_reads(rt: HostRuntime) -> Result<(), Fail> {
     let bytes = three_segments(rt.alloc())?;
     assert!(rt; pages_alike(rt.alloc(), &bytes, 1));
     assert!(rt; pages_alike(rt.alloc(), &bytes, 7));
+    Ok(())
+}
+
+/// Reads a word of a core file. It shows what a caller knows of the files once the pages have let
+/// them go.
+fn read_word<F: Files>(
+    alloc: Global,
+    files: &mut F,
+    name: &str,
+    addr: u64,
+    word: &mut [u8; 8],
+) -> Result<Got, PageError>
+    ensures same { F.told files.new ≡ F.told files.old }
+    ensures cause { HasCause (F.reads files.old) (F.reads files.new)
+        ((result ≡ Err PageError.Failed) ⊎ (result ≡ Ok Got.Failed)) }
+    ensures writes { F.writes files.new ≡ F.writes files.old }
+{
+    let opened = open(alloc, files, name)?;
+    let mut pages = Pages::of(files, name, opened);
+    let got = pages.read_memory(addr, word);
+    let _ = pages.into_files();
+    Ok(got)
+}
+
+#[test]
+fn files_are_let_go(rt: HostRuntime) -> Result<(), Fail> {
+    let bytes = three_segments(rt.alloc())?;
+    let mut files = Sparing::with(rt.alloc(), &bytes, 4096, &[])?;
+    let mut word = [0u8; 8];
+    let got = read_word(rt.alloc(), &mut files, "c", 0x20ff8, &mut word);
+    assert_eq!(rt; got, Ok(Got::Bytes));
+    assert_eq!(rt; u64::from_le_bytes(word), 0x62fe8);
+    assert_eq!(rt; files.given, 88);
     Ok(())
 }
 
