@@ -1,0 +1,102 @@
+use Rattle.std.proofs.Common.{◌≡◌, ◌+◌, ◌*◌, ◌≤◌, ◌<◌, ◌++◌, ℕ, List, [], ◌∷◌, length, refl, sym, ap, ◌∙◌, subst, arith, Fits, w64}
+use Rattle.omi_word.specs.declared.op.Op.{Op}
+use Rattle.omi_events.specs.declared.made.Made.{Made}
+use Rattle.omi_events.specs.declared.made.Turn.{Turn}
+use Rattle.omi_model.specs.declared.event.Event.{Event}
+use Rattle.omi_layout.specs.declared.layout.Layout.{Layout}
+use Rattle.omi_layout.specs.Place.{image_words}
+use Rattle.omi_pc.specs.declared.actor.Actor.{Actor}
+use Rattle.omi_script.specs.declared.program.Program.{Program}
+use Rattle.omi_rep.specs.declared.outcome.Outcome.{Outcome}
+use Rattle.omi_core.specs.RunSteps.{event_of, made_of, seats_of, turn_of}
+use Rattle.omi_live.specs.declared.known.Part.{Part}
+use Rattle.omi_live.specs.declared.limits.TheConstants.{MOST_BUDGET}
+use Rattle.omi_live.specs.Plays.{finds}
+use Rattle.omi_live.specs.Running.{actor_known, steps_known}
+use Rattle.omi_live.specs.Work.{HasFound, HasRoom, IsAble, IsAtWork, IsReady}
+use Rattle.omi_live.proofs.Working.{actor_one_more, count_is, entry_known, events_more, made_more, next_is, outcome_is, resumed_is}
+use Rattle.omi_live.proofs.worker.Worker.step.Goals as goal
+
+pub apply-old-requires-clause-able : goal.apply-old-requires-clause-able
+apply-old-requires-clause-able c =
+    let ready = c.requires.ready in
+    let work = ready.1.work in (
+      ready.0,
+      record {
+        knows = work.knows;
+        is_next = c.next-op.ensures ∙ next_is c.args.p.now c.args.l.now c.args.words.now.table_id ready.0 c.args.self.now work;
+        able = ready.1.able;
+        few = ready.1.few;
+        count = c.requires.count ∙ ap (λ (z : Layout). image_words z.table + 1) (sym work.layout);
+      },
+    )
+
+pub overflow_add-step : goal.overflow_add-step
+overflow_add-step c =
+    let ready = c.requires.ready in
+    let count = c.len.ensures ∙ count_is c.args.p.now c.args.l.now c.args.words.now.table_id ready.0 c.args.self.now ready.1.work in
+    let few = ready.1.few in
+    omega (arith, count, few)
+
+pub list_event-requires-clause-seats : goal.list_event-requires-clause-seats
+list_event-requires-clause-seats c =
+    let ready = c.requires.ready in
+    let work = ready.1.work in
+    let found = c.apply-old.ensures.found ready.0 work.knows in
+    let few : seats_of c.resume-outcome.result ≤ ready.0.program.threads = subst (λ (o : Outcome). seats_of o ≤ ready.0.program.threads) (sym (outcome_is c.args.p.now c.args.l.now c.args.words.now.table_id ready.0 c.args.self.now work c.apply-old.result c.resume-outcome.result c.resume-outcome.ensures.outcome)) found.seats in
+    let threads = ap (λ (q : Program). q.threads) work.program in
+    let room = c.requires.room.seats in
+    omega (arith, few, threads, room)
+
+pub returns-clause-stepped : goal.returns-clause-stepped
+returns-clause-stepped c x work =
+    let found = c.apply-old.ensures.found x work.knows in
+    let out = outcome_is c.args.p.now c.args.l.now c.args.words.now.table_id x c.args.self.now work c.apply-old.result c.resume-outcome.result c.resume-outcome.ensures.outcome in
+    let count = c.len.ensures ∙ count_is c.args.p.now c.args.l.now c.args.words.now.table_id x c.args.self.now work in (
+      c.apply-old.result,
+      record {
+        program = work.program;
+        layout = work.layout;
+        thread = work.thread;
+        below = work.below;
+        table = c.apply-old.ensures.seated ∙ work.table;
+        knows = found.knows;
+        actor =
+            c.resume-outcome.ensures.moved
+            ∙ ap (λ (z : Actor × Outcome). z.0) (resumed_is c.args.p.now c.args.l.now c.args.words.now.table_id x c.args.self.now work c.apply-old.result)
+            ∙ sym (actor_one_more x c.apply-old.result);
+        made =
+            c.push_reserved.ensures.added
+            ∙ ap (λ (m : Made). c.args.self.now.made.items ++ m ∷ [])
+            (λ k. record { op = op_is k; old = c.apply-old.result; thread = work.thread k; turn = (c.turn_of.ensures ∙ ap turn_of out) k })
+            ∙ made_more x c.apply-old.result c.args.self.now.made.items work.made;
+        events =
+            c.list_event.ensures.items
+            ∙ (λ k. c.args.self.now.events.items ++ event_of (count k + 1) (work.thread k) (out k))
+            ∙ events_more x c.apply-old.result c.args.self.now.events.items work.events;
+      },
+      out,
+    )
+  where
+    op_is : c.next-op.result ≡ (entry_known x c.apply-old.result).op
+    op_is = c.next-op.ensures ∙ next_is c.args.p.now c.args.l.now c.args.words.now.table_id x c.args.self.now work
+
+pub returns-clause-room : goal.returns-clause-room
+returns-clause-room c n room =
+    let ready = c.requires.ready in
+    let work = ready.1.work in
+    let found = c.apply-old.ensures.found ready.0 work.knows in
+    let few : seats_of c.resume-outcome.result ≤ ready.0.program.threads = subst (λ (o : Outcome). seats_of o ≤ ready.0.program.threads) (sym (outcome_is c.args.p.now c.args.l.now c.args.words.now.table_id ready.0 c.args.self.now work c.apply-old.result c.resume-outcome.result c.resume-outcome.ensures.outcome)) found.seats in
+    let threads = ap (λ (q : Program). q.threads) work.program in
+    let made = room.made in
+    let events = room.events in
+    let seats = room.seats in
+    let fewer = c.push_reserved.ensures.spare in
+    let spare = c.list_event.ensures.spare in
+    let left = c.list_event.ensures.seats in
+    let times : (n + 1) * c.args.p.now.threads ≡ n * c.args.p.now.threads + c.args.p.now.threads = omega arith in
+    record {
+      made = omega (arith, made, fewer);
+      events = omega (arith, events, spare);
+      seats = omega (arith, seats, left, few, threads, times);
+    }

@@ -1,0 +1,105 @@
+-- A thread at work: what its seat knows is what it made and keeps.
+use Rattle.std.specs.Prelude.{◌≡◌, ◌<◌, ◌≤◌, ℕ, ◌+◌, ◌*◌, Bool, true, List, [], ◌∷◌, length, map, Option}
+use Rattle.atomic_table.specs.Seated.{TableId}
+use Rattle.omi_word.specs.declared.op.Op.{Op}
+use Rattle.omi_script.specs.declared.program.Program.{Program}
+use Rattle.omi_layout.specs.declared.layout.Layout.{Layout}
+use Rattle.omi_layout.specs.Place.{image_words}
+use Rattle.omi_actor.specs.Steps.{next_of}
+use Rattle.omi_rep.specs.declared.outcome.Outcome.{Outcome}
+use Rattle.omi_core.specs.declared.entry.Entry.{Entry}
+use Rattle.omi_core.specs.declared.stop.Break.{Break}
+use Rattle.omi_core.specs.declared.thread_run.Until.{Until}
+use Rattle.omi_core.specs.declared.thread_run.Until.TheVariants as until
+use Rattle.omi_core.specs.RunSteps.{made_of, seats_of}
+use Rattle.omi_core.specs.Steps.{events_behind}
+use Rattle.omi_live.specs.declared.known.Part.{Part}
+use Rattle.omi_live.specs.declared.limits.TheConstants.{MOST_BUDGET}
+use Rattle.omi_live.specs.declared.rule.Given.{Given}
+use Rattle.omi_live.specs.declared.worker.Worker.{Worker}
+use Rattle.omi_live.specs.Found.{entry_at}
+use Rattle.omi_live.specs.Plays.{CanStep, Seated, finds, heard}
+use Rattle.omi_live.specs.Running.{actor_known, steps_known}
+use Rattle.omi_live.specs.Stops.{IsUntil, WentOn}
+
+-- the steps of one thread, as a list of steps by threads
+abbrev pub own_steps : ℕ → List Entry → List (ℕ × Entry)
+own_steps thread es = map (λ e. (thread, e)) es
+
+-- ---- the table
+
+-- a table of the words of a program in a layout, and the stop word behind them
+pub record IsTableFor (p : Program) (l : Layout) (on : Option Break) (key : Given)
+    (id : TableId) : Type 0 where
+  pub program : key.program.value ≡ p
+  pub layout : key.layout.value ≡ l
+  pub stops : key.on ≡ on
+  pub count : id.words ≡ image_words l.table + 1
+
+-- a seat that stands for one thread may make this operation at a table
+pub record IsAble (id : TableId) (op : Op) (me : Seated) (x : Part) : Type 0 where
+  pub knows : me ≡ (x ∷ [], [])
+  pub is_next : op ≡ next_of x.program x.layout.table (actor_known x)
+  pub able : CanStep x.program x.layout.table (actor_known x)
+  pub few : length x.found < MOST_BUDGET
+  pub count : id.words ≡ image_words x.layout.table + 1
+
+-- it found this word
+pub record HasFound (x : Part) (n : ℕ) (me : Seated) : Type 0 where
+  pub knows : me ≡ (finds n x ∷ [], [])
+  pub seats : seats_of (entry_at x.program x.layout.table (actor_known x) n).outcome
+      ≤ x.program.threads
+
+-- ---- the thread
+
+-- this worker is at work at a table, for one thread of a program in a layout
+pub record IsAtWork (p : Program) (l : Layout) (id : TableId) (x : Part) (worker : Worker) : Type 0 where
+  pub program : x.program ≡ p
+  pub layout : x.layout ≡ l
+  pub thread : worker.thread ≡ x.thread
+  pub below : x.thread < p.threads
+  pub table : worker.seat.table_id ≡ id
+  pub knows : worker.seat.me ≡ (x ∷ [], [])
+  pub actor : worker.actor ≡ actor_known x
+  pub made : worker.made.items ≡ map (made_of x.thread) (steps_known x)
+  pub events : worker.events.items ≡ events_behind 0 (own_steps x.thread (steps_known x))
+
+-- it may make its next step
+pub record IsReady (p : Program) (l : Layout) (id : TableId) (x : Part) (worker : Worker) : Type 0 where
+  pub work : IsAtWork p l id x worker
+  pub able : CanStep x.program x.layout.table (actor_known x)
+  pub few : length x.found < MOST_BUDGET
+
+-- it is as it was, but for what its seat knows
+pub record IsSameBut (old new : Worker) : Type 0 where
+  pub thread : new.thread ≡ old.thread
+  pub table : new.seat.table_id ≡ old.seat.table_id
+  pub actor : new.actor ≡ old.actor
+  pub made : new.made ≡ old.made
+  pub events : new.events ≡ old.events
+
+-- its seat looked at the stop word, which was raised or was not: it was where the thread was told so before
+pub record HasLooked (x : Part) (raised : Bool) (worker : Worker) : Type 0 where
+  pub knows : worker.seat.me ≡ (heard raised x ∷ [], [])
+  pub told : x.told ≡ true → raised ≡ true
+  pub able : CanStep x.program x.layout.table (actor_known x)
+
+-- it has room for so many more steps, each with an event and a team of all threads
+pub record HasRoom (p : Program) (steps : ℕ) (worker : Worker) : Type 0 where
+  pub made : steps ≤ worker.made.spare
+  pub events : steps ≤ worker.events.spare
+  pub seats : steps * p.threads ≤ worker.events.seats
+
+-- one more step found some word, and this came of it
+abbrev pub HasStepped : Program → Layout → TableId → Part → Worker → Outcome → Type 0
+HasStepped p l id x worker out = (n : ℕ) × IsAtWork p l id (finds n x) worker
+    × (out ≡ (entry_at x.program x.layout.table (actor_known x) n).outcome)
+
+-- ---- its end
+
+-- why it made no further step
+pub record HasWorked (budget : ℕ) (on : Option Break) (x : Part) (why : Until) : Type 0 where
+  pub reason : IsUntil budget (steps_known x) why
+  pub most : length (steps_known x) ≤ budget
+  pub went_on : WentOn on (steps_known x)
+  pub stopped : why ≡ until.Stopped → x.told ≡ true
