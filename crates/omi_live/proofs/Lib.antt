@@ -6,3 +6,6 @@ pub mod Seats
 pub mod Applied
 pub mod Working
 pub mod Going
+pub mod Lists
+pub mod Joining
+pub mod Ending

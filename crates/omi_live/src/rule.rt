@@ -9,6 +9,7 @@ use omi_script::Program;
 use std::snapshot::Snapshot;
 
 /// What the table is told when it is made: the program, its layout, and the kind of event at which its threads stop.
+#[derive(Drop)]
 pub struct Given {
     pub program: Snapshot<Program>,
     pub layout: Snapshot<Layout>,

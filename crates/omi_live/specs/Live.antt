@@ -1,0 +1,49 @@
+-- What a run of threads makes: the words that one order of all their steps leaves, and of each thread its own part of it.
+use Rattle.std.specs.Prelude.{◌≡◌, ◌<◌, ◌≤◌, ℕ, List, [], ◌∷◌, length, map, Option, Some, slice_get, true}
+use Rattle.atomic_table.specs.Seated.{TableId}
+use Rattle.omi_script.specs.declared.program.Program.{Program}
+use Rattle.omi_model.specs.Reached.{Reached}
+use Rattle.omi_model.specs.State.{State}
+use Rattle.omi_layout.specs.declared.layout.Layout.{Layout}
+use Rattle.omi_layout.specs.SymbolTable.{words_of}
+use Rattle.omi_pc.specs.Opening.{opening_actor}
+use Rattle.omi_rep.specs.Shows.{Shows}
+use Rattle.omi_core.specs.declared.entry.Entry.{Entry}
+use Rattle.omi_core.specs.declared.stop.Break.{Break}
+use Rattle.omi_core.specs.declared.thread_run.ThreadRun.{ThreadRun}
+use Rattle.omi_core.specs.declared.thread_run.Until.TheVariants as until
+use Rattle.omi_core.specs.Runs.{events_in}
+use Rattle.omi_core.specs.RunSteps.{made_of}
+use Rattle.omi_core.specs.Steps.{AreStepsOf, events_behind, steps_of}
+use Rattle.omi_live.specs.Found.{actor_behind, entries_from}
+use Rattle.omi_live.specs.Stops.{IsUntil, WentOn, some_stop}
+use Rattle.omi_live.specs.Work.{own_steps}
+
+-- what a thread keeps of its steps, numbered by themselves, and why it made no further one: the steps follow from the words that they
+-- found, and an event at which the run is to stop, and `done`, are the last of them
+pub record IsRunOf (p : Program) (l : Layout) (budget : ℕ) (on : Option Break) (thread : ℕ)
+    (es : List Entry) (r : ThreadRun) : Type 0 where
+  pub follow : es ≡ entries_from p l.table (opening_actor p thread) (map (λ e. e.old) es)
+  pub steps : r.steps ≡ length es
+  pub made : r.made.items ≡ map (made_of thread) es
+  pub events : r.events.items ≡ events_behind 0 (own_steps thread es)
+  pub actor : r.actor ≡ actor_behind p l.table (opening_actor p thread) (map (λ e. e.old) es)
+  pub most : length es ≤ budget
+  pub went_on : WentOn on es
+  pub reason : IsUntil budget es r.until
+
+-- These words and threads are those of a list of steps in some order, which holds of each thread exactly its own steps in their order.
+-- The words show the state that the events reach in that order
+pub record IsLive (p : Program) (l : Layout) (budget : ℕ) (on : Option Break) (words : List ℕ)
+    (runs : List ThreadRun) : Type 0 where
+  pub entries : List (ℕ × Entry)
+  pub state : State
+  pub steps : AreStepsOf p l.table entries words state
+  pub reached : Reached p (events_in (events_behind 0 entries)) state
+  pub shows : Shows l.table (words_of words) state
+  pub threads : length runs ≡ p.threads
+  pub each : (i : ℕ) (r : ThreadRun) → slice_get runs i ≡ Some r
+      → IsRunOf p l budget on i (steps_of i entries) r
+  -- a thread is stopped only where some thread committed an event at which the run is to stop
+  pub stopped : (i : ℕ) (r : ThreadRun) → slice_get runs i ≡ Some r → r.until ≡ until.Stopped
+      → (j : ℕ) × (some_stop on (steps_of j entries) ≡ true)

@@ -1,0 +1,258 @@
+//! A run of a program by threads of their own, over one table of words.
+
+ghost use Rattle.std.specs.Prelude.{◌≡◌, ◌+◌, ◌<◌, ◌≤◌, ◌++◌, ℕ, List, [], ◌∷◌, length, slice_get, vec_len, IfOk, Option, Some};
+ghost use Rattle.atomic_table.specs.Table.{Final, Seen};
+ghost use Rattle.std.specs.Mem.Slots.{IsFull, slots_items, slots_len};
+ghost use Rattle.omi_layout.specs.Place.{image_words};
+ghost use Rattle.omi_rep.specs.Suits.{Suits};
+ghost use Rattle.omi_layout.specs.declared.layout.Layout.{Layout};
+ghost use Rattle.omi_script.specs.declared.program.Program.{Program};
+ghost use Rattle.omi_core.specs.declared.stop.Break.{Break};
+ghost use Rattle.omi_word.specs.declared.limits.TheConstants.{MOST_WORDS};
+ghost use Rattle.omi_live.specs.declared.known.Part.{Part};
+ghost use Rattle.omi_live.specs.declared.limits.TheConstants.{MOST_BUDGET};
+ghost use Rattle.omi_live.specs.Joined.{AreRunsKnown, AreSeatedAt, AreToBegin, HasEnded, HaveEnded, IsRunKnown, IsToBegin};
+ghost use Rattle.omi_live.specs.Live.{IsLive};
+ghost use Rattle.omi_live.specs.Plays.{all_untouched, untouched};
+ghost use Rattle.omi_live.specs.Work.{HasRoom, HasWorked, IsAtWork, IsTableFor};
+
+use crate::known::Part;
+use crate::rule::{First, Given, Running, Together};
+use crate::worker::{Words, Worker};
+use atomic_table::{Closed, Seat, Table};
+use omi_core::{Break, OutOfMemory, RunList, ThreadRun, Until, opening_image};
+use omi_events::{EventList, MadeList};
+use omi_layout::Layout;
+use omi_list::List;
+use omi_outside::Gate;
+use omi_pc::Actor;
+use omi_script::Program;
+use omi_word::{FIRST_ADDRESS, Image, Op};
+use std::alloc::Global;
+use std::snapshot::Snapshot;
+use std::thread;
+use std::thread::Threads;
+
+/// What a run of threads leaves: the words, and what each thread made.
+#[derive(Drop)]
+pub struct LiveEnd {
+    pub image: Image,
+    pub runs: RunList,
+}
+
+/// A thread that made no further step.
+#[derive(Drop)]
+pub(crate) struct Ended {
+    pub(crate) worker: Worker,
+    pub(crate) until: Until,
+}
+
+/// The words of an image, and a stop word that is not raised.
+fn words_of(alloc: Global, image: &Image) -> Result<Vec<u64>, OutOfMemory>
+    ensures { IfOk result (λ words. words.items ≡ image.now ++ 0 ∷ []) }
+{
+    let mut words = Vec::new(alloc);
+    for at in 0..image.len() {
+        words.push(image.get(FIRST_ADDRESS + 8 * at as u64).unwrap())?;
+    }
+    words.push(0)?;
+    Ok(words)
+}
+
+/// The worker of a thread at a seat, before its first step. Takes the room of its budget.
+fn worker_at(
+    alloc: Global,
+    p: &Program,
+    thread: u8,
+    budget: u64,
+    seat: Seat<(), List<Part>>,
+) -> Result<Worker, OutOfMemory>
+    requires thread { thread < p.now.threads }
+    requires budget { budget ≤ MOST_BUDGET }
+    ensures thread { IfOk result (λ worker. worker.thread ≡ thread) }
+    ensures seat { IfOk result (λ worker. worker.seat ≡ seat) }
+    ensures begin { (l : Layout) → seat.me ≡ (untouched p.now l thread ∷ [], [])
+        → IfOk result (λ worker. IsToBegin p.now l seat.table_id budget worker) }
+{
+    let actor = Actor::opening(alloc, p, thread)?;
+    let mut made = MadeList::new(alloc);
+    made.reserve(budget as usize)?;
+    let mut events = EventList::new(alloc);
+    events.reserve(budget as usize, budget as usize * p.threads as usize)?;
+    Ok(Worker {
+        seat,
+        thread,
+        actor,
+        made,
+        events,
+    })
+}
+
+/// The workers of all threads, the last one first, each at a seat of its own that is split off from the first one.
+fn workers_at(
+    alloc: Global,
+    p: &Program,
+    l: &Layout,
+    budget: u64,
+    words: &Words,
+    seat: &mut Seat<(), List<Part>>,
+) -> Result<Vec<Worker>, OutOfMemory>
+    requires count { 0 < words.now.table_id.words }
+    requires seated { seat.old.table_id ≡ words.now.table_id }
+    requires first { seat.old.me ≡ (all_untouched p.now l.now, []) }
+    requires budget { budget ≤ MOST_BUDGET }
+    ensures seated { seat.new.table_id ≡ words.now.table_id }
+    ensures rest { IfOk result (λ workers. seat.new.me ≡ ([], [])) }
+    ensures threads { IfOk result (λ workers. vec_len workers ≡ p.now.threads) }
+    ensures begin { IfOk result (λ workers.
+        AreToBegin p.now l.now words.now.table_id budget p.now.threads workers.items) }
+{
+    let mut workers = Vec::new(alloc);
+    for made in 0..p.threads {
+        let own = words.split_seat::<First>(seat);
+        let worker = worker_at(alloc, p, p.threads - 1 - made, budget, own)?;
+        workers.push(worker)?;
+    }
+    Ok(workers)
+}
+
+/// What a worker made, whose seat is taken in by another one.
+fn joined(words: &Words, seat: &mut Seat<(), List<Part>>, ended: Ended) -> ThreadRun
+    requires count { 0 < words.now.table_id.words }
+    requires seated { seat.old.table_id ≡ words.now.table_id }
+    requires theirs { ended.worker.seat.table_id ≡ words.now.table_id }
+    requires none { ended.worker.seat.me.1 ≡ [] }
+    ensures seated { seat.new.table_id ≡ seat.old.table_id }
+    ensures knows { seat.new.me
+        ≡ (seat.old.me.0 ++ ended.worker.seat.me.0, seat.old.me.1) }
+    ensures steps { result.made ≡ ended.worker.made }
+    ensures events { result.events ≡ ended.worker.events }
+    ensures actor { result.actor ≡ ended.worker.actor }
+    ensures until { result.until ≡ ended.until }
+    ensures count { result.steps ≡ length ended.worker.made.items }
+{
+    let Ended { worker, until } = ended;
+    let (own, made, events, actor) = worker.parts();
+    words.join_seat::<Together>(seat, own);
+    ThreadRun {
+        steps: made.len() as u64,
+        until,
+        made,
+        events,
+        actor,
+    }
+}
+
+/// What the workers made, in the order of their threads.
+fn all_joined(
+    alloc: Global,
+    words: &Words,
+    seat: &mut Seat<(), List<Part>>,
+    mut all: Vec<Ended>,
+) -> Result<RunList, OutOfMemory>
+    requires count { 0 < words.now.table_id.words }
+    requires seated { seat.old.table_id ≡ words.now.table_id }
+    requires nothing { seat.old.me ≡ ([], []) }
+    requires theirs { AreSeatedAt words.now.table_id all.items }
+    ensures seated { seat.new.table_id ≡ words.now.table_id }
+    ensures threads { IfOk result (λ runs. length runs ≡ vec_len all) }
+    ensures known { (p : Program) (l : Layout) (budget : ℕ) (on : Option Break)
+        → HaveEnded p l words.now.table_id budget on (vec_len all) all.items
+        → IfOk result (λ runs. AreRunsKnown p l budget on seat.new.me.0 runs) }
+{
+    let mut runs = RunList::new(alloc);
+    while let Some(ended) = all.pop() {
+        let run = joined(words, seat, ended);
+        runs.push(run)?;
+    }
+    Ok(runs)
+}
+
+/// The words of a table that no thread shares any more, but for the last one.
+fn image_of(alloc: Global, closed: &Closed<(), Global>) -> Result<Image, OutOfMemory>
+    requires full { IsFull closed.now.words }
+    requires some { 0 < slots_len closed.now.words }
+    requires limit { slots_len closed.now.words ≤ MOST_WORDS + 1 }
+    ensures { (words : List ℕ) (stop : ℕ) → slots_items closed.now.words ≡ words ++ stop ∷ []
+        → IfOk result (λ image. image ≡ words) }
+{
+    let count = closed.words.len() - 1;
+    let mut image = Image::zeroed(alloc, count)?;
+    for at in 0..count {
+        image.apply(Op::Store {
+            at: FIRST_ADDRESS + 8 * at as u64,
+            new: closed.word(at),
+        });
+    }
+    Ok(image)
+}
+
+/// Lets each worker work, in a thread of its own where one can be made.
+fn all_worked<R: Threads + Sync, G: Gate>(
+    rt: &R,
+    p: &Program,
+    l: &Layout,
+    words: &Words,
+    budget: u64,
+    on: Option<Break>,
+    gate: &G,
+    workers: Vec<Worker>,
+) -> Result<Vec<Ended>, OutOfMemory>
+    requires suits { Suits p.now l.now.table }
+    requires table { IsTableFor p.now l.now on words.now.key words.now.table_id }
+    requires budget { budget ≤ MOST_BUDGET }
+    requires begin { AreToBegin p.now l.now words.now.table_id budget (vec_len workers)
+        workers.items }
+    ensures threads { IfOk result (λ all. vec_len all ≡ vec_len workers) }
+    ensures ended { IfOk result (λ all.
+        HaveEnded p.now l.now words.now.table_id budget on (vec_len workers) all.items) }
+{
+    let work = |mut worker: Worker| -> Ended
+        requires { Suits p.now l.now.table
+            × IsTableFor p.now l.now on words.now.key words.now.table_id
+            × (budget ≤ MOST_BUDGET)
+            × IsToBegin p.now l.now words.now.table_id budget worker }
+        ensures { HasEnded p.entry.now l.entry.now words.entry.now.table_id budget on worker.thread result }
+    {
+        let until = worker.work(p, l, words, budget, on, gate);
+        Ended { worker, until }
+    };
+    let all = thread::map_vec(rt, workers, &work)?;
+    Ok(all)
+}
+
+/// Runs a program in a layout that suits it, each thread as work of its own over one table of words, for at most `budget` steps of each
+/// thread. Where an event of the kind `on` was committed, all threads are told to stop. `gate` is passed before each step. Where no thread
+/// can be made, the threads work one after another.
+pub fn live<R: Threads + Sync, G: Gate>(
+    rt: &R,
+    alloc: Global,
+    p: &Program,
+    l: &Layout,
+    budget: u64,
+    on: Option<Break>,
+    gate: &G,
+) -> Result<LiveEnd, OutOfMemory>
+    requires suits { Suits p.now l.now.table }
+    requires budget { budget ≤ MOST_BUDGET }
+    ensures { IfOk result (λ end. IsLive p.now l.now budget on end.image end.runs) }
+{
+    let first = opening_image(alloc, p, l)?;
+    let opening = words_of(alloc, &first)?;
+    let given = Given {
+        program: Snapshot::of(p),
+        layout: Snapshot::of(l),
+        on,
+    };
+    let (table, mut seat) = Table::of_words(alloc, &opening, &given)?;
+    let workers = workers_at(alloc, p, l, budget, &table.shared, &mut seat)?;
+    let all = all_worked(rt, p, l, &table.shared, budget, on, gate, workers)?;
+    let runs = all_joined(alloc, &table.shared, &mut seat, all)?;
+    let closed = table.close_with(seat);
+    let image = image_of(alloc, &closed);
+    closed.free();
+    Ok(LiveEnd {
+        image: image?,
+        runs,
+    })
+}

@@ -1,0 +1,5 @@
+//! Tests of running threads.
+#![tactic(auto)]
+
+#[cfg(test)]
+mod live_tests;
