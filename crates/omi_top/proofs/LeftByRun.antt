@@ -11,12 +11,14 @@ use Rattle.omi_script.specs.declared.fault.ScriptFault.{ScriptFault}
 use Rattle.omi_script.specs.declared.program.Program.{Program}
 use Rattle.omi_script.proofs.VerdictLemmas.{not_both}
 use Rattle.omi_corefile.proofs.FileLaws.{core_unique}
-use Rattle.omi_top.specs.Answer.{Answer, Gives, ComesBehind, ComesWhere, HoldsProgram, IsAnswer, IsLeft, IsOutsideStatus, IsReadBackStatus, IsRefused, IsReportOf, IsRunAnswer, IsRunShown, IsShowAnswer, IsShowRefusal, IsStopAnswer, IsStopRefusal, IsStopped}
+use Rattle.omi_top.specs.Answer.{Answer, Gives, ComesBehind, IsAnswer, IsLeft, IsOutsideStatus, IsReadBackStatus, IsRefused, IsReportOf, IsRunAnswer, IsRunShown, IsShowAnswer, IsShowRefusal, IsStopAnswer, IsStopped}
+use Rattle.omi_command.specs.Statuses.{ComesWhere}
+use Rattle.omi_command.specs.Scripts.{HoldsProgram, IsScriptRefusal}
 use Rattle.omi_top.specs.Command.{Run}
 use Rattle.omi_top.specs.Cores.{IsDamaged, IsIncompatible, IsLooked, Spells}
-use Rattle.omi_top.specs.Refusal.{status_of}
+use Rattle.omi_command.specs.Refusal.{status_of}
 use Rattle.omi_top.specs.declared.plan.Plan.{Plan}
-use Rattle.omi_top.specs.declared.refusal.Refusal.{Refusal}
+use Rattle.omi_command.specs.declared.refusal.Refusal.{Refusal}
 use Rattle.omi_top.proofs.LeftByShow.{HasReport, looked_shown, not_refused, run_shown, shown_looked}
 use Rattle.omi_top.proofs.ShowVerdicts.{HasFault, Refusing, all_refusing, damaged as damaged_refused, faulty, incompatible as incompatible_refused, kinds, missing, report_not_refused, says_core, says_damaged, says_incompatible, says_missing}
 use Rattle.omi_top.proofs.Statuses.{DidMore, DoesMore, SaysWith, comes_where, one_content}
@@ -27,11 +29,11 @@ HasScriptFault text = (fault : ScriptFault) × Refused text fault
 
 -- why `run` refuses: for its script; or for what it reads back, where this is a program
 abbrev IsRunRefusal : Option (List ℕ) → Option (List ℕ) → Refusal → Type 0
-IsRunRefusal text content r = IsStopRefusal text r ⊎ (HoldsProgram text × IsShowRefusal content r)
+IsRunRefusal text content r = IsScriptRefusal text r ⊎ (HoldsProgram text × IsShowRefusal content r)
 
 -- a script is no program and refused
-program_not_refused : (text : Option (List ℕ)) (r : Refusal) → HoldsProgram text → IsStopRefusal text r → ⊥
-program_not_refused None r program refuses = program
+program_not_refused : (text : Option (List ℕ)) (r : Refusal) → HoldsProgram text → IsScriptRefusal text r → ⊥
+program_not_refused None r (p, nothing) refuses = nothing
 program_not_refused (Some bytes) r (p, grammar) (fault, why, same) = not_both bytes p fault grammar why
 
 -- a run of the script's program left this core, and printed these lines
@@ -44,12 +46,12 @@ left_by_stop plan None written lines said = said
 left_by_stop plan (Some text) written lines said = said
 
 left_program : (plan : Plan) (text : Option (List ℕ)) (written lines : List ℕ) → Left plan text written lines → HoldsProgram text
-left_program plan None written lines left = left
+left_program plan None written lines left = absurd left
 left_program plan (Some text) written lines (p, grammar, stopped) = (p, grammar)
 
 -- a refusal: for the script, where nothing was written; or for what was read back, where a run left the core
 abbrev RefusedBy : Plan → Option (List ℕ) → Option (List ℕ) → Option (List ℕ) → Refusal → Type 0
-RefusedBy plan text content None r = IsStopRefusal text r
+RefusedBy plan text content None r = IsScriptRefusal text r
 RefusedBy plan text content (Some written) r = ((lines : List ℕ) × Left plan text written lines) × IsShowRefusal content r
 
 -- success: a run left the core, and what was read back has a report
@@ -80,7 +82,7 @@ module _ (plan : Plan) (script core : List ℕ) (told : List ℕ → Told) (text
   refused_by : (written : Option (List ℕ)) (r : Refusal) → IsAnswer (Run plan script core) told (Gives written (Err r)) → RefusedBy plan text content written r
   refused_by None r answer = go text (run_answer (Gives None (Err r)) answer)
     where
-      go : (t : Option (List ℕ)) → IsStopAnswer plan t (Gives None (Err r)) → IsStopRefusal t r
+      go : (t : Option (List ℕ)) → IsStopAnswer plan t (Gives None (Err r)) → IsScriptRefusal t r
       go None said = said
       go (Some bytes) said = said
   refused_by (Some written) r answer =
@@ -119,8 +121,8 @@ module _ (plan : Plan) (script core : List ℕ) (told : List ℕ → Told) (text
   did (inr (bytes, (says, (t, here, answer)))) = go text says (subst (λ (x : Option (List ℕ)). IsStopAnswer plan x (Gives (Some bytes) says)) (one_content (told script) t text here is) answer)
     where
       go : (t : Option (List ℕ)) (says : Result (List ℕ) Refusal) → IsStopAnswer plan t (Gives (Some bytes) says) → HoldsProgram t
-      go None (Ok lines) said = said
-      go None (Err r) said = said
+      go None (Ok lines) said = absurd said
+      go None (Err r) said = absurd said
       go (Some script_text) (Ok lines) (p, grammar, stopped) = (p, grammar)
       go (Some script_text) (Err r) said = absurd said
 
@@ -147,7 +149,7 @@ IsScriptStatus status.NoFile = Unit {0}
 IsScriptStatus status.Script = Unit {0}
 IsScriptStatus other = ⊥
 
-script_status : (text : Option (List ℕ)) (r : Refusal) → IsStopRefusal text r → IsScriptStatus (status_of r)
+script_status : (text : Option (List ℕ)) (r : Refusal) → IsScriptRefusal text r → IsScriptStatus (status_of r)
 script_status None r refuses = subst (λ (x : Refusal). IsScriptStatus (status_of x)) (sym refuses) tt
 script_status (Some bytes) r (fault, why, same) = subst (λ (x : Refusal). IsScriptStatus (status_of x)) (sym same) tt
 
@@ -242,7 +244,7 @@ module _ (plan : Plan) (script core : List ℕ) (told : List ℕ → Told) (old 
     pub no_file : ComesBehind status.NoFile s ((text ≡ None) ⊎ (HoldsProgram text × (content ≡ None)))
     no_file = (says_of status.NoFile ((text ≡ None) ⊎ (HoldsProgram text × (content ≡ None))) (λ no. no) (λ same. absurd (cc)) says, to)
       where
-        no_script : (t : Option (List ℕ)) (r : Refusal) → IsStopRefusal t r → status_of r ≡ status.NoFile → t ≡ None
+        no_script : (t : Option (List ℕ)) (r : Refusal) → IsScriptRefusal t r → status_of r ≡ status.NoFile → t ≡ None
         no_script None r refuses same = refl
         no_script (Some bytes) r (fault, why, is) same = let wrong : status.Script ≡ status.NoFile = ap status_of (sym is) ∙ same in absurd (cc wrong)
 
@@ -250,12 +252,12 @@ module _ (plan : Plan) (script core : List ℕ) (told : List ℕ → Told) (old 
         says r (inl refuses) same = inl (no_script text r refuses same)
         says r (inr (program, refuses)) same = inr (program, says_missing content r refuses same)
 
-        script_missing : (t : Option (List ℕ)) (r : Refusal) → t ≡ None → IsStopRefusal t r → status_of r ≡ status.NoFile
+        script_missing : (t : Option (List ℕ)) (r : Refusal) → t ≡ None → IsScriptRefusal t r → status_of r ≡ status.NoFile
         script_missing None r none refuses = ap status_of refuses
         script_missing (Some bytes) r none refuses = absurd (cc none)
 
         no_program : (t : Option (List ℕ)) → t ≡ None → HoldsProgram t → ⊥
-        no_program None none program = program
+        no_program None none (p, nothing) = nothing
         no_program (Some bytes) none program = cc none
 
         all : text ≡ None → (r : Refusal) → IsRunRefusal text content r → status_of r ≡ status.NoFile

@@ -16,13 +16,14 @@ use Rattle.omi_script.specs.declared.program.Program.{Program}
 use Rattle.omi_model.specs.State.{State}
 use Rattle.omi_model.specs.Views.{IsViewOf}
 use Rattle.omi_model.specs.declared.view.View.{View}
-use Rattle.omi_top.specs.declared.refusal.Refusal.{Refusal}
+use Rattle.omi_command.specs.declared.refusal.Refusal.{Refusal}
 use Rattle.omi_top.specs.declared.plan.Plan.{Plan}
-use Rattle.omi_top.specs.Answer.{Answer, Gives, IsAnswer, IsReportOf, IsShowAnswer, IsShowRefusal, IsShown, IsStopped, IsLeft, IsRefused, ComesWhere, IsFaultStatus}
+use Rattle.omi_top.specs.Answer.{Answer, Gives, IsAnswer, IsReportOf, IsShowAnswer, IsShowRefusal, IsShown, IsStopped, IsLeft, IsRefused}
+use Rattle.omi_command.specs.Statuses.{ComesWhere, IsFaultStatus}
 use Rattle.omi_top.specs.Command.{Show}
 use Rattle.omi_top.specs.Cores.{IsDamaged, IsIncompatible, IsLooked, ShowsState, Spells, memory_of}
-use Rattle.omi_top.specs.Refusal.{status_of}
-use Rattle.omi_top.specs.Run.{thread_ids}
+use Rattle.omi_command.specs.Refusal.{status_of}
+use Rattle.omi_command.specs.Cores.{IsReachedCore, thread_ids}
 use Rattle.omi_top.proofs.ImageWords.{image_words}
 use Rattle.omi_shown.proofs.ShownViews.{shown_looked as shown_look}
 use Rattle.omi_top.proofs.ShowVerdicts.{HasFault, Refusing, all_refusing, damaged as damaged_refused, faulty, incompatible as incompatible_refused, missing, one_looked, one_view, report_not_refused, says_core, says_damaged, says_incompatible, says_missing}
@@ -81,14 +82,29 @@ looked_shown image v looked s shows =
     let (u, also, view) = shown_looked image s shows in
     subst (λ (x : View). IsViewOf s image.contexts x) (one_view u v (one_looked image (Ok u) (Ok v) also looked)) view
 
--- the core of a run holds words that show the run's state
-pub run_shown : (p : Program) (plan : Plan) (bytes text : List ℕ) (run : IsStopped p plan bytes text) → ShowsState run.core_of.core run.state
-run_shown p plan bytes text run = record {
+-- words that show a state which events reach are those of its core
+reached_shown : (p : Program) (ids bytes : List ℕ) (s : State) (r : IsReachedCore p ids bytes s) → ShowsState r.core_of.core s
+reached_shown p ids bytes s r = record {
+  w = r.w;
+  valid = r.valid;
+  names = reached_are_names p r.events s r.reached;
+  shows = subst (λ (words : Words). Shows r.w words s) (sym (image_words ids r.words r.core_of.core r.core_of.image)) r.shows;
+}
+
+-- a run left such a core
+abbrev stopped_reached : (p : Program) (plan : Plan) (bytes text : List ℕ) (run : IsStopped p plan bytes text) → IsReachedCore p (thread_ids p.threads) bytes run.state
+stopped_reached p plan bytes text run = record {
   w = run.w;
   valid = run.valid;
-  names = reached_are_names p (events_in (events_behind 0 run.entries)) run.state run.run.reached;
-  shows = subst (λ (words : Words). Shows run.w words run.state) (sym (image_words (thread_ids p.threads) run.words run.core_of.core run.core_of.image)) run.run.shows;
+  words = run.words;
+  core_of = run.core_of;
+  events = events_in (events_behind 0 run.entries);
+  reached = run.run.reached;
+  shows = run.run.shows;
 }
+
+pub run_shown : (p : Program) (plan : Plan) (bytes text : List ℕ) (run : IsStopped p plan bytes text) → ShowsState run.core_of.core run.state
+run_shown p plan bytes text run = reached_shown p (thread_ids p.threads) bytes run.state (stopped_reached p plan bytes text run)
 
 module _ (core : List ℕ) (told : List ℕ → Told) (old new : Told) (counted : Type 0) (out after : Option (List ℕ)) where
   -- a status comes exactly where a fact holds of the core's content
@@ -151,9 +167,13 @@ module _ (core : List ℕ) (told : List ℕ → Told) (old new : Told) (counted 
     shown status.Damaged left = never_refused status.Damaged left
     shown status.Incompatible left = never_refused status.Incompatible left
 
-  -- and of the core that a run left
+  -- and of a core of words that show a state which events reach, as a run left it
+  pub shown_reached : (s : Status) (bytes : List ℕ) → told core ≡ Some (Some bytes) → (p : Program) (ids : List ℕ) (state : State) (r : IsReachedCore p ids bytes state)
+      → IsLeft (Show core) told s old new counted out after → IsShown state ids s out after
+  shown_reached s bytes is p ids state r left =
+      subst (λ (xs : List ℕ). IsShown state xs s out after) r.core_of.image.contexts_are
+      (shown bytes is r.core_of.core r.core_of.spelled state (reached_shown p ids bytes state r) s left)
+
   pub shown_again : (s : Status) (bytes : List ℕ) → told core ≡ Some (Some bytes) → (p : Program) (plan : Plan) (text : List ℕ) (run : IsStopped p plan bytes text)
       → IsLeft (Show core) told s old new counted out after → IsShown run.state (thread_ids p.threads) s out after
-  shown_again s bytes is p plan text run left =
-      subst (λ (ids : List ℕ). IsShown run.state ids s out after) run.core_of.image.contexts_are
-      (shown bytes is run.core_of.core run.core_of.spelled run.state (run_shown p plan bytes text run) s left)
+  shown_again s bytes is p plan text run = shown_reached s bytes is p (thread_ids p.threads) run.state (stopped_reached p plan bytes text run)

@@ -7,11 +7,13 @@ use Rattle.omi_script.specs.Grammar.{Grammar, Refused}
 use Rattle.omi_script.proofs.VerdictLemmas.{not_both}
 use Rattle.omi_script.specs.declared.fault.ScriptFault.{ScriptFault}
 use Rattle.omi_script.specs.declared.program.Program.{Program}
-use Rattle.omi_top.specs.declared.refusal.Refusal.{Refusal}
-use Rattle.omi_top.specs.Answer.{Answer, Gives, IsAnswer, IsStopAnswer, IsStopRefusal, HoldsProgram, IsLeft, IsStopped, IsFaultStatus, ComesWhere}
+use Rattle.omi_command.specs.declared.refusal.Refusal.{Refusal}
+use Rattle.omi_top.specs.Answer.{Answer, Gives, IsAnswer, IsStopAnswer, IsLeft, IsStopped}
+use Rattle.omi_command.specs.Scripts.{IsScriptRefusal, HoldsProgram}
+use Rattle.omi_command.specs.Statuses.{IsFaultStatus, ComesWhere}
 use Rattle.omi_top.specs.Command.{Stop}
 use Rattle.omi_top.specs.declared.plan.Plan.{Plan}
-use Rattle.omi_top.specs.Refusal.{status_of}
+use Rattle.omi_command.specs.Refusal.{status_of}
 use Rattle.omi_top.proofs.Statuses.{DidMore, DoesMore, IsDoneStatus, one_content, comes_where, written_more}
 
 -- the text has a fault
@@ -23,10 +25,10 @@ module _ (plan : Plan) (script core : List ℕ) (told : List ℕ → Told) (cont
   stop_answer : (a : Answer) → IsAnswer (Stop plan script core) told a → IsStopAnswer plan content a
   stop_answer a (c, here, answer) = subst (λ (x : Option (List ℕ)). IsStopAnswer plan x a) (one_content (told script) c content here is) answer
 
-  refusals : (written : Option (List ℕ)) (r : Refusal) → IsAnswer (Stop plan script core) told (Gives written (Err r)) → IsStopRefusal content r
+  refusals : (written : Option (List ℕ)) (r : Refusal) → IsAnswer (Stop plan script core) told (Gives written (Err r)) → IsScriptRefusal content r
   refusals written r answer = go content written (stop_answer (Gives written (Err r)) answer)
     where
-      go : (c written : Option (List ℕ)) → IsStopAnswer plan c (Gives written (Err r)) → IsStopRefusal c r
+      go : (c written : Option (List ℕ)) → IsStopAnswer plan c (Gives written (Err r)) → IsScriptRefusal c r
       go None None said = said
       go (Some bytes) None said = said
       go None (Some core) said = absurd said
@@ -51,34 +53,34 @@ module _ (plan : Plan) (script core : List ℕ) (told : List ℕ → Told) (cont
 module _ (plan : Plan) (script core : List ℕ) (told : List ℕ → Told) (old new : Told) (counted : Type 0) (out after : Option (List ℕ)) where
   -- a status comes exactly where a fact holds of the script's content
   comes : (content : Option (List ℕ)) → told script ≡ Some content → (refused s : Status) (fact : Type 0) → (IsFaultStatus refused → ⊥) → (IsDoneStatus refused → ⊥)
-      → ((r : Refusal) → IsStopRefusal content r → status_of r ≡ refused → fact) → (fact → (r : Refusal) → IsStopRefusal content r → status_of r ≡ refused) → (fact → HoldsProgram content → ⊥)
+      → ((r : Refusal) → IsScriptRefusal content r → status_of r ≡ refused → fact) → (fact → (r : Refusal) → IsScriptRefusal content r → status_of r ≡ refused) → (fact → HoldsProgram content → ⊥)
       → IsLeft (Stop plan script core) told s old new counted out after → ComesWhere refused s fact
-  comes content is = comes_where (Stop plan script core) told old new counted out after (IsStopRefusal content) (HoldsProgram content) (refusals plan script core told content is) (did plan script core told content is)
+  comes content is = comes_where (Stop plan script core) told old new counted out after (IsScriptRefusal content) (HoldsProgram content) (refusals plan script core told content is) (did plan script core told content is)
 
   -- there is no file exactly where the status says so
   pub no_file : (s : Status) (content : Option (List ℕ)) → told script ≡ Some content → IsLeft (Stop plan script core) told s old new counted out after → ComesWhere status.NoFile s (content ≡ None)
   no_file s content is = comes content is status.NoFile s (content ≡ None) (λ no. no) (λ no. no) (says content) (all content) (none content)
     where
-      says : (c : Option (List ℕ)) (r : Refusal) → IsStopRefusal c r → status_of r ≡ status.NoFile → c ≡ None
+      says : (c : Option (List ℕ)) (r : Refusal) → IsScriptRefusal c r → status_of r ≡ status.NoFile → c ≡ None
       says None r refuses is = refl
       says (Some bytes) r (fault, why, same) is = let wrong : status.Script ≡ status.NoFile = ap status_of (sym same) ∙ is in absurd (cc)
 
-      all : (c : Option (List ℕ)) → c ≡ None → (r : Refusal) → IsStopRefusal c r → status_of r ≡ status.NoFile
+      all : (c : Option (List ℕ)) → c ≡ None → (r : Refusal) → IsScriptRefusal c r → status_of r ≡ status.NoFile
       all None missing r is = ap status_of is
       all (Some bytes) missing r is = absurd (cc)
 
       none : (c : Option (List ℕ)) → c ≡ None → HoldsProgram c → ⊥
-      none None missing holds = holds
+      none None missing (p, nothing) = nothing
       none (Some bytes) missing holds = cc missing
 
   -- the grammar refuses exactly where the status says so
   pub script_refused : (s : Status) (bytes : List ℕ) → told script ≡ Some (Some bytes) → IsLeft (Stop plan script core) told s old new counted out after → ComesWhere status.Script s (HasFault bytes)
   script_refused s bytes is = comes (Some bytes) is status.Script s (HasFault bytes) (λ no. no) (λ no. no) says all none
     where
-      says : (r : Refusal) → IsStopRefusal (Some bytes) r → status_of r ≡ status.Script → HasFault bytes
+      says : (r : Refusal) → IsScriptRefusal (Some bytes) r → status_of r ≡ status.Script → HasFault bytes
       says r (fault, why, same) is = (fault, why)
 
-      all : HasFault bytes → (r : Refusal) → IsStopRefusal (Some bytes) r → status_of r ≡ status.Script
+      all : HasFault bytes → (r : Refusal) → IsScriptRefusal (Some bytes) r → status_of r ≡ status.Script
       all refused r (fault, why, same) = ap status_of same
 
       none : HasFault bytes → HoldsProgram (Some bytes) → ⊥

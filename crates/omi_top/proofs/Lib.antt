@@ -1,7 +1,3 @@
-pub mod Digits
-pub mod FieldNames
-pub mod ThreadIds
-pub mod EventLines
 pub mod EventCounts
 pub mod Running
 pub mod Stopping

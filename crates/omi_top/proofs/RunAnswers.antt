@@ -6,9 +6,9 @@ use Rattle.omi_outside.specs.Outside.{Told}
 use Rattle.omi_top.specs.Answer.{Gives, IsAnswered, IsBehind, IsEarly, IsShowAnswer, IsStopAnswer, IsWritten}
 use Rattle.omi_top.specs.Command.{Run, Show, Stop}
 use Rattle.omi_top.specs.declared.plan.Plan.{Plan}
-use Rattle.omi_top.specs.declared.refusal.Input.TheVariants as input
-use Rattle.omi_top.specs.declared.refusal.Refusal.{Refusal}
-use Rattle.omi_top.specs.declared.refusal.Refusal.TheVariants as refusal
+use Rattle.omi_command.specs.declared.refusal.Input.TheVariants as input
+use Rattle.omi_command.specs.declared.refusal.Refusal.{Refusal}
+use Rattle.omi_command.specs.declared.refusal.Refusal.TheVariants as refusal
 
 early : (plan : Plan) (script core : List ℕ) (r : Refusal) → IsEarly (Stop plan script core) r → IsEarly (Run plan script core) r
 early plan script core (refusal.ReadFault input.Script) is = tt

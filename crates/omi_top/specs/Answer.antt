@@ -1,7 +1,7 @@
 -- What a command is to answer, by what is told of the file that it reads, and what a call leaves.
 use Rattle.std.specs.Prelude.{◌≡◌, ◌⊎◌, ◌++◌, ℕ, List, length, Option, Some, None, Result, Ok, Err, ⊤}
 use Rattle.std.specs.Global.{Vec}
-use Rattle.omi_outside.specs.Outside.{Told, holding, IsCut, IsPutCut, put_on, Rose}
+use Rattle.omi_outside.specs.Outside.{Told, holding, IsCut, IsPutCut, put_on}
 use Rattle.omi_outside.specs.declared.status.Status.{Status}
 use Rattle.omi_outside.specs.declared.status.Status.TheVariants as status
 use Rattle.omi_corefile.specs.Spelling.{core_bytes}
@@ -9,8 +9,7 @@ use Rattle.omi_layout.specs.Family.{IsFamily}
 use Rattle.omi_layout.specs.Valid.{IsValid}
 use Rattle.omi_corefile.specs.Refusals.{CoreRefused}
 use Rattle.omi_corefile.specs.declared.fault.CoreFault.{CoreFault}
-use Rattle.omi_script.specs.Grammar.{Grammar, Refused}
-use Rattle.omi_script.specs.declared.fault.ScriptFault.{ScriptFault}
+use Rattle.omi_script.specs.Grammar.{Grammar}
 use Rattle.omi_script.specs.declared.program.Program.{Program}
 use Rattle.omi_model.specs.State.{State}
 use Rattle.omi_model.specs.Views.{IsViewOf}
@@ -18,18 +17,21 @@ use Rattle.omi_model.specs.declared.view.View.{View}
 use Rattle.omi_core.specs.declared.entry.Entry.{Entry}
 use Rattle.omi_core.specs.declared.stop.End.{End}
 use Rattle.omi_core.specs.Steps.{events_behind}
-use Rattle.omi_top.specs.declared.refusal.Input.{Input}
-use Rattle.omi_top.specs.declared.refusal.Input.TheVariants as input
-use Rattle.omi_top.specs.declared.refusal.Refusal.{Refusal}
-use Rattle.omi_top.specs.declared.refusal.Refusal.TheVariants as refusal
-use Rattle.omi_top.specs.Command.{Command, Stop, Make, Show, Run, Faulty, ReadsBack, ReadsFirst, WritesLast}
+use Rattle.omi_command.specs.declared.refusal.Input.{Input}
+use Rattle.omi_command.specs.declared.refusal.Input.TheVariants as input
+use Rattle.omi_command.specs.declared.refusal.Refusal.{Refusal}
+use Rattle.omi_command.specs.declared.refusal.Refusal.TheVariants as refusal
+use Rattle.omi_top.specs.Command.{Command, Stop, Make, Show, Run, Faulty, ReadsBack, ReadsFirst, WritesLast, core_name, script_name}
 use Rattle.omi_text.specs.Report.{report}
-use Rattle.omi_top.specs.Cores.{IsCoreOf, IsLooked, Spells}
+use Rattle.omi_command.specs.Cores.{IsCoreOf, thread_ids}
+use Rattle.omi_top.specs.Cores.{IsLooked, Spells}
 use Rattle.omi_top.specs.Shown.{IsRefusedCore}
 use Rattle.omi_top.specs.Lines.{run_text}
 use Rattle.omi_top.specs.Make.{IsMade, make_text}
-use Rattle.omi_top.specs.Refusal.{line_of, status_of}
-use Rattle.omi_top.specs.Run.{IsRun, thread_ids}
+use Rattle.omi_command.specs.Refusal.{line_of, status_of}
+use Rattle.omi_command.specs.Said.{IsSaid}
+use Rattle.omi_command.specs.Scripts.{IsScriptRefusal}
+use Rattle.omi_top.specs.Run.{IsRun}
 use Rattle.omi_top.specs.declared.plan.Plan.{Plan}
 
 -- a run of the program by a plan, in the layout of its family, whose last words are this core, with the contexts of all threads, and
@@ -52,20 +54,9 @@ pub record IsStopped (p : Program) (plan : Plan) (core text : List ℕ) : Type 0
 pub data Answer : Type 0 where
   Gives : (written : Option (List ℕ)) (says : Result (List ℕ) Refusal) → Answer
 
--- why `stop` refuses, by the content of the script's file: there is none, or the grammar refuses its text
-abbrev pub IsStopRefusal : Option (List ℕ) → Refusal → Type 0
-IsStopRefusal None r = r ≡ refusal.NoFile input.Script
-IsStopRefusal (Some bytes) r =
-    (fault : ScriptFault) × Refused bytes fault × (r ≡ refusal.Script fault)
-
--- the script's file holds a program
-abbrev pub HoldsProgram : Option (List ℕ) → Type 0
-HoldsProgram None = ⊥
-HoldsProgram (Some bytes) = (p : Program) × Grammar bytes p
-
 -- an answer of `stop`, by the content of the script's file: a refusal alone, or the core and the text of a run of its program
 abbrev pub IsStopAnswer : Plan → Option (List ℕ) → Answer → Type 0
-IsStopAnswer plan content (Gives None (Err r)) = IsStopRefusal content r
+IsStopAnswer plan content (Gives None (Err r)) = IsScriptRefusal content r
 IsStopAnswer plan (Some bytes) (Gives (Some core) (Ok text)) =
     (p : Program) × Grammar bytes p × IsStopped p plan core text
 IsStopAnswer plan content answer = ⊥
@@ -181,15 +172,6 @@ IsAnswered command told (Err r) old new =
     ⊎ ((IsLate r × IsHalfWritten command told old new)
     ⊎ (IsBehind command r × IsWritten command told old new)))
 
--- a sink's count of faults rose, or its count of puts that were refused for want of memory
-abbrev pub IsCounted : ℕ → ℕ → ℕ → ℕ → Type 0
-IsCounted faults faults_now wants wants_now = Rose faults faults_now ⊎ Rose wants wants_now
-
--- A line is put whole; or it isn't put at all, and the sink counted why. None is a refusal that prints nothing.
-abbrev pub IsSaid : Option (List ℕ) → Type 0 → Option (List ℕ) → Option (List ℕ) → Type 0
-IsSaid None counted old new = new ≡ old
-IsSaid (Some line) counted old new = (new ≡ put_on old line) ⊎ ((new ≡ old) × counted)
-
 -- the file and the output after a fault: the file is not written to its end and nothing put, or it is whole and a front of the answer's text put, which is not all
 abbrev pub IsPartlyDone : Command → (List ℕ → Told) → Told → Told → Option (List ℕ)
     → Option (List ℕ) → Type 0
@@ -203,7 +185,7 @@ abbrev pub IsRefused : Command → (List ℕ → Told) → Status → Told → T
 IsRefused command told status old new counted out after =
     (r : Refusal) × (status_of r ≡ status) × (core : Option (List ℕ))
     × IsAnswer command told (Gives core (Err r)) × Holds core old new
-    × IsSaid (line_of command r) counted out after
+    × IsSaid (line_of (script_name command) (core_name command) r) counted out after
 
 -- a file that the command reads can't be read, before anything is written or after all is, and the line with that file's name is said
 abbrev pub IsReadFailed : Command → (List ℕ → Told) → Told → Told → Type 0 → Option (List ℕ)
@@ -211,7 +193,7 @@ abbrev pub IsReadFailed : Command → (List ℕ → Told) → Told → Told → 
 IsReadFailed command told old new counted out after = (read : Input)
     × ((ReadsFirst command read × (new ≡ old))
     ⊎ (ReadsBack command read × IsWritten command told old new))
-    × IsSaid (line_of command (refusal.ReadFault read)) counted out after
+    × IsSaid (line_of (script_name command) (core_name command) (refusal.ReadFault read)) counted out after
 
 -- memory ran out before anything was written, or after all was and before anything was put
 abbrev pub IsUnsaid : Command → (List ℕ → Told) → Told → Told → Option (List ℕ) → Option (List ℕ)
@@ -247,23 +229,12 @@ IsUnwritten command status.Damaged = WritesLast command
 IsUnwritten command status.Incompatible = WritesLast command
 IsUnwritten command other = ⊥
 
--- a fault of the outside before the command answers, or want of memory
-abbrev pub IsFaultStatus : Status → Type 0
-IsFaultStatus status.ReadFault = ⊤
-IsFaultStatus status.OutOfMemory = ⊤
-IsFaultStatus other = ⊥
-
 -- all is done, or a write failed or memory ran out
 abbrev pub IsWritingStatus : Status → Type 0
 IsWritingStatus status.Success = ⊤
 IsWritingStatus status.WriteFault = ⊤
 IsWritingStatus status.OutOfMemory = ⊤
 IsWritingStatus other = ⊥
-
--- a status comes exactly where a fact holds, but for a fault of reading and for want of memory
-abbrev pub ComesWhere : Status → Status → Type 0 → Type 0
-ComesWhere status result fact = (result ≡ status → fact)
-    × (fact → (result ≡ status) ⊎ IsFaultStatus result)
 
 -- a fault of the outside, or want of memory
 abbrev pub IsOutsideStatus : Status → Type 0
@@ -308,10 +279,3 @@ IsRunShown script plan core status.Core out after = ⊥
 IsRunShown script plan core status.Damaged out after = ⊥
 IsRunShown script plan core status.Incompatible out after = ⊥
 IsRunShown script plan core other out after = ⊤
-
--- a core is refused: for its bytes, for the layout in its words, or by the look at them
-abbrev pub IsOfCore : Status → Type 0
-IsOfCore status.Core = ⊤
-IsOfCore status.Damaged = ⊤
-IsOfCore status.Incompatible = ⊤
-IsOfCore other = ⊥

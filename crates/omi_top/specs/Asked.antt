@@ -1,10 +1,10 @@
 -- A request of the program as a command.
-use Rattle.std.specs.Prelude.{◌≡◌, ◌≤◌, ◌+◌, ℕ, List, length, IfSome, ⊤}
-use Rattle.omi_top.specs.declared.limits.TheConstants.{LINE_ROOM, MOST_LAYOUT, MOST_NODES}
-use Rattle.omi_top.specs.Command.{Command, Stop, Make, Show, Run, Faulty, input_name}
+use Rattle.std.specs.Prelude.{◌≡◌, ◌≤◌, ℕ, List, IfSome, ⊤}
+use Rattle.omi_command.specs.declared.limits.TheConstants.{MOST_LAYOUT}
+use Rattle.omi_top.specs.declared.limits.TheConstants.{MOST_NODES}
+use Rattle.omi_top.specs.Command.{Command, Stop, Make, Show, Run, Faulty}
 use Rattle.omi_top.specs.Make.{make_text}
 use Rattle.omi_top.specs.declared.plan.Plan.{Plan}
-use Rattle.omi_top.specs.declared.refusal.Input.TheVariants as input
 use Rattle.omi_top.specs.declared.command.Request.{Request}
 use Rattle.omi_top.specs.declared.command.Request.TheVariants as request
 
@@ -36,8 +36,3 @@ IsBounded (request.Make n script) = IsNodes n
 IsBounded (request.Show core) = ⊤
 IsBounded (request.Run plan script core) = IsPossible plan
 IsBounded request.Faulty = ⊤
-
--- a line with any name of a command has room in so many bytes
-pub record HasRoom (command : Command) (room : ℕ) : Type 0 where
-  pub script : length (input_name command input.Script) + LINE_ROOM ≤ room
-  pub core : length (input_name command input.Core) + LINE_ROOM ≤ room

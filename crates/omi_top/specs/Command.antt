@@ -7,8 +7,8 @@ use Rattle.omi_line.specs.Number.{number_of}
 use Rattle.omi_line.specs.declared.line.Line.{Line}
 use Rattle.omi_top.specs.declared.limits.TheConstants.{MOST_NODES}
 use Rattle.omi_top.specs.declared.plan.Plan.{Plan}
-use Rattle.omi_top.specs.declared.refusal.Input.{Input}
-use Rattle.omi_top.specs.declared.refusal.Input.TheVariants as input
+use Rattle.omi_command.specs.declared.refusal.Input.{Input}
+use Rattle.omi_command.specs.declared.refusal.Input.TheVariants as input
 use Rattle.omi_top.specs.Plan.{plan_of}
 
 -- a command of the program, or words that are none
@@ -94,17 +94,20 @@ ReadsCore (Show core) = ⊤
 ReadsCore (Run plan script core) = ⊤
 ReadsCore command = ⊥
 
--- the name that a command's words give to a script or to a core
-abbrev pub input_name : Command → Input → List ℕ
-input_name (Stop plan script core) input.Script = script
-input_name (Stop plan script core) input.Core = core
-input_name (Make n script) input.Script = script
-input_name (Make n script) input.Core = []
-input_name (Show core) input.Script = []
-input_name (Show core) input.Core = core
-input_name (Run plan script core) input.Script = script
-input_name (Run plan script core) input.Core = core
-input_name Faulty named = []
+-- the names that a command gives to a script and to a core, which are empty where it gives none
+abbrev pub script_name : Command → List ℕ
+script_name (Stop plan script core) = script
+script_name (Make n script) = script
+script_name (Show core) = []
+script_name (Run plan script core) = script
+script_name Faulty = []
+
+abbrev pub core_name : Command → List ℕ
+core_name (Stop plan script core) = core
+core_name (Make n script) = []
+core_name (Show core) = core
+core_name (Run plan script core) = core
+core_name Faulty = []
 
 -- the name of the file that a command writes
 abbrev pub written_name : Command → List ℕ

@@ -2,7 +2,7 @@
 use Rattle.std.specs.Prelude.{◌≡◌, ◌⊎◌, ℕ, List, Err, ⊤}
 use Rattle.omi_calls.specs.Told.{word_at}
 use Rattle.omi_calls.specs.CoreWords.{words_of as segment_words}
-use Rattle.omi_corefile.specs.Spelling.{Core, HoldsImage}
+use Rattle.omi_corefile.specs.Spelling.{Core}
 use Rattle.omi_corefile.specs.declared.core_image.CoreImage.{CoreImage}
 use Rattle.omi_layout.specs.Given.{GivesLayout}
 use Rattle.omi_layout.specs.NoLayout.{GivesNone}
@@ -61,10 +61,3 @@ IsDamaged core = ((cause : LayoutError) × GivesNone (memory_of core) cause × I
 -- a file is a core of which this holds
 abbrev pub Spells : List ℕ → (CoreImage → Type 0) → Type 0
 Spells bytes holds = (core : CoreImage) × Core bytes core × holds core
-
--- a file is a core of threads with these native ids, and these words are its image: byte order 0, the ids as contexts, and one segment,
--- from the first address on
-pub record IsCoreOf (ids bytes words : List ℕ) : Type 0 where
-  pub core : CoreImage
-  pub spelled : Core bytes core
-  pub image : HoldsImage ids words core

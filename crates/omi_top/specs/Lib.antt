@@ -5,11 +5,10 @@ pub mod Command
 pub mod Answer
 pub mod Cores
 pub mod Shown
-pub mod Refusal
 pub mod Run
 pub mod Lines
 pub mod Make
--- What private functions of the code stand on: a request as a command, and room for its lines; what a core tells; and a run that was made
+-- What private functions of the code stand on: a request as a command; what a core tells; and a run that was made
 pub mod Asked
 pub mod CoreCalls
 pub mod Ran

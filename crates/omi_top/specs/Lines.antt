@@ -2,14 +2,9 @@
 use Rattle.std.specs.Prelude.{ℕ, List, [], ◌∷◌, ◌++◌, length, codes}
 use Rattle.std.specs.Fmt.{decimal}
 use Rattle.omi_model.specs.declared.event.Event.{Event}
-use Rattle.omi_text.specs.Events.{event_line}
+use Rattle.omi_command.specs.EventLines.{event_lines}
 use Rattle.omi_core.specs.declared.stop.End.{End}
 use Rattle.omi_core.specs.declared.stop.End.TheVariants as end
-
--- the lines of events, each with the number of its step and its thread
-abbrev pub event_lines : List (ℕ × ℕ × Event) → List ℕ
-event_lines [] = []
-event_lines (x ∷ xs) = event_line x.0 x.1 x.2 ++ event_lines xs
 
 -- why a run ended
 abbrev pub end_word : End → List ℕ

@@ -1,20 +1,11 @@
 -- What a run of `stop` is to be, by the word STEPS and the options of its line.
-use Rattle.std.specs.Prelude.{ℕ, List, Option, Some, None, codes, bytes_eq, option_map, option_and_then, if◌then◌else◌}
+use Rattle.std.specs.Prelude.{ℕ, List, Option, Some, None, option_map, option_and_then}
 use Rattle.omi_line.specs.Number.{number_of}
 use Rattle.omi_line.specs.declared.line.Line.{Line}
 use Rattle.omi_core.specs.declared.stop.Break.{Break}
-use Rattle.omi_core.specs.declared.stop.Break.TheVariants as kind
-use Rattle.omi_top.specs.declared.limits.TheConstants.{MOST_STEPS, MOST_SEED, MOST_COUNT, MOST_LAYOUT}
+use Rattle.omi_top.specs.declared.limits.TheConstants.{MOST_STEPS, MOST_SEED, MOST_COUNT}
+use Rattle.omi_command.specs.Options.{break_named, layout_of}
 use Rattle.omi_top.specs.declared.plan.Plan.{Plan}
-
--- the kind of event that a breakpoint's name stands for
-abbrev pub break_named : List ℕ → Option Break
-break_named name =
-    if bytes_eq name (codes "parallel_begin") then Some kind.ParallelBegin
-    else (if bytes_eq name (codes "parallel_end") then Some kind.ParallelEnd
-    else (if bytes_eq name (codes "task_begin") then Some kind.TaskBegin
-    else (if bytes_eq name (codes "task_end") then Some kind.TaskEnd
-    else (if bytes_eq name (codes "thread_begin") then Some kind.ThreadBegin else None))))
 
 -- Each of the following is None where the option is refused.
 
@@ -31,11 +22,6 @@ break_of (Some name) (Some count) =
     (break_named name)
 break_of (Some name) None = None
 break_of None (Some count) = None
-
--- `--layout K`, with K 0 to 15, or family 0
-abbrev pub layout_of : Option (List ℕ) → Option ℕ
-layout_of None = Some 0
-layout_of (Some layout) = number_of layout 0 MOST_LAYOUT
 
 -- the plan of a layout, a seed, a number of steps, and an event at which to stop
 abbrev pub plan_with : ℕ → Option ℕ → ℕ → Option (Break × ℕ) → Plan

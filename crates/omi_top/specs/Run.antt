@@ -1,11 +1,9 @@
 -- A run of a program for `stop`: steps of its threads in the order that the plan says, from the opening words and the opening state on,
 -- how they end, and what the last words show. The words are those of a layout, `w`.
-use Rattle.std.specs.Prelude.{◌≡◌, ◌≤◌, ℕ, List, length, map, Option, Some, None}
-use Rattle.std.specs.List.{range_with_len}
+use Rattle.std.specs.Prelude.{◌≡◌, ◌≤◌, ℕ, List, length, Option, Some, None}
 use Rattle.omi_script.specs.declared.program.Program.{Program}
 use Rattle.omi_model.specs.Reached.{Reached}
 use Rattle.omi_model.specs.State.{State}
-use Rattle.omi_layout.specs.Codes.{native_word}
 use Rattle.omi_layout.specs.SymbolTable.{words_of}
 use Rattle.omi_rep.specs.Shows.{Shows}
 use Rattle.omi_core.specs.declared.entry.Entry.{Entry}
@@ -18,10 +16,6 @@ use Rattle.omi_core.specs.Runs.{events_in}
 use Rattle.omi_core.specs.Schedules.{threads_by}
 use Rattle.omi_core.specs.Steps.{AreStepsOf, events_behind, threads_of}
 use Rattle.omi_top.specs.declared.plan.Plan.{Plan}
-
--- the native ids of so many threads
-abbrev pub thread_ids : ℕ → List ℕ
-thread_ids threads = map native_word (range_with_len 0 threads)
 
 -- the threads make the steps in turn, from thread 0 on, or by pseudo-random numbers from a seed on
 abbrev pub schedule_of : Option ℕ → Schedule

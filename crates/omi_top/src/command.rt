@@ -1,18 +1,16 @@
 //! What a command line asks for.
 
-ghost use Rattle.std.specs.Prelude.{◌≡◌, ◌≤◌, ◌<◌, length, map, string_bytes, IfOk, IfSome};
+ghost use Rattle.std.specs.Prelude.{◌≡◌, IfSome};
 ghost use Rattle.std.specs.List.{All};
 ghost use Rattle.std.specs.Str.{IsUtf8};
-ghost use Rattle.omi_line.specs.Line.{IsText, split_of};
-ghost use Rattle.omi_top.specs.Command.{command_by, has_option, input_name as named, make_by, run_by, show_by, stop_by, verb_by};
+ghost use Rattle.omi_line.specs.Line.{IsText};
+ghost use Rattle.omi_top.specs.Command.{command_by, core_name, has_option, make_by, run_by, script_name, show_by, stop_by, verb_by};
 ghost use Rattle.omi_top.specs.Asked.{asked, IsBounded};
 
 use crate::limits::MOST_NODES;
 use crate::plan::{Plan, plan_of};
-use crate::refusal::Input;
-use crate::word::text_of;
-use omi_line::{Line, LineError, OutOfMemory, Text, number, split};
-use std::alloc::{AllocError, Global};
+use omi_command::{Names, text_of};
+use omi_line::{Line, Text, number};
 
 /// What a command line asks for.
 #[derive(Clone, Copy)]
@@ -35,18 +33,6 @@ pub enum Request<'a> {
         core: &'a str,
     },
     Faulty,
-}
-
-/// The line that words make. None where the rules of words and options refuse them.
-pub fn line_in(alloc: Global, words: &Vec<String>) -> Result<Option<Line>, OutOfMemory>
-    ensures line { IfOk result (λ line. line ≡ split_of (map string_bytes words.now.items)) }
-    ensures text { IfOk result (λ line. IfSome line IsText) }
-{
-    match split(alloc, words) {
-        Ok(line) => Ok(Some(line)),
-        Err(LineError::Usage) => Ok(None),
-        Err(LineError::OutOfMemory) => Err(AllocError),
-    }
 }
 
 /// Whether a line has an option.
@@ -151,39 +137,20 @@ pub fn request_of(line: &Option<Line>) -> Request<'_>
     }
 }
 
-/// The name that a request gives to a script or to a core.
-pub fn input_name(request: Request<'_>, input: Input) -> &str
-    ensures { result.now ≡ named (asked request.entry) input }
-{
-    match request {
-        Request::Stop { script, core, .. } | Request::Run { script, core, .. } => match input {
-            Input::Script => script,
-            Input::Core => core,
-        },
-        Request::Make { script, .. } => match input {
-            Input::Script => script,
-            Input::Core => "",
-        },
-        Request::Show { core } => match input {
-            Input::Script => "",
-            Input::Core => core,
-        },
-        Request::Faulty => "",
-    }
-}
-
-/// The number of bytes of the longest name in a request.
-pub fn longest_name(request: Request<'_>) -> usize
-    ensures script { length (named (asked request.entry) Input.Script) ≤ result }
-    ensures core { length (named (asked request.entry) Input.Core) ≤ result }
-    ensures small { result < 9223372036854775808 }
+/// The names of files in a request.
+pub fn names_of(request: Request<'_>) -> Names<'_>
+    ensures script { result.script.now ≡ script_name (asked request.entry) }
+    ensures core { result.core.now ≡ core_name (asked request.entry) }
 {
     match request {
         Request::Stop { script, core, .. } | Request::Run { script, core, .. } => {
-            script.len().max(core.len())
+            Names { script, core }
         }
-        Request::Make { script, .. } => script.len(),
-        Request::Show { core } => core.len(),
-        Request::Faulty => 0,
+        Request::Make { script, .. } => Names { script, core: "" },
+        Request::Show { core } => Names { script: "", core },
+        Request::Faulty => Names {
+            script: "",
+            core: "",
+        },
     }
 }

@@ -5,17 +5,12 @@ mod command;
 mod core_calls;
 mod limits;
 mod lines;
-mod load;
 mod make;
 mod plan;
-mod refusal;
-mod refusal_line;
 mod run;
 mod run_and_show;
 mod show;
 mod stop;
 mod top;
-mod word;
 
-pub use refusal::{Input, Refusal};
 pub use top::run_top;

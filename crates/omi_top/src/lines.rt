@@ -1,25 +1,14 @@
 //! What a run prints.
 
 ghost use Rattle.std.specs.Prelude.{◌≡◌, ◌++◌, ◌≤◌, IfOk, OnOk, string_bytes};
-ghost use Rattle.omi_top.specs.Lines.{event_lines, end_word, end_line, run_text};
+ghost use Rattle.omi_command.specs.EventLines.{event_lines};
+ghost use Rattle.omi_top.specs.Lines.{end_word, end_line, run_text};
 
+use omi_command::push_event_lines;
 use omi_core::End;
 use omi_events::EventList;
-use omi_text::push_event_line;
 use std::alloc::{AllocError, Global};
 use std::fmt::Write;
-
-/// Adds the line of each event.
-fn push_lines(text: &mut String, events: &EventList) -> Result<(), AllocError>
-    ensures { OnOk result
-        (string_bytes text.new ≡ string_bytes text.old ++ event_lines events.now.items) }
-{
-    for at in 0..events.len() {
-        let (step, thread, event) = events.get(at);
-        push_event_line(text, step, thread, &event)?;
-    }
-    Ok(())
-}
 
 /// The word for why a run ended.
 pub fn word_of(why: End) -> &'static str
@@ -42,7 +31,7 @@ pub fn text_of(
     ensures { IfOk result (λ text. string_bytes text ≡ run_text events.now.items steps why) }
 {
     let mut text = String::new(alloc);
-    push_lines(&mut text, events)?;
+    push_event_lines(&mut text, events)?;
     let count = events.len();
     let why = word_of(why);
     write!(text, "end steps {steps} events {count} by {why}\n")?;

@@ -9,11 +9,11 @@ ghost use Rattle.omi_top.specs.Asked.{IsMadeText, IsNodes};
 ghost use Rattle.omi_top.specs.Command.{Make};
 ghost use Rattle.omi_top.specs.Make.{IsMade, made_line, make_text};
 
-use crate::Refusal;
 use crate::limits::MOST_STEPS;
 use crate::lines::word_of;
 use crate::plan::Plan;
 use crate::run::run_of;
+use omi_command::Refusal;
 use omi_core::{Break, End, Stop};
 use omi_events::EventList;
 use omi_model::Event;

@@ -1,13 +1,13 @@
 //! What a run of `stop` is to be, by the words and options of its line.
 
 ghost use Rattle.std.specs.Prelude.{◌≡◌, ◌≤◌, IfSome};
-ghost use Rattle.omi_top.specs.Plan.{break_named, break_of, layout_of, plan_of, seed_of};
+ghost use Rattle.omi_top.specs.Plan.{break_of, plan_of, seed_of};
 ghost use Rattle.omi_top.specs.Asked.{IsPossible};
 ghost use Rattle.omi_top.specs.Run.{schedule_of};
 ghost use Rattle.omi_line.specs.Line.{IsText};
 
-use crate::limits::{MOST_COUNT, MOST_LAYOUT, MOST_SEED, MOST_STEPS};
-use crate::word::text_of;
+use crate::limits::{MOST_COUNT, MOST_SEED, MOST_STEPS};
+use omi_command::{break_named, layout_of, text_of};
 use omi_core::{Break, Schedule, Stop};
 use omi_line::{Line, Text, number};
 
@@ -31,20 +31,6 @@ impl Plan {
             Some(seed) => Schedule::Seed(seed),
             None => Schedule::RoundRobin,
         }
-    }
-}
-
-/// The kind of event that a breakpoint's name stands for.
-fn break_named(name: &str) -> Option<Break>
-    ensures { result ≡ break_named name.now }
-{
-    match name {
-        "parallel_begin" => Some(Break::ParallelBegin),
-        "parallel_end" => Some(Break::ParallelEnd),
-        "task_begin" => Some(Break::TaskBegin),
-        "task_end" => Some(Break::TaskEnd),
-        "thread_begin" => Some(Break::ThreadBegin),
-        _ => None,
     }
 }
 
@@ -73,17 +59,6 @@ fn break_of(line: &Line) -> Option<Option<(Break, u32)>>
         }
         (None, None) => Some(None),
         _ => None,
-    }
-}
-
-/// What `--layout` says, and family 0 without it. None where it is no number in its range.
-fn layout_of(line: &Line) -> Option<u8>
-    ensures said { result ≡ layout_of line.now.layout }
-    ensures few { IfSome result (λ k. k ≤ MOST_LAYOUT) }
-{
-    match &line.layout {
-        Some(text) => Some(number(text, 0, MOST_LAYOUT)? as u8),
-        None => Some(0),
     }
 }
 

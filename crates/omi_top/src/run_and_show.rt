@@ -5,12 +5,12 @@ ghost use Rattle.omi_outside.specs.Outside.{HasCause};
 ghost use Rattle.omi_top.specs.Answer.{AreTold, IsAnswered, IsUnwritten};
 ghost use Rattle.omi_top.specs.Asked.{IsPossible};
 ghost use Rattle.omi_top.specs.Command.{Run};
-ghost use Rattle.omi_top.specs.Refusal.{IsReadFault, status_of};
+ghost use Rattle.omi_command.specs.Refusal.{IsReadFault, status_of};
 
-use crate::Refusal;
 use crate::plan::Plan;
 use crate::show::show;
 use crate::stop::stop;
+use omi_command::Refusal;
 use omi_outside::Files;
 use std::alloc::Global;
 

@@ -12,16 +12,14 @@ ghost use Rattle.omi_top.specs.Answer.{Gives, AreTold, IsAnswered, IsShowAnswer,
 ghost use Rattle.omi_top.specs.Command.{Show};
 ghost use Rattle.omi_top.specs.CoreCalls.{told_of_core};
 ghost use Rattle.omi_top.specs.Cores.{IsLooked, memory_of};
-ghost use Rattle.omi_top.specs.Refusal.{IsReadFault, status_of};
+ghost use Rattle.omi_command.specs.Refusal.{IsReadFault, status_of};
 ghost use Rattle.omi_outside.specs.declared.status.Status.TheVariants.{Script};
 ghost use Rattle.omi_top.specs.Shown.{IsRefusedCore};
 
-use crate::Refusal;
 use crate::core_calls::CoreCalls;
 use crate::limits::CORE_FRONT;
-use crate::load::load;
-use crate::refusal::Input;
 use omi_calls::{Table, ToHost};
+use omi_command::{Input, Refusal, load};
 use omi_corefile::{CoreImage, decode};
 use omi_model::View;
 use omi_outside::Files;

@@ -1,55 +1,30 @@
 //! The command `stop`.
 
-ghost use Rattle.std.specs.Prelude.{◌≡◌, ◌≢◌, ◌⊎◌, List, ℕ, Some, IfOk, IfErr, IsErrAnd, IsErrOf, take, string_bytes};
+ghost use Rattle.std.specs.Prelude.{◌≡◌, ◌≢◌, List, ℕ, IfOk, IfErr, IsErrAnd, IsErrOf, string_bytes};
 ghost use Rattle.omi_outside.specs.Outside.{HasCause};
-ghost use Rattle.omi_script.specs.Grammar.{Grammar};
-ghost use Rattle.omi_top.specs.Answer.{AreTold, IsAnswered, IsStopRefusal, IsStopped, IsUnwritten, IsOfCore};
+ghost use Rattle.omi_top.specs.Answer.{AreTold, IsAnswered, IsStopped, IsUnwritten};
+ghost use Rattle.omi_command.specs.Statuses.{IsOfCore};
 ghost use Rattle.omi_top.specs.Command.{Stop as StopCommand};
 ghost use Rattle.omi_top.specs.Asked.{IsPossible};
-ghost use Rattle.omi_top.specs.Refusal.{IsReadFault, status_of};
-ghost use Rattle.omi_top.specs.Run.{thread_ids};
+ghost use Rattle.omi_command.specs.Refusal.{IsReadFault, status_of};
 
-use crate::Refusal;
-use crate::limits::SCRIPT_FRONT;
 use crate::lines::text_of;
-use crate::load::load;
 use crate::plan::Plan;
-use crate::refusal::Input;
 use crate::run::run_of;
-use omi_corefile::core_bytes_of;
+use omi_command::{Refusal, core_file_of, program_of};
 use omi_outside::{Files, write_whole};
-use omi_script::{Program, parse};
-use omi_word::{Natives, OutOfMemory};
+use omi_script::Program;
+use omi_word::OutOfMemory;
 use std::alloc::Global;
-
-/// The program of a script.
-fn program(alloc: Global, bytes: &[u8]) -> Result<Program, Refusal>
-    ensures accepted { IfOk result (λ p. Grammar bytes.now p) }
-    ensures refused { IfErr result
-        (λ r. IsStopRefusal (Some bytes.now) r ⊎ (r ≡ Refusal.OutOfMemory)) }
-{
-    Ok(parse(alloc, bytes)?)
-}
-
-/// The native ids of so many threads.
-fn contexts_of(alloc: Global, threads: u8) -> Result<Natives, OutOfMemory>
-    ensures { IfOk result (λ ids. ids ≡ thread_ids threads) }
-{
-    let mut ids = Natives::new(alloc);
-    for thread in 0..threads {
-        ids.push(1000 + u64::from(thread))?;
-    }
-    Ok(ids)
-}
 
 /// Runs a program by a plan, and answers the bytes of its core and what it prints.
 fn stopped(alloc: Global, p: Program, plan: Plan) -> Result<(Vec<u8>, String), OutOfMemory>
     requires { IsPossible plan }
     ensures { IfOk result (λ made. IsStopped p plan made.0.items (string_bytes made.1)) }
 {
-    let contexts = contexts_of(alloc, p.threads)?;
+    let threads = p.threads;
     let ran = run_of(alloc, p, plan)?;
-    let bytes = core_bytes_of(alloc, ran.core.image(), &contexts)?;
+    let bytes = core_file_of(alloc, ran.core.image(), threads)?;
     let text = text_of(alloc, ran.core.events(), ran.steps, ran.why)?;
     Ok((bytes, text))
 }
@@ -83,8 +58,7 @@ pub fn stop<F: Files, W: Files>(
     ensures others { (other : List ℕ) → other ≢ core.now
         → W.told dest.new other ≡ W.told dest.old other }
 {
-    let bytes = load(alloc, Input::Script, script, SCRIPT_FRONT, files)?;
-    let p = program(alloc, &bytes)?;
+    let p = program_of(alloc, script, files)?;
     let (image, text) = stopped(alloc, p, plan)?;
     write_whole(dest, core, &image)?;
     Ok(text.into_bytes())

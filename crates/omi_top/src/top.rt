@@ -2,35 +2,37 @@
 
 ghost use Rattle.std.specs.Prelude.{◌≡◌, ◌⊎◌, ◌≤◌, ◌∷◌, ◌++◌, [], codes, List, ℕ, Option, Some, None, IfOk, IfErr, IsErrAnd, IsErrOf, map, string_bytes};
 ghost use Rattle.std.specs.String.{string_capacity};
-ghost use Rattle.omi_outside.specs.Outside.{HasCause, Rose, IsPutCut, holding, put_on};
+ghost use Rattle.omi_outside.specs.Outside.{HasCause, Rose, holding, put_on};
 ghost use Rattle.omi_corefile.specs.Refusals.{CoreRefused};
 ghost use Rattle.omi_corefile.specs.declared.fault.CoreFault.{CoreFault};
 ghost use Rattle.omi_script.specs.Grammar.{Grammar, Refused as RefusedScript};
 ghost use Rattle.omi_script.specs.declared.fault.ScriptFault.{ScriptFault};
 ghost use Rattle.omi_script.specs.declared.program.Program.{Program};
-ghost use Rattle.omi_top.specs.Command.{Command, Stop, Make, Show, Run, Faulty, ReadsCore, command_in, written_name, Writes};
+ghost use Rattle.omi_top.specs.Command.{Stop, Make, Show, Run, Faulty, ReadsCore, command_in, core_name, script_name, written_name, Writes};
 ghost use Rattle.omi_top.specs.declared.plan.Plan.{Plan};
-ghost use Rattle.omi_top.specs.Asked.{asked, HasRoom, IsBounded};
-ghost use Rattle.omi_top.specs.Answer.{AreTold, IsAnswered, IsStopped, IsSaid, IsCounted, IsLeft, IsUnwritten, ComesWhere, ComesBehind, HoldsProgram, IsReadBackStatus, IsReportOf, IsRunShown, IsShown, IsWritingStatus, IsOfCore};
+ghost use Rattle.omi_top.specs.Asked.{asked, IsBounded};
+ghost use Rattle.omi_command.specs.Refusal.{HasRoom, IsReadFault, status_of};
+ghost use Rattle.omi_top.specs.Answer.{AreTold, IsAnswered, IsStopped, IsLeft, IsUnwritten, ComesBehind, IsReadBackStatus, IsReportOf, IsRunShown, IsShown, IsWritingStatus};
+ghost use Rattle.omi_command.specs.Said.{IsSaid, IsCounted};
+ghost use Rattle.omi_command.specs.Statuses.{ComesWhere, IsOfCore};
+ghost use Rattle.omi_command.specs.Scripts.{HoldsProgram};
 ghost use Rattle.omi_top.specs.Make.{IsMade, make_text};
 ghost use Rattle.omi_top.specs.Cores.{IsDamaged, IsIncompatible, IsLooked, ShowsState, Spells};
-ghost use Rattle.omi_top.specs.Run.{thread_ids};
+ghost use Rattle.omi_command.specs.Cores.{IsReachedCore, thread_ids};
 ghost use Rattle.omi_corefile.specs.Spelling.{Core};
 ghost use Rattle.omi_corefile.specs.declared.core_image.CoreImage.{CoreImage};
-ghost use Rattle.omi_top.specs.Refusal.{IsReadFault, line_of as refusal_line, status_of};
 ghost use Rattle.omi_model.specs.State.{State};
 ghost use Rattle.omi_model.specs.Views.{IsViewOf};
 ghost use Rattle.omi_model.specs.declared.view.View.{View};
 ghost use Rattle.omi_text.specs.Report.{report as report_of};
 
-use crate::Refusal;
-use crate::command::{Request, line_in, request_of};
+use crate::command::{Request, names_of, request_of};
 use crate::make::make;
-use crate::refusal_line::{line_of, room_for};
 use crate::run_and_show::run_and_show;
 use crate::show::show;
 use crate::stop::stop;
-use omi_outside::{Files, Refused, Sink, Status, put_whole};
+use omi_command::{Refusal, line_in, print, refuse, refuse_words, room_for};
+use omi_outside::{Files, Sink, Status};
 use std::alloc::Global;
 
 /// Does all but the printing.
@@ -72,55 +74,6 @@ fn perform<F: Files, W: Files>(
     }
 }
 
-/// Puts the line of a refusal, made in the room that there is for it. Its status stays where the
-/// line can't be put.
-fn refuse<K: Sink>(request: Request<'_>, refusal: Refusal, room: &mut String, out: &mut K) -> Status
-    requires empty { string_bytes room.old ≡ [] }
-    requires enough { HasRoom (asked request) (string_capacity room.old) }
-    ensures status { result ≡ status_of refusal }
-    ensures line { IsSaid (refusal_line (asked request.entry) refusal)
-        (IsCounted (K.faults out.old) (K.faults out.new) (K.wants out.old) (K.wants out.new))
-        (K.told out.old) (K.told out.new) }
-    ensures faults { K.faults out.old ≤ K.faults out.new }
-    ensures wants { K.wants out.old ≤ K.wants out.new }
-{
-    if let Some(line) = line_of(request, refusal, room) {
-        let _ = out.put(line.as_bytes());
-    }
-    refusal.status()
-}
-
-/// Puts the text of an answer.
-fn print<K: Sink>(text: &[u8], out: &mut K) -> Status
-    ensures success { result ≡ Status.Success → K.told out.new ≡ put_on (K.told out.old) text.now }
-    ensures cut { (result ≡ Status.Success)
-        ⊎ IsPutCut text.now (K.told out.old) (K.told out.new) }
-    ensures status { (result ≡ Status.Success)
-        ⊎ ((result ≡ Status.WriteFault) ⊎ (result ≡ Status.OutOfMemory)) }
-    ensures not_of_core { IsOfCore result → ⊥ }
-    ensures cause { HasCause (K.faults out.old) (K.faults out.new) (result ≡ Status.WriteFault) }
-    ensures wants { K.wants out.old ≤ K.wants out.new }
-{
-    match put_whole(out, text) {
-        Ok(()) => Status::Success,
-        Err(Refused::Failed) => Status::WriteFault,
-        Err(Refused::OutOfMemory) => Status::OutOfMemory,
-    }
-}
-
-/// Puts the line of refused words, which needs no memory.
-fn refuse_words<K: Sink>(out: &mut K) -> Status
-    ensures status { result ≡ Status.Usage }
-    ensures line { IsSaid (Some (codes "usage" ++ 10 ∷ []))
-        (IsCounted (K.faults out.old) (K.faults out.new) (K.wants out.old) (K.wants out.new))
-        (K.told out.old) (K.told out.new) }
-    ensures faults { K.faults out.old ≤ K.faults out.new }
-    ensures wants { K.wants out.old ≤ K.wants out.new }
-{
-    let _ = out.put(b"usage\n");
-    Status::Usage
-}
-
 /// Does what a request asks for, and prints. The room is for the line of a refusal.
 fn carry_out_in<F: Files, W: Files, K: Sink>(
     alloc: Global,
@@ -132,7 +85,8 @@ fn carry_out_in<F: Files, W: Files, K: Sink>(
 ) -> Status
     requires bounded { IsBounded request }
     requires empty { string_bytes room.old ≡ [] }
-    requires enough { HasRoom (asked request) (string_capacity room.old) }
+    requires enough { HasRoom (script_name (asked request)) (core_name (asked request))
+        (string_capacity room.old) }
     ensures of_core { IsOfCore result → ReadsCore (asked request.entry) }
     ensures usage { result ≡ Status.Usage → asked request.entry ≡ Faulty }
     ensures read_fault { result ≡ Status.ReadFault → Rose (F.reads files.old) (F.reads files.new) }
@@ -158,7 +112,7 @@ fn carry_out_in<F: Files, W: Files, K: Sink>(
 {
     match perform(alloc, request, files, dest) {
         Ok(text) => print(&text, out),
-        Err(refusal) => refuse(request, refusal, room, out),
+        Err(refusal) => refuse(names_of(request), refusal, room, out),
     }
 }
 
@@ -202,7 +156,7 @@ fn carry_out<F: Files, W: Files, K: Sink>(
     if let Request::Faulty = request {
         return refuse_words(out);
     }
-    match room_for(alloc, request) {
+    match room_for(alloc, names_of(request)) {
         Ok(mut room) => carry_out_in(alloc, request, &mut room, files, dest, out),
         Err(_) => Status::OutOfMemory,
     }
@@ -303,6 +257,12 @@ pub fn run_top<F: Files, W: Files, K: Sink>(
         → command_in words.now ≡ Show core → F.told files.old core ≡ Some (Some bytes)
         → (p : Program) (plan : Plan) (text : List ℕ) (run : IsStopped p plan bytes text)
         → IsShown run.state (thread_ids p.threads) result (K.told out.old) (K.told out.new) }
+
+    // And of any core whose words show a state that events of a program reach, whoever wrote it.
+    ensures shown_reached { (core bytes : List ℕ)
+        → command_in words.now ≡ Show core → F.told files.old core ≡ Some (Some bytes)
+        → (p : Program) (ids : List ℕ) (s : State) → IsReachedCore p ids bytes s
+        → IsShown s ids result (K.told out.old) (K.told out.new) }
 
     // With `run` the core is written as with `stop`, and then the bytes under CORE in `files` are
     // read and judged as with `show`. The script is judged first.

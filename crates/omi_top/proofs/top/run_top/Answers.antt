@@ -1,9 +1,10 @@
 use Rattle.std.proofs.Common.{◌≡◌, ◌∙◌, ap, Some}
 use Rattle.omi_top.specs.Asked.{asked}
-use Rattle.omi_top.specs.Answer.{AreTold, IsCounted, IsLeft}
+use Rattle.omi_top.specs.Answer.{AreTold, IsLeft}
+use Rattle.omi_command.specs.Said.{IsCounted}
 use Rattle.omi_top.specs.Command.{Command, Stop, Make, Show, Run, command_by, command_in, written_name}
 use Rattle.omi_top.proofs.Left.{left_by}
-use Rattle.omi_top.proofs.LeftByShow.{no_file as no_core, core_refused, incompatible, damaged, report_put, shown, shown_again}
+use Rattle.omi_top.proofs.LeftByShow.{no_file as no_core, core_refused, incompatible, damaged, report_put, shown, shown_again, shown_reached}
 use Rattle.omi_top.proofs.LeftByRun.{core_refused as run_core_refused, damaged as run_damaged, incompatible as run_incompatible, no_file as run_no_file, put_report, script_refused as run_script_refused, shown as run_shown, wrote}
 use Rattle.omi_top.proofs.LeftByMake.{success as made, writing}
 use Rattle.omi_top.proofs.LeftByStop.{no_file, script_refused, success}
@@ -64,6 +65,9 @@ returns-in-Ok-clause-shown g c = λ core bytes command told image spelled s show
 
 pub returns-in-Ok-clause-shown_again : goal.returns-in-Ok-clause-shown_again
 returns-in-Ok-clause-shown_again g c = λ core bytes command told p plan text run. shown_again core (g.F.Files.told c.args.files.now) _ _ _ _ _ _ bytes told p plan text run (left_of g c (Show core) (asked_is g c ∙ command) (Some bytes, told))
+
+pub returns-in-Ok-clause-shown_reached : goal.returns-in-Ok-clause-shown_reached
+returns-in-Ok-clause-shown_reached g c = λ core bytes command told p ids s reached. shown_reached core (g.F.Files.told c.args.files.now) _ _ _ _ _ _ bytes told p ids s reached (left_of g c (Show core) (asked_is g c ∙ command) (Some bytes, told))
 
 pub returns-in-Ok-clause-run_script : goal.returns-in-Ok-clause-run_script
 returns-in-Ok-clause-run_script g c = λ plan script core bytes content command told back. run_script_refused plan script core (g.F.Files.told c.args.files.now) _ _ _ _ _ _ bytes content told back (left_of g c (Run plan script core) (asked_is g c ∙ command) ((Some bytes, told), (content, back)))

@@ -1,0 +1,6 @@
+pub mod Digits
+pub mod FieldNames
+pub mod ThreadIds
+pub mod CoreFiles
+pub mod EventLines
+pub mod Scripts

@@ -1,0 +1,28 @@
+//! What the commands of all programs share: the files that they read, the core that a run leaves, the lines that they print, and why
+//! they end without an answer.
+#![tactic(auto)]
+
+mod cores;
+mod event_lines;
+pub mod limits;
+mod names;
+mod options;
+mod program;
+mod put;
+mod reading;
+mod refusal;
+mod refusal_line;
+mod script;
+mod words;
+
+pub use cores::core_file_of;
+pub use event_lines::push_event_lines;
+pub use names::Names;
+pub use options::{break_named, layout_of};
+pub use program::{handed_over, words_of};
+pub use put::{print, refuse, refuse_words};
+pub use reading::load;
+pub use refusal::{Input, Refusal};
+pub use refusal_line::room_for;
+pub use script::program_of;
+pub use words::{line_in, text_of};
