@@ -37,7 +37,8 @@ module _ (a : Run) (k : KeepsRun a) where
       (record { field = numbered_field f; record_slot = subst (λ q. IsSlot a.table q n.0.creator n.0.slot) (sym kind) there; within = wide (number f) })
       ∙ ap Some is
 
-  counted : Counts a.table a.words k.state
+  -- the words count the arrivals and releases of the state
+  pub counted : Counts a.table a.words k.state
   counted n seen =
       let kept = region_kept a.program a.table (memory_of a.table a.words) (events_in a.events.items) k.state (actors_in a.actors) k.rule n seen.region seen.live in
       (stands n seen RegionArrived _ refl kept.arrived, stands n seen RegionReleased _ refl kept.released)

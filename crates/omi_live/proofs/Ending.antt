@@ -7,6 +7,7 @@ use Rattle.omi_script.specs.declared.program.Program.{Program}
 use Rattle.omi_model.specs.declared.event.Event.{Event}
 use Rattle.omi_model.specs.Reached.{Reached}
 use Rattle.omi_layout.specs.declared.layout.Layout.{Layout}
+use Rattle.omi_layout.specs.Given.{HasTables}
 use Rattle.omi_layout.specs.SymbolTable.{words_of}
 use Rattle.omi_pc.specs.declared.actor.Actor.{Actor}
 use Rattle.omi_pc.specs.Opening.{opening_actor}
@@ -15,8 +16,10 @@ use Rattle.omi_core.specs.declared.entry.Entry.{Entry}
 use Rattle.omi_core.specs.declared.stop.Break.{Break}
 use Rattle.omi_core.specs.declared.thread_run.ThreadRun.{ThreadRun}
 use Rattle.omi_core.specs.declared.thread_run.Until.TheVariants as until
+use Rattle.omi_core.specs.Histories.{Counts}
 use Rattle.omi_core.specs.Runs.{events_in}
 use Rattle.omi_core.specs.Steps.{AreStepsOf, events_behind, steps_of}
+use Rattle.omi_core.proofs.Histories.{counted}
 use Rattle.omi_core.proofs.Stepping.{shows_state}
 use Rattle.omi_live.specs.declared.known.Part.{Part}
 use Rattle.omi_live.specs.Found.{actor_after, actor_behind, entries_from, entry_at}
@@ -69,6 +72,8 @@ module _ (p : Program) (l : Layout) (budget : ℕ) (on : Option Break) (s : Stat
     steps = subst (λ (z : Program × List ℕ × List ℕ). AreStepsOf z.0 z.1 h.keeps.run.entries z.2 h.keeps.run.state) (λ k. (h.program k, h.table k, sym is k)) h.keeps.run.made_by.steps;
     reached = subst (λ (z : Program × List (ℕ × ℕ × Event)). Reached z.0 (events_in z.1) h.keeps.run.state) (λ k. (h.program k, h.keeps.run.made_by.events k)) h.keeps.run.rule.reached;
     shows = subst (λ (z : List ℕ × List ℕ). Shows z.0 (words_of z.1) h.keeps.run.state) (λ k. (h.table k, sym is k)) (shows_state h.run h.keeps.run h.keeps.run.state h.keeps.run.rule.reached);
+    tables = subst (λ (z : List ℕ × List ℕ). HasTables z.0 z.1) (λ k. (h.table k, sym is k)) h.keeps.run.tables;
+    counts = subst (λ (z : List ℕ × List ℕ). Counts z.0 z.1 h.keeps.run.state) (λ k. (h.table k, sym is k)) (counted h.run h.keeps.run);
     threads = count;
     each = run_is;
     stopped = λ i r got stopped. let one = part_of_run i r got in why_stopped h.stop_word (one.1.told (one.2.worked.stopped stopped));

@@ -5,6 +5,7 @@ use Rattle.omi_script.specs.declared.program.Program.{Program}
 use Rattle.omi_model.specs.Reached.{Reached}
 use Rattle.omi_model.specs.State.{State}
 use Rattle.omi_layout.specs.declared.layout.Layout.{Layout}
+use Rattle.omi_layout.specs.Given.{HasTables}
 use Rattle.omi_layout.specs.SymbolTable.{words_of}
 use Rattle.omi_pc.specs.Opening.{opening_actor}
 use Rattle.omi_rep.specs.Shows.{Shows}
@@ -12,6 +13,7 @@ use Rattle.omi_core.specs.declared.entry.Entry.{Entry}
 use Rattle.omi_core.specs.declared.stop.Break.{Break}
 use Rattle.omi_core.specs.declared.thread_run.ThreadRun.{ThreadRun}
 use Rattle.omi_core.specs.declared.thread_run.Until.TheVariants as until
+use Rattle.omi_core.specs.Histories.{Counts}
 use Rattle.omi_core.specs.Runs.{events_in}
 use Rattle.omi_core.specs.RunSteps.{made_of}
 use Rattle.omi_core.specs.Steps.{AreStepsOf, events_behind, steps_of}
@@ -33,14 +35,17 @@ pub record IsRunOf (p : Program) (l : Layout) (budget : ℕ) (on : Option Break)
   pub reason : IsUntil budget es r.until
 
 -- These words and threads are those of a list of steps in some order, which holds of each thread exactly its own steps in their order.
--- The words show the state that the events reach in that order
+-- The words begin with the tables of the layout. They show the state that the events reach in that order, and count its arrivals and
+-- releases
 pub record IsLive (p : Program) (l : Layout) (budget : ℕ) (on : Option Break) (words : List ℕ)
     (runs : List ThreadRun) : Type 0 where
   pub entries : List (ℕ × Entry)
   pub state : State
   pub steps : AreStepsOf p l.table entries words state
   pub reached : Reached p (events_in (events_behind 0 entries)) state
+  pub tables : HasTables l.table words
   pub shows : Shows l.table (words_of words) state
+  pub counts : Counts l.table words state
   pub threads : length runs ≡ p.threads
   pub each : (i : ℕ) (r : ThreadRun) → slice_get runs i ≡ Some r
       → IsRunOf p l budget on i (steps_of i entries) r

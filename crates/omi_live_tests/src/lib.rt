@@ -1,5 +1,7 @@
-//! Tests of running threads.
+//! Tests of running threads: the run itself, and the top call over it.
 #![tactic(auto)]
 
 #[cfg(test)]
 mod live_tests;
+#[cfg(test)]
+mod top_tests;

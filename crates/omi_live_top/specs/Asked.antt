@@ -1,0 +1,19 @@
+-- A request of the program as a command.
+use Rattle.std.specs.Prelude.{◌≤◌}
+use Rattle.omi_command.specs.declared.limits.TheConstants.{MOST_LAYOUT}
+use Rattle.omi_live.specs.declared.limits.TheConstants.{MOST_BUDGET}
+use Rattle.omi_live_top.specs.Command.{Command}
+use Rattle.omi_live_top.specs.declared.command.Plan.{Plan}
+use Rattle.omi_live_top.specs.declared.command.Request.{Request}
+
+abbrev pub asked : Request → Command
+asked request = record {
+  plan = request.plan;
+  script = request.names.script.now;
+  core = request.names.core.now;
+}
+
+-- the layout is one of the families, and the budget is not too large
+pub record IsPossible (plan : Plan) : Type 0 where
+  pub layout : plan.layout ≤ MOST_LAYOUT
+  pub budget : plan.budget ≤ MOST_BUDGET

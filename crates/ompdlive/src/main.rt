@@ -1,0 +1,19 @@
+// The program: `live_top` over real files and standard output.
+#![tactic(auto)]
+
+use omi_command::{handed_over, words_of};
+use omi_live_top::live_top;
+use omi_outside::{DiskFiles, FreeGate, Status, StdSink, hold_standard};
+use std::process::ExitCode;
+
+fn main(rt: HostRuntime) -> ExitCode {
+    // While these are held, no file gets a descriptor of standard output.
+    let _held = (hold_standard(&rt), hold_standard(&rt), hold_standard(&rt));
+    let Ok(words) = words_of(&rt) else {
+        return ExitCode::from(Status::OutOfMemory.code());
+    };
+    let mut files = DiskFiles::new(&rt);
+    let mut out = StdSink::new(&rt);
+    let status = live_top(&rt, rt.alloc(), &words, &mut files, &mut out, &FreeGate);
+    ExitCode::from(handed_over(status, &mut files).code())
+}
