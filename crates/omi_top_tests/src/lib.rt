@@ -6,16 +6,10 @@ mod layout_tests;
 #[cfg(test)]
 mod make_tests;
 #[cfg(test)]
-mod option_tests;
-#[cfg(test)]
 mod run_tests;
 #[cfg(test)]
 mod show_tests;
 #[cfg(test)]
-mod shown_team_tests;
-#[cfg(test)]
 mod size_tests;
-#[cfg(test)]
-mod team_tests;
 #[cfg(test)]
 mod tests;

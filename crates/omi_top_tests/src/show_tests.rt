@@ -1,6 +1,6 @@
 //! Runs of `show` through the top call, and each of its refusals.
 
-use crate::tests::{CHANGED, EMPTY, UNTRACKED, run, words};
+use crate::tests::{CHANGED, EMPTY, run, words};
 use omi_outside::{Call, MemFiles, MemSink, Status};
 use omi_top::run_top;
 use std::alloc::{AllocError, Global};
@@ -24,40 +24,6 @@ region r0.0.0 function 0x400000 levels-var=0 active-levels-var=0 team-size-var=1
 member 0 thread 0 task k0.0.0
 task k0.0.0 thread 0 kind implicit region r0.0.0 function 0x400000 generating none scheduling none exit 0x7f00000fffc0 enter 0x0 tool 0
 icv dyn-var=1 nthreads-var=3,2 run-sched-var=static,0 default-device-var=0 final-task-var=0 implicit-task-var=1
-";
-
-/// The reports of a finished run whose states are not kept, and of the opening words where every head line is given.
-const NOT_KEPT: &str = "ompd 201811 threads 1 debug disabled
-icv num-procs-var=4 max-active-levels-var=8
-thread 0 native 1000 state untracked wait 0 thread-num-var=0 current k0.0.0
-region r0.0.0 function 0x400000 levels-var=0 active-levels-var=0 team-size-var=1 enclosing none
-member 0 thread 0 task k0.0.0
-task k0.0.0 thread 0 kind implicit region r0.0.0 function 0x400000 generating none scheduling none exit 0x7f00000fffc0 enter 0x0 tool 0
-icv dyn-var=0 nthreads-var=1 run-sched-var=static,0 default-device-var=0 final-task-var=0 implicit-task-var=1
-";
-
-const HEADS: &str = "threads 1
-env num_threads 5,6,7
-env dynamic true
-env max_active_levels 0
-env schedule guided,7
-env device 9
-env debug enabled
-env procs 65535
-func other
-  work
-end
-func main
-end
-";
-
-const HEADS_SHOWN: &str = "ompd 201811 threads 1 debug enabled
-icv num-procs-var=65535 max-active-levels-var=0
-thread 0 native 1000 state work_serial wait 0 thread-num-var=0 current k0.0.0
-region r0.0.0 function 0x400010 levels-var=0 active-levels-var=0 team-size-var=1 enclosing none
-member 0 thread 0 task k0.0.0
-task k0.0.0 thread 0 kind implicit region r0.0.0 function 0x400010 generating none scheduling none exit 0x7f00000fffc0 enter 0x0 tool 0
-icv dyn-var=1 nthreads-var=5,6,7 run-sched-var=guided,7 default-device-var=9 final-task-var=0 implicit-task-var=1
 ";
 
 /// The report of a core whose one context is the native id of no thread, of one whose thread has not begun, and of one with another context.
@@ -186,26 +152,6 @@ fn expect_each(
     Ok(())
 }
 
-/// Runs by their steps and scripts have these reports.
-fn expect_reports(
-    rt: &impl Abort,
-    alloc: Global,
-    rows: &[(&str, &str, &str)],
-) -> Result<(), AllocError> {
-    for (steps, script, report) in rows {
-        let core = core_of(alloc, steps, script)?;
-        expect(rt, alloc, &core, Status::Success, report)?;
-    }
-    Ok(())
-}
-
-const REPORTS: [(&str, &str, &str); 4] = [
-    ("0", EMPTY, OPENING),
-    ("1000", CHANGED, FINISHED),
-    ("1000", UNTRACKED, NOT_KEPT),
-    ("0", HEADS, HEADS_SHOWN),
-];
-
 /// The entry point words, from place 41 on, are no part of the tables. Place 113 is the native id of thread 0.
 const SHOWN: [(usize, u8, &str); 2] = [
     (40 + 8 * 41, 3, OPENING),
@@ -214,8 +160,12 @@ const SHOWN: [(usize, u8, &str); 2] = [
 
 #[test]
 fn reports_of_stopped_runs(rt: HostRuntime) -> Result<(), Fail> {
-    expect_reports(&rt, rt.alloc(), &REPORTS)?;
-    expect_each(&rt, rt.alloc(), &SHOWN, Status::Success)?;
+    let alloc = rt.alloc();
+    for (steps, script, report) in [("0", EMPTY, OPENING), ("1000", CHANGED, FINISHED)] {
+        let core = core_of(alloc, steps, script)?;
+        expect(&rt, alloc, &core, Status::Success, report)?;
+    }
+    expect_each(&rt, alloc, &SHOWN, Status::Success)?;
     Ok(())
 }
 

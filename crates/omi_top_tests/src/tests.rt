@@ -1,6 +1,7 @@
-//! Runs of `stop` through the top call, and each of its refusals.
+//! Runs of `stop` through the top call: words of its cores, failing calls, and refusals whose line can or can't be put.
 
-use omi_outside::{Call, MemFiles, MemSink, NeverFiles, NeverSink, Status};
+use crate::show_tests::core_of;
+use omi_outside::{Call, MemFiles, MemSink, Status};
 use omi_top::run_top;
 use std::alloc::{AllocError, Global};
 use std::process::Abort;
@@ -12,20 +13,7 @@ pub const EMPTY: &str = "func main\nend\n";
 pub const CHANGED: &str =
     "threads 1\nenv num_threads 4,2\nfunc main\nset_num_threads 3\nset_dynamic 1\nwork\nend\n";
 
-/// The empty program, with states that are not kept.
-pub const UNTRACKED: &str = "env debug disabled\nfunc main\nend\n";
-
-const CHANGED_LINES: &str = "1 t0 set nthreads-var 3
-2 t0 set dyn-var 1
-3 t0 work
-4 t0 state wait_barrier_implicit_parallel 0
-5 t0 arrive
-13 t0 release
-14 t0 pass
-15 t0 done
-end steps 15 events 8 by done
-";
-
+/// The words of a line.
 pub fn words(alloc: Global, line: &[&str]) -> Result<Vec<String>, AllocError> {
     let mut words = Vec::new(alloc);
     for word in line {
@@ -42,53 +30,32 @@ pub struct Done {
     pub out: MemSink,
 }
 
-/// Runs a line over a script, with calls that are to fail.
+/// What a line leaves over a script under `s` and these bytes under `c`, if any, where these calls of reading, writing and putting fail.
 pub fn call(
     alloc: Global,
     line: &[&str],
-    script: &str,
-    reads: Vec<(Call, u64)>,
-    writes: Vec<(Call, u64)>,
-    puts: Vec<u64>,
+    files: (&str, Option<&[u8]>),
+    reads: &[(Call, u64)],
+    writes: &[(Call, u64)],
+    puts: &[u64],
 ) -> Result<Done, AllocError> {
-    let mut files = MemFiles::new(alloc, reads);
+    let (script, core) = files;
+    let mut files = MemFiles::new(alloc, reads.to_vec(alloc)?);
     files.put("s", script.as_bytes())?;
-    let mut dest = MemFiles::new(alloc, writes);
+    if let Some(core) = core {
+        files.put("c", core)?;
+    }
+    let mut dest = MemFiles::new(alloc, writes.to_vec(alloc)?);
     dest.put("other", b"stays")?;
-    let mut out = MemSink::new(alloc, puts);
+    let mut out = MemSink::new(alloc, puts.to_vec(alloc)?);
     let line = words(alloc, line)?;
     let status = run_top(alloc, &line, &mut files, &mut dest, &mut out);
     Ok(Done { status, dest, out })
 }
 
-/// The first call of a kind, where one is to fail.
-fn first_of(alloc: Global, kind: Option<Call>) -> Result<Vec<(Call, u64)>, AllocError> {
-    let mut calls = Vec::new(alloc);
-    if let Some(kind) = kind {
-        calls.push((kind, 1))?;
-    }
-    Ok(calls)
-}
-
 /// What a line leaves over a script, with no call that fails.
 pub fn run(alloc: Global, line: &[&str], script: &str) -> Result<Done, AllocError> {
-    let none = Vec::new(alloc);
-    call(alloc, line, script, none, Vec::new(alloc), Vec::new(alloc))
-}
-
-/// The core that `stop` leaves after at most so many steps. It succeeds, puts this text, and leaves every other file.
-fn stopped(
-    rt: &impl Abort,
-    alloc: Global,
-    steps: &str,
-    script: &str,
-    text: &str,
-) -> Result<Vec<u8>, Fail> {
-    let done = run(alloc, &["stop", steps, "s", "c"], script)?;
-    assert_eq!(rt; done.status, Status::Success);
-    assert_eq!(rt; done.out.bytes(), text.as_bytes());
-    assert_eq!(rt; done.dest.bytes("other"), Some(b"stays".as_slice()));
-    Ok(done.dest.bytes("c").ok_or("no core")?.to_vec(alloc)?)
+    call(alloc, line, (script, None), &[], &[], &[])
 }
 
 /// The word at a place of the one segment of a core with one context.
@@ -157,53 +124,59 @@ const EMPTY_WORDS: [(usize, u64); 34] = [
 
 #[test]
 fn an_empty_run(rt: HostRuntime) -> Result<(), Fail> {
-    let text = "end steps 0 events 0 by steps\n";
-    let core = stopped(&rt, rt.alloc(), "0", EMPTY, text)?;
+    let done = run(rt.alloc(), &["stop", "0", "s", "c"], EMPTY)?;
+    assert_eq!(rt; done.status, Status::Success);
+    let text = b"end steps 0 events 0 by steps\n";
+    assert_eq!(rt; done.out.bytes(), text.as_slice());
+    assert_eq!(rt; done.dest.bytes("other"), Some(b"stays".as_slice()));
+    let core = done.dest.bytes("c").ok_or("no core")?;
     assert!(rt; core.starts_with(FRONT));
-    expect_words(&rt, &core, &EMPTY_WORDS);
+    expect_words(&rt, core, &EMPTY_WORDS);
     Ok(())
 }
 
+/// Words of the thread, of its region and of its task in the core of the whole run, and in that of its first step.
+const CHANGED_WORDS: [(usize, u64); 7] = [
+    (115, 0x11),
+    (125, 1),
+    (126, 1),
+    (320, 1),
+    (321, 2),
+    (328, 3),
+    (329, 2),
+];
+
+const CUT_WORDS: [(usize, u64); 3] = [(115, 0), (320, 0), (328, 3)];
+
 #[test]
 fn a_list_with_a_changed_head(rt: HostRuntime) -> Result<(), Fail> {
-    for steps in ["15", "1000", "1000000"] {
-        let core = stopped(&rt, rt.alloc(), steps, CHANGED, CHANGED_LINES)?;
-        let words = [
-            (115, 0x11),
-            (125, 1),
-            (126, 1),
-            (320, 1),
-            (321, 2),
-            (328, 3),
-            (329, 2),
-        ];
-        expect_words(&rt, &core, &words);
+    for (steps, words) in [
+        ("15", CHANGED_WORDS.as_slice()),
+        ("1000", CHANGED_WORDS.as_slice()),
+        ("1000000", CHANGED_WORDS.as_slice()),
+        ("1", CUT_WORDS.as_slice()),
+    ] {
+        let core = core_of(rt.alloc(), steps, CHANGED)?;
+        expect_words(&rt, &core, words);
     }
     Ok(())
 }
 
 #[test]
-fn a_run_that_is_cut_short(rt: HostRuntime) -> Result<(), Fail> {
-    let text = "1 t0 set nthreads-var 3\nend steps 1 events 1 by steps\n";
-    let core = stopped(&rt, rt.alloc(), "1", CHANGED, text)?;
-    expect_words(&rt, &core, &[(115, 0), (320, 0), (328, 3)]);
+fn a_layout_by_its_option(rt: HostRuntime) -> Result<(), Fail> {
+    let line = ["stop", "1000", "s", "c", "--layout", "7"];
+    let done = run(rt.alloc(), &line, CHANGED)?;
+    assert_eq!(rt; done.status, Status::Success);
+    assert_eq!(rt; done.dest.bytes("c").ok_or("no core")?.len(), 60_152);
     Ok(())
 }
 
 #[test]
 fn failing_appends_leave_a_prefix(rt: HostRuntime) -> Result<(), Fail> {
-    let alloc = rt.alloc();
+    let line = ["stop", "0", "s", "c"];
     for append in 1..15u64 {
-        let failing = vec![in alloc; (Call::Append, append)]?;
-        let line = ["stop", "0", "s", "c"];
-        let done = call(
-            alloc,
-            &line,
-            EMPTY,
-            Vec::new(alloc),
-            failing,
-            Vec::new(alloc),
-        )?;
+        let failing = [(Call::Append, append)];
+        let done = call(rt.alloc(), &line, (EMPTY, None), &[], &failing, &[])?;
         assert_eq!(rt; done.status, Status::WriteFault);
         assert_eq!(rt; done.out.bytes(), b"".as_slice());
         let core = done.dest.bytes("c").ok_or("no core")?;
@@ -212,188 +185,81 @@ fn failing_appends_leave_a_prefix(rt: HostRuntime) -> Result<(), Fail> {
     Ok(())
 }
 
-/// A line over a script, of which the first call of a kind may fail, ends with this status and this line, and writes
-/// nothing. The status stays where the line can't be put.
-pub fn expect_refusal(
-    rt: &impl Abort,
-    alloc: Global,
-    line: &[&str],
-    failing: Option<Call>,
-    script: &str,
-    status: Status,
-    text: &str,
-) -> Result<(), AllocError> {
-    let reads = first_of(alloc, failing)?;
-    let done = call(alloc, line, script, reads, Vec::new(alloc), Vec::new(alloc))?;
+/// A line, a first call that may fail, a script, and the status and the line that they end with.
+type Refused<'a> = (&'a [&'a str], &'a [(Call, u64)], &'a str, Status, &'a str);
+
+/// The line writes nothing, and the status stays where its line can't be put.
+fn expect_refusal(rt: &impl Abort, alloc: Global, row: &Refused<'_>) -> Result<(), AllocError> {
+    let (line, reads, script, status, text) = *row;
+    let done = call(alloc, line, (script, None), reads, &[], &[])?;
     assert_eq!(rt; done.status, status);
     assert_eq!(rt; done.out.bytes(), text.as_bytes());
     assert!(rt; done.dest.bytes("c").is_none());
-    let reads = first_of(alloc, failing)?;
-    let first_put = vec![in alloc; 1u64]?;
-    let silent = call(alloc, line, script, reads, Vec::new(alloc), first_put)?;
+    let silent = call(alloc, line, (script, None), reads, &[], &[1])?;
     assert_eq!(rt; silent.status, status);
     assert_eq!(rt; silent.out.bytes(), b"".as_slice());
     Ok(())
 }
 
-/// A file that is missing, or of which a call fails.
-const UNREAD: [(&str, Option<Call>, Status, &str); 4] = [
-    ("gone", None, Status::NoFile, "no file gone\n"),
-    ("", None, Status::NoFile, "no file \n"),
-    ("s", Some(Call::Size), Status::ReadFault, "read fault s\n"),
-    ("s", Some(Call::ReadAt), Status::ReadFault, "read fault s\n"),
-];
-
-/// `stop` of each file is refused with its status and line.
-fn refuse_files(
-    rt: &impl Abort,
-    alloc: Global,
-    rows: &[(&str, Option<Call>, Status, &str)],
-) -> Result<(), AllocError> {
-    for (name, failing, status, text) in rows {
-        let line = ["stop", "0", *name, "c"];
-        expect_refusal(rt, alloc, &line, *failing, EMPTY, *status, text)?;
-    }
-    Ok(())
-}
-
-#[test]
-fn files_that_are_missing_or_fail(rt: HostRuntime) -> Result<(), Fail> {
-    refuse_files(&rt, rt.alloc(), &UNREAD)?;
-    Ok(())
-}
-
-/// Texts that are no programs, each with the line that is printed.
-const NO_SCRIPTS: [(&str, &str); 9] = [
-    ("func main\nend\n\u{7f}", "script 3 1 NotText\n"),
-    ("func main\nfly\nend\n", "script 2 2 UnknownWord\n"),
+/// A file that is missing or of which a call fails, a script that is no program, and words that make no command.
+const REFUSED: [Refused<'static>; 6] = [
     (
+        &["stop", "0", "gone", "c"],
+        &[],
+        EMPTY,
+        Status::NoFile,
+        "no file gone\n",
+    ),
+    (
+        &["stop", "0", "", "c"],
+        &[],
+        EMPTY,
+        Status::NoFile,
+        "no file \n",
+    ),
+    (
+        &["stop", "0", "s", "c"],
+        &[(Call::Size, 1)],
+        EMPTY,
+        Status::ReadFault,
+        "read fault s\n",
+    ),
+    (
+        &["stop", "0", "s", "c"],
+        &[(Call::ReadAt, 1)],
+        EMPTY,
+        Status::ReadFault,
+        "read fault s\n",
+    ),
+    (
+        &["stop", "0", "s", "c"],
+        &[],
         "func main\nset_num_threads 65\nend\n",
+        Status::Script,
         "script 2 3 BadNumber\n",
     ),
-    ("func main\ntask g\nend\n", "script 2 4 UnknownName\n"),
     (
-        "threads 1\nthreads 1\nfunc main\nend\n",
-        "script 2 5 Repeated\n",
+        &["stop", "1000001", "s", "c"],
+        &[],
+        EMPTY,
+        Status::Usage,
+        "usage\n",
     ),
-    (
-        "func b\nbarrier\nend\nfunc main\ntask b\nend\n",
-        "script 5 6 BarrierInTask\n",
-    ),
-    (
-        "func b\nbarrier\nend\nfunc main\nonly 0 b\nend\n",
-        "script 5 7 BarrierNested\n",
-    ),
-    ("", "script 1 9 NoMain\n"),
-    ("func main\n", "script 2 10 Unclosed\n"),
 ];
 
-/// `stop` of each script is refused with its line.
-fn refuse_scripts(rt: &impl Abort, alloc: Global, rows: &[(&str, &str)]) -> Result<(), AllocError> {
-    let line = ["stop", "0", "s", "c"];
-    for (script, text) in rows {
-        expect_refusal(rt, alloc, &line, None, script, Status::Script, text)?;
+#[test]
+fn refusals(rt: HostRuntime) -> Result<(), Fail> {
+    for row in &REFUSED {
+        expect_refusal(&rt, rt.alloc(), row)?;
     }
-    Ok(())
-}
-
-#[test]
-fn texts_that_are_refused(rt: HostRuntime) -> Result<(), Fail> {
-    refuse_scripts(&rt, rt.alloc(), &NO_SCRIPTS)?;
-    Ok(())
-}
-
-/// A lock, the word for a tool, and the statements that set the other control variables.
-#[test]
-fn a_lock_and_other_variables(rt: HostRuntime) -> Result<(), Fail> {
-    let script =
-        "func a\nwork\nend\nfunc main\nset_schedule dynamic 4\nset_default_device 7\nset_max_active_levels 2\n\
-        tool 99\ncritical 3 a\nend\n";
-    let text =
-        "1 t0 set run-sched-var dynamic,4\n2 t0 set default-device-var 7\n3 t0 set max-active-levels-var 2\n\
-        4 t0 tool 99\n5 t0 enter\n6 t0 state wait_critical 4\n7 t0 lock 3\n8 t0 state work_serial 0\n9 t0 leave\n\
-        10 t0 call 0\n11 t0 work\n12 t0 ret\n13 t0 unlock 3\n14 t0 state wait_barrier_implicit_parallel 0\n15 t0 arrive\n\
-        23 t0 release\n24 t0 pass\n25 t0 done\nend steps 25 events 18 by done\n";
-    stopped(&rt, rt.alloc(), "1000", script, text)?;
-    Ok(())
-}
-
-/// A task that starts at once. Behind its `enter` stand the loads of its data environment and of two life words, the stores of its record, and the
-/// two counts; behind its end the load of its generating task, and the two counts.
-#[test]
-fn a_task_that_starts_at_once(rt: HostRuntime) -> Result<(), Fail> {
-    let script = "func a\nend\nfunc main\ntask a if 0\nend\n";
-    let text = "1 t0 enter\n40 t0 start_now k0.1.0\n41 t0 finish k0.1.0\n45 t0 leave\n\
-        46 t0 state wait_barrier_implicit_parallel 0\n47 t0 arrive\n55 t0 release\n56 t0 pass\n57 t0 done\n\
-        end steps 57 events 9 by done\n";
-    stopped(&rt, rt.alloc(), "1000", script, text)?;
-    Ok(())
-}
-
-#[test]
-fn an_untracked_run(rt: HostRuntime) -> Result<(), Fail> {
-    let text = "1 t0 arrive\n9 t0 release\n10 t0 pass\n11 t0 done\nend steps 11 events 4 by done\n";
-    let core = stopped(&rt, rt.alloc(), "1000", UNTRACKED, text)?;
-    expect_words(&rt, &core, &[]);
-    Ok(())
-}
-
-/// Lines that are refused, each as its words.
-const LINES: [&[&str]; 10] = [
-    &["stop", "1000001", "s", "c"],
-    &["stop", "01", "s", "c"],
-    &["stop", "", "s", "c"],
-    &["stop", "+1", "s", "c"],
-    &["stop", "x", "s", "c"],
-    &["stop", "18446744073709551616", "s", "c"],
-    &["fly", "0", "s", "c"],
-    &["stop", "0", "s"],
-    &["stop", "0", "s", "c", "d"],
-    &[],
-];
-
-fn refuse_lines(rt: &impl Abort, alloc: Global, lines: &[&[&str]]) -> Result<(), AllocError> {
-    for line in lines {
-        expect_refusal(rt, alloc, line, None, EMPTY, Status::Usage, "usage\n")?;
-    }
-    Ok(())
-}
-
-#[test]
-fn lines_that_are_refused(rt: HostRuntime) -> Result<(), Fail> {
-    refuse_lines(&rt, rt.alloc(), &LINES)?;
     Ok(())
 }
 
 #[test]
 fn a_failing_output(rt: HostRuntime) -> Result<(), Fail> {
-    let alloc = rt.alloc();
     let line = ["stop", "0", "s", "c"];
-    let done = call(
-        alloc,
-        &line,
-        EMPTY,
-        Vec::new(alloc),
-        Vec::new(alloc),
-        vec![in alloc; 1]?,
-    )?;
+    let done = call(rt.alloc(), &line, (EMPTY, None), &[], &[], &[1])?;
     assert_eq!(rt; done.status, Status::WriteFault);
     assert_eq!(rt; done.dest.bytes("c").ok_or("no core")?.len(), 55_768);
-    Ok(())
-}
-
-#[test]
-fn script_and_core_of_one_name(rt: HostRuntime) -> Result<(), Fail> {
-    let alloc = rt.alloc();
-    let mut files = NeverFiles::new(alloc);
-    files.put("s", EMPTY.as_bytes())?;
-    let mut dest = NeverFiles::new(alloc);
-    dest.put("s", EMPTY.as_bytes())?;
-    let mut out = NeverSink::new(alloc);
-    let line = words(alloc, &["stop", "7", "s", "s"])?;
-    let status = run_top(alloc, &line, &mut files, &mut dest, &mut out);
-    assert_eq!(rt; status, Status::Success);
-    assert_eq!(rt; dest.bytes("s").ok_or("no core")?.len(), 55_768);
-    assert_eq!(rt; files.bytes("s").ok_or("no script")?, EMPTY.as_bytes());
     Ok(())
 }
