@@ -10,31 +10,6 @@ use Rattle.omi_command.specs.declared.refusal.Input.TheVariants as input
 use Rattle.omi_command.specs.declared.refusal.Refusal.{Refusal}
 use Rattle.omi_command.specs.declared.refusal.Refusal.TheVariants as refusal
 
-early : (plan : Plan) (script core : List ℕ) (r : Refusal) → IsEarly (Stop plan script core) r → IsEarly (Run plan script core) r
-early plan script core (refusal.ReadFault input.Script) is = tt
-early plan script core (refusal.ReadFault input.Core) is = is
-early plan script core refusal.OutOfMemory is = tt
-early plan script core refusal.Usage is = is
-early plan script core (refusal.NoFile read) is = is
-early plan script core refusal.WriteFault is = is
-early plan script core (refusal.Script fault) is = is
-early plan script core (refusal.Core at why) is = is
-early plan script core (refusal.Damaged addr field) is = is
-early plan script core (refusal.Cycle addr) is = is
-early plan script core refusal.Incompatible is = is
-
-never_behind : (plan : Plan) (script core : List ℕ) (r : Refusal) → IsBehind (Stop plan script core) r → ⊥
-never_behind plan script core (refusal.ReadFault read) is = is
-never_behind plan script core refusal.OutOfMemory is = is
-never_behind plan script core refusal.Usage is = is
-never_behind plan script core (refusal.NoFile read) is = is
-never_behind plan script core refusal.WriteFault is = is
-never_behind plan script core (refusal.Script fault) is = is
-never_behind plan script core (refusal.Core at why) is = is
-never_behind plan script core (refusal.Damaged addr field) is = is
-never_behind plan script core (refusal.Cycle addr) is = is
-never_behind plan script core refusal.Incompatible is = is
-
 -- a fault before `show` reads is one behind the core that was written
 read_back : (plan : Plan) (script core : List ℕ) (r : Refusal) → IsEarly (Show core) r → IsBehind (Run plan script core) r
 read_back plan script core (refusal.ReadFault input.Script) is = is
@@ -69,18 +44,6 @@ show_writes_none (Some core) bytes (Ok text) is = is
 show_writes_none (Some core) bytes (Err r) is = is
 
 module _ (plan : Plan) (script core : List ℕ) (told : List ℕ → Told) (content : Option (List ℕ)) (is : told core ≡ Some content) where
-  -- `stop` is refused, or fails
-  pub stop_failed : (r : Refusal) (old new : Told) → IsAnswered (Stop plan script core) told (Err r) old new → IsAnswered (Run plan script core) told (Err r) old new
-  stop_failed r old new (inl (None, (text, here, answer), held)) = inl (None, (text, here, content, is, answer), held)
-  stop_failed r old new (inl (Some written, (text, here, answer), held)) = absurd (go text answer)
-    where
-      go : (t : Option (List ℕ)) → IsStopAnswer plan t (Gives (Some written) (Err r)) → ⊥
-      go None said = said
-      go (Some bytes) said = said
-  stop_failed r old new (inr (inl (first, same))) = inr (inl (early plan script core r first, same))
-  stop_failed r old new (inr (inr (inl (late, half)))) = inr (inr (inl (late, half)))
-  stop_failed r old new (inr (inr (inr (behind, whole)))) = absurd (never_behind plan script core r behind)
-
   -- the core that `stop` wrote
   module _ (lines : Vec ℕ) (old new : Told) where
     pub written_by_stop : IsAnswered (Stop plan script core) told (Ok lines) old new → IsWritten (Run plan script core) told old new

@@ -166,8 +166,8 @@ fn carry_out<F: Files, W: Files, K: Sink>(
 /// program of a script for at most STEPS steps, writes its core and prints its events, where options
 /// say which threads make the steps, at which event they stop and in which layout; `make N SCRIPT`
 /// writes a workload, runs it and prints how many tasks started; `show CORE` prints the report of a
-/// core; `run STEPS SCRIPT CORE` does what `stop` does, reads CORE back and prints its report as well. It reads from `files` alone, writes to `dest` alone and prints to
-/// `out`.
+/// core; `run STEPS SCRIPT CORE` does what `stop` does, reads CORE back and prints its report as well.
+/// It reads from `files` alone, writes to `dest` alone and prints to `out`.
 pub fn run_top<F: Files, W: Files, K: Sink>(
     alloc: Global,
     words: &Vec<String>,
