@@ -7,7 +7,7 @@ use std::process::Abort;
 use std::test::Fail;
 
 /// Texts, each with its canonical text.
-const CANONICAL: [(&str, &str); 5] = [
+const CANONICAL: [(&str, &str); 6] = [
     // each head line and each statement, in the canonical spelling
     (
         "threads 16\nenv num_threads 4,2\nenv dynamic true\nenv max_active_levels 3\nenv schedule guided,7\nenv device 1\nenv debug disabled\nenv procs 8\nfunc leaf\n  work\nend\nfunc main\n  parallel leaf\n  parallel leaf num 4\n  task leaf\n  task leaf if 0\n  task leaf final 1\n  task leaf if 0 final 1\n  taskwait\n  taskyield\n  barrier\n  critical 7 leaf\n  call leaf\n  only 63 leaf\n  repeat 1000 leaf\n  set_num_threads 64\n  set_dynamic 1\n  set_max_active_levels 255\n  set_schedule auto 65535\n  set_default_device 255\n  tool 18446744073709551615\n  work\nend\n",
@@ -32,6 +32,11 @@ const CANONICAL: [(&str, &str); 5] = [
     (
         "# a chain of ten tasks\nthreads 8\nenv num_threads 4,2\n\nfunc t0\n\twork\nend\nfunc t1\n task  t0\n taskwait\nend\nfunc t2\n task t1 if 1\n taskwait\nend\nfunc t3\n task t2\n taskwait\nend\nfunc t4\n task t3\n taskwait\nend\nfunc t5\n task t4\n taskwait\nend\nfunc t6\n task t5\n taskwait\nend\nfunc t7\n task t6\n taskwait\nend\nfunc t8\n task t7\n taskwait\nend\nfunc t9\n task t8\n taskwait\nend\n# four chains by each thread of an inner region\nfunc spawn\n task t9\nend\nfunc inner\n repeat 4 spawn\nend\nfunc outer\n parallel inner\nend\nfunc main\n parallel outer\nend",
         "threads 8\nenv num_threads 4,2\nenv dynamic false\nenv max_active_levels 8\nenv schedule static,0\nenv device 0\nenv debug enabled\nenv procs 4\nfunc t0\n  work\nend\nfunc t1\n  task t0\n  taskwait\nend\nfunc t2\n  task t1\n  taskwait\nend\nfunc t3\n  task t2\n  taskwait\nend\nfunc t4\n  task t3\n  taskwait\nend\nfunc t5\n  task t4\n  taskwait\nend\nfunc t6\n  task t5\n  taskwait\nend\nfunc t7\n  task t6\n  taskwait\nend\nfunc t8\n  task t7\n  taskwait\nend\nfunc t9\n  task t8\n  taskwait\nend\nfunc spawn\n  task t9\nend\nfunc inner\n  repeat 4 spawn\nend\nfunc outer\n  parallel inner\nend\nfunc main\n  parallel outer\nend\n",
+    ),
+    // the workload that `make 10` writes
+    (
+        "threads 4\nfunc leaf\n  work\nend\nfunc node\n  task leaf\n  task leaf\n  taskwait\nend\nfunc team\n  repeat 10 node\nend\nfunc main\n  parallel team num 4\nend\n",
+        "threads 4\nenv num_threads 4\nenv dynamic false\nenv max_active_levels 8\nenv schedule static,0\nenv device 0\nenv debug enabled\nenv procs 4\nfunc leaf\n  work\nend\nfunc node\n  task leaf\n  task leaf\n  taskwait\nend\nfunc team\n  repeat 10 node\nend\nfunc main\n  parallel team num 4\nend\n",
     ),
 ];
 

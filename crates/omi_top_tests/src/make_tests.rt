@@ -1,6 +1,6 @@
 //! Runs of `make` through the top call, with a writing or a put that may fail.
 
-use crate::tests::call;
+use crate::tests::{call, run};
 use omi_outside::{Call, Status};
 use std::alloc::{AllocError, Global};
 use std::process::Abort;
@@ -24,36 +24,38 @@ func main
 end
 ";
 
-/// What `make` leaves where a call of writing or a put may fail: a status, what is put, and the script.
-fn expect_made(
+#[test]
+fn a_made_workload(rt: HostRuntime) -> Result<(), Fail> {
+    let done = run(rt.alloc(), &["make", "10", "m"], "")?;
+    assert_eq!(rt; done.status, Status::Success);
+    assert_eq!(rt; done.out.bytes(), b"made 10 tasks 80 by done\n".as_slice());
+    assert_eq!(rt; done.dest.bytes("other"), Some(b"stays".as_slice()));
+    let text = done.dest.bytes("m").ok_or("no script")?;
+    assert_eq!(rt; text, TEXT.as_bytes());
+    Ok(())
+}
+
+/// What `make` leaves of its script where these calls of writing and putting fail: status 4, and nothing is put.
+fn expect_failed(
     rt: &impl Abort,
     alloc: Global,
-    failing: (&[(Call, u64)], &[u64]),
-    ended: (Status, &str),
+    writes: &[(Call, u64)],
+    puts: &[u64],
     left: Option<&[u8]>,
 ) -> Result<(), AllocError> {
     let line = ["make", "10", "m"];
-    let (writes, puts) = failing;
     let done = call(alloc, &line, ("", None), &[], writes, puts)?;
-    let (status, text) = ended;
-    assert_eq!(rt; done.status, status);
-    assert_eq!(rt; done.out.bytes(), text.as_bytes());
+    assert_eq!(rt; done.status, Status::WriteFault);
+    assert_eq!(rt; done.out.bytes(), b"".as_slice());
     assert_eq!(rt; done.dest.bytes("m"), left);
-    assert_eq!(rt; done.dest.bytes("other"), Some(b"stays".as_slice()));
     Ok(())
 }
 
 #[test]
-fn a_made_workload(rt: HostRuntime) -> Result<(), Fail> {
+fn failing_writes_and_puts(rt: HostRuntime) -> Result<(), Fail> {
     let alloc = rt.alloc();
-    let whole = Some(TEXT.as_bytes());
-    let made = (Status::Success, "made 10 tasks 80 by done\n");
-    expect_made(&rt, alloc, (&[], &[]), made, whole)?;
-    let faulty = (Status::WriteFault, "");
-    let create = [(Call::Create, 1)];
-    expect_made(&rt, alloc, (&create, &[]), faulty, None)?;
-    let append = [(Call::Append, 1)];
-    expect_made(&rt, alloc, (&append, &[]), faulty, Some(b""))?;
-    expect_made(&rt, alloc, (&[], &[1]), faulty, whole)?;
+    expect_failed(&rt, alloc, &[(Call::Create, 1)], &[], None)?;
+    expect_failed(&rt, alloc, &[(Call::Append, 1)], &[], Some(b""))?;
+    expect_failed(&rt, alloc, &[], &[1], Some(TEXT.as_bytes()))?;
     Ok(())
 }
