@@ -2,8 +2,8 @@
 
 ghost use Rattle.std.specs.Prelude.{◌<◌};
 
-use omi_events::{EventList, Made, MadeList, Turn};
 use omi_model::{Event, Id, MOST_MEMBERS, Rid, Team, Tid};
+use omi_run_lists::{EventList, Made, MadeList, Turn};
 use omi_word::Op;
 use std::test::Fail;
 

@@ -1,4 +1,4 @@
-//! Tests of omi_list, omi_word, omi_handle, omi_calls and omi_events, by their public calls alone.
+//! Tests of omi_list, omi_word, omi_handle, omi_calls and omi_run_lists, by their public calls alone.
 #![tactic(auto)]
 
 #[cfg(test)]

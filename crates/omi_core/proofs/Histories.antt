@@ -16,7 +16,7 @@ use Rattle.omi_layout.proofs.Numbers.{numbered_field}
 use Rattle.omi_layout.proofs.Stored.{mapped}
 use Rattle.omi_rep.specs.Records.{records_of}
 use Rattle.omi_rep.specs.Shows.{Stands}
-use Rattle.omi_control.proofs.KeptObjects.{region_kept, region_there}
+use Rattle.omi_rule.proofs.KeptObjects.{region_kept, region_there}
 use Rattle.omi_core.specs.Histories.{Counts, HasHistory}
 use Rattle.omi_core.specs.Kept.{KeepsRun}
 use Rattle.omi_core.specs.Runs.{Run, actors_in, events_in}

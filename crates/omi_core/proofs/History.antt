@@ -6,7 +6,7 @@ use Rattle.omi_word.specs.Memory.{after}
 use Rattle.omi_script.specs.declared.program.Program.{Program}
 use Rattle.omi_model.specs.declared.event.Event.{Event}
 use Rattle.omi_model.specs.State.{State}
-use Rattle.omi_events.specs.declared.made.Made.{Made}
+use Rattle.omi_run_lists.specs.declared.made.Made.{Made}
 use Rattle.omi_layout.specs.Memory.{put}
 use Rattle.omi_pc.specs.declared.actor.Actor.{Actor}
 use Rattle.omi_pc.specs.declared.counter.Counter.{Counter}
@@ -15,8 +15,8 @@ use Rattle.omi_pc.specs.declared.team_counter.WorkerCounter.TheVariants as worke
 use Rattle.omi_rep.specs.declared.outcome.Outcome.{Outcome}
 use Rattle.omi_rep.specs.declared.outcome.Outcome.TheVariants as outcome
 use Rattle.omi_actor.specs.Steps.{resumed_at}
-use Rattle.omi_control.specs.Steps.{committed}
-use Rattle.omi_watch.specs.Watch.{Watch}
+use Rattle.omi_rule.specs.Steps.{committed}
+use Rattle.omi_rule_watch.specs.Watch.{Watch}
 use Rattle.omi_core.specs.declared.entry.Entry.{Entry}
 use Rattle.omi_core.specs.Runs.{events_in}
 use Rattle.omi_core.specs.RunSteps.{event_of, made_of}

@@ -42,9 +42,9 @@ use Rattle.omi_pc.specs.declared.task_counter.TaskCounter.{TaskCounter}
 use Rattle.omi_pc.specs.declared.task_counter.TaskCounter.TheVariants as task
 use Rattle.omi_pc.specs.Opening.{opening_actor, waiting_actor}
 use Rattle.omi_rep.specs.Records.{task_address}
-use Rattle.omi_step.specs.Moving.{to_barrier, to_join, to_team, to_worker, to_look}
-use Rattle.omi_step.specs.Words.{task_place, is_free, object_in}
-use Rattle.omi_step.specs.Searches.{next_slot, own_place}
+use Rattle.omi_step_words.specs.Moving.{to_barrier, to_join, to_team, to_worker, to_look}
+use Rattle.omi_step_words.specs.Words.{task_place, is_free, object_in}
+use Rattle.omi_step_words.specs.Searches.{next_slot, own_place}
 use Rattle.omi_fork.specs.BarrierSteps.{barrier_moved, behind_member_end, ended_in, is_closed, looking, passed, some_missing}
 use Rattle.omi_fork.specs.JoinSteps.{join_moved, some_inside}
 use Rattle.omi_fork.specs.TeamParts.{master_context, region_function, team_size}
@@ -58,7 +58,7 @@ use Rattle.omi_task.specs.MakingSteps.{behind_life, behind_raises, behind_slot, 
 use Rattle.omi_task.specs.Slots.{coded_task}
 use Rattle.omi_task.specs.Starts.{task_context}
 use Rattle.omi_actor.specs.Steps.{resumed_at}
-use Rattle.omi_control.specs.StepsKeep.{IsJoinKept, IsKept, IsFinishKept, IsTaskKept}
+use Rattle.omi_rule.specs.StepsKeep.{IsJoinKept, IsKept, IsFinishKept, IsTaskKept}
 use Rattle.omi_core.specs.Kept.{AreKept}
 use Rattle.omi_core.specs.Runs.{AreOpeningActors, Run, actors_in}
 use Rattle.omi_core.proofs.Stepping.{actors_set}

@@ -12,11 +12,11 @@ use Rattle.omi_layout.specs.Valid.{IsValid}
 use Rattle.omi_pc.specs.declared.actor.Actor.{Actor}
 use Rattle.omi_pc.specs.Opening.{opening_actor, waiting_actor}
 use Rattle.omi_rep.specs.Suits.{Suits}
-use Rattle.omi_control.specs.Rule.{Rule}
-use Rattle.omi_control.proofs.OpenedRule.{opening_keeps}
-use Rattle.omi_watch.specs.Given.{IsGiven}
-use Rattle.omi_watch.specs.Watch.{opening_watch}
-use Rattle.omi_watch.proofs.Kept.{openings_given}
+use Rattle.omi_rule.specs.Rule.{Rule}
+use Rattle.omi_rule.proofs.OpenedRule.{opening_keeps}
+use Rattle.omi_rule_watch.specs.Given.{IsGiven}
+use Rattle.omi_rule_watch.specs.Watch.{opening_watch}
+use Rattle.omi_rule_watch.proofs.Kept.{openings_given}
 use Rattle.omi_core.specs.Kept.{IsUnderWay, KeepsRun}
 use Rattle.omi_core.specs.Steps.{opening_watches}
 use Rattle.omi_core.specs.Runs.{AreOpeningActors, Run, actors_in, events_in}

@@ -14,9 +14,9 @@ use Rattle.omi_model.specs.declared.event.Event.{Event}
 use Rattle.omi_model.specs.declared.event.Event.TheVariants as event
 use Rattle.omi_model.specs.Reached.{Step}
 use Rattle.omi_model.proofs.AskedTeams.{teams_asked}
-use Rattle.omi_events.specs.Events.{Events, team_in}
-use Rattle.omi_events.specs.Steps.{Steps}
-use Rattle.omi_events.specs.declared.made.Made.{Made}
+use Rattle.omi_run_lists.specs.Events.{Events, team_in}
+use Rattle.omi_run_lists.specs.Steps.{Steps}
+use Rattle.omi_run_lists.specs.declared.made.Made.{Made}
 use Rattle.omi_model.specs.State.{State}
 use Rattle.omi_layout.specs.declared.limits.TheConstants.{FRONT_WORDS, TABLE_PLACE}
 use Rattle.omi_layout.specs.Frame.{IsOnWord}
@@ -31,19 +31,19 @@ use Rattle.omi_pc.specs.Opening.{waiting_actor}
 use Rattle.omi_rep.specs.declared.outcome.Outcome.{Outcome}
 use Rattle.omi_rep.specs.declared.outcome.Outcome.TheVariants as outcome
 use Rattle.omi_rep.specs.Shows.{Shows}
-use Rattle.omi_rule.proofs.Shown.{kept_words_show}
-use Rattle.omi_rule.specs.Owes.{all_owed}
+use Rattle.omi_rule_words.proofs.Shown.{kept_words_show}
+use Rattle.omi_rule_words.specs.Owes.{all_owed}
 use Rattle.omi_actor.specs.Steps.{next_of, resumed_at}
-use Rattle.omi_control.specs.Commits.{ComesOf}
-use Rattle.omi_control.specs.Rule.{KeepsThread, Rule}
-use Rattle.omi_control.specs.Steps.{IsOn, KeepsRule, LeadsOn, RecordWord, StepKeeps, committed, found_in, left_in}
-use Rattle.omi_control.specs.StepsKeep.{IsKept}
-use Rattle.omi_control.proofs.StepsKept.{steps_keep}
-use Rattle.omi_watch.specs.Demands.{MeetsDemands}
-use Rattle.omi_watch.specs.Given.{IsGiven}
-use Rattle.omi_watch.specs.Watch.{Watch, watched}
-use Rattle.omi_watch.specs.WatchLaws.{StepKeepsWatch}
-use Rattle.omi_watch.proofs.Kept.{watch_kept}
+use Rattle.omi_rule.specs.Commits.{ComesOf}
+use Rattle.omi_rule.specs.Rule.{KeepsThread, Rule}
+use Rattle.omi_rule.specs.Steps.{IsOn, KeepsRule, LeadsOn, RecordWord, StepKeeps, committed, found_in, left_in}
+use Rattle.omi_rule.specs.StepsKeep.{IsKept}
+use Rattle.omi_rule.proofs.StepsKept.{steps_keep}
+use Rattle.omi_rule_watch.specs.Demands.{MeetsDemands}
+use Rattle.omi_rule_watch.specs.Given.{IsGiven}
+use Rattle.omi_rule_watch.specs.Watch.{Watch, watched}
+use Rattle.omi_rule_watch.specs.WatchLaws.{StepKeepsWatch}
+use Rattle.omi_rule_watch.proofs.Kept.{watch_kept}
 use Rattle.omi_core.specs.declared.entry.Entry.{Entry}
 use Rattle.omi_core.specs.Kept.{IsUnderWay, KeepsCore, KeepsRun}
 use Rattle.omi_core.specs.Runs.{Run, actors_in, events_in, spare_in}

@@ -11,9 +11,9 @@ use Rattle.omi_pc.specs.declared.counter.Counter.{Counter}
 use Rattle.omi_pc.specs.declared.counter.Counter.TheVariants as counter
 use Rattle.omi_pc.specs.declared.team_counter.WorkerCounter.TheVariants as worker
 use Rattle.omi_rep.specs.Suits.{Suits}
-use Rattle.omi_control.specs.Rule.{Rule}
-use Rattle.omi_control.specs.StepsKeep.{IsKept}
-use Rattle.omi_watch.specs.Given.{IsGiven}
+use Rattle.omi_rule.specs.Rule.{Rule}
+use Rattle.omi_rule.specs.StepsKeep.{IsKept}
+use Rattle.omi_rule_watch.specs.Given.{IsGiven}
 use Rattle.omi_core.specs.declared.entry.Entry.{Entry}
 use Rattle.omi_core.specs.Runs.{Run, actors_in, events_in}
 use Rattle.omi_core.specs.Histories.{IsMadeBy}

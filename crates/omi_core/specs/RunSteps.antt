@@ -5,16 +5,16 @@ use Rattle.omi_model.specs.declared.event.Event.{Event}
 use Rattle.omi_model.specs.Reached.{Reached}
 use Rattle.omi_model.specs.State.{State}
 use Rattle.omi_actor.specs.Steps.{next_of, resumed_at}
-use Rattle.omi_events.specs.Events.{team_in}
-use Rattle.omi_events.specs.declared.made.Made.{Made}
-use Rattle.omi_events.specs.declared.made.Turn.{Turn}
-use Rattle.omi_events.specs.declared.made.Turn.TheVariants as turn
+use Rattle.omi_run_lists.specs.Events.{team_in}
+use Rattle.omi_run_lists.specs.declared.made.Made.{Made}
+use Rattle.omi_run_lists.specs.declared.made.Turn.{Turn}
+use Rattle.omi_run_lists.specs.declared.made.Turn.TheVariants as turn
 use Rattle.omi_layout.specs.SymbolTable.{words_of}
 use Rattle.omi_rep.specs.declared.outcome.Outcome.{Outcome}
 use Rattle.omi_rep.specs.declared.outcome.Outcome.TheVariants as outcome
 use Rattle.omi_rep.specs.Shows.{Shows}
-use Rattle.omi_control.specs.Steps.{LeadsOn}
-use Rattle.omi_control.specs.Commits.{ComesOf}
+use Rattle.omi_rule.specs.Steps.{LeadsOn}
+use Rattle.omi_rule.specs.Commits.{ComesOf}
 use Rattle.omi_core.specs.declared.entry.Entry.{Entry}
 use Rattle.omi_core.specs.Runs.{Run, actors_in, events_in}
 

@@ -2,8 +2,8 @@
 use Rattle.std.specs.Prelude.{◌≡◌, ◌<◌, ℕ, ◌-◌, ◌/◌, List, [], length, map, min, slice_index_or}
 use Rattle.omi_script.specs.declared.program.Program.{Program}
 use Rattle.omi_model.specs.declared.event.Event.{Event}
-use Rattle.omi_events.specs.Events.{Events}
-use Rattle.omi_events.specs.Steps.{Steps}
+use Rattle.omi_run_lists.specs.Events.{Events}
+use Rattle.omi_run_lists.specs.Steps.{Steps}
 use Rattle.omi_layout.specs.OpeningWords.{AreOpening}
 use Rattle.omi_pc.specs.declared.actor.Actor.{Actor}
 use Rattle.omi_pc.specs.Opening.{opening_actor, waiting_actor}

@@ -7,14 +7,14 @@ use Rattle.omi_model.specs.declared.event.Event.{Event}
 use Rattle.omi_model.specs.declared.event.Event.TheVariants as event
 use Rattle.omi_model.specs.Opening.{opening}
 use Rattle.omi_model.specs.State.{State}
-use Rattle.omi_events.specs.declared.made.Made.{Made}
+use Rattle.omi_run_lists.specs.declared.made.Made.{Made}
 use Rattle.omi_layout.specs.Memory.{memory_of, put}
 use Rattle.omi_layout.specs.OpeningWords.{AreOpening}
 use Rattle.omi_rep.specs.declared.outcome.Outcome.TheVariants as outcome
-use Rattle.omi_control.specs.Commits.{ComesOf}
-use Rattle.omi_control.specs.Steps.{IsOn, LeadsOn, RecordWord, committed}
-use Rattle.omi_watch.specs.Demands.{MeetsDemands}
-use Rattle.omi_watch.specs.Watch.{Watch, opening_watch, watched}
+use Rattle.omi_rule.specs.Commits.{ComesOf}
+use Rattle.omi_rule.specs.Steps.{IsOn, LeadsOn, RecordWord, committed}
+use Rattle.omi_rule_watch.specs.Demands.{MeetsDemands}
+use Rattle.omi_rule_watch.specs.Watch.{Watch, opening_watch, watched}
 use Rattle.omi_core.specs.declared.entry.Entry.{Entry}
 use Rattle.omi_core.specs.RunSteps.{event_of, made_of}
 

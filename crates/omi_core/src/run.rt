@@ -10,10 +10,10 @@ ghost use Rattle.omi_core.specs.RunSteps.{IsRight, IsStep, ShowsState, event_of,
 use crate::opening::{opening_actors, opening_image};
 use crate::{Entry, MOST_STEPS, OutOfMemory};
 use omi_actor::{next, resume};
-use omi_events::{EventList, Made, MadeList, Turn};
 use omi_layout::Layout;
 use omi_pc::Actor;
 use omi_rep::Outcome;
+use omi_run_lists::{EventList, Made, MadeList, Turn};
 use omi_script::Program;
 use omi_word::Image;
 use std::alloc::Global;

@@ -1,8 +1,8 @@
 //! What one thread of a run made, where each thread keeps its own part.
 
-use omi_events::{EventList, MadeList};
 use omi_list::List;
 use omi_pc::Actor;
+use omi_run_lists::{EventList, MadeList};
 
 /// Why a thread made no further step.
 #[derive(Clone, Copy, Debug, PartialEq, Eq)]

@@ -15,7 +15,7 @@ use Rattle.omi_pc.specs.Fits.{Fits, FitsCounter, IsParallel, IsRegionGot}
 use Rattle.omi_pc.specs.Frames.{at_start}
 use Rattle.omi_pc.specs.OpenBodies.{AreOpen, IsAt}
 use Rattle.omi_pc.proofs.Settled.{named_there}
-use Rattle.omi_step.specs.Placed.{HasRegion, HaveTasks, IsPlaced, IsPlacedCounter}
+use Rattle.omi_step_words.specs.Placed.{HasRegion, HaveTasks, IsPlaced, IsPlacedCounter}
 use Rattle.omi_fork.specs.TeamParts.{function_in, master_context, region_function}
 
 -- a body is open where a statement is in work

@@ -27,8 +27,8 @@ use Rattle.omi_pc.specs.declared.team_counter.BarrierCounter.TheVariants as barr
 use Rattle.omi_pc.specs.declared.team_counter.JoinCounter.TheVariants.{LoadLeft}
 use Rattle.omi_pc.specs.declared.team_counter.WorkerCounter.TheVariants.{ImplicitEnd}
 use Rattle.omi_pc.specs.Moves.{working}
-use Rattle.omi_step.specs.Moving.{to_barrier}
-use Rattle.omi_step.specs.Words.{of_region, of_thread}
+use Rattle.omi_step_words.specs.Moving.{to_barrier}
+use Rattle.omi_step_words.specs.Words.{of_region, of_thread}
 
 -- ---- operations
 

@@ -14,8 +14,8 @@ use Rattle.omi_pc.specs.declared.actor.Actor.{Actor}
 use Rattle.omi_pc.specs.declared.team_counter.JoinCounter.{JoinCounter}
 use Rattle.omi_pc.specs.declared.team_counter.JoinCounter.TheVariants as join
 use Rattle.omi_pc.specs.Moves.{closed, working}
-use Rattle.omi_step.specs.Moving.{task_under, to_join}
-use Rattle.omi_step.specs.Words.{object_in, of_member, of_place, of_region, of_task, of_thread, task_place, unused_word}
+use Rattle.omi_step_words.specs.Moving.{task_under, to_join}
+use Rattle.omi_step_words.specs.Words.{object_in, of_member, of_place, of_region, of_task, of_thread, task_place, unused_word}
 
 -- ---- operations
 

@@ -9,11 +9,11 @@ use Rattle.omi_layout.specs.Codes.{exit_word}
 use Rattle.omi_pc.specs.declared.actor.Actor.{Actor}
 use Rattle.omi_pc.specs.declared.context.Context.{Context}
 use Rattle.omi_pc.specs.Frames.{statement_of}
-use Rattle.omi_step.specs.declared.plan.NewRegion.{NewRegion}
-use Rattle.omi_step.specs.declared.plan.NewTask.{NewTask}
-use Rattle.omi_step.specs.Members.{member_of}
-use Rattle.omi_step.specs.Plan.{inherited_words}
-use Rattle.omi_step.specs.Words.{plus}
+use Rattle.omi_step_words.specs.declared.plan.NewRegion.{NewRegion}
+use Rattle.omi_step_words.specs.declared.plan.NewTask.{NewTask}
+use Rattle.omi_step_words.specs.Members.{member_of}
+use Rattle.omi_step_words.specs.Plan.{inherited_words}
+use Rattle.omi_step_words.specs.Words.{plus}
 
 -- ---- the statement
 

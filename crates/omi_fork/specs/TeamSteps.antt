@@ -20,12 +20,12 @@ use Rattle.omi_pc.specs.declared.limits.TheConstants.{VARIABLE_WORDS, REGION_WOR
 use Rattle.omi_pc.specs.declared.team_counter.TeamCounter.{TeamCounter}
 use Rattle.omi_pc.specs.declared.team_counter.TeamCounter.TheVariants as team
 use Rattle.omi_pc.specs.Moves.{begun_master, working}
-use Rattle.omi_step.specs.Members.{alone, joined_by, member_of}
-use Rattle.omi_step.specs.Moving.{to_team, gathering}
-use Rattle.omi_step.specs.Plan.{filling, of_variable, region_plan, task_plan}
-use Rattle.omi_step.specs.Searches.{next_slot, own_place, search_outcome}
+use Rattle.omi_step_words.specs.Members.{alone, joined_by, member_of}
+use Rattle.omi_step_words.specs.Moving.{to_team, gathering}
+use Rattle.omi_step_words.specs.Plan.{filling, of_variable, region_plan, task_plan}
+use Rattle.omi_step_words.specs.Searches.{next_slot, own_place, search_outcome}
 use Rattle.omi_fork.specs.TeamParts.{master_context, new_member, new_region, region_function, team_size, wanted_size}
-use Rattle.omi_step.specs.Words.{of_member, of_runtime, of_thread, of_place, of_region, of_task, object_in, is_free, used_word}
+use Rattle.omi_step_words.specs.Words.{of_member, of_runtime, of_thread, of_place, of_region, of_task, object_in, is_free, used_word}
 
 -- ---- operations
 

@@ -17,8 +17,8 @@ use Rattle.omi_pc.specs.declared.context.Context.{Context}
 use Rattle.omi_pc.specs.declared.team_counter.WorkerCounter.{WorkerCounter}
 use Rattle.omi_pc.specs.declared.team_counter.WorkerCounter.TheVariants as worker
 use Rattle.omi_pc.specs.Moves.{begun_worker, closed, working}
-use Rattle.omi_step.specs.Moving.{to_worker}
-use Rattle.omi_step.specs.Words.{of_thread, of_place, of_region, of_task, object_in, task_place, region_place, function_at}
+use Rattle.omi_step_words.specs.Moving.{to_worker}
+use Rattle.omi_step_words.specs.Words.{of_thread, of_place, of_region, of_task, object_in, task_place, region_place, function_at}
 
 -- ---- operations
 

@@ -7,8 +7,8 @@ ghost use Rattle.omi_pc.specs.OpenBodies.{AreOpen};
 ghost use Rattle.omi_pc.specs.declared.counter.Counter.TheVariants as counter;
 ghost use Rattle.omi_fork.specs.BarrierSteps;
 ghost use Rattle.omi_fork.specs.BarrierSteps.{arrived, barrier_moved, barrier_next, barrier_outcome, barrier_state, behind_member_end, ended_in, looking, passed};
-ghost use Rattle.omi_step.specs.Moving.{to_barrier};
-ghost use Rattle.omi_step.specs.Placed.{IsPlaced};
+ghost use Rattle.omi_step_words.specs.Moving.{to_barrier};
+ghost use Rattle.omi_step_words.specs.Placed.{IsPlaced};
 
 use omi_layout::{Field, Layout};
 use omi_model::Event;
@@ -18,7 +18,7 @@ use omi_pc::{
 };
 use omi_rep::Outcome;
 use omi_script::Program;
-use omi_step::{load, of_region, of_thread, store};
+use omi_step_words::{load, of_region, of_thread, store};
 use omi_word::Op;
 
 /// The states of a member that waits at a barrier.

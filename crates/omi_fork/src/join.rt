@@ -8,15 +8,15 @@ ghost use Rattle.omi_pc.specs.declared.counter.Counter.TheVariants as counter;
 ghost use Rattle.omi_pc.specs.declared.team_counter.JoinCounter.TheVariants.{Join};
 ghost use Rattle.omi_fork.specs.JoinSteps;
 ghost use Rattle.omi_fork.specs.JoinSteps.{behind_free, join_moved, join_next, join_outcome, joined};
-ghost use Rattle.omi_step.specs.Moving.{to_join};
-ghost use Rattle.omi_step.specs.Placed.{IsPlaced};
+ghost use Rattle.omi_step_words.specs.Moving.{to_join};
+ghost use Rattle.omi_step_words.specs.Placed.{IsPlaced};
 
 use omi_layout::{Field, Layout};
 use omi_model::{Event, Rid, Tid};
 use omi_pc::{Actor, Counter, JoinCounter, bodies_stand};
 use omi_rep::Outcome;
 use omi_script::Program;
-use omi_step::{
+use omi_step_words::{
     load, object_in, of_place, of_region, of_task, of_thread, store, task_place, task_under,
     unused_word,
 };

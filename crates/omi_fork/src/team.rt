@@ -7,8 +7,8 @@ ghost use Rattle.omi_layout.specs.Table.{thread_count};
 ghost use Rattle.omi_pc.specs.Fits.{Fits};
 ghost use Rattle.omi_pc.specs.declared.limits.TheConstants.{TASK_WORDS};
 ghost use Rattle.omi_pc.specs.declared.counter.Counter.TheVariants as counter;
-ghost use Rattle.omi_step.specs.Placed.{HasOptionalTask, HasRegion, HasTask, IsPlaced};
-ghost use Rattle.omi_step.specs.Plan.{filling, task_plan};
+ghost use Rattle.omi_step_words.specs.Placed.{HasOptionalTask, HasRegion, HasTask, IsPlaced};
+ghost use Rattle.omi_step_words.specs.Plan.{filling, task_plan};
 ghost use Rattle.omi_fork.specs.TeamSteps.{team_next, team_outcome};
 
 use crate::team_parts::{member_of, new_member, new_region, wanted_size};
@@ -17,7 +17,7 @@ use omi_model::{Event, Id};
 use omi_pc::{Actor, TeamCounter};
 use omi_rep::Outcome;
 use omi_script::Program;
-use omi_step::{
+use omi_step_words::{
     NewTask, fill, is_free, load, of_place, of_region, of_runtime, of_task, of_thread, of_variable,
     own_place, region_plan, search_outcome, store, task_plan, used_word,
 };

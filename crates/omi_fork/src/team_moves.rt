@@ -9,8 +9,8 @@ ghost use Rattle.omi_pc.specs.declared.limits.TheConstants.{REGION_WORDS, TASK_W
 ghost use Rattle.omi_pc.specs.declared.team_counter.TeamCounter.TheVariants as team;
 ghost use Rattle.omi_pc.specs.Fits.{Fits};
 ghost use Rattle.omi_pc.specs.OpenBodies.{AreOpen};
-ghost use Rattle.omi_step.specs.Moving.{to_team};
-ghost use Rattle.omi_step.specs.Placed.{IsPlaced, Searches};
+ghost use Rattle.omi_step_words.specs.Moving.{to_team};
+ghost use Rattle.omi_step_words.specs.Placed.{IsPlaced, Searches};
 ghost use Rattle.omi_fork.specs.TeamSteps.{answered, asking, assigning_from, behind_member, behind_region_word, behind_task_word, behind_variable, forked, region_searched, task_searched, team_moved, team_outcome, wanting};
 
 use crate::team::team_outcome;
@@ -21,7 +21,7 @@ use omi_pc::limits::{REGION_WORDS, TASK_WORDS, VARIABLE_WORDS};
 use omi_pc::{Actor, Counter, TeamCounter, bodies_stand, stacks_have_room};
 use omi_rep::Outcome;
 use omi_script::Program;
-use omi_step::{is_free, next_region_slot, next_task_slot, object_in, own_place};
+use omi_step_words::{is_free, next_region_slot, next_task_slot, object_in, own_place};
 
 /// The task that stands for a member whose task is not made yet.
 const NO_TASK: Tid = Tid(Id {

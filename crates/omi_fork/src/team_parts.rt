@@ -2,14 +2,14 @@
 
 ghost use Rattle.std.specs.Prelude.{◌≡◌, ◌<◌, ◌≤◌, ◌+◌, length};
 ghost use Rattle.omi_pc.specs.Fits.{HasVariables};
-ghost use Rattle.omi_step.specs.Members.{member_of};
+ghost use Rattle.omi_step_words.specs.Members.{member_of};
 ghost use Rattle.omi_fork.specs.TeamParts;
 ghost use Rattle.omi_fork.specs.TeamParts.{master_context, new_member, new_region, requested, wanted_size};
 
 use omi_model::{Rid, Team, Tid};
 use omi_pc::{Actor, Context};
 use omi_script::{Program, Stmt};
-use omi_step::{NewRegion, NewTask, exit_word, inherited_words};
+use omi_step_words::{NewRegion, NewTask, exit_word, inherited_words};
 
 /// The function of the `parallel` construct in work, and 0 where there is none.
 pub fn region_function(p: &Program, a: &Actor) -> u8

@@ -4,7 +4,7 @@ ghost use Rattle.std.specs.Prelude.{◌≡◌, ◌<◌};
 ghost use Rattle.omi_layout.specs.Table.{thread_count};
 ghost use Rattle.omi_pc.specs.Fits.{Fits};
 ghost use Rattle.omi_pc.specs.declared.counter.Counter.TheVariants as counter;
-ghost use Rattle.omi_step.specs.Placed.{IsPlaced};
+ghost use Rattle.omi_step_words.specs.Placed.{IsPlaced};
 ghost use Rattle.omi_fork.specs.WorkerSteps.{idle_counter, member_context, worker_moved, worker_next, worker_outcome};
 
 use omi_layout::{Field, Layout};
@@ -12,7 +12,7 @@ use omi_model::{Event, Rid, Tid};
 use omi_pc::{Actor, Context, Counter, WorkerCounter};
 use omi_rep::Outcome;
 use omi_script::Program;
-use omi_step::{
+use omi_step_words::{
     function_at, load, object_in, of_place, of_region, of_task, of_thread, region_place, store,
     task_place,
 };

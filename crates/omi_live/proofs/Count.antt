@@ -7,7 +7,7 @@ use Rattle.omi_script.specs.declared.program.Program.{Program}
 use Rattle.omi_model.specs.declared.event.Event.{Event}
 use Rattle.omi_model.specs.State.{State}
 use Rattle.omi_layout.specs.Memory.{put}
-use Rattle.omi_control.specs.Steps.{committed}
+use Rattle.omi_rule.specs.Steps.{committed}
 use Rattle.omi_core.specs.declared.entry.Entry.{Entry}
 use Rattle.omi_core.specs.Steps.{Steps, Watches, steps_of}
 

@@ -3,9 +3,9 @@ use Rattle.std.proofs.Common.{◌≡◌, ◌+◌, ◌++◌, ⊎_elim, ℕ, List,
 use Rattle.std.proofs.lemmas.List.{length-append, length-map}
 use Rattle.atomic_table.specs.Seated.{TableId}
 use Rattle.omi_script.specs.declared.program.Program.{Program}
-use Rattle.omi_events.specs.Events.{Events}
-use Rattle.omi_events.specs.Steps.{Steps}
-use Rattle.omi_events.specs.declared.made.Made.{Made}
+use Rattle.omi_run_lists.specs.Events.{Events}
+use Rattle.omi_run_lists.specs.Steps.{Steps}
+use Rattle.omi_run_lists.specs.declared.made.Made.{Made}
 use Rattle.omi_layout.specs.declared.layout.Layout.{Layout}
 use Rattle.omi_core.specs.declared.stop.Break.{Break}
 use Rattle.omi_core.specs.declared.thread_run.ThreadRun.{ThreadRun}

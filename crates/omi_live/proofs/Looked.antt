@@ -12,7 +12,7 @@ use Rattle.omi_layout.specs.declared.layout.Layout.{Layout}
 use Rattle.omi_layout.specs.Place.{image_words}
 use Rattle.omi_pc.specs.declared.actor.Actor.{Actor}
 use Rattle.omi_pc.specs.Fits.{Fits}
-use Rattle.omi_step.specs.Placed.{IsPlaced}
+use Rattle.omi_step_words.specs.Placed.{IsPlaced}
 use Rattle.omi_core.specs.declared.entry.Entry.{Entry}
 use Rattle.omi_core.specs.declared.stop.Break.{Break}
 use Rattle.omi_core.specs.Runs.{actors_in}

@@ -15,7 +15,7 @@ use Rattle.omi_layout.specs.Place.{image_words}
 use Rattle.omi_pc.specs.declared.actor.Actor.{Actor}
 use Rattle.omi_pc.specs.Opening.{opening_actor, waiting_actor}
 use Rattle.omi_actor.specs.Steps.{next_of, resumed_at}
-use Rattle.omi_control.specs.StepsKeep.{IsKept}
+use Rattle.omi_rule.specs.StepsKeep.{IsKept}
 use Rattle.omi_core.specs.declared.entry.Entry.{Entry}
 use Rattle.omi_core.specs.declared.stop.Break.{Break}
 use Rattle.omi_core.specs.Kept.{AreKept, KeepsCore, KeepsRun}

@@ -8,7 +8,7 @@ use Rattle.omi_layout.specs.declared.layout.Layout.{Layout}
 use Rattle.omi_layout.specs.Place.{image_words}
 use Rattle.omi_pc.specs.declared.actor.Actor.{Actor}
 use Rattle.omi_pc.specs.Fits.{Fits}
-use Rattle.omi_step.specs.Placed.{IsPlaced}
+use Rattle.omi_step_words.specs.Placed.{IsPlaced}
 use Rattle.omi_actor.specs.Steps.{next_of}
 use Rattle.omi_core.specs.RunSteps.{seats_of}
 use Rattle.omi_live.specs.declared.known.Part.{Part}

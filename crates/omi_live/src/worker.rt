@@ -15,12 +15,12 @@ use crate::rule::{Given, Looks, Raises, Running, Steps};
 use atomic_table::{Seat, Shared};
 use omi_actor::{next, resume};
 use omi_core::{Break, Until, end_at, list_event, turn_of};
-use omi_events::{EventList, Made, MadeList};
 use omi_layout::Layout;
 use omi_list::List;
 use omi_outside::Gate;
 use omi_pc::Actor;
 use omi_rep::Outcome;
+use omi_run_lists::{EventList, Made, MadeList};
 use omi_script::Program;
 use omi_word::{FIRST_ADDRESS, Op, Res};
 

@@ -8,13 +8,13 @@ use Rattle.omi_script.specs.Grammar.{Grammar, Refused}
 use Rattle.omi_script.specs.declared.fault.ScriptFault.{ScriptFault}
 use Rattle.omi_script.specs.declared.program.Program.{Program}
 use Rattle.omi_script.proofs.VerdictLemmas.{not_both}
-use Rattle.omi_command.specs.Refusal.{IsUnread, line_of, status_of}
-use Rattle.omi_command.specs.Said.{IsSaid}
-use Rattle.omi_command.specs.Scripts.{HoldsProgram, IsScriptRefusal}
-use Rattle.omi_command.specs.Statuses.{ComesWhere, IsFaultStatus}
-use Rattle.omi_command.specs.declared.refusal.Input.TheVariants as input
-use Rattle.omi_command.specs.declared.refusal.Refusal.{Refusal}
-use Rattle.omi_command.specs.declared.refusal.Refusal.TheVariants as refusal
+use Rattle.omi_verbs.specs.Refusal.{IsUnread, line_of, status_of}
+use Rattle.omi_verbs.specs.Said.{IsSaid}
+use Rattle.omi_verbs.specs.Scripts.{HoldsProgram, IsScriptRefusal}
+use Rattle.omi_verbs.specs.Statuses.{ComesWhere, IsFaultStatus}
+use Rattle.omi_verbs.specs.declared.refusal.Input.TheVariants as input
+use Rattle.omi_verbs.specs.declared.refusal.Refusal.{Refusal}
+use Rattle.omi_verbs.specs.declared.refusal.Refusal.TheVariants as refusal
 use Rattle.omi_live_top.specs.Answer.{IsAnswer, IsAnswered, IsLeft, IsPartlyDone}
 use Rattle.omi_live_top.specs.Command.{Command}
 use Rattle.omi_live_top.specs.Run.{IsRun}

@@ -6,10 +6,10 @@ use Rattle.omi_outside.specs.Outside.{Told, holding, IsCut}
 use Rattle.omi_outside.specs.declared.files.Refused.{Refused as RefusedWrite}
 use Rattle.omi_outside.specs.declared.files.Refused.TheVariants as refused
 use Rattle.omi_script.specs.declared.program.Program.{Program}
-use Rattle.omi_command.specs.Refusal.{IsReadFault, refusal_of_write, status_of}
-use Rattle.omi_command.specs.Scripts.{IsOfScript, IsProgramIn}
-use Rattle.omi_command.specs.declared.refusal.Refusal.{Refusal}
-use Rattle.omi_command.specs.declared.refusal.Refusal.TheVariants as refusal
+use Rattle.omi_verbs.specs.Refusal.{IsReadFault, refusal_of_write, status_of}
+use Rattle.omi_verbs.specs.Scripts.{IsOfScript, IsProgramIn}
+use Rattle.omi_verbs.specs.declared.refusal.Refusal.{Refusal}
+use Rattle.omi_verbs.specs.declared.refusal.Refusal.TheVariants as refusal
 use Rattle.omi_live_top.specs.Answer.{IsAnswered, IsLate, IsOfRun, IsUnwritten}
 use Rattle.omi_live_top.specs.Command.{Command}
 use Rattle.omi_live_top.specs.Run.{IsRun}

@@ -5,12 +5,12 @@ use Rattle.omi_outside.specs.Outside.{Told, holding, IsCut, IsPutCut, put_on}
 use Rattle.omi_outside.specs.declared.status.Status.{Status}
 use Rattle.omi_outside.specs.declared.status.Status.TheVariants as status
 use Rattle.omi_script.specs.declared.program.Program.{Program}
-use Rattle.omi_command.specs.Refusal.{IsUnread, line_of, status_of}
-use Rattle.omi_command.specs.Said.{IsSaid}
-use Rattle.omi_command.specs.Scripts.{IsOfScript, IsProgramIn, IsScriptRefusal}
-use Rattle.omi_command.specs.declared.refusal.Input.TheVariants as input
-use Rattle.omi_command.specs.declared.refusal.Refusal.{Refusal}
-use Rattle.omi_command.specs.declared.refusal.Refusal.TheVariants as refusal
+use Rattle.omi_verbs.specs.Refusal.{IsUnread, line_of, status_of}
+use Rattle.omi_verbs.specs.Said.{IsSaid}
+use Rattle.omi_verbs.specs.Scripts.{IsOfScript, IsProgramIn, IsScriptRefusal}
+use Rattle.omi_verbs.specs.declared.refusal.Input.TheVariants as input
+use Rattle.omi_verbs.specs.declared.refusal.Refusal.{Refusal}
+use Rattle.omi_verbs.specs.declared.refusal.Refusal.TheVariants as refusal
 use Rattle.omi_live_top.specs.Command.{Command}
 use Rattle.omi_live_top.specs.Run.{IsRun}
 

@@ -1,6 +1,6 @@
 -- A request of the program as a command.
 use Rattle.std.specs.Prelude.{◌≤◌}
-use Rattle.omi_command.specs.declared.limits.TheConstants.{MOST_LAYOUT}
+use Rattle.omi_verbs.specs.declared.limits.TheConstants.{MOST_LAYOUT}
 use Rattle.omi_live.specs.declared.limits.TheConstants.{MOST_BUDGET}
 use Rattle.omi_live_top.specs.Command.{Command}
 use Rattle.omi_live_top.specs.declared.command.Plan.{Plan}

@@ -6,7 +6,7 @@ use Rattle.omi_line.specs.Line.{split_of}
 use Rattle.omi_line.specs.Number.{number_of}
 use Rattle.omi_line.specs.declared.line.Line.{Line}
 use Rattle.omi_live.specs.declared.limits.TheConstants.{MOST_BUDGET}
-use Rattle.omi_command.specs.Options.{break_named, layout_of}
+use Rattle.omi_verbs.specs.Options.{break_named, layout_of}
 use Rattle.omi_live_top.specs.declared.command.Plan.{Plan}
 
 -- a run of the threads of a script, and the name of the core that it leaves

@@ -2,7 +2,7 @@
 use Rattle.std.specs.Prelude.{ℕ, List, [], ◌∷◌, ◌++◌, ◌+◌, codes}
 use Rattle.std.specs.Fmt.{decimal}
 use Rattle.omi_core.specs.declared.thread_run.ThreadRun.{ThreadRun}
-use Rattle.omi_command.specs.EventLines.{event_lines}
+use Rattle.omi_verbs.specs.EventLines.{event_lines}
 
 -- the number of a thread's steps
 abbrev pub steps_line : ℕ → ℕ → List ℕ

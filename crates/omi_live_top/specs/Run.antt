@@ -11,7 +11,7 @@ use Rattle.omi_rep.specs.Shows.{Shows}
 use Rattle.omi_core.specs.declared.thread_run.ThreadRun.{ThreadRun}
 use Rattle.omi_corefile.specs.Spelling.{core_bytes}
 use Rattle.omi_live.specs.Live.{IsLive}
-use Rattle.omi_command.specs.Cores.{IsReachedCore, thread_ids}
+use Rattle.omi_verbs.specs.Cores.{IsReachedCore, thread_ids}
 use Rattle.omi_live_top.specs.Lines.{live_text}
 use Rattle.omi_live_top.specs.declared.command.Plan.{Plan}
 

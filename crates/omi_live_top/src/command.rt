@@ -6,10 +6,10 @@ ghost use Rattle.omi_line.specs.Line.{IsText};
 ghost use Rattle.omi_live_top.specs.Asked.{asked, IsPossible};
 ghost use Rattle.omi_live_top.specs.Command.{break_of, command_by, plan_of};
 
-use omi_command::{Names, break_named, layout_of, text_of};
 use omi_core::Break;
 use omi_line::{Line, Text, number};
 use omi_live::MOST_BUDGET;
+use omi_verbs::{Names, break_named, layout_of, text_of};
 
 /// What a run of threads is to be.
 #[derive(Clone, Copy)]

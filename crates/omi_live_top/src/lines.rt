@@ -3,8 +3,8 @@
 ghost use Rattle.std.specs.Prelude.{◌≡◌, ◌++◌, IfOk, OnOk, string_bytes};
 ghost use Rattle.omi_live_top.specs.Lines.{live_text, run_lines, runs_lines};
 
-use omi_command::push_event_lines;
 use omi_core::{RunList, ThreadRun};
+use omi_verbs::push_event_lines;
 use std::alloc::{AllocError, Global};
 use std::fmt::Write;
 

@@ -6,12 +6,12 @@ ghost use Rattle.omi_live_top.specs.Run.{IsRun};
 
 use crate::command::Plan;
 use crate::lines::text_of;
-use omi_command::core_file_of;
 use omi_layout::Layout;
 use omi_live::live;
 use omi_outside::Gate;
 use omi_rep::{families_suit, words_fix_the_report};
 use omi_script::Program;
+use omi_verbs::core_file_of;
 use omi_word::OutOfMemory;
 use std::alloc::Global;
 use std::thread::Threads;

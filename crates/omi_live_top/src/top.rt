@@ -6,9 +6,9 @@ ghost use Rattle.omi_outside.specs.Outside.{HasCause, Rose, holding, put_on};
 ghost use Rattle.omi_script.specs.Grammar.{Grammar, Refused as RefusedScript};
 ghost use Rattle.omi_script.specs.declared.fault.ScriptFault.{ScriptFault};
 ghost use Rattle.omi_script.specs.declared.program.Program.{Program};
-ghost use Rattle.omi_command.specs.Refusal.{HasRoom, IsReadFault, status_of};
-ghost use Rattle.omi_command.specs.Said.{IsCounted, IsSaid};
-ghost use Rattle.omi_command.specs.Statuses.{ComesWhere, IsOfCore};
+ghost use Rattle.omi_verbs.specs.Refusal.{HasRoom, IsReadFault, status_of};
+ghost use Rattle.omi_verbs.specs.Said.{IsCounted, IsSaid};
+ghost use Rattle.omi_verbs.specs.Statuses.{ComesWhere, IsOfCore};
 ghost use Rattle.omi_live_top.specs.Answer.{IsAnswered, IsLeft, IsOfRun, IsUnwritten};
 ghost use Rattle.omi_live_top.specs.Asked.{asked, IsPossible};
 ghost use Rattle.omi_live_top.specs.Command.{Command, Writes, command_in};
@@ -16,8 +16,8 @@ ghost use Rattle.omi_live_top.specs.Run.{IsRun};
 
 use crate::command::{Request, request_of};
 use crate::run::run_of;
-use omi_command::{Refusal, line_in, print, program_of, refuse, refuse_words, room_for};
 use omi_outside::{Files, Gate, Sink, Status, write_whole};
+use omi_verbs::{Refusal, line_in, print, program_of, refuse, refuse_words, room_for};
 use std::alloc::Global;
 use std::thread::Threads;
 

@@ -1,5 +1,5 @@
 //! The plain program of the abstract machine: the state that it keeps, the opening state of a program, and the state after an
-//! event. omi_model defines the machine, and omi_legal decides which events are legal.
+//! event. omi_model defines the machine, and omi_machine_legal decides which events are legal.
 #![tactic(auto)]
 
 mod after_event;

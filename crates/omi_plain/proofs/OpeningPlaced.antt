@@ -12,7 +12,7 @@ use Rattle.omi_pc.specs.declared.frame.Opened.TheVariants.{Main}
 use Rattle.omi_pc.specs.Frames.{at_start}
 use Rattle.omi_pc.specs.Opening.{initial_context, opening_actor, waiting_actor}
 use Rattle.omi_plain.proofs.StayPlaced.{settled_placed}
-use Rattle.omi_step.specs.Placed.{AreContextsPlaced, HasRegion, HasTask, IsPlaced}
+use Rattle.omi_step_words.specs.Placed.{AreContextsPlaced, HasRegion, HasTask, IsPlaced}
 use Rattle.omi_model.specs.Opening.{initial_region, initial_task}
 
 module _ (p : Program) (w : List ℕ) (v : IsValid w) where

@@ -17,7 +17,7 @@ use Rattle.omi_pc.specs.Moves.{context_under, next_round, returned_by, returned_
 use Rattle.omi_pc.specs.Settle.{begun, calling, ended, ending_member, goes_to, repeating, settled, settled_by, settled_in, skipping}
 use Rattle.omi_plain.specs.PlainSteps.{behind_enter, left_behind, plain_moved, task_counter}
 use Rattle.omi_plain.specs.StepLaws.{PlainStepsStayPlaced}
-use Rattle.omi_step.specs.Placed.{AreContextsPlaced, IsPlaced, IsPlacedCounter}
+use Rattle.omi_step_words.specs.Placed.{AreContextsPlaced, IsPlaced, IsPlacedCounter}
 
 module _ (p : Program) (w : List ℕ) where
   -- ---- a statement begins

@@ -31,7 +31,7 @@ use Rattle.omi_pc.specs.Moves.{returned, worked, working}
 use Rattle.omi_pc.specs.Settle.{calling, goes_to, settled}
 use Rattle.omi_pc.specs.Stacks.{function_of}
 use Rattle.omi_plain.specs.Statements.{in_work, lock_in, set_address, set_number, set_word, tool_in}
-use Rattle.omi_step.specs.Words.{of_task, of_thread}
+use Rattle.omi_step_words.specs.Words.{of_task, of_thread}
 
 -- ---- operations
 

@@ -8,7 +8,7 @@ use Rattle.omi_layout.specs.declared.field.Field.TheVariants.{RuntimeMaxActive, 
 use Rattle.omi_layout.specs.Codes.{flag_word, schedule_word}
 use Rattle.omi_pc.specs.declared.actor.Actor.{Actor}
 use Rattle.omi_pc.specs.Frames.{statement_of}
-use Rattle.omi_step.specs.Words.{of_runtime, of_task}
+use Rattle.omi_step_words.specs.Words.{of_runtime, of_task}
 
 -- the statement in work
 abbrev pub in_work : Program → Actor → Option Stmt

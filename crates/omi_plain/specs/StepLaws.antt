@@ -8,7 +8,7 @@ use Rattle.omi_pc.specs.declared.counter.PlainCounter.{PlainCounter}
 use Rattle.omi_pc.specs.Fits.{Fits}
 use Rattle.omi_pc.specs.OpenBodies.{IsAt}
 use Rattle.omi_plain.specs.PlainSteps.{plain_moved}
-use Rattle.omi_step.specs.Placed.{IsPlaced}
+use Rattle.omi_step_words.specs.Placed.{IsPlaced}
 
 -- the current task is an implicit one where it is at a `barrier`. No body of an explicit task reaches one
 abbrev pub IsImplicitAtBarrier : Program → Actor → Type 0

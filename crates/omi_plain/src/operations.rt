@@ -7,14 +7,14 @@ ghost use Rattle.omi_pc.specs.declared.counter.Counter.TheVariants as counter;
 ghost use Rattle.omi_plain.specs.PlainSteps;
 ghost use Rattle.omi_plain.specs.PlainSteps.{enter_word, holder_word, loading_native, of_lock, plain_next};
 ghost use Rattle.omi_script.specs.declared.limits.TheConstants.{MAX_LOCK};
-ghost use Rattle.omi_step.specs.Placed.{IsPlaced};
+ghost use Rattle.omi_step_words.specs.Placed.{IsPlaced};
 
 use crate::statements::{lock, set_address, set_word, tool_word};
 use omi_layout::{Field, Layout};
 use omi_model::Rid;
 use omi_pc::{Actor, PlainCounter};
 use omi_script::Program;
-use omi_step::{exit_word, load, of_task, of_thread, store};
+use omi_step_words::{exit_word, load, of_task, of_thread, store};
 use omi_word::Op;
 
 /// The states of a thread that works, in the initial region and in any other.

@@ -2,14 +2,14 @@
 
 ghost use Rattle.std.specs.Prelude.{◌≡◌, ◌≤◌};
 ghost use Rattle.omi_script.specs.declared.limits.TheConstants.{MAX_LOCK};
-ghost use Rattle.omi_step.specs.Placed.{HasTask};
+ghost use Rattle.omi_step_words.specs.Placed.{HasTask};
 ghost use Rattle.omi_plain.specs.Statements;
 ghost use Rattle.omi_plain.specs.Statements.{in_work, set_address};
 
 use omi_layout::{Field, Layout};
 use omi_pc::Actor;
 use omi_script::{Program, Stmt, program_rules};
-use omi_step::{of_runtime, of_task};
+use omi_step_words::{of_runtime, of_task};
 
 /// The numbers of the variables that statements set.
 const DYNAMIC: u32 = 1;

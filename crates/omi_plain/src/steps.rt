@@ -4,7 +4,7 @@ ghost use Rattle.std.specs.Prelude.{◌≡◌};
 ghost use Rattle.omi_layout.specs.Table.{thread_count};
 ghost use Rattle.omi_pc.specs.Fits.{Fits};
 ghost use Rattle.omi_plain.specs.Steps.{IsPlainCounter, next_of, resumed};
-ghost use Rattle.omi_step.specs.Placed.{IsPlaced};
+ghost use Rattle.omi_step_words.specs.Placed.{IsPlaced};
 
 use crate::moves::move_on;
 use crate::operations::next_at;

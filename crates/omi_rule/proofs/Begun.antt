@@ -1,115 +1,127 @@
--- Slots in which objects begin, whose records stand filled.
-use Rattle.std.proofs.Common.{◌≡◌, ◌==◌, ◌+◌, ◌&&◌, ◌<◌, ℕ, Bool, true, false, inl, inr, List, Option, Some, None, refl, sym, ap, subst, ◌∙◌, arith, if◌then◌else◌}
-use Rattle.std.specs.Prelude.{◌⊎◌, IsSome, sum}
-use Rattle.std.proofs.lemmas.Bool.Decides.{nat_tests}
-use Rattle.omi_model.specs.declared.id.Id.{Id}
-use Rattle.omi_model.specs.declared.progress.Progress.TheVariants as progress
-use Rattle.omi_model.specs.declared.region.Region.{Region}
-use Rattle.omi_model.specs.declared.slot.Slot.{Slot}
+-- A thread works behind the begin of a task: a body that has not begun, with the task's list ahead.
+use Rattle.std.proofs.Common.{◌≡◌, ℕ, Bool, true, false, List, ◌∷◌, Some, refl, sym, ap, ◌∙◌, subst, if◌then◌else◌}
+use Rattle.omi_script.specs.declared.program.Program.{Program}
+use Rattle.omi_model.specs.declared.event.Event.{Event}
 use Rattle.omi_model.specs.declared.task.Task.{Task}
-use Rattle.omi_model.specs.Put.{found}
-use Rattle.omi_model.proofs.Slots.{some_same}
-use Rattle.omi_layout.specs.declared.field.Field.{Field}
-use Rattle.omi_layout.specs.declared.field.Field.TheVariants.{TaskChildren, TaskSlots}
-use Rattle.omi_layout.specs.Memory.{Rec}
-use Rattle.omi_layout.specs.Named.{number}
-use Rattle.omi_layout.specs.Table.{width}
-use Rattle.omi_rule.specs.Counts.{ended_members, one}
-use Rattle.omi_rule.specs.Threads.{Has}
-use Rattle.omi_rule.specs.Objects.{KeepsEnvironment, KeepsPlace, KeepsLife}
-use Rattle.omi_rule.specs.Words.{IsInTheMaking}
-use Rattle.omi_rule.specs.TeamKinds.{RegionIsFilled}
+use Rattle.omi_model.specs.Rows.{working}
+use Rattle.omi_model.specs.State.{State, task_of}
+use Rattle.omi_layout.specs.Memory.{Memory}
+use Rattle.omi_pc.specs.declared.actor.Actor.{Actor}
+use Rattle.omi_pc.specs.declared.context.Context.{Context}
+use Rattle.omi_pc.specs.declared.counter.Counter.TheVariants as counter
+use Rattle.omi_pc.specs.declared.counter.PlainCounter.TheVariants as plain
+use Rattle.omi_pc.specs.declared.frame.Frame.{Frame}
+use Rattle.omi_pc.specs.Fits.{FitsPlain, HasTask}
+use Rattle.omi_pc.specs.FitLaws.{DifferInBodies}
+use Rattle.omi_pc.specs.Moves as Moves
+use Rattle.omi_pc.specs.Settle.{goes_to, settled}
+use Rattle.omi_pc.proofs.Moved.{working_fits}
+use Rattle.omi_pc.proofs.Settled.{settled_fits}
+use Rattle.omi_pc.proofs.Unmoved.{settled_differs, working_differs}
+use Rattle.omi_plain.proofs.StayPlaced.{steps_stay_placed}
+use Rattle.omi_rule_words.specs.Owes.{nothing, owed}
+use Rattle.omi_step_words.specs.Placed.{AreContextsPlaced, IsPlaced}
+use Rattle.omi_rule.specs.Ahead as Ahead
+use Rattle.omi_rule.specs.Ahead.{IsAhead}
+use Rattle.omi_rule.specs.Chains.{KeepsBodies, StandsWith, encounter_of}
+use Rattle.omi_rule.specs.Rule.{KeepsThread}
+use Rattle.omi_rule.proofs.BodyMoves.{settled_of, working_of}
+use Rattle.omi_rule.proofs.Forgotten.{at_counter, settled_forgets, worked_forgets}
+use Rattle.omi_rule.proofs.OwnTask.{bodies_are_of_bodies}
+use Rattle.omi_rule.proofs.Settling.{settled_ahead, working_ahead}
+use Rattle.omi_rule.proofs.plain.Firsts.{IsFirst, IsGrounded, grounded, grounds_are_of_bodies, plain_first, settled_first, some_frame, working_first}
+use Rattle.omi_rule.specs.Chains.{RunsFunctions}
+use Rattle.omi_rule.proofs.Runs.{runs_are_of_bodies}
 
--- ---- slots in which an object begins
-
--- a slot had no object and has a new one
-pub record Begins {A : Type 0} (New : A → Type 0) (x y : Slot A) : Type 0 where
-  pub empty : x.live ≡ None
-  pub generations : y.generations ≡ x.generations + 1
-  pub object : A
-  pub live : y.live ≡ Some object
-  pub new : New object
-
--- a slot is as it was, with a fact, or a new object begins
-abbrev pub Grows : {A : Type 0} → Type 0 → (A → Type 0) → Slot A → Slot A → Type 0
-Grows Stays New x y = (record { same : y ≡ x; fact : Stays }) ⊎ Begins New x y
-
--- an object that has begun, under a name
-pub record IsNew {A : Type 0} (New : A → Type 0) (g : ℕ) (x : Slot A) (v : A) : Type 0 where
-  pub empty : x.live ≡ None
-  pub next : x.generations ≡ g
-  pub new : New v
-
--- nothing is found in an empty slot
-pub none_found : {A : Type 0} (g : ℕ) (x : Slot A) → x.live ≡ None → IsSome (found g x) → ⊥
-none_found {A} g x empty is = go (x.generations == g + 1) x.live empty is
+-- whatever the counter was
+working_is : (p : Program) (a : Actor) (f : Frame) (fs : List Frame) → a.stack ≡ f ∷ fs → Moves.working p (at_counter (counter.Plain plain.WorkState) a) ≡ Moves.working p a
+working_is p a f fs is = go p.env.debug
   where
-    go : (b : Bool) (o : Option A) → o ≡ None → IsSome (if b then o else None) → ⊥
-    go true (Some z) e is = absurd (cc)
-    go true None e is = absurd (cc)
-    go false o e is = absurd (cc)
-
-pub some_found : {A : Type 0} (o : Option A) (u : A) → o ≡ Some u → IsSome o
-some_found o u is = subst (λ p. IsSome p) (sym is) refl
-
--- where something is found, something is live
-found_there : {A : Type 0} (g : ℕ) (x : Slot A) (u : A) → x.live ≡ None → found g x ≡ Some u → ⊥
-found_there g x u empty is = none_found g x empty (some_found (found g x) u is)
-
-module _ {A : Type 0} (Stays : Type 0) (New : A → Type 0) (x y : Slot A) where
-  pub found_stays : Grows Stays New x y → (g : ℕ) (u : A) → found g x ≡ Some u → found g y ≡ Some u
-  found_stays (inl stays) g u is = ap (found g) stays.same ∙ is
-  found_stays (inr begins) g u is = absurd (found_there g x u begins.empty is)
-
-  pub found_was : Grows Stays New x y → (g : ℕ) (v : A) → found g y ≡ Some v → (found g x ≡ Some v) ⊎ IsNew New g x v
-  found_was (inl stays) g v is = inl (sym (ap (found g) stays.same) ∙ is)
-  found_was (inr begins) g v is = inr (go (y.generations == g + 1) refl is)
-    where
-      go : (b : Bool) → y.generations == g + 1 ≡ b → (if b then y.live else None) ≡ Some v → IsNew New g x v
-      go true e there =
-          let more = begins.generations in
-          let same : begins.object ≡ v = some_same begins.live there in
-          record { empty = begins.empty; next = (let at : y.generations ≡ g + 1 = grind (arith, nat_tests) in omega (arith, more, at)); new = subst New same begins.new }
-      go false e there = absurd (cc)
-
-  pub some_stays : Grows Stays New x y → (g : ℕ) → IsSome (found g x) → IsSome (found g y)
-  some_stays (inl stays) g is = subst (λ (z : Slot A). IsSome (found g z)) (sym stays.same) is
-  some_stays (inr begins) g is = absurd (none_found g x begins.empty is)
-
--- a slot that is as it was has no other record in the making
-pub making_same : {A : Type 0} (i : ℕ) (was now : ℕ → Slot A) (n : Id) → now n.slot ≡ was n.slot → IsInTheMaking i was n → IsInTheMaking i now n
-making_same i was now n same is = record { maker = is.maker; free = ap (λ x. x.live) same ∙ is.free; next = is.next ∙ sym (ap (λ x. x.generations) same) }
-
--- ---- new objects
-
--- a record that was taken is filled for this region, which is new
-pub record NewRegion (w : List ℕ) (r : Rec) (taken : Bool) (x : Region) : Type 0 where
-  pub taken_is : taken ≡ true
-  pub filled : RegionIsFilled w r x
-  pub arrivals : sum x.arrivals ≡ 0
-  pub released : x.released ≡ 0
-  pub ended : ended_members x ≡ 0
-
--- a record that was taken is filled for this task, which is new and of this kind. It has a place on a thread unless it is deferred
-pub record NewTask (w : List ℕ) (r : Rec) (taken : Bool) (Kind : Task → Type 0) (t : Task) : Type 0 where
-  pub taken_is : taken ≡ true
-  pub environment : KeepsEnvironment w r t
-  pub place : (t.implicit ≡ false → t.progress ≡ progress.Deferred → ⊥) → KeepsPlace w r t
-  pub children : Has r TaskChildren 0 0
-  pub slots : t.implicit ≡ true → (place : ℕ) → place < width w (number TaskSlots) → Has r TaskSlots place 0
-  pub kind : Kind t
-
-pub one_none : (b c : Bool) → c ≡ false → one (b && c) ≡ 0
-one_none b c none = ap (λ x. one (b && x)) none ∙ go b
-  where
-    go : (b : Bool) → one (b && false) ≡ 0
+    go : (d : Bool) → (if d then goes_to plain.WorkState (at_counter (counter.Plain plain.WorkState) a) else Moves.worked p (at_counter (counter.Plain plain.WorkState) a)) ≡ (if d then goes_to plain.WorkState a else Moves.worked p a)
     go true = refl
-    go false = refl
+    go false = worked_forgets p a f fs (counter.Plain plain.WorkState) is
 
--- the life word of a record that was taken
-pub begun_life : {A : Type 0} (r : Rec) (f : Field) (x y : Slot A) (New : A → Type 0) (before now : Bool) → Begins New x y → before ≡ true → KeepsLife r f x before → KeepsLife r f y now
-begun_life r f x y New before now begins taken o = record {
-  live = λ u is. let was = o.taken begins.empty taken in let more = begins.generations in omega (arith, was, more);
-  taken = λ none _. let some = begins.live in absurd (cc);
-  free = λ none _. let some = begins.live in absurd (cc);
-}
+pub working_is_first : (p : Program) (a : Actor) (f : Frame) (fs : List Frame) → a.stack ≡ f ∷ fs → IsFirst (Moves.working p a).counter
+working_is_first p a f fs is =
+    subst (λ (b : Actor). IsFirst b.counter) (working_is p a f fs is) (working_first p (at_counter (counter.Plain plain.WorkState) a) (plain_first plain.WorkState tt))
+
+pub working_is_placed : (p : Program) (w : List ℕ) (a : Actor) (f : Frame) (fs : List Frame) → a.stack ≡ f ∷ fs → AreContextsPlaced w a.context a.stack → IsPlaced w (Moves.working p a)
+working_is_placed p w a f fs is placed = go p.env.debug
+  where
+    b : Actor
+    b = at_counter (counter.Plain plain.WorkState) a
+
+    go : (d : Bool) → IsPlaced w (if d then goes_to plain.WorkState a else Moves.worked p a)
+    go true = record { bodies = placed; counter = tt }
+    go false =
+        subst (IsPlaced w) (worked_forgets p a f fs (counter.Plain plain.WorkState) is)
+        (steps_stay_placed p w (at_counter (counter.Plain plain.WorkState) a) plain.WorkState 0 (record { bodies = placed; counter = tt }) refl)
+
+-- the thread's part where it works in the task with its context
+pub works : (p : Program) (w : List ℕ) (m : Memory) (events : List (ℕ × Event)) (u : State) (i : ℕ) (a : Actor) (f : Frame) (fs : List Frame) → a.stack ≡ f ∷ fs → a.thread ≡ i → HasTask p a → FitsPlain p a plain.WorkState
+    → AreContextsPlaced w a.context a.stack → (encounter_of u a.context).debug ≡ p.env.debug → (u.threads i).current ≡ Some a.context.task → KeepsBodies p u i a.context a.stack → RunsFunctions u a.context a.stack
+    → ((t : Task) → task_of u a.context.task ≡ Some t → t.list ≡ working (encounter_of u a.context) (Ahead.worked p (encounter_of u a.context) a.stack)) → KeepsThread p w m events u i (Moves.working p a)
+works p w m events u i a f fs is thread has fits placed debug current bodies runs list =
+    let differs : DifferInBodies a (Moves.working p a) = working_differs p a in
+    let first : IsFirst (Moves.working p a).counter = working_is_first p a f fs is in
+    let (g, gs, stack) = some_frame (Moves.working p a).stack (working_of (λ c xs. IsGrounded xs) grounds_are_of_bodies p a (grounded p a.context a.stack has.bodies has.some)) in
+    record {
+      thread = differs.thread ∙ thread;
+      fits = working_fits p a has fits;
+      placed = working_is_placed p w a f fs is placed;
+      stands = subst (StandsWith p u i (Moves.working p a)) (sym stack) (record {
+        current = current ∙ ap (λ (c : Context). Some c.task) (sym differs.context);
+        bodies = working_of (KeepsBodies p u i) (bodies_are_of_bodies p u i) p a bodies;
+        ahead = λ t live.
+            subst (λ (c : Context). IsAhead p (encounter_of u c) (Moves.working p a).stack (Moves.working p a).counter t.list) (sym differs.context)
+            (subst (IsAhead p (encounter_of u a.context) (Moves.working p a).stack (Moves.working p a).counter)
+            (sym (list t (subst (λ (c : Context). task_of u c.task ≡ Some t) differs.context live)))
+            (working_ahead p (encounter_of u a.context) debug a f fs is));
+      });
+      runs = working_of (RunsFunctions u) (runs_are_of_bodies u) p a runs;
+      row = first.row p w m u i (Moves.working p a);
+      ended = first.ended events i;
+    }
+
+pub works_owing_nothing : (p : Program) (a : Actor) (f : Frame) (fs : List Frame) → a.stack ≡ f ∷ fs → owed (Moves.working p a) ≡ nothing
+works_owing_nothing p a f fs is = (working_is_first p a f fs is).owes (Moves.working p a).context (Moves.working p a).gathered.team
+
+-- ---- a task that starts without a state
+
+pub settled_is_first : (p : Program) (a : Actor) (f : Frame) (fs : List Frame) → a.stack ≡ f ∷ fs → IsFirst (settled p a).counter
+settled_is_first p a f fs is =
+    subst (λ (b : Actor). IsFirst b.counter) (settled_forgets p a f fs (counter.Plain plain.Work) is) (settled_first p (at_counter (counter.Plain plain.Work) a) (plain_first plain.Work tt))
+
+settled_is_placed : (p : Program) (w : List ℕ) (a : Actor) (f : Frame) (fs : List Frame) → a.stack ≡ f ∷ fs → AreContextsPlaced w a.context a.stack → IsPlaced w (settled p a)
+settled_is_placed p w a f fs is placed =
+    subst (IsPlaced w) (settled_forgets p a f fs (counter.Plain plain.Work) is)
+    (steps_stay_placed p w (at_counter (counter.Plain plain.Work) a) plain.Work 0 (record { bodies = placed; counter = tt }) refl)
+
+-- the thread's part where it goes on in the body of its task
+pub settles : (p : Program) (w : List ℕ) (m : Memory) (events : List (ℕ × Event)) (u : State) (i : ℕ) (a : Actor) (f : Frame) (fs : List Frame) → a.stack ≡ f ∷ fs → a.thread ≡ i → HasTask p a
+    → AreContextsPlaced w a.context a.stack → (encounter_of u a.context).debug ≡ p.env.debug → (u.threads i).current ≡ Some a.context.task → KeepsBodies p u i a.context a.stack → RunsFunctions u a.context a.stack
+    → ((t : Task) → task_of u a.context.task ≡ Some t → t.list ≡ Ahead.ahead p (encounter_of u a.context) a.stack) → KeepsThread p w m events u i (settled p a)
+settles p w m events u i a f fs is thread has placed debug current bodies runs list =
+    let differs : DifferInBodies a (settled p a) = settled_differs p a in
+    let first : IsFirst (settled p a).counter = settled_is_first p a f fs is in
+    let (g, gs, stack) = some_frame (settled p a).stack (settled_of (λ c xs. IsGrounded xs) grounds_are_of_bodies p a (grounded p a.context a.stack has.bodies has.some)) in
+    record {
+      thread = differs.thread ∙ thread;
+      fits = settled_fits p a has;
+      placed = settled_is_placed p w a f fs is placed;
+      stands = subst (StandsWith p u i (settled p a)) (sym stack) (record {
+        current = current ∙ ap (λ (c : Context). Some c.task) (sym differs.context);
+        bodies = settled_of (KeepsBodies p u i) (bodies_are_of_bodies p u i) p a bodies;
+        ahead = λ t live.
+            subst (λ (c : Context). IsAhead p (encounter_of u c) (settled p a).stack (settled p a).counter t.list) (sym differs.context)
+            (subst (IsAhead p (encounter_of u a.context) (settled p a).stack (settled p a).counter)
+            (sym (list t (subst (λ (c : Context). task_of u c.task ≡ Some t) differs.context live)))
+            (settled_ahead p (encounter_of u a.context) debug a f fs is));
+      });
+      runs = settled_of (RunsFunctions u) (runs_are_of_bodies u) p a runs;
+      row = first.row p w m u i (settled p a);
+      ended = first.ended events i;
+    }
+
+pub settles_owing_nothing : (p : Program) (a : Actor) (f : Frame) (fs : List Frame) → a.stack ≡ f ∷ fs → owed (settled p a) ≡ nothing
+settles_owing_nothing p a f fs is = (settled_is_first p a f fs is).owes (settled p a).context (settled p a).gathered.team

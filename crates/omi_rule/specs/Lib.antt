@@ -1,15 +1,15 @@
--- The definitions to believe, in reading order: what a thread has half done, what is counted, and what holds of the words between any two steps.
-pub mod Owes
-pub mod Counts
-pub mod Threads
-pub mod Objects
-pub mod Words
+-- The definitions to believe, in reading order: what is ahead of a thread by where it stands, what its contexts say of the state, what
+-- its registers say, and the rule between any two steps.
+pub mod Ahead
+pub mod Chains
+pub mod Rows
+pub mod Rule
+-- What comes of a step
+pub mod Waits
+pub mod Commits
+pub mod Steps
 -- The laws
+pub mod LeavesOthers
+pub mod Descends
 pub mod Opens
-pub mod Shown
-pub mod Kinds
-pub mod TaskKinds
-pub mod BarrierKinds
-pub mod TeamKinds
-pub mod CountKinds
-pub mod ExplicitKinds
+pub mod StepsKeep

@@ -8,9 +8,9 @@ use Rattle.omi_layout.specs.Table.{makers, per_thread}
 use Rattle.omi_layout.specs.Valid.{IsValid}
 use Rattle.omi_layout.proofs.Arenas.{index_few, tasks_of_valid, threads_of_valid}
 use Rattle.omi_pc.specs.declared.place.Place.{Place}
-use Rattle.omi_step.specs.Placed.{HasTask}
-use Rattle.omi_step.specs.Words.{first_place, generation_of, slot_by, used_word}
-use Rattle.omi_step.proofs.ReadBack.{generations_back}
+use Rattle.omi_step_words.specs.Placed.{HasTask}
+use Rattle.omi_step_words.specs.Words.{first_place, generation_of, slot_by, used_word}
+use Rattle.omi_step_words.proofs.ReadBack.{generations_back}
 use Rattle.omi_task.specs.SlotLaws.{CodesAreNotZero, CodesAreReadBack}
 use Rattle.omi_task.specs.Slots.{coded_place, slot_word}
 

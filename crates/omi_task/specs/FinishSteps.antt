@@ -24,8 +24,8 @@ use Rattle.omi_pc.specs.declared.task_counter.FinishCounter.{FinishCounter}
 use Rattle.omi_pc.specs.declared.task_counter.FinishCounter.TheVariants as finish
 use Rattle.omi_pc.specs.declared.task_counter.LookCounter.TheVariants as look
 use Rattle.omi_pc.specs.Moves.{closed}
-use Rattle.omi_step.specs.Moving.{task_under, to_finish}
-use Rattle.omi_step.specs.Words.{object_in, of_place, of_region, of_task, of_thread, task_place, unused_word}
+use Rattle.omi_step_words.specs.Moving.{task_under, to_finish}
+use Rattle.omi_step_words.specs.Words.{object_in, of_place, of_region, of_task, of_thread, task_place, unused_word}
 
 -- ---- operations
 

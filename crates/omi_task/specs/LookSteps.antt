@@ -30,9 +30,9 @@ use Rattle.omi_pc.specs.declared.team_counter.BarrierCounter.TheVariants as barr
 use Rattle.omi_pc.specs.Fits.{slots_of}
 use Rattle.omi_pc.specs.Moves.{begun_explicit, working}
 use Rattle.omi_pc.specs.Settle.{goes_to, settled}
-use Rattle.omi_step.specs.Moving.{to_look}
-use Rattle.omi_step.specs.Plan.{filling}
-use Rattle.omi_step.specs.Words.{function_at, of_member, of_task, of_thread, task_place}
+use Rattle.omi_step_words.specs.Moving.{to_look}
+use Rattle.omi_step_words.specs.Plan.{filling}
+use Rattle.omi_step_words.specs.Words.{function_at, of_member, of_task, of_thread, task_place}
 use Rattle.omi_task.specs.Slots.{coded_task}
 use Rattle.omi_task.specs.Starts.{start_plan, task_context}
 

@@ -24,11 +24,11 @@ use Rattle.omi_pc.specs.declared.task_counter.TaskCounter.TheVariants as task
 use Rattle.omi_pc.specs.Frames.{statement_of}
 use Rattle.omi_pc.specs.Moves.{begun_explicit}
 use Rattle.omi_pc.specs.Settle.{goes_to, settled}
-use Rattle.omi_step.specs.declared.plan.NewTask.{NewTask}
-use Rattle.omi_step.specs.Moving.{gathering, to_task}
-use Rattle.omi_step.specs.Plan.{filling, of_variable, task_plan}
-use Rattle.omi_step.specs.Searches.{next_slot, own_place, search_outcome}
-use Rattle.omi_step.specs.Words.{is_free, object_in, of_place, of_region, of_task, of_thread, used_word}
+use Rattle.omi_step_words.specs.declared.plan.NewTask.{NewTask}
+use Rattle.omi_step_words.specs.Moving.{gathering, to_task}
+use Rattle.omi_step_words.specs.Plan.{filling, of_variable, task_plan}
+use Rattle.omi_step_words.specs.Searches.{next_slot, own_place, search_outcome}
+use Rattle.omi_step_words.specs.Words.{is_free, object_in, of_place, of_region, of_task, of_thread, used_word}
 use Rattle.omi_task.specs.Slots.{slot_word}
 use Rattle.omi_task.specs.Starts.{task_context, task_depth}
 

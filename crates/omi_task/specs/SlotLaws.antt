@@ -2,7 +2,7 @@
 use Rattle.std.specs.Prelude.{◌≡◌, ◌^◌, ◌<◌, List, ℕ}
 use Rattle.omi_model.specs.declared.id.Tid.{Tid}
 use Rattle.omi_layout.specs.Valid.{IsValid}
-use Rattle.omi_step.specs.Placed.{HasTask}
+use Rattle.omi_step_words.specs.Placed.{HasTask}
 use Rattle.omi_task.specs.Slots.{coded_task, slot_word}
 
 -- so no two tasks have the same code

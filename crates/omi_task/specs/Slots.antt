@@ -5,7 +5,7 @@ use Rattle.omi_layout.specs.Field.{tasks}
 use Rattle.omi_layout.specs.Place.{index_of}
 use Rattle.omi_layout.specs.Table.{makers}
 use Rattle.omi_pc.specs.declared.place.Place.{Place}
-use Rattle.omi_step.specs.Words.{first_place, object_in, slot_by, used_word}
+use Rattle.omi_step_words.specs.Words.{first_place, object_in, slot_by, used_word}
 
 -- the code of a deferred task, by the life word and the number of its record. A slot without a task has 0
 abbrev pub slot_word : List ℕ → Tid → ℕ

@@ -6,8 +6,8 @@ use Rattle.omi_layout.specs.Codes.{exit_word}
 use Rattle.omi_rep.specs.Records.{task_address, thread_address}
 use Rattle.omi_pc.specs.declared.actor.Actor.{Actor}
 use Rattle.omi_pc.specs.declared.context.Context.{Context}
-use Rattle.omi_step.specs.declared.plan.Planned.{Planned}
-use Rattle.omi_step.specs.Plan.{filled, zero_in}
+use Rattle.omi_step_words.specs.declared.plan.Planned.{Planned}
+use Rattle.omi_step_words.specs.Plan.{filled, zero_in}
 
 -- an explicit task runs on top of the task that it is scheduled from
 abbrev pub task_depth : Actor → ℕ

@@ -5,8 +5,8 @@ ghost use Rattle.omi_layout.specs.Table.{thread_count};
 ghost use Rattle.omi_pc.specs.Fits.{Fits};
 ghost use Rattle.omi_pc.specs.declared.counter.Counter.TheVariants as counter;
 ghost use Rattle.omi_pc.specs.declared.task_counter.FinishCounter.TheVariants.{Finish};
-ghost use Rattle.omi_step.specs.Moving.{to_finish};
-ghost use Rattle.omi_step.specs.Placed.{IsPlaced};
+ghost use Rattle.omi_step_words.specs.Moving.{to_finish};
+ghost use Rattle.omi_step_words.specs.Placed.{IsPlaced};
 ghost use Rattle.omi_task.specs.FinishSteps.{behind_finish, behind_references, finish_moved, finish_next, finish_outcome, finished, wait_of};
 
 use omi_layout::{Field, Layout};
@@ -14,7 +14,7 @@ use omi_model::{Event, Tid};
 use omi_pc::{Actor, Ancestor, Counter, FinishCounter, LookCounter, Opened, PlainCounter, Wait};
 use omi_rep::Outcome;
 use omi_script::Program;
-use omi_step::{
+use omi_step_words::{
     load, object_in, of_place, of_region, of_task, of_thread, store, task_place, task_under,
     unused_word,
 };

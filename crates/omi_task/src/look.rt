@@ -4,7 +4,7 @@ ghost use Rattle.std.specs.Prelude.{◌≡◌, ◌<◌};
 ghost use Rattle.omi_layout.specs.Table.{thread_count};
 ghost use Rattle.omi_pc.specs.Fits.{Fits};
 ghost use Rattle.omi_pc.specs.declared.counter.Counter.TheVariants as counter;
-ghost use Rattle.omi_step.specs.Placed.{HasTaskPlace, IsPlaced};
+ghost use Rattle.omi_step_words.specs.Placed.{HasTaskPlace, IsPlaced};
 ghost use Rattle.omi_task.specs.LookSteps.{look_next, look_outcome, of_slot, wait_state};
 
 use crate::slots::coded_task;
@@ -15,7 +15,7 @@ use omi_pc::limits::OWN_SLOTS;
 use omi_pc::{Actor, Barrier, LookCounter, Place, Wait};
 use omi_rep::Outcome;
 use omi_script::Program;
-use omi_step::{fill, load, of_task, of_thread, store};
+use omi_step_words::{fill, load, of_task, of_thread, store};
 use omi_word::Op;
 
 /// The states of a thread that waits.

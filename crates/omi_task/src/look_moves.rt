@@ -7,8 +7,8 @@ ghost use Rattle.omi_pc.specs.declared.limits.TheConstants.{START_WORDS};
 ghost use Rattle.omi_pc.specs.Fits.{Fits, slots_of};
 ghost use Rattle.omi_pc.specs.OpenBodies.{IsWaiting};
 ghost use Rattle.omi_pc.specs.Stacks.{task_function};
-ghost use Rattle.omi_step.specs.Moving.{to_look};
-ghost use Rattle.omi_step.specs.Placed.{IsPlaced};
+ghost use Rattle.omi_step_words.specs.Moving.{to_look};
+ghost use Rattle.omi_step_words.specs.Placed.{IsPlaced};
 ghost use Rattle.omi_task.specs.LookSteps.{behind_code, behind_look, behind_start_word, look_at, look_moved, look_outcome, looking_on, next_look, started};
 
 use crate::look::look_outcome;
@@ -23,7 +23,7 @@ use omi_pc::{
 };
 use omi_rep::Outcome;
 use omi_script::Program;
-use omi_step::{function_at, task_place};
+use omi_step_words::{function_at, task_place};
 
 /// The slots of all members.
 fn slots(p: &Program, a: &Actor) -> u64

@@ -7,8 +7,8 @@ ghost use Rattle.omi_layout.specs.Table.{thread_count};
 ghost use Rattle.omi_pc.specs.Fits.{Fits};
 ghost use Rattle.omi_pc.specs.declared.counter.Counter.TheVariants as counter;
 ghost use Rattle.omi_pc.specs.declared.limits.TheConstants.{OWN_SLOTS, TASK_WORDS};
-ghost use Rattle.omi_step.specs.Placed.{HasOptionalTask, HasRegion, HasTask, IsPlaced};
-ghost use Rattle.omi_step.specs.Plan.{filling, task_plan};
+ghost use Rattle.omi_step_words.specs.Placed.{HasOptionalTask, HasRegion, HasTask, IsPlaced};
+ghost use Rattle.omi_step_words.specs.Plan.{filling, task_plan};
 ghost use Rattle.omi_task.specs.MakingSteps;
 ghost use Rattle.omi_task.specs.MakingSteps.{making_next, making_outcome, new_task, of_own_slot};
 
@@ -18,7 +18,7 @@ use omi_model::{Event, Id};
 use omi_pc::{Actor, TaskCounter};
 use omi_rep::Outcome;
 use omi_script::{Program, Stmt};
-use omi_step::{
+use omi_step_words::{
     NewTask, exit_word, fill, load, of_place, of_region, of_task, of_thread, of_variable,
     own_place, search_outcome, store, task_plan, used_word,
 };

@@ -7,8 +7,8 @@ ghost use Rattle.omi_pc.specs.declared.counter.Counter.TheVariants as counter;
 ghost use Rattle.omi_pc.specs.declared.limits.TheConstants.{OWN_SLOTS, TASK_WORDS, VARIABLE_WORDS};
 ghost use Rattle.omi_pc.specs.declared.task_counter.TaskCounter.TheVariants as task;
 ghost use Rattle.omi_pc.specs.Fits.{Fits, HasVariables, IsTaskGot};
-ghost use Rattle.omi_step.specs.Moving.{to_task};
-ghost use Rattle.omi_step.specs.Placed.{IsPlaced, Searches};
+ghost use Rattle.omi_step_words.specs.Moving.{to_task};
+ghost use Rattle.omi_step_words.specs.Placed.{IsPlaced, Searches};
 ghost use Rattle.omi_task.specs.MakingSteps.{behind_life, behind_raises, behind_slot, behind_variable, behind_word, making_moved, making_outcome, started_now, with_variable};
 ghost use Rattle.std.specs.Prelude.{None};
 
@@ -20,7 +20,7 @@ use omi_pc::limits::{OWN_SLOTS, TASK_WORDS, VARIABLE_WORDS};
 use omi_pc::{Actor, Counter, PlainCounter, TaskCounter, bodies_stand, stacks_have_room};
 use omi_rep::Outcome;
 use omi_script::Program;
-use omi_step::{is_free, next_task_slot, object_in, own_place};
+use omi_step_words::{is_free, next_task_slot, object_in, own_place};
 
 /// A counter of a `task` construct comes next.
 fn to_task(a: &mut Actor, c: TaskCounter)

@@ -1,13 +1,13 @@
 //! The words of slots for deferred tasks.
 
 ghost use Rattle.std.specs.Prelude.{◌≡◌};
-ghost use Rattle.omi_step.specs.Placed.{HasTask};
+ghost use Rattle.omi_step_words.specs.Placed.{HasTask};
 ghost use Rattle.omi_task.specs.Slots.{coded_place, coded_task, slot_word};
 
 use omi_layout::Layout;
 use omi_model::Tid;
 use omi_pc::Place;
-use omi_step::{object_in, used_word};
+use omi_step_words::{object_in, used_word};
 
 /// The number of a record is below this one. The life word stands above it in a code.
 const CODED_RECORDS: u64 = 1 << 24;

@@ -4,14 +4,14 @@ ghost use Rattle.std.specs.Prelude.{◌≡◌, ◌<◌};
 ghost use Rattle.omi_layout.specs.Field.{tasks};
 ghost use Rattle.omi_layout.specs.Table.{thread_count};
 ghost use Rattle.omi_pc.specs.declared.limits.TheConstants.{START_WORDS};
-ghost use Rattle.omi_step.specs.Placed.{HasTask};
-ghost use Rattle.omi_step.specs.Plan.{IsPlannedIn, filled};
+ghost use Rattle.omi_step_words.specs.Placed.{HasTask};
+ghost use Rattle.omi_step_words.specs.Plan.{IsPlannedIn, filled};
 ghost use Rattle.omi_task.specs.Starts.{start_plan, task_context};
 
 use omi_layout::{Field, Layout};
 use omi_model::Tid;
 use omi_pc::{Actor, Context};
-use omi_step::{Planned, exit_word};
+use omi_step_words::{Planned, exit_word};
 
 /// A planned word.
 fn planned(field: Field, value: u64) -> Planned

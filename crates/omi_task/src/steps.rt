@@ -3,7 +3,7 @@
 ghost use Rattle.std.specs.Prelude.{◌≡◌};
 ghost use Rattle.omi_layout.specs.Table.{thread_count};
 ghost use Rattle.omi_pc.specs.Fits.{Fits};
-ghost use Rattle.omi_step.specs.Placed.{IsPlaced};
+ghost use Rattle.omi_step_words.specs.Placed.{IsPlaced};
 ghost use Rattle.omi_task.specs.Steps.{IsTaskCounter, next_of, resumed};
 
 use crate::{finish_next, finish_resume, look_next, look_resume, making_next, making_resume};

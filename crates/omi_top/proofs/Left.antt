@@ -6,17 +6,17 @@ use Rattle.omi_outside.specs.declared.status.Status.{Status}
 use Rattle.omi_outside.specs.declared.status.Status.TheVariants as status
 use Rattle.omi_top.specs.Command.{Command, Stop, Make, Show, Run, Faulty, core_name, script_name, written_name}
 use Rattle.omi_top.specs.Answer.{Answer, Gives, AreTold, IsAnswer, IsStopAnswer, IsMakeAnswer, IsRunAnswer, IsShowAnswer, IsAnswered, IsLeft}
-use Rattle.omi_command.specs.Said.{IsSaid}
+use Rattle.omi_verbs.specs.Said.{IsSaid}
 use Rattle.omi_top.specs.declared.plan.Plan.{Plan}
 use Rattle.omi_layout.specs.declared.fault.LayoutFault.TheVariants.{Version, Overlap, OutOfRecord, BadArena}
 use Rattle.omi_layout.specs.declared.reading.LayoutError.{LayoutError}
 use Rattle.omi_layout.specs.declared.reading.LayoutError.TheVariants as layout
 use Rattle.omi_rep.specs.declared.fault.LookFault.{LookFault}
 use Rattle.omi_rep.specs.declared.fault.LookFault.TheVariants as look
-use Rattle.omi_command.specs.Refusal.{line_of, status_of}
+use Rattle.omi_verbs.specs.Refusal.{line_of, status_of}
 use Rattle.omi_top.specs.Shown.{refusal_of_layout, refusal_of_look}
-use Rattle.omi_command.specs.declared.refusal.Refusal.{Refusal}
-use Rattle.omi_command.specs.declared.refusal.Refusal.TheVariants as refusal
+use Rattle.omi_verbs.specs.declared.refusal.Refusal.{Refusal}
+use Rattle.omi_verbs.specs.declared.refusal.Refusal.TheVariants as refusal
 
 -- a fault of the outside, or want of memory
 abbrev is_fault : Refusal → Bool

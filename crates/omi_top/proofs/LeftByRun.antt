@@ -12,13 +12,13 @@ use Rattle.omi_script.specs.declared.program.Program.{Program}
 use Rattle.omi_script.proofs.VerdictLemmas.{not_both}
 use Rattle.omi_corefile.proofs.FileLaws.{core_unique}
 use Rattle.omi_top.specs.Answer.{Answer, Gives, ComesBehind, IsAnswer, IsLeft, IsOutsideStatus, IsReadBackStatus, IsRefused, IsReportOf, IsRunAnswer, IsRunShown, IsShowAnswer, IsShowRefusal, IsStopAnswer, IsStopped}
-use Rattle.omi_command.specs.Statuses.{ComesWhere}
-use Rattle.omi_command.specs.Scripts.{HoldsProgram, IsScriptRefusal}
+use Rattle.omi_verbs.specs.Statuses.{ComesWhere}
+use Rattle.omi_verbs.specs.Scripts.{HoldsProgram, IsScriptRefusal}
 use Rattle.omi_top.specs.Command.{Run}
 use Rattle.omi_top.specs.Cores.{IsDamaged, IsIncompatible, IsLooked, Spells}
-use Rattle.omi_command.specs.Refusal.{status_of}
+use Rattle.omi_verbs.specs.Refusal.{status_of}
 use Rattle.omi_top.specs.declared.plan.Plan.{Plan}
-use Rattle.omi_command.specs.declared.refusal.Refusal.{Refusal}
+use Rattle.omi_verbs.specs.declared.refusal.Refusal.{Refusal}
 use Rattle.omi_top.proofs.LeftByShow.{HasReport, looked_shown, not_refused, run_shown, shown_looked}
 use Rattle.omi_top.proofs.ShowVerdicts.{HasFault, Refusing, all_refusing, damaged as damaged_refused, faulty, incompatible as incompatible_refused, kinds, missing, report_not_refused, says_core, says_damaged, says_incompatible, says_missing}
 use Rattle.omi_top.proofs.Statuses.{DidMore, DoesMore, SaysWith, comes_where, one_content}

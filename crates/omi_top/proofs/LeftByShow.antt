@@ -16,14 +16,14 @@ use Rattle.omi_script.specs.declared.program.Program.{Program}
 use Rattle.omi_model.specs.State.{State}
 use Rattle.omi_model.specs.Views.{IsViewOf}
 use Rattle.omi_model.specs.declared.view.View.{View}
-use Rattle.omi_command.specs.declared.refusal.Refusal.{Refusal}
+use Rattle.omi_verbs.specs.declared.refusal.Refusal.{Refusal}
 use Rattle.omi_top.specs.declared.plan.Plan.{Plan}
 use Rattle.omi_top.specs.Answer.{Answer, Gives, IsAnswer, IsReportOf, IsShowAnswer, IsShowRefusal, IsShown, IsStopped, IsLeft, IsRefused}
-use Rattle.omi_command.specs.Statuses.{ComesWhere, IsFaultStatus}
+use Rattle.omi_verbs.specs.Statuses.{ComesWhere, IsFaultStatus}
 use Rattle.omi_top.specs.Command.{Show}
 use Rattle.omi_top.specs.Cores.{IsDamaged, IsIncompatible, IsLooked, ShowsState, Spells, memory_of}
-use Rattle.omi_command.specs.Refusal.{status_of}
-use Rattle.omi_command.specs.Cores.{IsReachedCore, thread_ids}
+use Rattle.omi_verbs.specs.Refusal.{status_of}
+use Rattle.omi_verbs.specs.Cores.{IsReachedCore, thread_ids}
 use Rattle.omi_top.proofs.ImageWords.{image_words}
 use Rattle.omi_shown.proofs.ShownViews.{shown_looked as shown_look}
 use Rattle.omi_top.proofs.ShowVerdicts.{HasFault, Refusing, all_refusing, damaged as damaged_refused, faulty, incompatible as incompatible_refused, missing, one_looked, one_view, report_not_refused, says_core, says_damaged, says_incompatible, says_missing}

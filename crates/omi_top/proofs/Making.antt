@@ -13,8 +13,8 @@ use Rattle.omi_top.specs.Command.{Make}
 use Rattle.omi_top.specs.Make.{IsMade, made_line, make_plan, make_text}
 use Rattle.omi_top.specs.declared.run.Ran.{Ran}
 use Rattle.omi_top.specs.Ran.{IsRanBy}
-use Rattle.omi_command.specs.Refusal.{refusal_of_write}
-use Rattle.omi_command.specs.declared.refusal.Refusal.TheVariants as refusal
+use Rattle.omi_verbs.specs.Refusal.{refusal_of_write}
+use Rattle.omi_verbs.specs.declared.refusal.Refusal.TheVariants as refusal
 use Rattle.omi_top.proofs.Running.{made_run}
 use Rattle.omi_top.proofs.Stopping.{late}
 

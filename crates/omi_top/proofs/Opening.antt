@@ -20,8 +20,8 @@ use Rattle.omi_session.specs.declared.rc.Rc.{Rc}
 use Rattle.omi_session.specs.declared.rc.Rc.TheVariants as code
 use Rattle.omi_top.specs.Cores.{IsLooked, memory_of}
 use Rattle.omi_top.specs.Shown.{refusal_of_layout, IsRefusedCore}
-use Rattle.omi_command.specs.declared.refusal.Refusal.{Refusal}
-use Rattle.omi_command.specs.declared.refusal.Refusal.TheVariants as refusal
+use Rattle.omi_verbs.specs.declared.refusal.Refusal.{Refusal}
+use Rattle.omi_verbs.specs.declared.refusal.Refusal.TheVariants as refusal
 use Rattle.omi_walk.specs.Gives.{Gives}
 use Rattle.omi_walk.specs.declared.fault.WalkFault.{WalkFault}
 use Rattle.omi_walk.specs.declared.fault.WalkFault.TheVariants as walk

@@ -6,9 +6,9 @@ use Rattle.omi_outside.specs.Outside.{Told}
 use Rattle.omi_top.specs.Answer.{Gives, IsAnswered, IsBehind, IsEarly, IsShowAnswer, IsStopAnswer, IsWritten}
 use Rattle.omi_top.specs.Command.{Run, Show, Stop}
 use Rattle.omi_top.specs.declared.plan.Plan.{Plan}
-use Rattle.omi_command.specs.declared.refusal.Input.TheVariants as input
-use Rattle.omi_command.specs.declared.refusal.Refusal.{Refusal}
-use Rattle.omi_command.specs.declared.refusal.Refusal.TheVariants as refusal
+use Rattle.omi_verbs.specs.declared.refusal.Input.TheVariants as input
+use Rattle.omi_verbs.specs.declared.refusal.Refusal.{Refusal}
+use Rattle.omi_verbs.specs.declared.refusal.Refusal.TheVariants as refusal
 
 -- a fault before `show` reads is one behind the core that was written
 read_back : (plan : Plan) (script core : List ℕ) (r : Refusal) → IsEarly (Show core) r → IsBehind (Run plan script core) r

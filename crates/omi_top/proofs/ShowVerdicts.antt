@@ -19,10 +19,10 @@ use Rattle.omi_rep.specs.declared.fault.LookFault.TheVariants as look
 use Rattle.omi_top.specs.Answer.{IsShowRefusal}
 use Rattle.omi_top.specs.Cores.{IsDamaged, IsIncompatible, IsLooked, IsWrongTable, LacksTable, Spells, memory_of}
 use Rattle.omi_top.specs.Shown.{refusal_of_layout, refusal_of_look, IsRefusedCore}
-use Rattle.omi_command.specs.Refusal.{status_of}
-use Rattle.omi_command.specs.declared.refusal.Input.TheVariants as input
-use Rattle.omi_command.specs.declared.refusal.Refusal.{Refusal}
-use Rattle.omi_command.specs.declared.refusal.Refusal.TheVariants as refusal
+use Rattle.omi_verbs.specs.Refusal.{status_of}
+use Rattle.omi_verbs.specs.declared.refusal.Input.TheVariants as input
+use Rattle.omi_verbs.specs.declared.refusal.Refusal.{Refusal}
+use Rattle.omi_verbs.specs.declared.refusal.Refusal.TheVariants as refusal
 
 -- no file is a core and has a fault
 abbrev pub HasFault : List ℕ → Type 0

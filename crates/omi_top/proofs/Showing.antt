@@ -16,11 +16,11 @@ use Rattle.omi_top.specs.declared.limits.TheConstants.{CORE_FRONT}
 use Rattle.omi_top.specs.Answer.{Gives, IsAnswered, IsEarly, IsReportOf, IsShowAnswer, IsShowRefusal}
 use Rattle.omi_top.specs.Command.{Show}
 use Rattle.omi_top.specs.Cores.{IsLooked, Spells}
-use Rattle.omi_command.specs.Refusal.{refusal_of_core, IsUnread}
+use Rattle.omi_verbs.specs.Refusal.{refusal_of_core, IsUnread}
 use Rattle.omi_top.specs.Shown.{IsRefusedCore}
-use Rattle.omi_command.specs.declared.refusal.Input.TheVariants as input
-use Rattle.omi_command.specs.declared.refusal.Refusal.{Refusal}
-use Rattle.omi_command.specs.declared.refusal.Refusal.TheVariants as refusal
+use Rattle.omi_verbs.specs.declared.refusal.Input.TheVariants as input
+use Rattle.omi_verbs.specs.declared.refusal.Refusal.{Refusal}
+use Rattle.omi_verbs.specs.declared.refusal.Refusal.TheVariants as refusal
 
 -- a core has at most 8,390,160 bytes
 core_short : (bytes : List ℕ) (c : CoreImage) → Core bytes c → length bytes ≤ 8390160

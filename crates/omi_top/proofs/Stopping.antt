@@ -10,19 +10,19 @@ use Rattle.omi_corefile.specs.Spelling.{core_bytes}
 use Rattle.omi_model.specs.declared.event.Event.{Event}
 use Rattle.omi_core.specs.Steps.{events_behind}
 use Rattle.omi_top.specs.Answer.{Gives, IsAnswer, IsAnswered, IsEarly, IsLate, IsStopped, IsUnwritten}
-use Rattle.omi_command.specs.Scripts.{IsOfScript, IsProgramIn, IsScriptRefusal}
-use Rattle.omi_command.specs.Statuses.{IsOfCore}
+use Rattle.omi_verbs.specs.Scripts.{IsOfScript, IsProgramIn, IsScriptRefusal}
+use Rattle.omi_verbs.specs.Statuses.{IsOfCore}
 use Rattle.omi_top.specs.Command.{Command, Stop as StopCommand}
-use Rattle.omi_command.specs.Cores.{IsCoreOf, thread_ids}
+use Rattle.omi_verbs.specs.Cores.{IsCoreOf, thread_ids}
 use Rattle.omi_top.specs.Lines.{run_text}
 use Rattle.omi_top.specs.declared.run.Ran.{Ran}
 use Rattle.omi_top.specs.Ran.{IsRanBy}
 use Rattle.omi_top.proofs.Running.{made_run}
 use Rattle.omi_top.specs.declared.plan.Plan.{Plan}
-use Rattle.omi_command.specs.Refusal.{refusal_of_write, status_of, IsReadFault, IsUnread}
-use Rattle.omi_command.specs.declared.refusal.Input.TheVariants as input
-use Rattle.omi_command.specs.declared.refusal.Refusal.{Refusal}
-use Rattle.omi_command.specs.declared.refusal.Refusal.TheVariants as refusal
+use Rattle.omi_verbs.specs.Refusal.{refusal_of_write, status_of, IsReadFault, IsUnread}
+use Rattle.omi_verbs.specs.declared.refusal.Input.TheVariants as input
+use Rattle.omi_verbs.specs.declared.refusal.Refusal.{Refusal}
+use Rattle.omi_verbs.specs.declared.refusal.Refusal.TheVariants as refusal
 
 pub late : (r : RefusedWrite) → IsLate (refusal_of_write r)
 late refused.Failed = tt

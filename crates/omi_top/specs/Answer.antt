@@ -17,20 +17,20 @@ use Rattle.omi_model.specs.declared.view.View.{View}
 use Rattle.omi_core.specs.declared.entry.Entry.{Entry}
 use Rattle.omi_core.specs.declared.stop.End.{End}
 use Rattle.omi_core.specs.Steps.{events_behind}
-use Rattle.omi_command.specs.declared.refusal.Input.{Input}
-use Rattle.omi_command.specs.declared.refusal.Input.TheVariants as input
-use Rattle.omi_command.specs.declared.refusal.Refusal.{Refusal}
-use Rattle.omi_command.specs.declared.refusal.Refusal.TheVariants as refusal
+use Rattle.omi_verbs.specs.declared.refusal.Input.{Input}
+use Rattle.omi_verbs.specs.declared.refusal.Input.TheVariants as input
+use Rattle.omi_verbs.specs.declared.refusal.Refusal.{Refusal}
+use Rattle.omi_verbs.specs.declared.refusal.Refusal.TheVariants as refusal
 use Rattle.omi_top.specs.Command.{Command, Stop, Make, Show, Run, Faulty, ReadsBack, ReadsFirst, WritesLast, core_name, script_name}
 use Rattle.omi_text.specs.Report.{report}
-use Rattle.omi_command.specs.Cores.{IsCoreOf, thread_ids}
+use Rattle.omi_verbs.specs.Cores.{IsCoreOf, thread_ids}
 use Rattle.omi_top.specs.Cores.{IsLooked, Spells}
 use Rattle.omi_top.specs.Shown.{IsRefusedCore}
 use Rattle.omi_top.specs.Lines.{run_text}
 use Rattle.omi_top.specs.Make.{IsMade, make_text}
-use Rattle.omi_command.specs.Refusal.{line_of, status_of}
-use Rattle.omi_command.specs.Said.{IsSaid}
-use Rattle.omi_command.specs.Scripts.{IsScriptRefusal}
+use Rattle.omi_verbs.specs.Refusal.{line_of, status_of}
+use Rattle.omi_verbs.specs.Said.{IsSaid}
+use Rattle.omi_verbs.specs.Scripts.{IsScriptRefusal}
 use Rattle.omi_top.specs.Run.{IsRun}
 use Rattle.omi_top.specs.declared.plan.Plan.{Plan}
 

@@ -7,8 +7,8 @@ use Rattle.omi_line.specs.Number.{number_of}
 use Rattle.omi_line.specs.declared.line.Line.{Line}
 use Rattle.omi_top.specs.declared.limits.TheConstants.{MOST_NODES}
 use Rattle.omi_top.specs.declared.plan.Plan.{Plan}
-use Rattle.omi_command.specs.declared.refusal.Input.{Input}
-use Rattle.omi_command.specs.declared.refusal.Input.TheVariants as input
+use Rattle.omi_verbs.specs.declared.refusal.Input.{Input}
+use Rattle.omi_verbs.specs.declared.refusal.Input.TheVariants as input
 use Rattle.omi_top.specs.Plan.{plan_of}
 
 -- a command of the program, or words that are none

@@ -9,8 +9,8 @@ ghost use Rattle.omi_top.specs.Asked.{asked, IsBounded};
 
 use crate::limits::MOST_NODES;
 use crate::plan::{Plan, plan_of};
-use omi_command::{Names, text_of};
 use omi_line::{Line, Text, number};
+use omi_verbs::{Names, text_of};
 
 /// What a command line asks for.
 #[derive(Clone, Copy)]

@@ -1,12 +1,12 @@
 //! What a run prints.
 
 ghost use Rattle.std.specs.Prelude.{◌≡◌, ◌++◌, ◌≤◌, IfOk, OnOk, string_bytes};
-ghost use Rattle.omi_command.specs.EventLines.{event_lines};
+ghost use Rattle.omi_verbs.specs.EventLines.{event_lines};
 ghost use Rattle.omi_top.specs.Lines.{end_word, end_line, run_text};
 
-use omi_command::push_event_lines;
 use omi_core::End;
-use omi_events::EventList;
+use omi_run_lists::EventList;
+use omi_verbs::push_event_lines;
 use std::alloc::{AllocError, Global};
 use std::fmt::Write;
 

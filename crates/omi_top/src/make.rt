@@ -13,12 +13,12 @@ use crate::limits::MOST_STEPS;
 use crate::lines::word_of;
 use crate::plan::Plan;
 use crate::run::run_of;
-use omi_command::Refusal;
 use omi_core::{Break, End, Stop};
-use omi_events::EventList;
 use omi_model::Event;
 use omi_outside::{Files, write_whole};
+use omi_run_lists::EventList;
 use omi_script::{Program, ScriptError, parse};
+use omi_verbs::Refusal;
 use omi_word::OutOfMemory;
 use std::alloc::{AllocError, Global};
 

@@ -5,13 +5,13 @@ ghost use Rattle.omi_outside.specs.Outside.{HasCause};
 ghost use Rattle.omi_top.specs.Answer.{AreTold, IsAnswered, IsUnwritten};
 ghost use Rattle.omi_top.specs.Asked.{IsPossible};
 ghost use Rattle.omi_top.specs.Command.{Run};
-ghost use Rattle.omi_command.specs.Refusal.{IsReadFault, status_of};
+ghost use Rattle.omi_verbs.specs.Refusal.{IsReadFault, status_of};
 
 use crate::plan::Plan;
 use crate::show::show;
 use crate::stop::stop;
-use omi_command::Refusal;
 use omi_outside::Files;
+use omi_verbs::Refusal;
 use std::alloc::Global;
 
 /// Does what `stop` does, reads the core back, and answers what `stop` prints with the core's report behind it.

@@ -12,19 +12,19 @@ ghost use Rattle.omi_top.specs.Answer.{Gives, AreTold, IsAnswered, IsShowAnswer,
 ghost use Rattle.omi_top.specs.Command.{Show};
 ghost use Rattle.omi_top.specs.CoreCalls.{told_of_core};
 ghost use Rattle.omi_top.specs.Cores.{IsLooked, memory_of};
-ghost use Rattle.omi_command.specs.Refusal.{IsReadFault, status_of};
+ghost use Rattle.omi_verbs.specs.Refusal.{IsReadFault, status_of};
 ghost use Rattle.omi_outside.specs.declared.status.Status.TheVariants.{Script};
 ghost use Rattle.omi_top.specs.Shown.{IsRefusedCore};
 
 use crate::core_calls::CoreCalls;
 use crate::limits::CORE_FRONT;
 use omi_calls::{Table, ToHost};
-use omi_command::{Input, Refusal, load};
 use omi_corefile::{CoreImage, decode};
 use omi_model::View;
 use omi_outside::Files;
 use omi_session::{API_VERSION, Rc, Session, initialize};
 use omi_text::report_text;
+use omi_verbs::{Input, Refusal, load};
 use omi_walk::{WalkFault, walk};
 use std::alloc::Global;
 

@@ -3,17 +3,17 @@
 ghost use Rattle.std.specs.Prelude.{◌≡◌, ◌≢◌, List, ℕ, IfOk, IfErr, IsErrAnd, IsErrOf, string_bytes};
 ghost use Rattle.omi_outside.specs.Outside.{HasCause};
 ghost use Rattle.omi_top.specs.Answer.{AreTold, IsAnswered, IsStopped, IsUnwritten};
-ghost use Rattle.omi_command.specs.Statuses.{IsOfCore};
+ghost use Rattle.omi_verbs.specs.Statuses.{IsOfCore};
 ghost use Rattle.omi_top.specs.Command.{Stop as StopCommand};
 ghost use Rattle.omi_top.specs.Asked.{IsPossible};
-ghost use Rattle.omi_command.specs.Refusal.{IsReadFault, status_of};
+ghost use Rattle.omi_verbs.specs.Refusal.{IsReadFault, status_of};
 
 use crate::lines::text_of;
 use crate::plan::Plan;
 use crate::run::run_of;
-use omi_command::{Refusal, core_file_of, program_of};
 use omi_outside::{Files, write_whole};
 use omi_script::Program;
+use omi_verbs::{Refusal, core_file_of, program_of};
 use omi_word::OutOfMemory;
 use std::alloc::Global;
 

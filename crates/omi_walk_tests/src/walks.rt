@@ -7,7 +7,7 @@ ghost use Rattle.omi_calls.specs.Kept.{GivesNumbers, TakesAll};
 use omi_calls::ToHost;
 use omi_corefile::CoreImage;
 use omi_layout::Field;
-use omi_stopped::{
+use omi_test_targets::{
     A_TEAM_OF_TWO, Asked, BIG, ByteOrder, LITTLE, Stopped, Words, Wrong, at_fork, core_at, few,
     library, open,
 };

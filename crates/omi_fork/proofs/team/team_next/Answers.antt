@@ -1,7 +1,7 @@
 use Rattle.std.proofs.Common.{◌≡◌, ap, sym, subst, ◌∙◌}
 use Rattle.omi_pc.specs.declared.team_counter.TeamCounter.{TeamCounter}
-use Rattle.omi_step.specs.declared.plan.NewTask.{NewTask}
-use Rattle.omi_step.specs.Plan.{filling, task_plan}
+use Rattle.omi_step_words.specs.declared.plan.NewTask.{NewTask}
+use Rattle.omi_step_words.specs.Plan.{filling, task_plan}
 use Rattle.omi_fork.specs.TeamSteps.{team_next}
 use Rattle.omi_fork.proofs.team.team_next.Goals as goal
 

@@ -4,7 +4,7 @@ use Rattle.std.specs.declared.alloc.Global.{Global}
 use Rattle.std.proofs.lemmas.Result.{IfOk-weaker}
 use Rattle.omi_core.specs.declared.stop.Break.TheVariants.{TaskBegin}
 use Rattle.omi_core.specs.Ends.{count_of}
-use Rattle.omi_events.specs.Events.{Events}
+use Rattle.omi_run_lists.specs.Events.{Events}
 use Rattle.omi_script.specs.Grammar.{Grammar}
 use Rattle.omi_script.specs.declared.program.Program.{Program}
 use Rattle.omi_top.specs.Make.{IsMade, made_line}

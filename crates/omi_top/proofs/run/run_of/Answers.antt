@@ -1,5 +1,5 @@
 use Rattle.std.proofs.Common.{ℕ, Option, Some, None, Ok, length, sym, ap, ◌∙◌, subst}
-use Rattle.omi_events.specs.Steps.{Steps}
+use Rattle.omi_run_lists.specs.Steps.{Steps}
 use Rattle.omi_core.specs.declared.schedule.Schedule.{Schedule}
 use Rattle.omi_core.specs.ScheduledRuns.{IsRunBy}
 use Rattle.omi_core.specs.Schedules.{IsListed}

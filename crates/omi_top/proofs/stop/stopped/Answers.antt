@@ -1,8 +1,8 @@
 use Rattle.std.proofs.Common.{◌≡◌, ◌<◌, ◌∙◌, ℕ, List, length, sym, ap, subst, arith, string_bytes}
 use Rattle.omi_corefile.specs.Spelling.{core_bytes}
-use Rattle.omi_events.specs.Events.{Events}
+use Rattle.omi_run_lists.specs.Events.{Events}
 use Rattle.omi_script.proofs.RuleLemmas.{Rules-from_accepted}
-use Rattle.omi_command.specs.Cores.{IsCoreOf, thread_ids}
+use Rattle.omi_verbs.specs.Cores.{IsCoreOf, thread_ids}
 use Rattle.omi_top.specs.Lines.{run_text}
 use Rattle.omi_top.proofs.Stopping.{made_stopped}
 use Rattle.omi_top.proofs.stop.stopped.Goals as goal

@@ -1,5 +1,5 @@
 use Rattle.std.proofs.Common.{None, refl}
-use Rattle.omi_command.specs.declared.refusal.Refusal.TheVariants as refusal
+use Rattle.omi_verbs.specs.declared.refusal.Refusal.TheVariants as refusal
 use Rattle.omi_top.proofs.top.carry_out.Goals as goal
 
 pub returns-in-Faulty-clause-left : goal.returns-in-Faulty-clause-left

@@ -1,6 +1,6 @@
 use Rattle.std.proofs.Common.{ℕ, List, subst}
-use Rattle.omi_command.specs.Refusal.{line_of}
-use Rattle.omi_command.specs.Said.{IsCounted, IsSaid}
+use Rattle.omi_verbs.specs.Refusal.{line_of}
+use Rattle.omi_verbs.specs.Said.{IsCounted, IsSaid}
 use Rattle.omi_top.specs.Asked.{asked}
 use Rattle.omi_top.proofs.Left.{ok_left, err_left}
 use Rattle.omi_top.proofs.top.carry_out_in.Goals as goal

@@ -1,9 +1,9 @@
 use Rattle.std.proofs.Common.{[], ℕ, Ok, Err}
 use Rattle.std.specs.Prelude.{Result, IfErr}
 use Rattle.std.specs.Global.{Vec}
-use Rattle.omi_command.specs.Statuses.{IsOfCore}
-use Rattle.omi_command.specs.Refusal.{status_of}
-use Rattle.omi_command.specs.declared.refusal.Refusal.{Refusal}
+use Rattle.omi_verbs.specs.Statuses.{IsOfCore}
+use Rattle.omi_verbs.specs.Refusal.{status_of}
+use Rattle.omi_verbs.specs.declared.refusal.Refusal.{Refusal}
 use Rattle.omi_top.proofs.top.perform.Goals as goal
 
 pub returns-in-Stop-clause-answer : goal.returns-in-Stop-clause-answer

@@ -1,7 +1,7 @@
 use Rattle.std.proofs.Common.{◌≡◌, ◌∙◌, ap, Some}
 use Rattle.omi_top.specs.Asked.{asked}
 use Rattle.omi_top.specs.Answer.{AreTold, IsLeft}
-use Rattle.omi_command.specs.Said.{IsCounted}
+use Rattle.omi_verbs.specs.Said.{IsCounted}
 use Rattle.omi_top.specs.Command.{Command, Stop, Make, Show, Run, command_by, command_in, written_name}
 use Rattle.omi_top.proofs.Left.{left_by}
 use Rattle.omi_top.proofs.LeftByShow.{no_file as no_core, core_refused, incompatible, damaged, report_put, shown, shown_again, shown_reached}

@@ -4,13 +4,13 @@ use Rattle.omi_word.specs.Memory.{IsWordOf, address_of, word_at}
 use Rattle.omi_pc.specs.declared.actor.Actor.{Actor}
 use Rattle.omi_pc.specs.Fits.{Fits}
 use Rattle.omi_rep.specs.declared.outcome.Outcome.{Outcome}
-use Rattle.omi_step.specs.Placed.{IsPlaced}
+use Rattle.omi_step_words.specs.Placed.{IsPlaced}
 use Rattle.omi_actor.specs.Steps.{next_of, resumed_at}
-use Rattle.omi_control.specs.StepsKeep.{IsKept}
+use Rattle.omi_rule.specs.StepsKeep.{IsKept}
 use Rattle.omi_core.specs.Runs.{Run, actors_in, spare_in}
 use Rattle.omi_core.specs.declared.entry.Entry.{Entry}
 use Rattle.omi_core.specs.RunSteps.{IsRight, IsStep, event_of, seats_of}
-use Rattle.omi_events.specs.declared.made.Turn.{Turn}
+use Rattle.omi_run_lists.specs.declared.made.Turn.{Turn}
 use Rattle.std.proofs.lemmas.List.{length-append}
 use Rattle.omi_core.specs.Kept.{KeepsRun}
 use Rattle.omi_core.proofs.KeptCounters.{step_kept}

@@ -1,7 +1,7 @@
 use Rattle.std.proofs.Common.{◌≡◌, ◌+◌, ◌*◌, ◌≤◌, ◌<◌, ◌++◌, ℕ, List, [], ◌∷◌, length, refl, sym, ap, ◌∙◌, subst, arith, Fits, w64}
 use Rattle.omi_word.specs.declared.op.Op.{Op}
-use Rattle.omi_events.specs.declared.made.Made.{Made}
-use Rattle.omi_events.specs.declared.made.Turn.{Turn}
+use Rattle.omi_run_lists.specs.declared.made.Made.{Made}
+use Rattle.omi_run_lists.specs.declared.made.Turn.{Turn}
 use Rattle.omi_model.specs.declared.event.Event.{Event}
 use Rattle.omi_layout.specs.declared.layout.Layout.{Layout}
 use Rattle.omi_layout.specs.Place.{image_words}

@@ -1,5 +1,0 @@
-use Rattle.omi_control.proofs.Descends.{tasks_descend}
-use Rattle.omi_control.proofs.laws.tasks_descend.Goals as goal
-
-pub returns : goal.returns
-returns c = tasks_descend

@@ -1,5 +1,0 @@
-use Rattle.omi_events.proofs.StepRooms.{one_less}
-use Rattle.omi_events.proofs.laws.steps_have_room.Goals as goal
-
-pub returns-clause-one_less : goal.returns-clause-one_less
-returns-clause-one_less c = one_less

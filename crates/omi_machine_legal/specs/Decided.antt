@@ -1,0 +1,59 @@
+-- Parts of the event rules, which the plain program decides one by one.
+use Rattle.std.specs.Prelude.{◌≡◌, ◌≢◌, ◌⊎◌, ◌<◌, ℕ, suc, Bool, true, false, List, length, slice_get, Some}
+use Rattle.omi_model.specs.declared.claim.Claim.TheVariants.{Free}
+use Rattle.omi_model.specs.declared.id.Rid.{Rid}
+use Rattle.omi_model.specs.declared.progress.Progress.TheVariants.{Deferred, Finished}
+use Rattle.omi_model.specs.declared.slot.Slot.{Slot}
+use Rattle.omi_model.specs.declared.task.Task.{Task}
+use Rattle.omi_model.specs.declared.thread.Thread.{Thread}
+use Rattle.omi_machine_legal.specs.declared.unfinished.TasksOf.{TasksOf}
+use Rattle.omi_machine_legal.specs.declared.unfinished.TasksOf.TheVariants as tasks
+use Rattle.omi_model.specs.Put.{Slots}
+use Rattle.omi_model.specs.Teams.{WasAsked, got_threads}
+
+-- a fact of the object of a slot, if one lives there, and of the object that lives there
+abbrev pub IfLive : {A : Type 0} → (A → Type 0) → Slot A → Type 0
+IfLive {A} P slot = (x : A) → slot.live ≡ Some x → P x
+
+abbrev pub HasLive : {A : Type 0} → (A → Type 0) → Slot A → Type 0
+HasLive {A} P slot = (x : A) × (slot.live ≡ Some x) × P x
+
+-- a task is one of the tasks of a region, or of the children of a task
+abbrev pub IsOneOf : TasksOf → Task → Type 0
+IsOneOf (tasks.Region n) t = t.region ≡ n
+IsOneOf (tasks.Parent k) t = t.generating ≡ Some k
+
+-- a task is no unfinished explicit one of those
+abbrev pub IsFinishedOf : TasksOf → Task → Type 0
+IsFinishedOf which t = t.implicit ≡ false → IsOneOf which t → t.progress ≡ Finished
+
+-- no explicit one of those tasks is unfinished
+abbrev pub AreFinishedOf : TasksOf → Slots Task → Type 0
+AreFinishedOf which slots = (c k : ℕ) → IfLive (IsFinishedOf which) (slots c k)
+
+-- a deferred task of a region, in a place
+pub record IsDeferredIn (region : Rid) (place : ℕ) (t : Task) : Type 0 where
+  pub explicit : t.implicit ≡ false
+  pub deferred : t.progress ≡ Deferred
+  pub same : t.region ≡ region
+  pub there : t.place ≡ place
+
+-- a thread is the next that an asker asks: the least other one that was not asked
+pub record IsNext (h : Thread) (i w : ℕ) : Type 0 where
+  pub other : w ≢ i
+  pub new : WasAsked h w → ⊥
+  pub least : (v : ℕ) → v < w → v ≢ i → WasAsked h v
+
+-- a thread that is asked joins exactly where anybody may claim it
+pub record IsAnswer (h : Thread) (got : Bool) : Type 0 where
+  pub joins : got ≡ true → h.claim ≡ Free
+  pub busy : got ≡ false → h.claim ≢ Free
+
+-- The asks of one of so many threads are over: the team has the wanted size, or every other thread was asked.
+abbrev pub AreAsksOverOf : Thread → ℕ → ℕ → Type 0
+AreAsksOverOf h i count = (suc (length (got_threads h.asks)) ≡ h.wanted)
+    ⊎ ((w : ℕ) → w < count → w ≢ i → WasAsked h w)
+
+-- the element at a place stands at no earlier one
+abbrev pub IsNewAt : {A : Type 0} → List A → ℕ → Type 0
+IsNewAt xs at = (j : ℕ) → j < at → slice_get xs j ≢ slice_get xs at

@@ -1,0 +1,460 @@
+-- What an event of a thread leaves to the other threads: their parts of the state, and the tasks that run on them.
+use Rattle.std.proofs.Common.{◌≡◌, ◌≢◌, ◌+◌, ℕ, ◌⊎◌, inl, inr, ◌++◌, Bool, true, false, List, [], ◌∷◌, slice_get, slice_index, slice_set, Option, Some, refl, sym, ap, ◌∙◌, subst}
+use Rattle.std.specs.Prelude.{IfSome, ⊤}
+use Rattle.std.specs.Option.{option_map}
+use Rattle.std.proofs.lemmas.List.{get_or-set_other}
+use Rattle.omi_model.specs.declared.claim.Claim.TheVariants as claim
+use Rattle.omi_model.specs.declared.slot.Slot.{Slot}
+use Rattle.omi_script.specs.declared.program.Program.{Program}
+use Rattle.omi_model.specs.declared.event.Event.{Event}
+use Rattle.omi_model.specs.declared.event.Event.TheVariants as event
+use Rattle.omi_model.specs.declared.id.Id.{Id}
+use Rattle.omi_model.specs.declared.id.Rid.{Rid}
+use Rattle.omi_model.specs.declared.id.Tid.{Tid}
+use Rattle.omi_model.specs.declared.item.Item.{Item}
+use Rattle.omi_model.specs.declared.item.Item.TheVariants as item
+use Rattle.omi_model.specs.declared.progress.Progress.TheVariants.{Deferred, Begun}
+use Rattle.omi_model.specs.declared.region.Region.{Region}
+use Rattle.omi_model.specs.declared.task.Task.{Task}
+use Rattle.omi_model.specs.declared.thread.Thread.{Thread}
+use Rattle.omi_model.specs.Barriers.{arrived, released}
+use Rattle.omi_model.specs.Changes.{IsCurrent, on_region, on_task, with_list}
+use Rattle.omi_model.specs.Fresh.{IsFresh}
+use Rattle.omi_model.specs.LawChains.{IsChain}
+use Rattle.omi_model.specs.Put.{Slots, made, named, on, put}
+use Rattle.omi_model.specs.Reached.{Reached, Step}
+use Rattle.omi_model.specs.Rules.{Rule, effect}
+use Rattle.omi_model.specs.Settings.{entered, left, with_tool}
+use Rattle.omi_model.specs.State.{State, region_of, task_of}
+use Rattle.omi_model.specs.Tasking.{MayFinish, MayStart, deferred, deferred_task, finished, scheduled, started, started_alone, started_now}
+use Rattle.omi_model.specs.Teams.{MayFork, forked, joined, member_task, new_region, task_ended, with_members}
+use Rattle.omi_model.proofs.ChainsKept.{have_chains}
+use Rattle.omi_model.proofs.members.EncounterLaws.{encounters}
+use Rattle.omi_model.proofs.MembersKnown.{members_known}
+use Rattle.omi_rule.specs.LeavesOthers.{EventsLeaveOthers, IsSameForOthers, IsSameThread, LeavesOthers}
+use Rattle.omi_model.proofs.Slots.{each_put, made_beside, made_stays, none_some, on_other, on_same, put_other, same_or_not, some_same}
+use Rattle.omi_model.proofs.StaysKept.{AreNew, fresh_empty, new_team}
+use Rattle.omi_model.proofs.Steps.{from_some, is_relisted, list_moves, move_of, moved_on, of_current, of_current_region, of_region, of_set, on_fresh, relisted}
+
+same_thread : (h : Thread) → IsSameThread h h
+same_thread h = record { begun = refl; current = refl; wanted = refl; asks = refl; list = refl }
+
+same_thread_trans : (h g k : Thread) → IsSameThread h g → IsSameThread g k → IsSameThread h k
+same_thread_trans h g k a b = record { begun = b.begun ∙ a.begun; current = b.current ∙ a.current; wanted = b.wanted ∙ a.wanted; asks = b.asks ∙ a.asks; list = b.list ∙ a.list }
+
+same_region : (i : ℕ) (r : Region) → IsSameForOthers i r r
+same_region i r = record { arrivals = λ j m at other. refl; released = λ m at other. refl; team = refl; levels = refl; active = refl }
+
+same_region_trans : (i : ℕ) (r q x : Region) → IsSameForOthers i r q → IsSameForOthers i q x → IsSameForOthers i r x
+same_region_trans i r q x a b = record {
+  arrivals = λ j m at other. b.arrivals j m (ap (λ (t : List (Tid × ℕ)). slice_get t j) a.team ∙ at) other ∙ a.arrivals j m at other;
+  released = λ m at other. b.released m (ap (λ (t : List (Tid × ℕ)). slice_get t 0) a.team ∙ at) other ∙ a.released m at other;
+  team = b.team ∙ a.team;
+  levels = b.levels ∙ a.levels;
+  active = b.active ∙ a.active;
+}
+
+leaves_trans : (s t u : State) (i : ℕ) → LeavesOthers s t i → LeavesOthers t u i → LeavesOthers s u i
+leaves_trans s t u i a b = record {
+  environment = b.environment ∙ a.environment;
+  count = b.count ∙ a.count;
+  threads = λ j other. same_thread_trans (s.threads j) (t.threads j) (u.threads j) (a.threads j other) (b.threads j other);
+  tasks = λ k x live other begun. b.tasks k x (a.tasks k x live other begun) other begun;
+  regions = λ n r live.
+      let (q, found, same) = a.regions n r live in
+      let (x, later, alike) = b.regions n q found in
+      (x, later, same_region_trans i r q x same alike);
+  regions_fresh = λ j n other fresh. b.regions_fresh j n other (a.regions_fresh j n other fresh);
+  tasks_fresh = λ j n other fresh. b.tasks_fresh j n other (a.tasks_fresh j n other fresh);
+}
+
+-- ---- what is known of the thread's own
+
+-- the current task of a thread runs on it, and the member with the number of that task does
+pub record KnowsOwn (z : State) (i : ℕ) : Type 0 where
+  pub thread : (k : Tid) (t : Task) → IsCurrent z i k t → t.thread ≡ i
+  pub member : (k : Tid) (t : Task) (r : Region) → IsCurrent z i k t → region_of z t.region ≡ Some r → (m : Tid × ℕ) × (slice_get r.team t.number ≡ Some m) × (m.1 ≡ i)
+
+-- ---- changes
+
+-- other threads
+thread_put : (z : State) (i : ℕ) (h : Thread) → (j : ℕ) → j ≢ i → IsSameThread (z.threads j) (put z.threads i h j)
+thread_put z i h j other = subst (λ (g : Thread). IsSameThread (z.threads j) g) (sym (put_other z.threads i j h other)) (same_thread (z.threads j))
+
+threads_same : (z : State) (i : ℕ) → (j : ℕ) → j ≢ i → IsSameThread (z.threads j) (z.threads j)
+threads_same z i j other = same_thread (z.threads j)
+
+regions_same : (z : State) (i : ℕ) (n : Rid) (r : Region) → region_of z n ≡ Some r → (q : Region) × (region_of z n ≡ Some q) × IsSameForOthers i r q
+regions_same z i n r live = (r, live, same_region i r)
+
+-- a task that runs on this thread, or that is deferred, is changed
+task_on : (z : State) (i : ℕ) (k : Tid) (f : Task → Task) → ((t : Task) → task_of z k ≡ Some t → (t.thread ≡ i) ⊎ (t.progress ≡ Deferred))
+    → (n : Tid) (t : Task) → task_of z n ≡ Some t → t.thread ≢ i → (t.progress ≡ Deferred → ⊥) → named (on z.tasks k.0 f) n.0 ≡ Some t
+task_on z i k f own n t live other begun = go (same_or_not n.0 k.0)
+  where
+    of_own : (t.thread ≡ i) ⊎ (t.progress ≡ Deferred) → ⊥
+    of_own (inl same) = other same
+    of_own (inr is) = begun is
+
+    go : (n.0 ≡ k.0) ⊎ (n.0 ≡ k.0 → ⊥) → named (on z.tasks k.0 f) n.0 ≡ Some t
+    go (inl same) = absurd (of_own (own t (subst (λ (d : Id). named z.tasks d ≡ Some t) same live)))
+    go (inr ne) = on_other z.tasks k.0 f n.0 ne ∙ live
+
+own_task : (z : State) (i : ℕ) (k : Tid) (t : Task) → IsCurrent z i k t → KnowsOwn z i → (u : Task) → task_of z k ≡ Some u → (u.thread ≡ i) ⊎ (u.progress ≡ Deferred)
+own_task z i k t is knows u live = inl (knows.thread k u (record { name = is.name; live = live }))
+
+-- a region is changed
+region_on : (z : State) (i : ℕ) (n : Rid) (f : Region → Region) → ((r : Region) → region_of z n ≡ Some r → IsSameForOthers i r (f r))
+    → (x : Rid) (r : Region) → region_of z x ≡ Some r → (q : Region) × (named (on z.regions n.0 f) x.0 ≡ Some q) × IsSameForOthers i r q
+region_on z i n f same x r live = go (same_or_not x.0 n.0)
+  where
+    go : (x.0 ≡ n.0) ⊎ (x.0 ≡ n.0 → ⊥) → (q : Region) × (named (on z.regions n.0 f) x.0 ≡ Some q) × IsSameForOthers i r q
+    go (inl e) =
+        let here : region_of z n ≡ Some r = subst (λ (d : Id). named z.regions d ≡ Some r) e live in
+        (f r, subst (λ (d : Id). named (on z.regions n.0 f) d ≡ Some (f r)) (sym e) (on_same z.regions n.0 f ∙ ap (λ o. option_map f o) here), same r here)
+    go (inr ne) = (r, on_other z.regions n.0 f x.0 ne ∙ live, same_region i r)
+
+-- an object of this thread is made
+made_fresh : {A : Type 0} (slots : Slots A) (i : ℕ) (n : Id) (x : A) → IsFresh slots i n → (j : ℕ) (k : Id) → j ≢ i → IsFresh slots j k → IsFresh (made slots n x) j k
+made_fresh {A} slots i n x new j k other fresh =
+    let same : made slots n x j k.slot ≡ slots j k.slot = made_beside slots n x j k.slot (λ c h. other (c ∙ new.creator)) in
+    record {
+      creator = fresh.creator;
+      empty = ap (λ (slot : Slot A). slot.live) same ∙ fresh.empty;
+      next = fresh.next ∙ ap (λ (slot : Slot A). slot.generations) (sym same);
+      below = fresh.below;
+    }
+
+members_fresh : (task : ℕ → ℕ → Task) (number : ℕ) (team : List (Tid × ℕ)) (slots : Slots Task) (i : ℕ) → AreNew slots i team → (j : ℕ) (k : Id) → j ≢ i → IsFresh slots j k → IsFresh (with_members task number team slots) j k
+members_fresh task number [] slots i new j k other fresh = fresh
+members_fresh task number (m ∷ ms) slots i new j k other fresh =
+    members_fresh task (number + 1) ms (made slots m.0.0 (task number m.1)) i (new.1 (task number m.1)) j k other
+    (made_fresh slots i m.0.0 (task number m.1) new.0 j k other fresh)
+
+pub members_stay : (task : ℕ → ℕ → Task) (number : ℕ) (team : List (Tid × ℕ)) (slots : Slots Task) (i : ℕ) → AreNew slots i team → (k : Id) (t : Task) → named slots k ≡ Some t → named (with_members task number team slots) k ≡ Some t
+members_stay task number [] slots i new k t live = live
+members_stay task number (m ∷ ms) slots i new k t live =
+    members_stay task (number + 1) ms (made slots m.0.0 (task number m.1)) i (new.1 (task number m.1)) k t
+    (made_stays slots m.0.0 (task number m.1) k t (fresh_empty slots i m.0.0 new.0) live)
+
+-- ---- effects
+
+pub same_state : (z : State) (i : ℕ) → LeavesOthers z z i
+same_state z i = record {
+  environment = refl;
+  count = refl;
+  threads = threads_same z i;
+  tasks = λ k t live other begun. live;
+  regions = regions_same z i;
+  regions_fresh = λ j n other fresh. fresh;
+  tasks_fresh = λ j n other fresh. fresh;
+}
+
+module _ (z : State) (i : ℕ) (knows : KnowsOwn z i) where
+  abbrev of_leaves : State → Type 0
+  of_leaves u = LeavesOthers z u i
+
+  by_thread : (h : Thread) → LeavesOthers z (record z { threads = put z.threads i h }) i
+  by_thread h = record {
+    environment = refl;
+    count = refl;
+    threads = thread_put z i h;
+    tasks = λ k t live other begun. live;
+    regions = regions_same z i;
+    regions_fresh = λ j n other fresh. fresh;
+    tasks_fresh = λ j n other fresh. fresh;
+  }
+
+  by_task : (k : Tid) (f : Task → Task) → ((t : Task) → task_of z k ≡ Some t → (t.thread ≡ i) ⊎ (t.progress ≡ Deferred)) → LeavesOthers z (on_task z k f) i
+  by_task k f own = record {
+    environment = refl;
+    count = refl;
+    threads = threads_same z i;
+    tasks = task_on z i k f own;
+    regions = regions_same z i;
+    regions_fresh = λ j n other fresh. fresh;
+    tasks_fresh = λ j n other fresh. on_fresh z.tasks k.0 f j n fresh;
+  }
+
+  by_task_and_thread : (k : Tid) (f : Task → Task) (h : Thread) → ((t : Task) → task_of z k ≡ Some t → (t.thread ≡ i) ⊎ (t.progress ≡ Deferred))
+      → LeavesOthers z (record z { tasks = on z.tasks k.0 f; threads = put z.threads i h }) i
+  by_task_and_thread k f h own = record {
+    environment = refl;
+    count = refl;
+    threads = thread_put z i h;
+    tasks = task_on z i k f own;
+    regions = regions_same z i;
+    regions_fresh = λ j n other fresh. fresh;
+    tasks_fresh = λ j n other fresh. on_fresh z.tasks k.0 f j n fresh;
+  }
+
+  by_region : (n : Rid) (f : Region → Region) → ((r : Region) → region_of z n ≡ Some r → IsSameForOthers i r (f r)) → LeavesOthers z (on_region z n f) i
+  by_region n f same = record {
+    environment = refl;
+    count = refl;
+    threads = threads_same z i;
+    tasks = λ k t live other begun. live;
+    regions = region_on z i n f same;
+    regions_fresh = λ j x other fresh. on_fresh z.regions n.0 f j x fresh;
+    tasks_fresh = λ j x other fresh. fresh;
+  }
+
+  by_all : (k : Tid) (f : Task → Task) (n : Rid) (g : Region → Region) (h : Thread) → ((t : Task) → task_of z k ≡ Some t → (t.thread ≡ i) ⊎ (t.progress ≡ Deferred))
+      → ((r : Region) → region_of z n ≡ Some r → IsSameForOthers i r (g r))
+      → LeavesOthers z (record z { tasks = on z.tasks k.0 f; regions = on z.regions n.0 g; threads = put z.threads i h }) i
+  by_all k f n g h own same = record {
+    environment = refl;
+    count = refl;
+    threads = thread_put z i h;
+    tasks = task_on z i k f own;
+    regions = region_on z i n g same;
+    regions_fresh = λ j x other fresh. on_fresh z.regions n.0 g j x fresh;
+    tasks_fresh = λ j x other fresh. on_fresh z.tasks k.0 f j x fresh;
+  }
+
+  by_made : (task : Tid) (x : Task) (h : Thread) → IsFresh z.tasks i task.0 → LeavesOthers z (record z { tasks = made z.tasks task.0 x; threads = put z.threads i h }) i
+  by_made task x h new = record {
+    environment = refl;
+    count = refl;
+    threads = thread_put z i h;
+    tasks = λ k t live other begun. made_stays z.tasks task.0 x k.0 t (fresh_empty z.tasks i task.0 new) live;
+    regions = regions_same z i;
+    regions_fresh = λ j n other fresh. fresh;
+    tasks_fresh = λ j n other fresh. made_fresh z.tasks i task.0 x new j n other fresh;
+  }
+
+  by_deferred : (task : Tid) (x : Task) → IsFresh z.tasks i task.0 → LeavesOthers z (record z { tasks = made z.tasks task.0 x }) i
+  by_deferred task x new = record {
+    environment = refl;
+    count = refl;
+    threads = threads_same z i;
+    tasks = λ k t live other begun. made_stays z.tasks task.0 x k.0 t (fresh_empty z.tasks i task.0 new) live;
+    regions = regions_same z i;
+    regions_fresh = λ j n other fresh. fresh;
+    tasks_fresh = λ j n other fresh. made_fresh z.tasks i task.0 x new j n other fresh;
+  }
+
+  by_fork : (p : Program) (region : Rid) (team : List (Tid × ℕ)) (f : ℕ) (k : Tid) (t : Task) (r : Region) → MayFork z i region team → LeavesOthers z (forked p z i region team f k t r) i
+  by_fork p region team f k t r may =
+      let new : AreNew z.tasks i team = new_team z.tasks i team may.tasks_new may.distinct in
+      let task : ℕ → ℕ → Task = member_task p region k t r f in
+      record {
+        environment = refl;
+        count = refl;
+        threads = thread_put z i _;
+        tasks = λ n x live other begun. members_stay task 0 team z.tasks i new n.0 x live;
+        regions = λ n x live. (x, made_stays z.regions region.0 (new_region k t r team f) n.0 x (fresh_empty z.regions i region.0 may.region_new) live, same_region i x);
+        regions_fresh = λ j n other fresh. made_fresh z.regions i region.0 (new_region k t r team f) may.region_new j n other fresh;
+        tasks_fresh = λ j n other fresh. members_fresh task 0 team z.tasks i new j n other fresh;
+      }
+
+  unchanged : LeavesOthers z z i
+  unchanged = same_state z i
+
+  -- an arrival is the own member's, and a release that of member 0
+  arrives : (k : Tid) (t : Task) → IsCurrent z i k t → (r : Region) → region_of z t.region ≡ Some r
+      → IsSameForOthers i r (record r { arrivals = slice_set r.arrivals t.number (slice_index r.arrivals t.number + 1) })
+  arrives k t is r live = record {
+    arrivals = λ j m at other. get_or-set_other r.arrivals t.number j (slice_index r.arrivals t.number + 1) 0
+        (λ same.
+        let (own, there, runs) = knows.member k t r is live in
+        let one : own ≡ m = some_same there (subst (λ h. slice_get r.team h ≡ Some m) same at) in
+        other (ap (λ (x : Tid × ℕ). x.1) (sym one) ∙ runs));
+    released = λ m at other. refl;
+    team = refl;
+    levels = refl;
+    active = refl;
+  }
+
+  releases : (k : Tid) (t : Task) → IsCurrent z i k t → t.number ≡ 0 → (r : Region) → region_of z t.region ≡ Some r → IsSameForOthers i r (record r { released = r.released + 1 })
+  releases k t is first r live = record {
+    arrivals = λ j m at other. refl;
+    released = λ m at other.
+        let (own, there, runs) = knows.member k t r is live in
+        let one : own ≡ m = some_same there (subst (λ h. slice_get r.team h ≡ Some m) (sym first) at) in
+        absurd (other (ap (λ (x : Tid × ℕ). x.1) (sym one) ∙ runs));
+    team = refl;
+    levels = refl;
+    active = refl;
+  }
+
+  ends : (t : Task) (r : Region) → IsSameForOthers i r (record r { ended = slice_set r.ended t.number true })
+  ends t r = record { arrivals = λ j m at other. refl; released = λ m at other. refl; team = refl; levels = refl; active = refl }
+
+  joins : (r : Region) → IsSameForOthers i r (record r { joined = true })
+  joins r = record { arrivals = λ j m at other. refl; released = λ m at other. refl; team = refl; levels = refl; active = refl }
+
+  effect_leaves : (p : Program) (e : Event) (y : Item) → Rule z i e y → IfSome (effect p z i e y) of_leaves
+  effect_leaves p event.Begin y rule = by_thread _
+  effect_leaves p event.Offer y rule = by_thread _
+  effect_leaves p (event.Want n) y rule = by_thread _
+  effect_leaves p (event.Ask w true) y rule = claims
+    where
+      h : Thread
+      h = record (z.threads i) { asks = (z.threads i).asks ++ (w, true) ∷ [] }
+
+      first : ℕ → Thread
+      first = put z.threads i h
+
+      claims : LeavesOthers z (record z { threads = put first w (record (first w) { claim = claim.By i }) }) i
+      claims = record {
+        environment = refl;
+        count = refl;
+        threads = λ j other. each_put (λ c g. c ≢ i → IsSameThread (z.threads c) g) first w (record (first w) { claim = claim.By i })
+            (λ ne. let o = thread_put z i h w ne in record { begun = o.begun; current = o.current; wanted = o.wanted; asks = o.asks; list = o.list })
+            j (λ apart ne. thread_put z i h j ne) other;
+        tasks = λ k t live other begun. live;
+        regions = regions_same z i;
+        regions_fresh = λ j n other fresh. fresh;
+        tasks_fresh = λ j n other fresh. fresh;
+      }
+  effect_leaves p (event.Ask w false) y rule = by_thread _
+  effect_leaves p (event.Fork region team) (item.Fork f) rule =
+      of_region z i (forked p z i region team f) of_leaves (λ k t r. MayFork z i region team) rule (λ k t r is found may. by_fork p region team f k t r may)
+  effect_leaves p (event.Fork region team) y rule = tt
+  effect_leaves p (event.ImplicitBegin task) y rule =
+      by_task_and_thread task (λ t. record t { progress = Begun }) _
+      (λ t live. let same : rule.member ≡ t = some_same rule.live live in inl (ap (λ (u : Task). u.thread) (sym same) ∙ rule.mine))
+  effect_leaves p (event.State state wait) y rule = by_thread _
+  effect_leaves p event.Enter y rule = of_current z i (entered z) of_leaves (λ k t. ⊤) rule (λ k t is h. by_task k _ (own_task z i k t is knows))
+  effect_leaves p event.Leave y rule = of_current z i (left z) of_leaves (λ k t. ⊤) rule (λ k t is h. by_task k _ (own_task z i k t is knows))
+  effect_leaves p event.Arrive y rule = of_current_region z i (λ k t. arrived z t) of_leaves _ rule (λ k t r is found h. by_region t.region _ (arrives k t is))
+  effect_leaves p event.Release y rule = of_current_region z i (λ k t. released z t) of_leaves _ rule (λ k t r is found h. by_region t.region _ (releases k t is h.first))
+  effect_leaves p event.Pass y rule = unchanged
+  effect_leaves p (event.ImplicitEnd task) y rule =
+      of_current_region z i (task_ended z i) of_leaves _ rule (λ k t r is found h. by_all k _ t.region _ _ (own_task z i k t is knows) (λ q live. ends t q))
+  effect_leaves p (event.Join region) y rule =
+      of_region z i (joined z i) of_leaves _ rule (λ k t r is found h. by_all k _ t.region _ _ (own_task z i k t is knows) (λ q live. joins q))
+  effect_leaves p (event.FreeTask task) y rule = tt
+  effect_leaves p (event.FreeRegion region) y rule = tt
+  effect_leaves p (event.Seen j) y rule = unchanged
+  effect_leaves p (event.Defer task) (item.Defer seen f final) rule =
+      of_current z i (deferred p z task f final seen) of_leaves (λ k t. IsFresh z.tasks i task.0) rule (λ k t is fresh. by_deferred task (deferred_task p k t f final seen) fresh)
+  effect_leaves p (event.Defer task) y rule = tt
+  effect_leaves p (event.StartNow task) (item.Defer seen f final) rule =
+      of_current z i (started_now p z i task f final) of_leaves (λ k t. IsFresh z.tasks i task.0) rule (λ k t is fresh. by_made task (scheduled i k t (deferred_task p k t f final 0)) _ fresh)
+  effect_leaves p (event.StartNow task) (item.StartNow f final) rule =
+      of_current z i (started_now p z i task f final) of_leaves (λ k t. IsFresh z.tasks i task.0) rule (λ k t is fresh. by_made task (scheduled i k t (deferred_task p k t f final 0)) _ fresh)
+  effect_leaves p (event.StartNow task) y rule = tt
+  effect_leaves p (event.Start task) (item.Tasks state) rule =
+      of_current z i (started z i task) of_leaves (MayStart z task (item.Tasks state)) rule
+      (λ k t is may. by_task_and_thread task _ _ (λ u live. let same : may.new ≡ u = some_same may.live live in inr (ap (λ (x : Task). x.progress) (sym same) ∙ may.deferred)))
+  effect_leaves p (event.Start task) item.OneTask rule =
+      of_current z i (started_alone z i task) of_leaves (MayStart z task item.OneTask) rule
+      (λ k t is may. by_task_and_thread task _ _ (λ u live. let same : may.new ≡ u = some_same may.live live in inr (ap (λ (x : Task). x.progress) (sym same) ∙ may.deferred)))
+  effect_leaves p (event.Start task) y rule = tt
+  effect_leaves p (event.Finish task) y rule = of_current z i (finished z i) of_leaves (MayFinish task) rule (λ k t is h. by_task_and_thread k _ _ (own_task z i k t is knows))
+  effect_leaves p event.WaitDone y rule = unchanged
+  effect_leaves p event.Yield y rule = unchanged
+  effect_leaves p (event.Set icv value) y rule = of_set z i icv value of_leaves rule whole (λ k t v is e. by_task k _ (own_task z i k t is knows))
+    where
+      whole : LeavesOthers z (record z { max_active = value }) i
+      whole = record {
+        environment = refl;
+        count = refl;
+        threads = threads_same z i;
+        tasks = λ k t live other begun. live;
+        regions = regions_same z i;
+        regions_fresh = λ j n other fresh. fresh;
+        tasks_fresh = λ j n other fresh. fresh;
+      }
+  effect_leaves p (event.SetTool x) y rule = of_current z i (λ k t. with_tool z x k) of_leaves (λ k t. ⊤) rule (λ k t is h. by_task k _ (own_task z i k t is knows))
+  effect_leaves p (event.Lock k) y rule = by_locks _
+    where
+      by_locks : (l : ℕ → Option ℕ) → LeavesOthers z (record z { locks = l }) i
+      by_locks l = record {
+        environment = refl;
+        count = refl;
+        threads = threads_same z i;
+        tasks = λ k t live other begun. live;
+        regions = regions_same z i;
+        regions_fresh = λ j n other fresh. fresh;
+        tasks_fresh = λ j n other fresh. fresh;
+      }
+  effect_leaves p (event.Unlock k) y rule = by_locks _
+    where
+      by_locks : (l : ℕ → Option ℕ) → LeavesOthers z (record z { locks = l }) i
+      by_locks l = record {
+        environment = refl;
+        count = refl;
+        threads = threads_same z i;
+        tasks = λ k t live other begun. live;
+        regions = regions_same z i;
+        regions_fresh = λ j n other fresh. fresh;
+        tasks_fresh = λ j n other fresh. fresh;
+      }
+  effect_leaves p event.Work y rule = unchanged
+  effect_leaves p (event.Call f) y rule = unchanged
+  effect_leaves p event.Skip y rule = unchanged
+  effect_leaves p event.Ret y rule = unchanged
+  effect_leaves p event.Done y rule = unchanged
+
+-- ---- a step
+
+-- a list that moves on
+list_leaves : (s : State) (i : ℕ) (zs : List Item) → KnowsOwn s i → LeavesOthers s (with_list s i zs) i
+list_leaves s i zs knows = list_moves s i zs (λ u. LeavesOthers s u i)
+    (λ k is. by_task s i knows k (relisted zs) (λ t live. inl (knows.thread k t (record { name = is; live = live }))))
+    (λ none. by_thread s i knows _)
+
+knows_moved : (s : State) (i : ℕ) (zs : List Item) → KnowsOwn s i → KnowsOwn (with_list s i zs) i
+knows_moved s i zs knows =
+    let o = is_relisted s i zs in
+    record {
+      thread = λ k t is.
+          let (v, xs, live, same) = o.tasks k t is.live in
+          ap (λ (u : Task). u.thread) same ∙ knows.thread k v (record { name = sym (o.currents i) ∙ is.name; live = live });
+      member = λ k t r is found.
+          let (v, xs, live, same) = o.tasks k t is.live in
+          let there : region_of s v.region ≡ Some r = subst (λ (u : Task). region_of s u.region ≡ Some r) same (sym (o.regions t.region) ∙ found) in
+          let (m, at, runs) = knows.member k v r (record { name = sym (o.currents i) ∙ is.name; live = live }) there in
+          (m, subst (λ (u : Task). slice_get r.team u.number ≡ Some m) (sym same) at, runs);
+    }
+
+pub step_leaves : (p : Program) (s : State) (i : ℕ) (e : Event) (next : State) → KnowsOwn s i → Step p s i e next → LeavesOthers s next i
+step_leaves p s i e next knows step =
+    let m = move_of p s i e next step in
+    let middle : State = moved_on s i e m.item m.behind in
+    let own : KnowsOwn middle i = knows_moved s i _ knows in
+    leaves_trans s middle next i (list_leaves s i _ knows)
+    (from_some (λ u. LeavesOthers middle u i) (effect p middle i e m.item) next m.effect_is (effect_leaves middle i own p e m.item m.rule_moved))
+
+-- ---- what is known of a reached state
+
+pub known_own : (p : Program) (events : List (ℕ × Event)) (s : State) → Reached p events s → (i : ℕ) → KnowsOwn s i
+known_own p events s reached i = record {
+  thread = λ k t is. let (ks, chain) = have_chains p events s reached i in on_chain k t is ks chain;
+  member = λ k t r is found. member k t r is found t.implicit refl;
+}
+  where
+    on_chain : (k : Tid) (t : Task) → IsCurrent s i k t → (ks : List Tid) → IsChain s i (s.threads i).current ks → t.thread ≡ i
+    on_chain k t is [] none = absurd (none_some none is.name)
+    on_chain k t is (n ∷ ns) (u, top, apart, live, thread, begun, rest) =
+        let same : n ≡ k = some_same top is.name in
+        let one : u ≡ t = some_same (subst (λ (x : Tid). task_of s x ≡ Some u) same live) is.live in
+        ap (λ (x : Task). x.thread) (sym one) ∙ thread
+
+    runs : (k : Tid) (t : Task) → IsCurrent s i k t → t.thread ≡ i
+    runs k t is = let (ks, chain) = have_chains p events s reached i in on_chain k t is ks chain
+
+    member : (k : Tid) (t : Task) (r : Region) → IsCurrent s i k t → region_of s t.region ≡ Some r → (b : Bool) → t.implicit ≡ b
+        → (m : Tid × ℕ) × (slice_get r.team t.number ≡ Some m) × (m.1 ≡ i)
+    member k t r is found true e =
+        let (q, live, at) = (members_known p events s reached).tasks k t is.live e in
+        let same : q ≡ r = some_same live found in
+        ((k, t.thread), ap (λ (x : Region). slice_get x.team t.number) (sym same) ∙ at, runs k t is)
+    member k t r is found false e =
+        let (ks, chain) = have_chains p events s reached i in
+        let (q, m, live, at, thread) = ((encounters p events s reached).explicit k t is.live e).thread (undeferred k t is ks chain) in
+        let same : q ≡ r = some_same live found in
+        (m, ap (λ (x : Region). slice_get x.team t.number) (sym same) ∙ at, thread ∙ runs k t is)
+      where
+        undeferred : (k : Tid) (t : Task) → IsCurrent s i k t → (ks : List Tid) → IsChain s i (s.threads i).current ks → t.progress ≡ Deferred → ⊥
+        undeferred k t is [] none d = absurd (none_some none is.name)
+        undeferred k t is (n ∷ ns) (u, top, apart, live, thread, begun, rest) d =
+            let same : n ≡ k = some_same top is.name in
+            let one : u ≡ t = some_same (subst (λ (x : Tid). task_of s x ≡ Some u) same live) is.live in
+            cc (sym begun, ap (λ (x : Task). x.progress) one, d)
+
+pub events_leave_others : EventsLeaveOthers
+events_leave_others = λ p events s reached i e next step. step_leaves p s i e next (known_own p events s reached i) step

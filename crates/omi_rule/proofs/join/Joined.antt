@@ -1,0 +1,296 @@
+-- Member 0 joins the others, which have all left: the region is over, and the task that encountered it goes on.
+use Rattle.std.proofs.Common.{◌≡◌, ◌≢◌, ◌<◌, ℕ, ◌⊎◌, zero, suc, inl, inr, Bool, true, false, List, [], ◌∷◌, ◌++◌, drop, Option, Some, refl, sym, ap, ◌∙◌, subst, arith, if◌then◌else◌}
+use Rattle.std.specs.List.{All}
+use Rattle.std.specs.Option.{option_map}
+use Rattle.omi_word.specs.declared.op.Op.TheVariants as op
+use Rattle.omi_script.specs.declared.program.Program.{Program}
+use Rattle.omi_script.specs.declared.statement.Stmt.TheVariants as stmt
+use Rattle.omi_model.specs.declared.encounter.Encounter.{Encounter}
+use Rattle.omi_model.specs.declared.event.Event.{Event}
+use Rattle.omi_model.specs.declared.event.Event.TheVariants as event
+use Rattle.omi_model.specs.declared.id.Rid.{Rid}
+use Rattle.omi_model.specs.declared.item.Item.{Item}
+use Rattle.omi_model.specs.declared.item.Item.TheVariants as item
+use Rattle.omi_model.specs.declared.progress.Progress.TheVariants.{Finished}
+use Rattle.omi_model.specs.declared.region.Region.{Region}
+use Rattle.omi_model.specs.declared.task.Task.{Task}
+use Rattle.omi_model.specs.declared.thread.Thread.{Thread}
+use Rattle.omi_script.specs.declared.env.Env.{Env}
+use Rattle.omi_model.specs.Changes.{IsCurrent, encounter_by}
+use Rattle.omi_model.specs.Lists.{take_item}
+use Rattle.omi_model.specs.Put.{named, on}
+use Rattle.omi_model.specs.Reached.{Step}
+use Rattle.omi_model.specs.Rows.{work_state, working as working_row}
+use Rattle.omi_model.specs.State.{State, region_of}
+use Rattle.omi_model.specs.Teams.{joined}
+use Rattle.omi_model.proofs.Slots.{on_other, on_same, put_same, same_or_not, some_same}
+use Rattle.omi_model.proofs.Steps.{at_region, current_moved, relisted}
+use Rattle.omi_layout.specs.declared.field.Field.TheVariants.{ThreadCurrent}
+use Rattle.omi_layout.specs.Field.{threads}
+use Rattle.omi_layout.specs.Memory.{Memory, with_word}
+use Rattle.omi_layout.specs.Named.{number}
+use Rattle.omi_layout.specs.Table.{thread_count}
+use Rattle.omi_layout.proofs.Numbers.{numbered_field}
+use Rattle.omi_pc.specs.declared.actor.Actor.{Actor}
+use Rattle.omi_pc.specs.declared.context.Context.{Context}
+use Rattle.omi_pc.specs.declared.counter.Counter.{Counter}
+use Rattle.omi_pc.specs.declared.counter.Counter.TheVariants as counter
+use Rattle.omi_pc.specs.declared.counter.PlainCounter.{PlainCounter}
+use Rattle.omi_pc.specs.declared.counter.PlainCounter.TheVariants as plain
+use Rattle.omi_pc.specs.declared.frame.Frame.{Frame}
+use Rattle.omi_pc.specs.declared.frame.Opened.{Opened}
+use Rattle.omi_pc.specs.declared.frame.Opened.TheVariants as opened
+use Rattle.omi_pc.specs.declared.team_counter.JoinCounter.TheVariants as join
+use Rattle.omi_pc.specs.Fits.{FitsPlain}
+use Rattle.omi_pc.specs.Frames.{body_in, statement_before}
+use Rattle.omi_pc.specs.Moves.{closed, closed_in, context_under, worked, worked_at, worked_in, working}
+use Rattle.omi_pc.specs.OpenBodies.{AreOpen, IsAt, IsAtEnd, IsMaster, IsMasterOf, StandsOn}
+use Rattle.omi_rep.specs.declared.outcome.Outcome.TheVariants as outcome
+use Rattle.omi_rep.specs.Records.{task_address, task_word}
+use Rattle.omi_rule_words.specs.Owes.{all_owed}
+use Rattle.omi_rule_words.specs.Words.{KeepsWords}
+use Rattle.omi_rule_words.proofs.Joins.{joins_keep}
+use Rattle.omi_rule_words.proofs.Moves.{moves_keep}
+use Rattle.omi_step_words.specs.Moving.{task_under}
+use Rattle.omi_step_words.specs.Placed.{AreContextsPlaced}
+use Rattle.omi_step_words.specs.Words.{of_thread}
+use Rattle.omi_fork.specs.JoinSteps.{join_moved, join_next, join_outcome, joined as rejoined}
+use Rattle.omi_rule.specs.Ahead.{IsAhead, leaving}
+use Rattle.omi_rule.specs.Ahead as Ahead
+use Rattle.omi_rule.specs.Chains.{IsScheduledFrom, IsSuspended, KeepsBodies, KeepsBody, KeepsContext, Stands, StandsWith, encounter_of}
+use Rattle.omi_rule.specs.Rule.{HasEnded}
+use Rattle.omi_rule.specs.Steps.{IsOn, KeepsRule, RecordWord, StepKeeps}
+use Rattle.omi_rule.proofs.Assembly.{Before, plain_event_keeps, spares_threads}
+use Rattle.omi_rule.proofs.Own.{AreBelow, IsBelow}
+use Rattle.omi_rule.proofs.OthersStand.{of_innermost}
+use Rattle.omi_rule.proofs.OwnTask.{is_current, own_below}
+use Rattle.omi_rule.proofs.barrier.ArrivedBodies.{met_by}
+use Rattle.omi_rule.proofs.barrier.AtCounter.{ahead_is, body, fits_counter, here, own, owes_now, region_there, sees, stands}
+use Rattle.omi_rule.proofs.barrier.Events.{none_new, relisted_state, relisted_words, steps}
+use Rattle.omi_rule.proofs.plain.OwnEvents.{environment_stays}
+use Rattle.omi_rule.proofs.join.BodiesUnder.{LeavesUnder, encounter_kept, task_kept, under_kept}
+use Rattle.omi_model.proofs.StaysKept.{stays_step}
+use Rattle.omi_rule.specs.Chains.{RunsFunctions}
+use Rattle.omi_rule.proofs.Runs.{bodies_run}
+
+module _ (p : Program) (w : List ℕ) (m : Memory) (events : List (ℕ × Event)) (s : State) (actors : ℕ → Actor) (i : ℕ) (before : Before p w m events s actors i) (at : (actors i).counter ≡ counter.Join join.Join) where
+  abbrev a : Actor
+  a = actors i
+
+  abbrev x : Counter
+  x = counter.Join join.Join
+
+  abbrev At : Encounter
+  At = sees p w m events s actors i before x at tt
+
+  abbrev mine : KeepsContext s i (actors i).context
+  mine = here p w m events s actors i before x at tt
+
+  abbrev listed : State
+  listed = relisted_state p w m events s actors i before x at tt []
+
+  abbrev ended_task : Task
+  ended_task = relisted [] mine.task
+
+  abbrev next : State
+  next = joined listed i a.context.task ended_task mine.region
+
+  abbrev is_over : Region → Region
+  is_over r = record r { joined = true }
+
+  there : region_of s mine.task.region ≡ Some mine.region
+  there = region_there p w m events s actors i before x at tt
+
+  current : IsCurrent s i a.context.task mine.task
+  current = is_current p s i a (stands p w m events s actors i before x at tt)
+
+  current_listed : IsCurrent listed i a.context.task ended_task
+  current_listed = current_moved s i a.context.task current.name [] a.context.task mine.task current
+
+  taken : take_item p At (event.Join a.context.region) mine.task.list ≡ Some (item.Join, [])
+  taken = ap (λ xs. take_item p At (event.Join a.context.region) xs) (ahead_is p w m events s actors i before x at tt)
+
+  -- ---- what stays
+
+  regions_go_on : (n : Rid) (r : Region) → region_of s n ≡ Some r → (q : Region) × (region_of next n ≡ Some q) × (q.team ≡ r.team) × (q.levels ≡ r.levels) × (q.arrivals ≡ r.arrivals)
+  regions_go_on n r live = go (same_or_not n.0 mine.task.region.0)
+    where
+      go : (n.0 ≡ mine.task.region.0) ⊎ (n.0 ≡ mine.task.region.0 → ⊥) → (q : Region) × (region_of next n ≡ Some q) × (q.team ≡ r.team) × (q.levels ≡ r.levels) × (q.arrivals ≡ r.arrivals)
+      go (inl same) = (
+        is_over r,
+        ap (named next.regions) same ∙ on_same s.regions mine.task.region.0 is_over ∙ ap (λ (o : Option Region). option_map is_over o) (ap (named s.regions) (sym same) ∙ live),
+        refl,
+        refl,
+        refl,
+      )
+      go (inr other) = (r, on_other s.regions mine.task.region.0 is_over n.0 other ∙ live, refl, refl, refl)
+
+  leaves : LeavesUnder s next a.context.task
+  leaves = record {
+    environment = refl;
+    others = λ n other.
+        on_other listed.tasks a.context.task.0 (λ t. record t { progress = Finished }) n.0 other
+        ∙ on_other s.tasks a.context.task.0 (relisted []) n.0 other;
+    regions = regions_go_on;
+  }
+
+  known_thread : i < thread_count w
+  known_thread = subst (λ n. i < n) before.rule.within.count before.known
+
+  abbrev on_current : RecordWord
+  on_current = record { creator = i; slot = 0; field = ThreadCurrent; place = 0 }
+
+  abbrev later : List (ℕ × Event)
+  later = events ++ (i, event.Join a.context.region) ∷ []
+
+  abbrev Goes : Actor → Type 0
+  Goes b = KeepsRule p w m events s actors i (op.Store (of_thread w a.thread ThreadCurrent) (task_address w (task_under a))) on_current (b, outcome.Event (event.Join a.context.region))
+
+  is_on : IsOn w (op.Store (of_thread w a.thread ThreadCurrent) (task_address w (task_under a))) on_current
+  is_on = record {
+    there = record { field = numbered_field ThreadCurrent; record_slot = record { made_by = known_thread; within = omega arith }; within = omega arith };
+    address = ap (λ j. of_thread w j ThreadCurrent) (own p w m events s actors i before x at tt).thread;
+  }
+
+  -- ---- with the bodies of the stack
+
+  module _ (f : Frame) (fs : List Frame) (stack : a.stack ≡ f ∷ fs) (saved : Context) (how : f.opened ≡ opened.Master saved) (num : Option ℕ) (at_construct : IsAt p fs (stmt.Parallel f.function num)) (master : IsMasterOf saved a.context)
+      (from : IsScheduledFrom s saved a.context) (suspended : IsSuspended s saved (working_row (encounter_of s saved) (leaving p (encounter_of s saved) fs))) (under : KeepsBodies p s i saved fs)
+      (open_under : AreOpen p saved fs) (placed_under : AreContextsPlaced w saved fs) (apart : saved.task ≡ a.context.task → ⊥) (below : AreBelow a.context.task fs)
+      (ended : All (λ b. b ≡ true) (drop 1 mine.region.ended)) (none_owes : (j : ℕ) → j < s.count → (all_owed actors j).left ≢ Some a.context.region) where
+    -- the thread behind the join
+    abbrev back : Actor
+    back = record a { context = saved; stack = fs }
+
+    runs_under : RunsFunctions s saved fs
+    runs_under = subst (λ (o : Opened). RunsFunctions s (context_under a.context o) fs) how (subst (RunsFunctions s a.context) stack (own p w m events s actors i before x at tt).runs).1
+
+    closed_is : closed a ≡ back
+    closed_is = ap (λ (xs : List Frame). closed_in a xs) stack ∙ ap (λ (o : Opened). record a { context = context_under a.context o; stack = fs }) how
+
+    met : mine.region.encountering ≡ Some saved.task
+    met = met_by p events s before.rule.reached i saved a.context mine master from
+
+    step : Step p s i (event.Join a.context.region) next
+    step =
+        steps p w m events s actors i before x at tt (event.Join a.context.region) item.Join [] next taken
+        (a.context.task, mine.task, mine.region, current, there, record { mine = sym mine.region_is; implicit = mine.implicit ∙ master.implicit; first = mine.number ∙ master.number; ended = ended }) refl
+        (at_region listed i a.context.task ended_task mine.region (joined listed i) current_listed there)
+
+    -- ---- words
+
+    word_is : task_word w mine.region.encountering ≡ task_address w (task_under a)
+    word_is = ap (task_word w) met ∙ sym (ap (λ (b : Actor). task_address w b.context.task) closed_is)
+
+    words : KeepsWords w (with_word m i threads 0 (number ThreadCurrent) 0 (task_address w (task_under a))) next (all_owed actors)
+    words =
+        subst (λ v. KeepsWords w (with_word m i threads 0 (number ThreadCurrent) 0 v) next (all_owed actors)) word_is
+        (joins_keep w m listed (all_owed actors) i a.context.task ended_task mine.region (relisted_words p w m events s actors i before x at tt []) before.known
+        (record { live = current_listed.live; implicit = mine.implicit ∙ master.implicit; progress = mine.begun; region = there })
+        (λ j known owes. none_owes j known (owes ∙ ap (λ (n : Rid). Some n) mine.region_is)))
+
+    -- ---- the thread
+
+    top_under : KeepsContext s i saved
+    top_under = of_innermost p s i saved fs under
+
+    sees_same : encounter_of next saved ≡ encounter_of s saved
+    sees_same = encounter_kept p s next i a.context.task leaves saved apart top_under
+
+    abbrev goes_on : List Item
+    goes_on = working_row (encounter_of s saved) (leaving p (encounter_of s saved) fs)
+
+    stands_back : (y : Counter) → IsAhead p (encounter_of s saved) fs y goes_on → Stands p next i (record back { counter = y })
+    stands_back y ahead = by fs refl
+      where
+        in_task : (g : Frame) (gs : List Frame) → fs ≡ g ∷ gs → StandsWith p next i (record back { counter = y }) (g ∷ gs)
+        in_task g gs is = record {
+          current = ap (λ (h : Thread). h.current) (put_same s.threads i (record (s.threads i) { current = mine.region.encountering })) ∙ met;
+          bodies = under_kept p s next i a.context.task leaves saved fs apart below under;
+          ahead = λ t live.
+              let one : suspended.task ≡ t = some_same suspended.live (sym (task_kept p s next i a.context.task leaves saved apart) ∙ live) in
+              subst (λ (e : Encounter). IsAhead p e fs y t.list) (sym sees_same)
+              (subst (λ (xs : List Item). IsAhead p (encounter_of s saved) fs y xs) (sym suspended.list_is ∙ ap (λ (v : Task). v.list) one) ahead);
+        }
+
+        by : (xs : List Frame) → fs ≡ xs → StandsWith p next i (record back { counter = y }) xs
+        by [] is = absurd (cc (subst (λ (xs : List Frame). IsAt p xs (stmt.Parallel f.function num)) is at_construct))
+        by (g ∷ gs) is = in_task g gs is
+
+    leads_to : (y : PlainCounter) → FitsPlain p (record back { counter = counter.Plain y }) y → IsAhead p (encounter_of s saved) fs (counter.Plain y) goes_on → HasEnded later i (counter.Plain y) → Goes (record back { counter = counter.Plain y })
+    leads_to y fits ahead over =
+        let o = own p w m events s actors i before x at tt in
+        let v = task_address w (task_under a) in
+        plain_event_keeps p w m events s actors i before (op.Store (of_thread w a.thread ThreadCurrent) v) on_current (record back { counter = counter.Plain y }, outcome.Event (event.Join a.context.region)) (event.Join a.context.region) next
+        (λ no_object. no_object) refl step (v, ap (λ j. op.Store (of_thread w j ThreadCurrent) v) o.thread)
+        (none_new p w m events s actors i before x at tt (event.Join a.context.region) item.Join [] next taken step (λ g e. absurd (cc e)))
+        (moves_keep w (with_word m i threads 0 (number ThreadCurrent) 0 v) next actors i (record back { counter = counter.Plain y }) words (sym (owes_now p w m events s actors i before x at tt)))
+        (λ j other. spares_threads m s i ThreadCurrent v j (actors j) (λ same. omega (arith, same)))
+        (record {
+          thread = o.thread;
+          fits = record { thread = o.fits.thread; variables = o.fits.variables; bodies = open_under; counter = fits };
+          placed = record { bodies = placed_under; counter = tt };
+          stands = stands_back (counter.Plain y) ahead;
+          runs = bodies_run p s next i (stays_step p s i (event.Join a.context.region) next step) saved fs under runs_under;
+          row = tt;
+          ended = over;
+        })
+
+    -- ---- the construct that goes on
+
+    debug_is : (encounter_of s saved).debug ≡ p.env.debug
+    debug_is =
+        ap (λ (o : Option Task). (encounter_by s o).debug) top_under.live
+        ∙ ap (λ (e : Env). e.debug) (environment_stays p events s before.rule.reached)
+
+    goes : Goes (rejoined p a)
+    goes = subst Goes (sym (ap (λ (b : Actor). working p b) closed_is)) (of_frame fs refl at_construct)
+      where
+        by : (d : Bool) → p.env.debug ≡ d → worked p back ≡ record back { counter = counter.Plain plain.Leave } → Ahead.worked p (encounter_of s saved) fs ≡ leaving p (encounter_of s saved) fs
+            → Goes (if d then record back { counter = counter.Plain plain.WorkState } else worked p back)
+        by true e leave ahead =
+            leads_to plain.WorkState (inr (stmt.Parallel f.function num, at_construct, tt))
+            (ap (λ (b : Bool). if b then item.State (work_state (encounter_of s saved).level) 0 ∷ leaving p (encounter_of s saved) fs else leaving p (encounter_of s saved) fs) (debug_is ∙ e)
+            ∙ ap (λ xs. item.State (work_state (encounter_of s saved).level) 0 ∷ xs) (sym ahead))
+            tt
+        by false e leave ahead =
+            subst Goes (sym leave)
+            (leads_to plain.Leave (stmt.Parallel f.function num, at_construct, tt)
+            (ap (λ (b : Bool). if b then item.State (work_state (encounter_of s saved).level) 0 ∷ leaving p (encounter_of s saved) fs else leaving p (encounter_of s saved) fs) (debug_is ∙ e)) tt)
+
+        of_next : (g : Frame) (gs : List Frame) → fs ≡ g ∷ gs → (n : ℕ) → g.next ≡ n → statement_before (body_in p g) n ≡ Some (stmt.Parallel f.function num) → Goes (working p back)
+        of_next g gs is zero e none = absurd (cc none)
+        of_next g gs is (suc n) e some =
+            by p.env.debug refl (ap (λ (xs : List Frame). worked_in p xs back) is ∙ ap (λ j. worked_at p j back) e)
+            (ap (λ (xs : List Frame). Ahead.worked p (encounter_of s saved) xs) is ∙ ap (λ j. Ahead.working_at p (encounter_of s saved) j (g ∷ gs)) e ∙ ap (leaving p (encounter_of s saved)) (sym is))
+
+        of_frame : (xs : List Frame) → fs ≡ xs → IsAt p xs (stmt.Parallel f.function num) → Goes (working p back)
+        of_frame [] is none = absurd (cc none)
+        of_frame (g ∷ gs) is some = of_next g gs is g.next refl some
+
+  -- ---- the step, where all have left
+
+  pub join_from : All (λ b. b ≡ true) (drop 1 mine.region.ended) → ((j : ℕ) → j < s.count → (all_owed actors j).left ≢ Some a.context.region)
+      → StepKeeps p w m events s actors i (join_next w (actors i) join.Join) (λ old. (join_moved p w (actors i) join.Join old, join_outcome w (actors i) join.Join old))
+  join_from ended none_owes = (on_current, is_on, with_bodies)
+    where
+      by : (f : Frame) (fs : List Frame) → a.stack ≡ f ∷ fs → (o : Opened) → f.opened ≡ o → IsMaster o → StandsOn p a.context f.function fs o → KeepsBody p s a.context o fs → KeepsBodies p s i (context_under a.context o) fs
+          → AreOpen p (context_under a.context o) fs → AreContextsPlaced w (context_under a.context o) fs → AreBelow a.context.task (f ∷ fs) → Goes (rejoined p a)
+      by f fs is (opened.Master saved) how master (num, construct, master_of) (from, suspended) under open_under placed_under (apart, below) =
+          goes f fs is saved how num construct master_of from suspended under open_under placed_under (subst (IsBelow a.context.task) how apart) below ended none_owes
+      by f fs is opened.Main how master on keeps under open_under placed_under below = absurd master
+      by f fs is opened.Worker how master on keeps under open_under placed_under below = absurd master
+      by f fs is (opened.Task y saved) how master on keeps under open_under placed_under below = absurd master
+      by f fs is opened.Call how master on keeps under open_under placed_under below = absurd master
+      by f fs is (opened.Repeat left) how master on keeps under open_under placed_under below = absurd master
+      by f fs is (opened.Critical k) how master on keeps under open_under placed_under below = absurd master
+
+      with_bodies : Goes (rejoined p a)
+      with_bodies =
+          let (f, fs, is, task) = body p w m events s actors i before x at tt in
+          let o = own p w m events s actors i before x at tt in
+          let (open_body, open_rest) = subst (AreOpen p a.context) is o.fits.bodies in
+          let (top, keeps, rest) = subst (KeepsBodies p s i a.context) is (stands p w m events s actors i before x at tt).bodies in
+          let placed = subst (AreContextsPlaced w a.context) is o.placed.bodies in
+          let (end, master) = subst (IsAtEnd p IsMaster) is (fits_counter p w m events s actors i before x at tt) in
+          by f fs is f.opened refl master open_body.stands keeps rest open_rest placed.1 (subst (AreBelow a.context.task) is (own_below p s i a (stands p w m events s actors i before x at tt) events before.rule.reached))

@@ -1,6 +1,0 @@
-use Rattle.omi_rule.proofs.PendingWords.{pending_adds_keep}
-use Rattle.omi_rule.proofs.TaskCounts.{children_adds_keep}
-use Rattle.omi_rule.proofs.laws.adds_keep_words.Goals as goal
-
-pub returns : goal.returns
-returns c = record { pending = pending_adds_keep; children = children_adds_keep }

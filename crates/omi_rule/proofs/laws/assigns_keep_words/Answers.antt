@@ -1,5 +1,0 @@
-use Rattle.omi_rule.proofs.Assigns.{assign_clears_keep, assign_stores_keep}
-use Rattle.omi_rule.proofs.laws.assigns_keep_words.Goals as goal
-
-pub returns : goal.returns
-returns c = record { stored = assign_stores_keep; cleared = assign_clears_keep }

@@ -1,5 +1,0 @@
-use Rattle.omi_rule.proofs.TaskBegins.{begins_keep}
-use Rattle.omi_rule.proofs.laws.begins_keep_words.Goals as goal
-
-pub returns : goal.returns
-returns c = begins_keep

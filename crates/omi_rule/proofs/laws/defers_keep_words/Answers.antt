@@ -1,5 +1,0 @@
-use Rattle.omi_rule.proofs.Defers.{defers_keep, starts_now_keep}
-use Rattle.omi_rule.proofs.laws.defers_keep_words.Goals as goal
-
-pub returns : goal.returns
-returns c = record { deferred = defers_keep; started_now = starts_now_keep }

@@ -1,5 +1,0 @@
-use Rattle.omi_rule.proofs.TaskEnds.{ends_keep}
-use Rattle.omi_rule.proofs.laws.ends_keep_words.Goals as goal
-
-pub returns : goal.returns
-returns c = ends_keep

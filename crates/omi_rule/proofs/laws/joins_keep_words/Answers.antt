@@ -1,5 +1,0 @@
-use Rattle.omi_rule.proofs.Joins.{all_have_left, joins_keep}
-use Rattle.omi_rule.proofs.laws.joins_keep_words.Goals as goal
-
-pub returns : goal.returns
-returns c = record { joined = joins_keep; all_left = all_have_left }

@@ -1,5 +1,0 @@
-use Rattle.omi_rule.proofs.Shown.{kept_words_show}
-use Rattle.omi_rule.proofs.laws.kept_words_show.Goals as goal
-
-pub returns : goal.returns
-returns c = kept_words_show

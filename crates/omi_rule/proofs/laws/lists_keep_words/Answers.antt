@@ -1,5 +1,0 @@
-use Rattle.omi_rule.proofs.ListMoves.{list_moves_keep}
-use Rattle.omi_rule.proofs.laws.lists_keep_words.Goals as goal
-
-pub returns : goal.returns
-returns c = list_moves_keep

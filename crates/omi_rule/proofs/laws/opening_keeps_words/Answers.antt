@@ -1,5 +1,0 @@
-use Rattle.omi_rule.proofs.Opened.{opening_kept}
-use Rattle.omi_rule.proofs.laws.opening_keeps_words.Goals as goal
-
-pub returns : goal.returns
-returns c = opening_kept

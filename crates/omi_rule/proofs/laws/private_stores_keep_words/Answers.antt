@@ -1,5 +1,0 @@
-use Rattle.omi_rule.proofs.Fills.{region_fills_keep, task_fills_keep}
-use Rattle.omi_rule.proofs.laws.private_stores_keep_words.Goals as goal
-
-pub returns : goal.returns
-returns c = record { region = region_fills_keep; task = task_fills_keep }

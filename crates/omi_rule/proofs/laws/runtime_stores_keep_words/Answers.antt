@@ -1,5 +1,0 @@
-use Rattle.omi_rule.proofs.RuntimeStores.{runtime_stores_keep}
-use Rattle.omi_rule.proofs.laws.runtime_stores_keep_words.Goals as goal
-
-pub returns : goal.returns
-returns c = runtime_stores_keep

@@ -1,6 +1,0 @@
-use Rattle.omi_rule.proofs.PendingWords.{pending_subtracts_keep}
-use Rattle.omi_rule.proofs.TaskCounts.{children_subtracts_keep}
-use Rattle.omi_rule.proofs.laws.subtracts_keep_words.Goals as goal
-
-pub returns : goal.returns
-returns c = record { children = children_subtracts_keep; pending = pending_subtracts_keep }

@@ -1,5 +1,0 @@
-use Rattle.omi_rule.proofs.TaskStores.{task_stores_keep}
-use Rattle.omi_rule.proofs.laws.task_stores_keep_words.Goals as goal
-
-pub returns : goal.returns
-returns c = task_stores_keep

@@ -1,5 +1,0 @@
-use Rattle.omi_rule.proofs.ThreadStores.{thread_changes_keep, thread_stores_keep}
-use Rattle.omi_rule.proofs.laws.thread_stores_keep_words.Goals as goal
-
-pub returns : goal.returns
-returns c = record { stored = thread_stores_keep; changed = thread_changes_keep }

@@ -1,0 +1,63 @@
+-- The record that a `task` construct filled is that of the new task: it has the data environment of the task that makes it, and the place of one that starts now.
+use Rattle.std.proofs.lemmas.Option.{slice_get_within}
+use Rattle.std.proofs.Common.{◌≡◌, ◌<◌, ◌≤◌, ℕ, zero, suc, Bool, true, false, List, length, slice_get, slice_index, Some, refl, sym, ap, ◌∙◌, arith}
+use Rattle.omi_script.specs.declared.program.Program.{Program}
+use Rattle.omi_model.specs.declared.task.Task.{Task}
+use Rattle.omi_model.specs.Numbers.{flag}
+use Rattle.omi_model.specs.Opening.{exit_frame}
+use Rattle.omi_model.specs.Tasking.{deferred_task, scheduled}
+use Rattle.omi_layout.specs.Codes.{flag_word, function_word}
+use Rattle.omi_layout.specs.declared.field.Field.TheVariants.{TaskNthreads}
+use Rattle.omi_layout.specs.Memory.{Rec}
+use Rattle.omi_pc.specs.declared.actor.Actor.{Actor}
+use Rattle.omi_pc.specs.declared.limits.TheConstants.{TASK_WORDS}
+use Rattle.omi_rep.specs.Records.{region_address, thread_address}
+use Rattle.omi_rule_words.specs.ExplicitKinds.{IsFilledFor}
+use Rattle.omi_rule_words.specs.Objects.{KeepsPlace}
+use Rattle.omi_rule_words.specs.Threads.{Has}
+use Rattle.omi_step_words.specs.Plan.{task_plan}
+use Rattle.omi_task.specs.MakingSteps.{made_function, makes_final, new_task}
+use Rattle.omi_rule.specs.Rows.{IsFilled, IsVariable}
+
+module _ (p : Program) (w : List ℕ) (a : Actor) (f : ℕ) (final : Bool) (place : ℕ) (t : Task) (r : Rec)
+    (function : made_function p a ≡ f) (final_is : makes_final p a ≡ final) (region : t.region ≡ a.context.region)
+    (filled : IsFilled r (task_plan w (new_task p a)) TASK_WORDS) where
+  pub record_is_filled : length t.variables.nthreads ≤ 4 → ((j : ℕ) → j < 8 → IsVariable t.variables j (slice_index a.gathered.variables j)) → IsFilledFor w r (deferred_task p a.context.task t f final place)
+  record_is_filled few known = record {
+    environment = record {
+      implicit = filled 0 (omega arith);
+      region = filled 1 (omega arith) ∙ ap (region_address w) (sym region);
+      generating = filled 4 (omega arith);
+      function = filled 6 (omega arith) ∙ ap function_word function;
+      dynamic = filled 9 (omega arith) ∙ known 0 (omega arith);
+      nthreads_length = filled 10 (omega arith) ∙ known 1 (omega arith);
+      schedule = filled 11 (omega arith) ∙ known 2 (omega arith);
+      device = filled 12 (omega arith) ∙ known 3 (omega arith);
+      final = filled 13 (omega arith) ∙ ap flag_word final_is ∙ flags final;
+      tool = filled 14 (omega arith);
+      nthreads = elements;
+    };
+    children = filled 15 (omega arith);
+  }
+    where
+      flags : (b : Bool) → flag_word b ≡ flag b
+      flags true = refl
+      flags false = refl
+
+      elements : (k x : ℕ) → slice_get t.variables.nthreads k ≡ Some x → Has r TaskNthreads k x
+      elements zero x there = filled 17 (omega arith) ∙ known 4 (omega arith) x there
+      elements (suc zero) x there = filled 18 (omega arith) ∙ known 5 (omega arith) x there
+      elements (suc (suc zero)) x there = filled 19 (omega arith) ∙ known 6 (omega arith) x there
+      elements (suc (suc (suc zero))) x there = filled 20 (omega arith) ∙ known 7 (omega arith) x there
+      elements (suc (suc (suc (suc k)))) x there =
+          let within : suc (suc (suc (suc k))) < length t.variables.nthreads = slice_get_within t.variables.nthreads (suc (suc (suc (suc k)))) x there in
+          absurd (omega (arith, within, few))
+
+  pub place_is_filled : (i : ℕ) → a.thread ≡ i → t.number ≡ a.context.number → t.exit ≡ exit_frame i a.context.depth → KeepsPlace w r (scheduled i a.context.task t (deferred_task p a.context.task t f final place))
+  place_is_filled i thread number exit = record {
+    thread = filled 2 (omega arith) ∙ ap (thread_address w) thread;
+    member = filled 3 (omega arith) ∙ sym number;
+    scheduling = filled 5 (omega arith);
+    exit = filled 7 (omega arith) ∙ omega (arith, thread, exit);
+    enter = filled 8 (omega arith);
+  }

@@ -1,0 +1,171 @@
+-- A thread raises the counts for a new task: in its region, and in the task that makes it.
+use Rattle.std.proofs.Common.{◌^◌, ◌≡◌, ◌<◌, inl, ℕ, List, [], ◌∷◌, Option, Some, None, refl, sym, ap, ◌∙◌, subst, arith}
+use Rattle.std.specs.List.{All}
+use Rattle.std.specs.Prelude.{IsSome}
+use Rattle.std.proofs.lemmas.List.Elements.{All-head}
+use Rattle.omi_word.specs.declared.op.Op.TheVariants as op
+use Rattle.omi_script.specs.declared.program.Program.{Program}
+use Rattle.omi_model.specs.declared.event.Event.{Event}
+use Rattle.omi_model.specs.declared.id.Rid.{Rid}
+use Rattle.omi_model.specs.declared.id.Tid.{Tid}
+use Rattle.omi_model.specs.State.{State}
+use Rattle.omi_model.proofs.Slots.{found_live, none_some}
+use Rattle.omi_layout.specs.declared.field.Field.TheVariants.{RegionPending, TaskChildren, TaskSlots}
+use Rattle.omi_layout.specs.Field.{regions, tasks}
+use Rattle.omi_layout.specs.Memory.{Memory, Rec, put}
+use Rattle.omi_layout.specs.Named.{number}
+use Rattle.omi_layout.proofs.Puts.{record_stays, word_stays}
+use Rattle.omi_pc.specs.declared.actor.Actor.{Actor}
+use Rattle.omi_pc.specs.declared.counter.Counter.TheVariants as counter
+use Rattle.omi_pc.specs.Fits.{FitsTask, IsTaskGot}
+use Rattle.omi_pc.specs.declared.limits.TheConstants.{TASK_WORDS}
+use Rattle.omi_pc.specs.declared.task_counter.TaskCounter.{TaskCounter}
+use Rattle.omi_pc.specs.declared.task_counter.TaskCounter.TheVariants as task
+use Rattle.omi_rep.specs.declared.outcome.Outcome.TheVariants as outcome
+use Rattle.omi_rule_words.specs.BarrierKinds.{one_more, with_region_word, word_of_region}
+use Rattle.omi_rule_words.specs.CountKinds.{with_task_word, word_of_task}
+use Rattle.omi_rule_words.specs.Owes.{Owed, all_owed, in_the_making, owed, with_raises}
+use Rattle.omi_rule_words.specs.Words.{IsInTheMaking, KeepsWords}
+use Rattle.omi_rule_words.proofs.PendingWords.{pending_adds_keep}
+use Rattle.omi_rule_words.proofs.TaskCounts.{children_adds_keep}
+use Rattle.omi_step_words.specs.Moving.{to_task}
+use Rattle.omi_step_words.specs.Placed.{IsPlacedTask}
+use Rattle.omi_step_words.specs.Plan.{task_plan}
+use Rattle.omi_step_words.specs.Words.{of_region, of_task}
+use Rattle.omi_task.specs.MakingSteps.{behind_raises, making_moved, making_next, making_outcome, new_task}
+use Rattle.omi_rule.specs.Ahead as Ahead
+use Rattle.omi_rule.specs.Ahead.{task_ahead}
+use Rattle.omi_rule.specs.Chains.{encounter_of}
+use Rattle.omi_rule.specs.Rows.{HasFilledTask, HasPlace, KeepsTaskRow}
+use Rattle.omi_rule.specs.Steps.{KeepsRule, RecordWord, StepKeeps}
+use Rattle.omi_rule.proofs.Assembly.{Before, quiet_keeps, spares_begun, spares_region}
+use Rattle.omi_rule.proofs.CountsFew.{children_few, pending_few}
+use Rattle.omi_rule.proofs.KeptObjects.{region_kept, task_kept}
+use Rattle.omi_rule.proofs.Owing.{owed_after}
+use Rattle.omi_rule.proofs.task.Searches.{loaded_goes}
+use Rattle.omi_rule.proofs.task.Within.{context, context_placed, fits, going, goes_on, own, owes, placed, row}
+
+-- what is filled stays so where the thread goes on within its construct, and where another record has a word stored
+pub filled_goes : (p : Program) (w : List ℕ) (m n : Memory) (s : State) (a : Actor) (d : TaskCounter) (place : Option ℕ) (t : Tid) (k : ℕ) → ((q : Option ℕ) → HasPlace p m a q → HasPlace p n a q) → n t.0.creator tasks t.0.slot ≡ m t.0.creator tasks t.0.slot
+    → HasFilledTask p w m s a place t k → HasFilledTask p w n s (going d a.gathered a) place t k
+filled_goes p w m n s a d place t k slots same ((o, variables), below, filled) =
+    (loaded_goes p n s a d place (slots place o, variables), below, subst (λ (r : Rec). (j : ℕ) → j < k → r (number (task_plan w (new_task p a) j).field) (task_plan w (new_task p a) j).at ≡ (task_plan w (new_task p a) j).value) (sym same) filled)
+
+module _ (p : Program) (w : List ℕ) (m : Memory) (events : List (ℕ × Event)) (s : State) (actors : ℕ → Actor) (i : ℕ) (before : Before p w m events s actors i) (place : Option ℕ) (t : Tid) where
+  -- the words of a record in the making
+  making : (C : TaskCounter) → (actors i).counter ≡ counter.Task C → (owed (actors i)).tasks ≡ t ∷ [] → IsInTheMaking i (s.tasks i) t.0
+  making C at is = All-head (λ (k : Tid). IsInTheMaking i (s.tasks i) k.0) t [] (subst (λ (ks : List Tid). All (λ k. IsInTheMaking i (s.tasks i) k.0) ks) is (before.rule.words.made i before.known).making.tasks)
+
+  -- ---- in the region
+
+  module _ (at : (actors i).counter ≡ counter.Task (task.AddPending place t)) where
+    abbrev C : TaskCounter
+    C = task.AddPending place t
+
+    abbrev n : Rid
+    n = (actors i).context.region
+
+    abbrev X : RecordWord
+    X = record { creator = (actors i).context.region.0.creator; slot = (actors i).context.region.0.slot; field = RegionPending; place = 0 }
+
+    abbrev Then : Actor
+    Then = going (task.AddChildren place t) (actors i).gathered (actors i)
+
+    abbrev N : Memory
+    N = with_region_word m (actors i).context.region RegionPending (one_more (word_of_region m (actors i).context.region RegionPending))
+
+    words : KeepsWords w N s (all_owed (put actors i Then))
+    words =
+        let o : owed (actors i) ≡ in_the_making t = owes p w m events s actors i before C at in
+        let here = context p w m events s actors i before C at in
+        let counted = (region_kept p w m events s actors before.rule n here.region here.found).pending in
+        let most = pending_few w s before.valid before.rule.within.count (all_owed actors) n in
+        let few : word_of_region m n RegionPending < 2 ^ 57 = omega (arith, counted, most) in
+        owed_after w N s actors i Then (record (in_the_making t) { pending = Some n }) refl
+        (subst (λ (x : Owed). KeepsWords w N s (put (all_owed actors) i (record x { pending = Some n }))) o
+        (pending_adds_keep w m s (all_owed actors) i n before.rule.words before.known (ap (λ (x : Owed). x.pending) o) (subst IsSome (sym here.found) refl) few))
+
+    pub pending_keeps : StepKeeps p w m events s actors i (making_next p w (actors i) C) (λ old. (making_moved p w (actors i) C old, making_outcome w (actors i) C old))
+    pending_keeps =
+        let here = context p w m events s actors i before C at in (
+          X,
+          record { there = record { field = record { from = omega arith; to = omega arith }; record_slot = (context_placed p w m events s actors i before C at).region; within = omega arith }; address = refl },
+          quiet_keeps p w m events s actors i before (op.Add (of_region w n RegionPending) 1) X (Then, outcome.Quiet) refl words
+              (λ j other. spares_region m s n here.region RegionPending 0 (one_more (word_of_region m n RegionPending)) j (actors j) here.found (inl (λ same. absurd (omega (arith, same)))))
+              (goes_on p w m events s actors i before C at N (task.AddChildren place t) (actors i).gathered (own p w m events s actors i before C at).fits.variables refl
+              (fits p w m events s actors i before C at) (placed p w m events s actors i before C at)
+              (filled_goes p w m N s (actors i) (task.AddChildren place t) place t TASK_WORDS slots_stay
+              (record_stays m n.0.creator regions n.0.slot (number RegionPending) 0 (one_more (word_of_region m n RegionPending)) t.0.creator tasks t.0.slot (λ _ kind _. absurd (omega (arith, kind))))
+              (row p w m events s actors i before C at))),
+        )
+      where
+        slots_stay : (q : Option ℕ) → HasPlace p m (actors i) q → HasPlace p N (actors i) q
+        slots_stay None o = tt
+        slots_stay (Some j) (defers, empty) =
+            (defers, word_stays m n.0.creator regions n.0.slot (number RegionPending) 0 (one_more (word_of_region m n RegionPending)) (actors i).context.row.0.creator tasks (actors i).context.row.0.slot (number TaskSlots) j (λ _ kind _ _ _. absurd (omega (arith, kind))) ∙ empty)
+
+  -- ---- in the task that makes it
+
+  module _ (at : (actors i).counter ≡ counter.Task (task.AddChildren place t)) where
+    abbrev D : TaskCounter
+    D = task.AddChildren place t
+
+    abbrev k : Tid
+    k = (actors i).context.task
+
+    abbrev Y : RecordWord
+    Y = record { creator = (actors i).context.task.0.creator; slot = (actors i).context.task.0.slot; field = TaskChildren; place = 0 }
+
+    abbrev After : Memory
+    After = with_task_word m (actors i).context.task TaskChildren (one_more (word_of_task m (actors i).context.task TaskChildren))
+
+    raised : (b : Actor) → owed b ≡ with_raises (actors i).context t → KeepsWords w After s (all_owed (put actors i b))
+    raised b is =
+        let o : owed (actors i) ≡ record (in_the_making t) { pending = Some (actors i).context.region } = owes p w m events s actors i before D at in
+        let here = context p w m events s actors i before D at in
+        let counted = (task_kept p w m events s actors before.rule k here.task here.live).counts.children in
+        let most = children_few w s before.valid before.rule.within.count (all_owed actors) k in
+        let few : word_of_task m k TaskChildren < 2 ^ 57 = omega (arith, counted, most) in
+        owed_after w After s actors i b (with_raises (actors i).context t) is
+        (subst (λ (x : Owed). KeepsWords w After s (put (all_owed actors) i (record x { raised = Some k }))) o
+        (children_adds_keep w m s (all_owed actors) i k before.rule.words before.known (ap (λ (x : Owed). x.raised) o) (subst IsSome (sym here.live) refl) few))
+
+    slots_stay : (q : Option ℕ) → HasPlace p m (actors i) q → HasPlace p After (actors i) q
+    slots_stay None o = tt
+    slots_stay (Some j) (defers, empty) =
+        (defers, word_stays m k.0.creator tasks k.0.slot (number TaskChildren) 0 (one_more (word_of_task m k TaskChildren)) (actors i).context.row.0.creator tasks (actors i).context.row.0.slot (number TaskSlots) j (λ _ _ _ field _. absurd (omega (arith, field))) ∙ empty)
+
+    record_same : After t.0.creator tasks t.0.slot ≡ m t.0.creator tasks t.0.slot
+    record_same =
+        let here = context p w m events s actors i before D at in
+        let free = making D at (ap (λ (x : Owed). x.tasks) (owes p w m events s actors i before D at)) in
+        record_stays m k.0.creator tasks k.0.slot (number TaskChildren) 0 (one_more (word_of_task m k TaskChildren)) t.0.creator tasks t.0.slot
+        (λ c _ slot. none_some (subst (λ x. (s.tasks x k.0.slot).live ≡ None) (sym free.maker ∙ c) (subst (λ x. (s.tasks i x).live ≡ None) slot free.free)) (found_live k.0.generation (s.tasks k.0.creator k.0.slot) here.task here.live))
+
+    pub children_keeps : StepKeeps p w m events s actors i (making_next p w (actors i) D) (λ old. (making_moved p w (actors i) D old, making_outcome w (actors i) D old))
+    children_keeps = (
+      Y,
+      record { there = record { field = record { from = omega arith; to = omega arith }; record_slot = (context_placed p w m events s actors i before D at).task; within = omega arith }; address = refl },
+      go place refl,
+    )
+      where
+        step : (d : TaskCounter) → owed (going d (actors i).gathered (actors i)) ≡ with_raises (actors i).context t → task_ahead p (encounter_of s (actors i).context) (actors i).stack d ≡ task_ahead p (encounter_of s (actors i).context) (actors i).stack D
+            → FitsTask p (going d (actors i).gathered (actors i)) d → IsPlacedTask w d → KeepsTaskRow p w After s i (going d (actors i).gathered (actors i)) d → KeepsRule p w m events s actors i (op.Add (of_task w k TaskChildren) 1) Y (to_task d (actors i), outcome.Quiet)
+        step d is ahead fits_there placed_there row_there =
+            let here = context p w m events s actors i before D at in
+            quiet_keeps p w m events s actors i before (op.Add (of_task w k TaskChildren) 1) Y (to_task d (actors i), outcome.Quiet) refl (raised (to_task d (actors i)) is)
+            (λ j other. spares_begun m s k here.task TaskChildren 0 (one_more (word_of_task m k TaskChildren)) i j (actors j) here.live here.begun here.thread other)
+            (goes_on p w m events s actors i before D at After d (actors i).gathered (own p w m events s actors i before D at).fits.variables ahead fits_there placed_there row_there)
+
+        now : (d : TaskCounter) → HasFilledTask p w After s (going d (actors i).gathered (actors i)) place t TASK_WORDS
+        now d = filled_goes p w m After s (actors i) d place t TASK_WORDS slots_stay record_same (row p w m events s actors i before D at)
+
+        go : (q : Option ℕ) → place ≡ q → KeepsRule p w m events s actors i (op.Add (of_task w k TaskChildren) 1) Y (to_task (behind_raises q t) (actors i), outcome.Quiet)
+        go None e =
+            step (task.StartNow t) refl (ap (Ahead.making p (encounter_of s (actors i).context) (actors i).stack) (sym e))
+            (subst (λ (q : Option ℕ). IsTaskGot p (actors i) q t) e (fits p w m events s actors i before D at)) (placed p w m events s actors i before D at)
+            (subst (λ (q : Option ℕ). HasFilledTask p w After s (going (task.StartNow t) (actors i).gathered (actors i)) q t TASK_WORDS) e (now (task.StartNow t)))
+        go (Some j) e =
+            step (task.Defer j t) refl (ap (Ahead.making p (encounter_of s (actors i).context) (actors i).stack) (sym e))
+            (subst (λ (q : Option ℕ). IsTaskGot p (actors i) q t) e (fits p w m events s actors i before D at)) (placed p w m events s actors i before D at)
+            (subst (λ (q : Option ℕ). HasFilledTask p w After s (going (task.Defer j t) (actors i).gathered (actors i)) q t TASK_WORDS) e (now (task.Defer j t)))

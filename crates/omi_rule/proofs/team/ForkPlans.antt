@@ -1,0 +1,109 @@
+-- The records that were filled for a fork are those of the region and of the members' tasks that it makes.
+use Rattle.std.proofs.Common.{◌≡◌, ◌+◌, ◌-◌, ◌^◌, ◌==◌, ◌<◌, ◌≤◌, nat_lt, ℕ, zero, suc, Bool, true, false, List, [], ◌∷◌, length, slice_get, Some, refl, sym, ap, ◌∙◌, arith, eqb-true, if◌then◌else◌}
+use Rattle.std.proofs.lemmas.Option.{slice_get_within}
+use Rattle.omi_script.specs.declared.program.Program.{Program}
+use Rattle.omi_model.specs.declared.id.Rid.{Rid}
+use Rattle.omi_model.specs.declared.id.Tid.{Tid}
+use Rattle.omi_model.specs.declared.region.Region.{Region}
+use Rattle.omi_model.specs.declared.task.Task.{Task}
+use Rattle.omi_model.specs.Opening.{exit_frame}
+use Rattle.omi_model.specs.Teams.{member_task, new_region, shortened}
+use Rattle.omi_layout.specs.declared.field.Field.TheVariants.{RegionTeam, TaskNthreads, TaskSlots}
+use Rattle.omi_layout.specs.Codes.{exit_word, function_word}
+use Rattle.omi_layout.specs.Memory.{Rec}
+use Rattle.omi_layout.specs.Named.{number}
+use Rattle.omi_layout.specs.Table.{width}
+use Rattle.omi_pc.specs.declared.actor.Actor.{Actor}
+use Rattle.omi_pc.specs.declared.limits.TheConstants.{REGION_WORDS, TASK_WORDS}
+use Rattle.omi_rep.specs.Records.{region_address, task_address, thread_address}
+use Rattle.omi_rule_words.specs.Threads.{Has}
+use Rattle.omi_rule_words.specs.TeamKinds.{MemberIsFilled, RegionIsFilled}
+use Rattle.omi_step_words.specs.Members.{member_of}
+use Rattle.omi_step_words.specs.Plan.{inherited_words, region_plan, task_plan}
+use Rattle.omi_step_words.specs.Words.{plus}
+use Rattle.omi_fork.specs.TeamParts as TeamParts
+use Rattle.omi_fork.specs.TeamParts.{function_in, new_member}
+use Rattle.omi_rule.specs.Rows.{IsFilled}
+use Rattle.omi_rule.proofs.team.Inherits.{Inherits, shortened_few}
+
+-- the member at a place
+pub member_is : (xs : List (Tid × ℕ)) (j : ℕ) (y : Tid × ℕ) → slice_get xs j ≡ Some y → member_of xs j ≡ y
+member_is [] j y e = absurd (cc e)
+member_is (x ∷ xs) zero y e = cc e
+member_is (x ∷ xs) (suc j) y e = member_is xs j y e
+
+-- the thread of an encountering task, in its current region, with what it gathered
+module _ (p : Program) (w : List ℕ) (a : Actor) (n : Rid) (f : ℕ) (t : Task) (r : Region)
+    (function : TeamParts.region_function p a ≡ f) (region_is : t.region ≡ a.context.region) where
+  pub region_filled : (q : Rec) → r.levels ≡ a.gathered.levels → r.active ≡ a.gathered.active → r.levels < 2 ^ 63 → r.active < 2 ^ 63
+      → ((j : ℕ) → j < length a.gathered.team → q (number RegionTeam) j ≡ task_address w (member_of a.gathered.team j).0)
+      → IsFilled q (region_plan w (TeamParts.new_region p a)) REGION_WORDS → RegionIsFilled w q (new_region a.context.task t r a.gathered.team f)
+  region_filled q levels active low few team o = record {
+    function = o 0 (omega arith) ∙ ap function_word function;
+    enclosing = o 1 (omega arith) ∙ ap (region_address w) (sym region_is);
+    encountering = o 2 (omega arith);
+    size = o 3 (omega arith);
+    levels = o 4 (omega arith) ∙ ap (λ k. plus k 1) (sym levels) ∙ small r.levels 1 low (omega arith);
+    active = o 5 (omega arith) ∙ ap (λ k. plus k (if nat_lt 1 (length a.gathered.team) then 1 else 0)) (sym active) ∙ small r.active _ few (one (nat_lt 1 (length a.gathered.team)));
+    team = λ j m at. team j (slice_get_within a.gathered.team j m at) ∙ ap (λ (y : Tid × ℕ). task_address w y.0) (member_is a.gathered.team j m at);
+    released = o 6 (omega arith);
+    arrived = o 7 (omega arith);
+    pending = o 8 (omega arith);
+    left = o 9 (omega arith);
+  }
+    where
+      small : (k by : ℕ) → k < 2 ^ 63 → by ≤ 1 → plus k by ≡ k + by
+      small k by less step = omega (arith, less, step)
+
+      one : (b : Bool) → (if b then 1 else 0) ≤ 1
+      one true = omega arith
+      one false = omega arith
+
+  pub member_filled : (q : Rec) (j : ℕ) (m : Tid × ℕ) → member_of a.gathered.team j ≡ m → (j ≡ 0 → t.exit ≡ exit_frame m.1 a.context.depth) → Inherits (inherited_words a.gathered.variables) t.variables → length t.variables.nthreads ≤ 4
+      → IsFilled q (task_plan w (new_member p a n j)) TASK_WORDS → MemberIsFilled w q (member_task p n a.context.task t r f j m.1)
+  member_filled q j m at exit inherits few o = record {
+    environment = record {
+      implicit = o 0 (omega arith);
+      region = o 1 (omega arith);
+      generating = o 4 (omega arith);
+      function = o 6 (omega arith) ∙ ap function_word function;
+      dynamic = o 9 (omega arith) ∙ inherits.dynamic;
+      nthreads_length = o 10 (omega arith) ∙ inherits.size;
+      schedule = o 11 (omega arith) ∙ inherits.schedule;
+      device = o 12 (omega arith) ∙ inherits.device;
+      final = o 13 (omega arith);
+      tool = o 14 (omega arith);
+      nthreads = elements;
+    };
+    place = record {
+      thread = o 2 (omega arith) ∙ ap (λ (y : Tid × ℕ). thread_address w y.1) at;
+      member = o 3 (omega arith);
+      scheduling = o 5 (omega arith);
+      exit = o 7 (omega arith) ∙ ap (λ (y : Tid × ℕ). exit_word y.1 (TeamParts.member_depth a j)) at ∙ go (j == 0) refl;
+      enter = o 8 (omega arith);
+    };
+    children = o 15 (omega arith);
+    references = o 16 (omega arith);
+    slots = slots;
+  }
+    where
+      elements : (k x : ℕ) → slice_get (shortened t.variables.nthreads) k ≡ Some x → Has q TaskNthreads k x
+      elements zero x there = o 17 (omega arith) ∙ inherits.elements 0 x there
+      elements (suc zero) x there = o 18 (omega arith) ∙ inherits.elements 1 x there
+      elements (suc (suc zero)) x there = o 19 (omega arith) ∙ inherits.elements 2 x there
+      elements (suc (suc (suc zero))) x there = o 20 (omega arith) ∙ inherits.elements 3 x there
+      elements (suc (suc (suc (suc k)))) x there =
+          let within : suc (suc (suc (suc k))) < length (shortened t.variables.nthreads) = slice_get_within (shortened t.variables.nthreads) (suc (suc (suc (suc k)))) x there in
+          let most = shortened_few t.variables.nthreads few in
+          absurd (omega (arith, within, most))
+
+      slots : (place : ℕ) → place < width w (number TaskSlots) → Has q TaskSlots place 0
+      slots zero within = o 21 (omega arith)
+      slots (suc zero) within = o 22 (omega arith)
+      slots (suc (suc zero)) within = o 23 (omega arith)
+      slots (suc (suc (suc zero))) within = o 24 (omega arith)
+      slots (suc (suc (suc (suc k)))) within = absurd (omega (arith, within))
+
+      go : (b : Bool) → j == 0 ≡ b → exit_word m.1 (if b then a.context.depth + 1 else 1) ≡ (if b then t.exit - 64 else exit_frame m.1 1)
+      go true e = let is = exit (eqb-true j 0 e) in omega (arith, is)
+      go false e = refl

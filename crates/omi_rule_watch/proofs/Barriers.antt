@@ -1,0 +1,220 @@
+-- The steps of a barrier, and of the end of an explicit task.
+use Rattle.std.proofs.Common.{◌≡◌, ◌≢◌, ◌<◌, ◌==◌, ltb-true, ℕ, zero, suc, Bool, true, false, List, [], ◌∷◌, Option, Some, None, refl, ap, ◌∙◌, arith, if◌then◌else◌}
+use Rattle.omi_word.specs.declared.op.Op.TheVariants as op
+use Rattle.omi_script.specs.declared.program.Program.{Program}
+use Rattle.omi_model.specs.declared.event.Event.{Event}
+use Rattle.omi_model.specs.declared.event.Event.TheVariants as event
+use Rattle.omi_model.specs.declared.region.Region.{Region}
+use Rattle.omi_model.specs.State.{State}
+use Rattle.omi_model.proofs.Slots.{some_same}
+use Rattle.omi_layout.specs.declared.field.Field.TheVariants.{RegionArrived, RegionPending, RegionReleased, TaskGenerating}
+use Rattle.omi_layout.specs.Field.{regions, tasks}
+use Rattle.omi_layout.specs.Memory.{Memory}
+use Rattle.omi_layout.specs.Named.{number}
+use Rattle.omi_pc.specs.declared.actor.Actor.{Actor}
+use Rattle.omi_pc.specs.declared.counter.Counter.{Counter}
+use Rattle.omi_pc.specs.declared.counter.Counter.TheVariants as counter
+use Rattle.omi_pc.specs.declared.counter.PlainCounter.TheVariants as plain
+use Rattle.omi_pc.specs.declared.frame.Barrier.{Barrier}
+use Rattle.omi_pc.specs.declared.frame.Barrier.TheVariants.{Explicit, Implicit}
+use Rattle.omi_pc.specs.declared.frame.Frame.{Frame}
+use Rattle.omi_pc.specs.declared.frame.Opened.{Opened}
+use Rattle.omi_pc.specs.declared.frame.Opened.TheVariants as opened
+use Rattle.omi_pc.specs.declared.frame.Wait.{Wait}
+use Rattle.omi_pc.specs.declared.frame.Wait.TheVariants as wait
+use Rattle.omi_pc.specs.declared.task_counter.FinishCounter.{FinishCounter}
+use Rattle.omi_pc.specs.declared.task_counter.FinishCounter.TheVariants as finish
+use Rattle.omi_pc.specs.declared.task_counter.LookCounter.TheVariants as look
+use Rattle.omi_pc.specs.declared.team_counter.BarrierCounter.{BarrierCounter}
+use Rattle.omi_pc.specs.declared.team_counter.BarrierCounter.TheVariants as barrier
+use Rattle.omi_pc.specs.declared.team_counter.JoinCounter.TheVariants as join
+use Rattle.omi_pc.specs.declared.team_counter.WorkerCounter.TheVariants as worker
+use Rattle.omi_pc.specs.Fits.{slots_of}
+use Rattle.omi_pc.specs.OpenBodies.{IsAtBarrier, IsAtEnd, IsMember}
+use Rattle.omi_rep.specs.declared.outcome.Outcome.TheVariants as outcome
+use Rattle.omi_step_words.specs.Moving.{to_barrier}
+use Rattle.omi_fork.specs.BarrierSteps.{arrived, barrier_moved, barrier_next, barrier_outcome, behind_member_end, ended_in, is_closed, looking, of_current, passed, some_missing}
+use Rattle.omi_task.specs.FinishSteps.{behind_finish, finish_moved, finish_next, finish_outcome}
+use Rattle.omi_rule.specs.Rows.{HasReleased}
+use Rattle.omi_rule.specs.Steps.{IsOn, RecordWord, found_in}
+use Rattle.omi_rule.specs.StepsKeep.{IsFinishKept}
+use Rattle.omi_rule.proofs.Assembly.{Before}
+use Rattle.omi_rule.proofs.barrier.AtBarrier.{fits_barrier, row}
+use Rattle.omi_rule.proofs.barrier.AtCounter.{context_placed, here, keeps_region, placed_counter}
+use Rattle.omi_rule_watch.specs.Given.{Has, HasAll, IsLookGiven, IsSearchGiven, region_found, task_found}
+use Rattle.omi_rule_watch.specs.Watch.{Look, Watch}
+use Rattle.omi_rule_watch.proofs.Parts.{IsCalm, KeepsParts, PartsKeep, calm_at, event_parts, event_rests, look_stays, quiet_parts, quiet_rests, waits_parts}
+use Rattle.omi_rule_watch.proofs.Resting.{Rests, rests_join, rests_plain, rests_worker, rests_working}
+use Rattle.omi_rule_watch.proofs.Standing.{record_word, some_word, word_of}
+use Rattle.omi_rule_watch.proofs.Waits.{all_slots, some_body}
+
+rests_barrier : (c : BarrierCounter) → ((a : Actor) (h : Look) → IsLookGiven a (counter.Barrier c) h) → Rests (counter.Barrier c)
+rests_barrier c given = record { region = refl; task = refl; look = given }
+
+module _ (p : Program) (w : List ℕ) (m : Memory) (events : List (ℕ × Event)) (s : State) (actors : ℕ → Actor) (i : ℕ) (before : Before p w m events s actors i) (h : Watch) where
+  abbrev a : Actor
+  a = actors i
+
+  -- ---- barriers
+
+  module _ (c : BarrierCounter) (at : (actors i).counter ≡ counter.Barrier c) (given : IsSearchGiven (actors i) (counter.Barrier c) h.search) where
+    calm : IsCalm h.search
+    calm = calm_at a (counter.Barrier c) h.search refl refl refl given
+
+    any : (x : RecordWord) × IsOn w (barrier_next w (actors i) c) x
+    any = some_word p w m events s actors i before (counter.Barrier c) at tt
+
+  module _ (b : Barrier) (at : (actors i).counter ≡ counter.Barrier (barrier.LoadArrived b)) (given : IsSearchGiven (actors i) (counter.Barrier (barrier.LoadArrived b)) h.search) (has : HasAll (actors i) h.look) where
+    abbrev on_arrived : RecordWord
+    on_arrived = word_of a.context.region.0.creator a.context.region.0.slot RegionArrived
+
+    by_missing : (d : Bool) → KeepsParts w m s i (op.Load (of_current w a RegionArrived)) on_arrived
+        (if d then looking b a else to_barrier (barrier.LoadPending b) a, if d then outcome.NotReady (of_current w a RegionArrived) (found_in m on_arrived) else outcome.Quiet) h
+    by_missing true = waits_parts w m s i _ on_arrived (looking b a) h (calm (barrier.LoadArrived b) at given) _ _ refl refl refl refl (λ waits. all_slots p w m events s actors i before (counter.Barrier (barrier.LoadArrived b)) at tt h.look has) (record { looked = refl; seen = refl })
+    by_missing false = quiet_parts w m s i (op.Load (of_current w a RegionArrived)) on_arrived (to_barrier (barrier.LoadPending b) a) h (calm (barrier.LoadArrived b) at given) refl refl refl refl (look_stays w s i on_arrived (op.Load (of_current w a RegionArrived)) (found_in m on_arrived) (slots_of a) h.look has (λ k. refl))
+
+    load_arrived : PartsKeep w m s i (barrier_next w (actors i) (barrier.LoadArrived b)) (λ old. (barrier_moved p (actors i) (barrier.LoadArrived b) old, barrier_outcome w (actors i) (barrier.LoadArrived b) old)) h
+    load_arrived = (
+      on_arrived,
+      record { there = record_word p w m events s actors i before regions a.context.region.0.creator a.context.region.0.slot RegionArrived refl (context_placed p w m events s actors i before (counter.Barrier (barrier.LoadArrived b)) at tt).region; address = refl },
+      by_missing (some_missing a (found_in m on_arrived)),
+    )
+
+  module _ (b : Barrier) (at : (actors i).counter ≡ counter.Barrier (barrier.LoadPending b)) (given : IsSearchGiven (actors i) (counter.Barrier (barrier.LoadPending b)) h.search) (has : HasAll (actors i) h.look) where
+    abbrev on_pending : RecordWord
+    on_pending = word_of a.context.region.0.creator a.context.region.0.slot RegionPending
+
+    by_pending : (d : Bool) → KeepsParts w m s i (op.Load (of_current w a RegionPending)) on_pending
+        (if d then to_barrier (barrier.Release b) a else looking b a, if d then outcome.Quiet else outcome.NotReady (of_current w a RegionPending) (found_in m on_pending)) h
+    by_pending true = quiet_rests w m s i _ on_pending (to_barrier (barrier.Release b) a) h (calm (barrier.LoadPending b) at given) refl refl (rests_barrier (barrier.Release b) (λ a h. tt))
+    by_pending false = waits_parts w m s i _ on_pending (looking b a) h (calm (barrier.LoadPending b) at given) _ _ refl refl refl refl (λ waits. all_slots p w m events s actors i before (counter.Barrier (barrier.LoadPending b)) at tt h.look has) (record { looked = refl; seen = refl })
+
+    load_pending : PartsKeep w m s i (barrier_next w (actors i) (barrier.LoadPending b)) (λ old. (barrier_moved p (actors i) (barrier.LoadPending b) old, barrier_outcome w (actors i) (barrier.LoadPending b) old)) h
+    load_pending = (
+      on_pending,
+      record { there = record_word p w m events s actors i before regions a.context.region.0.creator a.context.region.0.slot RegionPending refl (context_placed p w m events s actors i before (counter.Barrier (barrier.LoadPending b)) at tt).region; address = refl },
+      by_pending (found_in m on_pending == 0),
+    )
+
+  module _ (b : Barrier) (at : (actors i).counter ≡ counter.Barrier (barrier.LoadReleased b)) (given : IsSearchGiven (actors i) (counter.Barrier (barrier.LoadReleased b)) h.search) (has : (actors i).context.number ≢ 0 → HasAll (actors i) h.look) where
+    abbrev on_released : RecordWord
+    on_released = word_of a.context.region.0.creator a.context.region.0.slot RegionReleased
+
+    abbrev word : ℕ
+    word = m a.context.region.0.creator regions a.context.region.0.slot (number RegionReleased) 0
+
+    -- member 0 has released the barrier
+    no_wait : (n : ℕ) → n ≡ 0 → HasReleased s a n → word < a.context.arrivals → ⊥
+    no_wait zero first (r, there, is) less =
+        let o = here p w m events s actors i before (counter.Barrier (barrier.LoadReleased b)) at tt in
+        let one : o.region ≡ r = some_same o.found there in
+        let stands = (keeps_region p w m events s actors i before (counter.Barrier (barrier.LoadReleased b)) at tt).released in
+        let all : o.region.released ≡ a.context.arrivals = ap (λ (x : Region). x.released) one ∙ is in
+        omega (arith, stands, all, less)
+    no_wait (suc n) first released less = omega (arith, first)
+
+    -- behind the barrier
+    rests_end : (o : Opened) → IsMember o → (c : Counter) → Rests (behind_member_end o c)
+    rests_end opened.Main is c = rests_plain plain.Done
+    rests_end opened.Worker is c = rests_worker worker.ImplicitEnd
+    rests_end (opened.Master saved) is c = rests_join join.LoadLeft
+    rests_end o is c = absurd is
+
+    rests_passed : (x : Barrier) → IsAtBarrier p a.stack x → Rests (passed p x a).counter
+    rests_passed Explicit waits = rests_working p a (some_body p w m events s actors i before (counter.Barrier (barrier.LoadReleased b)) at tt)
+    rests_passed Implicit waits = go a.stack waits
+      where
+        go : (fs : List Frame) → IsAtEnd p IsMember fs → Rests (ended_in fs a).counter
+        go [] none = absurd none
+        go (f ∷ fs) is = rests_end f.opened is.1 a.counter
+
+    by_closed : (d : Bool) → is_closed a word ≡ d → KeepsParts w m s i (op.Load (of_current w a RegionReleased)) on_released
+        (if d then looking b a else passed p b a, if d then outcome.NotReady (of_current w a RegionReleased) word else outcome.Event event.Pass) h
+    by_closed true closed =
+        let other : a.context.number ≢ 0 = λ first. no_wait a.context.number first (row p w m events s actors i before (barrier.LoadReleased b) at) (ltb-true word a.context.arrivals closed) in
+        waits_parts w m s i _ on_released (looking b a) h (calm (barrier.LoadReleased b) at given) _ _ refl refl refl refl (λ waits. all_slots p w m events s actors i before (counter.Barrier (barrier.LoadReleased b)) at tt h.look (has other)) (record { looked = refl; seen = refl })
+    by_closed false past = event_rests w m s i _ on_released (passed p b a) h (calm (barrier.LoadReleased b) at given) _ (rests_passed b (fits_barrier p w m events s actors i before (barrier.LoadReleased b) at).0)
+
+    load_released : PartsKeep w m s i (barrier_next w (actors i) (barrier.LoadReleased b)) (λ old. (barrier_moved p (actors i) (barrier.LoadReleased b) old, barrier_outcome w (actors i) (barrier.LoadReleased b) old)) h
+    load_released = (
+      on_released,
+      record { there = record_word p w m events s actors i before regions a.context.region.0.creator a.context.region.0.slot RegionReleased refl (context_placed p w m events s actors i before (counter.Barrier (barrier.LoadReleased b)) at tt).region; address = refl },
+      by_closed (is_closed a word) refl,
+    )
+
+  pub barrier_parts : (c : BarrierCounter) (at : (actors i).counter ≡ counter.Barrier c) → IsSearchGiven (actors i) (counter.Barrier c) h.search → IsLookGiven (actors i) (counter.Barrier c) h.look
+      → PartsKeep w m s i (barrier_next w (actors i) c) (λ old. (barrier_moved p (actors i) c old, barrier_outcome w (actors i) c old)) h
+  barrier_parts (barrier.State b) at given has =
+      let (x, on) = any (barrier.State b) at given in
+      (x, on, event_rests w m s i _ x _ h (calm (barrier.State b) at given) _ (rests_barrier (barrier.Arrive b) (λ a h. tt)))
+  barrier_parts (barrier.Arrive b) at given has =
+      let (x, on) = any (barrier.Arrive b) at given in
+      (x, on, event_parts w m s i _ x (looking b (arrived a)) h (calm (barrier.Arrive b) at given) _ refl refl (record { looked = refl; seen = refl }))
+  barrier_parts (barrier.LoadArrived b) at given has = load_arrived b at given has
+  barrier_parts (barrier.LoadPending b) at given has = load_pending b at given has
+  barrier_parts (barrier.Release b) at given has =
+      let (x, on) = any (barrier.Release b) at given in
+      (x, on, event_parts w m s i _ x (to_barrier (barrier.LoadReleased b) a) h (calm (barrier.Release b) at given) _ refl refl (λ other. absurd (other (fits_barrier p w m events s actors i before (barrier.Release b) at).1)))
+  barrier_parts (barrier.LoadReleased b) at given has = load_released b at given has
+
+  -- ---- the end of an explicit task
+
+  module _ (c : FinishCounter) (at : (actors i).counter ≡ counter.Finish c) (kept : IsFinishKept c) (given : IsSearchGiven (actors i) (counter.Finish c) h.search) where
+    calm_finish : IsCalm h.search
+    calm_finish = calm_at a (counter.Finish c) h.search refl refl refl given
+
+    some : (x : RecordWord) × IsOn w (finish_next w (actors i) c) x
+    some = some_word p w m events s actors i before (counter.Finish c) at kept
+
+  -- the wait goes on, with a new look
+  back_calm : (v : Option Wait) → (region_found (behind_finish p v) ≡ None) × (task_found (behind_finish p v) ≡ None)
+  back_calm None = (refl, refl)
+  back_calm (Some wait.Taskyield) = (refl, refl)
+  back_calm (Some wait.Taskwait) = (refl, refl)
+  back_calm (Some (wait.Barrier b)) = (refl, refl)
+
+  back_given : (b : Actor) (l : Look) → Has l 0 None → (v : Option Wait) → IsLookGiven b (behind_finish p v) l
+  back_given b l has None = tt
+  back_given b l has (Some wait.Taskyield) = tt
+  back_given b l has (Some wait.Taskwait) = go p.env.debug
+    where
+      go : (d : Bool) → IsLookGiven b (counter.Look (if d then look.State wait.Taskwait else look.LoadRow wait.Taskwait 0)) l
+      go true = tt
+      go false = has
+  back_given b l has (Some (wait.Barrier k)) = go p.env.debug
+    where
+      go : (d : Bool) → IsLookGiven b (counter.Look (if d then look.State (wait.Barrier k) else look.LoadRow (wait.Barrier k) 0)) l
+      go true = tt
+      go false = has
+
+  pub finish_parts : (c : FinishCounter) (at : (actors i).counter ≡ counter.Finish c) → IsFinishKept c → IsSearchGiven (actors i) (counter.Finish c) h.search → IsLookGiven (actors i) (counter.Finish c) h.look
+      → PartsKeep w m s i (finish_next w (actors i) c) (λ old. (finish_moved p w (actors i) c old, finish_outcome (actors i) c)) h
+  finish_parts finish.Finish at kept given has =
+      let (x, on) = some finish.Finish at tt given in
+      (x, on, event_parts w m s i _ x _ h (calm_finish finish.Finish at tt given) _ refl refl (record { looked = refl; seen = refl }))
+  finish_parts (finish.LoadGenerating v t) at kept given has =
+      let x = word_of t.0.creator t.0.slot TaskGenerating in (
+        x,
+        record { there = record_word p w m events s actors i before tasks t.0.creator t.0.slot TaskGenerating refl (placed_counter p w m events s actors i before (counter.Finish (finish.LoadGenerating v t)) at tt); address = refl },
+        quiet_parts w m s i (finish_next w (actors i) (finish.LoadGenerating v t)) x _ h (calm_finish (finish.LoadGenerating v t) at tt given) refl refl refl refl (look_stays w s i x (finish_next w (actors i) (finish.LoadGenerating v t)) (found_in m x) 0 h.look has (λ k. refl)),
+      )
+  finish_parts (finish.SubtractChildren v t generating) at kept given has =
+      let (x, on) = some (finish.SubtractChildren v t generating) at tt given in (
+        x,
+        on,
+        quiet_parts w m s i (finish_next w (actors i) (finish.SubtractChildren v t generating)) x _ h (calm_finish (finish.SubtractChildren v t generating) at tt given) refl refl refl refl (look_stays w s i x (finish_next w (actors i) (finish.SubtractChildren v t generating)) (found_in m x) 0 h.look has (λ k. refl)),
+      )
+  finish_parts (finish.SubtractPending v) at kept given has =
+      let (x, on) = some (finish.SubtractPending v) at tt given in
+      let (no_region, no_task) = back_calm v in (
+        x,
+        on,
+        quiet_parts w m s i (finish_next w (actors i) (finish.SubtractPending v)) x (record a { counter = behind_finish p v }) h (calm_finish (finish.SubtractPending v) at tt given) refl refl no_region no_task
+            (back_given (record a { counter = behind_finish p v }) _ (look_stays w s i x (finish_next w (actors i) (finish.SubtractPending v)) (found_in m x) 0 h.look has (λ k. refl)) v),
+      )
+  finish_parts (finish.SubtractReferences v t generating) at kept given has = absurd kept
+  finish_parts (finish.Free v t generating) at kept given has = absurd kept
+  finish_parts (finish.LoadImplicit v generating) at kept given has = absurd kept
+  finish_parts (finish.LoadNext v generating) at kept given has = absurd kept
+  finish_parts (finish.LoadLife v generating next) at kept given has = absurd kept
+  finish_parts (finish.SubtractGenerating v generating explicit) at kept given has = absurd kept

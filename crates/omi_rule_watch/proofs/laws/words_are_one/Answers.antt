@@ -1,0 +1,5 @@
+use Rattle.omi_rule_watch.proofs.Kept.{words_one}
+use Rattle.omi_rule_watch.proofs.laws.words_are_one.Goals as goal
+
+pub returns : goal.returns
+returns c = words_one

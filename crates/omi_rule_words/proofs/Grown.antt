@@ -1,0 +1,363 @@
+-- A state in which objects begin, whose records stand filled, and that counts as before with what threads owe: what is kept of words but for
+-- assign words, records in the making and hands. Nothing names new objects yet.
+use Rattle.std.proofs.Common.{◌≡◌, ◌==◌, ◌+◌, ◌&&◌, ◌<◌, ◌-◌, ℕ, Bool, true, false, inl, inr, List, Option, Some, None, refl, sym, ap, subst, ◌∙◌, arith, eq-eqb, if◌then◌else◌}
+use Rattle.std.specs.Prelude.{◌⊎◌, All, IsSome, MatchBool, get_or}
+use Rattle.std.specs.Option.{option_and_then}
+use Rattle.std.proofs.lemmas.Bool.Decides.{nat_tests}
+use Rattle.std.proofs.lemmas.Option.{slice_get-get_or}
+use Rattle.omi_model.specs.declared.id.Rid.{Rid}
+use Rattle.omi_model.specs.declared.id.Tid.{Tid}
+use Rattle.omi_model.specs.declared.progress.Progress.TheVariants as progress
+use Rattle.omi_model.specs.declared.region.Region.{Region}
+use Rattle.omi_model.specs.declared.slot.Slot.{Slot}
+use Rattle.omi_model.specs.declared.task.Task.{Task}
+use Rattle.omi_model.specs.LawNames.{AreNamesLive}
+use Rattle.omi_model.specs.Put.{Slots}
+use Rattle.omi_model.specs.State.{State, region_of, task_of}
+use Rattle.omi_model.specs.Visible.{HasStarted, IsVisibleRegion, IsVisibleTask}
+use Rattle.omi_model.proofs.Slots.{some_same}
+use Rattle.omi_layout.specs.declared.field.Field.TheVariants.{RegionLife, TaskLife, TaskSlots}
+use Rattle.omi_layout.specs.Field.{threads, regions, tasks}
+use Rattle.omi_layout.specs.Memory.{Rec, Memory}
+use Rattle.omi_layout.specs.Table.{per_thread}
+use Rattle.omi_rule_words.specs.Owes.{Owed}
+use Rattle.omi_rule_words.specs.Counts.{children_owed, generating_of, has_region_slot, has_slot, is_region, is_some_region, is_some_task, is_task, is_unfinished, left_owed, of_live, one, pending_owed, sum_below, sum_of_owed, sum_of_slots, unfinished_children, unfinished_in}
+use Rattle.omi_rule_words.specs.Threads.{Has, KeepsAssign, WaitsFor}
+use Rattle.omi_rule_words.specs.Objects.{IsDeferredIn, KeepsCounts, KeepsDeferred, KeepsLife, KeepsRegion, KeepsSlots, slot_word}
+use Rattle.omi_rule_words.specs.Words.{HasFinished, KeepsMaking, KeepsRegionSlot, KeepsTask, KeepsTaskSlot, KeepsWords, OwesOnLive, region_in, task_in}
+use Rattle.omi_rule_words.proofs.Begun.{Grows, IsNew, NewRegion, NewTask, begun_life, found_stays, found_was, none_found, one_none, some_found, some_stays}
+use Rattle.omi_rule_words.proofs.OtherOwes.{OwesAlike}
+use Rattle.omi_rule_words.proofs.PlaceStores.{unseen}
+use Rattle.omi_rule_words.proofs.Sums.{slots_none_within, sum_none_within, sum_same, sum_same_within}
+
+-- a thread owes what it owed, or less on raises
+pub record OwesLess (p o : Owed) : Type 0 where
+  pub pending : (n : Rid) → p.pending ≡ Some n → o.pending ≡ Some n
+  pub raised : (k : Tid) → p.raised ≡ Some k → o.raised ≡ Some k
+  pub lowered : p.lowered ≡ o.lowered
+  pub left : p.left ≡ o.left
+
+pub owes_less : (p o : Owed) → OwesAlike p o → OwesLess p o
+owes_less p o alike = record { pending = λ n is. sym alike.pending ∙ is; raised = λ k is. sym alike.raised ∙ is; lowered = alike.lowered; left = alike.left }
+
+module _ (w : List ℕ) (m : Memory) (s : State) (rs : Slots Region) (ts : Slots Task) (owes other : ℕ → Owed) (Kind : Task → Type 0) (keeps : KeepsWords w m s owes) (names : AreNamesLive s) (alike : (j : ℕ) → OwesLess (other j) (owes j))
+    (region_slots : (c k : ℕ) → Grows (has_region_slot k (other c).region ≡ has_region_slot k (owes c).region) (NewRegion w (m c regions k) (has_region_slot k (owes c).region)) (s.regions c k) (rs c k))
+    (task_slots : (c k : ℕ) → Grows (has_slot k (other c).tasks ≡ has_slot k (owes c).tasks) (NewTask w (m c tasks k) (has_slot k (owes c).tasks) Kind) (s.tasks c k) (ts c k)) where
+  abbrev after : State
+  after = record s { regions = rs; tasks = ts }
+
+  abbrev NewAt : ℕ → ℕ → Task → Type 0
+  NewAt c k = NewTask w (m c tasks k) (has_slot k (owes c).tasks) Kind
+
+  -- ---- what was live is live
+
+  pub task_after : (k : Tid) (t : Task) → task_of s k ≡ Some t → task_of after k ≡ Some t
+  task_after k t is = found_stays _ (NewAt k.0.creator k.0.slot) (s.tasks k.0.creator k.0.slot) (ts k.0.creator k.0.slot) (task_slots k.0.creator k.0.slot) k.0.generation t is
+
+  pub task_before : (k : Tid) (t : Task) → task_of after k ≡ Some t → (task_of s k ≡ Some t) ⊎ IsNew (NewAt k.0.creator k.0.slot) k.0.generation (s.tasks k.0.creator k.0.slot) t
+  task_before k t is = found_was _ (NewAt k.0.creator k.0.slot) (s.tasks k.0.creator k.0.slot) (ts k.0.creator k.0.slot) (task_slots k.0.creator k.0.slot) k.0.generation t is
+
+  some_task_after : (k : Tid) → IsSome (task_of s k) → IsSome (task_of after k)
+  some_task_after k is = some_stays _ (NewAt k.0.creator k.0.slot) (s.tasks k.0.creator k.0.slot) (ts k.0.creator k.0.slot) (task_slots k.0.creator k.0.slot) k.0.generation is
+
+  region_after : (n : Rid) (x : Region) → region_of s n ≡ Some x → region_of after n ≡ Some x
+  region_after n x is = found_stays _ _ (s.regions n.0.creator n.0.slot) (rs n.0.creator n.0.slot) (region_slots n.0.creator n.0.slot) n.0.generation x is
+
+  some_region_after : (n : Rid) → IsSome (region_of s n) → IsSome (region_of after n)
+  some_region_after n is = some_stays _ _ (s.regions n.0.creator n.0.slot) (rs n.0.creator n.0.slot) (region_slots n.0.creator n.0.slot) n.0.generation is
+
+  finished_after : (k : Tid) → HasFinished s k → HasFinished after k
+  finished_after k x = record { task = x.task; live = task_after k x.task x.live; explicit = x.explicit; progress = x.progress }
+
+  generating_after : (k : Tid) → HasFinished s k → generating_of after k ≡ generating_of s k
+  generating_after k x = ap (option_and_then (λ (t : Task). t.generating)) (task_after k x.task x.live ∙ sym x.live)
+
+  pub waits_after : (i : ℕ) (k : Tid) → WaitsFor s i k → WaitsFor after i k
+  waits_after i k x = record { task = x.task; live = task_after k x.task x.live; progress = x.progress; thread = x.thread }
+
+  -- every live region is visible
+  region_seen : (n : Rid) (x : Region) → region_of s n ≡ Some x → IsVisibleRegion s n
+  region_seen n x live = record {
+    region = x;
+    live = live;
+    team = λ j d within. let member = (names.regions n x live).team j (get_or x.team j d) (slice_get-get_or x.team j d within) in some_found (task_of s (get_or x.team j d).0) member.task member.live;
+  }
+
+  task_seen : (k : Tid) (t : Task) → (s.tasks k.0.creator k.0.slot).live ≡ Some t → IsVisibleTask after k → IsVisibleTask s k
+  task_seen k t there seen = go (task_before k seen.task seen.live)
+    where
+      shown : (t : Task) → task_of s k ≡ Some t → (b : Bool) → MatchBool b (IsVisibleRegion after t.region) (HasStarted t.progress) → MatchBool b (IsVisibleRegion s t.region) (HasStarted t.progress)
+      shown t live true _ = let (x, is) = (names.tasks k t live).region in region_seen t.region x is
+      shown t live false started = started
+
+      go : (task_of s k ≡ Some seen.task) ⊎ IsNew (NewAt k.0.creator k.0.slot) k.0.generation (s.tasks k.0.creator k.0.slot) seen.task → IsVisibleTask s k
+      go (inl live) = record { task = seen.task; live = live; shown = shown seen.task live seen.task.implicit seen.shown }
+      go (inr new) = let none = new.empty in absurd (cc)
+
+  -- ---- what is counted
+
+  pub tasks_counted : (f : ℕ → ℕ → Task → ℕ) → ((c k : ℕ) (t : Task) → NewAt c k t → f c k t ≡ 0) → sum_of_slots w after f ≡ sum_of_slots w s f
+  tasks_counted f none =
+      sum_same s.count (λ c. sum_below (per_thread w tasks) (λ k. of_live (f c k) (ts c k).live)) (λ c. sum_below (per_thread w tasks) (λ k. of_live (f c k) (s.tasks c k).live))
+      (λ c. sum_same (per_thread w tasks) (λ k. of_live (f c k) (ts c k).live) (λ k. of_live (f c k) (s.tasks c k).live)
+      (λ k. counted c k (task_slots c k)))
+    where
+      counted : (c k : ℕ) → Grows (has_slot k (other c).tasks ≡ has_slot k (owes c).tasks) (NewAt c k) (s.tasks c k) (ts c k) → of_live (f c k) (ts c k).live ≡ of_live (f c k) (s.tasks c k).live
+      counted c k (inl stays) = ap (λ (x : Slot Task). of_live (f c k) x.live) stays.same
+      counted c k (inr begins) = ap (of_live (f c k)) begins.live ∙ (none c k begins.object begins.new ∙ sym (ap (of_live (f c k)) begins.empty))
+
+  owed_same : (f : Owed → ℕ) → ((j : ℕ) → f (other j) ≡ f (owes j)) → sum_of_owed s other f ≡ sum_of_owed s owes f
+  owed_same f each = sum_same s.count (λ j. f (other j)) (λ j. f (owes j)) each
+
+  lowered_same : (k : Tid) (j : ℕ) → j < s.count → children_owed after k (other j) ≡ children_owed s k (other j)
+  lowered_same k j known = go (other j).lowered (λ q is. ((keeps.made j known).objects.lowered q (sym (alike j).lowered ∙ is)).0)
+    where
+      go : (o : Option Tid) → ((q : Tid) → o ≡ Some q → HasFinished s q) → one (is_some_task k (other j).raised) + one (is_some_task k (option_and_then (generating_of after) o)) ≡ one (is_some_task k (other j).raised) + one (is_some_task k (option_and_then (generating_of s) o))
+      go None finished = refl
+      go (Some q) finished = ap (λ g. one (is_some_task k (other j).raised) + one (is_some_task k g)) (generating_after q (finished q refl))
+
+  children_same : (k : Tid) → sum_of_owed after other (children_owed after k) ≡ sum_of_owed s other (children_owed s k)
+  children_same k = sum_same_within s.count (λ j. children_owed after k (other j)) (λ j. children_owed s k (other j)) (lowered_same k)
+
+  left_same : (n : Rid) → sum_of_owed s other (left_owed n) ≡ sum_of_owed s owes (left_owed n)
+  left_same n = owed_same (left_owed n) (λ j. ap (λ q. one (is_some_region n q)) (alike j).left)
+
+  -- ---- new objects: nothing names them
+
+  -- the name of what is live in a slot
+  named_there : (c k : ℕ) → c < s.count → k < per_thread w tasks → (t : Task) → (s.tasks c k).live ≡ Some t → task_of s (task_in c k (s.tasks c k)) ≡ Some t
+  named_there c k maker place t live =
+      let word = ((keeps.made c maker).tasks k place).life.live t live in
+      let some : (s.tasks c k).generations == (s.tasks c k).generations - 1 + 1 ≡ true = eq-eqb _ _ (omega (arith, word)) in
+      ap (λ b. if b then (s.tasks c k).live else None) some ∙ live
+
+  -- a name in an empty slot is no live task's
+  unnamed : (k : Tid) → (s.tasks k.0.creator k.0.slot).live ≡ None → (o : Option Tid) → ((q : Tid) → o ≡ Some q → IsSome (task_of s q)) → is_some_task k o ≡ false
+  unnamed k empty None live = refl
+  unnamed k empty (Some q) live = go (is_task k q) refl
+    where
+      go : (b : Bool) → is_task k q ≡ b → b ≡ false
+      go false e = refl
+      go true e =
+          let creator : k.0.creator ≡ q.0.creator = grind (arith, nat_tests) in
+          let place : k.0.slot ≡ q.0.slot = grind (arith, nat_tests) in
+          absurd (none_found q.0.generation (s.tasks q.0.creator q.0.slot) (subst (λ c. (s.tasks c q.0.slot).live ≡ None) creator (subst (λ j. (s.tasks k.0.creator j).live ≡ None) place empty)) (live q refl))
+
+  region_unnamed : (n : Rid) → (s.regions n.0.creator n.0.slot).live ≡ None → (q : Rid) → IsSome (region_of s q) → is_region n q ≡ false
+  region_unnamed n empty q live = go (is_region n q) refl
+    where
+      go : (b : Bool) → is_region n q ≡ b → b ≡ false
+      go false e = refl
+      go true e =
+          let creator : n.0.creator ≡ q.0.creator = grind (arith, nat_tests) in
+          let place : n.0.slot ≡ q.0.slot = grind (arith, nat_tests) in
+          absurd (none_found q.0.generation (s.regions q.0.creator q.0.slot) (subst (λ c. (s.regions c q.0.slot).live ≡ None) creator (subst (λ j. (s.regions n.0.creator j).live ≡ None) place empty)) live)
+
+  some_region_unnamed : (n : Rid) → (s.regions n.0.creator n.0.slot).live ≡ None → (o : Option Rid) → ((q : Rid) → o ≡ Some q → IsSome (region_of s q)) → is_some_region n o ≡ false
+  some_region_unnamed n empty None live = refl
+  some_region_unnamed n empty (Some q) live = region_unnamed n empty q (live q refl)
+
+  -- no task is made by a new one, and none is in a new region
+  no_children : (k : Tid) → (s.tasks k.0.creator k.0.slot).live ≡ None → (f : Task → Bool) → sum_of_slots w s (λ c j t. one (f t && is_some_task k t.generating)) ≡ 0
+  no_children k empty f = slots_none_within w s (λ c j t. one (f t && is_some_task k t.generating)) (λ c j maker place. go c j maker place (s.tasks c j).live refl)
+    where
+      go : (c j : ℕ) → c < s.count → j < per_thread w tasks → (o : Option Task) → (s.tasks c j).live ≡ o → of_live (λ t. one (f t && is_some_task k t.generating)) o ≡ 0
+      go c j maker place None is = refl
+      go c j maker place (Some t) is =
+          one_none (f t) (is_some_task k t.generating)
+          (unnamed k empty t.generating (λ q made. let (u, live, _) = (names.tasks (task_in c j (s.tasks c j)) t (named_there c j maker place t is)).generating q made in some_found (task_of s q) u live))
+
+  no_tasks : (n : Rid) → (s.regions n.0.creator n.0.slot).live ≡ None → unfinished_in w s n ≡ 0
+  no_tasks n empty = slots_none_within w s (λ c j t. one (is_unfinished t && is_region n t.region)) (λ c j maker place. go c j maker place (s.tasks c j).live refl)
+    where
+      go : (c j : ℕ) → c < s.count → j < per_thread w tasks → (o : Option Task) → (s.tasks c j).live ≡ o → of_live (λ t. one (is_unfinished t && is_region n t.region)) o ≡ 0
+      go c j maker place None is = refl
+      go c j maker place (Some t) is =
+          one_none (is_unfinished t) (is_region n t.region)
+          (region_unnamed n empty t.region (let (x, live) = (names.tasks (task_in c j (s.tasks c j)) t (named_there c j maker place t is)).region in some_found (region_of s t.region) x live))
+
+  -- and no thread owes anything on it
+  region_unowed : (n : Rid) → (s.regions n.0.creator n.0.slot).live ≡ None → (sum_of_owed s owes (pending_owed n) ≡ 0) × (sum_of_owed s owes (left_owed n) ≡ 0)
+  region_unowed n empty = (
+    sum_none_within s.count (λ j. pending_owed n (owes j)) (λ j known. ap one (some_region_unnamed n empty (owes j).pending (keeps.made j known).objects.pending)),
+    sum_none_within s.count (λ j. left_owed n (owes j)) (λ j known. ap one (some_region_unnamed n empty (owes j).left (λ q is. let (x, live, _) = (keeps.made j known).objects.left q is in some_found (region_of s q) x live))),
+  )
+
+  children_unowed : (k : Tid) → (s.tasks k.0.creator k.0.slot).live ≡ None → sum_of_owed s owes (children_owed s k) ≡ 0
+  children_unowed k empty = sum_none_within s.count (λ j. children_owed s k (owes j)) each
+    where
+      made_by : (o : Option Tid) → ((q : Tid) → o ≡ Some q → IsSome (option_and_then (task_of s) (generating_of s q))) → is_some_task k (option_and_then (generating_of s) o) ≡ false
+      made_by None live = refl
+      made_by (Some q) live = go (generating_of s q) (live q refl)
+        where
+          go : (g : Option Tid) → IsSome (option_and_then (task_of s) g) → is_some_task k g ≡ false
+          go None is = refl
+          go (Some h) is = unnamed k empty (Some h) (λ x same. let eq : h ≡ x = cc in subst (λ (y : Tid). IsSome (task_of s y)) eq is)
+
+      each : (j : ℕ) → j < s.count → children_owed s k (owes j) ≡ 0
+      each j known =
+          let o = (keeps.made j known).objects in
+          let a : one (is_some_task k (owes j).raised) ≡ 0 = ap one (unnamed k empty (owes j).raised o.raised) in
+          let b : one (is_some_task k (option_and_then (generating_of s) (owes j).lowered)) ≡ 0 = ap one (made_by (owes j).lowered (λ q is. (o.lowered q is).1)) in
+          omega (arith, a, b)
+
+  module _ (pending_counted : (n : Rid) → unfinished_in w after n + sum_of_owed s other (pending_owed n) ≡ unfinished_in w s n + sum_of_owed s owes (pending_owed n))
+      (children_counted : (k : Tid) → unfinished_children w after k + sum_of_owed s other (children_owed s k) ≡ unfinished_children w s k + sum_of_owed s owes (children_owed s k)) where
+    -- ---- objects that were live
+
+    region_kept : (n : Rid) (r : Rec) (x : Region) → KeepsRegion w s owes n r x → KeepsRegion w after other n r x
+    region_kept n r x o = record {
+      function = o.function;
+      enclosing = o.enclosing;
+      encountering = o.encountering;
+      size = o.size;
+      levels = o.levels;
+      active = o.active;
+      team = o.team;
+      released = o.released;
+      arrived = o.arrived;
+      pending = let was = o.pending in let change = pending_counted n in omega (arith, was, change);
+      left = let was = o.left in let owed = left_same n in omega (arith, was, owed);
+    }
+
+    counts_kept : (k : Tid) (r : Rec) → KeepsCounts w s owes k r → KeepsCounts w after other k r
+    counts_kept k r o = record {
+      children =
+          let was = o.children in
+          let change = children_counted k in
+          let owed = children_same k in
+          omega (arith, was, change, owed);
+    }
+
+    slots_kept : (r : Rec) (t : Task) → KeepsSlots w s r t → KeepsSlots w after r t
+    slots_kept r t o = λ place within. go place (o place within)
+      where
+        go : (place : ℕ) → Has r TaskSlots place 0 ⊎ ((k : Tid) × IsDeferredIn s t place k × Has r TaskSlots place (slot_word w k))
+            → Has r TaskSlots place 0 ⊎ ((k : Tid) × IsDeferredIn after t place k × Has r TaskSlots place (slot_word w k))
+        go place (inl none) = inl none
+        go place (inr (k, x, is)) = inr (k, record { task = x.task; live = task_after k x.task x.live; progress = x.progress; region = x.region; place_is = x.place_is; maker = x.maker }, is)
+
+    task_kept : (k : Tid) (r : Rec) (t : Task) → (s.tasks k.0.creator k.0.slot).live ≡ Some t → KeepsTask w s owes k r t → KeepsTask w after other k r t
+    task_kept k r t there o = record {
+      environment = λ seen. o.environment (go seen);
+      place = λ seen. o.place (task_seen k t there seen);
+      counts = counts_kept k r o.counts;
+      slots = λ implicit. slots_kept r t (o.slots implicit);
+    }
+      where
+        go : IsVisibleTask after k ⊎ (t.progress ≡ progress.Deferred) → IsVisibleTask s k ⊎ (t.progress ≡ progress.Deferred)
+        go (inl seen) = inl (task_seen k t there seen)
+        go (inr deferred) = inr deferred
+
+    objects_kept : (j : ℕ) → All (λ q. WaitsFor after q.1 q.0) (other j).assigns → OwesOnLive s (owes j) → OwesOnLive after (other j)
+    objects_kept j assigns x = record {
+      pending = λ n is. some_region_after n (x.pending n ((alike j).pending n is));
+      left = λ n is. let (r, live, open_) = x.left n (sym (alike j).left ∙ is) in (r, region_after n r live, open_);
+      raised = λ k is. some_task_after k (x.raised k ((alike j).raised k is));
+      lowered = λ k is.
+          let (finished, live) = x.lowered k (sym (alike j).lowered ∙ is) in
+          (finished_after k finished, subst (λ (g : Option Tid). IsSome (option_and_then (task_of after) g)) (sym (generating_after k finished)) (parent (generating_of s k) live));
+      assigns = assigns;
+    }
+      where
+        parent : (g : Option Tid) → IsSome (option_and_then (task_of s) g) → IsSome (option_and_then (task_of after) g)
+        parent None is = is
+        parent (Some q) is = some_task_after q is
+
+    region_begun : (n : Rid) (r : Rec) (taken : Bool) (x : Region) → (s.regions n.0.creator n.0.slot).live ≡ None → NewRegion w r taken x → KeepsRegion w after other n r x
+    region_begun n r taken x empty new =
+        let o = new.filled in
+        record {
+          function = o.function;
+          enclosing = o.enclosing;
+          encountering = o.encountering;
+          size = o.size;
+          levels = o.levels;
+          active = o.active;
+          team = o.team;
+          released = o.released ∙ sym new.released;
+          arrived = o.arrived ∙ sym new.arrivals;
+          pending =
+              let word = o.pending in
+              let none = no_tasks n empty in
+              let change = pending_counted n in
+              let nobody = (region_unowed n empty).0 in
+              omega (arith, word, none, change, nobody);
+          left =
+              let word = o.left in
+              let owed = left_same n in
+              let nobody = (region_unowed n empty).1 in
+              let ended = new.ended in
+              omega (arith, word, owed, nobody, ended);
+        }
+
+    task_begun : (k : Tid) (r : Rec) (taken : Bool) (t : Task) → (s.tasks k.0.creator k.0.slot).live ≡ None → task_of after k ≡ Some t → NewTask w r taken Kind t → KeepsTask w after other k r t
+    task_begun k r taken t empty live new = record {
+      environment = λ _. new.environment;
+      place = λ seen. new.place (λ explicit deferred. unseen after k t (record { live = live; explicit = explicit; progress = deferred }) seen);
+      counts = record {
+        children =
+            let word = new.children in
+            let none : unfinished_children w s k ≡ 0 = no_children k empty is_unfinished in
+            let change = children_counted k in
+            let owed = children_same k in
+            let nobody = children_unowed k empty in
+            omega (arith, word, none, change, owed, nobody);
+      };
+      slots = λ implicit place within. inl (new.slots implicit place within);
+    }
+
+    -- ---- the whole
+
+    region_slot_kept : (c k : ℕ) → KeepsRegionSlot w s owes c k (m c regions k) → KeepsRegionSlot w after other c k (m c regions k)
+    region_slot_kept c k o = go (region_slots c k)
+      where
+        go : Grows (has_region_slot k (other c).region ≡ has_region_slot k (owes c).region) (NewRegion w (m c regions k) (has_region_slot k (owes c).region)) (s.regions c k) (rs c k) → KeepsRegionSlot w after other c k (m c regions k)
+        go (inl stays) = record {
+          life = subst (λ (x : Slot Region). KeepsLife (m c regions k) RegionLife x (has_region_slot k (other c).region)) (sym stays.same)
+              (subst (λ b. KeepsLife (m c regions k) RegionLife (s.regions c k) b) (sym stays.fact) o.life);
+          live = λ x is.
+              let there : (s.regions c k).live ≡ Some x = sym (ap (λ (y : Slot Region). y.live) stays.same) ∙ is in
+              subst (λ (y : Slot Region). KeepsRegion w after other (region_in c k y) (m c regions k) x) (sym stays.same) (region_kept (region_in c k (s.regions c k)) (m c regions k) x (o.live x there));
+        }
+        go (inr begins) = record {
+          life = begun_life (m c regions k) RegionLife (s.regions c k) (rs c k) (NewRegion w (m c regions k) (has_region_slot k (owes c).region)) (has_region_slot k (owes c).region) (has_region_slot k (other c).region) begins begins.new.taken_is o.life;
+          live = λ x is. region_begun (region_in c k (rs c k)) (m c regions k) (has_region_slot k (owes c).region) x begins.empty
+              (subst (λ (y : Region). NewRegion w (m c regions k) (has_region_slot k (owes c).region) y) (some_same begins.live is) begins.new);
+        }
+
+    task_slot_kept : (c k : ℕ) → KeepsTaskSlot w s owes c k (m c tasks k) → KeepsTaskSlot w after other c k (m c tasks k)
+    task_slot_kept c k o = go (task_slots c k)
+      where
+        go : Grows (has_slot k (other c).tasks ≡ has_slot k (owes c).tasks) (NewAt c k) (s.tasks c k) (ts c k) → KeepsTaskSlot w after other c k (m c tasks k)
+        go (inl stays) = record {
+          life = subst (λ (x : Slot Task). KeepsLife (m c tasks k) TaskLife x (has_slot k (other c).tasks)) (sym stays.same)
+              (subst (λ b. KeepsLife (m c tasks k) TaskLife (s.tasks c k) b) (sym stays.fact) o.life);
+          live = λ t is.
+              let there : (s.tasks c k).live ≡ Some t = sym (ap (λ (y : Slot Task). y.live) stays.same) ∙ is in
+              subst (λ (y : Slot Task). KeepsTask w after other (task_in c k y) (m c tasks k) t) (sym stays.same) (task_kept (task_in c k (s.tasks c k)) (m c tasks k) t there (o.live t there));
+        }
+        go (inr begins) = record {
+          life = begun_life (m c tasks k) TaskLife (s.tasks c k) (ts c k) (NewAt c k) (has_slot k (owes c).tasks) (has_slot k (other c).tasks) begins begins.new.taken_is o.life;
+          live = λ t is.
+              let more = begins.generations in
+              let test : (ts c k).generations == (ts c k).generations - 1 + 1 ≡ true = eq-eqb _ _ (omega (arith, more)) in
+              task_begun (task_in c k (ts c k)) (m c tasks k) (has_slot k (owes c).tasks) t begins.empty (ap (λ b. if b then (ts c k).live else None) test ∙ is) (subst (NewAt c k) (some_same begins.live is) begins.new);
+        }
+
+    pub grown : ((j : ℕ) → j < s.count → KeepsMaking after j (other j)) → ((j : ℕ) → j < s.count → All (λ q. WaitsFor after q.1 q.0) (other j).assigns)
+        → ((j : ℕ) → j < s.count → KeepsAssign w after other j (m j threads 0)) → KeepsDeferred w (λ c. m c tasks) after other → KeepsWords w m after other
+    grown making assigns assigned deferred = record {
+      runtime_record = let o = keeps.runtime_record in record { version = o.version; threads = o.threads; procs = o.procs; debug = o.debug; max_active = o.max_active; locks = o.locks };
+      made = λ j known.
+          let o = keeps.made j known in
+          record {
+            thread = o.thread;
+            assign = assigned j known;
+            regions = λ k within. region_slot_kept j k (o.regions k within);
+            tasks = λ k within. task_slot_kept j k (o.tasks k within);
+            making = making j known;
+            objects = objects_kept j (assigns j known) o.objects;
+          };
+      deferred = deferred;
+    }

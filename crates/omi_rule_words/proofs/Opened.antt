@@ -1,0 +1,258 @@
+-- The opening words of a program keep the rule on words.
+use Rattle.std.proofs.Common.{◌≡◌, inl, ◌==◌, ◌<◌, ℕ, zero, suc, ◌&&◌, Bool, true, false, List, [], Some, None, refl, sym, ap, subst, ◌∙◌, arith, if◌then◌else◌}
+use Rattle.std.specs.Prelude.{slice_get}
+use Rattle.std.proofs.lemmas.Bool.Decides.{nat_tests}
+use Rattle.std.proofs.lemmas.List.Elements.{All-from_recursion}
+use Rattle.std.proofs.lemmas.Option.{get_or_from_slice_get}
+use Rattle.omi_script.specs.declared.program.Program.{Program}
+use Rattle.omi_model.specs.declared.id.Rid.{Rid}
+use Rattle.omi_model.specs.declared.id.Tid.{Tid}
+use Rattle.omi_model.specs.declared.progress.Progress.TheVariants as progress
+use Rattle.omi_model.specs.declared.region.Region.{Region}
+use Rattle.omi_model.specs.declared.task.Task.{Task}
+use Rattle.omi_model.specs.declared.thread.Thread.{Thread}
+use Rattle.omi_model.specs.Numbers.{flag}
+use Rattle.omi_model.specs.Opening.{initial_task, initial_thread, opening, opening_region, opening_task, waiting_worker}
+use Rattle.omi_model.specs.Put.{first_alone, unused}
+use Rattle.omi_model.specs.State.{State}
+use Rattle.omi_model.proofs.OpeningObjects.{each_first_task}
+use Rattle.omi_layout.specs.declared.field.Field.{Field}
+use Rattle.omi_layout.specs.declared.field.Field.TheVariants.{RegionLife, TaskLife, RegionTeam}
+use Rattle.omi_layout.specs.Codes.{state_word}
+use Rattle.omi_layout.specs.Field.{runtime, threads, regions, tasks}
+use Rattle.omi_layout.specs.Memory.{Rec, Made, Memory, memory_of}
+use Rattle.omi_layout.specs.Named.{number}
+use Rattle.omi_layout.specs.OpeningWords.{AreOpening, OpensMade, OpensThread, OpensRegion, OpensTask}
+use Rattle.omi_layout.specs.Place.{slot_address}
+use Rattle.omi_layout.specs.Valid.{IsValid}
+use Rattle.omi_pc.specs.Opening.{opening_actor}
+use Rattle.omi_rep.specs.Records.{task_address, task_word}
+use Rattle.omi_rep.specs.Suits.{Suits}
+use Rattle.omi_rep.proofs.Alone.{flags}
+use Rattle.omi_rule_words.specs.Owes.{Owed, all_owed, nothing}
+use Rattle.omi_rule_words.specs.Counts.{of_live, one, has_slot, has_region_slot, is_region, is_some_task, is_unfinished, pending_owed, left_owed, children_owed}
+use Rattle.omi_rule_words.specs.Threads.{Has, KeepsRuntime, KeepsThread, KeepsAssign, WaitsFor, claim_word}
+use Rattle.omi_rule_words.specs.Objects.{KeepsLife, KeepsRegion, KeepsCounts, KeepsDeferred}
+use Rattle.omi_rule_words.specs.Words.{KeepsTask, KeepsRegionSlot, KeepsTaskSlot, KeepsMaking, OwesOnLive, KeepsMade, KeepsWords, IsInTheMaking, region_in, task_in}
+use Rattle.omi_rule_words.specs.Opens.{OpeningKeepsWords}
+use Rattle.omi_rule_words.proofs.Idle.{opening_owes}
+use Rattle.omi_rule_words.proofs.Sums.{owed_none, slots_none}
+
+-- the one task counts nothing
+none_counted : (p : Program) (f : Task → ℕ) → f (opening_task p) ≡ 0 → (c k : ℕ) → of_live f (first_alone (opening_task p) c k).live ≡ 0
+none_counted p f none c k = go (c == 0 && k == 0)
+  where
+    go : (b : Bool) → of_live f (if b then record { generations = 1; live = Some (opening_task p) } else unused).live ≡ 0
+    go true = none
+    go false = refl
+
+-- where the object is that is alone in its slots
+alone_live : {A : Type 0} (x y : A) (c k : ℕ) → (first_alone x c k).live ≡ Some y → (c ≡ 0) × (k ≡ 0) × (x ≡ y)
+alone_live {A} x y c k is = go (c == 0 && k == 0) refl is
+  where
+    go : (b : Bool) → (c == 0 && k == 0) ≡ b → (if b then record { generations = 1; live = Some x } else unused).live ≡ Some y → (c ≡ 0) × (k ≡ 0) × (x ≡ y)
+    go true e h = (grind (arith, nat_tests), grind (arith, nat_tests), cc)
+    go false e h = absurd (cc)
+
+-- the life word of a slot in which at most one object has lived
+life_kept : {A : Type 0} (x : A) (r : Rec) (life : Field) (owed : Bool) (c k : ℕ) → owed ≡ false
+    → (c ≡ 0 → k ≡ 0 → r (number life) 0 ≡ 1) → ((c ≡ 0 → k ≡ 0 → ⊥) → r (number life) 0 ≡ 0) → KeepsLife r life (first_alone x c k) owed
+life_kept {A} x r life owed c k nobody first other = go (c == 0 && k == 0) refl
+  where
+    go : (b : Bool) → (c == 0 && k == 0) ≡ b → KeepsLife r life (if b then record { generations = 1; live = Some x } else unused) owed
+    go true e =
+        let creator : c ≡ 0 = grind (arith, nat_tests) in
+        let place : k ≡ 0 = grind (arith, nat_tests) in
+        let is = first creator place in
+        record { live = λ y live. omega (arith, is); taken = λ live. absurd (cc); free = λ live. absurd (cc) }
+    go false e =
+        let is = other (λ creator place. grind (arith, nat_tests)) in
+        record { live = λ y live. absurd (cc); taken = λ live taken. absurd (cc); free = λ live free. is }
+
+module _ (p : Program) (w words : List ℕ) (v : IsValid w) (suits : Suits p w) (opens : AreOpening p w words) where
+  abbrev m : Memory
+  m = memory_of w words
+
+  abbrev s : State
+  s = opening p
+
+  abbrev owes : ℕ → Owed
+  owes = all_owed (opening_actor p)
+
+  none : (i : ℕ) → owes i ≡ nothing
+  none = opening_owes p
+
+  runtime_kept : KeepsRuntime w (m 0 runtime 0) s
+  runtime_kept =
+      let o = opens.runtime_record in
+      record {
+        version = o.version;
+        threads = o.threads;
+        procs = o.procs;
+        debug = o.debug ∙ flags p.env.debug;
+        max_active = o.max_active;
+        locks = λ k within. o.locks k;
+      }
+
+  thread_kept : (i : ℕ) (r : Rec) → OpensThread w i r → KeepsThread w i r (s.threads i)
+  thread_kept i r o = record {
+    life = o.life ∙ life (i == 0);
+    native = o.native;
+    current = o.current ∙ current (i == 0);
+    state = o.state ∙ state (i == 0);
+    claim = o.claim ∙ claim (i == 0);
+  }
+    where
+      thread : Bool → Thread
+      thread b = if b then initial_thread else waiting_worker
+
+      life : (b : Bool) → (if b then 1 else 0) ≡ flag (if b then initial_thread else waiting_worker).begun
+      life true = refl
+      life false = refl
+
+      current : (b : Bool) → (if b then slot_address w tasks 0 0 else 0) ≡ task_word w (if b then initial_thread else waiting_worker).current
+      current true = refl
+      current false = refl
+
+      state : (b : Bool) → (if b then 0 else 0x100) ≡ state_word (if b then initial_thread else waiting_worker).state (if b then initial_thread else waiting_worker).wait
+      state true = refl
+      state false = refl
+
+      claim : (b : Bool) → 0 ≡ claim_word (if b then initial_thread else waiting_worker).claim
+      claim true = refl
+      claim false = refl
+
+  -- no task waits for a thread
+  none_waits : (i : ℕ) (k : Tid) → WaitsFor s i k → ⊥
+  none_waits i k waits =
+      each_first_task p (λ k t. t.progress ≡ progress.NotBegun → ⊥) (λ is. absurd (cc)) k waits.task waits.live waits.progress
+
+  assign_kept : (i : ℕ) (r : Rec) → OpensThread w i r → KeepsAssign w s owes i r
+  assign_kept i r o = record {
+    waiting = λ k waits. absurd (none_waits i k waits);
+    none = λ nobody. o.assign;
+  }
+
+  region_kept : (n : Rid) (r : Rec) → OpensRegion p w r → KeepsRegion w s owes n r (opening_region p)
+  region_kept n r o = record {
+    function = o.function;
+    enclosing = o.enclosing;
+    encountering = o.encountering;
+    size = o.size;
+    levels = o.levels;
+    active = o.active;
+    team = team;
+    released = o.released;
+    arrived = o.arrived;
+    pending =
+        let unfinished = slots_none w s (λ c k t. one (is_unfinished t && is_region n t.region)) (none_counted p (λ t. one (is_unfinished t && is_region n t.region)) refl) in
+        let owed = owed_none s owes (pending_owed n) none refl in
+        let is = o.pending in
+        omega (arith, unfinished, owed, is);
+    left =
+        let owed = owed_none s owes (left_owed n) none refl in
+        let is = o.left in
+        omega (arith, owed, is);
+  }
+    where
+      team : (j : ℕ) (x : Tid × ℕ) → slice_get (opening_region p).team j ≡ Some x → Has r RegionTeam j (task_address w x.0)
+      team zero x is =
+          let same : (initial_task, 0) ≡ x = cc in
+          subst (λ (q : Tid × ℕ). Has r RegionTeam 0 (task_address w q.0)) same o.member
+      team (suc j) x is = absurd (cc)
+
+  counts_kept : (k : Tid) (r : Rec) → OpensTask p w r → KeepsCounts w s owes k r
+  counts_kept k r o = record {
+    children =
+        let unfinished = slots_none w s (λ c j t. one (is_unfinished t && is_some_task k t.generating)) (none_counted p (λ t. one (is_unfinished t && is_some_task k t.generating)) refl) in
+        let owed = owed_none s owes (children_owed s k) none refl in
+        let is = o.children in
+        omega (arith, unfinished, owed, is);
+  }
+
+  task_kept : (k : Tid) (r : Rec) → OpensTask p w r → KeepsTask w s owes k r (opening_task p)
+  task_kept k r o = record {
+    environment = λ seen. record {
+      implicit = o.implicit;
+      region = o.region;
+      generating = o.generating;
+      function = o.function;
+      dynamic = o.dynamic ∙ flags p.env.dynamic;
+      nthreads_length = o.nthreads_length;
+      schedule = o.schedule;
+      device = o.device;
+      final = o.final;
+      tool = o.tool;
+      nthreads = λ j n is. o.nthreads j ∙ get_or_from_slice_get p.env.nthreads j n 0 is;
+    };
+    place = λ seen. record { thread = o.thread; member = o.member; scheduling = o.scheduling; exit = o.exit; enter = o.enter };
+    counts = counts_kept k r o;
+    slots = λ implicit place within. inl (o.slots place);
+  }
+
+  region_slot_kept : (i slot : ℕ) (made : Made) → OpensMade p w i made → KeepsRegionSlot w s owes i slot (made regions slot)
+  region_slot_kept i slot made o = record {
+    life = life_kept (opening_region p) (made regions slot) RegionLife (has_region_slot slot (owes i).region) i slot
+        (ap (λ (o : Owed). has_region_slot slot o.region) (none i))
+        (λ creator place. subst (λ j. made regions j (number RegionLife) 0 ≡ 1) (sym place) (o.region creator).life)
+        (λ other. o.no_region slot other (number RegionLife) 0);
+    live = λ x is.
+        let (creator, place, same) = alone_live (opening_region p) x i slot is in
+        let n : Rid = region_in i slot (s.regions i slot) in
+        subst (λ (y : Region). KeepsRegion w s owes n (made regions slot) y) same
+        (subst (λ j. KeepsRegion w s owes n (made regions j) (opening_region p)) (sym place) (region_kept n (made regions 0) (o.region creator)));
+  }
+
+  task_slot_kept : (i slot : ℕ) (made : Made) → OpensMade p w i made → KeepsTaskSlot w s owes i slot (made tasks slot)
+  task_slot_kept i slot made o = record {
+    life = life_kept (opening_task p) (made tasks slot) TaskLife (has_slot slot (owes i).tasks) i slot
+        (ap (λ (o : Owed). has_slot slot o.tasks) (none i))
+        (λ creator place. subst (λ j. made tasks j (number TaskLife) 0 ≡ 1) (sym place) (o.task creator).life)
+        (λ other. o.no_task slot other (number TaskLife) 0);
+    live = λ x is.
+        let (creator, place, same) = alone_live (opening_task p) x i slot is in
+        let k : Tid = task_in i slot (s.tasks i slot) in
+        subst (λ (y : Task). KeepsTask w s owes k (made tasks slot) y) same
+        (subst (λ j. KeepsTask w s owes k (made tasks j) (opening_task p)) (sym place) (task_kept k (made tasks 0) (o.task creator)));
+  }
+
+  making_kept : (i : ℕ) → KeepsMaking s i (owes i)
+  making_kept i = subst (λ (o : Owed). KeepsMaking s i o) (sym (none i)) (record {
+    region = λ n is. absurd (cc);
+    tasks = All-from_recursion (λ (k : Tid). IsInTheMaking i (s.tasks i) k.0) [] tt;
+    apart = tt;
+  })
+
+  objects_kept : (i : ℕ) → OwesOnLive s (owes i)
+  objects_kept i = subst (λ (o : Owed). OwesOnLive s o) (sym (none i)) (record {
+    pending = λ n is. absurd (cc);
+    left = λ n is. absurd (cc);
+    raised = λ k is. absurd (cc);
+    lowered = λ k is. absurd (cc);
+    assigns = All-from_recursion (λ (m : Tid × ℕ). WaitsFor s m.1 m.0) [] tt;
+  })
+
+  made_kept : (i : ℕ) → i < s.count → KeepsMade w s owes i (m i)
+  made_kept i within =
+      let threads_are = suits.threads in
+      let o = opens.made i (omega (arith, within, threads_are)) in
+      record {
+        thread = thread_kept i (m i threads 0) o.thread;
+        assign = assign_kept i (m i threads 0) o.thread;
+        regions = λ slot there. region_slot_kept i slot (m i) o;
+        tasks = λ slot there. task_slot_kept i slot (m i) o;
+        making = making_kept i;
+        objects = objects_kept i;
+      }
+
+  deferred_kept : KeepsDeferred w (λ c. m c tasks) s owes
+  deferred_kept = record {
+    once = λ k t live deferred. absurd (each_first_task p (λ q u. u.progress ≡ progress.Deferred → ⊥) (λ is. absurd (cc)) k t live deferred);
+    hands = λ i k within is. let nobody : (owes i).hand ≡ None = ap (λ (o : Owed). o.hand) (none i) in absurd (cc);
+  }
+
+  words_kept : KeepsWords w m s owes
+  words_kept = record { runtime_record = runtime_kept; made = made_kept; deferred = deferred_kept }
+
+pub opening_kept : OpeningKeepsWords
+opening_kept = λ p w words v suits opens. words_kept p w words v suits opens

@@ -1,0 +1,96 @@
+-- Threads that owe other records or assign words, and else the same: counts and slots are as they were.
+use Rattle.std.proofs.Common.{◌≡◌, ◌+◌, ℕ, List, refl, ap, ap₂, ◌∙◌, sym, arith}
+use Rattle.std.specs.Prelude.{All}
+use Rattle.std.specs.Option.{option_and_then}
+use Rattle.omi_model.specs.declared.id.Rid.{Rid}
+use Rattle.omi_model.specs.declared.id.Tid.{Tid}
+use Rattle.omi_model.specs.declared.region.Region.{Region}
+use Rattle.omi_model.specs.declared.task.Task.{Task}
+use Rattle.omi_model.specs.State.{State}
+use Rattle.omi_layout.specs.Memory.{Rec}
+use Rattle.omi_rule_words.specs.Owes.{Owed}
+use Rattle.omi_rule_words.specs.Counts.{sum_of_owed, pending_owed, left_owed, children_owed, start_owed, assign_owed, assigns_in, one, is_some_region, is_some_task, generating_of}
+use Rattle.omi_rule_words.specs.Objects.{KeepsCounts, KeepsDeferred, KeepsRegion}
+use Rattle.omi_rule_words.specs.Threads.{KeepsAssign, WaitsFor}
+use Rattle.omi_rule_words.specs.Words.{KeepsTask, OwesOnLive}
+use Rattle.omi_rule_words.proofs.Sums.{sum_same}
+
+-- two threads owe the same, but for records in the making, assign words and tasks that were met
+pub record OwesAlike (p o : Owed) : Type 0 where
+  pub pending : p.pending ≡ o.pending
+  pub raised : p.raised ≡ o.raised
+  pub lowered : p.lowered ≡ o.lowered
+  pub left : p.left ≡ o.left
+  pub hand : p.hand ≡ o.hand
+
+pub owes_alike : (o : Owed) → OwesAlike o o
+owes_alike o = record { pending = refl; raised = refl; lowered = refl; left = refl; hand = refl }
+
+module _ (w : List ℕ) (s : State) (owes other : ℕ → Owed) (alike : (j : ℕ) → OwesAlike (other j) (owes j)) where
+  same : (f : Owed → ℕ) → ((j : ℕ) → f (other j) ≡ f (owes j)) → sum_of_owed s other f ≡ sum_of_owed s owes f
+  same f each = sum_same s.count (λ j. f (other j)) (λ j. f (owes j)) each
+
+  pub region_owed : (n : Rid) (r : Rec) (x : Region) → KeepsRegion w s owes n r x → KeepsRegion w s other n r x
+  region_owed n r x o = record {
+    function = o.function;
+    enclosing = o.enclosing;
+    encountering = o.encountering;
+    size = o.size;
+    levels = o.levels;
+    active = o.active;
+    team = o.team;
+    released = o.released;
+    arrived = o.arrived;
+    pending =
+        let was = o.pending in
+        let owed = same (pending_owed n) (λ j. ap (λ q. one (is_some_region n q)) (alike j).pending) in
+        omega (arith, was, owed);
+    left =
+        let was = o.left in
+        let owed = same (left_owed n) (λ j. ap (λ q. one (is_some_region n q)) (alike j).left) in
+        omega (arith, was, owed);
+  }
+
+  counts_owed : (k : Tid) (r : Rec) → KeepsCounts w s owes k r → KeepsCounts w s other k r
+  counts_owed k r o = record {
+    children =
+        let was = o.children in
+        let owed = same (children_owed s k) (λ j. ap₂ (λ a b. one (is_some_task k a) + one (is_some_task k (option_and_then (generating_of s) b))) (alike j).raised (alike j).lowered) in
+        omega (arith, was, owed);
+  }
+
+  pub task_owed : (k : Tid) (r : Rec) (t : Task) → KeepsTask w s owes k r t → KeepsTask w s other k r t
+  task_owed k r t o = record { environment = o.environment; place = o.place; counts = counts_owed k r o.counts; slots = o.slots }
+
+  pub deferred_owed : (r : ℕ → ℕ → Rec) → KeepsDeferred w r s owes → KeepsDeferred w r s other
+  deferred_owed r o = record {
+    once = λ k t live deferred.
+        let was = o.once k t live deferred in
+        let owed = same (start_owed k) (λ j. ap (λ q. one (is_some_task k q)) (alike j).hand) in
+        omega (arith, was, owed);
+    hands = λ i k known is. o.hands i k known (sym (alike i).hand ∙ is);
+  }
+
+-- and what a thread owes on lives
+pub objects_owed : (s : State) (o p : Owed) → OwesAlike p o → All (λ m. WaitsFor s m.1 m.0) p.assigns → OwesOnLive s o → OwesOnLive s p
+objects_owed s o p alike assigns x = record {
+  pending = λ n is. x.pending n (sym alike.pending ∙ is);
+  left = λ n is. x.left n (sym alike.left ∙ is);
+  raised = λ k is. x.raised k (sym alike.raised ∙ is);
+  lowered = λ k is. x.lowered k (sym alike.lowered ∙ is);
+  assigns = assigns;
+}
+
+-- threads that owe the same assign words, and have met the same tasks
+pub assign_owed_same : (w : List ℕ) (s : State) (owes other : ℕ → Owed) → ((j : ℕ) → (other j).assigns ≡ (owes j).assigns) → ((j : ℕ) → (other j).met ≡ (owes j).met)
+    → (i : ℕ) (r : Rec) → KeepsAssign w s owes i r → KeepsAssign w s other i r
+assign_owed_same w s owes other assigns met i r o = record {
+  waiting = λ k waits.
+      let was = o.waiting k waits in
+      let sum = was.once in
+      let owed : sum_of_owed s other (assign_owed i k) ≡ sum_of_owed s owes (assign_owed i k)
+      = sum_same s.count (λ j. assign_owed i k (other j)) (λ j. assign_owed i k (owes j)) (λ j. ap (assigns_in i k) (assigns j)) in
+      let met_same : one (other i).met ≡ one (owes i).met = ap one (met i) in
+      record { word_is = was.word_is; once = omega (arith, sum, owed, met_same) };
+  none = o.none;
+}

@@ -1,0 +1,63 @@
+-- Kinds of steps on what is counted of explicit tasks: before its event a thread raises the words for a task in the making, and after it the thread lowers those for one that has finished.
+use Rattle.std.specs.Prelude.{◌≡◌, ℕ, ◌+◌, ◌-◌, ◌%◌, ◌^◌, ◌<◌, List, Some, None, IsSome}
+use Rattle.omi_model.specs.declared.id.Rid.{Rid}
+use Rattle.omi_model.specs.declared.id.Tid.{Tid}
+use Rattle.omi_model.specs.State.{State, region_of, task_of}
+use Rattle.omi_layout.specs.declared.field.Field.{Field}
+use Rattle.omi_layout.specs.declared.field.Field.TheVariants.{RegionPending, TaskChildren}
+use Rattle.omi_layout.specs.Field.{tasks}
+use Rattle.omi_layout.specs.Memory.{Memory, put, with_word}
+use Rattle.omi_layout.specs.Named.{number}
+use Rattle.omi_rule_words.specs.Owes.{Owed}
+use Rattle.omi_rule_words.specs.Counts.{generating_of}
+use Rattle.omi_rule_words.specs.Words.{KeepsWords}
+use Rattle.omi_rule_words.specs.BarrierKinds.{one_more, word_of_region, with_region_word}
+
+-- the word that the subtraction of 1 leaves
+abbrev pub one_less : ℕ → ℕ
+one_less word = (word + (2 ^ 64 - 1)) % 2 ^ 64
+
+-- the first word of a field in the record of a task, and the memory with this word replaced
+abbrev pub word_of_task : Memory → Tid → Field → ℕ
+word_of_task m k f = m k.0.creator tasks k.0.slot (number f) 0
+
+abbrev pub with_task_word : Memory → Tid → Field → ℕ → Memory
+with_task_word m k f word = with_word m k.0.creator tasks k.0.slot (number f) 0 word
+
+-- ---- raises for a task in the making
+
+-- 1 is added to a region's word for unfinished explicit tasks
+abbrev pub PendingAddsKeep : Type 0
+PendingAddsKeep = (w : List ℕ) (m : Memory) (s : State) (owes : ℕ → Owed) (i : ℕ) (n : Rid)
+    → KeepsWords w m s owes → i < s.count → (owes i).pending ≡ None → IsSome (region_of s n)
+    → word_of_region m n RegionPending < 2 ^ 57
+    → KeepsWords w
+    (with_region_word m n RegionPending (one_more (word_of_region m n RegionPending))) s
+    (put owes i (record (owes i) { pending = Some n }))
+
+-- 1 is added to a task's word for unfinished explicit children
+abbrev pub ChildrenAddsKeep : Type 0
+ChildrenAddsKeep = (w : List ℕ) (m : Memory) (s : State) (owes : ℕ → Owed) (i : ℕ) (k : Tid)
+    → KeepsWords w m s owes → i < s.count → (owes i).raised ≡ None → IsSome (task_of s k)
+    → word_of_task m k TaskChildren < 2 ^ 57
+    → KeepsWords w (with_task_word m k TaskChildren (one_more (word_of_task m k TaskChildren))) s
+    (put owes i (record (owes i) { raised = Some k }))
+
+-- ---- what is lowered for a task that has finished
+
+-- 1 is subtracted from the generating task's word for unfinished explicit children
+abbrev pub ChildrenSubtractsKeep : Type 0
+ChildrenSubtractsKeep = (w : List ℕ) (m : Memory) (s : State) (owes : ℕ → Owed) (i : ℕ) (k g : Tid)
+    → KeepsWords w m s owes → i < s.count → (owes i).lowered ≡ Some k
+    → generating_of s k ≡ Some g → word_of_task m g TaskChildren < 2 ^ 64
+    → KeepsWords w (with_task_word m g TaskChildren (one_less (word_of_task m g TaskChildren))) s
+    (put owes i (record (owes i) { lowered = None }))
+
+-- 1 is subtracted from a region's word for unfinished explicit tasks
+abbrev pub PendingSubtractsKeep : Type 0
+PendingSubtractsKeep = (w : List ℕ) (m : Memory) (s : State) (owes : ℕ → Owed) (i : ℕ) (n : Rid)
+    → KeepsWords w m s owes → i < s.count → (owes i).pending ≡ Some n
+    → word_of_region m n RegionPending < 2 ^ 64
+    → KeepsWords w
+    (with_region_word m n RegionPending (one_less (word_of_region m n RegionPending))) s
+    (put owes i (record (owes i) { pending = None }))

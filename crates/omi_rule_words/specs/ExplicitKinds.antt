@@ -1,0 +1,159 @@
+-- Kinds of steps of explicit tasks: what the stores that defer, start and finish one keep of the words, whatever thread makes them, and
+-- what is kept while a deferred task is taken from its slot.
+use Rattle.std.specs.Prelude.{◌≡◌, ℕ, ◌<◌, Bool, true, false, List, [], ◌∷◌, Some}
+use Rattle.omi_script.specs.declared.program.Program.{Program}
+use Rattle.omi_model.specs.declared.id.Tid.{Tid}
+use Rattle.omi_model.specs.declared.progress.Progress.TheVariants as progress
+use Rattle.omi_model.specs.declared.task.Task.{Task}
+use Rattle.omi_model.specs.LawNames.{AreNamesLive}
+use Rattle.omi_model.specs.Put.{found}
+use Rattle.omi_model.specs.State.{State, task_of}
+use Rattle.omi_model.specs.Tasking.{AreChildrenFinished, deferred, deferred_task, finished, scheduled, started, started_alone, started_now}
+use Rattle.omi_layout.specs.declared.field.Field.{Field}
+use Rattle.omi_layout.specs.declared.field.Field.TheVariants.{TaskChildren, TaskEnter, TaskExit, TaskNumber, TaskScheduling, TaskSlots, TaskThread, ThreadCurrent}
+use Rattle.omi_layout.specs.Field.{tasks, threads}
+use Rattle.omi_layout.specs.Memory.{Memory, Rec, put, with_word}
+use Rattle.omi_layout.specs.Named.{number}
+use Rattle.omi_layout.specs.Place.{IsSlot}
+use Rattle.omi_layout.specs.Table.{width}
+use Rattle.omi_layout.specs.Valid.{IsValid}
+use Rattle.omi_rep.specs.Records.{task_address, task_word}
+use Rattle.omi_rep.specs.Shows.{IsWithin}
+use Rattle.omi_rule_words.specs.Owes.{Owed, nothing}
+use Rattle.omi_rule_words.specs.Threads.{Has}
+use Rattle.omi_rule_words.specs.Objects.{IsDeferredIn, KeepsEnvironment, KeepsPlace, slot_word}
+use Rattle.omi_rule_words.specs.Words.{KeepsWords}
+
+-- ---- slots
+
+-- a slot of a row, which is the implicit task of a thread in its region
+abbrev pub slot_of : Memory → Tid → ℕ → ℕ
+slot_of m row place = m row.0.creator tasks row.0.slot (number TaskSlots) place
+
+abbrev pub with_slot : Memory → Tid → ℕ → ℕ → Memory
+with_slot m row place word = with_word m row.0.creator tasks row.0.slot (number TaskSlots) place word
+
+-- an implicit task with this region, on this thread
+pub record IsRow (s : State) (i : ℕ) (row : Tid) (t : Task) : Type 0 where
+  pub task : Task
+  pub live : task_of s row ≡ Some task
+  pub implicit : task.implicit ≡ true
+  pub region : task.region ≡ t.region
+  pub thread : task.thread ≡ i
+
+-- ---- a task is deferred, or starts at once
+
+-- a record in the making stands filled for an explicit task that is new: it counts no children
+pub record IsFilledFor (w : List ℕ) (r : Rec) (t : Task) : Type 0 where
+  pub environment : KeepsEnvironment w r t
+  pub children : Has r TaskChildren 0 0
+
+-- what a thread owes before the event that makes a task: its record, which is one of the layout, and the raises in its region and in
+-- the task that makes it
+pub record OwesNew (w : List ℕ) (s : State) (owes : ℕ → Owed) (i : ℕ) (task k : Tid) (t : Task) : Type 0 where
+  pub owed : owes i ≡ record nothing { tasks = task ∷ []; pending = Some t.region; raised = Some k }
+  pub made_by : IsSlot w tasks task.0.creator task.0.slot
+  pub live : task_of s k ≡ Some t
+
+-- A thread defers a task, whose record stands filled, into an empty slot of its row
+abbrev pub DefersKeep : Type 0
+DefersKeep = (p : Program) (w : List ℕ) (m : Memory) (s : State) (owes : ℕ → Owed) (i : ℕ) (task : Tid)
+    (f : ℕ) (final : Bool) (place : ℕ) (k : Tid) (t : Task) (row : Tid)
+    → KeepsWords w m s owes → IsWithin w s → AreNamesLive s → IsValid w
+    → i < s.count → OwesNew w s owes i task k t → IsRow s i row t
+    → place < width w (number TaskSlots) → slot_of m row place ≡ 0
+    → IsFilledFor w (m i tasks task.0.slot) (deferred_task p k t f final place)
+    → KeepsWords w (with_slot m row place (slot_word w task)) (deferred p s task f final place k t)
+    (put owes i nothing)
+
+-- A thread starts a new task at once: its record stands filled, with its place on the thread, and is stored as the current one
+abbrev pub StartsNowKeep : Type 0
+StartsNowKeep = (p : Program) (w : List ℕ) (m : Memory) (s : State) (owes : ℕ → Owed) (i : ℕ) (task : Tid)
+    (f : ℕ) (final : Bool) (k : Tid) (t : Task)
+    → KeepsWords w m s owes → IsWithin w s → AreNamesLive s → IsValid w
+    → i < s.count → OwesNew w s owes i task k t
+    → IsFilledFor w (m i tasks task.0.slot) (deferred_task p k t f final 0)
+    → KeepsPlace w (m i tasks task.0.slot) (scheduled i k t (deferred_task p k t f final 0))
+    → KeepsWords w (with_word m i threads 0 (number ThreadCurrent) 0 (task_address w task))
+    (started_now p s i task f final k t) (put owes i nothing)
+
+-- ---- a deferred task is taken, and starts
+
+-- a deferred task
+pub record IsDeferred (s : State) (k : Tid) (t : Task) : Type 0 where
+  pub live : task_of s k ≡ Some t
+  pub explicit : t.implicit ≡ false
+  pub progress : t.progress ≡ progress.Deferred
+
+-- A deferred task is taken: the slot in which it stands is emptied, and it is in the thread's hand from then on
+abbrev pub SlotTakesKeep : Type 0
+SlotTakesKeep = (w : List ℕ) (m : Memory) (s : State) (owes : ℕ → Owed) (i : ℕ) (row : Tid) (u : Task)
+    (place : ℕ) (k : Tid) → KeepsWords w m s owes → IsWithin w s → IsValid w
+    → i < s.count → owes i ≡ nothing → task_of s row ≡ Some u → u.implicit ≡ true → place < width w (number TaskSlots)
+    → IsDeferredIn s u place k → slot_of m row place ≡ slot_word w k
+    → KeepsWords w (with_slot m row place 0) s (put owes i (record nothing { hand = Some k }))
+
+-- the fields of a task's place on a thread
+pub data IsPlaceField : Field → Type 0 where
+  OfThread : IsPlaceField TaskThread
+  OfNumber : IsPlaceField TaskNumber
+  OfScheduling : IsPlaceField TaskScheduling
+  OfExit : IsPlaceField TaskExit
+  OfEnter : IsPlaceField TaskEnter
+
+-- A word of the place of a deferred task is stored: nothing is said of it until the task starts
+abbrev pub PlaceStoresKeep : Type 0
+PlaceStoresKeep = (w : List ℕ) (m : Memory) (s : State) (owes : ℕ → Owed) (k : Tid) (t : Task) (f : Field)
+    (at word : ℕ) → KeepsWords w m s owes → IsDeferred s k t → IsPlaceField f
+    → KeepsWords w (with_word m k.0.creator tasks k.0.slot (number f) at word) s owes
+
+-- A deferred task in the hand starts: its place stands in its record, which is stored as the thread's current one. In a wait the
+-- thread shows first that it works, but not at `taskyield`
+abbrev pub IsReady : List ℕ → Memory → State → (ℕ → Owed) → ℕ → Tid → Task → Tid → Task → Type 0
+IsReady w m s owes i task new k t =
+    (owes i ≡ record nothing { hand = Some task }) × IsDeferred s task new
+    × KeepsPlace w (m task.0.creator tasks task.0.slot) (scheduled i k t new)
+
+abbrev pub StartsKeep : Type 0
+StartsKeep = (w : List ℕ) (m : Memory) (s : State) (owes : ℕ → Owed) (i : ℕ) (task : Tid) (new : Task)
+    (k : Tid) (t : Task) → KeepsWords w m s owes → i < s.count
+    → IsReady w m s owes i task new k t
+    → KeepsWords w (with_word m i threads 0 (number ThreadCurrent) 0 (task_address w task))
+    (started s i task k t) (put owes i nothing)
+
+abbrev pub StartsAloneKeep : Type 0
+StartsAloneKeep = (w : List ℕ) (m : Memory) (s : State) (owes : ℕ → Owed) (i : ℕ) (task : Tid) (new : Task)
+    (k : Tid) (t : Task) → KeepsWords w m s owes → i < s.count
+    → IsReady w m s owes i task new k t
+    → KeepsWords w (with_word m i threads 0 (number ThreadCurrent) 0 (task_address w task))
+    (started_alone s i task k t) (put owes i nothing)
+
+-- ---- a task finishes
+
+-- an explicit task has begun and not finished
+pub record IsRunning (s : State) (k : Tid) (t : Task) : Type 0 where
+  pub live : task_of s k ≡ Some t
+  pub explicit : t.implicit ≡ false
+  pub progress : t.progress ≡ progress.Begun
+
+-- It finishes: its thread stores the task that it was scheduled from as the current one, and owes the lowerings. Another task has
+-- made it, whose word for unfinished children is to be lowered
+abbrev pub FinishesKeep : Type 0
+FinishesKeep = (w : List ℕ) (m : Memory) (s : State) (owes : ℕ → Owed) (i : ℕ) (k g : Tid) (t : Task)
+    → KeepsWords w m s owes → IsWithin w s → AreNamesLive s → i < s.count → owes i ≡ nothing
+    → IsRunning s k t → t.generating ≡ Some g
+    → KeepsWords w (with_word m i threads 0 (number ThreadCurrent) 0 (task_word w t.scheduling))
+    (finished s i k t) (put owes i (record nothing { pending = Some t.region; lowered = Some k }))
+
+-- ---- children
+
+-- each live task has a name
+abbrev pub AreNamed : State → Type 0
+AreNamed s = (c n : ℕ) (u : Task) → (s.tasks c n).live ≡ Some u
+    → (g : ℕ) × (found g (s.tasks c n) ≡ Some u)
+
+-- Where the word of a live task for its unfinished explicit children is 0, each of its children has finished
+abbrev pub AllChildrenFinished : Type 0
+AllChildrenFinished = (w : List ℕ) (m : Memory) (s : State) (owes : ℕ → Owed) (k : Tid) (t : Task)
+    → KeepsWords w m s owes → IsWithin w s → AreNamed s → task_of s k ≡ Some t
+    → m k.0.creator tasks k.0.slot (number TaskChildren) 0 ≡ 0 → AreChildrenFinished s k

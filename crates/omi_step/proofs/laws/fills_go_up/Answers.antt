@@ -1,5 +1,0 @@
-use Rattle.omi_step.proofs.Rising.{region_stores, task_stores}
-use Rattle.omi_step.proofs.laws.fills_go_up.Goals as goal
-
-pub returns : goal.returns
-returns c = record { regions = region_stores; tasks = task_stores }

@@ -1,0 +1,348 @@
+//! The operations of worked runs, step by step, in the layout of family 0 for two threads. Its arenas begin at the words 99, 112, 124
+//! and 540, and their records have 13, 6, 13 and 26 words.
+
+use crate::moves::follow;
+use crate::scripts::{A_TEAM_OF_TWO, EACH_PLAIN_STATEMENT, TWO_TASKS};
+use crate::trial::{Looks, Trial, Wrong};
+use omi_core::Core;
+use omi_run_lists::Made;
+use omi_word::{Op, OutOfMemory};
+use std::alloc::Global;
+use std::test::Fail;
+
+/// A word: the address of a word of the image by its place, as `@540`, a number of 16 bits in decimal, and any other in hexadecimal.
+fn word_text(alloc: Global, word: u64) -> Result<String, OutOfMemory> {
+    if word < 0x10000 {
+        Ok(format!(in alloc; "{word}")?)
+    } else if word < 0x30000 {
+        let place = (word - 0x10000) / 8;
+        Ok(format!(in alloc; "@{place}")?)
+    } else {
+        Ok(format!(in alloc; "{word:#x}")?)
+    }
+}
+
+/// What an operation stores or adds, none of a load.
+fn argument_text(alloc: Global, op: Op) -> Result<String, OutOfMemory> {
+    match op {
+        Op::Load { .. } => Ok(String::new(alloc)),
+        Op::Store { new, .. } => {
+            let new = word_text(alloc, new)?;
+            Ok(format!(in alloc; " {new}")?)
+        }
+        Op::Cas { old, new, .. } => {
+            let old = word_text(alloc, old)?;
+            let new = word_text(alloc, new)?;
+            Ok(format!(in alloc; " {old} to {new}")?)
+        }
+        Op::Add { by, .. } | Op::Sub { by, .. } => Ok(format!(in alloc; " {by}")?),
+    }
+}
+
+/// The name of an operation, and the address of its word.
+fn named(op: Op) -> (&'static str, u64) {
+    match op {
+        Op::Load { at } => ("load", at),
+        Op::Store { at, .. } => ("store", at),
+        Op::Cas { at, .. } => ("exchange", at),
+        Op::Add { at, .. } => ("add", at),
+        Op::Sub { at, .. } => ("subtract", at),
+    }
+}
+
+/// A step: its operation, the address of its word, and the word that it found.
+fn step_text(alloc: Global, made: Made) -> Result<String, OutOfMemory> {
+    let (name, address) = named(made.op);
+    let at = word_text(alloc, address)?;
+    let argument = argument_text(alloc, made.op)?;
+    let found = word_text(alloc, made.old)?;
+    Ok(format!(in alloc; "{name} {at}{argument} found {found}")?)
+}
+
+/// Whether a thread's steps are these, one after the other.
+fn makes(alloc: Global, core: &Core, thread: u8, steps: &str) -> Result<bool, OutOfMemory> {
+    let made = core.made();
+    let mut wanted = steps.lines();
+    for at in 0..made.len() {
+        let step = made.get(at);
+        if step.thread != thread {
+            continue;
+        }
+        let text = step_text(alloc, step)?;
+        if wanted.next().unwrap_or("") != text.as_str() {
+            return Ok(false);
+        }
+    }
+    Ok(wanted.next().is_none())
+}
+
+/// Whether a run of these moves has these steps of thread 0.
+fn runs(alloc: Global, script: &str, moves: &str, steps: &str) -> Result<bool, Wrong> {
+    let mut t = Trial::opening(alloc, script, 0, Looks::EachStep)?;
+    follow(&mut t, moves)?;
+    Ok(makes(alloc, t.core(), 0, steps)?)
+}
+
+/// The overhead state; the levels of the region and the data environment of the task; the team wanted, and thread 1 asked; the record of
+/// the region, and those of the two members; the store that forks.
+const THE_FORK: &str = "\
+store @549 0x7f00000fffa0 found 0
+store @115 257 found 0
+load @129 found 0
+load @130 found 0
+load @550 found 0
+load @551 found 1
+load @552 found 1
+load @553 found 0
+load @558 found 2
+load @559 found 0
+load @560 found 0
+load @561 found 0
+load @103 found 8
+exchange @122 1 to 2 found 1
+load @124 found 1
+load @137 found 0
+store @137 1 found 0
+store @138 0x400000 found 0
+store @139 @124 found 0
+store @140 @540 found 0
+store @141 2 found 0
+store @142 1 found 0
+store @143 1 found 0
+store @144 0 found 0
+store @145 0 found 0
+store @146 0 found 0
+store @147 0 found 0
+load @540 found 1
+load @566 found 0
+store @566 1 found 0
+store @567 1 found 0
+store @568 @137 found 0
+store @569 @112 found 0
+store @570 0 found 0
+store @571 @540 found 0
+store @572 @540 found 0
+store @573 0x400000 found 0
+store @574 0x7f00000fff80 found 0
+store @575 0 found 0
+store @576 0 found 0
+store @577 1 found 0
+store @578 1 found 0
+store @579 0 found 0
+store @580 0 found 0
+store @581 0 found 0
+store @582 0 found 0
+store @583 0 found 0
+store @584 2 found 0
+store @585 0 found 0
+store @586 0 found 0
+store @587 0 found 0
+store @588 0 found 0
+store @589 0 found 0
+store @590 0 found 0
+store @591 0 found 0
+store @148 @566 found 0
+load @540 found 1
+load @566 found 1
+load @592 found 0
+store @592 1 found 0
+store @593 1 found 0
+store @594 @137 found 0
+store @595 @118 found 0
+store @596 1 found 0
+store @597 @540 found 0
+store @598 0 found 0
+store @599 0x400000 found 0
+store @600 0x7f00001fffc0 found 0
+store @601 0 found 0
+store @602 0 found 0
+store @603 1 found 0
+store @604 1 found 0
+store @605 0 found 0
+store @606 0 found 0
+store @607 0 found 0
+store @608 0 found 0
+store @609 0 found 0
+store @610 2 found 0
+store @611 0 found 0
+store @612 0 found 0
+store @613 0 found 0
+store @614 0 found 0
+store @615 0 found 0
+store @616 0 found 0
+store @617 0 found 0
+store @149 @592 found 0
+store @114 @566 found @540";
+
+#[test]
+fn a_team_of_two_is_forked(rt: HostRuntime) -> Result<(), Fail> {
+    let moves = "1 waits at thread.assign 1 0 0 0\n0 until fork";
+    assert!(rt; runs(rt.alloc(), A_TEAM_OF_TWO, moves, THE_FORK)?);
+    Ok(())
+}
+
+/// Five variables are set, and the tool word; a function is called, then twice by `repeat` and not by `only`; and called under a lock.
+const THE_STATEMENTS: &str = "\
+store @550 1 found 0
+store @558 3 found 2
+store @103 5 found 8
+store @552 34 found 1
+store @553 2 found 0
+store @555 7 found 0
+load @113 found 1000
+load @113 found 1000
+load @113 found 1000
+load @113 found 1000
+load @113 found 1000
+load @113 found 1000
+load @113 found 1000
+load @113 found 1000
+load @113 found 1000
+load @113 found 1000
+load @113 found 1000
+store @549 0x7f00000fffa0 found 0
+store @115 0x40042 found 0
+exchange @107 0 to 1 found 0
+store @115 0 found 0x40042
+store @549 0 found 0x7f00000fffa0
+load @113 found 1000
+load @113 found 1000
+load @113 found 1000
+store @107 0 found 1";
+
+#[test]
+fn variables_calls_and_a_lock(rt: HostRuntime) -> Result<(), Fail> {
+    let done = runs(
+        rt.alloc(),
+        EACH_PLAIN_STATEMENT,
+        "0 until unlock 3",
+        THE_STATEMENTS,
+    )?;
+    assert!(rt; done);
+    Ok(())
+}
+
+/// A task is deferred into the first empty slot of its thread, twice: the slots, the data environment, the record, the two counts, the
+/// slot. At the barrier the first is taken from its slot and starts, and finishes: its generating task, and the two counts. Then the
+/// second starts.
+const THE_TASKS: &str = "\
+store @549 0x7f00000fffa0 found 0
+load @562 found 0
+load @550 found 0
+load @551 found 1
+load @552 found 1
+load @553 found 0
+load @558 found 2
+load @559 found 0
+load @560 found 0
+load @561 found 0
+load @540 found 1
+load @566 found 0
+store @566 1 found 0
+store @567 0 found 0
+store @568 @124 found 0
+store @569 @112 found 0
+store @570 0 found 0
+store @571 @540 found 0
+store @572 @540 found 0
+store @573 0x400000 found 0
+store @574 0x7f00000fff80 found 0
+store @575 0 found 0
+store @576 0 found 0
+store @577 1 found 0
+store @578 1 found 0
+store @579 0 found 0
+store @580 1 found 0
+store @581 0 found 0
+store @582 0 found 0
+store @583 0 found 0
+store @584 2 found 0
+store @585 0 found 0
+store @586 0 found 0
+store @587 0 found 0
+store @588 0 found 0
+store @589 0 found 0
+store @590 0 found 0
+store @591 0 found 0
+add @133 1 found 0
+add @556 1 found 0
+store @562 0x1000001 found 0
+store @549 0 found 0x7f00000fffa0
+store @549 0x7f00000fffa0 found 0
+load @562 found 0x1000001
+load @563 found 0
+load @550 found 0
+load @551 found 1
+load @552 found 1
+load @553 found 0
+load @558 found 2
+load @559 found 0
+load @560 found 0
+load @561 found 0
+load @540 found 1
+load @566 found 1
+load @592 found 0
+store @592 1 found 0
+store @593 0 found 0
+store @594 @124 found 0
+store @595 @112 found 0
+store @596 0 found 0
+store @597 @540 found 0
+store @598 @540 found 0
+store @599 0x400000 found 0
+store @600 0x7f00000fff80 found 0
+store @601 0 found 0
+store @602 0 found 0
+store @603 1 found 0
+store @604 1 found 0
+store @605 0 found 0
+store @606 0 found 0
+store @607 0 found 0
+store @608 0 found 0
+store @609 0 found 0
+store @610 2 found 0
+store @611 0 found 0
+store @612 0 found 0
+store @613 0 found 0
+store @614 0 found 0
+store @615 0 found 0
+store @616 0 found 0
+store @617 0 found 0
+add @133 1 found 1
+add @556 1 found 1
+store @563 0x1000002 found 0
+store @549 0 found 0x7f00000fffa0
+add @132 1 found 0
+load @135 found @540
+load @562 found 0x1000001
+exchange @562 0x1000001 to 0 found 0x1000001
+load @573 found 0x400000
+load @580 found 1
+store @569 @112 found @112
+store @570 0 found 0
+store @572 @540 found @540
+store @574 0x7f00000fff80 found 0x7f00000fff80
+store @575 0 found 0
+store @114 @566 found @540
+store @114 @540 found @566
+load @571 found @540
+subtract @556 1 found 2
+subtract @133 1 found 2
+load @135 found @540
+load @562 found 0
+load @563 found 0x1000002
+exchange @563 0x1000002 to 0 found 0x1000002
+load @599 found 0x400000
+load @606 found 0
+store @595 @112 found @112
+store @596 0 found 0
+store @598 @540 found @540
+store @600 0x7f00000fff80 found 0x7f00000fff80
+store @601 0 found 0
+store @114 @592 found @540";
+
+#[test]
+fn two_tasks(rt: HostRuntime) -> Result<(), Fail> {
+    assert!(rt; runs(rt.alloc(), TWO_TASKS, "0 until start k0.2.0", THE_TASKS)?);
+    Ok(())
+}

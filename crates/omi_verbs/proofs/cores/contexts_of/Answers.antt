@@ -1,0 +1,11 @@
+use Rattle.std.proofs.Common.{◌+◌, ◌++◌, ◌∷◌, [], ℕ, List, ap, ◌∙◌}
+use Rattle.omi_verbs.specs.Cores.{thread_ids}
+use Rattle.omi_verbs.proofs.ThreadIds.{one_more}
+use Rattle.omi_verbs.proofs.cores.contexts_of.Goals as goal
+
+pub loop-thread-preserved : goal.loop-thread-preserved
+loop-thread-preserved c =
+    c.in_ok-push.ensures.added
+    ∙ ap (λ (ids : List ℕ). ids ++ (1000 + c.from.result) ∷ []) c.loop-thread.invariant
+    ∙ ap (λ n. thread_ids c.loop-thread.thread ++ (1000 + n) ∷ []) c.from.ensures
+    ∙ one_more c.loop-thread.thread

@@ -1,0 +1,103 @@
+-- Why a command ends without an answer, what it prints then, and what the program ends with.
+use Rattle.std.specs.Prelude.{◌≡◌, ◌⊎◌, ◌≤◌, ◌+◌, ℕ, List, [], ◌∷◌, ◌++◌, length, Option, Some, None, codes, ⊤}
+use Rattle.std.specs.Fmt.{decimal}
+use Rattle.omi_script.specs.Faults.{number_of_fault, text_of_fault}
+use Rattle.omi_script.specs.declared.fault.ScriptFault.{ScriptFault}
+use Rattle.omi_script.specs.declared.fault.ScriptError.{ScriptError}
+use Rattle.omi_script.specs.declared.fault.ScriptError.TheVariants as error
+use Rattle.omi_corefile.specs.Faults.{number_of, text_of}
+use Rattle.omi_corefile.specs.declared.fault.CoreFault.{CoreFault}
+use Rattle.omi_corefile.specs.declared.fault.CoreError.{CoreError}
+use Rattle.omi_corefile.specs.declared.fault.CoreError.TheVariants as core
+use Rattle.omi_outside.specs.declared.files.Refused.{Refused}
+use Rattle.omi_outside.specs.declared.files.Refused.TheVariants as refused
+use Rattle.omi_outside.specs.declared.status.Status.{Status}
+use Rattle.omi_outside.specs.declared.status.Status.TheVariants as status
+use Rattle.omi_layout.specs.Field.{name_of}
+use Rattle.omi_text.specs.Numbers.{hexadecimal}
+use Rattle.omi_verbs.specs.declared.limits.TheConstants.{LINE_ROOM}
+use Rattle.omi_verbs.specs.declared.refusal.Input.{Input}
+use Rattle.omi_verbs.specs.declared.refusal.Input.TheVariants as input
+use Rattle.omi_verbs.specs.declared.refusal.Refusal.{Refusal}
+use Rattle.omi_verbs.specs.declared.refusal.Refusal.TheVariants as refusal
+
+-- what a refused write, and the error of a script or of a core, are handed on as
+abbrev pub refusal_of_write : Refused → Refusal
+refusal_of_write refused.Failed = refusal.WriteFault
+refusal_of_write refused.OutOfMemory = refusal.OutOfMemory
+
+abbrev pub refusal_of_script : ScriptError → Refusal
+refusal_of_script (error.Fault fault) = refusal.Script fault
+refusal_of_script error.OutOfMemory = refusal.OutOfMemory
+
+abbrev pub refusal_of_core : CoreError → Refusal
+refusal_of_core (core.Fault at why) = refusal.Core at why
+refusal_of_core core.OutOfMemory = refusal.OutOfMemory
+
+-- a file can't be read
+abbrev pub IsReadFault : Refusal → Type 0
+IsReadFault (refusal.ReadFault read) = ⊤
+IsReadFault r = ⊥
+
+-- a file of this kind can't be read, or memory ran out
+abbrev pub IsUnread : Input → Refusal → Type 0
+IsUnread read r = (r ≡ refusal.ReadFault read) ⊎ (r ≡ refusal.OutOfMemory)
+
+-- the status of a refusal
+abbrev pub status_of : Refusal → Status
+status_of refusal.Usage = status.Usage
+status_of (refusal.NoFile read) = status.NoFile
+status_of (refusal.ReadFault read) = status.ReadFault
+status_of refusal.WriteFault = status.WriteFault
+status_of (refusal.Script fault) = status.Script
+status_of (refusal.Core at why) = status.Core
+status_of (refusal.Damaged addr field) = status.Damaged
+status_of (refusal.Cycle addr) = status.Damaged
+status_of refusal.Incompatible = status.Incompatible
+status_of refusal.OutOfMemory = status.OutOfMemory
+
+-- line, number and name of a fault of a script
+abbrev pub fault_line : ScriptFault → List ℕ
+fault_line fault =
+    codes "script " ++ (decimal fault.line ++ (codes " " ++ (decimal (number_of_fault fault.why)
+    ++ (codes " " ++ (text_of_fault fault.why ++ 10 ∷ [])))))
+
+-- place, number and name of a fault of a core
+abbrev pub core_fault_line : ℕ → CoreFault → List ℕ
+core_fault_line at why =
+    codes "core " ++ (decimal at ++ (codes " " ++ (decimal (number_of why)
+    ++ (codes " " ++ (text_of why ++ 10 ∷ [])))))
+
+-- the address of a record, of a pointer or of a word of the layout table, and the name of the field, which is `layout` for the table
+abbrev pub damaged_line : ℕ → ℕ → List ℕ
+damaged_line addr field =
+    codes "damaged " ++ (hexadecimal addr ++ (codes " " ++ (name_of field ++ 10 ∷ [])))
+
+-- the address that a chain meets a second time
+abbrev pub cycle_line : ℕ → List ℕ
+cycle_line addr = codes "cycle " ++ (hexadecimal addr ++ 10 ∷ [])
+
+-- the name of what a command reads, by those that it gives to a script and to a core
+abbrev pub named : List ℕ → List ℕ → Input → List ℕ
+named script core input.Script = script
+named script core input.Core = core
+
+-- the line that a refusal prints, by these names
+abbrev pub line_of : List ℕ → List ℕ → Refusal → Option (List ℕ)
+line_of script core refusal.Usage = Some (codes "usage" ++ 10 ∷ [])
+line_of script core (refusal.NoFile read) =
+    Some (codes "no file " ++ (named script core read ++ 10 ∷ []))
+line_of script core (refusal.ReadFault read) =
+    Some (codes "read fault " ++ (named script core read ++ 10 ∷ []))
+line_of script core (refusal.Script fault) = Some (fault_line fault)
+line_of script core (refusal.Core at why) = Some (core_fault_line at why)
+line_of script core (refusal.Damaged addr field) = Some (damaged_line addr field)
+line_of script core (refusal.Cycle addr) = Some (cycle_line addr)
+line_of script core refusal.Incompatible = Some (codes "incompatible" ++ 10 ∷ [])
+line_of script core refusal.WriteFault = None
+line_of script core refusal.OutOfMemory = None
+
+-- a line with either name has room in so many bytes
+pub record HasRoom (script core : List ℕ) (room : ℕ) : Type 0 where
+  pub of_script : length script + LINE_ROOM ≤ room
+  pub of_core : length core + LINE_ROOM ≤ room

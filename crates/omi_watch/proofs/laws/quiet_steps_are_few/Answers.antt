@@ -1,5 +1,0 @@
-use Rattle.omi_watch.proofs.Quiets.{quiet_steps_few}
-use Rattle.omi_watch.proofs.laws.quiet_steps_are_few.Goals as goal
-
-pub returns : goal.returns
-returns c = quiet_steps_few
