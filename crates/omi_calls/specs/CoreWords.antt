@@ -9,6 +9,6 @@ abbrev pub word_of : Segment → Words
 word_of s addr = if nat_le s.start addr then slice_get s.words ((addr - s.start) / 8) else None
 
 -- the word of the first segment that has one at the address
-abbrev pub words_of : List Segment → Words
-words_of [] addr = None
-words_of (s ∷ ss) addr = option_or (word_of s addr) (words_of ss addr)
+abbrev pub words_of_segments : List Segment → Words
+words_of_segments [] addr = None
+words_of_segments (s ∷ ss) addr = option_or (word_of s addr) (words_of_segments ss addr)

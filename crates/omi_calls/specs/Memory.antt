@@ -5,7 +5,7 @@ use Rattle.omi_corefile.specs.declared.core_image.CoreImage.{CoreImage}
 use Rattle.omi_calls.specs.declared.memory.MemCalls.{MemCalls}
 use Rattle.omi_calls.specs.declared.callbacks.Sizes.{Sizes}
 use Rattle.omi_calls.specs.Told.{Told}
-use Rattle.omi_calls.specs.CoreWords.{words_of}
+use Rattle.omi_calls.specs.CoreWords.{words_of_segments}
 use Rattle.omi_calls.specs.SymbolTable.{symbol_in}
 
 -- the sizes of the basic types of a target whose addresses have 64 bits
@@ -23,8 +23,8 @@ usual_sizes = record {
 abbrev pub told_by : CoreImage → Told
 told_by core = record {
   order = Some core.order;
-  words = Some (words_of core.segments);
-  symbols = Some (symbol_in (words_of core.segments));
+  words = Some (words_of_segments core.segments);
+  symbols = Some (symbol_in (words_of_segments core.segments));
   sizes = usual_sizes;
 }
 

@@ -2,7 +2,7 @@
 
 ghost use Rattle.std.specs.Prelude.{◌≡◌};
 ghost use Rattle.omi_calls.specs.Told.{word_at};
-ghost use Rattle.omi_calls.specs.CoreWords.{word_of, words_of};
+ghost use Rattle.omi_calls.specs.CoreWords.{word_of, words_of_segments};
 
 use omi_corefile::{CoreImage, Segment};
 
@@ -24,7 +24,7 @@ fn segment_word(segment: &Segment, addr: u64) -> Option<u64>
 /// The word of a core at a byte address. None where the address is unaligned or no word stands
 /// there.
 pub fn core_word(core: &CoreImage, addr: u64) -> Option<u64>
-    ensures { result ≡ word_at (words_of core.now.segments) addr }
+    ensures { result ≡ word_at (words_of_segments core.now.segments) addr }
 {
     if addr % 8 != 0 {
         return None;

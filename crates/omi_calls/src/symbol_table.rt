@@ -1,7 +1,7 @@
 //! The look-up of a symbol in the table that a core's words hold.
 
 ghost use Rattle.std.specs.Prelude.{◌≡◌, ◌≤◌, length, Some};
-ghost use Rattle.omi_calls.specs.CoreWords.{words_of};
+ghost use Rattle.omi_calls.specs.CoreWords.{words_of_segments};
 ghost use Rattle.omi_calls.specs.SymbolTable.{words_from, symbol_of, is_named, symbol_in};
 
 use crate::core_words::core_word;
@@ -22,7 +22,7 @@ pub const SYMBOL_BYTES: u64 = 40;
 /// The words of a symbol at a byte address, where each of them is mapped.
 fn five_words(core: &CoreImage, at: u64) -> Option<[u64; 5]>
     requires { at ≤ 66184 }
-    ensures { result ≡ words_from (words_of core.now.segments) at 5 }
+    ensures { result ≡ words_from (words_of_segments core.now.segments) at 5 }
 {
     let second = at + 8;
     let third = second + 8;
@@ -58,7 +58,7 @@ pub fn has_name(words: &[u64; 5], name: &str) -> bool
 /// The address of the first symbol of this name. None where the count or a word of the symbols that
 /// it counts isn't mapped, where the count exceeds 16, or where no symbol has the name.
 pub fn symbol(core: &CoreImage, name: &str) -> Option<u64>
-    ensures { result ≡ symbol_in (words_of core.now.segments) name.now }
+    ensures { result ≡ symbol_in (words_of_segments core.now.segments) name.now }
 {
     let count = core_word(core, COUNT_PLACE)?;
     if count > MOST_SYMBOLS {

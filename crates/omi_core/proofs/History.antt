@@ -2,12 +2,12 @@
 use Rattle.std.proofs.Common.{◌≡◌, ◌≢◌, ◌+◌, ◌==◌, ◌++◌, ℕ, suc, Bool, true, false, List, [], ◌∷◌, length, refl, sym, ap, ◌∙◌, subst, arith, eqb-true, if◌then◌else◌}
 use Rattle.std.proofs.lemmas.List.{append_assoc, append-nil}
 use Rattle.std.proofs.lemmas.Bool.Decides.{nat_tests}
-use Rattle.omi_word.specs.Memory.{after}
+use Rattle.omi_word.specs.Memory.{words_after}
 use Rattle.omi_script.specs.declared.program.Program.{Program}
 use Rattle.omi_model.specs.declared.event.Event.{Event}
 use Rattle.omi_model.specs.State.{State}
 use Rattle.omi_run_lists.specs.declared.made.Made.{Made}
-use Rattle.omi_layout.specs.Memory.{put}
+use Rattle.omi_layout.specs.Memory.{replace_at}
 use Rattle.omi_pc.specs.declared.actor.Actor.{Actor}
 use Rattle.omi_pc.specs.declared.counter.Counter.{Counter}
 use Rattle.omi_pc.specs.declared.counter.Counter.TheVariants as counter
@@ -66,20 +66,20 @@ made_length (x ∷ xs) = ap suc (made_length xs)
 
 pub steps_one_more : (p : Program) (w words : List ℕ) (past : List (ℕ × Event)) (s : State) (watches : Watches) (xs : List (ℕ × Entry)) (last : List ℕ) (t : State) (later : Watches) (i : ℕ) (e : Entry) (next : State) (watch : Watch)
     → Steps p w words past s watches xs last t later → IsStepFrom p w last (past ++ commits_of xs) t i e next → IsWatched p w last t i e (later i) watch
-    → Steps p w words past s watches (xs ++ (i, e) ∷ []) (after last e.op) next (put later i watch)
+    → Steps p w words past s watches (xs ++ (i, e) ∷ []) (words_after last e.op) next (replace_at later i watch)
 steps_one_more p w words past s watches [] last t later i e next watch (same, is, kept) step seen = (
   next,
   watch,
   subst (λ (z : State). IsStepFrom p w words past z i e next) is (subst (λ ws. IsStepFrom p w ws past t i e next) same (subst (λ es. IsStepFrom p w last es t i e next) (append-nil past) step)),
   subst (λ (z : State). IsWatched p w words z i e (watches i) watch) is (subst (λ ws. IsWatched p w ws t i e (watches i) watch) same (subst (λ (h : Watches). IsWatched p w last t i e (h i) watch) kept seen)),
-  (ap (λ ws. after ws e.op) same, refl, ap (λ (h : Watches). put h i watch) kept),
+  (ap (λ ws. words_after ws e.op) same, refl, ap (λ (h : Watches). replace_at h i watch) kept),
 )
 steps_one_more p w words past s watches (x ∷ xs) last t later i e next watch (n, h, one, first, rest) step seen = (
   n,
   h,
   one,
   first,
-  steps_one_more p w (after words x.1.op) (past ++ committed x.0 x.1.outcome) n (put watches x.0 h) xs last t later i e next watch rest
+  steps_one_more p w (words_after words x.1.op) (past ++ committed x.0 x.1.outcome) n (replace_at watches x.0 h) xs last t later i e next watch rest
       (subst (λ es. IsStepFrom p w last es t i e next) (sym (append_assoc past (committed x.0 x.1.outcome) (commits_of xs))) step) seen,
 )
 

@@ -6,7 +6,7 @@ use Rattle.omi_script.specs.declared.statement.Stmt.{Stmt}
 use Rattle.omi_script.specs.declared.statement.Stmt.TheVariants as stmt
 use Rattle.omi_model.specs.declared.id.Tid.{Tid}
 use Rattle.omi_layout.specs.Field.{tasks}
-use Rattle.omi_layout.specs.Memory.{put}
+use Rattle.omi_layout.specs.Memory.{replace_at}
 use Rattle.omi_pc.specs.declared.actor.Actor.{Actor}
 use Rattle.omi_pc.specs.declared.counter.Counter.{Counter}
 use Rattle.omi_pc.specs.declared.counter.Counter.TheVariants as counter
@@ -35,8 +35,8 @@ use Rattle.omi_pc.specs.declared.team_counter.WorkerCounter.{WorkerCounter}
 use Rattle.omi_pc.specs.declared.team_counter.WorkerCounter.TheVariants as worker
 use Rattle.omi_pc.specs.Fits.{slots_of}
 use Rattle.omi_pc.specs.Frames.{advanced, next_statement, at_start}
-use Rattle.omi_pc.specs.Moves.{begun_master, begun_worker, closed, closed_in, returned, returned_by, returned_in, worked, worked_at, worked_in, working, begun_explicit}
-use Rattle.omi_pc.specs.Settle.{begun, calling, ended, goes_to, settled, settled_by, settled_in}
+use Rattle.omi_pc.specs.Moves.{begun_master, begun_worker, closed, closed_in, returned, returned_by, returned_in, worked, worked_at, worked_in, back_to_work, begun_explicit}
+use Rattle.omi_pc.specs.Settle.{statement_begun, calling, ended, goes_to, settled, settled_by, settled_in}
 use Rattle.omi_pc.specs.declared.frame.Opened.TheVariants.{Main}
 use Rattle.omi_pc.specs.declared.task_counter.TaskCounter.{TaskCounter}
 use Rattle.omi_pc.specs.declared.task_counter.TaskCounter.TheVariants as task
@@ -54,7 +54,7 @@ use Rattle.omi_plain.specs.PlainSteps.{behind_enter, left_behind, plain_moved, t
 use Rattle.omi_plain.specs.Statements.{in_work}
 use Rattle.omi_task.specs.LookSteps.{look_at, look_moved, next_look, behind_code, behind_look, body_begun, looking_on}
 use Rattle.omi_task.specs.FinishSteps.{behind_finish, finish_moved}
-use Rattle.omi_task.specs.MakingSteps.{behind_life, behind_raises, behind_slot, behind_variable, behind_word, made_function, makes_final, making_moved}
+use Rattle.omi_task.specs.MakingSteps.{behind_life, behind_raises, behind_slot, behind_task_variable, behind_word, made_function, makes_final, making_moved}
 use Rattle.omi_task.specs.Slots.{coded_task}
 use Rattle.omi_task.specs.Starts.{task_context}
 use Rattle.omi_actor.specs.Steps.{resumed_at}
@@ -65,7 +65,7 @@ use Rattle.omi_core.proofs.Stepping.{actors_set}
 
 -- ---- moves between statements
 
-kept_begun : (s : Stmt) (a : Actor) → IsKept (begun s a).counter
+kept_begun : (s : Stmt) (a : Actor) → IsKept (statement_begun s a).counter
 kept_begun (stmt.Parallel f num) a = tt
 kept_begun (stmt.Task f undeferred final) a = tt
 kept_begun stmt.Taskwait a = tt
@@ -119,7 +119,7 @@ kept_worked p a kept_now = go a.stack
     go [] = kept_now
     go (f ∷ fs) = at f.next
 
-kept_working : (p : Program) (a : Actor) → IsKept a.counter → IsKept (working p a).counter
+kept_working : (p : Program) (a : Actor) → IsKept a.counter → IsKept (back_to_work p a).counter
 kept_working p a kept_now = go p.env.debug
   where
     go : (b : Bool) → IsKept (if b then goes_to plain.WorkState a else worked p a).counter
@@ -164,7 +164,7 @@ kept_worker p w a (worker.ImplicitBegin t f r size n) old kept_now = kept_workin
 kept_worker p w a c old kept_now = tt
 
 kept_assigning : (p : Program) (member : ℕ) (a : Actor) → IsKept a.counter → IsKept (assigning_from p member a).counter
-kept_assigning p member a kept_now = either (nat_lt member (team_size a)) (to_team (team.Assign member) a) (working p a) tt (kept_working p a kept_now)
+kept_assigning p member a kept_now = either (nat_lt member (team_size a)) (to_team (team.Assign member) a) (back_to_work p a) tt (kept_working p a kept_now)
 
 kept_team : (p : Program) (w : List ℕ) (a : Actor) (c : TeamCounter) (old : ℕ) → IsKept a.counter → IsKept (team_moved p w a c old).counter
 kept_team p w a (team.Fork r) old kept_now = kept_assigning p 1 (begun_master (region_function p a) (master_context a r) a) kept_now
@@ -228,7 +228,7 @@ kept_look p w a (look.LoadSlot v n row) old kept_now = either (old == 0) (lookin
 kept_look p w a (look.LoadGenerating v n row code) old kept_now = either (old == task_address w a.context.task) (to_look (look.Take v n row code) a) (looking_on v n row a) tt (kept_next_look a v (n + 1) row)
 kept_look p w a (look.Take v n row code) old kept_now = either (old == code) (to_look (look.LoadFunction v n code (coded_task w code)) a) (looking_on v n row a) tt (kept_next_look a v (n + 1) row)
 kept_look p w a (look.Start v n code t f final) old kept_now = kept_body p v (begun_explicit f (Some v) (task_context a t final) a) kept_now
-kept_look p w a look.LoadChildren old kept_now = either (old == 0) (working p a) (to_look (look.LoadRow wait.Taskwait 0) a) (kept_working p a kept_now) tt
+kept_look p w a look.LoadChildren old kept_now = either (old == 0) (back_to_work p a) (to_look (look.LoadRow wait.Taskwait 0) a) (kept_working p a kept_now) tt
 kept_look p w a c old kept_now = tt
 
 kept_slot : (place old : ℕ) → IsTaskKept (behind_slot place old)
@@ -239,7 +239,7 @@ kept_slot place old = go (old == 0) (nat_lt (place + 1) OWN_SLOTS)
     go false true = tt
     go false false = tt
 
-kept_variable : (place : Option ℕ) (word : ℕ) → IsTaskKept (behind_variable place word)
+kept_variable : (place : Option ℕ) (word : ℕ) → IsTaskKept (behind_task_variable place word)
 kept_variable place word = go (nat_lt (word + 1) VARIABLE_WORDS)
   where
     go : (b : Bool) → IsTaskKept (if b then task.LoadVariable place (word + 1) else task.LoadLife place 0)
@@ -327,7 +327,7 @@ kept_plain p a plain.Enter old kept_now = kept_enter p.env.debug a.context.is_fi
 kept_plain p a plain.Leave old kept_now = kept_left p (in_work p a) a kept_now
 kept_plain p a plain.WorkState old kept_now = kept_worked p a kept_now
 kept_plain p a plain.LockState old kept_now = tt
-kept_plain p a plain.Lock old kept_now = either (old == 0) (working p a) a (kept_working p a kept_now) kept_now
+kept_plain p a plain.Lock old kept_now = either (old == 0) (back_to_work p a) a (kept_working p a kept_now) kept_now
 kept_plain p a plain.Unlock old kept_now = kept_settled p a kept_now
 kept_plain p a plain.Done old kept_now = tt
 kept_plain p a plain.Ended old kept_now = kept_now
@@ -360,7 +360,7 @@ step_kept a b i old thread count all program actors j known = go (j == i) refl
     moved : Actor
     moved = (resumed_at a.program a.table (actors_in a.actors i) (actors_in a.actors i).counter old).0
 
-    now : actors_in b.actors ≡ put (actors_in a.actors) i moved
+    now : actors_in b.actors ≡ replace_at (actors_in a.actors) i moved
     now = ap actors_in actors ∙ actors_set a.actors i moved (subst (λ n. i < n) (sym count) thread)
 
     go : (t : Bool) → j == i ≡ t → IsKept (actors_in b.actors j).counter

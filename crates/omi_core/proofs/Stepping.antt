@@ -8,7 +8,7 @@ use Rattle.std.proofs.lemmas.Nat.{le-div}
 use Rattle.std.proofs.lemmas.List.{length-append}
 use Rattle.std.proofs.lemmas.List.{get_or-set_other, get_or-set_same, length-map, length-set}
 use Rattle.omi_word.specs.declared.op.Op.{Op}
-use Rattle.omi_word.specs.Memory.{IsWordOf, address_of, after, word_at}
+use Rattle.omi_word.specs.Memory.{IsWordOf, address_of, words_after, word_at}
 use Rattle.omi_script.specs.declared.program.Program.{Program}
 use Rattle.omi_model.specs.declared.event.Event.{Event}
 use Rattle.omi_model.specs.declared.event.Event.TheVariants as event
@@ -21,7 +21,7 @@ use Rattle.omi_model.specs.State.{State}
 use Rattle.omi_layout.specs.declared.limits.TheConstants.{FRONT_WORDS, TABLE_PLACE}
 use Rattle.omi_layout.specs.Frame.{IsOnWord}
 use Rattle.omi_layout.specs.Given.{HasTables}
-use Rattle.omi_layout.specs.Memory.{Memory, memory_of, put}
+use Rattle.omi_layout.specs.Memory.{Memory, memory_of, replace_at}
 use Rattle.omi_layout.specs.Named.{number}
 use Rattle.omi_layout.specs.Place.{fits}
 use Rattle.omi_layout.specs.SymbolTable.{words_of}
@@ -55,7 +55,7 @@ use Rattle.omi_core.proofs.Reaching.{reached_one}
 -- ---- lists
 
 -- one actor of a list is another
-pub actors_set : (xs : List Actor) (i : ℕ) (b : Actor) → i < length xs → actors_in (slice_set xs i b) ≡ put (actors_in xs) i b
+pub actors_set : (xs : List Actor) (i : ℕ) (b : Actor) → i < length xs → actors_in (slice_set xs i b) ≡ replace_at (actors_in xs) i b
 actors_set xs i b within = fun_ext (λ j. go j (j == i) refl)
   where
     go : (j : ℕ) (t : Bool) → j == i ≡ t → actors_in (slice_set xs i b) j ≡ (if t then b else actors_in xs j)
@@ -301,10 +301,10 @@ module _ (a : Run) (k : KeepsRun a) (i : ℕ) (thread : i < a.program.threads) w
 
       -- ---- the run afterwards
 
-      now_words : after a.words e.op ≡ after a.words op
-      now_words = ap (λ (o : Op). after a.words o) op_is
+      now_words : words_after a.words e.op ≡ words_after a.words op
+      now_words = ap (λ (o : Op). words_after a.words o) op_is
 
-      still : HasTables a.table (after a.words op)
+      still : HasTables a.table (words_after a.words op)
       still = record {
         long = subst (λ n. FRONT_WORDS ≤ n) (sym on.count) k.tables.long;
         symbols = λ j below. on.front j (omega (arith, below)) ∙ k.tables.symbols j below;
@@ -314,10 +314,10 @@ module _ (a : Run) (k : KeepsRun a) (i : ℕ) (thread : i < a.program.threads) w
       abbrev actors_behind : List Actor
       actors_behind = slice_set a.actors i (behind (word_at a.words (address_of op))).0
 
-      actors_now : actors_in (slice_set a.actors i (behind (word_at a.words (address_of op))).0) ≡ put (actors_in a.actors) i (behind (word_at a.words (address_of op))).0
+      actors_now : actors_in (slice_set a.actors i (behind (word_at a.words (address_of op))).0) ≡ replace_at (actors_in a.actors) i (behind (word_at a.words (address_of op))).0
       actors_now = actors_set a.actors i (behind (word_at a.words (address_of op))).0 (subst (λ n. i < n) (sym k.actors) thread)
 
-      now : (es : Events) → es.items ≡ a.events.items ++ event_of (length a.made.items + 1) i e.outcome → Rule a.program a.table (memory_of a.table (after a.words e.op)) (events_in es.items) rule_after.next (actors_in actors_behind)
+      now : (es : Events) → es.items ≡ a.events.items ++ event_of (length a.made.items + 1) i e.outcome → Rule a.program a.table (memory_of a.table (words_after a.words e.op)) (events_in es.items) rule_after.next (actors_in actors_behind)
       now es events =
           subst (λ ws. Rule a.program a.table (memory_of a.table ws) (events_in es.items) rule_after.next (actors_in actors_behind)) (sym now_words)
           (subst (λ (m : Memory). Rule a.program a.table m (events_in es.items) rule_after.next (actors_in actors_behind)) (sym on.leaves)
@@ -342,8 +342,8 @@ module _ (a : Run) (k : KeepsRun a) (i : ℕ) (thread : i < a.program.threads) w
               (k.workers j worker)
 
       -- each thread's actor gives its watch
-      all_watched : (j : ℕ) → IsGiven a.program (actors_in actors_behind j) (put k.made_by.steps.watches i (watch_of e) j)
-      all_watched j = subst (λ (xs : ℕ → Actor). IsGiven a.program (xs j) (put k.made_by.steps.watches i (watch_of e) j)) (sym actors_now) (go (j == i))
+      all_watched : (j : ℕ) → IsGiven a.program (actors_in actors_behind j) (replace_at k.made_by.steps.watches i (watch_of e) j)
+      all_watched j = subst (λ (xs : ℕ → Actor). IsGiven a.program (xs j) (replace_at k.made_by.steps.watches i (watch_of e) j)) (sym actors_now) (go (j == i))
         where
           go : (t : Bool) → IsGiven a.program (if t then (behind (word_at a.words (address_of op))).0 else actors_in a.actors j) (if t then watch_of e else k.made_by.steps.watches j)
           go true = given_behind
@@ -351,7 +351,7 @@ module _ (a : Run) (k : KeepsRun a) (i : ℕ) (thread : i < a.program.threads) w
 
       -- the run with these lists
       pub keeps_behind : (es : Events) (made : Steps) → es.items ≡ a.events.items ++ event_of (length a.made.items + 1) i e.outcome → made.items ≡ a.made.items ++ made_of i e ∷ []
-          → KeepsRun (record { program = a.program; table = a.table; words = after a.words e.op; actors = actors_behind; events = es; made = made })
+          → KeepsRun (record { program = a.program; table = a.table; words = words_after a.words e.op; actors = actors_behind; events = es; made = made })
       keeps_behind es made events one = record {
         state = rule_after.next;
         valid = k.valid;
@@ -366,7 +366,7 @@ module _ (a : Run) (k : KeepsRun a) (i : ℕ) (thread : i < a.program.threads) w
           steps = record {
             first = k.made_by.steps.first;
             opens = k.made_by.steps.opens;
-            watches = put k.made_by.steps.watches i (watch_of e);
+            watches = replace_at k.made_by.steps.watches i (watch_of e);
             steps = steps_one_more a.program a.table k.made_by.steps.first [] _ opening_watches k.entries a.words k.state k.made_by.steps.watches i e rule_after.next (watch_of e) k.made_by.steps.steps
                 (subst (λ es. IsStepFrom a.program a.table a.words es k.state i e rule_after.next) (ap events_in k.made_by.events ∙ commits_behind 0 k.entries) (from e op_is old_is out_is)) step_watched;
             workers = λ j worker. starts_right (steps_of j (k.entries ++ (i, e) ∷ [])) (actors_in actors_behind j).counter (under_way j worker);
@@ -388,13 +388,13 @@ module _ (a : Run) (k : KeepsRun a) (i : ℕ) (thread : i < a.program.threads) w
 
     -- the run afterwards
     pub run_after : (b : Run) (e : Entry) → e.op ≡ op → e.old ≡ word_at a.words (address_of op) → e.outcome ≡ (behind (word_at a.words (address_of op))).1
-        → b.program ≡ a.program → b.table ≡ a.table → b.words ≡ after a.words e.op → b.actors ≡ slice_set a.actors i (behind (word_at a.words (address_of op))).0
+        → b.program ≡ a.program → b.table ≡ a.table → b.words ≡ words_after a.words e.op → b.actors ≡ slice_set a.actors i (behind (word_at a.words (address_of op))).0
         → b.made.items ≡ a.made.items ++ made_of i e ∷ [] → b.events.items ≡ a.events.items ++ event_of (length a.made.items + 1) i e.outcome → KeepsRun b
     run_after b e op_is old_is out_is program table words actors made events =
         subst (λ (q : Program). KeepsRun (record { program = q; table = b.table; words = b.words; actors = b.actors; events = b.events; made = b.made })) (sym program)
         (subst (λ t. KeepsRun (record { program = a.program; table = t; words = b.words; actors = b.actors; events = b.events; made = b.made })) (sym table)
         (subst (λ ws. KeepsRun (record { program = a.program; table = a.table; words = ws; actors = b.actors; events = b.events; made = b.made })) (sym words)
-        (subst (λ (xs : List Actor). KeepsRun (record { program = a.program; table = a.table; words = after a.words e.op; actors = xs; events = b.events; made = b.made })) (sym actors)
+        (subst (λ (xs : List Actor). KeepsRun (record { program = a.program; table = a.table; words = words_after a.words e.op; actors = xs; events = b.events; made = b.made })) (sym actors)
         (keeps_behind e op_is old_is out_is b.events b.made events made))))
 
 -- room behind a step

@@ -1,6 +1,6 @@
 -- One step of a run: the operation of a thread on one word, the actor behind it, and what came of it.
 use Rattle.std.specs.Prelude.{◌≡◌, ℕ, ◌+◌, ◌++◌, List, [], ◌∷◌, length, slice_set}
-use Rattle.omi_word.specs.Memory.{address_of, after, word_at}
+use Rattle.omi_word.specs.Memory.{address_of, words_after, word_at}
 use Rattle.omi_model.specs.declared.event.Event.{Event}
 use Rattle.omi_model.specs.Reached.{Reached}
 use Rattle.omi_model.specs.State.{State}
@@ -49,7 +49,7 @@ pub record IsStep (old : Run) (i : ℕ) (e : Entry) (new : Run) : Type 0 where
       (actors_in old.actors i).counter e.old).1
   pub actors : new.actors ≡ slice_set old.actors i (resumed_at old.program old.table
       (actors_in old.actors i) (actors_in old.actors i).counter e.old).0
-  pub words : new.words ≡ after old.words e.op
+  pub words : new.words ≡ words_after old.words e.op
   pub made : new.made.items ≡ old.made.items ++ made_of i e ∷ []
   pub events : new.events.items
       ≡ old.events.items ++ event_of (length old.made.items + 1) i e.outcome

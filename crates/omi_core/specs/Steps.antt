@@ -1,14 +1,14 @@
 -- A list of atomic steps by any threads, in any order, and what it makes: the words, the numbered events, and the state that these
 -- reach. Each thread meets what is demanded by its watch: the bound of quiet steps, the order of a search, and the look before a wait.
 use Rattle.std.specs.Prelude.{◌≡◌, ◌<◌, ℕ, ◌+◌, ◌++◌, List, [], ◌∷◌, map, ◌==◌, if◌then◌else◌}
-use Rattle.omi_word.specs.Memory.{IsWordOf, address_of, after, word_at}
+use Rattle.omi_word.specs.Memory.{IsWordOf, address_of, words_after, word_at}
 use Rattle.omi_script.specs.declared.program.Program.{Program}
 use Rattle.omi_model.specs.declared.event.Event.{Event}
 use Rattle.omi_model.specs.declared.event.Event.TheVariants as event
 use Rattle.omi_model.specs.Opening.{opening}
 use Rattle.omi_model.specs.State.{State}
 use Rattle.omi_run_lists.specs.declared.made.Made.{Made}
-use Rattle.omi_layout.specs.Memory.{memory_of, put}
+use Rattle.omi_layout.specs.Memory.{memory_of, replace_at}
 use Rattle.omi_layout.specs.OpeningWords.{AreOpening}
 use Rattle.omi_rep.specs.declared.outcome.Outcome.TheVariants as outcome
 use Rattle.omi_rule.specs.Commits.{ComesOf}
@@ -54,8 +54,8 @@ Steps p w words past s watches [] last t later =
 Steps p w words past s watches (x ∷ xs) last t later = (next : State) × (watch : Watch)
     × IsStepFrom p w words past s x.0 x.1 next
     × IsWatched p w words s x.0 x.1 (watches x.0) watch
-    × Steps p w (after words x.1.op) (past ++ committed x.0 x.1.outcome) next
-    (put watches x.0 watch) xs last t later
+    × Steps p w (words_after words x.1.op) (past ++ committed x.0 x.1.outcome) next
+    (replace_at watches x.0 watch) xs last t later
 
 -- the events of steps behind so many others, each with the number of its step and its thread
 abbrev pub events_behind : ℕ → List (ℕ × Entry) → List (ℕ × ℕ × Event)
@@ -64,8 +64,8 @@ events_behind steps (x ∷ xs) =
     event_of (steps + 1) x.0 x.1.outcome ++ events_behind (steps + 1) xs
 
 -- the threads of steps, in order, and what is kept of each
-abbrev pub threads_of : List (ℕ × Entry) → List ℕ
-threads_of xs = map (λ x. x.0) xs
+abbrev pub threads_of_steps : List (ℕ × Entry) → List ℕ
+threads_of_steps xs = map (λ x. x.0) xs
 
 abbrev pub made_of_steps : List (ℕ × Entry) → List Made
 made_of_steps xs = map (λ x. made_of x.0 x.1) xs

@@ -15,9 +15,9 @@ use Rattle.omi_corefile.specs.declared.fault.CoreFault.TheVariants.{BadMagic, Ve
 use Rattle.omi_corefile.specs.Limits.{is_start, end_of, total_words}
 use Rattle.omi_word.specs.declared.limits.TheConstants.{FIRST_ADDRESS}
 use Rattle.omi_corefile.specs.declared.limits.TheConstants.{MOST_CONTEXTS, MOST_SEGMENTS, MOST_SEGMENT_WORDS}
-use Rattle.omi_corefile.specs.Spelling.{number, numbers, header, segment_bytes, spelling}
+use Rattle.omi_corefile.specs.Spelling.{eight_bytes, numbers, header, segment_bytes, spelling}
 use Rattle.omi_corefile.specs.BadFields.{IsFaultAt, id_place, start_place, count_place, NeverStarts}
-use Rattle.omi_corefile.specs.Refusals.{Refusal, Step, ◌>>=◌, place, magic_at, byte_at, number_at, judged, version_at, order_at, context_count_at, segment_count_at, id_at, contexts_at, start_at, word_count_at, words_at, row_at, Left, left_after, segment_at, segments_at, Header, header_at, Parts, parts_at, reading}
+use Rattle.omi_corefile.specs.Refusals.{Refusal, ReadStep, ◌>>=◌, place_in_file, magic_at, byte_at, number_at, judged, version_at, order_at, context_count_at, segment_count_at, id_at, contexts_at, start_at, word_count_at, words_at, row_at, Left, left_after, segment_at, segments_at, Header, header_at, Parts, parts_at, reading}
 use Rattle.omi_corefile.proofs.Bounds.{Bounds, bounds}
 use Rattle.omi_corefile.proofs.Lengths.{length-numbers, length-segments}
 use Rattle.omi_corefile.proofs.Numbers.{bind_again, HasWidth, width16, width32, width64, magic_again}
@@ -28,18 +28,18 @@ use Rattle.omi_corefile.proofs.FileLaws.{Reads-header, after_header, after_conte
 -- ---- a field
 
 -- what stands in front of a field tells its place
-place_behind : (front rest : List ℕ) → place (length (front ++ rest)) rest ≡ length front
+place_behind : (front rest : List ℕ) → place_in_file (length (front ++ rest)) rest ≡ length front
 place_behind front rest = omega (arith, length-append front rest)
 
 -- a number that a rule refuses
-judged_bad : (allowed : ℕ → Bool) (fault : ℕ → ℕ → CoreFault) (at other : ℕ) (read : Step ℕ) (n : ℕ) (rest : List ℕ) → read ≡ Ok (n, rest) → allowed n ≡ false → at ≡ other → judged allowed fault at read ≡ Err (other, fault n other)
+judged_bad : (allowed : ℕ → Bool) (fault : ℕ → ℕ → CoreFault) (at other : ℕ) (read : ReadStep ℕ) (n : ℕ) (rest : List ℕ) → read ≡ Ok (n, rest) → allowed n ≡ false → at ≡ other → judged allowed fault at read ≡ Err (other, fault n other)
 judged_bad allowed fault at other read n rest e bad here = rw (e, bad, here) refl
 
 -- a number of a few bytes that a rule refuses
-field_bad : (w : Width) (limit : ℕ) (width : HasWidth w limit) (allowed : ℕ → Bool) (fault : ℕ → ℕ → CoreFault) (len at : ℕ) (n : ℕ) (rest : List ℕ) → n < limit → allowed n ≡ false → place len (to_le_bytes w n ++ rest) ≡ at
-    → judged allowed fault (place len (to_le_bytes w n ++ rest)) (number_at w len (to_le_bytes w n ++ rest)) ≡ Err (at, fault n at)
+field_bad : (w : Width) (limit : ℕ) (width : HasWidth w limit) (allowed : ℕ → Bool) (fault : ℕ → ℕ → CoreFault) (len at : ℕ) (n : ℕ) (rest : List ℕ) → n < limit → allowed n ≡ false → place_in_file len (to_le_bytes w n ++ rest) ≡ at
+    → judged allowed fault (place_in_file len (to_le_bytes w n ++ rest)) (number_at w len (to_le_bytes w n ++ rest)) ≡ Err (at, fault n at)
 field_bad w limit width allowed fault len at n rest below bad here =
-    judged_bad allowed fault (place len (to_le_bytes w n ++ rest)) at (number_at w len (to_le_bytes w n ++ rest)) n rest ((Reads-number w limit width len n below).whole rest) bad here
+    judged_bad allowed fault (place_in_file len (to_le_bytes w n ++ rest)) at (number_at w len (to_le_bytes w n ++ rest)) n rest ((Reads-number w limit width len n below).whole rest) bad here
 
 -- a spelling with this front is refused by what stands behind the front
 fault_at : (c : CoreImage) (front rest field : List ℕ) (at : ℕ) (why : CoreFault) → spelling c ≡ front ++ rest → length front ≡ at
@@ -51,7 +51,7 @@ fault_at c front rest field at why spelled len bad more =
 -- ---- the header
 
 -- what follows the name of the format
-after_magic : ℕ → List ℕ → Step Header
+after_magic : ℕ → List ℕ → ReadStep Header
 after_magic len magic = version_at len magic >>= λ version. order_at len version.1 >>= λ order. context_count_at len order.1 >>= λ contexts. segment_count_at len contexts.1 >>= λ segments. Ok (record { order = order.0; contexts = contexts.0; segments = segments.0 }, segments.1)
 
 -- a file whose header is refused
@@ -88,7 +88,7 @@ bad_version c v other =
     let len : ℕ = length (name ++ rest) in
     named_failed rest (8, Version v)
     (bind_failed (version_at len rest) _ (8, Version v)
-    (judged_bad (λ n. eqb n 1) (λ n at. Version n) (place len rest) 8 (byte_at len rest) v bytes refl (ne_eqb v 1 other) (place_behind name rest))))
+    (judged_bad (λ n. eqb n 1) (λ n at. Version n) (place_in_file len rest) 8 (byte_at len rest) v bytes refl (ne_eqb v 1 other) (place_behind name rest))))
 
 pub bad_order : (c : CoreImage) (b : ℕ) → b ≢ 0 → IsFaultAt c 9 (b ∷ []) (Order b)
 unfolding after_magic
@@ -101,7 +101,7 @@ bad_order c b other =
     let len : ℕ = length (front ++ rest) in
     named_failed (1 ∷ rest) (9, Order b)
     (bind_failed (order_at len rest) _ (9, Order b)
-    (judged_bad (λ n. eqb n 0) (λ n at. Order n) (place len rest) 9 (byte_at len rest) b bytes refl (ne_eqb b 0 other) (place_behind front rest))))
+    (judged_bad (λ n. eqb n 0) (λ n at. Order n) (place_in_file len rest) 9 (byte_at len rest) b bytes refl (ne_eqb b 0 other) (place_behind front rest))))
 
 -- a test of a limit fails above it
 above : (n most : ℕ) → most < n → leb n most ≡ false
@@ -138,8 +138,8 @@ bad_segment_count c n over below =
     let rest : List ℕ = to_le_bytes w32 n ++ bytes in
     let len : ℕ = length (front ++ rest) in
     let counted : context_count_at len (to_le_bytes w16 contexts ++ rest) ≡ Ok (contexts, rest) =
-    (Reads-judged len (λ m. leb m MOST_CONTEXTS) (λ m at. BadContext at) (place len) (number_at w16 len) (to_le_bytes w16 contexts) contexts (Reads-number w16 (2 ^ 16) width16 len contexts (omega (arith, few))) (le-leb contexts MOST_CONTEXTS few)).whole rest in
-    let segments_next : ℕ × List ℕ → Step Header = λ contexts. segment_count_at len contexts.1 >>= λ segments. Ok (record { order = 0; contexts = contexts.0; segments = segments.0 }, segments.1) in
+    (Reads-judged len (λ m. leb m MOST_CONTEXTS) (λ m at. BadContext at) (place_in_file len) (number_at w16 len) (to_le_bytes w16 contexts) contexts (Reads-number w16 (2 ^ 16) width16 len contexts (omega (arith, few))) (le-leb contexts MOST_CONTEXTS few)).whole rest in
+    let segments_next : ℕ × List ℕ → ReadStep Header = λ contexts. segment_count_at len contexts.1 >>= λ segments. Ok (record { order = 0; contexts = contexts.0; segments = segments.0 }, segments.1) in
     named_failed (1 ∷ 0 ∷ to_le_bytes w16 contexts ++ rest) (12, SegmentOrder 12)
     (bind_again (context_count_at len (to_le_bytes w16 contexts ++ rest)) segments_next (contexts, rest) counted
     ∙ bind_failed (segment_count_at len rest) _ (12, SegmentOrder 12)
@@ -163,7 +163,7 @@ good_front Good next s [] ys good = tt
 good_front Good next s (x ∷ xs) ys good = (good.0, good_front Good next (next s x) xs ys good.1)
 
 -- a row is refused by the first of it that is
-row_failed : {S A : Type 0} (len : ℕ) (Good : S → A → Type 0) (one : S → List ℕ → Step A) (next : S → A → S) (spell : A → List ℕ)
+row_failed : {S A : Type 0} (len : ℕ) (Good : S → A → Type 0) (one : S → List ℕ → ReadStep A) (next : S → A → S) (spell : A → List ℕ)
     → ((s : S) (x : A) → Good s x → Reads len (one s) (spell x) x)
     → (s : S) (row after : List A) (y : A) (bytes : List ℕ) (r : Refusal) → AreGood Good next s row → one (state_after next s row) bytes ≡ Err r
     → row_at one next (length (row ++ y ∷ after)) s (flat_map spell row ++ bytes) ≡ Err r
@@ -172,7 +172,7 @@ row_failed len Good one next spell each s [] after y bytes r good failed = bind_
 row_failed {S} {A} len Good one next spell each s (x ∷ row) after y bytes r good failed =
     let count : ℕ = length (row ++ y ∷ after) in
     let behind : List ℕ = flat_map spell row ++ bytes in
-    let others : A × List ℕ → Step (List A) = λ first. row_at one next count (next s first.0) first.1 >>= λ others. Ok (first.0 ∷ others.0, others.1) in
+    let others : A × List ℕ → ReadStep (List A) = λ first. row_at one next count (next s first.0) first.1 >>= λ others. Ok (first.0 ∷ others.0, others.1) in
     ap (λ (text : List ℕ). one s text >>= others) (append_assoc (spell x) (flat_map spell row) bytes)
     ∙ bind_again (one s (spell x ++ behind)) others (x, behind) ((each s x good.0).whole behind)
     ∙ bind_failed (row_at one next count (next s x) behind) _ r (row_failed len Good one next spell each (next s x) row after y bytes r good.1 failed)
@@ -198,7 +198,7 @@ contexts_failed c rest r e =
 spelled : (c : CoreImage) → spelling c ≡ header_of c ++ (numbers c.contexts ++ flat_map segment_bytes c.segments)
 spelled c = ap (λ (o : ℕ). header o (length c.contexts) (length c.segments) ++ numbers c.contexts ++ flat_map segment_bytes c.segments) (bounds c).order_is
 
-pub bad_id : (c : CoreImage) (before after : List ℕ) (last id n : ℕ) → c.contexts ≡ before ++ last ∷ id ∷ after → n ≤ last → (let at = id_place (length before + 1) in IsFaultAt c at (number n) (BadContext at))
+pub bad_id : (c : CoreImage) (before after : List ℕ) (last id n : ℕ) → c.contexts ≡ before ++ last ∷ id ∷ after → n ≤ last → (let at = id_place (length before + 1) in IsFaultAt c at (eight_bytes n) (BadContext at))
 bad_id c before after last id n are low =
     let at : ℕ = id_place (length before + 1) in
     let ids : List ℕ = before ++ last ∷ [] in
@@ -207,23 +207,23 @@ bad_id c before after last id n are low =
     let segments : List ℕ = flat_map segment_bytes c.segments in
     let whole : spelling c ≡ front ++ (numbers (id ∷ after) ++ segments) =
     spelled c
-    ∙ ap (λ (xs : List ℕ). header_of c ++ (xs ++ segments)) (ap numbers split ∙ flat_map-append number ids (id ∷ after))
+    ∙ ap (λ (xs : List ℕ). header_of c ++ (xs ++ segments)) (ap numbers split ∙ flat_map-append eight_bytes ids (id ∷ after))
     ∙ ap (λ (xs : List ℕ). header_of c ++ xs) (append_assoc (numbers ids) (numbers (id ∷ after)) segments)
     ∙ sym (append_assoc (header_of c) (numbers ids) (numbers (id ∷ after) ++ segments)) in
     let so_long : length front ≡ at = omega (arith, length-append (header_of c) (numbers ids), length-numbers ids, length-append before (last ∷ [])) in
     let good : AreGood IsId least_then 0 ids = good_front IsId least_then 0 ids (id ∷ after) (subst (AreGood IsId least_then 0) split (good-ids 0 c.contexts (bounds c).contexts_rise (bounds c).contexts_are_words)) in
     let last_good : last < 2 ^ 64 = last_is_word before 0 good in
-    fault_at c front (numbers (id ∷ after) ++ segments) (number n) at (BadContext at) whole so_long
+    fault_at c front (numbers (id ∷ after) ++ segments) (eight_bytes n) at (BadContext at) whole so_long
     (λ bytes.
-    let rest : List ℕ = number n ++ bytes in
+    let rest : List ℕ = eight_bytes n ++ bytes in
     let len : ℕ = length (front ++ rest) in
-    let here : place len rest ≡ at = place_behind front rest ∙ so_long in
+    let here : place_in_file len rest ≡ at = place_behind front rest ∙ so_long in
     let least : state_after least_then 0 ids ≡ last + 1 = state_after-push least_then 0 before last in
     let too_low : leb (state_after least_then 0 ids) n ≡ false = above (state_after least_then 0 ids) n (omega (arith, least)) in
     let failed : id_at len (state_after least_then 0 ids) rest ≡ Err (at, BadContext at) =
     field_bad w64 (2 ^ 64) width64 (leb (state_after least_then 0 ids)) (λ m at. BadContext at) len at n bytes (omega (arith, low, last_good)) too_low here in
     let row : row_at (id_at len) least_then (length (ids ++ id ∷ after)) 0 (numbers ids ++ rest) ≡ Err (at, BadContext at) =
-    row_failed len IsId (id_at len) least_then number (Reads-id len) 0 ids after id rest (at, BadContext at) good failed in
+    row_failed len IsId (id_at len) least_then eight_bytes (Reads-id len) 0 ids after id rest (at, BadContext at) good failed in
     let counted : contexts_at len (length c.contexts) (numbers ids ++ rest) ≡ Err (at, BadContext at) = ap (λ (xs : List ℕ). contexts_at len (length xs) (numbers ids ++ rest)) split ∙ row in
     let joined : front ++ rest ≡ header_of c ++ (numbers ids ++ rest) = append_assoc (header_of c) (numbers ids) rest in
     ap reading joined ∙ contexts_failed c (numbers ids ++ rest) (at, BadContext at) (ap (λ (text : List ℕ). contexts_at (length text) (length c.contexts) (numbers ids ++ rest)) (sym joined) ∙ counted))
@@ -263,14 +263,14 @@ segments_are_good c = good-segments (FIRST_ADDRESS, MOST_SEGMENT_WORDS) c.segmen
 
 -- a file that spells a core up to a segment is refused where the segment is
 segment_failed : (c : CoreImage) (before after : List Segment) (s : Segment) (field : List ℕ) (at : ℕ) (why : CoreFault) (front : List ℕ) → c.segments ≡ before ++ s ∷ after
-    → ((len : ℕ) (bytes : List ℕ) → place len (front ++ (field ++ bytes)) ≡ start_place c before → segment_at len (left_behind before) (front ++ (field ++ bytes)) ≡ Err (at, why))
+    → ((len : ℕ) (bytes : List ℕ) → place_in_file len (front ++ (field ++ bytes)) ≡ start_place c before → segment_at len (left_behind before) (front ++ (field ++ bytes)) ≡ Err (at, why))
     → (bytes : List ℕ) → reading ((contexts_of c ++ flat_map segment_bytes before) ++ (front ++ (field ++ bytes))) ≡ Err (at, why)
 segment_failed c before after s field at why front are failed bytes =
     let rest : List ℕ = front ++ (field ++ bytes) in
     let text : List ℕ = contexts_of c ++ (flat_map segment_bytes before ++ rest) in
     let len : ℕ = length text in
     let joined : (contexts_of c ++ flat_map segment_bytes before) ++ rest ≡ text = append_assoc (contexts_of c) (flat_map segment_bytes before) rest in
-    let here : place len rest ≡ start_place c before =
+    let here : place_in_file len rest ≡ start_place c before =
     omega (arith, length-append (contexts_of c) (flat_map segment_bytes before ++ rest), length-append (flat_map segment_bytes before) rest, length-append (header_of c) (numbers c.contexts), length-numbers c.contexts, length-segments before) in
     let good : AreGood IsSegment left_after (FIRST_ADDRESS, MOST_SEGMENT_WORDS) before = good_front IsSegment left_after (FIRST_ADDRESS, MOST_SEGMENT_WORDS) before (s ∷ after) (subst (AreGood IsSegment left_after (FIRST_ADDRESS, MOST_SEGMENT_WORDS)) are (segments_are_good c)) in
     let row : row_at (segment_at len) left_after (length (before ++ s ∷ after)) (FIRST_ADDRESS, MOST_SEGMENT_WORDS) (flat_map segment_bytes before ++ rest) ≡ Err (at, why) =
@@ -291,14 +291,14 @@ start_front c before = omega (arith, length-append (contexts_of c) (flat_map seg
 
 -- a start address that the rule refuses
 start_refused : (c : CoreImage) (before after : List Segment) (s : Segment) (n : ℕ) → c.segments ≡ before ++ s ∷ after → n < 2 ^ 64 → is_start (left_behind before).0 n ≡ false
-    → (let at = start_place c before in IsFaultAt c at (number n) (SegmentOrder at))
+    → (let at = start_place c before in IsFaultAt c at (eight_bytes n) (SegmentOrder at))
 unfolding segment_at
 start_refused c before after s n are below bad =
     let at : ℕ = start_place c before in
     let front : List ℕ = contexts_of c ++ flat_map segment_bytes before in
-    fault_at c front (flat_map segment_bytes (s ∷ after)) (number n) at (SegmentOrder at) (spelled_from c before (s ∷ after) are) (start_front c before)
-    (segment_failed c before after s (number n) at (SegmentOrder at) [] are
-    (λ len bytes here. bind_failed (start_at len (left_behind before).0 (number n ++ bytes)) _ (at, SegmentOrder at)
+    fault_at c front (flat_map segment_bytes (s ∷ after)) (eight_bytes n) at (SegmentOrder at) (spelled_from c before (s ∷ after) are) (start_front c before)
+    (segment_failed c before after s (eight_bytes n) at (SegmentOrder at) [] are
+    (λ len bytes here. bind_failed (start_at len (left_behind before).0 (eight_bytes n ++ bytes)) _ (at, SegmentOrder at)
     (field_bad w64 (2 ^ 64) width64 (is_start (left_behind before).0) (λ m at. SegmentOrder at) len at n bytes below bad here)))
 
 -- what a start address that is allowed keeps
@@ -321,7 +321,7 @@ least_rises left (s ∷ ss) good =
     omega (arith, (allowed_of left.0 s.start good.0.0).high, least_rises (left_after left s) ss good.1)
 
 pub bad_start : (c : CoreImage) (before after : List Segment) (s : Segment) (n : ℕ) → c.segments ≡ before ++ s ∷ after → n < 2 ^ 64 → NeverStarts n
-    → (let at = start_place c before in IsFaultAt c at (number n) (SegmentOrder at))
+    → (let at = start_place c before in IsFaultAt c at (eight_bytes n) (SegmentOrder at))
 bad_start c before after s n are below never =
     let good = good_front IsSegment left_after (FIRST_ADDRESS, MOST_SEGMENT_WORDS) before (s ∷ after) (subst (AreGood IsSegment left_after (FIRST_ADDRESS, MOST_SEGMENT_WORDS)) are (segments_are_good c)) in
     start_refused c before after s n are below
@@ -336,7 +336,7 @@ bad_start c before after s n are below never =
     ]))
 
 pub touching : (c : CoreImage) (before after : List Segment) (last s : Segment) (n : ℕ) → c.segments ≡ before ++ last ∷ s ∷ after → n ≤ last.start + 8 * length last.words
-    → (let at = start_place c (before ++ last ∷ []) in IsFaultAt c at (number n) (SegmentOrder at))
+    → (let at = start_place c (before ++ last ∷ []) in IsFaultAt c at (eight_bytes n) (SegmentOrder at))
 touching c before after last s n are low =
     let ss : List Segment = before ++ last ∷ [] in
     let split : c.segments ≡ ss ++ s ∷ after = are ∙ sym (append_assoc before (last ∷ []) (s ∷ after)) in
@@ -365,37 +365,37 @@ last_start (x ∷ xs) after s left good = last_start xs after s (left_after left
 
 -- a number of words that the rule refuses
 count_refused : (c : CoreImage) (before after : List Segment) (s : Segment) (n : ℕ) (why : CoreFault) → c.segments ≡ before ++ s ∷ after → n < 2 ^ 64
-    → (ltb 0 n && leb n (left_behind before).1) ≡ false → (let at = count_place c before in cond (eqb n 0) (SegmentOrder at) (TooLarge n) ≡ why) → IsFaultAt c (count_place c before) (number n) why
+    → (ltb 0 n && leb n (left_behind before).1) ≡ false → (let at = count_place c before in cond (eqb n 0) (SegmentOrder at) (TooLarge n) ≡ why) → IsFaultAt c (count_place c before) (eight_bytes n) why
 unfolding segment_at
 count_refused c before after s n why are below bad told =
     let at : ℕ = count_place c before in
     let upto : List ℕ = contexts_of c ++ flat_map segment_bytes before in
-    let front : List ℕ = upto ++ number s.start in
-    let behind : List ℕ = (number (length s.words) ++ numbers s.words) ++ flat_map segment_bytes after in
+    let front : List ℕ = upto ++ eight_bytes s.start in
+    let behind : List ℕ = (eight_bytes (length s.words) ++ numbers s.words) ++ flat_map segment_bytes after in
     let whole : spelling c ≡ front ++ behind =
     spelled_from c before (s ∷ after) are
-    ∙ ap (λ (xs : List ℕ). upto ++ xs) (ap (λ (xs : List ℕ). xs ++ flat_map segment_bytes after) (append_assoc (number s.start) (number (length s.words)) (numbers s.words)) ∙ append_assoc (number s.start) (number (length s.words) ++ numbers s.words) (flat_map segment_bytes after))
-    ∙ sym (append_assoc upto (number s.start) behind) in
-    let so_long : length front ≡ at = omega (arith, length-append upto (number s.start), start_front c before) in
+    ∙ ap (λ (xs : List ℕ). upto ++ xs) (ap (λ (xs : List ℕ). xs ++ flat_map segment_bytes after) (append_assoc (eight_bytes s.start) (eight_bytes (length s.words)) (numbers s.words)) ∙ append_assoc (eight_bytes s.start) (eight_bytes (length s.words) ++ numbers s.words) (flat_map segment_bytes after))
+    ∙ sym (append_assoc upto (eight_bytes s.start) behind) in
+    let so_long : length front ≡ at = omega (arith, length-append upto (eight_bytes s.start), start_front c before) in
     let start_good : IsTrue (is_start (left_behind before).0 s.start) = last_start before after s (FIRST_ADDRESS, MOST_SEGMENT_WORDS) (subst (AreGood IsSegment left_after (FIRST_ADDRESS, MOST_SEGMENT_WORDS)) are (segments_are_good c)) in
     let start_low = (allowed_of (left_behind before).0 s.start start_good).low in
-    fault_at c front behind (number n) at why whole so_long
-    (λ bytes. ap reading (append_assoc upto (number s.start) (number n ++ bytes)) ∙ segment_failed c before after s (number n) at why (number s.start) are
+    fault_at c front behind (eight_bytes n) at why whole so_long
+    (λ bytes. ap reading (append_assoc upto (eight_bytes s.start) (eight_bytes n ++ bytes)) ∙ segment_failed c before after s (eight_bytes n) at why (eight_bytes s.start) are
     (λ len bytes here.
-    let rest : List ℕ = number n ++ bytes in
-    let started : start_at len (left_behind before).0 (number s.start ++ rest) ≡ Ok (s.start, rest) =
-    (Reads-judged len (is_start (left_behind before).0) (λ m at. SegmentOrder at) (place len) (number_at w64 len) (number s.start) s.start (Reads-number w64 (2 ^ 64) width64 len s.start (omega (arith, start_low))) start_good).whole rest in
-    let next : ℕ × List ℕ → Step Segment = λ start. word_count_at len (left_behind before).1 start.1 >>= λ count. words_at len count.0 count.1 >>= λ words. Ok (record { start = start.0; words = words.0 }, words.1) in
-    let there : place len rest ≡ at = omega (arith, here, length-append (number s.start) rest) in
-    bind_again (start_at len (left_behind before).0 (number s.start ++ rest)) next (s.start, rest) started
+    let rest : List ℕ = eight_bytes n ++ bytes in
+    let started : start_at len (left_behind before).0 (eight_bytes s.start ++ rest) ≡ Ok (s.start, rest) =
+    (Reads-judged len (is_start (left_behind before).0) (λ m at. SegmentOrder at) (place_in_file len) (number_at w64 len) (eight_bytes s.start) s.start (Reads-number w64 (2 ^ 64) width64 len s.start (omega (arith, start_low))) start_good).whole rest in
+    let next : ℕ × List ℕ → ReadStep Segment = λ start. word_count_at len (left_behind before).1 start.1 >>= λ count. words_at len count.0 count.1 >>= λ words. Ok (record { start = start.0; words = words.0 }, words.1) in
+    let there : place_in_file len rest ≡ at = omega (arith, here, length-append (eight_bytes s.start) rest) in
+    bind_again (start_at len (left_behind before).0 (eight_bytes s.start ++ rest)) next (s.start, rest) started
     ∙ bind_failed (word_count_at len (left_behind before).1 rest) _ (at, why)
     (field_bad w64 (2 ^ 64) width64 (λ m. ltb 0 m && leb m (left_behind before).1) (λ m at. cond (eqb m 0) (SegmentOrder at) (TooLarge m)) len at n bytes below bad there ∙ ap (λ (w : CoreFault). Err (at, w)) told)) bytes)
 
-pub no_words : (c : CoreImage) (before after : List Segment) (s : Segment) → c.segments ≡ before ++ s ∷ after → (let at = count_place c before in IsFaultAt c at (number 0) (SegmentOrder at))
+pub no_words : (c : CoreImage) (before after : List Segment) (s : Segment) → c.segments ≡ before ++ s ∷ after → (let at = count_place c before in IsFaultAt c at (eight_bytes 0) (SegmentOrder at))
 no_words c before after s are = count_refused c before after s 0 (SegmentOrder (count_place c before)) are (omega arith) refl refl
 
 pub too_large : (c : CoreImage) (before after : List Segment) (s : Segment) (n : ℕ) → c.segments ≡ before ++ s ∷ after → n < 2 ^ 64 → MOST_SEGMENT_WORDS < total_words before + n
-    → IsFaultAt c (count_place c before) (number n) (TooLarge n)
+    → IsFaultAt c (count_place c before) (eight_bytes n) (TooLarge n)
 too_large c before after s n are below over =
     let within = sum_by-append (λ (t : Segment). length t.words) before (s ∷ after) in
     let total : total_words c.segments ≡ total_words before + total_words (s ∷ after) = ap total_words are ∙ within in

@@ -17,7 +17,7 @@ use Rattle.omi_corefile.specs.Limits.{rises_from, are_words, rise_apart_from, to
 use Rattle.omi_word.specs.declared.limits.TheConstants.{FIRST_ADDRESS}
 use Rattle.omi_corefile.specs.declared.limits.TheConstants.{MOST_CONTEXTS, MOST_SEGMENTS, MOST_SEGMENT_WORDS}
 use Rattle.omi_corefile.specs.Spelling.{numbers, header, segment_bytes, spelling_of, spelling, Core}
-use Rattle.omi_corefile.specs.Refusals.{Refusal, Step, ◌>>=◌, AreBytes, number_at, byte_at, magic_at, version_at, order_at, context_count_at, segment_count_at, contexts_at, segments_at, Header, header_at, place, short, trailing, Parts, parts_at, reading, CoreRefused}
+use Rattle.omi_corefile.specs.Refusals.{Refusal, ReadStep, ◌>>=◌, AreBytes, number_at, byte_at, magic_at, version_at, order_at, context_count_at, segment_count_at, contexts_at, segments_at, Header, header_at, place_in_file, short, trailing, Parts, parts_at, reading, CoreRefused}
 use Rattle.omi_corefile.proofs.Bounds.{Bounds, bounds}
 use Rattle.omi_corefile.proofs.Numbers.{bind_ok, bind_again, passed, ok_is, Takes, Takes-then, width16, width32, number_taken, byte_taken, judged_taken, magic_taken, magic_again}
 use Rattle.omi_corefile.proofs.Readings.{Reads, Reads-then, Reads-map, Reads-number, Reads-byte, Reads-judged, bind_failed}
@@ -41,13 +41,13 @@ header_taken len bytes x are e =
     let d = bind_ok (context_count_at len c.0.1) (λ contexts. segment_count_at len contexts.1 >>= λ segments. Ok (record { order = c.0.0; contexts = contexts.0; segments = segments.0 }, segments.1)) x c.2 in
     let f = bind_ok (segment_count_at len d.0.1) (λ segments. Ok (record { order = c.0.0; contexts = d.0.0; segments = segments.0 }, segments.1)) x d.2 in
     let magic_is = magic_taken len bytes a.0 are a.1 in
-    let version_judged = judged_taken (λ v. eqb v 1) (λ v at. Version v) (place len a.0) (byte_at len a.0) b.0 b.1 in
+    let version_judged = judged_taken (λ v. eqb v 1) (λ v at. Version v) (place_in_file len a.0) (byte_at len a.0) b.0 b.1 in
     let version_is = byte_taken len a.0 b.0 magic_is.rest_are_bytes version_judged.0 in
-    let order_judged = judged_taken (λ v. eqb v 0) (λ v at. Order v) (place len b.0.1) (byte_at len b.0.1) c.0 c.1 in
+    let order_judged = judged_taken (λ v. eqb v 0) (λ v at. Order v) (place_in_file len b.0.1) (byte_at len b.0.1) c.0 c.1 in
     let order_was = byte_taken len b.0.1 c.0 version_is.rest_are_bytes order_judged.0 in
-    let contexts_judged = judged_taken (λ n. leb n MOST_CONTEXTS) (λ n at. BadContext at) (place len c.0.1) (number_at w16 len c.0.1) d.0 d.1 in
+    let contexts_judged = judged_taken (λ n. leb n MOST_CONTEXTS) (λ n at. BadContext at) (place_in_file len c.0.1) (number_at w16 len c.0.1) d.0 d.1 in
     let contexts_are = number_taken w16 (2 ^ 16) width16 len c.0.1 d.0 order_was.rest_are_bytes contexts_judged.0 in
-    let segments_judged = judged_taken (λ n. leb n MOST_SEGMENTS) (λ n at. SegmentOrder at) (place len d.0.1) (number_at w32 len d.0.1) f.0 f.1 in
+    let segments_judged = judged_taken (λ n. leb n MOST_SEGMENTS) (λ n at. SegmentOrder at) (place_in_file len d.0.1) (number_at w32 len d.0.1) f.0 f.1 in
     let segments_are = number_taken w32 (2 ^ 32) width32 len d.0.1 f.0 contexts_are.0.rest_are_bytes segments_judged.0 in
     let one_version : Takes a.0 (1 ∷ []) b.0.1 = subst (λ (v : ℕ). Takes a.0 (v ∷ []) b.0.1) (eqb-true b.0.0 1 version_judged.1) version_is in
     let upto_version = Takes-then bytes (codes "OMPDCOR1") a.0 (1 ∷ []) b.0.1 magic_is one_version in
@@ -72,14 +72,14 @@ unfolding header_at
 Reads-header len contexts segments few_contexts few_segments =
     let made : ℕ → ℕ → ℕ → Header = λ o c s. record { order = o; contexts = c; segments = s } in
     let name : List ℕ = codes "OMPDCOR1" in
-    let version_is = Reads-judged len (λ v. eqb v 1) (λ v at. Version v) (place len) (byte_at len) (1 ∷ []) 1 (Reads-byte len 1) refl in
-    let order_is = Reads-judged len (λ b. eqb b 0) (λ b at. Order b) (place len) (byte_at len) (0 ∷ []) 0 (Reads-byte len 0) refl in
-    let contexts_are = Reads-judged len (λ n. leb n MOST_CONTEXTS) (λ n at. BadContext at) (place len) (number_at w16 len) (to_le_bytes w16 contexts) contexts (Reads-number w16 (2 ^ 16) width16 len contexts (omega arith)) (le-leb contexts MOST_CONTEXTS few_contexts) in
-    let segments_are = Reads-judged len (λ n. leb n MOST_SEGMENTS) (λ n at. SegmentOrder at) (place len) (number_at w32 len) (to_le_bytes w32 segments) segments (Reads-number w32 (2 ^ 32) width32 len segments (omega arith)) (le-leb segments MOST_SEGMENTS few_segments) in
+    let version_is = Reads-judged len (λ v. eqb v 1) (λ v at. Version v) (place_in_file len) (byte_at len) (1 ∷ []) 1 (Reads-byte len 1) refl in
+    let order_is = Reads-judged len (λ b. eqb b 0) (λ b at. Order b) (place_in_file len) (byte_at len) (0 ∷ []) 0 (Reads-byte len 0) refl in
+    let contexts_are = Reads-judged len (λ n. leb n MOST_CONTEXTS) (λ n at. BadContext at) (place_in_file len) (number_at w16 len) (to_le_bytes w16 contexts) contexts (Reads-number w16 (2 ^ 16) width16 len contexts (omega arith)) (le-leb contexts MOST_CONTEXTS few_contexts) in
+    let segments_are = Reads-judged len (λ n. leb n MOST_SEGMENTS) (λ n at. SegmentOrder at) (place_in_file len) (number_at w32 len) (to_le_bytes w32 segments) segments (Reads-number w32 (2 ^ 32) width32 len segments (omega arith)) (le-leb segments MOST_SEGMENTS few_segments) in
     let from_segments = Reads-map len (segment_count_at len) (made 0 contexts) (to_le_bytes w32 segments) segments segments_are in
     let from_contexts = Reads-then len (context_count_at len) (λ (c : ℕ) bytes. segment_count_at len bytes >>= λ s. Ok (made 0 c s.0, s.1)) (to_le_bytes w16 contexts) (to_le_bytes w32 segments) contexts (made 0 contexts segments) contexts_are from_segments in
     let from_order = Reads-then len (order_at len) (λ (o : ℕ) bytes. context_count_at len bytes >>= λ c. segment_count_at len c.1 >>= λ s. Ok (made o c.0 s.0, s.1)) (0 ∷ []) (to_le_bytes w16 contexts ++ to_le_bytes w32 segments) 0 (made 0 contexts segments) order_is from_contexts in
-    let after_name : List ℕ → Step Header = λ bytes. version_at len bytes >>= λ v. order_at len v.1 >>= λ o. context_count_at len o.1 >>= λ c. segment_count_at len c.1 >>= λ s. Ok (made o.0 c.0 s.0, s.1) in
+    let after_name : List ℕ → ReadStep Header = λ bytes. version_at len bytes >>= λ v. order_at len v.1 >>= λ o. context_count_at len o.1 >>= λ c. segment_count_at len c.1 >>= λ s. Ok (made o.0 c.0 s.0, s.1) in
     let text : List ℕ = 1 ∷ 0 ∷ to_le_bytes w16 contexts ++ to_le_bytes w32 segments in
     let from_version : Reads len after_name text (made 0 contexts segments) = Reads-then len (version_at len) (λ (v : ℕ) bytes. order_at len bytes >>= λ o. context_count_at len o.1 >>= λ c. segment_count_at len c.1 >>= λ s. Ok (made o.0 c.0 s.0, s.1)) (1 ∷ []) (0 ∷ to_le_bytes w16 contexts ++ to_le_bytes w32 segments) 1 (made 0 contexts segments) version_is from_order in
     record {
@@ -97,15 +97,15 @@ Reads-header len contexts segments few_contexts few_segments =
 -- ---- the whole file
 
 -- what follows a header
-abbrev pub after_header : ℕ → Header × List ℕ → Step Parts
+abbrev pub after_header : ℕ → Header × List ℕ → ReadStep Parts
 after_header len counts = contexts_at len counts.0.contexts counts.1 >>= λ contexts. segments_at len counts.0.segments contexts.1 >>= λ segments. Ok (record { order = counts.0.order; contexts = contexts.0; segments = segments.0 }, segments.1)
 
 -- what follows the contexts
-abbrev pub after_contexts : ℕ → Header → List ℕ × List ℕ → Step Parts
+abbrev pub after_contexts : ℕ → Header → List ℕ × List ℕ → ReadStep Parts
 after_contexts len counts contexts = segments_at len counts.segments contexts.1 >>= λ segments. Ok (record { order = counts.order; contexts = contexts.0; segments = segments.0 }, segments.1)
 
 -- what follows the segments
-abbrev pub after_segments : Header → List ℕ → List Segment × List ℕ → Step Parts
+abbrev pub after_segments : Header → List ℕ → List Segment × List ℕ → ReadStep Parts
 after_segments counts contexts segments = Ok (record { order = counts.order; contexts = contexts; segments = segments.0 }, segments.1)
 
 -- nothing follows the last segment
@@ -209,7 +209,7 @@ too_many c more some =
     let text : List ℕ = spelling c in
     let len : ℕ = length (text ++ more) in
     let left : eqb (length more) 0 ≡ false = ne_eqb (length more) 0 (λ none. omega (arith, some, none)) in
-    let at : place len more ≡ length text = omega (arith, length-append text more) in
+    let at : place_in_file len more ≡ length text = omega (arith, length-append text more) in
     let failed : reading (text ++ more) ≡ Err (trailing len more) = bind_again (parts_at len (text ++ more)) (ended len) (parts_of c, more) ((Reads-core len c).whole more) ∙ rw left refl in
     subst (λ (k : ℕ). reading (text ++ more) ≡ Err (k, Trailing k)) at failed
 

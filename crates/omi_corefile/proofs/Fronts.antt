@@ -10,22 +10,22 @@ use Rattle.omi_corefile.specs.declared.fault.CoreFault.{CoreFault}
 use Rattle.omi_corefile.specs.declared.fault.CoreFault.TheVariants.{BadMagic, Version, Order, Trailing, TooLarge, SegmentOrder, BadContext}
 use Rattle.omi_corefile.specs.declared.limits.TheConstants.{MOST_BYTES, MOST_CONTEXTS, MOST_SEGMENTS}
 use Rattle.omi_corefile.specs.Limits.{is_start}
-use Rattle.omi_corefile.specs.Refusals.{Refusal, Step, ◌>>=◌, place, byte_at, number_at, judged, magic_at, id_at, row_at, contexts_at, words_at, Left, left_after, segment_at, segments_at, Header, header_at, Parts, parts_at, reading}
+use Rattle.omi_corefile.specs.Refusals.{Refusal, ReadStep, ◌>>=◌, place_in_file, byte_at, number_at, judged, magic_at, id_at, row_at, contexts_at, words_at, Left, left_after, segment_at, segments_at, Header, header_at, Parts, parts_at, reading}
 use Rattle.omi_corefile.proofs.FileLaws.{ended}
 
 -- What a step gives of a front of a file, and what it gives of the front and a tail: the same fault, or the same value. What is left of the front has enough for what comes next.
-abbrev pub Same : {A : Type 0} → (A → ℕ → Type 0) → List ℕ → Step A → Step A → Type 0
+abbrev pub Same : {A : Type 0} → (A → ℕ → Type 0) → List ℕ → ReadStep A → ReadStep A → Type 0
 Same Enough tail (Ok x) whole = (whole ≡ Ok (x.0, x.1 ++ tail)) × Enough x.0 (length x.1)
 Same Enough tail (Err e) whole = whole ≡ Err e
 
 -- one step after another
-pub same_then : {A B : Type 0} (Enough : A → ℕ → Type 0) (After : B → ℕ → Type 0) (tail : List ℕ) (front whole : Step A) (f g : A × List ℕ → Step B) → Same Enough tail front whole
+pub same_then : {A B : Type 0} (Enough : A → ℕ → Type 0) (After : B → ℕ → Type 0) (tail : List ℕ) (front whole : ReadStep A) (f g : A × List ℕ → ReadStep B) → Same Enough tail front whole
     → ((x : A) (rest : List ℕ) → Enough x (length rest) → Same After tail (f (x, rest)) (g (x, rest ++ tail))) → Same After tail (front >>= f) (whole >>= g)
 same_then Enough After tail (Ok x) whole f g same then = subst (λ y. Same After tail (f x) (y >>= g)) (sym same.0) (then x.0 x.1 same.1)
 same_then Enough After tail (Err e) whole f g same then = ap (λ y. y >>= g) same
 
 -- the same step, where less is enough
-same_less : {A : Type 0} (Enough After : A → ℕ → Type 0) (tail : List ℕ) (front whole : Step A) → Same Enough tail front whole → ((x : A) (k : ℕ) → Enough x k → After x k) → Same After tail front whole
+same_less : {A : Type 0} (Enough After : A → ℕ → Type 0) (tail : List ℕ) (front whole : ReadStep A) → Same Enough tail front whole → ((x : A) (k : ℕ) → Enough x k → After x k) → Same After tail front whole
 same_less Enough After tail (Ok x) whole same less = (same.0, less x.0 (length x.1) same.1)
 same_less Enough After tail (Err e) whole same less = same
 
@@ -47,7 +47,7 @@ same_number w len other more front tail long =
 abbrev pub Allowed : (ℕ → Bool) → ℕ → ℕ → ℕ → Type 0
 Allowed allowed more n k = (allowed n ≡ true) × (more ≤ k)
 
-same_judged : (allowed : ℕ → Bool) (fault : ℕ → ℕ → CoreFault) (at other more : ℕ) (tail : List ℕ) (front whole : Step ℕ) → at ≡ other → Same (Leaves more) tail front whole
+same_judged : (allowed : ℕ → Bool) (fault : ℕ → ℕ → CoreFault) (at other more : ℕ) (tail : List ℕ) (front whole : ReadStep ℕ) → at ≡ other → Same (Leaves more) tail front whole
     → Same (Allowed allowed more) tail (judged allowed fault at front) (judged allowed fault other whole)
 same_judged allowed fault at other more tail (Ok x) whole here same =
     rw (same.0, ← here) (by_test (allowed x.0) refl)
@@ -58,20 +58,20 @@ same_judged allowed fault at other more tail (Ok x) whole here same =
 same_judged allowed fault at other more tail (Err e) whole here same = ap (judged allowed fault other) same
 
 -- a place is the same in a front and in the whole
-same_place : (len : ℕ) (front tail : List ℕ) → place len front ≡ place (len + length tail) (front ++ tail)
+same_place : (len : ℕ) (front tail : List ℕ) → place_in_file len front ≡ place_in_file (len + length tail) (front ++ tail)
 same_place len front tail = omega (arith, length-append front tail)
 
 -- a number that a rule judges by where it stands
 pub same_field : (w : Width) (allowed : ℕ → Bool) (fault : ℕ → ℕ → CoreFault) (len more : ℕ) (front tail : List ℕ) → byte_len w + more ≤ length front
-    → Same (Allowed allowed more) tail (judged allowed fault (place len front) (number_at w len front)) (judged allowed fault (place (len + length tail) (front ++ tail)) (number_at w (len + length tail) (front ++ tail)))
+    → Same (Allowed allowed more) tail (judged allowed fault (place_in_file len front) (number_at w len front)) (judged allowed fault (place_in_file (len + length tail) (front ++ tail)) (number_at w (len + length tail) (front ++ tail)))
 same_field w allowed fault len more front tail long =
-    same_judged allowed fault (place len front) (place (len + length tail) (front ++ tail)) more tail _ _ (same_place len front tail) (same_number w len (len + length tail) more front tail long)
+    same_judged allowed fault (place_in_file len front) (place_in_file (len + length tail) (front ++ tail)) more tail _ _ (same_place len front tail) (same_number w len (len + length tail) more front tail long)
 
 -- a row of fields: before each one there is enough for it and for those after it
 abbrev Ended : {S A : Type 0} → (ℕ → S → ℕ → Type 0) → ℕ → List A → ℕ → Type 0
 Ended {S} {A} Enough count row k = (length row ≡ count) × ((s : S) × Enough 0 s k)
 
-same_row : {S A : Type 0} (Enough : ℕ → S → ℕ → Type 0) (one other : S → List ℕ → Step A) (next : S → A → S) (tail : List ℕ)
+same_row : {S A : Type 0} (Enough : ℕ → S → ℕ → Type 0) (one other : S → List ℕ → ReadStep A) (next : S → A → S) (tail : List ℕ)
     → ((count : ℕ) (s : S) (front : List ℕ) → Enough (suc count) s (length front) → Same (λ x k. Enough count (next s x) k) tail (one s front) (other s (front ++ tail)))
     → (count : ℕ) (s : S) (front : List ℕ) → Enough count s (length front) → Same (Ended Enough count) tail (row_at one next count s front) (row_at other next count s (front ++ tail))
 unfolding row_at
@@ -154,7 +154,7 @@ same_magic len other more front tail long =
     by_test true = (refl, omega (arith, long, length-drop 8 front))
     by_test false = refl
 
-magic_then : {B : Type 0} (After : B → ℕ → Type 0) (more : ℕ) (tail : List ℕ) (front whole : Result (List ℕ) Refusal) (f g : List ℕ → Step B) → SameRest more tail front whole
+magic_then : {B : Type 0} (After : B → ℕ → Type 0) (more : ℕ) (tail : List ℕ) (front whole : Result (List ℕ) Refusal) (f g : List ℕ → ReadStep B) → SameRest more tail front whole
     → ((rest : List ℕ) → more ≤ length rest → Same After tail (f rest) (g (rest ++ tail))) → Same After tail (front >>= f) (whole >>= g)
 magic_then After more tail (Ok rest) whole f g same then = subst (λ y. Same After tail (f rest) (y >>= g)) (sym same.0) (then rest same.1)
 magic_then After more tail (Err e) whole f g same then = ap (λ y. y >>= g) same
@@ -193,7 +193,7 @@ front_tells front tail long =
     go (parts_at (length front) front) (parts_at (length front + length tail) (front ++ tail)) (same_parts (length front) 1 front tail (omega (arith, long)))
     ∙ ap (λ (len : ℕ). parts_at len (front ++ tail) >>= ended len) (sym (length-append front tail))
   where
-    go : (a b : Step Parts) → Same (Leaves 1) tail a b → (a >>= ended (length front)) ≡ (b >>= ended (length front + length tail))
+    go : (a b : ReadStep Parts) → Same (Leaves 1) tail a b → (a >>= ended (length front)) ≡ (b >>= ended (length front + length tail))
     go (Err e) b same = rw same refl
     go (Ok x) b same =
         let here : eqb (length x.1) 0 ≡ false = ne_eqb (length x.1) 0 (λ none. omega (arith, same.1, none)) in

@@ -6,11 +6,11 @@ use Rattle.std.proofs.lemmas.List.Sums.{sum_by-cons}
 use Rattle.omi_corefile.specs.declared.segment.Segment.{Segment}
 use Rattle.omi_corefile.specs.Limits.{total_words}
 use Rattle.omi_word.specs.declared.limits.TheConstants.{FIRST_ADDRESS}
-use Rattle.omi_corefile.specs.Spelling.{number, numbers, header, segment_bytes, spelling_of, segments_of, core_bytes}
+use Rattle.omi_corefile.specs.Spelling.{eight_bytes, numbers, header, segment_bytes, spelling_of, segments_of, core_bytes}
 
 pub length-numbers : (ns : List ℕ) → length (numbers ns) ≡ 8 * length ns
 length-numbers [] = refl
-length-numbers (n ∷ ns) = omega (arith, length-append (number n) (numbers ns), length-numbers ns)
+length-numbers (n ∷ ns) = omega (arith, length-append (eight_bytes n) (numbers ns), length-numbers ns)
 
 pub length-segments : (ss : List Segment) → length (flat_map segment_bytes ss) ≡ 16 * length ss + 8 * total_words ss
 length-segments [] = refl
@@ -28,7 +28,7 @@ pub one_segment : (contexts words : List ℕ) → 0 < length words → spelling_
 one_segment contexts [] some = absurd (omega (arith, some))
 one_segment contexts (w ∷ ws) some =
     let front = header 0 (length contexts) 1 ++ numbers contexts in
-    ap (λ (x : List ℕ). front ++ x) (append-nil (number FIRST_ADDRESS ++ number (length (w ∷ ws)) ++ numbers (w ∷ ws))) ∙ simp append_assoc
+    ap (λ (x : List ℕ). front ++ x) (append-nil (eight_bytes FIRST_ADDRESS ++ eight_bytes (length (w ∷ ws)) ++ numbers (w ∷ ws))) ∙ simp append_assoc
 
 pub segments_of_some : (words : List ℕ) → 0 < length words → segments_of words ≡ record { start = FIRST_ADDRESS; words = words } ∷ []
 segments_of_some [] some = absurd (omega (arith, some))

@@ -9,7 +9,7 @@ use Rattle.std.proofs.lemmas.List.{take-append-drop, length-append, length-take,
 use Rattle.std.proofs.lemmas.Nat.{le_bytes_2, le_bytes_4, le_bytes_8, from_le_bytes-to_le_bytes_2, from_le_bytes-to_le_bytes_4, from_le_bytes-to_le_bytes_8}
 use Rattle.omi_corefile.specs.declared.fault.CoreFault.{CoreFault}
 use Rattle.omi_corefile.specs.declared.fault.CoreFault.TheVariants.{BadMagic}
-use Rattle.omi_corefile.specs.Refusals.{Refusal, Step, ◌>>=◌, AreBytes, short, number_at, byte_at, judged, magic_at}
+use Rattle.omi_corefile.specs.Refusals.{Refusal, ReadStep, ◌>>=◌, AreBytes, short, number_at, byte_at, judged, magic_at}
 
 -- ---- steps
 
@@ -109,7 +109,7 @@ byte_taken len (b ∷ bytes) x are e =
 
 -- ---- judgements
 
-pub judged_taken : (allowed : ℕ → Bool) (fault : ℕ → ℕ → CoreFault) (at : ℕ) (read : Step ℕ) (x : ℕ × List ℕ) → judged allowed fault at read ≡ Ok x → (read ≡ Ok x) × (allowed x.0 ≡ true)
+pub judged_taken : (allowed : ℕ → Bool) (fault : ℕ → ℕ → CoreFault) (at : ℕ) (read : ReadStep ℕ) (x : ℕ × List ℕ) → judged allowed fault at read ≡ Ok x → (read ≡ Ok x) × (allowed x.0 ≡ true)
 judged_taken allowed fault at (Ok n) x e =
     let went = passed (allowed n.0) (at, fault n.0 at) n x e in
     (ap (λ (y : ℕ × List ℕ). Ok y) went.1, subst (λ (y : ℕ × List ℕ). allowed y.0 ≡ true) went.1 went.0)

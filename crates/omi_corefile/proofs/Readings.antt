@@ -5,10 +5,10 @@ use Rattle.std.proofs.Math.Seq.{take-append-add}
 use Rattle.std.proofs.lemmas.Bool.{cases_lt, lt-ltb, le-ltb}
 use Rattle.std.proofs.lemmas.List.{take_at, drop_at, take-append-le, length-take-le}
 use Rattle.omi_corefile.specs.declared.fault.CoreFault.{CoreFault}
-use Rattle.omi_corefile.specs.Refusals.{Refusal, Step, ◌>>=◌, short, number_at, byte_at, judged}
+use Rattle.omi_corefile.specs.Refusals.{Refusal, ReadStep, ◌>>=◌, short, number_at, byte_at, judged}
 use Rattle.omi_corefile.proofs.Numbers.{bind_again, HasWidth}
 
-pub record Reads {A : Type 0} (len : ℕ) (one : List ℕ → Step A) (text : List ℕ) (x : A) : Type 0 where
+pub record Reads {A : Type 0} (len : ℕ) (one : List ℕ → ReadStep A) (text : List ℕ) (x : A) : Type 0 where
   pub whole : (rest : List ℕ) → one (text ++ rest) ≡ Ok (x, rest)
   pub cut : (n : ℕ) → n < length text → one (take n text) ≡ Err (short len)
 
@@ -21,10 +21,10 @@ pub Reads-none : {A : Type 0} (len : ℕ) (x : A) → Reads len (λ bytes. Ok (x
 Reads-none len x = record { whole = λ rest. refl; cut = λ n below. absurd (omega (arith, below)) }
 
 -- one step after another
-pub Reads-then : {A B : Type 0} (len : ℕ) (one : List ℕ → Step A) (two : A → List ℕ → Step B) (a b : List ℕ) (x : A) (y : B) → Reads len one a x → Reads len (two x) b y → Reads len (λ bytes. one bytes >>= λ v. two v.0 v.1) (a ++ b) y
+pub Reads-then : {A B : Type 0} (len : ℕ) (one : List ℕ → ReadStep A) (two : A → List ℕ → ReadStep B) (a b : List ℕ) (x : A) (y : B) → Reads len one a x → Reads len (two x) b y → Reads len (λ bytes. one bytes >>= λ v. two v.0 v.1) (a ++ b) y
 Reads-then {A} {B} len one two a b x y p q =
-    let follow : A × List ℕ → Step B = λ v. two v.0 v.1 in
-    let both : List ℕ → Step B = λ bytes. one bytes >>= follow in
+    let follow : A × List ℕ → ReadStep B = λ v. two v.0 v.1 in
+    let both : List ℕ → ReadStep B = λ bytes. one bytes >>= follow in
     record {
       whole = λ rest. ap both (append_assoc a b rest) ∙ bind_again (one (a ++ (b ++ rest))) follow (x, b ++ rest) (p.whole (b ++ rest)) ∙ q.whole rest;
       cut = λ n below. elim (cases_lt n (length a)) [
@@ -38,9 +38,9 @@ Reads-then {A} {B} len one two a b x y p q =
     }
 
 -- a step, seen by a function
-pub Reads-map : {A B : Type 0} (len : ℕ) (one : List ℕ → Step A) (f : A → B) (a : List ℕ) (x : A) → Reads len one a x → Reads len (λ bytes. one bytes >>= λ v. Ok (f v.0, v.1)) a (f x)
+pub Reads-map : {A B : Type 0} (len : ℕ) (one : List ℕ → ReadStep A) (f : A → B) (a : List ℕ) (x : A) → Reads len one a x → Reads len (λ bytes. one bytes >>= λ v. Ok (f v.0, v.1)) a (f x)
 Reads-map {A} {B} len one f a x p =
-    let follow : A × List ℕ → Step B = λ v. Ok (f v.0, v.1) in
+    let follow : A × List ℕ → ReadStep B = λ v. Ok (f v.0, v.1) in
     record {
       whole = λ rest. bind_again (one (a ++ rest)) follow (x, rest) (p.whole rest);
       cut = λ n below. bind_failed (one (take n a)) follow (short len) (p.cut n below);
@@ -65,7 +65,7 @@ Reads-byte len n = record {
 }
 
 -- a number that is allowed
-pub Reads-judged : (len : ℕ) (allowed : ℕ → Bool) (fault : ℕ → ℕ → CoreFault) (at : List ℕ → ℕ) (one : List ℕ → Step ℕ) (a : List ℕ) (x : ℕ) → Reads len one a x → allowed x ≡ true → Reads len (λ bytes. judged allowed fault (at bytes) (one bytes)) a x
+pub Reads-judged : (len : ℕ) (allowed : ℕ → Bool) (fault : ℕ → ℕ → CoreFault) (at : List ℕ → ℕ) (one : List ℕ → ReadStep ℕ) (a : List ℕ) (x : ℕ) → Reads len one a x → allowed x ≡ true → Reads len (λ bytes. judged allowed fault (at bytes) (one bytes)) a x
 Reads-judged len allowed fault at one a x p good = record {
   whole = λ rest. let e = p.whole rest in rw (e, good) refl;
   cut = λ n inside. let e = p.cut n inside in rw e refl;

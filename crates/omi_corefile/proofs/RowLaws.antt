@@ -11,8 +11,8 @@ use Rattle.omi_corefile.specs.declared.fault.CoreFault.TheVariants.{SegmentOrder
 use Rattle.omi_corefile.specs.Limits.{rises_from, are_words, is_start, end_of, rise_apart_from, total_words}
 use Rattle.omi_word.specs.declared.limits.TheConstants.{FIRST_ADDRESS}
 use Rattle.omi_corefile.specs.declared.limits.TheConstants.{MOST_SEGMENT_WORDS}
-use Rattle.omi_corefile.specs.Spelling.{number, numbers, segment_bytes}
-use Rattle.omi_corefile.specs.Refusals.{Step, ◌>>=◌, AreBytes, number_at, row_at, id_at, contexts_at, words_at, start_at, word_count_at, Left, left_after, segment_at, segments_at, place}
+use Rattle.omi_corefile.specs.Spelling.{eight_bytes, numbers, segment_bytes}
+use Rattle.omi_corefile.specs.Refusals.{ReadStep, ◌>>=◌, AreBytes, number_at, row_at, id_at, contexts_at, words_at, start_at, word_count_at, Left, left_after, segment_at, segments_at, place_in_file}
 use Rattle.omi_corefile.proofs.Numbers.{bind_ok, ok_is, Takes, Takes-then, width64, number_taken, judged_taken}
 use Rattle.omi_corefile.proofs.Readings.{Reads, Reads-none, Reads-then, Reads-map, Reads-number, Reads-judged}
 
@@ -27,7 +27,7 @@ pub record TakesRow {S A : Type 0} (Good : S → A → Type 0) (next : S → A �
   pub so_many : length row ≡ count
   pub good : AreGood Good next s row
 
-pub row_taken : {S A : Type 0} (Good : S → A → Type 0) (one : S → List ℕ → Step A) (next : S → A → S) (spell : A → List ℕ)
+pub row_taken : {S A : Type 0} (Good : S → A → Type 0) (one : S → List ℕ → ReadStep A) (next : S → A → S) (spell : A → List ℕ)
     → ((s : S) (bytes : List ℕ) (x : A × List ℕ) → AreBytes bytes → one s bytes ≡ Ok x → Takes bytes (spell x.0) x.1 × Good s x.0)
     → (count : ℕ) (s : S) (bytes : List ℕ) (x : List A × List ℕ) → AreBytes bytes → row_at one next count s bytes ≡ Ok x → TakesRow Good next spell count s bytes x.0 x.1
 unfolding row_at
@@ -42,7 +42,7 @@ row_taken {S} {A} Good one next spell each (suc count) s bytes x are e =
     let made : List A × List ℕ = (a.0.0 ∷ b.0.0, b.0.1) in
     subst (λ (y : List A × List ℕ). TakesRow Good next spell (suc count) s bytes y.0 y.1) {x = made} (ok_is made x b.2) (record { taken = rw flat_map-cons both; so_many = ap suc others.so_many; good = (first.1, others.good) })
 
-pub Reads-row : {S A : Type 0} (len : ℕ) (Good : S → A → Type 0) (one : S → List ℕ → Step A) (next : S → A → S) (spell : A → List ℕ)
+pub Reads-row : {S A : Type 0} (len : ℕ) (Good : S → A → Type 0) (one : S → List ℕ → ReadStep A) (next : S → A → S) (spell : A → List ℕ)
     → ((s : S) (x : A) → Good s x → Reads len (one s) (spell x) x)
     → (s : S) (row : List A) → AreGood Good next s row → Reads len (row_at one next (length row) s) (flat_map spell row) row
 unfolding row_at
@@ -71,12 +71,12 @@ good-are_words (x ∷ row) s all =
 
 pub words_taken : (len count : ℕ) (bytes : List ℕ) (x : List ℕ × List ℕ) → AreBytes bytes → words_at len count bytes ≡ Ok x → Takes bytes (numbers x.0) x.1 × (length x.0 ≡ count) × IsTrue (are_words x.0)
 words_taken len count bytes x are e =
-    let row = row_taken {S = ℕ} IsWord (λ s. number_at w64 len) stays number (λ s. number_taken w64 (2 ^ 64) width64 len) count 0 bytes x are e in
+    let row = row_taken {S = ℕ} IsWord (λ s. number_at w64 len) stays eight_bytes (λ s. number_taken w64 (2 ^ 64) width64 len) count 0 bytes x are e in
     (row.taken, row.so_many, are_words-good x.0 0 row.good)
 
 pub Reads-words : (len : ℕ) (words : List ℕ) → IsTrue (are_words words) → Reads len (words_at len (length words)) (numbers words) words
 Reads-words len words all =
-    Reads-row {S = ℕ} len IsWord (λ s. number_at w64 len) stays number (λ s. Reads-number w64 (2 ^ 64) width64 len) 0 words (good-are_words words 0 all)
+    Reads-row {S = ℕ} len IsWord (λ s. number_at w64 len) stays eight_bytes (λ s. Reads-number w64 (2 ^ 64) width64 len) 0 words (good-are_words words 0 all)
 
 -- ---- native ids
 
@@ -86,15 +86,15 @@ IsId least id = (least ≤ id) × (id < 2 ^ 64)
 abbrev pub least_then : ℕ → ℕ → ℕ
 least_then least id = id + 1
 
-id_taken : (len least : ℕ) (bytes : List ℕ) (x : ℕ × List ℕ) → AreBytes bytes → id_at len least bytes ≡ Ok x → Takes bytes (number x.0) x.1 × IsId least x.0
+id_taken : (len least : ℕ) (bytes : List ℕ) (x : ℕ × List ℕ) → AreBytes bytes → id_at len least bytes ≡ Ok x → Takes bytes (eight_bytes x.0) x.1 × IsId least x.0
 id_taken len least bytes x are e =
-    let went = judged_taken (leb least) (λ n at. BadContext at) (place len bytes) (number_at w64 len bytes) x e in
+    let went = judged_taken (leb least) (λ n at. BadContext at) (place_in_file len bytes) (number_at w64 len bytes) x e in
     let taken = number_taken w64 (2 ^ 64) width64 len bytes x are went.0 in
     (taken.0, (leb-true least x.0 went.1, taken.1))
 
-pub Reads-id : (len least id : ℕ) → IsId least id → Reads len (id_at len least) (number id) id
+pub Reads-id : (len least id : ℕ) → IsId least id → Reads len (id_at len least) (eight_bytes id) id
 Reads-id len least id good =
-    Reads-judged len (leb least) (λ n at. BadContext at) (place len) (number_at w64 len) (number id) id (Reads-number w64 (2 ^ 64) width64 len id good.1) (le-leb least id good.0)
+    Reads-judged len (leb least) (λ n at. BadContext at) (place_in_file len) (number_at w64 len) (eight_bytes id) id (Reads-number w64 (2 ^ 64) width64 len id good.1) (le-leb least id good.0)
 
 ids-good : (least : ℕ) (ids : List ℕ) → AreGood IsId least_then least ids → IsTrue (rises_from least ids) × IsTrue (are_words ids)
 ids-good least [] good = (refl, refl)
@@ -111,13 +111,13 @@ good-ids least (id ∷ ids) rise all =
 
 pub contexts_taken : (len count : ℕ) (bytes : List ℕ) (x : List ℕ × List ℕ) → AreBytes bytes → contexts_at len count bytes ≡ Ok x → Takes bytes (numbers x.0) x.1 × (length x.0 ≡ count) × IsTrue (rises_from 0 x.0) × IsTrue (are_words x.0)
 contexts_taken len count bytes x are e =
-    let row = row_taken {S = ℕ} IsId (id_at len) least_then number (id_taken len) count 0 bytes x are e in
+    let row = row_taken {S = ℕ} IsId (id_at len) least_then eight_bytes (id_taken len) count 0 bytes x are e in
     let good = ids-good 0 x.0 row.good in
     (row.taken, row.so_many, good.0, good.1)
 
 pub Reads-contexts : (len : ℕ) (ids : List ℕ) → IsTrue (rises_from 0 ids) → IsTrue (are_words ids) → Reads len (contexts_at len (length ids)) (numbers ids) ids
 Reads-contexts len ids rise all =
-    Reads-row {S = ℕ} len IsId (id_at len) least_then number (Reads-id len) 0 ids (good-ids 0 ids rise all)
+    Reads-row {S = ℕ} len IsId (id_at len) least_then eight_bytes (Reads-id len) 0 ids (good-ids 0 ids rise all)
 
 -- ---- segments
 
@@ -136,15 +136,15 @@ segment_taken len left bytes x are e =
     let a = bind_ok (start_at len left.0 bytes) (λ start. word_count_at len left.1 start.1 >>= λ count. words_at len count.0 count.1 >>= λ words. Ok (record { start = start.0; words = words.0 }, words.1)) x e in
     let b = bind_ok (word_count_at len left.1 a.0.1) (λ count. words_at len count.0 count.1 >>= λ words. Ok (record { start = a.0.0; words = words.0 }, words.1)) x a.2 in
     let c = bind_ok (words_at len b.0.0 b.0.1) (λ words. Ok (record { start = a.0.0; words = words.0 }, words.1)) x b.2 in
-    let start_judged = judged_taken (is_start left.0) (λ n at. SegmentOrder at) (place len bytes) (number_at w64 len bytes) a.0 a.1 in
+    let start_judged = judged_taken (is_start left.0) (λ n at. SegmentOrder at) (place_in_file len bytes) (number_at w64 len bytes) a.0 a.1 in
     let start_is = number_taken w64 (2 ^ 64) width64 len bytes a.0 are start_judged.0 in
-    let count_judged = judged_taken (λ n. ltb 0 n && leb n left.1) (λ n at. cond (eqb n 0) (SegmentOrder at) (TooLarge n)) (place len a.0.1) (number_at w64 len a.0.1) b.0 b.1 in
+    let count_judged = judged_taken (λ n. ltb 0 n && leb n left.1) (λ n at. cond (eqb n 0) (SegmentOrder at) (TooLarge n)) (place_in_file len a.0.1) (number_at w64 len a.0.1) b.0 b.1 in
     let count_is = number_taken w64 (2 ^ 64) width64 len a.0.1 b.0 start_is.0.rest_are_bytes count_judged.0 in
     let count_good = and_parts (ltb 0 b.0.0) (leb b.0.0 left.1) count_judged.1 in
     let words_are = words_taken len b.0.0 b.0.1 c.0 count_is.0.rest_are_bytes c.1 in
-    let front = Takes-then bytes (number a.0.0) a.0.1 (number b.0.0) b.0.1 start_is.0 count_is.0 in
-    let whole = Takes-then bytes (number a.0.0 ++ number b.0.0) b.0.1 (numbers c.0.0) c.0.1 front words_are.0 in
-    let spelled : Takes bytes ((number a.0.0 ++ number (length c.0.0)) ++ numbers c.0.0) c.0.1 = subst (λ (n : ℕ). Takes bytes ((number a.0.0 ++ number n) ++ numbers c.0.0) c.0.1) (sym words_are.1) whole in
+    let front = Takes-then bytes (eight_bytes a.0.0) a.0.1 (eight_bytes b.0.0) b.0.1 start_is.0 count_is.0 in
+    let whole = Takes-then bytes (eight_bytes a.0.0 ++ eight_bytes b.0.0) b.0.1 (numbers c.0.0) c.0.1 front words_are.0 in
+    let spelled : Takes bytes ((eight_bytes a.0.0 ++ eight_bytes (length c.0.0)) ++ numbers c.0.0) c.0.1 = subst (λ (n : ℕ). Takes bytes ((eight_bytes a.0.0 ++ eight_bytes n) ++ numbers c.0.0) c.0.1) (sym words_are.1) whole in
     let some : 0 < length c.0.0 = omega (arith, words_are.1, ltb-true 0 b.0.0 count_good.0) in
     let fit : length c.0.0 ≤ left.1 = omega (arith, words_are.1, leb-true b.0.0 left.1 count_good.1) in
     let below : length c.0.0 < 2 ^ 64 = omega (arith, words_are.1, count_is.1) in
@@ -155,13 +155,13 @@ pub Reads-segment : (len : ℕ) (left : Left) (s : Segment) → IsSegment left s
 unfolding segment_at
 Reads-segment len left s good =
     let count : ℕ = length s.words in
-    let start_is = Reads-judged len (is_start left.0) (λ n at. SegmentOrder at) (place len) (number_at w64 len) (number s.start) s.start (Reads-number w64 (2 ^ 64) width64 len s.start (start_below left.0 s.start good.0)) good.0 in
-    let count_is = Reads-judged len (λ n. ltb 0 n && leb n left.1) (λ n at. cond (eqb n 0) (SegmentOrder at) (TooLarge n)) (place len) (number_at w64 len) (number count) count (Reads-number w64 (2 ^ 64) width64 len count good.4) (and_from (ltb 0 count) (leb count left.1) (lt-ltb 0 count good.1) (le-leb count left.1 good.2)) in
+    let start_is = Reads-judged len (is_start left.0) (λ n at. SegmentOrder at) (place_in_file len) (number_at w64 len) (eight_bytes s.start) s.start (Reads-number w64 (2 ^ 64) width64 len s.start (start_below left.0 s.start good.0)) good.0 in
+    let count_is = Reads-judged len (λ n. ltb 0 n && leb n left.1) (λ n at. cond (eqb n 0) (SegmentOrder at) (TooLarge n)) (place_in_file len) (number_at w64 len) (eight_bytes count) count (Reads-number w64 (2 ^ 64) width64 len count good.4) (and_from (ltb 0 count) (leb count left.1) (lt-ltb 0 count good.1) (le-leb count left.1 good.2)) in
     let made : ℕ → List ℕ → Segment = λ start words. record { start = start; words = words } in
     let words_are = Reads-map len (words_at len count) (made s.start) (numbers s.words) s.words (Reads-words len s.words good.3) in
-    let counted = Reads-then len (word_count_at len left.1) (λ (n : ℕ) bytes. words_at len n bytes >>= λ words. Ok (made s.start words.0, words.1)) (number count) (numbers s.words) count s count_is words_are in
-    let whole = Reads-then len (start_at len left.0) (λ (start : ℕ) bytes. word_count_at len left.1 bytes >>= λ n. words_at len n.0 n.1 >>= λ words. Ok (made start words.0, words.1)) (number s.start) (number count ++ numbers s.words) s.start s start_is counted in
-    subst (λ (text : List ℕ). Reads len (segment_at len left) text s) (sym (append_assoc (number s.start) (number count) (numbers s.words))) whole
+    let counted = Reads-then len (word_count_at len left.1) (λ (n : ℕ) bytes. words_at len n bytes >>= λ words. Ok (made s.start words.0, words.1)) (eight_bytes count) (numbers s.words) count s count_is words_are in
+    let whole = Reads-then len (start_at len left.0) (λ (start : ℕ) bytes. word_count_at len left.1 bytes >>= λ n. words_at len n.0 n.1 >>= λ words. Ok (made start words.0, words.1)) (eight_bytes s.start) (eight_bytes count ++ numbers s.words) s.start s start_is counted in
+    subst (λ (text : List ℕ). Reads len (segment_at len left) text s) (sym (append_assoc (eight_bytes s.start) (eight_bytes count) (numbers s.words))) whole
 
 segments-good : (left : Left) (ss : List Segment) → AreGood IsSegment left_after left ss → IsTrue (rise_apart_from left.0 ss) × (total_words ss ≤ left.1)
 segments-good left [] good = (refl, omega arith)

@@ -3,22 +3,22 @@ use Rattle.std.specs.Prelude.{ℕ, List, codes}
 use Rattle.omi_corefile.specs.declared.fault.CoreFault.{CoreFault}
 use Rattle.omi_corefile.specs.declared.fault.CoreFault.TheVariants.{BadMagic, Version, Order, Short, TooLarge, SegmentOrder, BadContext, Trailing}
 
-abbrev pub number_of : CoreFault → ℕ
-number_of BadMagic = 1
-number_of (Version v) = 2
-number_of (Order b) = 3
-number_of (Short at) = 4
-number_of (TooLarge n) = 5
-number_of (SegmentOrder at) = 6
-number_of (BadContext at) = 7
-number_of (Trailing at) = 8
+abbrev pub core_fault_number : CoreFault → ℕ
+core_fault_number BadMagic = 1
+core_fault_number (Version v) = 2
+core_fault_number (Order b) = 3
+core_fault_number (Short at) = 4
+core_fault_number (TooLarge n) = 5
+core_fault_number (SegmentOrder at) = 6
+core_fault_number (BadContext at) = 7
+core_fault_number (Trailing at) = 8
 
-abbrev pub text_of : CoreFault → List ℕ
-text_of BadMagic = codes "BadMagic"
-text_of (Version v) = codes "Version"
-text_of (Order b) = codes "Order"
-text_of (Short at) = codes "Short"
-text_of (TooLarge n) = codes "TooLarge"
-text_of (SegmentOrder at) = codes "SegmentOrder"
-text_of (BadContext at) = codes "BadContext"
-text_of (Trailing at) = codes "Trailing"
+abbrev pub core_fault_text : CoreFault → List ℕ
+core_fault_text BadMagic = codes "BadMagic"
+core_fault_text (Version v) = codes "Version"
+core_fault_text (Order b) = codes "Order"
+core_fault_text (Short at) = codes "Short"
+core_fault_text (TooLarge n) = codes "TooLarge"
+core_fault_text (SegmentOrder at) = codes "SegmentOrder"
+core_fault_text (BadContext at) = codes "BadContext"
+core_fault_text (Trailing at) = codes "Trailing"

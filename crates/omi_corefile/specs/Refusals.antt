@@ -19,29 +19,29 @@ abbrev pub ◌>>=◌ : {A B : Type 0} → Result A Refusal → (A → Result B R
 (Err e) >>= f = Err e
 
 -- What follows reads a file of `len` bytes, of which `bytes` are left. A step gives what stands in front and the bytes after it.
-abbrev pub Step : Type 0 → Type 0
-Step A = Result (A × List ℕ) Refusal
+abbrev pub ReadStep : Type 0 → Type 0
+ReadStep A = Result (A × List ℕ) Refusal
 
 -- the place of what is left
-abbrev pub place : ℕ → List ℕ → ℕ
-place len bytes = len - length bytes
+abbrev pub place_in_file : ℕ → List ℕ → ℕ
+place_in_file len bytes = len - length bytes
 
 -- the file ends before a field is whole
 abbrev pub short : ℕ → Refusal
 short len = (len, Short len)
 
 -- a number of one byte
-abbrev pub byte_at : ℕ → List ℕ → Step ℕ
+abbrev pub byte_at : ℕ → List ℕ → ReadStep ℕ
 byte_at len [] = Err (short len)
 byte_at len (b ∷ bytes) = Ok (b, bytes)
 
 -- a number of a few bytes, the lowest first
-abbrev pub number_at : Width → ℕ → List ℕ → Step ℕ
+abbrev pub number_at : Width → ℕ → List ℕ → ReadStep ℕ
 number_at w len bytes = if nat_lt (length bytes) (byte_len w) then Err (short len)
     else Ok (from_le_bytes w (take (byte_len w) bytes), drop (byte_len w) bytes)
 
 -- a number that was read is judged by a test; where it fails, the fault is told the number and its place
-abbrev pub judged : (ℕ → Bool) → (ℕ → ℕ → CoreFault) → ℕ → Step ℕ → Step ℕ
+abbrev pub judged : (ℕ → Bool) → (ℕ → ℕ → CoreFault) → ℕ → ReadStep ℕ → ReadStep ℕ
 judged allowed fault at read = read >>= λ n. if allowed n.0 then Ok n else Err (at, fault n.0 at)
 
 -- the name of the format
@@ -51,46 +51,46 @@ magic_at len bytes = if nat_lt (length bytes) 8 then Err (short len)
     else Err (0, BadMagic)
 
 -- the version is 1
-abbrev pub version_at : ℕ → List ℕ → Step ℕ
+abbrev pub version_at : ℕ → List ℕ → ReadStep ℕ
 version_at len bytes =
-    judged (λ v. v == 1) (λ v at. Version v) (place len bytes) (byte_at len bytes)
+    judged (λ v. v == 1) (λ v at. Version v) (place_in_file len bytes) (byte_at len bytes)
 
 -- the order is 0
-abbrev pub order_at : ℕ → List ℕ → Step ℕ
-order_at len bytes = judged (λ b. b == 0) (λ b at. Order b) (place len bytes) (byte_at len bytes)
+abbrev pub order_at : ℕ → List ℕ → ReadStep ℕ
+order_at len bytes = judged (λ b. b == 0) (λ b at. Order b) (place_in_file len bytes) (byte_at len bytes)
 
 -- no more contexts than a core has
-abbrev pub context_count_at : ℕ → List ℕ → Step ℕ
+abbrev pub context_count_at : ℕ → List ℕ → ReadStep ℕ
 context_count_at len bytes =
-    judged (λ n. nat_le n MOST_CONTEXTS) (λ n at. BadContext at) (place len bytes)
+    judged (λ n. nat_le n MOST_CONTEXTS) (λ n at. BadContext at) (place_in_file len bytes)
     (number_at w16 len bytes)
 
 -- no more segments than a core has
-abbrev pub segment_count_at : ℕ → List ℕ → Step ℕ
+abbrev pub segment_count_at : ℕ → List ℕ → ReadStep ℕ
 segment_count_at len bytes =
-    judged (λ n. nat_le n MOST_SEGMENTS) (λ n at. SegmentOrder at) (place len bytes)
+    judged (λ n. nat_le n MOST_SEGMENTS) (λ n at. SegmentOrder at) (place_in_file len bytes)
     (number_at w32 len bytes)
 
 -- a native id is at least `least`
-abbrev pub id_at : ℕ → ℕ → List ℕ → Step ℕ
+abbrev pub id_at : ℕ → ℕ → List ℕ → ReadStep ℕ
 id_at len least bytes =
-    judged (nat_le least) (λ n at. BadContext at) (place len bytes) (number_at w64 len bytes)
+    judged (nat_le least) (λ n at. BadContext at) (place_in_file len bytes) (number_at w64 len bytes)
 
 -- a start address is at least `least`, and keeps the other rules
-abbrev pub start_at : ℕ → ℕ → List ℕ → Step ℕ
+abbrev pub start_at : ℕ → ℕ → List ℕ → ReadStep ℕ
 start_at len least bytes =
-    judged (is_start least) (λ n at. SegmentOrder at) (place len bytes) (number_at w64 len bytes)
+    judged (is_start least) (λ n at. SegmentOrder at) (place_in_file len bytes) (number_at w64 len bytes)
 
 -- a segment has a word, and no more than the `room` that is left of the limit of all segments
-abbrev pub word_count_at : ℕ → ℕ → List ℕ → Step ℕ
+abbrev pub word_count_at : ℕ → ℕ → List ℕ → ReadStep ℕ
 word_count_at len room bytes =
     judged (λ n. nat_lt 0 n && nat_le n room)
-    (λ n at. if n == 0 then SegmentOrder at else TooLarge n) (place len bytes)
+    (λ n at. if n == 0 then SegmentOrder at else TooLarge n) (place_in_file len bytes)
     (number_at w64 len bytes)
 
 -- so many in a row, each read by a state that the ones before it leave
-unfoldable pub row_at : {S A : Type 0} → (S → List ℕ → Step A) → (S → A → S) → ℕ → S → List ℕ
-    → Step (List A)
+unfoldable pub row_at : {S A : Type 0} → (S → List ℕ → ReadStep A) → (S → A → S) → ℕ → S → List ℕ
+    → ReadStep (List A)
 row_at one next zero s bytes = Ok ([], bytes)
 row_at one next (suc count) s bytes = do
   first ← one s bytes
@@ -98,11 +98,11 @@ row_at one next (suc count) s bytes = do
   Ok (first.0 ∷ others.0, others.1)
 
 -- so many native ids, each above the one before
-abbrev pub contexts_at : ℕ → ℕ → List ℕ → Step (List ℕ)
+abbrev pub contexts_at : ℕ → ℕ → List ℕ → ReadStep (List ℕ)
 contexts_at len count bytes = row_at (id_at len) (λ least id. id + 1) count 0 bytes
 
 -- so many words
-abbrev pub words_at : ℕ → ℕ → List ℕ → Step (List ℕ)
+abbrev pub words_at : ℕ → ℕ → List ℕ → ReadStep (List ℕ)
 words_at len count bytes = row_at {S = ℕ} (λ s. number_at w64 len) (λ s word. s) count 0 bytes
 
 -- what the segments before leave: the least start address, and the room for words
@@ -110,7 +110,7 @@ abbrev pub Left : Type 0
 Left = ℕ × ℕ
 
 -- a segment after those that leave this
-unfoldable pub segment_at : ℕ → Left → List ℕ → Step Segment
+unfoldable pub segment_at : ℕ → Left → List ℕ → ReadStep Segment
 segment_at len left bytes = do
   start ← start_at len left.0 bytes
   count ← word_count_at len left.1 start.1
@@ -122,7 +122,7 @@ abbrev pub left_after : Left → Segment → Left
 left_after left s = (end_of s.start (length s.words) + 1, left.1 - length s.words)
 
 -- so many segments
-abbrev pub segments_at : ℕ → ℕ → List ℕ → Step (List Segment)
+abbrev pub segments_at : ℕ → ℕ → List ℕ → ReadStep (List Segment)
 segments_at len count bytes =
     row_at (segment_at len) left_after count (FIRST_ADDRESS, MOST_SEGMENT_WORDS) bytes
 
@@ -132,7 +132,7 @@ pub record Header : Type 0 where
   pub contexts : ℕ
   pub segments : ℕ
 
-unfoldable pub header_at : ℕ → List ℕ → Step Header
+unfoldable pub header_at : ℕ → List ℕ → ReadStep Header
 header_at len bytes = do
   magic ← magic_at len bytes
   version ← version_at len magic
@@ -148,7 +148,7 @@ pub record Parts : Type 0 where
   pub segments : List Segment
 
 -- what stands before the end
-unfoldable pub parts_at : ℕ → List ℕ → Step Parts
+unfoldable pub parts_at : ℕ → List ℕ → ReadStep Parts
 parts_at len bytes = do
   counts ← header_at len bytes
   contexts ← contexts_at len counts.0.contexts counts.1
@@ -157,7 +157,7 @@ parts_at len bytes = do
 
 -- bytes follow the last segment
 abbrev pub trailing : ℕ → List ℕ → Refusal
-trailing len bytes = (place len bytes, Trailing (place len bytes))
+trailing len bytes = (place_in_file len bytes, Trailing (place_in_file len bytes))
 
 -- the whole file: nothing follows the last segment
 unfoldable pub reading : List ℕ → Result Parts Refusal

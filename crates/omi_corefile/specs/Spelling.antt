@@ -7,12 +7,12 @@ use Rattle.omi_corefile.specs.declared.core_image.CoreImage.{CoreImage}
 use Rattle.omi_word.specs.declared.limits.TheConstants.{FIRST_ADDRESS}
 
 -- eight bytes
-abbrev pub number : ℕ → List ℕ
-number n = to_le_bytes w64 n
+abbrev pub eight_bytes : ℕ → List ℕ
+eight_bytes n = to_le_bytes w64 n
 
 -- eight bytes each
 abbrev pub numbers : List ℕ → List ℕ
-numbers ns = flat_map number ns
+numbers ns = flat_map eight_bytes ns
 
 -- the name of the format, the version, the order, and how many contexts and segments follow
 abbrev pub header : ℕ → ℕ → ℕ → List ℕ
@@ -21,7 +21,7 @@ header order contexts segments = codes "OMPDCOR1" ++ 1 ∷ order ∷ to_le_bytes
 
 -- the start address, the number of words, and the words
 abbrev pub segment_bytes : Segment → List ℕ
-segment_bytes s = number s.start ++ number (length s.words) ++ numbers s.words
+segment_bytes s = eight_bytes s.start ++ eight_bytes (length s.words) ++ numbers s.words
 
 -- the header, the native ids, and the segments
 abbrev pub spelling_of : ℕ → List ℕ → List Segment → List ℕ
@@ -44,8 +44,8 @@ segments_of (word ∷ words) = record { start = FIRST_ADDRESS; words = word ∷ 
 
 -- the core of an image that has a word: the header, the native ids, the first address, the number of words, and the words
 abbrev pub core_bytes : List ℕ → List ℕ → List ℕ
-core_bytes contexts words = header 0 (length contexts) 1 ++ numbers contexts ++ number FIRST_ADDRESS
-    ++ number (length words) ++ numbers words
+core_bytes contexts words = header 0 (length contexts) 1 ++ numbers contexts ++ eight_bytes FIRST_ADDRESS
+    ++ eight_bytes (length words) ++ numbers words
 
 -- the core holds an image: it has these contexts, and these words as its one segment, from the first address on
 pub record HoldsImage (contexts words : List ℕ) (c : CoreImage) : Type 0 where

@@ -1,7 +1,7 @@
 //! The faults of core files, with their numbers and names.
 
 ghost use Rattle.std.specs.Prelude.{◌≡◌};
-ghost use Rattle.omi_corefile.specs.Faults.{number_of, text_of};
+ghost use Rattle.omi_corefile.specs.Faults.{core_fault_number, core_fault_text};
 ghost use Rattle.omi_corefile.specs.declared.fault.CoreError.TheVariants.{OutOfMemory as memory};
 
 use std::alloc::AllocError;
@@ -31,7 +31,7 @@ pub enum CoreFault {
 impl CoreFault {
     /// The fault's number, from 1 to 8.
     pub fn number(&self) -> u8
-        ensures { result ≡ number_of self.now }
+        ensures { result ≡ core_fault_number self.now }
     {
         match self {
             CoreFault::BadMagic => 1,
@@ -47,7 +47,7 @@ impl CoreFault {
 
     /// The fault's name.
     pub fn text(&self) -> &'static str
-        ensures { result.now ≡ text_of self.now }
+        ensures { result.now ≡ core_fault_text self.now }
     {
         match self {
             CoreFault::BadMagic => "BadMagic",

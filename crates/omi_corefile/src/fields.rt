@@ -2,7 +2,7 @@
 
 ghost use Rattle.std.specs.Prelude.{◌≡◌, ◌-◌, length, Err, if◌then◌else◌};
 ghost use Rattle.std.specs.Int.{w16, w32, w64};
-ghost use Rattle.omi_corefile.specs.Refusals.{place as place_of, number_at, byte_at, magic_at};
+ghost use Rattle.omi_corefile.specs.Refusals.{place_in_file as place_of, number_at, byte_at, magic_at};
 ghost use Rattle.omi_corefile.specs.Outcomes.{Gives};
 
 use crate::fault::{CoreError, CoreFault};

@@ -4,7 +4,7 @@ ghost use Rattle.std.specs.Prelude.{◌≡◌, ◌≢◌, ℕ, ◌+◌, ◌*◌,
 ghost use Rattle.std.specs.Int.{w16, w32, to_le_bytes};
 ghost use Rattle.omi_corefile.specs.declared.core_image.CoreImage.{CoreImage};
 ghost use Rattle.omi_corefile.specs.declared.fault.CoreFault.{CoreFault};
-ghost use Rattle.omi_corefile.specs.Spelling.{Core, spelling, number};
+ghost use Rattle.omi_corefile.specs.Spelling.{Core, spelling, eight_bytes};
 ghost use Rattle.omi_corefile.specs.Refusals.{AreBytes, CoreRefused, reading};
 ghost use Rattle.omi_corefile.specs.Outcomes.{IsCore, IsRefused};
 ghost use Rattle.omi_corefile.specs.Limits.{total_words};
@@ -64,23 +64,23 @@ pub fn bad_fields()
     ensures id { (c : CoreImage) (before after : List ℕ) (last id n : ℕ)
         → c.contexts ≡ before ++ last ∷ id ∷ after → n ≤ last
         → let at = id_place (length before + 1)
-        in IsFaultAt c at (number n) (CoreFault.BadContext at) }
+        in IsFaultAt c at (eight_bytes n) (CoreFault.BadContext at) }
 
     // A start address that no segment has, or that isn't above the end of the segment before.
     ensures start { (c : CoreImage) (before after : List Segment) (s : Segment) (n : ℕ)
         → c.segments ≡ before ++ s ∷ after → n < 2 ^ 64 → NeverStarts n
-        → let at = start_place c before in IsFaultAt c at (number n) (CoreFault.SegmentOrder at) }
+        → let at = start_place c before in IsFaultAt c at (eight_bytes n) (CoreFault.SegmentOrder at) }
     ensures touching { (c : CoreImage) (before after : List Segment) (last s : Segment) (n : ℕ)
         → c.segments ≡ before ++ last ∷ s ∷ after → n ≤ last.start + 8 * length last.words
         → let at = start_place c (before ++ last ∷ []) in
-        IsFaultAt c at (number n) (CoreFault.SegmentOrder at) }
+        IsFaultAt c at (eight_bytes n) (CoreFault.SegmentOrder at) }
 
     // A segment of no words, and one of more words than the limit of all segments leaves.
     ensures no_words { (c : CoreImage) (before after : List Segment) (s : Segment)
         → c.segments ≡ before ++ s ∷ after
-        → let at = count_place c before in IsFaultAt c at (number 0) (CoreFault.SegmentOrder at) }
+        → let at = count_place c before in IsFaultAt c at (eight_bytes 0) (CoreFault.SegmentOrder at) }
     ensures too_large { (c : CoreImage) (before after : List Segment) (s : Segment) (n : ℕ)
         → c.segments ≡ before ++ s ∷ after → n < 2 ^ 64
         → MOST_SEGMENT_WORDS < total_words before + n
-        → IsFaultAt c (count_place c before) (number n) (CoreFault.TooLarge n) }
+        → IsFaultAt c (count_place c before) (eight_bytes n) (CoreFault.TooLarge n) }
 {}

@@ -16,7 +16,7 @@ use Rattle.omi_pc.specs.Frames.{at_start}
 use Rattle.omi_pc.specs.OpenBodies.{AreOpen, IsAt}
 use Rattle.omi_pc.proofs.Settled.{named_there}
 use Rattle.omi_step_words.specs.Placed.{HasRegion, HaveTasks, IsPlaced, IsPlacedCounter}
-use Rattle.omi_fork.specs.TeamParts.{function_in, master_context, region_function}
+use Rattle.omi_fork.specs.TeamParts.{parallel_function, master_context, region_function}
 
 -- a body is open where a statement is in work
 pub some_body : (p : Program) (fs : List Frame) (s : Stmt) → IsAt p fs s → 0 < length fs
@@ -32,7 +32,7 @@ module _ (p : Program) (w : List ℕ) (a : Actor) (r : Rid) (same : p.threads �
   opens : (s : Stmt) → IsAt p a.stack s → IsParallel s → Fits p a → IsRegionGot p a r → HasRegion w r → HaveTasks w 1 a.gathered.team
       → AreOpen p (master_context a r) (at_start (region_function p a) (Master a.context) ∷ a.stack)
   opens (Parallel f num) at is fits got region tasks =
-      let function : region_function p a ≡ f = ap function_in at in
+      let function : region_function p a ≡ f = ap parallel_function at in
       let task = tasks 0 (omega arith) in
       rw function
       (stands p (master_context a r) f (Master a.context) a.stack (named_there p a.context a.stack (Parallel f num) f fits.bodies at refl)

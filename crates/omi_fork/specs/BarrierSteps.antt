@@ -26,7 +26,7 @@ use Rattle.omi_pc.specs.declared.team_counter.BarrierCounter.{BarrierCounter}
 use Rattle.omi_pc.specs.declared.team_counter.BarrierCounter.TheVariants as barrier
 use Rattle.omi_pc.specs.declared.team_counter.JoinCounter.TheVariants.{LoadLeft}
 use Rattle.omi_pc.specs.declared.team_counter.WorkerCounter.TheVariants.{ImplicitEnd}
-use Rattle.omi_pc.specs.Moves.{working}
+use Rattle.omi_pc.specs.Moves.{back_to_work}
 use Rattle.omi_step_words.specs.Moving.{to_barrier}
 use Rattle.omi_step_words.specs.Words.{of_region, of_thread}
 
@@ -68,8 +68,8 @@ abbrev pub looking : Barrier → Actor → Actor
 looking b a = record a { counter = counter.Look (LoadRow (wait.Barrier b) 0) }
 
 -- the member has arrived at one barrier more
-abbrev pub arrived : Actor → Actor
-arrived a = record a { context = record a.context { arrivals = a.context.arrivals + 1 } }
+abbrev pub past_arrive : Actor → Actor
+past_arrive a = record a { context = record a.context { arrivals = a.context.arrivals + 1 } }
 
 -- what follows the end of a member
 abbrev pub behind_member_end : Opened → Counter → Counter
@@ -84,13 +84,13 @@ ended_in (f ∷ fs) a = record a { counter = behind_member_end f.opened a.counte
 
 -- the barrier was passed
 abbrev pub passed : Program → Barrier → Actor → Actor
-passed p Explicit a = working p a
+passed p Explicit a = back_to_work p a
 passed p Implicit a = ended_in a.stack a
 
 -- where the step found the word `old`
 abbrev pub barrier_moved : Program → Actor → BarrierCounter → ℕ → Actor
 barrier_moved p a (barrier.State b) old = to_barrier (barrier.Arrive b) a
-barrier_moved p a (barrier.Arrive b) old = looking b (arrived a)
+barrier_moved p a (barrier.Arrive b) old = looking b (past_arrive a)
 barrier_moved p a (barrier.LoadArrived b) old =
     if some_missing a old then looking b a else to_barrier (barrier.LoadPending b) a
 barrier_moved p a (barrier.LoadPending b) old =

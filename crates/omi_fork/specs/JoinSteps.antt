@@ -13,7 +13,7 @@ use Rattle.omi_rep.specs.Records.{task_address}
 use Rattle.omi_pc.specs.declared.actor.Actor.{Actor}
 use Rattle.omi_pc.specs.declared.team_counter.JoinCounter.{JoinCounter}
 use Rattle.omi_pc.specs.declared.team_counter.JoinCounter.TheVariants as join
-use Rattle.omi_pc.specs.Moves.{closed, working}
+use Rattle.omi_pc.specs.Moves.{closed, back_to_work}
 use Rattle.omi_step_words.specs.Moving.{task_under, to_join}
 use Rattle.omi_step_words.specs.Words.{object_in, of_member, of_place, of_region, of_task, of_thread, task_place, unused_word}
 
@@ -38,8 +38,8 @@ some_inside a old = nat_lt old (a.context.size - 1)
 -- ---- moves
 
 -- the region is over, and the encountering task goes on. The records stay: no step leads to the counters that give them back yet
-abbrev pub joined : Program → Actor → Actor
-joined p a = working p (closed a)
+abbrev pub past_join : Program → Actor → Actor
+past_join p a = back_to_work p (closed a)
 
 -- behind the record of a member's task, that of the next one is given back, and at last that of the region
 abbrev pub behind_free : Rid → ℕ → ℕ → JoinCounter
@@ -49,14 +49,14 @@ behind_free r size member =
 -- where the step found the word `old`
 abbrev pub join_moved : Program → List ℕ → Actor → JoinCounter → ℕ → Actor
 join_moved p w a join.LoadLeft old = if some_inside a old then a else to_join join.Join a
-join_moved p w a join.Join old = joined p a
+join_moved p w a join.Join old = past_join p a
 join_moved p w a (join.LoadMember r size member) old =
     to_join (join.LoadLife r size member (task_place w old)) a
 join_moved p w a (join.LoadLife r size member t) old =
     to_join (join.FreeTask r size member (record { 0 = object_in t old })) a
 join_moved p w a (join.FreeTask r size member t) old =
     to_join (behind_free r size member) a
-join_moved p w a (join.FreeRegion r size) old = working p a
+join_moved p w a (join.FreeRegion r size) old = back_to_work p a
 
 -- ---- outcomes
 

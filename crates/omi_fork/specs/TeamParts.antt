@@ -18,9 +18,9 @@ use Rattle.omi_step_words.specs.Words.{plus}
 -- ---- the statement
 
 -- the function of a `parallel` construct, and the size that its clause asks for
-abbrev pub function_in : Option Stmt → ℕ
-function_in (Some (stmt.Parallel f num)) = f
-function_in _ = 0
+abbrev pub parallel_function : Option Stmt → ℕ
+parallel_function (Some (stmt.Parallel f num)) = f
+parallel_function _ = 0
 
 abbrev pub requested_in : Option Stmt → Option ℕ
 requested_in (Some (stmt.Parallel f num)) = num
@@ -28,7 +28,7 @@ requested_in _ = None
 
 -- those of the construct in work
 abbrev pub region_function : Program → Actor → ℕ
-region_function p a = function_in (statement_of p a.stack)
+region_function p a = parallel_function (statement_of p a.stack)
 
 abbrev pub requested : Program → Actor → Option ℕ
 requested p a = requested_in (statement_of p a.stack)
@@ -41,8 +41,8 @@ first_nthreads a = slice_index a.gathered.variables 4 % 256
 
 -- the size of the team that is wanted, where `most` is max-active-levels-var: one where so many levels are active, else what
 -- the clause asks for, and else the first element of nthreads-var
-abbrev pub wanted_size : Program → Actor → ℕ → ℕ
-wanted_size p a most =
+abbrev pub size_to_want : Program → Actor → ℕ → ℕ
+size_to_want p a most =
     if nat_le most a.gathered.active then 1 else unwrap_or (requested p a) (first_nthreads a)
 
 -- the threads that were got, with this one
@@ -52,8 +52,8 @@ team_size a = length a.gathered.team
 -- ---- records
 
 -- the region of a team, one level below the current one. The level is active where the team has more than one thread
-abbrev pub new_region : Program → Actor → NewRegion
-new_region p a =
+abbrev pub planned_region : Program → Actor → NewRegion
+planned_region p a =
     record {
       enclosing = a.context.region;
       encountering = a.context.task;

@@ -1,6 +1,6 @@
 -- The steps of a `parallel` construct: it wants a team and asks for threads, makes the records of the region and of the members'
 -- tasks, forks, and assigns each task to its thread.
-use Rattle.std.specs.Prelude.{ℕ, ◌==◌, ◌+◌, ◌&&◌, nat_lt, Bool, List, slice_set, if◌then◌else◌}
+use Rattle.std.specs.Prelude.{ℕ, ◌==◌, ◌+◌, ◌&&◌, nat_lt, Bool, List, if◌then◌else◌}
 use Rattle.omi_word.specs.declared.op.Op.{Op}
 use Rattle.omi_word.specs.declared.op.Op.TheVariants as op
 use Rattle.omi_script.specs.declared.program.Program.{Program}
@@ -19,12 +19,12 @@ use Rattle.omi_pc.specs.declared.actor.Actor.{Actor}
 use Rattle.omi_pc.specs.declared.limits.TheConstants.{VARIABLE_WORDS, REGION_WORDS, TASK_WORDS}
 use Rattle.omi_pc.specs.declared.team_counter.TeamCounter.{TeamCounter}
 use Rattle.omi_pc.specs.declared.team_counter.TeamCounter.TheVariants as team
-use Rattle.omi_pc.specs.Moves.{begun_master, working}
+use Rattle.omi_pc.specs.Moves.{begun_master, back_to_work}
 use Rattle.omi_step_words.specs.Members.{alone, joined_by, member_of}
-use Rattle.omi_step_words.specs.Moving.{to_team, gathering}
+use Rattle.omi_step_words.specs.Moving.{gathering, to_team, with_loaded_variable}
 use Rattle.omi_step_words.specs.Plan.{filling, of_variable, region_plan, task_plan}
 use Rattle.omi_step_words.specs.Searches.{next_slot, own_place, search_outcome}
-use Rattle.omi_fork.specs.TeamParts.{master_context, new_member, new_region, region_function, team_size, wanted_size}
+use Rattle.omi_fork.specs.TeamParts.{master_context, new_member, planned_region, region_function, team_size, size_to_want}
 use Rattle.omi_step_words.specs.Words.{of_member, of_runtime, of_thread, of_place, of_region, of_task, object_in, is_free, used_word}
 
 -- ---- operations
@@ -43,7 +43,7 @@ team_next p w a team.Want = op.Load (of_runtime w RuntimeMaxActive)
 team_next p w a team.Ask = op.Cas (of_thread w a.gathered.asked ThreadClaim) 1 (2 + a.thread)
 team_next p w a (team.LoadRegionLife slot) = op.Load (of_place w (own_place a slot) RegionLife)
 team_next p w a (team.TakeRegion r) = op.Store (of_region w r RegionLife) (used_word r.0)
-team_next p w a (team.FillRegion r word) = filling w r.0 (region_plan w (new_region p a) word)
+team_next p w a (team.FillRegion r word) = filling w r.0 (region_plan w (planned_region p a) word)
 team_next p w a (team.LoadTaskLife r member slot) =
     op.Load (of_place w (own_place a slot) TaskLife)
 team_next p w a (team.TakeTask r member t) = op.Store (of_task w t TaskLife) (used_word t.0)
@@ -64,12 +64,8 @@ with_levels old a = gathering (record a.gathered { levels = old }) a
 abbrev pub with_active : ℕ → Actor → Actor
 with_active old a = gathering (record a.gathered { active = old }) a
 
-abbrev pub with_variable : ℕ → ℕ → Actor → Actor
-with_variable word old a =
-    gathering (record a.gathered { variables = slice_set a.gathered.variables word old }) a
-
-abbrev pub behind_variable : ℕ → TeamCounter
-behind_variable word =
+abbrev pub behind_team_variable : ℕ → TeamCounter
+behind_team_variable word =
     if nat_lt (word + 1) VARIABLE_WORDS then team.LoadVariable (word + 1) else team.Want
 
 -- a thread does not ask itself
@@ -87,8 +83,8 @@ asking p thread a =
     (gathering (record a.gathered { asked = but_own a.thread thread }) a)
 
 -- a team of this size is wanted: it has this thread, and the others are asked from thread 0 on
-abbrev pub wanting : Program → ℕ → Actor → Actor
-wanting p n a =
+abbrev pub past_want : Program → ℕ → Actor → Actor
+past_want p n a =
     asking p 0
     (gathering (record a.gathered { wanted = n; team = alone a.thread }) a)
 
@@ -133,11 +129,11 @@ behind_member a r member =
 -- a member's task is assigned next, or the thread works, where each member has its task
 abbrev pub assigning_from : Program → ℕ → Actor → Actor
 assigning_from p member a =
-    if nat_lt member (team_size a) then to_team (team.Assign member) a else working p a
+    if nat_lt member (team_size a) then to_team (team.Assign member) a else back_to_work p a
 
 -- the region begins: this thread goes on with member 0
-abbrev pub forked : Program → Rid → Actor → Actor
-forked p r a =
+abbrev pub past_fork : Program → Rid → Actor → Actor
+past_fork p r a =
     assigning_from p 1 (begun_master (region_function p a) (master_context a r) a)
 
 -- where the step found the word `old`
@@ -146,8 +142,8 @@ team_moved p w a team.OverheadState old = to_team team.LoadLevels a
 team_moved p w a team.LoadLevels old = to_team team.LoadActive (with_levels old a)
 team_moved p w a team.LoadActive old = to_team (team.LoadVariable 0) (with_active old a)
 team_moved p w a (team.LoadVariable word) old =
-    to_team (behind_variable word) (with_variable word old a)
-team_moved p w a team.Want old = wanting p (wanted_size p a old) a
+    to_team (behind_team_variable word) (with_loaded_variable word old a)
+team_moved p w a team.Want old = past_want p (size_to_want p a old) a
 team_moved p w a team.Ask old = answered p old a
 team_moved p w a (team.LoadRegionLife slot) old = region_searched w a slot old
 team_moved p w a (team.TakeRegion r) old = to_team (team.FillRegion r 0) a
@@ -158,7 +154,7 @@ team_moved p w a (team.TakeTask r member t) old =
 team_moved p w a (team.FillTask r member t word) old =
     to_team (behind_task_word r member t word) a
 team_moved p w a (team.StoreMember r member t) old = to_team (behind_member a r member) a
-team_moved p w a (team.Fork r) old = forked p r a
+team_moved p w a (team.Fork r) old = past_fork p r a
 team_moved p w a (team.Assign member) old = assigning_from p (member + 1) a
 
 -- ---- outcomes
@@ -168,7 +164,7 @@ team_outcome p w a team.OverheadState old = outcome.Event (event.State overhead 
 team_outcome p w a team.LoadLevels old = outcome.Quiet
 team_outcome p w a team.LoadActive old = outcome.Quiet
 team_outcome p w a (team.LoadVariable word) old = outcome.Quiet
-team_outcome p w a team.Want old = outcome.Event (event.Want (wanted_size p a old))
+team_outcome p w a team.Want old = outcome.Event (event.Want (size_to_want p a old))
 team_outcome p w a team.Ask old = outcome.Event (event.Ask a.gathered.asked (old == 1))
 team_outcome p w a (team.LoadRegionLife slot) old = search_outcome w a RegionLife slot old
 team_outcome p w a (team.TakeRegion r) old = outcome.Quiet

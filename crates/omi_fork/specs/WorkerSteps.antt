@@ -16,7 +16,7 @@ use Rattle.omi_pc.specs.declared.actor.Actor.{Actor}
 use Rattle.omi_pc.specs.declared.context.Context.{Context}
 use Rattle.omi_pc.specs.declared.team_counter.WorkerCounter.{WorkerCounter}
 use Rattle.omi_pc.specs.declared.team_counter.WorkerCounter.TheVariants as worker
-use Rattle.omi_pc.specs.Moves.{begun_worker, closed, working}
+use Rattle.omi_pc.specs.Moves.{begun_worker, closed, back_to_work}
 use Rattle.omi_step_words.specs.Moving.{to_worker}
 use Rattle.omi_step_words.specs.Words.{of_thread, of_place, of_region, of_task, object_in, task_place, region_place, function_at}
 
@@ -81,7 +81,7 @@ worker_moved p w a (worker.LoadSize t f r) old = to_worker (worker.LoadNumber t 
 worker_moved p w a (worker.LoadNumber t f r size) old =
     to_worker (worker.ImplicitBegin t f r size old) a
 worker_moved p w a (worker.ImplicitBegin t f r size number) old =
-    working p (begun_worker f (member_context t r size number) a)
+    back_to_work p (begun_worker f (member_context t r size number) a)
 worker_moved p w a worker.ImplicitEnd old = to_worker (worker.AddLeft a.context.region) (closed a)
 worker_moved p w a (worker.AddLeft r) old = to_worker (idle_counter p) a
 worker_moved p w a worker.IdleState old = to_worker worker.Offer a

@@ -6,7 +6,7 @@ ghost use Rattle.omi_pc.specs.Fits.{Fits};
 ghost use Rattle.omi_pc.specs.OpenBodies.{AreOpen};
 ghost use Rattle.omi_pc.specs.declared.counter.Counter.TheVariants as counter;
 ghost use Rattle.omi_fork.specs.BarrierSteps;
-ghost use Rattle.omi_fork.specs.BarrierSteps.{arrived, barrier_moved, barrier_next, barrier_outcome, barrier_state, behind_member_end, ended_in, looking, passed};
+ghost use Rattle.omi_fork.specs.BarrierSteps.{past_arrive, barrier_moved, barrier_next, barrier_outcome, barrier_state, behind_member_end, ended_in, looking, passed};
 ghost use Rattle.omi_step_words.specs.Moving.{to_barrier};
 ghost use Rattle.omi_step_words.specs.Placed.{IsPlaced};
 
@@ -112,7 +112,7 @@ fn look(a: &mut Actor, barrier: Barrier)
 /// The member has arrived at one barrier more.
 fn arrive(a: &mut Actor)
     requires { a.old.context.arrivals < 2 ^ 57 }
-    ensures { a.new ≡ arrived a.old }
+    ensures { a.new ≡ past_arrive a.old }
 {
     a.context.arrivals += 1;
 }

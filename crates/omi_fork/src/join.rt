@@ -7,7 +7,7 @@ ghost use Rattle.omi_pc.specs.OpenBodies.{AreOpen};
 ghost use Rattle.omi_pc.specs.declared.counter.Counter.TheVariants as counter;
 ghost use Rattle.omi_pc.specs.declared.team_counter.JoinCounter.TheVariants.{Join};
 ghost use Rattle.omi_fork.specs.JoinSteps;
-ghost use Rattle.omi_fork.specs.JoinSteps.{behind_free, join_moved, join_next, join_outcome, joined};
+ghost use Rattle.omi_fork.specs.JoinSteps.{behind_free, join_moved, join_next, join_outcome, past_join};
 ghost use Rattle.omi_step_words.specs.Moving.{to_join};
 ghost use Rattle.omi_step_words.specs.Placed.{IsPlaced};
 
@@ -79,7 +79,7 @@ fn to_join(a: &mut Actor, c: JoinCounter)
 /// The region is over, and the encountering task goes on.
 fn join(p: &Program, a: &mut Actor)
     requires { AreOpen p.now a.old.context a.old.stack }
-    ensures { a.new ≡ joined p.now a.old }
+    ensures { a.new ≡ past_join p.now a.old }
 {
     bodies_stand();
     a.close();

@@ -11,7 +11,7 @@ ghost use Rattle.omi_pc.specs.Fits.{Fits};
 ghost use Rattle.omi_pc.specs.OpenBodies.{AreOpen};
 ghost use Rattle.omi_step_words.specs.Moving.{to_team};
 ghost use Rattle.omi_step_words.specs.Placed.{IsPlaced, Searches};
-ghost use Rattle.omi_fork.specs.TeamSteps.{answered, asking, assigning_from, behind_member, behind_region_word, behind_task_word, behind_variable, forked, region_searched, task_searched, team_moved, team_outcome, wanting};
+ghost use Rattle.omi_fork.specs.TeamSteps.{answered, asking, assigning_from, behind_member, behind_region_word, behind_task_word, behind_team_variable, past_fork, region_searched, task_searched, team_moved, team_outcome, past_want};
 
 use crate::team::team_outcome;
 use crate::team_parts::{master_context, region_function, wanted_size};
@@ -40,7 +40,7 @@ fn to_team(a: &mut Actor, c: TeamCounter)
 /// The counter behind the load of a word of a data environment.
 fn behind_variable(word: u8) -> TeamCounter
     requires { word < VARIABLE_WORDS }
-    ensures { result ≡ behind_variable word }
+    ensures { result ≡ behind_team_variable word }
 {
     let next = word + 1;
     if (next as usize) < VARIABLE_WORDS {
@@ -77,7 +77,7 @@ fn ask(p: &Program, a: &mut Actor, thread: u8)
 /// A team of this size is wanted.
 fn want(p: &Program, a: &mut Actor, n: u8)
     requires { a.old.thread < p.now.threads }
-    ensures { a.new ≡ wanting p.now n a.old }
+    ensures { a.new ≡ past_want p.now n a.old }
 {
     let mut team = Team::new();
     team.push(NO_TASK, a.thread);
@@ -212,7 +212,7 @@ fn fork(p: &Program, l: &Layout, a: &mut Actor, region: Rid)
     requires threads { p.now.threads ≡ thread_count l.now.table }
     requires placed { IsPlaced l.now.table a.old }
     requires at { a.old.counter ≡ counter.Team (team.Fork region) }
-    ensures { a.new ≡ forked p.now region a.old }
+    ensures { a.new ≡ past_fork p.now region a.old }
 {
     stacks_have_room();
     bodies_stand();

@@ -4,7 +4,7 @@ ghost use Rattle.std.specs.Prelude.{◌≡◌, ◌<◌, ◌≤◌, ◌+◌, leng
 ghost use Rattle.omi_pc.specs.Fits.{HasVariables};
 ghost use Rattle.omi_step_words.specs.Members.{member_of};
 ghost use Rattle.omi_fork.specs.TeamParts;
-ghost use Rattle.omi_fork.specs.TeamParts.{master_context, new_member, new_region, requested, wanted_size};
+ghost use Rattle.omi_fork.specs.TeamParts.{master_context, new_member, planned_region, requested, size_to_want};
 
 use omi_model::{Rid, Team, Tid};
 use omi_pc::{Actor, Context};
@@ -34,7 +34,7 @@ fn requested(p: &Program, a: &Actor) -> Option<u8>
 /// The size of the team that is wanted, by max-active-levels-var.
 pub fn wanted_size(p: &Program, a: &Actor, most: u64) -> u8
     requires { HasVariables a.now }
-    ensures { result ≡ wanted_size p.now a.now most }
+    ensures { result ≡ size_to_want p.now a.now most }
 {
     if most <= a.gathered.active {
         return 1;
@@ -53,7 +53,7 @@ pub fn member_of(team: &Team, number: u8) -> (Tid, u8)
 
 /// The region of a team, one level below the current one.
 pub fn new_region(p: &Program, a: &Actor) -> NewRegion
-    ensures { result ≡ new_region p.now a.now }
+    ensures { result ≡ planned_region p.now a.now }
 {
     let size = a.gathered.team.len() as u64;
     let more = u64::from(size > 1);

@@ -20,7 +20,7 @@ use Rattle.omi_session.specs.Shown.{ShowsTold, HoldsThread, HoldsRegion, HoldsTa
 use Rattle.omi_session.proofs.Asked.{answer_then}
 use Rattle.omi_session.proofs.ShownParts.{then_answered, word_told}
 use Rattle.omi_session.proofs.ShownAnswers.{given_value, thread_object, region_object, task_object}
-use Rattle.omi_text.specs.Lines.{setting}
+use Rattle.omi_text.specs.Lines.{named_value}
 use Rattle.omi_icv.specs.declared.icv_text.Value.{Value}
 use Rattle.omi_icv.specs.declared.scoped.Scoped.{Scoped}
 use Rattle.omi_icv.specs.declared.scoped.Scoped.TheVariants.{Space, Thread, Parallel, Task}
@@ -77,7 +77,7 @@ module _ (told : Told) (w : List ℕ) where
       (then_answered shown.memory (word_of w (runtime_address w) RuntimeDebug 0) _ (flag s.environment.debug) (word_told w shown.memory (runtime_address w) RuntimeDebug 0 _ globals.debug)
       ∙ then_answered shown.memory (word_of w (runtime_address w) RuntimeProcs 0) _ s.environment.procs (word_told w shown.memory (runtime_address w) RuntimeProcs 0 _ globals.procs)
       ∙ then_answered shown.memory (word_of w (runtime_address w) RuntimeMaxActive 0) _ s.max_active (word_told w shown.memory (runtime_address w) RuntimeMaxActive 0 _ globals.max_active))
-      ∙ ap (λ text. Ok (setting (name_of debug_var) text ∷ setting (name_of num_procs_var) (decimal s.environment.procs) ∷ setting (name_of max_active_levels_var) (decimal s.max_active) ∷ []))
+      ∙ ap (λ text. Ok (named_value (name_of debug_var) text ∷ named_value (name_of num_procs_var) (decimal s.environment.procs) ∷ named_value (name_of max_active_levels_var) (decimal s.max_active) ∷ []))
       (switch_text s.environment.debug)
 
   pub display_given : (s : State) (shown : ShowsTold told w s) (result : Result (List (List ℕ)) Rc) → Written told result (display w) → IsWritten result (Ok (display_of s))

@@ -7,16 +7,16 @@ use Rattle.omi_rep.specs.Records.{runtime_address}
 use Rattle.omi_session.specs.Reads.{Reads, Answer, then_reads}
 use Rattle.omi_session.specs.Inquiry.{word_of}
 use Rattle.omi_text.specs.Head.{debug_text}
-use Rattle.omi_text.specs.Lines.{setting}
+use Rattle.omi_text.specs.Lines.{named_value}
 use Rattle.omi_icv.specs.declared.display.SpaceWords.{SpaceWords}
 use Rattle.omi_icv.specs.Table.{debug_var, num_procs_var, name_of}
 
 -- the texts of the variables
 abbrev pub display_texts : SpaceWords → List (List ℕ)
 display_texts words =
-    setting (name_of debug_var) (debug_text words.debug)
-    ∷ setting (name_of num_procs_var) (decimal words.procs)
-    ∷ setting (name_of max_active_levels_var) (decimal words.max_active)
+    named_value (name_of debug_var) (debug_text words.debug)
+    ∷ named_value (name_of num_procs_var) (decimal words.procs)
+    ∷ named_value (name_of max_active_levels_var) (decimal words.max_active)
     ∷ []
 
 module _ (w : List ℕ) where

@@ -10,7 +10,7 @@ use Rattle.omi_model.specs.State.{State, current_task}
 use Rattle.omi_model.specs.Views.{schedule_number}
 use Rattle.omi_session.specs.declared.rc.Rc.{Rc}
 use Rattle.omi_session.specs.declared.rc.Rc.TheVariants.{Unavailable, Unsupported, NeedsStateTracking, Incomplete}
-use Rattle.omi_text.specs.Lines.{setting}
+use Rattle.omi_text.specs.Lines.{named_value}
 use Rattle.omi_text.specs.Names.{kind_text}
 use Rattle.omi_text.specs.Numbers.{decimals}
 use Rattle.omi_icv.specs.Table.{final_task_var, implicit_task_var, debug_var, num_procs_var, levels_var, active_levels_var, team_size_var, thread_num_var, name_of}
@@ -120,7 +120,7 @@ tool_of (subject.Task t) = Ok t.tool
 -- the variables of the address space by name and value
 abbrev pub display_of : State → List (List ℕ)
 display_of s =
-    setting (name_of debug_var) (of_switch s.environment.debug).text
-    ∷ setting (name_of num_procs_var) (decimal s.environment.procs)
-    ∷ setting (name_of max_active_levels_var) (decimal s.max_active)
+    named_value (name_of debug_var) (of_switch s.environment.debug).text
+    ∷ named_value (name_of num_procs_var) (decimal s.environment.procs)
+    ∷ named_value (name_of max_active_levels_var) (decimal s.max_active)
     ∷ []

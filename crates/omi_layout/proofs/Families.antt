@@ -7,7 +7,7 @@ use Rattle.omi_word.specs.Memory.{place_of}
 use Rattle.omi_word.proofs.Addresses.{place-address}
 use Rattle.omi_layout.specs.Field.{IsKind, kind_of}
 use Rattle.omi_layout.specs.Table.{thread_count, per_thread, offset, width, size, place, records, extent}
-use Rattle.omi_layout.specs.Place.{first_word, end_word, arena_fits, fits, image_words}
+use Rattle.omi_layout.specs.Place.{first_word, arena_end, arena_fits, fits, image_words}
 use Rattle.omi_layout.specs.Valid.{IsValid, shares, is_counted, is_placed, is_arena, arenas_share}
 use Rattle.omi_layout.specs.Family.{IsFamily, field_words, family_size, family_extent, family_count}
 use Rattle.omi_layout.proofs.Arenas.{each_kind}
@@ -173,11 +173,11 @@ module _ (k t : ℕ) (w : List ℕ) (some : 1 ≤ t) (most : t ≤ MOST_THREADS)
       let four = product_few (family_count t 4) (family_size k t 4) 16384 29 (omega (arith, most)) (omega arith) in
       omega (arith, one, two, three, four)
 
-  end_is : (p x : ℕ) → IsKind p → place w p ≡ 65536 + 8 * (99 + x) → end_word w p ≡ 99 + x + family_extent k t p
+  end_is : (p x : ℕ) → IsKind p → place w p ≡ 65536 + 8 * (99 + x) → arena_end w p ≡ 99 + x + family_extent k t p
   end_is p x is at = omega (arith, first_is p x at, extent_is p is)
 
-  arena_fit : (p x n : ℕ) → place w p ≡ 65536 + 8 * (99 + x) → end_word w p ≤ n → arena_fits w n p ≡ true
-  arena_fit p x n at ends = both _ _ (le_test 99 (first_word w p) (omega (arith, first_is p x at))) (le_test (end_word w p) n ends)
+  arena_fit : (p x n : ℕ) → place w p ≡ 65536 + 8 * (99 + x) → arena_end w p ≤ n → arena_fits w n p ≡ true
+  arena_fit p x n at ends = both _ _ (le_test 99 (first_word w p) (omega (arith, first_is p x at))) (le_test (arena_end w p) n ends)
 
   pub family_fits : IsTrue (fits w (image_words w))
   family_fits =

@@ -5,14 +5,14 @@ use mir.Val.{bool_byte}
 use Rattle.omi_layout.specs.Codes.{flag_word}
 use Rattle.std.specs.Prelude.{IsTrue}
 use Rattle.std.proofs.lemmas.List.{take_more}
-use Rattle.omi_word.specs.Memory.{IsWordOf, after}
+use Rattle.omi_word.specs.Memory.{IsWordOf, words_after}
 use Rattle.omi_word.specs.declared.op.Op.TheVariants.{Store}
 use Rattle.omi_layout.specs.Field.{kind_of}
 use Rattle.omi_layout.specs.Named.{number}
 use Rattle.omi_layout.specs.Table.{offset}
 use Rattle.omi_layout.specs.Place.{fits, slot_address, IsSlot}
 use Rattle.omi_layout.specs.Valid.{IsValid}
-use Rattle.omi_layout.specs.Memory.{Rec, put, memory_of, word_address, with_word, with_word_in, IsRecordWord}
+use Rattle.omi_layout.specs.Memory.{Rec, replace_at, memory_of, word_address, with_word, with_word_in, IsRecordWord}
 use Rattle.omi_layout.specs.Frame.{IsOnWord}
 use Rattle.omi_layout.specs.Plan.{Entry, IsEntryOf, filled, IsFilled}
 use Rattle.omi_layout.proofs.Arenas.{ends_inside, small}
@@ -53,12 +53,12 @@ module _ (w : List ℕ) (v : IsValid w) where
     pub entry_inside : IsWordOf words address
     entry_inside = on.inside
 
-    leaves : memory_of w (after words (Store address e.2)) ≡ with_word (memory_of w words) c kind 0 (number e.0) e.1 e.2
+    leaves : memory_of w (words_after words (Store address e.2)) ≡ with_word (memory_of w words) c kind 0 (number e.0) e.1 e.2
     leaves = on.leaves ∙ ap (λ q. with_word (memory_of w words) c q 0 (number e.0) e.1 e.2) is.0
 
     -- one word more is stored
     pub filled_next : (old : List ℕ) (plan : List Entry) (i : ℕ) (d : Entry) → i < length plan → get_or plan i d ≡ e → IsFilled w old words c kind (take i plan)
-        → IsFilled w old (after words (Store address e.2)) c kind (take (i + 1) plan)
+        → IsFilled w old (words_after words (Store address e.2)) c kind (take (i + 1) plan)
     filled_next old plan i d within this before = record {
       here =
           ap (λ m. m c kind 0) leaves
@@ -82,9 +82,9 @@ pub not_first : (i : ℕ) → 1 ≤ i → i == 0 ≡ false
 not_first i h = grind (arith, nat_tests)
 
 -- four elements are stored, and those behind stay
-pub past_four : (m : ℕ → ℕ) (a b c d j : ℕ) → 4 ≤ j → put (put (put (put m 0 a) 1 b) 2 c) 3 d j ≡ m j
+pub past_four : (m : ℕ → ℕ) (a b c d j : ℕ) → 4 ≤ j → replace_at (replace_at (replace_at (replace_at m 0 a) 1 b) 2 c) 3 d j ≡ m j
 past_four m a b c d j h =
-    put_other (put (put (put m 0 a) 1 b) 2 c) 3 j d (λ e. omega (arith, h, e))
-    ∙ put_other (put (put m 0 a) 1 b) 2 j c (λ e. omega (arith, h, e))
-    ∙ put_other (put m 0 a) 1 j b (λ e. omega (arith, h, e))
+    put_other (replace_at (replace_at (replace_at m 0 a) 1 b) 2 c) 3 j d (λ e. omega (arith, h, e))
+    ∙ put_other (replace_at (replace_at m 0 a) 1 b) 2 j c (λ e. omega (arith, h, e))
+    ∙ put_other (replace_at m 0 a) 1 j b (λ e. omega (arith, h, e))
     ∙ put_other m 0 j a (λ e. omega (arith, h, e))

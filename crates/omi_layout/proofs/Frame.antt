@@ -4,7 +4,7 @@ use Rattle.std.proofs.lemmas.Bool.Decides.{nat_tests}
 use Rattle.std.proofs.lemmas.Nat.{div-mul-add, mod-mul-add, mul-add-lt}
 use Rattle.omi_layout.specs.Field.{IsField, IsKind, kind_of}
 use Rattle.omi_layout.specs.Table.{size, place, records, extent, offset, width}
-use Rattle.omi_layout.specs.Place.{first_word, end_word, arena_fits, fits, index_of, slot_address}
+use Rattle.omi_layout.specs.Place.{first_word, arena_end, arena_fits, fits, index_of, slot_address}
 use Rattle.omi_layout.specs.Valid.{IsValid, shares, is_counted, is_placed, is_taken, arenas_share}
 use Rattle.omi_layout.specs.Words.{IsWord, AreApart, AreInside, SlotsApart, AddressesApart, NoneIsNull}
 use Rattle.omi_layout.proofs.Arenas.{each_kind, ends_inside, placed, positive, test_left, test_right}
@@ -139,13 +139,13 @@ module _ (w : List ℕ) (v : IsValid w) where
   are_inside n f index at e is =
       let arena = fits_each n e (kind_of f) (kind_is f) in
       let low : 99 ≤ first_word w (kind_of f) = leb-true _ _ (test_left _ _ arena) in
-      let high : end_word w (kind_of f) ≤ n = leb-true (end_word w (kind_of f)) n (test_right (nat_le 99 (first_word w (kind_of f))) (nat_le (end_word w (kind_of f)) n) arena) in
+      let high : arena_end w (kind_of f) ≤ n = leb-true (arena_end w (kind_of f)) n (test_right (nat_le 99 (first_word w (kind_of f))) (nat_le (arena_end w (kind_of f)) n) arena) in
       let here = in_arena f index at is in
       record { behind = omega (arith, low); inside = omega (arith, high, here) }
 
   -- each arena ends in an image that the layout fits
-  pub each_fits : (n : ℕ) → fits w n ≡ true → (p : ℕ) → IsKind p → end_word w p ≤ n
-  each_fits n e p is = leb-true (end_word w p) n (test_right (nat_le 99 (first_word w p)) (nat_le (end_word w p) n) (fits_each n e p is))
+  pub each_fits : (n : ℕ) → fits w n ≡ true → (p : ℕ) → IsKind p → arena_end w p ≤ n
+  each_fits n e p is = leb-true (arena_end w p) n (test_right (nat_le 99 (first_word w p)) (nat_le (arena_end w p) n) (fits_each n e p is))
 
   -- an image that the layout fits has room for the tables
   pub front_fits : (n : ℕ) → fits w n ≡ true → 99 ≤ n

@@ -7,10 +7,10 @@ use Rattle.omi_layout.specs.declared.fault.LayoutFault.{LayoutFault}
 use Rattle.omi_layout.specs.declared.fault.LayoutFault.TheVariants.{Version, Overlap, OutOfRecord, BadArena}
 use Rattle.omi_layout.specs.declared.reading.LayoutError.TheVariants.{NoSymbol, Unmapped, Refused}
 use Rattle.omi_layout.specs.Given.{wrapped}
-use Rattle.omi_layout.specs.NoLayout.{IsUnmapped, IsRefused, table_address}
+use Rattle.omi_layout.specs.NoLayout.{IsUnmapped, IsLayoutRefused, table_address}
 use Rattle.omi_layout.specs.OneAnswer.{OneLayout, OneCause, NotBoth}
 use Rattle.omi_layout.specs.SymbolTable.{Words, words_from, symbol_in}
-use Rattle.omi_layout.specs.Valid.{IsValid, Refuses, overlap, word_named}
+use Rattle.omi_layout.specs.Valid.{IsValid, RefusesTable, overlap, word_named}
 
 -- the least number of a kind is one
 least_one : (f g : ℕ) → (f < g → ⊥) → (g < f → ⊥) → f ≡ g
@@ -25,14 +25,14 @@ clash : (b : Bool) → b ≡ true → b ≡ false → ⊥
 clash b x y = cc
 
 -- a valid table is refused for no fault
-valid_not_refused : (w : List ℕ) (f : LayoutFault) → IsValid w → Refuses w f → ⊥
+valid_not_refused : (w : List ℕ) (f : LayoutFault) → IsValid w → RefusesTable w f → ⊥
 valid_not_refused w (Version n) v r = r.unknown v.known
 valid_not_refused w (OutOfRecord f) v r = clash _ (v.inside f r.is) r.out
 valid_not_refused w (Overlap f g) v r = clash _ r.overlaps (v.apart f r.first g r.second r.order)
 valid_not_refused w (BadArena p) v r = clash _ (v.arenas p r.is) r.bad
 
 -- a table is refused for one fault
-one_fault : (w : List ℕ) (e f : LayoutFault) → Refuses w e → Refuses w f → e ≡ f
+one_fault : (w : List ℕ) (e f : LayoutFault) → RefusesTable w e → RefusesTable w f → e ≡ f
 one_fault w (Version n) (Version m) a b = ap Version (a.is ∙ sym b.is)
 one_fault w (Version n) (OutOfRecord f) a b = absurd (a.unknown b.known)
 one_fault w (Version n) (Overlap f g) a b = absurd (a.unknown b.known)
@@ -92,7 +92,7 @@ one_layout = λ words w v a b.
     let address : a.address ≡ b.address = one_some _ a.address b.address a.symbol b.symbol in
     one_table _ w v (ap (λ x. words_from (wrapped words) x 56) (sym address) ∙ a.table) b.table
 
-same_table : (words : Words) (addr addr' : ℕ) (f f' : LayoutFault) (a : IsRefused words addr f) (b : IsRefused words addr' f') → (a.address ≡ b.address) × (a.table ≡ b.table)
+same_table : (words : Words) (addr addr' : ℕ) (f f' : LayoutFault) (a : IsLayoutRefused words addr f) (b : IsLayoutRefused words addr' f') → (a.address ≡ b.address) × (a.table ≡ b.table)
 same_table words addr addr' f f' a b =
     let address : a.address ≡ b.address = one_some _ a.address b.address a.symbol b.symbol in
     (address, one_table _ a.table b.table (ap (λ x. words_from (wrapped words) x 56) (sym address) ∙ a.read) b.read)
@@ -125,7 +125,7 @@ one_cause words (Refused x e) NoSymbol a b = absurd (no_symbol _ a.address b a.s
 one_cause words (Refused x e) (Unmapped y) a b = absurd (unmapped_not_read words y a.address a.table a.symbol a.read b)
 one_cause words (Refused x e) (Refused y f) a b =
     let same = same_table words x y e f a b in
-    let fault : e ≡ f = one_fault b.table e f (subst (λ (t : List ℕ). Refuses t e) same.1 a.refused) b.refused in
+    let fault : e ≡ f = one_fault b.table e f (subst (λ (t : List ℕ). RefusesTable t e) same.1 a.refused) b.refused in
     ap₂ Refused (a.is ∙ ap₂ (λ z q. table_address z (word_named q)) same.0 fault ∙ sym b.is) fault
 
 pub not_both : NotBoth
@@ -134,4 +134,4 @@ not_both words w (Unmapped y) v a b = unmapped_not_read words y a.address w a.sy
 not_both words w (Refused y f) v a b =
     let address : a.address ≡ b.address = one_some _ a.address b.address a.symbol b.symbol in
     let table : w ≡ b.table = one_table _ w b.table (ap (λ x. words_from (wrapped words) x 56) (sym address) ∙ a.table) b.read in
-    valid_not_refused w f v (subst (λ (t : List ℕ). Refuses t f) (sym table) b.refused)
+    valid_not_refused w f v (subst (λ (t : List ℕ). RefusesTable t f) (sym table) b.refused)

@@ -2,13 +2,13 @@
 use Rattle.std.proofs.Common.{◌≡◌, ◌==◌, ℕ, ◌+◌, ◌*◌, ◌<◌, ◌≤◌, ◌&&◌, Bool, true, false, cond, List, length, get_or, set, nat_lt, refl, sym, ap, ap₂, ◌∙◌, subst, arith, get_or-set_same, get_or-set_other, length-set, eq-eqb, ne_eqb}
 use Rattle.std.specs.Prelude.{IsTrue, Some}
 use Rattle.std.proofs.lemmas.Bool.Decides.{nat_tests}
-use Rattle.omi_word.specs.Memory.{address_at, place_of, IsWordOf, word_at, after, address_of, left_of}
+use Rattle.omi_word.specs.Memory.{address_at, place_of, IsWordOf, word_at, words_after, address_of, left_of}
 use Rattle.omi_word.specs.declared.op.Op.{Op}
 use Rattle.omi_word.specs.declared.op.Op.TheVariants.{Load, Store, Cas, Add, Sub}
 use Rattle.omi_word.proofs.Addresses.{place-address, placed_word}
 use Rattle.omi_layout.specs.Field.{kind_of}
 use Rattle.omi_layout.specs.Table.{size, place, offset, width, makers, per_thread}
-use Rattle.omi_layout.specs.Place.{first_word, end_word, fits, image_words, index_of, slot_address, IsSlot}
+use Rattle.omi_layout.specs.Place.{first_word, arena_end, fits, image_words, index_of, slot_address, IsSlot}
 use Rattle.omi_layout.specs.Valid.{IsValid}
 use Rattle.omi_layout.specs.Words.{word_place, IsWord}
 use Rattle.omi_layout.specs.SymbolTable.{words_of}
@@ -154,7 +154,7 @@ module _ (w : List ℕ) (v : IsValid w) where
       here : ℕ
       here = word_in w words c s f k
 
-      by : (op : Op) → address_of op ≡ a → memory_of w (after words op) ≡ replaced w words c s f k (left_of op here)
+      by : (op : Op) → address_of op ≡ a → memory_of w (words_after words op) ≡ replaced w words c s f k (left_of op here)
       by op at = (on_word words op c s f k fit is at).leaves
 
       same : replaced w words c s f k here ≡ memory_of w words
@@ -164,7 +164,7 @@ module _ (w : List ℕ) (v : IsValid w) where
   place_held : (words : List ℕ) (c s f k : ℕ) → image_words w ≤ length words → IsRecordWord w c s f k
       → word_place w f (index_of w (kind_of f) c s) k < length words
   place_held words c s f k long is =
-      let last : end_word w (kind_of f) ≤ image_words w = each_kind (λ p. end_word w p ≤ image_words w) (omega arith) (omega arith) (omega arith) (omega arith) (kind_of f) (kind_is f) in
+      let last : arena_end w (kind_of f) ≤ image_words w = each_kind (λ p. arena_end w p ≤ image_words w) (omega arith) (omega arith) (omega arith) (omega arith) (kind_of f) (kind_is f) in
       let here = in_arena w v f (index_of w (kind_of f) c s) k (numbered w c s f k is) in
       omega (arith, last, here, long)
 

@@ -63,5 +63,5 @@ names =
     codes "task.children" ∷ codes "task.refs" ∷ codes "task.nth" ∷ codes "task.slots" ∷ []
 
 -- the text by which a fault names a field
-abbrev pub name_of : ℕ → List ℕ
-name_of f = slice_index_or names f []
+abbrev pub field_text : ℕ → List ℕ
+field_text f = slice_index_or names f []

@@ -1,6 +1,6 @@
 -- The frame laws. An operation on a word of a record finds the word that the memory has there, and leaves the memory with that one word replaced: one equation for every operation.
 use Rattle.std.specs.Prelude.{◌≡◌, ◌≢◌, ℕ, ◌+◌, ◌-◌, ◌%◌, ◌^◌, ◌<◌, ◌≤◌, IsTrue, List, length, slice_index, Some}
-use Rattle.omi_word.specs.Memory.{IsWordOf, word_at, after, address_of, left_of}
+use Rattle.omi_word.specs.Memory.{IsWordOf, word_at, words_after, address_of, left_of}
 use Rattle.omi_word.specs.declared.op.Op.{Op}
 use Rattle.omi_word.specs.declared.op.Op.TheVariants.{Load, Store, Cas, Add, Sub}
 use Rattle.omi_layout.specs.declared.limits.TheConstants.{FRONT_WORDS}
@@ -36,12 +36,12 @@ pub record IsReplaced (m : Memory) : Type 0 where
 pub record IsOnWord (w words : List ℕ) (op : Op) (creator slot f at : ℕ) : Type 0 where
   pub inside : IsWordOf words (address_of op)
   pub finds : word_at words (address_of op) ≡ memory_of w words creator (kind_of f) slot f at
-  pub leaves : memory_of w (after words op)
+  pub leaves : memory_of w (words_after words op)
       ≡ with_word (memory_of w words) creator (kind_of f) slot f at
       (left_of op (memory_of w words creator (kind_of f) slot f at))
-  pub count : length (after words op) ≡ length words
-  pub front : (i : ℕ) → i < FRONT_WORDS → slice_index (after words op) i ≡ slice_index words i
-  pub gaps : (i : ℕ) → IsGap w i → slice_index (after words op) i ≡ slice_index words i
+  pub count : length (words_after words op) ≡ length words
+  pub front : (i : ℕ) → i < FRONT_WORDS → slice_index (words_after words op) i ≡ slice_index words i
+  pub gaps : (i : ℕ) → IsGap w i → slice_index (words_after words op) i ≡ slice_index words i
 
 -- each operation at the address of a word of a record is on this word
 abbrev pub AreFramed : List ℕ → Type 0
@@ -70,17 +70,17 @@ replaced w words creator slot f at word =
 
 -- what each operation at the address `a` of a word of a record leaves
 pub record IsLeft (w words : List ℕ) (creator slot f at a : ℕ) : Type 0 where
-  pub load : memory_of w (after words (Load a)) ≡ memory_of w words
-  pub store : (new : ℕ) → memory_of w (after words (Store a new))
+  pub load : memory_of w (words_after words (Load a)) ≡ memory_of w words
+  pub store : (new : ℕ) → memory_of w (words_after words (Store a new))
       ≡ replaced w words creator slot f at new
   pub exchanged : (new : ℕ)
-      → memory_of w (after words (Cas a (word_in w words creator slot f at) new))
+      → memory_of w (words_after words (Cas a (word_in w words creator slot f at) new))
       ≡ replaced w words creator slot f at new
   pub refused : (old new : ℕ) → word_in w words creator slot f at ≢ old
-      → memory_of w (after words (Cas a old new)) ≡ memory_of w words
-  pub added : (by : ℕ) → memory_of w (after words (Add a by))
+      → memory_of w (words_after words (Cas a old new)) ≡ memory_of w words
+  pub added : (by : ℕ) → memory_of w (words_after words (Add a by))
       ≡ replaced w words creator slot f at ((word_in w words creator slot f at + by) % 2 ^ 64)
-  pub subtracted : (by : ℕ) → memory_of w (after words (Sub a by))
+  pub subtracted : (by : ℕ) → memory_of w (words_after words (Sub a by))
       ≡ replaced w words creator slot f at
       ((word_in w words creator slot f at + (2 ^ 64 - by)) % 2 ^ 64)
 

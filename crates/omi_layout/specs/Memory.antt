@@ -20,21 +20,21 @@ abbrev pub Memory : Type 0
 Memory = ℕ → Made
 
 -- one place of a function is replaced
-abbrev pub put : {A : Type 0} → (ℕ → A) → ℕ → A → ℕ → A
-put m i x = λ j. if j == i then x else m j
+abbrev pub replace_at : {A : Type 0} → (ℕ → A) → ℕ → A → ℕ → A
+replace_at m i x = λ j. if j == i then x else m j
 
 -- a record with one word replaced
 abbrev pub with_word_in : Rec → ℕ → ℕ → ℕ → Rec
-with_word_in r f at word = put r f (put (r f) at word)
+with_word_in r f at word = replace_at r f (replace_at (r f) at word)
 
 -- the records of a thread with one record replaced
 abbrev pub with_record : Made → ℕ → ℕ → Rec → Made
-with_record made kind slot r = put made kind (put (made kind) slot r)
+with_record made kind slot r = replace_at made kind (replace_at (made kind) slot r)
 
 -- a memory with one word replaced
 abbrev pub with_word : Memory → ℕ → ℕ → ℕ → ℕ → ℕ → ℕ → Memory
 with_word m creator kind slot f at word =
-    put m creator
+    replace_at m creator
     (with_record (m creator) kind slot (with_word_in (m creator kind slot) f at word))
 
 -- there is such a word: a field of a record of its kind in a slot of a thread, and a place in the field

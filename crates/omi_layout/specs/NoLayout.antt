@@ -6,7 +6,7 @@ use Rattle.omi_layout.specs.declared.reading.LayoutError.TheVariants.{NoSymbol, 
 use Rattle.omi_layout.specs.declared.limits.TheConstants.{TABLE_WORDS}
 use Rattle.omi_layout.specs.SymbolTable.{Words, words_from, symbol_in}
 use Rattle.omi_layout.specs.Given.{wrapped}
-use Rattle.omi_layout.specs.Valid.{Refuses, word_named}
+use Rattle.omi_layout.specs.Valid.{RefusesTable, word_named}
 
 -- the byte address of a word of the table at an address
 abbrev pub table_address : ℕ → ℕ → ℕ
@@ -23,16 +23,16 @@ pub record IsUnmapped (words : Words) (addr : ℕ) : Type 0 where
   pub before : (j : ℕ) → j < at → IsSome (words (table_address address j))
 
 -- the table is refused for this fault, which names the word at this address
-pub record IsRefused (words : Words) (addr : ℕ) (fault : LayoutFault) : Type 0 where
+pub record IsLayoutRefused (words : Words) (addr : ℕ) (fault : LayoutFault) : Type 0 where
   pub address : ℕ
   pub symbol : symbol_in words (codes "omi_layout") ≡ Some address
   pub table : List ℕ
   pub read : words_from (wrapped words) address TABLE_WORDS ≡ Some table
-  pub refused : Refuses table fault
+  pub refused : RefusesTable table fault
   pub is : addr ≡ table_address address (word_named fault)
 
 -- the words give no layout, for this cause
 abbrev pub GivesNone : Words → LayoutError → Type 0
 GivesNone words NoSymbol = symbol_in words (codes "omi_layout") ≡ None
 GivesNone words (Unmapped addr) = IsUnmapped words addr
-GivesNone words (Refused addr fault) = IsRefused words addr fault
+GivesNone words (Refused addr fault) = IsLayoutRefused words addr fault

@@ -39,12 +39,12 @@ abbrev pub first_word : List ℕ → ℕ → ℕ
 first_word w p = place_of (place w p)
 
 -- the place in the image behind the last word of an arena
-abbrev pub end_word : List ℕ → ℕ → ℕ
-end_word w p = first_word w p + extent w p
+abbrev pub arena_end : List ℕ → ℕ → ℕ
+arena_end w p = first_word w p + extent w p
 
 -- an arena lies behind the tables, and inside so many words
 abbrev pub arena_fits : List ℕ → ℕ → ℕ → Bool
-arena_fits w n p = nat_le FRONT_WORDS (first_word w p) && nat_le (end_word w p) n
+arena_fits w n p = nat_le FRONT_WORDS (first_word w p) && nat_le (arena_end w p) n
 
 -- all arenas do
 abbrev pub fits : List ℕ → ℕ → Bool
@@ -53,4 +53,4 @@ fits w n = (arena_fits w n 1 && arena_fits w n 2) && (arena_fits w n 3 && arena_
 -- the least number of words that has the tables, and in which every arena ends
 abbrev pub image_words : List ℕ → ℕ
 image_words w =
-    max (max FRONT_WORDS (end_word w 1)) (max (end_word w 2) (max (end_word w 3) (end_word w 4)))
+    max (max FRONT_WORDS (arena_end w 1)) (max (arena_end w 2) (max (arena_end w 3) (arena_end w 4)))

@@ -102,11 +102,11 @@ pub record IsBadArena (w : List ℕ) (p : ℕ) : Type 0 where
   pub least : (q : ℕ) → IsKind q → q < p → is_arena w q ≡ true
 
 -- a table is refused by this fault
-abbrev pub Refuses : List ℕ → LayoutFault → Type 0
-Refuses w (Version v) = record { is : v ≡ version w; unknown : version w ≢ VERSION }
-Refuses w (OutOfRecord f) = IsOutOfRecord w f
-Refuses w (Overlap f g) = IsOverlap w f g
-Refuses w (BadArena p) = IsBadArena w p
+abbrev pub RefusesTable : List ℕ → LayoutFault → Type 0
+RefusesTable w (Version v) = record { is : v ≡ version w; unknown : version w ≢ VERSION }
+RefusesTable w (OutOfRecord f) = IsOutOfRecord w f
+RefusesTable w (Overlap f g) = IsOverlap w f g
+RefusesTable w (BadArena p) = IsBadArena w p
 
 -- the word of the table that a fault names
 abbrev pub word_named : LayoutFault → ℕ

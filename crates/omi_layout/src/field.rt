@@ -1,7 +1,7 @@
 //! The kinds of records and their fields, by name.
 
 ghost use Rattle.std.specs.Prelude.{◌≡◌, ◌≤◌};
-ghost use Rattle.omi_layout.specs.Field.{name_of, kind_of, IsField};
+ghost use Rattle.omi_layout.specs.Field.{field_text, kind_of, IsField};
 ghost use Rattle.omi_layout.specs.Named.{number, kind_number};
 ghost use Rattle.omi_layout.specs.declared.limits.TheConstants.{FIELDS};
 
@@ -110,7 +110,7 @@ impl Field {
 /// The text by which a fault names a field, and `layout` for 0, which stands for the layout table.
 pub fn field_name(field: u8) -> &'static str
     requires { field ≤ FIELDS }
-    ensures { result.now ≡ name_of field }
+    ensures { result.now ≡ field_text field }
 {
     match field {
         0 => "layout",

@@ -4,7 +4,7 @@ ghost use Rattle.std.specs.Prelude.{◌≡◌, ◌+◌, ◌*◌, ◌<◌, ◌≤
 ghost use Rattle.omi_layout.specs.Field.{IsField, IsKind};
 ghost use Rattle.omi_layout.specs.Table;
 ghost use Rattle.omi_layout.specs.Valid;
-ghost use Rattle.omi_layout.specs.Valid.{AllInside, AllApart, IsApart, IsValid, Refuses};
+ghost use Rattle.omi_layout.specs.Valid.{AllInside, AllApart, IsApart, IsValid, RefusesTable};
 ghost use Rattle.omi_layout.specs.Judged.{IsFirstOverlap, AllBelow};
 
 use crate::fault::LayoutFault;
@@ -130,7 +130,7 @@ fn is_arena(w: &[u64; 56], p: u8) -> bool
 /// Looks at each field's end.
 fn judge_ends(w: &[u64; 56]) -> Result<(), LayoutFault>
     requires { Table.version w.now ≡ 1 }
-    ensures { MatchResult result (λ _. AllInside w.now) (λ e. Refuses w.now e) }
+    ensures { MatchResult result (λ _. AllInside w.now) (λ e. RefusesTable w.now e) }
 {
     for f in 1..FIELDS + 1 {
         if !is_inside(w, f) {
@@ -144,7 +144,7 @@ fn judge_ends(w: &[u64; 56]) -> Result<(), LayoutFault>
 fn judge_fields(w: &[u64; 56]) -> Result<(), LayoutFault>
     requires known { Table.version w.now ≡ 1 }
     requires inside { AllInside w.now }
-    ensures { MatchResult result (λ _. AllApart w.now) (λ e. Refuses w.now e) }
+    ensures { MatchResult result (λ _. AllApart w.now) (λ e. RefusesTable w.now e) }
 {
     for f in 1..FIELDS + 1 {
         if let Some(g) = first_overlap(w, f) {
@@ -159,7 +159,7 @@ fn judge_arenas(w: &[u64; 56]) -> Result<(), LayoutFault>
     requires known { Table.version w.now ≡ 1 }
     requires inside { AllInside w.now }
     requires apart { AllApart w.now }
-    ensures { MatchResult result (λ _. IsValid w.now) (λ e. Refuses w.now e) }
+    ensures { MatchResult result (λ _. IsValid w.now) (λ e. RefusesTable w.now e) }
 {
     for p in RUNTIME..TASKS + 1 {
         if !is_arena(w, p) {
@@ -171,7 +171,7 @@ fn judge_arenas(w: &[u64; 56]) -> Result<(), LayoutFault>
 
 /// Whether a table is valid, and its refusal where it isn't.
 pub fn judge(w: &[u64; 56]) -> Result<(), LayoutFault>
-    ensures { MatchResult result (λ _. IsValid w.now) (λ e. Refuses w.now e) }
+    ensures { MatchResult result (λ _. IsValid w.now) (λ e. RefusesTable w.now e) }
 {
     if w[0] != VERSION {
         return Err(LayoutFault::Version(w[0]));

@@ -8,7 +8,7 @@ ghost use Rattle.omi_layout.specs.Place;
 ghost use Rattle.omi_layout.specs.Place.{IsRecordAt, IsSlot, IsSlotAt, slot_address, record_address};
 ghost use Rattle.omi_layout.specs.Memory.{IsRecordWord, word_address};
 ghost use Rattle.omi_layout.specs.Named.{number};
-ghost use Rattle.omi_layout.specs.Valid.{IsValid, Refuses};
+ghost use Rattle.omi_layout.specs.Valid.{IsValid, RefusesTable};
 ghost use Rattle.omi_layout.specs.declared.limits.TheConstants.{LAST_END};
 
 use crate::fault::LayoutFault;
@@ -30,7 +30,7 @@ impl Layout {
     /// arena that is wrong.
     pub fn of_words(w: &[u64; 56]) -> Result<Layout, LayoutFault>
         ensures { MatchResult result (λ layout. layout.table ≡ w.now)
-            (λ fault. Refuses w.now fault) }
+            (λ fault. RefusesTable w.now fault) }
     {
         judge(w)?;
         Ok(Layout { table: *w })
@@ -201,7 +201,7 @@ impl Layout {
     /// The place in an image behind the last word of an arena.
     fn end_word(&self, p: u8) -> u64
         requires { IsKind p }
-        ensures value { result ≡ Place.end_word self.now.table p }
+        ensures value { result ≡ Place.arena_end self.now.table p }
         ensures small { result < 2 ^ 45 }
     {
         self.first_word(p) + extent(&self.table, p)

@@ -10,7 +10,7 @@ use Rattle.std.proofs.lemmas.Str.{IsUtf8-from_ascii, digit_value_digit}
 use Rattle.std.proofs.Common.{inl, inr}
 use Rattle.std.proofs.lemmas.Bool.{cases_lt}
 use borrow.Author.Tests.{leb-true, lt-leb, ltb-true, ne_eqb, both_ways}
-use Rattle.omi_line.specs.Number.{is_decimal, number_of}
+use Rattle.omi_line.specs.Number.{is_decimal_text, number_between}
 
 -- the parts of a test that passes
 pub both : (a b : Bool) → (a && b) ≡ true → (a ≡ true) × (b ≡ true)
@@ -45,20 +45,20 @@ pub record WritesNumber (text : List ℕ) : Type 0 where
   pub digits : AllDigits 10 text
   pub unsigned : without_leading_plus text ≡ text
 
-pub numeral : (text : List ℕ) → is_decimal text ≡ true → WritesNumber text
+pub numeral : (text : List ℕ) → is_decimal_text text ≡ true → WritesNumber text
 numeral text is =
     let outer = both _ _ is in
     let inner = both _ _ outer.1 in
     record { some = ltb-true 0 (length text) outer.0; digits = digits_low text inner.1; unsigned = no_sign text inner.1 }
 
 -- a number is text
-pub numeral_is_text : (text : List ℕ) → is_decimal text ≡ true → IsUtf8 text
+pub numeral_is_text : (text : List ℕ) → is_decimal_text text ≡ true → IsUtf8 text
 numeral_is_text text is = IsUtf8-from_ascii text (IsAscii-from_digits text (numeral text is).digits)
 
 -- a number that can't be read is too great
-pub number_past : (text : List ℕ) (least most : ℕ) → is_decimal text ≡ true → most < 2 ^ 64
+pub number_past : (text : List ℕ) (least most : ℕ) → is_decimal_text text ≡ true → most < 2 ^ 64
     → (IsNumeral 10 (without_leading_plus text) × (digits_value 10 (without_leading_plus text) < 2 ^ 64) → ⊥)
-    → None ≡ number_of text least most
+    → None ≡ number_between text least most
 number_past text least most is fits unread =
     let n = numeral text is in
     let small : digits_value 10 text < 2 ^ 64 → ⊥ = λ low.

@@ -8,7 +8,7 @@ use Rattle.std.proofs.lemmas.Slice.Eq.{bytes_eq-Decides}
 use Rattle.clap.specs.Walk.{Text}
 use borrow.Author.Tests.{both_ways, eqb-true}
 use Rattle.omi_line.specs.declared.line.Line.{Line}
-use Rattle.omi_line.specs.Word.{Name, Kind, Seed, Break, Count, Layout, Positional, Rest, Given, Named, Refused, begins_with_hyphen, hyphen_kind, is_equals, kind_of, long_kind, option_kind, option_named}
+use Rattle.omi_line.specs.Word.{Name, Kind, Seed, Break, Count, Layout, Positional, Rest, Given, Named, RefusedWord, begins_with_hyphen, hyphen_kind, is_equals, word_kind, long_kind, option_kind, option_named}
 use Rattle.omi_line.specs.Line.{split_from, split_of, split_word, with_value}
 use Rattle.omi_line.specs.Hyphen.{gives_hyphen, hyphen_word, is_lone_hyphen, is_named}
 use Rattle.omi_line.proofs.Sees.{is_rest}
@@ -42,7 +42,7 @@ not_lone word begins = go (is_lone_hyphen word) refl
 refuses_word : (word : Text) (rest : List Text) → RefusesWords rest → RefusesWords (word ∷ rest)
 unfolding gives_hyphen split_from
 refuses_word word rest next = record {
-  free = λ line is. free_word (kind_of word) line is;
+  free = λ line is. free_word (word_kind word) line is;
   waits = λ name line is. waiting_word name line is (begins_with_hyphen word) refl;
 }
   where
@@ -55,9 +55,9 @@ refuses_word word rest next = record {
     free_word Rest line is = absurd (both_ways false refl is)
     free_word (Given name given) line is = none_after (with_value name given line) is
     free_word (Named name) line is = next.waits name line is
-    free_word Refused line is = refl
+    free_word RefusedWord line is = refl
 
-    waiting_word : (name : Name) (line : Line) → hyphen_word (kind_of word) (is_lone_hyphen word) (gives_hyphen rest) ≡ true → (begins : Bool) → begins_with_hyphen word ≡ begins
+    waiting_word : (name : Name) (line : Line) → hyphen_word (word_kind word) (is_lone_hyphen word) (gives_hyphen rest) ≡ true → (begins : Bool) → begins_with_hyphen word ≡ begins
         → cond (begins_with_hyphen word) None (option_and_then (split_from rest None) (with_value name word line)) ≡ None
     waiting_word name line is true begins = rw begins refl
     waiting_word name line is false begins =
@@ -116,11 +116,11 @@ hyphen_spelt : (text : Text) (name : Name) → hyphen_kind text ≡ Named name �
 hyphen_spelt [] name is = absurd (cc)
 hyphen_spelt (byte ∷ text) name is = go (byte == 45) refl is
   where
-    go : (b : Bool) → (byte == 45) ≡ b → cond b (long_kind text) Refused ≡ Named name → byte ∷ text ≡ 45 ∷ id_of name
+    go : (b : Bool) → (byte == 45) ≡ b → cond b (long_kind text) RefusedWord ≡ Named name → byte ∷ text ≡ 45 ∷ id_of name
     go true hyphen is = (λ i. eqb-true byte 45 hyphen i ∷ long_spelt text name is i)
     go false hyphen is = absurd (cc)
 
-word_spelt : (word : Text) (name : Name) → kind_of word ≡ Named name → word ≡ 45 ∷ 45 ∷ id_of name
+word_spelt : (word : Text) (name : Name) → word_kind word ≡ Named name → word ≡ 45 ∷ 45 ∷ id_of name
 word_spelt [] name is = absurd (cc)
 word_spelt (byte ∷ text) name is = go (byte == 45) refl is
   where
@@ -130,8 +130,8 @@ word_spelt (byte ∷ text) name is = go (byte == 45) refl is
 
 -- a word that is none of the four is no option without its value
 pub not_named : (word : Text) → (word ≡ codes "--seed" → ⊥) → (word ≡ codes "--break" → ⊥) → (word ≡ codes "--count" → ⊥) → (word ≡ codes "--layout" → ⊥)
-    → false ≡ is_named (kind_of word)
-not_named word seed break_ count layout = go (kind_of word) refl
+    → false ≡ is_named (word_kind word)
+not_named word seed break_ count layout = go (word_kind word) refl
   where
     never : (name : Name) → word ≡ 45 ∷ 45 ∷ id_of name → ⊥
     never Seed is = seed is
@@ -139,12 +139,12 @@ not_named word seed break_ count layout = go (kind_of word) refl
     never Count is = count is
     never Layout is = layout is
 
-    go : (k : Kind) → kind_of word ≡ k → false ≡ is_named k
+    go : (k : Kind) → word_kind word ≡ k → false ≡ is_named k
     go (Named name) is = absurd (never name (word_spelt word name is))
     go Positional is = refl
     go Rest is = refl
     go (Given name given) is = refl
-    go Refused is = refl
+    go RefusedWord is = refl
 
 -- a word of this kind is `--`
 
@@ -164,11 +164,11 @@ hyphen_rests : (text : Text) → hyphen_kind text ≡ Rest → text ≡ 45 ∷ [
 hyphen_rests [] is = absurd (cc)
 hyphen_rests (byte ∷ text) is = go (byte == 45) refl is
   where
-    go : (b : Bool) → (byte == 45) ≡ b → cond b (long_kind text) Refused ≡ Rest → byte ∷ text ≡ 45 ∷ []
+    go : (b : Bool) → (byte == 45) ≡ b → cond b (long_kind text) RefusedWord ≡ Rest → byte ∷ text ≡ 45 ∷ []
     go true hyphen is = (λ i. eqb-true byte 45 hyphen i ∷ long_rest text is i)
     go false hyphen is = absurd (cc)
 
-rest_spelt : (word : Text) → kind_of word ≡ Rest → is_rest word ≡ true
+rest_spelt : (word : Text) → word_kind word ≡ Rest → is_rest word ≡ true
 rest_spelt [] is = absurd (cc)
 rest_spelt (byte ∷ text) is = go (byte == 45) refl is
   where
@@ -194,29 +194,29 @@ module _ (words : List (String Global)) (i : ℕ) (word : String Global) (is_wai
   pub hyphen_rest : is_rest (string_bytes word) ≡ true → gives_hyphen (drop i (map string_bytes words)) is_waiting ≡ false
   unfolding gives_hyphen
   hyphen_rest is = ap (λ (l : List Text). gives_hyphen l is_waiting) first_word
-      ∙ ap (λ (w : Text). hyphen_word (kind_of w) (is_waiting && is_lone_hyphen w) (gives_hyphen (drop (i + 1) (map string_bytes words)))) ((bytes_eq-Decides (string_bytes word) (45 ∷ 45 ∷ [])).0 is)
+      ∙ ap (λ (w : Text). hyphen_word (word_kind w) (is_waiting && is_lone_hyphen w) (gives_hyphen (drop (i + 1) (map string_bytes words)))) ((bytes_eq-Decides (string_bytes word) (45 ∷ 45 ∷ [])).0 is)
 
   -- `-` is found
   pub hyphen_found : is_waiting ≡ true → is_lone_hyphen (string_bytes word) ≡ true → gives_hyphen (drop i (map string_bytes words)) is_waiting ≡ true
   unfolding gives_hyphen
   hyphen_found waits is = ap (λ (l : List Text). gives_hyphen l is_waiting) first_word
-      ∙ ap (λ (w : Text). hyphen_word (kind_of w) (is_waiting && is_lone_hyphen w) (gives_hyphen (drop (i + 1) (map string_bytes words)))) ((bytes_eq-Decides (string_bytes word) (45 ∷ [])).0 is)
+      ∙ ap (λ (w : Text). hyphen_word (word_kind w) (is_waiting && is_lone_hyphen w) (gives_hyphen (drop (i + 1) (map string_bytes words)))) ((bytes_eq-Decides (string_bytes word) (45 ∷ [])).0 is)
       ∙ ap (λ (b : Bool). (b && true) || gives_hyphen (drop (i + 1) (map string_bytes words)) false) waits
 
   -- another word settles nothing
   pub hyphen_more : is_rest (string_bytes word) ≡ false → (is_waiting && is_lone_hyphen (string_bytes word)) ≡ false
-      → gives_hyphen (drop (i + 1) (map string_bytes words)) (is_named (kind_of (string_bytes word))) ≡ gives_hyphen (drop i (map string_bytes words)) is_waiting
+      → gives_hyphen (drop (i + 1) (map string_bytes words)) (is_named (word_kind (string_bytes word))) ≡ gives_hyphen (drop i (map string_bytes words)) is_waiting
   unfolding gives_hyphen
   hyphen_more rest lone = sym (ap (λ (l : List Text). gives_hyphen l is_waiting) first_word
-      ∙ ap (λ (b : Bool). hyphen_word (kind_of (string_bytes word)) b (gives_hyphen (drop (i + 1) (map string_bytes words)))) lone
-      ∙ go (kind_of (string_bytes word)) refl)
+      ∙ ap (λ (b : Bool). hyphen_word (word_kind (string_bytes word)) b (gives_hyphen (drop (i + 1) (map string_bytes words)))) lone
+      ∙ go (word_kind (string_bytes word)) refl)
     where
-      go : (k : Kind) → kind_of (string_bytes word) ≡ k → hyphen_word k false (gives_hyphen (drop (i + 1) (map string_bytes words))) ≡ gives_hyphen (drop (i + 1) (map string_bytes words)) (is_named k)
+      go : (k : Kind) → word_kind (string_bytes word) ≡ k → hyphen_word k false (gives_hyphen (drop (i + 1) (map string_bytes words))) ≡ gives_hyphen (drop (i + 1) (map string_bytes words)) (is_named k)
       go Positional is = refl
       go Rest is = absurd (both_ways (is_rest (string_bytes word)) rest (rest_spelt (string_bytes word) is))
       go (Given name given) is = refl
       go (Named name) is = refl
-      go Refused is = refl
+      go RefusedWord is = refl
 
 pub hyphen_end : (words : List (String Global)) (i : ℕ) (is_waiting : Bool) → length words ≤ i → gives_hyphen (drop i (map string_bytes words)) is_waiting ≡ false
 unfolding gives_hyphen

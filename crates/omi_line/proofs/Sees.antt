@@ -7,7 +7,7 @@ use Rattle.std.proofs.lemmas.Str.{IsUtf8-past_char, encode_ascii, encodes-chars}
 use Rattle.clap.specs.Lexer.{long_of, short_of, name_and_value}
 use Rattle.clap.specs.Walk.{Text}
 use borrow.Author.Tests.{eqb-true}
-use Rattle.omi_line.specs.Word.{Name, Kind, Positional, Rest, Given, Named, Refused, hyphen_kind, is_equals, kind_of, long_kind, option_kind, option_named}
+use Rattle.omi_line.specs.Word.{Name, Kind, Positional, Rest, Given, Named, RefusedWord, hyphen_kind, is_equals, word_kind, long_kind, option_kind, option_named}
 
 abbrev pub is_rest : Text → Bool
 is_rest word = bytes_eq word (45 ∷ 45 ∷ [])
@@ -38,7 +38,7 @@ Sees word Positional = IsPlainWord word
 Sees word Rest = is_rest word ≡ true
 Sees word (Given name value) = (text : Text) × IsLongWord word text (Some value) × (option_named text ≡ Some name)
 Sees word (Named name) = (text : Text) × IsLongWord word text None × (option_named text ≡ Some name)
-Sees word Refused = ((text : Text) × (value : Option Text) × IsLongWord word text value × (option_named text ≡ None)) ⊎ IsShortWord word
+Sees word RefusedWord = ((text : Text) × (value : Option Text) × IsLongWord word text value × (option_named text ≡ None)) ⊎ IsShortWord word
 
 -- a text that isn't empty has a first character
 first_character : (text : Text) → 0 < length text → IsUtf8 text → (c : ℕ) × (slice_get (chars text) 0 ≡ Some c)
@@ -79,12 +79,12 @@ sees_hyphen (byte ∷ text) utf8 = go (byte == 45) refl
           character = character.1;
         }))
 
-pub sees : (word : Text) → IsUtf8 word → Sees word (kind_of word)
+pub sees : (word : Text) → IsUtf8 word → Sees word (word_kind word)
 sees [] utf8 = record { rest = refl; long = refl; short = refl }
 sees (byte ∷ text) utf8 = go (byte == 45) refl
   where
-    go : (b : Bool) → (byte == 45) ≡ b → Sees (byte ∷ text) (kind_of (byte ∷ text))
+    go : (b : Bool) → (byte == 45) ≡ b → Sees (byte ∷ text) (word_kind (byte ∷ text))
     go true is =
         let hyphen : byte ≡ 45 = eqb-true byte 45 is in
-        subst (λ (x : ℕ). Sees (x ∷ text) (kind_of (x ∷ text))) (sym hyphen) (sees_hyphen text (subst (λ (x : ℕ). IsUtf8 (x ∷ text)) hyphen utf8))
+        subst (λ (x : ℕ). Sees (x ∷ text) (word_kind (x ∷ text))) (sym hyphen) (sees_hyphen text (subst (λ (x : ℕ). IsUtf8 (x ∷ text)) hyphen utf8))
     go false is = rw is (record { rest = rw is refl; long = rw is refl; short = rw is refl })

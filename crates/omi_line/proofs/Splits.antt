@@ -11,7 +11,7 @@ use Rattle.clap.specs.Walk.{Held, Row, Text, Waiting, Walk, idle, option, positi
 use Rattle.clap.specs.declared.error.kind.ErrorKind.TheVariants as kind
 use borrow.Author.Tests.{both_ways}
 use Rattle.omi_line.specs.declared.line.Line.{Line}
-use Rattle.omi_line.specs.Word.{Name, Kind, Positional, Rest, Given, Named, Refused, begins_with_hyphen, hyphen_kind, is_equals, is_hyphen, kind_of, long_kind, option_kind, option_named}
+use Rattle.omi_line.specs.Word.{Name, Kind, Positional, Rest, Given, Named, RefusedWord, begins_with_hyphen, hyphen_kind, is_equals, is_hyphen, word_kind, long_kind, option_kind, option_named}
 use Rattle.omi_line.specs.Line.{set_value, split_from, split_word, value_in, with_value, with_words}
 use Rattle.omi_line.specs.Hyphen.{gives_hyphen, hyphen_word, is_lone_hyphen}
 use Rattle.omi_line.proofs.Sees.{Sees, sees}
@@ -91,15 +91,15 @@ clean : (words : List Text) (rows : List Row) (pending : Option (Text × List Te
     → fault_from (walk_at rows pending waiting false) words ≡ [] → pending_fault rows pending ≡ []
 unfolding walk_fault
 clean [] rows pending waiting free utf8 is = is
-clean (word ∷ rest) rows pending waiting free utf8 is = go (kind_of word) (sees word (utf8 0 word (omega arith)))
+clean (word ∷ rest) rows pending waiting free utf8 is = go (word_kind word) (sees word (utf8 0 word (omega arith)))
   where
     go : (k : Kind) → Sees word k → pending_fault rows pending ≡ []
     go Positional plain = (no_fault (walk_at rows pending waiting false) word rest _ _ (word_step rows pending waiting word free plain) is).0
     go Rest rests = clean_trailing rest rows pending waiting (no_fault (walk_at rows pending waiting false) word rest _ _ (rest_steps line_shape rows pending waiting word rests) is).1
     go (Given name given) seen = (both_none _ _ (no_fault (walk_at rows pending waiting false) word rest _ _ (given_step rows pending waiting word seen.0 name given seen.1 seen.2) is).0).0
     go (Named name) seen = (no_fault (walk_at rows pending waiting false) word rest _ _ (named_step rows pending waiting word seen.0 name seen.1 seen.2) is).0
-    go Refused (inl seen) = absurd (refuses (walk_at rows pending waiting false) word rest (unknown_step rows pending waiting word seen.0 seen.1 seen.2 seen.3) is)
-    go Refused (inr seen) = absurd (refuses (walk_at rows pending waiting false) word rest (short_step rows pending waiting word seen) is)
+    go RefusedWord (inl seen) = absurd (refuses (walk_at rows pending waiting false) word rest (unknown_step rows pending waiting word seen.0 seen.1 seen.2 seen.3) is)
+    go RefusedWord (inr seen) = absurd (refuses (walk_at rows pending waiting false) word rest (short_step rows pending waiting word seen) is)
 
 -- ---- after `--`
 
@@ -140,7 +140,7 @@ with_value-new name given line is = ap (λ (v : Option Text). cond (is_some v) N
 -- ---- hyphens
 
 -- a word that begins with no hyphen is positional
-pub plain_kind : (word : Text) → begins_with_hyphen word ≡ false → kind_of word ≡ Positional
+pub plain_kind : (word : Text) → begins_with_hyphen word ≡ false → word_kind word ≡ Positional
 plain_kind [] is = refl
 plain_kind (byte ∷ text) is = rw is refl
 
@@ -156,12 +156,12 @@ long_never : (text : Text) → long_kind text ≡ Positional → ⊥
 long_never [] is = cc
 long_never (byte ∷ text) is = option_never (option_named (before_first is_equals (byte ∷ text))) (byte ∷ text) is
 
-hyphen_never : (b : Bool) (text : Text) → cond b (long_kind text) Refused ≡ Positional → ⊥
+hyphen_never : (b : Bool) (text : Text) → cond b (long_kind text) RefusedWord ≡ Positional → ⊥
 hyphen_never true text is = long_never text is
 hyphen_never false text is = cc
 
 -- and `-` is the one positional word that begins with one
-lone_hyphen : (word : Text) → kind_of word ≡ Positional → begins_with_hyphen word ≡ true → is_lone_hyphen word ≡ true
+lone_hyphen : (word : Text) → word_kind word ≡ Positional → begins_with_hyphen word ≡ true → is_lone_hyphen word ≡ true
 lone_hyphen [] is hyphen = absurd (both_ways false refl hyphen)
 lone_hyphen (byte ∷ text) is hyphen = go text (ap (λ (b : Bool). cond b (hyphen_kind text) Positional) (sym hyphen) ∙ is)
   where
@@ -225,8 +225,8 @@ or_left true b is = is
 or_left false b is = refl
 
 -- a word that begins with a hyphen is no value of an option that waits for one
-module _ (word : Text) (rest : List Text) (rows : List Row) (name : Name) (seen : Sees word (kind_of word)) (begins : begins_with_hyphen word ≡ true)
-    (hyphen : hyphen_word (kind_of word) (is_lone_hyphen word) (gives_hyphen rest) ≡ false) where
+module _ (word : Text) (rest : List Text) (rows : List Row) (name : Name) (seen : Sees word (word_kind word)) (begins : begins_with_hyphen word ≡ true)
+    (hyphen : hyphen_word (word_kind word) (is_lone_hyphen word) (gives_hyphen rest) ≡ false) where
   abbrev waiting_walk : Walk
   waiting_walk = walk_at rows (Some (id_of name, [])) (option (id_of name)) false
 
@@ -234,9 +234,9 @@ module _ (word : Text) (rest : List Text) (rows : List Row) (name : Name) (seen 
   no_value none = let clash : kind.InvalidValue ∷ [] ≡ [] = sym (name_pending name rows) ∙ none in cc
 
   refuses_hyphen : fault_from waiting_walk (word ∷ rest) ≡ [] → ⊥
-  refuses_hyphen clear = go (kind_of word) refl seen hyphen
+  refuses_hyphen clear = go (word_kind word) refl seen hyphen
     where
-      go : (k : Kind) → kind_of word ≡ k → Sees word k → hyphen_word k (is_lone_hyphen word) (gives_hyphen rest) ≡ false → ⊥
+      go : (k : Kind) → word_kind word ≡ k → Sees word k → hyphen_word k (is_lone_hyphen word) (gives_hyphen rest) ≡ false → ⊥
       go Positional is plain hyphen = both_ways (is_lone_hyphen word) (or_left (is_lone_hyphen word) (gives_hyphen rest false) hyphen) (lone_hyphen word is begins)
       go Rest is rests hyphen = no_value (clean_trailing rest rows (Some (id_of name, [])) (option (id_of name))
           (no_fault waiting_walk word rest _ _ (rest_steps line_shape rows (Some (id_of name, [])) (option (id_of name)) word rests) clear).1)
@@ -244,8 +244,8 @@ module _ (word : Text) (rest : List Text) (rows : List Row) (name : Name) (seen 
           (no_fault waiting_walk word rest _ _ (given_step rows (Some (id_of name, [])) (option (id_of name)) word seen.0 other given seen.1 seen.2) clear).0).0
       go (Named other) is seen hyphen = no_value
           (no_fault waiting_walk word rest _ _ (named_step rows (Some (id_of name, [])) (option (id_of name)) word seen.0 other seen.1 seen.2) clear).0
-      go Refused is (inl seen) hyphen = refuses waiting_walk word rest (unknown_step rows (Some (id_of name, [])) (option (id_of name)) word seen.0 seen.1 seen.2 seen.3) clear
-      go Refused is (inr seen) hyphen = refuses waiting_walk word rest (short_step rows (Some (id_of name, [])) (option (id_of name)) word seen) clear
+      go RefusedWord is (inl seen) hyphen = refuses waiting_walk word rest (unknown_step rows (Some (id_of name, [])) (option (id_of name)) word seen.0 seen.1 seen.2 seen.3) clear
+      go RefusedWord is (inr seen) hyphen = refuses waiting_walk word rest (short_step rows (Some (id_of name, [])) (option (id_of name)) word seen) clear
 
 reads_none : ReadsWords []
 unfolding walk_fault split_from gives_hyphen
@@ -257,14 +257,14 @@ reads_none = record {
 reads_word : (word : Text) (rest : List Text) → All IsUtf8 (word ∷ rest) → ReadsWords rest → ReadsWords (word ∷ rest)
 unfolding walk_fault split_from gives_hyphen
 reads_word word rest utf8 next = record {
-  free = λ rows pending waiting line free none shown hyphen. free_word rows pending waiting line free none shown (kind_of word) seen hyphen;
+  free = λ rows pending waiting line free none shown hyphen. free_word rows pending waiting line free none shown (word_kind word) seen hyphen;
   waits = λ rows name line shown hyphen. waiting_word rows name line shown hyphen (begins_with_hyphen word) refl;
 }
   where
     utf8_rest : All IsUtf8 rest
     utf8_rest = All-drop IsUtf8 1 (word ∷ rest) utf8
 
-    seen : Sees word (kind_of word)
+    seen : Sees word (word_kind word)
     seen = sees word (utf8 0 word (omega arith))
 
     free_word : (rows : List Row) (pending : Option (Text × List Text)) (waiting : Waiting) (line : Line) → IsFree waiting
@@ -282,12 +282,12 @@ reads_word word rest utf8 next = record {
     free_word rows pending waiting line free none shown (Named name) seen hyphen =
         reads_more (walk_at rows pending waiting false) word rest _ _ (split_from rest (Some name) line) (named_step rows pending waiting word seen.0 name seen.1 seen.2) none
         (next.waits (rows_with rows pending) name line shown hyphen)
-    free_word rows pending waiting line free none shown Refused (inl seen) hyphen =
+    free_word rows pending waiting line free none shown RefusedWord (inl seen) hyphen =
         refuses (walk_at rows pending waiting false) word rest (unknown_step rows pending waiting word seen.0 seen.1 seen.2 seen.3)
-    free_word rows pending waiting line free none shown Refused (inr seen) hyphen =
+    free_word rows pending waiting line free none shown RefusedWord (inr seen) hyphen =
         refuses (walk_at rows pending waiting false) word rest (short_step rows pending waiting word seen)
 
-    waiting_word : (rows : List Row) (name : Name) (line : Line) → Shows rows line → hyphen_word (kind_of word) (is_lone_hyphen word) (gives_hyphen rest) ≡ false
+    waiting_word : (rows : List Row) (name : Name) (line : Line) → Shows rows line → hyphen_word (word_kind word) (is_lone_hyphen word) (gives_hyphen rest) ≡ false
         → (begins : Bool) → begins_with_hyphen word ≡ begins
         → ReadsAt (walk_at rows (Some (id_of name, [])) (option (id_of name)) false) word rest
         (cond (begins_with_hyphen word) None (option_and_then (split_from rest None) (with_value name word line)))

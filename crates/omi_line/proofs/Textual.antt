@@ -10,7 +10,7 @@ use Rattle.std.proofs.lemmas.List.Sums.{prefix_len_stops}
 use Rattle.std.proofs.lemmas.Str.{IsCharBoundary-after_ascii, IsUtf8-drop, IsUtf8-nil}
 use Rattle.clap.specs.Walk.{Text}
 use Rattle.omi_line.specs.declared.line.Line.{Line}
-use Rattle.omi_line.specs.Word.{Name, Seed, Break, Count, Layout, Kind, Positional, Rest, Given, Named, Refused, begins_with_hyphen, is_equals, is_hyphen, kind_of, hyphen_kind, long_kind, option_kind, option_named}
+use Rattle.omi_line.specs.Word.{Name, Seed, Break, Count, Layout, Kind, Positional, Rest, Given, Named, RefusedWord, begins_with_hyphen, is_equals, is_hyphen, word_kind, hyphen_kind, long_kind, option_kind, option_named}
 use Rattle.omi_line.specs.Line.{IsText, empty_line, set_value, split_from, split_of, split_word, value_in, with_value, with_words}
 
 -- ---- a value behind `=`
@@ -41,7 +41,7 @@ option_value (Some option) text name value utf8 is = go (list_any is_equals text
     go false is = absurd (cc)
 
 -- the value that stands in a word is text where the word is
-value_text : (word : Text) (name : Name) (value : Text) → IsUtf8 word → kind_of word ≡ Given name value → IsUtf8 value
+value_text : (word : Text) (name : Name) (value : Text) → IsUtf8 word → word_kind word ≡ Given name value → IsUtf8 value
 value_text [] name value utf8 is = absurd (cc)
 value_text (first ∷ []) name value utf8 is = go (is_hyphen first) is
   where
@@ -57,7 +57,7 @@ value_text (first ∷ second ∷ text) name value utf8 is = go (is_hyphen first)
     long [] rest_utf8 is = absurd (cc)
     long (byte ∷ rest) rest_utf8 is = option_value (option_named (before_first is_equals (byte ∷ rest))) (byte ∷ rest) name value rest_utf8 is
 
-    go : (a b : Bool) → is_hyphen second ≡ b → cond a (cond b (long_kind text) Refused) Positional ≡ Given name value → IsUtf8 value
+    go : (a b : Bool) → is_hyphen second ≡ b → cond a (cond b (long_kind text) RefusedWord) Positional ≡ Given name value → IsUtf8 value
     go true true hyphen is = long text (behind hyphen) is
     go true false hyphen is = absurd (cc)
     go false b hyphen is = absurd (cc)
@@ -97,7 +97,7 @@ keeps_none = record {
 keeps_word : (word : Text) (rest : List Text) → All IsUtf8 (word ∷ rest) → KeepsText rest → KeepsText (word ∷ rest)
 unfolding split_from
 keeps_word word rest utf8 next = record {
-  free = λ line out text is. free_word (kind_of word) line out refl text is;
+  free = λ line out text is. free_word (word_kind word) line out refl text is;
   waits = λ name line out text is. waiting_word name line out text (begins_with_hyphen word) is;
 }
   where
@@ -111,12 +111,12 @@ keeps_word word rest utf8 next = record {
         go true is = absurd (cc)
         go false is = next.free (set_value name given line) out (set_text name given line given_utf8 text) is
 
-    free_word : (k : Kind) (line out : Line) → kind_of word ≡ k → IsText line → split_word k word rest (split_from rest) line ≡ Some out → IsText out
+    free_word : (k : Kind) (line out : Line) → word_kind word ≡ k → IsText line → split_word k word rest (split_from rest) line ≡ Some out → IsText out
     free_word Positional line out kind text is = next.free (with_words (word ∷ []) line) out (words_text (word ∷ []) line (All-push IsUtf8 [] word (All-nil IsUtf8) here) text) is
     free_word Rest line out kind text is = same_line (with_words rest line) out is (words_text rest line (All-drop IsUtf8 1 (word ∷ rest) utf8) text)
     free_word (Given name given) line out kind text is = valued name given line out (value_text word name given here kind) text is
     free_word (Named name) line out kind text is = next.waits name line out text is
-    free_word Refused line out kind text is = absurd (cc)
+    free_word RefusedWord line out kind text is = absurd (cc)
 
     waiting_word : (name : Name) (line out : Line) → IsText line → (begins : Bool)
         → cond begins None (option_and_then (split_from rest None) (with_value name word line)) ≡ Some out → IsText out

@@ -1,7 +1,7 @@
 -- Where the word `-` stands for the value of an option, which `clap` alone would take.
 use Rattle.std.specs.Prelude.{◌&&◌, ◌||◌, ℕ, Bool, true, false, List, [], ◌∷◌}
 use Rattle.std.specs.Str.{bytes_eq}
-use Rattle.omi_line.specs.Word.{Kind, Positional, Rest, Named, kind_of}
+use Rattle.omi_line.specs.Word.{Kind, Positional, Rest, Named, word_kind}
 
 -- the word is an option whose value is to be the next word
 abbrev pub is_named : Kind → Bool
@@ -22,4 +22,4 @@ hyphen_word _ here next = next false
 unfoldable pub gives_hyphen : List (List ℕ) → Bool → Bool
 gives_hyphen [] is_waiting = false
 gives_hyphen (word ∷ rest) is_waiting =
-    hyphen_word (kind_of word) (is_waiting && is_lone_hyphen word) (gives_hyphen rest)
+    hyphen_word (word_kind word) (is_waiting && is_lone_hyphen word) (gives_hyphen rest)

@@ -2,7 +2,7 @@
 use Rattle.std.specs.Prelude.{ℕ, IfSome, List, [], ◌∷◌, ◌++◌, Option, Some, None, is_some, option_and_then, if◌then◌else◌}
 use Rattle.std.specs.List.{All}
 use Rattle.std.specs.Str.{IsUtf8}
-use Rattle.omi_line.specs.Word.{Name, Kind, Seed, Break, Count, Layout, Positional, Rest, Given, Named, Refused, kind_of, begins_with_hyphen}
+use Rattle.omi_line.specs.Word.{Name, Kind, Seed, Break, Count, Layout, Positional, Rest, Given, Named, RefusedWord, word_kind, begins_with_hyphen}
 use Rattle.omi_line.specs.declared.line.Line.{Line}
 
 abbrev pub empty_line : Line
@@ -38,7 +38,7 @@ split_word Rest word rest next line = Some (with_words rest line)
 split_word (Given name value) word rest next line =
     option_and_then (next None) (with_value name value line)
 split_word (Named name) word rest next line = next (Some name) line
-split_word Refused word rest next line = None
+split_word RefusedWord word rest next line = None
 
 -- The line that these words make of a line, where an option may wait for its value. A value that is a word of its own doesn't begin with `-`, and after `--` all words are positional.
 unfoldable pub split_from : List (List ℕ) → Option Name → Line → Option Line
@@ -47,7 +47,7 @@ split_from [] (Some name) line = None
 split_from (word ∷ rest) (Some name) line =
     if begins_with_hyphen word then None
     else option_and_then (split_from rest None) (with_value name word line)
-split_from (word ∷ rest) None line = split_word (kind_of word) word rest (split_from rest) line
+split_from (word ∷ rest) None line = split_word (word_kind word) word rest (split_from rest) line
 
 -- the line that the words make, where they aren't refused
 abbrev pub split_of : List (List ℕ) → Option Line

@@ -9,12 +9,12 @@ abbrev pub has_leading_zero : List ℕ → Bool
 has_leading_zero text = nat_lt 1 (length text) && slice_index text 0 == 48
 
 -- the text is a number in decimal digits
-abbrev pub is_decimal : List ℕ → Bool
-is_decimal text = nat_lt 0 (length text)
+abbrev pub is_decimal_text : List ℕ → Bool
+is_decimal_text text = nat_lt 0 (length text)
     && (not (has_leading_zero text) && list_all is_ascii_digit text)
 
 -- the number that a text is, where it lies within least and most
-abbrev pub number_of : List ℕ → ℕ → ℕ → Option ℕ
-number_of text least most =
+abbrev pub number_between : List ℕ → ℕ → ℕ → Option ℕ
+number_between text least most =
     let value = digits_value 10 text in
-    if is_decimal text && (nat_le least value && nat_le value most) then Some value else None
+    if is_decimal_text text && (nat_le least value && nat_le value most) then Some value else None

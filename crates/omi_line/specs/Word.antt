@@ -24,7 +24,7 @@ pub data Kind : Type 0 where
   Rest : Kind
   Given : (name : Name) (value : List ℕ) → Kind
   Named : (name : Name) → Kind
-  Refused : Kind
+  RefusedWord : Kind
 
 -- the byte is `-`
 abbrev pub is_hyphen : ℕ → Bool
@@ -36,7 +36,7 @@ is_equals byte = byte == 61
 
 -- an option, with what stands after the first `=` where there is one
 abbrev pub option_kind : Option Name → List ℕ → Kind
-option_kind None text = Refused
+option_kind None text = RefusedWord
 option_kind (Some name) text =
     if list_any is_equals text then Given name (after_first is_equals text) else Named name
 
@@ -49,11 +49,11 @@ long_kind (byte ∷ text) =
 -- the word that is `-` and then this text
 abbrev pub hyphen_kind : List ℕ → Kind
 hyphen_kind [] = Positional
-hyphen_kind (byte ∷ text) = if is_hyphen byte then long_kind text else Refused
+hyphen_kind (byte ∷ text) = if is_hyphen byte then long_kind text else RefusedWord
 
-abbrev pub kind_of : List ℕ → Kind
-kind_of [] = Positional
-kind_of (byte ∷ text) = if is_hyphen byte then hyphen_kind text else Positional
+abbrev pub word_kind : List ℕ → Kind
+word_kind [] = Positional
+word_kind (byte ∷ text) = if is_hyphen byte then hyphen_kind text else Positional
 
 abbrev pub begins_with_hyphen : List ℕ → Bool
 begins_with_hyphen [] = false

@@ -9,7 +9,7 @@ ghost use Rattle.omi_line.specs.Command.{bare_app, line_app, option_rule, words_
 ghost use Rattle.omi_line.specs.Hyphen.{gives_hyphen, is_named};
 ghost use Rattle.omi_line.specs.Line.{IsText, split_of};
 ghost use Rattle.omi_line.specs.LineError.{line_error_of};
-ghost use Rattle.omi_line.specs.Word.{kind_of};
+ghost use Rattle.omi_line.specs.Word.{word_kind};
 
 use crate::{OutOfMemory, Text, TextList};
 use clap::error::ErrorKind;
@@ -102,7 +102,7 @@ fn command<'a>(alloc: Global) -> Result<Command<'a>, OutOfMemory>
 
 /// Whether the word is an option whose value is to be the next word.
 fn is_option(word: &str) -> bool
-    ensures { result ≡ is_named (kind_of word.now) }
+    ensures { result ≡ is_named (word_kind word.now) }
 {
     matches!(word, "--seed" | "--break" | "--count" | "--layout")
 }

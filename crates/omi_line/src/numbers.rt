@@ -3,7 +3,7 @@
 ghost use Rattle.std.specs.Prelude.{◌≡◌};
 ghost use Rattle.std.specs.Char.{is_ascii_digit};
 ghost use Rattle.std.specs.List.{list_all};
-ghost use Rattle.omi_line.specs.Number.{is_decimal, number_of};
+ghost use Rattle.omi_line.specs.Number.{is_decimal_text, number_between};
 
 use crate::Text;
 use std::str;
@@ -16,7 +16,7 @@ fn has_only_digits(bytes: &[u8]) -> bool
 
 /// Whether the bytes are decimal digits, without a leading 0 but for 0 itself.
 fn is_numeral(bytes: &[u8]) -> bool
-    ensures { result ≡ is_decimal bytes.now }
+    ensures { result ≡ is_decimal_text bytes.now }
 {
     if bytes.len() > 1 && bytes[0] == b'0' {
         return false;
@@ -27,7 +27,7 @@ fn is_numeral(bytes: &[u8]) -> bool
 /// The number that the text writes in decimal digits, without a sign and without a leading 0 but
 /// for 0 itself. None where it writes none, or one outside `least` to `most`.
 pub fn number(t: &Text, least: u64, most: u64) -> Option<u64>
-    ensures { result ≡ number_of t.now least most }
+    ensures { result ≡ number_between t.now least most }
 {
     let bytes = t.bytes();
     if !is_numeral(bytes) {

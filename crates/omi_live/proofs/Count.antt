@@ -2,11 +2,11 @@
 use Rattle.std.proofs.Common.{◌≡◌, ◌≢◌, ◌<◌, ◌≤◌, ◌+◌, ◌*◌, ◌==◌, ◌++◌, ◌⊎◌, inl, inr, ℕ, zero, suc, Bool, true, false, List, [], ◌∷◌, length, refl, sym, ap, ◌∙◌, subst, arith, eq-eqb, eqb-true, if◌then◌else◌}
 use Rattle.std.proofs.lemmas.Bool.{cases_lt}
 use Rattle.std.proofs.Math.Nat.{suc-mul}
-use Rattle.omi_word.specs.Memory.{after}
+use Rattle.omi_word.specs.Memory.{words_after}
 use Rattle.omi_script.specs.declared.program.Program.{Program}
 use Rattle.omi_model.specs.declared.event.Event.{Event}
 use Rattle.omi_model.specs.State.{State}
-use Rattle.omi_layout.specs.Memory.{put}
+use Rattle.omi_layout.specs.Memory.{replace_at}
 use Rattle.omi_rule.specs.Steps.{committed}
 use Rattle.omi_core.specs.declared.entry.Entry.{Entry}
 use Rattle.omi_core.specs.Steps.{Steps, Watches, steps_of}
@@ -19,7 +19,7 @@ AreOf n (x ∷ xs) = (x.0 < n) × AreOf n xs
 pub are_of : (p : Program) (w words : List ℕ) (past : List (ℕ × Event)) (s : State) (watches : Watches) (xs : List (ℕ × Entry)) (last : List ℕ) (t : State) (later : Watches)
     → Steps p w words past s watches xs last t later → AreOf p.threads xs
 are_of p w words past s watches [] last t later steps = tt
-are_of p w words past s watches (x ∷ xs) last t later (next, watch, one, seen, rest) = (one.thread, are_of p w (after words x.1.op) (past ++ committed x.0 x.1.outcome) next (put watches x.0 watch) xs last t later rest)
+are_of p w words past s watches (x ∷ xs) last t later (next, watch, one, seen, rest) = (one.thread, are_of p w (words_after words x.1.op) (past ++ committed x.0 x.1.outcome) next (replace_at watches x.0 watch) xs last t later rest)
 
 -- the steps of the first threads, counted thread by thread
 abbrev counted : ℕ → List (ℕ × Entry) → ℕ

@@ -7,7 +7,7 @@ use Rattle.std.proofs.Math.Nat.{div_self}
 use Rattle.atomic_table.proofs.Lists.{at_set}
 use Rattle.atomic_table.specs.Table.{Act, Allows, State, Step, Valid, carried_after, keeps, stepped as state_after}
 use Rattle.omi_word.specs.declared.op.Op.{Op}
-use Rattle.omi_word.specs.Memory.{IsWordOf, address_of, after, left_of, place_of, word_at}
+use Rattle.omi_word.specs.Memory.{IsWordOf, address_of, words_after, left_of, place_of, word_at}
 use Rattle.omi_script.specs.declared.program.Program.{Program}
 use Rattle.omi_script.proofs.RuleLemmas.{Rules-from_accepted}
 use Rattle.omi_layout.specs.declared.layout.Layout.{Layout}
@@ -73,7 +73,7 @@ run_behind a i =
     record {
       program = a.program;
       table = a.table;
-      words = after a.words e.op;
+      words = words_after a.words e.op;
       actors = slice_set a.actors i (actor_after a.program a.table (actors_in a.actors i) e.old);
       events = record { items = a.events.items ++ event_of (length a.made.items + 1) i e.outcome; spare = 0; seats = 0 };
       made = record { items = a.made.items ++ made_of i e ∷ []; spare = 0 };

@@ -10,9 +10,9 @@ use Rattle.omi_verbs.specs.Refusal.{IsReadFault, refusal_of_write, status_of}
 use Rattle.omi_verbs.specs.Scripts.{IsOfScript, IsProgramIn}
 use Rattle.omi_verbs.specs.declared.refusal.Refusal.{Refusal}
 use Rattle.omi_verbs.specs.declared.refusal.Refusal.TheVariants as refusal
-use Rattle.omi_live_top.specs.Answer.{IsAnswered, IsLate, IsOfRun, IsUnwritten}
-use Rattle.omi_live_top.specs.Command.{Command}
-use Rattle.omi_live_top.specs.Run.{IsRun}
+use Rattle.omi_live_top.specs.Answer.{IsLiveAnswered, IsLate, IsOfRun, IsLiveUnwritten}
+use Rattle.omi_live_top.specs.Command.{LiveCommand}
+use Rattle.omi_live_top.specs.Run.{IsLiveRun}
 
 late : (r : RefusedWrite) → IsLate (refusal_of_write r)
 late refused.Failed = tt
@@ -21,13 +21,13 @@ late refused.OutOfMemory = tt
 pub write_of_run : (r : RefusedWrite) → IsOfRun (refusal_of_write r)
 write_of_run r = inr (late r)
 
-module _ (command : Command) (content : Option (List ℕ)) (old new : Told) (p : Program) (holds : IsProgramIn content p) (core : List ℕ) where
+module _ (command : LiveCommand) (content : Option (List ℕ)) (old new : Told) (p : Program) (holds : IsProgramIn content p) (core : List ℕ) where
   -- the core is partly written
-  pub partly_answered : (text : List ℕ) (r : RefusedWrite) → IsRun p command.plan core text → IsCut old new core → IsAnswered command content (Err (refusal_of_write r)) old new
+  pub partly_answered : (text : List ℕ) (r : RefusedWrite) → IsLiveRun p command.plan core text → IsCut old new core → IsLiveAnswered command content (Err (refusal_of_write r)) old new
   partly_answered text r run cut = inr (late r, (core, text, record { program = p; holds = holds; run = run }, cut))
 
   -- the core is written, and the text is handed up
-  pub done_answered : (text : Vec ℕ) → IsRun p command.plan core text.items → new ≡ holding old core → IsAnswered command content (Ok text) old new
+  pub done_answered : (text : Vec ℕ) → IsLiveRun p command.plan core text.items → new ≡ holding old core → IsLiveAnswered command content (Ok text) old new
   done_answered text run held = (core, record { program = p; holds = holds; run = run }, held)
 
 -- ---- what the refusal of a script or of a write is not
@@ -54,6 +54,6 @@ write_failed refused.Failed is = refl
 write_failed refused.OutOfMemory is = absurd (cc)
 
 -- and no refusal after which nothing was written
-pub never_unwritten : (r : RefusedWrite) → IsUnwritten (status_of (refusal_of_write r)) → ⊥
+pub never_unwritten : (r : RefusedWrite) → IsLiveUnwritten (status_of (refusal_of_write r)) → ⊥
 never_unwritten refused.Failed unwritten = unwritten
 never_unwritten refused.OutOfMemory unwritten = unwritten

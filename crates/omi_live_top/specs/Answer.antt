@@ -5,25 +5,25 @@ use Rattle.omi_outside.specs.Outside.{Told, holding, IsCut, IsPutCut, put_on}
 use Rattle.omi_outside.specs.declared.status.Status.{Status}
 use Rattle.omi_outside.specs.declared.status.Status.TheVariants as status
 use Rattle.omi_script.specs.declared.program.Program.{Program}
-use Rattle.omi_verbs.specs.Refusal.{IsUnread, line_of, status_of}
+use Rattle.omi_verbs.specs.Refusal.{IsUnread, refusal_line, status_of}
 use Rattle.omi_verbs.specs.Said.{IsSaid}
 use Rattle.omi_verbs.specs.Scripts.{IsOfScript, IsProgramIn, IsScriptRefusal}
 use Rattle.omi_verbs.specs.declared.refusal.Input.TheVariants as input
 use Rattle.omi_verbs.specs.declared.refusal.Refusal.{Refusal}
 use Rattle.omi_verbs.specs.declared.refusal.Refusal.TheVariants as refusal
-use Rattle.omi_live_top.specs.Command.{Command}
-use Rattle.omi_live_top.specs.Run.{IsRun}
+use Rattle.omi_live_top.specs.Command.{LiveCommand}
+use Rattle.omi_live_top.specs.Run.{IsLiveRun}
 
 -- the core and the text of a run of the program that is in the script
-pub record IsAnswer (command : Command) (content : Option (List ℕ)) (core text : List ℕ) : Type 0 where
+pub record IsLiveAnswer (command : LiveCommand) (content : Option (List ℕ)) (core text : List ℕ) : Type 0 where
   pub program : Program
   pub holds : IsProgramIn content program
-  pub run : IsRun program command.plan core text
+  pub run : IsLiveRun program command.plan core text
 
 -- the core is not written to its end: it is as before, or holds a front of the bytes that is not all
-abbrev pub IsHalfWritten : Command → Option (List ℕ) → Told → Told → Type 0
-IsHalfWritten command content old new =
-    (core text : List ℕ) × IsAnswer command content core text × IsCut old new core
+abbrev pub IsLiveHalfWritten : LiveCommand → Option (List ℕ) → Told → Told → Type 0
+IsLiveHalfWritten command content old new =
+    (core text : List ℕ) × IsLiveAnswer command content core text × IsCut old new core
 
 -- a fault of writing, or want of memory
 abbrev pub IsLate : Refusal → Type 0
@@ -37,61 +37,61 @@ IsOfRun r = IsOfScript r ⊎ IsLate r
 
 -- What a command gave, and what it left of the core: a text, and the core of the same run; a refusal of the script, which can't be read
 -- or holds no program; or a fault while the core is written.
-abbrev pub IsAnswered : Command → Option (List ℕ) → Result (Vec ℕ) Refusal → Told → Told → Type 0
-IsAnswered command content (Ok text) old new =
-    (core : List ℕ) × IsAnswer command content core text.items × (new ≡ holding old core)
-IsAnswered command content (Err r) old new =
+abbrev pub IsLiveAnswered : LiveCommand → Option (List ℕ) → Result (Vec ℕ) Refusal → Told → Told → Type 0
+IsLiveAnswered command content (Ok text) old new =
+    (core : List ℕ) × IsLiveAnswer command content core text.items × (new ≡ holding old core)
+IsLiveAnswered command content (Err r) old new =
     ((IsScriptRefusal content r ⊎ IsUnread input.Script r) × (new ≡ old))
-    ⊎ (IsLate r × IsHalfWritten command content old new)
+    ⊎ (IsLate r × IsLiveHalfWritten command content old new)
 
 -- ---- what a call leaves of the core and of the output
 
 -- all is written and put
-abbrev pub IsDone : Command → Option (List ℕ) → Told → Told → Option (List ℕ) → Option (List ℕ) → Type 0
-IsDone command content old new out after = (core text : List ℕ) × IsAnswer command content core text
+abbrev pub IsLiveDone : LiveCommand → Option (List ℕ) → Told → Told → Option (List ℕ) → Option (List ℕ) → Type 0
+IsLiveDone command content old new out after = (core text : List ℕ) × IsLiveAnswer command content core text
     × (new ≡ holding old core) × (after ≡ put_on out text)
 
 -- the core is not written to its end and nothing put, or it is whole and a front of the text put, which is not all
-abbrev pub IsPartlyDone : Command → Option (List ℕ) → Told → Told → Option (List ℕ)
+abbrev pub IsLivePartlyDone : LiveCommand → Option (List ℕ) → Told → Told → Option (List ℕ)
     → Option (List ℕ) → Type 0
-IsPartlyDone command content old new out after =
-    (IsHalfWritten command content old new × (after ≡ out))
-    ⊎ ((core text : List ℕ) × IsAnswer command content core text × (new ≡ holding old core)
+IsLivePartlyDone command content old new out after =
+    (IsLiveHalfWritten command content old new × (after ≡ out))
+    ⊎ ((core text : List ℕ) × IsLiveAnswer command content core text × (new ≡ holding old core)
     × IsPutCut text out after)
 
 -- the script is refused with this status: nothing is written, and the refusal's line is said
-abbrev pub IsRefused : Command → Option (List ℕ) → Status → Told → Told → Type 0 → Option (List ℕ)
+abbrev pub IsLiveRefused : LiveCommand → Option (List ℕ) → Status → Told → Told → Type 0 → Option (List ℕ)
     → Option (List ℕ) → Type 0
-IsRefused command content status old new counted out after =
+IsLiveRefused command content status old new counted out after =
     (r : Refusal) × (status_of r ≡ status) × IsScriptRefusal content r × (new ≡ old)
-    × IsSaid (line_of command.script command.core r) counted out after
+    × IsSaid (refusal_line command.script command.core r) counted out after
 
 -- the script can't be read, and the line with its name is said
-abbrev pub IsReadFailed : Command → Told → Told → Type 0 → Option (List ℕ) → Option (List ℕ) → Type 0
-IsReadFailed command old new counted out after = (new ≡ old)
-    × IsSaid (line_of command.script command.core (refusal.ReadFault input.Script)) counted out after
+abbrev pub IsLiveReadFailed : LiveCommand → Told → Told → Type 0 → Option (List ℕ) → Option (List ℕ) → Type 0
+IsLiveReadFailed command old new counted out after = (new ≡ old)
+    × IsSaid (refusal_line command.script command.core (refusal.ReadFault input.Script)) counted out after
 
 -- What a call with this status leaves, where a line that isn't put is counted by the sink. No core is refused, as none is read
-abbrev pub IsLeft : Command → Option (List ℕ) → Status → Told → Told → Type 0 → Option (List ℕ)
+abbrev pub IsLiveLeft : LiveCommand → Option (List ℕ) → Status → Told → Told → Type 0 → Option (List ℕ)
     → Option (List ℕ) → Type 0
-IsLeft command content status.Success old new counted out after =
-    IsDone command content old new out after
-IsLeft command content status.NoFile old new counted out after =
-    IsRefused command content status.NoFile old new counted out after
-IsLeft command content status.Script old new counted out after =
-    IsRefused command content status.Script old new counted out after
-IsLeft command content status.ReadFault old new counted out after =
-    IsReadFailed command old new counted out after
-IsLeft command content status.WriteFault old new counted out after =
-    IsPartlyDone command content old new out after
-IsLeft command content status.OutOfMemory old new counted out after =
-    ((new ≡ old) × (after ≡ out)) ⊎ IsPartlyDone command content old new out after
-IsLeft command content other old new counted out after = ⊥
+IsLiveLeft command content status.Success old new counted out after =
+    IsLiveDone command content old new out after
+IsLiveLeft command content status.NoFile old new counted out after =
+    IsLiveRefused command content status.NoFile old new counted out after
+IsLiveLeft command content status.Script old new counted out after =
+    IsLiveRefused command content status.Script old new counted out after
+IsLiveLeft command content status.ReadFault old new counted out after =
+    IsLiveReadFailed command old new counted out after
+IsLiveLeft command content status.WriteFault old new counted out after =
+    IsLivePartlyDone command content old new out after
+IsLiveLeft command content status.OutOfMemory old new counted out after =
+    ((new ≡ old) × (after ≡ out)) ⊎ IsLivePartlyDone command content old new out after
+IsLiveLeft command content other old new counted out after = ⊥
 
 -- a call with this status wrote nothing
-abbrev pub IsUnwritten : Status → Type 0
-IsUnwritten status.Usage = ⊤
-IsUnwritten status.NoFile = ⊤
-IsUnwritten status.ReadFault = ⊤
-IsUnwritten status.Script = ⊤
-IsUnwritten other = ⊥
+abbrev pub IsLiveUnwritten : Status → Type 0
+IsLiveUnwritten status.Usage = ⊤
+IsLiveUnwritten status.NoFile = ⊤
+IsLiveUnwritten status.ReadFault = ⊤
+IsLiveUnwritten status.Script = ⊤
+IsLiveUnwritten other = ⊥

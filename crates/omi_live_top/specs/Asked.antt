@@ -2,11 +2,11 @@
 use Rattle.std.specs.Prelude.{◌≤◌}
 use Rattle.omi_verbs.specs.declared.limits.TheConstants.{MOST_LAYOUT}
 use Rattle.omi_live.specs.declared.limits.TheConstants.{MOST_BUDGET}
-use Rattle.omi_live_top.specs.Command.{Command}
+use Rattle.omi_live_top.specs.Command.{LiveCommand}
 use Rattle.omi_live_top.specs.declared.command.Plan.{Plan}
 use Rattle.omi_live_top.specs.declared.command.Request.{Request}
 
-abbrev pub asked : Request → Command
+abbrev pub asked : Request → LiveCommand
 asked request = record {
   plan = request.plan;
   script = request.names.script.now;

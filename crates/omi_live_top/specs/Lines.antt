@@ -19,9 +19,9 @@ runs_lines thread [] = []
 runs_lines thread (run ∷ runs) = run_lines thread run ++ runs_lines (thread + 1) runs
 
 -- the end line
-abbrev pub end_line : ℕ → List ℕ
-end_line budget = codes "end budget " ++ (decimal budget ++ 10 ∷ [])
+abbrev pub live_end_line : ℕ → List ℕ
+live_end_line budget = codes "end budget " ++ (decimal budget ++ 10 ∷ [])
 
 -- all that a run of threads with this budget prints
 abbrev pub live_text : List ThreadRun → ℕ → List ℕ
-live_text runs budget = runs_lines 0 runs ++ end_line budget
+live_text runs budget = runs_lines 0 runs ++ live_end_line budget

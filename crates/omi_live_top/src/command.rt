@@ -4,7 +4,7 @@ ghost use Rattle.std.specs.Prelude.{◌≡◌, option_and_then, IfSome};
 ghost use Rattle.std.specs.Option.{option_map};
 ghost use Rattle.omi_line.specs.Line.{IsText};
 ghost use Rattle.omi_live_top.specs.Asked.{asked, IsPossible};
-ghost use Rattle.omi_live_top.specs.Command.{break_of, command_by, plan_of};
+ghost use Rattle.omi_live_top.specs.Command.{live_break_of, live_command_by, live_plan_of};
 
 use omi_core::Break;
 use omi_line::{Line, Text, number};
@@ -32,7 +32,7 @@ pub struct Request<'a> {
 /// What `--break` says, if it is there. None where there is no such breakpoint.
 fn break_of(line: &Line) -> Option<Option<Break>>
     requires { IsText line.now }
-    ensures { result ≡ break_of line.now.on }
+    ensures { result ≡ live_break_of line.now.on }
 {
     match &line.on {
         Some(name) => Some(Some(break_named(text_of(name))?)),
@@ -43,7 +43,7 @@ fn break_of(line: &Line) -> Option<Option<Break>>
 /// The run that a line asks for, with this budget.
 fn plan_of(budget: &Text, line: &Line) -> Option<Plan>
     requires { IsText line.now }
-    ensures plan { result ≡ plan_of budget.now line.now }
+    ensures plan { result ≡ live_plan_of budget.now line.now }
     ensures possible { IfSome result IsPossible }
 {
     Some(Plan {
@@ -56,7 +56,7 @@ fn plan_of(budget: &Text, line: &Line) -> Option<Plan>
 /// The request that a line makes, if it makes one.
 fn request_by(line: &Line) -> Option<Request<'_>>
     requires { IsText line.now }
-    ensures asked { option_map asked result ≡ command_by line.entry.now }
+    ensures asked { option_map asked result ≡ live_command_by line.entry.now }
     ensures possible { IfSome result (λ request. IsPossible request.plan) }
 {
     let [budget, script, core] = line.words.as_slice() else {
@@ -77,7 +77,7 @@ fn request_by(line: &Line) -> Option<Request<'_>>
 /// The request that a line makes, where words make one.
 pub fn request_of(line: &Option<Line>) -> Option<Request<'_>>
     requires { IfSome line.now IsText }
-    ensures asked { option_map asked result ≡ option_and_then command_by line.entry.now }
+    ensures asked { option_map asked result ≡ option_and_then live_command_by line.entry.now }
     ensures possible { IfSome result (λ request. IsPossible request.plan) }
 {
     match line {

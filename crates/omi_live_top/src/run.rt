@@ -2,7 +2,7 @@
 
 ghost use Rattle.std.specs.Prelude.{IfOk, string_bytes};
 ghost use Rattle.omi_live_top.specs.Asked.{IsPossible};
-ghost use Rattle.omi_live_top.specs.Run.{IsRun};
+ghost use Rattle.omi_live_top.specs.Run.{IsLiveRun};
 
 use crate::command::Plan;
 use crate::lines::text_of;
@@ -25,7 +25,7 @@ pub fn run_of<R: Threads + Sync, G: Gate>(
     gate: &G,
 ) -> Result<(Vec<u8>, String), OutOfMemory>
     requires { IsPossible plan }
-    ensures { IfOk result (λ made. IsRun p.now plan made.0.items (string_bytes made.1)) }
+    ensures { IfOk result (λ made. IsLiveRun p.now plan made.0.items (string_bytes made.1)) }
 {
     families_suit();
     words_fix_the_report();

@@ -9,10 +9,10 @@ ghost use Rattle.omi_script.specs.declared.program.Program.{Program};
 ghost use Rattle.omi_verbs.specs.Refusal.{HasRoom, IsReadFault, status_of};
 ghost use Rattle.omi_verbs.specs.Said.{IsCounted, IsSaid};
 ghost use Rattle.omi_verbs.specs.Statuses.{ComesWhere, IsOfCore};
-ghost use Rattle.omi_live_top.specs.Answer.{IsAnswered, IsLeft, IsOfRun, IsUnwritten};
+ghost use Rattle.omi_live_top.specs.Answer.{IsLiveAnswered, IsLiveLeft, IsOfRun, IsLiveUnwritten};
 ghost use Rattle.omi_live_top.specs.Asked.{asked, IsPossible};
-ghost use Rattle.omi_live_top.specs.Command.{Command, Writes, command_in};
-ghost use Rattle.omi_live_top.specs.Run.{IsRun};
+ghost use Rattle.omi_live_top.specs.Command.{LiveCommand, LiveWrites, live_command_in};
+ghost use Rattle.omi_live_top.specs.Run.{IsLiveRun};
 
 use crate::command::{Request, request_of};
 use crate::run::run_of;
@@ -32,7 +32,7 @@ fn perform<R: Threads + Sync, F: Files, G: Gate>(
     requires { IsPossible request.plan }
     ensures answer { let command = asked request.entry in (content : Option (List ℕ))
         → F.told files.old command.script ≡ Some content
-        → IsAnswered command content result (F.told files.old command.core)
+        → IsLiveAnswered command content result (F.told files.old command.core)
         (F.told files.new command.core) }
     ensures kind { IfErr result IsOfRun }
     ensures read { HasCause (F.reads files.old) (F.reads files.new)
@@ -40,7 +40,7 @@ fn perform<R: Threads + Sync, F: Files, G: Gate>(
     ensures write { HasCause (F.writes files.old) (F.writes files.new)
         (IsErrOf result Refusal.WriteFault) }
     ensures unwritten { IfErr result
-        (λ r. IsUnwritten (status_of r) → F.told files.new ≡ F.told files.old) }
+        (λ r. IsLiveUnwritten (status_of r) → F.told files.new ≡ F.told files.old) }
     ensures others { let command = asked request.entry in (other : List ℕ) → other ≢ command.core
         → F.told files.new other ≡ F.told files.old other }
 {
@@ -72,11 +72,11 @@ fn carry_out_in<R: Threads + Sync, F: Files, K: Sink, G: Gate>(
         ⊎ Rose (K.faults out.old) (K.faults out.new) }
     ensures left { let command = asked request.entry in (content : Option (List ℕ))
         → F.told files.old command.script ≡ Some content
-        → IsLeft command content result (F.told files.old command.core)
+        → IsLiveLeft command content result (F.told files.old command.core)
         (F.told files.new command.core)
         (IsCounted (K.faults out.old) (K.faults out.new) (K.wants out.old) (K.wants out.new))
         (K.told out.old) (K.told out.new) }
-    ensures unwritten { IsUnwritten result → F.told files.new ≡ F.told files.old }
+    ensures unwritten { IsLiveUnwritten result → F.told files.new ≡ F.told files.old }
     ensures others { let command = asked request.entry in (other : List ℕ) → other ≢ command.core
         → F.told files.new other ≡ F.told files.old other }
     ensures reads { F.reads files.old ≤ F.reads files.new }
@@ -108,11 +108,11 @@ fn carry_out<R: Threads + Sync, F: Files, K: Sink, G: Gate>(
         ⊎ Rose (K.faults out.old) (K.faults out.new) }
     ensures left { let command = asked request.entry in (content : Option (List ℕ))
         → F.told files.old command.script ≡ Some content
-        → IsLeft command content result (F.told files.old command.core)
+        → IsLiveLeft command content result (F.told files.old command.core)
         (F.told files.new command.core)
         (IsCounted (K.faults out.old) (K.faults out.new) (K.wants out.old) (K.wants out.new))
         (K.told out.old) (K.told out.new) }
-    ensures unwritten { IsUnwritten result → F.told files.new ≡ F.told files.old }
+    ensures unwritten { IsLiveUnwritten result → F.told files.new ≡ F.told files.old }
     ensures others { let command = asked request.entry in (other : List ℕ) → other ≢ command.core
         → F.told files.new other ≡ F.told files.old other }
     ensures reads { F.reads files.old ≤ F.reads files.new }
@@ -141,8 +141,8 @@ pub fn live_top<R: Threads + Sync, F: Files, K: Sink, G: Gate>(
     // The causes for which no bytes need be told. No core is read, so none is refused. Where the words
     // are refused, that line is put whole, or the sink counted why not.
     ensures of_core { IsOfCore result → ⊥ }
-    ensures usage { result ≡ Status.Usage → command_in words.now ≡ None }
-    ensures faulty { command_in words.now ≡ None
+    ensures usage { result ≡ Status.Usage → live_command_in words.now ≡ None }
+    ensures faulty { live_command_in words.now ≡ None
         → (result ≡ Status.Usage) ⊎ (result ≡ Status.OutOfMemory) }
     ensures usage_line { result ≡ Status.Usage
         → IsSaid (Some (codes "usage" ++ 10 ∷ []))
@@ -155,39 +155,39 @@ pub fn live_top<R: Threads + Sync, F: Files, K: Sink, G: Gate>(
 
     // Where the script's file is told: there is none, or the grammar refuses it, exactly where the
     // status says so.
-    ensures no_file { (command : Command) (content : Option (List ℕ))
-        → command_in words.now ≡ Some command
+    ensures no_file { (command : LiveCommand) (content : Option (List ℕ))
+        → live_command_in words.now ≡ Some command
         → F.told files.old command.script ≡ Some content
         → ComesWhere Status.NoFile result (content ≡ None) }
-    ensures script { (command : Command) (bytes : List ℕ)
-        → command_in words.now ≡ Some command
+    ensures script { (command : LiveCommand) (bytes : List ℕ)
+        → live_command_in words.now ≡ Some command
         → F.told files.old command.script ≡ Some (Some bytes)
         → ComesWhere Status.Script result ((fault : ScriptFault) × RefusedScript bytes fault) }
 
     // With success the core is that of the words that a run of the threads left, and what is put is
     // the steps and events of each thread in this run. The words show the state that the events reach
     // in some order, which keeps each thread's own, and each state that they show has its report.
-    ensures success { (command : Command) (bytes : List ℕ)
-        → command_in words.now ≡ Some command
+    ensures success { (command : LiveCommand) (bytes : List ℕ)
+        → live_command_in words.now ≡ Some command
         → F.told files.old command.script ≡ Some (Some bytes)
         → result ≡ Status.Success
         → (p : Program) × (core text : List ℕ) × Grammar bytes p
-        × IsRun p command.plan core text
+        × IsLiveRun p command.plan core text
         × (F.told files.new command.core ≡ holding (F.told files.old command.core) core)
         × (K.told out.new ≡ put_on (K.told out.old) text) }
 
     // What is left of the core and of the output with every status.
-    ensures left { (command : Command) (content : Option (List ℕ))
-        → command_in words.now ≡ Some command
+    ensures left { (command : LiveCommand) (content : Option (List ℕ))
+        → live_command_in words.now ≡ Some command
         → F.told files.old command.script ≡ Some content
-        → IsLeft command content result (F.told files.old command.core)
+        → IsLiveLeft command content result (F.told files.old command.core)
         (F.told files.new command.core)
         (IsCounted (K.faults out.old) (K.faults out.new) (K.wants out.old) (K.wants out.new))
         (K.told out.old) (K.told out.new) }
 
     // What stays, whatever is told: all files after a refusal, and those of other names always.
-    ensures unwritten { IsUnwritten result → F.told files.new ≡ F.told files.old }
-    ensures others { (other : List ℕ) → (Writes (command_in words.now) other → ⊥)
+    ensures unwritten { IsLiveUnwritten result → F.told files.new ≡ F.told files.old }
+    ensures others { (other : List ℕ) → (LiveWrites (live_command_in words.now) other → ⊥)
         → F.told files.new other ≡ F.told files.old other }
 
     // No count falls.

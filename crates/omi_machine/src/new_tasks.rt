@@ -3,7 +3,7 @@
 ghost use Rattle.std.specs.Prelude.{◌≡◌, ◌<◌, IfOk, OnOk, OnErr, Some, ⊤};
 ghost use Rattle.omi_machine.specs.Kept.{state_of};
 ghost use Rattle.omi_model.specs.Changes.{OfCurrent, by_current};
-ghost use Rattle.omi_model.specs.Rows.{of_task};
+ghost use Rattle.omi_model.specs.Rows.{task_items};
 ghost use Rattle.omi_model.specs.Tasking.{deferred, deferred_task, scheduled, started_now};
 
 use crate::State;
@@ -18,7 +18,7 @@ use std::alloc::Global;
 
 /// What an explicit task has to do.
 fn task_list(alloc: Global, p: &Program, f: u8) -> Result<ItemList, OutOfMemory>
-    ensures { IfOk result (λ list. list ≡ of_task p.now f) }
+    ensures { IfOk result (λ list. list ≡ task_items p.now f) }
 {
     let mut list = ItemList::new(alloc);
     list.push_front(Item::Finish)?;

@@ -6,7 +6,7 @@ ghost use Rattle.omi_machine.specs.KeptSlots.{AreKept, IsKept};
 ghost use Rattle.omi_machine.specs.NewMembers.{tasks_back};
 ghost use Rattle.omi_model.specs.Changes.{OfCurrentRegion, by_region};
 ghost use Rattle.omi_model.specs.Opening.{exit_frame};
-ghost use Rattle.omi_model.specs.Rows.{of_member};
+ghost use Rattle.omi_model.specs.Rows.{member_items};
 ghost use Rattle.omi_model.specs.Teams.{exit_below, forked, inherited, master_of, member_task, new_region, shortened, with_members};
 
 use crate::State;
@@ -98,7 +98,7 @@ fn inherited_variables(alloc: Global, v: &Variables) -> Result<Variables, OutOfM
 
 /// What a member has to do.
 fn member_list(alloc: Global, p: &Program, at: Encounter, f: u8) -> Result<ItemList, OutOfMemory>
-    ensures { IfOk result (λ list. list ≡ of_member p.now at f) }
+    ensures { IfOk result (λ list. list ≡ member_items p.now at f) }
 {
     let mut list = ItemList::new(alloc);
     let last = if at.number == 0 {

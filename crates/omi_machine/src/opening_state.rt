@@ -4,7 +4,7 @@ ghost use Rattle.std.specs.Prelude.{◌≡◌, ◌≤◌, ◌∷◌, ◌-◌, []
 ghost use Rattle.omi_machine.specs.Kept.{slots_of, state_of};
 ghost use Rattle.omi_model.specs.Opening.{initial_thread, waiting_worker, opening_region, opening_task, opening, variables_of};
 ghost use Rattle.omi_model.specs.Put.{first_alone};
-ghost use Rattle.omi_model.specs.Rows.{of_main, of_worker};
+ghost use Rattle.omi_model.specs.Rows.{main_items, worker_items};
 
 use crate::State;
 use crate::first_lists::{push_end_of_member, push_function};
@@ -39,7 +39,7 @@ fn initial_encounter(env: &Env) -> Encounter
 
 /// What a worker that has not begun has to do.
 fn worker_list(alloc: Global) -> Result<ItemList, OutOfMemory>
-    ensures { IfOk result (λ list. list ≡ of_worker) }
+    ensures { IfOk result (λ list. list ≡ worker_items) }
 {
     let mut list = ItemList::new(alloc);
     list.push_front(Item::Serve)?;

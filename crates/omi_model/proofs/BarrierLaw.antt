@@ -21,7 +21,7 @@ use Rattle.omi_model.specs.LawMembers.{AreMembersKnown}
 use Rattle.omi_model.specs.Lists.{fits, stays, take_item}
 use Rattle.omi_model.specs.Opening.{opening, opening_region}
 use Rattle.omi_model.specs.Reached.{Reached, Step}
-use Rattle.omi_model.specs.Rows.{of_member}
+use Rattle.omi_model.specs.Rows.{member_items}
 use Rattle.omi_model.specs.Rules.{Rule}
 use Rattle.omi_model.specs.State.{State, region_of, task_of}
 use Rattle.omi_model.proofs.BarrierCounts.{barriers_of, counted}
@@ -285,7 +285,7 @@ module _ (p : Program) (b : ℕ → ℕ) (ok : IsCounted p b) (s : State) (i : �
       fair_made k t is f final (inr (seen, of)) = fair_of k t is (item.Defer seen f final) of
 
       member : (region : Rid) (team : List (Tid × ℕ)) (f : ℕ) (r : Region) (j : ℕ) (m : Tid × ℕ) → slice_get team j ≡ Some m
-          → Member b (replicate (length team) 0) 0 f j (of_member p (record { debug = p.env.debug; number = j; level = r.levels + 1; is_final = false }) f)
+          → Member b (replicate (length team) 0) 0 f j (member_items p (record { debug = p.env.debug; number = j; level = r.levels + 1; is_final = false }) f)
       member region team f r j m at =
           let none : slice_index (replicate (length team) 0) j ≡ 0 = get_or-replicate (length team) j 0 0 (slice_get_within team j m at) in
           record { phase = Outside; ahead = b f + 1; ready = member_ready p b ok (record { debug = p.env.debug; number = j; level = r.levels + 1; is_final = false }) f; stands = none; barriers = omega arith }

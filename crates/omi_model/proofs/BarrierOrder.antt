@@ -11,7 +11,7 @@ use Rattle.omi_model.specs.declared.item.Item.{Item}
 use Rattle.omi_model.specs.declared.item.Item.TheVariants as item
 pub use Rattle.omi_model.specs.LawBarriersLeft.{stmt_barriers, body_barriers, item_barriers, left}
 use Rattle.omi_model.specs.Lists.{fits, may_drop, stays, take_item}
-use Rattle.omi_model.specs.Rows.{barrier_items, behind, body_items, call_items, end_of_member, first_of, function_items, last_of_member, of_main, of_member, of_task, shown, working}
+use Rattle.omi_model.specs.Rows.{barrier_items, behind, body_items, call_items, end_of_member, first_of, function_items, last_of_member, main_items, member_items, task_items, shown, working}
 use Rattle.omi_model.proofs.ListLaws.{take_keeps}
 use Rattle.omi_model.proofs.Slots.{false_true}
 
@@ -252,10 +252,10 @@ module _ (p : Program) (b : ℕ → ℕ) (ok : IsCounted p b) where
       let rest = any_number n m xs (record { in_order = r.in_order; barriers = omega (arith, r.barriers); is_fair = and_right (fair_item b x) (fair b xs) r.is_fair }) in
       record { in_order = rest.in_order; barriers = r.barriers; is_fair = r.is_fair }
 
-  pub task_ready : (n f : ℕ) → b f == 0 ≡ true → IsReady b n Outside 0 (of_task p f)
+  pub task_ready : (n f : ℕ) → b f == 0 ≡ true → IsReady b n Outside 0 (task_items p f)
   task_ready n f none =
       let zero_barriers = eqb-true (b f) 0 none in
-      subst (λ w. IsReady b n Outside w (of_task p f)) (omega arith) (function_ready p b ok n f 0 (item.Finish ∷ []) (record { in_order = refl; barriers = omega arith; is_fair = refl }))
+      subst (λ w. IsReady b n Outside w (task_items p f)) (omega arith) (function_ready p b ok n f 0 (item.Finish ∷ []) (record { in_order = refl; barriers = omega arith; is_fair = refl }))
 
   last_ready : (n m : ℕ) → IsReady b n Outside 0 (last_of_member m ∷ [])
   last_ready n m = go (m == 0)
@@ -264,11 +264,11 @@ module _ (p : Program) (b : ℕ → ℕ) (ok : IsCounted p b) where
       go true = record { in_order = refl; barriers = omega arith; is_fair = refl }
       go false = record { in_order = refl; barriers = omega arith; is_fair = refl }
 
-  pub member_ready : (at : Encounter) (f : ℕ) → IsReady b at.number Outside (b f + 1) (of_member p at f)
+  pub member_ready : (at : Encounter) (f : ℕ) → IsReady b at.number Outside (b f + 1) (member_items p at f)
   member_ready at f =
       working_on at _ (function_ready p b ok at.number f 1 _ (subst (λ w. IsReady b at.number Outside w (end_of_member at (last_of_member at.number ∷ []))) (omega arith) (barrier_ready at at.number 0 _ _ refl (last_ready at.number at.number))))
 
-  pub main_ready : (at : Encounter) (f : ℕ) → IsReady b at.number Outside (b f + 1) (of_main at (body_of p.funcs f))
+  pub main_ready : (at : Encounter) (f : ℕ) → IsReady b at.number Outside (b f + 1) (main_items at (body_of p.funcs f))
   main_ready at f = function_ready p b ok at.number f 1 _ (subst (λ w. IsReady b at.number Outside w (end_of_member at (item.Done ∷ []))) (omega arith) (barrier_ready at at.number 0 _ _ refl (record { in_order = refl; barriers = omega arith; is_fair = refl })))
 
 -- ---- the three events

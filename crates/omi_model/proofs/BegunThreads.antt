@@ -18,7 +18,7 @@ use Rattle.omi_model.specs.LawStays.{Stays}
 use Rattle.omi_model.specs.Lists.{fits, take_item}
 use Rattle.omi_model.specs.Opening.{opening}
 use Rattle.omi_model.specs.Reached.{Reached, Step}
-use Rattle.omi_model.specs.Rows.{of_worker}
+use Rattle.omi_model.specs.Rows.{worker_items}
 use Rattle.omi_model.specs.Rules.{effect}
 use Rattle.omi_model.specs.State.{State, task_of}
 use Rattle.omi_model.specs.Teams.{begun}
@@ -31,7 +31,7 @@ use Rattle.omi_model.proofs.Steps.{IsMove, IsRelisted, move_of, moved_on}
 
 -- a thread that has not begun has its first list, no task, and may not be claimed
 pub record IsUnbegun (xs : List Item) (top : Option Tid) (by : Claim) : Type 0 where
-  pub list : xs ≡ of_worker
+  pub list : xs ≡ worker_items
   pub idle : top ≡ None
   pub held : by ≡ claim.Free → ⊥
 
@@ -45,7 +45,7 @@ begin_only e fit = absurd (false_true fit)
 abbrev first_taken : Item × List Item
 first_taken = (item.Begin, item.Offer ∷ item.Serve ∷ [])
 
-first_begin : (p : Program) (at : Encounter) (e : Event) (y : Item) (ys : List Item) → take_item p at e of_worker ≡ Some (y, ys) → e ≡ event.Begin
+first_begin : (p : Program) (at : Encounter) (e : Event) (y : Item) (ys : List Item) → take_item p at e worker_items ≡ Some (y, ys) → e ≡ event.Begin
 first_begin p at e y ys is = go (fits e item.Begin) refl is
   where
     go : (b : Bool) → fits e item.Begin ≡ b → (if b then Some first_taken else None) ≡ Some (y, ys) → e ≡ event.Begin
@@ -59,7 +59,7 @@ module _ (p : Program) (s : State) (i : ℕ) (e : Event) (next : State) (step : 
   -- a thread that has not begun begins
   unbegun_begins : IsUnbegun (s.threads i).list (s.threads i).current (s.threads i).claim → e ≡ event.Begin
   unbegun_begins un =
-      let list : list_of s i ≡ of_worker =
+      let list : list_of s i ≡ worker_items =
       ap (λ (o : Option Tid). option_map_or (λ (u : Task). u.list) (option_and_then (task_of s) o) (s.threads i).list) un.idle ∙ un.list in
       first_begin p (encounter s i) e m.item m.behind (ap (take_item p (encounter s i) e) (sym list) ∙ m.taken)
 

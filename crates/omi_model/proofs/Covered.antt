@@ -11,7 +11,7 @@ use Rattle.omi_model.specs.declared.item.Item.{Item}
 use Rattle.omi_model.specs.declared.item.Item.TheVariants as item
 use Rattle.omi_model.specs.Lists.{stays, take_item}
 use Rattle.omi_model.specs.Numbers.{wait_taskwait}
-use Rattle.omi_model.specs.Rows.{barrier_items, behind, body_items, call_items, end_of_member, first_of, last_of_member, of_main, of_member, shown, working}
+use Rattle.omi_model.specs.Rows.{barrier_items, behind, body_items, call_items, end_of_member, first_of, last_of_member, main_items, member_items, shown, working}
 use Rattle.omi_model.proofs.BarrierOrder.{body_left, left}
 use Rattle.omi_model.proofs.ListLaws.{take_keeps}
 
@@ -107,11 +107,11 @@ module _ (b : ℕ → ℕ) where
         go true = (tt, tt)
         go false = (tt, tt)
 
-    pub member_covers : (at : Encounter) (f : ℕ) → Covers b (of_member p at f)
+    pub member_covers : (at : Encounter) (f : ℕ) → Covers b (member_items p at f)
     member_covers at f =
         working_covers at _ (body_covers (body_of p.funcs f) (end_of_member at (last_of_member at.number ∷ [])) (barrier_left at _ (last_of_member at.number ∷ [])) (barrier_covers at _ (last_of_member at.number ∷ []) (last_behind at.number)))
 
-    pub main_covers : (at : Encounter) → Covers b (of_main at (body_of p.funcs p.main))
+    pub main_covers : (at : Encounter) → Covers b (main_items at (body_of p.funcs p.main))
     main_covers at = body_covers (body_of p.funcs p.main) (end_of_member at (item.Done ∷ [])) (barrier_left at _ (item.Done ∷ [])) (barrier_covers at _ (item.Done ∷ []) (tt, tt))
 
   pub stays_covers : (at : Encounter) (e : Event) (y : Item) (ys : List Item) → Covers b (y ∷ ys) → Covers b (stays at e y ys)

@@ -11,7 +11,7 @@ use Rattle.omi_model.specs.declared.item.Item.{Item}
 use Rattle.omi_model.specs.declared.item.Item.TheVariants as item
 use Rattle.omi_model.specs.Lists.{may_drop, stays, take_item}
 use Rattle.omi_model.specs.Numbers.{wait_taskwait}
-use Rattle.omi_model.specs.Rows.{barrier_items, behind, body_items, call_items, end_of_member, first_of, last_of_member, of_main, of_member, of_task, shown, working}
+use Rattle.omi_model.specs.Rows.{barrier_items, behind, body_items, call_items, end_of_member, first_of, last_of_member, main_items, member_items, task_items, shown, working}
 use Rattle.omi_model.proofs.ListLaws.{take_keeps}
 use Rattle.omi_model.proofs.Slots.{false_true}
 
@@ -86,7 +86,7 @@ module _ (b : Bool) where
     pub take_lasts : (at : Encounter) (e : Event) (xs : List Item) (y : Item) (ys : List Item) → take_item p at e xs ≡ Some (y, ys) → Lasts b xs → Lasts b (y ∷ ys)
     take_lasts at = take_keeps p at (Lasts b) drop_lasts (row_lasts at)
 
-    pub task_lasts : (f : ℕ) → Lasts b (of_task p f)
+    pub task_lasts : (f : ℕ) → Lasts b (task_items p f)
     task_lasts f = body_lasts (body_of p.funcs f) (item.Finish ∷ []) tt
 
     end_lasts : (at : Encounter) (x : Item) → Lasts b (x ∷ []) → Lasts b (end_of_member at (x ∷ []))
@@ -99,10 +99,10 @@ module _ (b : Bool) where
         go true = (refl, tt)
         go false = (refl, tt)
 
-    pub member_lasts : (at : Encounter) (f : ℕ) → Lasts b (of_member p at f)
+    pub member_lasts : (at : Encounter) (f : ℕ) → Lasts b (member_items p at f)
     member_lasts at f = working_lasts at _ (body_lasts (body_of p.funcs f) _ (end_lasts at (last_of_member at.number) (last_lasts at.number)))
 
-    pub main_lasts : b ≡ true → (at : Encounter) → Lasts b (of_main at (body_of p.funcs p.main))
+    pub main_lasts : b ≡ true → (at : Encounter) → Lasts b (main_items at (body_of p.funcs p.main))
     main_lasts im at = body_lasts (body_of p.funcs p.main) _ (end_lasts at item.Done (im, refl, tt))
 
   pub stays_lasts : (at : Encounter) (e : Event) (y : Item) (ys : List Item) → Lasts b (y ∷ ys) → Lasts b (stays at e y ys)

@@ -12,7 +12,7 @@ use Rattle.omi_model.specs.declared.item.Item.TheVariants as item
 use Rattle.omi_model.specs.LawLocks.{gives_back}
 use Rattle.omi_model.specs.Lists.{fits, may_drop, stays, take_item}
 use Rattle.omi_model.specs.Numbers.{wait_taskwait}
-use Rattle.omi_model.specs.Rows.{barrier_items, behind, body_items, call_items, end_of_member, first_of, last_of_member, of_main, of_member, of_task, shown, work_state, working}
+use Rattle.omi_model.specs.Rows.{barrier_items, behind, body_items, call_items, end_of_member, first_of, last_of_member, main_items, member_items, task_items, shown, work_state, working}
 use Rattle.omi_model.proofs.ListLaws.{take_keeps}
 use Rattle.omi_model.proofs.Slots.{false_true}
 
@@ -109,7 +109,7 @@ module _ (k w : ℕ) where
     take_back at = take_keeps p at (Gives k w) drop_back (row_back at)
 
 module _ (k : ℕ) (p : Program) where
-  pub task_back : (f : ℕ) → Gives k 0 (of_task p f)
+  pub task_back : (f : ℕ) → Gives k 0 (task_items p f)
   task_back f = body_back k 0 (body_of p.funcs f) (item.Finish ∷ []) refl
 
   end_back : (at : Encounter) (x : Item) → Gives k 0 (x ∷ []) → Gives k 0 (end_of_member at (x ∷ []))
@@ -122,10 +122,10 @@ module _ (k : ℕ) (p : Program) where
       go true = refl
       go false = refl
 
-  pub member_back : (at : Encounter) (f : ℕ) → Gives k 0 (of_member p at f)
+  pub member_back : (at : Encounter) (f : ℕ) → Gives k 0 (member_items p at f)
   member_back at f = working_back k 0 at _ (body_back k 0 (body_of p.funcs f) _ (end_back at (last_of_member at.number) (last_back at.number)))
 
-  pub main_back : (at : Encounter) → Gives k 0 (of_main at (body_of p.funcs p.main))
+  pub main_back : (at : Encounter) → Gives k 0 (main_items at (body_of p.funcs p.main))
   main_back at = body_back k 0 (body_of p.funcs p.main) _ (end_back at item.Done refl)
 
 -- ---- the two events of locks, and all others

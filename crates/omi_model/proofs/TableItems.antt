@@ -14,7 +14,7 @@ use Rattle.omi_model.specs.declared.item.Item.{Item}
 use Rattle.omi_model.specs.declared.item.Item.TheVariants as item
 use Rattle.omi_model.specs.Lists.{stays, take_item}
 use Rattle.omi_model.specs.Numbers.{dyn_var, default_device_var, idle, max_active_levels_var, nthreads_var, overhead, run_sched_var, states, wait_barrier_explicit, wait_barrier_implicit_parallel, wait_critical, wait_taskwait}
-use Rattle.omi_model.specs.Rows.{barrier_items, behind, body_items, call_items, end_of_member, first_of, last_of_member, of_main, of_member, of_task, of_worker, shown, work_state, working}
+use Rattle.omi_model.specs.Rows.{barrier_items, behind, body_items, call_items, end_of_member, first_of, last_of_member, main_items, member_items, task_items, worker_items, shown, work_state, working}
 use Rattle.omi_model.proofs.ListLaws.{take_keeps}
 
 -- a kind of schedule
@@ -122,7 +122,7 @@ module _ (p : Program) where
   pub take_right : (at : Encounter) (e : Event) (xs : List Item) (y : Item) (ys : List Item) → take_item p at e xs ≡ Some (y, ys) → AreRight xs → AreRight (y ∷ ys)
   take_right at = take_keeps p at AreRight (λ x xs may h. h.1) (row_right at)
 
-  pub task_right : (f : ℕ) → AreRight (of_task p f)
+  pub task_right : (f : ℕ) → AreRight (task_items p f)
   task_right f = body_right f (item.Finish ∷ []) (tt, tt)
 
   end_right : (at : Encounter) (x : Item) → IsItemRight x → AreRight (end_of_member at (x ∷ []))
@@ -135,13 +135,13 @@ module _ (p : Program) where
       go true = tt
       go false = tt
 
-  pub member_right : (at : Encounter) (f : ℕ) → AreRight (of_member p at f)
+  pub member_right : (at : Encounter) (f : ℕ) → AreRight (member_items p at f)
   member_right at f = working_right at _ (body_right f (end_of_member at (last_of_member at.number ∷ [])) (end_right at (last_of_member at.number) (last_right at.number)))
 
-  pub main_right : (at : Encounter) → AreRight (of_main at (body_of p.funcs p.main))
+  pub main_right : (at : Encounter) → AreRight (main_items at (body_of p.funcs p.main))
   main_right at = body_right p.main (end_of_member at (item.Done ∷ [])) (end_right at item.Done tt)
 
-pub worker_right : AreRight of_worker
+pub worker_right : AreRight worker_items
 worker_right = (tt, (tt, (tt, tt)))
 
 pub stays_right : (at : Encounter) (e : Event) (y : Item) (ys : List Item) → AreRight (y ∷ ys) → AreRight (stays at e y ys)

@@ -12,7 +12,7 @@ use Rattle.omi_model.specs.declared.item.Item.TheVariants as item
 use Rattle.omi_model.specs.LawScheduling.{passes_next}
 use Rattle.omi_model.specs.Lists.{may_drop, stays, take_item}
 use Rattle.omi_model.specs.Numbers.{wait_taskwait}
-use Rattle.omi_model.specs.Rows.{barrier_items, behind, body_items, call_items, end_of_member, first_of, last_of_member, of_main, of_member, of_task, shown, working}
+use Rattle.omi_model.specs.Rows.{barrier_items, behind, body_items, call_items, end_of_member, first_of, last_of_member, main_items, member_items, task_items, shown, working}
 use Rattle.omi_model.proofs.ListLaws.{take_keeps}
 use Rattle.omi_model.proofs.Slots.{false_true}
 
@@ -84,7 +84,7 @@ module _ (p : Program) where
   pub take_waits : (at : Encounter) (e : Event) (xs : List Item) (y : Item) (ys : List Item) → take_item p at e xs ≡ Some (y, ys) → Waits xs → Waits (y ∷ ys)
   take_waits at = take_keeps p at Waits drop_waits (row_waits at)
 
-  pub task_waits : (f : ℕ) → Waits (of_task p f)
+  pub task_waits : (f : ℕ) → Waits (task_items p f)
   task_waits f = body_waits (body_of p.funcs f) (item.Finish ∷ []) tt
 
   end_waits : (at : Encounter) (x : Item) → Waits (x ∷ []) → Waits (end_of_member at (x ∷ []))
@@ -97,10 +97,10 @@ module _ (p : Program) where
       go true = tt
       go false = tt
 
-  pub member_waits : (at : Encounter) (f : ℕ) → Waits (of_member p at f)
+  pub member_waits : (at : Encounter) (f : ℕ) → Waits (member_items p at f)
   member_waits at f = working_waits at _ (body_waits (body_of p.funcs f) _ (end_waits at (last_of_member at.number) (last_waits at.number)))
 
-  pub main_waits : (at : Encounter) → Waits (of_main at (body_of p.funcs p.main))
+  pub main_waits : (at : Encounter) → Waits (main_items at (body_of p.funcs p.main))
   main_waits at = body_waits (body_of p.funcs p.main) _ (end_waits at item.Done tt)
 
 pub stays_waits : (at : Encounter) (e : Event) (y : Item) (ys : List Item) → Waits (y ∷ ys) → Waits (stays at e y ys)

@@ -7,18 +7,18 @@ use Rattle.omi_model.specs.declared.progress.Progress.TheVariants.{Deferred, Not
 use Rattle.omi_model.specs.declared.region.Region.{Region}
 use Rattle.omi_model.specs.declared.task.Task.{Task}
 use Rattle.omi_model.specs.Reached.{Reached}
-use Rattle.omi_model.specs.Rows.{of_member, of_task}
+use Rattle.omi_model.specs.Rows.{member_items, task_items}
 use Rattle.omi_model.specs.State.{State, region_of, task_of}
 
 -- the list of a member that has not begun, by its region
 abbrev pub HasMemberList : Program → Region → Task → Type 0
 HasMemberList p r t =
-    t.list ≡ of_member p
+    t.list ≡ member_items p
     (record { debug = p.env.debug; number = t.number; level = r.levels; is_final = false })
     r.function
 
 pub record IsListRight (p : Program) (s : State) (t : Task) : Type 0 where
-  pub deferred : t.progress ≡ Deferred → t.list ≡ of_task p t.function
+  pub deferred : t.progress ≡ Deferred → t.list ≡ task_items p t.function
   pub waiting : t.progress ≡ NotBegun → (r : Region) → region_of s t.region ≡ Some r
       → HasMemberList p r t
   pub finished : t.progress ≡ Finished → t.list ≡ []

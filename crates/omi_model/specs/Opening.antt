@@ -8,7 +8,7 @@ use Rattle.omi_model.specs.declared.id.Rid.{Rid}
 use Rattle.omi_model.specs.Numbers.{work_serial, idle}
 use Rattle.omi_model.specs.declared.claim.Claim.TheVariants.{Own}
 use Rattle.omi_model.specs.declared.progress.Progress.TheVariants.{Begun}
-use Rattle.omi_model.specs.Rows.{of_main, of_worker}
+use Rattle.omi_model.specs.Rows.{main_items, worker_items}
 use Rattle.omi_model.specs.Put.{first_alone}
 use Rattle.omi_model.specs.State.{State}
 use Rattle.omi_model.specs.declared.thread.Thread.{Thread}
@@ -62,7 +62,7 @@ waiting_worker =
       claim = Own;
       wanted = 0;
       asks = [];
-      list = of_worker;
+      list = worker_items;
     }
 
 abbrev pub opening_region : Program → Region
@@ -95,7 +95,7 @@ opening_task p = record {
   tool = 0;
   progress = Begun;
   place = 0;
-  list = of_main (record { debug = p.env.debug; number = 0; level = 0; is_final = false })
+  list = main_items (record { debug = p.env.debug; number = 0; level = 0; is_final = false })
       (body_of p.funcs p.main);
 }
 

@@ -101,22 +101,22 @@ behind p at stmt.Work rest = rest
 -- ---- first lists
 
 -- the initial task: `main`, the end of member 0, and the end of the program
-abbrev pub of_main : Encounter → List Stmt → List Item
-of_main at body = body_items body (end_of_member at (item.Done ∷ []))
+abbrev pub main_items : Encounter → List Stmt → List Item
+main_items at body = body_items body (end_of_member at (item.Done ∷ []))
 
 -- a worker that has not begun
-abbrev pub of_worker : List Item
-of_worker = item.Begin ∷ item.Offer ∷ item.Serve ∷ []
+abbrev pub worker_items : List Item
+worker_items = item.Begin ∷ item.Offer ∷ item.Serve ∷ []
 
 -- the last event of a member: member 0 joins the others, and another one ends
 abbrev pub last_of_member : ℕ → Item
 last_of_member number = if number == 0 then item.Join else item.ImplicitEnd
 
 -- a member of the team of a parallel region over a function
-abbrev pub of_member : Program → Encounter → ℕ → List Item
-of_member p at f =
+abbrev pub member_items : Program → Encounter → ℕ → List Item
+member_items p at f =
     working at (function_items p f (end_of_member at (last_of_member at.number ∷ [])))
 
 -- an explicit task over a function
-abbrev pub of_task : Program → ℕ → List Item
-of_task p f = function_items p f (item.Finish ∷ [])
+abbrev pub task_items : Program → ℕ → List Item
+task_items p f = function_items p f (item.Finish ∷ [])

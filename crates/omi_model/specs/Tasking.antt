@@ -9,7 +9,7 @@ use Rattle.omi_model.specs.declared.progress.Progress.TheVariants.{Deferred, Beg
 use Rattle.omi_model.specs.Changes.{on_task, with_current, encounter}
 use Rattle.omi_model.specs.Numbers.{wait_taskwait}
 use Rattle.omi_model.specs.Put.{made}
-use Rattle.omi_model.specs.Rows.{of_task, working}
+use Rattle.omi_model.specs.Rows.{task_items, working}
 use Rattle.omi_model.specs.State.{State, task_of}
 use Rattle.omi_model.specs.declared.task.Task.{Task}
 use Rattle.omi_model.specs.Teams.{exit_below}
@@ -43,7 +43,7 @@ deferred_task p k t f is_final place = record {
   tool = 0;
   progress = Deferred;
   place = place;
-  list = of_task p f;
+  list = task_items p f;
 }
 
 abbrev pub deferred : Program → State → Tid → ℕ → Bool → ℕ → Tid → Task → State

@@ -10,7 +10,7 @@ use Rattle.omi_model.specs.Changes.{on_thread, on_task, on_region, with_current}
 use Rattle.omi_model.specs.Fresh.{IsFresh, AreDistinct}
 use Rattle.omi_model.specs.Opening.{exit_frame}
 use Rattle.omi_model.specs.Put.{Slots, made}
-use Rattle.omi_model.specs.Rows.{of_member}
+use Rattle.omi_model.specs.Rows.{member_items}
 use Rattle.omi_model.specs.State.{State, task_of}
 use Rattle.omi_model.specs.declared.thread.Thread.{Thread}
 use Rattle.omi_model.specs.declared.region.Region.{Region}
@@ -131,7 +131,7 @@ member_task p region k t r f number thread = record {
   tool = 0;
   progress = if number == 0 then Begun else NotBegun;
   place = 0;
-  list = of_member p
+  list = member_items p
       (record { debug = p.env.debug; number = number; level = r.levels + 1; is_final = false }) f;
 }
 

@@ -4,7 +4,7 @@ use Rattle.std.specs.Int.{w64}
 use Rattle.std.proofs.lemmas.Bool.{cases_lt, lt-ltb, le-ltb}
 use Rattle.std.proofs.lemmas.List.{drop-drop, length-drop, map_push}
 use Rattle.omi_corefile.specs.declared.segment.Segment.{Segment}
-use Rattle.omi_corefile.specs.Refusals.{Refusal, Step, ◌>>=◌, short, number_at, row_at, words_at, start_at, word_count_at, segment_at, Left, left_after}
+use Rattle.omi_corefile.specs.Refusals.{Refusal, ReadStep, ◌>>=◌, short, number_at, row_at, words_at, start_at, word_count_at, segment_at, Left, left_after}
 use Rattle.omi_corefile.proofs.Numbers.{bind_ok, bind_again, ok_is}
 use Rattle.omi_corefile.proofs.Readings.{bind_failed}
 use Rattle.omi_corefile.proofs.Rows.{with_front, goes_on, row_fails}
@@ -27,7 +27,7 @@ number_short len bytes at within short_of =
     let below : ltb (length (drop at bytes)) 8 ≡ true = lt-ltb _ _ (omega (arith, length-drop at bytes)) in
     rw below refl
 
-abbrev rest_of : ℕ → ℕ → ℕ × List ℕ → Step (List ℕ)
+abbrev rest_of : ℕ → ℕ → ℕ × List ℕ → ReadStep (List ℕ)
 rest_of len count first = row_at {S = ℕ} (λ s. number_at w64 len) (λ s word. s) count 0 first.1 >>= λ others. Ok (first.0 ∷ others.0, others.1)
 
 -- the words of a file that has all of them
@@ -75,7 +75,7 @@ split len left bytes start count rest e =
     }
 
 -- the words follow the bounds
-abbrev words_then : ℕ → ℕ → ℕ → List ℕ → Step Segment
+abbrev words_then : ℕ → ℕ → ℕ → List ℕ → ReadStep Segment
 words_then len start count rest = words_at len count rest >>= λ words. Ok (record { start = start; words = words.0 }, words.1)
 
 then_words : (len : ℕ) (left : Left) (bytes : List ℕ) (start count : ℕ) (rest : List ℕ) → bounds_at len left bytes ≡ Ok ((start, count), rest) → segment_at len left bytes ≡ words_then len start count rest
@@ -102,11 +102,11 @@ segment_short len left bytes at start count within short_of e =
     ∙ bind_failed (words_at len count (drop (at + 16) bytes)) (λ words. Ok (record { start = start; words = words.0 }, words.1)) (short len) (words_short len bytes (at + 16) count within short_of)
 
 -- a fault of the bounds is one of the segment
-failed_one : {A B : Type 0} (read : Step ℕ) (f : ℕ × List ℕ → A) (g : ℕ × List ℕ → Step B) (r : Refusal) → (read >>= λ c. Ok (f c)) ≡ Err r → (read >>= g) ≡ Err r
+failed_one : {A B : Type 0} (read : ReadStep ℕ) (f : ℕ × List ℕ → A) (g : ℕ × List ℕ → ReadStep B) (r : Refusal) → (read >>= λ c. Ok (f c)) ≡ Err r → (read >>= g) ≡ Err r
 failed_one (Ok c) f g r e = absurd cc
 failed_one (Err d) f g r e = let same : d ≡ r = cc in ap (λ (x : Refusal). Err x) same
 
-failed_two : {A B : Type 0} (read : Step ℕ) (next : ℕ × List ℕ → Step ℕ) (f : ℕ × List ℕ → ℕ × List ℕ → A) (g : ℕ × List ℕ → ℕ × List ℕ → Step B) (r : Refusal)
+failed_two : {A B : Type 0} (read : ReadStep ℕ) (next : ℕ × List ℕ → ReadStep ℕ) (f : ℕ × List ℕ → ℕ × List ℕ → A) (g : ℕ × List ℕ → ℕ × List ℕ → ReadStep B) (r : Refusal)
     → (read >>= λ s. next s >>= λ c. Ok (f s c)) ≡ Err r → (read >>= λ s. next s >>= g s) ≡ Err r
 failed_two (Ok s) next f g r e = failed_one (next s) (f s) (g s) r e
 failed_two (Err d) next f g r e = let same : d ≡ r = cc in ap (λ (x : Refusal). Err x) same
@@ -131,7 +131,7 @@ pub left_then : (bytes : List ℕ) (s : Span) (least room : ℕ) → left_after 
 left_then bytes s least room = ap (λ (n : ℕ). (s.start + 8 * n + 1, room - n)) (length-words_there bytes s.place s.count)
 
 -- one more segment was read
-pub segment_more : (bytes : List ℕ) (spans : List Span) (s : Span) (len count counter least room at : ℕ) (total : Step (List Segment)) → counter < count
+pub segment_more : (bytes : List ℕ) (spans : List Span) (s : Span) (len count counter least room at : ℕ) (total : ReadStep (List Segment)) → counter < count
     → segment_at len (least, room) (drop at bytes) ≡ Ok (segment_there bytes s, drop (s.place + 8 * s.count) bytes)
     → with_front (segments_there bytes spans) (row_at (segment_at len) left_after (count - counter) (least, room) (drop at bytes)) ≡ total
     → with_front (segments_there bytes (spans ++ s ∷ [])) (row_at (segment_at len) left_after (count - (counter + 1)) (s.start + 8 * s.count + 1, room - s.count) (drop (s.place + 8 * s.count) bytes)) ≡ total
@@ -141,7 +141,7 @@ segment_more bytes spans s len count counter least room at total below read so_f
     ∙ goes_on (segment_at len) left_after (segments_there bytes spans) count counter (least, room) (drop at bytes) (segment_there bytes s) (drop (s.place + 8 * s.count) bytes) total below read so_far
 
 -- a segment has a fault, or what may stand in place of any answer
-pub segments_fault : (error : PageError) (front : List Segment) (len count counter : ℕ) (left : Left) (bytes : List ℕ) (total : Step (List Segment)) → counter < count
+pub segments_fault : (error : PageError) (front : List Segment) (len count counter : ℕ) (left : Left) (bytes : List ℕ) (total : ReadStep (List Segment)) → counter < count
     → Fails error (segment_at len left bytes) → with_front front (row_at (segment_at len) left_after (count - counter) left bytes) ≡ total → Fails error total
 segments_fault (Fault at why) front len count counter left bytes total below e so_far = row_fails (core.Fault at why) (segment_at len) left_after front count counter left bytes total below e so_far
 segments_fault NoFile front len count counter left bytes total below e so_far = e

@@ -8,7 +8,7 @@ use Rattle.std.proofs.lemmas.List.{drop-drop, length-drop}
 use Rattle.omi_corefile.specs.declared.fault.CoreFault.TheVariants.{BadMagic, Version, Order, SegmentOrder, BadContext, TooLarge}
 use Rattle.omi_corefile.specs.declared.limits.TheConstants.{MOST_CONTEXTS, MOST_SEGMENTS}
 use Rattle.omi_corefile.specs.Limits.{is_start}
-use Rattle.omi_corefile.specs.Refusals.{◌>>=◌, place, short, number_at, byte_at, magic_at, version_at, order_at, context_count_at, segment_count_at, id_at, start_at, word_count_at, row_at, Header, header_at, Left}
+use Rattle.omi_corefile.specs.Refusals.{◌>>=◌, place_in_file, short, number_at, byte_at, magic_at, version_at, order_at, context_count_at, segment_count_at, id_at, start_at, word_count_at, row_at, Header, header_at, Left}
 use Rattle.omi_corefile.proofs.Numbers.{bind_ok, bind_again, passed, not_failed, ok_is, judged_taken}
 use Rattle.omi_page.specs.Bounds.{bounds_at}
 
@@ -60,10 +60,10 @@ header_took len bytes x e =
     let c = bind_ok (order_at len b.0.1) (λ order. context_count_at len order.1 >>= λ contexts. segment_count_at len contexts.1 >>= λ segments. Ok (record { order = order.0; contexts = contexts.0; segments = segments.0 }, segments.1)) x b.2 in
     let d = bind_ok (context_count_at len c.0.1) (λ contexts. segment_count_at len contexts.1 >>= λ segments. Ok (record { order = c.0.0; contexts = contexts.0; segments = segments.0 }, segments.1)) x c.2 in
     let f = bind_ok (segment_count_at len d.0.1) (λ segments. Ok (record { order = c.0.0; contexts = d.0.0; segments = segments.0 }, segments.1)) x d.2 in
-    let version_judged = judged_taken (λ v. eqb v 1) (λ v at. Version v) (place len a.0) (byte_at len a.0) b.0 b.1 in
-    let order_judged = judged_taken (λ v. eqb v 0) (λ v at. Order v) (place len b.0.1) (byte_at len b.0.1) c.0 c.1 in
-    let contexts_judged = judged_taken (λ n. leb n MOST_CONTEXTS) (λ n at. BadContext at) (place len c.0.1) (number_at w16 len c.0.1) d.0 d.1 in
-    let segments_judged = judged_taken (λ n. leb n MOST_SEGMENTS) (λ n at. SegmentOrder at) (place len d.0.1) (number_at w32 len d.0.1) f.0 f.1 in
+    let version_judged = judged_taken (λ v. eqb v 1) (λ v at. Version v) (place_in_file len a.0) (byte_at len a.0) b.0 b.1 in
+    let order_judged = judged_taken (λ v. eqb v 0) (λ v at. Order v) (place_in_file len b.0.1) (byte_at len b.0.1) c.0 c.1 in
+    let contexts_judged = judged_taken (λ n. leb n MOST_CONTEXTS) (λ n at. BadContext at) (place_in_file len c.0.1) (number_at w16 len c.0.1) d.0 d.1 in
+    let segments_judged = judged_taken (λ n. leb n MOST_SEGMENTS) (λ n at. SegmentOrder at) (place_in_file len d.0.1) (number_at w32 len d.0.1) f.0 f.1 in
     let upto_version = Took-then 8 1 bytes a.0 b.0.1 (magic_took len bytes a.0 a.1) (byte_took len a.0 b.0 version_judged.0) in
     let upto_order = Took-then 9 1 bytes b.0.1 c.0.1 upto_version (byte_took len b.0.1 c.0 order_judged.0) in
     let upto_contexts = Took-then 10 2 bytes c.0.1 d.0.1 upto_order (number_took w16 len c.0.1 d.0 contexts_judged.0) in
@@ -81,7 +81,7 @@ contexts_took len least zero bytes x e = record { long = omega arith; left = sym
 contexts_took len least (suc count) bytes x e =
     let a = bind_ok (id_at len least bytes) (λ first. row_at (id_at len) (λ least id. id + 1) count (first.0 + 1) first.1 >>= λ others. Ok (first.0 ∷ others.0, others.1)) x e in
     let b = bind_ok (row_at (id_at len) (λ least id. id + 1) count (a.0.0 + 1) a.0.1) (λ others. Ok (a.0.0 ∷ others.0, others.1)) x a.2 in
-    let judged = judged_taken (leb least) (λ n at. BadContext at) (place len bytes) (number_at w64 len bytes) a.0 a.1 in
+    let judged = judged_taken (leb least) (λ n at. BadContext at) (place_in_file len bytes) (number_at w64 len bytes) a.0 a.1 in
     let first = number_took w64 len bytes a.0 judged.0 in
     let others = contexts_took len (a.0.0 + 1) count a.0.1 b.0 b.1 in
     let both = Took-then 8 (8 * count) bytes a.0.1 b.0.1 first others in
@@ -98,8 +98,8 @@ pub bounds_took : (len : ℕ) (left : Left) (bytes : List ℕ) (x : (ℕ × ℕ)
 bounds_took len left bytes x e =
     let a = bind_ok (start_at len left.0 bytes) (λ start. word_count_at len left.1 start.1 >>= λ count. Ok ((start.0, count.0), count.1)) x e in
     let b = bind_ok (word_count_at len left.1 a.0.1) (λ count. Ok ((a.0.0, count.0), count.1)) x a.2 in
-    let start_judged = judged_taken (is_start left.0) (λ n at. SegmentOrder at) (place len bytes) (number_at w64 len bytes) a.0 a.1 in
-    let count_judged = judged_taken (λ n. ltb 0 n && leb n left.1) (λ n at. cond (eqb n 0) (SegmentOrder at) (TooLarge n)) (place len a.0.1) (number_at w64 len a.0.1) b.0 b.1 in
+    let start_judged = judged_taken (is_start left.0) (λ n at. SegmentOrder at) (place_in_file len bytes) (number_at w64 len bytes) a.0 a.1 in
+    let count_judged = judged_taken (λ n. ltb 0 n && leb n left.1) (λ n at. cond (eqb n 0) (SegmentOrder at) (TooLarge n)) (place_in_file len a.0.1) (number_at w64 len a.0.1) b.0 b.1 in
     let both = Took-then 8 8 bytes a.0.1 b.0.1 (number_took w64 len bytes a.0 start_judged.0) (number_took w64 len a.0.1 b.0 count_judged.0) in
     let made : (ℕ × ℕ) × List ℕ = ((a.0.0, b.0.0), b.0.1) in
     subst (λ (y : (ℕ × ℕ) × List ℕ). TookBounds left bytes y.0.0 y.0.1 y.1) {x = made} (ok_is made x b.2) (record { took = both; start_is = start_judged.1 })

@@ -9,7 +9,7 @@ use Rattle.omi_outside.specs.Outside.{Told as FileTold}
 use Rattle.omi_corefile.specs.Refusals.{Refusal, Parts, reading}
 use Rattle.omi_calls.specs.Told.{Words, Symbols, word_at, number_of}
 use Rattle.omi_calls.specs.SymbolTable.{symbol_in}
-use Rattle.omi_calls.specs.CoreWords.{word_of, words_of}
+use Rattle.omi_calls.specs.CoreWords.{word_of, words_of_segments}
 use Rattle.omi_page.specs.declared.span.Span.{Span}
 use Rattle.omi_page.specs.Outcomes.{Holds}
 use Rattle.omi_page.specs.Spans.{eight_at, word_there, words_there, segment_there, segments_there, place_of, place_in}
@@ -58,7 +58,7 @@ map_or f None b = refl
 map_or f (Some x) b = refl
 
 -- the word at an address is the one at its place
-pub place_words : (bytes : List ℕ) (spans : List Span) (addr : ℕ) → addr % 8 ≡ 0 → words_of (segments_there bytes spans) addr ≡ option_map (word_there bytes) (place_in spans addr)
+pub place_words : (bytes : List ℕ) (spans : List Span) (addr : ℕ) → addr % 8 ≡ 0 → words_of_segments (segments_there bytes spans) addr ≡ option_map (word_there bytes) (place_in spans addr)
 place_words bytes [] addr aligned = refl
 place_words bytes (s ∷ spans) addr aligned =
     (λ i. option_or (span_words bytes s addr aligned i) (place_words bytes spans addr aligned i))
@@ -72,7 +72,7 @@ pub record Tells (told : FileTold) (words : Words) : Type 0 where
   pub parts : Parts
   pub holds : Holds told bytes
   pub read : reading bytes ≡ Ok parts
-  pub words_are : words_of parts.segments ≡ words
+  pub words_are : words_of_segments parts.segments ≡ words
   pub order_is : (told_by_file told).order ≡ Some parts.order
 
 same_words : (a b : Words) → (let some : Words → Option Words = λ w. Some w in some a ≡ some b) → a ≡ b
@@ -88,7 +88,7 @@ by_reading bytes words (Ok parts) is e = record {
   parts = parts;
   holds = refl;
   read = is;
-  words_are = same_words (words_of parts.segments) words e;
+  words_are = same_words (words_of_segments parts.segments) words e;
   order_is = ap (λ r. (told_by_reading r).order) is;
 }
 by_reading bytes words (Err refusal) is e = absurd cc
@@ -118,7 +118,7 @@ tells_places told contexts spans words addr e parts aligned =
       bytes = t.bytes;
       holds = t.holds;
       order_is = λ order told_order. same_order order t.parts.order (sym told_order ∙ t.order_is) ∙ are.0;
-      word_is = rw test (ap (λ w. w addr) (sym t.words_are) ∙ ap (λ ss. words_of ss addr) are.2 ∙ place_words t.bytes spans addr aligned);
+      word_is = rw test (ap (λ w. w addr) (sym t.words_are) ∙ ap (λ ss. words_of_segments ss addr) are.2 ∙ place_words t.bytes spans addr aligned);
     }
 
 -- ---- the answers of a read
@@ -190,9 +190,9 @@ same_symbols a b e = ap (λ o. unwrapped o) e
 
 symbols_by : (bytes : List ℕ) (symbols : Symbols) (read : Result Parts Refusal) → reading bytes ≡ read → (told_by_reading read).symbols ≡ Some symbols → TellsSymbols (Some (Some bytes)) symbols
 symbols_by bytes symbols (Ok parts) is e = record {
-  words = words_of parts.segments;
+  words = words_of_segments parts.segments;
   told_words = ap (λ r. (told_by_reading r).words) is;
-  symbols_are = same_symbols (symbol_in (words_of parts.segments)) symbols e;
+  symbols_are = same_symbols (symbol_in (words_of_segments parts.segments)) symbols e;
 }
 symbols_by bytes symbols (Err refusal) is e = absurd cc
 

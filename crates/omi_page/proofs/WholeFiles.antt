@@ -4,7 +4,7 @@ use Rattle.std.proofs.lemmas.Bool.{eq-eqb, ne_eqb}
 use Rattle.std.proofs.lemmas.List.{length-drop}
 use Rattle.omi_corefile.specs.declared.segment.Segment.{Segment}
 use Rattle.omi_corefile.specs.declared.fault.CoreFault.TheVariants.{Trailing}
-use Rattle.omi_corefile.specs.Refusals.{Refusal, ◌>>=◌, place, contexts_at, segments_at, Header, header_at, Parts, parts_at, reading}
+use Rattle.omi_corefile.specs.Refusals.{Refusal, ◌>>=◌, place_in_file, contexts_at, segments_at, Header, header_at, Parts, parts_at, reading}
 use Rattle.omi_corefile.proofs.Numbers.{bind_again}
 use Rattle.omi_corefile.proofs.Readings.{bind_failed}
 use Rattle.omi_corefile.proofs.FileLaws.{after_header, after_contexts, after_segments, ended}
@@ -84,5 +84,5 @@ pub file_trailing : (bytes : List ℕ) (len : ℕ) (counts : Header) (ids rest :
     → segments_at len counts.segments rest ≡ Ok (segments, drop end bytes) → end < len → reading bytes ≡ Err (end, Trailing end)
 file_trailing bytes len counts ids rest segments end read e more =
     let some : eqb (length (drop end bytes)) 0 ≡ false = ne_eqb (length (drop end bytes)) 0 (λ none. omega (arith, none, length-drop end bytes, read.length_is)) in
-    let here : place len (drop end bytes) ≡ end = omega (arith, length-drop end bytes, read.length_is) in
+    let here : place_in_file len (drop end bytes) ≡ end = omega (arith, length-drop end bytes, read.length_is) in
     to_end bytes len counts ids rest (drop end bytes) segments read e ∙ rw some (ap (λ (n : ℕ). Err (n, Trailing n)) here)

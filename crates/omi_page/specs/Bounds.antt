@@ -1,10 +1,10 @@
 -- The bounds of segments, which are read without their words.
 use Rattle.std.specs.Prelude.{◌≡◌, ℕ, ◌+◌, ◌*◌, ◌≤◌, List, slice_get, Some, Ok}
-use Rattle.omi_corefile.specs.Refusals.{Step, ◌>>=◌, Left, start_at, word_count_at}
+use Rattle.omi_corefile.specs.Refusals.{ReadStep, ◌>>=◌, Left, start_at, word_count_at}
 use Rattle.omi_page.specs.declared.span.Span.{Span}
 
 -- a start address and a number of words
-abbrev pub bounds_at : ℕ → Left → List ℕ → Step (ℕ × ℕ)
+abbrev pub bounds_at : ℕ → Left → List ℕ → ReadStep (ℕ × ℕ)
 bounds_at len left bytes = do
   start ← start_at len left.0 bytes
   count ← word_count_at len left.1 start.1

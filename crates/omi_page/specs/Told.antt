@@ -3,7 +3,7 @@ use Rattle.std.specs.Prelude.{Some, None, Result, Ok, Err}
 use Rattle.omi_outside.specs.Outside.{Told as FileTold}
 use Rattle.omi_corefile.specs.Refusals.{Refusal, Parts, reading}
 use Rattle.omi_calls.specs.Told.{Told}
-use Rattle.omi_calls.specs.CoreWords.{words_of}
+use Rattle.omi_calls.specs.CoreWords.{words_of_segments}
 use Rattle.omi_calls.specs.SymbolTable.{symbol_in}
 use Rattle.omi_calls.specs.Memory.{usual_sizes}
 
@@ -15,8 +15,8 @@ told_nothing = record { order = None; words = None; symbols = None; sizes = usua
 abbrev pub told_by_reading : Result Parts Refusal → Told
 told_by_reading (Ok parts) = record {
   order = Some parts.order;
-  words = Some (words_of parts.segments);
-  symbols = Some (symbol_in (words_of parts.segments));
+  words = Some (words_of_segments parts.segments);
+  symbols = Some (symbol_in (words_of_segments parts.segments));
   sizes = usual_sizes;
 }
 told_by_reading (Err refusal) = told_nothing

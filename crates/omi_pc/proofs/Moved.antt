@@ -12,7 +12,7 @@ use Rattle.omi_pc.specs.declared.frame.Opened.{Opened}
 use Rattle.omi_pc.specs.declared.frame.Opened.TheVariants as opened
 use Rattle.omi_pc.specs.Frames.{at_start}
 use Rattle.omi_pc.specs.Fits.{Enters, Fits, FitsPlain, HasTask, HasVariables, StoresState}
-use Rattle.omi_pc.specs.Moves.{closed, closed_in, context_under, next_round, returned, returned_by, returned_in, worked, worked_at, worked_in, working}
+use Rattle.omi_pc.specs.Moves.{closed, closed_in, context_under, next_round, returned, returned_by, returned_in, worked, worked_at, worked_in, back_to_work}
 use Rattle.omi_pc.specs.OpenBodies.{AreOpen, IsAt, IsAtEnd, IsAtStart, IsCalled, IsContext, StandsOn, StartsWorking}
 use Rattle.omi_pc.specs.Settle.{goes_to}
 use Rattle.omi_pc.specs.Stacks.{opens_task}
@@ -151,7 +151,7 @@ works_by : (p : Program) (a : Actor) → HasTask p a → FitsPlain p a plain.Wor
 works_by p a task fits true = record { thread = task.thread; variables = task.variables; bodies = task.bodies; counter = fits }
 works_by p a task fits false = worked_fits p a task fits
 
-pub working_fits : (p : Program) (a : Actor) → HasTask p a → FitsPlain p a plain.WorkState → Fits p (working p a)
+pub working_fits : (p : Program) (a : Actor) → HasTask p a → FitsPlain p a plain.WorkState → Fits p (back_to_work p a)
 working_fits p a task fits = works_by p a task fits p.env.debug
 
 -- ---- bodies alone
@@ -172,5 +172,5 @@ module _ (p : Program) (a : Actor) (bodies : AreOpen p a.context a.stack) where
   works_open true = bodies
   works_open false = worked_open
 
-  pub working_open : AreOpen p (working p a).context (working p a).stack
+  pub working_open : AreOpen p (back_to_work p a).context (back_to_work p a).stack
   working_open = works_open p.env.debug

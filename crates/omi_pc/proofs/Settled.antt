@@ -16,7 +16,7 @@ use Rattle.omi_pc.specs.Frames.{advanced, at_start, body_in, next_statement}
 use Rattle.omi_pc.specs.Fits.{Fits, FitsCounter, HasTask}
 use Rattle.omi_pc.specs.Moves.{context_under}
 use Rattle.omi_pc.specs.OpenBodies.{AreOpen, IsAt, IsAtEnd, IsCalled, IsExplicit, IsMember, StandsOn}
-use Rattle.omi_pc.specs.Settle.{begun, calling, ended, ending_member, repeating, settled, settled_by, settled_in, skipping}
+use Rattle.omi_pc.specs.Settle.{statement_begun, calling, ended, ending_member, repeating, settled, settled_by, settled_in, skipping}
 use Rattle.omi_pc.specs.declared.gathered.Gathered.{Gathered}
 use Rattle.omi_pc.specs.declared.limits.TheConstants.{VARIABLE_WORDS}
 use Rattle.omi_pc.proofs.Unmoved.{settled_differs}
@@ -89,7 +89,7 @@ module _ (p : Program) (a : Actor) (f : Frame) (fs : List Frame) (bodies : AreOp
         counter = (refl, refl);
       }
 
-  begun_fits : (s : Stmt) → IsAt p (f ∷ fs) s → Comes p (begun s there)
+  begun_fits : (s : Stmt) → IsAt p (f ∷ fs) s → Comes p (statement_begun s there)
   begun_fits (stmt.Parallel g num) at = record { bodies = bodies; counter = (stmt.Parallel g num, at, tt) }
   begun_fits (stmt.Task g undeferred final) at = record { bodies = bodies; counter = (stmt.Task g undeferred final, at, tt) }
   begun_fits stmt.Taskwait at = record { bodies = bodies; counter = (stmt.Taskwait, at, tt) }

@@ -11,8 +11,8 @@ use Rattle.omi_pc.specs.declared.frame.Opened.{Opened}
 use Rattle.omi_pc.specs.declared.frame.Opened.TheVariants as opened
 use Rattle.omi_pc.specs.FitLaws.{DifferInBodies}
 use Rattle.omi_pc.specs.Frames.{advanced, next_statement}
-use Rattle.omi_pc.specs.Moves.{next_round, returned, returned_by, returned_in, worked, worked_at, worked_in, working}
-use Rattle.omi_pc.specs.Settle.{begun, calling, ended, goes_to, repeating, settled, settled_by, settled_in, skipping}
+use Rattle.omi_pc.specs.Moves.{next_round, returned, returned_by, returned_in, worked, worked_at, worked_in, back_to_work}
+use Rattle.omi_pc.specs.Settle.{statement_begun, calling, ended, goes_to, repeating, settled, settled_by, settled_in, skipping}
 
 -- another counter and other bodies
 same : (a : Actor) (c : Counter) (fs : List Frame) → DifferInBodies a (record a { counter = c; stack = fs })
@@ -30,7 +30,7 @@ module _ (a : Actor) (fs : List Frame) where
   repeat_differs zero g = same a _ _
   repeat_differs (suc n) g = same a _ _
 
-  begun_differs : (s : Stmt) → DifferInBodies a (begun s there)
+  begun_differs : (s : Stmt) → DifferInBodies a (statement_begun s there)
   begun_differs (stmt.Parallel g num) = same a _ _
   begun_differs (stmt.Task g undeferred final) = same a _ _
   begun_differs stmt.Taskwait = same a _ _
@@ -110,5 +110,5 @@ works_by : (p : Program) (a : Actor) (debug : Bool) → DifferInBodies a (cond d
 works_by p a true = same a _ _
 works_by p a false = worked_differs p a
 
-pub working_differs : (p : Program) (a : Actor) → DifferInBodies a (working p a)
+pub working_differs : (p : Program) (a : Actor) → DifferInBodies a (back_to_work p a)
 working_differs p a = works_by p a p.env.debug

@@ -8,7 +8,7 @@ use Rattle.omi_pc.specs.declared.frame.Frame.{Frame}
 use Rattle.omi_pc.specs.declared.frame.Opened.{Opened}
 use Rattle.omi_pc.specs.Frames.{at_start}
 use Rattle.omi_pc.specs.Fits.{Fits, FitsPlain, HasTask}
-use Rattle.omi_pc.specs.Moves.{closed, context_under, returned, worked, working}
+use Rattle.omi_pc.specs.Moves.{closed, context_under, returned, worked, back_to_work}
 use Rattle.omi_pc.specs.OpenBodies.{AreOpen, IsContext, StandsOn}
 use Rattle.omi_pc.specs.Opening.{opening_actor}
 use Rattle.omi_pc.specs.Settle.{settled}
@@ -26,7 +26,7 @@ MovesChangeBodies =
     → DifferInBodies a (settled p a)
     × DifferInBodies a (returned p a)
     × DifferInBodies a (worked p a)
-    × DifferInBodies a (working p a)
+    × DifferInBodies a (back_to_work p a)
 
 abbrev pub OpeningFits : Type 0
 OpeningFits = (p : Program) (thread : ℕ) → thread < p.threads → Fits p (opening_actor p thread)
@@ -43,7 +43,7 @@ ReturningFits =
 -- where a working state may be stored
 abbrev pub WorkingFits : Type 0
 WorkingFits =
-    (p : Program) (a : Actor) → HasTask p a → FitsPlain p a plain.WorkState → Fits p (working p a)
+    (p : Program) (a : Actor) → HasTask p a → FitsPlain p a plain.WorkState → Fits p (back_to_work p a)
 
 -- and behind its store
 abbrev pub GoingOnFits : Type 0

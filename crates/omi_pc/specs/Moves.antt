@@ -90,5 +90,5 @@ abbrev pub worked : Program → Actor → Actor
 worked p a = worked_in p a.stack a
 
 -- the thread works again. Its state is stored first where states are kept
-abbrev pub working : Program → Actor → Actor
-working p a = if p.env.debug then goes_to plain.WorkState a else worked p a
+abbrev pub back_to_work : Program → Actor → Actor
+back_to_work p a = if p.env.debug then goes_to plain.WorkState a else worked p a

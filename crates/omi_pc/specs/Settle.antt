@@ -47,23 +47,23 @@ abbrev pub setting : Actor → Actor
 setting a = goes_to plain.Set a
 
 -- a statement begins
-abbrev pub begun : Stmt → Actor → Actor
-begun (stmt.Parallel f num) a = entering a
-begun (stmt.Task f undeferred final) a = entering a
-begun stmt.Taskwait a = entering a
-begun stmt.Taskyield a = entering a
-begun stmt.Barrier a = entering a
-begun (stmt.Critical k f) a = entering a
-begun (stmt.Call f) a = calling f opened.Call a
-begun (stmt.Only m f) a = calling_only m f a
-begun (stmt.Repeat n f) a = repeating n f a
-begun (stmt.SetNumThreads n) a = setting a
-begun (stmt.SetDynamic b) a = setting a
-begun (stmt.SetMaxActive n) a = setting a
-begun (stmt.SetSchedule s) a = setting a
-begun (stmt.SetDevice d) a = setting a
-begun (stmt.Tool x) a = goes_to plain.Tool a
-begun stmt.Work a = goes_to plain.Work a
+abbrev pub statement_begun : Stmt → Actor → Actor
+statement_begun (stmt.Parallel f num) a = entering a
+statement_begun (stmt.Task f undeferred final) a = entering a
+statement_begun stmt.Taskwait a = entering a
+statement_begun stmt.Taskyield a = entering a
+statement_begun stmt.Barrier a = entering a
+statement_begun (stmt.Critical k f) a = entering a
+statement_begun (stmt.Call f) a = calling f opened.Call a
+statement_begun (stmt.Only m f) a = calling_only m f a
+statement_begun (stmt.Repeat n f) a = repeating n f a
+statement_begun (stmt.SetNumThreads n) a = setting a
+statement_begun (stmt.SetDynamic b) a = setting a
+statement_begun (stmt.SetMaxActive n) a = setting a
+statement_begun (stmt.SetSchedule s) a = setting a
+statement_begun (stmt.SetDevice d) a = setting a
+statement_begun (stmt.Tool x) a = goes_to plain.Tool a
+statement_begun stmt.Work a = goes_to plain.Work a
 
 -- ---- the end of a body
 
@@ -92,7 +92,7 @@ ended debug (opened.Critical k) a = goes_to plain.Return a
 
 -- in the body of a frame, with these frames outside it
 abbrev pub settled_by : Program → Actor → Frame → List Frame → Option Stmt → Actor
-settled_by p a f fs (Some s) = begun s (record a { stack = advanced f ∷ fs })
+settled_by p a f fs (Some s) = statement_begun s (record a { stack = advanced f ∷ fs })
 settled_by p a f fs None = ended p.env.debug f.opened a
 
 abbrev pub settled_in : Program → Actor → List Frame → Actor

@@ -3,7 +3,7 @@
 ghost use Rattle.std.specs.Prelude.{◌≡◌, ◌<◌, length};
 ghost use Rattle.omi_pc.specs.Frames.{statement_of, without_top};
 ghost use Rattle.omi_pc.specs.declared.limits.TheConstants.{STACK_ROOM};
-ghost use Rattle.omi_pc.specs.Moves.{begun_explicit, begun_master, begun_task, begun_worker, closed, next_round, returned, worked, working};
+ghost use Rattle.omi_pc.specs.Moves.{begun_explicit, begun_master, begun_task, begun_worker, closed, next_round, returned, worked, back_to_work};
 ghost use Rattle.omi_pc.specs.OpenBodies.{AreOpen};
 
 use crate::settle::statement_at;
@@ -134,7 +134,7 @@ impl Actor {
     /// step.
     pub fn work(&mut self, p: &Program)
         requires { AreOpen p.now self.old.context self.old.stack }
-        ensures { self.new ≡ working p.now self.old }
+        ensures { self.new ≡ back_to_work p.now self.old }
     {
         if p.env.debug {
             self.go_to(PlainCounter::WorkState);

@@ -4,7 +4,7 @@ ghost use Rattle.std.specs.Prelude.{◌≡◌, ◌<◌, length, slice_get};
 ghost use Rattle.omi_script.specs.Bodies.{body_of};
 ghost use Rattle.omi_pc.specs.declared.limits.TheConstants.{STACK_ROOM};
 ghost use Rattle.omi_pc.specs.OpenBodies.{AreOpen};
-ghost use Rattle.omi_pc.specs.Settle.{begun, calling, ended, ending_member, goes_to, repeating, settled, calling_only};
+ghost use Rattle.omi_pc.specs.Settle.{statement_begun, calling, ended, ending_member, goes_to, repeating, settled, calling_only};
 
 use crate::{Actor, Barrier, BarrierCounter, Counter, FinishCounter, Frame, Opened, PlainCounter};
 use omi_script::{Program, Stmt};
@@ -64,7 +64,7 @@ impl Actor {
     /// A statement begins.
     fn begin(&mut self, s: Stmt)
         requires { length self.old.stack < STACK_ROOM }
-        ensures { self.new ≡ begun s self.old }
+        ensures { self.new ≡ statement_begun s self.old }
     {
         match s {
             Stmt::Parallel { .. }

@@ -20,7 +20,7 @@ use Rattle.omi_pc.specs.declared.task_counter.TaskCounter.TheVariants as task
 use Rattle.omi_pc.specs.declared.team_counter.BarrierCounter.TheVariants as barrier
 use Rattle.omi_pc.specs.declared.team_counter.TeamCounter.TheVariants as team
 use Rattle.omi_pc.specs.Fits.{Enters, Fits, FitsCounter, FitsPlain, HasTask, IsAtSome, IsCritical, StoresState}
-use Rattle.omi_pc.specs.Moves.{working}
+use Rattle.omi_pc.specs.Moves.{back_to_work}
 use Rattle.omi_pc.specs.OpenBodies.{AreOpen, IsAt, IsAtEnd, IsAtStart, StartsWorking}
 use Rattle.omi_pc.specs.Settle.{settled}
 use Rattle.omi_pc.proofs.Moved.{returned_fits, worked_fits, working_fits}
@@ -114,7 +114,7 @@ module _ (p : Program) (a : Actor) (fits : Fits p a) where
 
   -- ---- all counters
 
-  locks_by : (b : Bool) → IsAtSome p a IsCritical → Fits p (cond b (working p a) a)
+  locks_by : (b : Bool) → IsAtSome p a IsCritical → Fits p (cond b (back_to_work p a) a)
   locks_by true at =
       working_fits p a (has_task (some_at p a.stack at.0 at.1)) (inr (at.0, at.1, critical_stores at.0 at.2))
   locks_by false at = fits

@@ -13,8 +13,8 @@ use Rattle.omi_pc.specs.declared.frame.Frame.{Frame}
 use Rattle.omi_pc.specs.declared.frame.Opened.{Opened}
 use Rattle.omi_pc.specs.declared.frame.Opened.TheVariants as opened
 use Rattle.omi_pc.specs.Frames.{advanced, at_start, next_statement, statement_of}
-use Rattle.omi_pc.specs.Moves.{context_under, next_round, returned_by, returned_in, worked, worked_at, worked_in, working}
-use Rattle.omi_pc.specs.Settle.{begun, calling, ended, ending_member, goes_to, repeating, settled, settled_by, settled_in, skipping}
+use Rattle.omi_pc.specs.Moves.{context_under, next_round, returned_by, returned_in, worked, worked_at, worked_in, back_to_work}
+use Rattle.omi_pc.specs.Settle.{statement_begun, calling, ended, ending_member, goes_to, repeating, settled, settled_by, settled_in, skipping}
 use Rattle.omi_plain.specs.PlainSteps.{behind_enter, left_behind, plain_moved, task_counter}
 use Rattle.omi_plain.specs.StepLaws.{PlainStepsStayPlaced}
 use Rattle.omi_step_words.specs.Placed.{AreContextsPlaced, IsPlaced, IsPlacedCounter}
@@ -34,7 +34,7 @@ module _ (p : Program) (w : List ℕ) where
     repeat_placed zero g = record { bodies = all; counter = tt }
     repeat_placed (suc n) g = record { bodies = (all.0, all); counter = tt }
 
-    begun_placed : (s : Stmt) → IsPlaced w (begun s there)
+    begun_placed : (s : Stmt) → IsPlaced w (statement_begun s there)
     begun_placed (stmt.Parallel g num) = record { bodies = all; counter = tt }
     begun_placed (stmt.Task g undeferred final) = record { bodies = all; counter = tt }
     begun_placed stmt.Taskwait = record { bodies = all; counter = tt }
@@ -125,7 +125,7 @@ module _ (p : Program) (w : List ℕ) where
     works_by true = record { bodies = at.bodies; counter = tt }
     works_by false = works_in a.stack
 
-    locks_by : (free : Bool) → IsPlaced w (cond free (working p a) a)
+    locks_by : (free : Bool) → IsPlaced w (cond free (back_to_work p a) a)
     locks_by true = works_by p.env.debug
     locks_by false = at
 

@@ -27,7 +27,7 @@ use Rattle.omi_pc.specs.declared.task_counter.LookCounter.TheVariants as look
 use Rattle.omi_pc.specs.declared.task_counter.TaskCounter.TheVariants as task
 use Rattle.omi_pc.specs.declared.team_counter.BarrierCounter.TheVariants as barrier
 use Rattle.omi_pc.specs.declared.team_counter.TeamCounter.TheVariants as team
-use Rattle.omi_pc.specs.Moves.{returned, worked, working}
+use Rattle.omi_pc.specs.Moves.{returned, worked, back_to_work}
 use Rattle.omi_pc.specs.Settle.{calling, goes_to, settled}
 use Rattle.omi_pc.specs.Stacks.{function_of}
 use Rattle.omi_plain.specs.Statements.{in_work, lock_in, set_address, set_number, set_word, tool_in}
@@ -56,8 +56,8 @@ abbrev pub is_initial : Rid → Bool
 is_initial n = n.0.creator == 0 && (n.0.slot == 0 && n.0.generation == 0)
 
 -- the state of a thread that works: serially in the initial region, and in parallel in any other
-abbrev pub work_state : Actor → ℕ
-work_state a = if is_initial a.context.region then work_serial else work_parallel
+abbrev pub actor_work_state : Actor → ℕ
+actor_work_state a = if is_initial a.context.region then work_serial else work_parallel
 
 -- the wait id of a thread that waits for a lock
 abbrev pub lock_wait : ℕ → ℕ
@@ -73,7 +73,7 @@ plain_next p w a plain.Tool = op.Store (of_task w a.context.task TaskTool) (tool
 plain_next p w a plain.Enter = op.Store (of_task w a.context.task TaskEnter) (enter_word a)
 plain_next p w a plain.Leave = op.Store (of_task w a.context.task TaskEnter) 0
 plain_next p w a plain.WorkState =
-    op.Store (of_thread w a.thread ThreadState) (state_word (work_state a) 0)
+    op.Store (of_thread w a.thread ThreadState) (state_word (actor_work_state a) 0)
 plain_next p w a plain.LockState =
     op.Store (of_thread w a.thread ThreadState)
     (state_word wait_critical (lock_wait (lock_in (in_work p a))))
@@ -103,20 +103,20 @@ behind_enter debug final (Some (stmt.Critical k f)) =
     counter.Plain (if debug then plain.LockState else plain.Lock)
 behind_enter debug final _ = counter.Plain plain.Enter
 
-abbrev pub entered : Program → Actor → Actor
-entered p a = record a { counter = behind_enter p.env.debug a.context.is_final (in_work p a) }
+abbrev pub past_enter : Program → Actor → Actor
+past_enter p a = record a { counter = behind_enter p.env.debug a.context.is_final (in_work p a) }
 
 -- the current task has left the runtime: the body of a critical region begins, and any other statement is over
 abbrev pub left_behind : Program → Option Stmt → Actor → Actor
 left_behind p (Some (stmt.Critical k f)) a = calling f (opened.Critical k) a
 left_behind p _ a = settled p a
 
-abbrev pub left : Program → Actor → Actor
-left p a = left_behind p (in_work p a) a
+abbrev pub past_leave : Program → Actor → Actor
+past_leave p a = left_behind p (in_work p a) a
 
 -- the word of a lock was compared: the thread holds the lock now where no thread held it
 abbrev pub locked : Program → ℕ → Actor → Actor
-locked p old a = if old == 0 then working p a else a
+locked p old a = if old == 0 then back_to_work p a else a
 
 -- where the step found the word `old`
 abbrev pub plain_moved : Program → Actor → PlainCounter → ℕ → Actor
@@ -126,8 +126,8 @@ plain_moved p a plain.Skip old = settled p a
 plain_moved p a plain.Return old = returned p a
 plain_moved p a plain.Set old = settled p a
 plain_moved p a plain.Tool old = settled p a
-plain_moved p a plain.Enter old = entered p a
-plain_moved p a plain.Leave old = left p a
+plain_moved p a plain.Enter old = past_enter p a
+plain_moved p a plain.Leave old = past_leave p a
 plain_moved p a plain.WorkState old = worked p a
 plain_moved p a plain.LockState old = goes_to plain.Lock a
 plain_moved p a plain.Lock old = locked p old a
@@ -153,7 +153,7 @@ plain_outcome p w a plain.Set old = set_outcome (in_work p a)
 plain_outcome p w a plain.Tool old = outcome.Event (event.SetTool (tool_in (in_work p a)))
 plain_outcome p w a plain.Enter old = outcome.Event event.Enter
 plain_outcome p w a plain.Leave old = outcome.Event event.Leave
-plain_outcome p w a plain.WorkState old = outcome.Event (event.State (work_state a) 0)
+plain_outcome p w a plain.WorkState old = outcome.Event (event.State (actor_work_state a) 0)
 plain_outcome p w a plain.LockState old =
     outcome.Event (event.State wait_critical (lock_wait (lock_in (in_work p a))))
 plain_outcome p w a plain.Lock old = lock_outcome w (lock_in (in_work p a)) old

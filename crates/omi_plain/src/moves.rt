@@ -5,7 +5,7 @@ ghost use Rattle.omi_pc.specs.Fits.{Fits};
 ghost use Rattle.omi_pc.specs.OpenBodies.{AreOpen};
 ghost use Rattle.omi_pc.specs.declared.counter.Counter.TheVariants as counter;
 ghost use Rattle.omi_plain.specs.PlainSteps;
-ghost use Rattle.omi_plain.specs.PlainSteps.{entered, left, locked, plain_moved};
+ghost use Rattle.omi_plain.specs.PlainSteps.{past_enter, past_leave, locked, plain_moved};
 
 use omi_pc::{
     Actor, Barrier, BarrierCounter, Counter, LookCounter, Opened, PlainCounter, TaskCounter,
@@ -65,7 +65,7 @@ fn behind_enter(debug: bool, is_final: bool, s: Option<Stmt>) -> Counter
 
 /// The current task has entered the runtime.
 fn enter(p: &Program, a: &mut Actor)
-    ensures { a.new ≡ entered p.now a.old }
+    ensures { a.new ≡ past_enter p.now a.old }
 {
     a.counter = behind_enter(p.env.debug, a.context.is_final, a.statement(p));
 }
@@ -73,7 +73,7 @@ fn enter(p: &Program, a: &mut Actor)
 /// The current task has left the runtime.
 fn leave(p: &Program, a: &mut Actor)
     requires { AreOpen p.now a.old.context a.old.stack }
-    ensures { a.new ≡ left p.now a.old }
+    ensures { a.new ≡ past_leave p.now a.old }
 {
     stacks_have_room();
     match a.statement(p) {

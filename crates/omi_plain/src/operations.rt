@@ -57,7 +57,7 @@ fn is_initial(n: Rid) -> bool
 
 /// The state of a thread that works.
 pub fn work_state(a: &Actor) -> u32
-    ensures value { result ≡ PlainSteps.work_state a.now }
+    ensures value { result ≡ PlainSteps.actor_work_state a.now }
     ensures small { result < 65536 }
 {
     if is_initial(a.context.region) {

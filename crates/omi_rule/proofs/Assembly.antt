@@ -24,7 +24,7 @@ use Rattle.omi_model.proofs.Slots.{found_live, id_same, none_some, put_other, so
 use Rattle.omi_layout.specs.declared.field.Field.{Field}
 use Rattle.omi_layout.specs.declared.field.Field.TheVariants.{RegionLeft, TaskSlots, ThreadAssign}
 use Rattle.omi_layout.specs.Field.{kind_of, regions, runtime, tasks, threads}
-use Rattle.omi_layout.specs.Memory.{Made, Memory, Rec, put, with_word}
+use Rattle.omi_layout.specs.Memory.{Made, Memory, Rec, replace_at, with_word}
 use Rattle.omi_layout.specs.Named.{number}
 use Rattle.omi_layout.specs.Valid.{IsValid}
 use Rattle.omi_layout.proofs.Puts.{each_put, record_stays, word_back, word_stays}
@@ -236,9 +236,9 @@ module _ (p : Program) (w : List ℕ) (m n : Memory) (events later : List (ℕ �
       }
 
   -- the own thread has another actor, and the others theirs. What they have in their hands is what the words after the step say
-  pub all_threads : (a : Actor) → KeepsWords w n u (all_owed (put actors i a)) → ((x : ℕ × Event) → Contains events x → Contains later x) → ((j : ℕ) → j ≢ i → Spares m n s j (actors j))
+  pub all_threads : (a : Actor) → KeepsWords w n u (all_owed (replace_at actors i a)) → ((x : ℕ × Event) → Contains events x → Contains later x) → ((j : ℕ) → j ≢ i → Spares m n s j (actors j))
       → ((j : ℕ) → j < s.count → j ≢ i → (c : BarrierCounter) → (actors j).counter ≡ counter.Barrier c → KeepsBarrierRow s (actors j) c → KeepsBarrierRow u (actors j) c)
-      → KeepsThread p w n later u i a → (j : ℕ) → j < u.count → KeepsThread p w n later u j (put actors i a j)
+      → KeepsThread p w n later u i a → (j : ℕ) → j < u.count → KeepsThread p w n later u j (replace_at actors i a j)
   all_threads a words more spares barriers own j known = go (j == i) refl
     where
       go : (b : Bool) → j == i ≡ b → KeepsThread p w n later u j (if b then a else actors j)
@@ -255,9 +255,9 @@ module _ (p : Program) (w : List ℕ) (m : Memory) (events : List (ℕ × Event)
   rule = before.rule
 
   -- no event: the state stays
-  quiet_rule : (n : Memory) (a : Actor) → KeepsWords w n s (all_owed (put actors i a)) → ((j : ℕ) → j ≢ i → Spares m n s j (actors j)) → KeepsThread p w n events s i a → Rule p w n (events ++ []) s (put actors i a)
+  quiet_rule : (n : Memory) (a : Actor) → KeepsWords w n s (all_owed (replace_at actors i a)) → ((j : ℕ) → j ≢ i → Spares m n s j (actors j)) → KeepsThread p w n events s i a → Rule p w n (events ++ []) s (replace_at actors i a)
   quiet_rule n a words spares own =
-      subst (λ (xs : List (ℕ × Event)). Rule p w n xs s (put actors i a)) (sym (append-nil events))
+      subst (λ (xs : List (ℕ × Event)). Rule p w n xs s (replace_at actors i a)) (sym (append-nil events))
       (record {
         reached = rule.reached;
         within = rule.within;
@@ -266,14 +266,14 @@ module _ (p : Program) (w : List ℕ) (m : Memory) (events : List (ℕ × Event)
         threads = all_threads p w m n events events s s actors i rule (same_state s i) (names_same s) a words (λ x there. there) spares (λ j known other c at o. o) own;
       })
 
-  pub quiet_keeps : (o : Op) (x : RecordWord) (after : Actor × Outcome) → after.1 ≡ outcome.Quiet → KeepsWords w (left_in m o x) s (all_owed (put actors i after.0))
+  pub quiet_keeps : (o : Op) (x : RecordWord) (after : Actor × Outcome) → after.1 ≡ outcome.Quiet → KeepsWords w (left_in m o x) s (all_owed (replace_at actors i after.0))
       → ((j : ℕ) → j ≢ i → Spares m (left_in m o x) s j (actors j)) → KeepsThread p w (left_in m o x) events s i after.0 → KeepsRule p w m events s actors i o x after
   quiet_keeps o x (a, out) is words spares own =
       subst (λ (y : Outcome). KeepsRule p w m events s actors i o x (a, y)) (sym is)
       (record { next = s; leads = refl; comes = tt; rule = quiet_rule (left_in m o x) a words spares own })
 
   pub waits_keep : (o : Op) (x : RecordWord) (after : Actor × Outcome) (address : ℕ) → after.1 ≡ outcome.NotReady address (found_in m x) → Waits w s i address (found_in m x) → Compares o → address ≡ address_of o
-      → KeepsWords w (left_in m o x) s (all_owed (put actors i after.0)) → ((j : ℕ) → j ≢ i → Spares m (left_in m o x) s j (actors j)) → KeepsThread p w (left_in m o x) events s i after.0
+      → KeepsWords w (left_in m o x) s (all_owed (replace_at actors i after.0)) → ((j : ℕ) → j ≢ i → Spares m (left_in m o x) s j (actors j)) → KeepsThread p w (left_in m o x) events s i after.0
       → KeepsRule p w m events s actors i o x after
   waits_keep o x (a, out) address is waits compares there words spares own =
       subst (λ (y : Outcome). KeepsRule p w m events s actors i o x (a, y)) (sym is)
@@ -281,7 +281,7 @@ module _ (p : Program) (w : List ℕ) (m : Memory) (events : List (ℕ × Event)
 
   -- an event: `u` is the next state
   pub event_keeps : (o : Op) (x : RecordWord) (after : Actor × Outcome) (e : Event) (u : State) → after.1 ≡ outcome.Event e → Step p s i e u → CommitsAt w s i e o
-      → AreWithin w regions u.regions → AreWithin w tasks u.tasks → AreNewMembers p u → KeepsWords w (left_in m o x) u (all_owed (put actors i after.0))
+      → AreWithin w regions u.regions → AreWithin w tasks u.tasks → AreNewMembers p u → KeepsWords w (left_in m o x) u (all_owed (replace_at actors i after.0))
       → ((j : ℕ) → j ≢ i → Spares m (left_in m o x) s j (actors j)) → KeepsThread p w (left_in m o x) (events ++ (i, e) ∷ []) u i after.0 → KeepsRule p w m events s actors i o x after
   event_keeps o x (a, out) e u is step commits in_regions in_tasks waiting words spares own =
       let leaves : LeavesOthers s u i = events_leave_others p events s rule.reached i e u step in
@@ -302,7 +302,7 @@ module _ (p : Program) (w : List ℕ) (m : Memory) (events : List (ℕ × Event)
 
   -- an event that makes no object
   pub plain_event_keeps : (o : Op) (x : RecordWord) (after : Actor × Outcome) (e : Event) (u : State) → (Makes e → ⊥) → after.1 ≡ outcome.Event e → Step p s i e u → CommitsAt w s i e o
-      → AreNewMembers p u → KeepsWords w (left_in m o x) u (all_owed (put actors i after.0))
+      → AreNewMembers p u → KeepsWords w (left_in m o x) u (all_owed (replace_at actors i after.0))
       → ((j : ℕ) → j ≢ i → Spares m (left_in m o x) s j (actors j)) → KeepsThread p w (left_in m o x) (events ++ (i, e) ∷ []) u i after.0 → KeepsRule p w m events s actors i o x after
   plain_event_keeps o x after e u not is step commits waiting words spares own =
       let none = nothing_new p s i e u not step in

@@ -10,9 +10,9 @@ use Rattle.omi_pc.specs.declared.frame.Frame.{Frame}
 use Rattle.omi_pc.specs.declared.frame.Opened.{Opened}
 use Rattle.omi_pc.specs.declared.frame.Opened.TheVariants as opened
 use Rattle.omi_pc.specs.Frames.{advanced, at_start, next_statement, started_again}
-use Rattle.omi_pc.specs.Moves.{next_round, returned, returned_by, returned_in, worked, worked_at, worked_in, working}
+use Rattle.omi_pc.specs.Moves.{next_round, returned, returned_by, returned_in, worked, worked_at, worked_in, back_to_work}
 use Rattle.omi_pc.specs.OpenBodies.{IsCalled}
-use Rattle.omi_pc.specs.Settle.{begun, calling, ended, goes_to, settled, settled_by, settled_in, skipping}
+use Rattle.omi_pc.specs.Settle.{statement_begun, calling, ended, goes_to, settled, settled_by, settled_in, skipping}
 
 -- a fact of open bodies that a call and a return leave, and that does not name positions
 pub record IsOfBodies (P : Context → List Frame → Type 0) : Type 0 where
@@ -29,7 +29,7 @@ module _ (P : Context → List Frame → Type 0) (laws : IsOfBodies P) (p : Prog
   called g o a f fs is c x =
       subst (λ (y : List Frame). P a.context (at_start g o ∷ y)) (sym is) (laws.calls a.context g o f fs c (subst (P a.context) is x))
 
-  begins : (s : Stmt) (a : Actor) (f : Frame) (fs : List Frame) → a.stack ≡ f ∷ fs → Of a → Of (begun s a)
+  begins : (s : Stmt) (a : Actor) (f : Frame) (fs : List Frame) → a.stack ≡ f ∷ fs → Of a → Of (statement_begun s a)
   begins (stmt.Parallel g num) a f fs is o = o
   begins (stmt.Task g undeferred final) a f fs is o = o
   begins stmt.Taskwait a f fs is o = o
@@ -83,7 +83,7 @@ module _ (P : Context → List Frame → Type 0) (laws : IsOfBodies P) (p : Prog
           by zero = settled_of a o
           by (suc n) = o
 
-  pub working_of : (a : Actor) → Of a → Of (working p a)
+  pub working_of : (a : Actor) → Of a → Of (back_to_work p a)
   working_of a o = go p.env.debug
     where
       go : (d : Bool) → Of (if d then goes_to plain.WorkState a else worked p a)

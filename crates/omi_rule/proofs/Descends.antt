@@ -20,7 +20,7 @@ use Rattle.omi_model.specs.Lists.{may_drop, stays, take_item}
 use Rattle.omi_model.specs.Numbers.{wait_taskwait}
 use Rattle.omi_model.specs.Opening.{opening}
 use Rattle.omi_model.specs.Reached.{Reached, Step}
-use Rattle.omi_model.specs.Rows.{barrier_items, behind, body_items, call_items, first_of, function_items, last_of_member, of_main, of_member, of_task, shown, working}
+use Rattle.omi_model.specs.Rows.{barrier_items, behind, body_items, call_items, first_of, function_items, last_of_member, main_items, member_items, task_items, shown, working}
 use Rattle.omi_model.specs.State.{State, region_of, task_of}
 use Rattle.omi_model.specs.Tasking.{deferred_task, scheduled}
 use Rattle.omi_model.proofs.EachObject.{EachTask, IsTaskLaw, list_of_current, over_events, start_list, stays_after, task_step_from}
@@ -115,7 +115,7 @@ module _ (p : Program) where
   take_below : (f : ℕ) (at : Encounter) (e : Event) (xs : List Item) (y : Item) (ys : List Item) → take_item p at e xs ≡ Some (y, ys) → Below f xs → Below f (y ∷ ys)
   take_below f at = take_keeps p at (Below f) (drop_below f) (row_below f at)
 
-  task_below : (f : ℕ) → Below f (of_task p f)
+  task_below : (f : ℕ) → Below f (task_items p f)
   task_below f = function_below f f (item.Finish ∷ []) (omega arith) tt
 
   last_below : (f n : ℕ) → Below f (last_of_member n ∷ [])
@@ -125,10 +125,10 @@ module _ (p : Program) where
       go true = tt
       go false = tt
 
-  member_below : (at : Encounter) (f : ℕ) → Below f (of_member p at f)
+  member_below : (at : Encounter) (f : ℕ) → Below f (member_items p at f)
   member_below at f = working_below f at _ (function_below f f _ (omega arith) (barrier_below f at _ (last_of_member at.number ∷ []) (last_below f at.number)))
 
-  main_below : (at : Encounter) → Below p.main (of_main at (body_of p.funcs p.main))
+  main_below : (at : Encounter) → Below p.main (main_items at (body_of p.funcs p.main))
   main_below at = function_below p.main p.main _ (omega arith) (barrier_below p.main at _ (item.Done ∷ []) tt)
 
 stays_below : (f : ℕ) (at : Encounter) (e : Event) (y : Item) (ys : List Item) → Below f (y ∷ ys) → Below f (stays at e y ys)

@@ -10,13 +10,13 @@ use Rattle.omi_pc.specs.declared.frame.Opened.{Opened}
 use Rattle.omi_pc.specs.declared.frame.Opened.TheVariants as opened
 use Rattle.omi_pc.specs.Frames.{advanced, next_statement}
 use Rattle.omi_pc.specs.Moves.{worked, worked_at, worked_in}
-use Rattle.omi_pc.specs.Settle.{begun, calling, ended, settled, settled_by, settled_in, skipping}
+use Rattle.omi_pc.specs.Settle.{statement_begun, calling, ended, settled, settled_by, settled_in, skipping}
 
 -- an actor at another counter
 abbrev pub at_counter : Counter → Actor → Actor
 at_counter x a = record a { counter = x }
 
-begun_forgets : (s : Stmt) (a : Actor) (x : Counter) → begun s (at_counter x a) ≡ begun s a
+begun_forgets : (s : Stmt) (a : Actor) (x : Counter) → statement_begun s (at_counter x a) ≡ statement_begun s a
 begun_forgets (stmt.Parallel g num) a x = refl
 begun_forgets (stmt.Task g undeferred final) a x = refl
 begun_forgets stmt.Taskwait a x = refl

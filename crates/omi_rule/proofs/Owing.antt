@@ -11,19 +11,19 @@ use Rattle.omi_model.specs.Lists.{stays, take_item}
 use Rattle.omi_model.specs.Reached.{Step}
 use Rattle.omi_model.specs.Rules.{Rule, effect, moved}
 use Rattle.omi_model.specs.State.{State, task_of}
-use Rattle.omi_layout.specs.Memory.{Memory, put}
+use Rattle.omi_layout.specs.Memory.{Memory, replace_at}
 use Rattle.omi_pc.specs.declared.actor.Actor.{Actor}
 use Rattle.omi_rule_words.specs.Owes.{Owed, all_owed, owed}
 use Rattle.omi_rule_words.specs.Words.{KeepsWords}
 
 -- another actor owes this
-pub owed_after : (w : List ℕ) (m : Memory) (s : State) (actors : ℕ → Actor) (i : ℕ) (a : Actor) (o : Owed) → owed a ≡ o → KeepsWords w m s (put (all_owed actors) i o) → KeepsWords w m s (all_owed (put actors i a))
+pub owed_after : (w : List ℕ) (m : Memory) (s : State) (actors : ℕ → Actor) (i : ℕ) (a : Actor) (o : Owed) → owed a ≡ o → KeepsWords w m s (replace_at (all_owed actors) i o) → KeepsWords w m s (all_owed (replace_at actors i a))
 owed_after w m s actors i a o is keeps = subst (λ (owes : ℕ → Owed). KeepsWords w m s owes) same keeps
   where
-    same : put (all_owed actors) i o ≡ all_owed (put actors i a)
+    same : replace_at (all_owed actors) i o ≡ all_owed (replace_at actors i a)
     same = fun_ext (λ j. go j (j == i) refl)
       where
-        go : (j : ℕ) (b : Bool) → j == i ≡ b → put (all_owed actors) i o j ≡ all_owed (put actors i a) j
+        go : (j : ℕ) (b : Bool) → j == i ≡ b → replace_at (all_owed actors) i o j ≡ all_owed (replace_at actors i a) j
         go j true e = ap (λ (b : Bool). if b then o else owed (actors j)) e ∙ sym is ∙ sym (ap (λ (b : Bool). owed (if b then a else actors j)) e)
         go j false e = ap (λ (b : Bool). if b then o else owed (actors j)) e ∙ sym (ap (λ (b : Bool). owed (if b then a else actors j)) e)
 

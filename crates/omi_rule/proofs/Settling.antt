@@ -16,9 +16,9 @@ use Rattle.omi_pc.specs.declared.frame.Frame.{Frame}
 use Rattle.omi_pc.specs.declared.frame.Opened.{Opened}
 use Rattle.omi_pc.specs.declared.frame.Opened.TheVariants as opened
 use Rattle.omi_pc.specs.Frames.{advanced, body_in, next_statement, statement_of}
-use Rattle.omi_pc.specs.Moves.{returned, returned_by, returned_in, worked, worked_at, worked_in, working}
+use Rattle.omi_pc.specs.Moves.{returned, returned_by, returned_in, worked, worked_at, worked_in, back_to_work}
 use Rattle.omi_pc.specs.OpenBodies.{IsCalled, StandsOn}
-use Rattle.omi_pc.specs.Settle.{begun, calling, ended, ending_member, goes_to, settled, settled_by, settled_in, skipping}
+use Rattle.omi_pc.specs.Settle.{statement_begun, calling, ended, ending_member, goes_to, settled, settled_by, settled_in, skipping}
 use Rattle.omi_pc.proofs.NamedBelow.{stands_before}
 use Rattle.omi_rule.specs.Ahead as Ahead
 use Rattle.omi_rule.specs.Ahead.{IsAhead, ahead, behind_body, by_statement, in_work}
@@ -52,7 +52,7 @@ in_work_is p fs s row is = ap (λ o. by_statement o row) is
 module _ (p : Program) (at : Encounter) (debug : at.debug ≡ p.env.debug) where
   -- ---- a statement begins
 
-  begun_ahead : (b : Actor) (s : Stmt) → statement_of p b.stack ≡ Some s → IsAhead p at (begun s b).stack (begun s b).counter (item.Do s ∷ ahead p at b.stack)
+  begun_ahead : (b : Actor) (s : Stmt) → statement_of p b.stack ≡ Some s → IsAhead p at (statement_begun s b).stack (statement_begun s b).counter (item.Do s ∷ ahead p at b.stack)
   begun_ahead b (stmt.Parallel f num) is = sym (in_work_is p b.stack _ _ is)
   begun_ahead b (stmt.Task f undeferred final) is = sym (in_work_is p b.stack _ _ is)
   begun_ahead b stmt.Taskwait is = sym (in_work_is p b.stack _ _ is)
@@ -62,7 +62,7 @@ module _ (p : Program) (at : Encounter) (debug : at.debug ≡ p.env.debug) where
   begun_ahead b (stmt.Call f) is = sym (in_work_is p b.stack _ _ is)
   begun_ahead b (stmt.Only m f) is = go (b.context.number == m) refl
     where
-      go : (x : Bool) → b.context.number == m ≡ x → IsAhead p at (begun (stmt.Only m f) b).stack (begun (stmt.Only m f) b).counter (item.Do (stmt.Only m f) ∷ ahead p at b.stack)
+      go : (x : Bool) → b.context.number == m ≡ x → IsAhead p at (statement_begun (stmt.Only m f) b).stack (statement_begun (stmt.Only m f) b).counter (item.Do (stmt.Only m f) ∷ ahead p at b.stack)
       go true e =
           subst (λ (c : Actor). IsAhead p at c.stack c.counter (item.Do (stmt.Only m f) ∷ ahead p at b.stack))
           (ap (λ (x : Bool). if x then calling f opened.Call b else skipping b) (sym e)) (sym (in_work_is p b.stack _ _ is))
@@ -121,7 +121,7 @@ module _ (p : Program) (at : Encounter) (debug : at.debug ≡ p.env.debug) where
     where
       go : (o : Option Stmt) → next_statement p f ≡ o → IsAhead p at (settled_by p a f fs o).stack (settled_by p a f fs o).counter (ahead p at (f ∷ fs))
       go (Some s) e =
-          subst (IsAhead p at (begun s (record a { stack = advanced f ∷ fs })).stack (begun s (record a { stack = advanced f ∷ fs })).counter)
+          subst (IsAhead p at (statement_begun s (record a { stack = advanced f ∷ fs })).stack (statement_begun s (record a { stack = advanced f ∷ fs })).counter)
           (sym (next_item (body_in p f) f.next s (behind_body at f.opened f.function (ahead p at fs)) e))
           (begun_ahead (record a { stack = advanced f ∷ fs }) s (stands_before (body_in p f) f.next s e))
       go None e =
@@ -139,7 +139,7 @@ module _ (p : Program) (at : Encounter) (debug : at.debug ≡ p.env.debug) where
       go zero = subst (λ (x : List Frame). IsAhead p at (settled p a).stack (settled p a).counter (ahead p at x)) stack (settled_ahead a f fs stack)
       go (suc n) = ap (Ahead.leaving p at) (sym stack)
 
-  pub working_ahead : (a : Actor) (f : Frame) (fs : List Frame) → a.stack ≡ f ∷ fs → IsAhead p at (working p a).stack (working p a).counter (Rows.working at (Ahead.worked p at a.stack))
+  pub working_ahead : (a : Actor) (f : Frame) (fs : List Frame) → a.stack ≡ f ∷ fs → IsAhead p at (back_to_work p a).stack (back_to_work p a).counter (Rows.working at (Ahead.worked p at a.stack))
   working_ahead a f fs stack = go p.env.debug debug
     where
       go : (d : Bool) → at.debug ≡ d

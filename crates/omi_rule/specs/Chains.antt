@@ -11,7 +11,7 @@ use Rattle.omi_model.specs.declared.task.Task.{Task}
 use Rattle.omi_model.specs.Changes.{encounter_by}
 use Rattle.omi_model.specs.Numbers.{idle}
 use Rattle.omi_model.specs.Opening.{exit_frame, initial_region, initial_task}
-use Rattle.omi_model.specs.Rows.{of_worker, working}
+use Rattle.omi_model.specs.Rows.{worker_items, working}
 use Rattle.omi_model.specs.State.{State, region_of, task_of}
 use Rattle.omi_pc.specs.declared.actor.Actor.{Actor}
 use Rattle.omi_pc.specs.declared.context.Context.{Context}
@@ -110,7 +110,7 @@ abbrev pub idling : State → List Item
 idling s = if s.environment.debug then item.State idle 0 ∷ offering else offering
 
 abbrev pub worker_ahead : State → WorkerCounter → List Item
-worker_ahead s worker.Begin = of_worker
+worker_ahead s worker.Begin = worker_items
 worker_ahead s worker.Offer = offering
 worker_ahead s (worker.AddLeft r) = idling s
 worker_ahead s worker.IdleState = item.State idle 0 ∷ offering

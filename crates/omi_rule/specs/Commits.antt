@@ -39,8 +39,8 @@ abbrev pub OfOwnRow : State → ℕ → (Tid → Type 0) → Type 0
 OfOwnRow s i P = OfCurrentRegion s i (λ k t r. (x : Tid) × (slice_get r.team t.number ≡ Some (x, i)) × P x)
 
 -- a slot for deferred tasks in the record of a row
-abbrev pub of_own_slot : List ℕ → Tid → ℕ → ℕ
-of_own_slot w x j = word_address w x.0.creator x.0.slot (number TaskSlots) j
+abbrev pub of_row_slot : List ℕ → Tid → ℕ → ℕ
+of_row_slot w x j = word_address w x.0.creator x.0.slot (number TaskSlots) j
 
 -- Each event is committed by one operation on one word. Those that give records back are committed by no step yet
 abbrev pub CommitsAt : List ℕ → State → ℕ → Event → Op → Type 0
@@ -63,9 +63,9 @@ CommitsAt w s i (event.SetTool x) o = OfCurrent s i (λ k t. StoresAt o (of_task
 CommitsAt w s i (event.Lock k) o =
     o ≡ op.Cas (word_address w 0 0 (number RuntimeLocks) k) 0 (i + 1)
 CommitsAt w s i (event.Unlock k) o = o ≡ op.Store (word_address w 0 0 (number RuntimeLocks) k) 0
-CommitsAt w s i (event.Seen j) o = OfOwnRow s i (λ x. o ≡ op.Load (of_own_slot w x j))
+CommitsAt w s i (event.Seen j) o = OfOwnRow s i (λ x. o ≡ op.Load (of_row_slot w x j))
 CommitsAt w s i (event.Defer task) o =
-    OfOwnRow s i (λ x. (j : ℕ) × StoresAt o (of_own_slot w x j))
+    OfOwnRow s i (λ x. (j : ℕ) × StoresAt o (of_row_slot w x j))
 CommitsAt w s i (event.StartNow task) o = StoresAt o (of_thread w i ThreadCurrent)
 CommitsAt w s i (event.Start task) o = StoresAt o (of_thread w i ThreadCurrent)
 CommitsAt w s i (event.Finish task) o = StoresAt o (of_thread w i ThreadCurrent)

@@ -52,7 +52,7 @@ use Rattle.omi_step_words.specs.declared.plan.Planned.{Planned}
 use Rattle.omi_step_words.specs.Members.{member_of}
 use Rattle.omi_step_words.specs.Placed.{HasTask}
 use Rattle.omi_step_words.specs.Plan.{region_plan, task_plan}
-use Rattle.omi_fork.specs.TeamParts.{new_member, new_region}
+use Rattle.omi_fork.specs.TeamParts.{new_member, planned_region}
 use Rattle.omi_task.specs.LookSteps.{member_at}
 use Rattle.omi_task.specs.MakingSteps.{new_task}
 use Rattle.omi_task.specs.Slots.{coded_task}
@@ -139,7 +139,7 @@ IsFilled r plan n = (j : ℕ) → j < n → r (number (plan j).field) (plan j).a
 
 abbrev pub IsRegionFilled : Program → List ℕ → Memory → Actor → Rid → ℕ → Type 0
 IsRegionFilled p w m a r n =
-    IsFilled (m r.0.creator regions r.0.slot) (region_plan w (new_region p a)) n
+    IsFilled (m r.0.creator regions r.0.slot) (region_plan w (planned_region p a)) n
 
 abbrev pub IsTaskFilled : Program → List ℕ → Memory → Actor → Rid → ℕ → Tid → ℕ → Type 0
 IsTaskFilled p w m a r member t n =

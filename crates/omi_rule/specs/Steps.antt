@@ -10,7 +10,7 @@ use Rattle.omi_model.specs.Reached.{Step}
 use Rattle.omi_model.specs.State.{State}
 use Rattle.omi_layout.specs.declared.field.Field.{Field}
 use Rattle.omi_layout.specs.Field.{kind_of}
-use Rattle.omi_layout.specs.Memory.{IsRecordWord, Memory, put, with_word, word_address}
+use Rattle.omi_layout.specs.Memory.{IsRecordWord, Memory, replace_at, with_word, word_address}
 use Rattle.omi_layout.specs.Named.{number}
 use Rattle.omi_pc.specs.declared.actor.Actor.{Actor}
 use Rattle.omi_rep.specs.declared.outcome.Outcome.{Outcome}
@@ -66,7 +66,7 @@ pub record KeepsRule (p : Program) (w : List ℕ) (m : Memory) (events : List (�
   pub next : State
   pub leads : LeadsOn p w events s i after.1 next
   pub comes : ComesOf w s i o (found_in m x) after.1
-  pub rule : Rule p w (left_in m o x) (events ++ committed i after.1) next (put actors i after.0)
+  pub rule : Rule p w (left_in m o x) (events ++ committed i after.1) next (replace_at actors i after.0)
 
 -- whatever word the operation is on, which is a word of a record
 abbrev pub StepKeeps : Program → List ℕ → Memory → List (ℕ × Event) → State → (ℕ → Actor) → ℕ → Op

@@ -47,7 +47,7 @@ joins_next xs = ⊥
 -- ---- waits
 
 -- a record of this kind is searched, and one of the thread's own is in use or has had all its generations
-pub record IsTaken (w : List ℕ) (i kind : ℕ) (life : Field) (address word : ℕ) : Type 0 where
+pub record IsRecordTaken (w : List ℕ) (i kind : ℕ) (life : Field) (address word : ℕ) : Type 0 where
   pub slot : ℕ
   pub within : slot < per_thread w kind
   pub address_is : address ≡ of_place w (record { creator = i; slot = slot }) life
@@ -59,9 +59,9 @@ pub data Waits (w : List ℕ) (s : State) (i address word : ℕ) : Type 0 where
   ForTask : WaitsForTeam s i → address ≡ of_thread w i ThreadAssign → word ≡ 0
       → Waits w s i address word
   -- a fork needs a record for its region, and a record for each member's task; so does an explicit task
-  ForRegion : IsForking s i → IsTaken w i regions RegionLife address word → Waits w s i address word
+  ForRegion : IsForking s i → IsRecordTaken w i regions RegionLife address word → Waits w s i address word
   ForTaskRecord : IsForking s i ⊎ OfCurrent s i (λ k t. makes_next t.list)
-      → IsTaken w i tasks TaskLife address word → Waits w s i address word
+      → IsRecordTaken w i tasks TaskLife address word → Waits w s i address word
   -- a critical construct waits for its lock
   ForLock : (k : ℕ) → OfCurrent s i (λ j t. locks_next k t.list)
       → address ≡ word_address w 0 0 (number RuntimeLocks) k → word ≢ 0 → Waits w s i address word

@@ -33,7 +33,7 @@ use Rattle.omi_pc.specs.Fits.{slots_of}
 use Rattle.omi_pc.specs.OpenBodies.{IsAtBarrier, IsAtEnd, IsMember}
 use Rattle.omi_rep.specs.declared.outcome.Outcome.TheVariants as outcome
 use Rattle.omi_step_words.specs.Moving.{to_barrier}
-use Rattle.omi_fork.specs.BarrierSteps.{arrived, barrier_moved, barrier_next, barrier_outcome, behind_member_end, ended_in, is_closed, looking, of_current, passed, some_missing}
+use Rattle.omi_fork.specs.BarrierSteps.{past_arrive, barrier_moved, barrier_next, barrier_outcome, behind_member_end, ended_in, is_closed, looking, of_current, passed, some_missing}
 use Rattle.omi_task.specs.FinishSteps.{behind_finish, finish_moved, finish_next, finish_outcome}
 use Rattle.omi_rule.specs.Rows.{HasReleased}
 use Rattle.omi_rule.specs.Steps.{IsOn, RecordWord, found_in}
@@ -42,13 +42,13 @@ use Rattle.omi_rule.proofs.Assembly.{Before}
 use Rattle.omi_rule.proofs.barrier.AtBarrier.{fits_barrier, row}
 use Rattle.omi_rule.proofs.barrier.AtCounter.{context_placed, here, keeps_region, placed_counter}
 use Rattle.omi_rule_watch.specs.Given.{Has, HasAll, IsLookGiven, IsSearchGiven, region_found, task_found}
-use Rattle.omi_rule_watch.specs.Watch.{Look, Watch}
+use Rattle.omi_rule_watch.specs.Watch.{SlotLook, Watch}
 use Rattle.omi_rule_watch.proofs.Parts.{IsCalm, KeepsParts, PartsKeep, calm_at, event_parts, event_rests, look_stays, quiet_parts, quiet_rests, waits_parts}
 use Rattle.omi_rule_watch.proofs.Resting.{Rests, rests_join, rests_plain, rests_worker, rests_working}
 use Rattle.omi_rule_watch.proofs.Standing.{record_word, some_word, word_of}
 use Rattle.omi_rule_watch.proofs.Waits.{all_slots, some_body}
 
-rests_barrier : (c : BarrierCounter) → ((a : Actor) (h : Look) → IsLookGiven a (counter.Barrier c) h) → Rests (counter.Barrier c)
+rests_barrier : (c : BarrierCounter) → ((a : Actor) (h : SlotLook) → IsLookGiven a (counter.Barrier c) h) → Rests (counter.Barrier c)
 rests_barrier c given = record { region = refl; task = refl; look = given }
 
 module _ (p : Program) (w : List ℕ) (m : Memory) (events : List (ℕ × Event)) (s : State) (actors : ℕ → Actor) (i : ℕ) (before : Before p w m events s actors i) (h : Watch) where
@@ -149,7 +149,7 @@ module _ (p : Program) (w : List ℕ) (m : Memory) (events : List (ℕ × Event)
       (x, on, event_rests w m s i _ x _ h (calm (barrier.State b) at given) _ (rests_barrier (barrier.Arrive b) (λ a h. tt)))
   barrier_parts (barrier.Arrive b) at given has =
       let (x, on) = any (barrier.Arrive b) at given in
-      (x, on, event_parts w m s i _ x (looking b (arrived a)) h (calm (barrier.Arrive b) at given) _ refl refl (record { looked = refl; seen = refl }))
+      (x, on, event_parts w m s i _ x (looking b (past_arrive a)) h (calm (barrier.Arrive b) at given) _ refl refl (record { looked = refl; seen = refl }))
   barrier_parts (barrier.LoadArrived b) at given has = load_arrived b at given has
   barrier_parts (barrier.LoadPending b) at given has = load_pending b at given has
   barrier_parts (barrier.Release b) at given has =
@@ -173,7 +173,7 @@ module _ (p : Program) (w : List ℕ) (m : Memory) (events : List (ℕ × Event)
   back_calm (Some wait.Taskwait) = (refl, refl)
   back_calm (Some (wait.Barrier b)) = (refl, refl)
 
-  back_given : (b : Actor) (l : Look) → Has l 0 None → (v : Option Wait) → IsLookGiven b (behind_finish p v) l
+  back_given : (b : Actor) (l : SlotLook) → Has l 0 None → (v : Option Wait) → IsLookGiven b (behind_finish p v) l
   back_given b l has None = tt
   back_given b l has (Some wait.Taskyield) = tt
   back_given b l has (Some wait.Taskwait) = go p.env.debug

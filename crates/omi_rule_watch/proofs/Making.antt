@@ -20,14 +20,14 @@ use Rattle.omi_pc.specs.declared.limits.TheConstants.{OWN_SLOTS, TASK_WORDS, VAR
 use Rattle.omi_pc.specs.declared.task_counter.TaskCounter.{TaskCounter}
 use Rattle.omi_pc.specs.declared.task_counter.TaskCounter.TheVariants as task
 use Rattle.omi_pc.specs.Fits.{FitsCounter}
-use Rattle.omi_pc.specs.Moves.{begun_explicit, working}
+use Rattle.omi_pc.specs.Moves.{begun_explicit, back_to_work}
 use Rattle.omi_rep.specs.declared.outcome.Outcome.TheVariants as outcome
 use Rattle.omi_rule_words.specs.Owes.{Owed, all_owed}
 use Rattle.omi_step_words.specs.Moving.{to_task}
 use Rattle.omi_step_words.specs.Plan.{of_variable, variable_at}
 use Rattle.omi_step_words.specs.Searches.{next_slot, own_place}
 use Rattle.omi_step_words.specs.Words.{is_free, object_in, of_place}
-use Rattle.omi_plain.specs.PlainSteps.{behind_enter, entered, left_behind, of_lock, plain_moved, plain_next, plain_outcome}
+use Rattle.omi_plain.specs.PlainSteps.{behind_enter, past_enter, left_behind, of_lock, plain_moved, plain_next, plain_outcome}
 use Rattle.omi_plain.specs.Statements.{in_work, lock_in}
 use Rattle.omi_task.specs.MakingSteps.{behind_raises, made_function, makes_final, making_moved, making_next, making_outcome, of_own_slot}
 use Rattle.omi_task.specs.Starts.{task_context}
@@ -201,7 +201,7 @@ module _ (p : Program) (w : List ℕ) (m : Memory) (events : List (ℕ × Event)
     lock = record { creator = 0; slot = 0; field = RuntimeLocks; place = lock_in (in_work p (actors i)) }
 
     by_lock : (b : Bool) → KeepsParts w m s i (plain_next p w (actors i) plain.Lock) lock
-        (if b then working p a else a, if b then outcome.Event (event.Lock (lock_in (in_work p a))) else outcome.NotReady (of_lock w (lock_in (in_work p a))) (found_in m lock)) h
+        (if b then back_to_work p a else a, if b then outcome.Event (event.Lock (lock_in (in_work p a))) else outcome.NotReady (of_lock w (lock_in (in_work p a))) (found_in m lock)) h
     by_lock true = event_rests w m s i _ lock _ h (calm_plain plain.Lock at given) _ (rests_working p a (λ none. here plain.Lock at given))
     by_lock false = waits_rests w m s i _ lock a h (calm_plain plain.Lock at given) _ _ refl refl refl (here plain.Lock at given)
 
@@ -222,7 +222,7 @@ module _ (p : Program) (w : List ℕ) (m : Memory) (events : List (ℕ × Event)
   plain_parts plain.Enter at given =
       let (x, on) = word plain.Enter at given in
       let (no_region, no_task, look) = entered_calm p.env.debug a.context.is_final (in_work p a) in
-      (x, on, event_parts w m s i _ x _ h (calm_plain plain.Enter at given) _ no_region no_task (look (entered p a)))
+      (x, on, event_parts w m s i _ x _ h (calm_plain plain.Enter at given) _ no_region no_task (look (past_enter p a)))
   plain_parts plain.Leave at given = commits plain.Leave at given _ _ (rests_left (in_work p a) (here plain.Leave at given))
   plain_parts plain.WorkState at given = commits plain.WorkState at given _ _ (rests_worked p a (λ none. here plain.WorkState at given))
   plain_parts plain.LockState at given = commits plain.LockState at given _ _ (rests_plain plain.Lock)

@@ -14,7 +14,7 @@ use Rattle.omi_rep.specs.declared.outcome.Outcome.TheVariants as outcome
 use Rattle.omi_rule.specs.Steps.{IsOn, RecordWord, found_in}
 use Rattle.omi_rule_watch.specs.Demands.{IsExpected, MeetsLook, MeetsSearch}
 use Rattle.omi_rule_watch.specs.Given.{Has, IsLookGiven, IsSearchGiven, region_found, sought, task_found}
-use Rattle.omi_rule_watch.specs.Watch.{Look, Search, Watch, finds, found_after, found_in_slot, is_gone, is_load, is_no_child, is_own, is_slot, is_waiting, life_behind, look_after, looked_at, no_look, search_after}
+use Rattle.omi_rule_watch.specs.Watch.{SlotLook, Search, Watch, finds, found_after, found_in_slot, is_gone, is_load, is_no_child, is_own, is_slot, is_waiting, life_behind, look_after, looked_at, no_look, search_after}
 use Rattle.omi_rule_watch.proofs.Resting.{Rests}
 
 -- ---- what is shown of a step
@@ -127,14 +127,14 @@ module _ (w : List ℕ) (m : Memory) (s : State) (i : ℕ) (o : Op) (x : RecordW
 -- ---- looks
 
 -- where no code is seen, a word that is no slot leaves the look
-pub look_stays : (w : List ℕ) (s : State) (i : ℕ) (x : RecordWord) (o : Op) (found n : ℕ) (h : Look) → Has h n None → ((k : ℕ) → is_load o && is_slot s i k x ≡ false) → Has (looked_at w s i x o found h.looked h.seen) n None
+pub look_stays : (w : List ℕ) (s : State) (i : ℕ) (x : RecordWord) (o : Op) (found n : ℕ) (h : SlotLook) → Has h n None → ((k : ℕ) → is_load o && is_slot s i k x ≡ false) → Has (looked_at w s i x o found h.looked h.seen) n None
 look_stays w s i x o found n h has other =
     subst (λ (c : Option ℕ). Has (looked_at w s i x o found h.looked c) n None) (sym has.seen)
-    (subst (λ (r : Look). Has r n None) (sym (ap (λ b. if b then (if found == 0 then record { looked = h.looked + 1; seen = None } else record { looked = h.looked; seen = Some found }) else record { looked = h.looked; seen = None }) (other h.looked)))
+    (subst (λ (r : SlotLook). Has r n None) (sym (ap (λ b. if b then (if found == 0 then record { looked = h.looked + 1; seen = None } else record { looked = h.looked; seen = Some found }) else record { looked = h.looked; seen = None }) (other h.looked)))
     (record { looked = has.looked; seen = refl }))
 
 -- the next slot is loaded
-pub look_loads : (w : List ℕ) (s : State) (i : ℕ) (x : RecordWord) (o : Op) (found n : ℕ) (h : Look) → Has h n None → is_load o && is_slot s i n x ≡ true
+pub look_loads : (w : List ℕ) (s : State) (i : ℕ) (x : RecordWord) (o : Op) (found n : ℕ) (h : SlotLook) → Has h n None → is_load o && is_slot s i n x ≡ true
     → looked_at w s i x o found h.looked h.seen ≡ (if found == 0 then record { looked = n + 1; seen = None } else record { looked = n; seen = Some found })
 look_loads w s i x o found n h has this =
     ap (λ (c : Option ℕ). looked_at w s i x o found h.looked c) has.seen
@@ -142,7 +142,7 @@ look_loads w s i x o found n h has this =
     ∙ ap (λ b. if b then (if found == 0 then record { looked = n + 1; seen = None } else record { looked = n; seen = Some found }) else record { looked = n; seen = None }) this
 
 -- a code was seen: the slot is passed or not
-pub look_passes : (w : List ℕ) (s : State) (i : ℕ) (x : RecordWord) (o : Op) (found n code : ℕ) (h : Look) (b : Bool) → Has h n (Some code) → is_gone s i x o found n code || is_no_child w s i x o found code ≡ b
+pub look_passes : (w : List ℕ) (s : State) (i : ℕ) (x : RecordWord) (o : Op) (found n code : ℕ) (h : SlotLook) (b : Bool) → Has h n (Some code) → is_gone s i x o found n code || is_no_child w s i x o found code ≡ b
     → looked_at w s i x o found h.looked h.seen ≡ (if b then record { looked = n + 1; seen = None } else record { looked = n; seen = Some code })
 look_passes w s i x o found n code h b has is =
     ap (λ (c : Option ℕ). looked_at w s i x o found h.looked c) has.seen

@@ -34,9 +34,9 @@ use Rattle.omi_pc.specs.declared.team_counter.WorkerCounter.{WorkerCounter}
 use Rattle.omi_pc.specs.declared.team_counter.WorkerCounter.TheVariants as worker
 use Rattle.omi_pc.specs.Fits.{FitsCounter, FitsLook, FitsTask, FitsTeam, Waits, slots_of}
 use Rattle.omi_pc.specs.Frames.{advanced, next_statement}
-use Rattle.omi_pc.specs.Moves.{worked, worked_at, worked_in, working}
+use Rattle.omi_pc.specs.Moves.{worked, worked_at, worked_in, back_to_work}
 use Rattle.omi_pc.specs.OpenBodies.{AreOpen, IsAt, IsAtBarrier, IsAtStart, IsMaster}
-use Rattle.omi_pc.specs.Settle.{begun, calling, ended, goes_to, settled_by, settled_in}
+use Rattle.omi_pc.specs.Settle.{statement_begun, calling, ended, goes_to, settled_by, settled_in}
 use Rattle.omi_rep.specs.declared.outcome.Outcome.{Outcome}
 use Rattle.omi_rep.specs.declared.outcome.Outcome.TheVariants as outcome
 use Rattle.omi_step_words.specs.Moving.{to_barrier, to_join, to_look, to_team, to_worker}
@@ -62,7 +62,7 @@ use Rattle.omi_rule_watch.proofs.Cases.{one_of, paired}
 
 -- ---- moves between statements
 
-carried_begun : (t : ℕ) (s : Stmt) (a : Actor) → carried t ≤ most_quiet t (begun s a).counter
+carried_begun : (t : ℕ) (s : Stmt) (a : Actor) → carried t ≤ most_quiet t (statement_begun s a).counter
 carried_begun t (stmt.Parallel f num) a = omega arith
 carried_begun t (stmt.Task f undeferred final) a = omega arith
 carried_begun t stmt.Taskwait a = omega arith
@@ -109,7 +109,7 @@ carried_worked t p a f fs is = at f.next
     at (suc n) = omega arith
 
 -- a thread with an bodies body works again
-carried_working : (t : ℕ) (p : Program) (a : Actor) → IsAtStart IsMaster a.stack → carried t ≤ most_quiet t (working p a).counter
+carried_working : (t : ℕ) (p : Program) (a : Actor) → IsAtStart IsMaster a.stack → carried t ≤ most_quiet t (back_to_work p a).counter
 carried_working t p a starts = go p.env.debug
   where
     by : (fs : List Frame) → a.stack ≡ fs → IsAtStart IsMaster fs → carried t ≤ most_quiet t (worked_in p fs a).counter
@@ -159,7 +159,7 @@ searched_to t q b waits x y none few = paired (λ (out : Outcome) (c : TeamCount
 quiet_assigning : (p : Program) (member : ℕ) (a : Actor) (q : ℕ) → IsAtStart IsMaster a.stack → q ≤ member → q ≤ carried p.threads → q ≤ most_quiet p.threads (assigning_from p member a).counter
 quiet_assigning p member a q starts few most = go (nat_lt member (team_size a))
   where
-    go : (b : Bool) → q ≤ most_quiet p.threads (if b then to_team (team.Assign member) a else working p a).counter
+    go : (b : Bool) → q ≤ most_quiet p.threads (if b then to_team (team.Assign member) a else back_to_work p a).counter
     go true = few
     go false = let least = carried_working p.threads p a starts in omega (arith, least, most)
 
@@ -288,7 +288,7 @@ quiet_looks p w a (look.Fill v n code t f final word) old q bodies fits few = go
     go true = omega (arith, few)
     go false = let within = fits.1 in omega (arith, few, within)
 quiet_looks p w a (look.Start v n code t f final) old q bodies fits few = omega arith
-quiet_looks p w a look.LoadChildren old q bodies fits few = either p.threads q (old == 0) (working p a) (to_look (look.LoadRow wait.Taskwait 0) a) _ _ (omega arith) (omega arith)
+quiet_looks p w a look.LoadChildren old q bodies fits few = either p.threads q (old == 0) (back_to_work p a) (to_look (look.LoadRow wait.Taskwait 0) a) _ _ (omega arith) (omega arith)
 quiet_looks p w a (look.Yield n) old q bodies fits few = omega arith
 
 quiet_back : (p : Program) (v : Option Wait) (q : ℕ) → q ≤ 2 → q + 1 ≤ most_quiet p.threads (behind_finish p v)

@@ -16,18 +16,18 @@ use Rattle.omi_pc.specs.declared.team_counter.BarrierCounter.TheVariants as barr
 use Rattle.omi_pc.specs.declared.team_counter.JoinCounter.{JoinCounter}
 use Rattle.omi_pc.specs.declared.team_counter.WorkerCounter.{WorkerCounter}
 use Rattle.omi_pc.specs.Frames.{advanced, next_statement}
-use Rattle.omi_pc.specs.Moves.{closed, closed_in, returned, returned_by, returned_in, worked, worked_at, worked_in, working}
-use Rattle.omi_pc.specs.Settle.{begun, calling, ended, goes_to, settled, settled_by, settled_in}
+use Rattle.omi_pc.specs.Moves.{closed, closed_in, returned, returned_by, returned_in, worked, worked_at, worked_in, back_to_work}
+use Rattle.omi_pc.specs.Settle.{statement_begun, calling, ended, goes_to, settled, settled_by, settled_in}
 use Rattle.omi_plain.specs.PlainSteps.{task_counter}
 use Rattle.omi_rule_watch.specs.Given.{IsLookGiven, region_found, task_found}
-use Rattle.omi_rule_watch.specs.Watch.{Look}
+use Rattle.omi_rule_watch.specs.Watch.{SlotLook}
 use Rattle.omi_rule_watch.proofs.Cases.{one_of}
 
 -- nothing was found here, and nothing is said of a look
 pub record Rests (c : Counter) : Type 0 where
   pub region : region_found c ≡ None
   pub task : task_found c ≡ None
-  pub look : (a : Actor) (h : Look) → IsLookGiven a c h
+  pub look : (a : Actor) (h : SlotLook) → IsLookGiven a c h
 
 pub rests_plain : (c : PlainCounter) → Rests (counter.Plain c)
 rests_plain c = record { region = refl; task = refl; look = λ a h. tt }
@@ -44,7 +44,7 @@ rests_actor b x y one other = one_of (λ (z : Actor). Rests z.counter) b x y one
 
 -- ---- moves between statements
 
-rests_begun : (s : Stmt) (a : Actor) → Rests (begun s a).counter
+rests_begun : (s : Stmt) (a : Actor) → Rests (statement_begun s a).counter
 rests_begun (stmt.Parallel f num) a = rests_plain plain.Enter
 rests_begun (stmt.Task f undeferred final) a = rests_plain plain.Enter
 rests_begun stmt.Taskwait a = rests_plain plain.Enter
@@ -99,7 +99,7 @@ rests_worked p a alone = go a.stack refl
     go [] is = alone is
     go (f ∷ fs) is = at f.next
 
-pub rests_working : (p : Program) (a : Actor) → (a.stack ≡ [] → Rests a.counter) → Rests (working p a).counter
+pub rests_working : (p : Program) (a : Actor) → (a.stack ≡ [] → Rests a.counter) → Rests (back_to_work p a).counter
 rests_working p a alone = rests_actor p.env.debug (goes_to plain.WorkState a) (worked p a) (rests_plain plain.WorkState) (rests_worked p a alone)
 
 pub rests_returned : (p : Program) (a : Actor) → Rests a.counter → Rests (returned p a).counter

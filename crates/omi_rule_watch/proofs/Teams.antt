@@ -17,7 +17,7 @@ use Rattle.omi_pc.specs.declared.counter.Counter.TheVariants as counter
 use Rattle.omi_pc.specs.declared.limits.TheConstants.{REGION_WORDS, TASK_WORDS, VARIABLE_WORDS}
 use Rattle.omi_pc.specs.declared.team_counter.TeamCounter.{TeamCounter}
 use Rattle.omi_pc.specs.declared.team_counter.TeamCounter.TheVariants as team
-use Rattle.omi_pc.specs.Moves.{begun_master, working}
+use Rattle.omi_pc.specs.Moves.{begun_master, back_to_work}
 use Rattle.omi_rep.specs.declared.outcome.Outcome.TheVariants as outcome
 use Rattle.omi_rule_words.specs.Owes.{Owed, all_owed}
 use Rattle.omi_step_words.specs.Moving.{to_team}
@@ -77,7 +77,7 @@ module _ (p : Program) (w : List ℕ) (m : Memory) (events : List (ℕ × Event)
   rests_team c no_region no_task = record { region = no_region; task = no_task; look = λ a h. tt }
 
   rests_assigning : (member : ℕ) (b : Actor) → Rests b.counter → Rests (assigning_from p member b).counter
-  rests_assigning member b now = rests_actor (nat_lt member (team_size b)) (to_team (team.Assign member) b) (working p b) (rests_team (team.Assign member) refl refl) (rests_working p b (λ none. now))
+  rests_assigning member b now = rests_actor (nat_lt member (team_size b)) (to_team (team.Assign member) b) (back_to_work p b) (rests_team (team.Assign member) refl refl) (rests_working p b (λ none. now))
 
   rests_two : (b : Bool) (c d : TeamCounter) → Rests (counter.Team c) → Rests (counter.Team d) → Rests (counter.Team (if b then c else d))
   rests_two b c d one other = one_of (λ (x : TeamCounter). Rests (counter.Team x)) b c d one other

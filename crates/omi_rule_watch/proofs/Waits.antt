@@ -31,7 +31,7 @@ use Rattle.omi_pc.specs.declared.task_counter.LookCounter.{LookCounter}
 use Rattle.omi_pc.specs.declared.task_counter.LookCounter.TheVariants as look
 use Rattle.omi_pc.specs.declared.team_counter.BarrierCounter.TheVariants as barrier
 use Rattle.omi_pc.specs.Fits.{TestsChildren, slots_of}
-use Rattle.omi_pc.specs.Moves.{begun_explicit, working}
+use Rattle.omi_pc.specs.Moves.{begun_explicit, back_to_work}
 use Rattle.omi_rep.specs.declared.outcome.Outcome.TheVariants as outcome
 use Rattle.omi_rep.specs.Records.{task_address, task_word}
 use Rattle.omi_step_words.specs.Moving.{to_look}
@@ -48,7 +48,7 @@ use Rattle.omi_rule.proofs.OwnTask.{own_list}
 use Rattle.omi_rule.proofs.barrier.AtCounter.{IsOfMember, ahead_is, body, context_placed, fits_counter, here, is_context, placed_counter, row_is, sees, stands}
 use Rattle.omi_rule.proofs.look.Tests.{coded_there}
 use Rattle.omi_rule_watch.specs.Given.{Has, HasAll, IsLookGiven, IsSearchGiven, region_found, task_found}
-use Rattle.omi_rule_watch.specs.Watch.{Look, Watch, children_start, current_region, is_generating_of, is_gone, is_no_child, is_slot, looked_at, member_task, team_size}
+use Rattle.omi_rule_watch.specs.Watch.{SlotLook, Watch, children_start, current_region, is_generating_of, is_gone, is_no_child, is_slot, looked_at, current_member_task, current_team_size}
 use Rattle.omi_rule_watch.proofs.Parts.{IsCalm, KeepsParts, PartsKeep, calm_at, event_parts, event_rests, look_loads, look_passes, look_stays, quiet_parts, quiet_rests, waits_parts}
 use Rattle.omi_rule_watch.proofs.Resting.{Rests, rests_plain, rests_settled, rests_working}
 use Rattle.omi_rule_watch.proofs.Standing.{record_word, same_number, some_word, word_of}
@@ -64,11 +64,11 @@ module _ (p : Program) (w : List ℕ) (m : Memory) (events : List (ℕ × Event)
       ap (λ (k : Option Tid). option_and_then (λ (t : Task). region_of s t.region) (option_and_then (task_of s) k)) (stands p w m events s actors i before x at of_member).current
       ∙ ap (λ (t : Option Task). option_and_then (λ (t : Task). region_of s t.region) t) known.live ∙ ap (region_of s) known.region_is ∙ found
 
-  pub size_is : team_size s i ≡ (actors i).context.size
+  pub size_is : current_team_size s i ≡ (actors i).context.size
   size_is = ap (λ (r : Option Region). option_map_or (λ (r : Region). length r.team) r 0) (region_is known.region known.found) ∙ known.size
 
   -- all slots are four times the size
-  pub all_slots : (h : Look) → HasAll (actors i) h → h.looked ≡ OWN_SLOTS * team_size s i
+  pub all_slots : (h : SlotLook) → HasAll (actors i) h → h.looked ≡ OWN_SLOTS * current_team_size s i
   all_slots h has = has.looked ∙ sym (ap (λ n. OWN_SLOTS * n) size_is)
 
   -- a body is open
@@ -78,9 +78,9 @@ module _ (p : Program) (w : List ℕ) (m : Memory) (events : List (ℕ × Event)
   -- the slot with number n is in the row that was loaded
   pub slot_is : (row : Place) (n : ℕ) → OfRegion s (actors i) (IsRowOf row n) → is_slot s i n (record { creator = row.creator; slot = row.slot; field = TaskSlots; place = n % OWN_SLOTS }) ≡ true
   slot_is row n (r, found, (k, there, is)) =
-      let member : member_task s i (n / OWN_SLOTS) ≡ Some k.0 =
+      let member : current_member_task s i (n / OWN_SLOTS) ≡ Some k.0 =
       ap (λ (r : Option Region). option_and_then (λ (r : Region). option_map (λ (m : Tid × ℕ). m.0) (slice_get r.team (n / OWN_SLOTS))) r) (region_is r found) ∙ ap (option_map (λ (m : Tid × ℕ). m.0)) there in
-      ap (λ b. b && option_map_or (λ (k : Tid). row.creator == k.0.creator && row.slot == k.0.slot) (member_task s i (n / OWN_SLOTS)) false) (same_number (n % OWN_SLOTS))
+      ap (λ b. b && option_map_or (λ (k : Tid). row.creator == k.0.creator && row.slot == k.0.slot) (current_member_task s i (n / OWN_SLOTS)) false) (same_number (n % OWN_SLOTS))
       ∙ ap (λ (t : Option Tid). option_map_or (λ (k : Tid). row.creator == k.0.creator && row.slot == k.0.slot) t false) member
       ∙ ap (λ (q : Place). q.creator == k.0.0.creator && q.slot == k.0.0.slot) (sym is)
       ∙ ap (λ b. b && k.0.0.slot == k.0.0.slot) (same_number k.0.0.creator) ∙ same_number k.0.0.slot
@@ -108,7 +108,7 @@ next_calm a v n row = go (nat_lt n (slots_of a))
     go false = behind v
 
 -- so many slots were passed: the next one is looked at, or all were
-next_given : (a b : Actor) (v : Wait) (n : ℕ) (row : Place) (h : Look) → b.context ≡ a.context → n < slots_of a → Has h (n + 1) None → IsLookGiven b (next_look a v (n + 1) row) h
+next_given : (a b : Actor) (v : Wait) (n : ℕ) (row : Place) (h : SlotLook) → b.context ≡ a.context → n < slots_of a → Has h (n + 1) None → IsLookGiven b (next_look a v (n + 1) row) h
 next_given a b v n row h same within has = go (nat_lt (n + 1) (slots_of a)) refl
   where
     all : nat_lt (n + 1) (slots_of a) ≡ false → HasAll b h
@@ -136,7 +136,7 @@ next_given a b v n row h same within has = go (nat_lt (n + 1) (slots_of a)) refl
 
 -- ---- the steps
 
-rests_look : (c : LookCounter) → ((a : Actor) (h : Look) → IsLookGiven a (counter.Look c) h) → Rests (counter.Look c)
+rests_look : (c : LookCounter) → ((a : Actor) (h : SlotLook) → IsLookGiven a (counter.Look c) h) → Rests (counter.Look c)
 rests_look c given = record { region = refl; task = refl; look = given }
 
 module _ (p : Program) (w : List ℕ) (m : Memory) (events : List (ℕ × Event)) (s : State) (actors : ℕ → Actor) (i : ℕ) (before : Before p w m events s actors i) (h : Watch) where
@@ -181,7 +181,7 @@ module _ (p : Program) (w : List ℕ) (m : Memory) (events : List (ℕ × Event)
         look_loads w s i on_slot (op.Load (of_slot w row n)) code_there n h.look has (slot_is p w m events s actors i before (counter.Look (look.LoadSlot v n row)) at tt row n (row_is p w m events s actors i before (counter.Look (look.LoadSlot v n row)) at tt))
         ∙ ap (λ (d : Bool). if d then record { looked = n + 1; seen = None } else record { looked = n; seen = Some code_there }) e
 
-    seen_code : (v : Wait) (h : Look) → Has h n (Some code_there) → IsLookGiven (to_look (behind_code v n row code_there) a) (counter.Look (behind_code v n row code_there)) h
+    seen_code : (v : Wait) (h : SlotLook) → Has h n (Some code_there) → IsLookGiven (to_look (behind_code v n row code_there) a) (counter.Look (behind_code v n row code_there)) h
     seen_code (wait.Barrier b) h is = is
     seen_code wait.Taskwait h is = is
     seen_code wait.Taskyield h is = is
@@ -194,10 +194,10 @@ module _ (p : Program) (w : List ℕ) (m : Memory) (events : List (ℕ × Event)
         let (no_region, no_task) = next_calm a v (n + 1) row in
         let fit = fits_counter p w m events s actors i before (counter.Look (look.LoadSlot v n row)) at tt in
         quiet_parts w m s i _ on_slot (looking_on v n row a) h (calm (look.LoadSlot v n row) at given) refl refl no_region no_task
-        (subst (λ (l : Look). IsLookGiven (looking_on v n row a) (next_look a v (n + 1) row) l) (sym (loaded_is true none)) (next_given a (looking_on v n row a) v n row _ refl fit.0.1 (record { looked = refl; seen = refl })))
+        (subst (λ (l : SlotLook). IsLookGiven (looking_on v n row a) (next_look a v (n + 1) row) l) (sym (loaded_is true none)) (next_given a (looking_on v n row a) v n row _ refl fit.0.1 (record { looked = refl; seen = refl })))
     by_code false some =
         quiet_parts w m s i _ on_slot (to_look (behind_code v n row code_there) a) h (calm (look.LoadSlot v n row) at given) refl refl refl refl
-        (subst (λ (l : Look). IsLookGiven (to_look (behind_code v n row code_there) a) (counter.Look (behind_code v n row code_there)) l) (sym (loaded_is false some)) (seen_code v _ (record { looked = refl; seen = refl })))
+        (subst (λ (l : SlotLook). IsLookGiven (to_look (behind_code v n row code_there) a) (counter.Look (behind_code v n row code_there)) l) (sym (loaded_is false some)) (seen_code v _ (record { looked = refl; seen = refl })))
 
     load_slot : PartsKeep w m s i (look_next w (actors i) (look.LoadSlot v n row)) (λ old. (look_moved p w (actors i) (look.LoadSlot v n row) old, look_outcome w (actors i) (look.LoadSlot v n row) old)) h
     load_slot = (
@@ -242,12 +242,12 @@ module _ (p : Program) (w : List ℕ) (m : Memory) (events : List (ℕ × Event)
     by_maker : (d : Bool) → maker == task_address w a.context.task ≡ d → KeepsParts w m s i (op.Load (of_task w (coded_task w code) TaskGenerating)) on_generating (if d then to_look (look.Take v n row code) a else looking_on v n row a, outcome.Quiet) h
     by_maker true same =
         quiet_parts w m s i _ on_generating (to_look (look.Take v n row code) a) h (calm (look.LoadGenerating v n row code) at given) refl refl refl refl
-        (subst (λ (l : Look). Has l n (Some code)) (sym (tested_is true same)) (record { looked = refl; seen = refl }))
+        (subst (λ (l : SlotLook). Has l n (Some code)) (sym (tested_is true same)) (record { looked = refl; seen = refl }))
     by_maker false other =
         let (no_region, no_task) = next_calm a v (n + 1) row in
         let fit = fits_counter p w m events s actors i before (counter.Look (look.LoadGenerating v n row code)) at tt in
         quiet_parts w m s i _ on_generating (looking_on v n row a) h (calm (look.LoadGenerating v n row code) at given) refl refl no_region no_task
-        (subst (λ (l : Look). IsLookGiven (looking_on v n row a) (next_look a v (n + 1) row) l) (sym (tested_is false other)) (next_given a (looking_on v n row a) v n row _ refl fit.0.0.1 (record { looked = refl; seen = refl })))
+        (subst (λ (l : SlotLook). IsLookGiven (looking_on v n row a) (next_look a v (n + 1) row) l) (sym (tested_is false other)) (next_given a (looking_on v n row a) v n row _ refl fit.0.0.1 (record { looked = refl; seen = refl })))
 
     load_generating : PartsKeep w m s i (look_next w (actors i) (look.LoadGenerating v n row code)) (λ old. (look_moved p w (actors i) (look.LoadGenerating v n row code) old, look_outcome w (actors i) (look.LoadGenerating v n row code) old)) h
     load_generating = (
@@ -279,7 +279,7 @@ module _ (p : Program) (w : List ℕ) (m : Memory) (events : List (ℕ × Event)
         let (no_region, no_task) = next_calm a v (n + 1) row in
         let fit = fits_counter p w m events s actors i before (counter.Look (look.Take v n row code)) at tt in
         quiet_parts w m s i _ on_seen (looking_on v n row a) h (calm (look.Take v n row code) at given) refl refl no_region no_task
-        (subst (λ (l : Look). IsLookGiven (looking_on v n row a) (next_look a v (n + 1) row) l) (sym (taken_is false other)) (next_given a (looking_on v n row a) v n row _ refl fit.0.0.1 (record { looked = refl; seen = refl })))
+        (subst (λ (l : SlotLook). IsLookGiven (looking_on v n row a) (next_look a v (n + 1) row) l) (sym (taken_is false other)) (next_given a (looking_on v n row a) v n row _ refl fit.0.0.1 (record { looked = refl; seen = refl })))
 
     take : PartsKeep w m s i (look_next w (actors i) (look.Take v n row code)) (λ old. (look_moved p w (actors i) (look.Take v n row code) old, look_outcome w (actors i) (look.Take v n row code) old)) h
     take = (
@@ -294,7 +294,7 @@ module _ (p : Program) (w : List ℕ) (m : Memory) (events : List (ℕ × Event)
     on_children = word_of a.context.task.0.creator a.context.task.0.slot TaskChildren
 
     by_children : (b : Bool) → KeepsParts w m s i (op.Load (of_task w a.context.task TaskChildren)) on_children
-        (if b then working p a else to_look (look.LoadRow wait.Taskwait 0) a, if b then outcome.Event event.WaitDone else outcome.NotReady (of_task w a.context.task TaskChildren) (found_in m on_children)) h
+        (if b then back_to_work p a else to_look (look.LoadRow wait.Taskwait 0) a, if b then outcome.Event event.WaitDone else outcome.NotReady (of_task w a.context.task TaskChildren) (found_in m on_children)) h
     by_children true = event_rests w m s i _ on_children _ h (calm look.LoadChildren at given) _ (rests_working p a (some_body p w m events s actors i before (counter.Look look.LoadChildren) at tt))
     by_children false =
         waits_parts w m s i _ on_children _ h (calm look.LoadChildren at given) _ _ refl refl refl refl

@@ -17,7 +17,7 @@ use Rattle.omi_rep.specs.declared.outcome.Outcome.{Outcome}
 use Rattle.omi_rep.specs.declared.outcome.Outcome.TheVariants as outcome
 use Rattle.omi_rule_words.specs.Counts.{one, sum_below}
 use Rattle.omi_rule.specs.Steps.{RecordWord}
-use Rattle.omi_rule_watch.specs.Watch.{Search, Look, Watch, is_load, is_own, is_waiting, quiet_after, team_size}
+use Rattle.omi_rule_watch.specs.Watch.{Search, SlotLook, Watch, is_load, is_own, is_waiting, quiet_after, current_team_size}
 
 -- ---- quiet steps
 
@@ -72,9 +72,9 @@ MeetsSearch w m s i x o out h = IsExpected h.expected o x
 -- ---- the look
 
 -- a thread waits where deferred tasks may start only when it has looked at all slots of its team
-abbrev pub MeetsLook : State → ℕ → RecordWord → Outcome → Look → Type 0
+abbrev pub MeetsLook : State → ℕ → RecordWord → Outcome → SlotLook → Type 0
 MeetsLook s i x (outcome.NotReady address word) h =
-    is_waiting x.field ≡ true → h.looked ≡ OWN_SLOTS * team_size s i
+    is_waiting x.field ≡ true → h.looked ≡ OWN_SLOTS * current_team_size s i
 MeetsLook s i x out h = Unit {0}
 
 -- ---- the whole

@@ -24,7 +24,7 @@ use Rattle.omi_pc.specs.declared.team_counter.WorkerCounter.{WorkerCounter}
 use Rattle.omi_pc.specs.declared.team_counter.WorkerCounter.TheVariants as worker
 use Rattle.omi_pc.specs.Fits.{slots_of}
 use Rattle.omi_rule.specs.Steps.{RecordWord}
-use Rattle.omi_rule_watch.specs.Watch.{Search, Look, Watch}
+use Rattle.omi_rule_watch.specs.Watch.{Search, SlotLook, Watch}
 
 -- ---- quiet steps: with so many threads, at most so many lie behind a thread at a counter
 
@@ -156,15 +156,15 @@ pub record IsSearchGiven (a : Actor) (c : Counter) (h : Search) : Type 0 where
 -- ---- the look. Outside of waits nothing is said: each look begins behind an event or a wait
 
 -- so many slots were passed, and a code was seen in the next one, or none
-pub record Has (h : Look) (n : ℕ) (code : Option ℕ) : Type 0 where
+pub record Has (h : SlotLook) (n : ℕ) (code : Option ℕ) : Type 0 where
   pub looked : h.looked ≡ n
   pub seen : h.seen ≡ code
 
 -- all slots of the team were passed
-abbrev pub HasAll : Actor → Look → Type 0
+abbrev pub HasAll : Actor → SlotLook → Type 0
 HasAll a h = Has h (slots_of a) None
 
-abbrev pub IsLookGivenBy : Actor → LookCounter → Look → Type 0
+abbrev pub IsLookGivenBy : Actor → LookCounter → SlotLook → Type 0
 IsLookGivenBy a (look.LoadRow v n) h = Has h n None
 IsLookGivenBy a (look.LoadSlot v n row) h = Has h n None
 IsLookGivenBy a (look.LoadGenerating v n row code) h = Has h n (Some code)
@@ -173,17 +173,17 @@ IsLookGivenBy a look.LoadChildren h = HasAll a h
 IsLookGivenBy a c h = Unit {0}
 
 -- member 0 finds a barrier released that it has released itself
-abbrev pub IsBarrierGivenBy : Actor → BarrierCounter → Look → Type 0
+abbrev pub IsBarrierGivenBy : Actor → BarrierCounter → SlotLook → Type 0
 IsBarrierGivenBy a (barrier.LoadArrived b) h = HasAll a h
 IsBarrierGivenBy a (barrier.LoadPending b) h = HasAll a h
 IsBarrierGivenBy a (barrier.LoadReleased b) h = a.context.number ≢ 0 → HasAll a h
 IsBarrierGivenBy a c h = Unit {0}
 
-abbrev pub IsFinishGivenBy : FinishCounter → Look → Type 0
+abbrev pub IsFinishGivenBy : FinishCounter → SlotLook → Type 0
 IsFinishGivenBy finish.Finish h = Unit {0}
 IsFinishGivenBy c h = Has h 0 None
 
-abbrev pub IsLookGiven : Actor → Counter → Look → Type 0
+abbrev pub IsLookGiven : Actor → Counter → SlotLook → Type 0
 IsLookGiven a (counter.Look c) h = IsLookGivenBy a c h
 IsLookGiven a (counter.Barrier c) h = IsBarrierGivenBy a c h
 IsLookGiven a (counter.Finish c) h = IsFinishGivenBy c h

@@ -35,7 +35,7 @@ pub record Search : Type 0 where
   pub task : Option Id
 
 -- the look at the slots: so many were passed, one after the other, and this code was seen in the next one
-pub record Look : Type 0 where
+pub record SlotLook : Type 0 where
   pub looked : ℕ
   pub seen : Option ℕ
 
@@ -43,13 +43,13 @@ pub record Watch : Type 0 where
   -- the quiet steps in a row
   pub quiet : ℕ
   pub search : Search
-  pub look : Look
+  pub look : SlotLook
 
 -- before the first step
 abbrev pub no_search : Search
 no_search = record { expected = None; region = None; task = None }
 
-abbrev pub no_look : Look
+abbrev pub no_look : SlotLook
 no_look = record { looked = 0; seen = None }
 
 abbrev pub opening_watch : Watch
@@ -137,11 +137,11 @@ abbrev pub current_region : State → ℕ → Option Region
 current_region s i = option_and_then (λ t. region_of s t.region) (current_task s i)
 
 -- its team's size, and the implicit task of a member
-abbrev pub team_size : State → ℕ → ℕ
-team_size s i = option_map_or (λ r. length r.team) (current_region s i) 0
+abbrev pub current_team_size : State → ℕ → ℕ
+current_team_size s i = option_map_or (λ r. length r.team) (current_region s i) 0
 
-abbrev pub member_task : State → ℕ → ℕ → Option Tid
-member_task s i n =
+abbrev pub current_member_task : State → ℕ → ℕ → Option Tid
+current_member_task s i n =
     option_and_then (λ r. option_map (λ m. m.0) (slice_get r.team n)) (current_region s i)
 
 -- this is the slot with number n: each member has four, in the record of its implicit task
@@ -149,7 +149,7 @@ abbrev pub is_slot : State → ℕ → ℕ → RecordWord → Bool
 is_slot s i n x =
     (number x.field == number TaskSlots && x.place == n % OWN_SLOTS)
     && option_map_or (λ k. x.creator == k.0.creator && x.slot == k.0.slot)
-    (member_task s i (n / OWN_SLOTS)) false
+    (current_member_task s i (n / OWN_SLOTS)) false
 
 -- this is the word for the generating task in the record that a code names
 abbrev pub is_generating_of : List ℕ → ℕ → RecordWord → Bool
@@ -174,7 +174,7 @@ is_no_child w s i x o found code =
     && (children_start (list_of s i) && not (found == task_word w (s.threads i).current))
 
 -- A slot is passed where it is empty, or where the task that was seen in it is not to be had. A code that is seen stays so till then
-abbrev pub looked_at : List ℕ → State → ℕ → RecordWord → Op → ℕ → ℕ → Option ℕ → Look
+abbrev pub looked_at : List ℕ → State → ℕ → RecordWord → Op → ℕ → ℕ → Option ℕ → SlotLook
 looked_at w s i x o found n None =
     if is_load o && is_slot s i n x
     then (if found == 0 then record { looked = n + 1; seen = None }
@@ -186,7 +186,7 @@ looked_at w s i x o found n (Some code) =
     else record { looked = n; seen = Some code }
 
 -- an event, and a wait on one of the words for which it looks, end a look
-abbrev pub look_after : List ℕ → State → ℕ → RecordWord → Op → ℕ → Outcome → Look → Look
+abbrev pub look_after : List ℕ → State → ℕ → RecordWord → Op → ℕ → Outcome → SlotLook → SlotLook
 look_after w s i x o found outcome.Quiet h = looked_at w s i x o found h.looked h.seen
 look_after w s i x o found (outcome.Event e) h = no_look
 look_after w s i x o found (outcome.NotReady address word) h =

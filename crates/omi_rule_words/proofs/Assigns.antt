@@ -9,7 +9,7 @@ use Rattle.omi_model.specs.declared.id.Rid.{Rid}
 use Rattle.omi_model.specs.State.{State}
 use Rattle.omi_layout.specs.declared.field.Field.TheVariants.{RegionLife, TaskLife, ThreadAssign}
 use Rattle.omi_layout.specs.Field.{runtime, threads, regions, tasks}
-use Rattle.omi_layout.specs.Memory.{Rec, Memory, put, with_word}
+use Rattle.omi_layout.specs.Memory.{Rec, Memory, replace_at, with_word}
 use Rattle.omi_layout.specs.Named.{number}
 use Rattle.omi_layout.proofs.Puts.{each_put, put_same, put_other, record_read, record_stays, word_read}
 use Rattle.omi_rep.specs.Records.{task_address}
@@ -27,7 +27,7 @@ use Rattle.omi_rule_words.proofs.Sums.{sum_changed, sum_same}
 module _ (w : List ℕ) (m : Memory) (s : State) (owes : ℕ → Owed) (i to word : ℕ) (p : Owed) (keeps : KeepsWords w m s owes)
     (alike_own : OwesAlike p (owes i)) (region_same : p.region ≡ (owes i).region) (tasks_same : p.tasks ≡ (owes i).tasks) (waits : All (λ x. WaitsFor s x.1 x.0) p.assigns) where
   abbrev other : ℕ → Owed
-  other = put owes i p
+  other = replace_at owes i p
 
   abbrev after : Memory
   after = with_word m to threads 0 (number ThreadAssign) 0 word
@@ -107,7 +107,7 @@ assign_stores_keep = λ w m s owes i to k rest keeps maker known owed waits alon
   where
     kept : (w : List ℕ) (m : Memory) (s : State) (owes : ℕ → Owed) (i to : ℕ) (k : Tid) (rest : List (Tid × ℕ)) → KeepsWords w m s owes → i < s.count → to < s.count
         → (owes i).assigns ≡ (k, to) ∷ rest → WaitsFor s to k → ((t : Tid) → WaitsFor s to t → t ≡ k) → task_address w k ≢ 0
-        → KeepsWords w (with_word m to threads 0 (number ThreadAssign) 0 (task_address w k)) s (put owes i (record (owes i) { assigns = rest }))
+        → KeepsWords w (with_word m to threads 0 (number ThreadAssign) 0 (task_address w k)) s (replace_at owes i (record (owes i) { assigns = rest }))
     kept w m s owes i to k rest keeps maker known owed waits alone some =
         assign_changed w m s owes i to (task_address w k) p keeps alike_own refl refl
         (All-tail (λ x. WaitsFor s x.1 x.0) (k, to) rest (subst (λ (ms : List (Tid × ℕ)). All (λ x. WaitsFor s x.1 x.0) ms) owed (keeps.made i maker).objects.assigns))
@@ -120,7 +120,7 @@ assign_stores_keep = λ w m s owes i to k rest keeps maker known owed waits alon
         n = with_word m to threads 0 (number ThreadAssign) 0 (task_address w k)
 
         other : ℕ → Owed
-        other = put owes i p
+        other = replace_at owes i p
 
         alike_own : OwesAlike p (owes i)
         alike_own = record { pending = refl; raised = refl; lowered = refl; left = refl; hand = refl }
@@ -174,7 +174,7 @@ assign_clears_keep = λ w m s owes i k keeps known stored unmet waits alone some
   where
     kept : (w : List ℕ) (m : Memory) (s : State) (owes : ℕ → Owed) (i : ℕ) (k : Tid) → KeepsWords w m s owes → i < s.count
         → m i threads 0 (number ThreadAssign) 0 ≡ task_address w k → (owes i).met ≡ false → WaitsFor s i k → ((t : Tid) → WaitsFor s i t → t ≡ k) → task_address w k ≢ 0
-        → KeepsWords w (with_word m i threads 0 (number ThreadAssign) 0 0) s (put owes i (record (owes i) { met = true }))
+        → KeepsWords w (with_word m i threads 0 (number ThreadAssign) 0 0) s (replace_at owes i (record (owes i) { met = true }))
     kept w m s owes i k keeps known stored unmet waits alone some =
         assign_changed w m s owes i i 0 p keeps alike_own refl refl (keeps.made i known).objects.assigns (λ j within. assigned j within (j == i) refl)
       where
@@ -185,7 +185,7 @@ assign_clears_keep = λ w m s owes i k keeps known stored unmet waits alone some
         n = with_word m i threads 0 (number ThreadAssign) 0 0
 
         other : ℕ → Owed
-        other = put owes i p
+        other = replace_at owes i p
 
         alike_own : OwesAlike p (owes i)
         alike_own = record { pending = refl; raised = refl; lowered = refl; left = refl; hand = refl }

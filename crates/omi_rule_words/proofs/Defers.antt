@@ -13,7 +13,7 @@ use Rattle.omi_model.specs.Tasking.{deferred, deferred_task, scheduled, started_
 use Rattle.omi_model.proofs.Slots.{made_same, made_stays}
 use Rattle.omi_layout.specs.declared.field.Field.TheVariants.{TaskSlots, ThreadCurrent}
 use Rattle.omi_layout.specs.Field.{tasks, threads}
-use Rattle.omi_layout.specs.Memory.{Memory, put, with_word}
+use Rattle.omi_layout.specs.Memory.{Memory, replace_at, with_word}
 use Rattle.omi_layout.specs.Named.{number}
 use Rattle.omi_layout.specs.Place.{IsSlot}
 use Rattle.omi_layout.specs.Table.{per_thread, width}
@@ -46,7 +46,7 @@ module _ (w : List ℕ) (m : Memory) (s : State) (owes : ℕ → Owed) (i : ℕ)
   given = record nothing { hand = hand }
 
   abbrev other : ℕ → Owed
-  other = put owes i given
+  other = replace_at owes i given
 
   -- the name of the new task is no live task's
   unnamed : (u : Task) → task_of s task ≡ Some u → ⊥
@@ -142,9 +142,9 @@ starts_now_keep = λ p w m s owes i task f final k t keeps within names v known 
   where
     starts : (p : Program) (w : List ℕ) (m : Memory) (s : State) (owes : ℕ → Owed) (i : ℕ) (task : Tid) (f : ℕ) (final : Bool) (k : Tid) (t : Task) → KeepsWords w m s owes → IsWithin w s → AreNamesLive s → IsValid w
         → i < s.count → OwesNew w s owes i task k t → IsFilledFor w (m i tasks task.0.slot) (deferred_task p k t f final 0) → KeepsPlace w (m i tasks task.0.slot) (scheduled i k t (deferred_task p k t f final 0))
-        → KeepsWords w (with_word m i threads 0 (number ThreadCurrent) 0 (task_address w task)) (started_now p s i task f final k t) (put owes i nothing)
+        → KeepsWords w (with_word m i threads 0 (number ThreadCurrent) 0 (task_address w task)) (started_now p s i task f final k t) (replace_at owes i nothing)
     starts p w m s owes i task f final k t keeps within names v known owes_new filled place =
-        current_stored w m (record s { tasks = made s.tasks task.0 new }) (put owes i nothing) i (Some task)
+        current_stored w m (record s { tasks = made s.tasks task.0 new }) (replace_at owes i nothing) i (Some task)
         (made_in_hand w m s owes i task new k t None keeps names known owes_new
         (record { explicit = refl; region = refl; generating = refl; goes = refl; unmet = λ is. absurd (cc) })
         (record {
@@ -159,7 +159,7 @@ starts_now_keep = λ p w m s owes i task f final k t keeps within names v known 
         new = scheduled i k t (deferred_task p k t f final 0)
 
 -- what is stored twice is what was stored last
-put_twice : {A : Type 0} (f : ℕ → A) (i : ℕ) (x y : A) → ◌≡◌ {A = ℕ → A} (put (put f i x) i y) (put f i y)
+put_twice : {A : Type 0} (f : ℕ → A) (i : ℕ) (x y : A) → ◌≡◌ {A = ℕ → A} (replace_at (replace_at f i x) i y) (replace_at f i y)
 put_twice {A} f i x y = fun_ext (λ j. go j (j == i))
   where
     go : (j : ℕ) (b : Bool) → (if b then y else (if b then x else f j)) ≡ (if b then y else f j)
@@ -185,7 +185,7 @@ module _ (p : Program) (w : List ℕ) (m : Memory) (s : State) (owes : ℕ → O
   filled_as : IsFilledAs w (m i tasks task.0.slot) new
   filled_as = record { environment = filled.environment; place = λ undeferred. absurd (undeferred refl refl); children = filled.children }
 
-  in_the_hand : KeepsWords w m now (put owes i in_hand)
+  in_the_hand : KeepsWords w m now (replace_at owes i in_hand)
   in_the_hand =
       made_in_hand w m s owes i task new k t (Some task) keeps names known owes_new made_as filled_as within v
       (λ q is. (let same : task ≡ q = cc in sym same, refl)) (λ _. refl)
@@ -214,20 +214,20 @@ module _ (p : Program) (w : List ℕ) (m : Memory) (s : State) (owes : ℕ → O
     maker = maker_is w m s owes i task new k t (Some task) keeps names known owes_new made_as filled_as ∙ sym is_row.thread;
   }
 
-  held_now : put owes i in_hand i ≡ in_hand
+  held_now : replace_at owes i in_hand i ≡ in_hand
   held_now = put_same owes i in_hand
 
-  task_defers : KeepsWords w (with_slot m row place (slot_word w task)) now (put owes i nothing)
+  task_defers : KeepsWords w (with_slot m row place (slot_word w task)) now (replace_at owes i nothing)
   task_defers =
       subst (λ (o : ℕ → Owed). KeepsWords w (with_slot m row place (slot_word w task)) now o) (put_twice owes i in_hand nothing)
-      (subst (λ (o : Owed). KeepsWords w (with_slot m row place (slot_word w task)) now (put (put owes i in_hand) i (record o { hand = None }))) held_now
-      (slot_stored w m now (put owes i in_hand) i None row is_row.task place (slot_word w task) in_the_hand known
+      (subst (λ (o : Owed). KeepsWords w (with_slot m row place (slot_word w task)) now (replace_at (replace_at owes i in_hand) i (record o { hand = None }))) held_now
+      (slot_stored w m now (replace_at owes i in_hand) i None row is_row.task place (slot_word w task) in_the_hand known
       (let count = within.count in let below = row_record.made_by in omega (arith, count, below)) row_record.within (still row is_row.task is_row.live) is_row.implicit inside
       (inr (task, task_in_slot, refl))
       (λ q u is _.
       let none : one (slot_of m row place == slot_word w q) ≡ 0 = ap one (ne_eqb (slot_of m row place) (slot_word w q) (λ same. code_some w q (sym same ∙ free))) in
       let code : one (slot_word w task == slot_word w q) ≡ one (is_task q task) = same_codes w v task q owes_new.made_by (recorded q u is) in
-      let held : start_owed q (put owes i in_hand i) ≡ one (is_task q task) = ap (start_owed q) held_now in
+      let held : start_owed q (replace_at owes i in_hand i) ≡ one (is_task q task) = ap (start_owed q) held_now in
       omega (arith, none, code, held))
       (λ q is. absurd (cc))))
 

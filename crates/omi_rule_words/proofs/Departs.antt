@@ -10,7 +10,7 @@ use Rattle.omi_model.specs.State.{State, region_of}
 use Rattle.omi_model.proofs.Slots.{some_same}
 use Rattle.omi_layout.specs.declared.field.Field.TheVariants.{RegionLeft}
 use Rattle.omi_layout.specs.Field.{runtime, threads, regions, tasks}
-use Rattle.omi_layout.specs.Memory.{Memory, put, with_word}
+use Rattle.omi_layout.specs.Memory.{Memory, replace_at, with_word}
 use Rattle.omi_layout.specs.Named.{number}
 use Rattle.omi_layout.proofs.Puts.{each_put, put_other, put_same, record_stays, word_read, word_stays}
 use Rattle.omi_rule_words.specs.Owes.{Owed}
@@ -34,7 +34,7 @@ module _ (w : List ℕ) (m : Memory) (s : State) (owes : ℕ → Owed) (i : ℕ)
   given = record (owes i) { left = None }
 
   abbrev other : ℕ → Owed
-  other = put owes i given
+  other = replace_at owes i given
 
   alike : (j : ℕ) → OwesSame (other j) (owes j)
   alike j = each_put (λ c (x : Owed). OwesSame x (owes c)) owes i given own j (λ _. owes_same (owes j))

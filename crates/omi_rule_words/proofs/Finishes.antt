@@ -17,7 +17,7 @@ use Rattle.omi_model.specs.Visible.{HasStarted, IsVisibleRegion, IsVisibleTask}
 use Rattle.omi_model.proofs.Slots.{on_same, some_same}
 use Rattle.omi_layout.specs.declared.field.Field.TheVariants.{ThreadCurrent}
 use Rattle.omi_layout.specs.Field.{tasks, threads}
-use Rattle.omi_layout.specs.Memory.{Memory, put, with_word}
+use Rattle.omi_layout.specs.Memory.{Memory, replace_at, with_word}
 use Rattle.omi_layout.specs.Named.{number}
 use Rattle.omi_layout.specs.Table.{per_thread}
 use Rattle.omi_rep.specs.Records.{task_word}
@@ -108,9 +108,9 @@ module _ (w : List ℕ) (m : Memory) (s : State) (owes : ℕ → Owed) (i : ℕ)
           subst (λ (o : Option Tid). IsSome (option_and_then (task_of after) o)) (sym generating_is)
           (some_after w s k t g running.live goes h (subst (λ o. IsSome o) (sym live) refl))
 
-  pub task_finishes : KeepsWords w (with_word m i threads 0 (number ThreadCurrent) 0 (task_word w t.scheduling)) (finished s i k t) (put owes i p)
+  pub task_finishes : KeepsWords w (with_word m i threads 0 (number ThreadCurrent) 0 (task_word w t.scheduling)) (finished s i k t) (replace_at owes i p)
   task_finishes =
-      current_stored w m after (put owes i p) i t.scheduling
+      current_stored w m after (replace_at owes i p) i t.scheduling
       (task_moved w s k t g running.live goes m owes i p keeps
       (subst (λ (o : Owed). TeamsAlike p o) (sym owed) (record { region = refl; tasks = refl; left = refl; assigns = refl; met = refl }))
       (λ n.

@@ -21,7 +21,7 @@ use Rattle.omi_model.specs.Teams.{forked, master_of, member_task, new_region, wi
 use Rattle.omi_model.proofs.Slots.{each_slot, id_same, made_beside, some_same}
 use Rattle.omi_layout.specs.declared.field.Field.TheVariants.{ThreadAssign, ThreadCurrent}
 use Rattle.omi_layout.specs.Field.{regions, tasks, threads}
-use Rattle.omi_layout.specs.Memory.{Memory, put, with_word}
+use Rattle.omi_layout.specs.Memory.{Memory, replace_at, with_word}
 use Rattle.omi_layout.specs.Named.{number}
 use Rattle.omi_layout.specs.Place.{slot_address}
 use Rattle.omi_layout.specs.Table.{place}
@@ -93,7 +93,7 @@ module _ (p : Program) (w : List ℕ) (m : Memory) (s : State) (owes : ℕ → O
   given = record nothing { assigns = drop 1 team }
 
   abbrev other : ℕ → Owed
-  other = put owes i given
+  other = replace_at owes i given
 
   alike : (j : ℕ) → OwesAlike (other j) (owes j)
   alike j = each_put (λ c (x : Owed). OwesAlike x (owes c)) owes i given (subst (λ (o : Owed). OwesAlike given o) (sym owed) own) j (λ _. owes_alike (owes j))

@@ -6,7 +6,7 @@ use Rattle.omi_model.specs.declared.id.Tid.{Tid}
 use Rattle.omi_model.specs.declared.region.Region.{Region}
 use Rattle.omi_model.specs.declared.task.Task.{Task}
 use Rattle.omi_model.specs.State.{State}
-use Rattle.omi_layout.specs.Memory.{Made, Rec, put}
+use Rattle.omi_layout.specs.Memory.{Made, Rec, replace_at}
 use Rattle.omi_rule_words.specs.Owes.{Owed}
 use Rattle.omi_rule_words.specs.Objects.{KeepsRegion}
 use Rattle.omi_rule_words.specs.Words.{KeepsMade, KeepsTask}
@@ -15,7 +15,7 @@ abbrev pub with_hands : (ℕ → Owed) → (ℕ → Option Tid) → ℕ → Owed
 with_hands owes hands = λ j. record (owes j) { hand = hands j }
 
 -- one thread has another
-pub one_hand : (owes : ℕ → Owed) (i : ℕ) (hand : Option Tid) → ◌≡◌ {A = ℕ → Owed} (with_hands owes (put (λ j. (owes j).hand) i hand)) (put owes i (record (owes i) { hand = hand }))
+pub one_hand : (owes : ℕ → Owed) (i : ℕ) (hand : Option Tid) → ◌≡◌ {A = ℕ → Owed} (with_hands owes (replace_at (λ j. (owes j).hand) i hand)) (replace_at owes i (record (owes i) { hand = hand }))
 one_hand owes i hand = fun_ext (λ j. go j (j == i) refl)
   where
     go : (j : ℕ) (b : Bool) → j == i ≡ b → record (owes j) { hand = if b then hand else (owes j).hand } ≡ (if b then record (owes i) { hand = hand } else owes j)

@@ -12,7 +12,7 @@ use Rattle.omi_pc.specs.declared.frame.Opened.TheVariants.{Main, Call}
 use Rattle.omi_pc.specs.declared.team_counter.WorkerCounter.TheVariants as worker
 use Rattle.omi_pc.specs.Frames.{at_start, advanced, next_statement}
 use Rattle.omi_pc.specs.Opening.{opening_actor, waiting_actor}
-use Rattle.omi_pc.specs.Settle.{begun, calling, skipping, settled_by}
+use Rattle.omi_pc.specs.Settle.{statement_begun, calling, skipping, settled_by}
 use Rattle.omi_rule_words.specs.Owes.{owed, owed_at, nothing}
 
 -- at these counters a thread owes nothing
@@ -34,7 +34,7 @@ owes_nothing context members (counter.Plain c) is = refl
 owes_nothing context members _ is = absurd is
 
 -- a statement begins with a counter at which nothing is owed
-begun_idle : (s : Stmt) (a : Actor) → IsIdle (begun s a).counter
+begun_idle : (s : Stmt) (a : Actor) → IsIdle (statement_begun s a).counter
 begun_idle (stmt.Parallel f num) a = tt
 begun_idle (stmt.Task f undeferred final) a = tt
 begun_idle stmt.Taskwait a = tt

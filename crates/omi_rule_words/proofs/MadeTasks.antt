@@ -13,7 +13,7 @@ use Rattle.omi_model.specs.State.{State, task_of}
 use Rattle.omi_model.proofs.Slots.{each_slot, made_beside, made_other, made_same, same_or_not, some_same}
 use Rattle.omi_layout.specs.declared.field.Field.TheVariants.{TaskChildren}
 use Rattle.omi_layout.specs.Field.{regions, tasks, threads}
-use Rattle.omi_layout.specs.Memory.{Memory, put}
+use Rattle.omi_layout.specs.Memory.{Memory, replace_at}
 use Rattle.omi_layout.specs.Table.{per_thread}
 use Rattle.omi_layout.proofs.Puts.{each_put}
 use Rattle.omi_rule_words.specs.Owes.{Owed, nothing}
@@ -53,7 +53,7 @@ module _ (w : List ℕ) (m : Memory) (s : State) (owes : ℕ → Owed) (i : ℕ)
   given = record nothing { hand = hand }
 
   abbrev other : ℕ → Owed
-  other = put owes i given
+  other = replace_at owes i given
 
   abbrev before : Owed
   before = record nothing { tasks = task ∷ []; pending = Some t.region; raised = Some k }

@@ -13,7 +13,7 @@ use Rattle.omi_model.proofs.Slots.{id_same}
 use Rattle.omi_layout.specs.declared.field.Field.TheVariants.{RegionArrived, RegionLeft, RegionLife, RegionPending, RegionReleased, TaskChildren, TaskLife, TaskSlots}
 use Rattle.omi_layout.specs.declared.field.Field.{Field}
 use Rattle.omi_layout.specs.Field.{runtime, threads, regions, tasks}
-use Rattle.omi_layout.specs.Memory.{Memory, Rec, put}
+use Rattle.omi_layout.specs.Memory.{Memory, Rec, replace_at}
 use Rattle.omi_layout.specs.Named.{number}
 use Rattle.omi_layout.specs.Table.{per_thread}
 use Rattle.omi_layout.proofs.Puts.{each_put, put_other, put_same}
@@ -73,19 +73,19 @@ makes_alike : (o : Owed) → MakesAlike o o
 makes_alike o = record { region = refl; tasks = refl; left = refl; assigns = refl; met = refl; hand = refl }
 
 -- one thread owes otherwise
-pub owed_put : (s : State) (owes : ℕ → Owed) (i : ℕ) (p : Owed) → i < s.count → (f : Owed → ℕ) → sum_of_owed s (put owes i p) f + f (owes i) ≡ sum_of_owed s owes f + f p
+pub owed_put : (s : State) (owes : ℕ → Owed) (i : ℕ) (p : Owed) → i < s.count → (f : Owed → ℕ) → sum_of_owed s (replace_at owes i p) f + f (owes i) ≡ sum_of_owed s owes f + f p
 owed_put s owes i p known f =
-    let change = sum_changed s.count i (λ j. f (owes j)) (λ j. f (put owes i p j)) known (λ j ne. ap f (put_other owes i j p ne)) in
-    let own : f (put owes i p i) ≡ f p = ap f (put_same owes i p) in
+    let change = sum_changed s.count i (λ j. f (owes j)) (λ j. f (replace_at owes i p j)) known (λ j ne. ap f (put_other owes i j p ne)) in
+    let own : f (replace_at owes i p i) ≡ f p = ap f (put_same owes i p) in
     omega (arith, change, own)
 
 -- and counts the same by it
-pub owed_put_same : (s : State) (owes : ℕ → Owed) (i : ℕ) (p : Owed) → (f : Owed → ℕ) → f p ≡ f (owes i) → sum_of_owed s (put owes i p) f ≡ sum_of_owed s owes f
-owed_put_same s owes i p f same = sum_same s.count (λ j. f (put owes i p j)) (λ j. f (owes j)) (λ j. each_put (λ k (x : Owed). f x ≡ f (owes k)) owes i p same j (λ _. refl))
+pub owed_put_same : (s : State) (owes : ℕ → Owed) (i : ℕ) (p : Owed) → (f : Owed → ℕ) → f p ≡ f (owes i) → sum_of_owed s (replace_at owes i p) f ≡ sum_of_owed s owes f
+owed_put_same s owes i p f same = sum_same s.count (λ j. f (replace_at owes i p j)) (λ j. f (owes j)) (λ j. each_put (λ k (x : Owed). f x ≡ f (owes k)) owes i p same j (λ _. refl))
 
 module _ (w : List ℕ) (m n : Memory) (s : State) (owes : ℕ → Owed) (i : ℕ) (p : Owed) (keeps : KeepsWords w m s owes) (alike_own : MakesAlike p (owes i)) where
   abbrev other : ℕ → Owed
-  other = put owes i p
+  other = replace_at owes i p
 
   alike : (j : ℕ) → MakesAlike (other j) (owes j)
   alike j = each_put (λ k (x : Owed). MakesAlike x (owes k)) owes i p alike_own j (λ _. makes_alike (owes j))

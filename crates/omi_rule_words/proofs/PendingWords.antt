@@ -9,7 +9,7 @@ use Rattle.omi_model.specs.declared.region.Region.{Region}
 use Rattle.omi_model.specs.State.{State, region_of}
 use Rattle.omi_layout.specs.declared.field.Field.TheVariants.{RegionLife, RegionPending, TaskChildren, TaskLife, TaskSlots}
 use Rattle.omi_layout.specs.Field.{regions, tasks}
-use Rattle.omi_layout.specs.Memory.{Memory, Rec, put}
+use Rattle.omi_layout.specs.Memory.{Memory, Rec, replace_at}
 use Rattle.omi_layout.specs.Named.{number}
 use Rattle.omi_layout.proofs.Puts.{record_stays, word_read, word_stays}
 use Rattle.omi_rule_words.specs.Owes.{Owed}
@@ -34,7 +34,7 @@ module _ (w : List ℕ) (m : Memory) (s : State) (owes : ℕ → Owed) (i : ℕ)
       → ((q : Rid) → (q.0.creator ≡ n.0.creator → q.0.slot ≡ n.0.slot → ⊥) → pending_owed q p ≡ pending_owed q (owes i))
       → (pending_owed n (owes i) ≤ word_of_region m n RegionPending → word + pending_owed n (owes i) ≡ word_of_region m n RegionPending + pending_owed n p)
       → (OwesOnLive s (owes i) → OwesOnLive s p)
-      → KeepsWords w after s (put owes i p)
+      → KeepsWords w after s (replace_at owes i p)
   pending_stored region live children beside here objects =
       other_counts w m after s owes i p keeps alike (λ c kind j ne _. stays c kind j ne)
       (λ c j. word_stays m n.0.creator regions n.0.slot (number RegionPending) 0 word c regions j (number RegionLife) 0 (λ _ _ _ is _. absurd (omega (arith, is))))
@@ -51,7 +51,7 @@ module _ (w : List ℕ) (m : Memory) (s : State) (owes : ℕ → Owed) (i : ℕ)
       name_is : region_in n.0.creator n.0.slot (s.regions n.0.creator n.0.slot) ≡ n
       name_is = ap (λ (q : Id). record { 0 = q }) (name_of_slot s.regions n.0 region live)
 
-      own : (x : Region) → KeepsRegion w s owes n (m n.0.creator regions n.0.slot) x → KeepsRegion w s (put owes i p) n (after n.0.creator regions n.0.slot) x
+      own : (x : Region) → KeepsRegion w s owes n (m n.0.creator regions n.0.slot) x → KeepsRegion w s (replace_at owes i p) n (after n.0.creator regions n.0.slot) x
       own x o = region_counted w m after s owes i p keeps alike n (m n.0.creator regions n.0.slot) (after n.0.creator regions n.0.slot) x
           (λ g at ne. word_stays m n.0.creator regions n.0.slot (number RegionPending) 0 word n.0.creator regions n.0.slot (number g) at (λ _ _ _ is _. ne is))
           (λ was.
@@ -62,7 +62,7 @@ module _ (w : List ℕ) (m : Memory) (s : State) (owes : ℕ → Owed) (i : ℕ)
           omega (arith, was, stored, change, now))
           o
 
-      apart : (c j : ℕ) (x : Region) → KeepsRegion w s owes (region_in c j (s.regions c j)) (m c regions j) x → (c ≡ n.0.creator → j ≡ n.0.slot → ⊥) → KeepsRegion w s (put owes i p) (region_in c j (s.regions c j)) (after c regions j) x
+      apart : (c j : ℕ) (x : Region) → KeepsRegion w s owes (region_in c j (s.regions c j)) (m c regions j) x → (c ≡ n.0.creator → j ≡ n.0.slot → ⊥) → KeepsRegion w s (replace_at owes i p) (region_in c j (s.regions c j)) (after c regions j) x
       apart c j x o ne =
           let same : after c regions j ≡ m c regions j = record_stays m n.0.creator regions n.0.slot (number RegionPending) 0 word c regions j (λ creator _ place. ne creator place) in
           region_counted w m after s owes i p keeps alike (region_in c j (s.regions c j)) (m c regions j) (after c regions j) x (λ g at _. ap (λ (r : Rec). r (number g) at) same)
@@ -73,11 +73,11 @@ module _ (w : List ℕ) (m : Memory) (s : State) (owes : ℕ → Owed) (i : ℕ)
           o
 
       in_record : (c j : ℕ) (x : Region) → KeepsRegion w s owes (region_in c j (s.regions c j)) (m c regions j) x → (c ≡ n.0.creator) ⊎ (c ≢ n.0.creator) → (j ≡ n.0.slot) ⊎ (j ≢ n.0.slot)
-          → KeepsRegion w s (put owes i p) (region_in c j (s.regions c j)) (after c regions j) x
+          → KeepsRegion w s (replace_at owes i p) (region_in c j (s.regions c j)) (after c regions j) x
       in_record c j x o (inl creator) (inl place) =
-          subst (λ d. KeepsRegion w s (put owes i p) (region_in d j (s.regions d j)) (after d regions j) x) (sym creator)
-          (subst (λ q. KeepsRegion w s (put owes i p) (region_in n.0.creator q (s.regions n.0.creator q)) (after n.0.creator regions q) x) (sym place)
-          (subst (λ (q : Rid). KeepsRegion w s (put owes i p) q (after n.0.creator regions n.0.slot) x) (sym name_is)
+          subst (λ d. KeepsRegion w s (replace_at owes i p) (region_in d j (s.regions d j)) (after d regions j) x) (sym creator)
+          (subst (λ q. KeepsRegion w s (replace_at owes i p) (region_in n.0.creator q (s.regions n.0.creator q)) (after n.0.creator regions q) x) (sym place)
+          (subst (λ (q : Rid). KeepsRegion w s (replace_at owes i p) q (after n.0.creator regions n.0.slot) x) (sym name_is)
           (own x (subst (λ (q : Rid). KeepsRegion w s owes q (m n.0.creator regions n.0.slot) x) name_is
           (subst (λ q. KeepsRegion w s owes (region_in n.0.creator q (s.regions n.0.creator q)) (m n.0.creator regions q) x) place
           (subst (λ d. KeepsRegion w s owes (region_in d j (s.regions d j)) (m d regions j) x) creator o))))))
@@ -93,7 +93,7 @@ pub pending_adds_keep : PendingAddsKeep
 pending_adds_keep = λ w m s owes i n keeps known none live small. kept w m s owes i n keeps known none live small
   where
     kept : (w : List ℕ) (m : Memory) (s : State) (owes : ℕ → Owed) (i : ℕ) (n : Rid) → KeepsWords w m s owes → i < s.count → (owes i).pending ≡ None → IsSome (region_of s n) → word_of_region m n RegionPending < 2 ^ 57
-        → KeepsWords w (with_region_word m n RegionPending (one_more (word_of_region m n RegionPending))) s (put owes i (record (owes i) { pending = Some n }))
+        → KeepsWords w (with_region_word m n RegionPending (one_more (word_of_region m n RegionPending))) s (replace_at owes i (record (owes i) { pending = Some n }))
     kept w m s owes i n keeps known none live small =
         let (region, is) = live_of (region_of s n) live in
         pending_stored w m s owes i p n (one_more (word_of_region m n RegionPending)) keeps known (record { region = refl; tasks = refl; left = refl; assigns = refl; met = refl; hand = refl })
@@ -120,7 +120,7 @@ pub pending_subtracts_keep : PendingSubtractsKeep
 pending_subtracts_keep = λ w m s owes i n keeps known owed small. kept w m s owes i n keeps known owed small
   where
     kept : (w : List ℕ) (m : Memory) (s : State) (owes : ℕ → Owed) (i : ℕ) (n : Rid) → KeepsWords w m s owes → i < s.count → (owes i).pending ≡ Some n → word_of_region m n RegionPending < 2 ^ 64
-        → KeepsWords w (with_region_word m n RegionPending (one_less (word_of_region m n RegionPending))) s (put owes i (record (owes i) { pending = None }))
+        → KeepsWords w (with_region_word m n RegionPending (one_less (word_of_region m n RegionPending))) s (replace_at owes i (record (owes i) { pending = None }))
     kept w m s owes i n keeps known owed small =
         let (region, is) = live_of (region_of s n) ((keeps.made i known).objects.pending n owed) in
         pending_stored w m s owes i p n (one_less (word_of_region m n RegionPending)) keeps known (record { region = refl; tasks = refl; left = refl; assigns = refl; met = refl; hand = refl })

@@ -8,7 +8,7 @@ use Rattle.omi_model.specs.declared.id.Tid.{Tid}
 use Rattle.omi_model.specs.State.{State}
 use Rattle.omi_layout.specs.declared.field.Field.TheVariants.{RegionLife, TaskLife}
 use Rattle.omi_layout.specs.Field.{runtime, threads, regions, tasks}
-use Rattle.omi_layout.specs.Memory.{Rec, Memory, put, with_word}
+use Rattle.omi_layout.specs.Memory.{Rec, Memory, replace_at, with_word}
 use Rattle.omi_layout.specs.Named.{number}
 use Rattle.omi_layout.proofs.Puts.{each_put, record_stays, word_read}
 use Rattle.omi_rule_words.specs.Owes.{Owed}
@@ -27,7 +27,7 @@ module _ (w : List ℕ) (m : Memory) (s : State) (owes : ℕ → Owed) (i : ℕ)
   p = record (owes i) { region = Some n }
 
   abbrev other : ℕ → Owed
-  other = put owes i p
+  other = replace_at owes i p
 
   abbrev after : Memory
   after = with_word m i regions slot (number RegionLife) 0 (2 * n.0.generation + 1)

@@ -9,7 +9,7 @@ use Rattle.omi_model.specs.State.{State, task_of}
 use Rattle.omi_model.proofs.Slots.{found_live, some_same}
 use Rattle.omi_layout.specs.declared.field.Field.TheVariants.{TaskChildren, TaskLife, TaskSlots}
 use Rattle.omi_layout.specs.Field.{regions, runtime, tasks, threads}
-use Rattle.omi_layout.specs.Memory.{Memory, Rec, put}
+use Rattle.omi_layout.specs.Memory.{Memory, Rec, replace_at}
 use Rattle.omi_layout.specs.Named.{number}
 use Rattle.omi_layout.specs.Table.{per_thread, width}
 use Rattle.omi_layout.specs.Valid.{IsValid}
@@ -107,10 +107,10 @@ module _ (w : List ℕ) (m : Memory) (s : State) (owes : ℕ → Owed) (i : ℕ)
   pub slot_stored : ((q : Tid) (t : Task) → task_of s q ≡ Some t → t.progress ≡ progress.Deferred
       → one (word == slot_word w q) + start_owed q p ≡ one (slot_of m row place == slot_word w q) + start_owed q (owes i))
       → ((q : Tid) → hand ≡ Some q → (t : Task) × (task_of s q ≡ Some t) × (t.progress ≡ progress.Deferred))
-      → KeepsWords w after s (put owes i p)
+      → KeepsWords w after s (replace_at owes i p)
   slot_stored balance held = record {
     runtime_record = subst (λ (r : Rec). KeepsRuntime w r s) (sym (stays 0 runtime 0 (λ kind. absurd (omega (arith, kind))))) keeps.runtime_record;
-    made = λ j below. subst (λ (o : ℕ → Owed). KeepsMade w s o j (after j)) (one_hand owes i hand) (made_rehanded w s owes (put (λ c. (owes c).hand) i hand) j (after j) (made_kept j (keeps.made j below)));
+    made = λ j below. subst (λ (o : ℕ → Owed). KeepsMade w s o j (after j)) (one_hand owes i hand) (made_rehanded w s owes (replace_at (λ c. (owes c).hand) i hand) j (after j) (made_kept j (keeps.made j below)));
     deferred = record {
       once = λ q t is deferred.
           let was = keeps.deferred.once q t is deferred in
@@ -129,9 +129,9 @@ slot_takes_keep = λ w m s owes i row u place k keeps within v known owed live i
   where
     taken : (w : List ℕ) (m : Memory) (s : State) (owes : ℕ → Owed) (i : ℕ) (row : Tid) (u : Task) (place : ℕ) (k : Tid) → KeepsWords w m s owes → IsWithin w s → IsValid w → i < s.count → owes i ≡ nothing
         → task_of s row ≡ Some u → u.implicit ≡ true → place < width w (number TaskSlots) → IsDeferredIn s u place k → slot_of m row place ≡ slot_word w k
-        → KeepsWords w (with_slot m row place 0) s (put owes i (record nothing { hand = Some k }))
+        → KeepsWords w (with_slot m row place 0) s (replace_at owes i (record nothing { hand = Some k }))
     taken w m s owes i row u place k keeps within v known owed live implicit inside deferred word =
-        subst (λ (o : Owed). KeepsWords w (with_slot m row place 0) s (put owes i (record o { hand = Some k }))) owed
+        subst (λ (o : Owed). KeepsWords w (with_slot m row place 0) s (replace_at owes i (record o { hand = Some k }))) owed
         (slot_stored w m s owes i (Some k) row u place 0 keeps known
         (let count = within.count in let below = (has_record w s row u within live).made_by in omega (arith, count, below)) (has_record w s row u within live).within live implicit inside (inl refl)
         (λ q t is _.

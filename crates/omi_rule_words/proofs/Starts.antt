@@ -14,7 +14,7 @@ use Rattle.omi_model.specs.Tasking.{scheduled}
 use Rattle.omi_model.proofs.Slots.{id_same}
 use Rattle.omi_layout.specs.declared.field.Field.TheVariants.{TaskSlots, ThreadCurrent}
 use Rattle.omi_layout.specs.Field.{tasks, threads}
-use Rattle.omi_layout.specs.Memory.{Memory, put, with_word}
+use Rattle.omi_layout.specs.Memory.{Memory, replace_at, with_word}
 use Rattle.omi_layout.specs.Named.{number}
 use Rattle.omi_layout.specs.Table.{per_thread, width}
 use Rattle.omi_rep.specs.Records.{task_address}
@@ -99,9 +99,9 @@ module _ (w : List ℕ) (m : Memory) (s : State) (owes : ℕ → Owed) (i : ℕ)
       let e = o.environment (inr ready.1.progress) in
       record { implicit = e.implicit; region = e.region; generating = e.generating; function = e.function; dynamic = e.dynamic; nthreads_length = e.nthreads_length; schedule = e.schedule; device = e.device; final = e.final; tool = e.tool; nthreads = e.nthreads }
 
-  pub task_starts : KeepsWords w (with_word m i threads 0 (number ThreadCurrent) 0 (task_address w task)) (with_current (on_task s task g) i (Some task)) (put owes i nothing)
+  pub task_starts : KeepsWords w (with_word m i threads 0 (number ThreadCurrent) 0 (task_address w task)) (with_current (on_task s task g) i (Some task)) (replace_at owes i nothing)
   task_starts =
-      current_stored w m after (put owes i nothing) i (Some task)
+      current_stored w m after (replace_at owes i nothing) i (Some task)
       (task_moved w s task new g live goes m owes i nothing keeps
       (subst (λ (o : Owed). TeamsAlike nothing o) (sym owed) (record { region = refl; tasks = refl; left = refl; assigns = refl; met = refl }))
       (λ n.

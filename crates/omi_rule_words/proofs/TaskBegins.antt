@@ -16,7 +16,7 @@ use Rattle.omi_model.specs.Teams.{task_begun}
 use Rattle.omi_model.proofs.Slots.{on_other, on_same, map_some, same_or_not, some_same}
 use Rattle.omi_layout.specs.declared.field.Field.TheVariants.{RegionLeft, ThreadAssign, ThreadCurrent}
 use Rattle.omi_layout.specs.Field.{regions, threads}
-use Rattle.omi_layout.specs.Memory.{Memory, put, with_word}
+use Rattle.omi_layout.specs.Memory.{Memory, replace_at, with_word}
 use Rattle.omi_layout.specs.Named.{number}
 use Rattle.omi_layout.proofs.Puts.{each_put, put_other}
 use Rattle.omi_rep.specs.Records.{task_address}
@@ -38,7 +38,7 @@ module _ (w : List ℕ) (m : Memory) (s : State) (owes : ℕ → Owed) (i : ℕ)
   after = on_task s k goes_on
 
   abbrev other : ℕ → Owed
-  other = put owes i nothing
+  other = replace_at owes i nothing
 
   alike : (j : ℕ) → OwesSame (other j) (owes j)
   alike j = each_put (λ c (x : Owed). OwesSame x (owes c)) owes i nothing (subst (λ (o : Owed). OwesSame nothing o) (sym owed) own) j (λ _. owes_same (owes j))

@@ -5,7 +5,7 @@ use Rattle.std.specs.Option.{option_and_then}
 use Rattle.omi_model.specs.declared.id.Tid.{Tid}
 use Rattle.omi_model.specs.State.{State, task_of}
 use Rattle.omi_layout.specs.declared.field.Field.TheVariants.{TaskChildren}
-use Rattle.omi_layout.specs.Memory.{Memory, put}
+use Rattle.omi_layout.specs.Memory.{Memory, replace_at}
 use Rattle.omi_rule_words.specs.Owes.{Owed}
 use Rattle.omi_rule_words.specs.Counts.{children_owed, generating_of, is_some_task, one}
 use Rattle.omi_rule_words.specs.Words.{KeepsWords}
@@ -29,7 +29,7 @@ pub children_adds_keep : ChildrenAddsKeep
 children_adds_keep = λ w m s owes i k keeps known none live small. kept w m s owes i k keeps known none live small
   where
     kept : (w : List ℕ) (m : Memory) (s : State) (owes : ℕ → Owed) (i : ℕ) (k : Tid) → KeepsWords w m s owes → i < s.count → (owes i).raised ≡ None → IsSome (task_of s k) → word_of_task m k TaskChildren < 2 ^ 57
-        → KeepsWords w (with_task_word m k TaskChildren (one_more (word_of_task m k TaskChildren))) s (put owes i (record (owes i) { raised = Some k }))
+        → KeepsWords w (with_task_word m k TaskChildren (one_more (word_of_task m k TaskChildren))) s (replace_at owes i (record (owes i) { raised = Some k }))
     kept w m s owes i k keeps known none live small =
         let (t, is) = live_of (task_of s k) live in
         children_stored w m s owes i p k t keeps known (record { region = refl; tasks = refl; left = refl; assigns = refl; met = refl; hand = refl }) is (λ q. refl)
@@ -57,7 +57,7 @@ pub children_subtracts_keep : ChildrenSubtractsKeep
 children_subtracts_keep = λ w m s owes i k g keeps known owed made small. kept w m s owes i k g keeps known owed made small
   where
     kept : (w : List ℕ) (m : Memory) (s : State) (owes : ℕ → Owed) (i : ℕ) (k g : Tid) → KeepsWords w m s owes → i < s.count → (owes i).lowered ≡ Some k → generating_of s k ≡ Some g → word_of_task m g TaskChildren < 2 ^ 64
-        → KeepsWords w (with_task_word m g TaskChildren (one_less (word_of_task m g TaskChildren))) s (put owes i (record (owes i) { lowered = None }))
+        → KeepsWords w (with_task_word m g TaskChildren (one_less (word_of_task m g TaskChildren))) s (replace_at owes i (record (owes i) { lowered = None }))
     kept w m s owes i k g keeps known owed made small =
         let (t, is) = live_of (task_of s g) (subst (λ (o : Option Tid). IsSome (option_and_then (task_of s) o)) made ((keeps.made i known).objects.lowered k owed).1) in
         children_stored w m s owes i p g t keeps known (record { region = refl; tasks = refl; left = refl; assigns = refl; met = refl; hand = refl }) is (λ q. refl)

@@ -18,7 +18,7 @@ use Rattle.omi_model.specs.Teams.{task_ended}
 use Rattle.omi_model.proofs.Slots.{each_slot, found_live, id_same, map_some, on_other, on_same, same_or_not, some_same}
 use Rattle.omi_layout.specs.declared.field.Field.TheVariants.{ThreadCurrent}
 use Rattle.omi_layout.specs.Field.{threads}
-use Rattle.omi_layout.specs.Memory.{Memory, put, with_word}
+use Rattle.omi_layout.specs.Memory.{Memory, replace_at, with_word}
 use Rattle.omi_layout.specs.Named.{number}
 use Rattle.omi_layout.proofs.Puts.{each_put, put_other, put_same}
 use Rattle.omi_rule_words.specs.Owes.{Owed, nothing}
@@ -181,7 +181,7 @@ module _ (w : List ℕ) (m : Memory) (s : State) (owes : ℕ → Owed) (i : ℕ)
   given = record nothing { left = Some t.region }
 
   abbrev given_all : ℕ → Owed
-  given_all = put owes i given
+  given_all = replace_at owes i given
 
   abbrev ends : Region → Region
   ends x = record x { ended = slice_set x.ended t.number true }

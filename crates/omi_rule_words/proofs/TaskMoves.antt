@@ -17,7 +17,7 @@ use Rattle.omi_model.specs.Visible.{HasStarted, IsVisibleRegion, IsVisibleTask}
 use Rattle.omi_model.proofs.Slots.{each_slot, found_live, on_empty, on_generations, on_other, on_same, same_or_not, some_same}
 use Rattle.omi_layout.specs.declared.field.Field.TheVariants.{RegionLife, TaskLife, TaskSlots}
 use Rattle.omi_layout.specs.Field.{regions, tasks, threads}
-use Rattle.omi_layout.specs.Memory.{Memory, Rec, put}
+use Rattle.omi_layout.specs.Memory.{Memory, Rec, replace_at}
 use Rattle.omi_layout.specs.Named.{number}
 use Rattle.omi_layout.specs.Table.{per_thread, width}
 use Rattle.omi_layout.proofs.Puts.{each_put}
@@ -191,12 +191,12 @@ module _ (w : List ℕ) (s : State) (k : Tid) (t : Task) (g : Task → Task) (li
   -- ---- what is kept
 
   module _ (m : Memory) (owes : ℕ → Owed) (i : ℕ) (p : Owed) (keeps : KeepsWords w m s owes) (alike_own : TeamsAlike p (owes i))
-      (pending_counted : (n : Rid) → unfinished_in w after n + sum_of_owed s (put owes i p) (pending_owed n) ≡ unfinished_in w s n + sum_of_owed s owes (pending_owed n))
-      (children_counted : (q : Tid) → unfinished_children w after q + sum_of_owed s (put owes i p) (children_owed s q) ≡ unfinished_children w s q + sum_of_owed s owes (children_owed s q))
+      (pending_counted : (n : Rid) → unfinished_in w after n + sum_of_owed s (replace_at owes i p) (pending_owed n) ≡ unfinished_in w s n + sum_of_owed s owes (pending_owed n))
+      (children_counted : (q : Tid) → unfinished_children w after q + sum_of_owed s (replace_at owes i p) (children_owed s q) ≡ unfinished_children w s q + sum_of_owed s owes (children_owed s q))
       (unslotted : (c j : ℕ) → c < s.count → j < per_thread w tasks → (row : Task) → (s.tasks c j).live ≡ Some row → row.implicit ≡ true → (place : ℕ) → place < width w (number TaskSlots)
       → IsDeferredIn s row place k → m c tasks j (number TaskSlots) place ≡ slot_word w k → ⊥) where
     abbrev other : ℕ → Owed
-    other = put owes i p
+    other = replace_at owes i p
 
     alike : (j : ℕ) → TeamsAlike (other j) (owes j)
     alike j = each_put (λ c (x : Owed). TeamsAlike x (owes c)) owes i p alike_own j (λ _. record { region = refl; tasks = refl; left = refl; assigns = refl; met = refl })
@@ -342,7 +342,7 @@ module _ (w : List ℕ) (s : State) (k : Tid) (t : Task) (g : Task → Task) (li
       pub task_moved : OwesOnLive after p → p.hand ≡ None
           → ((q : Tid) → (q.0 ≡ k.0 → ⊥) → start_owed q p ≡ start_owed q (owes i))
           → ((j : ℕ) (q : Tid) → j < s.count → j ≢ i → (owes j).hand ≡ Some q → q.0 ≡ k.0 → ⊥)
-          → KeepsWords w m after (put owes i p)
+          → KeepsWords w m after (replace_at owes i p)
       task_moved objects empty hands_same unheld = record {
         runtime_record = let o = keeps.runtime_record in record { version = o.version; threads = o.threads; procs = o.procs; debug = o.debug; max_active = o.max_active; locks = o.locks };
         made = λ j below.

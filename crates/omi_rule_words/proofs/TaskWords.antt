@@ -10,7 +10,7 @@ use Rattle.omi_model.specs.State.{State, task_of}
 use Rattle.omi_layout.specs.declared.field.Field.{Field}
 use Rattle.omi_layout.specs.declared.field.Field.TheVariants.{RegionLife, RegionPending, TaskChildren, TaskLife, TaskSlots}
 use Rattle.omi_layout.specs.Field.{regions, tasks}
-use Rattle.omi_layout.specs.Memory.{Memory, Rec, put}
+use Rattle.omi_layout.specs.Memory.{Memory, Rec, replace_at}
 use Rattle.omi_layout.specs.Named.{number}
 use Rattle.omi_layout.proofs.Puts.{record_stays, word_read, word_stays}
 use Rattle.omi_rule_words.specs.Owes.{Owed}
@@ -30,7 +30,7 @@ module _ (w : List ℕ) (m : Memory) (s : State) (owes : ℕ → Owed) (i : ℕ)
     (children : (q : Tid) → (q.0.creator ≡ k.0.creator → q.0.slot ≡ k.0.slot → ⊥) → children_owed s q p ≡ children_owed s q (owes i))
     (objects : OwesOnLive s (owes i) → OwesOnLive s p) where
   abbrev other : ℕ → Owed
-  other = put owes i p
+  other = replace_at owes i p
 
   module _ (word : ℕ) where
     abbrev after : Memory

@@ -6,7 +6,7 @@ use Rattle.omi_model.specs.State.{State, region_of, task_of}
 use Rattle.omi_layout.specs.declared.field.Field.{Field}
 use Rattle.omi_layout.specs.declared.field.Field.TheVariants.{RegionPending, TaskChildren}
 use Rattle.omi_layout.specs.Field.{tasks}
-use Rattle.omi_layout.specs.Memory.{Memory, put, with_word}
+use Rattle.omi_layout.specs.Memory.{Memory, replace_at, with_word}
 use Rattle.omi_layout.specs.Named.{number}
 use Rattle.omi_rule_words.specs.Owes.{Owed}
 use Rattle.omi_rule_words.specs.Counts.{generating_of}
@@ -33,7 +33,7 @@ PendingAddsKeep = (w : List ℕ) (m : Memory) (s : State) (owes : ℕ → Owed) 
     → word_of_region m n RegionPending < 2 ^ 57
     → KeepsWords w
     (with_region_word m n RegionPending (one_more (word_of_region m n RegionPending))) s
-    (put owes i (record (owes i) { pending = Some n }))
+    (replace_at owes i (record (owes i) { pending = Some n }))
 
 -- 1 is added to a task's word for unfinished explicit children
 abbrev pub ChildrenAddsKeep : Type 0
@@ -41,7 +41,7 @@ ChildrenAddsKeep = (w : List ℕ) (m : Memory) (s : State) (owes : ℕ → Owed)
     → KeepsWords w m s owes → i < s.count → (owes i).raised ≡ None → IsSome (task_of s k)
     → word_of_task m k TaskChildren < 2 ^ 57
     → KeepsWords w (with_task_word m k TaskChildren (one_more (word_of_task m k TaskChildren))) s
-    (put owes i (record (owes i) { raised = Some k }))
+    (replace_at owes i (record (owes i) { raised = Some k }))
 
 -- ---- what is lowered for a task that has finished
 
@@ -51,7 +51,7 @@ ChildrenSubtractsKeep = (w : List ℕ) (m : Memory) (s : State) (owes : ℕ → 
     → KeepsWords w m s owes → i < s.count → (owes i).lowered ≡ Some k
     → generating_of s k ≡ Some g → word_of_task m g TaskChildren < 2 ^ 64
     → KeepsWords w (with_task_word m g TaskChildren (one_less (word_of_task m g TaskChildren))) s
-    (put owes i (record (owes i) { lowered = None }))
+    (replace_at owes i (record (owes i) { lowered = None }))
 
 -- 1 is subtracted from a region's word for unfinished explicit tasks
 abbrev pub PendingSubtractsKeep : Type 0
@@ -60,4 +60,4 @@ PendingSubtractsKeep = (w : List ℕ) (m : Memory) (s : State) (owes : ℕ → O
     → word_of_region m n RegionPending < 2 ^ 64
     → KeepsWords w
     (with_region_word m n RegionPending (one_less (word_of_region m n RegionPending))) s
-    (put owes i (record (owes i) { pending = None }))
+    (replace_at owes i (record (owes i) { pending = None }))

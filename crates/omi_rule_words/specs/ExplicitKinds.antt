@@ -12,7 +12,7 @@ use Rattle.omi_model.specs.Tasking.{AreChildrenFinished, deferred, deferred_task
 use Rattle.omi_layout.specs.declared.field.Field.{Field}
 use Rattle.omi_layout.specs.declared.field.Field.TheVariants.{TaskChildren, TaskEnter, TaskExit, TaskNumber, TaskScheduling, TaskSlots, TaskThread, ThreadCurrent}
 use Rattle.omi_layout.specs.Field.{tasks, threads}
-use Rattle.omi_layout.specs.Memory.{Memory, Rec, put, with_word}
+use Rattle.omi_layout.specs.Memory.{Memory, Rec, replace_at, with_word}
 use Rattle.omi_layout.specs.Named.{number}
 use Rattle.omi_layout.specs.Place.{IsSlot}
 use Rattle.omi_layout.specs.Table.{width}
@@ -64,7 +64,7 @@ DefersKeep = (p : Program) (w : List ℕ) (m : Memory) (s : State) (owes : ℕ �
     → place < width w (number TaskSlots) → slot_of m row place ≡ 0
     → IsFilledFor w (m i tasks task.0.slot) (deferred_task p k t f final place)
     → KeepsWords w (with_slot m row place (slot_word w task)) (deferred p s task f final place k t)
-    (put owes i nothing)
+    (replace_at owes i nothing)
 
 -- A thread starts a new task at once: its record stands filled, with its place on the thread, and is stored as the current one
 abbrev pub StartsNowKeep : Type 0
@@ -75,7 +75,7 @@ StartsNowKeep = (p : Program) (w : List ℕ) (m : Memory) (s : State) (owes : �
     → IsFilledFor w (m i tasks task.0.slot) (deferred_task p k t f final 0)
     → KeepsPlace w (m i tasks task.0.slot) (scheduled i k t (deferred_task p k t f final 0))
     → KeepsWords w (with_word m i threads 0 (number ThreadCurrent) 0 (task_address w task))
-    (started_now p s i task f final k t) (put owes i nothing)
+    (started_now p s i task f final k t) (replace_at owes i nothing)
 
 -- ---- a deferred task is taken, and starts
 
@@ -91,7 +91,7 @@ SlotTakesKeep = (w : List ℕ) (m : Memory) (s : State) (owes : ℕ → Owed) (i
     (place : ℕ) (k : Tid) → KeepsWords w m s owes → IsWithin w s → IsValid w
     → i < s.count → owes i ≡ nothing → task_of s row ≡ Some u → u.implicit ≡ true → place < width w (number TaskSlots)
     → IsDeferredIn s u place k → slot_of m row place ≡ slot_word w k
-    → KeepsWords w (with_slot m row place 0) s (put owes i (record nothing { hand = Some k }))
+    → KeepsWords w (with_slot m row place 0) s (replace_at owes i (record nothing { hand = Some k }))
 
 -- the fields of a task's place on a thread
 pub data IsPlaceField : Field → Type 0 where
@@ -119,14 +119,14 @@ StartsKeep = (w : List ℕ) (m : Memory) (s : State) (owes : ℕ → Owed) (i : 
     (k : Tid) (t : Task) → KeepsWords w m s owes → i < s.count
     → IsReady w m s owes i task new k t
     → KeepsWords w (with_word m i threads 0 (number ThreadCurrent) 0 (task_address w task))
-    (started s i task k t) (put owes i nothing)
+    (started s i task k t) (replace_at owes i nothing)
 
 abbrev pub StartsAloneKeep : Type 0
 StartsAloneKeep = (w : List ℕ) (m : Memory) (s : State) (owes : ℕ → Owed) (i : ℕ) (task : Tid) (new : Task)
     (k : Tid) (t : Task) → KeepsWords w m s owes → i < s.count
     → IsReady w m s owes i task new k t
     → KeepsWords w (with_word m i threads 0 (number ThreadCurrent) 0 (task_address w task))
-    (started_alone s i task k t) (put owes i nothing)
+    (started_alone s i task k t) (replace_at owes i nothing)
 
 -- ---- a task finishes
 
@@ -143,7 +143,7 @@ FinishesKeep = (w : List ℕ) (m : Memory) (s : State) (owes : ℕ → Owed) (i 
     → KeepsWords w m s owes → IsWithin w s → AreNamesLive s → i < s.count → owes i ≡ nothing
     → IsRunning s k t → t.generating ≡ Some g
     → KeepsWords w (with_word m i threads 0 (number ThreadCurrent) 0 (task_word w t.scheduling))
-    (finished s i k t) (put owes i (record nothing { pending = Some t.region; lowered = Some k }))
+    (finished s i k t) (replace_at owes i (record nothing { pending = Some t.region; lowered = Some k }))
 
 -- ---- children
 

@@ -9,7 +9,7 @@ use Rattle.omi_model.specs.State.{State}
 use Rattle.omi_layout.specs.declared.field.Field.{Field}
 use Rattle.omi_layout.specs.declared.field.Field.TheVariants.{ThreadAssign, RegionLife, TaskLife}
 use Rattle.omi_layout.specs.Field.{threads, regions, tasks}
-use Rattle.omi_layout.specs.Memory.{Memory, put, with_word, with_word_in}
+use Rattle.omi_layout.specs.Memory.{Memory, replace_at, with_word, with_word_in}
 use Rattle.omi_layout.specs.Named.{number}
 use Rattle.omi_pc.specs.declared.actor.Actor.{Actor}
 use Rattle.omi_rep.specs.Records.{task_address}
@@ -20,7 +20,7 @@ use Rattle.omi_rule_words.specs.Words.{IsInTheMaking, KeepsWords}
 
 -- a state in which a thread is another
 abbrev pub with_thread : State → ℕ → Thread → State
-with_thread s i h = record s { threads = put s.threads i h }
+with_thread s i h = record s { threads = replace_at s.threads i h }
 
 -- A word of a thread's record is stored, and the thread of the state is another, so that the record has its codes: `begin`, `offer`,
 -- a state, and the exchange on the claim word of a thread that is asked
@@ -53,7 +53,7 @@ TaskFillsKeep = (w : List ℕ) (m : Memory) (s : State) (owes : ℕ → Owed) (i
 abbrev pub MovesKeep : Type 0
 MovesKeep = (w : List ℕ) (m : Memory) (s : State) (actors : ℕ → Actor) (i : ℕ) (a : Actor)
     → KeepsWords w m s (all_owed actors) → owed a ≡ owed (actors i)
-    → KeepsWords w m s (all_owed (put actors i a))
+    → KeepsWords w m s (all_owed (replace_at actors i a))
 
 -- A record is taken: its life word becomes odd, and the thread owes what the record is made for
 abbrev pub RegionTakesKeep : Type 0
@@ -61,7 +61,7 @@ RegionTakesKeep = (w : List ℕ) (m : Memory) (s : State) (owes : ℕ → Owed) 
     → KeepsWords w m s owes → (owes i).region ≡ None → IsInTheMaking i (s.regions i) n.0
     → KeepsWords w
     (with_word m i regions n.0.slot (number RegionLife) 0 (2 * n.0.generation + 1)) s
-    (put owes i (record (owes i) { region = Some n }))
+    (replace_at owes i (record (owes i) { region = Some n }))
 
 abbrev pub TaskTakesKeep : Type 0
 TaskTakesKeep = (w : List ℕ) (m : Memory) (s : State) (owes : ℕ → Owed) (i : ℕ) (k : Tid)
@@ -69,7 +69,7 @@ TaskTakesKeep = (w : List ℕ) (m : Memory) (s : State) (owes : ℕ → Owed) (i
     → has_slot k.0.slot (owes i).tasks ≡ false
     → KeepsWords w
     (with_word m i tasks k.0.slot (number TaskLife) 0 (2 * k.0.generation + 1)) s
-    (put owes i (record (owes i) { tasks = (owes i).tasks ++ k ∷ [] }))
+    (replace_at owes i (record (owes i) { tasks = (owes i).tasks ++ k ∷ [] }))
 
 -- A task that waits for a thread is stored into the thread's assign word, by the thread that owes it. No other task waits for that
 -- thread, and no record begins at address 0
@@ -79,7 +79,7 @@ AssignStoresKeep = (w : List ℕ) (m : Memory) (s : State) (owes : ℕ → Owed)
     → (owes i).assigns ≡ (k, to) ∷ rest
     → WaitsFor s to k → ((t : Tid) → WaitsFor s to t → t ≡ k) → task_address w k ≢ 0
     → KeepsWords w (with_word m to threads 0 (number ThreadAssign) 0 (task_address w k)) s
-    (put owes i (record (owes i) { assigns = rest }))
+    (replace_at owes i (record (owes i) { assigns = rest }))
 
 -- A thread has read the task in its assign word, and clears it
 abbrev pub AssignClearsKeep : Type 0
@@ -88,7 +88,7 @@ AssignClearsKeep = (w : List ℕ) (m : Memory) (s : State) (owes : ℕ → Owed)
     → m i threads 0 (number ThreadAssign) 0 ≡ task_address w k → (owes i).met ≡ false
     → WaitsFor s i k → ((t : Tid) → WaitsFor s i t → t ≡ k) → task_address w k ≢ 0
     → KeepsWords w (with_word m i threads 0 (number ThreadAssign) 0 0) s
-    (put owes i (record (owes i) { met = true }))
+    (replace_at owes i (record (owes i) { met = true }))
 
 -- No word is stored, and a to-do list moves on, as with every event
 abbrev pub ListMovesKeep : Type 0

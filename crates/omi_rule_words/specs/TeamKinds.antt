@@ -13,7 +13,7 @@ use Rattle.omi_model.specs.Teams.{forked, joined, master_of, member_task, new_re
 use Rattle.omi_layout.specs.declared.field.Field.TheVariants.{ThreadCurrent, RegionFunction, RegionEnclosing, RegionEncountering, RegionSize, RegionLevels, RegionActive, RegionTeam, RegionReleased, RegionArrived, RegionPending, RegionLeft, TaskChildren, TaskReferences, TaskSlots}
 use Rattle.omi_layout.specs.Codes.{function_word}
 use Rattle.omi_layout.specs.Field.{threads, regions, tasks}
-use Rattle.omi_layout.specs.Memory.{Rec, Made, Memory, put, with_word}
+use Rattle.omi_layout.specs.Memory.{Rec, Made, Memory, replace_at, with_word}
 use Rattle.omi_layout.specs.Named.{number}
 use Rattle.omi_layout.specs.Table.{per_thread, width}
 use Rattle.omi_layout.specs.Valid.{IsValid}
@@ -32,7 +32,7 @@ BeginsKeep = (w : List ℕ) (m : Memory) (s : State) (owes : ℕ → Owed) (i : 
     → WaitsFor s i k → ((t : Tid) → WaitsFor s i t → t ≡ k)
     → ((t : Task) → task_of s k ≡ Some t → t.implicit ≡ true)
     → KeepsWords w (with_word m i threads 0 (number ThreadCurrent) 0 (task_address w k))
-    (task_begun s i k) (put owes i nothing)
+    (task_begun s i k) (replace_at owes i nothing)
 
 -- A record in the making stands filled for a region that is new: its words are the codes of the region, and it counts nothing
 pub record RegionIsFilled (w : List ℕ) (r : Rec) (region : Region) : Type 0 where
@@ -80,7 +80,7 @@ ForksKeep = (p : Program) (w : List ℕ) (m : Memory) (s : State) (owes : ℕ �
     → All (λ x. HasNoTask s owes x.1) (drop 1 team) → AreNamesLive s → IsValid w
     → KeepsWords w
     (with_word m i threads 0 (number ThreadCurrent) 0 (task_word w (master_of team)))
-    (forked p s i region team f k t r) (put owes i (record nothing { assigns = drop 1 team }))
+    (forked p s i region team f k t r) (replace_at owes i (record nothing { assigns = drop 1 team }))
 
 -- An implicit task has begun and not finished, in this region
 pub record IsRunningMember (s : State) (k : Tid) (t : Task) (r : Region) : Type 0 where
@@ -95,7 +95,7 @@ EndsKeep = (w : List ℕ) (m : Memory) (s : State) (owes : ℕ → Owed) (i : �
     (r : Region) → KeepsWords w m s owes → i < s.count → owes i ≡ nothing → IsRunningMember s k t r
     → t.number ≢ 0 → slice_get r.ended t.number ≡ Some false → r.joined ≡ false
     → KeepsWords w (with_word m i threads 0 (number ThreadCurrent) 0 0) (task_ended s i k t)
-    (put owes i (record nothing { left = Some t.region }))
+    (replace_at owes i (record nothing { left = Some t.region }))
 
 -- It departs: 1 is added to the region's word for the members that have left, and the thread owes this no more
 abbrev pub LeavesKeep : Type 0
@@ -104,7 +104,7 @@ LeavesKeep = (w : List ℕ) (m : Memory) (s : State) (owes : ℕ → Owed) (i : 
     → KeepsWords w
     (with_word m n.0.creator regions n.0.slot (number RegionLeft) 0
     (m n.0.creator regions n.0.slot (number RegionLeft) 0 + 1)) s
-    (put owes i (record (owes i) { left = None }))
+    (replace_at owes i (record (owes i) { left = None }))
 
 -- Member 0 joins the others: its thread stores the record of the task that encountered the region as its current one. No thread
 -- owes a departure from this region

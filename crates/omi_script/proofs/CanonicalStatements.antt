@@ -11,7 +11,7 @@ use Rattle.omi_script.specs.Constructs.{over}
 use Rattle.omi_script.specs.Line.{line_of}
 use Rattle.omi_script.specs.LineFaults.{has_bad_number, has_unknown_name, is_over_limit, is_repeated, is_task_with_barrier, is_too_deep, nests_barrier, says_such}
 use Rattle.omi_script.specs.Names.{are_distinct, is_name, text_of}
-use Rattle.omi_script.specs.ParserState.{after_line, after_statement, is_called, may_stand, statement_in, statements_above}
+use Rattle.omi_script.specs.ParserState.{after_line, after_statement, is_called, may_stand, statement_of_line, statements_above}
 use Rattle.omi_script.specs.Ranges.{is_in_range}
 use Rattle.omi_script.specs.Reach.{Reach, is_allowed, names_rightly, reaches}
 use Rattle.omi_script.specs.declared.function.Func.{Func}
@@ -56,8 +56,8 @@ named_first closed more k named distinct l =
 
 -- a line that says a statement which may stand there leads after it
 says_leads : (state : ParserState) (ws : List (List ℕ)) (bytes : List ℕ) (l : Line) (s : Stmt) → IsLineOf ws bytes → line_of ws ≡ Some l
-    → may_stand state l ≡ true → has_bad_number l ≡ false → has_unknown_name state l ≡ false → is_repeated state l ≡ false → statement_in state l ≡ Some s
-    → is_over_limit state l ≡ (nat_le MAX_STATEMENTS (statements_above state) || says_such is_too_deep state l) → after_line state l ≡ after_statement state (statement_in state l)
+    → may_stand state l ≡ true → has_bad_number l ≡ false → has_unknown_name state l ≡ false → is_repeated state l ≡ false → statement_of_line state l ≡ Some s
+    → is_over_limit state l ≡ (nat_le MAX_STATEMENTS (statements_above state) || says_such is_too_deep state l) → after_line state l ≡ after_statement state (statement_of_line state l)
     → statements_above state < MAX_STATEMENTS → names_rightly (reaches [] state.closed) s ≡ true → LineLeads state bytes (after_statement state (Some s))
 says_leads state ws bytes l s is_line says stands number name new at over_limit to room rightly =
     let above : List Reach = reaches [] state.closed in

@@ -6,7 +6,7 @@ use Rattle.std.specs.Option.{option_map_or, option_and_then}
 use Rattle.omi_script.specs.Line.{line_of}
 use Rattle.omi_script.specs.LineFaults.{has_bad_number, has_end_fault, has_fault, has_unknown_name, if_said, is_over_limit, is_repeated, is_task_with_barrier, least, nests_barrier, says_such}
 use Rattle.omi_script.specs.Lines.{words}
-use Rattle.omi_script.specs.ParserState.{after, after_line, line_in, may_stand}
+use Rattle.omi_script.specs.ParserState.{parser_after, after_line, line_in, may_stand}
 use Rattle.omi_script.specs.Verdict.{Accepts, judge, refused_or}
 use Rattle.omi_script.specs.declared.fault.Why.{Why}
 use Rattle.omi_script.specs.declared.line.Line.{Line}
@@ -27,12 +27,12 @@ pub record IsFaultless (state : ParserState) (s : Line) : Type 0 where
 
 -- the line is printed, has no fault in its state, and leads to the next
 abbrev pub LineLeads : ParserState → List ℕ → ParserState → Type 0
-LineLeads a line b = (list_all is_printed line ≡ true) × (least (has_fault a line) ≡ None) × (after a line ≡ b)
+LineLeads a line b = (list_all is_printed line ≡ true) × (least (has_fault a line) ≡ None) × (parser_after a line ≡ b)
 
 -- each line is printed and has no fault where it stands, and the last leads to the state b
 abbrev pub LinesLead : ParserState → List (List ℕ) → ParserState → Type 0
 LinesLead a [] b = a ≡ b
-LinesLead a (line ∷ more) b = (list_all is_printed line ≡ true) × (least (has_fault a line) ≡ None) × LinesLead (after a line) more b
+LinesLead a (line ∷ more) b = (list_all is_printed line ≡ true) × (least (has_fault a line) ≡ None) × LinesLead (parser_after a line) more b
 
 not_found : (has : Why → Bool) (w : Why) (ws : List Why) → has w ≡ false → find has ws ≡ None → find has (w ∷ ws) ≡ None
 not_found has w ws h k = ap (λ b. cond b (Some w) (find has ws)) h ∙ k
@@ -67,16 +67,16 @@ leads_on a b c line more (printed, none, to) rest = (printed, none, subst (λ (p
 -- lines, and those after them
 pub leads_through : (a b c : ParserState) (ls ms : List (List ℕ)) → LinesLead a ls b → LinesLead b ms c → LinesLead a (ls ++ ms) c
 leads_through a b c [] ms h k = subst (λ (p : ParserState). LinesLead p ms c) (sym h) k
-leads_through a b c (line ∷ ls) ms (printed, none, h) k = (printed, none, leads_through (after a line) b c ls ms h k)
+leads_through a b c (line ∷ ls) ms (printed, none, h) k = (printed, none, leads_through (parser_after a line) b c ls ms h k)
 
 -- lines that lead to a state are printed
 pub printed_from_leads : (a b : ParserState) (ls : List (List ℕ)) → LinesLead a ls b → list_all (list_all is_printed) ls ≡ true
 printed_from_leads a b [] h = refl
-printed_from_leads a b (line ∷ ls) (printed, none, h) = and_true (list_all is_printed line) (list_all (list_all is_printed) ls) printed (printed_from_leads (after a line) b ls h)
+printed_from_leads a b (line ∷ ls) (printed, none, h) = and_true (list_all is_printed line) (list_all (list_all is_printed) ls) printed (printed_from_leads (parser_after a line) b ls h)
 
 -- lines that lead to a state whose end has no fault are accepted there
 pub judged_accepted : (n : ℕ) (a b : ParserState) (ls : List (List ℕ)) → LinesLead a ls b → least (has_end_fault b) ≡ None → judge n a ls ≡ Accepts b
 judged_accepted n a b [] h e =
     ap (λ (p : ParserState). judge n p []) h ∙ ap (λ o. refused_or n o (Accepts b)) e
 judged_accepted n a b (line ∷ ls) (printed, none, h) e =
-    ap (λ o. refused_or n o (judge (n + 1) (after a line) ls)) none ∙ judged_accepted (n + 1) (after a line) b ls h e
+    ap (λ o. refused_or n o (judge (n + 1) (parser_after a line) ls)) none ∙ judged_accepted (n + 1) (parser_after a line) b ls h e

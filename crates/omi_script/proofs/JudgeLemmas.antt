@@ -9,7 +9,7 @@ use Rattle.omi_script.specs.Grammar.{Grammar, Refused}
 use Rattle.omi_script.specs.LineFaults.{has_end_fault, has_fault, least}
 use Rattle.omi_script.specs.Lines.{is_line_feed, lines}
 use Rattle.omi_script.specs.ParserAnswers.{Answers, EndAnswers, MayEnd}
-use Rattle.omi_script.specs.ParserState.{after, first_state}
+use Rattle.omi_script.specs.ParserState.{parser_after, first_state}
 use Rattle.omi_script.specs.Verdict.{Accepts, Refuses, Verdict, judge, refused_or, verdict}
 use Rattle.omi_script.specs.declared.fault.LineError.{LineError}
 use Rattle.omi_script.specs.declared.limits.TheConstants.{MAX_BYTES}
@@ -26,11 +26,11 @@ pub verdict_short : (bytes : List ℕ) → length bytes ≤ MAX_BYTES → judge 
 verdict_short bytes l = sym (ap (λ b. if b then judge 1 first_state (lines bytes) else Refuses (record { line = 1; why = OverLimit })) (le-leb (length bytes) MAX_BYTES l))
 
 -- after a line without a fault
-pub judge_after : (n : ℕ) (state next : ParserState) (line rest : List ℕ) (v : Verdict) → 0 < length rest → line ≡ before_first is_line_feed rest → judge n state (lines rest) ≡ v → (least (has_fault state line) ≡ None) × (next ≡ after state line) → judge (n + 1) next (lines (after_first is_line_feed rest)) ≡ v
+pub judge_after : (n : ℕ) (state next : ParserState) (line rest : List ℕ) (v : Verdict) → 0 < length rest → line ≡ before_first is_line_feed rest → judge n state (lines rest) ≡ v → (least (has_fault state line) ≡ None) × (next ≡ parser_after state line) → judge (n + 1) next (lines (after_first is_line_feed rest)) ≡ v
 judge_after n state next line rest v some first says (none, is) =
     let more : List (List ℕ) = lines (after_first is_line_feed rest) in
     ap (λ p. judge (n + 1) p more) is
-    ∙ sym (ap (λ o. refused_or n o (judge (n + 1) (after state line) more)) none)
+    ∙ sym (ap (λ o. refused_or n o (judge (n + 1) (parser_after state line) more)) none)
     ∙ ap (λ l. judge n state (l ∷ more)) first ∙ sym (ap (judge n state) (lines_step rest some)) ∙ says
 
 -- a line with a fault
@@ -41,7 +41,7 @@ judge_refused bytes n state next line rest (Fault why) some first says h =
     record {
       says =
           sym says ∙ ap (judge n state) (lines_step rest some) ∙ sym (ap (λ l. judge n state (l ∷ more)) first)
-          ∙ ap (λ o. refused_or n o (judge (n + 1) (after state line) more)) h;
+          ∙ ap (λ o. refused_or n o (judge (n + 1) (parser_after state line) more)) h;
     }
 
 -- the end of the text has a fault

@@ -7,7 +7,7 @@ use Rattle.omi_script.specs.Line.{line_of}
 use Rattle.omi_script.specs.LineFaults.{has_bad_number, has_fault, has_unknown_name, is_over_limit, is_repeated, is_task_with_barrier, least, nests_barrier, says_such}
 use Rattle.omi_script.specs.Lines.{is_text, words}
 use Rattle.omi_script.specs.ParserAnswers.{Answers, AnswersSaid}
-use Rattle.omi_script.specs.ParserState.{after, after_line, line_in, may_stand}
+use Rattle.omi_script.specs.ParserState.{parser_after, after_line, line_in, may_stand}
 use Rattle.omi_script.specs.SaidFaults.{has_said_fault}
 use Rattle.omi_script.specs.declared.fault.LineError.{LineError}
 use Rattle.omi_script.specs.declared.fault.Why.{Why}
@@ -48,20 +48,20 @@ unknown_alone has other next to (Err (Fault why)) e f h = e ∙ sym f ∙ h
 unknown_alone has other next to (Err OutOfMemory) e f h = tt
 
 -- the answer at a line of text, from that at what it says
-pub line_answer : (state : ParserState) (bytes : List ℕ) (s : Line) (r : Result Parser LineError) → list_all is_text bytes ≡ true → line_of (words bytes) ≡ Some s → AnswersSaid state s r → Answers (has_fault state bytes) (after state bytes) r
+pub line_answer : (state : ParserState) (bytes : List ℕ) (s : Line) (r : Result Parser LineError) → list_all is_text bytes ≡ true → line_of (words bytes) ≡ Some s → AnswersSaid state s r → Answers (has_fault state bytes) (parser_after state bytes) r
 line_answer state bytes s r text says h = by_test (may_stand state s) refl
   where
     at : line_in state bytes ≡ (if may_stand state s then Some s else None)
     at = ap (λ o. option_and_then (λ x. if may_stand state x then Some x else None) o) says
 
-    by_test : (b : Bool) → may_stand state s ≡ b → Answers (has_fault state bytes) (after state bytes) r
+    by_test : (b : Bool) → may_stand state s ≡ b → Answers (has_fault state bytes) (parser_after state bytes) r
     by_test true stands =
         let said : line_in state bytes ≡ Some s = at ∙ ap (λ b. if b then Some s else None) stands in
         let faults : least (has_fault state bytes) ≡ least (has_said_fault state s) =
         least_of_text state bytes text ∙ ap (least_said state) said ∙ sym (ap (λ b. cond (not b) (Some UnknownWord) (least_said state (Some s))) stands) in
-        let next : after state bytes ≡ after_line state s = ap (λ o. option_map_or (after_line state) o state) said in
-        same_answer (has_fault state bytes) (has_said_fault state s) (after state bytes) (after_line state s) r faults next h
+        let next : parser_after state bytes ≡ after_line state s = ap (λ o. option_map_or (after_line state) o state) said in
+        same_answer (has_fault state bytes) (has_said_fault state s) (parser_after state bytes) (after_line state s) r faults next h
     by_test false stands =
         let said : line_in state bytes ≡ None = at ∙ ap (λ b. if b then Some s else None) stands in
-        unknown_alone (has_fault state bytes) (has_said_fault state s) (after state bytes) (after_line state s) r
+        unknown_alone (has_fault state bytes) (has_said_fault state s) (parser_after state bytes) (after_line state s) r
         (unknown_answer state bytes text said) (ap (λ b. cond (not b) (Some UnknownWord) (least_said state (Some s))) stands) h

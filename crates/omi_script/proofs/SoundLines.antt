@@ -10,7 +10,7 @@ use Rattle.omi_script.specs.Bodies.{named_by}
 use Rattle.omi_script.specs.Constructs.{over}
 use Rattle.omi_script.specs.LineFaults.{has_bad_number, has_unknown_name, is_over_limit, is_repeated, is_task_with_barrier, is_too_deep, nests_barrier, says_such}
 use Rattle.omi_script.specs.Names.{begins_name, continues_name, is_name, is_name_text, name_of, text_of}
-use Rattle.omi_script.specs.ParserState.{after_line, after_statement, is_called, may_stand, statement_in, statements_above, with_statement}
+use Rattle.omi_script.specs.ParserState.{after_line, after_statement, is_called, may_stand, statement_of_line, statements_above, with_statement}
 use Rattle.omi_script.specs.Ranges.{is_in_range}
 use Rattle.omi_script.specs.Reach.{Reach, is_allowed, names_rightly, reaches}
 use Rattle.omi_script.specs.declared.function.Func.{Func}
@@ -86,8 +86,8 @@ function_sound state name s is named new few =
     }
 
 -- after a statement's line
-statement_line_sound : (state : ParserState) (l : Line) (t : Stmt) → IsSoundState state → is_some state.opened ≡ true → statement_in state l ≡ Some t → is_in_range t ≡ true → IsBelow (length state.closed) (named_by t)
-    → says_such is_task_with_barrier state l ≡ false → says_such nests_barrier state l ≡ false → (nat_le MAX_STATEMENTS (statements_above state) || says_such is_too_deep state l) ≡ false → IsSoundState (after_statement state (statement_in state l))
+statement_line_sound : (state : ParserState) (l : Line) (t : Stmt) → IsSoundState state → is_some state.opened ≡ true → statement_of_line state l ≡ Some t → is_in_range t ≡ true → IsBelow (length state.closed) (named_by t)
+    → says_such is_task_with_barrier state l ≡ false → says_such nests_barrier state l ≡ false → (nat_le MAX_STATEMENTS (statements_above state) || says_such is_too_deep state l) ≡ false → IsSoundState (after_statement state (statement_of_line state l))
 statement_line_sound state l t sound opened at range named task nested over_limit =
     let above : List Reach = reaches [] state.closed in
     let f = some_of state.opened opened in
@@ -101,7 +101,7 @@ statement_line_sound state l t sound opened at range named task nested over_limi
     let room : statements_above state < MAX_STATEMENTS = leb-false MAX_STATEMENTS (statements_above state) (left_false (nat_le MAX_STATEMENTS (statements_above state)) _ over_limit) in
     let Open : Option Func → Type 0 = λ o. IsSoundOpen state.closed o in
     let open_now : IsSoundOpen state.closed (Some f.0) = subst Open f.1 sound.open_function in
-    let made : option_and_then (λ g. option_map (with_statement g) (statement_in state l)) state.opened ≡ Some (with_statement f.0 t) = ap (λ o. option_and_then (λ g. option_map (with_statement g) (statement_in state l)) o) f.1 ∙ ap (option_map (with_statement f.0)) at in
+    let made : option_and_then (λ g. option_map (with_statement g) (statement_of_line state l)) state.opened ≡ Some (with_statement f.0 t) = ap (λ o. option_and_then (λ g. option_map (with_statement g) (statement_of_line state l)) o) f.1 ∙ ap (option_map (with_statement f.0)) at in
     let Sound : Option Func → Type 0 = λ o. IsSoundState (record state { opened = o }) in
     subst Sound (sym made) (statement_sound state f.0 t f.1 room sound open_now allowed)
 
@@ -111,7 +111,7 @@ construct_sound : (state : ParserState) (name : List ℕ) (c : Option Construct)
 construct_sound state name c sound good opened said known task nested over_limit =
     let d = some_of c said in
     let n = some_of (position (is_called name) state.closed) known in
-    let at : statement_in state (line.Construct name c) ≡ Some (over d.0 n.0) = ap (λ o. option_and_then (λ e. option_map (over e) (position (is_called name) state.closed)) o) d.1 ∙ ap (option_map (over d.0)) n.1 in
+    let at : statement_of_line state (line.Construct name c) ≡ Some (over d.0 n.0) = ap (λ o. option_and_then (λ e. option_map (over e) (position (is_called name) state.closed)) o) d.1 ∙ ap (option_map (over d.0)) n.1 in
     let range : is_in_range (over d.0 n.0) ≡ true = range_over d.0 n.0 ∙ sym (ap (passes is_construct_in_range) d.1) ∙ good in
     let Below : Option ℕ → Type 0 = λ o. IsBelow (length state.closed) o in
     let named : IsBelow (length state.closed) (named_by (over d.0 n.0)) = subst Below (sym (named_over d.0 n.0)) (position_within (is_called name) state.closed n.0 n.1) in

@@ -5,7 +5,7 @@ use Rattle.std.specs.Option.{option_map_or, option_and_then}
 use Rattle.omi_script.specs.Line.{line_of}
 use Rattle.omi_script.specs.LineFaults.{has_bad_number, has_end_fault, has_fault, has_unknown_name, is_over_limit, is_repeated, is_task_with_barrier, least, nests_barrier, says_such}
 use Rattle.omi_script.specs.Lines.{lines, words}
-use Rattle.omi_script.specs.ParserState.{after, after_line, first_state, line_in, may_stand}
+use Rattle.omi_script.specs.ParserState.{parser_after, after_line, first_state, line_in, may_stand}
 use Rattle.omi_script.specs.Verdict.{Accepts, Refuses, Verdict, judge, refused_or, verdict}
 use Rattle.omi_script.specs.declared.fault.Why.{Why}
 use Rattle.omi_script.specs.declared.limits.TheConstants.{MAX_BYTES}
@@ -29,7 +29,7 @@ at_state state (Some x) l good e = by_test (may_stand state x) refl
     by_test false h = let found : None ≡ Some l = sym (ap (λ b. if b then Some x else None) h) ∙ e in absurd (cc found)
 
 -- a line without a fault leads from a state that keeps the rules to one that does
-pub after_sound : (state : ParserState) (bytes : List ℕ) → IsSoundState state → least (has_fault state bytes) ≡ None → IsSoundState (after state bytes)
+pub after_sound : (state : ParserState) (bytes : List ℕ) → IsSoundState state → least (has_fault state bytes) ≡ None → IsSoundState (parser_after state bytes)
 after_sound state bytes sound e =
     let has : Why → Bool = has_fault state bytes in
     let from8 : List Why = OverLimit ∷ NoMain ∷ Unclosed ∷ [] in
@@ -49,7 +49,7 @@ after_sound state bytes sound e =
     let s = some_of (line_in state bytes) (yes (is_some (line_in state bytes)) f2.0) in
     let said : (test : Line → Bool) → option_map_or test (line_in state bytes) false ≡ false → test s.0 ≡ false = λ test h. sym (ap (λ o. option_map_or test o false) s.1) ∙ h in
     let good = at_state state (line_of (words bytes)) s.0 (line_good (words bytes)) s.1 in
-    let to : after state bytes ≡ after_line state s.0 = ap (λ o. option_map_or (after_line state) o state) s.1 in
+    let to : parser_after state bytes ≡ after_line state s.0 = ap (λ o. option_map_or (after_line state) o state) s.1 in
     subst IsSoundState (sym to)
     (said_sound state s.0 sound good.0 good.1 (said has_bad_number f3.0) (said (has_unknown_name state) f4.0) (said (is_repeated state) f5.0)
     (said (says_such is_task_with_barrier state) f6.0) (said (says_such nests_barrier state) f7.0) (said (is_over_limit state) f8.0))
@@ -66,8 +66,8 @@ judged n state [] out sound e =
     let same : state ≡ out = cc accepted in
     (subst IsSoundState same sound, sym (ap (λ p. least (has_end_fault p)) same) ∙ u.0)
 judged n state (bytes ∷ more) out sound e =
-    let u = unfaulted (least (has_fault state bytes)) n (judge (n + 1) (after state bytes) more) out e in
-    judged (n + 1) (after state bytes) more out (after_sound state bytes sound u.0) u.1
+    let u = unfaulted (least (has_fault state bytes)) n (judge (n + 1) (parser_after state bytes) more) out e in
+    judged (n + 1) (parser_after state bytes) more out (after_sound state bytes sound u.0) u.1
 
 first_sound : IsSoundState first_state
 first_sound = record { head = record { threads = refl; sizes = refl; levels = refl; schedule = refl; device = refl; procs = refl }; count = omega arith; names = refl; distinct = refl; allowed = refl; statements = omega arith; open_function = tt }

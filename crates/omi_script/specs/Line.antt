@@ -12,9 +12,9 @@ function_line (name ∷ []) = Some (line.Function name)
 function_line _ = None
 
 -- `end`
-abbrev pub end_line : List (List ℕ) → Option Line
-end_line [] = Some line.End
-end_line _ = None
+abbrev pub closing_line : List (List ℕ) → Option Line
+closing_line [] = Some line.End
+closing_line _ = None
 
 -- what a line says that is no comment, by its first word and those behind it. None where it has
 -- no shape
@@ -23,7 +23,7 @@ line_by first rest =
     if bytes_eq first (codes "threads") then option_map line.Head (threads_line rest)
     else (if bytes_eq first (codes "env") then option_map line.Head (env_line rest)
     else (if bytes_eq first (codes "func") then function_line rest
-    else (if bytes_eq first (codes "end") then end_line rest
+    else (if bytes_eq first (codes "end") then closing_line rest
     else statement_line first rest)))
 
 -- the word begins with `#`

@@ -6,7 +6,7 @@ use Rattle.omi_script.specs.Lines.{is_text}
 use Rattle.omi_script.specs.Names.{is_name_text}
 use Rattle.omi_script.specs.HeadLines.{has_number, stands_above}
 use Rattle.omi_script.specs.Reach.{Reach, reach_at, reaches}
-use Rattle.omi_script.specs.ParserState.{line_in, is_called, statement_in, statements_above}
+use Rattle.omi_script.specs.ParserState.{line_in, is_called, statement_of_line, statements_above}
 use Rattle.omi_script.specs.declared.fault.Why.{Why}
 use Rattle.omi_script.specs.declared.fault.Why.TheVariants.{NotText, UnknownWord, BadNumber, UnknownName, Repeated, BarrierInTask, BarrierNested, OverLimit, NoMain, Unclosed}
 use Rattle.omi_script.specs.declared.limits.TheConstants.{MAX_FUNCTIONS, MAX_STATEMENTS, MAX_DEPTH}
@@ -54,7 +54,7 @@ is_too_deep above _ = false
 -- the line says a statement of which this holds
 abbrev pub says_such : (List Reach → Stmt → Bool) → ParserState → Line → Bool
 says_such test state line =
-    option_map_or (test (reaches [] state.closed)) (statement_in state line) false
+    option_map_or (test (reaches [] state.closed)) (statement_of_line state line) false
 
 -- a statement more than a script may have, or a region that is nested too deep
 abbrev pub is_statement_over_limit : ParserState → Line → Bool

@@ -52,11 +52,11 @@ is_called name f = bytes_eq (text_of f.name) name
 
 -- the statement of a line. None where it is none, a number is not in its range, or no closed
 -- function has the name
-abbrev pub statement_in : ParserState → Line → Option Stmt
-statement_in state (line.Construct name c) =
+abbrev pub statement_of_line : ParserState → Line → Option Stmt
+statement_of_line state (line.Construct name c) =
     option_and_then (λ d. option_map (over d) (position (is_called name) state.closed)) c
-statement_in state (line.StandAlone s) = s
-statement_in state _ = None
+statement_of_line state (line.StandAlone s) = s
+statement_of_line state _ = None
 
 -- how many statements stand above
 abbrev pub statements_above : ParserState → ℕ
@@ -79,11 +79,11 @@ after_line state (line.Head h) = record state { head = head_after state.head h }
 after_line state (line.Function name) =
     record state { opened = Some (record { name = name_of name; body = [] }) }
 after_line state (line.Construct name c) =
-    after_statement state (statement_in state (line.Construct name c))
+    after_statement state (statement_of_line state (line.Construct name c))
 after_line state (line.StandAlone s) = after_statement state s
 after_line state line.End =
     record state { closed = state.closed ++ option_to_list state.opened; opened = None }
 
 -- the state after a line without a fault
-abbrev pub after : ParserState → List ℕ → ParserState
-after state bytes = option_map_or (after_line state) (line_in state bytes) state
+abbrev pub parser_after : ParserState → List ℕ → ParserState
+parser_after state bytes = option_map_or (after_line state) (line_in state bytes) state

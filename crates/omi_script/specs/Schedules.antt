@@ -21,5 +21,5 @@ number_in [] word = None
 number_in (row ∷ rows) word = if bytes_eq word row.1 then Some row.0 else number_in rows word
 
 -- the number of the kind with a name
-abbrev pub kind_of : List ℕ → Option ℕ
-kind_of word = number_in schedule_kinds word
+abbrev pub schedule_kind_of : List ℕ → Option ℕ
+schedule_kind_of word = number_in schedule_kinds word

@@ -2,7 +2,7 @@
 -- first.
 use Rattle.std.specs.Prelude.{ℕ, ◌&&◌, ◌==◌, List, [], ◌∷◌, Option, Some, None, option_map, option_and_then, if◌then◌else◌, bytes_eq, codes}
 use Rattle.omi_script.specs.Numbers.{number_of}
-use Rattle.omi_script.specs.Schedules.{kind_of}
+use Rattle.omi_script.specs.Schedules.{schedule_kind_of}
 use Rattle.omi_script.specs.declared.line.Line.{Line}
 use Rattle.omi_script.specs.declared.line.Line.TheVariants as line
 use Rattle.omi_script.specs.declared.statement.Construct.{Construct}
@@ -16,8 +16,8 @@ abbrev pub numbered : List ℕ → (ℕ → Construct) → Option ℕ → Line
 numbered f make n = line.Construct f (option_map make n)
 
 -- a stand-alone statement with a number
-abbrev pub alone : (ℕ → Stmt) → Option ℕ → Line
-alone make n = line.StandAlone (option_map make n)
+abbrev pub stand_alone : (ℕ → Stmt) → Option ℕ → Line
+stand_alone make n = line.StandAlone (option_map make n)
 
 -- `parallel F` or `parallel F num N`, N 1 to 64
 abbrev pub parallel_line : List (List ℕ) → Option Line
@@ -29,23 +29,23 @@ parallel_line (f ∷ word ∷ n ∷ []) =
 parallel_line _ = None
 
 -- a task over a function, with what stands behind `if` and behind `final`, 0 or 1
-abbrev pub task_of : List ℕ → Option ℕ → Option ℕ → Line
-task_of f deferred last =
+abbrev pub task_construct : List ℕ → Option ℕ → Option ℕ → Line
+task_construct f deferred last =
     line.Construct f
     (option_and_then (λ d. option_map (λ l. construct.Task (d == 0) (l == 1)) last) deferred)
 
 -- `task F`, then `if B` or nothing, then `final B` or nothing, B 0 or 1
-abbrev pub task_line : List (List ℕ) → Option Line
-task_line (f ∷ []) = Some (task_of f (Some 1) (Some 0))
-task_line (f ∷ word ∷ b ∷ []) =
-    if bytes_eq word (codes "if") then Some (task_of f (number_of 0 1 b) (Some 0))
-    else (if bytes_eq word (codes "final") then Some (task_of f (Some 1) (number_of 0 1 b))
+abbrev pub task_construct_line : List (List ℕ) → Option Line
+task_construct_line (f ∷ []) = Some (task_construct f (Some 1) (Some 0))
+task_construct_line (f ∷ word ∷ b ∷ []) =
+    if bytes_eq word (codes "if") then Some (task_construct f (number_of 0 1 b) (Some 0))
+    else (if bytes_eq word (codes "final") then Some (task_construct f (Some 1) (number_of 0 1 b))
     else None)
-task_line (f ∷ word ∷ b ∷ other ∷ c ∷ []) =
+task_construct_line (f ∷ word ∷ b ∷ other ∷ c ∷ []) =
     if bytes_eq word (codes "if") && bytes_eq other (codes "final")
-    then Some (task_of f (number_of 0 1 b) (number_of 0 1 c))
+    then Some (task_construct f (number_of 0 1 b) (number_of 0 1 c))
     else None
-task_line _ = None
+task_construct_line _ = None
 
 -- `taskwait`, `taskyield`, `barrier` or `work`, and no other word
 abbrev pub bare_line : Stmt → List (List ℕ) → Option Line
@@ -74,35 +74,35 @@ repeat_line _ = None
 
 -- `set_num_threads N`, N 1 to 64
 abbrev pub set_num_threads_line : List (List ℕ) → Option Line
-set_num_threads_line (n ∷ []) = Some (alone SetNumThreads (number_of 1 MAX_SIZE n))
+set_num_threads_line (n ∷ []) = Some (stand_alone SetNumThreads (number_of 1 MAX_SIZE n))
 set_num_threads_line _ = None
 
 -- `set_dynamic B`, B 0 or 1
 abbrev pub set_dynamic_line : List (List ℕ) → Option Line
-set_dynamic_line (b ∷ []) = Some (alone (λ n. SetDynamic (n == 1)) (number_of 0 1 b))
+set_dynamic_line (b ∷ []) = Some (stand_alone (λ n. SetDynamic (n == 1)) (number_of 0 1 b))
 set_dynamic_line _ = None
 
 -- `set_max_active_levels N`, N 0 to 255
 abbrev pub set_max_active_line : List (List ℕ) → Option Line
-set_max_active_line (n ∷ []) = Some (alone SetMaxActive (number_of 0 MAX_LEVELS n))
+set_max_active_line (n ∷ []) = Some (stand_alone SetMaxActive (number_of 0 MAX_LEVELS n))
 set_max_active_line _ = None
 
 -- `set_schedule KIND CHUNK`, CHUNK 0 to 65535
 abbrev pub set_schedule_line : List (List ℕ) → Option Line
 set_schedule_line (kind ∷ chunk ∷ []) =
     option_map
-    (λ k. alone (λ n. SetSchedule (record { kind = k; chunk = n })) (number_of 0 MAX_CHUNK chunk))
-    (kind_of kind)
+    (λ k. stand_alone (λ n. SetSchedule (record { kind = k; chunk = n })) (number_of 0 MAX_CHUNK chunk))
+    (schedule_kind_of kind)
 set_schedule_line _ = None
 
 -- `set_default_device N`, N 0 to 255
 abbrev pub set_device_line : List (List ℕ) → Option Line
-set_device_line (n ∷ []) = Some (alone SetDevice (number_of 0 MAX_DEVICE n))
+set_device_line (n ∷ []) = Some (stand_alone SetDevice (number_of 0 MAX_DEVICE n))
 set_device_line _ = None
 
 -- `tool X`, X any word
 abbrev pub tool_line : List (List ℕ) → Option Line
-tool_line (x ∷ []) = Some (alone Tool (number_of 0 18446744073709551615 x))
+tool_line (x ∷ []) = Some (stand_alone Tool (number_of 0 18446744073709551615 x))
 tool_line _ = None
 
 -- a statement that sets an internal control variable or a task's word, by its first word
@@ -120,7 +120,7 @@ set_line first rest =
 abbrev pub statement_line : List ℕ → List (List ℕ) → Option Line
 statement_line first rest =
     if bytes_eq first (codes "parallel") then parallel_line rest
-    else (if bytes_eq first (codes "task") then task_line rest
+    else (if bytes_eq first (codes "task") then task_construct_line rest
     else (if bytes_eq first (codes "taskwait") then bare_line Taskwait rest
     else (if bytes_eq first (codes "taskyield") then bare_line Taskyield rest
     else (if bytes_eq first (codes "barrier") then bare_line Barrier rest

@@ -2,7 +2,7 @@
 use Rattle.std.specs.Prelude.{ℕ, nat_le, ◌+◌, List, [], ◌∷◌, length, Option, if◌then◌else◌}
 use Rattle.std.specs.Option.{option_map_or}
 use Rattle.omi_script.specs.Lines.{lines}
-use Rattle.omi_script.specs.ParserState.{first_state, after}
+use Rattle.omi_script.specs.ParserState.{first_state, parser_after}
 use Rattle.omi_script.specs.LineFaults.{has_fault, has_end_fault, least}
 use Rattle.omi_script.specs.declared.fault.ScriptFault.{ScriptFault}
 use Rattle.omi_script.specs.declared.fault.Why.{Why}
@@ -25,7 +25,7 @@ refused_or n why v = option_map_or (λ w. Refuses (record { line = n; why = w })
 abbrev pub judge : ℕ → ParserState → List (List ℕ) → Verdict
 judge n state [] = refused_or n (least (has_end_fault state)) (Accepts state)
 judge n state (line ∷ more) =
-    refused_or n (least (has_fault state line)) (judge (n + 1) (after state line) more)
+    refused_or n (least (has_fault state line)) (judge (n + 1) (parser_after state line) more)
 
 -- the verdict on a text. One that is too long is refused before all else
 abbrev pub verdict : List ℕ → Verdict

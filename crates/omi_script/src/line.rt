@@ -2,7 +2,7 @@
 ghost use Rattle.std.specs.Prelude.{◌≡◌, ◌<◌, length, option_map, IfOk};
 ghost use Rattle.omi_script.specs.declared.line.Line.TheVariants.{Head};
 ghost use Rattle.omi_script.specs.Lines.{words};
-ghost use Rattle.omi_script.specs.Line.{begins_comment, function_line, end_line, line_by, line_of};
+ghost use Rattle.omi_script.specs.Line.{begins_comment, function_line, closing_line, line_by, line_of};
 
 use crate::head_lines::{env, threads};
 use crate::pieces::{Word, Words};
@@ -61,7 +61,7 @@ fn function<'a>(words: &mut Words<'a>) -> Option<Line<'a>>
 
 /// `end`
 fn end<'a>(words: &mut Words<'a>) -> Option<Line<'a>>
-    ensures { result ≡ end_line words.old }
+    ensures { result ≡ closing_line words.old }
 {
     match words.next() {
         None => Some(Line::End),

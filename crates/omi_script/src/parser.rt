@@ -36,7 +36,7 @@ pub struct Parser {
 
 impl Parser {
     ghost use Rattle.std.specs.Prelude.{◌≡◌, position, codes, IfOk, IfErr};
-    ghost use Rattle.omi_script.specs.ParserState.{first_state, after, is_called};
+    ghost use Rattle.omi_script.specs.ParserState.{first_state, parser_after, is_called};
     ghost use Rattle.omi_script.specs.LineFaults.{has_fault, has_end_fault, least};
     ghost use Rattle.omi_script.specs.ParserAnswers.{Answers, AnswersSaid, AnswersStatement, MayEnd, EndAnswers};
     ghost use Rattle.omi_script.specs.declared.line.Line.TheVariants as says;
@@ -193,7 +193,7 @@ impl Parser {
 
     /// Reads a line: the state after it, or its least fault.
     pub fn read(self, alloc: Global, bytes: &[u8]) -> Result<Parser, LineError>
-        ensures { Answers (has_fault self.state bytes.now) (after self.state bytes.now) result }
+        ensures { Answers (has_fault self.state bytes.now) (parser_after self.state bytes.now) result }
     {
         if !are_text(bytes) {
             return Err(LineError::Fault(Why::NotText));

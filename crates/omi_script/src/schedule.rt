@@ -1,7 +1,7 @@
 //! The kinds of a schedule by OpenMP 5.0, by number and by name.
 ghost use Rattle.std.specs.Prelude.{◌≡◌};
 ghost use Rattle.std.specs.Option.{option_copied};
-ghost use Rattle.omi_script.specs.Schedules.{schedule_kinds, name_in, kind_of};
+ghost use Rattle.omi_script.specs.Schedules.{schedule_kinds, name_in, schedule_kind_of};
 
 /// The name of a schedule kind, 1 to 4. None for a number that this profile gives no kind.
 pub fn kind_name(kind: u64) -> Option<&'static str>
@@ -18,7 +18,7 @@ pub fn kind_name(kind: u64) -> Option<&'static str>
 
 /// The number of the schedule kind with a name. None where no kind has it.
 pub fn kind_number(word: &[u8]) -> Option<u8>
-    ensures { result ≡ kind_of word.now }
+    ensures { result ≡ schedule_kind_of word.now }
 {
     if word == b"static".as_slice() {
         Some(1)

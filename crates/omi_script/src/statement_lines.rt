@@ -1,6 +1,6 @@
 //! Statements: what each line says, by the words behind the first.
 ghost use Rattle.std.specs.Prelude.{◌≡◌, ◌∷◌, []};
-ghost use Rattle.omi_script.specs.StatementLines.{parallel_line, task_of, task_line, bare_line, critical_line, call_line, only_line, repeat_line, set_num_threads_line, set_dynamic_line, set_max_active_line, set_schedule_line, set_device_line, tool_line, set_line, statement_line};
+ghost use Rattle.omi_script.specs.StatementLines.{parallel_line, task_construct, task_construct_line, bare_line, critical_line, call_line, only_line, repeat_line, set_num_threads_line, set_dynamic_line, set_max_active_line, set_schedule_line, set_device_line, tool_line, set_line, statement_line};
 
 use crate::Stmt;
 use crate::head_lines::schedule;
@@ -31,7 +31,7 @@ fn parallel<'a>(words: &mut Words<'a>) -> Option<Line<'a>>
 
 /// A task over a function, with what stands behind `if` and behind `final`.
 fn task_of(f: &[u8], deferred: Option<u8>, last: Option<u8>) -> Line<'_>
-    ensures { result ≡ task_of f.now deferred last }
+    ensures { result ≡ task_construct f.now deferred last }
 {
     match (deferred, last) {
         (Some(deferred), Some(last)) => Line::Construct(
@@ -47,7 +47,7 @@ fn task_of(f: &[u8], deferred: Option<u8>, last: Option<u8>) -> Line<'_>
 
 /// `task F if B` or `task F final B`
 fn task_with_one<'a>(f: &'a [u8], word: &[u8], b: &[u8]) -> Option<Line<'a>>
-    ensures { result ≡ task_line (f.now ∷ word.now ∷ b.now ∷ []) }
+    ensures { result ≡ task_construct_line (f.now ∷ word.now ∷ b.now ∷ []) }
 {
     if word == b"if".as_slice() {
         Some(task_of(f, number_u8(b, 0, 1), Some(0)))
@@ -66,7 +66,7 @@ fn task_with_both<'a>(
     other: &[u8],
     c: &[u8],
 ) -> Option<Line<'a>>
-    ensures { result ≡ task_line (f.now ∷ word.now ∷ b.now ∷ other.now ∷ c.now ∷ []) }
+    ensures { result ≡ task_construct_line (f.now ∷ word.now ∷ b.now ∷ other.now ∷ c.now ∷ []) }
 {
     if word == b"if".as_slice() && other == b"final".as_slice() {
         Some(task_of(f, number_u8(b, 0, 1), number_u8(c, 0, 1)))
@@ -77,7 +77,7 @@ fn task_with_both<'a>(
 
 /// `task F`, then `if B` or nothing, then `final B` or nothing
 fn task<'a>(words: &mut Words<'a>) -> Option<Line<'a>>
-    ensures { result ≡ task_line words.old }
+    ensures { result ≡ task_construct_line words.old }
 {
     let f = words.next()?;
     let Some(word) = words.next() else {

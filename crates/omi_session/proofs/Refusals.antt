@@ -13,7 +13,7 @@ use Rattle.omi_session.specs.declared.rc.Rc.TheVariants.{Unavailable, StaleHandl
 use Rattle.omi_session.specs.Opening.{Refuses, StopsAt}
 
 -- the word that a fault names is one of the table
-pub named_within : (w : List ℕ) (fault : LayoutFault) → valid.Refuses w fault → word_named fault < 56
+pub named_within : (w : List ℕ) (fault : LayoutFault) → valid.RefusesTable w fault → word_named fault < 56
 named_within w (Version v) r = omega arith
 named_within w (OutOfRecord f) r = omega (arith, r.is.to)
 named_within w (Overlap f g) r = omega (arith, r.second.to)

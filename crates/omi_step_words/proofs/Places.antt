@@ -6,7 +6,7 @@ use Rattle.omi_layout.specs.Place.{IsSlot, IsSlotAt, slot_address}
 use Rattle.omi_layout.proofs.Arenas.{test_left, test_right}
 use Rattle.omi_layout.specs.Table.{makers, per_thread, place, size}
 use Rattle.omi_pc.specs.declared.place.Place.{Place}
-use Rattle.omi_step_words.specs.Words.{slot_by, index_by, begins_at, first_place, place_at}
+use Rattle.omi_step_words.specs.Words.{slot_by, index_by, begins_at, initial_place, place_at}
 
 gap_of : (a d i s : ℕ) → d ≡ a + 8 * (i * s) → d - a ≡ i * (8 * s) + 0
 gap_of a d i s e = omega (arith, e)
@@ -32,13 +32,13 @@ module _ (w : List ℕ) (kind address : ℕ) where
       rw here same
 
   -- and the first place where no record begins there
-  pub no_place : 0 < per_thread w kind → IsSlotAt w kind address None → place_at w kind address ≡ first_place
+  pub no_place : 0 < per_thread w kind → IsSlotAt w kind address None → place_at w kind address ≡ initial_place
   no_place some none = by (begins_at w kind address at) refl
     where
       at : Place
       at = slot_by w kind (index_by w kind address)
 
-      by : (b : Bool) → begins_at w kind address at ≡ b → place_at w kind address ≡ first_place
+      by : (b : Bool) → begins_at w kind address at ≡ b → place_at w kind address ≡ initial_place
       by true e =
           let made : at.creator < makers w kind = ltb-true at.creator (makers w kind) (test_left (nat_lt at.creator (makers w kind)) (slot_address w kind at.creator at.slot == address) e) in
           let there : slot_address w kind at.creator at.slot ≡ address = eqb-true (slot_address w kind at.creator at.slot) address (test_right (nat_lt at.creator (makers w kind)) (slot_address w kind at.creator at.slot == address) e) in

@@ -1,4 +1,5 @@
 -- How a step leaves an actor: at another counter of a family, with another thing gathered.
+use Rattle.std.specs.Prelude.{ℕ, slice_set}
 use Rattle.omi_model.specs.declared.id.Tid.{Tid}
 use Rattle.omi_pc.specs.declared.actor.Actor.{Actor}
 use Rattle.omi_pc.specs.declared.counter.Counter.TheVariants as counter
@@ -37,6 +38,11 @@ to_finish c a = record a { counter = counter.Finish c }
 -- this is gathered
 abbrev pub gathering : Gathered → Actor → Actor
 gathering g a = record a { gathered = g }
+
+-- a word of a data environment was loaded
+abbrev pub with_loaded_variable : ℕ → ℕ → Actor → Actor
+with_loaded_variable word old a =
+    gathering (record a.gathered { variables = slice_set a.gathered.variables word old }) a
 
 -- the task from which the current one is scheduled
 abbrev pub task_under : Actor → Tid

@@ -74,15 +74,15 @@ abbrev pub begins_at : List ℕ → ℕ → ℕ → Place → Bool
 begins_at w kind address at =
     nat_lt at.creator (makers w kind) && slot_address w kind at.creator at.slot == address
 
-abbrev pub first_place : Place
-first_place = record { creator = 0; slot = 0 }
+abbrev pub initial_place : Place
+initial_place = record { creator = 0; slot = 0 }
 
 -- the slot whose record begins at an address. The first one stands where no record begins there, which no word that is read
 -- back names
 abbrev pub place_at : List ℕ → ℕ → ℕ → Place
 place_at w kind address =
     let at = slot_by w kind (index_by w kind address) in
-    if begins_at w kind address at then at else first_place
+    if begins_at w kind address at then at else initial_place
 
 abbrev pub task_place : List ℕ → ℕ → Place
 task_place w address = place_at w tasks address

@@ -9,7 +9,7 @@ use Rattle.omi_layout.specs.Valid.{IsValid}
 use Rattle.omi_layout.proofs.Arenas.{index_few, tasks_of_valid, threads_of_valid}
 use Rattle.omi_pc.specs.declared.place.Place.{Place}
 use Rattle.omi_step_words.specs.Placed.{HasTask}
-use Rattle.omi_step_words.specs.Words.{first_place, generation_of, slot_by, used_word}
+use Rattle.omi_step_words.specs.Words.{initial_place, generation_of, slot_by, used_word}
 use Rattle.omi_step_words.proofs.ReadBack.{generations_back}
 use Rattle.omi_task.specs.SlotLaws.{CodesAreNotZero, CodesAreReadBack}
 use Rattle.omi_task.specs.Slots.{coded_place, slot_word}
@@ -37,7 +37,7 @@ module _ (w : List ℕ) (k : Tid) (valid : IsValid w) (there : HasTask w k) wher
   by_index =
       ap₂ {C = Place} (λ a b. record { creator = a; slot = b }) (div-mul-add k.0.creator (per_thread w tasks) k.0.slot there.within) (mod-mul-add k.0.creator (per_thread w tasks) k.0.slot there.within)
 
-  chosen : (x : Place) → x ≡ at → (if nat_lt x.creator (makers w tasks) then x else first_place) ≡ at
+  chosen : (x : Place) → x ≡ at → (if nat_lt x.creator (makers w tasks) then x else initial_place) ≡ at
   chosen x same =
       let maker = there.made_by in
       let inside : nat_lt k.0.creator (makers w tasks) ≡ true = grind (arith, nat_tests, maker) in

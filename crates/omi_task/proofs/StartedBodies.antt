@@ -18,7 +18,7 @@ use Rattle.omi_pc.specs.Moves.{context_under}
 use Rattle.omi_pc.specs.OpenBodies.{AreOpen, IsAt, IsContext, IsWaiting}
 use Rattle.omi_pc.specs.Stacks.{opens_task, task_function}
 use Rattle.omi_pc.proofs.Settled.{named_there}
-use Rattle.omi_task.specs.MakingSteps.{function_in, made_function, makes_final}
+use Rattle.omi_task.specs.MakingSteps.{explicit_function, made_function, makes_final}
 use Rattle.omi_task.specs.Starts.{task_context}
 
 -- a body is open where a task waits
@@ -74,7 +74,7 @@ module _ (p : Program) (a : Actor) (t : Tid) (stands : OpenedBodyStands) (fits :
       → AreOpen p (task_context a t (makes_final p a)) (at_start (made_function p a) (Task None a.context) ∷ a.stack)
   opens (stmt.Task f undeferred final) at is =
       let c = context_there p a.context a.stack fits.bodies (some_at p a.stack (stmt.Task f undeferred final) at) in
-      let function : made_function p a ≡ f = ap function_in at in
+      let function : made_function p a ≡ f = ap explicit_function at in
       rw function
       (stands p (task_context a t (makes_final p a)) f (Task None a.context) a.stack (named_there p a.context a.stack (stmt.Task f undeferred final) f fits.bodies at refl)
       (record {

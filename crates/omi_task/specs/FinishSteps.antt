@@ -56,8 +56,8 @@ wait_of [] = None
 wait_of (f ∷ fs) = wait_by f.opened
 
 -- the task has finished, and the one below is current again
-abbrev pub finished : Actor → Actor
-finished a = to_finish (finish.LoadGenerating (wait_of a.stack) a.context.task) (closed a)
+abbrev pub past_finish : Actor → Actor
+past_finish a = to_finish (finish.LoadGenerating (wait_of a.stack) a.context.task) (closed a)
 
 -- an explicit task above, by the life word of its record and the word that names its generating task
 abbrev pub ancestor_at : Place → ℕ → ℕ → Ancestor
@@ -79,7 +79,7 @@ behind_finish p (Some v) = counter.Look (if p.env.debug then look.State v else l
 
 -- where the step found the word `old`. No step leads to the counters that give records back yet
 abbrev pub finish_moved : Program → List ℕ → Actor → FinishCounter → ℕ → Actor
-finish_moved p w a finish.Finish old = finished a
+finish_moved p w a finish.Finish old = past_finish a
 finish_moved p w a (finish.LoadGenerating v t) old =
     to_finish (finish.SubtractChildren v t (task_place w old)) a
 finish_moved p w a (finish.SubtractChildren v t generating) old =

@@ -28,7 +28,7 @@ use Rattle.omi_pc.specs.declared.task_counter.LookCounter.{LookCounter}
 use Rattle.omi_pc.specs.declared.task_counter.LookCounter.TheVariants as look
 use Rattle.omi_pc.specs.declared.team_counter.BarrierCounter.TheVariants as barrier
 use Rattle.omi_pc.specs.Fits.{slots_of}
-use Rattle.omi_pc.specs.Moves.{begun_explicit, working}
+use Rattle.omi_pc.specs.Moves.{begun_explicit, back_to_work}
 use Rattle.omi_pc.specs.Settle.{goes_to, settled}
 use Rattle.omi_step_words.specs.Moving.{to_look}
 use Rattle.omi_step_words.specs.Plan.{filling}
@@ -109,10 +109,10 @@ behind_start_word v n code t f final word =
 -- the body of a started task begins. The thread's state is stored first, but not at `taskyield`, where none was
 abbrev pub body_begun : Program → Wait → Actor → Actor
 body_begun p wait.Taskyield a = settled p a
-body_begun p v a = working p a
+body_begun p v a = back_to_work p a
 
-abbrev pub started : Program → Wait → Tid → ℕ → Bool → Actor → Actor
-started p v t f final a = body_begun p v (begun_explicit f (Some v) (task_context a t final) a)
+abbrev pub past_start : Program → Wait → Tid → ℕ → Bool → Actor → Actor
+past_start p v t f final a = body_begun p v (begun_explicit f (Some v) (task_context a t final) a)
 
 -- ---- moves
 
@@ -134,9 +134,9 @@ look_moved p w a (look.LoadFinal v n code t f) old =
     to_look (look.Fill v n code t f (not (old == 0)) 0) a
 look_moved p w a (look.Fill v n code t f final word) old =
     to_look (behind_start_word v n code t f final word) a
-look_moved p w a (look.Start v n code t f final) old = started p v t f final a
+look_moved p w a (look.Start v n code t f final) old = past_start p v t f final a
 look_moved p w a look.LoadChildren old =
-    if old == 0 then working p a else to_look (look.LoadRow wait.Taskwait 0) a
+    if old == 0 then back_to_work p a else to_look (look.LoadRow wait.Taskwait 0) a
 look_moved p w a (look.Yield n) old = goes_to plain.Leave a
 
 -- ---- outcomes

@@ -1,6 +1,6 @@
 -- The steps of a `task` construct: it looks for an own slot that is empty, makes the record of the new task, raises the counts of
 -- unfinished tasks, and defers the task into the slot or starts it at once.
-use Rattle.std.specs.Prelude.{ℕ, ◌==◌, ◌+◌, ◌||◌, nat_lt, Bool, false, List, slice_set, Option, Some, None, if◌then◌else◌}
+use Rattle.std.specs.Prelude.{ℕ, ◌==◌, ◌+◌, ◌||◌, nat_lt, Bool, false, List, Option, Some, None, if◌then◌else◌}
 use Rattle.omi_word.specs.declared.op.Op.{Op}
 use Rattle.omi_word.specs.declared.op.Op.TheVariants as op
 use Rattle.omi_script.specs.declared.program.Program.{Program}
@@ -25,7 +25,7 @@ use Rattle.omi_pc.specs.Frames.{statement_of}
 use Rattle.omi_pc.specs.Moves.{begun_explicit}
 use Rattle.omi_pc.specs.Settle.{goes_to, settled}
 use Rattle.omi_step_words.specs.declared.plan.NewTask.{NewTask}
-use Rattle.omi_step_words.specs.Moving.{gathering, to_task}
+use Rattle.omi_step_words.specs.Moving.{gathering, to_task, with_loaded_variable}
 use Rattle.omi_step_words.specs.Plan.{filling, of_variable, task_plan}
 use Rattle.omi_step_words.specs.Searches.{next_slot, own_place, search_outcome}
 use Rattle.omi_step_words.specs.Words.{is_free, object_in, of_place, of_region, of_task, of_thread, used_word}
@@ -35,9 +35,9 @@ use Rattle.omi_task.specs.Starts.{task_context, task_depth}
 -- ---- the statement
 
 -- the function of a `task` construct, and whether its clause makes the task final
-abbrev pub function_in : Option Stmt → ℕ
-function_in (Some (stmt.Task f undeferred final)) = f
-function_in _ = 0
+abbrev pub explicit_function : Option Stmt → ℕ
+explicit_function (Some (stmt.Task f undeferred final)) = f
+explicit_function _ = 0
 
 abbrev pub final_in : Option Stmt → Bool
 final_in (Some (stmt.Task f undeferred final)) = final
@@ -45,7 +45,7 @@ final_in _ = false
 
 -- those of the construct in work. A task is final where its clause says so or the task that makes it is
 abbrev pub made_function : Program → Actor → ℕ
-made_function p a = function_in (statement_of p a.stack)
+made_function p a = explicit_function (statement_of p a.stack)
 
 abbrev pub makes_final : Program → Actor → Bool
 makes_final p a = final_in (statement_of p a.stack) || a.context.is_final
@@ -99,14 +99,10 @@ behind_slot place old =
     else (if nat_lt (place + 1) OWN_SLOTS then task.LoadSlot (place + 1)
     else task.LoadVariable None 0)
 
-abbrev pub behind_variable : Option ℕ → ℕ → TaskCounter
-behind_variable place word =
+abbrev pub behind_task_variable : Option ℕ → ℕ → TaskCounter
+behind_task_variable place word =
     if nat_lt (word + 1) VARIABLE_WORDS then task.LoadVariable place (word + 1)
     else task.LoadLife place 0
-
-abbrev pub with_variable : ℕ → ℕ → Actor → Actor
-with_variable word value a =
-    gathering (record a.gathered { variables = slice_set a.gathered.variables word value }) a
 
 -- the life word of an own record was looked at
 abbrev pub behind_life : List ℕ → Actor → Option ℕ → ℕ → ℕ → TaskCounter
@@ -124,15 +120,15 @@ behind_raises None t = task.StartNow t
 behind_raises (Some place) t = task.Defer place t
 
 -- the new task is current, on top of the task that made it
-abbrev pub started_now : Program → Tid → Actor → Actor
-started_now p t a =
+abbrev pub past_start_now : Program → Tid → Actor → Actor
+past_start_now p t a =
     settled p (begun_explicit (made_function p a) None (task_context a t (makes_final p a)) a)
 
 -- where the step found the word `old`. No step leads to the raise of references yet
 abbrev pub making_moved : Program → List ℕ → Actor → TaskCounter → ℕ → Actor
 making_moved p w a (task.LoadSlot place) old = to_task (behind_slot place old) a
 making_moved p w a (task.LoadVariable place word) old =
-    to_task (behind_variable place word) (with_variable word old a)
+    to_task (behind_task_variable place word) (with_loaded_variable word old a)
 making_moved p w a (task.LoadLife place slot) old = to_task (behind_life w a place slot old) a
 making_moved p w a (task.Take place t) old = to_task (task.Fill place t 0) a
 making_moved p w a (task.Fill place t word) old = to_task (behind_word place t word) a
@@ -140,7 +136,7 @@ making_moved p w a (task.AddPending place t) old = to_task (task.AddChildren pla
 making_moved p w a (task.AddChildren place t) old = to_task (behind_raises place t) a
 making_moved p w a (task.AddReferences place t) old = to_task (behind_raises place t) a
 making_moved p w a (task.Defer place t) old = goes_to Leave a
-making_moved p w a (task.StartNow t) old = started_now p t a
+making_moved p w a (task.StartNow t) old = past_start_now p t a
 
 -- ---- outcomes
 

@@ -5,7 +5,7 @@ use Rattle.omi_layout.specs.Field.{tasks}
 use Rattle.omi_layout.specs.Place.{index_of}
 use Rattle.omi_layout.specs.Table.{makers}
 use Rattle.omi_pc.specs.declared.place.Place.{Place}
-use Rattle.omi_step_words.specs.Words.{first_place, object_in, slot_by, used_word}
+use Rattle.omi_step_words.specs.Words.{initial_place, object_in, slot_by, used_word}
 
 -- the code of a deferred task, by the life word and the number of its record. A slot without a task has 0
 abbrev pub slot_word : List ℕ → Tid → ℕ
@@ -15,7 +15,7 @@ slot_word w k = used_word k.0 * 2 ^ 24 + index_of w tasks k.0.creator k.0.slot
 abbrev pub coded_place : List ℕ → ℕ → Place
 coded_place w code =
     let at = slot_by w tasks (code % 2 ^ 24) in
-    if nat_lt at.creator (makers w tasks) then at else first_place
+    if nat_lt at.creator (makers w tasks) then at else initial_place
 
 -- the task that a code names
 abbrev pub coded_task : List ℕ → ℕ → Tid

@@ -7,7 +7,7 @@ ghost use Rattle.omi_pc.specs.declared.counter.Counter.TheVariants as counter;
 ghost use Rattle.omi_pc.specs.declared.task_counter.FinishCounter.TheVariants.{Finish};
 ghost use Rattle.omi_step_words.specs.Moving.{to_finish};
 ghost use Rattle.omi_step_words.specs.Placed.{IsPlaced};
-ghost use Rattle.omi_task.specs.FinishSteps.{behind_finish, behind_references, finish_moved, finish_next, finish_outcome, finished, wait_of};
+ghost use Rattle.omi_task.specs.FinishSteps.{behind_finish, behind_references, finish_moved, finish_next, finish_outcome, past_finish, wait_of};
 
 use omi_layout::{Field, Layout};
 use omi_model::{Event, Tid};
@@ -94,7 +94,7 @@ fn to_finish(a: &mut Actor, c: FinishCounter)
 
 /// The current task has finished.
 fn finish(a: &mut Actor)
-    ensures { a.new ≡ finished a.old }
+    ensures { a.new ≡ past_finish a.old }
 {
     let wait = wait_of(a);
     let task = a.context.task;

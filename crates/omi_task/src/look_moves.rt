@@ -9,7 +9,7 @@ ghost use Rattle.omi_pc.specs.OpenBodies.{IsWaiting};
 ghost use Rattle.omi_pc.specs.Stacks.{task_function};
 ghost use Rattle.omi_step_words.specs.Moving.{to_look};
 ghost use Rattle.omi_step_words.specs.Placed.{IsPlaced};
-ghost use Rattle.omi_task.specs.LookSteps.{behind_code, behind_look, behind_start_word, look_at, look_moved, look_outcome, looking_on, next_look, started};
+ghost use Rattle.omi_task.specs.LookSteps.{behind_code, behind_look, behind_start_word, look_at, look_moved, look_outcome, looking_on, next_look, past_start};
 
 use crate::look::look_outcome;
 use crate::slots::coded_task;
@@ -147,7 +147,7 @@ fn start(p: &Program, a: &mut Actor, wait: Wait, task: Tid, function: u8, is_fin
     requires waits { IsWaiting p.now a.old.context a.old.stack wait }
     requires maker { task.0.creator < p.now.threads }
     requires below { function < task_function a.old.stack }
-    ensures { a.new ≡ started p.now wait task function is_final a.old }
+    ensures { a.new ≡ past_start p.now wait task function is_final a.old }
 {
     stacks_have_room();
     bodies_stand();

@@ -7,9 +7,9 @@ ghost use Rattle.omi_pc.specs.declared.counter.Counter.TheVariants as counter;
 ghost use Rattle.omi_pc.specs.declared.limits.TheConstants.{OWN_SLOTS, TASK_WORDS, VARIABLE_WORDS};
 ghost use Rattle.omi_pc.specs.declared.task_counter.TaskCounter.TheVariants as task;
 ghost use Rattle.omi_pc.specs.Fits.{Fits, HasVariables, IsTaskGot};
-ghost use Rattle.omi_step_words.specs.Moving.{to_task};
+ghost use Rattle.omi_step_words.specs.Moving.{to_task, with_loaded_variable};
 ghost use Rattle.omi_step_words.specs.Placed.{IsPlaced, Searches};
-ghost use Rattle.omi_task.specs.MakingSteps.{behind_life, behind_raises, behind_slot, behind_variable, behind_word, making_moved, making_outcome, started_now, with_variable};
+ghost use Rattle.omi_task.specs.MakingSteps.{behind_life, behind_raises, behind_slot, behind_task_variable, behind_word, making_moved, making_outcome, past_start_now};
 ghost use Rattle.std.specs.Prelude.{None};
 
 use crate::making::{made_function, makes_final, making_outcome};
@@ -53,7 +53,7 @@ fn behind_slot(place: u8, old: u64) -> TaskCounter
 /// The counter behind the load of a word of a data environment.
 fn behind_variable(place: Option<u8>, word: u8) -> TaskCounter
     requires { word < VARIABLE_WORDS }
-    ensures { result ≡ behind_variable place word }
+    ensures { result ≡ behind_task_variable place word }
 {
     let next = word + 1;
     if (next as usize) < VARIABLE_WORDS {
@@ -67,7 +67,7 @@ fn behind_variable(place: Option<u8>, word: u8) -> TaskCounter
 fn keep_variable(a: &mut Actor, word: u8, value: u64)
     requires variables { HasVariables a.old }
     requires word { word < VARIABLE_WORDS }
-    ensures { a.new ≡ with_variable word value a.old }
+    ensures { a.new ≡ with_loaded_variable word value a.old }
 {
     a.gathered.variables[word as usize] = value;
 }
@@ -121,7 +121,7 @@ fn behind_raises(place: Option<u8>, task: Tid) -> TaskCounter
 fn start_now(p: &Program, a: &mut Actor, task: Tid)
     requires fits { Fits p.now a.old }
     requires got { IsTaskGot p.now a.old None task }
-    ensures { a.new ≡ started_now p.now task a.old }
+    ensures { a.new ≡ past_start_now p.now task a.old }
 {
     stacks_have_room();
     bodies_stand();

@@ -2,7 +2,7 @@
 use Rattle.std.specs.Prelude.{ℕ, ◌==◌, List, [], ◌∷◌, ◌++◌, codes, if◌then◌else◌}
 use Rattle.std.specs.Fmt.{decimal}
 use Rattle.omi_model.specs.declared.view.HeadRow.{HeadRow}
-use Rattle.omi_text.specs.Lines.{line, setting}
+use Rattle.omi_text.specs.Lines.{line, named_value}
 
 -- debug-var: whether states are kept
 abbrev pub debug_text : ℕ → List ℕ
@@ -18,8 +18,8 @@ version_line head = line
 abbrev pub space_line : HeadRow → List ℕ
 space_line head = line
     (codes "icv"
-    ∷ setting (codes "num-procs-var") (decimal head.procs)
-    ∷ setting (codes "max-active-levels-var") (decimal head.max_active)
+    ∷ named_value (codes "num-procs-var") (decimal head.procs)
+    ∷ named_value (codes "max-active-levels-var") (decimal head.max_active)
     ∷ [])
 
 abbrev pub head_lines : HeadRow → List ℕ

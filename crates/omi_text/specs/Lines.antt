@@ -8,8 +8,8 @@ line (word ∷ []) = word ++ 10 ∷ []
 line (word ∷ next ∷ words) = word ++ 32 ∷ line (next ∷ words)
 
 -- the word for a variable and its value
-abbrev pub setting : List ℕ → List ℕ → List ℕ
-setting name value = name ++ 61 ∷ value
+abbrev pub named_value : List ℕ → List ℕ → List ℕ
+named_value name value = name ++ 61 ∷ value
 
 -- what is printed of a value that need not be there
 abbrev pub or_none : {A : Type 0} → (A → List ℕ) → Option A → List ℕ

@@ -5,7 +5,7 @@ use Rattle.omi_model.specs.declared.view.RegionRow.{RegionRow}
 use Rattle.omi_model.specs.declared.view.TaskRow.{TaskRow}
 use Rattle.omi_model.specs.declared.view.ThreadPart.{ThreadPart}
 use Rattle.omi_text.specs.Ids.{region_id, task_id}
-use Rattle.omi_text.specs.Lines.{line, setting, or_none}
+use Rattle.omi_text.specs.Lines.{line, named_value, or_none}
 use Rattle.omi_text.specs.Numbers.{hexadecimal, decimals}
 use Rattle.omi_text.specs.Tasks.{schedule_text, task_kind}
 use Rattle.omi_text.specs.Threads.{shown_state, shown_wait}
@@ -30,7 +30,7 @@ thread_state state =
 -- thread-num-var=V current K
 unfoldable pub thread_task : ThreadPart → List (List ℕ)
 thread_task t =
-    setting (codes "thread-num-var") (or_none decimal t.number) ∷ codes "current"
+    named_value (codes "thread-num-var") (or_none decimal t.number) ∷ codes "current"
     ∷ or_none task_id t.current ∷ []
 
 -- ---- of a region
@@ -43,9 +43,9 @@ region_name r =
 -- levels-var=L active-levels-var=A team-size-var=S
 unfoldable pub region_variables : RegionRow → List (List ℕ)
 region_variables r =
-    setting (codes "levels-var") (decimal r.levels)
-    ∷ setting (codes "active-levels-var") (decimal r.active)
-    ∷ setting (codes "team-size-var") (decimal r.size)
+    named_value (codes "levels-var") (decimal r.levels)
+    ∷ named_value (codes "active-levels-var") (decimal r.active)
+    ∷ named_value (codes "team-size-var") (decimal r.size)
     ∷ []
 
 -- enclosing E
@@ -81,18 +81,18 @@ task_frames t =
 -- icv dyn-var=D
 unfoldable pub dynamic_variable : TaskRow → List (List ℕ)
 dynamic_variable t =
-    codes "icv" ∷ setting (codes "dyn-var") (decimal t.dyn_var) ∷ []
+    codes "icv" ∷ named_value (codes "dyn-var") (decimal t.dyn_var) ∷ []
 
 -- nthreads-var=L run-sched-var=S
 unfoldable pub list_variables : TaskRow → List (List ℕ)
 list_variables t =
-    setting (codes "nthreads-var") (decimals t.nthreads)
-    ∷ setting (codes "run-sched-var") (schedule_text t.sched) ∷ []
+    named_value (codes "nthreads-var") (decimals t.nthreads)
+    ∷ named_value (codes "run-sched-var") (schedule_text t.sched) ∷ []
 
 -- default-device-var=V final-task-var=B implicit-task-var=C
 unfoldable pub task_variables : TaskRow → List (List ℕ)
 task_variables t =
-    setting (codes "default-device-var") (decimal t.device)
-    ∷ setting (codes "final-task-var") (decimal t.final_task)
-    ∷ setting (codes "implicit-task-var") (decimal t.implicit)
+    named_value (codes "default-device-var") (decimal t.device)
+    ∷ named_value (codes "final-task-var") (decimal t.final_task)
+    ∷ named_value (codes "implicit-task-var") (decimal t.implicit)
     ∷ []

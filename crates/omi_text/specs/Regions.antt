@@ -4,7 +4,7 @@ use Rattle.std.specs.Fmt.{decimal}
 use Rattle.omi_model.specs.declared.view.RegionRow.{RegionRow}
 use Rattle.omi_model.specs.declared.view.MemberRow.{MemberRow}
 use Rattle.omi_text.specs.Ids.{region_id, task_id}
-use Rattle.omi_text.specs.Lines.{line, setting, or_none}
+use Rattle.omi_text.specs.Lines.{line, named_value, or_none}
 use Rattle.omi_text.specs.Numbers.{hexadecimal}
 
 -- region R function F levels-var=L active-levels-var=A team-size-var=S enclosing E
@@ -12,9 +12,9 @@ unfoldable pub region_line : RegionRow → List ℕ
 region_line r = line
     (codes "region" ∷ region_id r.region
     ∷ codes "function" ∷ hexadecimal r.func
-    ∷ setting (codes "levels-var") (decimal r.levels)
-    ∷ setting (codes "active-levels-var") (decimal r.active)
-    ∷ setting (codes "team-size-var") (decimal r.size)
+    ∷ named_value (codes "levels-var") (decimal r.levels)
+    ∷ named_value (codes "active-levels-var") (decimal r.active)
+    ∷ named_value (codes "team-size-var") (decimal r.size)
     ∷ codes "enclosing" ∷ or_none region_id r.enclosing
     ∷ [])
 

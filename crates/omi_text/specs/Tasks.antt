@@ -3,7 +3,7 @@ use Rattle.std.specs.Prelude.{ℕ, ◌==◌, ◌/◌, ◌%◌, List, [], ◌∷�
 use Rattle.std.specs.Fmt.{decimal}
 use Rattle.omi_model.specs.declared.view.TaskRow.{TaskRow}
 use Rattle.omi_text.specs.Ids.{region_id, task_id}
-use Rattle.omi_text.specs.Lines.{line, setting, or_none}
+use Rattle.omi_text.specs.Lines.{line, named_value, or_none}
 use Rattle.omi_text.specs.Names.{kind_text}
 use Rattle.omi_text.specs.Numbers.{hexadecimal, decimals}
 
@@ -34,12 +34,12 @@ task_line t = line
 unfoldable pub environment_line : TaskRow → List ℕ
 environment_line t = line
     (codes "icv"
-    ∷ setting (codes "dyn-var") (decimal t.dyn_var)
-    ∷ setting (codes "nthreads-var") (decimals t.nthreads)
-    ∷ setting (codes "run-sched-var") (schedule_text t.sched)
-    ∷ setting (codes "default-device-var") (decimal t.device)
-    ∷ setting (codes "final-task-var") (decimal t.final_task)
-    ∷ setting (codes "implicit-task-var") (decimal t.implicit)
+    ∷ named_value (codes "dyn-var") (decimal t.dyn_var)
+    ∷ named_value (codes "nthreads-var") (decimals t.nthreads)
+    ∷ named_value (codes "run-sched-var") (schedule_text t.sched)
+    ∷ named_value (codes "default-device-var") (decimal t.device)
+    ∷ named_value (codes "final-task-var") (decimal t.final_task)
+    ∷ named_value (codes "implicit-task-var") (decimal t.implicit)
     ∷ [])
 
 -- a task, and then its data environment

@@ -4,7 +4,7 @@ use Rattle.std.specs.Fmt.{decimal}
 use Rattle.omi_model.specs.declared.view.ThreadRow.{ThreadRow}
 use Rattle.omi_model.specs.declared.view.ThreadPart.{ThreadPart}
 use Rattle.omi_text.specs.Ids.{task_id}
-use Rattle.omi_text.specs.Lines.{line, setting, or_none}
+use Rattle.omi_text.specs.Lines.{line, named_value, or_none}
 use Rattle.omi_text.specs.Names.{state_text}
 
 -- a thread's state, or that states are not kept
@@ -24,7 +24,7 @@ thread_line native t = line
     ∷ codes "native" ∷ decimal native
     ∷ codes "state" ∷ shown_state t.state
     ∷ codes "wait" ∷ shown_wait t.state
-    ∷ setting (codes "thread-num-var") (or_none decimal t.number)
+    ∷ named_value (codes "thread-num-var") (or_none decimal t.number)
     ∷ codes "current" ∷ or_none task_id t.current
     ∷ [])
 

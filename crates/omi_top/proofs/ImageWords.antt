@@ -5,14 +5,14 @@ use Rattle.std.specs.Option.{option_or}
 use Rattle.std.proofs.lemmas.Bool.{ltb-true, ltb-false}
 use Rattle.std.proofs.lemmas.Option.{slice_get-get_or, slice_get_past}
 use Rattle.omi_calls.specs.Told.{word_at}
-use Rattle.omi_calls.specs.CoreWords.{words_of as segment_words}
+use Rattle.omi_calls.specs.CoreWords.{words_of_segments as segment_words}
 use Rattle.omi_corefile.specs.Spelling.{HoldsImage}
 use Rattle.omi_corefile.specs.declared.core_image.CoreImage.{CoreImage}
 use Rattle.omi_corefile.specs.declared.segment.Segment.{Segment}
 use Rattle.omi_word.specs.Memory.{place_of}
 use Rattle.omi_word.specs.declared.limits.TheConstants.{FIRST_ADDRESS}
 use Rattle.omi_layout.specs.SymbolTable.{words_of}
-use Rattle.omi_top.specs.Cores.{memory_of}
+use Rattle.omi_top.specs.Cores.{words_of_core}
 
 -- the words of one segment from the first address on
 at_place : (aligned above within : Bool) (words : List ℕ) (place : ℕ) → nat_lt place (length words) ≡ within
@@ -29,7 +29,7 @@ alone words addr = at_place (addr % 8 == 0) (nat_le FIRST_ADDRESS addr) (nat_lt 
 same_words : (f g : ℕ → Option ℕ) → ((addr : ℕ) → f addr ≡ g addr) → f ≡ g
 same_words f g each = λ i addr. each addr i
 
-pub image_words : (ids words : List ℕ) (core : CoreImage) → HoldsImage ids words core → memory_of core ≡ words_of words
+pub image_words : (ids words : List ℕ) (core : CoreImage) → HoldsImage ids words core → words_of_core core ≡ words_of words
 image_words ids words core holds =
     ap (λ (segments : List Segment). word_at (segment_words segments)) holds.segments
     ∙ same_words (word_at (segment_words (record { start = FIRST_ADDRESS; words = words } ∷ []))) (words_of words) (alone words)

@@ -13,7 +13,7 @@ use Rattle.omi_layout.specs.declared.reading.LayoutError.{LayoutError}
 use Rattle.omi_layout.specs.declared.reading.LayoutError.TheVariants as layout
 use Rattle.omi_rep.specs.declared.fault.LookFault.{LookFault}
 use Rattle.omi_rep.specs.declared.fault.LookFault.TheVariants as look
-use Rattle.omi_verbs.specs.Refusal.{line_of, status_of}
+use Rattle.omi_verbs.specs.Refusal.{refusal_line, status_of}
 use Rattle.omi_top.specs.Shown.{refusal_of_layout, refusal_of_look}
 use Rattle.omi_verbs.specs.declared.refusal.Refusal.{Refusal}
 use Rattle.omi_verbs.specs.declared.refusal.Refusal.TheVariants as refusal
@@ -91,7 +91,7 @@ module _ (command : Command) (told : List ℕ → Told) (old new : Told) (counte
   ok_left text s (core, is, held) (inr (inr e)) put (inr cut) = subst (λ (x : Status). IsLeft command told x old new counted out after) (sym e) (inr (inr (core, text.items, is, held, cut)))
 
   -- after a refusal
-  pub err_left : (r : Refusal) → IsAnswered command told (Err r) old new → IsSaid (line_of (script_name command) (core_name command) r) counted out after → IsLeft command told (status_of r) old new counted out after
+  pub err_left : (r : Refusal) → IsAnswered command told (Err r) old new → IsSaid (refusal_line (script_name command) (core_name command) r) counted out after → IsLeft command told (status_of r) old new counted out after
   err_left refusal.Usage (inl (core, is, held)) said = (refusal.Usage, refl, core, is, held, said)
   err_left refusal.Usage (inr (inl (early, same))) said = absurd early
   err_left refusal.Usage (inr (inr (inl (late, half)))) said = absurd late

@@ -21,7 +21,7 @@ use Rattle.omi_top.specs.declared.plan.Plan.{Plan}
 use Rattle.omi_top.specs.Answer.{Answer, Gives, IsAnswer, IsReportOf, IsShowAnswer, IsShowRefusal, IsShown, IsStopped, IsLeft, IsRefused}
 use Rattle.omi_verbs.specs.Statuses.{ComesWhere, IsFaultStatus}
 use Rattle.omi_top.specs.Command.{Show}
-use Rattle.omi_top.specs.Cores.{IsDamaged, IsIncompatible, IsLooked, ShowsState, Spells, memory_of}
+use Rattle.omi_top.specs.Cores.{IsDamaged, IsIncompatible, IsLooked, ShowsState, Spells, words_of_core}
 use Rattle.omi_verbs.specs.Refusal.{status_of}
 use Rattle.omi_verbs.specs.Cores.{IsReachedCore, thread_ids}
 use Rattle.omi_top.proofs.ImageWords.{image_words}
@@ -73,7 +73,7 @@ module _ (core : List ℕ) (told : List ℕ → Told) (content : Option (List �
 -- a look at it gives the state's view
 pub shown_looked : (image : CoreImage) (s : State) → ShowsState image s → (v : View) × IsLooked image (Ok v) × IsViewOf s image.contexts v
 shown_looked image s shows =
-    let (v, looked, view) = shown_look shows.w (memory_of image) s image.contexts shows.valid shows.names shows.shows in
+    let (v, looked, view) = shown_look shows.w (words_of_core image) s image.contexts shows.valid shows.names shows.shows in
     (v, record { w = shows.w; valid = shows.valid; layout = shows.shows.layout; is = looked }, view)
 
 -- so what a look gives is the state's view

@@ -1,7 +1,7 @@
 -- A session over the words of a core: what they tell, why there is none, and what a walk in it answers.
 use Rattle.std.proofs.Common.{◌≡◌, inl, ℕ, List, Ok, Err, refl, sym, ◌∙◌, ap, subst}
 use Rattle.std.specs.Prelude.{Result}
-use Rattle.omi_calls.specs.CoreWords.{words_of as segment_words}
+use Rattle.omi_calls.specs.CoreWords.{words_of_segments as segment_words}
 use Rattle.omi_calls.specs.Memory.{told_by, usual_sizes}
 use Rattle.omi_calls.specs.Told.{Told}
 use Rattle.omi_corefile.specs.declared.core_image.CoreImage.{CoreImage}
@@ -18,7 +18,7 @@ use Rattle.omi_session.specs.Opening.{Refuses, cause_code}
 use Rattle.omi_session.specs.Tells.{Tells}
 use Rattle.omi_session.specs.declared.rc.Rc.{Rc}
 use Rattle.omi_session.specs.declared.rc.Rc.TheVariants as code
-use Rattle.omi_top.specs.Cores.{IsLooked, memory_of}
+use Rattle.omi_top.specs.Cores.{IsLooked, words_of_core}
 use Rattle.omi_top.specs.Shown.{refusal_of_layout, IsRefusedCore}
 use Rattle.omi_verbs.specs.declared.refusal.Refusal.{Refusal}
 use Rattle.omi_verbs.specs.declared.refusal.Refusal.TheVariants as refusal
@@ -27,9 +27,9 @@ use Rattle.omi_walk.specs.declared.fault.WalkFault.{WalkFault}
 use Rattle.omi_walk.specs.declared.fault.WalkFault.TheVariants as walk
 
 -- callbacks over a core tell its words
-pub tells_core : (core : CoreImage) (told : Told) → told ≡ told_by core → Tells told (memory_of core)
+pub tells_core : (core : CoreImage) (told : Told) → told ≡ told_by core → Tells told (words_of_core core)
 tells_core core told is =
-    subst (λ (t : Told). Tells t (memory_of core)) (sym is)
+    subst (λ (t : Told). Tells t (words_of_core core)) (sym is)
     (record { order = core.order; order_told = refl; words = segment_words core.segments; words_told = refl; is = refl })
 
 -- what a code of a refused opening is handed on as
@@ -49,7 +49,7 @@ code_refusal (error.Refused addr (BadArena p)) = refl
 pub open_refused : (core : CoreImage) (told : Told) (rc : Rc) → told ≡ told_by core → ((memory : Words) → Tells told memory → told.sizes ≡ usual_sizes → Refuses memory rc) → (rc ≡ code.CallbackError → ⊥)
     → IsRefusedCore core (refusal_of_code rc)
 open_refused core told rc is words known =
-    let cause = words (memory_of core) (tells_core core told is) (ap (λ (t : Told). t.sizes) is) known in
+    let cause = words (words_of_core core) (tells_core core told is) (ap (λ (t : Told). t.sizes) is) known in
     inl (cause.error, cause.gives_none, ap refusal_of_code cause.is ∙ code_refusal cause.error)
 
 -- what a walk over the words of a core answers, where no callback fails and there is memory
@@ -60,11 +60,11 @@ Walked core (Err (walk.Cycle addr)) = IsLooked core (Err (look.Cycle addr))
 Walked core (Err walk.Callback) = Unit {0}
 Walked core (Err walk.OutOfMemory) = Unit {0}
 
-pub walked : (core : CoreImage) (told : Told) (w contexts : List ℕ) (result : Result View WalkFault) → told ≡ told_by core → contexts ≡ core.contexts → IsValid w → GivesLayout (memory_of core) w
+pub walked : (core : CoreImage) (told : Told) (w contexts : List ℕ) (result : Result View WalkFault) → told ≡ told_by core → contexts ≡ core.contexts → IsValid w → GivesLayout (words_of_core core) w
     → ((memory : Words) → Tells told memory → Gives result (look_view w memory contexts)) → Walked core result
-walked core told w contexts result is same valid layout looks = go result (subst (λ (ids : List ℕ). Gives result (look_view w (memory_of core) ids)) same (looks (memory_of core) (tells_core core told is)))
+walked core told w contexts result is same valid layout looks = go result (subst (λ (ids : List ℕ). Gives result (look_view w (words_of_core core) ids)) same (looks (words_of_core core) (tells_core core told is)))
   where
-    go : (r : Result View WalkFault) → Gives r (look_view w (memory_of core) core.contexts) → Walked core r
+    go : (r : Result View WalkFault) → Gives r (look_view w (words_of_core core) core.contexts) → Walked core r
     go (Ok v) gives = record { w = w; valid = valid; layout = layout; is = gives }
     go (Err (walk.Damaged addr field)) gives = record { w = w; valid = valid; layout = layout; is = gives }
     go (Err (walk.Cycle addr)) gives = record { w = w; valid = valid; layout = layout; is = gives }

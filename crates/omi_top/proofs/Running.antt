@@ -13,14 +13,14 @@ use Rattle.omi_core.specs.Ends.{IsEnded}
 use Rattle.omi_core.specs.Histories.{Counts}
 use Rattle.omi_core.specs.Runs.{Run, events_in}
 use Rattle.omi_core.specs.Schedules.{threads_by}
-use Rattle.omi_core.specs.Steps.{AreStepsOf, events_behind, made_of_steps, threads_of}
+use Rattle.omi_core.specs.Steps.{AreStepsOf, events_behind, made_of_steps, threads_of_steps}
 use Rattle.omi_core.proofs.History.{made_length}
 use Rattle.omi_top.specs.declared.plan.Plan.{Plan}
 use Rattle.omi_top.specs.declared.run.Ran.{Ran}
 use Rattle.omi_top.specs.Ran.{IsRanBy}
-use Rattle.omi_top.specs.Run.{IsRun, schedule_of}
+use Rattle.omi_top.specs.Run.{IsRun, thread_schedule}
 
-kept_threads : (xs : List (ℕ × Entry)) → map (λ (m : Made). m.thread) (made_of_steps xs) ≡ threads_of xs
+kept_threads : (xs : List (ℕ × Entry)) → map (λ (m : Made). m.thread) (made_of_steps xs) ≡ threads_of_steps xs
 kept_threads [] = refl
 kept_threads (x ∷ xs) = ap (λ ns. x.0 ∷ ns) (kept_threads xs)
 
@@ -56,8 +56,8 @@ made_run p plan ran r =
             sym (kept_threads xs)
             ∙ ap (map (λ (m : Made). m.thread)) (sym (sym all ∙ h.made_by.made))
             ∙ added.threads
-            ∙ ap (λ (q : Program). threads_by (schedule_of plan.seed) q.threads (length added.made)) r.opens.program
-            ∙ ap (threads_by (schedule_of plan.seed) p.threads) many;
+            ∙ ap (λ (q : Program). threads_by (thread_schedule plan.seed) q.threads (length added.made)) r.opens.program
+            ∙ ap (threads_by (thread_schedule plan.seed) p.threads) many;
         few = subst (λ n. n ≤ plan.stop.steps) many added.within;
         ended =
             subst (λ (es : List (ℕ × ℕ × Event)). IsEnded plan.stop (length xs) (length xs) es why) events

@@ -17,7 +17,7 @@ use Rattle.omi_rep.specs.LookView.{look_view}
 use Rattle.omi_rep.specs.declared.fault.LookFault.{LookFault}
 use Rattle.omi_rep.specs.declared.fault.LookFault.TheVariants as look
 use Rattle.omi_top.specs.Answer.{IsShowRefusal}
-use Rattle.omi_top.specs.Cores.{IsDamaged, IsIncompatible, IsLooked, IsWrongTable, LacksTable, Spells, memory_of}
+use Rattle.omi_top.specs.Cores.{IsDamaged, IsIncompatible, IsLooked, IsWrongTable, LacksTable, Spells, words_of_core}
 use Rattle.omi_top.specs.Shown.{refusal_of_layout, refusal_of_look, IsRefusedCore}
 use Rattle.omi_verbs.specs.Refusal.{status_of}
 use Rattle.omi_verbs.specs.declared.refusal.Input.TheVariants as input
@@ -34,7 +34,7 @@ HasFault bytes = (at : ℕ) × (why : CoreFault) × CoreRefused bytes at why
 pub one_looked : (core : CoreImage) (x y : Look View) → IsLooked core x → IsLooked core y → x ≡ y
 one_looked core x y a b =
     sym a.is
-    ∙ ap (λ (w : List ℕ). look_view w (memory_of core) core.contexts) (one_layout (memory_of core) a.w b.w a.layout b.layout)
+    ∙ ap (λ (w : List ℕ). look_view w (words_of_core core) core.contexts) (one_layout (words_of_core core) a.w b.w a.layout b.layout)
     ∙ b.is
 
 one_fault : (e f : LookFault) → (let failed : LookFault → Look View = λ x. Err x in failed e ≡ failed f) → e ≡ f
@@ -47,9 +47,9 @@ view_no_fault : (v : View) (e : LookFault) → (let gives : Look View = Ok v in 
 view_no_fault v e same = cc
 
 one_of_core : (core : CoreImage) (r s : Refusal) → IsRefusedCore core r → IsRefusedCore core s → r ≡ s
-one_of_core core r s (inl (e, a, p)) (inl (f, b, q)) = p ∙ ap refusal_of_layout (one_cause (memory_of core) e f a b) ∙ sym q
-one_of_core core r s (inl (e, a, p)) (inr (f, b, q)) = absurd (not_both (memory_of core) b.w e b.valid b.layout a)
-one_of_core core r s (inr (e, a, p)) (inl (f, b, q)) = absurd (not_both (memory_of core) a.w f a.valid a.layout b)
+one_of_core core r s (inl (e, a, p)) (inl (f, b, q)) = p ∙ ap refusal_of_layout (one_cause (words_of_core core) e f a b) ∙ sym q
+one_of_core core r s (inl (e, a, p)) (inr (f, b, q)) = absurd (not_both (words_of_core core) b.w e b.valid b.layout a)
+one_of_core core r s (inr (e, a, p)) (inl (f, b, q)) = absurd (not_both (words_of_core core) a.w f a.valid a.layout b)
 one_of_core core r s (inr (e, a, p)) (inr (f, b, q)) = p ∙ ap refusal_of_look (one_fault e f (one_looked core (Err e) (Err f) a b)) ∙ sym q
 
 -- the refusal of a file's bytes
@@ -66,7 +66,7 @@ one_refusal (Some bytes) r s (inr (core, spelled, a)) (inr (other, also, b)) =
     one_of_core core r s a (subst (λ (c : CoreImage). IsRefusedCore c s) (core_unique bytes other core also spelled) b)
 
 looked_not_refused : (core : CoreImage) (v : View) (r : Refusal) → IsLooked core (Ok v) → IsRefusedCore core r → ⊥
-looked_not_refused core v r looked (inl (e, a, p)) = not_both (memory_of core) looked.w e looked.valid looked.layout a
+looked_not_refused core v r looked (inl (e, a, p)) = not_both (words_of_core core) looked.w e looked.valid looked.layout a
 looked_not_refused core v r looked (inr (e, a, p)) = view_no_fault v e (one_looked core (Ok v) (Err e) looked a)
 
 pub report_not_refused : (bytes : List ℕ) (v : View) (r : Refusal) → Spells bytes (λ core. IsLooked core (Ok v)) → IsShowRefusal (Some bytes) r → ⊥

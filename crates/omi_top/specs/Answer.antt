@@ -28,7 +28,7 @@ use Rattle.omi_top.specs.Cores.{IsLooked, Spells}
 use Rattle.omi_top.specs.Shown.{IsRefusedCore}
 use Rattle.omi_top.specs.Lines.{run_text}
 use Rattle.omi_top.specs.Make.{IsMade, make_text}
-use Rattle.omi_verbs.specs.Refusal.{line_of, status_of}
+use Rattle.omi_verbs.specs.Refusal.{refusal_line, status_of}
 use Rattle.omi_verbs.specs.Said.{IsSaid}
 use Rattle.omi_verbs.specs.Scripts.{IsScriptRefusal}
 use Rattle.omi_top.specs.Run.{IsRun}
@@ -185,7 +185,7 @@ abbrev pub IsRefused : Command → (List ℕ → Told) → Status → Told → T
 IsRefused command told status old new counted out after =
     (r : Refusal) × (status_of r ≡ status) × (core : Option (List ℕ))
     × IsAnswer command told (Gives core (Err r)) × Holds core old new
-    × IsSaid (line_of (script_name command) (core_name command) r) counted out after
+    × IsSaid (refusal_line (script_name command) (core_name command) r) counted out after
 
 -- a file that the command reads can't be read, before anything is written or after all is, and the line with that file's name is said
 abbrev pub IsReadFailed : Command → (List ℕ → Told) → Told → Told → Type 0 → Option (List ℕ)
@@ -193,7 +193,7 @@ abbrev pub IsReadFailed : Command → (List ℕ → Told) → Told → Told → 
 IsReadFailed command told old new counted out after = (read : Input)
     × ((ReadsFirst command read × (new ≡ old))
     ⊎ (ReadsBack command read × IsWritten command told old new))
-    × IsSaid (line_of (script_name command) (core_name command) (refusal.ReadFault read)) counted out after
+    × IsSaid (refusal_line (script_name command) (core_name command) (refusal.ReadFault read)) counted out after
 
 -- memory ran out before anything was written, or after all was and before anything was put
 abbrev pub IsUnsaid : Command → (List ℕ → Told) → Told → Told → Option (List ℕ) → Option (List ℕ)

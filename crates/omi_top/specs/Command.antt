@@ -3,7 +3,7 @@ use Rattle.std.specs.Prelude.{◌≡◌, ◌||◌, ℕ, Bool, List, [], ◌∷�
 use Rattle.std.specs.declared.alloc.Global.{Global}
 use Rattle.std.specs.Option.{option_map_or}
 use Rattle.omi_line.specs.Line.{split_of}
-use Rattle.omi_line.specs.Number.{number_of}
+use Rattle.omi_line.specs.Number.{number_between}
 use Rattle.omi_line.specs.declared.line.Line.{Line}
 use Rattle.omi_top.specs.declared.limits.TheConstants.{MOST_NODES}
 use Rattle.omi_top.specs.declared.plan.Plan.{Plan}
@@ -33,7 +33,7 @@ stop_by names line = Faulty
 abbrev pub make_by : List (List ℕ) → Line → Command
 make_by (n ∷ script ∷ []) line =
     if has_option line then Faulty
-    else option_map_or (λ nodes. Make nodes script) (number_of n 1 MOST_NODES) Faulty
+    else option_map_or (λ nodes. Make nodes script) (number_between n 1 MOST_NODES) Faulty
 make_by names line = Faulty
 
 -- `show CORE`, without options

@@ -1,7 +1,7 @@
 -- What a core file is to `show`: its words, a look at them through the layout that they give, and why there is none.
 use Rattle.std.specs.Prelude.{◌≡◌, ◌⊎◌, ℕ, List, Err, ⊤}
 use Rattle.omi_calls.specs.Told.{word_at}
-use Rattle.omi_calls.specs.CoreWords.{words_of as segment_words}
+use Rattle.omi_calls.specs.CoreWords.{words_of_segments as segment_words}
 use Rattle.omi_corefile.specs.Spelling.{Core}
 use Rattle.omi_corefile.specs.declared.core_image.CoreImage.{CoreImage}
 use Rattle.omi_layout.specs.Given.{GivesLayout}
@@ -20,22 +20,22 @@ use Rattle.omi_rep.specs.declared.fault.LookFault.{LookFault}
 use Rattle.omi_session.specs.Shown.{AreNames}
 
 -- the words of a core by their addresses: those of its segments, none at an unaligned address
-abbrev pub memory_of : CoreImage → Words
-memory_of core = word_at (segment_words core.segments)
+abbrev pub words_of_core : CoreImage → Words
+words_of_core core = word_at (segment_words core.segments)
 
 -- a look at the words of a core through the valid layout that they give, for the core's contexts, gives this view, or this fault
 pub record IsLooked (core : CoreImage) (look : Look View) : Type 0 where
   pub w : List ℕ
   pub valid : IsValid w
-  pub layout : GivesLayout (memory_of core) w
-  pub is : look_view w (memory_of core) core.contexts ≡ look
+  pub layout : GivesLayout (words_of_core core) w
+  pub is : look_view w (words_of_core core) core.contexts ≡ look
 
 -- the words of a core show a state in a valid layout, where what is visible has generations of 32 bits, as names do
 pub record ShowsState (core : CoreImage) (s : State) : Type 0 where
   pub w : List ℕ
   pub valid : IsValid w
   pub names : AreNames s
-  pub shows : Shows w (memory_of core) s
+  pub shows : Shows w (words_of_core core) s
 
 -- there is no layout table, or one of another version
 abbrev pub LacksTable : LayoutError → Type 0
@@ -51,11 +51,11 @@ IsWrongTable other = ⊤
 
 -- the words of a core have no layout table of this version
 abbrev pub IsIncompatible : CoreImage → Type 0
-IsIncompatible core = (cause : LayoutError) × GivesNone (memory_of core) cause × LacksTable cause
+IsIncompatible core = (cause : LayoutError) × GivesNone (words_of_core core) cause × LacksTable cause
 
 -- the layout table in the words of a core is wrong, or the look at them has a fault
 abbrev pub IsDamaged : CoreImage → Type 0
-IsDamaged core = ((cause : LayoutError) × GivesNone (memory_of core) cause × IsWrongTable cause)
+IsDamaged core = ((cause : LayoutError) × GivesNone (words_of_core core) cause × IsWrongTable cause)
     ⊎ ((fault : LookFault) × IsLooked core (Err fault))
 
 -- a file is a core of which this holds

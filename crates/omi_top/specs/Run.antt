@@ -14,13 +14,13 @@ use Rattle.omi_core.specs.Ends.{IsEnded}
 use Rattle.omi_core.specs.Histories.{Counts}
 use Rattle.omi_core.specs.Runs.{events_in}
 use Rattle.omi_core.specs.Schedules.{threads_by}
-use Rattle.omi_core.specs.Steps.{AreStepsOf, events_behind, threads_of}
+use Rattle.omi_core.specs.Steps.{AreStepsOf, events_behind, threads_of_steps}
 use Rattle.omi_top.specs.declared.plan.Plan.{Plan}
 
 -- the threads make the steps in turn, from thread 0 on, or by pseudo-random numbers from a seed on
-abbrev pub schedule_of : Option ℕ → Schedule
-schedule_of None = RoundRobin
-schedule_of (Some seed) = Seed seed
+abbrev pub thread_schedule : Option ℕ → Schedule
+thread_schedule None = RoundRobin
+thread_schedule (Some seed) = Seed seed
 
 -- A run of a program by a plan: each entry is a thread and the step that it made. The steps are legal, event by event, and lead from the
 -- opening words to the last words and from the opening state to the state that these show. No thread makes too many quiet steps in a row,
@@ -29,7 +29,7 @@ schedule_of (Some seed) = Seed seed
 pub record IsRun (w : List ℕ) (p : Program) (plan : Plan) (xs : List (ℕ × Entry)) (why : End)
     (words : List ℕ) (s : State) : Type 0 where
   pub steps : AreStepsOf p w xs words s
-  pub threads : threads_of xs ≡ threads_by (schedule_of plan.seed) p.threads (length xs)
+  pub threads : threads_of_steps xs ≡ threads_by (thread_schedule plan.seed) p.threads (length xs)
   pub few : length xs ≤ plan.stop.steps
   pub ended : IsEnded plan.stop (length xs) (length xs) (events_behind 0 xs) why
   pub reached : Reached p (events_in (events_behind 0 xs)) s

@@ -7,7 +7,7 @@ use Rattle.omi_layout.specs.declared.reading.LayoutError.{LayoutError}
 use Rattle.omi_layout.specs.declared.reading.LayoutError.TheVariants as layout
 use Rattle.omi_rep.specs.declared.fault.LookFault.{LookFault}
 use Rattle.omi_rep.specs.declared.fault.LookFault.TheVariants as look
-use Rattle.omi_top.specs.Cores.{IsLooked, memory_of}
+use Rattle.omi_top.specs.Cores.{IsLooked, words_of_core}
 use Rattle.omi_verbs.specs.declared.refusal.Refusal.{Refusal}
 use Rattle.omi_verbs.specs.declared.refusal.Refusal.TheVariants as refusal
 
@@ -26,5 +26,5 @@ refusal_of_look (look.Cycle addr) = refusal.Cycle addr
 -- the core's words give no layout, or a look at them has a fault, and this is the refusal
 abbrev pub IsRefusedCore : CoreImage → Refusal → Type 0
 IsRefusedCore core r =
-    ((cause : LayoutError) × GivesNone (memory_of core) cause × (r ≡ refusal_of_layout cause))
+    ((cause : LayoutError) × GivesNone (words_of_core core) cause × (r ≡ refusal_of_layout cause))
     ⊎ ((fault : LookFault) × IsLooked core (Err fault) × (r ≡ refusal_of_look fault))

@@ -3,7 +3,7 @@
 ghost use Rattle.std.specs.Prelude.{◌≡◌, ◌≤◌, IfSome};
 ghost use Rattle.omi_top.specs.Plan.{break_of, plan_of, seed_of};
 ghost use Rattle.omi_top.specs.Asked.{IsPossible};
-ghost use Rattle.omi_top.specs.Run.{schedule_of};
+ghost use Rattle.omi_top.specs.Run.{thread_schedule};
 ghost use Rattle.omi_line.specs.Line.{IsText};
 
 use crate::limits::{MOST_COUNT, MOST_SEED, MOST_STEPS};
@@ -25,7 +25,7 @@ pub struct Plan {
 impl Plan {
     /// Which thread makes each step.
     pub fn schedule(&self) -> Schedule
-        ensures { result ≡ schedule_of self.now.seed }
+        ensures { result ≡ thread_schedule self.now.seed }
     {
         match self.seed {
             Some(seed) => Schedule::Seed(seed),

@@ -11,7 +11,7 @@ ghost use Rattle.omi_session.specs.Opened.{IsFresh};
 ghost use Rattle.omi_top.specs.Answer.{Gives, AreTold, IsAnswered, IsShowAnswer, IsShowRefusal};
 ghost use Rattle.omi_top.specs.Command.{Show};
 ghost use Rattle.omi_top.specs.CoreCalls.{told_of_core};
-ghost use Rattle.omi_top.specs.Cores.{IsLooked, memory_of};
+ghost use Rattle.omi_top.specs.Cores.{IsLooked, words_of_core};
 ghost use Rattle.omi_verbs.specs.Refusal.{IsReadFault, status_of};
 ghost use Rattle.omi_outside.specs.declared.status.Status.TheVariants.{Script};
 ghost use Rattle.omi_top.specs.Shown.{IsRefusedCore};
@@ -43,7 +43,7 @@ fn opened<F: ToHost>(
 ) -> Result<Session<CoreCalls, F>, Refusal>
     requires takes { TakesAll (F.takes to_host) }
     requires gives { GivesNumbers (F.gives to_host) 0 }
-    ensures layout { IfOk result (λ s. GivesLayout (memory_of core) s.layout) }
+    ensures layout { IfOk result (λ s. GivesLayout (words_of_core core) s.layout) }
     ensures told { IfOk result (λ s. told_of_core s.table.calls ≡ told_by core) }
     ensures fresh { IfOk result (λ s. IsFresh s.handles) }
     ensures refused { IfErr result (IsRefusedCore core) }

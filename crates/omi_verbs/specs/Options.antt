@@ -1,6 +1,6 @@
 -- Options that several programs have.
 use Rattle.std.specs.Prelude.{ℕ, List, Option, Some, None, codes, bytes_eq, if◌then◌else◌}
-use Rattle.omi_line.specs.Number.{number_of}
+use Rattle.omi_line.specs.Number.{number_between}
 use Rattle.omi_core.specs.declared.stop.Break.{Break}
 use Rattle.omi_core.specs.declared.stop.Break.TheVariants as kind
 use Rattle.omi_verbs.specs.declared.limits.TheConstants.{MOST_LAYOUT}
@@ -17,4 +17,4 @@ break_named name =
 -- `--layout K`, with K 0 to 15, or family 0. None where the option is refused
 abbrev pub layout_of : Option (List ℕ) → Option ℕ
 layout_of None = Some 0
-layout_of (Some layout) = number_of layout 0 MOST_LAYOUT
+layout_of (Some layout) = number_between layout 0 MOST_LAYOUT

@@ -5,7 +5,7 @@ use Rattle.omi_script.specs.Faults.{number_of_fault, text_of_fault}
 use Rattle.omi_script.specs.declared.fault.ScriptFault.{ScriptFault}
 use Rattle.omi_script.specs.declared.fault.ScriptError.{ScriptError}
 use Rattle.omi_script.specs.declared.fault.ScriptError.TheVariants as error
-use Rattle.omi_corefile.specs.Faults.{number_of, text_of}
+use Rattle.omi_corefile.specs.Faults.{core_fault_number, core_fault_text}
 use Rattle.omi_corefile.specs.declared.fault.CoreFault.{CoreFault}
 use Rattle.omi_corefile.specs.declared.fault.CoreError.{CoreError}
 use Rattle.omi_corefile.specs.declared.fault.CoreError.TheVariants as core
@@ -13,7 +13,7 @@ use Rattle.omi_outside.specs.declared.files.Refused.{Refused}
 use Rattle.omi_outside.specs.declared.files.Refused.TheVariants as refused
 use Rattle.omi_outside.specs.declared.status.Status.{Status}
 use Rattle.omi_outside.specs.declared.status.Status.TheVariants as status
-use Rattle.omi_layout.specs.Field.{name_of}
+use Rattle.omi_layout.specs.Field.{field_text}
 use Rattle.omi_text.specs.Numbers.{hexadecimal}
 use Rattle.omi_verbs.specs.declared.limits.TheConstants.{LINE_ROOM}
 use Rattle.omi_verbs.specs.declared.refusal.Input.{Input}
@@ -65,37 +65,37 @@ fault_line fault =
 -- place, number and name of a fault of a core
 abbrev pub core_fault_line : ℕ → CoreFault → List ℕ
 core_fault_line at why =
-    codes "core " ++ (decimal at ++ (codes " " ++ (decimal (number_of why)
-    ++ (codes " " ++ (text_of why ++ 10 ∷ [])))))
+    codes "core " ++ (decimal at ++ (codes " " ++ (decimal (core_fault_number why)
+    ++ (codes " " ++ (core_fault_text why ++ 10 ∷ [])))))
 
 -- the address of a record, of a pointer or of a word of the layout table, and the name of the field, which is `layout` for the table
 abbrev pub damaged_line : ℕ → ℕ → List ℕ
 damaged_line addr field =
-    codes "damaged " ++ (hexadecimal addr ++ (codes " " ++ (name_of field ++ 10 ∷ [])))
+    codes "damaged " ++ (hexadecimal addr ++ (codes " " ++ (field_text field ++ 10 ∷ [])))
 
 -- the address that a chain meets a second time
 abbrev pub cycle_line : ℕ → List ℕ
 cycle_line addr = codes "cycle " ++ (hexadecimal addr ++ 10 ∷ [])
 
 -- the name of what a command reads, by those that it gives to a script and to a core
-abbrev pub named : List ℕ → List ℕ → Input → List ℕ
-named script core input.Script = script
-named script core input.Core = core
+abbrev pub input_name : List ℕ → List ℕ → Input → List ℕ
+input_name script core input.Script = script
+input_name script core input.Core = core
 
 -- the line that a refusal prints, by these names
-abbrev pub line_of : List ℕ → List ℕ → Refusal → Option (List ℕ)
-line_of script core refusal.Usage = Some (codes "usage" ++ 10 ∷ [])
-line_of script core (refusal.NoFile read) =
-    Some (codes "no file " ++ (named script core read ++ 10 ∷ []))
-line_of script core (refusal.ReadFault read) =
-    Some (codes "read fault " ++ (named script core read ++ 10 ∷ []))
-line_of script core (refusal.Script fault) = Some (fault_line fault)
-line_of script core (refusal.Core at why) = Some (core_fault_line at why)
-line_of script core (refusal.Damaged addr field) = Some (damaged_line addr field)
-line_of script core (refusal.Cycle addr) = Some (cycle_line addr)
-line_of script core refusal.Incompatible = Some (codes "incompatible" ++ 10 ∷ [])
-line_of script core refusal.WriteFault = None
-line_of script core refusal.OutOfMemory = None
+abbrev pub refusal_line : List ℕ → List ℕ → Refusal → Option (List ℕ)
+refusal_line script core refusal.Usage = Some (codes "usage" ++ 10 ∷ [])
+refusal_line script core (refusal.NoFile read) =
+    Some (codes "no file " ++ (input_name script core read ++ 10 ∷ []))
+refusal_line script core (refusal.ReadFault read) =
+    Some (codes "read fault " ++ (input_name script core read ++ 10 ∷ []))
+refusal_line script core (refusal.Script fault) = Some (fault_line fault)
+refusal_line script core (refusal.Core at why) = Some (core_fault_line at why)
+refusal_line script core (refusal.Damaged addr field) = Some (damaged_line addr field)
+refusal_line script core (refusal.Cycle addr) = Some (cycle_line addr)
+refusal_line script core refusal.Incompatible = Some (codes "incompatible" ++ 10 ∷ [])
+refusal_line script core refusal.WriteFault = None
+refusal_line script core refusal.OutOfMemory = None
 
 -- a line with either name has room in so many bytes
 pub record HasRoom (script core : List ℕ) (room : ℕ) : Type 0 where

@@ -1,7 +1,7 @@
 //! The names of files in a command.
 
 ghost use Rattle.std.specs.Prelude.{◌≡◌, ◌≤◌, ◌<◌, length};
-ghost use Rattle.omi_verbs.specs.Refusal.{named};
+ghost use Rattle.omi_verbs.specs.Refusal.{input_name};
 
 use crate::refusal::Input;
 
@@ -14,7 +14,7 @@ pub struct Names<'a> {
 
 /// The name of what a command reads.
 pub(crate) fn name_of(names: Names<'_>, input: Input) -> &str
-    ensures { result.now ≡ named names.entry.script.now names.entry.core.now input }
+    ensures { result.now ≡ input_name names.entry.script.now names.entry.core.now input }
 {
     match input {
         Input::Script => names.script,

@@ -3,7 +3,7 @@
 ghost use Rattle.std.specs.Prelude.{◌≡◌, ◌⊎◌, ◌≤◌, ◌++◌, ◌∷◌, [], codes, Some, string_bytes};
 ghost use Rattle.std.specs.String.{string_capacity};
 ghost use Rattle.omi_outside.specs.Outside.{HasCause, IsPutCut, put_on};
-ghost use Rattle.omi_verbs.specs.Refusal.{HasRoom, line_of as refusal_line, status_of};
+ghost use Rattle.omi_verbs.specs.Refusal.{HasRoom, refusal_line, status_of};
 ghost use Rattle.omi_verbs.specs.Said.{IsCounted, IsSaid};
 ghost use Rattle.omi_verbs.specs.Statuses.{IsOfCore};
 

@@ -5,8 +5,8 @@ ghost use Rattle.std.specs.Fmt.{digit_glyph, digits_onto};
 ghost use Rattle.std.specs.String.{string_len, string_capacity};
 ghost use Rattle.std.specs.List.{flat_map, sum_by};
 ghost use Rattle.std.specs.Option.{option_map};
-ghost use Rattle.omi_layout.specs.Field.{name_of};
-ghost use Rattle.omi_verbs.specs.Refusal.{HasRoom, cycle_line, damaged_line, line_of as refusal_line};
+ghost use Rattle.omi_layout.specs.Field.{field_text};
+ghost use Rattle.omi_verbs.specs.Refusal.{HasRoom, cycle_line, damaged_line, refusal_line};
 
 use crate::limits::LINE_ROOM;
 use crate::names::{Names, longest, name_of as input_name};
@@ -83,7 +83,7 @@ fn push_digits(room: &mut String, number: u64, most: u8)
 
 /// The name of a field, `layout` for 0, and no text where no field has the number.
 fn name_of(field: u8) -> &'static str
-    ensures name { result.now ≡ name_of field }
+    ensures name { result.now ≡ field_text field }
     ensures short { length result.now ≤ 32 }
 {
     if field <= FIELDS {

@@ -39,6 +39,6 @@ abbrev pub word_at : List ℕ → ℕ → ℕ
 word_at words address = slice_index words (place_of address)
 
 -- the words after an operation
-abbrev pub after : List ℕ → Op → List ℕ
-after words op =
+abbrev pub words_after : List ℕ → Op → List ℕ
+words_after words op =
     slice_set words (place_of (address_of op)) (left_of op (word_at words (address_of op)))

@@ -1,7 +1,7 @@
 //! A memory of words, and an operation on one of them.
 
 ghost use Rattle.std.specs.Prelude.{◌≡◌, ◌≤◌, ◌↔◌, length, replicate, IfOk, IsSome, IfSome};
-ghost use Rattle.omi_word.specs.Memory.{after, address_of, word_at, IsWordOf};
+ghost use Rattle.omi_word.specs.Memory.{words_after, address_of, word_at, IsWordOf};
 
 use crate::{FIRST_ADDRESS, MOST_WORDS, Op, OutOfMemory, Res};
 use std::alloc::Global;
@@ -62,7 +62,7 @@ impl Image {
     pub fn apply(&mut self, op: Op) -> Res
         requires { IsWordOf self.old (address_of op) }
         ensures old { result.old ≡ word_at self.old (address_of op) }
-        ensures after { self.new ≡ after self.old op }
+        ensures after { self.new ≡ words_after self.old op }
     {
         let place = ((op.address() - FIRST_ADDRESS) / 8) as usize;
         let old = self.words[place];

@@ -12,7 +12,7 @@ use Rattle.omi_model.specs.declared.item.Item.TheVariants as item
 use Rattle.omi_model.specs.LawClaims.{asks_next}
 use Rattle.omi_model.specs.Lists.{fits, may_drop, opened, stays, take_item}
 use Rattle.omi_model.specs.Numbers.{wait_taskwait}
-use Rattle.omi_model.specs.Rows.{barrier_items, behind, body_items, call_items, end_of_member, first_of, last_of_member, of_main, of_member, of_task, shown, working}
+use Rattle.omi_model.specs.Rows.{barrier_items, behind, body_items, call_items, end_of_member, first_of, last_of_member, main_items, member_items, task_items, shown, working}
 use Rattle.omi_model.proofs.EachObject.{start_list}
 use Rattle.omi_model.proofs.ListLaws.{take_keeps}
 use Rattle.omi_model.proofs.Slots.{false_true, none_some, some_same}
@@ -99,7 +99,7 @@ module _ (p : Program) where
   pub take_placed : (at : Encounter) (e : Event) (xs : List Item) (y : Item) (ys : List Item) → take_item p at e xs ≡ Some (y, ys) → Placed xs → Placed (y ∷ ys)
   take_placed at = take_keeps p at Placed (λ x xs may h. h.1) (row_placed at)
 
-  pub task_plain : (f : ℕ) → Plainly (of_task p f)
+  pub task_plain : (f : ℕ) → Plainly (task_items p f)
   task_plain f = body_plain (body_of p.funcs f) (item.Finish ∷ []) ((refl, refl), ((refl, refl), tt))
 
   end_plain : (at : Encounter) (x : Item) → Plainly (x ∷ []) → Plainly (end_of_member at (x ∷ []))
@@ -112,10 +112,10 @@ module _ (p : Program) where
       go true = ((refl, refl), ((refl, refl), tt))
       go false = ((refl, refl), ((refl, refl), tt))
 
-  pub member_plain : (at : Encounter) (f : ℕ) → Plainly (of_member p at f)
+  pub member_plain : (at : Encounter) (f : ℕ) → Plainly (member_items p at f)
   member_plain at f = working_plain at _ (body_plain (body_of p.funcs f) (end_of_member at (last_of_member at.number ∷ [])) (end_plain at (last_of_member at.number) (last_plain at.number)))
 
-  pub main_plain : (at : Encounter) → Plainly (of_main at (body_of p.funcs p.main))
+  pub main_plain : (at : Encounter) → Plainly (main_items at (body_of p.funcs p.main))
   main_plain at = body_plain (body_of p.funcs p.main) (end_of_member at (item.Done ∷ [])) (end_plain at item.Done ((refl, refl), ((refl, refl), tt)))
 
 pub start_plain : (x : Item) (at : Encounter) (zs : List Item) → Plainly zs → Plainly (start_list x at zs)

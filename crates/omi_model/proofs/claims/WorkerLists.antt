@@ -14,7 +14,7 @@ use Rattle.omi_model.specs.Lists.{fits, stays, take_item}
 use Rattle.omi_model.specs.Numbers.{idle}
 use Rattle.omi_model.specs.Opening.{opening}
 use Rattle.omi_model.specs.Reached.{Reached, Step}
-use Rattle.omi_model.specs.Rows.{of_worker, shown}
+use Rattle.omi_model.specs.Rows.{worker_items, shown}
 use Rattle.omi_model.specs.Rules.{Rule}
 use Rattle.omi_model.specs.State.{State}
 use Rattle.omi_model.proofs.claims.AsksPlaced.{is_forking}
@@ -33,7 +33,7 @@ pub data Place : Type 0 where
   Over : Place
 
 abbrev pub list_at : Place → List Item
-list_at Outset = of_worker
+list_at Outset = worker_items
 list_at Shows = item.State idle 0 ∷ item.Offer ∷ item.Serve ∷ []
 list_at Offers = item.Offer ∷ item.Serve ∷ []
 list_at Serves = item.Serve ∷ []

@@ -18,7 +18,7 @@ use Rattle.omi_model.specs.Lists.{fits, may_drop, stays, take_item}
 use Rattle.omi_model.specs.Numbers.{wait_taskwait}
 use Rattle.omi_model.specs.Opening.{opening}
 use Rattle.omi_model.specs.Reached.{Reached, Step}
-use Rattle.omi_model.specs.Rows.{barrier_items, behind, body_items, call_items, first_of, last_of_member, of_main, of_member, of_task, shown, working}
+use Rattle.omi_model.specs.Rows.{barrier_items, behind, body_items, call_items, first_of, last_of_member, main_items, member_items, task_items, shown, working}
 use Rattle.omi_model.specs.State.{State, task_of}
 use Rattle.omi_model.specs.Tasking.{MayStartAt, deferred_task, scheduled}
 use Rattle.omi_model.specs.Teams.{member_task}
@@ -104,7 +104,7 @@ module _ (z : Item) where
     pub take_closes : (at : Encounter) (e : Event) (xs : List Item) (y : Item) (ys : List Item) → take_item p at e xs ≡ Some (y, ys) → Closes z xs → Closes z (y ∷ ys)
     take_closes at = take_keeps p at (Closes z) drop_closes (row_closes at)
 
-    task_closes : z ≡ item.Finish → (f : ℕ) → Closes z (of_task p f)
+    task_closes : z ≡ item.Finish → (f : ℕ) → Closes z (task_items p f)
     task_closes is f = body_closes (body_of p.funcs f) (item.Finish ∷ []) (is, refl, tt)
 
     last_closes : (n : ℕ) → z ≡ last_of_member n → Closes z (last_of_member n ∷ [])
@@ -114,10 +114,10 @@ module _ (z : Item) where
         go true is = (is, refl, tt)
         go false is = (is, refl, tt)
 
-    member_closes : (at : Encounter) (f : ℕ) → z ≡ last_of_member at.number → Closes z (of_member p at f)
+    member_closes : (at : Encounter) (f : ℕ) → z ≡ last_of_member at.number → Closes z (member_items p at f)
     member_closes at f is = working_closes at _ (body_closes (body_of p.funcs f) _ (barrier_closes at _ (last_of_member at.number ∷ []) (last_closes at.number is)))
 
-    main_closes : z ≡ item.Done → (at : Encounter) → Closes z (of_main at (body_of p.funcs p.main))
+    main_closes : z ≡ item.Done → (at : Encounter) → Closes z (main_items at (body_of p.funcs p.main))
     main_closes is at = body_closes (body_of p.funcs p.main) _ (barrier_closes at _ (item.Done ∷ []) (is, refl, tt))
 
   stays_closes : (at : Encounter) (e : Event) (y : Item) (ys : List Item) → Closes z (y ∷ ys) → Closes z (stays at e y ys)

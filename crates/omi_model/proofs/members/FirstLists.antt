@@ -9,7 +9,7 @@ use Rattle.omi_model.specs.declared.task.Task.{Task}
 use Rattle.omi_model.specs.LawLists.{HasMemberList}
 use Rattle.omi_model.specs.Opening.{opening}
 use Rattle.omi_model.specs.Reached.{Reached, Step}
-use Rattle.omi_model.specs.Rows.{of_member, of_task}
+use Rattle.omi_model.specs.Rows.{member_items, task_items}
 use Rattle.omi_model.specs.State.{State, region_of, task_of}
 use Rattle.omi_model.proofs.ChainsKept.{current_begun}
 use Rattle.omi_model.proofs.EachObject.{EachTask, IsTaskLaw, task_step_from}
@@ -21,7 +21,7 @@ use Rattle.omi_model.proofs.StaysKept.{stays_step}
 use Rattle.omi_model.proofs.Steps.{IsMove, move_of, moved_on}
 
 pub record HasFirstList (p : Program) (s : State) (t : Task) : Type 0 where
-  pub deferred : t.progress ≡ Deferred → t.list ≡ of_task p t.function
+  pub deferred : t.progress ≡ Deferred → t.list ≡ task_items p t.function
   pub waiting : t.progress ≡ NotBegun → (r : Region) → region_of s t.region ≡ Some r → HasMemberList p r t
 
 begun_deferred : Begun ≡ Deferred → ⊥
@@ -62,8 +62,8 @@ module _ (p : Program) (events : List (ℕ × Event)) (s : State) (reached : Rea
         let (q', found', same) = (stays_step p s i e next step).regions t.region r found in
         let one : q' ≡ q = some_same found' found_q in
         h.waiting w r found
-        ∙ (ap (λ n. of_member p (record { debug = p.env.debug; number = t.number; level = n; is_final = false }) r.function) (sym same.levels ∙ ap (λ (x : Region). x.levels) one)
-        ∙ ap (λ f. of_member p (record { debug = p.env.debug; number = t.number; level = q.levels; is_final = false }) f) (sym same.function ∙ ap (λ (x : Region). x.function) one));
+        ∙ (ap (λ n. member_items p (record { debug = p.env.debug; number = t.number; level = n; is_final = false }) r.function) (sym same.levels ∙ ap (λ (x : Region). x.levels) one)
+        ∙ ap (λ f. member_items p (record { debug = p.env.debug; number = t.number; level = q.levels; is_final = false }) f) (sym same.function ∙ ap (λ (x : Region). x.function) one));
   }
 
   pub lists_step : EachTask (λ k t. HasFirstList p next t) next
@@ -80,7 +80,7 @@ module _ (p : Program) (events : List (ℕ × Event)) (s : State) (reached : Rea
         starts = λ k u j t x is live ex de may of by q. runs p next _ refl;
         members = λ region team f k t r is found may new of by j n at. record {
           deferred = λ d. absurd (waits_deferred (j == 0) d);
-          waiting = λ w q found_q. ap (λ (x : Region). of_member p (record { debug = p.env.debug; number = j; level = x.levels; is_final = false }) x.function) (some_same new found_q);
+          waiting = λ w q found_q. ap (λ (x : Region). member_items p (record { debug = p.env.debug; number = j; level = x.levels; is_final = false }) x.function) (some_same new found_q);
         };
         deferred = λ task f final seen k t is of fresh. record { deferred = λ d. refl; waiting = λ w. absurd (deferred_waits w) };
         made = λ task f final k t is of fresh by. runs p next _ refl;

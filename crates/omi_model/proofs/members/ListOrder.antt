@@ -18,7 +18,7 @@ use Rattle.omi_model.specs.Lists.{may_drop, stays, take_item}
 use Rattle.omi_model.specs.Numbers.{wait_taskwait}
 use Rattle.omi_model.specs.Opening.{opening}
 use Rattle.omi_model.specs.Reached.{Reached, Step}
-use Rattle.omi_model.specs.Rows.{barrier_items, behind, body_items, call_items, end_of_member, first_of, last_of_member, of_main, of_member, shown, working}
+use Rattle.omi_model.specs.Rows.{barrier_items, behind, body_items, call_items, end_of_member, first_of, last_of_member, main_items, member_items, shown, working}
 use Rattle.omi_model.specs.State.{State, task_of}
 use Rattle.omi_model.proofs.BarrierCounts.{barriers_of}
 use Rattle.omi_model.proofs.BarrierLaw.{number_met, placed}
@@ -129,11 +129,11 @@ module _ (n : ℕ) where
         go true = tt
         go false = tt
 
-    member_order : (at : Encounter) (f : ℕ) → at.number ≡ n → IsInOrder n Outside (of_member p at f)
+    member_order : (at : Encounter) (f : ℕ) → at.number ≡ n → IsInOrder n Outside (member_items p at f)
     member_order at f own =
         working_order at _ (body_order (body_of p.funcs f) (end_of_member at (last_of_member at.number ∷ [])) (barrier_order at _ (last_of_member at.number ∷ []) own (last_order at.number)))
 
-    main_order : (at : Encounter) → at.number ≡ n → IsInOrder n Outside (of_main at (body_of p.funcs p.main))
+    main_order : (at : Encounter) → at.number ≡ n → IsInOrder n Outside (main_items at (body_of p.funcs p.main))
     main_order at own = body_order (body_of p.funcs p.main) (end_of_member at (item.Done ∷ [])) (barrier_order at _ (item.Done ∷ []) own tt)
 
   -- behind an item

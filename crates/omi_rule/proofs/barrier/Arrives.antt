@@ -75,7 +75,7 @@ module _ (p : Program) (w : List ℕ) (m : Memory) (events : List (ℕ × Event)
   next = on_region listed mine.task.region (arrived_once mine.task.number)
 
   abbrev after : Actor
-  after = looking b (steps_of.arrived a)
+  after = looking b (steps_of.past_arrive a)
 
   is_implicit : a.context.implicit ≡ true
   is_implicit = (fits_barrier p w m events s actors i before c at).1

@@ -9,7 +9,7 @@ use Rattle.omi_model.specs.declared.task.Task.{Task}
 use Rattle.omi_model.specs.State.{State, task_of}
 use Rattle.omi_model.proofs.NamesLive.{names_live}
 use Rattle.omi_layout.specs.declared.field.Field.TheVariants.{TaskChildren}
-use Rattle.omi_layout.specs.Memory.{Memory, put}
+use Rattle.omi_layout.specs.Memory.{Memory, replace_at}
 use Rattle.omi_layout.specs.Named.{number}
 use Rattle.omi_layout.proofs.Numbers.{numbered_field}
 use Rattle.omi_pc.specs.declared.actor.Actor.{Actor}
@@ -76,7 +76,7 @@ module _ (p : Program) (w : List ℕ) (m : Memory) (events : List (ℕ × Event)
   owes : owed a ≡ record nothing { pending = Some a.context.region; lowered = Some t }
   owes = owes_now p w m events s actors i before standing at tt
 
-  words : KeepsWords w n s (all_owed (put actors i (at_counter to a)))
+  words : KeepsWords w n s (all_owed (replace_at actors i (at_counter to a)))
   words =
       owed_after w n s actors i (at_counter to a) (record (owed a) { lowered = None }) (ap (λ (o : Owed). record o { lowered = None }) (sym owes))
       (children_subtracts_keep w m s (all_owed actors) i t g before.rule.words before.known (ap (λ (o : Owed). o.lowered) owes) (ap (λ o. option_and_then (λ x. x.generating) o) ended.live ∙ ended.made_by) few)

@@ -144,7 +144,7 @@ module _ (p : Program) (w : List ℕ) (m : Memory) (events : List (ℕ × Event)
     closed_is : closed a ≡ record a { context = saved; stack = fs }
     closed_is = ap (λ (xs : List Frame). closed_in a xs) stack ∙ ap (λ (o : Opened). record a { context = context_under a.context o; stack = fs }) how
 
-    finished_is : FinishSteps.finished a ≡ back
+    finished_is : FinishSteps.past_finish a ≡ back
     finished_is =
         ap (λ (xs : List Frame). to_finish (finish.LoadGenerating (wait_of xs) a.context.task) (closed_in a xs)) stack
         ∙ ap (λ (o : Opened). record a { context = context_under a.context o; stack = fs; counter = counter.Finish (finish.LoadGenerating (wait_by o) a.context.task) }) how
@@ -247,7 +247,7 @@ module _ (p : Program) (w : List ℕ) (m : Memory) (events : List (ℕ × Event)
       knows = tt;
     }
 
-    goes : Goes (FinishSteps.finished a)
+    goes : Goes (FinishSteps.past_finish a)
     goes =
         let o = own p w m events s actors i before x at tt in
         let v = task_address w (task_under a) in
@@ -273,7 +273,7 @@ module _ (p : Program) (w : List ℕ) (m : Memory) (events : List (ℕ × Event)
   finish_keeps = (on_current, is_on, with_bodies)
     where
       by : (f : Frame) (fs : List Frame) → a.stack ≡ f ∷ fs → f.next ≡ length (body_in p f) → (o : Opened) → f.opened ≡ o → IsExplicit o → StandsOn p a.context f.function fs o → KeepsBody p s a.context o fs → KeepsBodies p s i (context_under a.context o) fs
-          → AreOpen p (context_under a.context o) fs → AreContextsPlaced w (context_under a.context o) fs → AreBelow a.context.task (f ∷ fs) → Goes (FinishSteps.finished a)
+          → AreOpen p (context_under a.context o) fs → AreContextsPlaced w (context_under a.context o) fs → AreBelow a.context.task (f ∷ fs) → Goes (FinishSteps.past_finish a)
       by f fs is end (opened.Task v saved) how task_body (starts, of) (from, suspended) under open_under placed_under (apart, below) =
           goes f fs is end v saved how starts of from suspended under open_under placed_under (subst (IsBelow a.context.task) how apart) below
       by f fs is end opened.Main how task_body on keeps under open_under placed_under below = absurd task_body
@@ -283,7 +283,7 @@ module _ (p : Program) (w : List ℕ) (m : Memory) (events : List (ℕ × Event)
       by f fs is end (opened.Repeat left) how task_body on keeps under open_under placed_under below = absurd task_body
       by f fs is end (opened.Critical k) how task_body on keeps under open_under placed_under below = absurd task_body
 
-      with_bodies : Goes (FinishSteps.finished a)
+      with_bodies : Goes (FinishSteps.past_finish a)
       with_bodies =
           let (f, fs, is, task) = body p w m events s actors i before x at tt in
           let o = own p w m events s actors i before x at tt in

@@ -11,7 +11,7 @@ use Rattle.omi_model.specs.declared.item.Item.TheVariants as item
 use Rattle.omi_model.specs.Numbers.{wait_taskwait}
 use Rattle.omi_model.specs.State.{State}
 use Rattle.omi_layout.specs.declared.field.Field.TheVariants.{RegionPending}
-use Rattle.omi_layout.specs.Memory.{Memory, put}
+use Rattle.omi_layout.specs.Memory.{Memory, replace_at}
 use Rattle.omi_pc.specs.declared.actor.Actor.{Actor}
 use Rattle.omi_pc.specs.declared.counter.Counter.{Counter}
 use Rattle.omi_pc.specs.declared.counter.Counter.TheVariants as counter
@@ -63,9 +63,9 @@ module _ (p : Program) (w : List ℕ) (m : Memory) (events : List (ℕ × Event)
   owes : owed a ≡ record nothing { pending = Some a.context.region }
   owes = owes_now p w m events s actors i before standing at tt
 
-  words : KeepsWords w n s (put (all_owed actors) i nothing)
+  words : KeepsWords w n s (replace_at (all_owed actors) i nothing)
   words =
-      subst (λ (o : Owed). KeepsWords w n s (put (all_owed actors) i o)) (ap (λ (o : Owed). record o { pending = None }) owes)
+      subst (λ (o : Owed). KeepsWords w n s (replace_at (all_owed actors) i o)) (ap (λ (o : Owed). record o { pending = None }) owes)
       (pending_subtracts_keep w m s (all_owed actors) i a.context.region before.rule.words before.known (ap (λ (o : Owed). o.pending) owes) few)
 
   abbrev Goes : Counter → Type 0

@@ -43,7 +43,7 @@ use Rattle.omi_pc.specs.declared.frame.Opened.TheVariants as opened
 use Rattle.omi_pc.specs.declared.team_counter.JoinCounter.TheVariants as join
 use Rattle.omi_pc.specs.Fits.{FitsPlain}
 use Rattle.omi_pc.specs.Frames.{body_in, statement_before}
-use Rattle.omi_pc.specs.Moves.{closed, closed_in, context_under, worked, worked_at, worked_in, working}
+use Rattle.omi_pc.specs.Moves.{closed, closed_in, context_under, worked, worked_at, worked_in, back_to_work}
 use Rattle.omi_pc.specs.OpenBodies.{AreOpen, IsAt, IsAtEnd, IsMaster, IsMasterOf, StandsOn}
 use Rattle.omi_rep.specs.declared.outcome.Outcome.TheVariants as outcome
 use Rattle.omi_rep.specs.Records.{task_address, task_word}
@@ -54,7 +54,7 @@ use Rattle.omi_rule_words.proofs.Moves.{moves_keep}
 use Rattle.omi_step_words.specs.Moving.{task_under}
 use Rattle.omi_step_words.specs.Placed.{AreContextsPlaced}
 use Rattle.omi_step_words.specs.Words.{of_thread}
-use Rattle.omi_fork.specs.JoinSteps.{join_moved, join_next, join_outcome, joined as rejoined}
+use Rattle.omi_fork.specs.JoinSteps.{join_moved, join_next, join_outcome, past_join as rejoined}
 use Rattle.omi_rule.specs.Ahead.{IsAhead, leaving}
 use Rattle.omi_rule.specs.Ahead as Ahead
 use Rattle.omi_rule.specs.Chains.{IsScheduledFrom, IsSuspended, KeepsBodies, KeepsBody, KeepsContext, Stands, StandsWith, encounter_of}
@@ -244,7 +244,7 @@ module _ (p : Program) (w : List ℕ) (m : Memory) (events : List (ℕ × Event)
         ∙ ap (λ (e : Env). e.debug) (environment_stays p events s before.rule.reached)
 
     goes : Goes (rejoined p a)
-    goes = subst Goes (sym (ap (λ (b : Actor). working p b) closed_is)) (of_frame fs refl at_construct)
+    goes = subst Goes (sym (ap (λ (b : Actor). back_to_work p b) closed_is)) (of_frame fs refl at_construct)
       where
         by : (d : Bool) → p.env.debug ≡ d → worked p back ≡ record back { counter = counter.Plain plain.Leave } → Ahead.worked p (encounter_of s saved) fs ≡ leaving p (encounter_of s saved) fs
             → Goes (if d then record back { counter = counter.Plain plain.WorkState } else worked p back)
@@ -258,13 +258,13 @@ module _ (p : Program) (w : List ℕ) (m : Memory) (events : List (ℕ × Event)
             (leads_to plain.Leave (stmt.Parallel f.function num, at_construct, tt)
             (ap (λ (b : Bool). if b then item.State (work_state (encounter_of s saved).level) 0 ∷ leaving p (encounter_of s saved) fs else leaving p (encounter_of s saved) fs) (debug_is ∙ e)) tt)
 
-        of_next : (g : Frame) (gs : List Frame) → fs ≡ g ∷ gs → (n : ℕ) → g.next ≡ n → statement_before (body_in p g) n ≡ Some (stmt.Parallel f.function num) → Goes (working p back)
+        of_next : (g : Frame) (gs : List Frame) → fs ≡ g ∷ gs → (n : ℕ) → g.next ≡ n → statement_before (body_in p g) n ≡ Some (stmt.Parallel f.function num) → Goes (back_to_work p back)
         of_next g gs is zero e none = absurd (cc none)
         of_next g gs is (suc n) e some =
             by p.env.debug refl (ap (λ (xs : List Frame). worked_in p xs back) is ∙ ap (λ j. worked_at p j back) e)
             (ap (λ (xs : List Frame). Ahead.worked p (encounter_of s saved) xs) is ∙ ap (λ j. Ahead.working_at p (encounter_of s saved) j (g ∷ gs)) e ∙ ap (leaving p (encounter_of s saved)) (sym is))
 
-        of_frame : (xs : List Frame) → fs ≡ xs → IsAt p xs (stmt.Parallel f.function num) → Goes (working p back)
+        of_frame : (xs : List Frame) → fs ≡ xs → IsAt p xs (stmt.Parallel f.function num) → Goes (back_to_work p back)
         of_frame [] is none = absurd (cc none)
         of_frame (g ∷ gs) is some = of_next g gs is g.next refl some
 

@@ -6,7 +6,7 @@ use Rattle.omi_model.specs.declared.id.Tid.{Tid}
 use Rattle.omi_model.specs.declared.task.Task.{Task}
 use Rattle.omi_model.specs.State.{State}
 use Rattle.omi_layout.specs.Field.{kind_of, tasks}
-use Rattle.omi_layout.specs.Memory.{Memory, put, with_word}
+use Rattle.omi_layout.specs.Memory.{Memory, replace_at, with_word}
 use Rattle.omi_layout.specs.Named.{number}
 use Rattle.omi_layout.specs.Place.{IsSlot}
 use Rattle.omi_layout.specs.Table.{width}
@@ -130,7 +130,7 @@ module _ (p : Program) (w : List ℕ) (m : Memory) (events : List (ℕ × Event)
   leads : (to : Counter) → owed (at_counter to a) ≡ record nothing { hand = Some t } → StandsAt p w m events s actors i before standing at tt after_store to → Goes to
   leads to same stands =
       quiet_keeps p w m events s actors i before (filling w t.0 Word) on_word (at_counter to a, outcome.Quiet) refl
-      (subst (λ (h : Memory). KeepsWords w h s (all_owed (put actors i (at_counter to a)))) (sym left_is)
+      (subst (λ (h : Memory). KeepsWords w h s (all_owed (replace_at actors i (at_counter to a)))) (sym left_is)
       (moves_keep w after_store s actors i (at_counter to a) (place_stores_keep w m s (all_owed actors) t hand.0.task Word.field Word.at Word.value before.rule.words hand.0.is is_word.field) (same ∙ sym owes)))
       (λ j other. subst (λ (h : Memory). Spares m h s j (actors j)) (sym left_is) (spares j other))
       (subst (λ (h : Memory). KeepsThread p w h events s i (at_counter to a)) (sym left_is) (thread_with p w m events s actors i before standing at tt after_store to stands))

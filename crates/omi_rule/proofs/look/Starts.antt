@@ -19,7 +19,7 @@ use Rattle.omi_model.specs.Lists.{stays, take_item}
 use Rattle.omi_model.specs.Numbers.{wait_taskwait}
 use Rattle.omi_model.specs.Put.{put}
 use Rattle.omi_model.specs.Reached.{Step}
-use Rattle.omi_model.specs.Rows.{of_task, working}
+use Rattle.omi_model.specs.Rows.{task_items, working}
 use Rattle.omi_model.specs.Rules.{effect}
 use Rattle.omi_model.specs.State.{State, task_of}
 use Rattle.omi_model.specs.Tasking.{MayStartAt, scheduled, started, started_alone}
@@ -308,8 +308,8 @@ module _ (p : Program) (w : List ℕ) (m : Memory) (events : List (ℕ × Event)
   seen_debug : Seen.debug ≡ p.env.debug
   seen_debug = ap (λ (o : Option Task). (encounter_by next o).debug) live_next ∙ ap (λ (e : Env). e.debug) (environment_stays p events s before.rule.reached)
 
-  list_is : U.list ≡ of_task p f
-  list_is = (lists_right p events s before.rule.reached t U hand.0.is.live).deferred hand.0.is.progress ∙ ap (of_task p) hand.0.knows.0
+  list_is : U.list ≡ task_items p f
+  list_is = (lists_right p events s before.rule.reached t U hand.0.is.live).deferred hand.0.is.progress ∙ ap (task_items p) hand.0.knows.0
 
   -- the state in front is the one that the thread stores
   same_front : (xs : List Item) → working (encounter listed i) xs ≡ working Seen xs
@@ -359,12 +359,12 @@ module _ (p : Program) (w : List ℕ) (m : Memory) (events : List (ℕ × Event)
       (λ j other. spares_threads m s i ThreadCurrent (task_address w t) j (actors j) (λ same. omega (arith, same)))
       thread
 
-  works_now : ((xs : List Item) → F xs ≡ working (encounter listed i) xs) → Goes (Moves.working p b)
+  works_now : ((xs : List Item) → F xs ≡ working (encounter listed i) xs) → Goes (Moves.back_to_work p b)
   works_now front =
       let o = own p w m events s actors i before standing at tt in
-      leads_to (Moves.working p b) (works_owing_nothing p b frame a.stack refl)
+      leads_to (Moves.back_to_work p b) (works_owing_nothing p b frame a.stack refl)
       (works p w stored later next i b frame a.stack refl o.thread has (inl (refl, tt)) contexts_placed seen_debug now_current bodies runs
-      (λ x live. ap (λ (y : Task). y.list) (some_same live live_next) ∙ front U.list ∙ ap (working (encounter listed i)) list_is ∙ same_front (of_task p f)))
+      (λ x live. ap (λ (y : Task). y.list) (some_same live live_next) ∙ front U.list ∙ ap (working (encounter listed i)) list_is ∙ same_front (task_items p f)))
 
   settles_now : ((xs : List Item) → F xs ≡ xs) → Goes (settled p b)
   settles_now front =

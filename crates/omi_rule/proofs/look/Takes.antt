@@ -8,7 +8,7 @@ use Rattle.omi_model.specs.State.{State}
 use Rattle.omi_model.proofs.ReleaseAmong.{undeferred}
 use Rattle.omi_layout.specs.declared.field.Field.TheVariants.{TaskSlots}
 use Rattle.omi_layout.specs.Field.{tasks}
-use Rattle.omi_layout.specs.Memory.{Memory, put, with_word}
+use Rattle.omi_layout.specs.Memory.{Memory, replace_at, with_word}
 use Rattle.omi_layout.specs.Named.{number}
 use Rattle.omi_layout.proofs.Numbers.{numbered_field}
 use Rattle.omi_layout.proofs.Puts.{word_back}
@@ -123,7 +123,7 @@ module _ (p : Program) (w : List ℕ) (m : Memory) (events : List (ℕ × Event)
         ap (λ (b : Bool). with_word m row.creator tasks row.slot (number TaskSlots) (n % OWN_SLOTS) (if b then 0 else found)) (eq-eqb found code same)
         ∙ ap (λ (q : Place). with_word m q.creator tasks q.slot (number TaskSlots) (n % OWN_SLOTS) 0) (sym o.place)
 
-    words : KeepsWords w taken s (all_owed (put actors i (at_counter to a)))
+    words : KeepsWords w taken s (all_owed (replace_at actors i (at_counter to a)))
     words =
         owed_after w taken s actors i (at_counter to a) (record nothing { hand = Some k }) refl
         (slot_takes_keep w m s (all_owed actors) i o.name o.task (n % OWN_SLOTS) k before.rule.words before.rule.within before.valid before.known (owes_now p w m events s actors i before standing at tt) o.live o.implicit (omega arith) deferred (coded.is ∙ ap (slot_word w) named))
@@ -134,7 +134,7 @@ module _ (p : Program) (w : List ℕ) (m : Memory) (events : List (ℕ × Event)
     takes : KeepsRule p w m events s actors i (op.Cas (of_slot w row n) code 0) on_slot (at_counter to a, outcome.Quiet)
     takes =
         quiet_keeps p w m events s actors i before (op.Cas (of_slot w row n) code 0) on_slot (at_counter to a, outcome.Quiet) refl
-        (subst (λ (h : Memory). KeepsWords w h s (all_owed (put actors i (at_counter to a)))) (sym left_is) words)
+        (subst (λ (h : Memory). KeepsWords w h s (all_owed (replace_at actors i (at_counter to a)))) (sym left_is) words)
         (λ j other. subst (λ (h : Memory). Spares m h s j (actors j)) (sym left_is)
         (spares_task m s o.name o.task TaskSlots (n % OWN_SLOTS) 0 j (actors j) o.live (inr (inr refl)) (λ g of field _ _ _. let less = places_first g of in absurd (omega (arith, less, field)))))
         (subst (λ (h : Memory). KeepsThread p w h events s i (at_counter to a)) (sym left_is) (thread_with p w m events s actors i before standing at tt taken to stands_at))

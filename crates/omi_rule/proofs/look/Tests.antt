@@ -36,7 +36,7 @@ use Rattle.omi_rep.specs.Records.{task_address, task_word}
 use Rattle.omi_rule_words.proofs.Forks.{address_some}
 use Rattle.omi_step_words.specs.Moving.{to_look}
 use Rattle.omi_step_words.specs.Placed.{HasTask, HasTaskPlace}
-use Rattle.omi_step_words.specs.Words.{first_place, of_task, slot_by, task_place}
+use Rattle.omi_step_words.specs.Words.{initial_place, of_task, slot_by, task_place}
 use Rattle.omi_step_words.proofs.ReadBack.{places_back}
 use Rattle.omi_task.specs.LookSteps.{look_moved, look_next, look_outcome, looking_on, next_look}
 use Rattle.omi_task.specs.Slots.{coded_task}
@@ -53,7 +53,7 @@ use Rattle.omi_rule.proofs.look.LooksOn.{goes_next}
 pub coded_there : (w : List ℕ) → IsValid w → (code : ℕ) → HasTask w (coded_task w code)
 coded_there w valid code = go (slot_by w tasks (code % 2 ^ 24)) (mod_below (code % 2 ^ 24) (per_thread w tasks) (some_tasks w valid)) (nat_lt (slot_by w tasks (code % 2 ^ 24)).creator (makers w tasks)) refl
   where
-    go : (x : Place) → x.slot < per_thread w tasks → (b : Bool) → nat_lt x.creator (makers w tasks) ≡ b → IsSlot w tasks (if b then x else first_place).creator (if b then x else first_place).slot
+    go : (x : Place) → x.slot < per_thread w tasks → (b : Bool) → nat_lt x.creator (makers w tasks) ≡ b → IsSlot w tasks (if b then x else initial_place).creator (if b then x else initial_place).slot
     go x below true made = record { made_by = ltb-true x.creator (makers w tasks) made; within = below }
     go x below false made = record { made_by = some_threads w valid; within = some_tasks w valid }
 

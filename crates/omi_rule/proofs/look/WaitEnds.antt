@@ -27,7 +27,7 @@ use Rattle.omi_pc.specs.declared.counter.PlainCounter.TheVariants as plain
 use Rattle.omi_pc.specs.declared.frame.Wait.TheVariants as wait
 use Rattle.omi_pc.specs.declared.task_counter.LookCounter.TheVariants as look
 use Rattle.omi_pc.specs.Fits.{slots_of}
-use Rattle.omi_pc.specs.Moves.{worked, working}
+use Rattle.omi_pc.specs.Moves.{worked, back_to_work}
 use Rattle.omi_pc.specs.OpenBodies.{IsAt}
 use Rattle.omi_rep.specs.declared.outcome.Outcome.TheVariants as outcome
 use Rattle.omi_rule_words.specs.Owes.{all_owed}
@@ -130,7 +130,7 @@ module _ (p : Program) (w : List ℕ) (m : Memory) (events : List (ℕ × Event)
         (done none (counter.Plain plain.Leave)
         (λ n. record { fits = (stmt.Taskwait, waits, tt); placed = tt; ahead = ap (λ (x : Bool). if x then item.State (work_state At.level) 0 ∷ leaving p At a.stack else leaving p At a.stack) (sees_debug p w m events s actors i before standing at tt ∙ e); owes = refl; row = tt; ended = tt }))
 
-    by_word : (d : Bool) → word == 0 ≡ d → KeepsRule p w m events s actors i (op.Load load) on_children (if d then working p a else to_look (look.LoadRow wait.Taskwait 0) a, if d then outcome.Event event.WaitDone else outcome.NotReady load word)
+    by_word : (d : Bool) → word == 0 ≡ d → KeepsRule p w m events s actors i (op.Load load) on_children (if d then back_to_work p a else to_look (look.LoadRow wait.Taskwait 0) a, if d then outcome.Event event.WaitDone else outcome.NotReady load word)
     by_word true none =
         let (f, fs, is, task) = body p w m events s actors i before standing at tt in
         let (leaves, ahead) = at_construct p a f fs stmt.Taskwait is waits in

@@ -12,7 +12,7 @@ use Rattle.omi_model.specs.Reached.{Reached}
 use Rattle.omi_model.specs.State.{State, task_of}
 use Rattle.omi_model.proofs.Slots.{some_same}
 use Rattle.omi_model.proofs.StaysKept.{stay}
-use Rattle.omi_layout.specs.Memory.{Memory, put}
+use Rattle.omi_layout.specs.Memory.{Memory, replace_at}
 use Rattle.omi_pc.specs.declared.actor.Actor.{Actor}
 use Rattle.omi_pc.specs.declared.counter.Counter.{Counter}
 use Rattle.omi_pc.specs.declared.counter.Counter.TheVariants as counter
@@ -93,7 +93,7 @@ module _ (p : Program) (w : List ℕ) (m : Memory) (events : List (ℕ × Event)
       let same : left_in m (loading_native w (actors i)) x ≡ m = of_load p w m events s actors i before (of_thread w (actors i).thread ThreadNative) x in
       let stays : KeepsRule p w m events s actors i (loading_native w (actors i)) x (actors i, outcome.Quiet) =
       quiet_keeps p w m events s actors i before (loading_native w (actors i)) x (actors i, outcome.Quiet) refl
-      (subst (λ (n : Memory). KeepsWords w n s (all_owed (put actors i (actors i)))) (sym same) (moves_keep w m s actors i (actors i) before.rule.words refl))
+      (subst (λ (n : Memory). KeepsWords w n s (all_owed (replace_at actors i (actors i)))) (sym same) (moves_keep w m s actors i (actors i) before.rule.words refl))
       (λ j other. subst (λ (n : Memory). Spares m n s j (actors j)) (sym same) (spares_none m s j (actors j)))
       (subst (λ (n : Memory). KeepsThread p w n events s i (actors i)) (sym same) own) in (
         x,
@@ -102,6 +102,6 @@ module _ (p : Program) (w : List ℕ) (m : Memory) (events : List (ℕ × Event)
           next = s;
           leads = (refl, subst (λ (d : Counter). HasEnded events i d) at_counter own.ended);
           comes = tt;
-          rule = subst (λ (z : State). Rule p w (left_in m (loading_native w (actors i)) x) (events ++ []) z (put actors i (actors i))) stays.leads stays.rule;
+          rule = subst (λ (z : State). Rule p w (left_in m (loading_native w (actors i)) x) (events ++ []) z (replace_at actors i (actors i))) stays.leads stays.rule;
         },
       )

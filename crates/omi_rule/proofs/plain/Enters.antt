@@ -34,7 +34,7 @@ use Rattle.omi_pc.specs.declared.counter.PlainCounter.TheVariants as plain
 use Rattle.omi_pc.specs.declared.frame.Frame.{Frame}
 use Rattle.omi_pc.specs.Fits.{Enters}
 use Rattle.omi_pc.specs.OpenBodies.{IsAt}
-use Rattle.omi_plain.specs.PlainSteps.{behind_enter, enter_word, entered, plain_moved, plain_next, plain_outcome, task_counter}
+use Rattle.omi_plain.specs.PlainSteps.{behind_enter, enter_word, past_enter, plain_moved, plain_next, plain_outcome, task_counter}
 use Rattle.omi_plain.specs.StepLaws.{IsImplicitAtBarrier}
 use Rattle.omi_plain.proofs.Fitting.{steps_fit}
 use Rattle.omi_plain.proofs.StayPlaced.{steps_stay_placed}
@@ -227,13 +227,13 @@ module _ (p : Program) (w : List ℕ) (m : Memory) (events : List (ℕ × Event)
           (twice p w m events s actors i before plain.Enter at_counter (zs stmt.Barrier) shown t (own_task p w m events s actors i before plain.Enter at_counter).live) in
           absurd (has_one at.debug _ (order.explicit ((own_task p w m events s actors i before plain.Enter at_counter).implicit ∙ e)))
 
-  enter_goes : (x : Stmt) → IsAt p a.stack x → Enters x → GoesOn p w i at a (entered p a) (zs x)
+  enter_goes : (x : Stmt) → IsAt p a.stack x → Enters x → GoesOn p w i at a (past_enter p a) (zs x)
   enter_goes x is enters =
       let own = before.rule.threads i before.known in
       let o = own_task p w m events s actors i before plain.Enter at_counter in
       let final : at.is_final ≡ a.context.is_final = ap (λ (q : Option Task). (encounter_by s q).is_final) o.live ∙ o.final in
-      let first : IsEntered p (entered p a) (entered p a).counter = subst (λ (q : Option Stmt). IsEntered p (entered p a) (behind_enter p.env.debug a.context.is_final q)) (sym is) (enter_first p (entered p a) p.env.debug x is enters) in
-      goes_to_row p w m events s actors i before plain.Enter at_counter (entered p a) (zs x) (record { thread = refl; context = refl; gathered = refl })
+      let first : IsEntered p (past_enter p a) (past_enter p a).counter = subst (λ (q : Option Stmt). IsEntered p (past_enter p a) (behind_enter p.env.debug a.context.is_final q)) (sym is) (enter_first p (past_enter p a) p.env.debug x is enters) in
+      goes_to_row p w m events s actors i before plain.Enter at_counter (past_enter p a) (zs x) (record { thread = refl; context = refl; gathered = refl })
       (steps_fit p a plain.Enter 0 own.fits at_counter implicit_at_barrier)
       (steps_stay_placed p w a plain.Enter 0 own.placed at_counter)
       (on_ground p w m events s actors i before plain.Enter at_counter)
@@ -250,7 +250,7 @@ module _ (p : Program) (w : List ℕ) (m : Memory) (events : List (ℕ × Event)
       let word : ℕ = enter_word a in
       let word_is : word ≡ t.exit - 32 = ap (λ n. n - 32) (ap (λ j. exit_word j a.context.depth) own.thread ∙ sym o.exit) in
       let z : State = middle p w m events s actors i before plain.Enter at_counter (zs x) in
-      let first : IsEntered p (entered p a) (entered p a).counter = subst (λ (q : Option Stmt). IsEntered p (entered p a) (behind_enter p.env.debug a.context.is_final q)) (sym is) (enter_first p (entered p a) p.env.debug x is enters) in (
+      let first : IsEntered p (past_enter p a) (past_enter p a).counter = subst (λ (q : Option Stmt). IsEntered p (past_enter p a) (behind_enter p.env.debug a.context.is_final q)) (sym is) (enter_first p (past_enter p a) p.env.debug x is enters) in (
         task_word_at p w m events s actors i before plain.Enter at_counter TaskEnter,
         task_on p w m events s actors i before plain.Enter at_counter TaskEnter word refl,
         task_event p w m events s actors i before plain.Enter at_counter (zs x) TaskEnter word shown refl enter_of_task
@@ -258,7 +258,7 @@ module _ (p : Program) (w : List ℕ) (m : Memory) (events : List (ℕ × Event)
             (λ v. refl) (record { implicit = refl; region = refl; thread = refl; generating = refl; progress = refl; place = refl })
             (enter_environment w _ t word (t.exit - 32) (zs x) (has_environment p w m events s actors i before plain.Enter at_counter))
             (enter_place w _ t word (t.exit - 32) (zs x) word_is (has_place p w m events s actors i before plain.Enter at_counter))
-            (entered p a) (outcome.Event event.Enter) event.Enter item.Enter refl (λ q. q) (λ n e. absurd (cc e)) (takes x is enters)
+            (past_enter p a) (outcome.Event event.Enter) event.Enter item.Enter refl (λ q. q) (λ n e. absurd (cc e)) (takes x is enters)
             (k, t, now_current p w m events s actors i before plain.Enter at_counter, tt) refl
             (at_current z i k (relisted (zs x) t) (Settings.entered z) (middle_current p w m events s actors i before plain.Enter at_counter (zs x)))
             (k, t, now_current p w m events s actors i before plain.Enter at_counter, (word, refl)) (enter_goes x is enters)

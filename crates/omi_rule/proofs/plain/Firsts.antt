@@ -17,9 +17,9 @@ use Rattle.omi_pc.specs.declared.frame.Frame.{Frame}
 use Rattle.omi_pc.specs.declared.frame.Opened.{Opened}
 use Rattle.omi_pc.specs.declared.frame.Opened.TheVariants as opened
 use Rattle.omi_pc.specs.Frames.{advanced, next_statement}
-use Rattle.omi_pc.specs.Moves.{next_round, returned, returned_by, returned_in, worked, worked_at, worked_in, working}
+use Rattle.omi_pc.specs.Moves.{next_round, returned, returned_by, returned_in, worked, worked_at, worked_in, back_to_work}
 use Rattle.omi_pc.specs.OpenBodies.{AreOpen, IsAt, IsCalled, StandsOn}
-use Rattle.omi_pc.specs.Settle.{begun, calling, ended, ending_member, goes_to, settled, settled_by, settled_in, skipping}
+use Rattle.omi_pc.specs.Settle.{statement_begun, calling, ended, ending_member, goes_to, settled, settled_by, settled_in, skipping}
 use Rattle.omi_rule_words.specs.Owes.{nothing, owed_at}
 use Rattle.omi_rule.specs.Rows.{KeepsRow}
 use Rattle.omi_rule.specs.Rule.{HasEnded}
@@ -53,7 +53,7 @@ plain_first plain.Unlock b = record { owes = λ c ms. refl; row = λ p w m s i a
 plain_first plain.Done b = record { owes = λ c ms. refl; row = λ p w m s i a. tt; ended = λ events i. tt }
 plain_first plain.Ended b = absurd b
 
-begun_first : (s : Stmt) (a : Actor) → IsFirst (begun s a).counter
+begun_first : (s : Stmt) (a : Actor) → IsFirst (statement_begun s a).counter
 begun_first (stmt.Parallel g num) a = plain_first plain.Enter tt
 begun_first (stmt.Task g undeferred final) a = plain_first plain.Enter tt
 begun_first stmt.Taskwait a = plain_first plain.Enter tt
@@ -112,7 +112,7 @@ module _ (p : Program) where
           by zero = settled_first a was
           by (suc n) = plain_first plain.Leave tt
 
-  pub working_first : (a : Actor) → IsFirst a.counter → IsFirst (working p a).counter
+  pub working_first : (a : Actor) → IsFirst a.counter → IsFirst (back_to_work p a).counter
   working_first a was = go p.env.debug
     where
       go : (d : Bool) → IsFirst (if d then goes_to plain.WorkState a else worked p a).counter

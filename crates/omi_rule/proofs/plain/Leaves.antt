@@ -25,7 +25,7 @@ use Rattle.omi_pc.specs.Frames.{statement_of}
 use Rattle.omi_pc.specs.OpenBodies.{IsAt}
 use Rattle.omi_pc.specs.Settle.{calling, settled}
 use Rattle.omi_pc.proofs.Settled.{call_opens}
-use Rattle.omi_plain.specs.PlainSteps.{left, left_behind, plain_moved, plain_next, plain_outcome}
+use Rattle.omi_plain.specs.PlainSteps.{past_leave, left_behind, plain_moved, plain_next, plain_outcome}
 use Rattle.omi_plain.specs.Statements.{tool_in}
 use Rattle.omi_plain.proofs.StayPlaced.{steps_stay_placed}
 use Rattle.omi_rep.specs.declared.outcome.Outcome.TheVariants as outcome
@@ -161,10 +161,10 @@ module _ (p : Program) (w : List ℕ) (m : Memory) (events : List (ℕ × Event)
         let (x, is, enters) = fits_counter p w m events s actors i before plain.Leave at_counter in
         let zs : List Item = behind_leave p x (ahead p at a.stack) in
         let t : Task = (own_task p w m events s actors i before plain.Leave at_counter).task in
-        let placed : IsPlaced w (left p a) = steps_stay_placed p w a plain.Leave 0 own.placed at_counter in
-        let goes : GoesOn p w i at a (left p a) zs =
+        let placed : IsPlaced w (past_leave p a) = steps_stay_placed p w a plain.Leave 0 own.placed at_counter in
+        let goes : GoesOn p w i at a (past_leave p a) zs =
         subst (λ (o : Option Stmt). GoesOn p w i at a (left_behind p o a) zs) (sym is) (leaves_by x is (subst (λ (o : Option Stmt). IsPlaced w (left_behind p o a)) is placed)) in
-        let first : IsFirst (left p a).counter = subst (λ (o : Option Stmt). IsFirst (left_behind p o a).counter) (sym is) (left_first x) in (
+        let first : IsFirst (past_leave p a).counter = subst (λ (o : Option Stmt). IsFirst (left_behind p o a).counter) (sym is) (left_first x) in (
           task_word_at p w m events s actors i before plain.Leave at_counter TaskEnter,
           task_on p w m events s actors i before plain.Leave at_counter TaskEnter 0 refl,
           task_event p w m events s actors i before plain.Leave at_counter zs TaskEnter 0 (λ u. record u { enter = 0 }) refl enter_of_task
@@ -172,7 +172,7 @@ module _ (p : Program) (w : List ℕ) (m : Memory) (events : List (ℕ × Event)
               (λ v. refl) (record { implicit = refl; region = refl; thread = refl; generating = refl; progress = refl; place = refl })
               (enter_environment w _ t 0 0 zs (has_environment p w m events s actors i before plain.Leave at_counter))
               (enter_place w _ t 0 0 zs refl (has_place p w m events s actors i before plain.Leave at_counter))
-              (left p a) (outcome.Event event.Leave) event.Leave item.Leave refl (λ q. q) (λ n e. absurd (cc e))
+              (past_leave p a) (outcome.Event event.Leave) event.Leave item.Leave refl (λ q. q) (λ n e. absurd (cc e))
               (ap (take_item p at event.Leave) (in_work_is p a.stack x (λ y. item.Leave ∷ behind_leave p y (ahead p at a.stack)) is))
               (a.context.task, t, now_current p w m events s actors i before plain.Leave at_counter, tt) refl
               (at_current (middle p w m events s actors i before plain.Leave at_counter zs) i a.context.task (relisted zs t) (Settings.left (middle p w m events s actors i before plain.Leave at_counter zs)) (middle_current p w m events s actors i before plain.Leave at_counter zs))

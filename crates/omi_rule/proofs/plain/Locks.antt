@@ -41,7 +41,7 @@ use Rattle.omi_pc.specs.declared.counter.PlainCounter.TheVariants as plain
 use Rattle.omi_pc.specs.declared.frame.Frame.{Frame}
 use Rattle.omi_pc.specs.Fits.{FitsPlain, IsAtSome, IsCritical}
 use Rattle.omi_pc.specs.Frames.{body_in, statement_before, statement_of}
-use Rattle.omi_pc.specs.Moves.{working}
+use Rattle.omi_pc.specs.Moves.{back_to_work}
 use Rattle.omi_pc.specs.OpenBodies.{IsAt}
 use Rattle.omi_pc.specs.Settle.{settled}
 use Rattle.omi_pc.proofs.Moved.{working_fits}
@@ -243,19 +243,19 @@ module _ (p : Program) (w : List ℕ) (m : Memory) (events : List (ℕ × Event)
         let (f, is) = at_critical p w m events s actors i before plain.Lock at_counter critical in
         inr (stmt.Critical taken f, is, tt)
 
-    lock_goes : GoesOn p w i sees_here a (working p a) behind_lock
+    lock_goes : GoesOn p w i sees_here a (back_to_work p a) behind_lock
     lock_goes =
         let own = before.rule.threads i before.known in
         let (f, is) = at_critical p w m events s actors i before plain.Lock at_counter critical in
         let (g, gs, stack, rest) = body p w m events s actors i before plain.Lock at_counter in
         let debug = at_debug p w m events s actors i before plain.Lock at_counter in
-        goes_on p w m events s actors i before plain.Lock at_counter (working p a) behind_lock (working_differs p a)
+        goes_on p w m events s actors i before plain.Lock at_counter (back_to_work p a) behind_lock (working_differs p a)
         (working_fits p a (has_task p w m events s actors i before plain.Lock at_counter) works_again)
         (steps_stay_placed p w a plain.Lock 0 own.placed at_counter)
         (working_of (λ d fs. IsGrounded fs) grounds_are_of_bodies p a (on_ground p w m events s actors i before plain.Lock at_counter))
         (working_first p a (was_first p w m events s actors i before plain.Lock at_counter tt))
         (λ P laws. working_of P laws p a)
-        (subst (λ (xs : List Item). IsAhead p sees_here (working p a).stack (working p a).counter (Rows.working sees_here xs)) (worked_leaves sees_here a.stack (stmt.Critical taken f) is)
+        (subst (λ (xs : List Item). IsAhead p sees_here (back_to_work p a).stack (back_to_work p a).counter (Rows.working sees_here xs)) (worked_leaves sees_here a.stack (stmt.Critical taken f) is)
         (working_ahead p sees_here debug a g gs stack))
 
     -- the word of the lock
@@ -268,7 +268,7 @@ module _ (p : Program) (w : List ℕ) (m : Memory) (events : List (ℕ × Event)
         before.rule.words.runtime_record.locks taken there.within
 
     -- nobody holds it
-    lock_taken : found ≡ 0 → KeepsRule p w m events s actors i exchange at_lock (working p a, outcome.Event (event.Lock taken))
+    lock_taken : found ≡ 0 → KeepsRule p w m events s actors i exchange at_lock (back_to_work p a, outcome.Event (event.Lock taken))
     lock_taken free =
         let own = before.rule.threads i before.known in
         let z : State = middle p w m events s actors i before plain.Lock at_counter behind_lock in
@@ -276,7 +276,7 @@ module _ (p : Program) (w : List ℕ) (m : Memory) (events : List (ℕ × Event)
         runtime_event p w m events s actors i before plain.Lock at_counter behind_lock exchange RuntimeLocks taken (a.thread + 1) z.max_active (put z.locks taken (Some i))
         (ap (λ (b : Bool). with_word m 0 runtime 0 (number RuntimeLocks) taken (if b then a.thread + 1 else found)) (eq-eqb found 0 free))
         (lock_kept w (m 0 runtime 0) z taken (a.thread + 1) (Some i) (ap (λ n. n + 1) own.thread) (middle_words p w m events s actors i before plain.Lock at_counter behind_lock).runtime_record)
-        (working p a) (outcome.Event (event.Lock taken)) (event.Lock taken) (item.Lock taken) refl (λ q. q) (λ n e. absurd (cc e))
+        (back_to_work p a) (outcome.Event (event.Lock taken)) (event.Lock taken) (item.Lock taken) refl (λ q. q) (λ n e. absurd (cc e))
         (ap (take_item p sees_here (event.Lock taken)) lock_ahead ∙ takes_head p sees_here (event.Lock taken) (item.Lock taken) behind_lock (item.Lock taken) behind_lock refl (eq-eqb taken taken refl))
         (nobody (s.locks taken) (sym holder_is ∙ free)) refl refl (ap (λ n. op.Cas (of_lock w taken) 0 (n + 1)) own.thread) lock_goes
         (first.ended (events ++ (i, event.Lock taken) ∷ []) i)
@@ -291,7 +291,7 @@ module _ (p : Program) (w : List ℕ) (m : Memory) (events : List (ℕ × Event)
         let next : locks_next taken o.task.list = subst (locks_next taken) (sym (list_is p w m events s actors i before plain.Lock at_counter ∙ lock_ahead)) refl in
         waits_keep p w m events s actors i before exchange at_lock (a, outcome.NotReady (of_lock w taken) found) (of_lock w taken) refl
         (ForLock taken (a.context.task, o.task, now_current p w m events s actors i before plain.Lock at_counter, next) refl (λ e. false≢true (sym held ∙ eq-eqb found 0 e))) tt refl
-        (subst (λ (n : Memory). KeepsWords w n s (all_owed (Words.put actors i a))) (sym same) (moves_keep w m s actors i a before.rule.words refl))
+        (subst (λ (n : Memory). KeepsWords w n s (all_owed (Words.replace_at actors i a))) (sym same) (moves_keep w m s actors i a before.rule.words refl))
         (λ j other. subst (λ (n : Memory). Spares m n s j (actors j)) (sym same) (spares_none m s j (actors j)))
         (subst (λ (n : Memory). KeepsThread p w n events s i a) (sym same) own)
 
@@ -302,6 +302,6 @@ module _ (p : Program) (w : List ℕ) (m : Memory) (events : List (ℕ × Event)
       go (found == 0) refl,
     )
       where
-        go : (b : Bool) → found == 0 ≡ b → KeepsRule p w m events s actors i exchange at_lock ((if b then working p a else a), (if b then outcome.Event (event.Lock taken) else outcome.NotReady (of_lock w taken) found))
+        go : (b : Bool) → found == 0 ≡ b → KeepsRule p w m events s actors i exchange at_lock ((if b then back_to_work p a else a), (if b then outcome.Event (event.Lock taken) else outcome.NotReady (of_lock w taken) found))
         go true e = lock_taken (eqb-true found 0 e)
         go false e = lock_waits e

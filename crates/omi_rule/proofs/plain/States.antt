@@ -44,7 +44,7 @@ use Rattle.omi_pc.specs.Moves.{worked}
 use Rattle.omi_pc.specs.Settle.{goes_to}
 use Rattle.omi_pc.proofs.Moved.{worked_fits}
 use Rattle.omi_pc.proofs.Unmoved.{worked_differs}
-use Rattle.omi_plain.specs.PlainSteps.{is_initial, lock_wait, plain_moved, plain_next, plain_outcome, work_state}
+use Rattle.omi_plain.specs.PlainSteps.{is_initial, lock_wait, plain_moved, plain_next, plain_outcome, actor_work_state}
 use Rattle.omi_plain.proofs.StayPlaced.{steps_stay_placed}
 use Rattle.omi_rep.specs.declared.outcome.Outcome.TheVariants as outcome
 use Rattle.omi_rule_words.specs.Kinds.{with_thread}
@@ -101,7 +101,7 @@ module _ (p : Program) (w : List ℕ) (m : Memory) (events : List (ℕ × Event)
   abbrev at : Encounter
   at = sees p w m events s actors i before c at_counter
 
-  pub work_state_is : work_state (actors i) ≡ Rows.work_state at.level
+  pub work_state_is : actor_work_state (actors i) ≡ Rows.work_state at.level
   work_state_is =
       let o = own_task p w m events s actors i before c at_counter in
       let level : at.level ≡ o.region.levels =
@@ -150,7 +150,7 @@ module _ (p : Program) (w : List ℕ) (m : Memory) (events : List (ℕ × Event)
       let first = worked_first p (actors i) (was_first p w m events s actors i before plain.WorkState at_counter tt) in
       let zs : List Item = Ahead.worked p sees_here (actors i).stack in
       let debug = at_debug p w m events s actors i before plain.WorkState at_counter in
-      state_event p w m events s actors i before plain.WorkState at_counter (work_state (actors i)) 0 zs
+      state_event p w m events s actors i before plain.WorkState at_counter (actor_work_state (actors i)) 0 zs
       (ap (λ n. item.State n 0 ∷ zs) (sym (work_state_is p w m events s actors i before plain.WorkState at_counter)))
       (worked p (actors i))
       (goes_on p w m events s actors i before plain.WorkState at_counter (worked p (actors i)) zs (worked_differs p (actors i))
@@ -159,7 +159,7 @@ module _ (p : Program) (w : List ℕ) (m : Memory) (events : List (ℕ × Event)
       (worked_of (λ d gs. IsGrounded gs) grounds_are_of_bodies p (actors i) (on_ground p w m events s actors i before plain.WorkState at_counter)) first
       (λ P laws. worked_of P laws p (actors i))
       (worked_ahead p sees_here debug (actors i) f fs stack))
-      (first.ended (events ++ (i, event.State (work_state (actors i)) 0) ∷ []) i)
+      (first.ended (events ++ (i, event.State (actor_work_state (actors i)) 0) ∷ []) i)
 
   pub lock_state_keeps : (actors i).counter ≡ counter.Plain plain.LockState
       → StepKeeps p w m events s actors i (plain_next p w (actors i) plain.LockState) (λ old. (plain_moved p (actors i) plain.LockState old, plain_outcome p w (actors i) plain.LockState old))

@@ -23,7 +23,7 @@ use Rattle.omi_model.proofs.Steps.{at_current, relisted}
 use Rattle.omi_layout.specs.declared.field.Field.{Field}
 use Rattle.omi_layout.specs.declared.field.Field.TheVariants.{TaskSlots}
 use Rattle.omi_layout.specs.Field.{tasks}
-use Rattle.omi_layout.specs.Memory.{Memory, put}
+use Rattle.omi_layout.specs.Memory.{Memory, replace_at}
 use Rattle.omi_layout.specs.Named.{number}
 use Rattle.omi_pc.specs.declared.actor.Actor.{Actor}
 use Rattle.omi_pc.specs.declared.counter.Counter.TheVariants as counter
@@ -157,7 +157,7 @@ module _ (p : Program) (w : List ℕ) (m : Memory) (events : List (ℕ × Event)
       let (v, live, same) = goes_on p s Z i K (changes p w m events s actors i before C at t rest) R o.task o.live in
       record { task = v; live = live; implicit = same.implicit ∙ o.implicit; region = same.region ∙ o.region; thread = same.thread ∙ o.thread }
 
-  words : KeepsWords w N U (put (all_owed actors) i nothing)
+  words : KeepsWords w N U (replace_at (all_owed actors) i nothing)
   words =
       let o = context p w m events s actors i before C at in
       defers_keep p w m Z (all_owed actors) i t f final place K Maker R (words_moved p w m events s actors i before C at rest) ready.within ready.names before.valid before.known ready.owes row_moved within filled.0.0.1

@@ -11,7 +11,7 @@ use Rattle.omi_model.specs.State.{State}
 use Rattle.omi_model.proofs.Slots.{found_live, none_some}
 use Rattle.omi_layout.specs.declared.field.Field.TheVariants.{TaskLife, TaskSlots}
 use Rattle.omi_layout.specs.Field.{tasks}
-use Rattle.omi_layout.specs.Memory.{Memory, put, with_word, word_address}
+use Rattle.omi_layout.specs.Memory.{Memory, replace_at, with_word, word_address}
 use Rattle.omi_layout.specs.Named.{number}
 use Rattle.omi_layout.specs.Place.{IsSlot}
 use Rattle.omi_layout.proofs.Puts.{word_read, word_stays}
@@ -77,11 +77,11 @@ module _ (p : Program) (w : List ℕ) (m : Memory) (events : List (ℕ × Event)
     fresh : IsFresh s.tasks i t.0
     fresh = (row p w m events s actors i before C at).1
 
-    taken : KeepsWords w N s (all_owed (put actors i Then))
+    taken : KeepsWords w N s (all_owed (replace_at actors i Then))
     taken =
         let o : owed (actors i) ≡ nothing = owes p w m events s actors i before C at in
         owed_after w N s actors i Then (in_the_making t) refl
-        (subst (λ (x : Owed). KeepsWords w N s (put (all_owed actors) i (record x { tasks = x.tasks ++ t ∷ [] }))) o
+        (subst (λ (x : Owed). KeepsWords w N s (replace_at (all_owed actors) i (record x { tasks = x.tasks ++ t ∷ [] }))) o
         (task_takes_keep w m s (all_owed actors) i t before.rule.words (record { maker = fresh.creator; free = fresh.empty; next = fresh.next })
         (ap (λ (x : Owed). has_slot t.0.slot x.tasks) o)))
 
@@ -138,7 +138,7 @@ module _ (p : Program) (w : List ℕ) (m : Memory) (events : List (ℕ × Event)
         (task_stores w (new_task p (actors i))) below
         (subst (λ c. IsFilled (m c tasks t.0.slot) (task_plan w (new_task p (actors i))) word) making.maker (row p w m events s actors i before D at).2))
 
-    stored : (b : Actor) → owed b ≡ owed (actors i) → KeepsWords w After s (all_owed (put actors i b))
+    stored : (b : Actor) → owed b ≡ owed (actors i) → KeepsWords w After s (all_owed (replace_at actors i b))
     stored b same =
         moves_keep w After s actors i b (task_fills_keep w m s (all_owed actors) i t.0.slot Word.field Word.at Word.value before.rule.words making.free (let above = planned.above in λ life. absurd (omega (arith, above, life)))) same
 
@@ -155,7 +155,7 @@ module _ (p : Program) (w : List ℕ) (m : Memory) (events : List (ℕ × Event)
         step : (b : Actor) → owed b ≡ owed (actors i) → KeepsThread p w After events s i b → KeepsRule p w m events s actors i (filling w t.0 Word) Y (b, outcome.Quiet)
         step b same thread =
             quiet_keeps p w m events s actors i before (filling w t.0 Word) Y (b, outcome.Quiet) refl
-            (subst (λ (n : Memory). KeepsWords w n s (all_owed (put actors i b))) (sym left) (stored b same))
+            (subst (λ (n : Memory). KeepsWords w n s (all_owed (replace_at actors i b))) (sym left) (stored b same))
             (λ j other. subst (λ (n : Memory). Spares m n s j (actors j)) (sym left) (spares_own m s i tasks t.0.slot (number Word.field) Word.at Word.value j (actors j) other (λ _. making.free)))
             (subst (λ (n : Memory). KeepsThread p w n events s i b) (sym left) thread)
 

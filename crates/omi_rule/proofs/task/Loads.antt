@@ -20,9 +20,9 @@ use Rattle.omi_pc.specs.declared.limits.TheConstants.{VARIABLE_WORDS}
 use Rattle.omi_pc.specs.declared.task_counter.TaskCounter.{TaskCounter}
 use Rattle.omi_pc.specs.declared.task_counter.TaskCounter.TheVariants as task
 use Rattle.omi_rep.specs.declared.outcome.Outcome.TheVariants as outcome
-use Rattle.omi_step_words.specs.Moving.{to_task}
+use Rattle.omi_step_words.specs.Moving.{to_task, with_loaded_variable}
 use Rattle.omi_step_words.specs.Plan.{of_variable, variable_at}
-use Rattle.omi_task.specs.MakingSteps.{making_moved, making_next, making_outcome, with_variable}
+use Rattle.omi_task.specs.MakingSteps.{making_moved, making_next, making_outcome}
 use Rattle.omi_rule.specs.Rows.{HasPlace, IsVariable, KnowsVariables}
 use Rattle.omi_rule.specs.Steps.{KeepsRule, RecordWord, StepKeeps, found_in}
 use Rattle.omi_rule.proofs.Assembly.{Before}
@@ -76,7 +76,7 @@ module _ (p : Program) (w : List ℕ) (m : Memory) (events : List (ℕ × Event)
     go (nat_lt (word + 1) VARIABLE_WORDS) refl,
   )
     where
-      go : (b : Bool) → nat_lt (word + 1) VARIABLE_WORDS ≡ b → KeepsRule p w m events s actors i (op.Load (of_variable w Name word)) X (to_task (if b then task.LoadVariable place (word + 1) else task.LoadLife place 0) (with_variable word (found_in m X) (actors i)), outcome.Quiet)
+      go : (b : Bool) → nat_lt (word + 1) VARIABLE_WORDS ≡ b → KeepsRule p w m events s actors i (op.Load (of_variable w Name word)) X (to_task (if b then task.LoadVariable place (word + 1) else task.LoadLife place 0) (with_loaded_variable word (found_in m X) (actors i)), outcome.Quiet)
       go true e =
           let d : TaskCounter = task.LoadVariable place (word + 1) in
           loaded p w m events s actors i before C at (of_variable w Name word) X (going d Then (actors i)) (sym (owes p w m events s actors i before C at))

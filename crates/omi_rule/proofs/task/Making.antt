@@ -34,7 +34,7 @@ use Rattle.omi_rule_words.specs.Words.{IsInTheMaking}
 use Rattle.omi_rule_words.proofs.ListedNames.{names_stay_live}
 use Rattle.omi_step_words.specs.Placed.{HasTask}
 use Rattle.omi_step_words.specs.Plan.{task_plan}
-use Rattle.omi_task.specs.MakingSteps.{final_in, function_in, made_function, makes_final, new_task}
+use Rattle.omi_task.specs.MakingSteps.{final_in, explicit_function, made_function, makes_final, new_task}
 use Rattle.omi_rule.specs.Chains.{KeepsBodies, encounter_of}
 use Rattle.omi_rule.proofs.Assembly.{Before}
 use Rattle.omi_rule.proofs.RelistedState.{within_relisted}
@@ -66,7 +66,7 @@ task_next p a (s, is, is_task) = go s is is_task
 
 -- its function, and whether it makes its task final
 pub made_as : (p : Program) (a : Actor) (next : IsTaskNext p a.stack) → made_function p a ≡ next.function
-made_as p a next = ap function_in next.is
+made_as p a next = ap explicit_function next.is
 
 pub final_as : (p : Program) (a : Actor) (next : IsTaskNext p a.stack) → makes_final p a ≡ next.final || a.context.is_final
 final_as p a next = ap (λ (o : Option Stmt). final_in o || a.context.is_final) next.is

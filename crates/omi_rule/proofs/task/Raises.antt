@@ -12,7 +12,7 @@ use Rattle.omi_model.specs.State.{State}
 use Rattle.omi_model.proofs.Slots.{found_live, none_some}
 use Rattle.omi_layout.specs.declared.field.Field.TheVariants.{RegionPending, TaskChildren, TaskSlots}
 use Rattle.omi_layout.specs.Field.{regions, tasks}
-use Rattle.omi_layout.specs.Memory.{Memory, Rec, put}
+use Rattle.omi_layout.specs.Memory.{Memory, Rec, replace_at}
 use Rattle.omi_layout.specs.Named.{number}
 use Rattle.omi_layout.proofs.Puts.{record_stays, word_stays}
 use Rattle.omi_pc.specs.declared.actor.Actor.{Actor}
@@ -74,7 +74,7 @@ module _ (p : Program) (w : List ℕ) (m : Memory) (events : List (ℕ × Event)
     abbrev N : Memory
     N = with_region_word m (actors i).context.region RegionPending (one_more (word_of_region m (actors i).context.region RegionPending))
 
-    words : KeepsWords w N s (all_owed (put actors i Then))
+    words : KeepsWords w N s (all_owed (replace_at actors i Then))
     words =
         let o : owed (actors i) ≡ in_the_making t = owes p w m events s actors i before C at in
         let here = context p w m events s actors i before C at in
@@ -82,7 +82,7 @@ module _ (p : Program) (w : List ℕ) (m : Memory) (events : List (ℕ × Event)
         let most = pending_few w s before.valid before.rule.within.count (all_owed actors) n in
         let few : word_of_region m n RegionPending < 2 ^ 57 = omega (arith, counted, most) in
         owed_after w N s actors i Then (record (in_the_making t) { pending = Some n }) refl
-        (subst (λ (x : Owed). KeepsWords w N s (put (all_owed actors) i (record x { pending = Some n }))) o
+        (subst (λ (x : Owed). KeepsWords w N s (replace_at (all_owed actors) i (record x { pending = Some n }))) o
         (pending_adds_keep w m s (all_owed actors) i n before.rule.words before.known (ap (λ (x : Owed). x.pending) o) (subst IsSome (sym here.found) refl) few))
 
     pub pending_keeps : StepKeeps p w m events s actors i (making_next p w (actors i) C) (λ old. (making_moved p w (actors i) C old, making_outcome w (actors i) C old))
@@ -119,7 +119,7 @@ module _ (p : Program) (w : List ℕ) (m : Memory) (events : List (ℕ × Event)
     abbrev After : Memory
     After = with_task_word m (actors i).context.task TaskChildren (one_more (word_of_task m (actors i).context.task TaskChildren))
 
-    raised : (b : Actor) → owed b ≡ with_raises (actors i).context t → KeepsWords w After s (all_owed (put actors i b))
+    raised : (b : Actor) → owed b ≡ with_raises (actors i).context t → KeepsWords w After s (all_owed (replace_at actors i b))
     raised b is =
         let o : owed (actors i) ≡ record (in_the_making t) { pending = Some (actors i).context.region } = owes p w m events s actors i before D at in
         let here = context p w m events s actors i before D at in
@@ -127,7 +127,7 @@ module _ (p : Program) (w : List ℕ) (m : Memory) (events : List (ℕ × Event)
         let most = children_few w s before.valid before.rule.within.count (all_owed actors) k in
         let few : word_of_task m k TaskChildren < 2 ^ 57 = omega (arith, counted, most) in
         owed_after w After s actors i b (with_raises (actors i).context t) is
-        (subst (λ (x : Owed). KeepsWords w After s (put (all_owed actors) i (record x { raised = Some k }))) o
+        (subst (λ (x : Owed). KeepsWords w After s (replace_at (all_owed actors) i (record x { raised = Some k }))) o
         (children_adds_keep w m s (all_owed actors) i k before.rule.words before.known (ap (λ (x : Owed). x.raised) o) (subst IsSome (sym here.live) refl) few))
 
     slots_stay : (q : Option ℕ) → HasPlace p m (actors i) q → HasPlace p After (actors i) q

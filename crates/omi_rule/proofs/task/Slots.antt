@@ -23,7 +23,7 @@ use Rattle.omi_model.proofs.StaysKept.{stays_step}
 use Rattle.omi_model.proofs.Steps.{relisted}
 use Rattle.omi_layout.specs.declared.field.Field.TheVariants.{TaskSlots}
 use Rattle.omi_layout.specs.Field.{tasks}
-use Rattle.omi_layout.specs.Memory.{Memory, put}
+use Rattle.omi_layout.specs.Memory.{Memory, replace_at}
 use Rattle.omi_pc.specs.declared.actor.Actor.{Actor}
 use Rattle.omi_pc.specs.declared.counter.Counter.TheVariants as counter
 use Rattle.omi_pc.specs.declared.limits.TheConstants.{OWN_SLOTS}
@@ -164,7 +164,7 @@ module _ (p : Program) (w : List ℕ) (m : Memory) (events : List (ℕ × Event)
       plain_event_keeps p w m events s actors i before (op.Load O) X (to_task d (actors i), outcome.Event (event.Seen place)) (event.Seen place) u (λ none. none) refl (done some)
       ((actors i).context.task, o.task, o.region, is_current p s i (actors i) (stands p w m events s actors i before C at), ap (region_of s) o.region_is ∙ o.found, ((actors i).context.row, ap (slice_get o.region.team) o.number ∙ o.row, refl))
       (none_new p w m events s actors i before C at (event.Seen place) (item.Defer place f final) rest u taken (done some) (λ h e. absurd (cc e)))
-      (subst (λ (n : Memory). KeepsWords w n u (all_owed (put actors i (to_task d (actors i))))) (sym same)
+      (subst (λ (n : Memory). KeepsWords w n u (all_owed (replace_at actors i (to_task d (actors i))))) (sym same)
       (moves_keep w m u actors i (to_task d (actors i)) (words_moved p w m events s actors i before C at zs) (owes_none ∙ sym (owes p w m events s actors i before C at))))
       (λ j other. subst (λ (n : Memory). Spares m n s j (actors j)) (sym same) (spares_none m s j (actors j)))
       (subst (λ (n : Memory). KeepsThread p w n (events ++ (i, event.Seen place) ∷ []) u i (to_task d (actors i))) (sym same)

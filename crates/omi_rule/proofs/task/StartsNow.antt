@@ -12,7 +12,7 @@ use Rattle.omi_model.specs.declared.item.Item.TheVariants as item
 use Rattle.omi_model.specs.declared.task.Task.{Task}
 use Rattle.omi_model.specs.declared.thread.Thread.{Thread}
 use Rattle.omi_model.specs.Changes.{encounter_by, on_task}
-use Rattle.omi_model.specs.Rows.{of_task}
+use Rattle.omi_model.specs.Rows.{task_items}
 use Rattle.omi_model.specs.Lists.{take_item}
 use Rattle.omi_model.specs.Reached.{Step}
 use Rattle.omi_model.specs.Rules as Rules
@@ -23,7 +23,7 @@ use Rattle.omi_model.proofs.StaysKept.{stays_step}
 use Rattle.omi_model.proofs.Steps.{at_current, relisted}
 use Rattle.omi_layout.specs.declared.field.Field.TheVariants.{ThreadCurrent}
 use Rattle.omi_layout.specs.Field.{tasks, threads}
-use Rattle.omi_layout.specs.Memory.{Memory, put, with_word}
+use Rattle.omi_layout.specs.Memory.{Memory, replace_at, with_word}
 use Rattle.omi_layout.specs.Named.{number}
 use Rattle.omi_pc.specs.declared.actor.Actor.{Actor}
 use Rattle.omi_pc.specs.declared.context.Context.{Context}
@@ -153,7 +153,7 @@ module _ (p : Program) (w : List ℕ) (m : Memory) (events : List (ℕ × Event)
   final_is : makes_final p (actors i) ≡ final
   final_is = final_as p (actors i) next ∙ ap (λ (x : Bool). next.final || x) (sym (sees_final p w m events s actors i before C at))
 
-  words : KeepsWords w N U (put (all_owed actors) i nothing)
+  words : KeepsWords w N U (replace_at (all_owed actors) i nothing)
   words =
       let o = context p w m events s actors i before C at in
       starts_now_keep p w m Z (all_owed actors) i t f final K Maker (words_moved p w m events s actors i before C at rest) ready.within ready.names before.valid before.known ready.owes
@@ -222,7 +222,7 @@ module _ (p : Program) (w : List ℕ) (m : Memory) (events : List (ℕ × Event)
   debug = ap (λ (o : Option Task). (encounter_by U o).debug) new_lives ∙ ap (λ (e : Env). e.debug) (environment_stays p events s before.rule.reached)
 
   ahead : (x : Task) → task_of U t ≡ Some x → x.list ≡ Ahead.ahead p (encounter_of U c) (frame ∷ (actors i).stack)
-  ahead x live = ap (λ (y : Task). y.list) (some_same live new_lives) ∙ ap (λ g. of_task p g) (sym made_is)
+  ahead x live = ap (λ (y : Task). y.list) (some_same live new_lives) ∙ ap (λ g. task_items p g) (sym made_is)
 
   -- ---- the thread afterwards
 

@@ -15,7 +15,7 @@ use Rattle.omi_model.specs.State.{State}
 use Rattle.omi_model.proofs.claims.ClaimLaws.{claims_kept}
 use Rattle.omi_layout.specs.declared.field.Field.TheVariants.{RegionLeft, TaskSlots, ThreadAssign}
 use Rattle.omi_layout.specs.Field.{regions, tasks, threads}
-use Rattle.omi_layout.specs.Memory.{Memory, put, with_word}
+use Rattle.omi_layout.specs.Memory.{Memory, replace_at, with_word}
 use Rattle.omi_layout.specs.Named.{number}
 use Rattle.omi_layout.proofs.Puts.{record_stays, word_read, word_stays}
 use Rattle.omi_pc.specs.declared.actor.Actor.{Actor}
@@ -29,7 +29,7 @@ use Rattle.omi_pc.specs.declared.team_counter.TeamCounter.{TeamCounter}
 use Rattle.omi_pc.specs.declared.team_counter.TeamCounter.TheVariants as team
 use Rattle.omi_pc.specs.declared.team_counter.WorkerCounter.TheVariants as worker
 use Rattle.omi_pc.specs.Fits.{FitsTeam}
-use Rattle.omi_pc.specs.Moves.{working}
+use Rattle.omi_pc.specs.Moves.{back_to_work}
 use Rattle.omi_pc.specs.OpenBodies.{IsAtStart, IsMaster, StartsWorking}
 use Rattle.omi_rep.specs.Records.{task_address}
 use Rattle.omi_rep.specs.declared.outcome.Outcome.TheVariants as outcome
@@ -126,10 +126,10 @@ module _ (p : Program) (w : List ℕ) (m : Memory) (events : List (ℕ × Event)
   alone : (k : Tid) → WaitsFor s To k → k ≡ Task
   alone k o = ((claims_kept p events s before.rule.reached To).meant Task (meant Task waits)).2 k (meant k o)
 
-  words : (b : Actor) → owed b ≡ record nothing { assigns = Rest } → KeepsWords w N s (all_owed (put actors i b))
+  words : (b : Actor) → owed b ≡ record nothing { assigns = Rest } → KeepsWords w N s (all_owed (replace_at actors i b))
   words b is =
       owed_after w N s actors i b (record nothing { assigns = Rest }) is
-      (subst (λ (x : Owed). KeepsWords w N s (put (all_owed actors) i (record x { assigns = Rest }))) (owes p w m events s actors i before C at)
+      (subst (λ (x : Owed). KeepsWords w N s (replace_at (all_owed actors) i (record x { assigns = Rest }))) (owes p w m events s actors i before C at)
       (assign_stores_keep w m s (all_owed actors) i To Task Rest before.rule.words before.known to_known assigns waits alone (address_some w before.valid Task)))
 
   -- a thread that is about to clear its assign word finds the same there
@@ -156,7 +156,7 @@ module _ (p : Program) (w : List ℕ) (m : Memory) (events : List (ℕ × Event)
       quiet_keeps p w m events s actors i before (op.Store (of_thread w To ThreadAssign) (task_address w Task)) X (b, outcome.Quiet) refl (words b is) (λ j other. spared j) thread
 
   -- the last task was assigned, and member 0 works
-  working_now : KeepsThread p w N events s i (working p (actors i))
+  working_now : KeepsThread p w N events s i (back_to_work p (actors i))
   working_now =
       let (f, fs, stack, o) = standing p w m events s actors i before C at in
       let mine = own p w m events s actors i before C at in
@@ -178,7 +178,7 @@ module _ (p : Program) (w : List ℕ) (m : Memory) (events : List (ℕ × Event)
   )
     where
       go : (b : Bool) → nat_lt (member + 1) (team_size (actors i)) ≡ b
-          → KeepsRule p w m events s actors i (op.Store (of_thread w To ThreadAssign) (task_address w Task)) X (if b then to_team (team.Assign (member + 1)) (actors i) else working p (actors i), outcome.Quiet)
+          → KeepsRule p w m events s actors i (op.Store (of_thread w To ThreadAssign) (task_address w Task)) X (if b then to_team (team.Assign (member + 1)) (actors i) else back_to_work p (actors i), outcome.Quiet)
       go true e =
           let next : TeamCounter = team.Assign (member + 1) in
           step (to_team next (actors i)) refl
@@ -189,6 +189,6 @@ module _ (p : Program) (w : List ℕ) (m : Memory) (events : List (ℕ × Event)
       go false e =
           let (f, fs, stack, o) = standing p w m events s actors i before C at in
           let all : member + 1 ≡ length Team = (let h = fit.2 in grind (arith, nat_tests, h)) in
-          step (working p (actors i))
+          step (back_to_work p (actors i))
           (works_owing_nothing p (actors i) f fs stack ∙ ap (λ (xs : List (Tid × ℕ)). record nothing { assigns = xs }) (sym (ap (λ k. drop k Team) all ∙ none_from Team)))
           working_now

@@ -22,7 +22,7 @@ use Rattle.omi_step_words.specs.Members.{member_of}
 use Rattle.omi_step_words.specs.Plan.{inherited_words, region_plan, task_plan}
 use Rattle.omi_step_words.specs.Words.{plus}
 use Rattle.omi_fork.specs.TeamParts as TeamParts
-use Rattle.omi_fork.specs.TeamParts.{function_in, new_member}
+use Rattle.omi_fork.specs.TeamParts.{parallel_function, new_member}
 use Rattle.omi_rule.specs.Rows.{IsFilled}
 use Rattle.omi_rule.proofs.team.Inherits.{Inherits, shortened_few}
 
@@ -37,7 +37,7 @@ module _ (p : Program) (w : List ℕ) (a : Actor) (n : Rid) (f : ℕ) (t : Task)
     (function : TeamParts.region_function p a ≡ f) (region_is : t.region ≡ a.context.region) where
   pub region_filled : (q : Rec) → r.levels ≡ a.gathered.levels → r.active ≡ a.gathered.active → r.levels < 2 ^ 63 → r.active < 2 ^ 63
       → ((j : ℕ) → j < length a.gathered.team → q (number RegionTeam) j ≡ task_address w (member_of a.gathered.team j).0)
-      → IsFilled q (region_plan w (TeamParts.new_region p a)) REGION_WORDS → RegionIsFilled w q (new_region a.context.task t r a.gathered.team f)
+      → IsFilled q (region_plan w (TeamParts.planned_region p a)) REGION_WORDS → RegionIsFilled w q (new_region a.context.task t r a.gathered.team f)
   region_filled q levels active low few team o = record {
     function = o 0 (omega arith) ∙ ap function_word function;
     enclosing = o 1 (omega arith) ∙ ap (region_address w) (sym region_is);

@@ -33,7 +33,7 @@ use Rattle.omi_model.proofs.Steps.{IsRelisted, at_region, is_relisted, on_fresh,
 use Rattle.omi_model.proofs.claims.ClaimLaws.{claims_kept}
 use Rattle.omi_layout.specs.declared.field.Field.TheVariants.{RegionTeam, ThreadCurrent}
 use Rattle.omi_layout.specs.Field.{regions, tasks, threads}
-use Rattle.omi_layout.specs.Memory.{Memory, put, with_word}
+use Rattle.omi_layout.specs.Memory.{Memory, replace_at, with_word}
 use Rattle.omi_layout.specs.Named.{number}
 use Rattle.omi_pc.specs.declared.actor.Actor.{Actor}
 use Rattle.omi_pc.specs.declared.counter.Counter.TheVariants as counter
@@ -53,7 +53,7 @@ use Rattle.omi_rule_words.proofs.ListedNames.{names_stay_live}
 use Rattle.omi_step_words.specs.Members.{member_of}
 use Rattle.omi_step_words.specs.Plan.{region_plan, task_plan}
 use Rattle.omi_fork.specs.TeamParts as TeamParts
-use Rattle.omi_fork.specs.TeamParts.{function_in, new_member}
+use Rattle.omi_fork.specs.TeamParts.{parallel_function, new_member}
 use Rattle.omi_rule.specs.Ahead.{forking, leaving}
 use Rattle.omi_rule.specs.Chains.{KeepsContext, encounter_of}
 use Rattle.omi_rule.specs.Rows.{HasFilled, HasTeam, IsFilled, IsVariable}
@@ -176,10 +176,10 @@ module _ (p : Program) (w : List ℕ) (m : Memory) (events : List (ℕ × Event)
   -- ---- words
 
   pub function_is : TeamParts.region_function p (actors i) ≡ next.function
-  function_is = ap function_in next.is
+  function_is = ap parallel_function next.is
 
-  region_is : IsFilled (m i regions r.0.slot) (region_plan w (TeamParts.new_region p (actors i))) REGION_WORDS
-  region_is = subst (λ c. IsFilled (m c regions r.0.slot) (region_plan w (TeamParts.new_region p (actors i))) REGION_WORDS) region_making.maker filled.region
+  region_is : IsFilled (m i regions r.0.slot) (region_plan w (TeamParts.planned_region p (actors i))) REGION_WORDS
+  region_is = subst (λ c. IsFilled (m c regions r.0.slot) (region_plan w (TeamParts.planned_region p (actors i))) REGION_WORDS) region_making.maker filled.region
 
   member_filled_at : (j : ℕ) → j < length Team → IsFilled (m i tasks (member_of Team j).0.0.slot) (task_plan w (new_member p (actors i) r j)) TASK_WORDS
   member_filled_at j within = subst (λ c. IsFilled (m c tasks (member_of Team j).0.0.slot) (task_plan w (new_member p (actors i) r j)) TASK_WORDS) (task_making j within).maker (filled.tasks j within)
@@ -242,7 +242,7 @@ module _ (p : Program) (w : List ℕ) (m : Memory) (events : List (ℕ × Event)
   names : AreNamesLive z
   names = subst AreNamesLive (list_moved p s i (actors i) (stands p w m events s actors i before C at) list) (names_stay_live s i list (names_live p events s before.rule.reached))
 
-  pub words : KeepsWords w (with_word m i threads 0 (number ThreadCurrent) 0 (task_address w (member_of (actors i).gathered.team 0).0)) u (put (all_owed actors) i (record nothing { assigns = drop 1 (actors i).gathered.team }))
+  pub words : KeepsWords w (with_word m i threads 0 (number ThreadCurrent) 0 (task_address w (member_of (actors i).gathered.team 0).0)) u (replace_at (all_owed actors) i (record nothing { assigns = drop 1 (actors i).gathered.team }))
   words =
-      subst (λ v. KeepsWords w (with_word m i threads 0 (number ThreadCurrent) 0 v) u (put (all_owed actors) i (record nothing { assigns = drop 1 Team }))) (ap (task_word w) (first_master Team fit.0.1))
+      subst (λ v. KeepsWords w (with_word m i threads 0 (number ThreadCurrent) 0 v) u (replace_at (all_owed actors) i (record nothing { assigns = drop 1 Team }))) (ap (task_word w) (first_master Team fit.0.1))
       (forks_keep p w m z (all_owed actors) i r Team next.function K moved here.region (words_moved p w m events s actors i before C at list) before.known (owes p w m events s actors i before C at) records idle names before.valid)

@@ -19,7 +19,7 @@ use Rattle.omi_model.specs.declared.region.Region.{Region}
 use Rattle.omi_model.specs.declared.task.Task.{Task}
 use Rattle.omi_model.specs.declared.thread.Thread.{Thread}
 use Rattle.omi_model.specs.Changes.{encounter_by, level_of}
-use Rattle.omi_model.specs.Rows.{of_member, working}
+use Rattle.omi_model.specs.Rows.{member_items, working}
 use Rattle.omi_model.specs.State.{State, region_of, task_of}
 use Rattle.omi_model.specs.Teams.{master_of, member_task, new_region}
 use Rattle.omi_model.proofs.EachObject.{members_found}
@@ -208,7 +208,7 @@ module _ (p : Program) (w : List ℕ) (m : Memory) (events : List (ℕ × Event)
 
   list_first : Master.list ≡ working (encounter_of U context) (Ahead.worked p (encounter_of U context) b.stack)
   list_first =
-      ap (λ g. of_member p (record { debug = p.env.debug; number = 0; level = Outer.levels + 1; is_final = false }) g) (sym (function_is p w m events s actors i before r at))
+      ap (λ g. member_items p (record { debug = p.env.debug; number = 0; level = Outer.levels + 1; is_final = false }) g) (sym (function_is p w m events s actors i before r at))
       ∙ ap (λ (e : Encounter). working e (Ahead.worked p e b.stack)) (sym seen)
 
   ahead : (t : Task) → task_of U First ≡ Some t → t.list ≡ working (encounter_of U context) (Ahead.worked p (encounter_of U context) b.stack)
@@ -229,7 +229,7 @@ module _ (p : Program) (w : List ℕ) (m : Memory) (events : List (ℕ × Event)
       let there = placed p w m events s actors i before C at in
       (record { task = there.1 0 (omega arith); region = there.0; row = there.1 0 (omega arith) }, (own p w m events s actors i before C at).placed.bodies)
 
-  works_now : KeepsThread p w N Later U i (Moves.working p b)
+  works_now : KeepsThread p w N Later U i (Moves.back_to_work p b)
   works_now =
       let mine = own p w m events s actors i before C at in
       works p w N Later U i b (at_start (region_function p (actors i)) (opened.Master (actors i).context)) (actors i).stack refl mine.thread
@@ -311,10 +311,10 @@ module _ (p : Program) (w : List ℕ) (m : Memory) (events : List (ℕ × Event)
   )
     where
       go : (d : Bool) → nat_lt 1 (team_size (actors i)) ≡ d
-          → KeepsRule p w m events s actors i (op.Store (of_thread w (actors i).thread ThreadCurrent) (task_address w (member_of (actors i).gathered.team 0).0)) X (if d then to_team (team.Assign 1) b else Moves.working p b, outcome.Event (event.Fork r (actors i).gathered.team))
+          → KeepsRule p w m events s actors i (op.Store (of_thread w (actors i).thread ThreadCurrent) (task_address w (member_of (actors i).gathered.team 0).0)) X (if d then to_team (team.Assign 1) b else Moves.back_to_work p b, outcome.Event (event.Fork r (actors i).gathered.team))
       go true e = step (to_team (team.Assign 1) b) refl (assigns_now (ltb-true 1 (team_size (actors i)) e))
       go false e =
           let alone : 1 ≡ length Members = (let h = some in grind (arith, nat_tests, h)) in
-          step (Moves.working p b)
+          step (Moves.back_to_work p b)
           (works_owing_nothing p b (at_start (region_function p (actors i)) (opened.Master (actors i).context)) (actors i).stack refl ∙ ap (λ (xs : List (Tid × ℕ)). record nothing { assigns = xs }) (sym (ap (λ k. drop k Members) alone ∙ none_from Members)))
           works_now

@@ -22,10 +22,10 @@ use Rattle.omi_pc.specs.declared.limits.TheConstants.{VARIABLE_WORDS}
 use Rattle.omi_pc.specs.declared.team_counter.TeamCounter.TheVariants as team
 use Rattle.omi_rep.specs.declared.outcome.Outcome.TheVariants as outcome
 use Rattle.omi_rule_words.specs.Objects.{KeepsEnvironment}
-use Rattle.omi_step_words.specs.Moving.{to_team}
+use Rattle.omi_step_words.specs.Moving.{to_team, with_loaded_variable}
 use Rattle.omi_step_words.specs.Plan.{of_variable, variable_at}
 use Rattle.omi_step_words.specs.Words.{of_region}
-use Rattle.omi_fork.specs.TeamSteps.{team_moved, team_next, team_outcome, with_variable}
+use Rattle.omi_fork.specs.TeamSteps.{team_moved, team_next, team_outcome}
 use Rattle.omi_rule.specs.Rows.{IsVariable, KnowsVariables}
 use Rattle.omi_rule.specs.Steps.{KeepsRule, RecordWord, StepKeeps, found_in}
 use Rattle.omi_rule.proofs.Assembly.{Before}
@@ -156,7 +156,7 @@ module _ (p : Program) (w : List ℕ) (m : Memory) (events : List (ℕ × Event)
     go (nat_lt (word + 1) VARIABLE_WORDS) refl,
   )
     where
-      go : (b : Bool) → nat_lt (word + 1) VARIABLE_WORDS ≡ b → KeepsRule p w m events s actors i (op.Load (of_variable w Name word)) X (to_team (if b then team.LoadVariable (word + 1) else team.Want) (with_variable word (found_in m X) (actors i)), outcome.Quiet)
+      go : (b : Bool) → nat_lt (word + 1) VARIABLE_WORDS ≡ b → KeepsRule p w m events s actors i (op.Load (of_variable w Name word)) X (to_team (if b then team.LoadVariable (word + 1) else team.Want) (with_loaded_variable word (found_in m X) (actors i)), outcome.Quiet)
       go true e =
           let next : word + 1 < VARIABLE_WORDS = ltb-true (word + 1) VARIABLE_WORDS e in
           let (active, others) = row p w m events s actors i before (team.LoadVariable word) at in

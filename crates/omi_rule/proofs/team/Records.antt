@@ -17,7 +17,7 @@ use Rattle.omi_layout.specs.declared.field.Field.{Field}
 use Rattle.omi_layout.specs.declared.field.Field.TheVariants.{RegionTeam}
 use Rattle.omi_layout.specs.Codes.{exit_word}
 use Rattle.omi_layout.specs.Field.{regions, tasks}
-use Rattle.omi_layout.specs.Memory.{Memory, Rec, put}
+use Rattle.omi_layout.specs.Memory.{Memory, Rec, replace_at}
 use Rattle.omi_layout.specs.Named.{number}
 use Rattle.omi_layout.specs.Table.{per_thread}
 use Rattle.omi_pc.specs.declared.actor.Actor.{Actor}
@@ -40,7 +40,7 @@ use Rattle.omi_step_words.specs.Members.{member_of}
 use Rattle.omi_step_words.specs.Placed.{HasTask}
 use Rattle.omi_step_words.specs.Plan.{region_plan, task_plan}
 use Rattle.omi_step_words.specs.Words.{is_free, object_in, plus}
-use Rattle.omi_fork.specs.TeamParts.{member_depth, new_member, new_region, region_function}
+use Rattle.omi_fork.specs.TeamParts.{member_depth, new_member, planned_region, region_function}
 use Rattle.omi_step_words.specs.Searches.{next_slot}
 use Rattle.omi_rule.specs.Ahead.{IsAhead, forking, team_ahead}
 use Rattle.omi_rule.specs.Chains.{encounter_of}
@@ -104,7 +104,7 @@ module _ (p : Program) (w : List ℕ) (m : Memory) (events : List (ℕ × Event)
   load_waits address x b waits same thread =
       let stays : left_in m (op.Load address) x ≡ m = of_load p w m events s actors i before address x in
       waits_keep p w m events s actors i before (op.Load address) x (b, outcome.NotReady address (found_in m x)) address refl waits tt refl
-      (subst (λ (n : Memory). KeepsWords w n s (all_owed (put actors i b))) (sym stays) (moves_keep w m s actors i b before.rule.words same))
+      (subst (λ (n : Memory). KeepsWords w n s (all_owed (replace_at actors i b))) (sym stays) (moves_keep w m s actors i b before.rule.words same))
       (λ j other. subst (λ (n : Memory). Spares m n s j (actors j)) (sym stays) (spares_none m s j (actors j)))
       (subst (λ (n : Memory). KeepsThread p w n events s i b) (sym stays) thread)
 
@@ -121,7 +121,7 @@ team_goes s i a d team same o =
 
 -- the first members' records stay filled: of the region and of their tasks the words that are planned, and the words of the team
 pub filled_goes : (p : Program) (w : List ℕ) (m n : Memory) (a : Actor) (r : Rid) (k : ℕ) (d : TeamCounter) (team : List (Tid × ℕ)) → length team ≡ length a.gathered.team → ((j : ℕ) → j < k → member_of team j ≡ member_of a.gathered.team j)
-    → ((j : ℕ) → j < REGION_WORDS → n r.0.creator regions r.0.slot (number (region_plan w (new_region p a) j).field) (region_plan w (new_region p a) j).at ≡ m r.0.creator regions r.0.slot (number (region_plan w (new_region p a) j).field) (region_plan w (new_region p a) j).at)
+    → ((j : ℕ) → j < REGION_WORDS → n r.0.creator regions r.0.slot (number (region_plan w (planned_region p a) j).field) (region_plan w (planned_region p a) j).at ≡ m r.0.creator regions r.0.slot (number (region_plan w (planned_region p a) j).field) (region_plan w (planned_region p a) j).at)
     → ((j : ℕ) → j < k → n (member_of a.gathered.team j).0.0.creator tasks (member_of a.gathered.team j).0.0.slot ≡ m (member_of a.gathered.team j).0.0.creator tasks (member_of a.gathered.team j).0.0.slot)
     → ((j : ℕ) → j < k → n r.0.creator regions r.0.slot (number RegionTeam) j ≡ m r.0.creator regions r.0.slot (number RegionTeam) j)
     → HasFilled p w m a r k → HasFilled p w n (going d (record a.gathered { team = team }) a) r k
@@ -138,7 +138,7 @@ filled_goes p w m n a r k d team size same in_region in_tasks in_team o = record
   team = λ j below. subst (λ (y : Tid × ℕ). n r.0.creator regions r.0.slot (number RegionTeam) j ≡ task_address w y.0) (sym (same j below)) (in_team j below ∙ o.team j below);
 }
   where
-    whole : new_region p (going d (record a.gathered { team = team }) a) ≡ new_region p a
+    whole : planned_region p (going d (record a.gathered { team = team }) a) ≡ planned_region p a
     whole = ap (λ size. record { enclosing = a.context.region; encountering = a.context.task; function = region_function p a; size = size; levels = plus a.gathered.levels 1; active = plus a.gathered.active (if nat_lt 1 size then 1 else 0) }) size
 
     member : Tid × ℕ → ℕ → NewTask

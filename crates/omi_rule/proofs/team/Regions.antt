@@ -10,7 +10,7 @@ use Rattle.omi_model.specs.Fresh.{IsFresh}
 use Rattle.omi_model.specs.State.{State}
 use Rattle.omi_layout.specs.declared.field.Field.TheVariants.{RegionLife}
 use Rattle.omi_layout.specs.Field.{regions}
-use Rattle.omi_layout.specs.Memory.{Memory, put, with_word, word_address}
+use Rattle.omi_layout.specs.Memory.{Memory, replace_at, with_word, word_address}
 use Rattle.omi_layout.specs.Named.{number}
 use Rattle.omi_layout.specs.Place.{IsSlot}
 use Rattle.omi_layout.proofs.Arenas.{some_tasks}
@@ -32,7 +32,7 @@ use Rattle.omi_step_words.specs.Placed.{HasRegion}
 use Rattle.omi_step_words.specs.Plan.{filling, region_plan}
 use Rattle.omi_step_words.specs.Words.{of_region, used_word}
 use Rattle.omi_step_words.proofs.Rising.{region_stores}
-use Rattle.omi_fork.specs.TeamParts.{new_region}
+use Rattle.omi_fork.specs.TeamParts.{planned_region}
 use Rattle.omi_fork.specs.TeamSteps.{team_moved, team_next, team_outcome}
 use Rattle.omi_rule.specs.Rows.{HasTeam, IsFilled, IsRegionFilled}
 use Rattle.omi_rule.specs.Rule.{KeepsThread}
@@ -60,11 +60,11 @@ module _ (p : Program) (w : List ℕ) (m : Memory) (events : List (ℕ × Event)
     fresh : IsFresh s.regions i r.0
     fresh = (row p w m events s actors i before C at).1
 
-    taken : KeepsWords w N s (all_owed (put actors i Then))
+    taken : KeepsWords w N s (all_owed (replace_at actors i Then))
     taken =
         let o : owed (actors i) ≡ nothing = owes p w m events s actors i before C at in
         owed_after w N s actors i Then (record nothing { region = Some r }) refl
-        (subst (λ (x : Owed). KeepsWords w N s (put (all_owed actors) i (record x { region = Some r }))) o
+        (subst (λ (x : Owed). KeepsWords w N s (replace_at (all_owed actors) i (record x { region = Some r }))) o
         (region_takes_keep w m s (all_owed actors) i r before.rule.words (ap (λ (x : Owed). x.region) o) (record { maker = fresh.creator; free = fresh.empty; next = fresh.next })))
 
     pub region_take_keeps : StepKeeps p w m events s actors i (team_next p w (actors i) C) (λ old. (team_moved p w (actors i) C old, team_outcome p w (actors i) C old))
@@ -88,19 +88,19 @@ module _ (p : Program) (w : List ℕ) (m : Memory) (events : List (ℕ × Event)
     D = team.FillRegion r word
 
     abbrev Word : Planned
-    Word = region_plan w (new_region p (actors i)) word
+    Word = region_plan w (planned_region p (actors i)) word
 
     abbrev Y : RecordWord
-    Y = record { creator = i; slot = r.0.slot; field = (region_plan w (new_region p (actors i)) word).field; place = (region_plan w (new_region p (actors i)) word).at }
+    Y = record { creator = i; slot = r.0.slot; field = (region_plan w (planned_region p (actors i)) word).field; place = (region_plan w (planned_region p (actors i)) word).at }
 
     abbrev After : Memory
-    After = with_word m i regions r.0.slot (number (region_plan w (new_region p (actors i)) word).field) (region_plan w (new_region p (actors i)) word).at (region_plan w (new_region p (actors i)) word).value
+    After = with_word m i regions r.0.slot (number (region_plan w (planned_region p (actors i)) word).field) (region_plan w (planned_region p (actors i)) word).at (region_plan w (planned_region p (actors i)) word).value
 
     below : word < REGION_WORDS
     below = (fits p w m events s actors i before D at).1
 
     planned : IsPlannedWord w regions 13 24 Word
-    planned = region_planned w (new_region p (actors i)) word below
+    planned = region_planned w (planned_region p (actors i)) word below
 
     making : IsInTheMaking i (s.regions i) r.0
     making = (before.rule.words.made i before.known).making.region r (ap (λ (x : Owed). x.region) (owes p w m events s actors i before D at))
@@ -110,14 +110,14 @@ module _ (p : Program) (w : List ℕ) (m : Memory) (events : List (ℕ × Event)
 
     filled : IsRegionFilled p w After (actors i) r (word + 1)
     filled =
-        subst (λ c. IsFilled (After c regions r.0.slot) (region_plan w (new_region p (actors i))) (word + 1)) (sym making.maker)
-        (fill_next (m i regions r.0.slot) (After i regions r.0.slot) (region_plan w (new_region p (actors i))) word REGION_WORDS
+        subst (λ c. IsFilled (After c regions r.0.slot) (region_plan w (planned_region p (actors i))) (word + 1)) (sym making.maker)
+        (fill_next (m i regions r.0.slot) (After i regions r.0.slot) (region_plan w (planned_region p (actors i))) word REGION_WORDS
         (word_read m i regions r.0.slot (number Word.field) Word.at Word.value)
         (λ f k apart. word_stays m i regions r.0.slot (number Word.field) Word.at Word.value i regions r.0.slot f k (λ _ _ _ field place. apart field place))
-        (region_stores w (new_region p (actors i))) below
-        (subst (λ c. IsFilled (m c regions r.0.slot) (region_plan w (new_region p (actors i))) word) making.maker (row p w m events s actors i before D at).2))
+        (region_stores w (planned_region p (actors i))) below
+        (subst (λ c. IsFilled (m c regions r.0.slot) (region_plan w (planned_region p (actors i))) word) making.maker (row p w m events s actors i before D at).2))
 
-    stored : (b : Actor) → owed b ≡ owed (actors i) → KeepsWords w After s (all_owed (put actors i b))
+    stored : (b : Actor) → owed b ≡ owed (actors i) → KeepsWords w After s (all_owed (replace_at actors i b))
     stored b same =
         moves_keep w After s actors i b (region_fills_keep w m s (all_owed actors) i r.0.slot Word.field Word.at Word.value before.rule.words making.free (let above = planned.above in λ life. absurd (omega (arith, above, life)))) same
 
@@ -140,7 +140,7 @@ module _ (p : Program) (w : List ℕ) (m : Memory) (events : List (ℕ × Event)
         step : (b : Actor) → owed b ≡ owed (actors i) → KeepsThread p w After events s i b → KeepsRule p w m events s actors i (filling w r.0 Word) Y (b, outcome.Quiet)
         step b same thread =
             quiet_keeps p w m events s actors i before (filling w r.0 Word) Y (b, outcome.Quiet) refl
-            (subst (λ (n : Memory). KeepsWords w n s (all_owed (put actors i b))) (sym left) (stored b same))
+            (subst (λ (n : Memory). KeepsWords w n s (all_owed (replace_at actors i b))) (sym left) (stored b same))
             (λ j other. subst (λ (n : Memory). Spares m n s j (actors j)) (sym left) (spares_own m s i regions r.0.slot (number Word.field) Word.at Word.value j (actors j) other (λ kind. absurd (omega (arith, kind)))))
             (subst (λ (n : Memory). KeepsThread p w n events s i b) (sym left) thread)
 

@@ -21,7 +21,7 @@ use Rattle.omi_model.specs.Fresh.{IsFresh}
 use Rattle.omi_model.specs.State.{State}
 use Rattle.omi_layout.specs.declared.field.Field.TheVariants.{RegionTeam, TaskLife}
 use Rattle.omi_layout.specs.Field.{regions, tasks}
-use Rattle.omi_layout.specs.Memory.{Memory, put, with_word, word_address, Rec}
+use Rattle.omi_layout.specs.Memory.{Memory, replace_at, with_word, word_address, Rec}
 use Rattle.omi_layout.specs.Named.{number}
 use Rattle.omi_layout.specs.Place.{IsSlot}
 use Rattle.omi_layout.proofs.Puts.{record_stays, word_stays, word_read}
@@ -41,7 +41,7 @@ use Rattle.omi_rule_words.proofs.TaskTakes.{task_takes_keep}
 use Rattle.omi_step_words.specs.Members.{member_of}
 use Rattle.omi_step_words.specs.Placed.{HasTask, HasRegion}
 use Rattle.omi_step_words.specs.Words.{of_task, used_word, of_member}
-use Rattle.omi_fork.specs.TeamParts.{new_region, new_member, team_size}
+use Rattle.omi_fork.specs.TeamParts.{planned_region, new_member, team_size}
 use Rattle.omi_fork.specs.TeamSteps.{team_moved, team_next, team_outcome}
 use Rattle.omi_rule.specs.Rows.{HasFilled, HasGeneration, HasTeam, IsTaskFilled, IsFilled}
 use Rattle.omi_rule.specs.Steps.{RecordWord, StepKeeps, KeepsRule, left_in}
@@ -100,12 +100,12 @@ module _ (p : Program) (w : List ℕ) (m : Memory) (events : List (ℕ × Event)
     got : IsMemberGot p (actors i) r member t
     got = fits p w m events s actors i before C at
 
-    taken : KeepsWords w N s (all_owed (put actors i Then))
+    taken : KeepsWords w N s (all_owed (replace_at actors i Then))
     taken =
         let o : owed (actors i) ≡ record nothing { region = Some r; tasks = take member (tasks_of (actors i).gathered.team) } = owes p w m events s actors i before C at in
         owed_after w N s actors i Then (record nothing { region = Some r; tasks = take member (tasks_of (actors i).gathered.team) ++ t ∷ [] })
         (ap (λ ks. record nothing { region = Some r; tasks = ks }) (with_task_taken t member (actors i).gathered.team got.1))
-        (subst (λ (x : Owed). KeepsWords w N s (put (all_owed actors) i (record x { tasks = x.tasks ++ t ∷ [] }))) o
+        (subst (λ (x : Owed). KeepsWords w N s (replace_at (all_owed actors) i (record x { tasks = x.tasks ++ t ∷ [] }))) o
         (task_takes_keep w m s (all_owed actors) i t before.rule.words (record { maker = fresh.creator; free = fresh.empty; next = fresh.next })
         (ap (λ (x : Owed). has_slot t.0.slot x.tasks) o ∙ (row p w m events s actors i before C at).3)))
 
@@ -132,7 +132,7 @@ module _ (p : Program) (w : List ℕ) (m : Memory) (events : List (ℕ × Event)
               ) (
                 team_goes s i (actors i) (team.FillTask r member t 0) Team (with_task_threads t member (actors i).gathered.team) asks,
                 filled_goes p w m N (actors i) r member (team.FillTask r member t 0) Team size (λ j below. with_task_other t member (actors i).gathered.team j below)
-                    (λ j below. let kind = (region_planned w (new_region p (actors i)) j below).kind_is in word_stays m i tasks t.0.slot (number TaskLife) 0 (2 * t.0.generation + 1) r.0.creator regions r.0.slot _ _ (λ _ other _ _ _. absurd (omega (arith, other))))
+                    (λ j below. let kind = (region_planned w (planned_region p (actors i)) j below).kind_is in word_stays m i tasks t.0.slot (number TaskLife) 0 (2 * t.0.generation + 1) r.0.creator regions r.0.slot _ _ (λ _ other _ _ _. absurd (omega (arith, other))))
                     (λ j below. tasks_stay m i t.0.slot (number TaskLife) 0 (2 * t.0.generation + 1) _ _ (no_slot t.0.slot member (actors i).gathered.team j (row p w m events s actors i before C at).3 below (let h = got.1 in omega (arith, h, below))))
                     (λ j below. word_stays m i tasks t.0.slot (number TaskLife) 0 (2 * t.0.generation + 1) r.0.creator regions r.0.slot (number RegionTeam) j (λ _ other _ _ _. absurd (omega (arith, other))))
                     (row p w m events s actors i before C at).1,
@@ -189,7 +189,7 @@ module _ (p : Program) (w : List ℕ) (m : Memory) (events : List (ℕ × Event)
         (task_stores w (new_member p (actors i) r member)) below
         (subst (λ c. IsFilled (m c tasks t.0.slot) (task_plan w (new_member p (actors i) r member)) word) making.maker (row p w m events s actors i before D at).4))
 
-    stored : (b : Actor) → owed b ≡ owed (actors i) → KeepsWords w After s (all_owed (put actors i b))
+    stored : (b : Actor) → owed b ≡ owed (actors i) → KeepsWords w After s (all_owed (replace_at actors i b))
     stored b same =
         moves_keep w After s actors i b (task_fills_keep w m s (all_owed actors) i t.0.slot Word.field Word.at Word.value before.rule.words making.free (let above = planned.above in λ life. absurd (omega (arith, above, life)))) same
 
@@ -217,7 +217,7 @@ module _ (p : Program) (w : List ℕ) (m : Memory) (events : List (ℕ × Event)
         step : (b : Actor) → owed b ≡ owed (actors i) → KeepsThread p w After events s i b → KeepsRule p w m events s actors i (filling w t.0 Word) Y (b, outcome.Quiet)
         step b same thread =
             quiet_keeps p w m events s actors i before (filling w t.0 Word) Y (b, outcome.Quiet) refl
-            (subst (λ (n : Memory). KeepsWords w n s (all_owed (put actors i b))) (sym left) (stored b same))
+            (subst (λ (n : Memory). KeepsWords w n s (all_owed (replace_at actors i b))) (sym left) (stored b same))
             (λ j other. subst (λ (n : Memory). Spares m n s j (actors j)) (sym left) (spares_own m s i tasks t.0.slot (number Word.field) Word.at Word.value j (actors j) other (λ _. making.free)))
             (subst (λ (n : Memory). KeepsThread p w n events s i b) (sym left) thread)
 
@@ -262,7 +262,7 @@ module _ (p : Program) (w : List ℕ) (m : Memory) (events : List (ℕ × Event)
     now_filled next =
         filled_more p w Stored (going next (actors i).gathered (actors i)) r member
         (filled_goes p w m Stored (actors i) r member next (actors i).gathered.team refl (λ j less. refl)
-        (λ j less. word_stays m i regions r.0.slot (number RegionTeam) member (task_address w t) r.0.creator regions r.0.slot _ _ (let last = (region_planned w (new_region p (actors i)) j less).below in λ _ _ _ field _. absurd (omega (arith, last, field))))
+        (λ j less. word_stays m i regions r.0.slot (number RegionTeam) member (task_address w t) r.0.creator regions r.0.slot _ _ (let last = (region_planned w (planned_region p (actors i)) j less).below in λ _ _ _ field _. absurd (omega (arith, last, field))))
         (λ j less. record_stays m i regions r.0.slot (number RegionTeam) member (task_address w t) _ tasks _ (λ _ other _. absurd (omega (arith, other))))
         (λ j less. word_stays m i regions r.0.slot (number RegionTeam) member (task_address w t) r.0.creator regions r.0.slot (number RegionTeam) j (λ _ _ _ _ place. absurd (omega (arith, less, place))))
         (row p w m events s actors i before E at).1)
@@ -274,7 +274,7 @@ module _ (p : Program) (w : List ℕ) (m : Memory) (events : List (ℕ × Event)
         (subst (λ (k : Tid). Stored r.0.creator regions r.0.slot (number RegionTeam) member ≡ task_address w k) (sym its)
         (subst (λ c. Stored c regions r.0.slot (number RegionTeam) member ≡ task_address w t) (sym region_making.maker) (word_read m i regions r.0.slot (number RegionTeam) member (task_address w t))))
 
-    member_stored : (b : Actor) → owed b ≡ owed (actors i) → KeepsWords w Stored s (all_owed (put actors i b))
+    member_stored : (b : Actor) → owed b ≡ owed (actors i) → KeepsWords w Stored s (all_owed (replace_at actors i b))
     member_stored b same =
         moves_keep w Stored s actors i b (region_fills_keep w m s (all_owed actors) i r.0.slot RegionTeam member (task_address w t) before.rule.words region_making.free (λ life. absurd (omega (arith, life)))) same
 

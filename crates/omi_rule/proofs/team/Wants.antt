@@ -42,7 +42,7 @@ use Rattle.omi_rule_words.specs.Words.{KeepsWords}
 use Rattle.omi_rule_words.proofs.ThreadStores.{thread_changes_keep}
 use Rattle.omi_step_words.specs.Members.{alone}
 use Rattle.omi_step_words.specs.Words.{of_runtime}
-use Rattle.omi_fork.specs.TeamParts.{first_nthreads, requested_in, wanted_size}
+use Rattle.omi_fork.specs.TeamParts.{first_nthreads, requested_in, size_to_want}
 use Rattle.omi_fork.specs.TeamSteps.{but_own, team_moved, team_next, team_outcome}
 use Rattle.omi_rule.specs.Ahead.{forking, team_ahead, wanting}
 use Rattle.omi_rule.specs.Chains.{encounter_of}
@@ -99,7 +99,7 @@ module _ (p : Program) (w : List ℕ) (m : Memory) (events : List (ℕ × Event)
   z = on_task s (actors i).context.task (relisted (forking p (encounter_of s (actors i).context) (actors i).stack))
 
   abbrev Size : ℕ
-  Size = wanted_size p (actors i) (found_in m X)
+  Size = size_to_want p (actors i) (found_in m X)
 
   here : Wants p At (actors i).stack
   here = wants_next p At (actors i) (fits p w m events s actors i before C at)
@@ -143,10 +143,10 @@ module _ (p : Program) (w : List ℕ) (m : Memory) (events : List (ℕ × Event)
       go (Some n) is t r first some = (refl, by (nat_le s.max_active r.active) n (clause_in_range p (actors i).stack here.function n is).0)
 
   abbrev wanted_now : Thread
-  wanted_now = record (s.threads i) { wanted = wanted_size p (actors i) (found_in m X); asks = [] }
+  wanted_now = record (s.threads i) { wanted = size_to_want p (actors i) (found_in m X); asks = [] }
 
   abbrev u : State
-  u = Teams.wanting z i (wanted_size p (actors i) (found_in m X))
+  u = Teams.wanting z i (size_to_want p (actors i) (found_in m X))
 
   taken : take_item p At (event.Want Size) (wanting p At (actors i).stack) ≡ Some (item.Want here.num, list)
   taken = ap (take_item p At (event.Want Size)) here.ahead
@@ -160,7 +160,7 @@ module _ (p : Program) (w : List ℕ) (m : Memory) (events : List (ℕ × Event)
   -- ---- the thread goes on
 
   abbrev Then : Gathered
-  Then = record (actors i).gathered { wanted = wanted_size p (actors i) (found_in m X); asked = but_own (actors i).thread 0; team = alone (actors i).thread }
+  Then = record (actors i).gathered { wanted = size_to_want p (actors i) (found_in m X); asked = but_own (actors i).thread 0; team = alone (actors i).thread }
 
   mine : (actors i).thread ≡ i
   mine = (own p w m events s actors i before C at).thread

@@ -11,7 +11,7 @@ use Rattle.omi_model.specs.Visible.{IsVisibleTask}
 use Rattle.omi_model.proofs.ReachedWellFormed.{reached_well_formed}
 use Rattle.omi_model.proofs.Slots.{some_same}
 use Rattle.omi_layout.specs.Field.{regions, tasks}
-use Rattle.omi_layout.specs.Memory.{Memory, put}
+use Rattle.omi_layout.specs.Memory.{Memory, replace_at}
 use Rattle.omi_layout.specs.Place.{IsSlot}
 use Rattle.omi_pc.specs.declared.actor.Actor.{Actor}
 use Rattle.omi_pc.specs.declared.counter.Counter.{Counter}
@@ -117,7 +117,7 @@ module _ (p : Program) (w : List ℕ) (m : Memory) (events : List (ℕ × Event)
   loaded address x b same thread =
       let stays : left_in m (op.Load address) x ≡ m = of_load p w m events s actors i before address x in
       quiet_keeps p w m events s actors i before (op.Load address) x (b, outcome.Quiet) refl
-      (subst (λ (n : Memory). KeepsWords w n s (all_owed (put actors i b))) (sym stays) (moves_keep w m s actors i b before.rule.words same))
+      (subst (λ (n : Memory). KeepsWords w n s (all_owed (replace_at actors i b))) (sym stays) (moves_keep w m s actors i b before.rule.words same))
       (λ j other. subst (λ (n : Memory). Spares m n s j (actors j)) (sym stays) (spares_none m s j (actors j)))
       (subst (λ (n : Memory). KeepsThread p w n events s i b) (sym stays) thread)
 

@@ -20,7 +20,7 @@ use Rattle.omi_model.specs.Changes.{encounter, encounter_by, level_of, on_thread
 use Rattle.omi_model.specs.Lists.{stays, take_item}
 use Rattle.omi_model.specs.Reached.{Step}
 use Rattle.omi_model.specs.Opening.{exit_frame}
-use Rattle.omi_model.specs.Rows.{end_of_member, function_items, of_member, working}
+use Rattle.omi_model.specs.Rows.{end_of_member, function_items, member_items, working}
 use Rattle.omi_model.specs.State.{State, region_of, task_of}
 use Rattle.omi_model.specs.Teams.{task_begun}
 use Rattle.omi_model.proofs.MembersKnown.{members_known}
@@ -29,7 +29,7 @@ use Rattle.omi_model.proofs.members.ClosingItems.{lists_right}
 use Rattle.omi_model.proofs.members.MembersInStep.{members_in_step}
 use Rattle.omi_layout.specs.declared.field.Field.TheVariants.{ThreadCurrent}
 use Rattle.omi_layout.specs.Field.{threads}
-use Rattle.omi_layout.specs.Memory.{Memory, put, with_word}
+use Rattle.omi_layout.specs.Memory.{Memory, replace_at, with_word}
 use Rattle.omi_layout.specs.Named.{number}
 use Rattle.omi_pc.specs.declared.actor.Actor.{Actor}
 use Rattle.omi_pc.specs.declared.context.Context.{Context}
@@ -109,7 +109,7 @@ module _ (p : Program) (w : List ℕ) (m : Memory) (events : List (ℕ × Event)
   abbrev stored : Memory
   stored = with_word m i threads 0 (number ThreadCurrent) 0 (task_address w k)
 
-  words : KeepsWords w stored u (put (all_owed actors) i nothing)
+  words : KeepsWords w stored u (replace_at (all_owed actors) i nothing)
   words =
       begins_keep w m z (all_owed actors) i k
       (subst (λ (x : State). KeepsWords w m x (all_owed actors)) (idle_moved s i rest none) (list_moves_keep w m s (all_owed actors) i rest before.rule.words before.known))
@@ -197,16 +197,16 @@ module _ (p : Program) (w : List ℕ) (m : Memory) (events : List (ℕ × Event)
   list : o.task.list ≡ working (encounter_of u context) (Ahead.worked p (encounter_of u context) b.stack)
   list =
       (lists_right p events s before.rule.reached k o.task o.live).waiting o.progress r (subst (λ (y : Rid). region_of s y ≡ Some r) (sym q_is) found)
-      ∙ ap (λ g. of_member p (record { debug = p.env.debug; number = o.task.number; level = r.levels; is_final = false }) g) function_is
+      ∙ ap (λ g. member_items p (record { debug = p.env.debug; number = o.task.number; level = r.levels; is_final = false }) g) function_is
       ∙ last
       ∙ ap (λ (e : Encounter). working e (Ahead.worked p e (at_start f opened.Worker ∷ []))) (sym seen)
       ∙ ap (λ (x : List Frame). working (encounter_of u context) (Ahead.worked p (encounter_of u context) x)) (sym stack)
     where
-      last : of_member p (record { debug = p.env.debug; number = o.task.number; level = r.levels; is_final = false }) f
+      last : member_items p (record { debug = p.env.debug; number = o.task.number; level = r.levels; is_final = false }) f
           ≡ working (record { debug = p.env.debug; number = o.task.number; level = r.levels; is_final = false }) (Ahead.worked p (record { debug = p.env.debug; number = o.task.number; level = r.levels; is_final = false }) (at_start f opened.Worker ∷ []))
       last = go (o.task.number == 0) refl
         where
-          go : (x : Bool) → o.task.number == 0 ≡ x → of_member p (record { debug = p.env.debug; number = o.task.number; level = r.levels; is_final = false }) f
+          go : (x : Bool) → o.task.number == 0 ≡ x → member_items p (record { debug = p.env.debug; number = o.task.number; level = r.levels; is_final = false }) f
               ≡ working (record { debug = p.env.debug; number = o.task.number; level = r.levels; is_final = false }) (Ahead.worked p (record { debug = p.env.debug; number = o.task.number; level = r.levels; is_final = false }) (at_start f opened.Worker ∷ []))
           go true e = absurd (other (sym n_is ∙ eqb-true o.task.number 0 e))
           go false e =
@@ -235,7 +235,7 @@ module _ (p : Program) (w : List ℕ) (m : Memory) (events : List (ℕ × Event)
     some = subst (λ (x : List Frame). 0 < length x) (sym stack) (omega arith);
   }
 
-  own : KeepsThread p w stored (events ++ (i, event.ImplicitBegin k) ∷ []) u i (Moves.working p b)
+  own : KeepsThread p w stored (events ++ (i, event.ImplicitBegin k) ∷ []) u i (Moves.back_to_work p b)
   own =
       works p w stored (events ++ (i, event.ImplicitBegin k) ∷ []) u i b (at_start f opened.Worker) [] stack (before.rule.threads i before.known).thread has
       (inl (subst (IsAtStart StartsWorking) (sym stack) (refl, tt)))
@@ -246,13 +246,13 @@ module _ (p : Program) (w : List ℕ) (m : Memory) (events : List (ℕ × Event)
       (subst (RunsFunctions u context) (sym stack) (λ opens t now. ap (λ (x : Task). x.function) (some_same now live) ∙ f_is, tt))
       (λ t now. ap (λ (x : Task). x.list) (some_same now live) ∙ list)
 
-  pub begins_task : KeepsRule p w m events s actors i (op.Store (of_thread w (actors i).thread ThreadCurrent) (task_address w k)) (thread_word i ThreadCurrent) (Moves.working p b, outcome.Event (event.ImplicitBegin k))
+  pub begins_task : KeepsRule p w m events s actors i (op.Store (of_thread w (actors i).thread ThreadCurrent) (task_address w k)) (thread_word i ThreadCurrent) (Moves.back_to_work p b, outcome.Event (event.ImplicitBegin k))
   begins_task =
-      plain_event_keeps p w m events s actors i before (op.Store (of_thread w (actors i).thread ThreadCurrent) (task_address w k)) (thread_word i ThreadCurrent) (Moves.working p b, outcome.Event (event.ImplicitBegin k)) (event.ImplicitBegin k) u (λ x. x) refl step
+      plain_event_keeps p w m events s actors i before (op.Store (of_thread w (actors i).thread ThreadCurrent) (task_address w k)) (thread_word i ThreadCurrent) (Moves.back_to_work p b, outcome.Event (event.ImplicitBegin k)) (event.ImplicitBegin k) u (λ x. x) refl step
       (task_address w k, ap (λ x. op.Store x (task_address w k)) (own_thread p w m events s actors i before ThreadCurrent))
       (waiting_step p s i (event.ImplicitBegin k) u step
       (λ y there h fork. let same : item.Serve ≡ y.0 = ap (λ (x : Item × List Item). x.0) (some_same (ap (take_item p (encounter s i) (event.ImplicitBegin k)) (taken_list p w m events s actors i before c at alone)) there) in absurd (cc (same, fork))) before.rule.waiting)
-      (owed_after w stored u actors i (Moves.working p b) nothing (works_owing_nothing p b (at_start f opened.Worker) [] stack) words)
+      (owed_after w stored u actors i (Moves.back_to_work p b) nothing (works_owing_nothing p b (at_start f opened.Worker) [] stack) words)
       (λ j apart. spares_threads m s i ThreadCurrent (task_address w k) j (actors j) (λ same. absurd (omega (arith, same))))
       own
 
@@ -262,7 +262,7 @@ pub begins_implicit : (p : Program) (w : List ℕ) (m : Memory) (events : List (
 begins_implicit p w m events s actors i before k f q size n at = go (row_is p w m events s actors i before (worker.ImplicitBegin k f q size n) at)
   where
     go : ((o : WaitsFor s i k) × ((o.task.function ≡ f) × (o.task.region ≡ q) × (o.task.number ≡ n))) × HasSize s q size
-        → StepKeeps p w m events s actors i (op.Store (of_thread w (actors i).thread ThreadCurrent) (task_address w k)) (λ old. (Moves.working p (begun_worker f (member_context k q size n) (actors i)), outcome.Event (event.ImplicitBegin k)))
+        → StepKeeps p w m events s actors i (op.Store (of_thread w (actors i).thread ThreadCurrent) (task_address w k)) (λ old. (Moves.back_to_work p (begun_worker f (member_context k q size n) (actors i)), outcome.Event (event.ImplicitBegin k)))
     go ((o, (is_f, is_q, is_n)), (r, found, sized)) = (
       thread_word i ThreadCurrent,
       thread_on p w m events s actors i before ThreadCurrent (task_address w k) (record { from = omega arith; to = omega arith }) refl (omega arith),

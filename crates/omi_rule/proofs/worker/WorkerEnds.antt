@@ -33,7 +33,7 @@ use Rattle.omi_model.proofs.TaskThreads.{are_manned}
 use Rattle.omi_model.proofs.members.MembersInStep.{members_in_step}
 use Rattle.omi_layout.specs.declared.field.Field.TheVariants.{RegionLeft, ThreadCurrent}
 use Rattle.omi_layout.specs.Field.{regions, threads}
-use Rattle.omi_layout.specs.Memory.{Memory, put, with_word}
+use Rattle.omi_layout.specs.Memory.{Memory, replace_at, with_word}
 use Rattle.omi_layout.specs.Named.{number}
 use Rattle.omi_pc.specs.declared.actor.Actor.{Actor}
 use Rattle.omi_pc.specs.declared.counter.Counter.TheVariants as counter
@@ -115,9 +115,9 @@ module _ (p : Program) (w : List ℕ) (m : Memory) (events : List (ℕ × Event)
               let threads = (Rules-from_accepted p).threads.1 in
               omega (arith, left, part, mine, most, ends, team, before.rule.within.count, before.suits.threads, threads)
 
-          words : KeepsWords w (left_in m (op.Add (of_region w q RegionLeft) 1) (task_word q.0 RegionLeft)) s (all_owed (put actors i (to_worker (idle_counter p) (actors i))))
+          words : KeepsWords w (left_in m (op.Add (of_region w q RegionLeft) 1) (task_word q.0 RegionLeft)) s (all_owed (replace_at actors i (to_worker (idle_counter p) (actors i))))
           words =
-              subst (λ v. KeepsWords w (with_word m q.0.creator regions q.0.slot (number RegionLeft) 0 v) s (all_owed (put actors i (to_worker (idle_counter p) (actors i))))) (sym (mod-eq_of_lt few))
+              subst (λ v. KeepsWords w (with_word m q.0.creator regions q.0.slot (number RegionLeft) 0 v) s (all_owed (replace_at actors i (to_worker (idle_counter p) (actors i))))) (sym (mod-eq_of_lt few))
               (owed_after w (with_word m q.0.creator regions q.0.slot (number RegionLeft) 0 (m q.0.creator regions q.0.slot (number RegionLeft) 0 + 1)) s actors i (to_worker (idle_counter p) (actors i)) (record (all_owed actors i) { left = None }) (idle_owes p.env.debug ∙ ap (λ (o : Owed). record o { left = None }) (sym owes))
               (leaves_keep w m s (all_owed actors) i q before.rule.words before.known (ap (λ (o : Owed). o.left) owes)))
             where
@@ -224,7 +224,7 @@ module _ (p : Program) (w : List ℕ) (m : Memory) (events : List (ℕ × Event)
   going : (slice_get r.ended t.number ≡ Some false) × (r.joined ≡ false)
   going = ((members_in_step p events s before.rule.reached).members k t r ctx.live implicit found).going (λ over. cc (sym ctx.begun, over))
 
-  words : KeepsWords w stored u (put (all_owed actors) i (record nothing { left = Some t.region }))
+  words : KeepsWords w stored u (replace_at (all_owed actors) i (record nothing { left = Some t.region }))
   words =
       ends_keep w m z (all_owed actors) i k (relisted [] t) r
       (subst (λ (x : State). KeepsWords w m x (all_owed actors)) (list_moved p s i (actors i) stands []) (list_moves_keep w m s (all_owed actors) i [] before.rule.words before.known))

@@ -21,7 +21,7 @@ use Rattle.omi_layout.specs.declared.field.Field.{Field}
 use Rattle.omi_layout.specs.declared.field.Field.TheVariants.{ThreadAssign, ThreadClaim, ThreadLife, ThreadState}
 use Rattle.omi_layout.specs.Codes.{state_word}
 use Rattle.omi_layout.specs.Field.{IsField, kind_of, threads}
-use Rattle.omi_layout.specs.Memory.{IsRecordWord, Memory, Rec, put, with_word, with_word_in}
+use Rattle.omi_layout.specs.Memory.{IsRecordWord, Memory, Rec, replace_at, with_word, with_word_in}
 use Rattle.omi_layout.specs.Named.{number}
 use Rattle.omi_layout.specs.Place.{IsSlot}
 use Rattle.omi_layout.specs.Table.{thread_count, width}
@@ -149,8 +149,8 @@ module _ (p : Program) (w : List ℕ) (m : Memory) (events : List (ℕ × Event)
             there : (P : Memory → Type 0) → P n → P (left_in m (op.Store (of_thread w (actors i).thread f) word) (thread_word i f))
             there P is = subst (λ k. P (with_word m i k 0 (number f) 0 word)) (sym kind) is
 
-            here : KeepsWords w n u (all_owed (put actors i (to_worker d (actors i)))) → KeepsWords w (left_in m (op.Store (of_thread w (actors i).thread f) word) (thread_word i f)) u (all_owed (put actors i (to_worker d (actors i))))
-            here is = there (λ (q : Memory). KeepsWords w q u (all_owed (put actors i (to_worker d (actors i))))) is
+            here : KeepsWords w n u (all_owed (replace_at actors i (to_worker d (actors i)))) → KeepsWords w (left_in m (op.Store (of_thread w (actors i).thread f) word) (thread_word i f)) u (all_owed (replace_at actors i (to_worker d (actors i))))
+            here is = there (λ (q : Memory). KeepsWords w q u (all_owed (replace_at actors i (to_worker d (actors i))))) is
 
   -- ---- the events
 

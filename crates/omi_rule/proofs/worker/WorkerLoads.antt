@@ -23,7 +23,7 @@ use Rattle.omi_model.proofs.claims.ClaimLaws.{claims_kept}
 use Rattle.omi_layout.specs.declared.field.Field.{Field}
 use Rattle.omi_layout.specs.declared.field.Field.TheVariants.{RegionLife, RegionSize, TaskFunction, TaskLife, TaskNumber, TaskRegion, ThreadAssign}
 use Rattle.omi_layout.specs.Field.{IsField, kind_of, regions, tasks, threads}
-use Rattle.omi_layout.specs.Memory.{Memory, put, with_word}
+use Rattle.omi_layout.specs.Memory.{Memory, replace_at, with_word}
 use Rattle.omi_layout.specs.Named.{number}
 use Rattle.omi_layout.specs.Place.{IsSlot}
 use Rattle.omi_layout.specs.Table.{width}
@@ -110,7 +110,7 @@ module _ (p : Program) (w : List ℕ) (m : Memory) (events : List (ℕ × Event)
     goes_on fits placed list row owes =
         let same : left_in m (op.Load address) x ≡ m = of_load p w m events s actors i before address x in
         quiet_keeps p w m events s actors i before (op.Load address) x (to_worker d (actors i), outcome.Quiet) refl
-        (subst (λ (n : Memory). KeepsWords w n s (all_owed (put actors i (to_worker d (actors i))))) (sym same) (moves_keep w m s actors i (to_worker d (actors i)) before.rule.words (owes ∙ sym (owes_now p w m events s actors i before c at))))
+        (subst (λ (n : Memory). KeepsWords w n s (all_owed (replace_at actors i (to_worker d (actors i))))) (sym same) (moves_keep w m s actors i (to_worker d (actors i)) before.rule.words (owes ∙ sym (owes_now p w m events s actors i before c at))))
         (λ j other. subst (λ (n : Memory). Spares m n s j (actors j)) (sym same) (spares_none m s j (actors j)))
         (subst (λ (n : Memory). KeepsThread p w n events s i (to_worker d (actors i))) (sym same)
         (alone_after p w m events s actors i before c at alone m events s d fits placed (stands_alone p w m events s actors i before c at alone).current (worker_list p w m events s actors i before c at alone ∙ sym list) row))
@@ -183,7 +183,7 @@ module _ (p : Program) (w : List ℕ) (m : Memory) (events : List (ℕ × Event)
           let same : left_in m (op.Load (of_thread w (actors i).thread ThreadAssign)) (thread_word i ThreadAssign) ≡ m = of_load p w m events s actors i before (of_thread w (actors i).thread ThreadAssign) (thread_word i ThreadAssign) in
           waits_keep p w m events s actors i before (op.Load (of_thread w (actors i).thread ThreadAssign)) (thread_word i ThreadAssign) (actors i, outcome.NotReady (of_thread w (actors i).thread ThreadAssign) (m i threads 0 (number ThreadAssign) 0)) (of_thread w (actors i).thread ThreadAssign) refl
           (ForTask waiting (own_thread p w m events s actors i before ThreadAssign) (eqb-true (m i threads 0 (number ThreadAssign) 0) 0 e)) tt refl
-          (subst (λ (n : Memory). KeepsWords w n s (all_owed (put actors i (actors i)))) (sym same) (moves_keep w m s actors i (actors i) before.rule.words refl))
+          (subst (λ (n : Memory). KeepsWords w n s (all_owed (replace_at actors i (actors i)))) (sym same) (moves_keep w m s actors i (actors i) before.rule.words refl))
           (λ j other. subst (λ (n : Memory). Spares m n s j (actors j)) (sym same) (spares_none m s j (actors j)))
           (subst (λ (n : Memory). KeepsThread p w n events s i (actors i)) (sym same) (before.rule.threads i before.known))
       go false e = by (decided waiting)

@@ -1,6 +1,6 @@
 use Rattle.std.proofs.Common.{◌≡◌, ◌∙◌, ◌&&◌, ap, sym, rules, string_bytes, true, false, Bool, refl, List, ℕ, ◌+◌, drop, map}
 use Rattle.omi_line.specs.Hyphen.{gives_hyphen, is_lone_hyphen, is_named}
-use Rattle.omi_line.specs.Word.{kind_of}
+use Rattle.omi_line.specs.Word.{word_kind}
 use Rattle.omi_line.proofs.Sees.{is_rest}
 use Rattle.omi_line.proofs.Hyphens.{hyphen_end, hyphen_found, hyphen_more, hyphen_rest}
 use Rattle.omi_line.proofs.line.has_hyphen_value.Goals as goal
@@ -29,8 +29,8 @@ loop-word-preserved c =
       | else-is_waiting-via-then-is_waiting+else-eq-2 w ↦ passed c.loop-word.is_waiting _ (ap is_lone_hyphen (sym c.as_str-word.ensures.value) ∙ sym w.if-eq-2.ensures)
       | else-is_waiting-via-else-is_waiting w ↦ ap (λ (b : Bool). b && is_lone_hyphen (string_bytes c.word-item.result)) w.if-is_waiting.false
     ] in
-    let named : c.is_option-is_waiting.result ≡ is_named (kind_of (string_bytes c.word-item.result)) =
-    c.is_option-is_waiting.ensures ∙ ap (λ (t : List ℕ). is_named (kind_of t)) c.as_str-word.ensures.value in
+    let named : c.is_option-is_waiting.result ≡ is_named (word_kind (string_bytes c.word-item.result)) =
+    c.is_option-is_waiting.ensures ∙ ap (λ (t : List ℕ). is_named (word_kind t)) c.as_str-word.ensures.value in
     ap (gives_hyphen (drop (c.loop-word.word-index + 1) (map string_bytes c.args.words.now))) named
     ∙ hyphen_more c.args.words.now c.loop-word.word-index c.word-item.result c.loop-word.is_waiting (search rules) c.word-item.is is lone ∙ c.loop-word.invariant
 

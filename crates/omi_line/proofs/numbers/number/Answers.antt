@@ -1,6 +1,6 @@
 use Rattle.std.proofs.Common.{◌≡◌, ◌∙◌, ap, subst, sym, true, List, ℕ, ◌<◌, ◌^◌}
 use Rattle.std.specs.Str.Parse.{IsNumeral, digits_value, without_leading_plus}
-use Rattle.omi_line.specs.Number.{is_decimal}
+use Rattle.omi_line.specs.Number.{is_decimal_text}
 use Rattle.omi_line.proofs.Digits.{number_past, numeral_is_text}
 use Rattle.omi_line.proofs.numbers.number.Goals as goal
 
@@ -10,6 +10,6 @@ returns-in_default c = absurd (c.in_default.ensures.cases.0 (numeral_is_text c.b
 pub returns-in_default-parse : goal.returns-in_default-parse
 returns-in_default-parse c =
     let same : c.in-Ok.text.now ≡ c.args.t.now = c.in-Ok.ensures.cases.0 ∙ c.bytes-bytes.ensures in
-    let is : is_decimal c.args.t.now ≡ true = ap is_decimal (sym c.bytes-bytes.ensures) ∙ sym c.if-not-is_numeral.ensures in
+    let is : is_decimal_text c.args.t.now ≡ true = ap is_decimal_text (sym c.bytes-bytes.ensures) ∙ sym c.if-not-is_numeral.ensures in
     number_past c.args.t.now c.args.least c.args.most is c.ranges.most.fits
     (subst (λ (text : List ℕ). IsNumeral 10 (without_leading_plus text) × (digits_value 10 (without_leading_plus text) < 2 ^ 64) → ⊥) same c.in_default-parse.ensures.value.0)

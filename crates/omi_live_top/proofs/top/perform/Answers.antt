@@ -2,7 +2,7 @@ use Rattle.std.proofs.Common.{◌∙◌, ℕ, List, Err, inl, arith, ap, sym, su
 use Rattle.std.specs.Global.{Vec}
 use Rattle.std.proofs.lemmas.Result.{err_from_is_err_and}
 use Rattle.omi_outside.specs.Outside.{Rose, Told, IsCut, holding}
-use Rattle.omi_live_top.specs.Run.{IsRun}
+use Rattle.omi_live_top.specs.Run.{IsLiveRun}
 use Rattle.omi_live_top.specs.Asked.{asked}
 use Rattle.omi_live_top.proofs.Performing.{done_answered, never_unwritten, partly_answered, script_not_write, write_failed, write_not_read, write_of_run}
 use Rattle.omi_live_top.proofs.top.perform.Goals as goal
@@ -67,7 +67,7 @@ pub returns-clause-answer : goal.returns-clause-answer
 returns-clause-answer g c = λ content told.
     let core : List ℕ = c.args.request.names.core.now in
     done_answered (asked c.args.request) content _ _ c.in_ok-p.p (c.in_ok-p.ensures.program content told) c.in_ok-core.core.items c.into_bytes.result
-    (subst (λ (v : Vec ℕ). IsRun c.in_ok-p.p c.args.request.plan c.in_ok-core.core.items v.items) (sym c.into_bytes.ensures.value) c.in_ok-core.ensures)
+    (subst (λ (v : Vec ℕ). IsLiveRun c.in_ok-p.p c.args.request.plan c.in_ok-core.core.items v.items) (sym c.into_bytes.ensures.value) c.in_ok-core.ensures)
     ((rw (← c.deref.ensures.value) c.in_ok-write_whole.ensures.written) ∙ ap (λ (t : List ℕ → Told). holding (t core) c.in_ok-core.core.items) c.in_ok-p.ensures.same)
 
 pub returns-clause-read : goal.returns-clause-read

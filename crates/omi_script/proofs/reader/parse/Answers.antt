@@ -4,7 +4,7 @@ use Rattle.std.specs.List.{after_first}
 use Rattle.omi_script.specs.Errors.{IfFault}
 use Rattle.omi_script.specs.Grammar.{Refused}
 use Rattle.omi_script.specs.Lines.{is_line_feed, lines}
-use Rattle.omi_script.specs.ParserState.{after}
+use Rattle.omi_script.specs.ParserState.{parser_after}
 use Rattle.omi_script.specs.Verdict.{judge, verdict}
 use Rattle.omi_script.specs.declared.limits.TheConstants.{MAX_BYTES}
 use Rattle.omi_script.proofs.JudgeLemmas.{judge_after, judge_refused, may_end}
@@ -15,7 +15,7 @@ pub returns-in-Err-clause-refused : goal.returns-in-Err-clause-refused
 returns-in-Err-clause-refused c =
     let some : 0 < length c.lines.rest.now = grind (arith, common_steps) in
     subst (IfFault (Refused c.args.bytes.now)) (sym c.at-in-Err.ensures)
-    (judge_refused c.args.bytes.now c.lines.number c.lines.parser.state (after c.lines.parser.state c.cut.result.0.now) c.cut.result.0.now c.lines.rest.now c.in-Err.e some c.cut.ensures.first c.lines.invariant.judged c.in-Err.ensures)
+    (judge_refused c.args.bytes.now c.lines.number c.lines.parser.state (parser_after c.lines.parser.state c.cut.result.0.now) c.cut.result.0.now c.lines.rest.now c.in-Err.e some c.cut.ensures.first c.lines.invariant.judged c.in-Err.ensures)
 
 pub lines-preserved : goal.lines-preserved
 lines-preserved c =

@@ -3,11 +3,11 @@ use Rattle.omi_run_lists.specs.Steps.{Steps}
 use Rattle.omi_core.specs.declared.schedule.Schedule.{Schedule}
 use Rattle.omi_core.specs.ScheduledRuns.{IsRunBy}
 use Rattle.omi_core.specs.Schedules.{IsListed}
-use Rattle.omi_top.specs.Run.{schedule_of}
+use Rattle.omi_top.specs.Run.{thread_schedule}
 use Rattle.omi_top.proofs.run.run_of.Goals as goal
 
 -- neither schedule is a list
-listed : (seed : Option ℕ) (threads steps : ℕ) → IsListed (schedule_of seed) threads steps
+listed : (seed : Option ℕ) (threads steps : ℕ) → IsListed (thread_schedule seed) threads steps
 listed None threads steps = tt
 listed (Some seed) threads steps = tt
 

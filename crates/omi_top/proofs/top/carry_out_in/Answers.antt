@@ -1,5 +1,5 @@
 use Rattle.std.proofs.Common.{ℕ, List, subst}
-use Rattle.omi_verbs.specs.Refusal.{line_of}
+use Rattle.omi_verbs.specs.Refusal.{refusal_line}
 use Rattle.omi_verbs.specs.Said.{IsCounted, IsSaid}
 use Rattle.omi_top.specs.Asked.{asked}
 use Rattle.omi_top.proofs.Left.{ok_left, err_left}
@@ -16,5 +16,5 @@ returns-in-Err-clause-left g c = λ told.
     rw c.refuse.ensures.status
     (err_left (asked c.args.request) (g.F.Files.told c.args.files.now) _ _ _ (g.K.Sink.told c.args.out.now) (g.K.Sink.told c.refuse.new.out) c.in-Err.refusal
     (c.in-Err.ensures.answer told)
-    (subst (λ (z : List ℕ × List ℕ). IsSaid (line_of z.0 z.1 c.in-Err.refusal) counted (g.K.Sink.told c.args.out.now) (g.K.Sink.told c.refuse.new.out))
+    (subst (λ (z : List ℕ × List ℕ). IsSaid (refusal_line z.0 z.1 c.in-Err.refusal) counted (g.K.Sink.told c.args.out.now) (g.K.Sink.told c.refuse.new.out))
     (λ k. (c.names_of.ensures.script k, c.names_of.ensures.core k)) c.refuse.ensures.line))

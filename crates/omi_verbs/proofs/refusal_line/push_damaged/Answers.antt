@@ -1,6 +1,6 @@
 use Rattle.std.proofs.Common.{◌≡◌, ◌++◌, ◌∷◌, [], ℕ, List, false, string_bytes, codes, ap, ◌∙◌, append_assoc, arith}
 use Rattle.std.specs.Fmt.{digits_onto}
-use Rattle.omi_layout.specs.Field.{name_of}
+use Rattle.omi_layout.specs.Field.{field_text}
 use Rattle.omi_verbs.proofs.Digits.{hexadecimal_is}
 use Rattle.omi_verbs.proofs.refusal_line.push_damaged.Goals as goal
 
@@ -9,7 +9,7 @@ returns c =
     let old : List ℕ = string_bytes c.args.room.now in
     let front : List ℕ = codes "damaged 0x" in
     let digits : List ℕ = digits_onto 16 16 false c.args.addr [] in
-    let tail : List ℕ = 32 ∷ (name_of c.args.field ++ 10 ∷ []) in
+    let tail : List ℕ = 32 ∷ (field_text c.args.field ++ 10 ∷ []) in
     let first : string_bytes c.push_all.new.room ≡ old ++ front = c.push_all.ensures.added in
     let second : string_bytes c.push_digits.new.room ≡ (old ++ front) ++ digits = c.push_digits.ensures.added ∙ ap (λ (xs : List ℕ). xs ++ digits) first in
     let third : string_bytes c.push_all-2.new.room ≡ ((old ++ front) ++ digits) ++ tail =
