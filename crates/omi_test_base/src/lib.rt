@@ -1,4 +1,4 @@
-//! Tests of omi_outside: the forms in memory, and the adapters over real files and stand-ins.
+//! Tests of omi_list, omi_word, omi_handle and omi_outside: lists, operations on a word, handles, and files and output.
 #![tactic(auto)]
 
 #[cfg(test)]
@@ -6,6 +6,12 @@ mod edge_tests;
 #[cfg(test)]
 mod expecting;
 #[cfg(test)]
+mod handle_tests;
+#[cfg(test)]
+mod list_tests;
+#[cfg(test)]
+mod outside_tests;
+#[cfg(test)]
 mod stand_in;
 #[cfg(test)]
-mod tests;
+mod word_tests;

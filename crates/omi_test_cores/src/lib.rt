@@ -1,11 +1,15 @@
-//! Tests of omi_page: words, faults, and reads that are few, short or fail.
+//! Tests of omi_corefile, omi_calls and omi_page: the bytes of cores, callbacks over a core, and a core read page by page.
 #![tactic(auto)]
 
 #[cfg(test)]
+mod call_tests;
+#[cfg(test)]
+mod corefile_tests;
+#[cfg(test)]
 mod cores;
 #[cfg(test)]
-mod fault_tests;
+mod page_fault_tests;
+#[cfg(test)]
+mod page_tests;
 #[cfg(test)]
 mod sparing;
-#[cfg(test)]
-mod word_tests;

@@ -1,4 +1,4 @@
-//! Tests of sessions and inquiries over the words of stopped runs: what they answer, and a worked example.
+//! Tests of sessions, inquiries and walks over the words of stopped runs: what they answer, and a worked example.
 #![tactic(auto)]
 
 #[cfg(test)]
@@ -13,3 +13,5 @@ mod handles;
 mod opening;
 #[cfg(test)]
 mod variables;
+#[cfg(test)]
+mod walks;

@@ -1,8 +1,8 @@
-//! Tests of omi_layout, omi_corefile and omi_text: layouts, the bytes of cores, and printed texts.
+//! Tests of omi_layout, omi_rep and omi_text: layouts, programs that suit them, and printed texts.
 #![tactic(auto)]
 
 #[cfg(test)]
-mod corefile_tests;
+mod agreement_tests;
 #[cfg(test)]
 mod event_tests;
 #[cfg(test)]

@@ -5,7 +5,7 @@ use Rattle.omi_pc.specs.declared.frame.Opened.TheVariants.{Master}
 use Rattle.omi_pc.specs.OpenBodies.{AreOpen, IsAt}
 use Rattle.omi_pc.proofs.Moved.{body_opens}
 use Rattle.omi_pc.proofs.Settled.{named_there}
-use Rattle.omi_step_tests.proofs.pc.begin_region.Goals as goal
+use Rattle.omi_test_steps.proofs.actor_tests.begin_region.Goals as goal
 
 pub returns-then-a-lt10 : goal.returns-then-a-lt10
 returns-then-a-lt10 c =

@@ -2,7 +2,7 @@ use Rattle.std.proofs.Common.{sym, subst}
 use Rattle.omi_pc.specs.declared.actor.Actor.{Actor}
 use Rattle.omi_pc.specs.OpenBodies.{AreOpen}
 use Rattle.omi_pc.proofs.Moved.{working_open}
-use Rattle.omi_step_tests.proofs.pc.work.Goals as goal
+use Rattle.omi_test_steps.proofs.actor_tests.work.Goals as goal
 
 pub returns : goal.returns
 returns c =

@@ -4,7 +4,7 @@ use Rattle.omi_pc.specs.declared.actor.Actor.{Actor}
 use Rattle.omi_pc.specs.declared.frame.Opened.TheVariants as opened
 use Rattle.omi_pc.specs.OpenBodies.{AreOpen, IsAt}
 use Rattle.omi_pc.proofs.Settled.{call_opens}
-use Rattle.omi_step_tests.proofs.pc.enter_critical.Goals as goal
+use Rattle.omi_test_steps.proofs.actor_tests.enter_critical.Goals as goal
 
 pub returns-then-len-lt-STACK_ROOM : goal.returns-then-len-lt-STACK_ROOM
 returns-then-len-lt-STACK_ROOM c =
