@@ -11,17 +11,13 @@ use Rattle.omi_script.proofs.VerdictLemmas.{not_both}
 use Rattle.omi_verbs.specs.Refusal.{IsUnread, refusal_line, status_of}
 use Rattle.omi_verbs.specs.Said.{IsSaid}
 use Rattle.omi_verbs.specs.Scripts.{HoldsProgram, IsScriptRefusal}
-use Rattle.omi_verbs.specs.Statuses.{ComesWhere, IsFaultStatus}
+use Rattle.omi_verbs.specs.Statuses.{ComesWhere, IsFaultStatus, IsPrinting}
 use Rattle.omi_verbs.specs.declared.refusal.Input.TheVariants as input
 use Rattle.omi_verbs.specs.declared.refusal.Refusal.{Refusal}
 use Rattle.omi_verbs.specs.declared.refusal.Refusal.TheVariants as refusal
 use Rattle.omi_live_top.specs.Answer.{IsLiveAnswer, IsLiveAnswered, IsLiveLeft, IsLivePartlyDone}
 use Rattle.omi_live_top.specs.Command.{LiveCommand}
 use Rattle.omi_live_top.specs.Run.{IsLiveRun}
-
--- printing ended well, with a fault, or for want of memory
-abbrev pub IsPrinting : Status → Type 0
-IsPrinting s = (s ≡ status.Success) ⊎ ((s ≡ status.WriteFault) ⊎ (s ≡ status.OutOfMemory))
 
 -- the text has a fault
 abbrev HasFault : List ℕ → Type 0

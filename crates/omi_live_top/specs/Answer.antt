@@ -5,7 +5,7 @@ use Rattle.omi_outside.specs.Outside.{Told, holding, IsCut, IsPutCut, put_on}
 use Rattle.omi_outside.specs.declared.status.Status.{Status}
 use Rattle.omi_outside.specs.declared.status.Status.TheVariants as status
 use Rattle.omi_script.specs.declared.program.Program.{Program}
-use Rattle.omi_verbs.specs.Refusal.{IsUnread, refusal_line, status_of}
+use Rattle.omi_verbs.specs.Refusal.{IsLate, IsUnread, refusal_line, status_of}
 use Rattle.omi_verbs.specs.Said.{IsSaid}
 use Rattle.omi_verbs.specs.Scripts.{IsOfScript, IsProgramIn, IsScriptRefusal}
 use Rattle.omi_verbs.specs.declared.refusal.Input.TheVariants as input
@@ -24,12 +24,6 @@ pub record IsLiveAnswer (command : LiveCommand) (content : Option (List ℕ)) (c
 abbrev pub IsLiveHalfWritten : LiveCommand → Option (List ℕ) → Told → Told → Type 0
 IsLiveHalfWritten command content old new =
     (core text : List ℕ) × IsLiveAnswer command content core text × IsCut old new core
-
--- a fault of writing, or want of memory
-abbrev pub IsLate : Refusal → Type 0
-IsLate refusal.WriteFault = ⊤
-IsLate refusal.OutOfMemory = ⊤
-IsLate r = ⊥
 
 -- what a run of threads is refused for, for its script or while its core is written
 abbrev pub IsOfRun : Refusal → Type 0

@@ -15,6 +15,7 @@ use Rattle.omi_rep.specs.declared.fault.LookFault.{LookFault}
 use Rattle.omi_rep.specs.declared.fault.LookFault.TheVariants as look
 use Rattle.omi_verbs.specs.Refusal.{refusal_line, status_of}
 use Rattle.omi_top.specs.Shown.{refusal_of_layout, refusal_of_look}
+use Rattle.omi_verbs.specs.Statuses.{IsPrinting}
 use Rattle.omi_verbs.specs.declared.refusal.Refusal.{Refusal}
 use Rattle.omi_verbs.specs.declared.refusal.Refusal.TheVariants as refusal
 
@@ -75,10 +76,6 @@ proper (Make n written) told core r fault is = make_proper n core r is
 proper (Show written) told core r fault (content, is, answer) = show_proper content core r fault answer
 proper (Run plan script written) told core r fault (text, here, content, is, answer) = run_proper plan text content core r fault answer
 proper Faulty told core r fault is = another r refusal.Usage fault (ap said_of is) refl
-
--- printing ended well, with a fault, or for want of memory
-abbrev pub IsPrinting : Status → Type 0
-IsPrinting s = (s ≡ status.Success) ⊎ ((s ≡ status.WriteFault) ⊎ (s ≡ status.OutOfMemory))
 
 module _ (command : Command) (told : List ℕ → Told) (old new : Told) (counted : Type 0) (out after : Option (List ℕ)) where
   -- after a text and an end of its printing

@@ -16,7 +16,7 @@ use Rattle.omi_top.specs.Ran.{IsRanBy}
 use Rattle.omi_verbs.specs.Refusal.{refusal_of_write}
 use Rattle.omi_verbs.specs.declared.refusal.Refusal.TheVariants as refusal
 use Rattle.omi_top.proofs.Running.{made_run}
-use Rattle.omi_top.proofs.Stopping.{late}
+use Rattle.omi_verbs.proofs.Elsewhere.{late}
 
 -- a run that was made, and its line
 pub made : (n : ℕ) (p : Program) (ran : Ran) (line : List ℕ) → IsRanBy p make_plan ran → line ≡ made_line n (count_of TaskBegin ran.core.events.items) ran.why

@@ -28,7 +28,7 @@ use Rattle.omi_top.specs.Cores.{IsLooked, Spells}
 use Rattle.omi_top.specs.Shown.{IsRefusedCore}
 use Rattle.omi_top.specs.Lines.{run_text}
 use Rattle.omi_top.specs.Make.{IsMade, make_text}
-use Rattle.omi_verbs.specs.Refusal.{refusal_line, status_of}
+use Rattle.omi_verbs.specs.Refusal.{IsLate, refusal_line, status_of}
 use Rattle.omi_verbs.specs.Said.{IsSaid}
 use Rattle.omi_verbs.specs.Scripts.{IsScriptRefusal}
 use Rattle.omi_top.specs.Run.{IsRun}
@@ -126,11 +126,6 @@ abbrev pub IsEarly : Command → Refusal → Type 0
 IsEarly command (refusal.ReadFault read) = ReadsFirst command read
 IsEarly command refusal.OutOfMemory = ⊤
 IsEarly command r = ⊥
-
-abbrev pub IsLate : Refusal → Type 0
-IsLate refusal.WriteFault = ⊤
-IsLate refusal.OutOfMemory = ⊤
-IsLate r = ⊥
 
 abbrev pub IsBehind : Command → Refusal → Type 0
 IsBehind command (refusal.ReadFault read) = ReadsBack command read

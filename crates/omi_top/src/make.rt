@@ -4,7 +4,8 @@ ghost use Rattle.std.specs.Prelude.{◌≡◌, ◌≢◌, List, ℕ, IfOk, IfErr
 ghost use Rattle.omi_core.specs.Ends.{count_of, is_of_kind};
 ghost use Rattle.omi_outside.specs.Outside.{HasCause, Told};
 ghost use Rattle.omi_script.specs.Grammar.{Grammar};
-ghost use Rattle.omi_top.specs.Answer.{IsAnswered, IsLate};
+ghost use Rattle.omi_top.specs.Answer.{IsAnswered};
+ghost use Rattle.omi_verbs.specs.Refusal.{IsLate};
 ghost use Rattle.omi_top.specs.Asked.{IsMadeText, IsNodes};
 ghost use Rattle.omi_top.specs.Command.{Make};
 ghost use Rattle.omi_top.specs.Make.{IsMade, made_line, make_text};

@@ -4,3 +4,4 @@ pub mod ThreadIds
 pub mod CoreFiles
 pub mod EventLines
 pub mod Scripts
+pub mod Elsewhere

@@ -43,6 +43,12 @@ IsReadFault r = ⊥
 abbrev pub IsUnread : Input → Refusal → Type 0
 IsUnread read r = (r ≡ refusal.ReadFault read) ⊎ (r ≡ refusal.OutOfMemory)
 
+-- a fault of writing, or want of memory
+abbrev pub IsLate : Refusal → Type 0
+IsLate refusal.WriteFault = ⊤
+IsLate refusal.OutOfMemory = ⊤
+IsLate r = ⊥
+
 -- the status of a refusal
 abbrev pub status_of : Refusal → Status
 status_of refusal.Usage = status.Usage

@@ -20,3 +20,7 @@ IsOfCore status.Core = ⊤
 IsOfCore status.Damaged = ⊤
 IsOfCore status.Incompatible = ⊤
 IsOfCore other = ⊥
+
+-- printing ended well, with a fault, or for want of memory
+abbrev pub IsPrinting : Status → Type 0
+IsPrinting s = (s ≡ status.Success) ⊎ ((s ≡ status.WriteFault) ⊎ (s ≡ status.OutOfMemory))

@@ -5,7 +5,7 @@ ghost use Rattle.std.specs.String.{string_capacity};
 ghost use Rattle.omi_outside.specs.Outside.{HasCause, IsPutCut, put_on};
 ghost use Rattle.omi_verbs.specs.Refusal.{HasRoom, refusal_line, status_of};
 ghost use Rattle.omi_verbs.specs.Said.{IsCounted, IsSaid};
-ghost use Rattle.omi_verbs.specs.Statuses.{IsOfCore};
+ghost use Rattle.omi_verbs.specs.Statuses.{IsOfCore, IsPrinting};
 
 use crate::names::Names;
 use crate::refusal::Refusal;
@@ -17,8 +17,7 @@ pub fn print<K: Sink>(text: &[u8], out: &mut K) -> Status
     ensures success { result ≡ Status.Success → K.told out.new ≡ put_on (K.told out.old) text.now }
     ensures cut { (result ≡ Status.Success)
         ⊎ IsPutCut text.now (K.told out.old) (K.told out.new) }
-    ensures status { (result ≡ Status.Success)
-        ⊎ ((result ≡ Status.WriteFault) ⊎ (result ≡ Status.OutOfMemory)) }
+    ensures status { IsPrinting result }
     ensures not_of_core { IsOfCore result → ⊥ }
     ensures cause { HasCause (K.faults out.old) (K.faults out.new) (result ≡ Status.WriteFault) }
     ensures wants { K.wants out.old ≤ K.wants out.new }

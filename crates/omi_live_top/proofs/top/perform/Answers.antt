@@ -1,10 +1,12 @@
-use Rattle.std.proofs.Common.{◌∙◌, ℕ, List, Err, inl, arith, ap, sym, subst, string_bytes}
+use Rattle.std.proofs.Common.{◌∙◌, ℕ, List, Err, refl, inl, arith, ap, sym, subst, string_bytes}
 use Rattle.std.specs.Global.{Vec}
 use Rattle.std.proofs.lemmas.Result.{err_from_is_err_and}
 use Rattle.omi_outside.specs.Outside.{Rose, Told, IsCut, holding}
 use Rattle.omi_live_top.specs.Run.{IsLiveRun}
 use Rattle.omi_live_top.specs.Asked.{asked}
-use Rattle.omi_live_top.proofs.Performing.{done_answered, never_unwritten, partly_answered, script_not_write, write_failed, write_not_read, write_of_run}
+use Rattle.omi_live_top.proofs.Performing.{done_answered, never_unwritten, partly_answered, write_of_run}
+use Rattle.omi_verbs.proofs.Elsewhere.{never_elsewhere, write_failed, write_not_read}
+use Rattle.omi_verbs.specs.declared.refusal.Refusal.TheVariants as refusal
 use Rattle.omi_live_top.proofs.top.perform.Goals as goal
 
 pub returns-in_err-p-clause-answer : goal.returns-in_err-p-clause-answer
@@ -20,7 +22,7 @@ returns-in_err-p-clause-kind g c =
 pub returns-in_err-p-clause-write : goal.returns-in_err-p-clause-write
 returns-in_err-p-clause-write g c =
     let p = err_from_is_err_and c.from_residual.result c.from_residual.ensures.1 in
-    record { later = omega arith; failed = rw (p.1, p.2) (λ is. absurd (script_not_write c.in_err-p.field-0.0 c.in_err-p.ensures.kind is)) }
+    record { later = omega arith; failed = rw (p.1, p.2) (λ is. absurd (never_elsewhere c.in_err-p.field-0.0 refusal.WriteFault c.in_err-p.ensures.kind refl is)) }
 
 pub returns-in_err-write_whole-clause-answer : goal.returns-in_err-write_whole-clause-answer
 returns-in_err-write_whole-clause-answer g c = λ content told.
