@@ -4,6 +4,7 @@ pub mod Stopping
 pub mod MadeTexts
 pub mod Making
 pub mod Statuses
+pub mod Causes
 pub mod Left
 pub mod LeftByStop
 pub mod LeftByMake

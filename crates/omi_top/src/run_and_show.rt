@@ -1,11 +1,10 @@
 //! The command `run`.
 
-ghost use Rattle.std.specs.Prelude.{◌≡◌, ◌≢◌, List, ℕ, IfErr, IsErrAnd, IsErrOf};
-ghost use Rattle.omi_outside.specs.Outside.{HasCause};
-ghost use Rattle.omi_top.specs.Answer.{AreTold, IsAnswered, IsUnwritten};
+ghost use Rattle.std.specs.Prelude.{◌≢◌};
 ghost use Rattle.omi_top.specs.Asked.{IsPossible};
 ghost use Rattle.omi_top.specs.Command.{Run};
-ghost use Rattle.omi_verbs.specs.Refusal.{IsReadFault, status_of};
+ghost use Rattle.omi_top.specs.Causes.{Performed};
+ghost use Rattle.omi_verbs.specs.Seen.{files_seen};
 
 use crate::plan::Plan;
 use crate::show::show;
@@ -24,22 +23,12 @@ pub fn run_and_show<F: Files, W: Files>(
     dest: &mut W,
 ) -> Result<Vec<u8>, Refusal>
     requires { IsPossible plan }
-    ensures answer { let command = Run plan script.now core.now in
-        AreTold command (F.told files.old)
-        → IsAnswered command (F.told files.old) result (W.told dest.old core.now)
-        (W.told dest.new core.now) }
+    ensures performed { Performed (Run plan script.now core.now) result
+        (files_seen (F.told files.old) (F.reads files.old) (F.writes files.old))
+        (files_seen (F.told files.new) (F.reads files.new) (F.writes files.new))
+        (files_seen (W.told dest.old) (W.reads dest.old) (W.writes dest.old))
+        (files_seen (W.told dest.new) (W.reads dest.new) (W.writes dest.new)) }
     ensures usage { result ≢ Err Refusal.Usage }
-    ensures read { HasCause (F.reads files.old) (F.reads files.new)
-        (IsErrAnd result IsReadFault) }
-    ensures write { HasCause (W.writes dest.old) (W.writes dest.new)
-        (IsErrOf result Refusal.WriteFault) }
-    ensures unwritten { IfErr result (λ r. IsUnwritten (Run plan script.now core.now) (status_of r)
-        → W.told dest.new ≡ W.told dest.old) }
-    ensures files_told { F.told files.new ≡ F.told files.old }
-    ensures files_writes { F.writes files.new ≡ F.writes files.old }
-    ensures dest_reads { W.reads dest.new ≡ W.reads dest.old }
-    ensures others { (other : List ℕ) → other ≢ core.now
-        → W.told dest.new other ≡ W.told dest.old other }
 {
     let mut text = stop(alloc, plan, script, core, files, dest)?;
     let report = show(alloc, core, files)?;

@@ -1,12 +1,13 @@
 //! The command `stop`.
 
-ghost use Rattle.std.specs.Prelude.{◌≡◌, ◌≢◌, List, ℕ, IfOk, IfErr, IsErrAnd, IsErrOf, string_bytes};
-ghost use Rattle.omi_outside.specs.Outside.{HasCause};
-ghost use Rattle.omi_top.specs.Answer.{AreTold, IsAnswered, IsStopped, IsUnwritten};
+ghost use Rattle.std.specs.Prelude.{◌≢◌, IfOk, IfErr, string_bytes};
+ghost use Rattle.omi_top.specs.Answer.{IsStopped};
 ghost use Rattle.omi_verbs.specs.Statuses.{IsOfCore};
 ghost use Rattle.omi_top.specs.Command.{Stop as StopCommand};
 ghost use Rattle.omi_top.specs.Asked.{IsPossible};
-ghost use Rattle.omi_verbs.specs.Refusal.{IsReadFault, status_of};
+ghost use Rattle.omi_top.specs.Causes.{Performed};
+ghost use Rattle.omi_verbs.specs.Seen.{files_seen};
+ghost use Rattle.omi_verbs.specs.Refusal.{status_of};
 
 use crate::lines::text_of;
 use crate::plan::Plan;
@@ -39,24 +40,13 @@ pub fn stop<F: Files, W: Files>(
     dest: &mut W,
 ) -> Result<Vec<u8>, Refusal>
     requires { IsPossible plan }
-    ensures answer { let command = StopCommand plan script.now core.now in
-        AreTold command (F.told files.old)
-        → IsAnswered command (F.told files.old) result (W.told dest.old core.now)
-        (W.told dest.new core.now) }
+    ensures performed { Performed (StopCommand plan script.now core.now) result
+        (files_seen (F.told files.old) (F.reads files.old) (F.writes files.old))
+        (files_seen (F.told files.new) (F.reads files.new) (F.writes files.new))
+        (files_seen (W.told dest.old) (W.reads dest.old) (W.writes dest.old))
+        (files_seen (W.told dest.new) (W.reads dest.new) (W.writes dest.new)) }
     ensures usage { result ≢ Err Refusal.Usage }
     ensures of_core { IfErr result (λ r. IsOfCore (status_of r) → ⊥) }
-    ensures read { HasCause (F.reads files.old) (F.reads files.new)
-        (IsErrAnd result IsReadFault) }
-    ensures write { HasCause (W.writes dest.old) (W.writes dest.new)
-        (IsErrOf result Refusal.WriteFault) }
-    ensures unwritten { IfErr result
-        (λ r. IsUnwritten (StopCommand plan script.now core.now) (status_of r)
-        → W.told dest.new ≡ W.told dest.old) }
-    ensures files_told { F.told files.new ≡ F.told files.old }
-    ensures files_writes { F.writes files.new ≡ F.writes files.old }
-    ensures dest_reads { W.reads dest.new ≡ W.reads dest.old }
-    ensures others { (other : List ℕ) → other ≢ core.now
-        → W.told dest.new other ≡ W.told dest.old other }
 {
     let p = program_of(alloc, script, files)?;
     let (image, text) = stopped(alloc, p, plan)?;

@@ -1,8 +1,8 @@
 //! The one call that the program makes, with the clause for each of its promises.
 
-ghost use Rattle.std.specs.Prelude.{◌≡◌, ◌⊎◌, ◌≤◌, ◌∷◌, ◌++◌, [], codes, List, ℕ, Option, Some, None, IfOk, IfErr, IsErrAnd, IsErrOf, map, string_bytes};
+ghost use Rattle.std.specs.Prelude.{◌≡◌, ◌⊎◌, ◌≤◌, ◌∷◌, ◌++◌, [], codes, List, ℕ, Option, Some, None, IfErr, IsErrOf, string_bytes};
 ghost use Rattle.std.specs.String.{string_capacity};
-ghost use Rattle.omi_outside.specs.Outside.{HasCause, Rose, holding, put_on};
+ghost use Rattle.omi_outside.specs.Outside.{Rose, holding, put_on};
 ghost use Rattle.omi_corefile.specs.Refusals.{CoreRefused};
 ghost use Rattle.omi_corefile.specs.declared.fault.CoreFault.{CoreFault};
 ghost use Rattle.omi_script.specs.Grammar.{Grammar, Refused as RefusedScript};
@@ -11,8 +11,10 @@ ghost use Rattle.omi_script.specs.declared.program.Program.{Program};
 ghost use Rattle.omi_top.specs.Command.{Stop, Make, Show, Run, Faulty, ReadsCore, command_in, core_name, script_name, written_name, Writes};
 ghost use Rattle.omi_top.specs.declared.plan.Plan.{Plan};
 ghost use Rattle.omi_top.specs.Asked.{asked, IsBounded};
-ghost use Rattle.omi_verbs.specs.Refusal.{HasRoom, IsReadFault, status_of};
-ghost use Rattle.omi_top.specs.Answer.{AreTold, IsAnswered, IsStopped, IsLeft, IsUnwritten, ComesBehind, IsReadBackStatus, IsReportOf, IsRunShown, IsShown, IsWritingStatus};
+ghost use Rattle.omi_top.specs.Causes.{Left, Performed};
+ghost use Rattle.omi_verbs.specs.Seen.{files_seen, output_seen};
+ghost use Rattle.omi_verbs.specs.Refusal.{HasRoom, status_of};
+ghost use Rattle.omi_top.specs.Answer.{AreTold, IsStopped, IsLeft, IsUnwritten, ComesBehind, IsReadBackStatus, IsReportOf, IsRunShown, IsShown, IsWritingStatus};
 ghost use Rattle.omi_verbs.specs.Said.{IsSaid, IsCounted};
 ghost use Rattle.omi_verbs.specs.Statuses.{ComesWhere, IsOfCore};
 ghost use Rattle.omi_verbs.specs.Scripts.{HoldsProgram};
@@ -43,25 +45,15 @@ fn perform<F: Files, W: Files>(
     dest: &mut W,
 ) -> Result<Vec<u8>, Refusal>
     requires { IsBounded request }
-    ensures answer { let command = asked request.entry in
-        AreTold command (F.told files.old)
-        → IsAnswered command (F.told files.old) result
-        (W.told dest.old (written_name command)) (W.told dest.new (written_name command)) }
+    ensures performed { Performed (asked request.entry) result
+        (files_seen (F.told files.old) (F.reads files.old) (F.writes files.old))
+        (files_seen (F.told files.new) (F.reads files.new) (F.writes files.new))
+        (files_seen (W.told dest.old) (W.reads dest.old) (W.writes dest.old))
+        (files_seen (W.told dest.new) (W.reads dest.new) (W.writes dest.new)) }
     ensures usage { IsErrOf result Refusal.Usage → asked request.entry ≡ Faulty }
     ensures faulty { asked request.entry ≡ Faulty → IsErrOf result Refusal.Usage }
     ensures of_core { IfErr result
         (λ r. IsOfCore (status_of r) → ReadsCore (asked request.entry)) }
-    ensures read { HasCause (F.reads files.old) (F.reads files.new)
-        (IsErrAnd result IsReadFault) }
-    ensures write { HasCause (W.writes dest.old) (W.writes dest.new)
-        (IsErrOf result Refusal.WriteFault) }
-    ensures unwritten { IfErr result (λ r. IsUnwritten (asked request.entry) (status_of r)
-        → W.told dest.new ≡ W.told dest.old) }
-    ensures files_told { F.told files.new ≡ F.told files.old }
-    ensures files_writes { F.writes files.new ≡ F.writes files.old }
-    ensures dest_reads { W.reads dest.new ≡ W.reads dest.old }
-    ensures others { (other : List ℕ) → (Writes (asked request.entry) other → ⊥)
-        → W.told dest.new other ≡ W.told dest.old other }
 {
     match request {
         Request::Stop { plan, script, core } => stop(alloc, plan, script, core, files, dest),
@@ -87,28 +79,13 @@ fn carry_out_in<F: Files, W: Files, K: Sink>(
     requires empty { string_bytes room.old ≡ [] }
     requires enough { HasRoom (script_name (asked request)) (core_name (asked request))
         (string_capacity room.old) }
-    ensures of_core { IsOfCore result → ReadsCore (asked request.entry) }
-    ensures usage { result ≡ Status.Usage → asked request.entry ≡ Faulty }
-    ensures read_fault { result ≡ Status.ReadFault → Rose (F.reads files.old) (F.reads files.new) }
-    ensures write_fault { result ≡ Status.WriteFault
-        → Rose (W.writes dest.old) (W.writes dest.new)
-        ⊎ Rose (K.faults out.old) (K.faults out.new) }
-    ensures left { let command = asked request.entry in
-        AreTold command (F.told files.old) → IsLeft command (F.told files.old) result
-        (W.told dest.old (written_name command)) (W.told dest.new (written_name command))
-        (IsCounted (K.faults out.old) (K.faults out.new) (K.wants out.old) (K.wants out.new))
-        (K.told out.old) (K.told out.new) }
-    ensures unwritten { IsUnwritten (asked request.entry) result
-        → W.told dest.new ≡ W.told dest.old }
-    ensures files_told { F.told files.new ≡ F.told files.old }
-    ensures files_writes { F.writes files.new ≡ F.writes files.old }
-    ensures dest_reads { W.reads dest.new ≡ W.reads dest.old }
-    ensures others { (other : List ℕ) → (Writes (asked request.entry) other → ⊥)
-        → W.told dest.new other ≡ W.told dest.old other }
-    ensures reads { F.reads files.old ≤ F.reads files.new }
-    ensures writes { W.writes dest.old ≤ W.writes dest.new }
-    ensures faults { K.faults out.old ≤ K.faults out.new }
-    ensures wants { K.wants out.old ≤ K.wants out.new }
+    ensures { Left (asked request.entry) result
+        (files_seen (F.told files.old) (F.reads files.old) (F.writes files.old))
+        (files_seen (F.told files.new) (F.reads files.new) (F.writes files.new))
+        (files_seen (W.told dest.old) (W.reads dest.old) (W.writes dest.old))
+        (files_seen (W.told dest.new) (W.reads dest.new) (W.writes dest.new))
+        (output_seen (K.told out.old) (K.faults out.old) (K.wants out.old))
+        (output_seen (K.told out.new) (K.faults out.new) (K.wants out.new)) }
 {
     match perform(alloc, request, files, dest) {
         Ok(text) => print(&text, out),
@@ -125,33 +102,18 @@ fn carry_out<F: Files, W: Files, K: Sink>(
     out: &mut K,
 ) -> Status
     requires { IsBounded request }
-    ensures of_core { IsOfCore result → ReadsCore (asked request.entry) }
-    ensures usage { result ≡ Status.Usage → asked request.entry ≡ Faulty }
+    ensures left { Left (asked request.entry) result
+        (files_seen (F.told files.old) (F.reads files.old) (F.writes files.old))
+        (files_seen (F.told files.new) (F.reads files.new) (F.writes files.new))
+        (files_seen (W.told dest.old) (W.reads dest.old) (W.writes dest.old))
+        (files_seen (W.told dest.new) (W.reads dest.new) (W.writes dest.new))
+        (output_seen (K.told out.old) (K.faults out.old) (K.wants out.old))
+        (output_seen (K.told out.new) (K.faults out.new) (K.wants out.new)) }
     ensures faulty { asked request.entry ≡ Faulty → result ≡ Status.Usage }
     ensures said { asked request.entry ≡ Faulty
         → IsSaid (Some (codes "usage" ++ 10 ∷ []))
         (IsCounted (K.faults out.old) (K.faults out.new) (K.wants out.old) (K.wants out.new))
         (K.told out.old) (K.told out.new) }
-    ensures read_fault { result ≡ Status.ReadFault → Rose (F.reads files.old) (F.reads files.new) }
-    ensures write_fault { result ≡ Status.WriteFault
-        → Rose (W.writes dest.old) (W.writes dest.new)
-        ⊎ Rose (K.faults out.old) (K.faults out.new) }
-    ensures left { let command = asked request.entry in
-        AreTold command (F.told files.old) → IsLeft command (F.told files.old) result
-        (W.told dest.old (written_name command)) (W.told dest.new (written_name command))
-        (IsCounted (K.faults out.old) (K.faults out.new) (K.wants out.old) (K.wants out.new))
-        (K.told out.old) (K.told out.new) }
-    ensures unwritten { IsUnwritten (asked request.entry) result
-        → W.told dest.new ≡ W.told dest.old }
-    ensures files_told { F.told files.new ≡ F.told files.old }
-    ensures files_writes { F.writes files.new ≡ F.writes files.old }
-    ensures dest_reads { W.reads dest.new ≡ W.reads dest.old }
-    ensures others { (other : List ℕ) → (Writes (asked request.entry) other → ⊥)
-        → W.told dest.new other ≡ W.told dest.old other }
-    ensures reads { F.reads files.old ≤ F.reads files.new }
-    ensures writes { W.writes dest.old ≤ W.writes dest.new }
-    ensures faults { K.faults out.old ≤ K.faults out.new }
-    ensures wants { K.wants out.old ≤ K.wants out.new }
 {
     if let Request::Faulty = request {
         return refuse_words(out);

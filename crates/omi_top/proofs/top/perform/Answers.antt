@@ -1,19 +1,56 @@
-use Rattle.std.proofs.Common.{[], ℕ, Ok, Err}
+use Rattle.std.proofs.Common.{◌≡◌, [], ℕ, None, Ok, Err, arith, inl, refl}
 use Rattle.std.specs.Prelude.{Result, IfErr}
 use Rattle.std.specs.Global.{Vec}
 use Rattle.omi_verbs.specs.Statuses.{IsOfCore}
 use Rattle.omi_verbs.specs.Refusal.{status_of}
 use Rattle.omi_verbs.specs.declared.refusal.Refusal.{Refusal}
+use Rattle.omi_top.specs.Command.{Make}
+use Rattle.omi_top.proofs.Causes.{late_not_read, late_writes}
 use Rattle.omi_top.proofs.top.perform.Goals as goal
 
-pub returns-in-Stop-clause-answer : goal.returns-in-Stop-clause-answer
-returns-in-Stop-clause-answer g c = rw c.in-Stop.is c.stop.ensures.answer
+-- what stays is as before, whatever the result is
+same_told : {A : Type 0} (x : A) (P : Refusal → Type 0) (r : Result (Vec ℕ) Refusal) → IfErr r (λ e. P e → x ≡ x)
+same_told x P (Ok text) = tt
+same_told x P (Err r) = λ is. refl
 
-pub returns-in-Show-clause-answer : goal.returns-in-Show-clause-answer
-returns-in-Show-clause-answer g c = rw c.in-Show.is (λ told. c.show.ensures.answer (g.W.Files.told c.args.dest.now []) told)
+pub returns-in-Stop-clause-performed : goal.returns-in-Stop-clause-performed
+returns-in-Stop-clause-performed g c = rw c.in-Stop.is c.stop.ensures.performed
 
-pub returns-in-Run-clause-answer : goal.returns-in-Run-clause-answer
-returns-in-Run-clause-answer g c = rw c.in-Run.is c.run_and_show.ensures.answer
+pub returns-in-Make-clause-performed : goal.returns-in-Make-clause-performed
+returns-in-Make-clause-performed g c =
+    rw c.in-Make.is
+    (record {
+      answer = λ told. c.make.ensures.answer (g.F.Files.told c.args.files.now);
+      read = record { later = omega arith; failed = λ is. absurd (late_not_read c.make.result c.make.ensures.late is) };
+      write = c.make.ensures.write;
+      unwritten = late_writes (Make _ _) c.make.result c.make.ensures.late;
+      stays = record { files_told = refl; files_writes = refl; dest_reads = c.make.ensures.dest_reads; others = c.make.ensures.others };
+    })
+
+pub returns-in-Show-clause-performed : goal.returns-in-Show-clause-performed
+returns-in-Show-clause-performed g c =
+    rw c.in-Show.is
+    (record {
+      answer = λ told. c.show.ensures.answer (g.W.Files.told c.args.dest.now []) told;
+      read = c.show.ensures.read;
+      write = record { later = omega arith; failed = λ is. absurd (c.show.ensures.write is) };
+      unwritten = same_told _ _ c.show.result;
+      stays = record { files_told = c.show.ensures.files_told; files_writes = c.show.ensures.files_writes; dest_reads = refl; others = λ other not. refl };
+    })
+
+pub returns-in-Run-clause-performed : goal.returns-in-Run-clause-performed
+returns-in-Run-clause-performed g c = rw c.in-Run.is c.run_and_show.ensures.performed
+
+pub returns-in-Faulty-clause-performed : goal.returns-in-Faulty-clause-performed
+returns-in-Faulty-clause-performed g c =
+    rw c.in-Faulty.is
+    (record {
+      answer = λ told. inl (None, refl, refl);
+      read = record { later = omega arith; failed = λ is. absurd is };
+      write = record { later = omega arith; failed = λ is. absurd (cc) };
+      unwritten = λ is. refl;
+      stays = record { files_told = refl; files_writes = refl; dest_reads = refl; others = λ other not. refl };
+    })
 
 -- whatever the result is, the command prints a report
 by_show : {C : Type 0} (r : Result (Vec ℕ) Refusal) → ((x : Refusal) → IsOfCore (status_of x) → C) → IfErr r (λ x. IsOfCore (status_of x) → C)

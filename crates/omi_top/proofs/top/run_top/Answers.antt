@@ -1,8 +1,10 @@
-use Rattle.std.proofs.Common.{◌≡◌, ◌∙◌, ap, Some}
+use Rattle.std.proofs.Common.{◌≡◌, ◌∙◌, ℕ, List, ap, subst, Some}
+use Rattle.omi_outside.specs.declared.status.Status.TheVariants as status
+use Rattle.omi_verbs.specs.Statuses.{IsOfCore}
 use Rattle.omi_top.specs.Asked.{asked}
-use Rattle.omi_top.specs.Answer.{AreTold, IsLeft}
+use Rattle.omi_top.specs.Answer.{AreTold, IsLeft, IsUnwritten}
 use Rattle.omi_verbs.specs.Said.{IsCounted}
-use Rattle.omi_top.specs.Command.{Command, Stop, Make, Show, Run, command_by, command_in, written_name}
+use Rattle.omi_top.specs.Command.{Command, Stop, Make, Show, Run, Faulty, ReadsCore, Writes, command_by, command_in, written_name}
 use Rattle.omi_top.proofs.Left.{left_by}
 use Rattle.omi_top.proofs.LeftByShow.{no_file as no_core, core_refused, incompatible, damaged, report_put, shown, shown_again, shown_reached}
 use Rattle.omi_top.proofs.LeftByRun.{core_refused as run_core_refused, damaged as run_damaged, incompatible as run_incompatible, no_file as run_no_file, put_report, script_refused as run_script_refused, shown as run_shown, wrote}
@@ -25,7 +27,7 @@ left_of : (g : given.Over) (c : Joined-line g) (command : Command) → asked c.r
     → IsLeft command (g.F.Files.told c.args.files.now) c.carry_out.result (g.W.Files.told c.args.dest.now (written_name command)) (g.W.Files.told c.carry_out.new.dest (written_name command)) (counted g c) (g.K.Sink.told c.args.out.now) (g.K.Sink.told c.carry_out.new.out)
 left_of g c command is =
     left_by (asked c.request_of.result) command c.carry_out.result (g.F.Files.told c.args.files.now) (g.W.Files.told c.args.dest.now) (g.W.Files.told c.carry_out.new.dest) (counted g c) (g.K.Sink.told c.args.out.now) (g.K.Sink.told c.carry_out.new.out)
-    is c.carry_out.ensures.left
+    is c.carry_out.ensures.left.left
 
 pub returns-in-Ok-clause-left : goal.returns-in-Ok-clause-left
 returns-in-Ok-clause-left g c = left_of g c _ (asked_is g c)
@@ -92,3 +94,23 @@ returns-in-Ok-clause-run_report g c = λ plan script core text bytes command tol
 
 pub returns-in-Ok-clause-run_shown : goal.returns-in-Ok-clause-run_shown
 returns-in-Ok-clause-run_shown g c = λ plan script core text bytes command told back same. run_shown plan script core (g.F.Files.told c.args.files.now) _ _ _ _ _ text bytes told back same _ (left_of g c (Run plan script core) (asked_is g c ∙ command) ((Some text, told), (Some bytes, back)))
+
+-- ---- the causes, of the words' command
+
+-- what is said of the request is said of the words' command
+of_words : (g : given.Over) (c : Joined-line g) (P : Command → Type 0) → P (asked c.request_of.result) → P (command_in c.args.words.now)
+of_words g c P is = subst P (asked_is g c) is
+
+pub returns-in-Ok-clause-of_core : goal.returns-in-Ok-clause-of_core
+returns-in-Ok-clause-of_core g c = of_words g c (λ k. IsOfCore c.carry_out.result → ReadsCore k) c.carry_out.ensures.left.of_core
+
+pub returns-in-Ok-clause-usage : goal.returns-in-Ok-clause-usage
+returns-in-Ok-clause-usage g c = of_words g c (λ k. c.carry_out.result ≡ status.Usage → k ≡ Faulty) c.carry_out.ensures.left.usage
+
+pub returns-in-Ok-clause-unwritten : goal.returns-in-Ok-clause-unwritten
+returns-in-Ok-clause-unwritten g c =
+    of_words g c (λ k. IsUnwritten k c.carry_out.result → g.W.Files.told c.carry_out.new.dest ≡ g.W.Files.told c.args.dest.now) c.carry_out.ensures.left.unwritten
+
+pub returns-in-Ok-clause-others : goal.returns-in-Ok-clause-others
+returns-in-Ok-clause-others g c =
+    of_words g c (λ k. (other : List ℕ) → (Writes k other → ⊥) → g.W.Files.told c.carry_out.new.dest other ≡ g.W.Files.told c.args.dest.now other) c.carry_out.ensures.left.stays.others
