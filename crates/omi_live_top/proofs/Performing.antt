@@ -1,5 +1,5 @@
 -- The exits of a command: what each result is an answer to.
-use Rattle.std.proofs.Common.{◌≡◌, inr, ℕ, List, Option, Ok, Err, refl}
+use Rattle.std.proofs.Common.{◌≡◌, inl, inr, subst, ℕ, List, Option, Ok, Err, refl}
 use Rattle.std.specs.Global.{Vec}
 use Rattle.omi_outside.specs.Outside.{Told, holding, IsCut}
 use Rattle.omi_outside.specs.declared.files.Refused.{Refused as RefusedWrite}
@@ -7,7 +7,12 @@ use Rattle.omi_outside.specs.declared.files.Refused.TheVariants as refused
 use Rattle.omi_script.specs.declared.program.Program.{Program}
 use Rattle.omi_verbs.specs.Refusal.{refusal_of_write, status_of}
 use Rattle.omi_verbs.specs.Scripts.{IsProgramIn}
-use Rattle.omi_verbs.proofs.Elsewhere.{late}
+use Rattle.omi_outside.specs.declared.status.Status.{Status}
+use Rattle.omi_outside.specs.declared.status.Status.TheVariants as status
+use Rattle.omi_verbs.specs.Statuses.{IsOfCore, IsPrinting}
+use Rattle.omi_verbs.specs.declared.refusal.Refusal.{Refusal}
+use Rattle.omi_verbs.specs.declared.refusal.Refusal.TheVariants as refusal
+use Rattle.omi_verbs.proofs.Elsewhere.{late, late_not_of_core, late_not_usage, never_elsewhere, never_of_core, of_usage}
 use Rattle.omi_live_top.specs.Answer.{IsLiveAnswered, IsOfRun, IsLiveUnwritten}
 use Rattle.omi_live_top.specs.Command.{LiveCommand}
 use Rattle.omi_live_top.specs.Run.{IsLiveRun}
@@ -28,3 +33,19 @@ module _ (command : LiveCommand) (content : Option (List ℕ)) (old new : Told) 
 pub never_unwritten : (r : RefusedWrite) → IsLiveUnwritten (status_of (refusal_of_write r)) → ⊥
 never_unwritten refused.Failed unwritten = unwritten
 never_unwritten refused.OutOfMemory unwritten = unwritten
+
+-- ---- what the status of a run is not
+
+pub run_not_of_core : (r : Refusal) → IsOfRun r → IsOfCore (status_of r) → ⊥
+run_not_of_core r (inl script) is = never_of_core r script is
+run_not_of_core r (inr written) is = late_not_of_core r written is
+
+pub run_not_usage : (r : Refusal) → IsOfRun r → status_of r ≡ status.Usage → ⊥
+run_not_usage r (inl script) is = never_elsewhere r refusal.Usage script refl (of_usage r is)
+run_not_usage r (inr written) is = late_not_usage r written is
+
+-- a text that was printed comes behind all that is written
+pub printing_writes : (s : Status) → IsPrinting s → IsLiveUnwritten s → ⊥
+printing_writes s (inl e) unwritten = let P : Status → Type 0 = λ x. IsLiveUnwritten x in subst P e unwritten
+printing_writes s (inr (inl e)) unwritten = let P : Status → Type 0 = λ x. IsLiveUnwritten x in subst P e unwritten
+printing_writes s (inr (inr e)) unwritten = let P : Status → Type 0 = λ x. IsLiveUnwritten x in subst P e unwritten

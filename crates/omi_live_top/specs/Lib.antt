@@ -4,5 +4,6 @@ pub mod Command
 pub mod Lines
 pub mod Run
 pub mod Answer
--- What private functions of the code stand on: a request as a command
+-- What private functions of the code stand on: a request as a command, and what the layers of the top call say alike
 pub mod Asked
+pub mod Causes

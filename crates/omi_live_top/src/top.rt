@@ -11,6 +11,8 @@ ghost use Rattle.omi_verbs.specs.Said.{IsCounted, IsSaid};
 ghost use Rattle.omi_verbs.specs.Statuses.{ComesWhere, IsOfCore};
 ghost use Rattle.omi_live_top.specs.Answer.{IsLiveAnswered, IsLiveLeft, IsOfRun, IsLiveUnwritten};
 ghost use Rattle.omi_live_top.specs.Asked.{asked, IsPossible};
+ghost use Rattle.omi_live_top.specs.Causes.{LiveConcluded};
+ghost use Rattle.omi_verbs.specs.Seen.{files_seen, output_seen};
 ghost use Rattle.omi_live_top.specs.Command.{LiveCommand, LiveWrites, live_command_in};
 ghost use Rattle.omi_live_top.specs.Run.{IsLiveRun};
 
@@ -64,25 +66,11 @@ fn carry_out_in<R: Threads + Sync, F: Files, K: Sink, G: Gate>(
     requires empty { string_bytes room.old ≡ [] }
     requires enough { HasRoom request.names.script.now request.names.core.now
         (string_capacity room.old) }
-    ensures of_core { IsOfCore result → ⊥ }
-    ensures usage { result ≢ Status.Usage }
-    ensures read_fault { result ≡ Status.ReadFault → Rose (F.reads files.old) (F.reads files.new) }
-    ensures write_fault { result ≡ Status.WriteFault
-        → Rose (F.writes files.old) (F.writes files.new)
-        ⊎ Rose (K.faults out.old) (K.faults out.new) }
-    ensures left { let command = asked request.entry in (content : Option (List ℕ))
-        → F.told files.old command.script ≡ Some content
-        → IsLiveLeft command content result (F.told files.old command.core)
-        (F.told files.new command.core)
-        (IsCounted (K.faults out.old) (K.faults out.new) (K.wants out.old) (K.wants out.new))
-        (K.told out.old) (K.told out.new) }
-    ensures unwritten { IsLiveUnwritten result → F.told files.new ≡ F.told files.old }
-    ensures others { let command = asked request.entry in (other : List ℕ) → other ≢ command.core
-        → F.told files.new other ≡ F.told files.old other }
-    ensures reads { F.reads files.old ≤ F.reads files.new }
-    ensures writes { F.writes files.old ≤ F.writes files.new }
-    ensures faults { K.faults out.old ≤ K.faults out.new }
-    ensures wants { K.wants out.old ≤ K.wants out.new }
+    ensures { LiveConcluded (asked request.entry) result
+        (files_seen (F.told files.old) (F.reads files.old) (F.writes files.old))
+        (files_seen (F.told files.new) (F.reads files.new) (F.writes files.new))
+        (output_seen (K.told out.old) (K.faults out.old) (K.wants out.old))
+        (output_seen (K.told out.new) (K.faults out.new) (K.wants out.new)) }
 {
     match perform(rt, alloc, request, files, gate) {
         Ok(text) => print(&text, out),
@@ -100,25 +88,11 @@ fn carry_out<R: Threads + Sync, F: Files, K: Sink, G: Gate>(
     gate: &G,
 ) -> Status
     requires { IsPossible request.plan }
-    ensures of_core { IsOfCore result → ⊥ }
-    ensures usage { result ≢ Status.Usage }
-    ensures read_fault { result ≡ Status.ReadFault → Rose (F.reads files.old) (F.reads files.new) }
-    ensures write_fault { result ≡ Status.WriteFault
-        → Rose (F.writes files.old) (F.writes files.new)
-        ⊎ Rose (K.faults out.old) (K.faults out.new) }
-    ensures left { let command = asked request.entry in (content : Option (List ℕ))
-        → F.told files.old command.script ≡ Some content
-        → IsLiveLeft command content result (F.told files.old command.core)
-        (F.told files.new command.core)
-        (IsCounted (K.faults out.old) (K.faults out.new) (K.wants out.old) (K.wants out.new))
-        (K.told out.old) (K.told out.new) }
-    ensures unwritten { IsLiveUnwritten result → F.told files.new ≡ F.told files.old }
-    ensures others { let command = asked request.entry in (other : List ℕ) → other ≢ command.core
-        → F.told files.new other ≡ F.told files.old other }
-    ensures reads { F.reads files.old ≤ F.reads files.new }
-    ensures writes { F.writes files.old ≤ F.writes files.new }
-    ensures faults { K.faults out.old ≤ K.faults out.new }
-    ensures wants { K.wants out.old ≤ K.wants out.new }
+    ensures { LiveConcluded (asked request.entry) result
+        (files_seen (F.told files.old) (F.reads files.old) (F.writes files.old))
+        (files_seen (F.told files.new) (F.reads files.new) (F.writes files.new))
+        (output_seen (K.told out.old) (K.faults out.old) (K.wants out.old))
+        (output_seen (K.told out.new) (K.faults out.new) (K.wants out.new)) }
 {
     match room_for(alloc, request.names) {
         Ok(mut room) => carry_out_in(rt, alloc, request, &mut room, files, out, gate),

@@ -33,7 +33,7 @@ pub record Performed (command : Command) (result : Result (Vec ℕ) Refusal) (fi
   pub stays : Stays command files files_now dest dest_now
 
 -- what a call left, and the cause of its status
-pub record Left (command : Command) (result : Status) (files files_now dest dest_now : SeenFiles) (out out_now : SeenOutput) : Type 0 where
+pub record Concluded (command : Command) (result : Status) (files files_now dest dest_now : SeenFiles) (out out_now : SeenOutput) : Type 0 where
   pub of_core : IsOfCore result → ReadsCore command
   pub usage : result ≡ status.Usage → command ≡ Faulty
   pub read_fault : result ≡ status.ReadFault → Rose files.reads files_now.reads

@@ -11,7 +11,7 @@ ghost use Rattle.omi_script.specs.declared.program.Program.{Program};
 ghost use Rattle.omi_top.specs.Command.{Stop, Make, Show, Run, Faulty, ReadsCore, command_in, core_name, script_name, written_name, Writes};
 ghost use Rattle.omi_top.specs.declared.plan.Plan.{Plan};
 ghost use Rattle.omi_top.specs.Asked.{asked, IsBounded};
-ghost use Rattle.omi_top.specs.Causes.{Left, Performed};
+ghost use Rattle.omi_top.specs.Causes.{Concluded, Performed};
 ghost use Rattle.omi_verbs.specs.Seen.{files_seen, output_seen};
 ghost use Rattle.omi_verbs.specs.Refusal.{HasRoom, status_of};
 ghost use Rattle.omi_top.specs.Answer.{AreTold, IsStopped, IsLeft, IsUnwritten, ComesBehind, IsReadBackStatus, IsReportOf, IsRunShown, IsShown, IsWritingStatus};
@@ -79,7 +79,7 @@ fn carry_out_in<F: Files, W: Files, K: Sink>(
     requires empty { string_bytes room.old ≡ [] }
     requires enough { HasRoom (script_name (asked request)) (core_name (asked request))
         (string_capacity room.old) }
-    ensures { Left (asked request.entry) result
+    ensures { Concluded (asked request.entry) result
         (files_seen (F.told files.old) (F.reads files.old) (F.writes files.old))
         (files_seen (F.told files.new) (F.reads files.new) (F.writes files.new))
         (files_seen (W.told dest.old) (W.reads dest.old) (W.writes dest.old))
@@ -102,7 +102,7 @@ fn carry_out<F: Files, W: Files, K: Sink>(
     out: &mut K,
 ) -> Status
     requires { IsBounded request }
-    ensures left { Left (asked request.entry) result
+    ensures concluded { Concluded (asked request.entry) result
         (files_seen (F.told files.old) (F.reads files.old) (F.writes files.old))
         (files_seen (F.told files.new) (F.reads files.new) (F.writes files.new))
         (files_seen (W.told dest.old) (W.reads dest.old) (W.writes dest.old))

@@ -1,12 +1,14 @@
--- What the refusal of a script or of a write is not.
-use Rattle.std.proofs.Common.{◌≡◌, ◌∙◌, ℕ, Bool, true, false, Ok, Err, refl, sym, ap}
-use Rattle.std.specs.Prelude.{Result}
+-- What a refusal of a script, a refused write and a printed text are not, and what a status says of the refusal behind it.
+use Rattle.std.proofs.Common.{◌≡◌, ◌∙◌, inl, inr, ℕ, Bool, true, false, Ok, Err, refl, sym, ap}
+use Rattle.std.specs.Prelude.{Result, IsErrAnd, IsErrOf}
 use Rattle.std.specs.Global.{Vec}
 use Rattle.omi_outside.specs.declared.files.Refused.{Refused as RefusedWrite}
 use Rattle.omi_outside.specs.declared.files.Refused.TheVariants as refused
+use Rattle.omi_outside.specs.declared.status.Status.{Status}
+use Rattle.omi_outside.specs.declared.status.Status.TheVariants as status
 use Rattle.omi_verbs.specs.Refusal.{IsLate, IsReadFault, refusal_of_write, status_of}
 use Rattle.omi_verbs.specs.Scripts.{IsOfScript}
-use Rattle.omi_verbs.specs.Statuses.{IsOfCore}
+use Rattle.omi_verbs.specs.Statuses.{IsOfCore, IsPrinting}
 use Rattle.omi_verbs.specs.declared.refusal.Refusal.{Refusal}
 use Rattle.omi_verbs.specs.declared.refusal.Refusal.TheVariants as refusal
 
@@ -71,3 +73,48 @@ write_not_of_core refused.OutOfMemory is = is
 pub late : (r : RefusedWrite) → IsLate (refusal_of_write r)
 late refused.Failed = tt
 late refused.OutOfMemory = tt
+
+-- ---- a text that was printed, whole or in part
+
+abbrev is_printing : Status → Bool
+is_printing status.Success = true
+is_printing status.WriteFault = true
+is_printing status.OutOfMemory = true
+is_printing other = false
+
+printing : (s : Status) → IsPrinting s → is_printing s ≡ true
+printing s (inl e) = ap is_printing e
+printing s (inr (inl e)) = ap is_printing e
+printing s (inr (inr e)) = ap is_printing e
+
+-- its status is none of another kind
+pub never_printing : (s other : Status) → IsPrinting s → is_printing other ≡ false → s ≡ other → ⊥
+never_printing s other printed not is = let both : false ≡ true = sym not ∙ ap is_printing (sym is) ∙ printing s printed in cc both
+
+-- ---- the refusal that a status stands for
+
+abbrev ended : Refusal → Result (Vec ℕ) Refusal
+ended r = Err r
+
+pub of_usage : (r : Refusal) → status_of r ≡ status.Usage → IsErrOf (ended r) refusal.Usage
+of_usage refusal.Usage is = refl
+of_usage r is = absurd (cc)
+
+pub of_read : (r : Refusal) → status_of r ≡ status.ReadFault → IsErrAnd (ended r) IsReadFault
+of_read (refusal.ReadFault read) is = tt
+of_read r is = absurd (cc)
+
+pub of_write : (r : Refusal) → status_of r ≡ status.WriteFault → IsErrOf (ended r) refusal.WriteFault
+of_write refusal.WriteFault is = refl
+of_write r is = absurd (cc)
+
+-- ---- a fault of writing, or want of memory
+
+pub late_not_usage : (r : Refusal) → IsLate r → status_of r ≡ status.Usage → ⊥
+late_not_usage refusal.Usage late is = late
+late_not_usage r late is = cc
+
+pub late_not_of_core : (r : Refusal) → IsLate r → IsOfCore (status_of r) → ⊥
+late_not_of_core refusal.WriteFault late is = is
+late_not_of_core refusal.OutOfMemory late is = is
+late_not_of_core r late is = late

@@ -2,8 +2,8 @@ use Rattle.std.proofs.Common.{None, arith, refl}
 use Rattle.omi_verbs.specs.declared.refusal.Refusal.TheVariants as refusal
 use Rattle.omi_top.proofs.top.carry_out.Goals as goal
 
-pub returns-in-Faulty-clause-left : goal.returns-in-Faulty-clause-left
-returns-in-Faulty-clause-left g c =
+pub returns-in-Faulty-clause-concluded : goal.returns-in-Faulty-clause-concluded
+returns-in-Faulty-clause-concluded g c =
     rw (c.in-Faulty.is, c.refuse_words.ensures.status)
     (record {
       of_core = λ is. absurd is;

@@ -3,7 +3,8 @@ use Rattle.omi_outside.specs.declared.status.Status.TheVariants as status
 use Rattle.omi_verbs.specs.Refusal.{refusal_line}
 use Rattle.omi_verbs.specs.Said.{IsCounted, IsSaid}
 use Rattle.omi_top.specs.Asked.{asked}
-use Rattle.omi_top.proofs.Causes.{never_printing, of_read, of_usage, of_write, printing_writes}
+use Rattle.omi_verbs.proofs.Elsewhere.{never_printing, of_read, of_usage, of_write}
+use Rattle.omi_top.proofs.Causes.{printing_writes}
 use Rattle.omi_top.proofs.Left.{ok_left, err_left}
 use Rattle.omi_top.proofs.top.carry_out_in.Goals as goal
 

@@ -27,7 +27,7 @@ left_of : (g : given.Over) (c : Joined-line g) (command : Command) → asked c.r
     → IsLeft command (g.F.Files.told c.args.files.now) c.carry_out.result (g.W.Files.told c.args.dest.now (written_name command)) (g.W.Files.told c.carry_out.new.dest (written_name command)) (counted g c) (g.K.Sink.told c.args.out.now) (g.K.Sink.told c.carry_out.new.out)
 left_of g c command is =
     left_by (asked c.request_of.result) command c.carry_out.result (g.F.Files.told c.args.files.now) (g.W.Files.told c.args.dest.now) (g.W.Files.told c.carry_out.new.dest) (counted g c) (g.K.Sink.told c.args.out.now) (g.K.Sink.told c.carry_out.new.out)
-    is c.carry_out.ensures.left.left
+    is c.carry_out.ensures.concluded.left
 
 pub returns-in-Ok-clause-left : goal.returns-in-Ok-clause-left
 returns-in-Ok-clause-left g c = left_of g c _ (asked_is g c)
@@ -102,15 +102,15 @@ of_words : (g : given.Over) (c : Joined-line g) (P : Command → Type 0) → P (
 of_words g c P is = subst P (asked_is g c) is
 
 pub returns-in-Ok-clause-of_core : goal.returns-in-Ok-clause-of_core
-returns-in-Ok-clause-of_core g c = of_words g c (λ k. IsOfCore c.carry_out.result → ReadsCore k) c.carry_out.ensures.left.of_core
+returns-in-Ok-clause-of_core g c = of_words g c (λ k. IsOfCore c.carry_out.result → ReadsCore k) c.carry_out.ensures.concluded.of_core
 
 pub returns-in-Ok-clause-usage : goal.returns-in-Ok-clause-usage
-returns-in-Ok-clause-usage g c = of_words g c (λ k. c.carry_out.result ≡ status.Usage → k ≡ Faulty) c.carry_out.ensures.left.usage
+returns-in-Ok-clause-usage g c = of_words g c (λ k. c.carry_out.result ≡ status.Usage → k ≡ Faulty) c.carry_out.ensures.concluded.usage
 
 pub returns-in-Ok-clause-unwritten : goal.returns-in-Ok-clause-unwritten
 returns-in-Ok-clause-unwritten g c =
-    of_words g c (λ k. IsUnwritten k c.carry_out.result → g.W.Files.told c.carry_out.new.dest ≡ g.W.Files.told c.args.dest.now) c.carry_out.ensures.left.unwritten
+    of_words g c (λ k. IsUnwritten k c.carry_out.result → g.W.Files.told c.carry_out.new.dest ≡ g.W.Files.told c.args.dest.now) c.carry_out.ensures.concluded.unwritten
 
 pub returns-in-Ok-clause-others : goal.returns-in-Ok-clause-others
 returns-in-Ok-clause-others g c =
-    of_words g c (λ k. (other : List ℕ) → (Writes k other → ⊥) → g.W.Files.told c.carry_out.new.dest other ≡ g.W.Files.told c.args.dest.now other) c.carry_out.ensures.left.stays.others
+    of_words g c (λ k. (other : List ℕ) → (Writes k other → ⊥) → g.W.Files.told c.carry_out.new.dest other ≡ g.W.Files.told c.args.dest.now other) c.carry_out.ensures.concluded.stays.others
