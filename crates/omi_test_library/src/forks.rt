@@ -16,9 +16,9 @@ use omi_calls::ToHost;
 use omi_handle::{RegionHandle, TaskHandle, ThreadHandle};
 use omi_model::{Id, Rid, Tid};
 use omi_session::Rc;
+use omi_test_rows::{A_TEAM_OF_TWO, AN_EMPTY_RUN};
 use omi_test_targets::{
-    A_TEAM_OF_TWO, AN_EMPTY_RUN, Asked, BIG, ByteOrder, LITTLE, Opened, Stopped, Wrong, after,
-    at_fork, core_at, few, open,
+    Asked, BIG, ByteOrder, LITTLE, Opened, Stopped, Wrong, after, at_fork, core_at, few, open,
 };
 use std::alloc::Global;
 use std::test::Fail;

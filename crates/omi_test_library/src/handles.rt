@@ -16,9 +16,9 @@ use omi_calls::{Table, ToHost};
 use omi_handle::{Held, Kind, RegionHandle, TaskHandle, ThreadHandle};
 use omi_layout::Field;
 use omi_session::{Rc, lead};
+use omi_test_rows::A_TEAM_OF_TWO;
 use omi_test_targets::{
-    A_TEAM_OF_TWO, Asked, LITTLE, Opened, Stopped, Target, Wrong, after, at_fork, core_at, few,
-    library, open,
+    Asked, LITTLE, Opened, Stopped, Target, Wrong, after, at_fork, core_at, few, library, open,
 };
 use std::alloc::Global;
 use std::cmp::Ordering;

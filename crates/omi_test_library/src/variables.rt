@@ -13,10 +13,8 @@ use omi_icv::{
     get_icv_string_from_scope, get_state, get_tool_data,
 };
 use omi_session::Rc;
-use omi_test_targets::{
-    A_TEAM_OF_TWO, AN_EMPTY_RUN, Asked, LITTLE, Opened, Stopped, Wrong, after, at_fork, core_at,
-    few, open,
-};
+use omi_test_rows::{A_TEAM_OF_TWO, AN_EMPTY_RUN};
+use omi_test_targets::{Asked, LITTLE, Opened, Stopped, Wrong, after, at_fork, core_at, few, open};
 use std::alloc::Global;
 use std::test::Fail;
 

@@ -7,9 +7,9 @@ ghost use Rattle.omi_calls.specs.Kept.{GivesNumbers, TakesAll};
 use omi_calls::ToHost;
 use omi_corefile::CoreImage;
 use omi_layout::Field;
+use omi_test_rows::A_TEAM_OF_TWO;
 use omi_test_targets::{
-    A_TEAM_OF_TWO, Asked, BIG, ByteOrder, LITTLE, Stopped, Words, Wrong, at_fork, core_at, few,
-    library, open,
+    Asked, BIG, ByteOrder, LITTLE, Stopped, Words, Wrong, at_fork, core_at, few, library, open,
 };
 use omi_text::report_text;
 use omi_walk::{WalkFault, walk};

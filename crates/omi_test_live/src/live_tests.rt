@@ -9,14 +9,12 @@ use omi_live::{LiveEnd, live};
 use omi_outside::{FreeGate, Gate};
 use omi_rep::suits;
 use omi_script::parse;
+use omi_test_rows::A_TEAM_OF_TWO;
 use std::alloc::Global;
 use std::sync::atomic::AtomicU64;
 use std::sync::atomic::Ordering::SeqCst;
 use std::test::Fail;
 use std::thread::Threads;
-
-/// A team of two threads over a function that works.
-const A_TEAM_OF_TWO: &str = "threads 2\nfunc f\nwork\nend\nfunc main\nparallel f num 2\nend\n";
 
 /// A team of one thread.
 const A_TEAM_OF_ONE: &str = "threads 1\nfunc f\nwork\nend\nfunc main\nparallel f num 1\nend\n";

@@ -2,31 +2,12 @@
 
 use omi_live_top::live_top;
 use omi_outside::{Call, FreeGate, MemFiles, MemSink, Status};
+use omi_test_rows::{A_FULL_ROW, A_TEAM_OF_TWO};
 use omi_top::run_top;
 use std::alloc::{AllocError, Global};
 use std::process::Abort;
 use std::test::Fail;
 use std::thread::Threads;
-
-/// A team of two threads over a function that works.
-const A_TEAM: &str = "threads 2\nfunc f\nwork\nend\nfunc main\nparallel f num 2\nend\n";
-
-/// One thread, and more tasks than slots for them.
-const A_FULL_ROW: &str = "threads 1
-func t
-work
-end
-func main
-task t
-task t
-task t
-task t
-task t
-task t
-task t
-task t
-end
-";
 
 /// The report of a team's opening.
 const OPENING: &str = "ompd 201811 threads 2 debug enabled
@@ -116,7 +97,7 @@ fn inspect(alloc: Global, line: &str, files: &mut MemFiles) -> Result<Done, Allo
 #[test]
 fn no_budget_is_the_opening(rt: HostRuntime) -> Result<(), Fail> {
     let alloc = rt.alloc();
-    let mut done = call(&rt, alloc, "0 s c", A_TEAM, None, Vec::new(alloc))?;
+    let mut done = call(&rt, alloc, "0 s c", A_TEAM_OF_TWO, None, Vec::new(alloc))?;
     assert_eq!(&rt; done.status, Status::Success);
     let printed = done.printed(alloc)?;
     assert_eq!(&rt;
@@ -124,7 +105,7 @@ fn no_budget_is_the_opening(rt: HostRuntime) -> Result<(), Fail> {
         "thread 0 steps 0\nthread 1 steps 0\nend budget 0\n"
     );
     assert!(&rt; done.holds("other", b"stays"));
-    assert!(&rt; done.holds("s", A_TEAM.as_bytes()));
+    assert!(&rt; done.holds("s", A_TEAM_OF_TWO.as_bytes()));
     let shown = inspect(alloc, "show c", &mut done.files)?;
     let report = shown.printed(alloc)?;
     assert_eq!(&rt; report.as_str(), OPENING);
@@ -170,7 +151,7 @@ fn lines_of<'a>(printed: &'a str, thread: &str) -> Option<&'a str> {
 fn a_break_is_printed_last(rt: HostRuntime) -> Result<(), Fail> {
     let alloc = rt.alloc();
     let line = "50000 s c --break parallel_begin";
-    let mut done = call(&rt, alloc, line, A_TEAM, None, Vec::new(alloc))?;
+    let mut done = call(&rt, alloc, line, A_TEAM_OF_TWO, None, Vec::new(alloc))?;
     assert_eq!(&rt; done.status, Status::Success);
     let printed = done.printed(alloc)?;
     let first = lines_of(&printed, "thread 0 steps ").ok_or("no thread")?;
@@ -213,7 +194,7 @@ fn refused_words(rt: HostRuntime) -> Result<(), Fail> {
         "5 s c --layout 16",
         "5 s c --budget 1",
     ] {
-        let done = call(&rt, alloc, line, A_TEAM, None, Vec::new(alloc))?;
+        let done = call(&rt, alloc, line, A_TEAM_OF_TWO, None, Vec::new(alloc))?;
         expect(&rt, alloc, &done, Status::Usage, "usage\n")?;
     }
     Ok(())
@@ -222,7 +203,7 @@ fn refused_words(rt: HostRuntime) -> Result<(), Fail> {
 #[test]
 fn refused_scripts(rt: HostRuntime) -> Result<(), Fail> {
     let alloc = rt.alloc();
-    let done = call(&rt, alloc, "5 t c", A_TEAM, None, Vec::new(alloc))?;
+    let done = call(&rt, alloc, "5 t c", A_TEAM_OF_TWO, None, Vec::new(alloc))?;
     expect(&rt, alloc, &done, Status::NoFile, "no file t\n")?;
     let done = call(
         &rt,
@@ -246,14 +227,21 @@ fn refused_scripts(rt: HostRuntime) -> Result<(), Fail> {
 fn failing_calls(rt: HostRuntime) -> Result<(), Fail> {
     let alloc = rt.alloc();
     for kind in [Call::Size, Call::ReadAt] {
-        let done = call(&rt, alloc, "5 s c", A_TEAM, Some(kind), Vec::new(alloc))?;
+        let done = call(
+            &rt,
+            alloc,
+            "5 s c",
+            A_TEAM_OF_TWO,
+            Some(kind),
+            Vec::new(alloc),
+        )?;
         expect(&rt, alloc, &done, Status::ReadFault, "read fault s\n")?;
     }
     let done = call(
         &rt,
         alloc,
         "5 s c",
-        A_TEAM,
+        A_TEAM_OF_TWO,
         Some(Call::Create),
         Vec::new(alloc),
     )?;
@@ -262,7 +250,7 @@ fn failing_calls(rt: HostRuntime) -> Result<(), Fail> {
         &rt,
         alloc,
         "5 s c",
-        A_TEAM,
+        A_TEAM_OF_TWO,
         Some(Call::Append),
         Vec::new(alloc),
     )?;
@@ -270,7 +258,7 @@ fn failing_calls(rt: HostRuntime) -> Result<(), Fail> {
     assert!(&rt; done.holds("c", b""));
     let mut puts = Vec::new(alloc);
     puts.push(1)?;
-    let done = call(&rt, alloc, "0 s c", A_TEAM, None, puts)?;
+    let done = call(&rt, alloc, "0 s c", A_TEAM_OF_TWO, None, puts)?;
     assert_eq!(&rt; done.status, Status::WriteFault);
     assert!(&rt; !done.holds("c", b"before"));
     Ok(())

@@ -5,6 +5,7 @@ use omi_model::{
     ThreadRow, ThreadRows, Tid, View,
 };
 use omi_script::{NumList, kind_name};
+use omi_test_rows::FORKED;
 use omi_text::{report_text, state_name};
 use std::alloc::{AllocError, Global};
 use std::process::Abort;
@@ -203,21 +204,6 @@ fn states_are_not_kept(rt: HostRuntime) -> Result<(), Fail> {
     Ok(())
 }
 
-const COMMIT: &str = "ompd 201811 threads 2 debug enabled
-icv num-procs-var=4 max-active-levels-var=8
-thread 0 native 1000 state overhead wait 0 thread-num-var=0 current k0.1.0
-thread 1 native 1001 state idle wait 0 thread-num-var=none current none
-region r0.0.0 function 0x400010 levels-var=0 active-levels-var=0 team-size-var=1 enclosing none
-member 0 thread 0 task k0.0.0
-region r0.1.0 function 0x400000 levels-var=1 active-levels-var=1 team-size-var=2 enclosing r0.0.0
-member 0 thread 0 task k0.1.0
-member 1 thread 1 task k0.2.0
-task k0.1.0 thread 0 kind implicit region r0.1.0 function 0x400000 generating k0.0.0 scheduling k0.0.0 exit 0x7f00000fff80 enter 0x0 tool 0
-icv dyn-var=0 nthreads-var=2 run-sched-var=static,0 default-device-var=0 final-task-var=0 implicit-task-var=1
-task k0.0.0 thread 0 kind implicit region r0.0.0 function 0x400010 generating none scheduling none exit 0x7f00000fffc0 enter 0x7f00000fffa0 tool 0
-icv dyn-var=0 nthreads-var=2 run-sched-var=static,0 default-device-var=0 final-task-var=0 implicit-task-var=1
-";
-
 /// The tasks of the two threads at the commit.
 fn with_commit_tasks(alloc: Global, view: View) -> Result<View, AllocError> {
     let mut row = initial_task(alloc, 0x400000);
@@ -248,7 +234,7 @@ fn the_commit(rt: HostRuntime) -> Result<(), Fail> {
     let view = with_region(alloc, view, forked, &[(0, 1), (1, 2)])?;
     let view = with_commit_tasks(alloc, view)?;
     let text = report_text(alloc, &view)?;
-    assert_eq!(rt; text.as_slice(), COMMIT.as_bytes());
+    assert_eq!(rt; text.as_slice(), FORKED.as_bytes());
     Ok(())
 }
 

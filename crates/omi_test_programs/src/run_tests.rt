@@ -3,49 +3,39 @@
 use crate::show_tests::{core_of, with_word};
 use crate::tests::{EMPTY, call};
 use omi_outside::{Call, Status};
+use omi_test_rows::{A_TEAM_OF_TWO, FORKED};
 use std::alloc::{AllocError, Global};
 use std::process::Abort;
 use std::test::Fail;
 
-/// A team of two, of which the other member works as well. The 173rd step is its fork.
-const TEAM: &str = "threads 2
-func f
-work
-end
-func main
-parallel f num 2
-end
+/// What `run 0` of an empty script prints of its run.
+const NO_STEP: &str = "end steps 0 events 0 by steps
 ";
 
-/// What `run 0` of an empty script prints where the core that it reads back is one of the team at its fork.
-const THE_TEAM: &str = "end steps 0 events 0 by steps
-ompd 201811 threads 2 debug enabled
-icv num-procs-var=4 max-active-levels-var=8
-thread 0 native 1000 state overhead wait 0 thread-num-var=0 current k0.1.0
-thread 1 native 1001 state idle wait 0 thread-num-var=none current none
-region r0.0.0 function 0x400010 levels-var=0 active-levels-var=0 team-size-var=1 enclosing none
-member 0 thread 0 task k0.0.0
-region r0.1.0 function 0x400000 levels-var=1 active-levels-var=1 team-size-var=2 enclosing r0.0.0
-member 0 thread 0 task k0.1.0
-member 1 thread 1 task k0.2.0
-task k0.1.0 thread 0 kind implicit region r0.1.0 function 0x400000 generating k0.0.0 scheduling k0.0.0 exit 0x7f00000fff80 enter 0x0 tool 0
-icv dyn-var=0 nthreads-var=2 run-sched-var=static,0 default-device-var=0 final-task-var=0 implicit-task-var=1
-task k0.0.0 thread 0 kind implicit region r0.0.0 function 0x400010 generating none scheduling none exit 0x7f00000fffc0 enter 0x7f00000fffa0 tool 0
-icv dyn-var=0 nthreads-var=2 run-sched-var=static,0 default-device-var=0 final-task-var=0 implicit-task-var=1
-";
+/// The bytes are these texts, one behind the other.
+fn are(bytes: &[u8], texts: &[&str]) -> bool {
+    let mut left = bytes;
+    for text in texts {
+        let Some(rest) = left.strip_prefix(text.as_bytes()) else {
+            return false;
+        };
+        left = rest;
+    }
+    left.is_empty()
+}
 
-/// `run 0` of an empty script over these bytes under `c` ends with this status and puts this text. It leaves the core of its own run.
+/// `run 0` of an empty script over these bytes under `c` ends with this status and puts these texts. It leaves the core of its own run.
 fn expect_back(
     rt: &impl Abort,
     alloc: Global,
     core: Option<&[u8]>,
     status: Status,
-    text: &str,
+    texts: &[&str],
 ) -> Result<(), AllocError> {
     let line = ["run", "0", "s", "c"];
     let done = call(alloc, &line, (EMPTY, core), &[], &[], &[])?;
     assert_eq!(rt; done.status, status);
-    assert_eq!(rt; done.out.bytes(), text.as_bytes());
+    assert!(rt; are(done.out.bytes(), texts));
     let own = core_of(alloc, "0", EMPTY)?;
     assert_eq!(rt; done.dest.bytes("c"), Some(own.as_slice()));
     assert_eq!(rt; done.dest.bytes("other"), Some(b"stays".as_slice()));
@@ -56,8 +46,8 @@ fn expect_back(
 #[test]
 fn what_is_read_back(rt: HostRuntime) -> Result<(), Fail> {
     let alloc = rt.alloc();
-    let team = core_of(alloc, "173", TEAM)?;
-    expect_back(&rt, alloc, Some(&team), Status::Success, THE_TEAM)?;
+    let team = core_of(alloc, "173", A_TEAM_OF_TWO)?;
+    expect_back(&rt, alloc, Some(&team), Status::Success, &[NO_STEP, FORKED])?;
     let own = core_of(alloc, "0", EMPTY)?;
     let circular = with_word(alloc, &own, 316, 0x109b0)?;
     expect_back(
@@ -65,10 +55,10 @@ fn what_is_read_back(rt: HostRuntime) -> Result<(), Fail> {
         alloc,
         Some(&circular),
         Status::Damaged,
-        "cycle 0x109b0\n",
+        &["cycle 0x109b0\n"],
     )?;
-    expect_back(&rt, alloc, None, Status::NoFile, "no file c\n")?;
-    expect_back(&rt, alloc, Some(b""), Status::Core, "core 0 4 Short\n")?;
+    expect_back(&rt, alloc, None, Status::NoFile, &["no file c\n"])?;
+    expect_back(&rt, alloc, Some(b""), Status::Core, &["core 0 4 Short\n"])?;
     Ok(())
 }
 

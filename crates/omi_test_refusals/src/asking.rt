@@ -15,9 +15,9 @@ use omi_calls::ToHost;
 use omi_handle::{RegionHandle, TaskHandle, ThreadHandle};
 use omi_icv::{Scoped, get_icv_from_scope, get_state, get_tool_data};
 use omi_session::Rc;
+use omi_test_rows::A_TEAM_OF_TWO;
 use omi_test_targets::{
-    A_TEAM_OF_TWO, Asked, Change, LITTLE, Opened, Stopped, Words, Wrong, at_fork, few, library,
-    open,
+    Asked, Change, LITTLE, Opened, Stopped, Words, Wrong, at_fork, few, library, open,
 };
 use std::alloc::Global;
 

@@ -4,30 +4,15 @@ use crate::compare::Look;
 use crate::lines::{begins, found, tells};
 use crate::look::{Place, RUNTIME, region_word, task_word};
 use crate::moves::follow;
-use crate::scripts::{A_CHANGED_HEAD, A_CHANGED_HEAD_OF_TEAMS, A_TEAM_OF_TWO, EMPTY};
+use crate::places::{FIFTH, FIRST, SECOND};
+use crate::scripts::{A_CHANGED_HEAD, A_CHANGED_HEAD_OF_TEAMS};
 use crate::trial::{Looks, Trial, Wrong, core_of, program_in};
 use omi_core::{Core, End, Schedule, Stop};
 use omi_layout::{Field, Layout};
 use omi_model::{Id, Rid, Tid};
+use omi_test_rows::{A_TEAM_OF_TWO, AN_EMPTY_RUN};
 use std::alloc::Global;
 use std::test::Fail;
-
-/// The record of thread 0, and those of the initial region and task.
-const FIRST: Place = Place {
-    creator: 0,
-    slot: 0,
-};
-
-/// The records of the tasks that thread 0 makes for member 0 of its first and its second team.
-const SECOND: Place = Place {
-    creator: 0,
-    slot: 1,
-};
-
-const FIFTH: Place = Place {
-    creator: 0,
-    slot: 4,
-};
 
 /// The initial region or task.
 const INITIAL: Id = Id {
@@ -141,13 +126,13 @@ impl Ended {
 
 /// Whether a run of no step has the opening words.
 fn is_empty(alloc: Global, k: u8) -> Result<bool, Wrong> {
-    let ended = run(alloc, EMPTY, k, 0)?;
+    let ended = run(alloc, AN_EMPTY_RUN, k, 0)?;
     ended.is_empty()
 }
 
 /// The number of words of a run of no step in the layout of a family.
 fn words_in(alloc: Global, k: u8) -> Result<usize, Wrong> {
-    let ended = run(alloc, EMPTY, k, 0)?;
+    let ended = run(alloc, AN_EMPTY_RUN, k, 0)?;
     Ok(ended.core.image().len())
 }
 

@@ -20,6 +20,8 @@ mod operation_tests;
 #[cfg(test)]
 mod orders;
 #[cfg(test)]
+mod places;
+#[cfg(test)]
 mod random_tests;
 #[cfg(test)]
 mod reports;

@@ -1,8 +1,8 @@
 //! The look at the words of a run sees each word that a state asks for.
 
 use crate::orders::until;
-use crate::scripts::A_TEAM_OF_TWO;
 use crate::trial::{Looks, Trial};
+use omi_test_rows::A_TEAM_OF_TWO;
 use omi_word::{Image, Op, OutOfMemory};
 use std::alloc::Global;
 use std::test::Fail;

@@ -2,10 +2,11 @@
 //! and 540, and their records have 13, 6, 13 and 26 words.
 
 use crate::moves::follow;
-use crate::scripts::{A_TEAM_OF_TWO, EACH_PLAIN_STATEMENT, TWO_TASKS};
+use crate::scripts::{EACH_PLAIN_STATEMENT, TWO_TASKS};
 use crate::trial::{Looks, Trial, Wrong};
 use omi_core::Core;
 use omi_run_lists::Made;
+use omi_test_rows::A_TEAM_OF_TWO;
 use omi_word::{Op, OutOfMemory};
 use std::alloc::Global;
 use std::test::Fail;

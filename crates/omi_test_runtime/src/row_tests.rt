@@ -4,37 +4,17 @@ use crate::lines::tells;
 use crate::look::{Place, RUNTIME};
 use crate::moves::follow;
 use crate::orders::in_turn;
+use crate::places::{FIRST, OTHER, SECOND, THIRD};
 use crate::reports::{has_lines, report};
-use crate::scripts::{A_CONTESTED_WORKER, A_TEAM_OF_TWO, LIMIT_OF_ACTIVE_LEVELS, TOO_FEW_THREADS};
+use crate::scripts::{A_CONTESTED_WORKER, LIMIT_OF_ACTIVE_LEVELS, TOO_FEW_THREADS};
 use crate::trial::{Looks, Trial, Wrong};
 use omi_layout::Field;
+use omi_test_rows::A_TEAM_OF_TWO;
 use std::alloc::Global;
 use std::test::Fail;
 
 /// More steps than come before a fork.
 const MANY: u64 = 10_000;
-
-/// The records, by the thread that makes each and its slot: the initial region or task, and those that thread 0 makes next.
-const FIRST: Place = Place {
-    creator: 0,
-    slot: 0,
-};
-
-const SECOND: Place = Place {
-    creator: 0,
-    slot: 1,
-};
-
-const THIRD: Place = Place {
-    creator: 0,
-    slot: 2,
-};
-
-/// The record of thread 1.
-const OTHER: Place = Place {
-    creator: 1,
-    slot: 0,
-};
 
 /// Byte addresses of words by their place in the image. For two threads the arenas begin at the words 99, 112, 124 and 540, and their
 /// records have 13, 6, 13 and 26 words.

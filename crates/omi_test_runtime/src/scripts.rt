@@ -1,8 +1,5 @@
 //! The workloads of the tests.
 
-/// A team of two threads over a function that works.
-pub const A_TEAM_OF_TWO: &str = "threads 2\nfunc f\nwork\nend\nfunc main\nparallel f num 2\nend\n";
-
 pub const TOO_FEW_THREADS: &str =
     "threads 3\nfunc f\nwork\nend\nfunc main\nparallel f num 4\nend\n";
 
@@ -11,9 +8,6 @@ pub const A_CONTESTED_WORKER: &str =
 
 pub const LIMIT_OF_ACTIVE_LEVELS: &str =
     "threads 2\nenv max_active_levels 1\nfunc leaf\nwork\nend\nfunc mid\nparallel leaf num 2\nend\nfunc main\nparallel mid num 2\nend\n";
-
-/// No statement, and one thread.
-pub const EMPTY: &str = "func main\nend\n";
 
 /// The head of a list of sizes is changed, and no team is made.
 pub const A_CHANGED_HEAD: &str =
@@ -46,10 +40,6 @@ pub const TWO_TASKS: &str =
 /// A task makes a task and finishes before that one starts.
 pub const AN_ENDED_ANCESTOR: &str =
     "threads 1\nfunc b\nwork\nend\nfunc a\ntask b\nend\nfunc main\ntask a\nend\n";
-
-/// More tasks than a thread has slots for deferred ones.
-pub const A_FULL_ROW: &str =
-    "threads 1\nfunc t\nwork\nend\nfunc main\ntask t\ntask t\ntask t\ntask t\ntask t\ntask t\ntask t\ntask t\nend\n";
 
 /// A team in a task of a team.
 pub const A_NESTED_CHAIN: &str =

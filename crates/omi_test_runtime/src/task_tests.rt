@@ -5,34 +5,15 @@ use crate::lines::tells;
 use crate::look::Place;
 use crate::moves::follow;
 use crate::orders::until;
+use crate::places::{FIRST, FOURTH, OTHER, THIRD};
 use crate::reports::{has_lines, report};
-use crate::scripts::{A_FULL_ROW, A_NESTED_CHAIN, AN_ENDED_ANCESTOR};
+use crate::scripts::{A_NESTED_CHAIN, AN_ENDED_ANCESTOR};
 use crate::trial::{Looks, Trial, Wrong};
 use omi_layout::Field;
 use omi_rep::Outcome;
+use omi_test_rows::A_FULL_ROW;
 use std::alloc::Global;
 use std::test::Fail;
-
-/// Records, by the thread that makes each and its slot.
-const FIRST: Place = Place {
-    creator: 0,
-    slot: 0,
-};
-
-const THIRD: Place = Place {
-    creator: 0,
-    slot: 2,
-};
-
-const FOURTH: Place = Place {
-    creator: 0,
-    slot: 3,
-};
-
-const OTHER: Place = Place {
-    creator: 1,
-    slot: 0,
-};
 
 /// More steps than a thread makes from its arrival to its first task.
 const MANY: u32 = 1_000;

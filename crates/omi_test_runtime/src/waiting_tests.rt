@@ -4,10 +4,10 @@
 use crate::moves::follow;
 use crate::orders::until;
 use crate::scripts::{
-    A_FULL_ROW, A_TASK_OF_EACH_MEMBER, A_TEAM_OF_TWO, ONE_LOCK, SIXTEEN_TEAMS, TWO_BARRIERS,
-    WAITS_FOR_TASKS,
+    A_TASK_OF_EACH_MEMBER, ONE_LOCK, SIXTEEN_TEAMS, TWO_BARRIERS, WAITS_FOR_TASKS,
 };
 use crate::trial::{Looks, Trial, Wrong};
+use omi_test_rows::{A_FULL_ROW, A_TEAM_OF_TWO};
 use std::alloc::Global;
 use std::test::Fail;
 

@@ -14,21 +14,6 @@ use omi_session::{Library, Rc, Session, initialize};
 use omi_word::{Natives, OutOfMemory};
 use std::alloc::{AllocFailed, Global};
 
-/// A script with a region of two members.
-pub const A_TEAM_OF_TWO: &str = "threads 2
-func f
-work
-end
-func main
-parallel f num 2
-end
-";
-
-/// A script without a region but the initial one.
-pub const AN_EMPTY_RUN: &str = "func main
-end
-";
-
 /// Why there is no session over a stopped run.
 #[derive(Clone, Copy, Debug, PartialEq, Eq)]
 pub enum Wrong {
