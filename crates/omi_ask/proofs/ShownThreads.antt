@@ -19,7 +19,7 @@ use Rattle.omi_session.specs.Inquiry.{live_handle, unchanged, word_of, follow, m
 use Rattle.omi_session.specs.Reads.{Answer, answer_on, then_reads}
 use Rattle.omi_session.specs.Answers as answer
 use Rattle.omi_session.specs.Shown.{ShowsTold, HoldsThread, HoldsRegion, held_thread, held_task, as_held}
-use Rattle.omi_session.proofs.ShownObjects.{thread_lives}
+use Rattle.omi_rep.proofs.LiveObjects.{thread_lives}
 use Rattle.omi_session.proofs.ShownParts.{then_answered, then_refused, word_told, handle_told, unchanged_told}
 use Rattle.omi_session.proofs.ShownAnswers.{region_member, known_member, task_thread}
 use Rattle.omi_ask.specs.Threads.{begun, has_id, first_with, thread_with, native_id, thread_of_member}

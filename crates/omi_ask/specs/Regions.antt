@@ -4,7 +4,7 @@ use Rattle.omi_handle.specs.declared.handle.Kind.TheVariants.{Region, Task}
 use Rattle.omi_handle.specs.declared.handle.Held.{Held}
 use Rattle.omi_layout.specs.declared.field.Field.TheVariants.{RegionEnclosing, TaskRegion}
 use Rattle.omi_session.specs.Reads.{Reads, then_reads}
-use Rattle.omi_session.specs.Inquiry.{object_of, follow, follow_some, current_task}
+use Rattle.omi_session.specs.Inquiry.{object_of, follow, related, current_task}
 
 module _ (w : List ℕ) where
   -- the region of a thread's current task
@@ -14,8 +14,7 @@ module _ (w : List ℕ) where
 
   -- the region that encloses a region
   unfoldable pub enclosing_region : Option Held → Reads Held
-  enclosing_region r =
-      then_reads (object_of w Region r) (λ region. follow_some w Region region.addr RegionEnclosing)
+  enclosing_region r = related w Region r Region RegionEnclosing
 
   -- the region of a task
   unfoldable pub region_of_task : Option Held → Reads Held

@@ -15,7 +15,7 @@ ghost use Rattle.omi_ask.specs.Regions as inquiry;
 use omi_calls::{Callbacks, ToHost};
 use omi_handle::{Held, Kind, RegionHandle, TaskHandle, ThreadHandle};
 use omi_layout::Field;
-use omi_session::{Rc, Session, current_task, follow, follow_some, hand_region, object};
+use omi_session::{Rc, Session, current_task, follow, hand_region, object, related};
 
 /// The region of a thread's current task.
 fn current_region<C: Callbacks, F: ToHost>(
@@ -32,23 +32,6 @@ fn current_region<C: Callbacks, F: ToHost>(
 {
     let task = current_task(s, t)?;
     follow(s, Kind::Region, task.addr, Field::TaskRegion, 0)
-}
-
-/// The region that encloses a region.
-fn enclosing_region<C: Callbacks, F: ToHost>(
-    s: &mut Session<C, F>,
-    r: RegionHandle,
-) -> Result<Held, Rc>
-    ensures answer { Answers (C.told s.old.table.calls) result
-        (inquiry.enclosing_region s.old.layout (get s.old.handles.held (r.key, r.serial))) }
-    ensures named { IfOk result (IsOfKind s.old.layout Region) }
-    ensures memory { result ≢ Err Rc.NoMem }
-    ensures same { StaysWhole C.told s.old s.new }
-    ensures cause { HasCause (C.faults s.old.table.calls) (C.faults s.new.table.calls)
-        (result ≡ Err Rc.CallbackError) }
-{
-    let region = object(s, Kind::Region, r.key, r.serial)?;
-    follow_some(s, Kind::Region, region.addr, Field::RegionEnclosing)
 }
 
 /// The region of a task.
@@ -87,6 +70,7 @@ pub fn get_curr_parallel_handle<C: Callbacks, F: ToHost>(
 }
 
 /// The region that encloses a region. Unavailable of the outermost one.
+#[tactic(auto, unfolding(crate::specs::Regions::enclosing_region))]
 pub fn get_enclosing_parallel_handle<C: Callbacks, F: ToHost>(
     s: &mut Session<C, F>,
     r: RegionHandle,
@@ -103,7 +87,8 @@ pub fn get_enclosing_parallel_handle<C: Callbacks, F: ToHost>(
     ensures cause { HasCause (C.faults s.old.table.calls) (C.faults s.new.table.calls)
         (result ≡ Err Rc.CallbackError) }
 {
-    let found = enclosing_region(s, r);
+    let pair = (r.key, r.serial);
+    let found = related(s, Kind::Region, pair, Kind::Region, Field::RegionEnclosing);
     hand_region(s, found)
 }
 

@@ -1,12 +1,10 @@
 //! The inquiries that find a task.
 
-ghost use Rattle.std.specs.Prelude.{◌≡◌, ◌≢◌, ◌+◌, ◌-◌, ◌^◌, ◌<◌, ◌≤◌, Err, IfOk};
+ghost use Rattle.std.specs.Prelude.{◌≡◌, ◌≢◌, ◌+◌, ◌-◌, ◌^◌, ◌<◌, ◌≤◌, Err};
 ghost use Rattle.std.specs.FinMap.{get};
 ghost use Rattle.omi_outside.specs.Outside.{HasCause};
 ghost use Rattle.omi_handle.specs.declared.handle.Kind.TheVariants.{Task};
-ghost use Rattle.omi_session.specs.Named.{IsOfKind};
-ghost use Rattle.omi_session.specs.Opened.{Stays, StaysWhole};
-ghost use Rattle.omi_session.specs.Reads.{Answers};
+ghost use Rattle.omi_session.specs.Opened.{Stays};
 ghost use Rattle.omi_session.specs.Made.{Makes, Answered, as_pair, region_pair, task_pair, thread_pair};
 ghost use Rattle.omi_session.specs.Inquiry as part;
 ghost use Rattle.omi_session.specs.Answers as answer;
@@ -14,43 +12,9 @@ ghost use Rattle.omi_session.specs.Shown.{OfThread, OfRegion, OfTask, GivesTask}
 ghost use Rattle.omi_asktask.specs.Tasks as inquiry;
 
 use omi_calls::{Callbacks, ToHost};
-use omi_handle::{Held, Kind, RegionHandle, TaskHandle, ThreadHandle};
+use omi_handle::{Kind, RegionHandle, TaskHandle, ThreadHandle};
 use omi_layout::Field;
-use omi_session::{Rc, Session, current_task, follow_some, hand_task, member, object};
-
-/// The generating task of a task.
-fn generating_task<C: Callbacks, F: ToHost>(
-    s: &mut Session<C, F>,
-    k: TaskHandle,
-) -> Result<Held, Rc>
-    ensures answer { Answers (C.told s.old.table.calls) result
-        (inquiry.generating_task s.old.layout (get s.old.handles.held (k.key, k.serial))) }
-    ensures named { IfOk result (IsOfKind s.old.layout Task) }
-    ensures memory { result ≢ Err Rc.NoMem }
-    ensures same { StaysWhole C.told s.old s.new }
-    ensures cause { HasCause (C.faults s.old.table.calls) (C.faults s.new.table.calls)
-        (result ≡ Err Rc.CallbackError) }
-{
-    let task = object(s, Kind::Task, k.key, k.serial)?;
-    follow_some(s, Kind::Task, task.addr, Field::TaskGenerating)
-}
-
-/// The scheduling task of a task.
-fn scheduling_task<C: Callbacks, F: ToHost>(
-    s: &mut Session<C, F>,
-    k: TaskHandle,
-) -> Result<Held, Rc>
-    ensures answer { Answers (C.told s.old.table.calls) result
-        (inquiry.scheduling_task s.old.layout (get s.old.handles.held (k.key, k.serial))) }
-    ensures named { IfOk result (IsOfKind s.old.layout Task) }
-    ensures memory { result ≢ Err Rc.NoMem }
-    ensures same { StaysWhole C.told s.old s.new }
-    ensures cause { HasCause (C.faults s.old.table.calls) (C.faults s.new.table.calls)
-        (result ≡ Err Rc.CallbackError) }
-{
-    let task = object(s, Kind::Task, k.key, k.serial)?;
-    follow_some(s, Kind::Task, task.addr, Field::TaskScheduling)
-}
+use omi_session::{Rc, Session, current_task, hand_task, member, related};
 
 /// The current task of a thread. Unavailable where it has none.
 pub fn get_curr_task_handle<C: Callbacks, F: ToHost>(
@@ -74,6 +38,7 @@ pub fn get_curr_task_handle<C: Callbacks, F: ToHost>(
 }
 
 /// The task that made a task. Unavailable of the initial one.
+#[tactic(auto, unfolding(crate::specs::Tasks::generating_task))]
 pub fn get_generating_task_handle<C: Callbacks, F: ToHost>(
     s: &mut Session<C, F>,
     k: TaskHandle,
@@ -90,11 +55,13 @@ pub fn get_generating_task_handle<C: Callbacks, F: ToHost>(
     ensures cause { HasCause (C.faults s.old.table.calls) (C.faults s.new.table.calls)
         (result ≡ Err Rc.CallbackError) }
 {
-    let found = generating_task(s, k);
+    let pair = (k.key, k.serial);
+    let found = related(s, Kind::Task, pair, Kind::Task, Field::TaskGenerating);
     hand_task(s, found)
 }
 
 /// The task that was left for a task on its thread. Unavailable where there is none.
+#[tactic(auto, unfolding(crate::specs::Tasks::scheduling_task))]
 pub fn get_scheduling_task_handle<C: Callbacks, F: ToHost>(
     s: &mut Session<C, F>,
     k: TaskHandle,
@@ -111,7 +78,8 @@ pub fn get_scheduling_task_handle<C: Callbacks, F: ToHost>(
     ensures cause { HasCause (C.faults s.old.table.calls) (C.faults s.new.table.calls)
         (result ≡ Err Rc.CallbackError) }
 {
-    let found = scheduling_task(s, k);
+    let pair = (k.key, k.serial);
+    let found = related(s, Kind::Task, pair, Kind::Task, Field::TaskScheduling);
     hand_task(s, found)
 }
 

@@ -1,2 +1,2 @@
 pub mod Segments
-pub mod Symbols
+pub mod ToldSymbols

@@ -2,7 +2,7 @@
 use Rattle.std.specs.Prelude.{◌-◌, ◌/◌, List, [], ◌∷◌, None, nat_le, slice_get, if◌then◌else◌}
 use Rattle.std.specs.Option.{option_or}
 use Rattle.omi_corefile.specs.declared.segment.Segment.{Segment}
-use Rattle.omi_calls.specs.Told.{Words}
+use Rattle.omi_word.specs.Words.{Words}
 
 -- the word at an address from the segment's start on
 abbrev pub word_of : Segment → Words

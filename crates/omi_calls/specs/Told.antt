@@ -1,11 +1,8 @@
 -- What callbacks may tell of a target: the order of a word's bytes, its words and its symbols.
 use Rattle.std.specs.Prelude.{◌==◌, ℕ, ◌%◌, List, Option, None, if◌then◌else◌}
 use Rattle.std.specs.Int.{w64, from_le_bytes, from_be_bytes}
+use Rattle.omi_word.specs.Words.{Words}
 use Rattle.omi_calls.specs.declared.callbacks.Sizes.{Sizes}
-
--- the word at each address at which one stands
-abbrev pub Words : Type 0
-Words = ℕ → Option ℕ
 
 -- the address of each symbol that there is
 abbrev pub Symbols : Type 0

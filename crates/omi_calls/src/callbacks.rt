@@ -2,9 +2,10 @@
 
 ghost use Rattle.std.specs.Prelude.{◌≡◌, ℕ, Some};
 ghost use Rattle.omi_outside.specs.Outside.{HasCause};
-ghost use Rattle.omi_calls.specs.Told.{Told, Words, Symbols, word_at, number_of};
+ghost use Rattle.omi_word.specs.Words.{Words};
+ghost use Rattle.omi_calls.specs.Told.{Told, Symbols, word_at, number_of};
 ghost use Rattle.omi_calls.specs.Answers.{SaysMapped, SaysPlace};
-ghost use Rattle.omi_calls.specs.SymbolTable.{symbol_in};
+ghost use Rattle.omi_word.specs.SymbolTable.{symbol_in};
 
 /// What a read of a word answers.
 #[derive(Clone, Copy, Debug, PartialEq, Eq)]
@@ -68,7 +69,7 @@ pub trait Callbacks {
         ensures symbol { (symbols : Symbols) → (told self.old).symbols ≡ Some symbols
             → SaysPlace result (symbols name.now) }
         ensures table { (words : Words) → (told self.old).words ≡ Some words
-            → SaysPlace result (symbol_in words name.now) }
+            → SaysPlace result (symbol_in (word_at words) name.now) }
         ensures same { told self.new ≡ told self.old }
         ensures cause { HasCause (faults self.old) (faults self.new) (result ≡ Place.Failed) };
 

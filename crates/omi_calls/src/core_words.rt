@@ -5,6 +5,7 @@ ghost use Rattle.omi_calls.specs.Told.{word_at};
 ghost use Rattle.omi_calls.specs.CoreWords.{word_of, words_of_segments};
 
 use omi_corefile::{CoreImage, Segment};
+use omi_word::WordMemory;
 
 /// The word of a segment at a byte address from its start on.
 fn segment_word(segment: &Segment, addr: u64) -> Option<u64>
@@ -36,4 +37,18 @@ pub fn core_word(core: &CoreImage, addr: u64) -> Option<u64>
         }
     }
     None
+}
+
+/// The words of a core, as a memory.
+#[derive(Clone, Copy)]
+pub struct CoreWords<'a> {
+    pub core: &'a CoreImage,
+}
+
+impl<'a> WordMemory for CoreWords<'a> {
+    ghost words = { λ words. word_at (words_of_segments words.core.now.segments) };
+
+    fn word(&self, addr: u64) -> Option<u64> {
+        core_word(self.core, addr)
+    }
 }

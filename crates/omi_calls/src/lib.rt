@@ -5,7 +5,6 @@ mod callbacks;
 mod core_words;
 mod laws;
 mod memory;
-pub mod symbol_table;
 mod table;
 
 pub use callbacks::{Callbacks, Got, Place, Sizes};

@@ -3,15 +3,16 @@
 ghost use Rattle.std.specs.Prelude.{◌≡◌, ◌↔◌, ◌≤◌, ℕ, ◌==◌, Some, IsTrue, if◌then◌else◌};
 ghost use Rattle.std.specs.List.{list_any};
 ghost use Rattle.omi_outside.specs.Outside.{HasCause, Rose};
-ghost use Rattle.omi_calls.specs.Told.{Words, Symbols, word_at, number_of};
+ghost use Rattle.omi_word.specs.Words.{Words};
+ghost use Rattle.omi_calls.specs.Told.{Symbols, word_at, number_of};
 ghost use Rattle.omi_calls.specs.Answers.{SaysMapped, SaysPlace};
-ghost use Rattle.omi_calls.specs.SymbolTable.{symbol_in};
+ghost use Rattle.omi_word.specs.SymbolTable.{symbol_in};
 ghost use Rattle.omi_calls.specs.Memory.{told_by, told_of, calls_made, faults_counted, is_to_fail, next_count};
 
-use crate::core_words::core_word;
-use crate::symbol_table::symbol;
+use crate::core_words::{CoreWords, core_word};
 use crate::{Callbacks, Got, Place, Sizes};
 use omi_corefile::CoreImage;
+use omi_word::look_up;
 
 /// A debugger that has nothing but a core. Its reads and look-ups are counted together, and those
 /// whose number is in a list fail.
@@ -111,7 +112,7 @@ impl Callbacks for MemCalls {
         ensures symbol { (symbols : Symbols) → (told_of self.old).symbols ≡ Some symbols
             → SaysPlace result (symbols name.now) }
         ensures table { (words : Words) → (told_of self.old).words ≡ Some words
-            → SaysPlace result (symbol_in words name.now) }
+            → SaysPlace result (symbol_in (word_at words) name.now) }
         ensures same { told_of self.new ≡ told_of self.old }
         ensures cause { HasCause (faults_counted self.old) (faults_counted self.new)
             (result ≡ Place.Failed) }
@@ -123,7 +124,8 @@ impl Callbacks for MemCalls {
         if self.is_failing() {
             return Place::Failed;
         }
-        match symbol(&self.core, name) {
+        let words = CoreWords { core: &self.core };
+        match look_up(&words, name) {
             Some(addr) => Place::At(addr),
             None => Place::NoSuch,
         }

@@ -2,9 +2,10 @@
 
 ghost use Rattle.std.specs.Prelude.{◌≡◌, ℕ, ◌↔◌, List, Some, IsErr, IfOk, IsSome};
 ghost use Rattle.omi_outside.specs.Outside.{HasCause};
-ghost use Rattle.omi_calls.specs.Told.{Words, Symbols, word_at, number_of};
+ghost use Rattle.omi_word.specs.Words.{Words};
+ghost use Rattle.omi_calls.specs.Told.{Symbols, word_at, number_of};
 ghost use Rattle.omi_calls.specs.Answers.{SaysPlace};
-ghost use Rattle.omi_calls.specs.SymbolTable.{symbol_in};
+ghost use Rattle.omi_word.specs.SymbolTable.{symbol_in};
 ghost use Rattle.omi_calls.specs.Kept.{IsOrderOf, TakesAll, GivesNumbers};
 
 use crate::{Callbacks, Got, Place, Sizes};
@@ -115,7 +116,7 @@ impl<C: Callbacks, F: ToHost> Table<C, F> {
         ensures symbol { (symbols : Symbols) → (C.told self.old.calls).symbols ≡ Some symbols
             → SaysPlace result (symbols name.now) }
         ensures table { (words : Words) → (C.told self.old.calls).words ≡ Some words
-            → SaysPlace result (symbol_in words name.now) }
+            → SaysPlace result (symbol_in (word_at words) name.now) }
         ensures same { C.told self.new.calls ≡ C.told self.old.calls }
         ensures order { self.new.order ≡ self.old.order }
         ensures to_host { self.new.to_host ≡ self.old.to_host }

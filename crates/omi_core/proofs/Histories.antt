@@ -9,7 +9,7 @@ use Rattle.omi_layout.specs.Field.{kind_of, regions}
 use Rattle.omi_layout.specs.Memory.{memory_of, word_address}
 use Rattle.omi_layout.specs.Named.{number}
 use Rattle.omi_layout.specs.Place.{IsSlot}
-use Rattle.omi_layout.specs.SymbolTable.{words_of}
+use Rattle.omi_word.specs.Words.{words_of}
 use Rattle.omi_layout.specs.Table.{width}
 use Rattle.omi_layout.proofs.Arenas.{some_threads}
 use Rattle.omi_layout.proofs.Numbers.{numbered_field}

@@ -24,7 +24,7 @@ use Rattle.omi_layout.specs.Given.{HasTables}
 use Rattle.omi_layout.specs.Memory.{Memory, memory_of, replace_at}
 use Rattle.omi_layout.specs.Named.{number}
 use Rattle.omi_layout.specs.Place.{fits}
-use Rattle.omi_layout.specs.SymbolTable.{words_of}
+use Rattle.omi_word.specs.Words.{words_of}
 use Rattle.omi_layout.proofs.Stored.{on_word}
 use Rattle.omi_pc.specs.declared.actor.Actor.{Actor}
 use Rattle.omi_pc.specs.Opening.{waiting_actor}

@@ -8,7 +8,7 @@ use Rattle.omi_model.specs.Visible.{IsVisibleRegion}
 use Rattle.omi_layout.specs.declared.field.Field.TheVariants.{RegionArrived, RegionReleased}
 use Rattle.omi_layout.specs.Field.{regions}
 use Rattle.omi_layout.specs.Given.{HasTables}
-use Rattle.omi_layout.specs.SymbolTable.{words_of}
+use Rattle.omi_word.specs.Words.{words_of}
 use Rattle.omi_rep.specs.Records.{Seen, records_of}
 use Rattle.omi_rep.specs.Shows.{Shows, Stands}
 use Rattle.omi_core.specs.declared.entry.Entry.{Entry}

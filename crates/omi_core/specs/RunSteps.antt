@@ -9,7 +9,7 @@ use Rattle.omi_run_lists.specs.Events.{team_in}
 use Rattle.omi_run_lists.specs.declared.made.Made.{Made}
 use Rattle.omi_run_lists.specs.declared.made.Turn.{Turn}
 use Rattle.omi_run_lists.specs.declared.made.Turn.TheVariants as turn
-use Rattle.omi_layout.specs.SymbolTable.{words_of}
+use Rattle.omi_word.specs.Words.{words_of}
 use Rattle.omi_rep.specs.declared.outcome.Outcome.{Outcome}
 use Rattle.omi_rep.specs.declared.outcome.Outcome.TheVariants as outcome
 use Rattle.omi_rep.specs.Shows.{Shows}

@@ -4,10 +4,8 @@ use Rattle.std.specs.Prelude.{Ok, Err}
 use Rattle.omi_calls.specs.Told.{Told}
 use Rattle.omi_layout.specs.declared.field.Field.TheVariants.{TaskNthreads}
 use Rattle.omi_session.specs.declared.rc.Rc.{Rc}
-use Rattle.omi_session.specs.Opened.{Opened, StaysWhole}
 use Rattle.omi_session.specs.Reads.{Answers}
 use Rattle.omi_session.specs.Inquiry.{word_of}
-use Rattle.omi_session.proofs.Told.{keeps_then}
 use Rattle.omi_session.proofs.Asked.{asked_then, asked_refused, asked_answer}
 use Rattle.omi_icv.specs.Values.{first_elements}
 
@@ -40,10 +38,3 @@ module _ (told : Told) (w : List ℕ) (address : ℕ) where
       let read : Answers told (Err rc) (first_elements w address (suc at)) = asked_then told now _ _ before _ same first (asked_refused now _ _ rc next) in
       let rest : (count - suc at) + suc at ≡ count = omega (arith, below) in
       subst (λ n. Answers told (Err rc) (first_elements w address n)) rest (refused_from rc (suc at) (count - suc at) read)
-
-pub stays_then : {C F : Type 0} (told : C → Told) (a b c : Opened C F) → StaysWhole told a b → StaysWhole told b c → StaysWhole told a c
-stays_then told a b c first second = record {
-  table = keeps_then told a.table b.table c.table first.table second.table;
-  layout = second.layout ∙ first.layout;
-  handles = second.handles ∙ first.handles;
-}

@@ -5,7 +5,7 @@ use Rattle.std.specs.Fmt.{decimal}
 use Rattle.std.proofs.Math.Seq.{take-suc, take-length}
 use Rattle.std.proofs.lemmas.Bool.Decides.{nat_tests}
 use Rattle.std.proofs.lemmas.Option.{get_or_from_slice_get}
-use Rattle.omi_calls.specs.Told.{Words}
+use Rattle.omi_word.specs.Words.{Words}
 use Rattle.omi_layout.specs.declared.field.Field.{Field}
 use Rattle.omi_layout.specs.declared.field.Field.TheVariants.{TaskNthreadsLength, TaskNthreads}
 use Rattle.omi_layout.specs.Named.{number}

@@ -2,7 +2,8 @@
 use Rattle.std.proofs.Common.{◌≡◌, ◌==◌, ◌%◌, ◌/◌, ◌^◌, ◌<◌, ℕ, Bool, true, false, cond, List, ◌∷◌, [], Option, refl, ap, subst, ◌∙◌, arith}
 use Rattle.std.specs.Prelude.{Result, Ok, Err}
 use Rattle.std.specs.Fmt.{decimal}
-use Rattle.omi_calls.specs.Told.{Told, Words}
+use Rattle.omi_word.specs.Words.{Words}
+use Rattle.omi_calls.specs.Told.{Told}
 use Rattle.omi_handle.specs.declared.handle.Kind.TheVariants as kind
 use Rattle.omi_handle.specs.declared.handle.Held.{Held}
 use Rattle.omi_layout.specs.Codes.{state_word}
@@ -29,9 +30,9 @@ use Rattle.omi_icv.specs.Icvs.{icv_from_scope, icv_value, icv_string_from_scope}
 use Rattle.omi_icv.specs.Records.{Handles, record_of_handle, record_of}
 use Rattle.omi_icv.specs.Scopes.{scope_of}
 use Rattle.omi_icv.specs.Spellings.{value_text}
-use Rattle.omi_icv.specs.StateValues.{Content, as_number, as_text, number_of, text_of, state_of_thread, tool_of, display_of}
+use Rattle.omi_icv.specs.StateValues.{Content, as_number, as_text, value_in, values_of, number_of, text_of, state_of_thread, tool_of, display_of}
 use Rattle.omi_icv.specs.StateWords.{state, tool_data}
-use Rattle.omi_icv.specs.Subjects.{OfScoped}
+use Rattle.omi_icv.specs.Subjects.{Subject, OfScoped}
 use Rattle.omi_icv.specs.Table.{variable_in, debug_var, num_procs_var, name_of}
 use Rattle.omi_icv.specs.Written.{IsWritten, Written}
 use Rattle.omi_icv.proofs.Shown.{Agrees, text_read, switch_text}
@@ -121,37 +122,40 @@ module _ (told : Told) (w : List ℕ) (held : Handles) where
             ∙ ap Ok (state_of_word (s.threads h.thread).state (s.threads h.thread).wait (small_state _ (shown.shows.within.well_formed.states h.thread h.begun.known)))
         go false = refl
 
+  -- the record of what is asked about is found, and a variable read there agrees with its content in the state
+  ReadsContent : Scoped → ℕ → State → Subject → Type 0
+  ReadsContent of icv s subject = (shown : ShowsTold told w s)
+      → (address : ℕ) × (answer_on shown.memory (record_of w held of) ≡ Ok address) × Agrees w shown.memory address (variable_in (scope_of of) icv) (value_in (values_of s subject) icv)
+
+  content_read : (of : Scoped) (icv : ℕ) → OfScoped told w held of (ReadsContent of icv)
+  unfolding ReadsContent
+  content_read Space icv = λ s _ shown. (runtime_address w, refl, space_agrees w s told shown icv)
+  content_read (Thread t) icv = λ s _ h shown. (thread_address w h.thread, thread_record s shown (held (thread_pair t)) h, thread_agrees w s told shown h.thread h.begun icv)
+  content_read (Parallel r) icv = λ s _ h shown. (region_address w h.name, region_record s shown (held (region_pair r)) h, region_agrees w s told shown h.name h.seen icv)
+  content_read (Task k) icv = λ s _ h shown. (task_address w h.name, task_record s shown (held (task_pair k)) h, task_agrees w s told shown h.name h.seen icv)
+
+  -- what follows from a fact of each subject holds of it too
+  of_scoped : (of : Scoped) (P Q : State → Subject → Type 0) → OfScoped told w held of P → ((s : State) (subject : Subject) → ShowsTold told w s → P s subject → Q s subject) → OfScoped told w held of Q
+  of_scoped Space P Q holds then = λ s shown. then s _ shown (holds s shown)
+  of_scoped (Thread t) P Q holds then = λ s shown h. then s _ shown (holds s shown h)
+  of_scoped (Parallel r) P Q holds then = λ s shown h. then s _ shown (holds s shown h)
+  of_scoped (Task k) P Q holds then = λ s shown h. then s _ shown (holds s shown h)
+
   -- a variable as a number
   pub number_given : (of : Scoped) (icv : ℕ) (result : Result ℕ Rc) → Answers told result (icv_from_scope w held of icv)
       → OfScoped told w held of (λ s subject. IsGiven result (number_of s subject icv))
-  number_given Space icv result answers = λ s shown.
-      given_value told w s shown result (icv_from_scope w held Space icv) _ answers
-      (number_read w shown.memory held Space icv (runtime_address w) _ refl (space_agrees w s told shown icv))
-  number_given (Thread t) icv result answers = λ s shown h.
-      given_value told w s shown result (icv_from_scope w held (Thread t) icv) _ answers
-      (number_read w shown.memory held (Thread t) icv (thread_address w h.thread) _ (thread_record s shown (held (thread_pair t)) h) (thread_agrees w s told shown h.thread h.begun icv))
-  number_given (Parallel r) icv result answers = λ s shown h.
-      given_value told w s shown result (icv_from_scope w held (Parallel r) icv) _ answers
-      (number_read w shown.memory held (Parallel r) icv (region_address w h.name) _ (region_record s shown (held (region_pair r)) h) (region_agrees w s told shown h.name h.seen icv))
-  number_given (Task k) icv result answers = λ s shown h.
-      given_value told w s shown result (icv_from_scope w held (Task k) icv) _ answers
-      (number_read w shown.memory held (Task k) icv (task_address w h.name) _ (task_record s shown (held (task_pair k)) h) (task_agrees w s told shown h.name h.seen icv))
+  unfolding ReadsContent
+  number_given of icv result answers = of_scoped of _ _ (content_read of icv) (λ s subject shown read.
+      let (address, there, agrees) = read shown in
+      given_value told w s shown result (icv_from_scope w held of icv) _ answers (number_read w shown.memory held of icv address _ there agrees))
 
   -- and as a text
   pub text_given : (of : Scoped) (icv : ℕ) (result : Result (List ℕ) Rc) → Written told result (icv_string_from_scope w held of icv)
       → OfScoped told w held of (λ s subject. IsWritten result (text_of s subject icv))
-  text_given Space icv result written = λ s shown.
-      written_given told w s shown result (icv_string_from_scope w held Space icv) _ written
-      (string_read w shown.memory held Space icv (runtime_address w) _ refl (space_agrees w s told shown icv))
-  text_given (Thread t) icv result written = λ s shown h.
-      written_given told w s shown result (icv_string_from_scope w held (Thread t) icv) _ written
-      (string_read w shown.memory held (Thread t) icv (thread_address w h.thread) _ (thread_record s shown (held (thread_pair t)) h) (thread_agrees w s told shown h.thread h.begun icv))
-  text_given (Parallel r) icv result written = λ s shown h.
-      written_given told w s shown result (icv_string_from_scope w held (Parallel r) icv) _ written
-      (string_read w shown.memory held (Parallel r) icv (region_address w h.name) _ (region_record s shown (held (region_pair r)) h) (region_agrees w s told shown h.name h.seen icv))
-  text_given (Task k) icv result written = λ s shown h.
-      written_given told w s shown result (icv_string_from_scope w held (Task k) icv) _ written
-      (string_read w shown.memory held (Task k) icv (task_address w h.name) _ (task_record s shown (held (task_pair k)) h) (task_agrees w s told shown h.name h.seen icv))
+  unfolding ReadsContent
+  text_given of icv result written = of_scoped of _ _ (content_read of icv) (λ s subject shown read.
+      let (address, there, agrees) = read shown in
+      written_given told w s shown result (icv_string_from_scope w held of icv) _ written (string_read w shown.memory held of icv address _ there agrees))
 
   -- the tool word
   pub tool_given : (of : Scoped) (result : Result ℕ Rc) → Answers told result (tool_data w held of)

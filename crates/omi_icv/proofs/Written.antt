@@ -3,21 +3,14 @@ use Rattle.std.proofs.Common.{◌≡◌, ◌≢◌, refl, sym, subst}
 use Rattle.std.specs.Prelude.{Result, Ok, Err, IsOk}
 use Rattle.omi_calls.specs.Told.{Told}
 use Rattle.omi_session.specs.declared.rc.Rc.{Rc}
-use Rattle.omi_session.specs.declared.rc.Rc.TheVariants.{Unavailable, StaleHandle, BadInput, Error, Unsupported, NeedsStateTracking, Incompatible, NoMem, Incomplete, CallbackError}
+use Rattle.omi_session.specs.declared.rc.Rc.TheVariants.{NoMem, CallbackError}
 use Rattle.omi_session.specs.Reads.{Reads, answer_on, Answers}
 use Rattle.omi_icv.specs.Written.{IsWritten, Written}
 
 refused_as : {A : Type 0} (rc : Rc) (answer : Result A Rc) → rc ≢ NoMem → (rc ≢ CallbackError → answer ≡ Err rc) → IsWritten (Err rc) answer
-refused_as Unavailable answer free is = is (λ e. cc)
-refused_as StaleHandle answer free is = is (λ e. cc)
-refused_as BadInput answer free is = is (λ e. cc)
-refused_as (Error addr field) answer free is = is (λ e. cc)
-refused_as Unsupported answer free is = is (λ e. cc)
-refused_as NeedsStateTracking answer free is = is (λ e. cc)
-refused_as Incompatible answer free is = is (λ e. cc)
 refused_as NoMem answer free is = absurd (free refl)
-refused_as (Incomplete first) answer free is = is (λ e. cc)
 refused_as CallbackError answer free is = tt
+refused_as rc answer free is = is (λ e. cc)
 
 -- the reads were refused
 pub written_refused : {A : Type 0} (told : Told) (rc : Rc) (reads : Reads A) → rc ≢ NoMem → Answers told (Err rc) reads → Written told (Err rc) reads

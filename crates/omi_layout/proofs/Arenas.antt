@@ -1,5 +1,5 @@
 -- What is known of an arena that is in order: its numbers are small.
-use Rattle.std.proofs.Common.{◌≡◌, ◌==◌, ℕ, zero, suc, ◌+◌, ◌*◌, ◌<◌, ◌≤◌, ◌&&◌, Bool, true, false, nat_lt, List, refl, subst, arith, mul-le-mul, leb-true, ltb-true}
+use Rattle.std.proofs.Common.{◌≡◌, ◌==◌, ℕ, zero, suc, ◌+◌, ◌*◌, ◌<◌, ◌≤◌, ◌⊎◌, inl, inr, ◌&&◌, Bool, true, false, nat_lt, List, refl, sym, subst, arith, eqb-true, mul-le-mul, leb-true, ltb-true}
 use Rattle.std.proofs.lemmas.Bool.Decides.{nat_tests}
 use Rattle.omi_layout.specs.declared.limits.TheConstants.{MOST_THREADS}
 use Rattle.omi_layout.specs.Field.{IsField, IsKind, kind_of}
@@ -136,6 +136,26 @@ some_regions w v = let low : 1 ≤ per_thread w 3 = leb-true _ _ (test_left _ _ 
 
 pub some_tasks : (w : List ℕ) → IsValid w → 0 < per_thread w 4
 some_tasks w v = let low : 1 ≤ per_thread w 4 = leb-true _ _ (test_left _ _ (counted w 4 (v.arenas 4 (record { from = omega arith; to = omega arith })))) in omega (arith, low)
+
+three_or_four : (p : ℕ) → 3 ≤ p → p ≤ 4 → (p ≡ 3) ⊎ (p ≡ 4)
+three_or_four p from to = go (p == 3) refl
+  where
+    go : (b : Bool) → p == 3 ≡ b → (p ≡ 3) ⊎ (p ≡ 4)
+    go true e = inl (eqb-true p 3 e)
+    go false e = inr (grind (arith, nat_tests))
+
+-- a thread has some records of regions and of tasks, and not more than 16 bits count
+pub some_slots : (w : List ℕ) (p : ℕ) → IsValid w → 3 ≤ p → p ≤ 4 → 0 < per_thread w p
+some_slots w p v from to = elim (three_or_four p from to) [
+  | inl three ↦ subst (λ k. 0 < per_thread w k) (sym three) (some_regions w v)
+  | inr four ↦ subst (λ k. 0 < per_thread w k) (sym four) (some_tasks w v)
+]
+
+pub few_slots : (w : List ℕ) (p : ℕ) → IsValid w → 3 ≤ p → p ≤ 4 → per_thread w p ≤ 4096
+few_slots w p v from to = elim (three_or_four p from to) [
+  | inl three ↦ subst (λ k. per_thread w k ≤ 4096) (sym three) (let few = regions_of_valid w v in omega (arith, few))
+  | inr four ↦ subst (λ k. per_thread w k ≤ 4096) (sym four) (tasks_of_valid w v)
+]
 
 pub some_threads : (w : List ℕ) → IsValid w → 0 < thread_count w
 some_threads w v = let low : 1 ≤ thread_count w = leb-true _ _ (test_left _ _ (counted w 2 (v.arenas 2 (record { from = omega arith; to = omega arith })))) in omega (arith, low)

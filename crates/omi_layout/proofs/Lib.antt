@@ -3,11 +3,11 @@ pub mod Finding
 pub mod Turned
 pub mod Families
 pub mod Frame
-pub mod Symbols
 pub mod Puts
 pub mod Mapped
 pub mod Stored
 pub mod Tables
+pub mod ReadTables
 pub mod Numbers
 pub mod OneAnswer
 pub mod Filling

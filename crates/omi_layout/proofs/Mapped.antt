@@ -4,7 +4,7 @@ use Rattle.std.specs.Prelude.{Some, None}
 use Rattle.std.proofs.lemmas.Bool.Decides.{nat_tests}
 use Rattle.omi_word.specs.Memory.{address_at, place_of, word_at}
 use Rattle.omi_word.proofs.Addresses.{place-address, placed_word}
-use Rattle.omi_layout.specs.SymbolTable.{words_of, is_word}
+use Rattle.omi_word.specs.Words.{words_of, is_word}
 
 -- the word at a place of an image
 pub image_word : (words : List ℕ) (p : ℕ) → p < length words → words_of words (address_at p) ≡ Some (get_or words p 0)

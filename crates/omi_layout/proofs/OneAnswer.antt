@@ -9,7 +9,8 @@ use Rattle.omi_layout.specs.declared.reading.LayoutError.TheVariants.{NoSymbol, 
 use Rattle.omi_layout.specs.Given.{wrapped}
 use Rattle.omi_layout.specs.NoLayout.{IsUnmapped, IsLayoutRefused, table_address}
 use Rattle.omi_layout.specs.OneAnswer.{OneLayout, OneCause, NotBoth}
-use Rattle.omi_layout.specs.SymbolTable.{Words, words_from, symbol_in}
+use Rattle.omi_word.specs.Words.{Words}
+use Rattle.omi_word.specs.SymbolTable.{words_from, symbol_in}
 use Rattle.omi_layout.specs.Valid.{IsValid, RefusesTable, overlap, word_named}
 
 -- the least number of a kind is one

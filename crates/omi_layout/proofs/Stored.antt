@@ -11,7 +11,7 @@ use Rattle.omi_layout.specs.Table.{size, place, offset, width, makers, per_threa
 use Rattle.omi_layout.specs.Place.{first_word, arena_end, fits, image_words, index_of, slot_address, IsSlot}
 use Rattle.omi_layout.specs.Valid.{IsValid}
 use Rattle.omi_layout.specs.Words.{word_place, IsWord}
-use Rattle.omi_layout.specs.SymbolTable.{words_of}
+use Rattle.omi_word.specs.Words.{words_of}
 use Rattle.omi_layout.specs.Memory.{memory_of, with_word, is_record_word, IsRecordWord, word_address}
 use Rattle.omi_layout.specs.Frame.{IsOnWord, IsLeft, word_in, replaced}
 use Rattle.omi_layout.proofs.Arenas.{index_within, each_kind}

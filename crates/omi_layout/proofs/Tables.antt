@@ -8,7 +8,8 @@ use Rattle.std.proofs.lemmas.List.{ext_get_or, get_or-take, get_or-drop, length-
 use Rattle.omi_word.specs.Memory.{address_at, place_of}
 use Rattle.omi_layout.specs.Front.{front}
 use Rattle.omi_layout.specs.Valid.{IsValid}
-use Rattle.omi_layout.specs.SymbolTable.{Words, Symbol, words_of, words_from, symbols_from, symbols_in, symbol_in, symbol_of, is_named}
+use Rattle.omi_word.specs.Words.{Words, words_of}
+use Rattle.omi_word.specs.SymbolTable.{Symbol, words_from, symbols_from, symbols_in, symbol_in, symbol_of, is_named}
 use Rattle.omi_layout.specs.Given.{wrapped, GivesLayout, HasTables}
 use Rattle.omi_layout.proofs.Mapped.{image_word, stands}
 

@@ -7,7 +7,7 @@ use Rattle.omi_layout.specs.declared.limits.TheConstants.{FRONT_WORDS}
 use Rattle.omi_layout.specs.Field.{kind_of}
 use Rattle.omi_layout.specs.Place.{fits, image_words}
 use Rattle.omi_layout.specs.Words.{IsGap}
-use Rattle.omi_layout.specs.SymbolTable.{words_of}
+use Rattle.omi_word.specs.Words.{words_of}
 use Rattle.omi_layout.specs.Memory.{Memory, memory_of, with_word, IsRecordWord, word_address, found_word}
 
 -- a word that is written is that word read

@@ -2,7 +2,8 @@
 use Rattle.std.specs.Prelude.{◌≡◌, ℕ, ◌+◌, ◌%◌, ◌^◌, ◌<◌, ◌≤◌, List, length, slice_index, codes, Some}
 use Rattle.omi_layout.specs.declared.limits.TheConstants.{TABLE_PLACE, TABLE_WORDS, FRONT_WORDS}
 use Rattle.omi_layout.specs.Front.{front}
-use Rattle.omi_layout.specs.SymbolTable.{Words, words_of, words_from, symbol_in}
+use Rattle.omi_word.specs.Words.{Words, words_of}
+use Rattle.omi_word.specs.SymbolTable.{words_from, symbol_in}
 
 -- the words by their addresses modulo 2^64
 abbrev pub wrapped : Words → Words

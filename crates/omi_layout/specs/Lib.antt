@@ -8,7 +8,6 @@ pub mod Words
 pub mod Family
 -- The words in front of the records, and the layout that words give.
 pub mod Front
-pub mod SymbolTable
 pub mod Given
 pub mod NoLayout
 pub mod OneAnswer

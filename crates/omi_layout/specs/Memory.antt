@@ -5,7 +5,7 @@ use Rattle.omi_layout.specs.Field.{IsField, kind_of}
 use Rattle.omi_layout.specs.Table.{width, makers, per_thread, offset}
 use Rattle.omi_layout.specs.Place.{index_of, slot_address, IsSlot}
 use Rattle.omi_layout.specs.Words.{word_place}
-use Rattle.omi_layout.specs.SymbolTable.{Words}
+use Rattle.omi_word.specs.Words.{Words}
 
 -- the words of a record, by field and place
 abbrev pub Rec : Type 0

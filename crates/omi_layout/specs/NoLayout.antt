@@ -4,7 +4,8 @@ use Rattle.omi_layout.specs.declared.fault.LayoutFault.{LayoutFault}
 use Rattle.omi_layout.specs.declared.reading.LayoutError.{LayoutError}
 use Rattle.omi_layout.specs.declared.reading.LayoutError.TheVariants.{NoSymbol, Unmapped, Refused}
 use Rattle.omi_layout.specs.declared.limits.TheConstants.{TABLE_WORDS}
-use Rattle.omi_layout.specs.SymbolTable.{Words, words_from, symbol_in}
+use Rattle.omi_word.specs.Words.{Words}
+use Rattle.omi_word.specs.SymbolTable.{words_from, symbol_in}
 use Rattle.omi_layout.specs.Given.{wrapped}
 use Rattle.omi_layout.specs.Valid.{RefusesTable, word_named}
 

@@ -1,7 +1,7 @@
 -- Words give at most one layout; and where they give none, there is one cause.
 use Rattle.std.specs.Prelude.{◌≡◌, ℕ, List}
 use Rattle.omi_layout.specs.declared.reading.LayoutError.{LayoutError}
-use Rattle.omi_layout.specs.SymbolTable.{Words}
+use Rattle.omi_word.specs.Words.{Words}
 use Rattle.omi_layout.specs.Valid.{IsValid}
 use Rattle.omi_layout.specs.Given.{GivesLayout}
 use Rattle.omi_layout.specs.NoLayout.{GivesNone}

@@ -15,7 +15,7 @@ use crate::fault::LayoutFault;
 use crate::field::{Field as RecordField, Kind, REGIONS, RUNTIME, TASKS, THREADS};
 use crate::judging::judge;
 use crate::limits::FRONT_WORDS;
-use crate::table::{extent, offset, place, records, size};
+use crate::table::{extent, offset, per_thread, place, records, size};
 use omi_word::FIRST_ADDRESS;
 
 /// A layout, as the 56 words of its table. Every value of this type is valid.
@@ -166,16 +166,26 @@ impl Layout {
         Some(index as u8)
     }
 
+    /// The thread and the slot whose record begins at a byte address in the arena of regions or of
+    /// tasks. None exactly where none does.
+    fn slot_of(&self, p: u8, addr: u64) -> Option<(u8, u16)>
+        requires from { Field.regions ≤ p }
+        requires to { p ≤ Field.tasks }
+        ensures { IsSlotAt self.now.table p addr result }
+    {
+        let index = self.index_at(p, addr)?;
+        let per = per_thread(&self.table, p);
+        let creator = index / per;
+        let slot = index % per;
+        Some((creator as u8, slot as u16))
+    }
+
     /// The thread and the slot of the region whose record begins at a byte address. None exactly where
     /// none does.
     pub fn region_of(&self, addr: u64) -> Option<(u8, u16)>
         ensures { IsSlotAt self.now.table Field.regions addr result }
     {
-        let index = self.index_at(REGIONS, addr)?;
-        let per = self.table[8];
-        let creator = index / per;
-        let slot = index % per;
-        Some((creator as u8, slot as u16))
+        self.slot_of(REGIONS, addr)
     }
 
     /// The thread and the slot of the task whose record begins at a byte address. None exactly where
@@ -183,11 +193,7 @@ impl Layout {
     pub fn task_of(&self, addr: u64) -> Option<(u8, u16)>
         ensures { IsSlotAt self.now.table Field.tasks addr result }
     {
-        let index = self.index_at(TASKS, addr)?;
-        let per = self.table[11];
-        let creator = index / per;
-        let slot = index % per;
-        Some((creator as u8, slot as u16))
+        self.slot_of(TASKS, addr)
     }
 
     /// The place in an image of the first word of an arena.

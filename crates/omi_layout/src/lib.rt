@@ -8,7 +8,6 @@ mod judging;
 mod laws;
 mod layout;
 mod limits;
-mod looking;
 mod opening;
 mod publish;
 mod reading;
@@ -22,5 +21,4 @@ pub use limits::{
     FIELDS, FRONT_WORDS, LAST_END, MOST_RECORD_WORDS, MOST_REGIONS, MOST_TASKS, MOST_THREADS,
     TABLE_PLACE, TABLE_WORDS, VERSION,
 };
-pub use looking::{WordMemory, look_up};
 pub use reading::LayoutError;

@@ -2,7 +2,7 @@
 
 ghost use Rattle.std.specs.Prelude.{◌≡◌, ◌+◌, ◌<◌, ◌≤◌, IsTrue, length, slice_set};
 ghost use Rattle.omi_layout.specs.Front.{IsWritten, IsPublished};
-ghost use Rattle.omi_layout.specs.SymbolTable.{words_of};
+ghost use Rattle.omi_word.specs.Words.{words_of};
 ghost use Rattle.omi_layout.specs.Given.{GivesLayout};
 ghost use Rattle.omi_layout.specs.Place;
 ghost use Rattle.omi_layout.specs.declared.limits.TheConstants.{FRONT_WORDS};

@@ -5,7 +5,7 @@ ghost use Rattle.omi_layout.specs.Given.{GivesLayout};
 
 use crate::fault::LayoutFault;
 use crate::layout::Layout;
-use crate::looking::{WordMemory, look_up};
+use omi_word::{WordMemory, look_up};
 
 /// Why words give no layout.
 #[derive(Clone, Copy, Debug, PartialEq, Eq)]

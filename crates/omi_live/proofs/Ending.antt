@@ -8,7 +8,7 @@ use Rattle.omi_model.specs.declared.event.Event.{Event}
 use Rattle.omi_model.specs.Reached.{Reached}
 use Rattle.omi_layout.specs.declared.layout.Layout.{Layout}
 use Rattle.omi_layout.specs.Given.{HasTables}
-use Rattle.omi_layout.specs.SymbolTable.{words_of}
+use Rattle.omi_word.specs.Words.{words_of}
 use Rattle.omi_pc.specs.declared.actor.Actor.{Actor}
 use Rattle.omi_pc.specs.Opening.{opening_actor}
 use Rattle.omi_rep.specs.Shows.{Shows}

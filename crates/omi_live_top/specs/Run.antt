@@ -5,7 +5,7 @@ use Rattle.omi_model.specs.State.{State}
 use Rattle.omi_model.specs.Views.{IsViewOf}
 use Rattle.omi_model.specs.declared.view.View.{View}
 use Rattle.omi_layout.specs.Family.{IsFamily}
-use Rattle.omi_layout.specs.SymbolTable.{words_of}
+use Rattle.omi_word.specs.Words.{words_of}
 use Rattle.omi_layout.specs.declared.layout.Layout.{Layout}
 use Rattle.omi_rep.specs.Shows.{Shows}
 use Rattle.omi_core.specs.declared.thread_run.ThreadRun.{ThreadRun}

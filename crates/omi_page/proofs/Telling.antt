@@ -7,9 +7,11 @@ use Rattle.std.proofs.lemmas.Bool.{cases_lt, lt-ltb, le-ltb, le-leb, eq-eqb, ne_
 use Rattle.std.proofs.lemmas.Bool.Decides.{nat_tests}
 use Rattle.omi_outside.specs.Outside.{Told as FileTold}
 use Rattle.omi_corefile.specs.Refusals.{Refusal, Parts, reading}
-use Rattle.omi_calls.specs.Told.{Words, Symbols, word_at, number_of}
-use Rattle.omi_calls.specs.SymbolTable.{symbol_in}
+use Rattle.omi_word.specs.Words.{Words}
+use Rattle.omi_calls.specs.Told.{Symbols, word_at, number_of}
+use Rattle.omi_word.specs.SymbolTable.{symbol_in}
 use Rattle.omi_calls.specs.CoreWords.{word_of, words_of_segments}
+use Rattle.omi_calls.proofs.ToldSymbols.{same_symbols}
 use Rattle.omi_page.specs.declared.span.Span.{Span}
 use Rattle.omi_page.specs.Outcomes.{Holds}
 use Rattle.omi_page.specs.Spans.{eight_at, word_there, words_there, segment_there, segments_there, place_of, place_in}
@@ -179,20 +181,13 @@ told_order told contexts spans words e parts =
 pub record TellsSymbols (told : FileTold) (symbols : Symbols) : Type 0 where
   pub words : Words
   pub told_words : (told_by_file told).words ≡ Some words
-  pub symbols_are : symbol_in words ≡ symbols
-
-same_symbols : (a b : Symbols) → (let some : Symbols → Option Symbols = λ s. Some s in some a ≡ some b) → a ≡ b
-same_symbols a b e = ap (λ o. unwrapped o) e
-  where
-    unwrapped : Option Symbols → Symbols
-    unwrapped (Some s) = s
-    unwrapped None = a
+  pub symbols_are : symbol_in (word_at words) ≡ symbols
 
 symbols_by : (bytes : List ℕ) (symbols : Symbols) (read : Result Parts Refusal) → reading bytes ≡ read → (told_by_reading read).symbols ≡ Some symbols → TellsSymbols (Some (Some bytes)) symbols
 symbols_by bytes symbols (Ok parts) is e = record {
   words = words_of_segments parts.segments;
   told_words = ap (λ r. (told_by_reading r).words) is;
-  symbols_are = same_symbols (symbol_in (words_of_segments parts.segments)) symbols e;
+  symbols_are = same_symbols (symbol_in (word_at (words_of_segments parts.segments))) symbols e;
 }
 symbols_by bytes symbols (Err refusal) is e = absurd cc
 

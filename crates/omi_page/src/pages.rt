@@ -6,9 +6,10 @@ ghost use Rattle.omi_corefile.specs.Spelling.{Core};
 ghost use Rattle.omi_corefile.specs.Refusals.{CoreRefused};
 ghost use Rattle.omi_corefile.specs.declared.core_image.CoreImage.{CoreImage};
 ghost use Rattle.omi_corefile.specs.declared.fault.CoreFault.{CoreFault};
-ghost use Rattle.omi_calls.specs.Told.{Words, Symbols, word_at, number_of};
+ghost use Rattle.omi_word.specs.Words.{Words};
+ghost use Rattle.omi_calls.specs.Told.{Symbols, word_at, number_of};
 ghost use Rattle.omi_calls.specs.Answers.{SaysMapped, SaysPlace};
-ghost use Rattle.omi_calls.specs.SymbolTable.{symbol_in};
+ghost use Rattle.omi_word.specs.SymbolTable.{symbol_in};
 ghost use Rattle.omi_calls.specs.Memory.{told_by};
 ghost use Rattle.omi_page.specs.declared.limits.TheConstants.{PAGE_BYTES};
 ghost use Rattle.omi_page.specs.Outcomes.{IsLength, Holds, IsFaultOf, UnlessFree};
@@ -187,7 +188,7 @@ impl<'a, F: Files> Callbacks for Pages<'a, F> {
         ensures symbol { (symbols : Symbols) → (told_of self.old).symbols ≡ Some symbols
             → SaysPlace result (symbols name.now) }
         ensures table { (words : Words) → (told_of self.old).words ≡ Some words
-            → SaysPlace result (symbol_in words name.now) }
+            → SaysPlace result (symbol_in (word_at words) name.now) }
         ensures same { told_of self.new ≡ told_of self.old }
         ensures cause { HasCause (faults_counted self.old) (faults_counted self.new)
             (result ≡ Place.Failed) }

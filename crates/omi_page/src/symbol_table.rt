@@ -3,13 +3,14 @@
 ghost use Rattle.std.specs.Prelude.{◌≡◌, ◌≤◌, [], ◌∷◌, Some, IfOk, IsErr};
 ghost use Rattle.omi_page.specs.AllWords.{all_words};
 ghost use Rattle.omi_outside.specs.Outside.{HasCause};
-ghost use Rattle.omi_calls.specs.Told.{Words, word_at};
-ghost use Rattle.omi_calls.specs.SymbolTable.{words_from, symbol_in};
+ghost use Rattle.omi_word.specs.Words.{Words};
+ghost use Rattle.omi_calls.specs.Told.{word_at};
+ghost use Rattle.omi_word.specs.SymbolTable.{words_from, symbol_in};
 
 use crate::Pages;
-use omi_calls::symbol_table::{COUNT_PLACE, FIRST_PLACE, MOST_SYMBOLS, SYMBOL_BYTES, has_name};
 use omi_calls::{CallbackFailed, Callbacks, Got};
 use omi_outside::Files;
+use omi_word::{COUNT_PLACE, FIRST_PLACE, MOST_SYMBOLS, SYMBOL_BYTES, found_with};
 
 /// Five words, where each of them is there.
 fn all_of(
@@ -48,7 +49,7 @@ impl<'a, F: Files> Pages<'a, F> {
     fn five_words(&mut self, at: u64) -> Result<Option<[u64; 5]>, CallbackFailed>
         requires { at ≤ 66184 }
         ensures words { (words : Words) → (told_of self.old).words ≡ Some words
-            → IfOk result (λ five. five ≡ words_from words at 5) }
+            → IfOk result (λ five. five ≡ words_from (word_at words) at 5) }
         ensures same { told_of self.new ≡ told_of self.old }
         ensures cause { HasCause (faults_counted self.old) (faults_counted self.new)
             (IsErr result) }
@@ -66,7 +67,7 @@ impl<'a, F: Files> Pages<'a, F> {
     /// the count exceeds 16, or where no symbol has the name.
     pub fn symbol(&mut self, name: &str) -> Result<Option<u64>, CallbackFailed>
         ensures symbol { (words : Words) → (told_of self.old).words ≡ Some words
-            → IfOk result (λ addr. addr ≡ symbol_in words name.now) }
+            → IfOk result (λ addr. addr ≡ symbol_in (word_at words) name.now) }
         ensures same { told_of self.new ≡ told_of self.old }
         ensures cause { HasCause (faults_counted self.old) (faults_counted self.new)
             (IsErr result) }
@@ -85,9 +86,7 @@ impl<'a, F: Files> Pages<'a, F> {
             let Some(words) = self.five_words(FIRST_PLACE + SYMBOL_BYTES * left)? else {
                 return Ok(None);
             };
-            if has_name(&words, name) {
-                found = Some(words[4]);
-            }
+            found = found_with(&words, name, found);
         }
         Ok(found)
     }

@@ -28,7 +28,7 @@ use Rattle.omi_layout.specs.Given.{HasTables}
 use Rattle.omi_layout.specs.Memory.{Rec}
 use Rattle.omi_layout.specs.OpeningWords.{OpensRuntime}
 use Rattle.omi_layout.specs.Place.{slot_address, image_words, IsSlot}
-use Rattle.omi_layout.specs.SymbolTable.{Words, words_of}
+use Rattle.omi_word.specs.Words.{Words, words_of}
 use Rattle.omi_layout.specs.Table.{thread_count, width}
 use Rattle.omi_layout.specs.Valid.{IsValid}
 use Rattle.omi_layout.proofs.Arenas.{some_threads, some_regions, some_tasks}

@@ -4,3 +4,7 @@ pub mod SameReport
 pub mod Looks
 pub mod Alone
 pub mod Opened
+pub mod Lists
+pub mod Slots
+pub mod LiveObjects
+pub mod shown

@@ -12,8 +12,8 @@ use Rattle.omi_layout.specs.Field.{IsKind, regions, tasks}
 use Rattle.omi_layout.specs.Named.{number}
 use Rattle.omi_layout.specs.Place.{slot_address, IsSlot}
 use Rattle.omi_layout.specs.Valid.{IsValid}
-use Rattle.omi_layout.specs.SymbolTable.{Words}
-use Rattle.omi_layout.proofs.Frame.{addresses_apart, none_is_null}
+use Rattle.omi_word.specs.Words.{Words}
+use Rattle.omi_layout.proofs.Frame.{addresses_apart, none_is_null, kind_2, kind_3, kind_4}
 use Rattle.omi_rep.specs.Records.{Seen, records_of, region_address, task_address, region_word, task_word, thread_address}
 use Rattle.omi_rep.specs.Shows.{Shows, Stands}
 
@@ -26,15 +26,6 @@ same_flag true true e = refl
 same_flag false false e = refl
 same_flag true false e = absurd (omega arith)
 same_flag false true e = absurd (omega arith)
-
-pub kind_2 : IsKind 2
-kind_2 = record { from = omega arith; to = omega arith }
-
-pub kind_3 : IsKind 3
-kind_3 = record { from = omega arith; to = omega arith }
-
-pub kind_4 : IsKind 4
-kind_4 = record { from = omega arith; to = omega arith }
 
 -- two names are the same where their slots have one address and their generations one life word
 pub same_name : (w : List ℕ) (v : IsValid w) (kind : ℕ) → IsKind kind → (life : ℕ → ℕ → Option ℕ) (n h : Id)

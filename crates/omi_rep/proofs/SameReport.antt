@@ -20,7 +20,7 @@ use Rattle.omi_model.proofs.OneView.{view_unique}
 use Rattle.omi_layout.specs.declared.field.Field.TheVariants.{RuntimeProcs, RuntimeDebug, RuntimeMaxActive, ThreadLife, ThreadCurrent, ThreadState}
 use Rattle.omi_layout.specs.Field.{runtime, threads}
 use Rattle.omi_layout.specs.Valid.{IsValid}
-use Rattle.omi_layout.specs.SymbolTable.{Words}
+use Rattle.omi_word.specs.Words.{Words}
 use Rattle.omi_layout.specs.Codes.{state_word}
 use Rattle.omi_rep.specs.Records.{records_of}
 use Rattle.omi_rep.specs.Shows.{Shows}

@@ -11,7 +11,7 @@ use Rattle.omi_layout.specs.declared.field.Field.TheVariants.{RegionFunction, Re
 use Rattle.omi_layout.specs.Field.{regions, tasks}
 use Rattle.omi_layout.specs.Named.{number}
 use Rattle.omi_layout.specs.Valid.{IsValid}
-use Rattle.omi_layout.specs.SymbolTable.{Words}
+use Rattle.omi_word.specs.Words.{Words}
 use Rattle.omi_rep.specs.Records.{Seen, records_of, task_address}
 use Rattle.omi_rep.specs.Shows.{Shows, ShowsRegion, ShowsTask}
 use Rattle.omi_rep.proofs.Same.{one_word, same_region, same_task, same_regions, same_tasks, same_thread}

@@ -7,3 +7,4 @@ pub mod Suits
 -- The laws
 pub mod Unique
 pub mod Opened
+pub mod ShownLooks

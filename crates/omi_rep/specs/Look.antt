@@ -9,7 +9,7 @@ use Rattle.omi_layout.specs.Field.{threads, regions}
 use Rattle.omi_layout.specs.Named.{number}
 use Rattle.omi_layout.specs.Table.{makers, per_thread}
 use Rattle.omi_layout.specs.Place.{slot_address}
-use Rattle.omi_layout.specs.SymbolTable.{Words}
+use Rattle.omi_word.specs.Words.{Words}
 use Rattle.omi_rep.specs.declared.fault.LookFault.{LookFault}
 use Rattle.omi_rep.specs.declared.fault.LookFault.TheVariants.{Damaged, Cycle}
 use Rattle.omi_rep.specs.Records.{record_at}

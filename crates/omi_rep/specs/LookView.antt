@@ -15,7 +15,7 @@ use Rattle.omi_layout.specs.declared.field.Field.TheVariants.{RuntimeVersion, Ru
 use Rattle.omi_layout.specs.Field.{threads, regions, tasks}
 use Rattle.omi_layout.specs.Named.{number}
 use Rattle.omi_layout.specs.Table.{thread_count, records}
-use Rattle.omi_layout.specs.SymbolTable.{Words}
+use Rattle.omi_word.specs.Words.{Words}
 use Rattle.omi_rep.specs.declared.fault.LookFault.TheVariants.{Damaged, Cycle}
 use Rattle.omi_rep.specs.Records.{runtime_address, thread_address}
 use Rattle.omi_rep.specs.Look.{Look, and_then, mapped, each, optional, slots_of, address_of, look_word, look_object, look_optional, look_onward}

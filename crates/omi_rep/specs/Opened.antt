@@ -3,7 +3,7 @@ use Rattle.std.specs.Prelude.{◌≡◌, ℕ, List}
 use Rattle.omi_script.specs.declared.program.Program.{Program}
 use Rattle.omi_model.specs.Opening.{opening}
 use Rattle.omi_layout.specs.OpeningWords.{AreOpening}
-use Rattle.omi_layout.specs.SymbolTable.{words_of}
+use Rattle.omi_word.specs.Words.{words_of}
 use Rattle.omi_layout.specs.Table.{thread_count}
 use Rattle.omi_layout.specs.Valid.{IsValid}
 use Rattle.omi_rep.specs.Shows.{Shows}

@@ -6,7 +6,7 @@ use Rattle.omi_model.specs.declared.id.Tid.{Tid}
 use Rattle.omi_layout.specs.Field.{runtime, threads, regions, tasks}
 use Rattle.omi_layout.specs.Table.{offset}
 use Rattle.omi_layout.specs.Place.{slot_address}
-use Rattle.omi_layout.specs.SymbolTable.{Words}
+use Rattle.omi_word.specs.Words.{Words}
 use Rattle.omi_layout.specs.Memory.{Memory}
 
 -- the words of a record by field and place, None where no word is mapped

@@ -16,7 +16,7 @@ use Rattle.omi_layout.specs.declared.field.Field.TheVariants.{RuntimeVersion, Ru
 use Rattle.omi_layout.specs.Field.{runtime, threads, regions, tasks}
 use Rattle.omi_layout.specs.Named.{number}
 use Rattle.omi_layout.specs.Table.{thread_count, per_thread}
-use Rattle.omi_layout.specs.SymbolTable.{Words}
+use Rattle.omi_word.specs.Words.{Words}
 use Rattle.omi_layout.specs.Given.{GivesLayout}
 use Rattle.omi_layout.specs.Codes.{function_word, schedule_word, state_word, native_word}
 use Rattle.omi_rep.specs.Records.{Seen, Records, records_of, thread_address, region_address, task_address, region_word, task_word}

@@ -4,7 +4,7 @@ use Rattle.omi_model.specs.State.{State}
 use Rattle.omi_model.specs.declared.view.View.{View}
 use Rattle.omi_model.specs.Views.{IsViewOf}
 use Rattle.omi_layout.specs.Valid.{IsValid}
-use Rattle.omi_layout.specs.SymbolTable.{Words}
+use Rattle.omi_word.specs.Words.{Words}
 use Rattle.omi_rep.specs.Shows.{Shows}
 
 -- two states that the same words of one layout show have the same report, for the same contexts

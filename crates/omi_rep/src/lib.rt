@@ -4,9 +4,11 @@
 mod agreement;
 mod fault;
 mod laws;
+mod looked;
 mod outcome;
 
 pub use agreement::suits;
 pub use fault::LookFault;
 pub use laws::{families_suit, opening_words_shown, words_fix_the_report};
+pub use looked::shown_words_looked;
 pub use outcome::Outcome;

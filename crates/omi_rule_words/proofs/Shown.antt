@@ -18,7 +18,7 @@ use Rattle.omi_layout.specs.Given.{HasTables}
 use Rattle.omi_layout.specs.Memory.{Rec, Memory, memory_of, word_address, IsRecordWord}
 use Rattle.omi_layout.specs.Named.{number}
 use Rattle.omi_layout.specs.Place.{image_words, IsSlot}
-use Rattle.omi_layout.specs.SymbolTable.{Words, words_of}
+use Rattle.omi_word.specs.Words.{Words, words_of}
 use Rattle.omi_layout.specs.Table.{thread_count, per_thread, width}
 use Rattle.omi_layout.specs.Valid.{IsValid}
 use Rattle.omi_layout.proofs.Arenas.{some_threads}

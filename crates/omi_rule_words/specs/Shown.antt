@@ -4,7 +4,7 @@ use Rattle.omi_model.specs.State.{State}
 use Rattle.omi_layout.specs.Given.{HasTables}
 use Rattle.omi_layout.specs.Memory.{memory_of}
 use Rattle.omi_layout.specs.Place.{image_words}
-use Rattle.omi_layout.specs.SymbolTable.{words_of}
+use Rattle.omi_word.specs.Words.{words_of}
 use Rattle.omi_layout.specs.Valid.{IsValid}
 use Rattle.omi_rep.specs.Shows.{IsWithin, Shows}
 use Rattle.omi_rule_words.specs.Owes.{Owed}

@@ -1,13 +1,15 @@
 -- What a call answers after one of its parts has answered.
 use Rattle.std.proofs.Common.{◌≡◌, ℕ, ◌+◌, ◌*◌, arith, cond, Bool, true, false, List, Option, refl, sym, ap, subst, ◌∙◌}
-use Rattle.std.specs.Prelude.{Result, Ok, Err, is_some}
+use Rattle.std.specs.Prelude.{Result, Ok, Err, IsErrAnd, is_some}
 use Rattle.std.specs.Option.{option_and_then, ok_or}
+use Rattle.std.proofs.lemmas.Result.{err_from_is_err_and}
 use Rattle.omi_handle.specs.declared.handle.Kind.{Kind}
 use Rattle.omi_layout.specs.declared.field.Field.{Field}
 use Rattle.omi_layout.specs.Named.{number}
 use Rattle.omi_layout.specs.Table.{offset}
 use Rattle.omi_rep.specs.Look.{slot_at, life_of}
-use Rattle.omi_calls.specs.Told.{Told, Words}
+use Rattle.omi_word.specs.Words.{Words}
+use Rattle.omi_calls.specs.Told.{Told}
 use Rattle.omi_session.specs.declared.rc.Rc.{Rc}
 use Rattle.omi_session.specs.declared.rc.Rc.TheVariants.{CallbackError, Error}
 use Rattle.omi_session.specs.Named.{record_kind}
@@ -37,6 +39,19 @@ pub asked_refused : {A B : Type 0} (told : Told) (reads : Reads A) (more : A →
 asked_refused told reads more rc first = λ memory t ne.
     let known : Err rc ≡ answer_on memory reads = first memory t (λ e. ne (let same : rc ≡ CallbackError = cc in ap Err same)) in
     ap (λ r. answer_on memory (after r more)) known ∙ sym (answer_then memory reads more)
+
+-- the first part was refused, and the call with it
+pub refused_then : {A B : Type 0} (told : Told) (reads : Reads A) (more : A → Reads B) (rc : Rc) (result : Result B Rc)
+    → Answers told (Err rc) reads → IsErrAnd result (λ why. why ≡ rc) → Answers told result (then_reads reads more)
+refused_then told reads more rc result first is =
+    let p = err_from_is_err_and result is in
+    rw (p.1, p.2) (asked_refused told reads more rc first)
+
+-- the first part answered this, and left the layout, so the rest is asked in the same
+pub asked_on : {A B : Type 0} (told now : Told) (w v : List ℕ) (reads : Reads A) (more : List ℕ → A → Reads B) (x : A) (result : Result B Rc) → now ≡ told → v ≡ w
+    → Answers told (Ok x) reads → Answers now result (more v x) → Answers told result (then_reads reads (more w))
+asked_on told now w v reads more x result same layout first rest =
+    asked_then told now reads (more w) x result same first (subst (λ l. Answers now result (more l x)) layout rest)
 
 module _ (w : List ℕ) (memory : Words) where
   -- the word that was found is the field's

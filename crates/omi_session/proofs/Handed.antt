@@ -6,7 +6,7 @@ use Rattle.omi_handle.specs.declared.handle.Kind.{Kind}
 use Rattle.omi_handle.specs.declared.handle.Held.{Held}
 use Rattle.omi_handle.specs.Ledger.{Ledger}
 use Rattle.omi_session.specs.declared.rc.Rc.{Rc}
-use Rattle.omi_session.specs.declared.rc.Rc.TheVariants.{Unavailable, StaleHandle, BadInput, Error, Unsupported, NeedsStateTracking, Incompatible, NoMem, Incomplete, CallbackError}
+use Rattle.omi_session.specs.declared.rc.Rc.TheVariants.{NoMem, CallbackError}
 use Rattle.omi_session.specs.Named.{IsOfKind}
 use Rattle.omi_session.specs.Reads.{Reads, answer_on, Answers}
 use Rattle.omi_session.specs.Made.{IsHanded, Makes, IsMade, Answered, as_pair}
@@ -24,16 +24,9 @@ handed_makes w kind old new (Err rc) (Err why) free named h' = record {
 
 -- an answer that is none of want of memory and of a failed callback
 refused_as : (new : Ledger) (rc : Rc) (answer : Result Held Rc) → rc ≢ NoMem → (rc ≢ CallbackError → answer ≡ Err rc) → IsMade new (Err rc) answer
-refused_as new Unavailable answer free is = is (λ e. cc)
-refused_as new StaleHandle answer free is = is (λ e. cc)
-refused_as new BadInput answer free is = is (λ e. cc)
-refused_as new (Error addr field) answer free is = is (λ e. cc)
-refused_as new Unsupported answer free is = is (λ e. cc)
-refused_as new NeedsStateTracking answer free is = is (λ e. cc)
-refused_as new Incompatible answer free is = is (λ e. cc)
 refused_as new NoMem answer free is = absurd (free refl)
-refused_as new (Incomplete first) answer free is = is (λ e. cc)
 refused_as new CallbackError answer free is = tt
+refused_as new rc answer free is = is (λ e. cc)
 
 -- and its handle stands for the object that the reads answer
 pub handed_answered : (told : Told) (old new : Ledger) (found : Result Held Rc) (r : Result (ℕ × ℕ) Rc) (reads : Reads Held) → found ≢ Err NoMem

@@ -1,4 +1,3 @@
-pub mod SameSymbols
 pub mod Told
 pub mod Refusals
 pub mod StillNamed
@@ -6,7 +5,6 @@ pub mod Slots
 pub mod Asked
 pub mod Handed
 pub mod LookedLaws
-pub mod ShownObjects
 pub mod ShownParts
 pub mod ShownAnswers
 pub mod NamesReached

@@ -5,11 +5,12 @@ use Rattle.std.specs.Prelude.{codes}
 use Rattle.omi_layout.specs.declared.fault.LayoutFault.{LayoutFault}
 use Rattle.omi_layout.specs.declared.fault.LayoutFault.TheVariants.{Version, Overlap, OutOfRecord, BadArena}
 use Rattle.omi_layout.specs.declared.reading.LayoutError.TheVariants.{Unmapped}
-use Rattle.omi_layout.specs.SymbolTable.{Words, symbol_in}
+use Rattle.omi_word.specs.Words.{Words}
+use Rattle.omi_word.specs.SymbolTable.{symbol_in}
 use Rattle.omi_layout.specs.Valid.{word_named}
 use Rattle.omi_layout.specs.Valid as valid
 use Rattle.omi_session.specs.declared.rc.Rc.{Rc}
-use Rattle.omi_session.specs.declared.rc.Rc.TheVariants.{Unavailable, StaleHandle, BadInput, Error, Unsupported, NeedsStateTracking, Incompatible, NoMem, Incomplete, CallbackError}
+use Rattle.omi_session.specs.declared.rc.Rc.TheVariants.{Error, CallbackError}
 use Rattle.omi_session.specs.Opening.{Refuses, StopsAt}
 
 -- the word that a fault names is one of the table
@@ -27,11 +28,4 @@ stopped memory address symbol (Error addr field) h = λ ne. record {
   is = ap (Error addr) h.1;
 }
 stopped memory address symbol CallbackError h = λ ne. absurd (ne refl)
-stopped memory address symbol Unavailable h = absurd h
-stopped memory address symbol StaleHandle h = absurd h
-stopped memory address symbol BadInput h = absurd h
-stopped memory address symbol Unsupported h = absurd h
-stopped memory address symbol NeedsStateTracking h = absurd h
-stopped memory address symbol Incompatible h = absurd h
-stopped memory address symbol NoMem h = absurd h
-stopped memory address symbol (Incomplete first) h = absurd h
+stopped memory address symbol rc h = absurd h

@@ -26,7 +26,7 @@ use Rattle.omi_session.specs.Made.{IsMade, IsHanded}
 use Rattle.omi_session.specs.Answers.{task_of_thread, task_of_member}
 use Rattle.omi_session.specs.Shown.{ShowsTold, HoldsThread, HoldsRegion, HoldsTask, IsGiven, held_thread, held_region, held_task, as_held}
 use Rattle.omi_session.proofs.Handed.{handed_answered}
-use Rattle.omi_session.proofs.ShownObjects.{thread_lives, region_lives, task_lives}
+use Rattle.omi_rep.proofs.LiveObjects.{thread_lives, region_lives, task_lives}
 use Rattle.omi_session.proofs.ShownParts.{then_answered, word_told, object_told, follow_told, optional_told}
 
 -- what a list has at a place

@@ -1,32 +1,19 @@
 -- Over words that show a state, the name of a handle's object is the one that the state has for it.
-use Rattle.std.proofs.Common.{◌≡◌, ℕ, ◌+◌, ◌*◌, ◌/◌, List, Option, Some, None, refl, sym, ap, subst, ◌∙◌, arith}
+use Rattle.std.proofs.Common.{◌≡◌, ℕ, ◌+◌, ◌*◌, ◌/◌, List, Option, Some, None, sym, ap, subst, ◌∙◌, arith}
 use Rattle.std.specs.Prelude.{Result, Ok, Err}
 use Rattle.std.specs.Option.{option_map}
 use Rattle.omi_handle.specs.declared.handle.Kind.{Kind}
 use Rattle.omi_handle.specs.declared.handle.Held.{Held}
-use Rattle.omi_layout.specs.Field.{IsKind}
 use Rattle.omi_layout.specs.Place.{slot_address, IsSlot}
 use Rattle.omi_layout.specs.Valid.{IsValid}
-use Rattle.omi_layout.proofs.Frame.{addresses_apart}
 use Rattle.omi_model.specs.declared.id.Id.{Id}
-use Rattle.omi_rep.specs.Look.{slot_at}
 use Rattle.omi_session.specs.declared.rc.Rc.{Rc}
 use Rattle.omi_session.specs.Named.{record_kind}
 use Rattle.omi_session.specs.Inquiry.{live_handle}
 use Rattle.omi_session.specs.Handles.{name_of, IsNameOf}
 use Rattle.omi_session.proofs.ShownParts.{handle_told}
-use Rattle.omi_session.proofs.Slots.{slot_is, slot_none, kind_is}
-
--- the slot of a record is found at its address
-slot_found : (w : List ℕ) → IsValid w → (kind : ℕ) → IsKind kind → (creator slot : ℕ) → IsSlot w kind creator slot → slot_at w kind (slot_address w kind creator slot) ≡ Some (creator, slot)
-slot_found w valid kind known creator slot is = go (slot_at w kind (slot_address w kind creator slot)) refl
-  where
-    go : (o : Option (ℕ × ℕ)) → slot_at w kind (slot_address w kind creator slot) ≡ o → o ≡ Some (creator, slot)
-    go None e = absurd (slot_none w kind (slot_address w kind creator slot) creator slot e is refl)
-    go (Some at) e =
-        let there = slot_is w kind (slot_address w kind creator slot) at e in
-        let same = addresses_apart w valid kind creator slot at.0 at.1 known is there.0 there.1 in
-        λ i. Some (sym same.maker i, sym same.place i)
+use Rattle.omi_rep.proofs.Slots.{slot_found}
+use Rattle.omi_session.proofs.Slots.{kind_is}
 
 -- the object of a name that is held for a kind has this name
 pub name_told : (w : List ℕ) → IsValid w → (kind : Kind) (n : Id) → IsSlot w (record_kind kind) n.creator n.slot → (found : Option Held)

@@ -3,7 +3,7 @@ use Rattle.std.proofs.Common.{◌≡◌, ◌==◌, ℕ, ◌<◌, Bool, false, co
 use Rattle.std.specs.Prelude.{Ok, Err}
 use Rattle.std.specs.Option.{option_and_then, option_map_or, ok_or}
 use Rattle.std.proofs.lemmas.Bool.Decides.{nat_tests}
-use Rattle.omi_calls.specs.Told.{Words}
+use Rattle.omi_word.specs.Words.{Words}
 use Rattle.omi_handle.specs.declared.handle.Kind.{Kind}
 use Rattle.omi_handle.specs.declared.handle.Held.{Held}
 use Rattle.omi_layout.specs.declared.field.Field.{Field}
@@ -17,7 +17,7 @@ use Rattle.omi_session.specs.Inquiry.{object, word_of, unchanged, object_of, liv
 use Rattle.omi_session.specs.Reads.{Reads, Answer, answer_on, after, then_reads}
 use Rattle.omi_session.specs.Shown.{as_held}
 use Rattle.omi_session.proofs.Asked.{answer_then}
-use Rattle.omi_session.proofs.ShownObjects.{Lives}
+use Rattle.omi_rep.proofs.LiveObjects.{Lives}
 
 -- reads go on after an answer, and end with a refusal
 pub then_answered : {A B : Type 0} (memory : Words) (reads : Reads A) (more : A → Reads B) (x : A) → answer_on memory reads ≡ Ok x
@@ -36,7 +36,7 @@ module _ (w : List ℕ) (memory : Words) where
 
   module _ (kind : Kind) (life : ℕ) where
     -- the object to which the address of its record leads
-    pub lead_told : (f : Field) (pointer : ℕ) → Lives w memory kind pointer life
+    pub lead_told : (f : Field) (pointer : ℕ) → Lives w memory (record_kind kind) pointer life
         → answer_on memory (lead w kind f pointer) ≡ Ok (record { kind = kind; addr = pointer; life = life })
     unfolding lead
     lead_told f pointer is =
@@ -50,21 +50,21 @@ module _ (w : List ℕ) (memory : Words) where
         ap (live_handle kind) held
         ∙ ap (λ (b : Bool). cond b (Ok (record { kind = kind; addr = address; life = life })) (Err BadInput)) (eq-eqb (record_kind kind) (record_kind kind) refl)
 
-    pub unchanged_told : (address : ℕ) → Lives w memory kind address life
+    pub unchanged_told : (address : ℕ) → Lives w memory (record_kind kind) address life
         → answer_on memory (unchanged w (record { kind = kind; addr = address; life = life })) ≡ Ok (record { kind = kind; addr = address; life = life })
     unfolding unchanged
     unchanged_told address is =
         then_answered memory (word_of w address (life_of (record_kind kind)) 0) _ life (word_told address (life_of (record_kind kind)) 0 life is.word)
         ∙ ap (λ (b : Bool). cond b (Ok (record { kind = kind; addr = address; life = life })) (Err StaleHandle)) (eq-eqb life life refl)
 
-    pub object_told : (address : ℕ) (found : Option Held) → found ≡ Some (record { kind = kind; addr = address; life = life }) → Lives w memory kind address life
+    pub object_told : (address : ℕ) (found : Option Held) → found ≡ Some (record { kind = kind; addr = address; life = life }) → Lives w memory (record_kind kind) address life
         → answer_on memory (object_of w kind found) ≡ Ok (record { kind = kind; addr = address; life = life })
     unfolding object_of
     object_told address found held is =
         then_answered memory (Answer (live_handle kind found)) (unchanged w) _ (handle_told address found held) ∙ unchanged_told address is
 
     -- the object to which a word points
-    pub follow_told : (address : ℕ) (f : Field) (at pointer : ℕ) → record_at w memory address (number f) at ≡ Some pointer → Lives w memory kind pointer life
+    pub follow_told : (address : ℕ) (f : Field) (at pointer : ℕ) → record_at w memory address (number f) at ≡ Some pointer → Lives w memory (record_kind kind) pointer life
         → answer_on memory (follow w kind address f at) ≡ Ok (record { kind = kind; addr = pointer; life = life })
     unfolding follow
     follow_told address f at pointer stands is =
@@ -72,14 +72,14 @@ module _ (w : List ℕ) (memory : Words) where
 
   -- the object that a word names, where it may name none: `address_of` and `life_word` are those of each name
   pub optional_told : {N : Type 0} (kind : Kind) (address_of life_word : N → ℕ) (address : ℕ) (f : Field) (named : Option N)
-      → ((n : N) → 0 < address_of n) → ((n : N) → named ≡ Some n → Lives w memory kind (address_of n) (life_word n))
+      → ((n : N) → 0 < address_of n) → ((n : N) → named ≡ Some n → Lives w memory (record_kind kind) (address_of n) (life_word n))
       → record_at w memory address (number f) 0 ≡ Some (option_map_or address_of named 0)
       → answer_on memory (follow_some w kind address f) ≡ as_held (λ n. record { kind = kind; addr = address_of n; life = life_word n }) (ok_or named Unavailable)
   unfolding follow_some
   optional_told {N} kind address_of life_word address f named positive lives stands =
       then_answered memory (word_of w address f 0) _ (option_map_or address_of named 0) (word_told address f 0 _ stands) ∙ go named lives
     where
-      go : (o : Option N) → ((n : N) → o ≡ Some n → Lives w memory kind (address_of n) (life_word n))
+      go : (o : Option N) → ((n : N) → o ≡ Some n → Lives w memory (record_kind kind) (address_of n) (life_word n))
           → answer_on memory (cond (option_map_or address_of o 0 == 0) (Answer (Err Unavailable)) (lead w kind f (option_map_or address_of o 0)))
           ≡ as_held (λ n. record { kind = kind; addr = address_of n; life = life_word n }) (ok_or o Unavailable)
       go None are = refl

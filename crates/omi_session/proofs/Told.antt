@@ -1,8 +1,10 @@
 -- What is told stays told, and a failure in any part of a call is one of the call.
 use Rattle.std.proofs.Common.{◌≡◌, ℕ, ◌≤◌, Some, sym, ap, subst, ◌∙◌, arith}
 use Rattle.omi_outside.specs.Outside.{HasCause}
-use Rattle.omi_calls.specs.Told.{Told, Words, word_at}
+use Rattle.omi_word.specs.Words.{Words}
+use Rattle.omi_calls.specs.Told.{Told, word_at}
 use Rattle.omi_calls.specs.Kept.{Kept}
+use Rattle.omi_session.specs.Opened.{Opened, StaysWhole}
 use Rattle.omi_session.specs.Tells.{Tells, KeepsTold}
 
 -- what holds of the told words holds of the memory that they are
@@ -26,6 +28,13 @@ keeps_then told a b c first second = record {
   same = second.same ∙ first.same;
   order = second.order ∙ first.order;
   to_host = second.to_host ∙ first.to_host;
+}
+
+pub stays_then : {C F : Type 0} (told : C → Told) (a b c : Opened C F) → StaysWhole told a b → StaysWhole told b c → StaysWhole told a c
+stays_then told a b c first second = record {
+  table = keeps_then told a.table b.table c.table first.table second.table;
+  layout = second.layout ∙ first.layout;
+  handles = second.handles ∙ first.handles;
 }
 
 -- a count that rose from a later stand on rose from an earlier one

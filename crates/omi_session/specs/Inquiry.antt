@@ -71,10 +71,14 @@ module _ (w : List ℕ) where
       then_reads (word_of address f 0)
       (λ pointer. if pointer == 0 then Answer (Err Unavailable) else lead kind f pointer)
 
+  -- the live object of a kind to which a field of a handle's object points, which may be 0
+  abbrev pub related : Kind → Option Held → Kind → Field → Reads Held
+  related kind found other f =
+      then_reads (object_of kind found) (λ from. follow_some other from.addr f)
+
   -- the current task of a thread
   unfoldable pub current_task : Option Held → Reads Held
-  current_task t =
-      then_reads (object_of Thread t) (λ thread. follow_some Task thread.addr ThreadCurrent)
+  current_task t = related Thread t Task ThreadCurrent
 
   -- the number of members of the region at an address, which is from 1 to the number of threads
   unfoldable pub team_size : ℕ → Reads ℕ

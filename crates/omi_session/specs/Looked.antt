@@ -4,7 +4,7 @@ use Rattle.omi_handle.specs.declared.handle.Kind.{Kind}
 use Rattle.omi_handle.specs.declared.handle.Held.{Held}
 use Rattle.omi_model.specs.declared.id.Id.{Id}
 use Rattle.omi_layout.specs.declared.field.Field.{Field}
-use Rattle.omi_layout.specs.SymbolTable.{Words}
+use Rattle.omi_word.specs.Words.{Words}
 use Rattle.omi_rep.specs.declared.fault.LookFault.{LookFault}
 use Rattle.omi_rep.specs.declared.fault.LookFault.TheVariants.{Damaged, Cycle}
 use Rattle.omi_rep.specs.Look.{Look, look_word, look_object, look_optional}

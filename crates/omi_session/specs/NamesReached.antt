@@ -4,7 +4,7 @@ use Rattle.omi_script.specs.declared.program.Program.{Program}
 use Rattle.omi_model.specs.declared.event.Event.{Event}
 use Rattle.omi_model.specs.Reached.{Reached}
 use Rattle.omi_model.specs.State.{State}
-use Rattle.omi_session.specs.Shown.{AreNames}
+use Rattle.omi_rep.specs.ShownLooks.{AreNames}
 
 abbrev pub ReachedAreNames : Type 0
 ReachedAreNames = (p : Program) (events : List (ℕ × Event)) (s : State) → Reached p events s

@@ -5,7 +5,7 @@ use Rattle.omi_layout.specs.declared.fault.LayoutFault.TheVariants.{Version, Ove
 use Rattle.omi_layout.specs.declared.reading.LayoutError.{LayoutError}
 use Rattle.omi_layout.specs.declared.reading.LayoutError.TheVariants.{NoSymbol, Unmapped, Refused}
 use Rattle.omi_layout.specs.declared.limits.TheConstants.{TABLE_WORDS}
-use Rattle.omi_layout.specs.SymbolTable.{Words}
+use Rattle.omi_word.specs.Words.{Words}
 use Rattle.omi_layout.specs.Given.{GivesLayout}
 use Rattle.omi_layout.specs.NoLayout.{GivesNone, table_address}
 use Rattle.omi_session.specs.declared.rc.Rc.{Rc}

@@ -1,7 +1,8 @@
 -- An inquiry by the words that it reads: each read names an address, and what follows depends on the word found there, or on that none
 -- is mapped there. So one definition says what is answered, which words are read, and which refusal decides.
 use Rattle.std.specs.Prelude.{◌≡◌, ◌≢◌, ℕ, List, [], ◌∷◌, Option, Result, Ok, Err}
-use Rattle.omi_calls.specs.Told.{Told, Words}
+use Rattle.omi_word.specs.Words.{Words}
+use Rattle.omi_calls.specs.Told.{Told}
 use Rattle.omi_session.specs.declared.rc.Rc.{Rc}
 use Rattle.omi_session.specs.declared.rc.Rc.TheVariants.{CallbackError}
 use Rattle.omi_session.specs.Tells.{Tells}

@@ -1,6 +1,7 @@
 -- What calls answer where the words that the callbacks tell show a state, about the objects of this state that a tool may be shown.
-use Rattle.std.specs.Prelude.{◌≡◌, ◌≢◌, ◌<◌, ℕ, ◌+◌, ◌*◌, ◌^◌, List, Option, Some, Result, Ok, Err}
-use Rattle.omi_calls.specs.Told.{Told, Words}
+use Rattle.std.specs.Prelude.{◌≡◌, ◌≢◌, ℕ, ◌+◌, ◌*◌, List, Option, Some, Result, Ok, Err}
+use Rattle.omi_word.specs.Words.{Words}
+use Rattle.omi_calls.specs.Told.{Told}
 use Rattle.omi_handle.specs.declared.handle.Kind.TheVariants as kind
 use Rattle.omi_handle.specs.declared.handle.Held.{Held}
 use Rattle.omi_handle.specs.Ledger.{Ledger}
@@ -14,6 +15,7 @@ use Rattle.omi_model.specs.Visible.{IsVisibleRegion, IsVisibleTask}
 use Rattle.omi_model.specs.WellFormed.{HasBegun}
 use Rattle.omi_rep.specs.Records.{thread_address, region_address, task_address}
 use Rattle.omi_rep.specs.Shows.{Shows}
+use Rattle.omi_rep.specs.ShownLooks.{AreNames}
 use Rattle.omi_session.specs.declared.rc.Rc.{Rc}
 use Rattle.omi_session.specs.declared.rc.Rc.TheVariants.{CallbackError}
 use Rattle.omi_session.specs.Tells.{Tells}
@@ -30,11 +32,6 @@ held_region w n =
 abbrev pub held_task : List ℕ → Tid → Held
 held_task w k =
     record { kind = kind.Task; addr = task_address w k; life = 2 * k.0.generation + 1 }
-
--- the generations of what is visible have 32 bits, as those of names do
-pub record AreNames (s : State) : Type 0 where
-  pub regions : (n : Rid) → IsVisibleRegion s n → n.0.generation < 2 ^ 32
-  pub tasks : (k : Tid) → IsVisibleTask s k → k.0.generation < 2 ^ 32
 
 -- the callbacks tell words that show the state in this layout, which is valid
 pub record ShowsTold (told : Told) (w : List ℕ) (s : State) : Type 0 where

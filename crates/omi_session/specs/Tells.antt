@@ -1,6 +1,7 @@
 -- What callbacks tell of the target's words, and what no call changes of them.
 use Rattle.std.specs.Prelude.{◌≡◌, ℕ, Some}
-use Rattle.omi_calls.specs.Told.{Told, Words, word_at}
+use Rattle.omi_word.specs.Words.{Words}
+use Rattle.omi_calls.specs.Told.{Told, word_at}
 use Rattle.omi_calls.specs.Kept.{Kept}
 
 -- the order of a word's bytes is told, and so are the words. They are this memory: None where no word stands at an address, or the

@@ -19,7 +19,7 @@ use omi_handle::{Held, Kind};
 use omi_layout::{Field, Layout};
 
 /// The field that has the life word of the records of a kind of object.
-fn life_field(kind: Kind) -> Field
+pub fn life_field(kind: Kind) -> Field
     ensures { result ≡ life_of (record_kind kind) }
 {
     match kind {
@@ -214,4 +214,25 @@ pub fn follow_some<C: Callbacks, F: ToHost>(
         return Err(Rc::Unavailable);
     }
     lead(s, kind, field, pointer)
+}
+
+/// The live object of a kind to which a field of the object of a handle points, under its pair of key and serial. Where the field
+/// holds 0, Unavailable.
+pub fn related<C: Callbacks, F: ToHost>(
+    s: &mut Session<C, F>,
+    kind: Kind,
+    pair: (u64, u64),
+    other: Kind,
+    field: Field,
+) -> Result<Held, Rc>
+    ensures answer { Answers (C.told s.old.table.calls) result (inquiry.related
+        s.old.layout kind (get s.old.handles.held pair) other field) }
+    ensures named { IfOk result (IsOfKind s.old.layout other) }
+    ensures memory { result ≢ Err Rc.NoMem }
+    ensures same { StaysWhole C.told s.old s.new }
+    ensures cause { HasCause (C.faults s.old.table.calls) (C.faults s.new.table.calls)
+        (result ≡ Err Rc.CallbackError) }
+{
+    let from = object(s, kind, pair.0, pair.1)?;
+    follow_some(s, other, from.addr, field)
 }

@@ -13,7 +13,9 @@ mod rc;
 mod session;
 mod version;
 
-pub use asking::{follow, follow_some, lead, live_handle, object, unchanged, word};
+pub use asking::{
+    follow, follow_some, lead, life_field, live_handle, object, related, unchanged, word,
+};
 pub use handing::{hand_region, hand_task, hand_thread};
 pub use handled::{compare, let_go, name};
 pub use laws::{inquiries_look, reached_names_fit};

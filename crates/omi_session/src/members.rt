@@ -10,7 +10,7 @@ ghost use Rattle.omi_session.specs.Opened.{StaysWhole};
 ghost use Rattle.omi_session.specs.Reads.{Answers};
 ghost use Rattle.omi_session.specs.Inquiry as inquiry;
 
-use crate::asking::{follow, follow_some, object, word};
+use crate::asking::{follow, object, related, word};
 use crate::rc::Rc;
 use crate::session::Session;
 use omi_calls::{Callbacks, ToHost};
@@ -18,6 +18,7 @@ use omi_handle::{Held, Kind, RegionHandle, ThreadHandle};
 use omi_layout::Field;
 
 /// The current task of a thread. Where it has none, Unavailable.
+#[tactic(auto, unfolding(crate::specs::Inquiry::current_task))]
 pub fn current_task<C: Callbacks, F: ToHost>(
     s: &mut Session<C, F>,
     t: ThreadHandle,
@@ -30,8 +31,8 @@ pub fn current_task<C: Callbacks, F: ToHost>(
     ensures cause { HasCause (C.faults s.old.table.calls) (C.faults s.new.table.calls)
         (result ≡ Err Rc.CallbackError) }
 {
-    let thread = object(s, Kind::Thread, t.key, t.serial)?;
-    follow_some(s, Kind::Task, thread.addr, Field::ThreadCurrent)
+    let pair = (t.key, t.serial);
+    related(s, Kind::Thread, pair, Kind::Task, Field::ThreadCurrent)
 }
 
 /// The number of members of the region at a byte address. An Error where it isn't from 1 to the number of threads.

@@ -4,7 +4,8 @@ ghost use Rattle.std.specs.Prelude.{◌≡◌, ◌≢◌, ◌<◌, Some, MatchRe
 ghost use Rattle.omi_outside.specs.Outside.{HasCause};
 ghost use Rattle.omi_calls.specs.Memory.{usual_sizes};
 ghost use Rattle.omi_layout.specs.declared.limits.TheConstants.{TABLE_WORDS};
-ghost use Rattle.omi_layout.specs.SymbolTable.{Words, words_from};
+ghost use Rattle.omi_word.specs.Words.{Words};
+ghost use Rattle.omi_word.specs.SymbolTable.{words_from};
 ghost use Rattle.omi_layout.specs.Given.{GivesLayout, wrapped};
 ghost use Rattle.omi_layout.specs.NoLayout.{table_address};
 ghost use Rattle.omi_layout.specs.Valid.{word_named};

@@ -3,7 +3,7 @@
 ghost use Rattle.std.specs.Prelude.{◌≡◌, ◌≢◌, MatchResult, IfErr, IsErrAnd};
 ghost use Rattle.omi_outside.specs.Outside.{HasCause};
 ghost use Rattle.omi_calls.specs.Memory.{usual_sizes};
-ghost use Rattle.omi_layout.specs.SymbolTable.{Words};
+ghost use Rattle.omi_word.specs.Words.{Words};
 ghost use Rattle.omi_layout.specs.Given.{GivesLayout};
 ghost use Rattle.omi_session.specs.Tells.{Tells, KeepsTold};
 ghost use Rattle.omi_session.specs.Named.{AreNamed};

@@ -6,7 +6,7 @@ ghost use Rattle.std.specs.FinMap.{get, insert, remove};
 ghost use Rattle.omi_outside.specs.Outside.{HasCause};
 ghost use Rattle.omi_calls.specs.Told.{word_at};
 ghost use Rattle.omi_handle.specs.declared.handle.Held.{Held};
-ghost use Rattle.omi_layout.specs.SymbolTable.{Words};
+ghost use Rattle.omi_word.specs.Words.{Words};
 ghost use Rattle.omi_layout.specs.declared.limits.TheConstants.{LAST_END};
 ghost use Rattle.omi_session.specs.Tells.{Tells, KeepsTold};
 ghost use Rattle.omi_session.specs.Named.{IsNamed, AreNamed};

@@ -2,9 +2,9 @@
 
 ghost use Rattle.std.specs.Prelude.{◌<◌};
 
-use omi_layout::{Field, Kind, Layout, LayoutError, LayoutFault, field_name, look_up};
+use omi_layout::{Field, Kind, Layout, LayoutError, LayoutFault, field_name};
 use omi_script::{Program, parse};
-use omi_word::{Image, MOST_WORDS, Op};
+use omi_word::{Image, MOST_WORDS, Op, look_up};
 use std::alloc::{AllocError, Global};
 use std::process::Abort;
 use std::test::Fail;

@@ -1,7 +1,8 @@
 -- What a printed text and a fault of writing are not, for the causes that each layer of the top call says.
-use Rattle.std.proofs.Common.{◌≡◌, inl, inr, ℕ, Ok, Err, subst}
+use Rattle.std.proofs.Common.{◌≡◌, ◌≤◌, arith, inl, inr, ℕ, Ok, Err, subst}
 use Rattle.std.specs.Prelude.{Result, IfErr, IsErrAnd}
 use Rattle.std.specs.Global.{Vec}
+use Rattle.omi_outside.specs.Outside.{Rose}
 use Rattle.omi_outside.specs.declared.status.Status.{Status}
 use Rattle.omi_verbs.specs.Refusal.{IsLate, IsReadFault, status_of}
 use Rattle.omi_verbs.specs.Statuses.{IsPrinting}
@@ -23,8 +24,14 @@ late_not_read (Err refusal.WriteFault) late read = read
 late_not_read (Err refusal.OutOfMemory) late read = read
 late_not_read (Err r) late read = late
 
-pub late_writes : {C : Type 0} (command : Command) (result : Result (Vec ℕ) Refusal) → IfErr result IsLate → IfErr result (λ r. IsUnwritten command (status_of r) → C)
-late_writes command (Ok text) late = tt
-late_writes command (Err refusal.WriteFault) late = λ unwritten. absurd unwritten
-late_writes command (Err refusal.OutOfMemory) late = λ unwritten. absurd unwritten
-late_writes command (Err r) late = absurd late
+pub late_writes : (C : Type 0) (command : Command) (result : Result (Vec ℕ) Refusal) → IfErr result IsLate → IfErr result (λ r. IsUnwritten command (status_of r) → C)
+late_writes C command (Ok text) late = tt
+late_writes C command (Err refusal.WriteFault) late = λ unwritten. absurd unwritten
+late_writes C command (Err refusal.OutOfMemory) late = λ unwritten. absurd unwritten
+late_writes C command (Err r) late = absurd late
+
+-- ---- one call behind another
+
+-- a count that rose later rose on the whole
+pub rose_later : (a b c : ℕ) → a ≤ b → Rose b c → Rose a c
+rose_later a b c later rose = first_of (omega (arith, later, rose), grind (arith, later, rose))

@@ -11,7 +11,7 @@ use Rattle.omi_corefile.specs.declared.core_image.CoreImage.{CoreImage}
 use Rattle.omi_corefile.specs.declared.segment.Segment.{Segment}
 use Rattle.omi_word.specs.Memory.{place_of}
 use Rattle.omi_word.specs.declared.limits.TheConstants.{FIRST_ADDRESS}
-use Rattle.omi_layout.specs.SymbolTable.{words_of}
+use Rattle.omi_word.specs.Words.{words_of}
 use Rattle.omi_top.specs.Cores.{words_of_core}
 
 -- the words of one segment from the first address on

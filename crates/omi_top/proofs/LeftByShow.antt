@@ -7,7 +7,7 @@ use Rattle.omi_corefile.specs.Spelling.{Core}
 use Rattle.omi_corefile.specs.declared.core_image.CoreImage.{CoreImage}
 use Rattle.omi_corefile.proofs.FileLaws.{core_unique}
 use Rattle.omi_text.specs.Report.{report}
-use Rattle.omi_layout.specs.SymbolTable.{Words}
+use Rattle.omi_word.specs.Words.{Words}
 use Rattle.omi_core.specs.Runs.{events_in}
 use Rattle.omi_core.specs.Steps.{events_behind}
 use Rattle.omi_session.proofs.NamesReached.{reached_are_names}
@@ -25,7 +25,7 @@ use Rattle.omi_top.specs.Cores.{IsDamaged, IsIncompatible, IsLooked, ShowsState,
 use Rattle.omi_verbs.specs.Refusal.{status_of}
 use Rattle.omi_verbs.specs.Cores.{IsReachedCore, thread_ids}
 use Rattle.omi_top.proofs.ImageWords.{image_words}
-use Rattle.omi_shown.proofs.ShownViews.{shown_looked as shown_look}
+use Rattle.omi_rep.proofs.shown.ShownViews.{shown_looked as shown_look}
 use Rattle.omi_top.proofs.ShowVerdicts.{HasFault, Refusing, all_refusing, damaged as damaged_refused, faulty, incompatible as incompatible_refused, missing, one_looked, one_view, report_not_refused, says_core, says_damaged, says_incompatible, says_missing}
 use Rattle.omi_top.proofs.Statuses.{DidMore, DoesMore, IsDoneStatus, one_content, comes_where, written_more}
 

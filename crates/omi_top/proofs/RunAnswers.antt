@@ -1,11 +1,13 @@
 -- The exits of `run`: what each result is an answer to.
-use Rattle.std.proofs.Common.{◌≡◌, ◌++◌, inl, inr, ℕ, List, Option, Some, None, Ok, Err}
+use Rattle.std.proofs.Common.{◌≡◌, ◌++◌, inl, inr, refl, ℕ, List, Option, Some, None, Ok, Err}
 use Rattle.std.specs.Global.{Vec}
 use Rattle.std.specs.Prelude.{Result}
 use Rattle.omi_outside.specs.Outside.{Told}
-use Rattle.omi_top.specs.Answer.{Gives, IsAnswered, IsBehind, IsEarly, IsShowAnswer, IsStopAnswer, IsWritten}
+use Rattle.omi_top.specs.Answer.{Gives, IsAnswered, IsBehind, IsEarly, IsShowAnswer, IsStopAnswer, IsUnwritten, IsWritten}
 use Rattle.omi_top.specs.Command.{Run, Show, Stop}
 use Rattle.omi_top.specs.declared.plan.Plan.{Plan}
+use Rattle.omi_outside.specs.declared.status.Status.TheVariants as status
+use Rattle.omi_verbs.specs.Refusal.{status_of}
 use Rattle.omi_verbs.specs.declared.refusal.Input.TheVariants as input
 use Rattle.omi_verbs.specs.declared.refusal.Refusal.{Refusal}
 use Rattle.omi_verbs.specs.declared.refusal.Refusal.TheVariants as refusal
@@ -15,26 +17,17 @@ read_back : (plan : Plan) (script core : List ℕ) (r : Refusal) → IsEarly (Sh
 read_back plan script core (refusal.ReadFault input.Script) is = is
 read_back plan script core (refusal.ReadFault input.Core) is = tt
 read_back plan script core refusal.OutOfMemory is = tt
-read_back plan script core refusal.Usage is = is
-read_back plan script core (refusal.NoFile read) is = is
-read_back plan script core refusal.WriteFault is = is
-read_back plan script core (refusal.Script fault) is = is
-read_back plan script core (refusal.Core at why) is = is
-read_back plan script core (refusal.Damaged addr field) is = is
-read_back plan script core (refusal.Cycle addr) is = is
-read_back plan script core refusal.Incompatible is = is
+read_back plan script core r is = is
 
 show_never_behind : (core : List ℕ) (r : Refusal) → IsBehind (Show core) r → ⊥
-show_never_behind core (refusal.ReadFault read) is = is
-show_never_behind core refusal.OutOfMemory is = is
-show_never_behind core refusal.Usage is = is
-show_never_behind core (refusal.NoFile read) is = is
-show_never_behind core refusal.WriteFault is = is
-show_never_behind core (refusal.Script fault) is = is
-show_never_behind core (refusal.Core at why) is = is
-show_never_behind core (refusal.Damaged addr field) is = is
-show_never_behind core (refusal.Cycle addr) is = is
-show_never_behind core refusal.Incompatible is = is
+show_never_behind core r is = is
+
+-- what `show` is refused for stands behind the core that was written: it refuses no words and no script
+pub shows_last : (plan : Plan) (script core : List ℕ) (r : Refusal) → (let ended : Refusal → Result (Vec ℕ) Refusal = λ x. Err x in ended r ≡ ended refusal.Usage → ⊥)
+    → (status_of r ≡ status.Script → ⊥) → IsUnwritten (Run plan script core) (status_of r) → ⊥
+shows_last plan script core refusal.Usage words text is = words refl
+shows_last plan script core (refusal.Script fault) words text is = text refl
+shows_last plan script core r words text is = is
 
 -- `show` writes nothing
 show_writes_none : (content : Option (List ℕ)) (bytes : List ℕ) (says : Result (List ℕ) Refusal) → IsShowAnswer content (Gives (Some bytes) says) → ⊥

@@ -1,7 +1,7 @@
 -- A run that was made is a run of the definition.
 use Rattle.std.proofs.Common.{◌≡◌, ◌≤◌, ◌<◌, ◌++◌, ℕ, List, [], ◌∷◌, length, map, refl, sym, ◌∙◌, ap, subst, arith}
 use Rattle.omi_script.specs.declared.program.Program.{Program}
-use Rattle.omi_layout.specs.SymbolTable.{words_of}
+use Rattle.omi_word.specs.Words.{words_of}
 use Rattle.omi_model.specs.declared.event.Event.{Event}
 use Rattle.omi_model.specs.Reached.{Reached}
 use Rattle.omi_model.specs.State.{State}

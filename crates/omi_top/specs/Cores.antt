@@ -6,7 +6,7 @@ use Rattle.omi_corefile.specs.Spelling.{Core}
 use Rattle.omi_corefile.specs.declared.core_image.CoreImage.{CoreImage}
 use Rattle.omi_layout.specs.Given.{GivesLayout}
 use Rattle.omi_layout.specs.NoLayout.{GivesNone}
-use Rattle.omi_layout.specs.SymbolTable.{Words}
+use Rattle.omi_word.specs.Words.{Words}
 use Rattle.omi_layout.specs.Valid.{IsValid}
 use Rattle.omi_layout.specs.declared.fault.LayoutFault.TheVariants.{Version}
 use Rattle.omi_layout.specs.declared.reading.LayoutError.{LayoutError}
@@ -17,7 +17,7 @@ use Rattle.omi_rep.specs.Look.{Look}
 use Rattle.omi_rep.specs.LookView.{look_view}
 use Rattle.omi_rep.specs.Shows.{Shows}
 use Rattle.omi_rep.specs.declared.fault.LookFault.{LookFault}
-use Rattle.omi_session.specs.Shown.{AreNames}
+use Rattle.omi_rep.specs.ShownLooks.{AreNames}
 
 -- the words of a core by their addresses: those of its segments, none at an unaligned address
 abbrev pub words_of_core : CoreImage → Words

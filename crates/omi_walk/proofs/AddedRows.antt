@@ -1,7 +1,8 @@
 -- Rows that are added one part after the other.
 use Rattle.std.proofs.Common.{◌≡◌, ℕ, List, [], ◌∷◌, ◌++◌, refl, sym, ap, subst, ◌∙◌, append_assoc, append-nil}
 use Rattle.std.specs.Prelude.{Result, Ok, Err}
-use Rattle.omi_calls.specs.Told.{Told, Words}
+use Rattle.omi_word.specs.Words.{Words}
+use Rattle.omi_calls.specs.Told.{Told}
 use Rattle.omi_rep.specs.Look.{Look, and_then, mapped, each}
 use Rattle.omi_session.specs.Opened.{Opened, Stays}
 use Rattle.omi_walk.specs.declared.fault.WalkFault.{WalkFault}

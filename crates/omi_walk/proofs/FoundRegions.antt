@@ -1,7 +1,8 @@
 -- The look at the regions of a thread in parts: its current task, the region of this task, and those which enclose it.
 use Rattle.std.proofs.Common.{◌≡◌, ℕ, List, [], Option, Some, None, refl, sym, ap, subst, ◌∙◌}
 use Rattle.std.specs.Prelude.{Result, Ok, Err}
-use Rattle.omi_calls.specs.Told.{Told, Words}
+use Rattle.omi_word.specs.Words.{Words}
+use Rattle.omi_calls.specs.Told.{Told}
 use Rattle.omi_layout.specs.declared.field.Field.TheVariants.{TaskRegion}
 use Rattle.omi_layout.specs.Field.{regions, tasks}
 use Rattle.omi_layout.specs.Table.{records}

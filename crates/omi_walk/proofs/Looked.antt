@@ -4,7 +4,8 @@ use Rattle.std.specs.Prelude.{Result, Ok, Err, is_some}
 use Rattle.std.specs.Option.{option_and_then, ok_or}
 use Rattle.std.specs.FinMap.{get, remove}
 use Rattle.omi_calls.specs.Kept.{Kept}
-use Rattle.omi_calls.specs.Told.{Told, Words}
+use Rattle.omi_word.specs.Words.{Words}
+use Rattle.omi_calls.specs.Told.{Told}
 use Rattle.omi_handle.specs.declared.handle.Kind.{Kind}
 use Rattle.omi_handle.specs.declared.handle.Held.{Held}
 use Rattle.omi_handle.specs.Ledger.{Ledger}
@@ -15,7 +16,7 @@ use Rattle.omi_rep.specs.declared.fault.LookFault.{LookFault}
 use Rattle.omi_rep.specs.declared.fault.LookFault.TheVariants as look
 use Rattle.omi_rep.specs.Look.{Look, address_of, look_word, look_object, look_optional, slot_at, life_of, is_live}
 use Rattle.omi_session.specs.declared.rc.Rc.{Rc}
-use Rattle.omi_session.specs.declared.rc.Rc.TheVariants.{Unavailable, StaleHandle, BadInput, Error, Unsupported, NeedsStateTracking, Incompatible, NoMem, Incomplete, CallbackError}
+use Rattle.omi_session.specs.declared.rc.Rc.TheVariants.{Unavailable, BadInput, Error, NoMem, CallbackError}
 use Rattle.omi_session.specs.Handles.{name_of}
 use Rattle.omi_session.specs.Inquiry.{object, object_of, live_handle, unchanged, place_of, word_of, lead, follow, follow_some}
 use Rattle.omi_session.specs.Looked.{IsLook, IsOf, IsOptional, IsFault}
@@ -62,15 +63,7 @@ value_gives {A} found result answer l is looked = go result answer l is looked
         → IsLook {A = A} {B = A} (λ x y. x ≡ y) answer l → Gives (walked found result) l
     go (Ok x) answer l is looked = ok x answer l (is (λ e. cc)) looked
     go (Err CallbackError) answer l is looked = tt
-    go (Err Unavailable) answer l is looked = err Unavailable answer l (is (λ e. cc)) looked
-    go (Err StaleHandle) answer l is looked = err StaleHandle answer l (is (λ e. cc)) looked
-    go (Err BadInput) answer l is looked = err BadInput answer l (is (λ e. cc)) looked
-    go (Err (Error addr field)) answer l is looked = err (Error addr field) answer l (is (λ e. cc)) looked
-    go (Err Unsupported) answer l is looked = err Unsupported answer l (is (λ e. cc)) looked
-    go (Err NeedsStateTracking) answer l is looked = err NeedsStateTracking answer l (is (λ e. cc)) looked
-    go (Err Incompatible) answer l is looked = err Incompatible answer l (is (λ e. cc)) looked
-    go (Err NoMem) answer l is looked = err NoMem answer l (is (λ e. cc)) looked
-    go (Err (Incomplete first)) answer l is looked = err (Incomplete first) answer l (is (λ e. cc)) looked
+    go (Err rc) answer l is looked = err rc answer l (is (λ e. cc)) looked
 
 -- ---- handles
 
@@ -179,27 +172,13 @@ module _ (w : List ℕ) (new : Ledger) (found : Option Held) where
   pub refused_object : (rc : Rc) (answer : Result Held Rc) (l : Look Id) → IsMade new (Err rc) answer → IsLook (IsOf w) answer l → Gives {A = Id} (Err (fault_of found rc)) l
   refused_object CallbackError answer l made looked = tt
   refused_object NoMem answer l made looked = tt
-  refused_object Unavailable answer l made looked = object_err Unavailable answer l made looked
-  refused_object StaleHandle answer l made looked = object_err StaleHandle answer l made looked
-  refused_object BadInput answer l made looked = object_err BadInput answer l made looked
-  refused_object (Error addr field) answer l made looked = object_err (Error addr field) answer l made looked
-  refused_object Unsupported answer l made looked = object_err Unsupported answer l made looked
-  refused_object NeedsStateTracking answer l made looked = object_err NeedsStateTracking answer l made looked
-  refused_object Incompatible answer l made looked = object_err Incompatible answer l made looked
-  refused_object (Incomplete first) answer l made looked = object_err (Incomplete first) answer l made looked
+  refused_object rc answer l made looked = object_err rc answer l made looked
 
   pub refused_optional : (rc : Rc) (answer : Result Held Rc) (l : Look (Option Id)) → rc ≢ Unavailable → IsMade new (Err rc) answer → IsOptional w answer l
       → Gives {A = Option Id} (Err (fault_of found rc)) l
   refused_optional CallbackError answer l ne made looked = tt
   refused_optional NoMem answer l ne made looked = tt
-  refused_optional Unavailable answer l ne made looked = absurd (ne refl)
-  refused_optional StaleHandle answer l ne made looked = optional_err StaleHandle answer l ne made looked
-  refused_optional BadInput answer l ne made looked = optional_err BadInput answer l ne made looked
-  refused_optional (Error addr field) answer l ne made looked = optional_err (Error addr field) answer l ne made looked
-  refused_optional Unsupported answer l ne made looked = optional_err Unsupported answer l ne made looked
-  refused_optional NeedsStateTracking answer l ne made looked = optional_err NeedsStateTracking answer l ne made looked
-  refused_optional Incompatible answer l ne made looked = optional_err Incompatible answer l ne made looked
-  refused_optional (Incomplete first) answer l ne made looked = optional_err (Incomplete first) answer l ne made looked
+  refused_optional rc answer l ne made looked = optional_err rc answer l ne made looked
 
   -- there may be none
   pub absent_gives : (rc : Rc) (answer : Result Held Rc) (l : Look (Option Id)) → IsMade new (Err rc) answer → IsOptional w answer l
@@ -207,13 +186,7 @@ module _ (w : List ℕ) (new : Ledger) (found : Option Held) where
   absent_gives Unavailable answer l made looked = found_none w new answer l made looked
   absent_gives CallbackError answer l made looked = tt
   absent_gives NoMem answer l made looked = tt
-  absent_gives StaleHandle answer l made looked = optional_err StaleHandle answer l (λ e. cc) made looked
-  absent_gives BadInput answer l made looked = optional_err BadInput answer l (λ e. cc) made looked
-  absent_gives (Error addr field) answer l made looked = optional_err (Error addr field) answer l (λ e. cc) made looked
-  absent_gives Unsupported answer l made looked = optional_err Unsupported answer l (λ e. cc) made looked
-  absent_gives NeedsStateTracking answer l made looked = optional_err NeedsStateTracking answer l (λ e. cc) made looked
-  absent_gives Incompatible answer l made looked = optional_err Incompatible answer l (λ e. cc) made looked
-  absent_gives (Incomplete first) answer l made looked = optional_err (Incomplete first) answer l (λ e. cc) made looked
+  absent_gives rc answer l made looked = optional_err rc answer l (λ e. cc) made looked
 
 -- ---- objects that live
 

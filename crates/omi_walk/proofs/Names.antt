@@ -11,7 +11,7 @@ use Rattle.omi_layout.specs.Place.{slot_address}
 use Rattle.omi_rep.specs.Look.{slot_at, address_of}
 use Rattle.omi_session.specs.Handles.{name_of}
 use Rattle.omi_session.specs.Named.{record_kind}
-use Rattle.omi_session.proofs.Slots.{slot_is}
+use Rattle.omi_rep.proofs.Slots.{slot_is}
 
 -- the record of an object is the one that its name has
 pub named_address : (w : List ℕ) (h : Held) (n : Id) → name_of w h ≡ Some n → h.addr ≡ address_of w (record_kind h.kind) n

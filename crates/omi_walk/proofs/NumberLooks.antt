@@ -3,7 +3,8 @@ use Rattle.std.proofs.Common.{◌≡◌, ◌+◌, zero, suc, arith, ℕ, List, [
 use Rattle.std.specs.Prelude.{Result, Ok, Err}
 use Rattle.std.specs.FinMap.{get}
 use Rattle.std.specs.List.{range_with_len}
-use Rattle.omi_calls.specs.Told.{Told, Words}
+use Rattle.omi_word.specs.Words.{Words}
+use Rattle.omi_calls.specs.Told.{Told}
 use Rattle.omi_handle.specs.declared.handle.Kind.TheVariants.{Task}
 use Rattle.omi_handle.specs.declared.handle.TaskHandle.{TaskHandle}
 use Rattle.omi_icv.specs.declared.icv_text.Value.{Value}

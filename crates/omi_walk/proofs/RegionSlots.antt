@@ -5,7 +5,7 @@ use Rattle.std.specs.List.{All, flat_map, filter_map, cons_option, range_with_le
 use Rattle.std.specs.Ordering.{nat_cmp}
 use Rattle.std.proofs.lemmas.List.Elements.{filter_map-append, All-head, All-tail}
 use Rattle.std.proofs.lemmas.Grind.{flat_map-append}
-use Rattle.omi_calls.specs.Told.{Words}
+use Rattle.omi_word.specs.Words.{Words}
 use Rattle.omi_layout.specs.Field.{regions}
 use Rattle.omi_layout.specs.Table.{per_thread, makers}
 use Rattle.omi_model.specs.declared.id.Id.{Id}

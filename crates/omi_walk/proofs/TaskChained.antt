@@ -2,7 +2,8 @@
 use Rattle.std.proofs.Common.{◌≡◌, ℕ, suc, zero, Bool, false, List, [], ◌∷◌, ◌++◌, Option, Some, None, refl, sym, ap, ◌∙◌, append-nil}
 use Rattle.std.specs.Prelude.{Ok, Err}
 use Rattle.std.specs.Option.{option_map}
-use Rattle.omi_calls.specs.Told.{Told, Words}
+use Rattle.omi_word.specs.Words.{Words}
+use Rattle.omi_calls.specs.Told.{Told}
 use Rattle.omi_layout.specs.Field.{tasks}
 use Rattle.omi_layout.specs.Table.{records}
 use Rattle.omi_model.specs.declared.id.Id.{Id}

@@ -2,7 +2,8 @@
 use Rattle.std.proofs.Common.{◌≡◌, ◌∙◌, ℕ, List, refl, subst}
 use Rattle.std.specs.Option.{option_map}
 use Rattle.std.specs.Prelude.{Result, Ok, Err}
-use Rattle.omi_calls.specs.Told.{Told, Words}
+use Rattle.omi_word.specs.Words.{Words}
+use Rattle.omi_calls.specs.Told.{Told}
 use Rattle.omi_layout.specs.declared.field.Field.TheVariants.{TaskImplicit, TaskRegion, TaskFunction, TaskGenerating, TaskScheduling, TaskExit, TaskEnter, TaskDynamic, TaskSchedule, TaskDevice, TaskFinal, TaskTool}
 use Rattle.omi_layout.specs.Field.{regions, tasks}
 use Rattle.omi_model.specs.declared.id.Id.{Id}

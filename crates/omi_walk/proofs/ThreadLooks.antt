@@ -6,7 +6,8 @@ use Rattle.std.specs.FinMap.{get}
 use Rattle.std.specs.List.{range_with_len}
 use Rattle.std.specs.Option.{option_map, ok_or}
 use Rattle.omi_calls.specs.Kept.{Kept}
-use Rattle.omi_calls.specs.Told.{Told, Words}
+use Rattle.omi_word.specs.Words.{Words}
+use Rattle.omi_calls.specs.Told.{Told}
 use Rattle.omi_handle.specs.declared.handle.Kind.TheVariants.{Thread, Task}
 use Rattle.omi_handle.specs.declared.handle.Held.{Held}
 use Rattle.omi_handle.specs.declared.handle.ThreadHandle.{ThreadHandle}
@@ -32,7 +33,7 @@ use Rattle.omi_rep.specs.Look.{Look, and_then, address_of, look_word, look_optio
 use Rattle.omi_rep.specs.LookView.{look_for, look_state, look_current, of_thread, of_task, of_runtime}
 use Rattle.omi_rep.specs.Records.{runtime_address, thread_address}
 use Rattle.omi_session.specs.declared.rc.Rc.{Rc}
-use Rattle.omi_session.specs.declared.rc.Rc.TheVariants.{Unavailable, StaleHandle, BadInput, Error, Unsupported, NeedsStateTracking, Incompatible, NoMem, Incomplete, CallbackError}
+use Rattle.omi_session.specs.declared.rc.Rc.TheVariants.{Unavailable, NeedsStateTracking, NoMem, CallbackError}
 use Rattle.omi_session.specs.Handles.{name_of}
 use Rattle.omi_session.specs.Inquiry.{place_of, word_of, follow_some, unchanged}
 use Rattle.omi_session.specs.Looked.{IsLook, IsFault, IsOptional}
@@ -45,7 +46,7 @@ use Rattle.omi_session.proofs.Asked.{answer_then}
 use Rattle.omi_session.proofs.LookedLaws.{word_is_looked, optional_is_looked}
 use Rattle.omi_session.proofs.ShownParts.{unchanged_told}
 use Rattle.omi_session.proofs.ShownNames.{name_told}
-use Rattle.omi_session.proofs.Slots.{slot_is}
+use Rattle.omi_rep.proofs.Slots.{slot_is}
 use Rattle.omi_session.proofs.Told.{still_tells}
 use Rattle.omi_ask.specs.Threads.{begun, has_id, first_with, thread_with}
 use Rattle.omi_walk.specs.declared.fault.WalkFault.{WalkFault}
@@ -214,25 +215,13 @@ pub absent_maybe : {A : Type 0} (found : Option Held) (rc : Rc) (answer : Result
 absent_maybe {A} found Unavailable answer l is looked = maybe_none A Unavailable answer l unavailable_never (is (λ e. cc)) looked
 absent_maybe {A} found CallbackError answer l is looked = tt
 absent_maybe {A} found NoMem answer l is looked = tt
-absent_maybe {A} found StaleHandle answer l is looked = maybe_err A found Unavailable StaleHandle answer l (λ e. cc) (is (λ e. cc)) looked
-absent_maybe {A} found BadInput answer l is looked = maybe_err A found Unavailable BadInput answer l (λ e. cc) (is (λ e. cc)) looked
-absent_maybe {A} found (Error addr field) answer l is looked = maybe_err A found Unavailable (Error addr field) answer l (λ e. cc) (is (λ e. cc)) looked
-absent_maybe {A} found Unsupported answer l is looked = maybe_err A found Unavailable Unsupported answer l (λ e. cc) (is (λ e. cc)) looked
-absent_maybe {A} found NeedsStateTracking answer l is looked = maybe_err A found Unavailable NeedsStateTracking answer l (λ e. cc) (is (λ e. cc)) looked
-absent_maybe {A} found Incompatible answer l is looked = maybe_err A found Unavailable Incompatible answer l (λ e. cc) (is (λ e. cc)) looked
-absent_maybe {A} found (Incomplete first) answer l is looked = maybe_err A found Unavailable (Incomplete first) answer l (λ e. cc) (is (λ e. cc)) looked
+absent_maybe {A} found rc answer l is looked = maybe_err A found Unavailable rc answer l (λ e. cc) (is (λ e. cc)) looked
 
 pub untracked_maybe : {A : Type 0} (found : Option Held) (rc : Rc) (answer : Result A Rc) (l : Look (Option A)) → (rc ≢ CallbackError → Err rc ≡ answer) → IsMaybe NeedsStateTracking answer l → Gives (untracked found rc) l
 untracked_maybe {A} found NeedsStateTracking answer l is looked = maybe_none A NeedsStateTracking answer l untracked_never (is (λ e. cc)) looked
 untracked_maybe {A} found CallbackError answer l is looked = tt
 untracked_maybe {A} found NoMem answer l is looked = tt
-untracked_maybe {A} found StaleHandle answer l is looked = maybe_err A found NeedsStateTracking StaleHandle answer l (λ e. cc) (is (λ e. cc)) looked
-untracked_maybe {A} found BadInput answer l is looked = maybe_err A found NeedsStateTracking BadInput answer l (λ e. cc) (is (λ e. cc)) looked
-untracked_maybe {A} found (Error addr field) answer l is looked = maybe_err A found NeedsStateTracking (Error addr field) answer l (λ e. cc) (is (λ e. cc)) looked
-untracked_maybe {A} found Unsupported answer l is looked = maybe_err A found NeedsStateTracking Unsupported answer l (λ e. cc) (is (λ e. cc)) looked
-untracked_maybe {A} found Unavailable answer l is looked = maybe_err A found NeedsStateTracking Unavailable answer l (λ e. cc) (is (λ e. cc)) looked
-untracked_maybe {A} found Incompatible answer l is looked = maybe_err A found NeedsStateTracking Incompatible answer l (λ e. cc) (is (λ e. cc)) looked
-untracked_maybe {A} found (Incomplete first) answer l is looked = maybe_err A found NeedsStateTracking (Incomplete first) answer l (λ e. cc) (is (λ e. cc)) looked
+untracked_maybe {A} found rc answer l is looked = maybe_err A found NeedsStateTracking rc answer l (λ e. cc) (is (λ e. cc)) looked
 
 -- that no thread was found
 pub absent_thread : (w : List ℕ) (memory : Words) (new : Ledger) (found : Option Held) (rc : Rc) (answer : Result Held Rc) (l : Look (Option ℕ)) → IsMade new (Err rc) answer → IsFound w memory answer l
@@ -249,13 +238,7 @@ absent_thread w memory new found rc answer l made looked = go rc made
     go Unavailable made = absent_maybe found Unavailable (Err Unavailable) l (λ ne. refl) (as_maybe Unavailable answer l made looked)
     go CallbackError made = tt
     go NoMem made = tt
-    go StaleHandle made = absent_maybe found StaleHandle (Err StaleHandle) l (λ ne. refl) (as_maybe StaleHandle answer l made looked)
-    go BadInput made = absent_maybe found BadInput (Err BadInput) l (λ ne. refl) (as_maybe BadInput answer l made looked)
-    go (Error addr field) made = absent_maybe found (Error addr field) (Err (Error addr field)) l (λ ne. refl) (as_maybe (Error addr field) answer l made looked)
-    go Unsupported made = absent_maybe found Unsupported (Err Unsupported) l (λ ne. refl) (as_maybe Unsupported answer l made looked)
-    go NeedsStateTracking made = absent_maybe found NeedsStateTracking (Err NeedsStateTracking) l (λ ne. refl) (as_maybe NeedsStateTracking answer l made looked)
-    go Incompatible made = absent_maybe found Incompatible (Err Incompatible) l (λ ne. refl) (as_maybe Incompatible answer l made looked)
-    go (Incomplete first) made = absent_maybe found (Incomplete first) (Err (Incomplete first)) l (λ ne. refl) (as_maybe (Incomplete first) answer l made looked)
+    go why made = absent_maybe found why (Err why) l (λ ne. refl) (as_maybe why answer l made looked)
 
 -- ---- a thread's record
 

@@ -4,7 +4,8 @@ use Rattle.std.specs.Prelude.{Result, Ok, Err, IfSome}
 use Rattle.std.specs.BTreeMap.{BTreeMap}
 use Rattle.std.specs.List.{All, flat_map, filter_map}
 use Rattle.std.proofs.lemmas.List.Elements.{All-head, All-tail}
-use Rattle.omi_calls.specs.Told.{Told, Words}
+use Rattle.omi_word.specs.Words.{Words}
+use Rattle.omi_calls.specs.Told.{Told}
 use Rattle.omi_handle.specs.declared.handle.Kind.TheVariants.{Region}
 use Rattle.omi_layout.specs.Field.{regions}
 use Rattle.omi_model.specs.declared.id.Id.{Id}
@@ -137,3 +138,12 @@ module _ {C F : Type 0} (told : C → Told) (contexts : List ℕ) where
             looks_as told look_region s (Ok (view task_rows)) (λ w memory. and_then (chain_rows threads w memory) (λ task_rows. Ok (view task_rows))) (behind_regions head rows region_rows) as_chains
             (look_then told s s task_rows (Ok (view task_rows)) (chain_rows threads) (λ w memory task_rows. Ok (view task_rows)) first
             (record { table = record { same = refl; order = refl; to_host = refl }; layout = refl }) (look_is told s (view task_rows)))
+
+  -- the header, the rows of contexts and the regions of threads were looked at, one after the other
+  pub until_met : (s t u v : Opened C F) (r : Result View WalkFault) (head : HeadRow) (rows : List ThreadRow) (threads : List ℕ) (met : List (List Id))
+      → Looks told s (Ok head) (λ w memory. look_head w memory) → Stays told s t
+      → Looks told t (Ok rows) (λ w memory. each (look_thread w memory) contexts) → Stays told t u → ((w : List ℕ) (memory : Words) → threads ≡ found_threads w memory rows)
+      → Looks told u (Ok met) (λ w memory. each (look_regions w memory) threads) → Stays told u v
+      → Looks told v r (behind_met head rows met) → Looks told s r (λ w memory. look_view w memory contexts)
+  until_met s t u v r head rows threads met first to_t second to_u found third to_v rest =
+      head_then s t r head first to_t (rows_then t u r head rows second to_u (met_then u head rows threads found v r met third to_v rest))

@@ -1,7 +1,7 @@
 -- Rows of a report that are added to those before.
 use Rattle.std.specs.Prelude.{◌≡◌, ◌++◌, ℕ, List, Result, Ok, Err}
 use Rattle.omi_calls.specs.Told.{Told}
-use Rattle.omi_layout.specs.SymbolTable.{Words}
+use Rattle.omi_word.specs.Words.{Words}
 use Rattle.omi_rep.specs.Look.{Look}
 use Rattle.omi_session.specs.Opened.{Opened}
 use Rattle.omi_walk.specs.Gives.{Looks}

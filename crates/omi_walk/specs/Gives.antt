@@ -1,6 +1,7 @@
 -- What a walk answers: what a plain look at the told words gives, or its first refusal.
 use Rattle.std.specs.Prelude.{◌≡◌, ℕ, List, Result, Ok, Err}
-use Rattle.omi_calls.specs.Told.{Told, Words}
+use Rattle.omi_word.specs.Words.{Words}
+use Rattle.omi_calls.specs.Told.{Told}
 use Rattle.omi_rep.specs.Look.{Look}
 use Rattle.omi_rep.specs.declared.fault.LookFault.TheVariants as plain
 use Rattle.omi_session.specs.Opened.{Opened}

@@ -3,6 +3,7 @@ pub mod Gives
 pub mod Leaves
 -- Private functions alone cite these: what is met on the way, and the parts of a report.
 pub mod Objects
+pub mod Relations
 pub mod Threads
 pub mod SeenThreads
 pub mod FoundThreads

@@ -2,7 +2,8 @@
 use Rattle.std.specs.Prelude.{◌≡◌, ℕ, Option, Some, Result, Ok, Err}
 use Rattle.std.specs.Option.{option_map}
 use Rattle.std.specs.FinMap.{get}
-use Rattle.omi_calls.specs.Told.{Told, Words}
+use Rattle.omi_word.specs.Words.{Words}
+use Rattle.omi_calls.specs.Told.{Told}
 use Rattle.omi_handle.specs.declared.handle.Kind.{Kind}
 use Rattle.omi_handle.specs.declared.handle.Held.{Held}
 use Rattle.omi_model.specs.declared.id.Id.{Id}

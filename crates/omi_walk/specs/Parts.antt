@@ -2,7 +2,7 @@
 use Rattle.std.specs.Prelude.{ℕ, List, Ok}
 use Rattle.omi_layout.specs.declared.field.Field.TheVariants.{RegionSize, TaskExit, TaskEnter}
 use Rattle.omi_layout.specs.Field.{regions}
-use Rattle.omi_layout.specs.SymbolTable.{Words}
+use Rattle.omi_word.specs.Words.{Words}
 use Rattle.omi_layout.specs.Table.{thread_count}
 use Rattle.omi_model.specs.declared.id.Id.{Id}
 use Rattle.omi_rep.specs.Look.{Look, and_then, address_of}

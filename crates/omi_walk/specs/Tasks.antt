@@ -3,7 +3,7 @@ use Rattle.std.specs.Prelude.{ℕ, List, Result, Ok, Err}
 use Rattle.std.specs.Option.{option_map}
 use Rattle.omi_layout.specs.declared.field.Field.TheVariants.{TaskImplicit, TaskRegion, TaskFunction, TaskGenerating, TaskScheduling, TaskDynamic, TaskSchedule, TaskDevice, TaskFinal}
 use Rattle.omi_layout.specs.Field.{regions, tasks}
-use Rattle.omi_layout.specs.SymbolTable.{Words}
+use Rattle.omi_word.specs.Words.{Words}
 use Rattle.omi_model.specs.declared.id.Id.{Id}
 use Rattle.omi_model.specs.declared.view.TaskRow.{TaskRow}
 use Rattle.omi_rep.specs.Look.{Look, and_then, address_of, look_object, look_optional, look_onward}

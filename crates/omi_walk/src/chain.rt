@@ -18,7 +18,7 @@ ghost use Rattle.omi_walk.specs.Objects.{IsMet, name_met, names_met};
 
 use crate::WalkFault;
 use crate::met::{Met, hand};
-use crate::related::{enclosing_of, region_of};
+use crate::related::{Relation, region_of, related_of};
 use omi_calls::{Callbacks, ToHost};
 use omi_handle::{RegionHandle, TaskHandle};
 use omi_layout::Layout;
@@ -75,7 +75,7 @@ fn onward<C: Callbacks, F: ToHost>(
         (result ≡ Err WalkFault.Callback) }
 {
     let (key, serial) = hand(s, region)?;
-    let next = enclosing_of(s, RegionHandle { key, serial });
+    let next = related_of(s, Relation::Enclosing(RegionHandle { key, serial }));
     s.release(key, serial);
     unmet(next?, met)
 }

@@ -2,15 +2,11 @@
 
 ghost use Rattle.std.specs.Prelude.{◌≡◌};
 ghost use Rattle.std.specs.FinMap.{get};
-ghost use Rattle.omi_rep.specs.Look.{life_of};
-ghost use Rattle.omi_session.specs.Named.{record_kind};
 ghost use Rattle.omi_walk.specs.declared.fault.WalkFault.TheVariants.{OutOfMemory};
 ghost use Rattle.omi_walk.specs.Fault as the;
 
 use omi_calls::{Callbacks, ToHost};
-use omi_handle::Kind;
-use omi_layout::Field;
-use omi_session::{Rc, Session};
+use omi_session::{Rc, Session, life_field};
 use std::alloc::{AllocError, AllocFailed};
 
 /// Why a walk has no answer.
@@ -40,17 +36,6 @@ impl<T: Drop> From<AllocFailed<T>> for WalkFault {
 
     fn from(_: AllocFailed<T>) -> WalkFault {
         WalkFault::OutOfMemory
-    }
-}
-
-/// The field that has the life word of a kind of object.
-fn life_field(kind: Kind) -> Field
-    ensures { result ≡ life_of (record_kind kind) }
-{
-    match kind {
-        Kind::Thread => Field::ThreadLife,
-        Kind::Region => Field::RegionLife,
-        Kind::Task => Field::TaskLife,
     }
 }
 

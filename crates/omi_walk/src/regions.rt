@@ -15,7 +15,7 @@ use crate::WalkFault;
 use crate::fault::{fault_of, walked};
 use crate::members::members;
 use crate::met::{Met, hand, region_name};
-use crate::related::enclosing_of;
+use crate::related::{Relation, related_of};
 use crate::variables::{ACTIVE_LEVELS_VAR, LEVELS_VAR};
 use crate::words::{region_variable, size_of};
 use omi_calls::{Callbacks, ToHost};
@@ -69,7 +69,7 @@ fn row_of<C: Callbacks, F: ToHost>(
     let levels = region_variable(s, r, LEVELS_VAR)?;
     let active = region_variable(s, r, ACTIVE_LEVELS_VAR)?;
     let size = size_of(s, r)?;
-    let enclosing = enclosing_of(s, r)?;
+    let enclosing = related_of(s, Relation::Enclosing(r))?;
     let most = u64::from(s.layout().threads());
     let members = members(s, alloc, r, bounded(size, most))?;
     Ok(RegionRow {

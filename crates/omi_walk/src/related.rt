@@ -1,15 +1,21 @@
 //! The objects that an inquiry finds from another one, each by its name. No handle of them is kept.
 
-ghost use Rattle.std.specs.Prelude.{◌≡◌, ◌<◌, ◌^◌, ℕ, Err, IfOk, IfSome, List};
-ghost use Rattle.omi_calls.specs.Told.{Words};
-ghost use Rattle.omi_handle.specs.declared.handle.Kind.TheVariants.{Thread, Region, Task};
+ghost use Rattle.std.specs.Prelude.{◌≡◌, ◌<◌, ◌-◌, ◌^◌, ℕ, Err, IfOk, IfSome, List};
+ghost use Rattle.omi_word.specs.Words.{Words};
+ghost use Rattle.std.specs.FinMap.{get};
+ghost use Rattle.omi_handle.specs.declared.handle.Kind.TheVariants.{Region, Task};
 ghost use Rattle.omi_model.specs.declared.id.Id.{Id};
 ghost use Rattle.omi_outside.specs.Outside.{HasCause};
-ghost use Rattle.omi_layout.specs.Field.{threads, regions, tasks};
+ghost use Rattle.omi_layout.specs.Field.{regions, tasks};
+ghost use Rattle.omi_layout.specs.declared.field.Field.TheVariants.{TaskRegion};
 ghost use Rattle.omi_rep.specs.Look.{address_of, look_object, look_optional};
-ghost use Rattle.omi_session.specs.Made.{thread_pair, region_pair, task_pair};
+ghost use Rattle.omi_session.specs.Inquiry as inquiry;
+ghost use Rattle.omi_session.specs.Made.{Answered, Makes, as_pair, region_pair, task_pair};
+ghost use Rattle.omi_session.specs.Named.{record_kind};
+ghost use Rattle.omi_session.specs.Opened.{Stays};
 ghost use Rattle.omi_walk.specs.Gives.{Looks};
 ghost use Rattle.omi_walk.specs.Leaves.{Leaves};
+ghost use Rattle.omi_walk.specs.Relations.{pair_of, kind_from, kind_to, field_of};
 ghost use Rattle.omi_walk.specs.Objects.{IsMet, Stands, name_met, names_met};
 
 use crate::WalkFault;
@@ -19,26 +25,105 @@ use omi_ask::{get_enclosing_parallel_handle, get_task_parallel_handle};
 use omi_asktask::{get_curr_task_handle, get_generating_task_handle, get_scheduling_task_handle};
 use omi_calls::{Callbacks, ToHost};
 use omi_handle::{Kind, RegionHandle, TaskHandle, ThreadHandle};
-use omi_layout::Field;
-use omi_session::Session;
+use omi_session::{Rc, Session};
 
-/// The current task of a thread, where it has one.
-pub fn current_of<C: Callbacks, F: ToHost>(
+/// How an object leads to another one that may be missing.
+#[derive(Clone, Copy)]
+pub enum Relation {
+    /// A thread's current task.
+    Current(ThreadHandle),
+    /// The task that made a task.
+    Generating(TaskHandle),
+    /// The task that was left for a task on its thread.
+    Scheduling(TaskHandle),
+    /// The region that encloses a region.
+    Enclosing(RegionHandle),
+}
+
+impl Relation {
+    /// The key and serial of the handle that it begins with.
+    fn pair(&self) -> (u64, u64)
+        ensures { result ≡ pair_of self.now }
+    {
+        match self {
+            Relation::Current(t) => (t.key, t.serial),
+            Relation::Generating(k) | Relation::Scheduling(k) => (k.key, k.serial),
+            Relation::Enclosing(r) => (r.key, r.serial),
+        }
+    }
+
+    /// The kind of object to which it leads.
+    fn kind(&self) -> Kind
+        ensures { result ≡ kind_to self.now }
+    {
+        match self {
+            Relation::Current(_) | Relation::Generating(_) | Relation::Scheduling(_) => Kind::Task,
+            Relation::Enclosing(_) => Kind::Region,
+        }
+    }
+}
+
+/// The key and serial of a new task handle.
+fn of_task(made: Result<TaskHandle, Rc>) -> Result<(u64, u64), Rc>
+    ensures { result ≡ as_pair task_pair made }
+{
+    match made {
+        Ok(k) => Ok((k.key, k.serial)),
+        Err(rc) => Err(rc),
+    }
+}
+
+/// The key and serial of a new region handle.
+fn of_region(made: Result<RegionHandle, Rc>) -> Result<(u64, u64), Rc>
+    ensures { result ≡ as_pair region_pair made }
+{
+    match made {
+        Ok(r) => Ok((r.key, r.serial)),
+        Err(rc) => Err(rc),
+    }
+}
+
+/// A new handle of the object to which a relation leads.
+#[tactic(auto, unfolding(omi_session::specs::Inquiry::current_task, omi_asktask::specs::Tasks::generating_task, omi_asktask::specs::Tasks::scheduling_task, omi_ask::specs::Regions::enclosing_region))]
+fn made<C: Callbacks, F: ToHost>(
     s: &mut Session<C, F>,
-    t: ThreadHandle,
+    relation: Relation,
+) -> Result<(u64, u64), Rc>
+    requires { s.old.handles.made < 2 ^ 64 - 1 }
+    ensures answer { Answered (C.told s.old.table.calls) s.new.handles result (inquiry.related
+        s.old.layout (kind_from relation) (get s.old.handles.held (pair_of relation))
+        (kind_to relation) (field_of relation)) }
+    ensures handles { Makes (kind_to relation) s.old.handles s.new.handles result }
+    ensures stays { Stays C.told s.old s.new }
+    ensures cause { HasCause (C.faults s.old.table.calls) (C.faults s.new.table.calls)
+        (result ≡ Err Rc.CallbackError) }
+{
+    match relation {
+        Relation::Current(t) => of_task(get_curr_task_handle(s, t)),
+        Relation::Generating(k) => of_task(get_generating_task_handle(s, k)),
+        Relation::Scheduling(k) => of_task(get_scheduling_task_handle(s, k)),
+        Relation::Enclosing(r) => of_region(get_enclosing_parallel_handle(s, r)),
+    }
+}
+
+/// The object to which a relation leads, where there is one.
+pub fn related_of<C: Callbacks, F: ToHost>(
+    s: &mut Session<C, F>,
+    relation: Relation,
 ) -> Result<Option<Met>, WalkFault>
     requires { s.old.handles.made < 2 ^ 62 }
-    ensures look { (n : Id) → Stands C.told s.old Thread (thread_pair t) n
+    ensures look { (n : Id) → Stands C.told s.old (kind_from relation) (pair_of relation) n
         → Looks C.told s.old (names_met result) (λ w memory.
-        look_optional w memory tasks (address_of w threads n) Field.ThreadCurrent 0) }
-    ensures met { IfOk result (λ o. IfSome o (IsMet C.told s.new Task)) }
+        look_optional w memory (record_kind (kind_to relation))
+        (address_of w (record_kind (kind_from relation)) n) (field_of relation) 0) }
+    ensures met { IfOk result (λ o. IfSome o (IsMet C.told s.new (kind_to relation))) }
     ensures leaves { Leaves C.told 1 s.old s.new }
     ensures cause { HasCause (C.faults s.old.table.calls) (C.faults s.new.table.calls)
         (result ≡ Err WalkFault.Callback) }
 {
-    match get_curr_task_handle(s, t) {
-        Ok(found) => Ok(Some(let_go(s, Kind::Task, (found.key, found.serial)))),
-        Err(rc) => absent(s, (t.key, t.serial), rc),
+    match made(s, relation) {
+        Ok(pair) => Ok(Some(let_go(s, relation.kind(), pair))),
+        Err(rc) => absent(s, relation.pair(), rc),
     }
 }
 
@@ -50,7 +135,7 @@ pub fn region_of<C: Callbacks, F: ToHost>(
     requires { s.old.handles.made < 2 ^ 62 }
     ensures look { (n : Id) → Stands C.told s.old Task (task_pair k) n
         → Looks C.told s.old (name_met result) (λ w memory.
-        look_object w memory regions (address_of w tasks n) Field.TaskRegion 0) }
+        look_object w memory regions (address_of w tasks n) TaskRegion 0) }
     ensures met { IfOk result (IsMet C.told s.new Region) }
     ensures leaves { Leaves C.told 1 s.old s.new }
     ensures cause { HasCause (C.faults s.old.table.calls) (C.faults s.new.table.calls)
@@ -59,65 +144,5 @@ pub fn region_of<C: Callbacks, F: ToHost>(
     match get_task_parallel_handle(s, k) {
         Ok(found) => Ok(let_go(s, Kind::Region, (found.key, found.serial))),
         Err(rc) => Err(fault_of(s, (k.key, k.serial), rc)),
-    }
-}
-
-/// The task that made a task, where there is one.
-pub fn generating_of<C: Callbacks, F: ToHost>(
-    s: &mut Session<C, F>,
-    k: TaskHandle,
-) -> Result<Option<Met>, WalkFault>
-    requires { s.old.handles.made < 2 ^ 62 }
-    ensures look { (n : Id) → Stands C.told s.old Task (task_pair k) n
-        → Looks C.told s.old (names_met result) (λ w memory.
-        look_optional w memory tasks (address_of w tasks n) Field.TaskGenerating 0) }
-    ensures met { IfOk result (λ o. IfSome o (IsMet C.told s.new Task)) }
-    ensures leaves { Leaves C.told 1 s.old s.new }
-    ensures cause { HasCause (C.faults s.old.table.calls) (C.faults s.new.table.calls)
-        (result ≡ Err WalkFault.Callback) }
-{
-    match get_generating_task_handle(s, k) {
-        Ok(found) => Ok(Some(let_go(s, Kind::Task, (found.key, found.serial)))),
-        Err(rc) => absent(s, (k.key, k.serial), rc),
-    }
-}
-
-/// The task that was left for a task on its thread, where there is one.
-pub fn scheduling_of<C: Callbacks, F: ToHost>(
-    s: &mut Session<C, F>,
-    k: TaskHandle,
-) -> Result<Option<Met>, WalkFault>
-    requires { s.old.handles.made < 2 ^ 62 }
-    ensures look { (n : Id) → Stands C.told s.old Task (task_pair k) n
-        → Looks C.told s.old (names_met result) (λ w memory.
-        look_optional w memory tasks (address_of w tasks n) Field.TaskScheduling 0) }
-    ensures met { IfOk result (λ o. IfSome o (IsMet C.told s.new Task)) }
-    ensures leaves { Leaves C.told 1 s.old s.new }
-    ensures cause { HasCause (C.faults s.old.table.calls) (C.faults s.new.table.calls)
-        (result ≡ Err WalkFault.Callback) }
-{
-    match get_scheduling_task_handle(s, k) {
-        Ok(found) => Ok(Some(let_go(s, Kind::Task, (found.key, found.serial)))),
-        Err(rc) => absent(s, (k.key, k.serial), rc),
-    }
-}
-
-/// The region that encloses a region, where there is one.
-pub fn enclosing_of<C: Callbacks, F: ToHost>(
-    s: &mut Session<C, F>,
-    r: RegionHandle,
-) -> Result<Option<Met>, WalkFault>
-    requires { s.old.handles.made < 2 ^ 62 }
-    ensures look { (n : Id) → Stands C.told s.old Region (region_pair r) n
-        → Looks C.told s.old (names_met result) (λ w memory.
-        look_optional w memory regions (address_of w regions n) Field.RegionEnclosing 0) }
-    ensures met { IfOk result (λ o. IfSome o (IsMet C.told s.new Region)) }
-    ensures leaves { Leaves C.told 1 s.old s.new }
-    ensures cause { HasCause (C.faults s.old.table.calls) (C.faults s.new.table.calls)
-        (result ≡ Err WalkFault.Callback) }
-{
-    match get_enclosing_parallel_handle(s, r) {
-        Ok(found) => Ok(Some(let_go(s, Kind::Region, (found.key, found.serial)))),
-        Err(rc) => absent(s, (r.key, r.serial), rc),
     }
 }

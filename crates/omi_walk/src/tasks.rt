@@ -21,7 +21,7 @@ use crate::WalkFault;
 use crate::chain::unmet;
 use crate::met::{Met, hand, task_name};
 use crate::numbers::nthreads_of;
-use crate::related::{generating_of, region_of, scheduling_of};
+use crate::related::{Relation, region_of, related_of};
 use crate::variables::{
     DEFAULT_DEVICE_VAR, DYN_VAR, FINAL_TASK_VAR, IMPLICIT_TASK_VAR, RUN_SCHED_VAR,
 };
@@ -85,7 +85,7 @@ fn next_of<C: Callbacks, F: ToHost>(
     ensures cause { HasCause (C.faults s.old.table.calls) (C.faults s.new.table.calls)
         (result ≡ Err WalkFault.Callback) }
 {
-    let next = scheduling_of(s, k)?;
+    let next = related_of(s, Relation::Scheduling(k))?;
     unmet(next, met)
 }
 
@@ -110,7 +110,7 @@ fn relations_of<C: Callbacks, F: ToHost>(
     let implicit = task_variable(s, k, IMPLICIT_TASK_VAR)?;
     let region = region_of(s, k)?;
     let func = function_of(s, k)?;
-    let generating = generating_of(s, k)?;
+    let generating = related_of(s, Relation::Generating(k))?;
     let next = next_of(s, k, met)?;
     Ok(SeenRelations {
         relations: Relations {

@@ -18,7 +18,7 @@ ghost use Rattle.omi_walk.specs.Threads.{number_met, part_seen, row_seen};
 use crate::WalkFault;
 use crate::fault::{absent, untracked};
 use crate::met::{Met, hand, let_go, task_name};
-use crate::related::current_of;
+use crate::related::{Relation, related_of};
 use crate::variables::THREAD_NUM_VAR;
 use omi_ask::get_thread_handle;
 use omi_calls::{Callbacks, ToHost};
@@ -118,7 +118,7 @@ fn part_of<C: Callbacks, F: ToHost>(
         (result ≡ Err WalkFault.Callback) }
 {
     let state = state_of(s, t)?;
-    let current = current_of(s, t)?;
+    let current = related_of(s, Relation::Current(t))?;
     let number = number_of(s, t)?;
     Ok(SeenPart {
         part: ThreadPart {

@@ -1,5 +1,5 @@
 -- The addresses of words, and their places.
-use Rattle.std.proofs.Common.{◌≡◌, ℕ, ◌+◌, ◌-◌, ◌*◌, ◌/◌, ◌%◌, ◌<◌, ◌≤◌, List, length, arith}
+use Rattle.std.proofs.Common.{◌≡◌, ℕ, ◌<◌, List, length, arith}
 use Rattle.omi_word.specs.Memory.{address_at, place_of, IsWordOf}
 
 -- the word at a place's address is at that place

@@ -5,3 +5,15 @@ pub const FIRST_ADDRESS: u64 = 0x10000;
 
 /// The most words of an image.
 pub const MOST_WORDS: u64 = 1_048_576;
+
+/// The byte address of the word that counts the symbols of a memory.
+pub const COUNT_PLACE: u64 = FIRST_ADDRESS;
+
+/// The byte address of the first symbol, right behind the word that counts them.
+pub const FIRST_PLACE: u64 = 0x10008;
+
+/// The most symbols of a table.
+pub const MOST_SYMBOLS: u64 = 16;
+
+/// The bytes that a symbol takes: five words.
+pub const SYMBOL_BYTES: u64 = 40;

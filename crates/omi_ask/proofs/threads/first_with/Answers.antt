@@ -7,9 +7,8 @@ use Rattle.omi_handle.specs.declared.handle.Held.{Held}
 use Rattle.omi_layout.specs.Table.{thread_count}
 use Rattle.omi_session.specs.declared.rc.Rc.{Rc}
 use Rattle.omi_session.specs.declared.rc.Rc.TheVariants.{Unavailable}
-use Rattle.omi_session.specs.Opened.{Opened, StaysWhole}
 use Rattle.omi_session.specs.Reads.{Answer, Answers, then_reads}
-use Rattle.omi_session.proofs.Told.{keeps_then}
+use Rattle.omi_session.proofs.Told.{stays_then}
 use Rattle.omi_session.proofs.Asked.{asked_then, asked_refused, asked_true, asked_false, asked_answer}
 use Rattle.omi_ask.specs.Threads.{begun, has_id, first_with}
 use Rattle.omi_ask.proofs.threads.first_with.Goals as goal
@@ -24,13 +23,6 @@ more : (told : Told) (w : List ℕ) (native i n : ℕ) (result : Result Held Rc)
     → Answers told result (first_with w native (range_with_len i (n - i)))
 unfolding first_with
 more told w native i n result below h = subst (λ list. Answers told result (first_with w native list)) (sym (next_range i n below)) h
-
-stays_then : {C F : Type 0} (told : C → Told) (a b c : Opened C F) → StaysWhole told a b → StaysWhole told b c → StaysWhole told a c
-stays_then told a b c first second = record {
-  table = keeps_then told a.table b.table c.table first.table second.table;
-  layout = second.layout ∙ first.layout;
-  handles = second.handles ∙ first.handles;
-}
 
 pub loop-i-init : goal.loop-i-init
 loop-i-init g c = record {

@@ -1,10 +1,9 @@
 use Rattle.std.proofs.Common.{◌≡◌, ◌==◌, false, refl, subst, eq-eqb, arith}
 use Rattle.std.proofs.lemmas.Bool.Decides.{nat_tests}
-use Rattle.std.proofs.lemmas.Result.{err_from_is_err_and}
 use Rattle.omi_layout.specs.declared.field.Field.TheVariants.{ThreadNative}
 use Rattle.omi_session.specs.Reads.{Answers}
 use Rattle.omi_session.specs.Inquiry.{word_of}
-use Rattle.omi_session.proofs.Asked.{asked_then, asked_refused, asked_true, asked_false, asked_answer}
+use Rattle.omi_session.proofs.Asked.{asked_then, asked_true, asked_false, asked_answer, refused_then}
 use Rattle.omi_session.proofs.ShownAnswers.{given_value}
 use Rattle.omi_ask.specs.Threads.{native_id}
 use Rattle.omi_ask.proofs.ShownThreads.{native_id_told}
@@ -12,9 +11,7 @@ use Rattle.omi_ask.proofs.threads.get_thread_id.Goals as goal
 
 pub returns-in_err-thread-clause-answer : goal.returns-in_err-thread-clause-answer
 unfolding native_id
-returns-in_err-thread-clause-answer g c =
-    let p = err_from_is_err_and c.from_residual.result c.from_residual.ensures.1 in
-    rw (p.1, p.2) (asked_refused _ _ _ _ (λ memory t ne. c.in_err-thread.ensures.value))
+returns-in_err-thread-clause-answer g c = refused_then _ _ _ _ _ (λ memory t ne. c.in_err-thread.ensures.value) c.from_residual.ensures.1
 
 pub returns-then-kind-ne0-clause-answer : goal.returns-then-kind-ne0-clause-answer
 unfolding native_id
@@ -26,9 +23,8 @@ returns-then-kind-ne0-clause-answer g c =
 pub returns-in_err-thread-2-clause-answer : goal.returns-in_err-thread-2-clause-answer
 unfolding native_id
 returns-in_err-thread-2-clause-answer g c =
-    let p = err_from_is_err_and c.from_residual-in_err-thread-2.result c.from_residual-in_err-thread-2.ensures.1 in
     asked_then _ (g.C.Callbacks.told c.args.s.now.table.calls) _ _ c.in_ok-thread.thread _ refl (λ memory t ne. c.in_ok-thread.ensures.value)
-    (asked_true _ _ _ _ _ (eq-eqb _ _ c.if-kind-ne0.false) (rw (p.1, p.2) (asked_refused _ _ _ _ c.in_err-thread-2.ensures.answer)))
+    (asked_true _ _ _ _ _ (eq-eqb _ _ c.if-kind-ne0.false) (refused_then _ _ _ _ _ c.in_err-thread-2.ensures.answer c.from_residual-in_err-thread-2.ensures.1))
 
 pub returns-clause-answer : goal.returns-clause-answer
 unfolding native_id

@@ -1,12 +1,11 @@
 use Rattle.std.proofs.Common.{◌≡◌, ◌==◌, false, refl, ap, subst, ◌∙◌, eq-eqb, arith}
 use Rattle.std.specs.Prelude.{Ok, Err}
 use Rattle.std.proofs.lemmas.Bool.Decides.{nat_tests}
-use Rattle.std.proofs.lemmas.Result.{err_from_is_err_and}
 use Rattle.omi_layout.specs.declared.field.Field.TheVariants.{ThreadLife, ThreadNative}
 use Rattle.omi_rep.specs.Records.{thread_address}
 use Rattle.omi_session.specs.Reads.{Answers}
 use Rattle.omi_session.specs.Inquiry.{word_of}
-use Rattle.omi_session.proofs.Asked.{asked_then, asked_refused, asked_true, asked_false, asked_answer}
+use Rattle.omi_session.proofs.Asked.{asked_then, asked_true, asked_false, asked_answer, refused_then}
 use Rattle.omi_ask.specs.Threads.{has_id}
 use Rattle.omi_ask.proofs.threads.has_id.Goals as goal
 
@@ -15,8 +14,7 @@ unfolding has_id
 returns-in_err-life-clause-answer g c =
     let at : c.thread_at-addr.result ≡ thread_address c.args.s.now.layout c.args.i = c.thread_at-addr.ensures.address ∙ ap (λ w. thread_address w c.args.i) c.layout.ensures in
     let life = subst (λ a. Answers (g.C.Callbacks.told c.args.s.now.table.calls) (Err c.in_err-life.field-0.0) (word_of c.args.s.now.layout a ThreadLife 0)) at c.in_err-life.ensures.answer in
-    let p = err_from_is_err_and c.from_residual.result c.from_residual.ensures.1 in
-    rw (p.1, p.2) (asked_refused _ _ _ _ life)
+    refused_then _ _ _ _ _ life c.from_residual.ensures.1
 
 pub returns-then-life-ne1-clause-answer : goal.returns-then-life-ne1-clause-answer
 unfolding has_id
@@ -34,9 +32,8 @@ returns-in_err-id-clause-answer g c =
     let life = subst (λ a. Answers (g.C.Callbacks.told c.args.s.now.table.calls) (Ok c.in_ok-life.life) (word_of c.args.s.now.layout a ThreadLife 0)) at c.in_ok-life.ensures.answer in
     let id = subst (λ a. Answers (g.C.Callbacks.told c.word.new.s.table.calls) (Err c.in_err-id.field-0.0) (word_of c.args.s.now.layout a ThreadNative 0)) at
     (subst (λ w. Answers (g.C.Callbacks.told c.word.new.s.table.calls) (Err c.in_err-id.field-0.0) (word_of w c.thread_at-addr.result ThreadNative 0)) c.word.ensures.same.layout c.in_err-id.ensures.answer) in
-    let p = err_from_is_err_and c.from_residual-in_err-id.result c.from_residual-in_err-id.ensures.1 in
     asked_then _ (g.C.Callbacks.told c.word.new.s.table.calls) _ _ c.in_ok-life.life _ c.word.ensures.same.table.same life
-    (asked_true _ _ _ _ _ (eq-eqb _ _ c.if-life-ne1.false) (rw (p.1, p.2) (asked_refused _ _ _ _ id)))
+    (asked_true _ _ _ _ _ (eq-eqb _ _ c.if-life-ne1.false) (refused_then _ _ _ _ _ id c.from_residual-in_err-id.ensures.1))
 
 pub returns-clause-answer : goal.returns-clause-answer
 unfolding has_id

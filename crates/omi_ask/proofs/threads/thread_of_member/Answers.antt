@@ -1,21 +1,16 @@
-use Rattle.std.proofs.Common.{subst}
-use Rattle.std.proofs.lemmas.Result.{err_from_is_err_and}
 use Rattle.omi_handle.specs.declared.handle.Kind.TheVariants.{Thread}
 use Rattle.omi_layout.specs.declared.field.Field.TheVariants.{TaskThread}
-use Rattle.omi_session.specs.Reads.{Answers}
 use Rattle.omi_session.specs.Inquiry.{follow}
-use Rattle.omi_session.proofs.Asked.{asked_then, asked_refused}
+use Rattle.omi_session.proofs.Asked.{asked_on, refused_then}
 use Rattle.omi_ask.specs.Threads.{thread_of_member}
 use Rattle.omi_ask.proofs.threads.thread_of_member.Goals as goal
 
 pub returns-in_err-task-clause-answer : goal.returns-in_err-task-clause-answer
 unfolding thread_of_member
-returns-in_err-task-clause-answer g c =
-    let p = err_from_is_err_and c.from_residual.result c.from_residual.ensures.1 in
-    rw (p.1, p.2) (asked_refused _ _ _ _ c.in_err-task.ensures.answer)
+returns-in_err-task-clause-answer g c = refused_then _ _ _ _ _ c.in_err-task.ensures.answer c.from_residual.ensures.1
 
 pub returns-clause-answer : goal.returns-clause-answer
 unfolding thread_of_member
 returns-clause-answer g c =
-    asked_then _ (g.C.Callbacks.told c.member.new.s.table.calls) _ _ c.in_ok-task.task _ c.member.ensures.same.table.same c.in_ok-task.ensures.answer
-    (subst (λ w. Answers (g.C.Callbacks.told c.member.new.s.table.calls) c.follow.result (follow w Thread c.in_ok-task.task.addr TaskThread 0)) c.member.ensures.same.layout c.follow.ensures.answer)
+    asked_on _ _ _ _ _ (λ w task. follow w Thread task.addr TaskThread 0) c.in_ok-task.task _ c.member.ensures.same.table.same c.member.ensures.same.layout
+    c.in_ok-task.ensures.answer c.follow.ensures.answer

@@ -1,10 +1,9 @@
 use Rattle.std.proofs.Common.{subst, ◌∙◌}
 use Rattle.std.specs.Prelude.{Ok, Err}
-use Rattle.std.proofs.lemmas.Result.{err_from_is_err_and}
 use Rattle.omi_layout.specs.declared.field.Field.TheVariants.{TaskExit, TaskEnter}
 use Rattle.omi_session.specs.Reads.{Answers}
 use Rattle.omi_session.specs.Inquiry.{word_of}
-use Rattle.omi_session.proofs.Asked.{asked_then, asked_refused, asked_answer}
+use Rattle.omi_session.proofs.Asked.{asked_then, asked_answer, refused_then}
 use Rattle.omi_session.proofs.ShownAnswers.{given_value}
 use Rattle.omi_asktask.specs.TaskWords.{frames}
 use Rattle.omi_asktask.proofs.ShownTasks.{frames_told}
@@ -12,27 +11,23 @@ use Rattle.omi_asktask.proofs.words.get_task_frame.Goals as goal
 
 pub returns-in_err-task-clause-answer : goal.returns-in_err-task-clause-answer
 unfolding frames
-returns-in_err-task-clause-answer g c =
-    let p = err_from_is_err_and c.from_residual.result c.from_residual.ensures.1 in
-    rw (p.1, p.2) (asked_refused _ _ _ _ c.in_err-task.ensures.answer)
+returns-in_err-task-clause-answer g c = refused_then _ _ _ _ _ c.in_err-task.ensures.answer c.from_residual.ensures.1
 
 pub returns-in_err-exit-clause-answer : goal.returns-in_err-exit-clause-answer
 unfolding frames
 returns-in_err-exit-clause-answer g c =
     let exit = subst (λ w. Answers (g.C.Callbacks.told c.object.new.s.table.calls) (Err c.in_err-exit.field-0.0) (word_of w c.in_ok-task.task.addr TaskExit 0)) c.object.ensures.same.layout c.in_err-exit.ensures.answer in
-    let p = err_from_is_err_and c.from_residual-in_err-exit.result c.from_residual-in_err-exit.ensures.1 in
     asked_then _ (g.C.Callbacks.told c.object.new.s.table.calls) _ _ c.in_ok-task.task _ c.object.ensures.same.table.same c.in_ok-task.ensures.answer
-    (rw (p.1, p.2) (asked_refused _ _ _ _ exit))
+    (refused_then _ _ _ _ _ exit c.from_residual-in_err-exit.ensures.1)
 
 pub returns-in_err-enter-clause-answer : goal.returns-in_err-enter-clause-answer
 unfolding frames
 returns-in_err-enter-clause-answer g c =
     let exit = subst (λ w. Answers (g.C.Callbacks.told c.object.new.s.table.calls) (Ok c.in_ok-exit.exit) (word_of w c.in_ok-task.task.addr TaskExit 0)) c.object.ensures.same.layout c.in_ok-exit.ensures.answer in
     let enter = subst (λ w. Answers (g.C.Callbacks.told c.word.new.s.table.calls) (Err c.in_err-enter.field-0.0) (word_of w c.in_ok-task.task.addr TaskEnter 0)) (c.word.ensures.same.layout ∙ c.object.ensures.same.layout) c.in_err-enter.ensures.answer in
-    let p = err_from_is_err_and c.from_residual-in_err-enter.result c.from_residual-in_err-enter.ensures.1 in
     asked_then _ (g.C.Callbacks.told c.object.new.s.table.calls) _ _ c.in_ok-task.task _ c.object.ensures.same.table.same c.in_ok-task.ensures.answer
     (asked_then _ (g.C.Callbacks.told c.word.new.s.table.calls) _ _ c.in_ok-exit.exit _ c.word.ensures.same.table.same exit
-    (rw (p.1, p.2) (asked_refused _ _ _ _ enter)))
+    (refused_then _ _ _ _ _ enter c.from_residual-in_err-enter.ensures.1))
 
 pub returns-clause-answer : goal.returns-clause-answer
 unfolding frames

@@ -1,9 +1,6 @@
-use Rattle.std.proofs.Common.{subst}
-use Rattle.std.proofs.lemmas.Result.{err_from_is_err_and}
 use Rattle.omi_layout.specs.declared.field.Field.TheVariants.{TaskFunction}
-use Rattle.omi_session.specs.Reads.{Answers}
 use Rattle.omi_session.specs.Inquiry.{word_of}
-use Rattle.omi_session.proofs.Asked.{asked_then, asked_refused}
+use Rattle.omi_session.proofs.Asked.{asked_on, refused_then}
 use Rattle.omi_session.proofs.ShownAnswers.{given_value}
 use Rattle.omi_asktask.specs.TaskWords.{function}
 use Rattle.omi_asktask.proofs.ShownTasks.{function_told}
@@ -11,15 +8,13 @@ use Rattle.omi_asktask.proofs.words.get_task_function.Goals as goal
 
 pub returns-in_err-task-clause-answer : goal.returns-in_err-task-clause-answer
 unfolding function
-returns-in_err-task-clause-answer g c =
-    let p = err_from_is_err_and c.from_residual.result c.from_residual.ensures.1 in
-    rw (p.1, p.2) (asked_refused _ _ _ _ c.in_err-task.ensures.answer)
+returns-in_err-task-clause-answer g c = refused_then _ _ _ _ _ c.in_err-task.ensures.answer c.from_residual.ensures.1
 
 pub returns-clause-answer : goal.returns-clause-answer
 unfolding function
 returns-clause-answer g c =
-    asked_then _ (g.C.Callbacks.told c.object.new.s.table.calls) _ _ c.in_ok-task.task _ c.object.ensures.same.table.same c.in_ok-task.ensures.answer
-    (subst (λ w. Answers (g.C.Callbacks.told c.object.new.s.table.calls) c.word.result (word_of w c.in_ok-task.task.addr TaskFunction 0)) c.object.ensures.same.layout c.word.ensures.answer)
+    asked_on _ _ _ _ _ (λ w task. word_of w task.addr TaskFunction 0) c.in_ok-task.task _ c.object.ensures.same.table.same c.object.ensures.same.layout
+    c.in_ok-task.ensures.answer c.word.ensures.answer
 
 pub returns-in_err-task-clause-shown : goal.returns-in_err-task-clause-shown
 returns-in_err-task-clause-shown g c = λ s shown t.

@@ -1,8 +1,7 @@
 use Rattle.std.proofs.Common.{◌∙◌, refl, subst, ap}
 use Rattle.std.specs.FinMap.{get}
-use Rattle.std.proofs.lemmas.Result.{err_from_is_err_and}
 use Rattle.omi_session.specs.Reads.{Answers}
-use Rattle.omi_session.proofs.Asked.{asked_then, asked_refused, asked_answer}
+use Rattle.omi_session.proofs.Asked.{asked_then, asked_answer, refused_then}
 use Rattle.omi_icv.specs.Icvs.{icv_from_scope}
 use Rattle.omi_icv.specs.Table.{variable_in}
 use Rattle.omi_icv.specs.Values.{number_in}
@@ -11,17 +10,14 @@ use Rattle.omi_icv.proofs.icv.get_icv_from_scope.Goals as goal
 
 pub returns-in_err-address-clause-answer : goal.returns-in_err-address-clause-answer
 unfolding icv_from_scope
-returns-in_err-address-clause-answer g c =
-    let p = err_from_is_err_and c.from_residual.result c.from_residual.ensures.1 in
-    rw (p.1, p.2) (asked_refused _ _ _ _ c.in_err-address.ensures.answer)
+returns-in_err-address-clause-answer g c = refused_then _ _ _ _ _ c.in_err-address.ensures.answer c.from_residual.ensures.1
 
 pub returns-in_err-variable-clause-answer : goal.returns-in_err-variable-clause-answer
 unfolding icv_from_scope
 returns-in_err-variable-clause-answer g c =
-    let p = err_from_is_err_and c.from_residual-in_err-variable.result c.from_residual-in_err-variable.ensures.1 in
     let unknown = c.in_err-variable.ensures ∙ ap (λ o. variable_in o c.args.icv) c.scope.ensures in
     asked_then _ (g.C.Callbacks.told c.record_of.new.s.table.calls) _ _ c.in_ok-address.address _ c.record_of.ensures.same.table.same c.in_ok-address.ensures.answer
-    (rw (p.1, p.2) (asked_refused _ _ _ _ (asked_answer _ _ _ unknown)))
+    (refused_then _ _ _ _ _ (asked_answer _ _ _ unknown) c.from_residual-in_err-variable.ensures.1)
 
 pub returns-clause-answer : goal.returns-clause-answer
 unfolding icv_from_scope

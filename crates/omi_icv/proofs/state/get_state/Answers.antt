@@ -2,12 +2,11 @@ use Rattle.std.proofs.Common.{◌≡◌, ◌==◌, ◌∙◌, true, false, refl,
 use Rattle.std.specs.Prelude.{Ok, Err}
 use Rattle.std.specs.FinMap.{get}
 use Rattle.std.proofs.lemmas.Bool.Decides.{nat_tests}
-use Rattle.std.proofs.lemmas.Result.{err_from_is_err_and}
 use Rattle.omi_layout.specs.declared.field.Field.TheVariants.{RuntimeDebug, ThreadState}
 use Rattle.omi_rep.specs.Records.{runtime_address}
 use Rattle.omi_session.specs.Reads.{Answers}
 use Rattle.omi_session.specs.Inquiry.{word_of}
-use Rattle.omi_session.proofs.Asked.{asked_then, asked_refused, asked_true, asked_false, asked_answer}
+use Rattle.omi_session.proofs.Asked.{asked_then, asked_true, asked_false, asked_answer, refused_then}
 use Rattle.omi_session.proofs.ShownAnswers.{given_value}
 use Rattle.omi_icv.specs.StateWords.{state}
 use Rattle.omi_icv.proofs.ShownInquiries.{state_told}
@@ -15,17 +14,14 @@ use Rattle.omi_icv.proofs.state.get_state.Goals as goal
 
 pub returns-in_err-thread-clause-answer : goal.returns-in_err-thread-clause-answer
 unfolding state
-returns-in_err-thread-clause-answer g c =
-    let p = err_from_is_err_and c.from_residual.result c.from_residual.ensures.1 in
-    rw (p.1, p.2) (asked_refused _ _ _ _ c.in_err-thread.ensures.answer)
+returns-in_err-thread-clause-answer g c = refused_then _ _ _ _ _ c.in_err-thread.ensures.answer c.from_residual.ensures.1
 
 pub returns-in_err-debug-clause-answer : goal.returns-in_err-debug-clause-answer
 unfolding state
 returns-in_err-debug-clause-answer g c =
     let debug = subst (λ w. Answers (g.C.Callbacks.told c.object.new.s.table.calls) (Err c.in_err-debug.field-0.0) (word_of w (runtime_address w) RuntimeDebug 0)) c.object.ensures.same.layout c.in_err-debug.ensures.answer in
-    let p = err_from_is_err_and c.from_residual-in_err-debug.result c.from_residual-in_err-debug.ensures.1 in
     asked_then _ (g.C.Callbacks.told c.object.new.s.table.calls) _ _ c.in_ok-thread.thread _ c.object.ensures.same.table.same c.in_ok-thread.ensures.answer
-    (rw (p.1, p.2) (asked_refused _ _ _ _ debug))
+    (refused_then _ _ _ _ _ debug c.from_residual-in_err-debug.ensures.1)
 
 pub returns-then-debug-eq0-clause-answer : goal.returns-then-debug-eq0-clause-answer
 unfolding state
@@ -41,11 +37,10 @@ unfolding state
 returns-in_err-state-clause-answer g c =
     let debug = subst (λ w. Answers (g.C.Callbacks.told c.object.new.s.table.calls) (Ok c.in_ok-debug.debug) (word_of w (runtime_address w) RuntimeDebug 0)) c.object.ensures.same.layout c.in_ok-debug.ensures.answer in
     let kept = subst (λ w. Answers (g.C.Callbacks.told c.runtime_word.new.s.table.calls) (Err c.in_err-state.field-0.0) (word_of w c.in_ok-thread.thread.addr ThreadState 0)) (c.runtime_word.ensures.same.layout ∙ c.object.ensures.same.layout) c.in_err-state.ensures.answer in
-    let p = err_from_is_err_and c.from_residual-in_err-state.result c.from_residual-in_err-state.ensures.1 in
     let on : c.in_ok-debug.debug == 0 ≡ false = grind (arith, nat_tests, c.if-debug-eq0.false) in
     asked_then _ (g.C.Callbacks.told c.object.new.s.table.calls) _ _ c.in_ok-thread.thread _ c.object.ensures.same.table.same c.in_ok-thread.ensures.answer
     (asked_then _ (g.C.Callbacks.told c.runtime_word.new.s.table.calls) _ _ c.in_ok-debug.debug _ c.runtime_word.ensures.same.table.same debug
-    (asked_false _ _ _ _ _ on (rw (p.1, p.2) (asked_refused _ _ _ _ kept))))
+    (asked_false _ _ _ _ _ on (refused_then _ _ _ _ _ kept c.from_residual-in_err-state.ensures.1)))
 
 pub returns-clause-answer : goal.returns-clause-answer
 unfolding state

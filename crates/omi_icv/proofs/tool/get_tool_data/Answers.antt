@@ -1,13 +1,12 @@
 use Rattle.std.proofs.Common.{◌≡◌, ℕ, List, refl, sym, subst}
 use Rattle.std.specs.Prelude.{Err}
 use Rattle.std.specs.FinMap.{get}
-use Rattle.std.proofs.lemmas.Result.{err_from_is_err_and}
 use Rattle.omi_handle.specs.declared.handle.TaskHandle.{TaskHandle}
 use Rattle.omi_layout.specs.declared.field.Field.TheVariants.{TaskTool}
 use Rattle.omi_session.specs.declared.rc.Rc.TheVariants.{Unsupported}
 use Rattle.omi_session.specs.Reads.{Answer, Answers}
 use Rattle.omi_session.specs.Inquiry.{word_of}
-use Rattle.omi_session.proofs.Asked.{asked_then, asked_refused, asked_answer}
+use Rattle.omi_session.proofs.Asked.{asked_then, asked_answer, refused_then}
 use Rattle.omi_icv.specs.declared.scoped.Scoped.{Scoped}
 use Rattle.omi_icv.specs.declared.scoped.Scoped.TheVariants.{Space, Thread, Parallel, Task}
 use Rattle.omi_icv.specs.StateWords.{tool_word, tool_data}
@@ -16,9 +15,7 @@ use Rattle.omi_icv.proofs.tool.get_tool_data.Goals as goal
 
 pub returns-in_err-address-clause-answer : goal.returns-in_err-address-clause-answer
 unfolding tool_data
-returns-in_err-address-clause-answer g c =
-    let p = err_from_is_err_and c.from_residual.result c.from_residual.ensures.1 in
-    rw (p.1, p.2) (asked_refused _ _ _ _ c.in_err-address.ensures.answer)
+returns-in_err-address-clause-answer g c = refused_then _ _ _ _ _ c.in_err-address.ensures.answer c.from_residual.ensures.1
 
 pub returns-in_err-address-clause-shown : goal.returns-in_err-address-clause-shown
 returns-in_err-address-clause-shown g c =

@@ -7,7 +7,8 @@ use Rattle.omi_session.specs.Reads.{Answers}
 use Rattle.omi_session.specs.Inquiry.{word_of}
 use Rattle.omi_session.proofs.Asked.{asked_answer}
 use Rattle.omi_icv.specs.Values.{first_elements}
-use Rattle.omi_icv.proofs.Elements.{one_more, refused_there, stays_then}
+use Rattle.omi_icv.proofs.Elements.{one_more, refused_there}
+use Rattle.omi_session.proofs.Told.{stays_then}
 use Rattle.omi_icv.proofs.value.first_elements.Goals as goal
 
 pub loop-at-init : goal.loop-at-init

@@ -1,15 +1,12 @@
 use Rattle.std.proofs.Common.{◌≡◌, ◌&&◌, refl, arith, true, false, nat_le}
 use Rattle.std.proofs.lemmas.Bool.Decides.{nat_tests}
-use Rattle.std.proofs.lemmas.Result.{err_from_is_err_and}
-use Rattle.omi_session.proofs.Asked.{asked_then, asked_refused, asked_answer}
+use Rattle.omi_session.proofs.Asked.{asked_then, asked_answer, refused_then}
 use Rattle.omi_icv.specs.Values.{list_length}
 use Rattle.omi_icv.proofs.value.list_length.Goals as goal
 
 pub returns-in_err-count-clause-answer : goal.returns-in_err-count-clause-answer
 unfolding list_length
-returns-in_err-count-clause-answer g c =
-    let p = err_from_is_err_and c.from_residual.result c.from_residual.ensures.1 in
-    rw (p.1, p.2) (asked_refused _ _ _ _ c.in_err-count.ensures.answer)
+returns-in_err-count-clause-answer g c = refused_then _ _ _ _ _ c.in_err-count.ensures.answer c.from_residual.ensures.1
 
 pub returns-then-count-clause-answer : goal.returns-then-count-clause-answer
 unfolding list_length

@@ -1,15 +1,12 @@
 use Rattle.std.proofs.Common.{ap}
 use Rattle.std.specs.Prelude.{Ok}
-use Rattle.std.proofs.lemmas.Result.{err_from_is_err_and}
-use Rattle.omi_session.proofs.Asked.{asked_then, asked_refused, asked_answer}
+use Rattle.omi_session.proofs.Asked.{asked_then, asked_answer, refused_then}
 use Rattle.omi_icv.specs.Values.{alone}
 use Rattle.omi_icv.proofs.value.number_alone.Goals as goal
 
 pub returns-in_err-number-clause-answer : goal.returns-in_err-number-clause-answer
 unfolding alone
-returns-in_err-number-clause-answer g c =
-    let p = err_from_is_err_and c.from_residual.result c.from_residual.ensures.1 in
-    rw (p.1, p.2) (asked_refused _ _ _ _ c.in_err-number.ensures.answer)
+returns-in_err-number-clause-answer g c = refused_then _ _ _ _ _ c.in_err-number.ensures.answer c.from_residual.ensures.1
 
 pub returns-clause-answer : goal.returns-clause-answer
 unfolding alone

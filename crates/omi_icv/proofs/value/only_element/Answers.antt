@@ -1,27 +1,23 @@
 use Rattle.std.proofs.Common.{◌≡◌, ◌==◌, refl, subst, arith, true, false}
 use Rattle.std.proofs.lemmas.Bool.Decides.{nat_tests}
-use Rattle.std.proofs.lemmas.Result.{err_from_is_err_and}
 use Rattle.std.specs.Prelude.{Ok, Err}
 use Rattle.omi_layout.specs.declared.field.Field.TheVariants.{TaskNthreads}
 use Rattle.omi_session.specs.Reads.{Answers}
 use Rattle.omi_session.specs.Inquiry.{word_of}
-use Rattle.omi_session.proofs.Asked.{asked_then, asked_refused, asked_answer}
+use Rattle.omi_session.proofs.Asked.{asked_then, asked_answer, refused_then}
 use Rattle.omi_icv.specs.Values.{only_element}
 use Rattle.omi_icv.proofs.value.only_element.Goals as goal
 
 pub returns-in_err-count-clause-answer : goal.returns-in_err-count-clause-answer
 unfolding only_element
-returns-in_err-count-clause-answer g c =
-    let p = err_from_is_err_and c.from_residual.result c.from_residual.ensures.1 in
-    rw (p.1, p.2) (asked_refused _ _ _ _ c.in_err-count.ensures.answer)
+returns-in_err-count-clause-answer g c = refused_then _ _ _ _ _ c.in_err-count.ensures.answer c.from_residual.ensures.1
 
 pub returns-in_err-first-clause-answer : goal.returns-in_err-first-clause-answer
 unfolding only_element
 returns-in_err-first-clause-answer g c =
     let first = subst (λ w. Answers (g.C.Callbacks.told c.list_length.new.s.table.calls) (Err c.in_err-first.field-0.0) (word_of w c.args.address TaskNthreads 0)) c.list_length.ensures.same.layout c.in_err-first.ensures.answer in
-    let p = err_from_is_err_and c.from_residual-in_err-first.result c.from_residual-in_err-first.ensures.1 in
     asked_then _ (g.C.Callbacks.told c.list_length.new.s.table.calls) _ _ c.in_ok-count.count _ c.list_length.ensures.same.table.same c.in_ok-count.ensures.answer
-    (rw (p.1, p.2) (asked_refused _ _ _ _ first))
+    (refused_then _ _ _ _ _ first c.from_residual-in_err-first.ensures.1)
 
 pub returns-then-count-eq1-clause-answer : goal.returns-then-count-eq1-clause-answer
 unfolding only_element

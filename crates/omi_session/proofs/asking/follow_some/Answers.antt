@@ -1,16 +1,13 @@
 use Rattle.std.proofs.Common.{◌≡◌, ◌==◌, false, refl, subst, eq-eqb, arith}
 use Rattle.std.proofs.lemmas.Bool.Decides.{nat_tests}
-use Rattle.std.proofs.lemmas.Result.{err_from_is_err_and}
 use Rattle.omi_session.specs.Reads.{Answers}
 use Rattle.omi_session.specs.Inquiry.{follow_some, lead}
-use Rattle.omi_session.proofs.Asked.{asked_then, asked_refused, asked_true, asked_false, asked_answer}
+use Rattle.omi_session.proofs.Asked.{asked_then, asked_true, asked_false, asked_answer, refused_then}
 use Rattle.omi_session.proofs.asking.follow_some.Goals as goal
 
 pub returns-in_err-pointer-clause-answer : goal.returns-in_err-pointer-clause-answer
 unfolding follow_some
-returns-in_err-pointer-clause-answer g c =
-    let p = err_from_is_err_and c.from_residual.result c.from_residual.ensures.1 in
-    rw (p.1, p.2) (asked_refused _ _ _ _ c.in_err-pointer.ensures.answer)
+returns-in_err-pointer-clause-answer g c = refused_then _ _ _ _ _ c.in_err-pointer.ensures.answer c.from_residual.ensures.1
 
 pub returns-then-pointer-eq0-clause-answer : goal.returns-then-pointer-eq0-clause-answer
 unfolding follow_some

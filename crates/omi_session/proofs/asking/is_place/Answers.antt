@@ -2,7 +2,7 @@ use Rattle.std.proofs.Common.{sym, ap, ◌∙◌, arith}
 use Rattle.std.specs.Prelude.{is_some}
 use Rattle.omi_rep.specs.Look.{slot_at}
 use Rattle.omi_session.specs.Named.{record_kind}
-use Rattle.omi_session.proofs.Slots.{slot_same, place_low, thread_same}
+use Rattle.omi_rep.proofs.Slots.{slot_same, place_low, thread_same}
 use Rattle.omi_session.proofs.asking.is_place.Goals as goal
 
 pub returns-in-Thread-clause-value : goal.returns-in-Thread-clause-value

@@ -1,18 +1,16 @@
 use Rattle.std.proofs.Common.{◌≡◌, ◌==◌, subst, refl, eq-eqb, arith, false, true}
 use Rattle.std.specs.Prelude.{Ok, Err}
 use Rattle.std.proofs.lemmas.Bool.Decides.{nat_tests}
-use Rattle.std.proofs.lemmas.Result.{err_from_is_err_and}
 use Rattle.omi_session.specs.Reads.{Answers}
 use Rattle.omi_session.specs.Inquiry.{word_of, unchanged}
-use Rattle.omi_session.proofs.Asked.{asked_then, asked_refused, asked_answer}
+use Rattle.omi_session.proofs.Asked.{asked_then, asked_answer, refused_then}
 use Rattle.omi_session.proofs.asking.unchanged.Goals as goal
 
 pub returns-in_err-life-clause-answer : goal.returns-in_err-life-clause-answer
 unfolding unchanged
 returns-in_err-life-clause-answer g c =
     let life = subst (λ f. Answers (g.C.Callbacks.told c.args.s.now.table.calls) (Err c.in_err-life.field-0.0) (word_of c.args.s.now.layout c.args.held.addr f 0)) c.life_field.ensures c.in_err-life.ensures.answer in
-    let p = err_from_is_err_and c.from_residual.result c.from_residual.ensures.1 in
-    rw (p.1, p.2) (asked_refused _ _ _ _ life)
+    refused_then _ _ _ _ _ life c.from_residual.ensures.1
 
 pub returns-then-life-held-clause-answer : goal.returns-then-life-held-clause-answer
 unfolding unchanged

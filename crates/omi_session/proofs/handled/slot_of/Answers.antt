@@ -1,7 +1,7 @@
 use Rattle.std.proofs.Common.{Some, None, sym, ap, ◌∙◌}
 use Rattle.omi_rep.specs.Look.{slot_at}
 use Rattle.omi_session.specs.Named.{record_kind}
-use Rattle.omi_session.proofs.Slots.{slot_same, thread_slot}
+use Rattle.omi_rep.proofs.Slots.{slot_same, thread_slot}
 use Rattle.omi_session.proofs.handled.slot_of.Goals as goal
 
 pub returns-in-Region : goal.returns-in-Region

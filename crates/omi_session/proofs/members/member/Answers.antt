@@ -6,14 +6,12 @@ use Rattle.omi_handle.specs.declared.handle.Kind.TheVariants.{Task}
 use Rattle.omi_layout.specs.declared.field.Field.TheVariants.{RegionTeam}
 use Rattle.omi_session.specs.Reads.{Answers}
 use Rattle.omi_session.specs.Inquiry.{member, team_size, follow}
-use Rattle.omi_session.proofs.Asked.{asked_then, asked_refused, asked_true, asked_false, asked_answer}
+use Rattle.omi_session.proofs.Asked.{asked_then, asked_refused, asked_true, asked_false, asked_answer, refused_then}
 use Rattle.omi_session.proofs.members.member.Goals as goal
 
 pub returns-in_err-region-clause-answer : goal.returns-in_err-region-clause-answer
 unfolding member
-returns-in_err-region-clause-answer g c =
-    let p = err_from_is_err_and c.from_residual.result c.from_residual.ensures.1 in
-    rw (p.1, p.2) (asked_refused _ _ _ _ c.in_err-region.ensures.answer)
+returns-in_err-region-clause-answer g c = refused_then _ _ _ _ _ c.in_err-region.ensures.answer c.from_residual.ensures.1
 
 pub returns-in_err-size-clause-answer : goal.returns-in_err-size-clause-answer
 unfolding member

@@ -1,17 +1,14 @@
 use Rattle.std.proofs.Common.{◌≡◌, ◌&&◌, ◌∙◌, refl, ap, arith, true, false, nat_le}
 use Rattle.std.proofs.lemmas.Bool.Decides.{nat_tests}
-use Rattle.std.proofs.lemmas.Result.{err_from_is_err_and}
 use Rattle.omi_layout.specs.Table.{thread_count}
 use Rattle.omi_layout.proofs.Arenas.{threads_of_valid}
 use Rattle.omi_session.specs.Inquiry.{team_size}
-use Rattle.omi_session.proofs.Asked.{asked_then, asked_refused, asked_answer}
+use Rattle.omi_session.proofs.Asked.{asked_then, asked_answer, refused_then}
 use Rattle.omi_session.proofs.members.team_size.Goals as goal
 
 pub returns-in_err-size-clause-answer : goal.returns-in_err-size-clause-answer
 unfolding team_size
-returns-in_err-size-clause-answer g c =
-    let p = err_from_is_err_and c.from_residual.result c.from_residual.ensures.1 in
-    rw (p.1, p.2) (asked_refused _ _ _ _ c.in_err-size.ensures.answer)
+returns-in_err-size-clause-answer g c = refused_then _ _ _ _ _ c.in_err-size.ensures.answer c.from_residual.ensures.1
 
 pub returns-then-size-most-clause-answer : goal.returns-then-size-most-clause-answer
 unfolding team_size

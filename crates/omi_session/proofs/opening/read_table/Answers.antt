@@ -1,28 +1,11 @@
-use Rattle.std.proofs.Common.{◌≡◌, ℕ, suc, ◌+◌, ◌*◌, ◌<◌, List, [], ◌∷◌, length, Option, Some, None, sym, ap, subst, refl, ◌∙◌, arith, below_more, rules, ◌≢◌, get_or-set_other, get_or-set_same}
+use Rattle.std.proofs.Common.{◌≡◌, ℕ, ◌+◌, ◌<◌, List, length, Option, Some, None, sym, refl, ◌∙◌, arith, below_more, rules, ◌≢◌, get_or-set_other, get_or-set_same}
 use Rattle.std.specs.Prelude.{slice_index, slice_set, IsSome}
-use Rattle.std.specs.Option.{option_map, option_and_then}
 use Rattle.std.proofs.lemmas.Grind.{common_steps}
-use Rattle.omi_layout.specs.SymbolTable.{Words, words_from}
-use Rattle.omi_layout.specs.Given.{wrapped}
+use Rattle.omi_word.specs.Words.{Words}
 use Rattle.omi_layout.specs.NoLayout.{table_address}
+use Rattle.omi_layout.proofs.ReadTables.{table_read}
 use Rattle.omi_session.proofs.Told.{as_told, keeps_then}
 use Rattle.omi_session.proofs.opening.read_table.Goals as goal
-
--- words that are mapped one after the other are read
-read_words : (f : Words) (xs : List ℕ) (a : ℕ) → ((j : ℕ) → j < length xs → f (a + 8 * j) ≡ Some (slice_index xs j)) → words_from f a (length xs) ≡ Some xs
-read_words f [] a each = refl
-read_words f (x ∷ xs) a each =
-    let here : a ≡ a + 8 * 0 = omega arith in
-    let more : words_from f (a + 8) (length xs) ≡ Some xs =
-    read_words f xs (a + 8) (λ j h. let next : (a + 8) + 8 * j ≡ a + 8 * suc j = omega arith in ap f next ∙ each (suc j) (omega arith)) in
-    ap (option_and_then (λ (word : ℕ). option_map (λ (rest : List ℕ). word ∷ rest) (words_from f (a + 8) (length xs)))) (ap f here ∙ each 0 (omega arith))
-    ∙ ap (option_map (λ (rest : List ℕ). x ∷ rest)) more
-
--- the whole table was read
-table_read : (memory : Words) (address : ℕ) (table : List ℕ) → length table ≡ 56
-    → ((j : ℕ) → j < 56 → memory (table_address address j) ≡ Some (slice_index table j)) → words_from (wrapped memory) address 56 ≡ Some table
-table_read memory address table long each =
-    subst (λ n. words_from (wrapped memory) address n ≡ Some table) long (read_words (wrapped memory) table address (λ j h. each j (omega (arith, h, long))))
 
 some_is : (o : Option ℕ) (x : ℕ) → o ≡ Some x → IsSome o
 some_is (Some y) x e = search rules

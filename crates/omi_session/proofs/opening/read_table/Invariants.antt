@@ -1,6 +1,6 @@
 use Rattle.std.proofs.Common.{◌≡◌, ℕ, ◌<◌, ◌≤◌, length, Some}
 use Rattle.std.specs.Prelude.{slice_index}
-use Rattle.omi_layout.specs.SymbolTable.{Words}
+use Rattle.omi_word.specs.Words.{Words}
 use Rattle.omi_layout.specs.NoLayout.{table_address}
 use Rattle.omi_session.specs.Tells.{Tells, KeepsTold}
 use Rattle.omi_session.proofs.opening.read_table.Given as goal

@@ -1,31 +1,92 @@
-use Rattle.std.proofs.Common.{◌++◌, ℕ, List, Ok, Err, ap, subst, ◌∙◌}
+use Rattle.std.proofs.Common.{◌++◌, ℕ, List, Ok, Err, arith, ap, subst, ◌∙◌}
 use Rattle.std.proofs.lemmas.Result.{err_from_is_err_and}
 use Rattle.omi_outside.specs.Outside.{Told}
 use Rattle.omi_top.specs.Answer.{AreTold, IsAnswered}
 use Rattle.omi_top.specs.Command.{Show}
-use Rattle.omi_top.proofs.RunAnswers.{no_memory, show_failed, shown_behind}
+use Rattle.omi_top.proofs.RunAnswers.{no_memory, show_failed, shown_behind, shows_last}
+use Rattle.omi_top.proofs.Causes.{rose_later}
 use Rattle.omi_top.proofs.run_and_show.run_and_show.Goals as goal
 
-pub returns-in_err-report-clause-answer : goal.returns-in_err-report-clause-answer
-returns-in_err-report-clause-answer g c = λ ((text, told), (content, back)).
+-- ---- the core is written, and then its report is refused
+
+pub returns-in_err-report-clause-performed : goal.returns-in_err-report-clause-performed
+returns-in_err-report-clause-performed g c =
     let p = err_from_is_err_and c.from_residual-in_err-report.result c.from_residual-in_err-report.ensures.1 in
     let before : Told = g.W.Files.told c.args.dest.now c.args.core.now in
-    let shown : IsAnswered (Show c.args.core.now) (g.F.Files.told c.args.files.now) (Err c.in_err-report.field-0.0) before before =
-    subst (λ (t : List ℕ → Told). AreTold (Show c.args.core.now) t → IsAnswered (Show c.args.core.now) t (Err c.in_err-report.field-0.0) before before) c.in_ok-text.ensures.files_told
-    (c.in_err-report.ensures.answer before) (content, back) in
-    rw (p.1, p.2) (show_failed c.args.plan c.args.script.now c.args.core.now (g.F.Files.told c.args.files.now) content back c.in_ok-text.text before (g.W.Files.told c.stop.new.dest c.args.core.now) c.in_err-report.field-0.0 before before (c.in_ok-text.ensures.answer (text, told)) shown)
+    let stopped = c.in_ok-text.ensures.performed in
+    let told_on = c.in_ok-text.ensures.performed.stays.files_told in
+    rw (p.1, p.2)
+    (record {
+      answer =
+          λ ((text, told), (content, back)).
+          let shown : IsAnswered (Show c.args.core.now) (g.F.Files.told c.args.files.now) (Err c.in_err-report.field-0.0) before before =
+          subst (λ (t : List ℕ → Told). AreTold (Show c.args.core.now) t → IsAnswered (Show c.args.core.now) t (Err c.in_err-report.field-0.0) before before) told_on
+          (c.in_err-report.ensures.answer before) (content, back) in
+          show_failed c.args.plan c.args.script.now c.args.core.now (g.F.Files.told c.args.files.now) content back c.in_ok-text.text before (g.W.Files.told c.stop.new.dest c.args.core.now)
+          c.in_err-report.field-0.0 before before (stopped.answer (text, told)) shown;
+      read =
+          record {
+            later = omega (arith, stopped.read.later, c.in_err-report.ensures.read.later);
+            failed = λ is. rose_later _ _ _ stopped.read.later (c.in_err-report.ensures.read.failed is);
+          };
+      write = record { later = stopped.write.later; failed = λ is. absurd (c.in_err-report.ensures.write is) };
+      unwritten = λ is. absurd (shows_last c.args.plan c.args.script.now c.args.core.now c.in_err-report.field-0.0 c.in_err-report.ensures.usage c.in_err-report.ensures.script is);
+      stays =
+          record {
+            files_told = c.in_err-report.ensures.files_told ∙ told_on;
+            files_writes = c.in_err-report.ensures.files_writes ∙ stopped.stays.files_writes;
+            dest_reads = stopped.stays.dest_reads;
+            others = stopped.stays.others;
+          };
+    })
 
-pub returns-in_err-extend_from_slice-clause-answer : goal.returns-in_err-extend_from_slice-clause-answer
-returns-in_err-extend_from_slice-clause-answer g c = λ ((text, told), (content, back)).
+-- ---- or memory runs out
+
+pub returns-in_err-extend_from_slice-clause-performed : goal.returns-in_err-extend_from_slice-clause-performed
+returns-in_err-extend_from_slice-clause-performed g c =
     let p = err_from_is_err_and c.from_residual-in_err-extend_from_slice.result c.from_residual-in_err-extend_from_slice.ensures.1 in
-    rw (p.1, p.2) (no_memory c.args.plan c.args.script.now c.args.core.now (g.F.Files.told c.args.files.now) content back c.in_ok-text.text (g.W.Files.told c.args.dest.now c.args.core.now) (g.W.Files.told c.stop.new.dest c.args.core.now) (c.in_ok-text.ensures.answer (text, told)))
+    let stopped = c.in_ok-text.ensures.performed in
+    rw (p.1, p.2)
+    (record {
+      answer =
+          λ ((text, told), (content, back)).
+          no_memory c.args.plan c.args.script.now c.args.core.now (g.F.Files.told c.args.files.now) content back c.in_ok-text.text (g.W.Files.told c.args.dest.now c.args.core.now)
+          (g.W.Files.told c.stop.new.dest c.args.core.now) (stopped.answer (text, told));
+      read = record { later = omega (arith, stopped.read.later, c.in_ok-report.ensures.read.later); failed = λ is. absurd is };
+      write = record { later = stopped.write.later; failed = λ is. absurd (cc) };
+      unwritten = λ is. absurd is;
+      stays =
+          record {
+            files_told = c.in_ok-report.ensures.files_told ∙ stopped.stays.files_told;
+            files_writes = c.in_ok-report.ensures.files_writes ∙ stopped.stays.files_writes;
+            dest_reads = stopped.stays.dest_reads;
+            others = stopped.stays.others;
+          };
+    })
 
-pub returns-clause-answer : goal.returns-clause-answer
-returns-clause-answer g c = λ ((text, told), (content, back)).
+-- ---- or it stands behind the lines of the run
+
+pub returns-clause-performed : goal.returns-clause-performed
+returns-clause-performed g c =
     let before : Told = g.W.Files.told c.args.dest.now c.args.core.now in
-    let shown : IsAnswered (Show c.args.core.now) (g.F.Files.told c.args.files.now) (Ok c.in_ok-report.report) before before =
-    subst (λ (t : List ℕ → Told). AreTold (Show c.args.core.now) t → IsAnswered (Show c.args.core.now) t (Ok c.in_ok-report.report) before before) c.in_ok-text.ensures.files_told
-    (c.in_ok-report.ensures.answer before) (content, back) in
-    shown_behind c.args.plan c.args.script.now c.args.core.now (g.F.Files.told c.args.files.now) content back c.in_ok-text.text before (g.W.Files.told c.stop.new.dest c.args.core.now) c.in_ok-report.report c.extend_from_slice.new.self before before
-    (c.in_ok-extend_from_slice.ensures.items ∙ ap (λ (xs : List ℕ). c.in_ok-text.text.items ++ xs) c.deref.ensures.value)
-    (c.in_ok-text.ensures.answer (text, told)) shown
+    let stopped = c.in_ok-text.ensures.performed in
+    record {
+      answer =
+          λ ((text, told), (content, back)).
+          let shown : IsAnswered (Show c.args.core.now) (g.F.Files.told c.args.files.now) (Ok c.in_ok-report.report) before before =
+          subst (λ (t : List ℕ → Told). AreTold (Show c.args.core.now) t → IsAnswered (Show c.args.core.now) t (Ok c.in_ok-report.report) before before) stopped.stays.files_told
+          (c.in_ok-report.ensures.answer before) (content, back) in
+          shown_behind c.args.plan c.args.script.now c.args.core.now (g.F.Files.told c.args.files.now) content back c.in_ok-text.text before (g.W.Files.told c.stop.new.dest c.args.core.now)
+          c.in_ok-report.report c.extend_from_slice.new.self before before
+          (c.in_ok-extend_from_slice.ensures.items ∙ ap (λ (xs : List ℕ). c.in_ok-text.text.items ++ xs) c.deref.ensures.value) (stopped.answer (text, told)) shown;
+      read = record { later = omega (arith, stopped.read.later, c.in_ok-report.ensures.read.later); failed = λ is. absurd is };
+      write = record { later = stopped.write.later; failed = λ is. absurd (cc) };
+      unwritten = tt;
+      stays =
+          record {
+            files_told = c.in_ok-report.ensures.files_told ∙ stopped.stays.files_told;
+            files_writes = c.in_ok-report.ensures.files_writes ∙ stopped.stays.files_writes;
+            dest_reads = stopped.stays.dest_reads;
+            others = stopped.stays.others;
+          };
+    }

@@ -30,7 +30,7 @@ returns-in_err-next-clause-look g c = λ before same.
 pub returns-in_err-next-clause-leaves : goal.returns-in_err-next-clause-leaves
 returns-in_err-next-clause-leaves g c =
     lent_leaves g.C.Callbacks.told c.args.s.now c.hand.new.s Region c.args.region _ c.in_ok-key.ensures.handed c.hand.ensures.stays
-    c.enclosing_of-next.new.s c.release.new.self 1 2 (omega arith) c.enclosing_of-next.ensures.leaves c.release.ensures.removed c.release.ensures.made c.release.ensures.layout c.release.ensures.table
+    c.related_of-next.new.s c.release.new.self 1 2 (omega arith) c.related_of-next.ensures.leaves c.release.ensures.removed c.release.ensures.made c.release.ensures.layout c.release.ensures.table
 
 pub returns-clause-look : goal.returns-clause-look
 unfolding Looks
@@ -39,9 +39,9 @@ returns-clause-look g c = λ before same memory tells.
     let st = lent_stands told c.args.s.now c.hand.new.s Region c.args.region _ c.in_ok-key.ensures.handed c.hand.ensures.stays c.requires.met in
     let next = looks_before told c.args.s.now c.hand.new.s (Ok (name_in c.in_ok-next.field-0)) (λ w memory. look_optional w memory regions (address_of w regions c.args.region.name) RegionEnclosing 0) c.hand.ensures.stays (c.in_ok-next.ensures.look c.args.region.name st) in
     rw c.unmet.ensures (onward_gives c.args.s.now.layout regions before (contains nat_cmp c.args.met.now) same c.in_ok-next.field-0
-    (met_in_address told c.args.s.now c.enclosing_of-next.new.s Region c.in_ok-next.field-0 (stays_then told _ _ _ c.hand.ensures.stays c.enclosing_of-next.ensures.leaves.stays) c.in_ok-next.ensures.met) _ (next memory tells))
+    (met_in_address told c.args.s.now c.related_of-next.new.s Region c.in_ok-next.field-0 (stays_then told _ _ _ c.hand.ensures.stays c.related_of-next.ensures.leaves.stays) c.in_ok-next.ensures.met) _ (next memory tells))
 
 pub returns-clause-leaves : goal.returns-clause-leaves
 returns-clause-leaves g c =
     lent_leaves g.C.Callbacks.told c.args.s.now c.hand.new.s Region c.args.region _ c.in_ok-key.ensures.handed c.hand.ensures.stays
-    c.enclosing_of-next.new.s c.release.new.self 1 2 (omega arith) c.enclosing_of-next.ensures.leaves c.release.ensures.removed c.release.ensures.made c.release.ensures.layout c.release.ensures.table
+    c.related_of-next.new.s c.release.new.self 1 2 (omega arith) c.related_of-next.ensures.leaves c.release.ensures.removed c.release.ensures.made c.release.ensures.layout c.release.ensures.table

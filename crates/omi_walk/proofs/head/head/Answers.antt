@@ -1,5 +1,4 @@
 use Rattle.std.proofs.Common.{◌≡◌, ℕ, refl, ap, sym, ◌∙◌}
-use Rattle.std.proofs.lemmas.Result.{err_from_is_err_and}
 use Rattle.std.specs.Prelude.{Ok}
 use Rattle.omi_calls.specs.Told.{Told}
 use Rattle.omi_layout.specs.declared.field.Field.TheVariants.{RuntimeProcs, RuntimeDebug, RuntimeMaxActive}
@@ -7,7 +6,7 @@ use Rattle.omi_layout.specs.Table.{thread_count}
 use Rattle.omi_model.specs.declared.view.HeadRow.{HeadRow}
 use Rattle.omi_session.specs.Opened.{Opened}
 use Rattle.omi_walk.specs.Gives.{Looks}
-use Rattle.omi_walk.proofs.Steps.{look_then, look_stops}
+use Rattle.omi_walk.proofs.Steps.{look_then, look_stops, refused_looks}
 use Rattle.omi_walk.proofs.head.head.Goals as goal
 
 -- the number of threads is that of the layout
@@ -17,31 +16,28 @@ counted told s row threads is = λ memory tells. ap (λ n. Ok (row n)) (sym is)
 
 pub returns-in_err-version-clause-look : goal.returns-in_err-version-clause-look
 returns-in_err-version-clause-look g c =
-    let p = err_from_is_err_and c.from_residual.result c.from_residual.ensures.1 in
-    rw (p.1, p.2) (look_stops g.C.Callbacks.told c.args.s.now c.in_err-version.field-0.0 _ _ c.in_err-version.ensures.look)
+    refused_looks g.C.Callbacks.told _ _ _ _ c.from_residual.ensures.1
+    (look_stops g.C.Callbacks.told c.args.s.now c.in_err-version.field-0.0 _ _ c.in_err-version.ensures.look)
 
 pub returns-in_err-debug-clause-look : goal.returns-in_err-debug-clause-look
 returns-in_err-debug-clause-look g c =
-    let p = err_from_is_err_and c.from_residual-in_err-debug.result c.from_residual-in_err-debug.ensures.1 in
     let told = g.C.Callbacks.told in
-    rw (p.1, p.2)
+    refused_looks g.C.Callbacks.told _ _ _ _ c.from_residual-in_err-debug.ensures.1
     (look_then told c.args.s.now c.version_of.new.s c.in_ok-version.version _ _ _ c.in_ok-version.ensures.look c.version_of.ensures.leaves.stays
     (look_stops told c.version_of.new.s c.in_err-debug.field-0.0 _ _ (c.in_err-debug.ensures.look RuntimeDebug _ refl refl)))
 
 pub returns-in_err-procs-clause-look : goal.returns-in_err-procs-clause-look
 returns-in_err-procs-clause-look g c =
-    let p = err_from_is_err_and c.from_residual-in_err-procs.result c.from_residual-in_err-procs.ensures.1 in
     let told = g.C.Callbacks.told in
-    rw (p.1, p.2)
+    refused_looks g.C.Callbacks.told _ _ _ _ c.from_residual-in_err-procs.ensures.1
     (look_then told c.args.s.now c.version_of.new.s c.in_ok-version.version _ _ _ c.in_ok-version.ensures.look c.version_of.ensures.leaves.stays
     (look_then told c.version_of.new.s c.space_variable.new.s c.in_ok-debug.debug _ _ _ (c.in_ok-debug.ensures.look RuntimeDebug _ refl refl) c.space_variable.ensures.leaves.stays
     (look_stops told c.space_variable.new.s c.in_err-procs.field-0.0 _ _ (c.in_err-procs.ensures.look RuntimeProcs _ refl refl))))
 
 pub returns-in_err-max_active-clause-look : goal.returns-in_err-max_active-clause-look
 returns-in_err-max_active-clause-look g c =
-    let p = err_from_is_err_and c.from_residual-in_err-max_active.result c.from_residual-in_err-max_active.ensures.1 in
     let told = g.C.Callbacks.told in
-    rw (p.1, p.2)
+    refused_looks g.C.Callbacks.told _ _ _ _ c.from_residual-in_err-max_active.ensures.1
     (look_then told c.args.s.now c.version_of.new.s c.in_ok-version.version _ _ _ c.in_ok-version.ensures.look c.version_of.ensures.leaves.stays
     (look_then told c.version_of.new.s c.space_variable.new.s c.in_ok-debug.debug _ _ _ (c.in_ok-debug.ensures.look RuntimeDebug _ refl refl) c.space_variable.ensures.leaves.stays
     (look_then told c.space_variable.new.s c.space_variable-2.new.s c.in_ok-procs.procs _ _ _ (c.in_ok-procs.ensures.look RuntimeProcs _ refl refl) c.space_variable-2.ensures.leaves.stays

@@ -4,7 +4,7 @@ use Rattle.std.specs.FinMap.{get}
 use Rattle.omi_handle.specs.declared.handle.Kind.TheVariants.{Region, Task}
 use Rattle.omi_layout.specs.declared.field.Field.TheVariants.{TaskRegion}
 use Rattle.omi_session.specs.Handles.{name_of}
-use Rattle.omi_calls.specs.Told.{Words}
+use Rattle.omi_word.specs.Words.{Words}
 use Rattle.omi_handle.specs.declared.handle.Held.{Held}
 use Rattle.omi_session.specs.Inquiry.{object_of, unchanged}
 use Rattle.omi_session.specs.Reads.{answer_on}

@@ -17,4 +17,4 @@ pub returns-clause-look : goal.returns-clause-look
 unfolding Looks
 returns-clause-look g c = λ n before st same memory tells.
     rw c.unmet.ensures (onward_gives c.args.s.now.layout tasks before (contains nat_cmp c.args.met.now) same c.in_ok-next.next
-    (met_in_address g.C.Callbacks.told c.args.s.now c.scheduling_of.new.s Task c.in_ok-next.next c.scheduling_of.ensures.leaves.stays c.in_ok-next.ensures.met) _ (c.in_ok-next.ensures.look n st memory tells))
+    (met_in_address g.C.Callbacks.told c.args.s.now c.related_of.new.s Task c.in_ok-next.next c.related_of.ensures.leaves.stays c.in_ok-next.ensures.met) _ (c.in_ok-next.ensures.look n st memory tells))

@@ -1,6 +1,6 @@
 use Rattle.std.proofs.Common.{◌≡◌, ◌≤◌, ◌*◌, ℕ, List, drop, length, map}
 use Rattle.std.specs.List.{All}
-use Rattle.omi_calls.specs.Told.{Words}
+use Rattle.omi_word.specs.Words.{Words}
 use Rattle.omi_rep.specs.LookView.{look_thread, found_threads}
 use Rattle.omi_walk.specs.FoundThreads.{IsFound}
 use Rattle.omi_walk.specs.Leaves.{Leaves}

@@ -1,9 +1,0 @@
-pub mod Lists
-pub mod Slots
-pub mod ReadWords
-pub mod Walks
-pub mod Threads
-pub mod Tasks
-pub mod Enclosing
-pub mod RegionRows
-pub mod ShownViews
