@@ -10,7 +10,7 @@ use Rattle.omi_handle.specs.declared.handle.Held.{Held}
 use Rattle.omi_layout.specs.declared.field.Field.TheVariants.{ThreadLife, ThreadNative, TaskThread}
 use Rattle.omi_layout.specs.Table.{thread_count}
 use Rattle.omi_model.specs.declared.id.Tid.{Tid}
-use Rattle.omi_model.specs.Numbers.{flag}
+use Rattle.omi_numbers.specs.Words.{flag}
 use Rattle.omi_model.specs.State.{State}
 use Rattle.omi_model.specs.Views as view
 use Rattle.omi_rep.specs.Records.{thread_address}

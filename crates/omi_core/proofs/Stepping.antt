@@ -1,5 +1,5 @@
 -- A step of a run keeps what a run keeps.
-use Rattle.std.proofs.Common.{◌≡◌, ◌<◌, ◌≤◌, ◌+◌, ◌/◌, ◌^◌, ◌==◌, ◌++◌, ℕ, zero, suc, Bool, true, false, List, [], ◌∷◌, length, slice_index_or, slice_set, refl, sym, ap, ◌∙◌, subst, arith, eq-eqb, eqb-true, zero-add, if◌then◌else◌}
+use Rattle.std.proofs.Common.{◌≡◌, ◌<◌, ◌≤◌, ◌+◌, ◌/◌, ◌==◌, ◌++◌, ℕ, zero, suc, Bool, true, false, List, [], ◌∷◌, length, slice_index_or, slice_set, refl, sym, ap, ◌∙◌, subst, arith, eq-eqb, eqb-true, zero-add, if◌then◌else◌}
 use mathlib.Core.Path.{fun_ext}
 use Rattle.std.specs.Prelude.{IsTrue}
 use Rattle.std.proofs.lemmas.Bool.Decides.{nat_tests}
@@ -7,6 +7,7 @@ use Rattle.std.proofs.Math.Nat.{add-div_right, div-mul-le_self, mul-le-mul_left}
 use Rattle.std.proofs.lemmas.Nat.{le-div}
 use Rattle.std.proofs.lemmas.List.{length-append}
 use Rattle.std.proofs.lemmas.List.{get_or-set_other, get_or-set_same, length-map, length-set}
+use Rattle.omi_model.specs.declared.limits.TheConstants.{MOST_EVENTS}
 use Rattle.omi_word.specs.declared.op.Op.{Op}
 use Rattle.omi_word.specs.Memory.{IsWordOf, address_of, words_after, word_at}
 use Rattle.omi_script.specs.declared.program.Program.{Program}
@@ -154,7 +155,7 @@ module _ (a : Run) (k : KeepsRun a) (i : ℕ) (thread : i < a.program.threads) w
     abbrev behind : ℕ → Actor × Outcome
     behind old = resumed_at a.program a.table (actors_in a.actors i) (actors_in a.actors i).counter old
 
-    pub few : length (events_in a.events.items) + 1 < 2 ^ 57
+    pub few : length (events_in a.events.items) + 1 < MOST_EVENTS
     few =
         let same : length (events_in a.events.items) ≡ length a.events.items = length-map a.events.items (λ (e : ℕ × ℕ × Event). (e.1, e.2)) in
         let steps = k.few in

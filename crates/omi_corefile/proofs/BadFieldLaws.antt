@@ -13,7 +13,7 @@ use Rattle.omi_corefile.specs.declared.core_image.CoreImage.{CoreImage}
 use Rattle.omi_corefile.specs.declared.fault.CoreFault.{CoreFault}
 use Rattle.omi_corefile.specs.declared.fault.CoreFault.TheVariants.{BadMagic, Version, Order, SegmentOrder, BadContext, TooLarge}
 use Rattle.omi_corefile.specs.Limits.{is_start, end_of, total_words}
-use Rattle.omi_word.specs.declared.limits.TheConstants.{FIRST_ADDRESS}
+use Rattle.omi_word.specs.declared.limits.TheConstants.{FIRST_ADDRESS, MEMORY_END}
 use Rattle.omi_corefile.specs.declared.limits.TheConstants.{MOST_CONTEXTS, MOST_SEGMENTS, MOST_SEGMENT_WORDS}
 use Rattle.omi_corefile.specs.Spelling.{eight_bytes, numbers, header, segment_bytes, spelling}
 use Rattle.omi_corefile.specs.BadFields.{IsFaultAt, id_place, start_place, count_place, NeverStarts}
@@ -305,13 +305,13 @@ start_refused c before after s n are below bad =
 record Allowed (least n : ℕ) : Type 0 where
   aligned : n % 8 ≡ 0
   high : least ≤ n
-  low : n < 2 ^ 47
+  low : n < MEMORY_END
 
 allowed_of : (least n : ℕ) → IsTrue (is_start least n) → Allowed least n
 allowed_of least n e =
-    let whole = and_parts (eqb (n % 8) 0 && leb least n) (ltb n (2 ^ 47)) e in
+    let whole = and_parts (eqb (n % 8) 0 && leb least n) (ltb n MEMORY_END) e in
     let front = and_parts (eqb (n % 8) 0) (leb least n) whole.0 in
-    record { aligned = eqb-true (n % 8) 0 front.0; high = leb-true least n front.1; low = ltb-true n (2 ^ 47) whole.1 }
+    record { aligned = eqb-true (n % 8) 0 front.0; high = leb-true least n front.1; low = ltb-true n MEMORY_END whole.1 }
 
 -- the least start address never falls
 least_rises : (left : Left) (ss : List Segment) → AreGood IsSegment left_after left ss → left.0 ≤ (state_after left_after left ss).0
@@ -347,7 +347,7 @@ touching c before after last s n are low =
     start_refused c ss after s n split (omega (arith, low, small.0, small.1))
     (false_from_ne_true (is_start (left_behind ss).0 n) (λ e. omega (arith, (allowed_of (left_behind ss).0 n e).high, behind, low)))
   where
-    last_small : (xs : List Segment) (left : Left) → left.1 ≤ MOST_SEGMENT_WORDS → AreGood IsSegment left_after left (xs ++ last ∷ []) → (last.start < 2 ^ 47) × (length last.words ≤ MOST_SEGMENT_WORDS)
+    last_small : (xs : List Segment) (left : Left) → left.1 ≤ MOST_SEGMENT_WORDS → AreGood IsSegment left_after left (xs ++ last ∷ []) → (last.start < MEMORY_END) × (length last.words ≤ MOST_SEGMENT_WORDS)
     last_small [] left room good = ((allowed_of left.0 last.start good.0.0).low, omega (arith, good.0.2, room))
     last_small (x ∷ xs) left room good = last_small xs (left_after left x) (omega (arith, room)) good.1
 

@@ -9,7 +9,7 @@ use Rattle.std.proofs.lemmas.List.Sums.{sum_by-cons}
 use Rattle.omi_corefile.specs.declared.segment.Segment.{Segment}
 use Rattle.omi_corefile.specs.declared.fault.CoreFault.TheVariants.{SegmentOrder, TooLarge, BadContext}
 use Rattle.omi_corefile.specs.Limits.{rises_from, are_words, is_start, end_of, rise_apart_from, total_words}
-use Rattle.omi_word.specs.declared.limits.TheConstants.{FIRST_ADDRESS}
+use Rattle.omi_word.specs.declared.limits.TheConstants.{FIRST_ADDRESS, MEMORY_END}
 use Rattle.omi_corefile.specs.declared.limits.TheConstants.{MOST_SEGMENT_WORDS}
 use Rattle.omi_corefile.specs.Spelling.{eight_bytes, numbers, segment_bytes}
 use Rattle.omi_corefile.specs.Refusals.{ReadStep, ◌>>=◌, AreBytes, number_at, row_at, id_at, contexts_at, words_at, start_at, word_count_at, Left, left_after, segment_at, segments_at, place_in_file}
@@ -127,7 +127,7 @@ IsSegment left s = IsTrue (is_start left.0 s.start) × (0 < length s.words) × (
 -- a start address is a word
 start_below : (least start : ℕ) → IsTrue (is_start least start) → start < 2 ^ 64
 start_below least start good =
-    let below = ltb-true start (2 ^ 47) (and_parts (eqb (start % 8) 0 && leb least start) (ltb start (2 ^ 47)) good).1 in
+    let below = ltb-true start MEMORY_END (and_parts (eqb (start % 8) 0 && leb least start) (ltb start MEMORY_END) good).1 in
     omega arith
 
 segment_taken : (len : ℕ) (left : Left) (bytes : List ℕ) (x : Segment × List ℕ) → AreBytes bytes → segment_at len left bytes ≡ Ok x → Takes bytes (segment_bytes x.0) x.1 × IsSegment left x.0

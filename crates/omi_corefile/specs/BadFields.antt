@@ -1,10 +1,10 @@
 -- A file that spells a core up to a field, and holds something else there. Whatever follows the field is never read.
-use Rattle.std.specs.Prelude.{◌≡◌, ◌⊎◌, ◌≢◌, ◌<◌, ◌≤◌, ℕ, ◌+◌, ◌*◌, ◌^◌, ◌%◌, List, ◌++◌, length, take}
+use Rattle.std.specs.Prelude.{◌≡◌, ◌⊎◌, ◌≢◌, ◌<◌, ◌≤◌, ℕ, ◌+◌, ◌*◌, ◌%◌, List, ◌++◌, length, take}
 use Rattle.omi_corefile.specs.declared.segment.Segment.{Segment}
 use Rattle.omi_corefile.specs.declared.core_image.CoreImage.{CoreImage}
 use Rattle.omi_corefile.specs.declared.fault.CoreFault.{CoreFault}
 use Rattle.omi_corefile.specs.Limits.{total_words}
-use Rattle.omi_word.specs.declared.limits.TheConstants.{FIRST_ADDRESS}
+use Rattle.omi_word.specs.declared.limits.TheConstants.{FIRST_ADDRESS, MEMORY_END}
 use Rattle.omi_corefile.specs.Spelling.{spelling}
 use Rattle.omi_corefile.specs.Refusals.{CoreRefused}
 
@@ -27,4 +27,4 @@ count_place c before = start_place c before + 8
 
 -- no segment of any core starts at this address
 abbrev pub NeverStarts : ℕ → Type 0
-NeverStarts n = (n % 8 ≢ 0) ⊎ ((n < FIRST_ADDRESS) ⊎ (2 ^ 47 ≤ n))
+NeverStarts n = (n % 8 ≢ 0) ⊎ ((n < FIRST_ADDRESS) ⊎ (MEMORY_END ≤ n))

@@ -1,7 +1,7 @@
 -- What a core may hold. Each rule is a test that computes, so that a type can keep it.
 use Rattle.std.specs.Prelude.{ℕ, ◌+◌, ◌*◌, ◌^◌, ◌%◌, Bool, true, ◌&&◌, ◌==◌, nat_lt, nat_le, List, [], ◌∷◌, length, Option, None, Some}
 use Rattle.std.specs.List.{list_all, sum_by}
-use Rattle.omi_word.specs.declared.limits.TheConstants.{FIRST_ADDRESS}
+use Rattle.omi_word.specs.declared.limits.TheConstants.{FIRST_ADDRESS, MEMORY_END}
 use Rattle.omi_corefile.specs.declared.limits.TheConstants.{MOST_CONTEXTS, MOST_SEGMENTS, MOST_SEGMENT_WORDS}
 use Rattle.omi_corefile.specs.declared.segment.Segment.{Segment}
 
@@ -16,7 +16,7 @@ are_words xs = list_all (λ x. nat_lt x (2 ^ 64)) xs
 
 -- a start address that is at least `least`
 abbrev pub is_start : ℕ → ℕ → Bool
-is_start least start = start % 8 == 0 && nat_le least start && nat_lt start (2 ^ 47)
+is_start least start = start % 8 == 0 && nat_le least start && nat_lt start MEMORY_END
 
 -- the address after the last word of a segment
 abbrev pub end_of : ℕ → ℕ → ℕ

@@ -1,6 +1,7 @@
 //! Reading a core from its bytes.
 
-ghost use Rattle.std.specs.Prelude.{◌≡◌, ◌≤◌, ◌<◌, ◌^◌, ℕ, length, IfOk, IfErr, Ok, Err};
+ghost use Rattle.std.specs.Prelude.{◌≡◌, ◌≤◌, ◌<◌, ℕ, length, IfOk, IfErr, Ok, Err};
+ghost use Rattle.omi_word.specs.declared.limits.TheConstants.{MEMORY_END};
 ghost use Rattle.omi_corefile.specs.Refusals.{words_at, contexts_at, segment_at, segments_at, header_at, reading, CoreRefused};
 ghost use Rattle.omi_corefile.specs.Outcomes.{Gives, UnlessMemory, IsFaultOf};
 ghost use Rattle.omi_corefile.specs.Spelling.{Core};
@@ -95,7 +96,7 @@ fn segment(
     bytes: &[u8],
 ) -> Result<(Segment, &[u8]), CoreError>
     ensures read { Gives (λ x. (x.0, x.1.now)) result (segment_at len (least, room) bytes.now) }
-    ensures low { IfOk result (λ x. x.0.start < 2 ^ 47) }
+    ensures low { IfOk result (λ x. x.0.start < MEMORY_END) }
     ensures few { IfOk result (λ x. length x.0.words ≤ room) }
 {
     let (start, rest) = start(len, least, bytes)?;

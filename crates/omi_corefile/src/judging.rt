@@ -1,6 +1,7 @@
 //! The fields of a core file that a rule judges. Each function reads a file of `len` bytes, of which `bytes` are left, and gives the bytes after the field.
 
-ghost use Rattle.std.specs.Prelude.{◌≡◌, ◌≤◌, ◌<◌, ◌^◌, length, IfOk};
+ghost use Rattle.std.specs.Prelude.{◌≡◌, ◌≤◌, ◌<◌, length, IfOk};
+ghost use Rattle.omi_word.specs.declared.limits.TheConstants.{MEMORY_END};
 ghost use Rattle.omi_corefile.specs.Limits.{least_after};
 ghost use Rattle.omi_corefile.specs.Refusals.{version_at, order_at, context_count_at, segment_count_at, id_at, start_at, word_count_at};
 ghost use Rattle.omi_corefile.specs.Outcomes.{Gives};
@@ -8,6 +9,7 @@ ghost use Rattle.omi_corefile.specs.Outcomes.{Gives};
 use crate::fault::{CoreError, CoreFault};
 use crate::fields::{byte, number16, number32, number64, place};
 use crate::{MOST_CONTEXTS, MOST_SEGMENTS};
+use omi_word::MEMORY_END;
 
 /// The version, which is 1.
 pub fn version(len: usize, bytes: &[u8]) -> Result<(u8, &[u8]), CoreError>
@@ -81,11 +83,11 @@ pub fn id(len: usize, before: Option<u64>, bytes: &[u8]) -> Result<(u64, &[u8]),
 /// The start address of a segment, which is at least `least`.
 pub fn start(len: usize, least: u64, bytes: &[u8]) -> Result<(u64, &[u8]), CoreError>
     ensures read { Gives (λ x. (x.0, x.1.now)) result (start_at len least bytes.now) }
-    ensures bound { IfOk result (λ x. x.0 < 2 ^ 47) }
+    ensures bound { IfOk result (λ x. x.0 < MEMORY_END) }
 {
     let at = place(len, bytes);
     let (start, rest) = number64(len, bytes)?;
-    if start % 8 != 0 || start < least || start >= 1 << 47 {
+    if start % 8 != 0 || start < least || start >= MEMORY_END {
         let why = CoreFault::SegmentOrder(at);
         return Err(CoreError::Fault { at, why });
     }

@@ -5,10 +5,10 @@ use Rattle.omi_word.specs.declared.op.Op.{Op}
 use Rattle.omi_word.specs.declared.op.Op.TheVariants as op
 use Rattle.omi_script.specs.declared.program.Program.{Program}
 use Rattle.omi_model.specs.declared.event.Event.TheVariants as event
-use Rattle.omi_model.specs.Numbers.{wait_barrier_explicit, wait_barrier_implicit_parallel}
+use Rattle.omi_numbers.specs.declared.states.TheConstants.{WAIT_BARRIER_EXPLICIT, WAIT_BARRIER_IMPLICIT_PARALLEL}
+use Rattle.omi_numbers.specs.Words.{state_word}
 use Rattle.omi_layout.specs.declared.field.Field.{Field}
 use Rattle.omi_layout.specs.declared.field.Field.TheVariants.{ThreadState, RegionReleased, RegionArrived, RegionPending}
-use Rattle.omi_layout.specs.Codes.{state_word}
 use Rattle.omi_rep.specs.declared.outcome.Outcome.{Outcome}
 use Rattle.omi_rep.specs.declared.outcome.Outcome.TheVariants as outcome
 use Rattle.omi_pc.specs.declared.actor.Actor.{Actor}
@@ -34,8 +34,8 @@ use Rattle.omi_step_words.specs.Words.{of_region, of_thread}
 
 -- the state of a member that waits at a barrier
 abbrev pub barrier_state : Barrier → ℕ
-barrier_state Explicit = wait_barrier_explicit
-barrier_state Implicit = wait_barrier_implicit_parallel
+barrier_state Explicit = WAIT_BARRIER_EXPLICIT
+barrier_state Implicit = WAIT_BARRIER_IMPLICIT_PARALLEL
 
 -- a word of the current region
 abbrev pub of_current : List ℕ → Actor → Field → ℕ

@@ -6,23 +6,21 @@ use Rattle.omi_word.specs.declared.op.Op.TheVariants as op
 use Rattle.omi_script.specs.declared.program.Program.{Program}
 use Rattle.omi_model.specs.declared.event.Event.TheVariants as event
 use Rattle.omi_model.specs.declared.id.Rid.{Rid}
-use Rattle.omi_layout.specs.declared.field.Field.TheVariants.{ThreadCurrent, RegionLife, RegionLeft, TaskLife}
+use Rattle.omi_layout.specs.declared.field.Field.TheVariants.{RegionLife, RegionLeft, TaskLife}
 use Rattle.omi_rep.specs.declared.outcome.Outcome.{Outcome}
 use Rattle.omi_rep.specs.declared.outcome.Outcome.TheVariants as outcome
-use Rattle.omi_rep.specs.Records.{task_address}
 use Rattle.omi_pc.specs.declared.actor.Actor.{Actor}
 use Rattle.omi_pc.specs.declared.team_counter.JoinCounter.{JoinCounter}
 use Rattle.omi_pc.specs.declared.team_counter.JoinCounter.TheVariants as join
 use Rattle.omi_pc.specs.Moves.{closed, back_to_work}
-use Rattle.omi_step_words.specs.Moving.{task_under, to_join}
-use Rattle.omi_step_words.specs.Words.{object_in, of_member, of_place, of_region, of_task, of_thread, task_place, unused_word}
+use Rattle.omi_step_words.specs.Moving.{storing_under, to_join}
+use Rattle.omi_step_words.specs.Words.{object_in, of_member, of_place, of_region, of_task, task_place, unused_word}
 
 -- ---- operations
 
 abbrev pub join_next : List ℕ → Actor → JoinCounter → Op
 join_next w a join.LoadLeft = op.Load (of_region w a.context.region RegionLeft)
-join_next w a join.Join =
-    op.Store (of_thread w a.thread ThreadCurrent) (task_address w (task_under a))
+join_next w a join.Join = storing_under w a
 join_next w a (join.LoadMember r size member) = op.Load (of_member w r member)
 join_next w a (join.LoadLife r size member t) = op.Load (of_place w t TaskLife)
 join_next w a (join.FreeTask r size member t) =

@@ -1,11 +1,8 @@
 -- The steps of this crate: the operation that an actor makes next, and what comes of it.
-use Rattle.std.specs.Prelude.{ℕ, List}
+use Rattle.std.specs.Prelude.{◌≡◌, ℕ, List}
 use Rattle.omi_word.specs.declared.op.Op.{Op}
-use Rattle.omi_word.specs.declared.op.Op.TheVariants as op
-use Rattle.omi_word.specs.declared.op.Res.{Res}
 use Rattle.omi_script.specs.declared.program.Program.{Program}
 use Rattle.omi_rep.specs.declared.outcome.Outcome.{Outcome}
-use Rattle.omi_rep.specs.declared.outcome.Outcome.TheVariants as outcome
 use Rattle.omi_pc.specs.declared.actor.Actor.{Actor}
 use Rattle.omi_pc.specs.declared.counter.Counter.{Counter}
 use Rattle.omi_pc.specs.declared.counter.Counter.TheVariants as counter
@@ -22,26 +19,22 @@ IsForkCounter (counter.Barrier c) = Unit {0}
 IsForkCounter (counter.Join c) = Unit {0}
 IsForkCounter _ = ⊥
 
--- the operation at a counter. Of other counters nothing is said: a load stands for theirs
-abbrev pub next_at : Program → List ℕ → Actor → Counter → Op
-next_at p w a (counter.Worker c) = worker_next w a c
-next_at p w a (counter.Team c) = team_next p w a c
-next_at p w a (counter.Barrier c) = barrier_next w a c
-next_at p w a (counter.Join c) = join_next w a c
-next_at p w a _ = op.Load 0
+-- the operation at a counter of this crate
+abbrev pub IsForkNext : Program → List ℕ → Actor → Counter → Op → Type 0
+IsForkNext p w a (counter.Worker c) next = next ≡ worker_next w a c
+IsForkNext p w a (counter.Team c) next = next ≡ team_next p w a c
+IsForkNext p w a (counter.Barrier c) next = next ≡ barrier_next w a c
+IsForkNext p w a (counter.Join c) next = next ≡ join_next w a c
+IsForkNext p w a _ next = ⊥
 
-abbrev pub next_of : Program → List ℕ → Actor → Op
-next_of p w a = next_at p w a a.counter
-
--- where the operation found a word: the actor afterwards, and the outcome
-abbrev pub resumed_at : Program → List ℕ → Actor → Counter → ℕ → Actor × Outcome
-resumed_at p w a (counter.Worker c) old =
-    (worker_moved p w a c old, worker_outcome w a c old)
-resumed_at p w a (counter.Team c) old = (team_moved p w a c old, team_outcome p w a c old)
-resumed_at p w a (counter.Barrier c) old =
-    (barrier_moved p a c old, barrier_outcome w a c old)
-resumed_at p w a (counter.Join c) old = (join_moved p w a c old, join_outcome w a c old)
-resumed_at p w a _ old = (a, outcome.Quiet)
-
-abbrev pub resumed : Program → List ℕ → Actor → Res → Actor × Outcome
-resumed p w a r = resumed_at p w a a.counter r.old
+-- where the operation found a word at such a counter: the actor afterwards, and the outcome
+abbrev pub IsForkResumed : Program → List ℕ → Actor → Counter → ℕ → Actor × Outcome → Type 0
+IsForkResumed p w a (counter.Worker c) old to =
+    (to.0 ≡ worker_moved p w a c old) × (to.1 ≡ worker_outcome w a c old)
+IsForkResumed p w a (counter.Team c) old to =
+    (to.0 ≡ team_moved p w a c old) × (to.1 ≡ team_outcome p w a c old)
+IsForkResumed p w a (counter.Barrier c) old to =
+    (to.0 ≡ barrier_moved p a c old) × (to.1 ≡ barrier_outcome w a c old)
+IsForkResumed p w a (counter.Join c) old to =
+    (to.0 ≡ join_moved p w a c old) × (to.1 ≡ join_outcome w a c old)
+IsForkResumed p w a _ old to = ⊥

@@ -5,7 +5,7 @@ use Rattle.omi_script.specs.declared.program.Program.{Program}
 use Rattle.omi_script.specs.declared.statement.Stmt.{Stmt}
 use Rattle.omi_script.specs.declared.statement.Stmt.TheVariants as stmt
 use Rattle.omi_model.specs.declared.id.Rid.{Rid}
-use Rattle.omi_layout.specs.Codes.{exit_word}
+use Rattle.omi_numbers.specs.Addresses.{exit_frame}
 use Rattle.omi_pc.specs.declared.actor.Actor.{Actor}
 use Rattle.omi_pc.specs.declared.context.Context.{Context}
 use Rattle.omi_pc.specs.Frames.{statement_of}
@@ -79,7 +79,7 @@ new_member p a r number =
       generating = a.context.task;
       scheduling = if number == 0 then Some a.context.task else None;
       function = region_function p a;
-      exit = exit_word thread (member_depth a number);
+      exit = exit_frame thread (member_depth a number);
       is_final = false;
       references = 0;
       variables = inherited_words a.gathered.variables;

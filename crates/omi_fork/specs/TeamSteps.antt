@@ -1,6 +1,8 @@
 -- The steps of a `parallel` construct: it wants a team and asks for threads, makes the records of the region and of the members'
 -- tasks, forks, and assigns each task to its thread.
 use Rattle.std.specs.Prelude.{ℕ, ◌==◌, ◌+◌, ◌&&◌, nat_lt, Bool, List, if◌then◌else◌}
+use Rattle.omi_numbers.specs.declared.holders.TheConstants.{FREE_CLAIM}
+use Rattle.omi_numbers.specs.Holders.{claimed_word}
 use Rattle.omi_word.specs.declared.op.Op.{Op}
 use Rattle.omi_word.specs.declared.op.Op.TheVariants as op
 use Rattle.omi_script.specs.declared.program.Program.{Program}
@@ -8,9 +10,9 @@ use Rattle.omi_model.specs.declared.event.Event.TheVariants as event
 use Rattle.omi_model.specs.declared.id.Rid.{Rid}
 use Rattle.omi_model.specs.declared.id.Tid.{Tid}
 use Rattle.omi_model.specs.Columns.{with_task}
-use Rattle.omi_model.specs.Numbers.{overhead}
+use Rattle.omi_numbers.specs.declared.states.TheConstants.{OVERHEAD}
+use Rattle.omi_numbers.specs.Words.{state_word}
 use Rattle.omi_layout.specs.declared.field.Field.TheVariants.{RuntimeMaxActive, ThreadCurrent, ThreadState, ThreadClaim, ThreadAssign, RegionLife, RegionLevels, RegionActive, TaskLife}
-use Rattle.omi_layout.specs.Codes.{state_word}
 use Rattle.omi_layout.specs.Field.{regions, tasks}
 use Rattle.omi_rep.specs.declared.outcome.Outcome.{Outcome}
 use Rattle.omi_rep.specs.declared.outcome.Outcome.TheVariants as outcome
@@ -35,12 +37,13 @@ assigning w m = op.Store (of_thread w m.1 ThreadAssign) (task_address w m.0)
 
 abbrev pub team_next : Program → List ℕ → Actor → TeamCounter → Op
 team_next p w a team.OverheadState =
-    op.Store (of_thread w a.thread ThreadState) (state_word overhead 0)
+    op.Store (of_thread w a.thread ThreadState) (state_word OVERHEAD 0)
 team_next p w a team.LoadLevels = op.Load (of_region w a.context.region RegionLevels)
 team_next p w a team.LoadActive = op.Load (of_region w a.context.region RegionActive)
 team_next p w a (team.LoadVariable word) = op.Load (of_variable w a.context.task.0 word)
 team_next p w a team.Want = op.Load (of_runtime w RuntimeMaxActive)
-team_next p w a team.Ask = op.Cas (of_thread w a.gathered.asked ThreadClaim) 1 (2 + a.thread)
+team_next p w a team.Ask =
+    op.Cas (of_thread w a.gathered.asked ThreadClaim) FREE_CLAIM (claimed_word a.thread)
 team_next p w a (team.LoadRegionLife slot) = op.Load (of_place w (own_place a slot) RegionLife)
 team_next p w a (team.TakeRegion r) = op.Store (of_region w r RegionLife) (used_word r.0)
 team_next p w a (team.FillRegion r word) = filling w r.0 (region_plan w (planned_region p a) word)
@@ -88,11 +91,11 @@ past_want p n a =
     asking p 0
     (gathering (record a.gathered { wanted = n; team = alone a.thread }) a)
 
--- a thread was asked, and joined the team where its claim word was 1
+-- a thread was asked, and joined the team where it offered itself
 abbrev pub answered : Program → ℕ → Actor → Actor
 answered p old a =
     let thread = a.gathered.asked in
-    let team = if old == 1 then joined_by thread a.gathered.team else a.gathered.team in
+    let team = if old == FREE_CLAIM then joined_by thread a.gathered.team else a.gathered.team in
     asking p (thread + 1) (gathering (record a.gathered { team = team }) a)
 
 -- the life word of a slot was found: its record is taken where it is free
@@ -160,12 +163,12 @@ team_moved p w a (team.Assign member) old = assigning_from p (member + 1) a
 -- ---- outcomes
 
 abbrev pub team_outcome : Program → List ℕ → Actor → TeamCounter → ℕ → Outcome
-team_outcome p w a team.OverheadState old = outcome.Event (event.State overhead 0)
+team_outcome p w a team.OverheadState old = outcome.Event (event.State OVERHEAD 0)
 team_outcome p w a team.LoadLevels old = outcome.Quiet
 team_outcome p w a team.LoadActive old = outcome.Quiet
 team_outcome p w a (team.LoadVariable word) old = outcome.Quiet
 team_outcome p w a team.Want old = outcome.Event (event.Want (size_to_want p a old))
-team_outcome p w a team.Ask old = outcome.Event (event.Ask a.gathered.asked (old == 1))
+team_outcome p w a team.Ask old = outcome.Event (event.Ask a.gathered.asked (old == FREE_CLAIM))
 team_outcome p w a (team.LoadRegionLife slot) old = search_outcome w a RegionLife slot old
 team_outcome p w a (team.TakeRegion r) old = outcome.Quiet
 team_outcome p w a (team.FillRegion r word) old = outcome.Quiet

@@ -1,14 +1,16 @@
 -- The steps of a worker: it begins, offers itself, meets the task that a master assigned to it, and ends it.
 use Rattle.std.specs.Prelude.{◌==◌, ℕ, true, false, List, if◌then◌else◌}
+use Rattle.omi_numbers.specs.declared.holders.TheConstants.{FREE_CLAIM}
 use Rattle.omi_word.specs.declared.op.Op.{Op}
 use Rattle.omi_word.specs.declared.op.Op.TheVariants as op
 use Rattle.omi_script.specs.declared.program.Program.{Program}
 use Rattle.omi_model.specs.declared.event.Event.TheVariants as event
 use Rattle.omi_model.specs.declared.id.Rid.{Rid}
 use Rattle.omi_model.specs.declared.id.Tid.{Tid}
-use Rattle.omi_model.specs.Numbers.{idle}
+use Rattle.omi_numbers.specs.declared.states.TheConstants.{IDLE}
+use Rattle.omi_numbers.specs.Words.{state_word}
+use Rattle.omi_numbers.specs.Addresses.{function_at}
 use Rattle.omi_layout.specs.declared.field.Field.TheVariants.{ThreadLife, ThreadCurrent, ThreadState, ThreadClaim, ThreadAssign, RegionLife, RegionSize, RegionLeft, TaskLife, TaskRegion, TaskNumber, TaskFunction}
-use Rattle.omi_layout.specs.Codes.{state_word}
 use Rattle.omi_rep.specs.declared.outcome.Outcome.{Outcome}
 use Rattle.omi_rep.specs.declared.outcome.Outcome.TheVariants as outcome
 use Rattle.omi_rep.specs.Records.{task_address}
@@ -18,13 +20,13 @@ use Rattle.omi_pc.specs.declared.team_counter.WorkerCounter.{WorkerCounter}
 use Rattle.omi_pc.specs.declared.team_counter.WorkerCounter.TheVariants as worker
 use Rattle.omi_pc.specs.Moves.{begun_worker, closed, back_to_work}
 use Rattle.omi_step_words.specs.Moving.{to_worker}
-use Rattle.omi_step_words.specs.Words.{of_thread, of_place, of_region, of_task, object_in, task_place, region_place, function_at}
+use Rattle.omi_step_words.specs.Words.{of_thread, of_place, of_region, of_task, object_in, task_place, region_place}
 
 -- ---- operations
 
 abbrev pub worker_next : List ℕ → Actor → WorkerCounter → Op
 worker_next w a worker.Begin = op.Store (of_thread w a.thread ThreadLife) 1
-worker_next w a worker.Offer = op.Store (of_thread w a.thread ThreadClaim) 1
+worker_next w a worker.Offer = op.Store (of_thread w a.thread ThreadClaim) FREE_CLAIM
 worker_next w a worker.LoadAssign = op.Load (of_thread w a.thread ThreadAssign)
 worker_next w a (worker.ClearAssign t) = op.Store (of_thread w a.thread ThreadAssign) 0
 worker_next w a (worker.LoadLife t) = op.Load (of_place w t TaskLife)
@@ -37,7 +39,7 @@ worker_next w a (worker.ImplicitBegin t f r size number) =
     op.Store (of_thread w a.thread ThreadCurrent) (task_address w t)
 worker_next w a worker.ImplicitEnd = op.Store (of_thread w a.thread ThreadCurrent) 0
 worker_next w a (worker.AddLeft r) = op.Add (of_region w r RegionLeft) 1
-worker_next w a worker.IdleState = op.Store (of_thread w a.thread ThreadState) (state_word idle 0)
+worker_next w a worker.IdleState = op.Store (of_thread w a.thread ThreadState) (state_word IDLE 0)
 
 -- ---- moves
 
@@ -107,4 +109,4 @@ worker_outcome w a (worker.ImplicitBegin t f r size number) old =
     outcome.Event (event.ImplicitBegin t)
 worker_outcome w a worker.ImplicitEnd old = outcome.Event (event.ImplicitEnd a.context.task)
 worker_outcome w a (worker.AddLeft r) old = outcome.Quiet
-worker_outcome w a worker.IdleState old = outcome.Event (event.State idle 0)
+worker_outcome w a worker.IdleState old = outcome.Event (event.State IDLE 0)

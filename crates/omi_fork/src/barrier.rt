@@ -1,6 +1,8 @@
 //! The steps of a barrier, but for the look at the slots.
 
-ghost use Rattle.std.specs.Prelude.{◌≡◌, ◌*◌, ◌<◌, ◌≤◌, ◌^◌, length};
+ghost use Rattle.std.specs.Prelude.{◌≡◌, ◌*◌, ◌<◌, ◌≤◌, length};
+ghost use Rattle.omi_model.specs.declared.limits.TheConstants.{MOST_EVENTS, MOST_MEMBERS};
+ghost use Rattle.omi_numbers.specs.declared.words.TheConstants.{WAIT_PLACE};
 ghost use Rattle.omi_layout.specs.Table.{thread_count};
 ghost use Rattle.omi_pc.specs.Fits.{Fits};
 ghost use Rattle.omi_pc.specs.OpenBodies.{AreOpen};
@@ -12,6 +14,7 @@ ghost use Rattle.omi_step_words.specs.Placed.{IsPlaced};
 
 use omi_layout::{Field, Layout};
 use omi_model::Event;
+use omi_numbers::{WAIT_BARRIER_EXPLICIT, WAIT_BARRIER_IMPLICIT_PARALLEL, state_word};
 use omi_pc::{
     Actor, Barrier, BarrierCounter, Counter, JoinCounter, LookCounter, Opened, PlainCounter, Wait,
     WorkerCounter,
@@ -21,19 +24,14 @@ use omi_script::Program;
 use omi_step_words::{load, of_region, of_thread, store};
 use omi_word::Op;
 
-/// The states of a member that waits at a barrier.
-const WAIT_EXPLICIT: u32 = 0x014;
-
-const WAIT_IMPLICIT: u32 = 0x011;
-
 /// The state of a member that waits at a barrier.
 fn barrier_state(b: Barrier) -> u32
     ensures value { result ≡ barrier_state b }
-    ensures small { result < 65536 }
+    ensures small { result < WAIT_PLACE }
 {
     match b {
-        Barrier::Explicit => WAIT_EXPLICIT,
-        Barrier::Implicit => WAIT_IMPLICIT,
+        Barrier::Explicit => WAIT_BARRIER_EXPLICIT,
+        Barrier::Implicit => WAIT_BARRIER_IMPLICIT_PARALLEL,
     }
 }
 
@@ -49,7 +47,7 @@ pub fn barrier_next(p: &Program, l: &Layout, a: &Actor, c: BarrierCounter) -> Op
     match c {
         BarrierCounter::State { barrier } => store(
             of_thread(l, a.thread, Field::ThreadState),
-            u64::from(barrier_state(barrier)),
+            state_word(barrier_state(barrier), 0),
         ),
         BarrierCounter::Arrive { .. } => Op::Add {
             at: of_region(l, region, Field::RegionArrived),
@@ -69,8 +67,8 @@ pub fn barrier_next(p: &Program, l: &Layout, a: &Actor, c: BarrierCounter) -> Op
 
 /// The arrivals of all members at all barriers so far, the one at which this member waits included.
 fn all_arrivals(size: u64, arrivals: u64) -> u64
-    requires size { size ≤ 64 }
-    requires arrivals { arrivals < 2 ^ 57 }
+    requires size { size ≤ MOST_MEMBERS }
+    requires arrivals { arrivals < MOST_EVENTS }
     ensures { result ≡ size * arrivals }
 {
     size * arrivals
@@ -111,7 +109,7 @@ fn look(a: &mut Actor, barrier: Barrier)
 
 /// The member has arrived at one barrier more.
 fn arrive(a: &mut Actor)
-    requires { a.old.context.arrivals < 2 ^ 57 }
+    requires { a.old.context.arrivals < MOST_EVENTS }
     ensures { a.new ≡ past_arrive a.old }
 {
     a.context.arrivals += 1;

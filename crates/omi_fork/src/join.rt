@@ -5,7 +5,6 @@ ghost use Rattle.omi_layout.specs.Table.{thread_count};
 ghost use Rattle.omi_pc.specs.Fits.{Fits};
 ghost use Rattle.omi_pc.specs.OpenBodies.{AreOpen};
 ghost use Rattle.omi_pc.specs.declared.counter.Counter.TheVariants as counter;
-ghost use Rattle.omi_pc.specs.declared.team_counter.JoinCounter.TheVariants.{Join};
 ghost use Rattle.omi_fork.specs.JoinSteps;
 ghost use Rattle.omi_fork.specs.JoinSteps.{behind_free, join_moved, join_next, join_outcome, past_join};
 ghost use Rattle.omi_step_words.specs.Moving.{to_join};
@@ -17,23 +16,9 @@ use omi_pc::{Actor, Counter, JoinCounter, bodies_stand};
 use omi_rep::Outcome;
 use omi_script::Program;
 use omi_step_words::{
-    load, object_in, of_place, of_region, of_task, of_thread, store, task_place, task_under,
-    unused_word,
+    load, object_in, of_place, of_region, of_task, store, store_under, task_place, unused_word,
 };
 use omi_word::Op;
-
-/// The store of the encountering task into the current word.
-fn store_joined(p: &Program, l: &Layout, a: &Actor) -> Op
-    requires fits { Fits p.now a.now }
-    requires threads { p.now.threads ≡ thread_count l.now.table }
-    requires placed { IsPlaced l.now.table a.now }
-    requires at { a.now.counter ≡ counter.Join Join }
-    ensures { result ≡ join_next l.now.table a.now Join }
-{
-    let task = task_under(a);
-    let record = l.task_at(task.0.creator, task.0.slot);
-    store(of_thread(l, a.thread, Field::ThreadCurrent), record)
-}
 
 /// The operation that member 0 makes next in a join.
 pub fn join_next(p: &Program, l: &Layout, a: &Actor, c: JoinCounter) -> Op
@@ -45,7 +30,7 @@ pub fn join_next(p: &Program, l: &Layout, a: &Actor, c: JoinCounter) -> Op
 {
     match c {
         JoinCounter::LoadLeft => load(of_region(l, a.context.region, Field::RegionLeft)),
-        JoinCounter::Join => store_joined(p, l, a),
+        JoinCounter::Join => store_under(l, a),
         JoinCounter::LoadMember { region, member, .. } => {
             load(l.word_at(region.0.creator, region.0.slot, Field::RegionTeam, member))
         }

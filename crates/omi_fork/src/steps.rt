@@ -4,7 +4,7 @@ ghost use Rattle.std.specs.Prelude.{◌≡◌};
 ghost use Rattle.omi_layout.specs.Table.{thread_count};
 ghost use Rattle.omi_pc.specs.Fits.{Fits};
 ghost use Rattle.omi_step_words.specs.Placed.{IsPlaced};
-ghost use Rattle.omi_fork.specs.Steps.{IsForkCounter, next_of, resumed};
+ghost use Rattle.omi_fork.specs.Steps.{IsForkCounter, IsForkNext, IsForkResumed};
 
 use crate::{
     barrier_next, barrier_resume, join_next, join_resume, team_next, team_resume, worker_next,
@@ -22,7 +22,7 @@ pub fn fork_next(p: &Program, l: &Layout, a: &Actor) -> Op
     requires threads { p.now.threads ≡ thread_count l.now.table }
     requires placed { IsPlaced l.now.table a.now }
     requires counter { IsForkCounter a.now.counter }
-    ensures { result ≡ next_of p.now l.now.table a.now }
+    ensures { IsForkNext p.now l.now.table a.now a.now.counter result }
 {
     match a.counter {
         Counter::Worker(c) => worker_next(p, l, a, c),
@@ -40,8 +40,7 @@ pub fn fork_resume(p: &Program, l: &Layout, a: &mut Actor, r: Res) -> Outcome
     requires threads { p.now.threads ≡ thread_count l.now.table }
     requires placed { IsPlaced l.now.table a.old }
     requires counter { IsForkCounter a.old.counter }
-    ensures moved { a.new ≡ (resumed p.now l.now.table a.old r).0 }
-    ensures outcome { result ≡ (resumed p.now l.now.table a.old r).1 }
+    ensures { IsForkResumed p.now l.now.table a.old a.old.counter r.old (a.new, result) }
 {
     match a.counter {
         Counter::Worker(c) => worker_resume(p, l, a, c, r.old),

@@ -14,6 +14,7 @@ ghost use Rattle.omi_fork.specs.TeamSteps.{team_next, team_outcome};
 use crate::team_parts::{member_of, new_member, new_region, wanted_size};
 use omi_layout::{Field, Layout};
 use omi_model::{Event, Id};
+use omi_numbers::{FREE_CLAIM, OVERHEAD, claimed_word, state_word};
 use omi_pc::{Actor, TeamCounter};
 use omi_rep::Outcome;
 use omi_script::Program;
@@ -22,9 +23,6 @@ use omi_step_words::{
     own_place, region_plan, search_outcome, store, task_plan, used_word,
 };
 use omi_word::Op;
-
-/// The state of a thread that makes a team.
-const OVERHEAD: u32 = 0x101;
 
 /// The store of a word into the record of a new task.
 fn fill_task(l: &Layout, task: Id, new: &NewTask, word: u8) -> Op
@@ -51,7 +49,7 @@ pub fn team_next(p: &Program, l: &Layout, a: &Actor, c: TeamCounter) -> Op
     match c {
         TeamCounter::OverheadState => store(
             of_thread(l, i, Field::ThreadState),
-            u64::from(OVERHEAD),
+            state_word(OVERHEAD, 0),
         ),
         TeamCounter::LoadLevels => load(of_region(l, a.context.region, Field::RegionLevels)),
         TeamCounter::LoadActive => load(of_region(l, a.context.region, Field::RegionActive)),
@@ -59,8 +57,8 @@ pub fn team_next(p: &Program, l: &Layout, a: &Actor, c: TeamCounter) -> Op
         TeamCounter::Want => load(of_runtime(l, Field::RuntimeMaxActive)),
         TeamCounter::Ask => Op::Cas {
             at: of_thread(l, a.gathered.asked, Field::ThreadClaim),
-            old: 1,
-            new: 2 + u64::from(i),
+            old: FREE_CLAIM,
+            new: claimed_word(i),
         },
         TeamCounter::LoadRegionLife { slot } => {
             load(of_place(l, own_place(a, slot), Field::RegionLife))
@@ -125,7 +123,7 @@ pub fn team_outcome(p: &Program, l: &Layout, a: &Actor, c: TeamCounter, old: u64
         }),
         TeamCounter::Ask => Outcome::Event(Event::Ask {
             w: a.gathered.asked,
-            got: old == 1,
+            got: old == FREE_CLAIM,
         }),
         TeamCounter::LoadRegionLife { slot } => {
             search_outcome(l, a, slot, Field::RegionLife, old)

@@ -17,6 +17,7 @@ use crate::team::team_outcome;
 use crate::team_parts::{master_context, region_function, wanted_size};
 use omi_layout::Layout;
 use omi_model::{Id, Rid, Team, Tid};
+use omi_numbers::FREE_CLAIM;
 use omi_pc::limits::{REGION_WORDS, TASK_WORDS, VARIABLE_WORDS};
 use omi_pc::{Actor, Counter, TeamCounter, bodies_stand, stacks_have_room};
 use omi_rep::Outcome;
@@ -94,7 +95,7 @@ fn answer(p: &Program, a: &mut Actor, old: u64)
     ensures { a.new ≡ answered p.now old a.old }
 {
     let thread = a.gathered.asked;
-    if old == 1 {
+    if old == FREE_CLAIM {
         a.gathered.team.push(NO_TASK, thread);
     }
     ask(p, a, thread + 1);

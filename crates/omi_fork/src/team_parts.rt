@@ -7,9 +7,10 @@ ghost use Rattle.omi_fork.specs.TeamParts;
 ghost use Rattle.omi_fork.specs.TeamParts.{master_context, new_member, planned_region, requested, size_to_want};
 
 use omi_model::{Rid, Team, Tid};
+use omi_numbers::exit_frame;
 use omi_pc::{Actor, Context};
 use omi_script::{Program, Stmt};
-use omi_step_words::{NewRegion, NewTask, exit_word, inherited_words};
+use omi_step_words::{NewRegion, NewTask, inherited_words};
 
 /// The function of the `parallel` construct in work, and 0 where there is none.
 pub fn region_function(p: &Program, a: &Actor) -> u8
@@ -90,7 +91,7 @@ pub fn new_member(p: &Program, a: &Actor, region: Rid, number: u8) -> NewTask
         generating: task,
         scheduling,
         function: region_function(p, a),
-        exit: exit_word(thread, depth),
+        exit: exit_frame(thread, depth),
         is_final: false,
         references: 0,
         variables: inherited_words(&a.gathered.variables),

@@ -9,17 +9,14 @@ ghost use Rattle.omi_fork.specs.WorkerSteps.{idle_counter, member_context, worke
 
 use omi_layout::{Field, Layout};
 use omi_model::{Event, Rid, Tid};
+use omi_numbers::{FREE_CLAIM, IDLE, function_at, state_word};
 use omi_pc::{Actor, Context, Counter, WorkerCounter};
 use omi_rep::Outcome;
 use omi_script::Program;
 use omi_step_words::{
-    function_at, load, object_in, of_place, of_region, of_task, of_thread, region_place, store,
-    task_place,
+    load, object_in, of_place, of_region, of_task, of_thread, region_place, store, task_place,
 };
 use omi_word::Op;
-
-/// The state of a worker without a task.
-const IDLE: u32 = 0x100;
 
 /// What a member but member 0 knows of its implicit task as it begins.
 fn member_context(task: Tid, region: Rid, size: u64, number: u64) -> Context
@@ -60,7 +57,7 @@ pub fn worker_next(p: &Program, l: &Layout, a: &Actor, c: WorkerCounter) -> Op
     let i = a.thread;
     match c {
         WorkerCounter::Begin => store(of_thread(l, i, Field::ThreadLife), 1),
-        WorkerCounter::Offer => store(of_thread(l, i, Field::ThreadClaim), 1),
+        WorkerCounter::Offer => store(of_thread(l, i, Field::ThreadClaim), FREE_CLAIM),
         WorkerCounter::LoadAssign => load(of_thread(l, i, Field::ThreadAssign)),
         WorkerCounter::ClearAssign { .. } => store(of_thread(l, i, Field::ThreadAssign), 0),
         WorkerCounter::LoadLife { task } => load(of_place(l, task, Field::TaskLife)),
@@ -82,7 +79,7 @@ pub fn worker_next(p: &Program, l: &Layout, a: &Actor, c: WorkerCounter) -> Op
             at: of_region(l, region, Field::RegionLeft),
             by: 1,
         },
-        WorkerCounter::IdleState => store(of_thread(l, i, Field::ThreadState), u64::from(IDLE)),
+        WorkerCounter::IdleState => store(of_thread(l, i, Field::ThreadState), state_word(IDLE, 0)),
     }
 }
 

@@ -9,7 +9,7 @@ use Rattle.omi_word.specs.Words.{Words}
 use Rattle.omi_layout.specs.declared.field.Field.{Field}
 use Rattle.omi_layout.specs.declared.field.Field.TheVariants.{TaskNthreadsLength, TaskNthreads}
 use Rattle.omi_layout.specs.Named.{number}
-use Rattle.omi_model.specs.Numbers.{flag}
+use Rattle.omi_numbers.specs.Words.{flag}
 use Rattle.omi_rep.specs.Records.{record_at}
 use Rattle.omi_script.specs.declared.statement.Sched.{Sched}
 use Rattle.omi_session.specs.declared.rc.Rc.{Rc}

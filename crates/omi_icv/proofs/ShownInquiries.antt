@@ -1,14 +1,16 @@
 -- Over words that show a state, the inquiries for control variables, states and tool words answer what the state does.
-use Rattle.std.proofs.Common.{◌≡◌, ◌==◌, ◌%◌, ◌/◌, ◌^◌, ◌<◌, ℕ, Bool, true, false, cond, List, ◌∷◌, [], Option, refl, ap, subst, ◌∙◌, arith}
+use Rattle.std.proofs.Common.{◌≡◌, ◌==◌, ◌%◌, ◌/◌, ◌<◌, ℕ, Bool, true, false, cond, List, ◌∷◌, [], Option, refl, ap, subst, ◌∙◌, arith}
 use Rattle.std.specs.Prelude.{Result, Ok, Err}
 use Rattle.std.specs.Fmt.{decimal}
 use Rattle.omi_word.specs.Words.{Words}
 use Rattle.omi_calls.specs.Told.{Told}
+use Rattle.omi_numbers.specs.declared.words.TheConstants.{WAIT_PLACE}
 use Rattle.omi_handle.specs.declared.handle.Kind.TheVariants as kind
 use Rattle.omi_handle.specs.declared.handle.Held.{Held}
-use Rattle.omi_layout.specs.Codes.{state_word}
+use Rattle.omi_numbers.specs.Words.{state_word, flag}
+use Rattle.omi_numbers.specs.declared.variables.TheConstants.{MAX_ACTIVE_LEVELS_VAR, DEBUG_VAR, NUM_PROCS_VAR}
+use Rattle.omi_numbers.specs.Variables.{name_of}
 use Rattle.omi_layout.specs.declared.field.Field.TheVariants.{RuntimeDebug, RuntimeProcs, RuntimeMaxActive, ThreadState, TaskTool}
-use Rattle.omi_model.specs.Numbers.{flag, max_active_levels_var}
 use Rattle.omi_model.specs.State.{State}
 use Rattle.omi_rep.specs.Records.{runtime_address, thread_address, region_address, task_address}
 use Rattle.omi_rep.proofs.SameReport.{small_state}
@@ -33,7 +35,7 @@ use Rattle.omi_icv.specs.Spellings.{value_text}
 use Rattle.omi_icv.specs.StateValues.{Content, as_number, as_text, value_in, values_of, number_of, text_of, state_of_thread, tool_of, display_of}
 use Rattle.omi_icv.specs.StateWords.{state, tool_data}
 use Rattle.omi_icv.specs.Subjects.{Subject, OfScoped}
-use Rattle.omi_icv.specs.Table.{variable_in, debug_var, num_procs_var, name_of}
+use Rattle.omi_icv.specs.Table.{variable_in}
 use Rattle.omi_icv.specs.Written.{IsWritten, Written}
 use Rattle.omi_icv.proofs.Shown.{Agrees, text_read, switch_text}
 use Rattle.omi_icv.proofs.ShownVariables.{space_agrees, thread_agrees, region_agrees, task_agrees}
@@ -78,7 +80,7 @@ module _ (told : Told) (w : List ℕ) where
       (then_answered shown.memory (word_of w (runtime_address w) RuntimeDebug 0) _ (flag s.environment.debug) (word_told w shown.memory (runtime_address w) RuntimeDebug 0 _ globals.debug)
       ∙ then_answered shown.memory (word_of w (runtime_address w) RuntimeProcs 0) _ s.environment.procs (word_told w shown.memory (runtime_address w) RuntimeProcs 0 _ globals.procs)
       ∙ then_answered shown.memory (word_of w (runtime_address w) RuntimeMaxActive 0) _ s.max_active (word_told w shown.memory (runtime_address w) RuntimeMaxActive 0 _ globals.max_active))
-      ∙ ap (λ text. Ok (named_value (name_of debug_var) text ∷ named_value (name_of num_procs_var) (decimal s.environment.procs) ∷ named_value (name_of max_active_levels_var) (decimal s.max_active) ∷ []))
+      ∙ ap (λ text. Ok (named_value (name_of DEBUG_VAR) text ∷ named_value (name_of NUM_PROCS_VAR) (decimal s.environment.procs) ∷ named_value (name_of MAX_ACTIVE_LEVELS_VAR) (decimal s.max_active) ∷ []))
       (switch_text s.environment.debug)
 
   pub display_given : (s : State) (shown : ShowsTold told w s) (result : Result (List (List ℕ)) Rc) → Written told result (display w) → IsWritten result (Ok (display_of s))
@@ -100,10 +102,10 @@ module _ (told : Told) (w : List ℕ) (held : Handles) where
     task_record found h = then_answered shown.memory (object_of w kind.Task found) _ (held_task w h.name) (task_object told w s shown found h)
 
     -- the state of a thread
-    state_of_word : (state wait : ℕ) → state < 65536 → ◌≡◌ {A = ℕ × ℕ} (state_word state wait % 2 ^ 16, state_word state wait / 2 ^ 16) (state, wait)
+    state_of_word : (state wait : ℕ) → state < WAIT_PLACE → ◌≡◌ {A = ℕ × ℕ} (state_word state wait % WAIT_PLACE, state_word state wait / WAIT_PLACE) (state, wait)
     state_of_word x y small =
-        let low : state_word x y % 2 ^ 16 ≡ x = omega (arith, small) in
-        let rest : state_word x y / 2 ^ 16 ≡ y = omega (arith, small) in
+        let low : state_word x y % WAIT_PLACE ≡ x = omega (arith, small) in
+        let rest : state_word x y / WAIT_PLACE ≡ y = omega (arith, small) in
         λ i. (low i, rest i)
 
     pub state_told : (found : Option Held) (h : HoldsThread w s found) → answer_on shown.memory (state w found) ≡ state_of_thread s h.thread
@@ -114,7 +116,7 @@ module _ (told : Told) (w : List ℕ) (held : Handles) where
         ∙ go s.environment.debug
       where
         go : (b : Bool) → answer_on {A = ℕ × ℕ} shown.memory (cond (flag b == 0) (Answer (Err NeedsStateTracking))
-            (then_reads (word_of w (thread_address w h.thread) ThreadState 0) (λ word. Answer (Ok (word % 2 ^ 16, word / 2 ^ 16)))))
+            (then_reads (word_of w (thread_address w h.thread) ThreadState 0) (λ word. Answer (Ok (word % WAIT_PLACE, word / WAIT_PLACE)))))
             ≡ cond b (Ok ((s.threads h.thread).state, (s.threads h.thread).wait)) (Err NeedsStateTracking)
         go true =
             then_answered shown.memory (word_of w (thread_address w h.thread) ThreadState 0) _ (state_word (s.threads h.thread).state (s.threads h.thread).wait)

@@ -8,7 +8,7 @@ use Rattle.omi_layout.specs.declared.field.Field.TheVariants.{RuntimeProcs, Runt
 use Rattle.omi_model.specs.declared.id.Rid.{Rid}
 use Rattle.omi_model.specs.declared.id.Tid.{Tid}
 use Rattle.omi_model.specs.declared.task.Task.{Task}
-use Rattle.omi_model.specs.Numbers.{flag}
+use Rattle.omi_numbers.specs.Words.{flag}
 use Rattle.omi_model.specs.State.{State, task_of, current_task}
 use Rattle.omi_model.specs.Visible.{IsVisibleRegion, IsVisibleTask}
 use Rattle.omi_model.specs.WellFormed.{HasBegun}

@@ -2,21 +2,21 @@
 use Rattle.std.specs.Prelude.{ℕ, List, [], ◌∷◌, Ok}
 use Rattle.std.specs.Fmt.{decimal}
 use Rattle.omi_layout.specs.declared.field.Field.TheVariants.{RuntimeDebug, RuntimeProcs, RuntimeMaxActive}
-use Rattle.omi_model.specs.Numbers.{max_active_levels_var}
+use Rattle.omi_numbers.specs.declared.variables.TheConstants.{MAX_ACTIVE_LEVELS_VAR, DEBUG_VAR, NUM_PROCS_VAR}
+use Rattle.omi_numbers.specs.Variables.{name_of}
 use Rattle.omi_rep.specs.Records.{runtime_address}
 use Rattle.omi_session.specs.Reads.{Reads, Answer, then_reads}
 use Rattle.omi_session.specs.Inquiry.{word_of}
 use Rattle.omi_text.specs.Head.{debug_text}
 use Rattle.omi_text.specs.Lines.{named_value}
 use Rattle.omi_icv.specs.declared.display.SpaceWords.{SpaceWords}
-use Rattle.omi_icv.specs.Table.{debug_var, num_procs_var, name_of}
 
 -- the texts of the variables
 abbrev pub display_texts : SpaceWords → List (List ℕ)
 display_texts words =
-    named_value (name_of debug_var) (debug_text words.debug)
-    ∷ named_value (name_of num_procs_var) (decimal words.procs)
-    ∷ named_value (name_of max_active_levels_var) (decimal words.max_active)
+    named_value (name_of DEBUG_VAR) (debug_text words.debug)
+    ∷ named_value (name_of NUM_PROCS_VAR) (decimal words.procs)
+    ∷ named_value (name_of MAX_ACTIVE_LEVELS_VAR) (decimal words.max_active)
     ∷ []
 
 module _ (w : List ℕ) where

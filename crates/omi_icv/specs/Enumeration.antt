@@ -1,17 +1,13 @@
 -- The enumerations of states and of control variables: each gives the row of its table behind a number.
 use Rattle.std.specs.Prelude.{ℕ, ◌==◌, List, [], ◌∷◌, Result, Ok, Err, if◌then◌else◌}
+use Rattle.omi_numbers.specs.Variables.{name_of}
+use Rattle.omi_numbers.specs.declared.variables.TheConstants.{UNDEFINED_VARIABLE}
+use Rattle.omi_numbers.specs.declared.states.TheConstants.{UNDEFINED_STATE}
 use Rattle.omi_session.specs.declared.rc.Rc.{Rc}
 use Rattle.omi_session.specs.declared.rc.Rc.TheVariants.{BadInput}
-use Rattle.omi_text.specs.Names.{states}
+use Rattle.omi_numbers.specs.States.{states}
 use Rattle.omi_icv.specs.Scopes.{scope_number}
 use Rattle.omi_icv.specs.Table.{Row, variables}
-
--- the states begin behind that which is undefined, and the variables behind that which is
-abbrev pub undefined_state : ℕ
-undefined_state = 0x102
-
-abbrev pub undefined_icv : ℕ
-undefined_icv = 0
 
 -- 1 where rows follow, and else 0
 abbrev pub more_of : {A : Type 0} → List A → ℕ
@@ -31,15 +27,15 @@ state_entry (Ok next) = Ok (next.0.0, next.0.1, next.1)
 state_entry (Err rc) = Err rc
 
 abbrev pub next_state : ℕ → Result (ℕ × List ℕ × ℕ) Rc
-next_state current = state_entry (next_row (λ row. row.0) undefined_state states current)
+next_state current = state_entry (next_row (λ row. row.0) UNDEFINED_STATE states current)
 
 -- a variable: its number, its name, its scope, and whether more follow
 abbrev pub icv_entry : Result (Row × ℕ) Rc → Result (ℕ × List ℕ × ℕ × ℕ) Rc
-icv_entry (Ok next) = Ok (next.0.number, next.0.name, scope_number next.0.variable.scope, next.1)
+icv_entry (Ok next) = Ok (next.0.number, name_of next.0.number, scope_number next.0.variable.scope, next.1)
 icv_entry (Err rc) = Err rc
 
 abbrev pub next_icv : ℕ → Result (ℕ × List ℕ × ℕ × ℕ) Rc
-next_icv current = icv_entry (next_row (λ row. row.number) undefined_icv variables current)
+next_icv current = icv_entry (next_row (λ row. row.number) UNDEFINED_VARIABLE variables current)
 
 -- what a call gave, with the bytes of the name
 abbrev pub named_state : {N A : Type 0} → (N → A) → Result (ℕ × N × ℕ) Rc → Result (ℕ × A × ℕ) Rc

@@ -5,15 +5,16 @@ use Rattle.std.specs.Option.{option_map, ok_or}
 use Rattle.omi_script.specs.declared.statement.Sched.{Sched}
 use Rattle.omi_model.specs.declared.region.Region.{Region}
 use Rattle.omi_model.specs.declared.task.Task.{Task}
-use Rattle.omi_model.specs.Numbers.{flag, dyn_var, nthreads_var, run_sched_var, default_device_var, max_active_levels_var}
+use Rattle.omi_numbers.specs.Words.{flag}
+use Rattle.omi_numbers.specs.declared.variables.TheConstants.{DYN_VAR, NTHREADS_VAR, RUN_SCHED_VAR, DEFAULT_DEVICE_VAR, MAX_ACTIVE_LEVELS_VAR, FINAL_TASK_VAR, IMPLICIT_TASK_VAR, DEBUG_VAR, NUM_PROCS_VAR, LEVELS_VAR, ACTIVE_LEVELS_VAR, TEAM_SIZE_VAR, THREAD_NUM_VAR}
+use Rattle.omi_script.specs.Schedules.{schedule_word}
+use Rattle.omi_numbers.specs.Variables.{name_of}
 use Rattle.omi_model.specs.State.{State, current_task}
-use Rattle.omi_model.specs.Views.{schedule_number}
 use Rattle.omi_session.specs.declared.rc.Rc.{Rc}
 use Rattle.omi_session.specs.declared.rc.Rc.TheVariants.{Unavailable, Unsupported, NeedsStateTracking, Incomplete}
 use Rattle.omi_text.specs.Lines.{named_value}
 use Rattle.omi_text.specs.Names.{kind_text}
 use Rattle.omi_text.specs.Numbers.{decimals}
-use Rattle.omi_icv.specs.Table.{final_task_var, implicit_task_var, debug_var, num_procs_var, levels_var, active_levels_var, team_size_var, thread_num_var, name_of}
 use Rattle.omi_icv.specs.Subjects.{Subject}
 use Rattle.omi_icv.specs.Subjects as subject
 
@@ -31,7 +32,7 @@ of_list ns = record { numbers = ns; text = decimals ns }
 -- a schedule by its kind and its chunk
 abbrev pub of_schedule : Sched → Content
 of_schedule s = record {
-  numbers = schedule_number s ∷ [];
+  numbers = schedule_word s ∷ [];
   text = kind_text s.kind ++ 44 ∷ decimal s.chunk;
 }
 
@@ -44,32 +45,32 @@ of_switch on = record {
 -- the variables of the address space, of a region and of a task, by number
 abbrev pub space_values : State → List (ℕ × Result Content Rc)
 space_values s =
-    (max_active_levels_var, Ok (of_number s.max_active))
-    ∷ (debug_var, Ok (of_switch s.environment.debug))
-    ∷ (num_procs_var, Ok (of_number s.environment.procs))
+    (MAX_ACTIVE_LEVELS_VAR, Ok (of_number s.max_active))
+    ∷ (DEBUG_VAR, Ok (of_switch s.environment.debug))
+    ∷ (NUM_PROCS_VAR, Ok (of_number s.environment.procs))
     ∷ []
 
 abbrev pub region_values : Region → List (ℕ × Result Content Rc)
 region_values r =
-    (levels_var, Ok (of_number r.levels))
-    ∷ (active_levels_var, Ok (of_number r.active))
-    ∷ (team_size_var, Ok (of_number (length r.team)))
+    (LEVELS_VAR, Ok (of_number r.levels))
+    ∷ (ACTIVE_LEVELS_VAR, Ok (of_number r.active))
+    ∷ (TEAM_SIZE_VAR, Ok (of_number (length r.team)))
     ∷ []
 
 abbrev pub task_values : Task → List (ℕ × Result Content Rc)
 task_values t =
-    (dyn_var, Ok (of_number (flag t.variables.dynamic)))
-    ∷ (nthreads_var, Ok (of_list t.variables.nthreads))
-    ∷ (run_sched_var, Ok (of_schedule t.variables.schedule))
-    ∷ (default_device_var, Ok (of_number t.variables.device))
-    ∷ (final_task_var, Ok (of_number (flag t.is_final)))
-    ∷ (implicit_task_var, Ok (of_number (flag t.implicit)))
+    (DYN_VAR, Ok (of_number (flag t.variables.dynamic)))
+    ∷ (NTHREADS_VAR, Ok (of_list t.variables.nthreads))
+    ∷ (RUN_SCHED_VAR, Ok (of_schedule t.variables.schedule))
+    ∷ (DEFAULT_DEVICE_VAR, Ok (of_number t.variables.device))
+    ∷ (FINAL_TASK_VAR, Ok (of_number (flag t.is_final)))
+    ∷ (IMPLICIT_TASK_VAR, Ok (of_number (flag t.implicit)))
     ∷ []
 
 -- that of a thread, which is its current task's
 abbrev pub thread_values : State → ℕ → List (ℕ × Result Content Rc)
 thread_values s i =
-    (thread_num_var, ok_or (option_map (λ t. of_number t.number) (current_task s i)) Unavailable)
+    (THREAD_NUM_VAR, ok_or (option_map (λ t. of_number t.number) (current_task s i)) Unavailable)
     ∷ []
 
 abbrev pub values_of : State → Subject → List (ℕ × Result Content Rc)
@@ -120,7 +121,7 @@ tool_of (subject.Task t) = Ok t.tool
 -- the variables of the address space by name and value
 abbrev pub display_of : State → List (List ℕ)
 display_of s =
-    named_value (name_of debug_var) (of_switch s.environment.debug).text
-    ∷ named_value (name_of num_procs_var) (decimal s.environment.procs)
-    ∷ named_value (name_of max_active_levels_var) (decimal s.max_active)
+    named_value (name_of DEBUG_VAR) (of_switch s.environment.debug).text
+    ∷ named_value (name_of NUM_PROCS_VAR) (decimal s.environment.procs)
+    ∷ named_value (name_of MAX_ACTIVE_LEVELS_VAR) (decimal s.max_active)
     ∷ []

@@ -1,5 +1,6 @@
 -- The inquiries for the state of a thread and for the tool word of a task, by the words that they read.
-use Rattle.std.specs.Prelude.{ℕ, ◌==◌, ◌/◌, ◌%◌, ◌^◌, List, Option, Ok, Err, if◌then◌else◌}
+use Rattle.std.specs.Prelude.{ℕ, ◌==◌, List, Option, Ok, Err, if◌then◌else◌}
+use Rattle.omi_numbers.specs.Words.{state_of, wait_of}
 use Rattle.omi_handle.specs.declared.handle.Kind.TheVariants as kind
 use Rattle.omi_handle.specs.declared.handle.Held.{Held}
 use Rattle.omi_layout.specs.declared.field.Field.TheVariants.{RuntimeDebug, ThreadState, TaskTool}
@@ -19,7 +20,7 @@ module _ (w : List ℕ) where
       then_reads (word_of w (runtime_address w) RuntimeDebug 0) (λ debug.
       if debug == 0 then Answer (Err NeedsStateTracking)
       else then_reads (word_of w thread.addr ThreadState 0)
-      (λ word. Answer (Ok (word % 2 ^ 16, word / 2 ^ 16)))))
+      (λ word. Answer (Ok (state_of word, wait_of word)))))
 
   -- the tool word of the record of a task, which nothing else has
   abbrev pub tool_word : Scoped → ℕ → Reads ℕ

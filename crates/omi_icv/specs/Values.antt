@@ -1,5 +1,6 @@
 -- The value of a control variable, by the words of the record of what is asked about: as one number, and as all its numbers.
 use Rattle.std.specs.Prelude.{ℕ, zero, suc, ◌==◌, ◌&&◌, nat_le, List, [], ◌∷◌, ◌++◌, Ok, Err, if◌then◌else◌}
+use Rattle.omi_script.specs.declared.limits.TheConstants.{MAX_SIZES}
 use Rattle.omi_handle.specs.declared.handle.Kind.TheVariants as kind
 use Rattle.omi_layout.specs.declared.field.Field.TheVariants.{ThreadCurrent, TaskNumber, TaskNthreadsLength, TaskNthreads}
 use Rattle.omi_layout.specs.Named.{number}
@@ -14,11 +15,11 @@ unfoldable pub alone : Reads ℕ → Reads (List ℕ)
 alone reads = then_reads reads (λ number. Answer (Ok (number ∷ [])))
 
 module _ (w : List ℕ) where
-  -- the number of elements of nthreads-var of a task, which is from 1 to 4
+  -- the number of elements of nthreads-var of a task, which is from 1 to `MAX_SIZES`
   unfoldable pub list_length : ℕ → Reads ℕ
   list_length address =
       then_reads (word_of w address TaskNthreadsLength 0)
-      (λ count. Answer (if nat_le 1 count && nat_le count 4 then Ok count
+      (λ count. Answer (if nat_le 1 count && nat_le count MAX_SIZES then Ok count
       else Err (Error address (number TaskNthreadsLength))))
 
   -- its only element, or that there are more, with the first

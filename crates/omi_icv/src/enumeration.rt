@@ -1,17 +1,18 @@
 //! The enumerations of states and of control variables. No word is read.
 
 ghost use Rattle.std.specs.Prelude.{◌≡◌, Some, IsSome};
-ghost use Rattle.omi_script.specs.Schedules.{name_in};
-ghost use Rattle.omi_text.specs.Names.{states};
+ghost use Rattle.omi_numbers.specs.Names.{name_in};
+ghost use Rattle.omi_numbers.specs.States.{states};
 ghost use Rattle.omi_icv.specs.Enumeration.{next_state, next_icv, named_state, named_icv};
 
-use crate::variable::{COUNT, variable_name, variable_scope};
+use crate::variable::variable_scope;
 use omi_calls::{Callbacks, ToHost};
+use omi_numbers::{
+    IDLE, OVERHEAD, THREAD_NUM_VAR, UNDEFINED_STATE, WAIT_BARRIER_EXPLICIT,
+    WAIT_BARRIER_IMPLICIT_PARALLEL, WAIT_CRITICAL, WAIT_TASKGROUP, WAIT_TASKWAIT, WORK_PARALLEL,
+    WORK_SERIAL, state_name, variable_name,
+};
 use omi_session::{Rc, Session};
-use omi_text::state_name;
-
-/// The number of the state that is undefined, behind which the enumeration of states begins.
-pub const UNDEFINED_STATE: u32 = 0x102;
 
 /// A state with its name, and 1 where more follow.
 fn state_entry(state: u32, more: u8) -> (u32, &'static str, u8)
@@ -36,21 +37,21 @@ pub fn enumerate_states<C: Callbacks, F: ToHost>(
     ensures same { _s.new ≡ _s.old }
 {
     match current {
-        UNDEFINED_STATE => Ok(state_entry(0x000, 1)),
-        0x000 => Ok(state_entry(0x001, 1)),
-        0x001 => Ok(state_entry(0x011, 1)),
-        0x011 => Ok(state_entry(0x014, 1)),
-        0x014 => Ok(state_entry(0x020, 1)),
-        0x020 => Ok(state_entry(0x021, 1)),
-        0x021 => Ok(state_entry(0x042, 1)),
-        0x042 => Ok(state_entry(0x100, 1)),
-        0x100 => Ok(state_entry(0x101, 0)),
+        UNDEFINED_STATE => Ok(state_entry(WORK_SERIAL, 1)),
+        WORK_SERIAL => Ok(state_entry(WORK_PARALLEL, 1)),
+        WORK_PARALLEL => Ok(state_entry(WAIT_BARRIER_IMPLICIT_PARALLEL, 1)),
+        WAIT_BARRIER_IMPLICIT_PARALLEL => Ok(state_entry(WAIT_BARRIER_EXPLICIT, 1)),
+        WAIT_BARRIER_EXPLICIT => Ok(state_entry(WAIT_TASKWAIT, 1)),
+        WAIT_TASKWAIT => Ok(state_entry(WAIT_TASKGROUP, 1)),
+        WAIT_TASKGROUP => Ok(state_entry(WAIT_CRITICAL, 1)),
+        WAIT_CRITICAL => Ok(state_entry(IDLE, 1)),
+        IDLE => Ok(state_entry(OVERHEAD, 0)),
         _ => Err(Rc::BadInput),
     }
 }
 
-/// The control variable behind another one in the order of their numbers, its name, its scope, and 1 where more follow, else 0. Number 0
-/// is before the first. BadInput of what is no variable, and of the last.
+/// The control variable behind another one in the order of their numbers, its name, its scope, and 1 where more follow, else 0.
+/// `UNDEFINED_VARIABLE` is before the first. BadInput of what is no variable, and of the last.
 pub fn enumerate_icvs<C: Callbacks, F: ToHost>(
     _s: &mut Session<C, F>,
     current: u32,
@@ -58,12 +59,17 @@ pub fn enumerate_icvs<C: Callbacks, F: ToHost>(
     ensures next { named_icv (λ name. name.now) result ≡ next_icv current }
     ensures same { _s.new ≡ _s.old }
 {
-    if current >= COUNT {
+    if current >= THREAD_NUM_VAR {
         return Err(Rc::BadInput);
     }
     let next = current + 1;
     match (variable_name(next), variable_scope(next)) {
-        (Some(name), Some(scope)) => Ok((next, name, scope.number(), u8::from(next < COUNT))),
+        (Some(name), Some(scope)) => Ok((
+            next,
+            name,
+            scope.number(),
+            u8::from(next < THREAD_NUM_VAR),
+        )),
         _ => unreachable!(),
     }
 }

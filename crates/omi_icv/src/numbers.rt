@@ -1,18 +1,17 @@
-//! At most four numbers, which contracts see as a list: the value of a variable.
+//! At most as many numbers as nthreads-var has elements, which contracts see as a list: the value of a variable.
 
 ghost use Rattle.std.specs.Prelude.{◌≡◌, ◌<◌, ◌≤◌, ◌++◌, ◌∷◌, [], length};
+ghost use Rattle.omi_script.specs.declared.limits.TheConstants.{MAX_SIZES};
 
+use omi_script::limits::MAX_SIZES;
 use std::marker::Model;
-
-/// How many numbers a value has at most.
-pub const MOST: usize = 4;
 
 /// The numbers in order.
 #[derive(Drop)]
 pub struct Numbers {
-    words: [u64; MOST],
+    words: [u64; MAX_SIZES],
     count: usize,
-    ghost few: { count ≤ 4 },
+    ghost few: { count ≤ MAX_SIZES },
 }
 
 impl Model for Numbers {
@@ -29,7 +28,7 @@ impl Numbers {
         ensures { result ≡ [] }
     {
         Numbers {
-            words: [0; MOST],
+            words: [0; MAX_SIZES],
             count: 0,
         }
     }
@@ -46,7 +45,7 @@ impl Numbers {
 
     /// Adds a number at the end.
     pub fn push(&mut self, number: u64)
-        requires { length self.old < 4 }
+        requires { length self.old < MAX_SIZES }
         ensures { self.new ≡ self.old ++ number ∷ [] }
     {
         self.words[self.count] = number;

@@ -14,6 +14,7 @@ use crate::runtime::runtime_word;
 use omi_calls::{Callbacks, ToHost};
 use omi_handle::{Kind, ThreadHandle};
 use omi_layout::Field;
+use omi_numbers::{state_of, wait_of};
 use omi_session::{Rc, Session, object, word};
 
 /// The state of a thread and the id on which it waits. NeedsStateTracking where the target keeps no states.
@@ -37,5 +38,5 @@ pub fn get_state<C: Callbacks, F: ToHost>(
         return Err(Rc::NeedsStateTracking);
     }
     let state = word(s, thread.addr, Field::ThreadState, 0)?;
-    Ok(((state % (1 << 16)) as u32, state / (1 << 16)))
+    Ok((state_of(state), wait_of(state)))
 }

@@ -2,6 +2,7 @@
 
 ghost use Rattle.std.specs.Prelude.{◌≡◌, ◌≢◌, ◌≤◌, Err, IfOk};
 ghost use Rattle.std.specs.FinMap.{get};
+ghost use Rattle.omi_script.specs.declared.limits.TheConstants.{MAX_SIZES};
 ghost use Rattle.omi_outside.specs.Outside.{HasCause};
 ghost use Rattle.omi_layout.specs.declared.limits.TheConstants.{LAST_END};
 ghost use Rattle.omi_session.specs.Opened.{StaysWhole};
@@ -9,26 +10,27 @@ ghost use Rattle.omi_session.specs.Reads.{Answers};
 ghost use Rattle.omi_session.specs.Inquiry.{team_size as read_team_size};
 ghost use Rattle.omi_icv.specs.Values as inquiry;
 
-use crate::numbers::{MOST, Numbers};
+use crate::numbers::Numbers;
 use crate::variable::Source;
 use omi_calls::{Callbacks, ToHost};
 use omi_handle::Kind;
 use omi_layout::Field;
+use omi_script::limits::MAX_SIZES;
 use omi_session::{Rc, Session, follow_some, team_size, word};
 
-/// The number of elements of nthreads-var of the task whose record has this byte address. An Error where it isn't from 1 to 4.
+/// The number of elements of nthreads-var of the task whose record has this byte address. An Error where it isn't from 1 to `MAX_SIZES`.
 fn list_length<C: Callbacks, F: ToHost>(s: &mut Session<C, F>, address: u64) -> Result<u64, Rc>
     requires { address ≤ LAST_END }
     ensures answer { Answers (C.told s.old.table.calls) result
         (inquiry.list_length s.old.layout address) }
-    ensures few { IfOk result (λ count. count ≤ 4) }
+    ensures few { IfOk result (λ count. count ≤ MAX_SIZES) }
     ensures memory { result ≢ Err Rc.NoMem }
     ensures same { StaysWhole C.told s.old s.new }
     ensures cause { HasCause (C.faults s.old.table.calls) (C.faults s.new.table.calls)
         (result ≡ Err Rc.CallbackError) }
 {
     let count = word(s, address, Field::TaskNthreadsLength, 0)?;
-    if 1 <= count && count <= MOST as u64 {
+    if 1 <= count && count <= MAX_SIZES as u64 {
         Ok(count)
     } else {
         Err(Rc::Error {
@@ -78,7 +80,7 @@ fn first_elements<C: Callbacks, F: ToHost>(
     count: u64,
 ) -> Result<Numbers, Rc>
     requires low { address ≤ LAST_END }
-    requires few { count ≤ 4 }
+    requires few { count ≤ MAX_SIZES }
     ensures answer { Answers (C.told s.old.table.calls) result
         (inquiry.first_elements s.old.layout address count) }
     ensures memory { result ≢ Err Rc.NoMem }

@@ -1,6 +1,6 @@
 //! The control variables: where the value of each stands, and how it is spelled.
 
-ghost use Rattle.std.specs.Prelude.{◌≡◌, option_map, option_copied};
+ghost use Rattle.std.specs.Prelude.{◌≡◌, option_map};
 ghost use Rattle.omi_icv.specs.Table.{row_of, variable_in};
 
 use crate::scoped::Scope;
@@ -8,6 +8,11 @@ use crate::scoped::Scope::{AddressSpace, Parallel, Task, Thread};
 use crate::variable::Source::{Elements, MemberNumber, TeamSize, Word};
 use crate::variable::Spelling::{Decimal, Schedule, Switch};
 use omi_layout::Field;
+use omi_numbers::{
+    ACTIVE_LEVELS_VAR, DEBUG_VAR, DEFAULT_DEVICE_VAR, DYN_VAR, FINAL_TASK_VAR, IMPLICIT_TASK_VAR,
+    LEVELS_VAR, MAX_ACTIVE_LEVELS_VAR, NTHREADS_VAR, NUM_PROCS_VAR, RUN_SCHED_VAR, TEAM_SIZE_VAR,
+    THREAD_NUM_VAR,
+};
 use omi_session::Rc;
 
 /// Where the value of a variable stands.
@@ -41,27 +46,24 @@ pub struct Variable {
     pub spelling: Spelling,
 }
 
-/// How many variables there are. Their numbers are 1 to this.
-pub const COUNT: u32 = 13;
-
 /// The variable with a number.
 fn find_variable(icv: u32) -> Option<Variable>
     ensures { result ≡ option_map (λ row. row.variable) (row_of icv) }
 {
     let (scope, source, spelling) = match icv {
-        1 => (Task, Word(Field::TaskDynamic), Decimal),
-        2 => (Task, Elements, Decimal),
-        3 => (Task, Word(Field::TaskSchedule), Schedule),
-        4 => (Task, Word(Field::TaskDevice), Decimal),
-        5 => (Task, Word(Field::TaskFinal), Decimal),
-        6 => (Task, Word(Field::TaskImplicit), Decimal),
-        7 => (AddressSpace, Word(Field::RuntimeMaxActive), Decimal),
-        8 => (AddressSpace, Word(Field::RuntimeDebug), Switch),
-        9 => (AddressSpace, Word(Field::RuntimeProcs), Decimal),
-        10 => (Parallel, Word(Field::RegionLevels), Decimal),
-        11 => (Parallel, Word(Field::RegionActive), Decimal),
-        12 => (Parallel, TeamSize, Decimal),
-        13 => (Thread, MemberNumber, Decimal),
+        DYN_VAR => (Task, Word(Field::TaskDynamic), Decimal),
+        NTHREADS_VAR => (Task, Elements, Decimal),
+        RUN_SCHED_VAR => (Task, Word(Field::TaskSchedule), Schedule),
+        DEFAULT_DEVICE_VAR => (Task, Word(Field::TaskDevice), Decimal),
+        FINAL_TASK_VAR => (Task, Word(Field::TaskFinal), Decimal),
+        IMPLICIT_TASK_VAR => (Task, Word(Field::TaskImplicit), Decimal),
+        MAX_ACTIVE_LEVELS_VAR => (AddressSpace, Word(Field::RuntimeMaxActive), Decimal),
+        DEBUG_VAR => (AddressSpace, Word(Field::RuntimeDebug), Switch),
+        NUM_PROCS_VAR => (AddressSpace, Word(Field::RuntimeProcs), Decimal),
+        LEVELS_VAR => (Parallel, Word(Field::RegionLevels), Decimal),
+        ACTIVE_LEVELS_VAR => (Parallel, Word(Field::RegionActive), Decimal),
+        TEAM_SIZE_VAR => (Parallel, TeamSize, Decimal),
+        THREAD_NUM_VAR => (Thread, MemberNumber, Decimal),
         _ => return None,
     };
     Some(Variable {
@@ -87,26 +89,4 @@ pub fn variable_scope(icv: u32) -> Option<Scope>
 {
     let variable = find_variable(icv)?;
     Some(variable.scope)
-}
-
-/// The name of the variable with a number.
-pub fn variable_name(icv: u32) -> Option<&'static str>
-    ensures { option_copied result ≡ option_map (λ row. row.name) (row_of icv) }
-{
-    match icv {
-        1 => Some("dyn-var"),
-        2 => Some("nthreads-var"),
-        3 => Some("run-sched-var"),
-        4 => Some("default-device-var"),
-        5 => Some("final-task-var"),
-        6 => Some("implicit-task-var"),
-        7 => Some("max-active-levels-var"),
-        8 => Some("debug-var"),
-        9 => Some("num-procs-var"),
-        10 => Some("levels-var"),
-        11 => Some("active-levels-var"),
-        12 => Some("team-size-var"),
-        13 => Some("thread-num-var"),
-        _ => None,
-    }
 }

@@ -2,7 +2,7 @@
 use Rattle.std.proofs.Common.{◌≡◌, ◌==◌, ℕ, ◌+◌, ◌*◌, ◌<◌, ◌≤◌, Bool, true, false, List, [], ◌∷◌, ◌++◌, length, take, get_or, refl, sym, ap, subst, ◌∙◌, arith}
 use Rattle.std.proofs.lemmas.Bool.Decides.{nat_tests}
 use mir.Val.{bool_byte}
-use Rattle.omi_layout.specs.Codes.{flag_word}
+use Rattle.omi_numbers.specs.Words.{flag}
 use Rattle.std.specs.Prelude.{IsTrue}
 use Rattle.std.proofs.lemmas.List.{take_more}
 use Rattle.omi_word.specs.Memory.{IsWordOf, words_after}
@@ -74,7 +74,7 @@ module _ (w : List ℕ) (v : IsValid w) where
       };
     }
 
-pub flag_is : (b : Bool) → bool_byte b ≡ flag_word b
+pub flag_is : (b : Bool) → bool_byte b ≡ flag b
 flag_is true = refl
 flag_is false = refl
 

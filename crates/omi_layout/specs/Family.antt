@@ -1,8 +1,10 @@
 -- The families of layouts: in each record the fields stand in their order turned by some fields, with a gap in front and maybe one behind; the arenas stand one right after the other behind the tables, in one order or the other.
 use Rattle.std.specs.Prelude.{◌≡◌, ◌==◌, ℕ, ◌+◌, ◌-◌, ◌*◌, ◌%◌, List, length, nat_le, if◌then◌else◌}
+use Rattle.omi_numbers.specs.declared.limits.TheConstants.{OWN_SLOTS}
+use Rattle.omi_script.specs.declared.limits.TheConstants.{MAX_LOCK, MAX_SIZES}
 use Rattle.omi_word.specs.Memory.{address_at}
-use Rattle.omi_layout.specs.declared.limits.TheConstants.{FRONT_WORDS, TABLE_WORDS, VERSION}
-use Rattle.omi_layout.specs.Field.{IsField, IsKind, kind_of, runtime, threads, regions}
+use Rattle.omi_layout.specs.declared.limits.TheConstants.{FRONT_WORDS, TABLE_WORDS, VERSION, FAMILY_REGIONS, FAMILY_TASKS}
+use Rattle.omi_layout.specs.Field.{IsField, IsKind, kind_of, runtime, threads, regions, tasks, slots}
 use Rattle.omi_layout.specs.Table.{version, place, size, thread_count, per_thread, offset}
 
 -- the first field of a record
@@ -24,14 +26,14 @@ field_count p =
 -- the words of all fields of a record
 abbrev pub field_words : ℕ → ℕ → ℕ
 field_words t p =
-    if p == runtime then 13
+    if p == runtime then 5 + (MAX_LOCK + 1)
     else (if p == threads then 6
     else (if p == regions then 11 + t
-    else 26))
+    else 18 + (MAX_SIZES + OWN_SLOTS)))
 
 -- the words of the fields in front of a field in the listed order: of these only nthreads-var, right in front of the slots, has more than one
 abbrev pub words_before : ℕ → ℕ
-words_before f = if f == 44 then 22 else f - first_field (kind_of f)
+words_before f = if f == slots then 18 + MAX_SIZES else f - first_field (kind_of f)
 
 -- the field that stands first in its record in family `k`
 abbrev pub turned_first : ℕ → ℕ → ℕ
@@ -53,8 +55,8 @@ abbrev pub family_count : ℕ → ℕ → ℕ
 family_count t p =
     if p == runtime then 1
     else (if p == threads then t
-    else (if p == regions then t * 16
-    else t * 256))
+    else (if p == regions then t * FAMILY_REGIONS
+    else t * FAMILY_TASKS))
 
 -- the words of an arena
 abbrev pub family_extent : ℕ → ℕ → ℕ → ℕ
@@ -86,8 +88,8 @@ pub record IsFamily (k t : ℕ) (w : List ℕ) : Type 0 where
   pub words : length w ≡ TABLE_WORDS
   pub known : version w ≡ VERSION
   pub threads : thread_count w ≡ t
-  pub regions : per_thread w 3 ≡ 16
-  pub tasks : per_thread w 4 ≡ 256
+  pub regions : per_thread w regions ≡ FAMILY_REGIONS
+  pub tasks : per_thread w tasks ≡ FAMILY_TASKS
   pub places : (p : ℕ) → IsKind p → place w p ≡ family_place k t p
   pub sizes : (p : ℕ) → IsKind p → size w p ≡ family_size k t p
   pub offsets : (f : ℕ) → IsField f → offset w f ≡ family_offset k t f

@@ -14,7 +14,6 @@ pub mod OneAnswer
 -- Memory by records, its laws, and the opening words.
 pub mod Memory
 pub mod Frame
-pub mod Codes
 pub mod OpeningWords
 -- What private functions of the code stand on: the parts of the judging of a table, and records that are filled.
 pub mod Judged

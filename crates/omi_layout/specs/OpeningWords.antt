@@ -1,5 +1,7 @@
 -- The words with which a program opens in a layout: the tables in front, the records of the runtime, the threads, the initial region and the initial task, and 0 everywhere else, in gaps too.
 use Rattle.std.specs.Prelude.{◌≡◌, ◌==◌, ◌≢◌, ℕ, ◌<◌, List, length, slice_index, if◌then◌else◌}
+use Rattle.omi_numbers.specs.declared.states.TheConstants.{WORK_SERIAL, IDLE}
+use Rattle.omi_numbers.specs.declared.words.TheConstants.{OPENMP_VERSION}
 use Rattle.omi_script.specs.declared.program.Program.{Program}
 use Rattle.omi_layout.specs.declared.field.Field.TheVariants.{RuntimeVersion, RuntimeThreads, RuntimeProcs, RuntimeDebug, RuntimeMaxActive, RuntimeLocks, ThreadLife, ThreadNative, ThreadCurrent, ThreadState, ThreadClaim, ThreadAssign, RegionLife, RegionFunction, RegionEnclosing, RegionEncountering, RegionSize, RegionLevels, RegionActive, RegionReleased, RegionArrived, RegionPending, RegionLeft, RegionTeam, TaskLife, TaskImplicit, TaskRegion, TaskThread, TaskNumber, TaskGenerating, TaskScheduling, TaskFunction, TaskExit, TaskEnter, TaskDynamic, TaskNthreadsLength, TaskSchedule, TaskDevice, TaskFinal, TaskTool, TaskChildren, TaskReferences, TaskNthreads, TaskSlots}
 use Rattle.omi_layout.specs.Field.{runtime, threads, regions, tasks}
@@ -9,30 +11,32 @@ use Rattle.omi_layout.specs.Place.{slot_address, image_words}
 use Rattle.omi_layout.specs.Words.{IsGap}
 use Rattle.omi_layout.specs.Memory.{Rec, Made, memory_of}
 use Rattle.omi_layout.specs.Given.{HasTables}
-use Rattle.omi_layout.specs.Codes.{flag_word, function_word, schedule_word, native_word, exit_word}
+use Rattle.omi_numbers.specs.Words.{flag, native_id}
+use Rattle.omi_numbers.specs.Addresses.{entry_address, exit_frame}
+use Rattle.omi_script.specs.Schedules.{schedule_word}
 
 -- the version of OpenMP, and the values of the environment. No lock is held
 pub record OpensRuntime (p : Program) (r : Rec) : Type 0 where
-  pub version : r (number RuntimeVersion) 0 ≡ 201811
+  pub version : r (number RuntimeVersion) 0 ≡ OPENMP_VERSION
   pub threads : r (number RuntimeThreads) 0 ≡ p.threads
   pub procs : r (number RuntimeProcs) 0 ≡ p.env.procs
-  pub debug : r (number RuntimeDebug) 0 ≡ flag_word p.env.debug
+  pub debug : r (number RuntimeDebug) 0 ≡ flag p.env.debug
   pub max_active : r (number RuntimeMaxActive) 0 ≡ p.env.max_active
   pub locks : (k : ℕ) → r (number RuntimeLocks) k ≡ 0
 
--- thread 0 has begun, runs the initial task and is in the state work_serial, 0; a worker hasn't begun, has no task and is idle, 0x100
+-- thread 0 has begun, runs the initial task and is in the state work_serial; a worker hasn't begun, has no task and is idle
 pub record OpensThread (w : List ℕ) (i : ℕ) (r : Rec) : Type 0 where
   pub life : r (number ThreadLife) 0 ≡ (if i == 0 then 1 else 0)
-  pub native : r (number ThreadNative) 0 ≡ native_word i
+  pub native : r (number ThreadNative) 0 ≡ native_id i
   pub current : r (number ThreadCurrent) 0 ≡ (if i == 0 then slot_address w tasks 0 0 else 0)
-  pub state : r (number ThreadState) 0 ≡ (if i == 0 then 0 else 0x100)
+  pub state : r (number ThreadState) 0 ≡ (if i == 0 then WORK_SERIAL else IDLE)
   pub claim : r (number ThreadClaim) 0 ≡ 0
   pub assign : r (number ThreadAssign) 0 ≡ 0
 
 -- the initial region: the first region of thread 0, in which `main` runs. Nothing encloses it, and its one member is the initial task
 pub record OpensRegion (p : Program) (w : List ℕ) (r : Rec) : Type 0 where
   pub life : r (number RegionLife) 0 ≡ 1
-  pub function : r (number RegionFunction) 0 ≡ function_word p.main
+  pub function : r (number RegionFunction) 0 ≡ entry_address p.main
   pub enclosing : r (number RegionEnclosing) 0 ≡ 0
   pub encountering : r (number RegionEncountering) 0 ≡ 0
   pub size : r (number RegionSize) 0 ≡ 1
@@ -54,10 +58,10 @@ pub record OpensTask (p : Program) (w : List ℕ) (r : Rec) : Type 0 where
   pub member : r (number TaskNumber) 0 ≡ 0
   pub generating : r (number TaskGenerating) 0 ≡ 0
   pub scheduling : r (number TaskScheduling) 0 ≡ 0
-  pub function : r (number TaskFunction) 0 ≡ function_word p.main
-  pub exit : r (number TaskExit) 0 ≡ exit_word 0 1
+  pub function : r (number TaskFunction) 0 ≡ entry_address p.main
+  pub exit : r (number TaskExit) 0 ≡ exit_frame 0 1
   pub enter : r (number TaskEnter) 0 ≡ 0
-  pub dynamic : r (number TaskDynamic) 0 ≡ flag_word p.env.dynamic
+  pub dynamic : r (number TaskDynamic) 0 ≡ flag p.env.dynamic
   pub nthreads_length : r (number TaskNthreadsLength) 0 ≡ length p.env.nthreads
   pub schedule : r (number TaskSchedule) 0 ≡ schedule_word p.env.sched
   pub device : r (number TaskDevice) 0 ≡ p.env.device

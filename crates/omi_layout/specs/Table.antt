@@ -1,5 +1,7 @@
 -- The layout table: its version; place, size and counts of the arenas; then the offset of each field by number. Places are byte addresses, sizes and offsets are in words.
-use Rattle.std.specs.Prelude.{ℕ, ◌==◌, ◌+◌, ◌*◌, ◌||◌, List, slice_index, if◌then◌else◌}
+use Rattle.std.specs.Prelude.{ℕ, ◌==◌, ◌+◌, ◌*◌, List, slice_index, if◌then◌else◌}
+use Rattle.omi_numbers.specs.declared.limits.TheConstants.{OWN_SLOTS}
+use Rattle.omi_script.specs.declared.limits.TheConstants.{MAX_LOCK, MAX_SIZES}
 use Rattle.omi_layout.specs.Field.{runtime, threads, regions, tasks, locks, team, nth, slots}
 
 abbrev pub version : List ℕ → ℕ
@@ -51,10 +53,11 @@ offset_index f = 11 + f
 abbrev pub offset : List ℕ → ℕ → ℕ
 offset w f = slice_index w (offset_index f)
 
--- the words of a field: eight locks, a member of the team for each thread, four elements of nthreads-var and four slots
+-- the words of a field: the locks, a member of the team for each thread, the elements of nthreads-var and the slots
 abbrev pub width : List ℕ → ℕ → ℕ
 width w f =
-    if f == locks then 8
+    if f == locks then MAX_LOCK + 1
     else (if f == team then thread_count w
-    else (if f == nth || f == slots then 4
-    else 1))
+    else (if f == nth then MAX_SIZES
+    else (if f == slots then OWN_SLOTS
+    else 1)))

@@ -6,32 +6,28 @@ ghost use Rattle.omi_layout.specs.Field.{IsField, IsKind};
 ghost use Rattle.omi_layout.specs.Family;
 ghost use Rattle.omi_layout.specs.Family.{IsFamily};
 ghost use Rattle.omi_layout.specs.Place.{fits, image_words};
-ghost use Rattle.omi_layout.specs.declared.limits.TheConstants.{MOST_THREADS};
+ghost use Rattle.omi_layout.specs.declared.limits.TheConstants.{MOST_FAMILY_WORDS, MOST_THREADS};
 
-use crate::field::{REGIONS, RUNTIME, TASKS, THREADS};
+use crate::field::{Field, REGIONS, RUNTIME, TASKS, THREADS};
 use crate::layout::Layout;
-use crate::limits::{FIELDS, FRONT_WORDS, VERSION};
+use crate::limits::{FAMILY_REGIONS, FAMILY_TASKS, FIELDS, FRONT_WORDS, TABLE_WORDS, VERSION};
 use crate::table::kind;
+use omi_numbers::OWN_SLOTS;
+use omi_script::limits::{MAX_LOCK, MAX_SIZES};
 use omi_word::FIRST_ADDRESS;
-
-/// The records of regions that a thread may make.
-const REGIONS_MADE: u64 = 16;
-
-/// The records of tasks that a thread may make.
-const TASKS_MADE: u64 = 256;
 
 /// The first field of a record.
 fn first_field(p: u8) -> u8
     ensures { result ≡ Family.first_field p }
 {
     if p == RUNTIME {
-        crate::field::Field::RuntimeVersion as u8
+        Field::RuntimeVersion as u8
     } else if p == THREADS {
-        crate::field::Field::ThreadLife as u8
+        Field::ThreadLife as u8
     } else if p == REGIONS {
-        crate::field::Field::RegionLife as u8
+        Field::RegionLife as u8
     } else {
-        crate::field::Field::TaskLife as u8
+        Field::TaskLife as u8
     }
 }
 
@@ -55,13 +51,13 @@ fn field_words(threads: u8, p: u8) -> u64
     ensures { result ≡ Family.field_words threads p }
 {
     if p == RUNTIME {
-        13
+        5 + (u64::from(MAX_LOCK) + 1)
     } else if p == THREADS {
         6
     } else if p == REGIONS {
         11 + u64::from(threads)
     } else {
-        26
+        18 + (MAX_SIZES as u64 + u64::from(OWN_SLOTS))
     }
 }
 
@@ -70,8 +66,8 @@ fn words_before(field: u8) -> u64
     requires { IsField field }
     ensures { result ≡ Family.words_before field }
 {
-    if field == crate::field::Field::TaskSlots as u8 {
-        22
+    if field == Field::TaskSlots as u8 {
+        18 + MAX_SIZES as u64
     } else {
         u64::from(field - first_field(kind(field)))
     }
@@ -114,7 +110,7 @@ fn family_size(k: u8, threads: u8, p: u8) -> u64
 fn family_extent(k: u8, threads: u8, p: u8) -> u64
     requires { threads ≤ MOST_THREADS }
     ensures value { result ≡ Family.family_extent k threads p }
-    ensures small { result ≤ 2097152 }
+    ensures small { result ≤ MOST_FAMILY_WORDS }
 {
     let count = u64::from(threads);
     let words = family_size(k, threads, p);
@@ -123,9 +119,9 @@ fn family_extent(k: u8, threads: u8, p: u8) -> u64
     } else if p == THREADS {
         count * words
     } else if p == REGIONS {
-        count * REGIONS_MADE * words
+        count * FAMILY_REGIONS * words
     } else {
-        count * TASKS_MADE * words
+        count * FAMILY_TASKS * words
     }
 }
 
@@ -164,11 +160,11 @@ fn family_place(k: u8, threads: u8, p: u8) -> u64
 }
 
 /// The table of a family.
-fn family_table(k: u8, threads: u8) -> [u64; 56]
+fn family_table(k: u8, threads: u8) -> [u64; TABLE_WORDS]
     requires { threads ≤ MOST_THREADS }
     ensures { IsFamily k threads result }
 {
-    let mut table = [0u64; 56];
+    let mut table = [0u64; TABLE_WORDS];
     table[0] = VERSION;
     table[1] = family_place(k, threads, RUNTIME);
     table[2] = family_size(k, threads, RUNTIME);
@@ -177,10 +173,10 @@ fn family_table(k: u8, threads: u8) -> [u64; 56]
     table[5] = u64::from(threads);
     table[6] = family_place(k, threads, REGIONS);
     table[7] = family_size(k, threads, REGIONS);
-    table[8] = REGIONS_MADE;
+    table[8] = FAMILY_REGIONS;
     table[9] = family_place(k, threads, TASKS);
     table[10] = family_size(k, threads, TASKS);
-    table[11] = TASKS_MADE;
+    table[11] = FAMILY_TASKS;
     for f in 1..FIELDS + 1 {
         table[11 + f as usize] = family_offset(k, threads, f);
     }

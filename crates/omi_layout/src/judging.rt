@@ -1,6 +1,7 @@
 //! The judging of a layout table: the first refusal, by its least field or arena.
 
 ghost use Rattle.std.specs.Prelude.{◌≡◌, ◌+◌, ◌*◌, ◌<◌, ◌≤◌, ◌^◌, true, MatchOption, MatchResult, IfSome};
+ghost use Rattle.omi_layout.specs.declared.limits.TheConstants.{MOST_RECORDS, MOST_RECORD_WORDS};
 ghost use Rattle.omi_layout.specs.Field.{IsField, IsKind};
 ghost use Rattle.omi_layout.specs.Table;
 ghost use Rattle.omi_layout.specs.Valid;
@@ -10,13 +11,14 @@ ghost use Rattle.omi_layout.specs.Judged.{IsFirstOverlap, AllBelow};
 use crate::fault::LayoutFault;
 use crate::field::{REGIONS, RUNTIME, TASKS, THREADS};
 use crate::limits::{
-    FIELDS, LAST_END, MOST_RECORD_WORDS, MOST_REGIONS, MOST_TASKS, MOST_THREADS, VERSION,
+    FIELDS, LAST_END, MOST_RECORD_WORDS, MOST_REGIONS, MOST_TASKS, MOST_THREADS, TABLE_WORDS,
+    VERSION,
 };
 use crate::table::{extent, kind, offset, place, size, width};
 use omi_word::FIRST_ADDRESS;
 
 /// Whether a field ends inside its record, and the record isn't too large.
-fn is_inside(w: &[u64; 56], field: u8) -> bool
+fn is_inside(w: &[u64; TABLE_WORDS], field: u8) -> bool
     requires { IsField field }
     ensures { result ≡ Valid.is_inside w.now field }
 {
@@ -36,7 +38,7 @@ fn shares(a: u64, m: u64, b: u64, n: u64) -> bool
 }
 
 /// Whether two fields of one record share a word.
-fn overlap(w: &[u64; 56], f: u8, g: u8) -> bool
+fn overlap(w: &[u64; TABLE_WORDS], f: u8, g: u8) -> bool
     requires inside { AllInside w.now }
     requires first { IsField f }
     requires second { IsField g }
@@ -51,7 +53,7 @@ fn overlap(w: &[u64; 56], f: u8, g: u8) -> bool
 }
 
 /// The least later field that a field overlaps.
-fn first_overlap(w: &[u64; 56], f: u8) -> Option<u8>
+fn first_overlap(w: &[u64; TABLE_WORDS], f: u8) -> Option<u8>
     requires inside { AllInside w.now }
     requires field { IsField f }
     ensures { MatchOption result (IsApart w.now f) (λ g. IsFirstOverlap w.now f g) }
@@ -65,7 +67,7 @@ fn first_overlap(w: &[u64; 56], f: u8) -> Option<u8>
 }
 
 /// Whether the count of an arena is in range.
-fn is_counted(w: &[u64; 56], p: u8) -> bool
+fn is_counted(w: &[u64; TABLE_WORDS], p: u8) -> bool
     requires { IsKind p }
     ensures { result ≡ Valid.is_counted w.now p }
 {
@@ -81,9 +83,9 @@ fn is_counted(w: &[u64; 56], p: u8) -> bool
 }
 
 /// Whether an arena begins at a word, and lies between the first address and the last.
-fn is_placed(w: &[u64; 56], p: u8) -> bool
-    requires few { Table.records w.now p ≤ 262144 }
-    requires small { Table.size w.now p ≤ 4096 }
+fn is_placed(w: &[u64; TABLE_WORDS], p: u8) -> bool
+    requires few { Table.records w.now p ≤ MOST_RECORDS }
+    requires small { Table.size w.now p ≤ MOST_RECORD_WORDS }
     ensures { result ≡ Valid.is_placed w.now p }
 {
     let bytes = 8 * extent(w, p);
@@ -92,12 +94,12 @@ fn is_placed(w: &[u64; 56], p: u8) -> bool
 }
 
 /// Whether an arena shares a word with this one of lower number.
-fn is_taken(w: &[u64; 56], q: u8, p: u8) -> bool
+fn is_taken(w: &[u64; TABLE_WORDS], q: u8, p: u8) -> bool
     requires is { IsKind q }
     requires inside { AllInside w.now }
     requires below { AllBelow w.now p }
-    requires few { Table.records w.now p ≤ 262144 }
-    requires small { Table.size w.now p ≤ 4096 }
+    requires few { Table.records w.now p ≤ MOST_RECORDS }
+    requires small { Table.size w.now p ≤ MOST_RECORD_WORDS }
     requires placed { Valid.is_placed w.now p ≡ true }
     ensures { result ≡ Valid.is_taken w.now q p }
 {
@@ -109,7 +111,7 @@ fn is_taken(w: &[u64; 56], q: u8, p: u8) -> bool
 }
 
 /// Whether an arena is in order.
-fn is_arena(w: &[u64; 56], p: u8) -> bool
+fn is_arena(w: &[u64; TABLE_WORDS], p: u8) -> bool
     requires is { IsKind p }
     requires inside { AllInside w.now }
     requires below { AllBelow w.now p }
@@ -128,7 +130,7 @@ fn is_arena(w: &[u64; 56], p: u8) -> bool
 }
 
 /// Looks at each field's end.
-fn judge_ends(w: &[u64; 56]) -> Result<(), LayoutFault>
+fn judge_ends(w: &[u64; TABLE_WORDS]) -> Result<(), LayoutFault>
     requires { Table.version w.now ≡ 1 }
     ensures { MatchResult result (λ _. AllInside w.now) (λ e. RefusesTable w.now e) }
 {
@@ -141,7 +143,7 @@ fn judge_ends(w: &[u64; 56]) -> Result<(), LayoutFault>
 }
 
 /// Looks at each two fields.
-fn judge_fields(w: &[u64; 56]) -> Result<(), LayoutFault>
+fn judge_fields(w: &[u64; TABLE_WORDS]) -> Result<(), LayoutFault>
     requires known { Table.version w.now ≡ 1 }
     requires inside { AllInside w.now }
     ensures { MatchResult result (λ _. AllApart w.now) (λ e. RefusesTable w.now e) }
@@ -155,7 +157,7 @@ fn judge_fields(w: &[u64; 56]) -> Result<(), LayoutFault>
 }
 
 /// Looks at each arena.
-fn judge_arenas(w: &[u64; 56]) -> Result<(), LayoutFault>
+fn judge_arenas(w: &[u64; TABLE_WORDS]) -> Result<(), LayoutFault>
     requires known { Table.version w.now ≡ 1 }
     requires inside { AllInside w.now }
     requires apart { AllApart w.now }
@@ -170,7 +172,7 @@ fn judge_arenas(w: &[u64; 56]) -> Result<(), LayoutFault>
 }
 
 /// Whether a table is valid, and its refusal where it isn't.
-pub fn judge(w: &[u64; 56]) -> Result<(), LayoutFault>
+pub fn judge(w: &[u64; TABLE_WORDS]) -> Result<(), LayoutFault>
     ensures { MatchResult result (λ _. IsValid w.now) (λ e. RefusesTable w.now e) }
 {
     if w[0] != VERSION {

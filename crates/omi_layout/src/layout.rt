@@ -14,21 +14,21 @@ ghost use Rattle.omi_layout.specs.declared.limits.TheConstants.{LAST_END};
 use crate::fault::LayoutFault;
 use crate::field::{Field as RecordField, Kind, REGIONS, RUNTIME, TASKS, THREADS};
 use crate::judging::judge;
-use crate::limits::FRONT_WORDS;
+use crate::limits::{FRONT_WORDS, TABLE_WORDS};
 use crate::table::{extent, offset, per_thread, place, records, size};
 use omi_word::FIRST_ADDRESS;
 
-/// A layout, as the 56 words of its table. Every value of this type is valid.
+/// A layout, as the words of its table. Every value of this type is valid.
 #[derive(Clone, Copy, Debug)]
 pub struct Layout {
-    pub table: [u64; 56],
+    pub table: [u64; TABLE_WORDS],
     ghost valid: { IsValid table },
 }
 
 impl Layout {
     /// The layout that the words of a table spell. An error where there is none: the least field or
     /// arena that is wrong.
-    pub fn of_words(w: &[u64; 56]) -> Result<Layout, LayoutFault>
+    pub fn of_words(w: &[u64; TABLE_WORDS]) -> Result<Layout, LayoutFault>
         ensures { MatchResult result (λ layout. layout.table ≡ w.now)
             (λ fault. RefusesTable w.now fault) }
     {

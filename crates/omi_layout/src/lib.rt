@@ -18,7 +18,8 @@ pub use field::{Field, Kind, field_name};
 pub use laws::{one_answer, records_framed, tables_read_back, words_apart};
 pub use layout::Layout;
 pub use limits::{
-    FIELDS, FRONT_WORDS, LAST_END, MOST_RECORD_WORDS, MOST_REGIONS, MOST_TASKS, MOST_THREADS,
-    TABLE_PLACE, TABLE_WORDS, VERSION,
+    FAMILY_REGIONS, FAMILY_TASKS, FIELDS, FRONT_WORDS, LAST_END, MOST_FAMILY_WORDS,
+    MOST_RECORD_WORDS, MOST_RECORDS, MOST_REGIONS, MOST_TASKS, MOST_THREADS, TABLE_PLACE,
+    TABLE_WORDS, VERSION,
 };
 pub use reading::LayoutError;

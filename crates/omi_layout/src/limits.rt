@@ -1,5 +1,8 @@
 //! The limits of a layout. Each stands here alone: definitions, code and the crates above name it.
 
+use omi_script::limits::MAX_THREADS;
+use omi_word::MEMORY_END;
+
 /// The fields of all records together. They are numbered from 1 on.
 pub const FIELDS: u8 = 44;
 
@@ -12,8 +15,8 @@ pub const VERSION: u64 = 1;
 /// The most words of a record.
 pub const MOST_RECORD_WORDS: u64 = 4096;
 
-/// The most threads.
-pub const MOST_THREADS: u64 = 16;
+/// The most threads: as many as a program may have.
+pub const MOST_THREADS: u64 = MAX_THREADS as u64;
 
 /// The most records of regions that a thread may make.
 pub const MOST_REGIONS: u64 = 64;
@@ -21,8 +24,20 @@ pub const MOST_REGIONS: u64 = 64;
 /// The most records of tasks that a thread may make.
 pub const MOST_TASKS: u64 = 4096;
 
-/// The byte address at which an arena has to end at last: 2^47.
-pub const LAST_END: u64 = 0x8000_0000_0000;
+/// The records of regions that a thread may make in a layout of a family.
+pub const FAMILY_REGIONS: u64 = 16;
+
+/// The records of tasks that a thread may make in a layout of a family.
+pub const FAMILY_TASKS: u64 = 256;
+
+/// More words than an arena has in a layout of a family.
+pub const MOST_FAMILY_WORDS: u64 = 2_097_152;
+
+/// The most records of an arena: those that 64 threads make.
+pub const MOST_RECORDS: u64 = 262_144;
+
+/// The byte address at which an arena has to end at last: the end of memory.
+pub const LAST_END: u64 = MEMORY_END;
 
 /// The words in front of the records: symbol table, entry point words and layout table.
 pub const FRONT_WORDS: u64 = 99;

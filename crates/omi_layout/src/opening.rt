@@ -12,6 +12,7 @@ ghost use Rattle.omi_layout.specs.Plan.{IsEntryOf, IsFilled, KeepsAll, KeepsOthe
 
 use crate::field::{Field, REGIONS, RUNTIME, TASKS, THREADS};
 use crate::layout::Layout;
+use omi_numbers::{FIRST_NATIVE, IDLE, OPENMP_VERSION, entry_address, exit_frame, native_id};
 use omi_script::{NumList, Program};
 use omi_word::{Image, Op};
 
@@ -50,7 +51,7 @@ impl Layout {
     {
         let env = &p.env;
         let plan = [
-            (Field::RuntimeVersion, 0, 201811),
+            (Field::RuntimeVersion, 0, OPENMP_VERSION),
             (Field::RuntimeThreads, 0, u64::from(p.threads)),
             (Field::RuntimeProcs, 0, u64::from(env.procs)),
             (Field::RuntimeDebug, 0, u64::from(env.debug)),
@@ -69,7 +70,7 @@ impl Layout {
     {
         let plan = [
             (Field::ThreadLife, 0, 1),
-            (Field::ThreadNative, 0, 1000),
+            (Field::ThreadNative, 0, FIRST_NATIVE),
             (Field::ThreadCurrent, 0, self.task_at(0, 0)),
         ];
         self.fill(image, 0, THREADS, self.thread_at(0), &plan);
@@ -86,8 +87,8 @@ impl Layout {
         ensures keeps { KeepsOthers self.now.table image.old image.new i threads }
     {
         let plan = [
-            (Field::ThreadNative, 0, 1000 + u64::from(i)),
-            (Field::ThreadState, 0, 0x100),
+            (Field::ThreadNative, 0, native_id(i)),
+            (Field::ThreadState, 0, u64::from(IDLE)),
         ];
         self.fill(image, i, THREADS, self.thread_at(i), &plan);
     }
@@ -102,7 +103,7 @@ impl Layout {
     {
         let plan = [
             (Field::RegionLife, 0, 1),
-            (Field::RegionFunction, 0, 0x40_0000 + 16 * u64::from(p.main)),
+            (Field::RegionFunction, 0, entry_address(p.main)),
             (Field::RegionSize, 0, 1),
             (Field::RegionTeam, 0, self.task_at(0, 0)),
         ];
@@ -123,15 +124,11 @@ impl Layout {
             (Field::TaskImplicit, 0, 1),
             (Field::TaskRegion, 0, self.region_at(0, 0)),
             (Field::TaskThread, 0, self.thread_at(0)),
-            (Field::TaskFunction, 0, 0x40_0000 + 16 * u64::from(p.main)),
-            (Field::TaskExit, 0, 0x7f00_000f_ffc0),
+            (Field::TaskFunction, 0, entry_address(p.main)),
+            (Field::TaskExit, 0, exit_frame(0, 1)),
             (Field::TaskDynamic, 0, u64::from(env.dynamic)),
             (Field::TaskNthreadsLength, 0, env.nthreads.len() as u64),
-            (
-                Field::TaskSchedule,
-                0,
-                u64::from(env.sched.chunk) * 8 + u64::from(env.sched.kind),
-            ),
+            (Field::TaskSchedule, 0, env.sched.word()),
             (Field::TaskDevice, 0, u64::from(env.device)),
             (Field::TaskNthreads, 0, element(&env.nthreads, 0)),
             (Field::TaskNthreads, 1, element(&env.nthreads, 1)),

@@ -6,6 +6,7 @@ ghost use Rattle.omi_layout.specs.Given.{GivesLayout};
 use crate::fault::LayoutFault;
 use crate::layout::Layout;
 use omi_word::{WordMemory, look_up};
+use crate::limits::TABLE_WORDS;
 
 /// Why words give no layout.
 #[derive(Clone, Copy, Debug, PartialEq, Eq)]
@@ -29,8 +30,8 @@ impl Layout {
         let Some(address) = look_up(memory, "omi_layout") else {
             return Err(LayoutError::NoSymbol);
         };
-        let mut table = [0u64; 56];
-        for at in 0..56usize {
+        let mut table = [0u64; TABLE_WORDS];
+        for at in 0..TABLE_WORDS {
             let addr = address.wrapping_add(8 * at as u64);
             let Some(word) = memory.word(addr) else {
                 return Err(LayoutError::Unmapped { addr });

@@ -1,21 +1,25 @@
 //! The numbers of a layout table.
 
 ghost use Rattle.std.specs.Prelude.{◌≡◌, ◌≤◌};
+ghost use Rattle.omi_layout.specs.declared.limits.TheConstants.{MOST_RECORDS, MOST_RECORD_WORDS};
 ghost use Rattle.omi_layout.specs.Field.{IsField};
-ghost use Rattle.omi_layout.specs.Field;
+ghost use Rattle.omi_layout.specs.Field as fields;
 ghost use Rattle.omi_layout.specs.Table;
 
-use crate::field::{REGIONS, RUNTIME, TASKS, THREADS};
+use crate::field::{Field, REGIONS, RUNTIME, TASKS, THREADS};
+use crate::limits::TABLE_WORDS;
+use omi_numbers::OWN_SLOTS;
+use omi_script::limits::{MAX_LOCK, MAX_SIZES};
 
 /// The kind of record that a field belongs to.
 pub fn kind(field: u8) -> u8
-    ensures { result ≡ Field.kind_of field }
+    ensures { result ≡ fields.kind_of field }
 {
-    if field < crate::field::Field::ThreadLife as u8 {
+    if field < Field::ThreadLife as u8 {
         RUNTIME
-    } else if field < crate::field::Field::RegionLife as u8 {
+    } else if field < Field::RegionLife as u8 {
         THREADS
-    } else if field < crate::field::Field::TaskLife as u8 {
+    } else if field < Field::TaskLife as u8 {
         REGIONS
     } else {
         TASKS
@@ -38,21 +42,21 @@ pub fn place_index(p: u8) -> usize
 }
 
 /// The byte address at which an arena begins.
-pub fn place(w: &[u64; 56], p: u8) -> u64
+pub fn place(w: &[u64; TABLE_WORDS], p: u8) -> u64
     ensures { result ≡ Table.place w.now p }
 {
     w[place_index(p)]
 }
 
 /// The words of one record of an arena.
-pub fn size(w: &[u64; 56], p: u8) -> u64
+pub fn size(w: &[u64; TABLE_WORDS], p: u8) -> u64
     ensures { result ≡ Table.size w.now p }
 {
     w[place_index(p) + 1]
 }
 
 /// The records that a thread has in an arena.
-pub fn per_thread(w: &[u64; 56], p: u8) -> u64
+pub fn per_thread(w: &[u64; TABLE_WORDS], p: u8) -> u64
     ensures { result ≡ Table.per_thread w.now p }
 {
     if p == REGIONS {
@@ -65,7 +69,7 @@ pub fn per_thread(w: &[u64; 56], p: u8) -> u64
 }
 
 /// The words in front of a field in its record.
-pub fn offset(w: &[u64; 56], field: u8) -> u64
+pub fn offset(w: &[u64; TABLE_WORDS], field: u8) -> u64
     requires { IsField field }
     ensures { result ≡ Table.offset w.now field }
 {
@@ -73,25 +77,25 @@ pub fn offset(w: &[u64; 56], field: u8) -> u64
 }
 
 /// The words of a field.
-pub fn width(w: &[u64; 56], field: u8) -> u64
+pub fn width(w: &[u64; TABLE_WORDS], field: u8) -> u64
     ensures { result ≡ Table.width w.now field }
 {
-    if field == crate::field::Field::RuntimeLocks as u8 {
-        8
-    } else if field == crate::field::Field::RegionTeam as u8 {
+    if field == Field::RuntimeLocks as u8 {
+        u64::from(MAX_LOCK) + 1
+    } else if field == Field::RegionTeam as u8 {
         w[5]
-    } else if field == crate::field::Field::TaskNthreads as u8
-        || field == crate::field::Field::TaskSlots as u8
-    {
-        4
+    } else if field == Field::TaskNthreads as u8 {
+        MAX_SIZES as u64
+    } else if field == Field::TaskSlots as u8 {
+        u64::from(OWN_SLOTS)
     } else {
         1
     }
 }
 
 /// The records of an arena.
-pub fn records(w: &[u64; 56], p: u8) -> u64
-    requires { Table.records w.now p ≤ 262144 }
+pub fn records(w: &[u64; TABLE_WORDS], p: u8) -> u64
+    requires { Table.records w.now p ≤ MOST_RECORDS }
     ensures { result ≡ Table.records w.now p }
 {
     if p == RUNTIME {
@@ -102,9 +106,9 @@ pub fn records(w: &[u64; 56], p: u8) -> u64
 }
 
 /// The words of an arena.
-pub fn extent(w: &[u64; 56], p: u8) -> u64
-    requires few { Table.records w.now p ≤ 262144 }
-    requires small { Table.size w.now p ≤ 4096 }
+pub fn extent(w: &[u64; TABLE_WORDS], p: u8) -> u64
+    requires few { Table.records w.now p ≤ MOST_RECORDS }
+    requires small { Table.size w.now p ≤ MOST_RECORD_WORDS }
     ensures { result ≡ Table.extent w.now p }
 {
     records(w, p) * size(w, p)

@@ -14,7 +14,7 @@ use Rattle.omi_model.specs.declared.thread.Thread.{Thread}
 use Rattle.omi_model.specs.Changes.{IsCurrent, by_current, by_region, on_region, on_task, on_thread}
 use Rattle.omi_machine.specs.Kept.{slots_of, state_of}
 use Rattle.omi_machine.specs.KeptSlots.{IsKept, with_slot}
-use Rattle.omi_model.specs.Numbers.{max_active_levels_var}
+use Rattle.omi_numbers.specs.declared.variables.TheConstants.{MAX_ACTIVE_LEVELS_VAR}
 use Rattle.omi_model.specs.Opening.{waiting_worker}
 use Rattle.omi_model.specs.Put.{named, on, put}
 use Rattle.omi_model.specs.Settings.{with_lock, with_set, with_variable}
@@ -104,7 +104,7 @@ module _ (s : Kept) (between : List (Option ℕ)) (same : (k : ℕ) → unwrap_o
 
 -- a variable of the current task set
 module _ (s : Kept) (between after : List (List (Slot Task))) (i icv value : ℕ) (k : Tid) (v : Slot Task) (t u : Task) (variables : Variables) where
-  pub variable_set : (icv == max_active_levels_var) ≡ false → IsCurrent (state_of s) i k t → with_variable icv value t.variables ≡ Some variables
+  pub variable_set : (icv == MAX_ACTIVE_LEVELS_VAR) ≡ false → IsCurrent (state_of s) i k t → with_variable icv value t.variables ≡ Some variables
       → IsKept s.tasks k.0 → task_of (state_of s) k ≡ Some u → between ≡ with_slot s.tasks k.0 v
       → after ≡ with_slot between k.0 (record { generations = k.0.generation + 1; live = Some (record u { variables = variables }) })
       → with_set (state_of s) i icv value ≡ Some (state_of (record s { tasks = after }))

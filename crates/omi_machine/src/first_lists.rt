@@ -4,8 +4,8 @@ ghost use Rattle.std.specs.Prelude.{◌≡◌, OnOk, OnErr};
 ghost use Rattle.omi_script.specs.Bodies.{body_of};
 ghost use Rattle.omi_model.specs.Rows.{body_items, barrier_items, end_of_member, shown, working};
 
-use crate::states::{WAIT_BARRIER_IMPLICIT_PARALLEL, WORK_PARALLEL, WORK_SERIAL};
 use omi_model::{Encounter, Item, ItemList};
+use omi_numbers::{WAIT_BARRIER_IMPLICIT_PARALLEL, WORK_PARALLEL, WORK_SERIAL};
 use omi_script::{FuncList, StmtList};
 use omi_word::OutOfMemory;
 

@@ -1,31 +1,16 @@
 //! Looking for the item of an event at the front of a to-do list.
 
-ghost use Rattle.std.specs.Prelude.{◌≡◌, ◌+◌, ◌*◌, List};
+ghost use Rattle.std.specs.Prelude.{◌≡◌, List};
 ghost use Rattle.omi_model.specs.declared.item.Item.{Item};
 ghost use Rattle.omi_script.specs.declared.program.Program.{Program};
 ghost use Rattle.omi_model.specs.Lists.{fits, may_drop, opened};
 ghost use Rattle.omi_model.specs.Rows.{first_of};
 
 use omi_model::{Encounter, Event, Item};
-use omi_script::{Sched, Stmt};
-
-/// dyn-var, nthreads-var, run-sched-var, default-device-var and max-active-levels-var, by number.
-pub(crate) const DYN_VAR: u32 = 1;
-
-pub(crate) const NTHREADS_VAR: u32 = 2;
-
-pub(crate) const RUN_SCHED_VAR: u32 = 3;
-
-pub(crate) const DEFAULT_DEVICE_VAR: u32 = 4;
-
-pub(crate) const MAX_ACTIVE_LEVELS_VAR: u32 = 7;
-
-/// A schedule as one word: its chunk times 8 plus its kind.
-fn schedule_word(s: Sched) -> u64
-    ensures { result ≡ s.chunk * 8 + s.kind }
-{
-    s.chunk as u64 * 8 + s.kind as u64
-}
+use omi_numbers::{
+    DEFAULT_DEVICE_VAR, DYN_VAR, MAX_ACTIVE_LEVELS_VAR, NTHREADS_VAR, OWN_SLOTS, RUN_SCHED_VAR,
+};
+use omi_script::Stmt;
 
 /// The first item of a statement's row.
 pub fn first_item(at: Encounter, s: Stmt) -> Item
@@ -50,7 +35,7 @@ pub fn first_item(at: Encounter, s: Stmt) -> Item
         Stmt::SetNumThreads(n) => set(NTHREADS_VAR, n as u64),
         Stmt::SetDynamic(b) => set(DYN_VAR, b as u64),
         Stmt::SetMaxActive(m) => set(MAX_ACTIVE_LEVELS_VAR, m as u64),
-        Stmt::SetSchedule(s) => set(RUN_SCHED_VAR, schedule_word(s)),
+        Stmt::SetSchedule(s) => set(RUN_SCHED_VAR, s.word()),
         Stmt::SetDevice(d) => set(DEFAULT_DEVICE_VAR, d as u64),
         Stmt::Tool(x) => Item::SetTool { x },
         Stmt::Work => Item::Work,
@@ -100,9 +85,9 @@ pub fn is_events_item(e: &Event, x: Item) -> bool
         (Event::Pass, Item::Pass) => true,
         (Event::ImplicitEnd { .. }, Item::ImplicitEnd) => true,
         (Event::Join { .. }, Item::Join) => true,
-        (Event::Seen { j }, Item::Defer { seen, .. }) => *j == seen && seen < 4,
-        (Event::Defer { .. }, Item::Defer { seen, .. }) => seen < 4,
-        (Event::StartNow { .. }, Item::Defer { seen, .. }) => seen == 4,
+        (Event::Seen { j }, Item::Defer { seen, .. }) => *j == seen && seen < OWN_SLOTS,
+        (Event::Defer { .. }, Item::Defer { seen, .. }) => seen < OWN_SLOTS,
+        (Event::StartNow { .. }, Item::Defer { seen, .. }) => seen == OWN_SLOTS,
         (Event::StartNow { .. }, Item::StartNow { .. }) => true,
         (Event::Start { .. }, Item::Tasks { .. } | Item::OneTask) => true,
         (Event::Finish { .. }, Item::Finish) => true,

@@ -2,20 +2,21 @@
 
 ghost use Rattle.std.specs.Prelude.{◌≡◌, ◌<◌, ◌+◌, ◌∷◌, IfOk, OnOk, true};
 ghost use Rattle.std.specs.Option.{option_map};
+ghost use Rattle.omi_numbers.specs.declared.limits.TheConstants.{OWN_SLOTS};
 ghost use Rattle.omi_model.specs.Lists.{fits, opened, stays, take_item};
 
 use crate::first_lists::push_shown;
 use crate::looking::{head_item, is_events_item, may_pass_over};
 use crate::statement_rows::push_behind;
-use crate::states::IDLE;
 use omi_model::{Encounter, Event, Item, ItemList};
+use omi_numbers::IDLE;
 use omi_script::Program;
 use omi_word::OutOfMemory;
 use std::alloc::Global;
 
 /// Puts a place for deferred tasks that was seen taken in front: the next one is looked at.
 fn push_next_place(list: &mut ItemList, seen: u8, f: u8, is_final: bool) -> Result<(), OutOfMemory>
-    requires { seen < 4 }
+    requires { seen < OWN_SLOTS }
     ensures { OnOk result (list.new ≡ Item.Defer (seen + 1) f is_final ∷ list.old) }
 {
     let seen = seen + 1;

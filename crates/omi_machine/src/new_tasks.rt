@@ -8,10 +8,10 @@ ghost use Rattle.omi_model.specs.Tasking.{deferred, deferred_task, scheduled, st
 
 use crate::State;
 use crate::first_lists::push_function;
-use crate::frames::exit_from;
 use crate::slot_changes::{keep_slot, make};
 use crate::thread_changes::set_current;
 use omi_model::{Item, ItemList, Progress, Task, Tid, Variables};
+use omi_numbers::exit_below;
 use omi_script::Program;
 use omi_word::OutOfMemory;
 use std::alloc::Global;
@@ -77,7 +77,7 @@ fn scheduled_from(i: u8, k: Tid, t: &Task, new: Task) -> Task
         thread: i,
         number: t.number,
         scheduling: Some(k),
-        exit: exit_from(t),
+        exit: exit_below(t.exit),
         enter: 0,
         progress: Progress::Begun,
         ..new

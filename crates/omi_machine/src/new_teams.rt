@@ -5,18 +5,18 @@ ghost use Rattle.omi_machine.specs.Kept.{slots_of, state_of};
 ghost use Rattle.omi_machine.specs.KeptSlots.{AreKept, IsKept};
 ghost use Rattle.omi_machine.specs.NewMembers.{tasks_back};
 ghost use Rattle.omi_model.specs.Changes.{OfCurrentRegion, by_region};
-ghost use Rattle.omi_model.specs.Opening.{exit_frame};
+ghost use Rattle.omi_numbers.specs.Addresses.{exit_frame, exit_below};
 ghost use Rattle.omi_model.specs.Rows.{member_items};
-ghost use Rattle.omi_model.specs.Teams.{exit_below, forked, inherited, master_of, member_task, new_region, shortened, with_members};
+ghost use Rattle.omi_model.specs.Teams.{forked, inherited, master_of, member_task, new_region, shortened, with_members};
 
 use crate::State;
 use crate::first_lists::{push_end_of_member, push_function, push_working};
-use crate::frames::{exit_from, first_exit};
 use crate::slot_changes::{keep_slot, make};
 use crate::thread_changes::set_current;
 use omi_model::{
     Encounter, Item, ItemList, Progress, Region, Rid, Rows, Slot, Task, Team, Tid, Variables,
 };
+use omi_numbers::{exit_below, exit_frame};
 use omi_script::{NumList, Program};
 use omi_word::OutOfMemory;
 use std::alloc::{AllocError, Global};
@@ -115,12 +115,12 @@ fn member_list(alloc: Global, p: &Program, at: Encounter, f: u8) -> Result<ItemL
 
 /// The exit frame of a member.
 fn member_exit(t: &Task, number: u64, thread: u8) -> u64
-    ensures { result ≡ (if number == 0 then exit_below t.now else exit_frame thread 1) }
+    ensures { result ≡ (if number == 0 then exit_below t.now.exit else exit_frame thread 1) }
 {
     if number == 0 {
-        exit_from(t)
+        exit_below(t.exit)
     } else {
-        first_exit(thread)
+        exit_frame(thread, 1)
     }
 }
 

@@ -8,12 +8,11 @@ ghost use Rattle.omi_model.specs.Rows.{main_items, worker_items};
 
 use crate::State;
 use crate::first_lists::{push_end_of_member, push_function};
-use crate::frames::first_exit;
-use crate::states::{IDLE, WORK_SERIAL};
 use omi_model::{
     Claim, Encounter, Id, Item, ItemList, Progress, Region, Rid, Rows, Slot, Task, Team, Thread,
     Tid, Variables,
 };
+use omi_numbers::{IDLE, WORK_SERIAL, exit_frame};
 use omi_script::{Env, Program};
 use omi_word::OutOfMemory;
 use std::alloc::Global;
@@ -169,7 +168,7 @@ fn initial_task(alloc: Global, p: &Program) -> Result<Task, OutOfMemory>
         generating: None,
         scheduling: None,
         function: p.main,
-        exit: first_exit(0),
+        exit: exit_frame(0, 1),
         enter: 0,
         variables: variables(alloc, &p.env)?,
         is_final: false,

@@ -6,9 +6,9 @@ ghost use Rattle.omi_machine.specs.Kept.{state_of};
 ghost use Rattle.omi_model.specs.Settings.{entered, left, with_tool};
 
 use crate::State;
-use crate::frames::enter_of;
 use crate::slot_changes::{put_live, take_live};
 use omi_model::Task;
+use omi_numbers::enter_frame;
 use std::alloc::Global;
 
 /// The current task enters the runtime: its enter frame lies 32 bytes below its exit frame.
@@ -23,7 +23,7 @@ pub(crate) fn enter(alloc: Global, s: &mut State, i: usize)
     let Some(t) = take_live(alloc, &mut s.tasks, k.0) else {
         unreachable!();
     };
-    let enter = enter_of(&t);
+    let enter = enter_frame(t.exit);
     put_live(alloc, &mut s.tasks, k.0, Task { enter, ..t });
 }
 

@@ -1,12 +1,12 @@
 //! The rows of statements, put in front of a to-do list.
 
 ghost use Rattle.std.specs.Prelude.{◌≡◌, ◌∷◌, ◌||◌, OnOk, if◌then◌else◌};
-ghost use Rattle.omi_model.specs.Numbers.{wait_barrier_explicit, wait_taskwait};
+ghost use Rattle.omi_numbers.specs.declared.states.TheConstants.{OVERHEAD, WAIT_BARRIER_EXPLICIT, WAIT_TASKWAIT};
 ghost use Rattle.omi_model.specs.Rows.{barrier_items, behind, call_items, shown, working};
 
 use crate::first_lists::{push_barrier, push_function, push_shown, push_working};
-use crate::states::{OVERHEAD, WAIT_BARRIER_EXPLICIT, WAIT_CRITICAL, WAIT_TASKWAIT};
 use omi_model::{Encounter, Item, ItemList};
+use omi_numbers::{OVERHEAD, WAIT_BARRIER_EXPLICIT, WAIT_CRITICAL, WAIT_TASKWAIT, lock_wait};
 use omi_script::{Program, Stmt};
 use omi_word::OutOfMemory;
 
@@ -33,7 +33,7 @@ fn push_parallel(
     f: u8,
     num: Option<u8>,
 ) -> Result<(), OutOfMemory>
-    ensures { OnOk result (list.new ≡ shown at 0x101 0 (Item.Want num ∷ Item.Asks ∷ Item.Fork f
+    ensures { OnOk result (list.new ≡ shown at OVERHEAD 0 (Item.Want num ∷ Item.Asks ∷ Item.Fork f
         ∷ working at (Item.Leave ∷ list.old))) }
 {
     push_leaving(list, at)?;
@@ -78,7 +78,7 @@ fn push_task(
 
 /// Puts the row of a taskwait in front.
 fn push_taskwait(list: &mut ItemList, at: Encounter) -> Result<(), OutOfMemory>
-    ensures { OnOk result (list.new ≡ shown at wait_taskwait 0 (Item.Tasks wait_taskwait
+    ensures { OnOk result (list.new ≡ shown at WAIT_TASKWAIT 0 (Item.Tasks WAIT_TASKWAIT
         ∷ Item.WaitDone ∷ working at (Item.Leave ∷ list.old))) }
 {
     push_leaving(list, at)?;
@@ -101,7 +101,7 @@ fn push_taskyield(list: &mut ItemList) -> Result<(), OutOfMemory>
 /// Puts the row of an explicit barrier in front.
 fn push_explicit_barrier(list: &mut ItemList, at: Encounter) -> Result<(), OutOfMemory>
     ensures { OnOk result (list.new
-        ≡ barrier_items at wait_barrier_explicit (working at (Item.Leave ∷ list.old))) }
+        ≡ barrier_items at WAIT_BARRIER_EXPLICIT (working at (Item.Leave ∷ list.old))) }
 {
     push_leaving(list, at)?;
     push_barrier(list, at, WAIT_BARRIER_EXPLICIT)
@@ -122,7 +122,7 @@ fn push_critical(
     list.push_front(Item::Call { f })?;
     push_leaving(list, at)?;
     list.push_front(Item::Lock { k })?;
-    push_shown(list, at, WAIT_CRITICAL, k as u64 + 1)
+    push_shown(list, at, WAIT_CRITICAL, lock_wait(k))
 }
 
 /// Puts the calls of a repeated function in front, behind the event of the first.

@@ -9,10 +9,10 @@ ghost use Rattle.omi_model.specs.Teams.{task_begun};
 
 use crate::State;
 use crate::first_lists::push_working;
-use crate::frames::exit_from;
 use crate::slot_changes::{put_live, take_live};
 use crate::thread_changes::set_current;
 use omi_model::{Progress, Task, Tid};
+use omi_numbers::exit_below;
 use omi_word::OutOfMemory;
 use std::alloc::{AllocError, Global};
 
@@ -59,7 +59,7 @@ pub(crate) fn start_alone(alloc: Global, s: &mut State, i: u8, task: Tid)
     let Some((k, t)) = s.current(i as usize) else {
         unreachable!();
     };
-    let (number, exit) = (t.number, exit_from(t));
+    let (number, exit) = (t.number, exit_below(t.exit));
     let Some(mut u) = take_live(alloc, &mut s.tasks, task.0) else {
         unreachable!();
     };
@@ -86,7 +86,7 @@ pub(crate) fn start(alloc: Global, s: &mut State, i: u8, task: Tid) -> Result<()
     let Some((k, t)) = s.current(i as usize) else {
         unreachable!();
     };
-    let (number, exit) = (t.number, exit_from(t));
+    let (number, exit) = (t.number, exit_below(t.exit));
     let Some(mut u) = take_live(alloc, &mut s.tasks, task.0) else {
         unreachable!();
     };

@@ -1,16 +1,18 @@
 //! Internal control variables: what it changes to set one.
 
-ghost use Rattle.std.specs.Prelude.{◌≡◌, ◌<◌, ◌/◌, ◌%◌, Some, OnOk, OnErr, IfOk, ⊤};
+ghost use Rattle.std.specs.Prelude.{◌≡◌, ◌<◌, Some, OnOk, OnErr, IfOk, ⊤};
+ghost use Rattle.omi_script.specs.Schedules.{kind_in, chunk_in};
 ghost use Rattle.omi_model.specs.Changes.{OfCurrent};
 ghost use Rattle.omi_machine.specs.Kept.{state_of};
 ghost use Rattle.omi_model.specs.Settings.{with_head, with_set, with_variable};
 
 use crate::State;
-use crate::looking::{
-    DEFAULT_DEVICE_VAR, DYN_VAR, MAX_ACTIVE_LEVELS_VAR, NTHREADS_VAR, RUN_SCHED_VAR,
-};
 use crate::slot_changes::{put_live, take_live};
 use omi_model::{Task, Variables};
+use omi_numbers::{
+    CHUNK_PLACE, DEFAULT_DEVICE_VAR, DYN_VAR, MAX_ACTIVE_LEVELS_VAR, NTHREADS_VAR, RUN_SCHED_VAR,
+};
+use omi_script::limits::MAX_CHUNK;
 use omi_script::{NumList, Sched};
 use omi_word::OutOfMemory;
 use std::alloc::{AllocError, Global};
@@ -31,14 +33,14 @@ fn headed(alloc: Global, x: u64, list: &NumList) -> Result<NumList, OutOfMemory>
 
 /// A schedule of a word. A word whose chunk has no room is refused.
 fn schedule_of(value: u64) -> Result<Sched, OutOfMemory>
-    ensures { IfOk result (λ x. x ≡ record { kind = value % 8; chunk = value / 8 }) }
+    ensures { IfOk result (λ x. x ≡ record { kind = kind_in value; chunk = chunk_in value }) }
 {
-    if value / 8 > 0xffff {
+    if value / CHUNK_PLACE > u64::from(MAX_CHUNK) {
         return Err(AllocError);
     }
     Ok(Sched {
-        kind: (value % 8) as u8,
-        chunk: (value / 8) as u16,
+        kind: (value % CHUNK_PLACE) as u8,
+        chunk: (value / CHUNK_PLACE) as u16,
     })
 }
 

@@ -10,8 +10,9 @@ ghost use Rattle.omi_model.specs.Tasking.{AreChildrenFinished, IsTaken, MayFinis
 
 use crate::fresh::is_fresh_task;
 use crate::unfinished::{TasksOf, are_finished};
-use omi_machine::{State, WAIT_TASKWAIT};
+use omi_machine::State;
 use omi_model::{Item, Progress, Rid, Rows, Slot, Task, Tid};
+use omi_numbers::WAIT_TASKWAIT;
 
 /// Whether a task is deferred in a place, in a region.
 fn is_deferred_in(region: Rid, place: u8, t: &Task) -> bool

@@ -5,6 +5,7 @@ use Rattle.std.specs.List.{filter_map, cons_option}
 use Rattle.std.proofs.lemmas.List.{append-nil}
 use Rattle.std.proofs.lemmas.Bool.Decides.{nat_tests}
 use Rattle.std.proofs.lemmas.Option.{slice_get_within, get_or_from_slice_get}
+use Rattle.omi_numbers.specs.declared.words.TheConstants.{FIRST_NATIVE}
 use Rattle.omi_model.specs.declared.view.TaskRow.{TaskRow}
 use Rattle.omi_model.specs.State.{State}
 use Rattle.omi_model.specs.Views.{AreChains, IsChain, thread_with}
@@ -19,10 +20,10 @@ some_same x y e = cc e
 
 -- what is found of a context is a thread of the state
 with_known : (s : State) (native i : ℕ) → thread_with s native ≡ Some i → i < s.count
-with_known s native i is = go (nat_le 1000 native) (nat_lt (native - 1000) s.count) (s.threads (native - 1000)).begun refl is
+with_known s native i is = go (nat_le FIRST_NATIVE native) (nat_lt (native - FIRST_NATIVE) s.count) (s.threads (native - FIRST_NATIVE)).begun refl is
   where
-    go : (a b c : Bool) → nat_lt (native - 1000) s.count ≡ b → (if a && b && c then Some (native - 1000) else None) ≡ Some i → i < s.count
-    go true true true e f = let same : native - 1000 ≡ i = some_same (native - 1000) i f in grind (arith, nat_tests)
+    go : (a b c : Bool) → nat_lt (native - FIRST_NATIVE) s.count ≡ b → (if a && b && c then Some (native - FIRST_NATIVE) else None) ≡ Some i → i < s.count
+    go true true true e f = let same : native - FIRST_NATIVE ≡ i = some_same (native - FIRST_NATIVE) i f in grind (arith, nat_tests)
     go true true false e f = absurd (cc f)
     go true false c e f = absurd (cc f)
     go false b c e f = absurd (cc f)

@@ -7,14 +7,9 @@ ghost use Rattle.omi_machine.specs.Kept.{state_of};
 
 use omi_machine::State;
 use omi_model::{HeadRow, Rows, ThreadPart, ThreadRow, ThreadRows};
+use omi_numbers::{FIRST_NATIVE, OPENMP_VERSION};
 use omi_word::{Natives, OutOfMemory};
 use std::alloc::{AllocError, Global};
-
-/// The native id of thread 0. Each further thread's is one more.
-const FIRST_NATIVE: u64 = 1000;
-
-/// The version of OpenMP that a report tells.
-const VERSION: u64 = 201811;
 
 /// The thread with a native id, where it has begun.
 fn thread_with(s: &State, native: u64) -> Option<usize>
@@ -45,7 +40,7 @@ pub fn head_row(s: &State) -> Result<HeadRow, OutOfMemory>
 {
     let environment = s.environment();
     Ok(HeadRow {
-        version: VERSION,
+        version: OPENMP_VERSION,
         threads: narrow(s.count())?,
         debug: environment.debug as u64,
         procs: environment.procs as u64,

@@ -1,26 +1,12 @@
 //! The rows of a report.
 
 ghost use Rattle.std.specs.Prelude.{◌≡◌, IfOk, map, length};
-ghost use Rattle.omi_model.specs.Views.{entry_address, region_row, schedule_number, task_row};
+ghost use Rattle.omi_model.specs.Views.{region_row, task_row};
 
 use omi_model::{MemberRow, MemberRows, Region, RegionRow, Rid, Task, TaskRow, Team, Tid};
-use omi_script::Sched;
+use omi_numbers::entry_address;
 use omi_word::OutOfMemory;
 use std::alloc::Global;
-
-/// The entry address of a function.
-pub fn entry_address(f: u8) -> u64
-    ensures { result ≡ entry_address f }
-{
-    0x400000 + 16 * f as u64
-}
-
-/// A schedule as one number.
-fn schedule_number(s: Sched) -> u64
-    ensures { result ≡ schedule_number s }
-{
-    s.chunk as u64 * 8 + s.kind as u64
-}
 
 /// The row of a task on the chain of a thread.
 pub fn task_row(alloc: Global, i: u8, k: Tid, t: &Task) -> Result<TaskRow, OutOfMemory>
@@ -39,7 +25,7 @@ pub fn task_row(alloc: Global, i: u8, k: Tid, t: &Task) -> Result<TaskRow, OutOf
         tool: t.tool,
         dyn_var: t.variables.dynamic as u64,
         nthreads: t.variables.nthreads.same(alloc)?,
-        sched: schedule_number(t.variables.schedule),
+        sched: schedule_word(t.variables.schedule),
         device: t.variables.device,
         final_task: t.is_final as u64,
     })

@@ -10,7 +10,7 @@ use Rattle.omi_model.specs.declared.event.Event.TheVariants as event
 use Rattle.omi_model.specs.declared.item.Item.{Item}
 use Rattle.omi_model.specs.declared.item.Item.TheVariants as item
 use Rattle.omi_model.specs.Lists.{stays, take_item}
-use Rattle.omi_model.specs.Numbers.{wait_taskwait}
+use Rattle.omi_numbers.specs.declared.states.TheConstants.{WAIT_TASKWAIT}
 use Rattle.omi_model.specs.Rows.{barrier_items, behind, body_items, call_items, end_of_member, first_of, last_of_member, main_items, member_items, shown, working}
 use Rattle.omi_model.proofs.BarrierOrder.{body_left, left}
 use Rattle.omi_model.proofs.ListLaws.{take_keeps}
@@ -73,7 +73,7 @@ module _ (b : ℕ → ℕ) where
         go : (d : Bool) → Covers b (item.Enter ∷ (if d then item.StartNow f (final || at.is_final) else item.Defer 0 f (final || at.is_final)) ∷ item.Leave ∷ rest)
         go true = (tt, (omega arith, (tt, h)))
         go false = (tt, (omega arith, (tt, h)))
-    row_covers at stmt.Taskwait rest (more, h) = (tt, shown_covers at _ 0 (item.Tasks wait_taskwait ∷ item.WaitDone ∷ working at (item.Leave ∷ rest)) (tt, (tt, working_covers at (item.Leave ∷ rest) (tt, h))))
+    row_covers at stmt.Taskwait rest (more, h) = (tt, shown_covers at _ 0 (item.Tasks WAIT_TASKWAIT ∷ item.WaitDone ∷ working at (item.Leave ∷ rest)) (tt, (tt, working_covers at (item.Leave ∷ rest) (tt, h))))
     row_covers at stmt.Taskyield rest (more, h) = (tt, (tt, (tt, (tt, h))))
     row_covers at stmt.Barrier rest (more, h) = (tt, barrier_covers at _ (working at (item.Leave ∷ rest)) (working_covers at (item.Leave ∷ rest) (tt, h)))
     row_covers at (stmt.Critical k f) rest (more, h) = (

@@ -10,7 +10,7 @@ use Rattle.omi_model.specs.declared.event.Event.TheVariants as event
 use Rattle.omi_model.specs.declared.item.Item.{Item}
 use Rattle.omi_model.specs.declared.item.Item.TheVariants as item
 use Rattle.omi_model.specs.Lists.{may_drop, stays, take_item}
-use Rattle.omi_model.specs.Numbers.{wait_taskwait}
+use Rattle.omi_numbers.specs.declared.states.TheConstants.{WAIT_TASKWAIT}
 use Rattle.omi_model.specs.Rows.{barrier_items, behind, body_items, call_items, end_of_member, first_of, last_of_member, main_items, member_items, task_items, shown, working}
 use Rattle.omi_model.proofs.ListLaws.{take_keeps}
 use Rattle.omi_model.proofs.Slots.{false_true}
@@ -56,7 +56,7 @@ module _ (b : Bool) where
         go : (c : Bool) → Lasts b (item.Enter ∷ (if c then item.StartNow f (final || at.is_final) else item.Defer 0 f (final || at.is_final)) ∷ item.Leave ∷ rest)
         go true = h
         go false = h
-    row_lasts at stmt.Taskwait rest h = shown_lasts at _ 0 (item.Tasks wait_taskwait ∷ item.WaitDone ∷ working at (item.Leave ∷ rest)) (working_lasts at (item.Leave ∷ rest) h)
+    row_lasts at stmt.Taskwait rest h = shown_lasts at _ 0 (item.Tasks WAIT_TASKWAIT ∷ item.WaitDone ∷ working at (item.Leave ∷ rest)) (working_lasts at (item.Leave ∷ rest) h)
     row_lasts at stmt.Taskyield rest h = h
     row_lasts at stmt.Barrier rest h = barrier_lasts at _ (working at (item.Leave ∷ rest)) (working_lasts at (item.Leave ∷ rest) h)
     row_lasts at (stmt.Critical k f) rest h =

@@ -11,7 +11,7 @@ use Rattle.omi_model.specs.declared.item.Item.{Item}
 use Rattle.omi_model.specs.declared.item.Item.TheVariants as item
 use Rattle.omi_model.specs.LawLocks.{gives_back}
 use Rattle.omi_model.specs.Lists.{fits, may_drop, stays, take_item}
-use Rattle.omi_model.specs.Numbers.{wait_taskwait}
+use Rattle.omi_numbers.specs.declared.states.TheConstants.{WAIT_TASKWAIT}
 use Rattle.omi_model.specs.Rows.{barrier_items, behind, body_items, call_items, end_of_member, first_of, last_of_member, main_items, member_items, task_items, shown, work_state, working}
 use Rattle.omi_model.proofs.ListLaws.{take_keeps}
 use Rattle.omi_model.proofs.Slots.{false_true}
@@ -78,7 +78,7 @@ module _ (k w : ℕ) where
         go : (c : Bool) → Gives k w (item.Enter ∷ (if c then item.StartNow f (final || at.is_final) else item.Defer 0 f (final || at.is_final)) ∷ item.Leave ∷ rest)
         go true = h
         go false = h
-    row_back at stmt.Taskwait rest h = shown_back at _ 0 (item.Tasks wait_taskwait ∷ item.WaitDone ∷ working at (item.Leave ∷ rest)) (working_back at (item.Leave ∷ rest) h)
+    row_back at stmt.Taskwait rest h = shown_back at _ 0 (item.Tasks WAIT_TASKWAIT ∷ item.WaitDone ∷ working at (item.Leave ∷ rest)) (working_back at (item.Leave ∷ rest) h)
     row_back at stmt.Taskyield rest h = h
     row_back at stmt.Barrier rest h = barrier_back at _ (working at (item.Leave ∷ rest)) (working_back at (item.Leave ∷ rest) h)
     row_back at (stmt.Critical l f) rest h =

@@ -11,7 +11,7 @@ use Rattle.omi_model.specs.declared.task.Task.{Task}
 use Rattle.omi_model.specs.declared.task.Variables.{Variables}
 use Rattle.omi_model.specs.LawNthreads.{IsShortenedBy}
 use Rattle.omi_model.specs.LawStays.{Stays}
-use Rattle.omi_model.specs.Numbers.{default_device_var, dyn_var, nthreads_var, run_sched_var}
+use Rattle.omi_numbers.specs.declared.variables.TheConstants.{DEFAULT_DEVICE_VAR, DYN_VAR, NTHREADS_VAR, RUN_SCHED_VAR}
 use Rattle.omi_model.specs.Opening.{opening, opening_region}
 use Rattle.omi_model.specs.Reached.{Reached, Step}
 use Rattle.omi_model.specs.Settings.{with_head, with_variable}
@@ -24,33 +24,33 @@ use Rattle.omi_model.proofs.StaysKept.{stays_step}
 use Rattle.omi_model.proofs.Steps.{IsRelisted}
 
 -- setting a variable sets the list's head, or leaves the list
-pub set_nthreads : (icv value : ℕ) (v w : Variables) → with_variable icv value v ≡ Some w → (w.nthreads ≡ v.nthreads) ⊎ ((icv ≡ nthreads_var) × (w.nthreads ≡ with_head value v.nthreads))
-set_nthreads icv value v w e = by_dyn (icv == dyn_var) e
+pub set_nthreads : (icv value : ℕ) (v w : Variables) → with_variable icv value v ≡ Some w → (w.nthreads ≡ v.nthreads) ⊎ ((icv ≡ NTHREADS_VAR) × (w.nthreads ≡ with_head value v.nthreads))
+set_nthreads icv value v w e = by_dyn (icv == DYN_VAR) e
   where
     list_of : {x : Variables} → ◌≡◌ {A = Option Variables} (Some x) (Some w) → w.nthreads ≡ x.nthreads
     list_of f = ap (λ (x : Variables). x.nthreads) (sym (some_same refl f))
 
-    by_device : (b : Bool) → (if b then Some (record v { device = value }) else None) ≡ Some w → (w.nthreads ≡ v.nthreads) ⊎ ((icv ≡ nthreads_var) × (w.nthreads ≡ with_head value v.nthreads))
+    by_device : (b : Bool) → (if b then Some (record v { device = value }) else None) ≡ Some w → (w.nthreads ≡ v.nthreads) ⊎ ((icv ≡ NTHREADS_VAR) × (w.nthreads ≡ with_head value v.nthreads))
     by_device true f = inl (list_of f)
     by_device false f = absurd (none_some refl f)
 
-    by_sched : (b : Bool) → (if b then Some (record v { schedule = record { kind = value % 8; chunk = value / 8 } }) else (if icv == default_device_var then Some (record v { device = value }) else None)) ≡ Some w
-        → (w.nthreads ≡ v.nthreads) ⊎ ((icv ≡ nthreads_var) × (w.nthreads ≡ with_head value v.nthreads))
+    by_sched : (b : Bool) → (if b then Some (record v { schedule = record { kind = value % 8; chunk = value / 8 } }) else (if icv == DEFAULT_DEVICE_VAR then Some (record v { device = value }) else None)) ≡ Some w
+        → (w.nthreads ≡ v.nthreads) ⊎ ((icv ≡ NTHREADS_VAR) × (w.nthreads ≡ with_head value v.nthreads))
     by_sched true f = inl (list_of f)
-    by_sched false f = by_device (icv == default_device_var) f
+    by_sched false f = by_device (icv == DEFAULT_DEVICE_VAR) f
 
-    by_nthreads : (b : Bool) → icv == nthreads_var ≡ b → (if b then Some (record v { nthreads = with_head value v.nthreads })
-        else (if icv == run_sched_var then Some (record v { schedule = record { kind = value % 8; chunk = value / 8 } }) else (if icv == default_device_var then Some (record v { device = value }) else None))) ≡ Some w
-        → (w.nthreads ≡ v.nthreads) ⊎ ((icv ≡ nthreads_var) × (w.nthreads ≡ with_head value v.nthreads))
-    by_nthreads true is f = inr (eqb-true icv nthreads_var is, list_of f)
-    by_nthreads false is f = by_sched (icv == run_sched_var) f
+    by_nthreads : (b : Bool) → icv == NTHREADS_VAR ≡ b → (if b then Some (record v { nthreads = with_head value v.nthreads })
+        else (if icv == RUN_SCHED_VAR then Some (record v { schedule = record { kind = value % 8; chunk = value / 8 } }) else (if icv == DEFAULT_DEVICE_VAR then Some (record v { device = value }) else None))) ≡ Some w
+        → (w.nthreads ≡ v.nthreads) ⊎ ((icv ≡ NTHREADS_VAR) × (w.nthreads ≡ with_head value v.nthreads))
+    by_nthreads true is f = inr (eqb-true icv NTHREADS_VAR is, list_of f)
+    by_nthreads false is f = by_sched (icv == RUN_SCHED_VAR) f
 
     by_dyn : (b : Bool) → (if b then Some (record v { dynamic = not (value == 0) })
-        else (if icv == nthreads_var then Some (record v { nthreads = with_head value v.nthreads })
-        else (if icv == run_sched_var then Some (record v { schedule = record { kind = value % 8; chunk = value / 8 } }) else (if icv == default_device_var then Some (record v { device = value }) else None)))) ≡ Some w
-        → (w.nthreads ≡ v.nthreads) ⊎ ((icv ≡ nthreads_var) × (w.nthreads ≡ with_head value v.nthreads))
+        else (if icv == NTHREADS_VAR then Some (record v { nthreads = with_head value v.nthreads })
+        else (if icv == RUN_SCHED_VAR then Some (record v { schedule = record { kind = value % 8; chunk = value / 8 } }) else (if icv == DEFAULT_DEVICE_VAR then Some (record v { device = value }) else None)))) ≡ Some w
+        → (w.nthreads ≡ v.nthreads) ⊎ ((icv ≡ NTHREADS_VAR) × (w.nthreads ≡ with_head value v.nthreads))
     by_dyn true f = inl (list_of f)
-    by_dyn false f = by_nthreads (icv == nthreads_var) refl f
+    by_dyn false f = by_nthreads (icv == NTHREADS_VAR) refl f
 
 rest_of_head : (x : ℕ) (xs : List ℕ) → drop 1 (with_head x xs) ≡ drop 1 xs
 rest_of_head x [] = refl
@@ -75,7 +75,7 @@ module _ (p : Program) where
   set_shortened : (r : Region) (icv value : ℕ) (v w : Variables) → with_variable icv value v ≡ Some w → IsShortenedBy p r v → IsShortenedBy p r w
   set_shortened r icv value v w e is = go (set_nthreads icv value v w e)
     where
-      go : (w.nthreads ≡ v.nthreads) ⊎ ((icv ≡ nthreads_var) × (w.nthreads ≡ with_head value v.nthreads)) → IsShortenedBy p r w
+      go : (w.nthreads ≡ v.nthreads) ⊎ ((icv ≡ NTHREADS_VAR) × (w.nthreads ≡ with_head value v.nthreads)) → IsShortenedBy p r w
       go (inl same) = record { some = subst (λ (xs : List ℕ). 1 ≤ length xs) (sym same) is.some; rest = ap (drop 1) same ∙ is.rest }
       go (inr (at, same)) = record {
         some = subst (λ (xs : List ℕ). 1 ≤ length xs) (sym same) (subst (λ n. 1 ≤ n) (sym (length_of_head value v.nthreads)) is.some);

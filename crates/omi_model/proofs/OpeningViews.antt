@@ -4,6 +4,7 @@ use Rattle.std.specs.Prelude.{Contains, map, nat_lt}
 use Rattle.std.specs.Option.{option_map}
 use Rattle.std.specs.List.{cons_option}
 use Rattle.std.proofs.lemmas.Bool.{lt-ltb}
+use Rattle.omi_numbers.specs.Words.{native_id}
 use Rattle.omi_script.specs.declared.program.Program.{Program}
 use Rattle.omi_script.proofs.RuleLemmas.{Rules-from_accepted}
 use Rattle.omi_model.specs.declared.id.Rid.{Rid}
@@ -42,10 +43,10 @@ regions_viewed p = record { in_order = tt; each = each; all = all }
 tasks_viewed : (p : Program) → AreChains (opening p) (0 ∷ []) (opening_view p).tasks
 tasks_viewed p = ((opening_view p).tasks, [], refl, (opening_task p, refl, refl, tt), refl)
 
-pub opening_viewed : (p : Program) → IsViewOf (opening p) (1000 ∷ []) (opening_view p)
+pub opening_viewed : (p : Program) → IsViewOf (opening p) (native_id 0 ∷ []) (opening_view p)
 opening_viewed p =
     let some : nat_lt 0 p.threads ≡ true = lt-ltb 0 p.threads (omega (arith, (Rules-from_accepted p).threads.0)) in
-    let first : thread_with (opening p) 1000 ≡ Some 0 = rw some refl in
+    let first : thread_with (opening p) (native_id 0) ≡ Some 0 = rw some refl in
     record {
       head = refl;
       threads = rw first refl;

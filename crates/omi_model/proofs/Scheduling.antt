@@ -15,7 +15,7 @@ use Rattle.omi_model.specs.LawScheduling.{IsInBarrier, passes_next}
 use Rattle.omi_model.specs.LawStays.{Stays}
 use Rattle.omi_model.specs.Lists.{fits, may_drop, opened, take_item}
 use Rattle.omi_model.specs.Rows.{first_of}
-use Rattle.omi_model.specs.Numbers.{wait_taskwait}
+use Rattle.omi_numbers.specs.declared.states.TheConstants.{WAIT_TASKWAIT}
 use Rattle.omi_model.specs.Opening.{opening}
 use Rattle.omi_model.specs.Reached.{Reached, Step}
 use Rattle.omi_model.specs.Rules.{Legal}
@@ -115,16 +115,16 @@ module _ (p : Program) (events : List (ℕ × Event)) (s : State) (reached : Rea
 
   pub at_item : (x : Item) (ys : List Item) (k : Tid) (t u : Task) (i : ℕ) (task : Tid) → take_item p (encounter s i) (event.Start task) t.list ≡ Some (x, ys) → task_of s k ≡ Some t → MayStartAt x k t u
       → (u.generating ≡ Some k) ⊎ (IsInBarrier t × (u.region ≡ t.region))
-  at_item (item.Tasks state) ys k t u i task taken live may = go (state == wait_taskwait) refl may
+  at_item (item.Tasks state) ys k t u i task taken live may = go (state == WAIT_TASKWAIT) refl may
     where
       waits : Waits (item.Tasks state ∷ ys)
       waits = take_waits p (encounter s i) (event.Start task) t.list (item.Tasks state) ys taken (waits_reached p events s reached k t live)
 
-      in_wait : state == wait_taskwait ≡ false → (state ≡ wait_taskwait) ⊎ (passes_next ys ≡ true) → passes_next ys ≡ true
-      in_wait e (inl same) = absurd (false_true (sym e ∙ eq-eqb state wait_taskwait same))
+      in_wait : state == WAIT_TASKWAIT ≡ false → (state ≡ WAIT_TASKWAIT) ⊎ (passes_next ys ≡ true) → passes_next ys ≡ true
+      in_wait e (inl same) = absurd (false_true (sym e ∙ eq-eqb state WAIT_TASKWAIT same))
       in_wait e (inr passes) = passes
 
-      go : (b : Bool) → state == wait_taskwait ≡ b → MatchBool b (u.generating ≡ Some k) (u.region ≡ t.region) → (u.generating ≡ Some k) ⊎ (IsInBarrier t × (u.region ≡ t.region))
+      go : (b : Bool) → state == WAIT_TASKWAIT ≡ b → MatchBool b (u.generating ≡ Some k) (u.region ≡ t.region) → (u.generating ≡ Some k) ⊎ (IsInBarrier t × (u.region ≡ t.region))
       go true e h = inl h
       go false e h = inr (in_barrier k t live (passes_back p (encounter s i) task state ys (in_wait e waits.0) t.list taken), h)
   at_item item.OneTask ys k t u i task taken live may = inl may

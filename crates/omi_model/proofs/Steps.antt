@@ -21,7 +21,7 @@ use Rattle.omi_model.specs.Barriers.{AreFinished}
 use Rattle.omi_model.specs.Changes.{IsCurrent, OfCurrent, OfCurrentRegion, by_current, by_region, encounter, list_of, on_task, on_thread, with_list}
 use Rattle.omi_model.specs.Fresh.{IsFresh}
 use Rattle.omi_model.specs.Lists.{stays, take_item}
-use Rattle.omi_model.specs.Numbers.{max_active_levels_var}
+use Rattle.omi_numbers.specs.declared.variables.TheConstants.{MAX_ACTIVE_LEVELS_VAR}
 use Rattle.omi_model.specs.Put.{Slots, changed, on}
 use Rattle.omi_model.specs.Reached.{Step}
 use Rattle.omi_model.specs.Rules.{Rule, effect, moved}
@@ -66,7 +66,7 @@ of_region s i f L P (k, t, r, is, found, h) law = if_some L (by_region s i f) (f
 
 pub of_set : (s : State) (i icv value : ℕ) (L : State → Type 0) → OfCurrent s i (λ k t. ⊤) → L (record s { max_active = value })
     → ((k : Tid) (t : Task) (v : Variables) → IsCurrent s i k t → with_variable icv value t.variables ≡ Some v → L (on_task s k (λ u. record u { variables = v }))) → IfSome (with_set s i icv value) L
-of_set s i icv value L (k, t, is, h) whole own = by_test (icv == max_active_levels_var)
+of_set s i icv value L (k, t, is, h) whole own = by_test (icv == MAX_ACTIVE_LEVELS_VAR)
   where
     of_own : (o : Option Variables) → with_variable icv value t.variables ≡ o → IfSome (option_map (λ v. on_task s k (λ u. record u { variables = v })) o) L
     of_own None e = tt

@@ -13,7 +13,9 @@ use Rattle.omi_model.specs.declared.event.Event.TheVariants as event
 use Rattle.omi_model.specs.declared.item.Item.{Item}
 use Rattle.omi_model.specs.declared.item.Item.TheVariants as item
 use Rattle.omi_model.specs.Lists.{stays, take_item}
-use Rattle.omi_model.specs.Numbers.{dyn_var, default_device_var, idle, max_active_levels_var, nthreads_var, overhead, run_sched_var, states, wait_barrier_explicit, wait_barrier_implicit_parallel, wait_critical, wait_taskwait}
+use Rattle.omi_numbers.specs.declared.variables.TheConstants.{DYN_VAR, DEFAULT_DEVICE_VAR, MAX_ACTIVE_LEVELS_VAR, NTHREADS_VAR, RUN_SCHED_VAR}
+use Rattle.omi_numbers.specs.declared.states.TheConstants.{IDLE, OVERHEAD, WAIT_BARRIER_EXPLICIT, WAIT_BARRIER_IMPLICIT_PARALLEL, WAIT_CRITICAL, WAIT_TASKWAIT}
+use Rattle.omi_numbers.specs.States.{state_numbers}
 use Rattle.omi_model.specs.Rows.{barrier_items, behind, body_items, call_items, end_of_member, first_of, last_of_member, main_items, member_items, task_items, worker_items, shown, work_state, working}
 use Rattle.omi_model.proofs.ListLaws.{take_keeps}
 
@@ -28,9 +30,9 @@ IsStmtRight s = Unit {0}
 
 abbrev pub IsItemRight : Item → Type 0
 IsItemRight (item.Do s) = IsStmtRight s
-IsItemRight (item.State state wait) = Contains states state
-IsItemRight (item.Tasks state) = Contains states state
-IsItemRight (item.Set icv value) = (icv ≡ run_sched_var → IsKind (value % 8)) × (icv ≡ nthreads_var → IsSize value)
+IsItemRight (item.State state wait) = Contains state_numbers state
+IsItemRight (item.Tasks state) = Contains state_numbers state
+IsItemRight (item.Set icv value) = (icv ≡ RUN_SCHED_VAR → IsKind (value % 8)) × (icv ≡ NTHREADS_VAR → IsSize value)
 IsItemRight x = Unit {0}
 
 abbrev pub AreRight : List Item → Type 0
@@ -39,17 +41,17 @@ AreRight (x ∷ xs) = IsItemRight x × AreRight xs
 
 -- ---- states of the table
 
-in_table : (state k : ℕ) → k < 9 → get_or states k state ≡ state → Contains states state
+in_table : (state k : ℕ) → k < 9 → get_or state_numbers k state ≡ state → Contains state_numbers state
 in_table state k h e = (k, h, e)
 
-work_in_table : (level : ℕ) → Contains states (work_state level)
+work_in_table : (level : ℕ) → Contains state_numbers (work_state level)
 work_in_table level = go (level == 0)
   where
-    go : (b : Bool) → Contains states (if b then 0x000 else 0x001)
+    go : (b : Bool) → Contains state_numbers (if b then 0x000 else 0x001)
     go true = in_table 0x000 0 (omega arith) refl
     go false = in_table 0x001 1 (omega arith) refl
 
-shown_right : (at : Encounter) (state wait : ℕ) (xs : List Item) → Contains states state → AreRight xs → AreRight (shown at state wait xs)
+shown_right : (at : Encounter) (state wait : ℕ) (xs : List Item) → Contains state_numbers state → AreRight xs → AreRight (shown at state wait xs)
 shown_right at state wait xs in_states h = go at.debug
   where
     go : (d : Bool) → AreRight (if d then item.State state wait ∷ xs else xs)
@@ -59,7 +61,7 @@ shown_right at state wait xs in_states h = go at.debug
 pub working_right : (at : Encounter) (xs : List Item) → AreRight xs → AreRight (working at xs)
 working_right at xs h = shown_right at (work_state at.level) 0 xs (work_in_table at.level) h
 
-barrier_right : (at : Encounter) (state : ℕ) (rest : List Item) → Contains states state → AreRight rest → AreRight (barrier_items at state rest)
+barrier_right : (at : Encounter) (state : ℕ) (rest : List Item) → Contains state_numbers state → AreRight rest → AreRight (barrier_items at state rest)
 barrier_right at state rest in_states h = shown_right at state 0 (item.Arrive ∷ item.Tasks state ∷ (if at.number == 0 then item.Release ∷ item.Pass ∷ rest else item.Pass ∷ rest)) in_states (go (at.number == 0))
   where
     go : (d : Bool) → AreRight (item.Arrive ∷ item.Tasks state ∷ (if d then item.Release ∷ item.Pass ∷ rest else item.Pass ∷ rest))
@@ -84,20 +86,20 @@ module _ (p : Program) where
 
   row_right : (at : Encounter) (s : Stmt) (rest : List Item) → AreRight (item.Do s ∷ rest) → AreRight (first_of at s ∷ behind p at s rest)
   row_right at (stmt.Parallel f num) rest (is, h) =
-      (tt, shown_right at overhead 0 (item.Want num ∷ item.Asks ∷ item.Fork f ∷ working at (item.Leave ∷ rest)) (in_table overhead 8 (omega arith) refl) (tt, (tt, (tt, working_right at (item.Leave ∷ rest) (tt, h)))))
+      (tt, shown_right at OVERHEAD 0 (item.Want num ∷ item.Asks ∷ item.Fork f ∷ working at (item.Leave ∷ rest)) (in_table OVERHEAD 8 (omega arith) refl) (tt, (tt, (tt, working_right at (item.Leave ∷ rest) (tt, h)))))
   row_right at (stmt.Task f undeferred final) rest (is, h) = go (undeferred || at.is_final)
     where
       go : (c : Bool) → AreRight (item.Enter ∷ (if c then item.StartNow f (final || at.is_final) else item.Defer 0 f (final || at.is_final)) ∷ item.Leave ∷ rest)
       go true = (tt, (tt, (tt, h)))
       go false = (tt, (tt, (tt, h)))
   row_right at stmt.Taskwait rest (is, h) =
-      let wait = in_table wait_taskwait 4 (omega arith) refl in
-      (tt, shown_right at wait_taskwait 0 (item.Tasks wait_taskwait ∷ item.WaitDone ∷ working at (item.Leave ∷ rest)) wait (wait, (tt, working_right at (item.Leave ∷ rest) (tt, h))))
+      let wait = in_table WAIT_TASKWAIT 4 (omega arith) refl in
+      (tt, shown_right at WAIT_TASKWAIT 0 (item.Tasks WAIT_TASKWAIT ∷ item.WaitDone ∷ working at (item.Leave ∷ rest)) wait (wait, (tt, working_right at (item.Leave ∷ rest) (tt, h))))
   row_right at stmt.Taskyield rest (is, h) = (tt, (tt, (tt, (tt, h))))
-  row_right at stmt.Barrier rest (is, h) = (tt, barrier_right at wait_barrier_explicit (working at (item.Leave ∷ rest)) (in_table wait_barrier_explicit 3 (omega arith) refl) (working_right at (item.Leave ∷ rest) (tt, h)))
+  row_right at stmt.Barrier rest (is, h) = (tt, barrier_right at WAIT_BARRIER_EXPLICIT (working at (item.Leave ∷ rest)) (in_table WAIT_BARRIER_EXPLICIT 3 (omega arith) refl) (working_right at (item.Leave ∷ rest) (tt, h)))
   row_right at (stmt.Critical k f) rest (is, h) = (
     tt,
-    shown_right at wait_critical (k + 1) (item.Lock k ∷ working at (item.Leave ∷ item.Call f ∷ call_items p f (item.Unlock k ∷ rest))) (in_table wait_critical 6 (omega arith) refl)
+    shown_right at WAIT_CRITICAL (k + 1) (item.Lock k ∷ working at (item.Leave ∷ item.Call f ∷ call_items p f (item.Unlock k ∷ rest))) (in_table WAIT_CRITICAL 6 (omega arith) refl)
         (tt, working_right at (item.Leave ∷ item.Call f ∷ call_items p f (item.Unlock k ∷ rest)) (tt, (tt, call_right f (item.Unlock k ∷ rest) (tt, h)))),
   )
   row_right at (stmt.Call f) rest (is, h) = (tt, call_right f rest h)
@@ -108,14 +110,14 @@ module _ (p : Program) where
       go false = (tt, h)
   row_right at (stmt.Repeat zero f) rest (is, h) = (tt, h)
   row_right at (stmt.Repeat (suc n) f) rest (is, h) = (tt, call_right f (item.Do (stmt.Repeat n f) ∷ rest) (tt, h))
-  row_right at (stmt.SetNumThreads n) rest (is, h) = ((λ e. absurd (let other : nthreads_var ≡ run_sched_var = e in omega arith), λ e. is), h)
-  row_right at (stmt.SetDynamic x) rest (is, h) = ((λ e. absurd (let other : dyn_var ≡ run_sched_var = e in omega arith), λ e. absurd (let other : dyn_var ≡ nthreads_var = e in omega arith)), h)
-  row_right at (stmt.SetMaxActive n) rest (is, h) = ((λ e. absurd (let other : max_active_levels_var ≡ run_sched_var = e in omega arith), λ e. absurd (let other : max_active_levels_var ≡ nthreads_var = e in omega arith)), h)
-  row_right at (stmt.SetSchedule s) rest (is, h) = ((λ e. subst IsKind (kind_of s.chunk s.kind (omega (arith, is.1))) is, λ e. absurd (let other : run_sched_var ≡ nthreads_var = e in omega arith)), h)
+  row_right at (stmt.SetNumThreads n) rest (is, h) = ((λ e. absurd (let other : NTHREADS_VAR ≡ RUN_SCHED_VAR = e in omega arith), λ e. is), h)
+  row_right at (stmt.SetDynamic x) rest (is, h) = ((λ e. absurd (let other : DYN_VAR ≡ RUN_SCHED_VAR = e in omega arith), λ e. absurd (let other : DYN_VAR ≡ NTHREADS_VAR = e in omega arith)), h)
+  row_right at (stmt.SetMaxActive n) rest (is, h) = ((λ e. absurd (let other : MAX_ACTIVE_LEVELS_VAR ≡ RUN_SCHED_VAR = e in omega arith), λ e. absurd (let other : MAX_ACTIVE_LEVELS_VAR ≡ NTHREADS_VAR = e in omega arith)), h)
+  row_right at (stmt.SetSchedule s) rest (is, h) = ((λ e. subst IsKind (kind_of s.chunk s.kind (omega (arith, is.1))) is, λ e. absurd (let other : RUN_SCHED_VAR ≡ NTHREADS_VAR = e in omega arith)), h)
     where
       kind_of : (chunk kind : ℕ) → kind < 8 → kind ≡ (chunk * 8 + kind) % 8
       kind_of chunk kind less = grind arith
-  row_right at (stmt.SetDevice d) rest (is, h) = ((λ e. absurd (let other : default_device_var ≡ run_sched_var = e in omega arith), λ e. absurd (let other : default_device_var ≡ nthreads_var = e in omega arith)), h)
+  row_right at (stmt.SetDevice d) rest (is, h) = ((λ e. absurd (let other : DEFAULT_DEVICE_VAR ≡ RUN_SCHED_VAR = e in omega arith), λ e. absurd (let other : DEFAULT_DEVICE_VAR ≡ NTHREADS_VAR = e in omega arith)), h)
   row_right at (stmt.Tool x) rest (is, h) = (tt, h)
   row_right at stmt.Work rest (is, h) = (tt, h)
 
@@ -126,7 +128,7 @@ module _ (p : Program) where
   task_right f = body_right f (item.Finish ∷ []) (tt, tt)
 
   end_right : (at : Encounter) (x : Item) → IsItemRight x → AreRight (end_of_member at (x ∷ []))
-  end_right at x h = barrier_right at wait_barrier_implicit_parallel (x ∷ []) (in_table wait_barrier_implicit_parallel 2 (omega arith) refl) (h, tt)
+  end_right at x h = barrier_right at WAIT_BARRIER_IMPLICIT_PARALLEL (x ∷ []) (in_table WAIT_BARRIER_IMPLICIT_PARALLEL 2 (omega arith) refl) (h, tt)
 
   last_right : (n : ℕ) → IsItemRight (last_of_member n)
   last_right n = go (n == 0)
@@ -146,7 +148,7 @@ worker_right = (tt, (tt, (tt, tt)))
 
 pub stays_right : (at : Encounter) (e : Event) (y : Item) (ys : List Item) → AreRight (y ∷ ys) → AreRight (stays at e y ys)
 stays_right at e item.Asks ys h = h
-stays_right at e item.Serve ys h = shown_right at idle 0 (item.Offer ∷ item.Serve ∷ ys) (in_table idle 7 (omega arith) refl) (tt, h)
+stays_right at e item.Serve ys h = shown_right at IDLE 0 (item.Offer ∷ item.Serve ∷ ys) (in_table IDLE 7 (omega arith) refl) (tt, h)
 stays_right at e (item.Tasks state) ys h = shown_right at state 0 (item.Tasks state ∷ ys) h.0 h
 stays_right at (event.Seen j) (item.Defer seen f final) ys h = h
 stays_right at e y ys h = h.1

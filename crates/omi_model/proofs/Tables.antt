@@ -16,7 +16,8 @@ use Rattle.omi_model.specs.declared.thread.Thread.{Thread}
 use Rattle.omi_model.specs.Changes.{encounter, list_of}
 use Rattle.omi_model.specs.LawStays.{Stays}
 use Rattle.omi_model.specs.Lists.{fits}
-use Rattle.omi_model.specs.Numbers.{default_device_var, dyn_var, nthreads_var, run_sched_var, states}
+use Rattle.omi_numbers.specs.declared.variables.TheConstants.{DEFAULT_DEVICE_VAR, DYN_VAR, NTHREADS_VAR, RUN_SCHED_VAR}
+use Rattle.omi_numbers.specs.States.{state_numbers}
 use Rattle.omi_model.specs.Opening.{opening}
 use Rattle.omi_model.specs.Reached.{Reached, Step}
 use Rattle.omi_model.specs.Settings.{with_head, with_variable}
@@ -34,47 +35,47 @@ abbrev pub TaskTables : Tid → Task → Type 0
 TaskTables k t = AreRight t.list × IsKind t.variables.schedule.kind
 
 abbrev pub ThreadTables : ℕ → Thread → Type 0
-ThreadTables j h = AreRight h.list × Contains states h.state
+ThreadTables j h = AreRight h.list × Contains state_numbers h.state
 
 pub record InTables (s : State) : Type 0 where
   pub tasks : EachTask TaskTables s
   pub threads : EachThread ThreadTables s
 
 -- the kind of the schedule is as it was, or it was set
-set_kind : (icv value : ℕ) (v w : Variables) → with_variable icv value v ≡ Some w → (w.schedule.kind ≡ v.schedule.kind) ⊎ ((icv ≡ run_sched_var) × (w.schedule.kind ≡ value % 8))
-set_kind icv value v w e = by_dyn (icv == dyn_var) e
+set_kind : (icv value : ℕ) (v w : Variables) → with_variable icv value v ≡ Some w → (w.schedule.kind ≡ v.schedule.kind) ⊎ ((icv ≡ RUN_SCHED_VAR) × (w.schedule.kind ≡ value % 8))
+set_kind icv value v w e = by_dyn (icv == DYN_VAR) e
   where
     kind_of : {x : Variables} → ◌≡◌ {A = Option Variables} (Some x) (Some w) → w.schedule.kind ≡ x.schedule.kind
     kind_of f = ap (λ (x : Variables). x.schedule.kind) (sym (some_same refl f))
 
-    by_device : (b : Bool) → (if b then Some (record v { device = value }) else None) ≡ Some w → (w.schedule.kind ≡ v.schedule.kind) ⊎ ((icv ≡ run_sched_var) × (w.schedule.kind ≡ value % 8))
+    by_device : (b : Bool) → (if b then Some (record v { device = value }) else None) ≡ Some w → (w.schedule.kind ≡ v.schedule.kind) ⊎ ((icv ≡ RUN_SCHED_VAR) × (w.schedule.kind ≡ value % 8))
     by_device true f = inl (kind_of f)
     by_device false f = absurd (none_some refl f)
 
-    by_sched : (b : Bool) → icv == run_sched_var ≡ b → (if b then Some (record v { schedule = record { kind = value % 8; chunk = value / 8 } }) else (if icv == default_device_var then Some (record v { device = value }) else None)) ≡ Some w
-        → (w.schedule.kind ≡ v.schedule.kind) ⊎ ((icv ≡ run_sched_var) × (w.schedule.kind ≡ value % 8))
-    by_sched true is f = inr (eqb-true icv run_sched_var is, kind_of f)
-    by_sched false is f = by_device (icv == default_device_var) f
+    by_sched : (b : Bool) → icv == RUN_SCHED_VAR ≡ b → (if b then Some (record v { schedule = record { kind = value % 8; chunk = value / 8 } }) else (if icv == DEFAULT_DEVICE_VAR then Some (record v { device = value }) else None)) ≡ Some w
+        → (w.schedule.kind ≡ v.schedule.kind) ⊎ ((icv ≡ RUN_SCHED_VAR) × (w.schedule.kind ≡ value % 8))
+    by_sched true is f = inr (eqb-true icv RUN_SCHED_VAR is, kind_of f)
+    by_sched false is f = by_device (icv == DEFAULT_DEVICE_VAR) f
 
     by_nthreads : (b : Bool) → (if b then Some (record v { nthreads = with_head value v.nthreads })
-        else (if icv == run_sched_var then Some (record v { schedule = record { kind = value % 8; chunk = value / 8 } }) else (if icv == default_device_var then Some (record v { device = value }) else None))) ≡ Some w
-        → (w.schedule.kind ≡ v.schedule.kind) ⊎ ((icv ≡ run_sched_var) × (w.schedule.kind ≡ value % 8))
+        else (if icv == RUN_SCHED_VAR then Some (record v { schedule = record { kind = value % 8; chunk = value / 8 } }) else (if icv == DEFAULT_DEVICE_VAR then Some (record v { device = value }) else None))) ≡ Some w
+        → (w.schedule.kind ≡ v.schedule.kind) ⊎ ((icv ≡ RUN_SCHED_VAR) × (w.schedule.kind ≡ value % 8))
     by_nthreads true f = inl (kind_of f)
-    by_nthreads false f = by_sched (icv == run_sched_var) refl f
+    by_nthreads false f = by_sched (icv == RUN_SCHED_VAR) refl f
 
     by_dyn : (b : Bool) → (if b then Some (record v { dynamic = not (value == 0) })
-        else (if icv == nthreads_var then Some (record v { nthreads = with_head value v.nthreads })
-        else (if icv == run_sched_var then Some (record v { schedule = record { kind = value % 8; chunk = value / 8 } }) else (if icv == default_device_var then Some (record v { device = value }) else None)))) ≡ Some w
-        → (w.schedule.kind ≡ v.schedule.kind) ⊎ ((icv ≡ run_sched_var) × (w.schedule.kind ≡ value % 8))
+        else (if icv == NTHREADS_VAR then Some (record v { nthreads = with_head value v.nthreads })
+        else (if icv == RUN_SCHED_VAR then Some (record v { schedule = record { kind = value % 8; chunk = value / 8 } }) else (if icv == DEFAULT_DEVICE_VAR then Some (record v { device = value }) else None)))) ≡ Some w
+        → (w.schedule.kind ≡ v.schedule.kind) ⊎ ((icv ≡ RUN_SCHED_VAR) × (w.schedule.kind ≡ value % 8))
     by_dyn true f = inl (kind_of f)
-    by_dyn false f = by_nthreads (icv == nthreads_var) f
+    by_dyn false f = by_nthreads (icv == NTHREADS_VAR) f
 
 -- what the event's item says
-shown_item : (state wait : ℕ) (y : Item) → fits (event.State state wait) y ≡ true → IsItemRight y → Contains states state
-shown_item state wait (item.State s w) fit is = subst (Contains states) (sym (eqb-true state s (and_left (state == s) (wait == w) fit))) is
+shown_item : (state wait : ℕ) (y : Item) → fits (event.State state wait) y ≡ true → IsItemRight y → Contains state_numbers state
+shown_item state wait (item.State s w) fit is = subst (Contains state_numbers) (sym (eqb-true state s (and_left (state == s) (wait == w) fit))) is
 shown_item state wait y fit is = absurd (false_true fit)
 
-set_item : (icv value : ℕ) (y : Item) → fits (event.Set icv value) y ≡ true → IsItemRight y → icv ≡ run_sched_var → IsKind (value % 8)
+set_item : (icv value : ℕ) (y : Item) → fits (event.Set icv value) y ≡ true → IsItemRight y → icv ≡ RUN_SCHED_VAR → IsKind (value % 8)
 set_item icv value (item.Set v x) fit is sched =
     let icv_is = eqb-true icv v (and_left (icv == v) (value == x) fit) in
     subst (λ n. IsKind (n % 8)) (sym (eqb-true value x (and_right (icv == v) (value == x) fit))) (is.0 (sym icv_is ∙ sched))
@@ -121,7 +122,7 @@ module _ (p : Program) (s : State) (i : ℕ) (e : Event) (next : State) (step : 
       of_set : (icv value : ℕ) (v w : Variables) → with_variable icv value v ≡ Some w → e ≡ event.Set icv value → IsKind v.schedule.kind → IsKind w.schedule.kind
       of_set icv value v w f at_set kind = go (set_kind icv value v w f)
         where
-          go : (w.schedule.kind ≡ v.schedule.kind) ⊎ ((icv ≡ run_sched_var) × (w.schedule.kind ≡ value % 8)) → IsKind w.schedule.kind
+          go : (w.schedule.kind ≡ v.schedule.kind) ⊎ ((icv ≡ RUN_SCHED_VAR) × (w.schedule.kind ≡ value % 8)) → IsKind w.schedule.kind
           go (inl same) = subst IsKind (sym same) kind
           go (inr (sched, is)) = subst IsKind (sym is) (set_item icv value m.item (subst (λ (x : Event). fits x m.item ≡ true) at_set item_fits) item_right sched)
 

@@ -11,7 +11,7 @@ use Rattle.omi_model.specs.declared.item.Item.{Item}
 use Rattle.omi_model.specs.declared.item.Item.TheVariants as item
 use Rattle.omi_model.specs.LawScheduling.{passes_next}
 use Rattle.omi_model.specs.Lists.{may_drop, stays, take_item}
-use Rattle.omi_model.specs.Numbers.{wait_taskwait}
+use Rattle.omi_numbers.specs.declared.states.TheConstants.{WAIT_TASKWAIT}
 use Rattle.omi_model.specs.Rows.{barrier_items, behind, body_items, call_items, end_of_member, first_of, last_of_member, main_items, member_items, task_items, shown, working}
 use Rattle.omi_model.proofs.ListLaws.{take_keeps}
 use Rattle.omi_model.proofs.Slots.{false_true}
@@ -19,7 +19,7 @@ use Rattle.omi_model.proofs.Slots.{false_true}
 -- each wait for tasks is a taskwait, or stands between an arrival and its pass
 abbrev pub Waits : List Item → Type 0
 Waits [] = Unit {0}
-Waits (item.Tasks state ∷ xs) = ((state ≡ wait_taskwait) ⊎ (passes_next xs ≡ true)) × Waits xs
+Waits (item.Tasks state ∷ xs) = ((state ≡ WAIT_TASKWAIT) ⊎ (passes_next xs ≡ true)) × Waits xs
 Waits (x ∷ xs) = Waits xs
 
 shown_waits : (at : Encounter) (state wait : ℕ) (xs : List Item) → Waits xs → Waits (shown at state wait xs)
@@ -54,7 +54,7 @@ module _ (p : Program) where
       go : (c : Bool) → Waits (item.Enter ∷ (if c then item.StartNow f (final || at.is_final) else item.Defer 0 f (final || at.is_final)) ∷ item.Leave ∷ rest)
       go true = h
       go false = h
-  row_waits at stmt.Taskwait rest h = shown_waits at _ 0 (item.Tasks wait_taskwait ∷ item.WaitDone ∷ working at (item.Leave ∷ rest)) (inl refl, working_waits at (item.Leave ∷ rest) h)
+  row_waits at stmt.Taskwait rest h = shown_waits at _ 0 (item.Tasks WAIT_TASKWAIT ∷ item.WaitDone ∷ working at (item.Leave ∷ rest)) (inl refl, working_waits at (item.Leave ∷ rest) h)
   row_waits at stmt.Taskyield rest h = h
   row_waits at stmt.Barrier rest h = barrier_waits at _ (working at (item.Leave ∷ rest)) (working_waits at (item.Leave ∷ rest) h)
   row_waits at (stmt.Critical k f) rest h =

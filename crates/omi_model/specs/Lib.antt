@@ -1,6 +1,5 @@
--- The abstract machine, to be believed, in reading order: numbers and names of OpenMP; objects by name, and the state; to-do
+-- The abstract machine, to be believed, in reading order: objects by name, and the state; to-do
 -- lists; the event rules by concern, and all of them; the states that events reach.
-pub mod Numbers
 pub mod Put
 pub mod Fresh
 pub mod State

@@ -1,11 +1,12 @@
 -- To-do lists: which item of a list an event takes, and what stands in the item's place afterwards.
 use Rattle.std.specs.Prelude.{ℕ, ◌+◌, ◌==◌, ◌&&◌, Bool, true, false, nat_lt, List, [], ◌∷◌, Option, Some, None, if◌then◌else◌}
+use Rattle.omi_numbers.specs.declared.limits.TheConstants.{OWN_SLOTS}
 use Rattle.omi_script.specs.declared.program.Program.{Program}
 use Rattle.omi_model.specs.declared.item.Item.{Item}
 use Rattle.omi_model.specs.declared.item.Item.TheVariants as item
 use Rattle.omi_model.specs.declared.event.Event.{Event}
 use Rattle.omi_model.specs.declared.event.Event.TheVariants as event
-use Rattle.omi_model.specs.Numbers.{idle}
+use Rattle.omi_numbers.specs.declared.states.TheConstants.{IDLE}
 use Rattle.omi_model.specs.declared.encounter.Encounter.{Encounter}
 use Rattle.omi_model.specs.Rows.{shown, first_of, behind}
 
@@ -37,9 +38,9 @@ fits event.Release item.Release = true
 fits event.Pass item.Pass = true
 fits (event.ImplicitEnd task) item.ImplicitEnd = true
 fits (event.Join region) item.Join = true
-fits (event.Seen j) (item.Defer seen f final) = j == seen && nat_lt seen 4
-fits (event.Defer task) (item.Defer seen f final) = nat_lt seen 4
-fits (event.StartNow task) (item.Defer seen f final) = seen == 4
+fits (event.Seen j) (item.Defer seen f final) = j == seen && nat_lt seen OWN_SLOTS
+fits (event.Defer task) (item.Defer seen f final) = nat_lt seen OWN_SLOTS
+fits (event.StartNow task) (item.Defer seen f final) = seen == OWN_SLOTS
 fits (event.StartNow task) (item.StartNow f final) = true
 fits (event.Start task) (item.Tasks state) = true
 fits (event.Start task) item.OneTask = true
@@ -67,7 +68,7 @@ take_item p at e (x ∷ xs) =
 -- What stands in the place of an event's item afterwards: any number of asks, starts and teams stay possible, a slot that was seen is passed over, and every other item is gone.
 abbrev pub stays : Encounter → Event → Item → List Item → List Item
 stays at e item.Asks rest = item.Asks ∷ rest
-stays at e item.Serve rest = shown at idle 0 (item.Offer ∷ item.Serve ∷ rest)
+stays at e item.Serve rest = shown at IDLE 0 (item.Offer ∷ item.Serve ∷ rest)
 stays at e (item.Tasks state) rest = shown at state 0 (item.Tasks state ∷ rest)
 stays at (event.Seen j) (item.Defer seen f final) rest = item.Defer (seen + 1) f final ∷ rest
 stays at e x rest = rest

@@ -1,11 +1,12 @@
 -- The state in which a program starts: thread 0 runs the initial task, member 0 of the initial region, and the other threads have not begun.
-use Rattle.std.specs.Prelude.{◌==◌, ℕ, ◌+◌, ◌-◌, ◌*◌, true, false, [], ◌∷◌, Some, None, if◌then◌else◌}
+use Rattle.std.specs.Prelude.{◌==◌, true, false, [], ◌∷◌, Some, None, if◌then◌else◌}
+use Rattle.omi_numbers.specs.Addresses.{exit_frame}
 use Rattle.omi_script.specs.Bodies.{body_of}
 use Rattle.omi_script.specs.declared.env.Env.{Env}
 use Rattle.omi_script.specs.declared.program.Program.{Program}
 use Rattle.omi_model.specs.declared.id.Tid.{Tid}
 use Rattle.omi_model.specs.declared.id.Rid.{Rid}
-use Rattle.omi_model.specs.Numbers.{work_serial, idle}
+use Rattle.omi_numbers.specs.declared.states.TheConstants.{WORK_SERIAL, IDLE}
 use Rattle.omi_model.specs.declared.claim.Claim.TheVariants.{Own}
 use Rattle.omi_model.specs.declared.progress.Progress.TheVariants.{Begun}
 use Rattle.omi_model.specs.Rows.{main_items, worker_items}
@@ -15,10 +16,6 @@ use Rattle.omi_model.specs.declared.thread.Thread.{Thread}
 use Rattle.omi_model.specs.declared.region.Region.{Region}
 use Rattle.omi_model.specs.declared.task.Task.{Task}
 use Rattle.omi_model.specs.declared.task.Variables.{Variables}
-
--- the exit frame of a thread's task, where so many tasks are on the thread's chain, this one included
-abbrev pub exit_frame : ℕ → ℕ → ℕ
-exit_frame thread depth = 0x7f0000000000 + 0x100000 * (thread + 1) - 64 * depth
 
 -- the initial task and the initial region
 abbrev pub initial_task : Tid
@@ -43,7 +40,7 @@ initial_thread =
     record {
       begun = true;
       current = Some initial_task;
-      state = work_serial;
+      state = WORK_SERIAL;
       wait = 0;
       claim = Own;
       wanted = 0;
@@ -57,7 +54,7 @@ waiting_worker =
     record {
       begun = false;
       current = None;
-      state = idle;
+      state = IDLE;
       wait = 0;
       claim = Own;
       wanted = 0;

@@ -1,5 +1,7 @@
 -- Rows: the events of each statement in their order, as items of a to-do list. A list holds statements and items; a statement at its head is replaced by its row once an event of the row comes.
-use Rattle.std.specs.Prelude.{ℕ, zero, suc, ◌+◌, ◌*◌, ◌==◌, ◌||◌, Bool, true, false, List, [], ◌∷◌, Option, if◌then◌else◌}
+use Rattle.std.specs.Prelude.{ℕ, zero, suc, ◌==◌, ◌||◌, Bool, true, false, List, [], ◌∷◌, Option, if◌then◌else◌}
+use Rattle.omi_numbers.specs.Holders.{lock_wait}
+use Rattle.omi_script.specs.Schedules.{schedule_word}
 use Rattle.omi_script.specs.Bodies.{body_of}
 use Rattle.omi_script.specs.declared.program.Program.{Program}
 use Rattle.omi_script.specs.declared.statement.Sched.{Sched}
@@ -8,7 +10,9 @@ use Rattle.omi_script.specs.declared.statement.Stmt.TheVariants as stmt
 use Rattle.omi_model.specs.declared.encounter.Encounter.{Encounter}
 use Rattle.omi_model.specs.declared.item.Item.{Item}
 use Rattle.omi_model.specs.declared.item.Item.TheVariants as item
-use Rattle.omi_model.specs.Numbers.{work_serial, work_parallel, wait_barrier_implicit_parallel, wait_barrier_explicit, wait_taskwait, wait_critical, idle, overhead, dyn_var, nthreads_var, run_sched_var, default_device_var, max_active_levels_var, flag}
+use Rattle.omi_numbers.specs.declared.states.TheConstants.{WORK_SERIAL, WORK_PARALLEL, WAIT_BARRIER_IMPLICIT_PARALLEL, WAIT_BARRIER_EXPLICIT, WAIT_TASKWAIT, WAIT_CRITICAL, OVERHEAD}
+use Rattle.omi_numbers.specs.declared.variables.TheConstants.{DYN_VAR, NTHREADS_VAR, RUN_SCHED_VAR, DEFAULT_DEVICE_VAR, MAX_ACTIVE_LEVELS_VAR}
+use Rattle.omi_numbers.specs.Words.{flag}
 
 -- ---- parts of rows, in front of a rest
 
@@ -18,7 +22,7 @@ shown at state wait rest = if at.debug then item.State state wait ∷ rest else 
 
 -- the state of a thread that works: work_serial at level 0, work_parallel at any other
 abbrev pub work_state : ℕ → ℕ
-work_state level = if level == 0 then work_serial else work_parallel
+work_state level = if level == 0 then WORK_SERIAL else WORK_PARALLEL
 
 abbrev pub working : Encounter → List Item → List Item
 working at rest = shown at (work_state at.level) 0 rest
@@ -41,7 +45,7 @@ barrier_items at state rest =
 
 -- the end of a member: it waits at the implicit barrier
 abbrev pub end_of_member : Encounter → List Item → List Item
-end_of_member at rest = barrier_items at wait_barrier_implicit_parallel rest
+end_of_member at rest = barrier_items at WAIT_BARRIER_IMPLICIT_PARALLEL rest
 
 -- a call of a function
 abbrev pub call_items : Program → ℕ → List Item → List Item
@@ -61,29 +65,29 @@ first_of at (stmt.Call f) = item.Call f
 first_of at (stmt.Only m f) = if at.number == m then item.Call f else item.Skip
 first_of at (stmt.Repeat zero f) = item.Skip
 first_of at (stmt.Repeat (suc n) f) = item.Call f
-first_of at (stmt.SetNumThreads n) = item.Set nthreads_var n
-first_of at (stmt.SetDynamic b) = item.Set dyn_var (flag b)
-first_of at (stmt.SetMaxActive m) = item.Set max_active_levels_var m
-first_of at (stmt.SetSchedule s) = item.Set run_sched_var (s.chunk * 8 + s.kind)
-first_of at (stmt.SetDevice d) = item.Set default_device_var d
+first_of at (stmt.SetNumThreads n) = item.Set NTHREADS_VAR n
+first_of at (stmt.SetDynamic b) = item.Set DYN_VAR (flag b)
+first_of at (stmt.SetMaxActive m) = item.Set MAX_ACTIVE_LEVELS_VAR m
+first_of at (stmt.SetSchedule s) = item.Set RUN_SCHED_VAR (schedule_word s)
+first_of at (stmt.SetDevice d) = item.Set DEFAULT_DEVICE_VAR d
 first_of at (stmt.Tool x) = item.SetTool x
 first_of at stmt.Work = item.Work
 
 -- what stands behind the first item of a statement's row
 abbrev pub behind : Program → Encounter → Stmt → List Item → List Item
 behind p at (stmt.Parallel f num) rest =
-    shown at overhead 0 (item.Want num ∷ item.Asks ∷ item.Fork f ∷ working at (item.Leave ∷ rest))
+    shown at OVERHEAD 0 (item.Want num ∷ item.Asks ∷ item.Fork f ∷ working at (item.Leave ∷ rest))
 behind p at (stmt.Task f undeferred final) rest =
     (if undeferred || at.is_final then item.StartNow f (final || at.is_final)
     else item.Defer 0 f (final || at.is_final)) ∷ item.Leave ∷ rest
 behind p at stmt.Taskwait rest =
-    shown at wait_taskwait 0
-    (item.Tasks wait_taskwait ∷ item.WaitDone ∷ working at (item.Leave ∷ rest))
+    shown at WAIT_TASKWAIT 0
+    (item.Tasks WAIT_TASKWAIT ∷ item.WaitDone ∷ working at (item.Leave ∷ rest))
 behind p at stmt.Taskyield rest = item.OneTask ∷ item.Yield ∷ item.Leave ∷ rest
 behind p at stmt.Barrier rest =
-    barrier_items at wait_barrier_explicit (working at (item.Leave ∷ rest))
+    barrier_items at WAIT_BARRIER_EXPLICIT (working at (item.Leave ∷ rest))
 behind p at (stmt.Critical k f) rest =
-    shown at wait_critical (k + 1)
+    shown at WAIT_CRITICAL (lock_wait k)
     (item.Lock k
     ∷ working at (item.Leave ∷ item.Call f ∷ call_items p f (item.Unlock k ∷ rest)))
 behind p at (stmt.Call f) rest = call_items p f rest

@@ -1,8 +1,10 @@
 -- States, frames, control variables, the tool word and locks.
-use Rattle.std.specs.Prelude.{◌≡◌, ◌==◌, ℕ, ◌-◌, ◌/◌, ◌%◌, Bool, not, List, [], ◌∷◌, Option, Some, None, if◌then◌else◌}
+use Rattle.std.specs.Prelude.{◌≡◌, ◌==◌, ℕ, Bool, not, List, [], ◌∷◌, Option, Some, None, if◌then◌else◌}
 use Rattle.std.specs.Option.{option_and_then, option_map}
+use Rattle.omi_script.specs.Schedules.{kind_in, chunk_in}
+use Rattle.omi_numbers.specs.Addresses.{enter_frame}
 use Rattle.omi_model.specs.Changes.{on_thread, on_task, by_current}
-use Rattle.omi_model.specs.Numbers.{dyn_var, nthreads_var, run_sched_var, default_device_var, max_active_levels_var}
+use Rattle.omi_numbers.specs.declared.variables.TheConstants.{DYN_VAR, NTHREADS_VAR, RUN_SCHED_VAR, DEFAULT_DEVICE_VAR, MAX_ACTIVE_LEVELS_VAR}
 use Rattle.omi_model.specs.Put.{put}
 use Rattle.omi_model.specs.State.{State, task_of}
 use Rattle.omi_model.specs.declared.task.Task.{Task}
@@ -15,7 +17,7 @@ with_state s i state wait = on_thread s i (λ h. record h { state = state; wait 
 
 -- the enter frame of a task whose code is in the runtime, which lies below its exit frame; none is 0
 abbrev pub entered : State → Tid → Task → State
-entered s k t = on_task s k (λ u. record u { enter = t.exit - 32 })
+entered s k t = on_task s k (λ u. record u { enter = enter_frame t.exit })
 
 abbrev pub left : State → Tid → Task → State
 left s k t = on_task s k (λ u. record u { enter = 0 })
@@ -28,11 +30,11 @@ with_head x (y ∷ ys) = x ∷ ys
 -- the data environment in which the variable of this number has this word. Other numbers are none of a data environment.
 abbrev pub with_variable : ℕ → ℕ → Variables → Option Variables
 with_variable icv value v =
-    if icv == dyn_var then Some (record v { dynamic = not (value == 0) })
-    else (if icv == nthreads_var then Some (record v { nthreads = with_head value v.nthreads })
-    else (if icv == run_sched_var
-    then Some (record v { schedule = record { kind = value % 8; chunk = value / 8 } })
-    else (if icv == default_device_var then Some (record v { device = value }) else None)))
+    if icv == DYN_VAR then Some (record v { dynamic = not (value == 0) })
+    else (if icv == NTHREADS_VAR then Some (record v { nthreads = with_head value v.nthreads })
+    else (if icv == RUN_SCHED_VAR
+    then Some (record v { schedule = record { kind = kind_in value; chunk = chunk_in value } })
+    else (if icv == DEFAULT_DEVICE_VAR then Some (record v { device = value }) else None)))
 
 -- a variable of a task's data environment is set
 abbrev pub with_variable_of : State → ℕ → ℕ → Tid → Task → Option State
@@ -49,7 +51,7 @@ with_task_variable s i icv value =
 -- max-active-levels-var is one for the whole program; every other variable that is set is the current task's
 abbrev pub with_set : State → ℕ → ℕ → ℕ → Option State
 with_set s i icv value =
-    if icv == max_active_levels_var then Some (record s { max_active = value })
+    if icv == MAX_ACTIVE_LEVELS_VAR then Some (record s { max_active = value })
     else with_task_variable s i icv value
 
 abbrev pub with_tool : State → ℕ → Tid → State

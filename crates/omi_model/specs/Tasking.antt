@@ -1,5 +1,6 @@
 -- Explicit tasks: a task construct looks at the thread's four places for deferred tasks of the region, and defers the new task or starts it at once; deferred tasks start at scheduling points, run tied to their thread, and finish.
 use Rattle.std.specs.Prelude.{◌≡◌, ◌==◌, ℕ, Bool, true, false, Option, Some, None, MatchBool}
+use Rattle.omi_numbers.specs.Addresses.{exit_below}
 use Rattle.omi_script.specs.declared.program.Program.{Program}
 use Rattle.omi_model.specs.declared.id.Rid.{Rid}
 use Rattle.omi_model.specs.declared.id.Tid.{Tid}
@@ -7,12 +8,11 @@ use Rattle.omi_model.specs.declared.item.Item.{Item}
 use Rattle.omi_model.specs.declared.item.Item.TheVariants as item
 use Rattle.omi_model.specs.declared.progress.Progress.TheVariants.{Deferred, Begun, Finished}
 use Rattle.omi_model.specs.Changes.{on_task, with_current, encounter}
-use Rattle.omi_model.specs.Numbers.{wait_taskwait}
+use Rattle.omi_numbers.specs.declared.states.TheConstants.{WAIT_TASKWAIT}
 use Rattle.omi_model.specs.Put.{made}
 use Rattle.omi_model.specs.Rows.{task_items, working}
 use Rattle.omi_model.specs.State.{State, task_of}
 use Rattle.omi_model.specs.declared.task.Task.{Task}
-use Rattle.omi_model.specs.Teams.{exit_below}
 
 -- ---- seen, defer, start_now
 
@@ -56,7 +56,7 @@ scheduled i k t u = record u {
   thread = i;
   number = t.number;
   scheduling = Some k;
-  exit = exit_below t;
+  exit = exit_below t.exit;
   enter = 0;
   progress = Begun;
 }
@@ -73,7 +73,7 @@ started_now p s i task f is_final k t =
 -- The task scheduling constraint for tied tasks: at taskwait and taskyield a child of the current task may start, and at a barrier any task of the region.
 abbrev pub MayStartAt : Item → Tid → Task → Task → Type 0
 MayStartAt (item.Tasks state) k t u =
-    MatchBool (state == wait_taskwait) (u.generating ≡ Some k) (u.region ≡ t.region)
+    MatchBool (state == WAIT_TASKWAIT) (u.generating ≡ Some k) (u.region ≡ t.region)
 MayStartAt item.OneTask k t u = u.generating ≡ Some k
 MayStartAt x k t u = ⊥
 

@@ -1,5 +1,5 @@
 -- Threads, claims and teams: a worker begins and offers itself; a task that encounters a parallel construct asks for threads and forks a team; members begin and end, and member 0 joins them.
-use Rattle.std.specs.Prelude.{◌≡◌, ◌≢◌, ◌==◌, ◌⊎◌, ◌<◌, ◌≤◌, ℕ, suc, ◌+◌, ◌-◌, Bool, true, false, nat_le, nat_lt, List, [], ◌∷◌, ◌++◌, length, map, drop, get_or, slice_set, Option, Some, None, All, Contains, replicate, if◌then◌else◌}
+use Rattle.std.specs.Prelude.{◌≡◌, ◌≢◌, ◌==◌, ◌⊎◌, ◌<◌, ◌≤◌, ℕ, suc, ◌+◌, Bool, true, false, nat_le, nat_lt, List, [], ◌∷◌, ◌++◌, length, map, drop, get_or, slice_set, Option, Some, None, All, Contains, replicate, if◌then◌else◌}
 use Rattle.std.specs.List.{filter_map}
 use Rattle.omi_script.specs.declared.program.Program.{Program}
 use Rattle.omi_model.specs.declared.claim.Claim.TheVariants as claim
@@ -8,7 +8,7 @@ use Rattle.omi_model.specs.declared.id.Tid.{Tid}
 use Rattle.omi_model.specs.declared.progress.Progress.TheVariants.{NotBegun, Begun, Finished}
 use Rattle.omi_model.specs.Changes.{on_thread, on_task, on_region, with_current}
 use Rattle.omi_model.specs.Fresh.{IsFresh, AreDistinct}
-use Rattle.omi_model.specs.Opening.{exit_frame}
+use Rattle.omi_numbers.specs.Addresses.{exit_frame, exit_below}
 use Rattle.omi_model.specs.Put.{Slots, made}
 use Rattle.omi_model.specs.Rows.{member_items}
 use Rattle.omi_model.specs.State.{State, task_of}
@@ -95,10 +95,6 @@ shortened (n ∷ m ∷ ns) = m ∷ ns
 abbrev pub inherited : Variables → Variables
 inherited v = record v { nthreads = shortened v.nthreads }
 
--- the exit frame of a task that is scheduled from another: one place below on the thread's stack
-abbrev pub exit_below : Task → ℕ
-exit_below t = t.exit - 64
-
 -- the region of a team, encountered by task k, which is t, in region r
 abbrev pub new_region : Tid → Task → Region → List (Tid × ℕ) → ℕ → Region
 new_region k t r team f = record {
@@ -124,7 +120,7 @@ member_task p region k t r f number thread = record {
   generating = Some k;
   scheduling = if number == 0 then Some k else None;
   function = f;
-  exit = if number == 0 then exit_below t else exit_frame thread 1;
+  exit = if number == 0 then exit_below t.exit else exit_frame thread 1;
   enter = 0;
   variables = inherited t.variables;
   is_final = false;

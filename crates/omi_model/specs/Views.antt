@@ -1,8 +1,10 @@
 -- The contents of the report of a state, for contexts in their order, apart from any memory. A state has at most one, as a law says. A function stands in it as its entry address, and a schedule as its chunk times 8 plus its kind.
-use Rattle.std.specs.Prelude.{◌≡◌, ◌<◌, ◌⊎◌, ◌&&◌, ℕ, ◌+◌, ◌-◌, ◌*◌, nat_le, nat_lt, List, [], ◌∷◌, ◌++◌, length, map, Option, Some, None, Contains, ⊤, if◌then◌else◌}
+use Rattle.std.specs.Prelude.{◌≡◌, ◌<◌, ◌⊎◌, ◌&&◌, ℕ, ◌+◌, ◌-◌, nat_le, nat_lt, List, [], ◌∷◌, ◌++◌, length, map, Option, Some, None, Contains, ⊤, if◌then◌else◌}
 use Rattle.std.specs.Option.{option_map}
 use Rattle.std.specs.List.{filter_map}
-use Rattle.omi_script.specs.declared.statement.Sched.{Sched}
+use Rattle.omi_script.specs.Schedules.{schedule_word}
+use Rattle.omi_numbers.specs.declared.words.TheConstants.{OPENMP_VERSION, FIRST_NATIVE}
+use Rattle.omi_numbers.specs.Addresses.{entry_address}
 use Rattle.omi_model.specs.declared.id.Id.{Id}
 use Rattle.omi_model.specs.declared.id.Rid.{Rid}
 use Rattle.omi_model.specs.declared.id.Tid.{Tid}
@@ -12,25 +14,17 @@ use Rattle.omi_model.specs.declared.view.ThreadRow.{ThreadRow}
 use Rattle.omi_model.specs.declared.view.ThreadPart.{ThreadPart}
 use Rattle.omi_model.specs.declared.view.RegionRow.{RegionRow}
 use Rattle.omi_model.specs.declared.view.TaskRow.{TaskRow}
-use Rattle.omi_model.specs.Numbers.{flag}
+use Rattle.omi_numbers.specs.Words.{flag}
 use Rattle.omi_model.specs.State.{State, region_of, task_of, current_task, enclosing_of}
 use Rattle.omi_model.specs.declared.region.Region.{Region}
 use Rattle.omi_model.specs.declared.task.Task.{Task}
 use Rattle.omi_model.specs.WellFormed.{along}
 
--- the entry address of a function, by its number
-abbrev pub entry_address : ℕ → ℕ
-entry_address f = 0x400000 + 16 * f
-
--- a schedule as one number: its chunk and its kind
-abbrev pub schedule_number : Sched → ℕ
-schedule_number s = s.chunk * 8 + s.kind
-
 -- the header. The version is that of OpenMP 5.0.
 abbrev pub head_row : State → HeadRow
 head_row s =
     record {
-      version = 201811;
+      version = OPENMP_VERSION;
       threads = s.count;
       debug = flag s.environment.debug;
       procs = s.environment.procs;
@@ -48,8 +42,8 @@ thread_part s i = record {
 
 -- the thread with a native id, where it has begun
 abbrev pub thread_with : State → ℕ → Option ℕ
-thread_with s native = if nat_le 1000 native && nat_lt (native - 1000) s.count
-    && (s.threads (native - 1000)).begun then Some (native - 1000) else None
+thread_with s native = if nat_le FIRST_NATIVE native && nat_lt (native - FIRST_NATIVE) s.count
+    && (s.threads (native - FIRST_NATIVE)).begun then Some (native - FIRST_NATIVE) else None
 
 abbrev pub thread_row : State → ℕ → ThreadRow
 thread_row s native =
@@ -82,7 +76,7 @@ task_row i k t = record {
   tool = t.tool;
   dyn_var = flag t.variables.dynamic;
   nthreads = t.variables.nthreads;
-  sched = schedule_number t.variables.schedule;
+  sched = schedule_word t.variables.schedule;
   device = t.variables.device;
   final_task = flag t.is_final;
 }

@@ -1,9 +1,11 @@
 -- A well-formed state: what is visible names only what is visible, and its numbers are in range.
 use Rattle.std.specs.Prelude.{◌≡◌, ℕ, zero, suc, ◌<◌, ◌≤◌, true, Option, Some, None, length, All, Contains}
 use Rattle.std.specs.Option.{option_and_then}
+use Rattle.omi_script.specs.declared.limits.TheConstants.{MAX_SIZES}
+use Rattle.omi_numbers.specs.declared.schedules.TheConstants.{STATIC, AUTO}
 use Rattle.omi_model.specs.declared.id.Tid.{Tid}
 use Rattle.omi_model.specs.declared.id.Rid.{Rid}
-use Rattle.omi_model.specs.Numbers.{states}
+use Rattle.omi_numbers.specs.States.{state_numbers}
 use Rattle.omi_model.specs.State.{State, task_of, scheduling_of, enclosing_of}
 use Rattle.omi_model.specs.declared.region.Region.{Region}
 use Rattle.omi_model.specs.declared.task.Task.{Task}
@@ -30,12 +32,12 @@ pub record IsMember (s : State) (task : Tid) (thread : ℕ) : Type 0 where
   pub same : (t : Task) → task_of s task ≡ Some t → t.thread ≡ thread
   pub begun : HasBegun s thread
 
--- nthreads-var has 1 to 4 elements, and the kind of run-sched-var is one of the four
+-- nthreads-var has 1 to `MAX_SIZES` elements, and the kind of run-sched-var is one of the four
 pub record AreInRange (v : Variables) : Type 0 where
   pub some : 1 ≤ length v.nthreads
-  pub few : length v.nthreads ≤ 4
-  pub kind_from : 1 ≤ v.schedule.kind
-  pub kind_to : v.schedule.kind ≤ 4
+  pub few : length v.nthreads ≤ MAX_SIZES
+  pub kind_from : STATIC ≤ v.schedule.kind
+  pub kind_to : v.schedule.kind ≤ AUTO
 
 -- what a visible region names is visible
 pub record IsRegionRight (s : State) (r : Region) : Type 0 where
@@ -59,6 +61,6 @@ pub record IsTaskRight (s : State) (t : Task) : Type 0 where
 pub record IsWellFormed (s : State) : Type 0 where
   pub currents : (i : ℕ) (k : Tid) → i < s.count → (s.threads i).current ≡ Some k
       → IsVisibleTask s k
-  pub states : (i : ℕ) → i < s.count → Contains states (s.threads i).state
+  pub states : (i : ℕ) → i < s.count → Contains state_numbers (s.threads i).state
   pub regions : (n : Rid) → (seen : IsVisibleRegion s n) → IsRegionRight s seen.region
   pub tasks : (k : Tid) → (seen : IsVisibleTask s k) → IsTaskRight s seen.task

@@ -10,7 +10,7 @@ use Rattle.omi_model.specs.declared.event.Event.TheVariants as event
 use Rattle.omi_model.specs.declared.id.Id.{Id}
 use Rattle.omi_model.specs.declared.id.Rid.{Rid}
 use Rattle.omi_model.specs.declared.id.Tid.{Tid}
-use Rattle.omi_model.specs.Numbers.{idle, overhead, wait_barrier_implicit_parallel, work_parallel, work_serial}
+use Rattle.omi_numbers.specs.declared.states.TheConstants.{IDLE, OVERHEAD, WAIT_BARRIER_IMPLICIT_PARALLEL, WORK_PARALLEL, WORK_SERIAL}
 
 -- `main` forks a team over `team`, whose member 0 calls `make`, which makes a task over `leaf`
 abbrev pub run_functions : List Func
@@ -69,25 +69,25 @@ at1 e = (1, e)
 abbrev pub run_to_release : List (ℕ × Event)
 run_to_release =
     at1 event.Begin ∷ at1 event.Offer
-    ∷ at0 event.Enter ∷ at0 (event.State overhead 0) ∷ at0 (event.Want 2)
+    ∷ at0 event.Enter ∷ at0 (event.State OVERHEAD 0) ∷ at0 (event.Want 2)
     ∷ at0 (event.Ask 1 true)
     ∷ at0 (event.Fork run_region ((master, 0) ∷ (worker, 1) ∷ []))
-    ∷ at1 (event.ImplicitBegin worker) ∷ at1 (event.State work_parallel 0) ∷ at1 event.Skip
-    ∷ at0 (event.State work_parallel 0) ∷ at0 (event.Call 1)
+    ∷ at1 (event.ImplicitBegin worker) ∷ at1 (event.State WORK_PARALLEL 0) ∷ at1 event.Skip
+    ∷ at0 (event.State WORK_PARALLEL 0) ∷ at0 (event.Call 1)
     ∷ at0 event.Enter ∷ at0 (event.Defer leaf) ∷ at0 event.Leave ∷ at0 event.Ret
-    ∷ at0 (event.State wait_barrier_implicit_parallel 0) ∷ at0 event.Arrive
-    ∷ at1 (event.State wait_barrier_implicit_parallel 0) ∷ at1 event.Arrive
-    ∷ at1 (event.Start leaf) ∷ at1 (event.State work_parallel 0) ∷ at1 event.Work
+    ∷ at0 (event.State WAIT_BARRIER_IMPLICIT_PARALLEL 0) ∷ at0 event.Arrive
+    ∷ at1 (event.State WAIT_BARRIER_IMPLICIT_PARALLEL 0) ∷ at1 event.Arrive
+    ∷ at1 (event.Start leaf) ∷ at1 (event.State WORK_PARALLEL 0) ∷ at1 event.Work
     ∷ at1 (event.Finish leaf)
-    ∷ at1 (event.State wait_barrier_implicit_parallel 0) ∷ []
+    ∷ at1 (event.State WAIT_BARRIER_IMPLICIT_PARALLEL 0) ∷ []
 
 -- the release, the end of the region, and on to the last release
 abbrev pub run_to_last_release : List (ℕ × Event)
 run_to_last_release =
     at0 event.Release ∷ at0 event.Pass ∷ at1 event.Pass
-    ∷ at1 (event.ImplicitEnd worker) ∷ at1 (event.State idle 0) ∷ at1 event.Offer
-    ∷ at0 (event.Join run_region) ∷ at0 (event.State work_serial 0) ∷ at0 event.Leave
-    ∷ at0 (event.State wait_barrier_implicit_parallel 0) ∷ at0 event.Arrive ∷ []
+    ∷ at1 (event.ImplicitEnd worker) ∷ at1 (event.State IDLE 0) ∷ at1 event.Offer
+    ∷ at0 (event.Join run_region) ∷ at0 (event.State WORK_SERIAL 0) ∷ at0 event.Leave
+    ∷ at0 (event.State WAIT_BARRIER_IMPLICIT_PARALLEL 0) ∷ at0 event.Arrive ∷ []
 
 abbrev pub run_to_done : List (ℕ × Event)
 run_to_done = at0 event.Release ∷ at0 event.Pass ∷ at0 event.Done ∷ []

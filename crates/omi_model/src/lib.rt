@@ -27,7 +27,7 @@ pub use id::{Id, Rid, Tid};
 pub use item::Item;
 pub use item_list::ItemList;
 pub use laws::one_view;
-pub use limits::MOST_MEMBERS;
+pub use limits::{MOST_EVENTS, MOST_MEMBERS};
 pub use machine_laws::{
     a_run_is_legal, asks_are_in_order, barriers_are_in_order, barriers_are_left, barriers_hold,
     begun_tasks_are_on_chains, claims_are_kept, joins_come_last, levels_count_regions,

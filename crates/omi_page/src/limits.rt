@@ -14,3 +14,6 @@ pub const CONTEXT_BYTES: usize = 512;
 
 /// The bytes of a segment before its words: its start address and their number.
 pub const SPAN_BYTES: usize = 16;
+
+/// Every word of a core stands below this byte address, 2^48: a segment starts below the end of memory and has few words.
+pub const WORDS_END: u64 = 0x1_0000_0000_0000;

@@ -2,6 +2,7 @@
 
 ghost use Rattle.std.specs.Prelude.{◌≡◌, ◌+◌, ◌*◌, ◌%◌, ◌^◌, ◌<◌, ◌≤◌, ℕ, List, length, Some, None, IsTrue, OnOk, IsErr, Option};
 ghost use Rattle.std.specs.Option.{is_some};
+ghost use Rattle.omi_page.specs.declared.limits.TheConstants.{WORDS_END};
 ghost use Rattle.omi_outside.specs.Outside.{HasCause, content_len};
 ghost use Rattle.omi_page.specs.Outcomes.{IsLength, Holds};
 ghost use Rattle.omi_page.specs.Spans.{eight_at, is_in, place_of, place_in};
@@ -23,7 +24,7 @@ fn stands_in(span: &Span, addr: u64) -> bool
 /// Whether a word stands at an address, which is aligned.
 pub fn stands(spans: &SpanList, addr: u64) -> bool
     ensures stands { result ≡ is_some (place_in spans.now addr) }
-    ensures low { IsTrue result → addr < 2 ^ 48 }
+    ensures low { IsTrue result → addr < WORDS_END }
 {
     for at in 0..spans.len() {
         if stands_in(spans.get(at), addr) {
@@ -43,7 +44,7 @@ fn load_part<F: Files>(
 ) -> Result<(), Failed>
     requires length { length buffer.old ≡ PAGE_BYTES }
     requires aligned { base % 8 ≡ 0 }
-    requires low { base < 2 ^ 48 }
+    requires low { base < WORDS_END }
     requires within { (content : Option (List ℕ)) → F.told files.old name.now ≡ Some content
         → span.now.place + 8 * span.now.count ≤ content_len content }
     ensures length { length buffer.new ≡ length buffer.old }

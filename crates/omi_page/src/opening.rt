@@ -1,6 +1,7 @@
 //! Reading what stands in a core file beside its words: the header, the contexts, and the bounds of each segment.
 
-ghost use Rattle.std.specs.Prelude.{◌≡◌, ◌+◌, ◌*◌, ◌%◌, ◌≤◌, ◌<◌, ◌^◌, List, ℕ, length, drop, IfOk, IsErrOf, Some, None, Err};
+ghost use Rattle.std.specs.Prelude.{◌≡◌, ◌+◌, ◌*◌, ◌%◌, ◌≤◌, ◌<◌, List, ℕ, length, drop, IfOk, IsErrOf, Some, None, Err};
+ghost use Rattle.omi_word.specs.declared.limits.TheConstants.{MEMORY_END};
 ghost use Rattle.omi_outside.specs.Outside.{HasCause};
 ghost use Rattle.omi_corefile.specs.Refusals.{header_at, contexts_at, segment_at, segments_at, reading};
 ghost use Rattle.omi_corefile.specs.declared.fault.CoreFault.{CoreFault};
@@ -86,7 +87,7 @@ fn bounds(len: usize, least: u64, room: u64, bytes: &[u8]) -> Result<(u64, u64),
         (bounds_at len (least, room) bytes.now) }
     ensures long { IfOk result (λ _. SPAN_BYTES ≤ length bytes.now) }
     ensures aligned { IfOk result (λ x. x.0 % 8 ≡ 0) }
-    ensures low { IfOk result (λ x. x.0 < 2 ^ 47) }
+    ensures low { IfOk result (λ x. x.0 < MEMORY_END) }
     ensures few { IfOk result (λ x. x.1 ≤ room) }
 {
     let (start, rest) = start(len, least, bytes)?;

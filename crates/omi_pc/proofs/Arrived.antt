@@ -1,5 +1,6 @@
 -- A member's arrival at a barrier leaves its bodies open.
-use Rattle.std.proofs.Common.{◌≡◌, ℕ, ◌<◌, ◌^◌, true, List, [], ◌∷◌}
+use Rattle.std.proofs.Common.{◌≡◌, ℕ, ◌<◌, true, List, [], ◌∷◌}
+use Rattle.omi_model.specs.declared.limits.TheConstants.{MOST_EVENTS}
 use Rattle.omi_script.specs.declared.program.Program.{Program}
 use Rattle.omi_pc.specs.declared.context.Context.{Context}
 use Rattle.omi_pc.specs.declared.frame.Frame.{Frame}
@@ -9,7 +10,7 @@ use Rattle.omi_pc.specs.FitLaws.{arrived}
 use Rattle.omi_pc.specs.Moves.{context_under}
 use Rattle.omi_pc.specs.OpenBodies.{AreOpen, IsContext, IsFirstTask, IsMasterOf, StandsOn}
 
-module _ (p : Program) (c : Context) (n : ℕ) (implicit : c.implicit ≡ true) (few : n < 2 ^ 57) where
+module _ (p : Program) (c : Context) (n : ℕ) (implicit : c.implicit ≡ true) (few : n < MOST_EVENTS) where
   context_stays : IsContext p c → IsContext p (arrived n c)
   context_stays is = record { size = is.size; number = is.number; arrivals = few; task = is.task; region = is.region; row = is.row; implicit = is.implicit }
 

@@ -1,5 +1,6 @@
 -- Which actors fit: those with which a program starts, and those that have made a move between statements.
-use Rattle.std.specs.Prelude.{◌≡◌, ℕ, ◌^◌, ◌<◌, true, List, ◌∷◌, length}
+use Rattle.std.specs.Prelude.{◌≡◌, ℕ, ◌<◌, true, List, ◌∷◌, length}
+use Rattle.omi_model.specs.declared.limits.TheConstants.{MOST_EVENTS}
 use Rattle.omi_script.specs.declared.program.Program.{Program}
 use Rattle.omi_pc.specs.declared.actor.Actor.{Actor}
 use Rattle.omi_pc.specs.declared.counter.PlainCounter.TheVariants as plain
@@ -71,5 +72,5 @@ arrived n c = record c { arrivals = n }
 -- the bodies of a member that arrives at a barrier
 abbrev pub ArrivingKeepsBodies : Type 0
 ArrivingKeepsBodies =
-    (p : Program) (c : Context) (n : ℕ) (fs : List Frame) → c.implicit ≡ true → n < 2 ^ 57
+    (p : Program) (c : Context) (n : ℕ) (fs : List Frame) → c.implicit ≡ true → n < MOST_EVENTS
     → AreOpen p c fs → AreOpen p (arrived n c) fs

@@ -13,7 +13,8 @@ use Rattle.omi_pc.specs.declared.counter.PlainCounter.TheVariants as plain
 use Rattle.omi_pc.specs.declared.frame.Barrier.{Barrier}
 use Rattle.omi_pc.specs.declared.frame.Wait.{Wait}
 use Rattle.omi_pc.specs.declared.frame.Wait.TheVariants as wait
-use Rattle.omi_pc.specs.declared.limits.TheConstants.{VARIABLE_WORDS, REGION_WORDS, TASK_WORDS, START_WORDS, OWN_SLOTS}
+use Rattle.omi_numbers.specs.declared.limits.TheConstants.{OWN_SLOTS}
+use Rattle.omi_pc.specs.declared.limits.TheConstants.{VARIABLE_WORDS, REGION_WORDS, TASK_WORDS, START_WORDS}
 use Rattle.omi_pc.specs.declared.place.Place.{Place}
 use Rattle.omi_pc.specs.declared.task_counter.FinishCounter.{FinishCounter}
 use Rattle.omi_pc.specs.declared.task_counter.FinishCounter.TheVariants as finish

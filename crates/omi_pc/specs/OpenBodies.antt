@@ -1,5 +1,6 @@
 -- How the open bodies of a thread stand on one another, and what their contexts say. It speaks of no state.
-use Rattle.std.specs.Prelude.{◌≡◌, ◌≢◌, ◌⊎◌, ℕ, ◌+◌, ◌^◌, ◌<◌, ◌≤◌, Bool, true, false, List, [], ◌∷◌, length, Option, Some, None}
+use Rattle.std.specs.Prelude.{◌≡◌, ◌≢◌, ◌⊎◌, ℕ, ◌+◌, ◌<◌, ◌≤◌, Bool, true, false, List, [], ◌∷◌, length, Option, Some, None}
+use Rattle.omi_model.specs.declared.limits.TheConstants.{MOST_EVENTS}
 use Rattle.omi_script.specs.declared.program.Program.{Program}
 use Rattle.omi_script.specs.declared.statement.Stmt.{Stmt}
 use Rattle.omi_script.specs.declared.statement.Stmt.TheVariants as stmt
@@ -21,7 +22,7 @@ use Rattle.omi_pc.specs.Stacks.{opens_task, task_function}
 pub record IsContext (p : Program) (c : Context) : Type 0 where
   pub size : (1 ≤ c.size) × (c.size ≤ p.threads)
   pub number : c.number < c.size
-  pub arrivals : c.arrivals < 2 ^ 57
+  pub arrivals : c.arrivals < MOST_EVENTS
   pub task : c.task.0.creator < p.threads
   pub region : c.region.0.creator < p.threads
   pub row : c.row.0.creator < p.threads

@@ -18,6 +18,3 @@ pub const TASK_WORDS: u8 = 25;
 
 /// The words that are stored into the record of a deferred task when it starts.
 pub const START_WORDS: u8 = 5;
-
-/// The slots for deferred tasks of an implicit task.
-pub const OWN_SLOTS: u8 = 4;

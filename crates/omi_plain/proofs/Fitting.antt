@@ -14,7 +14,7 @@ use Rattle.omi_pc.specs.declared.frame.Frame.{Frame}
 use Rattle.omi_pc.specs.declared.frame.Opened.{Opened}
 use Rattle.omi_pc.specs.declared.frame.Opened.TheVariants as opened
 use Rattle.omi_pc.specs.declared.frame.Wait.TheVariants as wait
-use Rattle.omi_pc.specs.declared.limits.TheConstants.{OWN_SLOTS}
+use Rattle.omi_numbers.specs.declared.limits.TheConstants.{OWN_SLOTS}
 use Rattle.omi_pc.specs.declared.task_counter.LookCounter.TheVariants as look
 use Rattle.omi_pc.specs.declared.task_counter.TaskCounter.TheVariants as task
 use Rattle.omi_pc.specs.declared.team_counter.BarrierCounter.TheVariants as barrier

@@ -1,6 +1,7 @@
 -- The steps of work, calls, internal control variables, the tool word, critical regions and the end of the program, and those by
 -- which a task enters and leaves the runtime.
-use Rattle.std.specs.Prelude.{ℕ, ◌==◌, ◌+◌, ◌-◌, ◌&&◌, ◌||◌, Bool, List, Option, Some, None, if◌then◌else◌}
+use Rattle.std.specs.Prelude.{ℕ, ◌==◌, ◌&&◌, ◌||◌, Bool, List, Option, Some, None, if◌then◌else◌}
+use Rattle.omi_numbers.specs.Holders.{holder_word, lock_wait}
 use Rattle.omi_word.specs.declared.op.Op.{Op}
 use Rattle.omi_word.specs.declared.op.Op.TheVariants as op
 use Rattle.omi_script.specs.declared.program.Program.{Program}
@@ -8,9 +9,10 @@ use Rattle.omi_script.specs.declared.statement.Stmt.{Stmt}
 use Rattle.omi_script.specs.declared.statement.Stmt.TheVariants as stmt
 use Rattle.omi_model.specs.declared.event.Event.TheVariants as event
 use Rattle.omi_model.specs.declared.id.Rid.{Rid}
-use Rattle.omi_model.specs.Numbers.{work_serial, work_parallel, wait_critical}
+use Rattle.omi_numbers.specs.declared.states.TheConstants.{WORK_SERIAL, WORK_PARALLEL, WAIT_CRITICAL}
+use Rattle.omi_numbers.specs.Addresses.{exit_frame, enter_frame}
+use Rattle.omi_numbers.specs.Words.{state_word}
 use Rattle.omi_layout.specs.declared.field.Field.TheVariants.{RuntimeLocks, ThreadNative, ThreadState, TaskEnter, TaskTool}
-use Rattle.omi_layout.specs.Codes.{exit_word, state_word}
 use Rattle.omi_layout.specs.Memory.{word_address}
 use Rattle.omi_layout.specs.Named.{number}
 use Rattle.omi_rep.specs.declared.outcome.Outcome.{Outcome}
@@ -43,13 +45,9 @@ loading_native w a = op.Load (of_thread w a.thread ThreadNative)
 abbrev pub of_lock : List ℕ → ℕ → ℕ
 of_lock w k = word_address w 0 0 (number RuntimeLocks) k
 
--- the word of a lock that a thread holds. 0 stands where no thread does
-abbrev pub holder_word : ℕ → ℕ
-holder_word thread = thread + 1
-
 -- the enter frame of the current task, which lies below its exit frame
 abbrev pub enter_word : Actor → ℕ
-enter_word a = exit_word a.thread a.context.depth - 32
+enter_word a = enter_frame (exit_frame a.thread a.context.depth)
 
 -- the initial region is the first object of thread 0
 abbrev pub is_initial : Rid → Bool
@@ -57,11 +55,7 @@ is_initial n = n.0.creator == 0 && (n.0.slot == 0 && n.0.generation == 0)
 
 -- the state of a thread that works: serially in the initial region, and in parallel in any other
 abbrev pub actor_work_state : Actor → ℕ
-actor_work_state a = if is_initial a.context.region then work_serial else work_parallel
-
--- the wait id of a thread that waits for a lock
-abbrev pub lock_wait : ℕ → ℕ
-lock_wait k = k + 1
+actor_work_state a = if is_initial a.context.region then WORK_SERIAL else WORK_PARALLEL
 
 abbrev pub plain_next : Program → List ℕ → Actor → PlainCounter → Op
 plain_next p w a plain.Work = loading_native w a
@@ -76,7 +70,7 @@ plain_next p w a plain.WorkState =
     op.Store (of_thread w a.thread ThreadState) (state_word (actor_work_state a) 0)
 plain_next p w a plain.LockState =
     op.Store (of_thread w a.thread ThreadState)
-    (state_word wait_critical (lock_wait (lock_in (in_work p a))))
+    (state_word WAIT_CRITICAL (lock_wait (lock_in (in_work p a))))
 plain_next p w a plain.Lock = op.Cas (of_lock w (lock_in (in_work p a))) 0 (holder_word a.thread)
 plain_next p w a plain.Unlock = op.Store (of_lock w (lock_in (in_work p a))) 0
 plain_next p w a plain.Done = loading_native w a
@@ -155,7 +149,7 @@ plain_outcome p w a plain.Enter old = outcome.Event event.Enter
 plain_outcome p w a plain.Leave old = outcome.Event event.Leave
 plain_outcome p w a plain.WorkState old = outcome.Event (event.State (actor_work_state a) 0)
 plain_outcome p w a plain.LockState old =
-    outcome.Event (event.State wait_critical (lock_wait (lock_in (in_work p a))))
+    outcome.Event (event.State WAIT_CRITICAL (lock_wait (lock_in (in_work p a))))
 plain_outcome p w a plain.Lock old = lock_outcome w (lock_in (in_work p a)) old
 plain_outcome p w a plain.Unlock old = outcome.Event (event.Unlock (lock_in (in_work p a)))
 plain_outcome p w a plain.Done old = outcome.Event event.Done

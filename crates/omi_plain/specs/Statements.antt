@@ -3,9 +3,10 @@ use Rattle.std.specs.Prelude.{ℕ, List, Option, Some}
 use Rattle.omi_script.specs.declared.program.Program.{Program}
 use Rattle.omi_script.specs.declared.statement.Stmt.{Stmt}
 use Rattle.omi_script.specs.declared.statement.Stmt.TheVariants as stmt
-use Rattle.omi_model.specs.Numbers.{dyn_var, nthreads_var, run_sched_var, default_device_var, max_active_levels_var}
+use Rattle.omi_numbers.specs.declared.variables.TheConstants.{DYN_VAR, NTHREADS_VAR, RUN_SCHED_VAR, DEFAULT_DEVICE_VAR, MAX_ACTIVE_LEVELS_VAR}
+use Rattle.omi_numbers.specs.Words.{flag}
+use Rattle.omi_script.specs.Schedules.{schedule_word}
 use Rattle.omi_layout.specs.declared.field.Field.TheVariants.{RuntimeMaxActive, TaskDynamic, TaskSchedule, TaskDevice, TaskNthreads}
-use Rattle.omi_layout.specs.Codes.{flag_word, schedule_word}
 use Rattle.omi_pc.specs.declared.actor.Actor.{Actor}
 use Rattle.omi_pc.specs.Frames.{statement_of}
 use Rattle.omi_step_words.specs.Words.{of_runtime, of_task}
@@ -18,17 +19,17 @@ in_work p a = statement_of p a.stack
 
 -- the number of the variable that a statement sets
 abbrev pub set_number : Option Stmt → ℕ
-set_number (Some (stmt.SetNumThreads n)) = nthreads_var
-set_number (Some (stmt.SetDynamic b)) = dyn_var
-set_number (Some (stmt.SetMaxActive n)) = max_active_levels_var
-set_number (Some (stmt.SetSchedule s)) = run_sched_var
-set_number (Some (stmt.SetDevice d)) = default_device_var
+set_number (Some (stmt.SetNumThreads n)) = NTHREADS_VAR
+set_number (Some (stmt.SetDynamic b)) = DYN_VAR
+set_number (Some (stmt.SetMaxActive n)) = MAX_ACTIVE_LEVELS_VAR
+set_number (Some (stmt.SetSchedule s)) = RUN_SCHED_VAR
+set_number (Some (stmt.SetDevice d)) = DEFAULT_DEVICE_VAR
 set_number _ = 0
 
 -- the word of its value
 abbrev pub set_word : Option Stmt → ℕ
 set_word (Some (stmt.SetNumThreads n)) = n
-set_word (Some (stmt.SetDynamic b)) = flag_word b
+set_word (Some (stmt.SetDynamic b)) = flag b
 set_word (Some (stmt.SetMaxActive n)) = n
 set_word (Some (stmt.SetSchedule s)) = schedule_word s
 set_word (Some (stmt.SetDevice d)) = d

@@ -1,11 +1,8 @@
 -- The steps of this crate: the operation that an actor makes next, and what comes of it.
-use Rattle.std.specs.Prelude.{ℕ, List}
+use Rattle.std.specs.Prelude.{◌≡◌, ℕ, List}
 use Rattle.omi_word.specs.declared.op.Op.{Op}
-use Rattle.omi_word.specs.declared.op.Op.TheVariants as op
-use Rattle.omi_word.specs.declared.op.Res.{Res}
 use Rattle.omi_script.specs.declared.program.Program.{Program}
 use Rattle.omi_rep.specs.declared.outcome.Outcome.{Outcome}
-use Rattle.omi_rep.specs.declared.outcome.Outcome.TheVariants as outcome
 use Rattle.omi_pc.specs.declared.actor.Actor.{Actor}
 use Rattle.omi_pc.specs.declared.counter.Counter.{Counter}
 use Rattle.omi_pc.specs.declared.counter.Counter.TheVariants as counter
@@ -16,18 +13,13 @@ abbrev pub IsPlainCounter : Counter → Type 0
 IsPlainCounter (counter.Plain c) = Unit {0}
 IsPlainCounter _ = ⊥
 
--- the operation at a counter. Of other counters nothing is said: a load stands for theirs
-abbrev pub next_at : Program → List ℕ → Actor → Counter → Op
-next_at p w a (counter.Plain c) = plain_next p w a c
-next_at p w a _ = op.Load 0
+-- the operation at a counter of this crate
+abbrev pub IsPlainNext : Program → List ℕ → Actor → Counter → Op → Type 0
+IsPlainNext p w a (counter.Plain c) next = next ≡ plain_next p w a c
+IsPlainNext p w a _ next = ⊥
 
-abbrev pub next_of : Program → List ℕ → Actor → Op
-next_of p w a = next_at p w a a.counter
-
--- where the operation found a word: the actor afterwards, and the outcome
-abbrev pub resumed_at : Program → List ℕ → Actor → Counter → ℕ → Actor × Outcome
-resumed_at p w a (counter.Plain c) old = (plain_moved p a c old, plain_outcome p w a c old)
-resumed_at p w a _ old = (a, outcome.Quiet)
-
-abbrev pub resumed : Program → List ℕ → Actor → Res → Actor × Outcome
-resumed p w a r = resumed_at p w a a.counter r.old
+-- where the operation found a word at such a counter: the actor afterwards, and the outcome
+abbrev pub IsPlainResumed : Program → List ℕ → Actor → Counter → ℕ → Actor × Outcome → Type 0
+IsPlainResumed p w a (counter.Plain c) old to =
+    (to.0 ≡ plain_moved p a c old) × (to.1 ≡ plain_outcome p w a c old)
+IsPlainResumed p w a _ old to = ⊥

@@ -1,29 +1,26 @@
 //! The operations of this crate's steps.
 
-ghost use Rattle.std.specs.Prelude.{◌≡◌, ◌+◌, ◌-◌, ◌≤◌, ◌<◌};
+ghost use Rattle.std.specs.Prelude.{◌≡◌, ◌-◌, ◌≤◌, ◌<◌};
+ghost use Rattle.omi_numbers.specs.declared.words.TheConstants.{WAIT_PLACE};
 ghost use Rattle.omi_layout.specs.Table.{thread_count};
 ghost use Rattle.omi_pc.specs.Fits.{Fits};
 ghost use Rattle.omi_pc.specs.declared.counter.Counter.TheVariants as counter;
 ghost use Rattle.omi_plain.specs.PlainSteps;
-ghost use Rattle.omi_plain.specs.PlainSteps.{enter_word, holder_word, loading_native, of_lock, plain_next};
+ghost use Rattle.omi_plain.specs.PlainSteps.{enter_word, loading_native, of_lock, plain_next};
 ghost use Rattle.omi_script.specs.declared.limits.TheConstants.{MAX_LOCK};
 ghost use Rattle.omi_step_words.specs.Placed.{IsPlaced};
 
 use crate::statements::{lock, set_address, set_word, tool_word};
 use omi_layout::{Field, Layout};
 use omi_model::Rid;
+use omi_numbers::{
+    WAIT_CRITICAL, WORK_PARALLEL, WORK_SERIAL, enter_frame, exit_frame, holder_word, lock_wait,
+    state_word,
+};
 use omi_pc::{Actor, PlainCounter};
 use omi_script::Program;
-use omi_step_words::{exit_word, load, of_task, of_thread, store};
+use omi_step_words::{load, of_task, of_thread, store};
 use omi_word::Op;
-
-/// The states of a thread that works, in the initial region and in any other.
-const WORK_SERIAL: u32 = 0x000;
-
-const WORK_PARALLEL: u32 = 0x001;
-
-/// The state of a thread that waits for a lock.
-pub const WAIT_CRITICAL: u32 = 0x042;
 
 /// The load of a thread's native id.
 fn load_native(l: &Layout, a: &Actor) -> Op
@@ -45,7 +42,7 @@ pub fn of_lock(l: &Layout, k: u8) -> u64
 fn enter_word(a: &Actor) -> u64
     ensures { result ≡ enter_word a.now }
 {
-    exit_word(a.thread, u64::from(a.context.depth)) - 32
+    enter_frame(exit_frame(a.thread, u64::from(a.context.depth)))
 }
 
 /// Whether a region is the initial one.
@@ -58,20 +55,13 @@ fn is_initial(n: Rid) -> bool
 /// The state of a thread that works.
 pub fn work_state(a: &Actor) -> u32
     ensures value { result ≡ PlainSteps.actor_work_state a.now }
-    ensures small { result < 65536 }
+    ensures small { result < WAIT_PLACE }
 {
     if is_initial(a.context.region) {
         WORK_SERIAL
     } else {
         WORK_PARALLEL
     }
-}
-
-/// The wait id of a thread that waits for a lock.
-pub fn lock_wait(k: u8) -> u64
-    ensures { result ≡ PlainSteps.lock_wait k }
-{
-    u64::from(k) + 1
 }
 
 /// The operation that an actor makes next at a counter.
@@ -98,15 +88,15 @@ pub fn next_at(p: &Program, l: &Layout, a: &Actor, c: PlainCounter) -> Op
         PlainCounter::Tool => store(of_task(l, task, Field::TaskTool), tool_word(p, a)),
         PlainCounter::Enter => store(of_task(l, task, Field::TaskEnter), enter_word(a)),
         PlainCounter::Leave => store(of_task(l, task, Field::TaskEnter), 0),
-        PlainCounter::WorkState => store(state, u64::from(work_state(a))),
+        PlainCounter::WorkState => store(state, state_word(work_state(a), 0)),
         PlainCounter::LockState => {
             let wait = lock_wait(lock(p, a));
-            store(state, u64::from(WAIT_CRITICAL) + (wait << 16))
+            store(state, state_word(WAIT_CRITICAL, wait))
         }
         PlainCounter::Lock => Op::Cas {
             at: of_lock(l, lock(p, a)),
             old: 0,
-            new: u64::from(a.thread) + 1,
+            new: holder_word(a.thread),
         },
         PlainCounter::Unlock => store(of_lock(l, lock(p, a)), 0),
     }

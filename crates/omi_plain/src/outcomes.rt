@@ -8,10 +8,11 @@ ghost use Rattle.omi_pc.specs.declared.counter.Counter.TheVariants as counter;
 ghost use Rattle.omi_plain.specs.PlainSteps.{lock_outcome, plain_outcome, set_outcome};
 ghost use Rattle.omi_script.specs.declared.limits.TheConstants.{MAX_LOCK};
 
-use crate::operations::{WAIT_CRITICAL, lock_wait, of_lock, work_state};
+use crate::operations::{of_lock, work_state};
 use crate::statements::{lock, set_number, set_word, tool_word};
 use omi_layout::Layout;
 use omi_model::Event;
+use omi_numbers::{WAIT_CRITICAL, lock_wait};
 use omi_pc::{Actor, PlainCounter};
 use omi_rep::Outcome;
 use omi_script::{Program, Stmt};

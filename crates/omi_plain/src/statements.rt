@@ -7,31 +7,23 @@ ghost use Rattle.omi_plain.specs.Statements;
 ghost use Rattle.omi_plain.specs.Statements.{in_work, set_address};
 
 use omi_layout::{Field, Layout};
+use omi_numbers::{
+    DEFAULT_DEVICE_VAR, DYN_VAR, MAX_ACTIVE_LEVELS_VAR, NTHREADS_VAR, RUN_SCHED_VAR,
+};
 use omi_pc::Actor;
 use omi_script::{Program, Stmt, program_rules};
 use omi_step_words::{of_runtime, of_task};
-
-/// The numbers of the variables that statements set.
-const DYNAMIC: u32 = 1;
-
-const NTHREADS: u32 = 2;
-
-const SCHEDULE: u32 = 3;
-
-const DEVICE: u32 = 4;
-
-const MAX_ACTIVE: u32 = 7;
 
 /// The number of the variable that a statement sets, and 0 where it sets none.
 pub fn set_number(s: Option<Stmt>) -> u32
     ensures { result ≡ Statements.set_number s }
 {
     match s {
-        Some(Stmt::SetNumThreads(_)) => NTHREADS,
-        Some(Stmt::SetDynamic(_)) => DYNAMIC,
-        Some(Stmt::SetMaxActive(_)) => MAX_ACTIVE,
-        Some(Stmt::SetSchedule(_)) => SCHEDULE,
-        Some(Stmt::SetDevice(_)) => DEVICE,
+        Some(Stmt::SetNumThreads(_)) => NTHREADS_VAR,
+        Some(Stmt::SetDynamic(_)) => DYN_VAR,
+        Some(Stmt::SetMaxActive(_)) => MAX_ACTIVE_LEVELS_VAR,
+        Some(Stmt::SetSchedule(_)) => RUN_SCHED_VAR,
+        Some(Stmt::SetDevice(_)) => DEFAULT_DEVICE_VAR,
         _ => 0,
     }
 }
@@ -44,7 +36,7 @@ pub fn set_word(s: Option<Stmt>) -> u64
         Some(Stmt::SetNumThreads(n)) => u64::from(n),
         Some(Stmt::SetDynamic(b)) => u64::from(b),
         Some(Stmt::SetMaxActive(n)) => u64::from(n),
-        Some(Stmt::SetSchedule(s)) => u64::from(s.chunk) * 8 + u64::from(s.kind),
+        Some(Stmt::SetSchedule(s)) => s.word(),
         Some(Stmt::SetDevice(n)) => u64::from(n),
         _ => 0,
     }

@@ -3,7 +3,7 @@
 ghost use Rattle.std.specs.Prelude.{◌≡◌};
 ghost use Rattle.omi_layout.specs.Table.{thread_count};
 ghost use Rattle.omi_pc.specs.Fits.{Fits};
-ghost use Rattle.omi_plain.specs.Steps.{IsPlainCounter, next_of, resumed};
+ghost use Rattle.omi_plain.specs.Steps.{IsPlainCounter, IsPlainNext, IsPlainResumed};
 ghost use Rattle.omi_step_words.specs.Placed.{IsPlaced};
 
 use crate::moves::move_on;
@@ -21,7 +21,7 @@ pub fn plain_next(p: &Program, l: &Layout, a: &Actor) -> Op
     requires threads { p.now.threads ≡ thread_count l.now.table }
     requires placed { IsPlaced l.now.table a.now }
     requires counter { IsPlainCounter a.now.counter }
-    ensures { result ≡ next_of p.now l.now.table a.now }
+    ensures { IsPlainNext p.now l.now.table a.now a.now.counter result }
 {
     match a.counter {
         Counter::Plain(c) => next_at(p, l, a, c),
@@ -36,8 +36,7 @@ pub fn plain_resume(p: &Program, l: &Layout, a: &mut Actor, r: Res) -> Outcome
     requires threads { p.now.threads ≡ thread_count l.now.table }
     requires placed { IsPlaced l.now.table a.old }
     requires counter { IsPlainCounter a.old.counter }
-    ensures moved { a.new ≡ (resumed p.now l.now.table a.old r).0 }
-    ensures outcome { result ≡ (resumed p.now l.now.table a.old r).1 }
+    ensures { IsPlainResumed p.now l.now.table a.old a.old.counter r.old (a.new, result) }
 {
     match a.counter {
         Counter::Plain(c) => {

@@ -11,7 +11,10 @@ use Rattle.omi_model.specs.declared.id.Tid.{Tid}
 use Rattle.omi_model.specs.declared.thread.Thread.{Thread}
 use Rattle.omi_model.specs.declared.region.Region.{Region}
 use Rattle.omi_model.specs.declared.task.Task.{Task}
-use Rattle.omi_model.specs.Numbers.{flag, states}
+use Rattle.omi_numbers.specs.Words.{flag, native_id, state_word}
+use Rattle.omi_numbers.specs.States.{state_numbers}
+use Rattle.omi_numbers.specs.Addresses.{entry_address, exit_frame}
+use Rattle.omi_script.specs.Schedules.{schedule_word}
 use Rattle.omi_model.specs.Put.{first_alone, found, unused}
 use Rattle.omi_model.specs.declared.item.Item.{Item}
 use Rattle.omi_model.specs.State.{State, task_of}
@@ -20,7 +23,6 @@ use Rattle.omi_model.specs.Visible.{IsVisibleRegion, IsVisibleTask}
 use Rattle.omi_model.specs.WellFormed.{IsWellFormed, IsRegionRight, IsTaskRight, IsMember, HasBegun}
 use Rattle.omi_layout.specs.declared.field.Field.{Field}
 use Rattle.omi_layout.specs.declared.field.Field.TheVariants.{RuntimeVersion, RuntimeThreads, RuntimeProcs, RuntimeDebug, RuntimeMaxActive, ThreadLife, ThreadNative, ThreadCurrent, ThreadState, RegionLife, RegionFunction, RegionEnclosing, RegionEncountering, RegionSize, RegionLevels, RegionActive, RegionReleased, RegionArrived, RegionTeam, TaskLife, TaskImplicit, TaskRegion, TaskThread, TaskNumber, TaskGenerating, TaskScheduling, TaskFunction, TaskExit, TaskEnter, TaskDynamic, TaskNthreadsLength, TaskSchedule, TaskDevice, TaskFinal, TaskTool, TaskNthreads}
-use Rattle.omi_layout.specs.Codes.{flag_word, function_word, schedule_word, native_word, exit_word, state_word}
 use Rattle.omi_layout.specs.Field.{runtime, threads, regions, tasks, kind_of}
 use Rattle.omi_layout.specs.Memory.{memory_of, word_address, IsRecordWord}
 use Rattle.omi_layout.specs.Named.{number}
@@ -70,13 +72,13 @@ state_at p a = record (opening p) {
 -- the records of a thread, of the initial region and of the initial task that hold them
 pub record HoldsThread (w : List ℕ) (i state : ℕ) (r : Rec) : Type 0 where
   pub life : r (number ThreadLife) 0 ≡ (if i == 0 then 1 else 0)
-  pub native : r (number ThreadNative) 0 ≡ native_word i
+  pub native : r (number ThreadNative) 0 ≡ native_id i
   pub current : r (number ThreadCurrent) 0 ≡ (if i == 0 then slot_address w tasks 0 0 else 0)
   pub state_is : r (number ThreadState) 0 ≡ (if i == 0 then state else 0x100)
 
 pub record HoldsRegion (p : Program) (w : List ℕ) (arrived released : ℕ) (r : Rec) : Type 0 where
   pub life : r (number RegionLife) 0 ≡ 1
-  pub function : r (number RegionFunction) 0 ≡ function_word p.main
+  pub function : r (number RegionFunction) 0 ≡ entry_address p.main
   pub enclosing : r (number RegionEnclosing) 0 ≡ 0
   pub encountering : r (number RegionEncountering) 0 ≡ 0
   pub size : r (number RegionSize) 0 ≡ 1
@@ -94,10 +96,10 @@ pub record HoldsTask (p : Program) (w : List ℕ) (is_dynamic : Bool) (sizes : L
   pub member : r (number TaskNumber) 0 ≡ 0
   pub generating : r (number TaskGenerating) 0 ≡ 0
   pub scheduling : r (number TaskScheduling) 0 ≡ 0
-  pub function : r (number TaskFunction) 0 ≡ function_word p.main
-  pub exit : r (number TaskExit) 0 ≡ exit_word 0 1
+  pub function : r (number TaskFunction) 0 ≡ entry_address p.main
+  pub exit : r (number TaskExit) 0 ≡ exit_frame 0 1
   pub enter : r (number TaskEnter) 0 ≡ 0
-  pub dynamic : r (number TaskDynamic) 0 ≡ flag_word is_dynamic
+  pub dynamic : r (number TaskDynamic) 0 ≡ flag is_dynamic
   pub nthreads_length : r (number TaskNthreadsLength) 0 ≡ length sizes
   pub schedule : r (number TaskSchedule) 0 ≡ schedule_word p.env.sched
   pub device : r (number TaskDevice) 0 ≡ p.env.device
@@ -144,11 +146,11 @@ alone_free {A} x c k = go (c == 0 && k == 0)
     go true is = absurd (cc)
     go false is = refl
 
-pub flags : (b : Bool) → flag_word b ≡ flag b
+pub flags : (b : Bool) → flag b ≡ flag b
 flags true = refl
 flags false = refl
 
-module _ (p : Program) (w words : List ℕ) (a : Values) (v : IsValid w) (suits : p.threads ≡ thread_count w) (known : Contains states a.state) (at_least : 1 ≤ length a.nthreads) (at_most : length a.nthreads ≤ 4) (holds : Holds p w words a) where
+module _ (p : Program) (w words : List ℕ) (a : Values) (v : IsValid w) (suits : p.threads ≡ thread_count w) (known : Contains state_numbers a.state) (at_least : 1 ≤ length a.nthreads) (at_most : length a.nthreads ≤ 4) (holds : Holds p w words a) where
   abbrev g : Words
   g = words_of words
 
@@ -201,7 +203,7 @@ module _ (p : Program) (w words : List ℕ) (a : Values) (v : IsValid w) (suits 
       current i k true e is = let same : initial_task ≡ k = cc in subst (λ (q : Tid). IsVisibleTask s q) same task_seen
       current i k false e is = absurd (cc)
 
-      listed : (b : Bool) → Contains states (if b then thread_at a else waiting_worker).state
+      listed : (b : Bool) → Contains state_numbers (if b then thread_at a else waiting_worker).state
       listed true = known
       listed false = (7, lit< tt, refl)
 

@@ -3,6 +3,7 @@ use Rattle.std.proofs.Common.{◌≡◌, ℕ, zero, suc, ◌-◌, ◌<◌, ◌&&
 use Rattle.std.specs.Prelude.{nat_le, Contains}
 use Rattle.std.specs.Option.{option_map, option_and_then}
 use Rattle.std.specs.List.{filter_map, cons_option}
+use Rattle.omi_numbers.specs.declared.words.TheConstants.{FIRST_NATIVE, OPENMP_VERSION, WAIT_PLACE}
 use Rattle.omi_model.specs.declared.id.Rid.{Rid}
 use Rattle.omi_model.specs.declared.id.Tid.{Tid}
 use Rattle.omi_model.specs.declared.region.Region.{Region}
@@ -11,7 +12,8 @@ use Rattle.omi_model.specs.declared.view.View.{View}
 use Rattle.omi_model.specs.declared.view.ThreadPart.{ThreadPart}
 use Rattle.omi_model.specs.declared.view.RegionRow.{RegionRow}
 use Rattle.omi_model.specs.declared.view.TaskRow.{TaskRow}
-use Rattle.omi_model.specs.Numbers.{flag, states}
+use Rattle.omi_numbers.specs.Words.{flag, state_word}
+use Rattle.omi_numbers.specs.States.{state_numbers}
 use Rattle.omi_model.specs.State.{State, task_of, current_task, enclosing_of}
 use Rattle.omi_model.specs.Views.{IsViewOf, AreRegions, AreChains, IsChain, IsReported, head_row, thread_row, thread_part, thread_with, region_row, task_row}
 use Rattle.omi_model.specs.Visible.{IsVisibleRegion, IsVisibleTask}
@@ -21,7 +23,6 @@ use Rattle.omi_layout.specs.declared.field.Field.TheVariants.{RuntimeProcs, Runt
 use Rattle.omi_layout.specs.Field.{runtime, threads}
 use Rattle.omi_layout.specs.Valid.{IsValid}
 use Rattle.omi_word.specs.Words.{Words}
-use Rattle.omi_layout.specs.Codes.{state_word}
 use Rattle.omi_rep.specs.Records.{records_of}
 use Rattle.omi_rep.specs.Shows.{Shows}
 use Rattle.omi_rep.specs.Unique.{FixTheReport}
@@ -40,23 +41,23 @@ from_list {A} {B} h (x ∷ xs) y is = go (h x) refl (from_list h xs y) is
 
 -- a thread that is found has begun
 found_begun : (s : State) (native i : ℕ) → thread_with s native ≡ Some i → HasBegun s i
-found_begun s native i is = go (nat_le 1000 native) (nat_lt (native - 1000) s.count) refl ((s.threads (native - 1000)).begun) refl is
+found_begun s native i is = go (nat_le FIRST_NATIVE native) (nat_lt (native - FIRST_NATIVE) s.count) refl ((s.threads (native - FIRST_NATIVE)).begun) refl is
   where
-    at : native - 1000 ≡ i → nat_lt (native - 1000) s.count ≡ true → (s.threads (native - 1000)).begun ≡ true → HasBegun s i
+    at : native - FIRST_NATIVE ≡ i → nat_lt (native - FIRST_NATIVE) s.count ≡ true → (s.threads (native - FIRST_NATIVE)).begun ≡ true → HasBegun s i
     at same low begun = record {
       known = ltb-true i s.count (ap (λ j. nat_lt j s.count) (sym same) ∙ low);
       begun = ap (λ j. (s.threads j).begun) (sym same) ∙ begun;
     }
 
-    go : (x y : Bool) → nat_lt (native - 1000) s.count ≡ y → (z : Bool) → (s.threads (native - 1000)).begun ≡ z
-        → cond ((x && y) && z) (Some (native - 1000)) None ≡ Some i → HasBegun s i
-    go true true e true f g = let same : native - 1000 ≡ i = cc in at same e f
+    go : (x y : Bool) → nat_lt (native - FIRST_NATIVE) s.count ≡ y → (z : Bool) → (s.threads (native - FIRST_NATIVE)).begun ≡ z
+        → cond ((x && y) && z) (Some (native - FIRST_NATIVE)) None ≡ Some i → HasBegun s i
+    go true true e true f g = let same : native - FIRST_NATIVE ≡ i = cc in at same e f
     go true true e false f g = absurd (cc)
     go true false e z f g = absurd (cc)
     go false y e z f g = absurd (cc)
 
--- the states of threads are less than 2^16
-pub small_state : (x : ℕ) → Contains states x → x < 65536
+-- the states of threads are below the place of the wait id
+pub small_state : (x : ℕ) → Contains state_numbers x → x < WAIT_PLACE
 small_state x (zero, within, is) = omega (arith, is)
 small_state x (suc zero, within, is) = omega (arith, is)
 small_state x (suc (suc zero), within, is) = omega (arith, is)
@@ -69,7 +70,7 @@ small_state x (suc (suc (suc (suc (suc (suc (suc (suc zero))))))), within, is) =
 small_state x (suc (suc (suc (suc (suc (suc (suc (suc (suc k)))))))), within, is) = absurd (omega arith)
 
 -- a state and a wait id are told by their word
-told_state : (x y u z : ℕ) → x < 65536 → y < 65536 → state_word x u ≡ state_word y z → (x ≡ y) × (u ≡ z)
+told_state : (x y u z : ℕ) → x < WAIT_PLACE → y < WAIT_PLACE → state_word x u ≡ state_word y z → (x ≡ y) × (u ≡ z)
 told_state x y u z small low e = (omega (arith, e), omega (arith, e))
 
 with_same : (x y p q : Bool) → (y ≡ true → p ≡ q) → (x && y) && p ≡ (x && y) && q
@@ -91,7 +92,7 @@ module _ (w : List ℕ) (words : Words) (v : IsValid w) (s t : State) (a : Shows
       let others = b.records.globals in
       let procs = one_word (records_of w words 0 runtime 0) RuntimeProcs 0 _ _ globals.procs others.procs in
       let max_active = one_word (records_of w words 0 runtime 0) RuntimeMaxActive 0 _ _ globals.max_active others.max_active in
-      λ p. record { version = 201811; threads = count p; debug = flag (debug p); procs = procs p; max_active = max_active p }
+      λ p. record { version = OPENMP_VERSION; threads = count p; debug = flag (debug p); procs = procs p; max_active = max_active p }
 
   same_begun : (i : ℕ) → i < s.count → (s.threads i).begun ≡ (t.threads i).begun
   same_begun i known =
@@ -175,10 +176,10 @@ module _ (w : List ℕ) (words : Words) (v : IsValid w) (s t : State) (a : Shows
 
   same_with : (native : ℕ) → thread_with s native ≡ thread_with t native
   same_with native =
-      let i = native - 1000 in
+      let i = native - FIRST_NATIVE in
       ap (λ (x : Bool). cond x (Some i) None)
-      (with_same (nat_le 1000 native) (nat_lt i s.count) (s.threads i).begun (t.threads i).begun (λ low. same_begun i (ltb-true i s.count low))
-      ∙ ap (λ n. (nat_le 1000 native && nat_lt i n) && (t.threads i).begun) count)
+      (with_same (nat_le FIRST_NATIVE native) (nat_lt i s.count) (s.threads i).begun (t.threads i).begun (λ low. same_begun i (ltb-true i s.count low))
+      ∙ ap (λ n. (nat_le FIRST_NATIVE native && nat_lt i n) && (t.threads i).begun) count)
 
   same_thread_row : (native : ℕ) → thread_row s native ≡ thread_row t native
   same_thread_row native = λ p. record { native = native; found = found (thread_with s native) refl p }

@@ -1,7 +1,8 @@
 -- A plain look at the words of any memory, which may have holes: at one word, at the live object to which a word points, and at one after the other. The first refusal in the order of the reads decides.
-use Rattle.std.specs.Prelude.{◌==◌, ◌&&◌, ℕ, ◌/◌, ◌%◌, ◌^◌, Bool, nat_lt, List, [], ◌∷◌, map, find, Option, Some, None, Result, Ok, Err, if◌then◌else◌}
+use Rattle.std.specs.Prelude.{◌==◌, ◌&&◌, ℕ, ◌/◌, ◌%◌, Bool, nat_lt, List, [], ◌∷◌, map, find, Option, Some, None, Result, Ok, Err, if◌then◌else◌}
 use Rattle.std.specs.Option.{option_map_or, option_and_then, ok_or}
 use Rattle.std.specs.List.{range_with_len, flat_map, list_any}
+use Rattle.omi_numbers.specs.declared.lives.TheConstants.{LIFE_END}
 use Rattle.omi_model.specs.declared.id.Id.{Id}
 use Rattle.omi_layout.specs.declared.field.Field.{Field}
 use Rattle.omi_layout.specs.declared.field.Field.TheVariants.{ThreadLife, RegionLife, TaskLife}
@@ -52,9 +53,9 @@ abbrev pub slot_at : List ℕ → ℕ → ℕ → Option (ℕ × ℕ)
 slot_at w kind address =
     find (λ at. slot_address w kind at.0 at.1 == address) (slots_of w kind)
 
--- the life word of a live record: odd and below 2^33, and 1 for a thread
+-- the life word of a live record: odd and below `LIFE_END`, and 1 for a thread
 abbrev pub is_live : ℕ → ℕ → Bool
-is_live kind life = if kind == threads then life == 1 else life % 2 == 1 && nat_lt life (2 ^ 33)
+is_live kind life = if kind == threads then life == 1 else life % 2 == 1 && nat_lt life LIFE_END
 
 -- the address of the record of an object
 abbrev pub address_of : List ℕ → ℕ → Id → ℕ

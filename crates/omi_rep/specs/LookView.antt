@@ -1,7 +1,9 @@
 -- The contents of the report that a plain look at the words gives, for contexts in their order, or the first refusal in the order of its lines.
-use Rattle.std.specs.Prelude.{◌==◌, ◌&&◌, ℕ, zero, suc, ◌/◌, ◌%◌, nat_le, List, [], ◌∷◌, find, Option, Some, None, Ok, Err, if◌then◌else◌}
+use Rattle.std.specs.Prelude.{◌==◌, ◌&&◌, ℕ, zero, suc, nat_le, List, [], ◌∷◌, find, Option, Some, None, Ok, Err, if◌then◌else◌}
 use Rattle.std.specs.Option.{option_map}
 use Rattle.std.specs.List.{range_with_len, flat_map, filter_map}
+use Rattle.omi_script.specs.declared.limits.TheConstants.{MAX_SIZES}
+use Rattle.omi_numbers.specs.Words.{state_of, wait_of}
 use Rattle.omi_model.specs.declared.id.Id.{Id}
 use Rattle.omi_model.specs.declared.view.View.{View}
 use Rattle.omi_model.specs.declared.view.HeadRow.{HeadRow}
@@ -64,11 +66,11 @@ module _ (w : List ℕ) (words : Words) where
       else look_for native more)
       else look_for native more)
 
-  -- the state and the wait id of a thread, where states are kept. The low 16 bits of the state word are the state
+  -- the state and the wait id of a thread, where states are kept. The state word has both
   abbrev pub look_state : ℕ → Look (Option (ℕ × ℕ))
   look_state i =
       and_then (of_runtime RuntimeDebug) (λ debug. if debug == 0 then Ok None
-      else mapped (λ word. Some (word % 65536, word / 65536)) (of_thread i ThreadState))
+      else mapped (λ word. Some (state_of word, wait_of word)) (of_thread i ThreadState))
 
   -- the current task of a thread
   abbrev pub look_current : ℕ → Look (Option Id)
@@ -147,7 +149,7 @@ module _ (w : List ℕ) (words : Words) where
   abbrev pub look_nthreads : Id → Look (List ℕ)
   look_nthreads k =
       let address = address_of w tasks k in
-      and_then (look_within address TaskNthreadsLength 1 4) (λ length.
+      and_then (look_within address TaskNthreadsLength 1 MAX_SIZES) (λ length.
       each (look_word w words address TaskNthreads) (range_with_len 0 length))
 
   -- a task on the chain of a thread. `met` are the addresses of the chain so far, this one included

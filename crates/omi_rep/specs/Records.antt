@@ -1,11 +1,13 @@
 -- The records of a memory with holes, and how objects stand in words: as the address of their record, and none as 0.
 use Rattle.std.specs.Prelude.{ℕ, ◌+◌, ◌*◌, List, Option, Some}
 use Rattle.std.specs.Option.{option_map_or}
+use Rattle.omi_numbers.specs.declared.lives.TheConstants.{CODED_RECORDS}
+use Rattle.omi_numbers.specs.Lives.{life_word}
 use Rattle.omi_model.specs.declared.id.Rid.{Rid}
 use Rattle.omi_model.specs.declared.id.Tid.{Tid}
 use Rattle.omi_layout.specs.Field.{runtime, threads, regions, tasks}
 use Rattle.omi_layout.specs.Table.{offset}
-use Rattle.omi_layout.specs.Place.{slot_address}
+use Rattle.omi_layout.specs.Place.{slot_address, index_of}
 use Rattle.omi_word.specs.Words.{Words}
 use Rattle.omi_layout.specs.Memory.{Memory}
 
@@ -48,3 +50,8 @@ region_word w n = option_map_or (region_address w) n 0
 
 abbrev pub task_word : List ℕ → Option Tid → ℕ
 task_word w k = option_map_or (task_address w) k 0
+
+-- the code of a deferred task, by the life word and the number of its record. A slot without a task has 0
+abbrev pub slot_word : List ℕ → Tid → ℕ
+slot_word w k =
+    life_word k.0.generation * CODED_RECORDS + index_of w tasks k.0.creator k.0.slot

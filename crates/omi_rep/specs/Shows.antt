@@ -1,8 +1,11 @@
 -- A memory shows a state: the words of its records stand for what a tool may be shown of the state. Nothing is said of other words.
 use Rattle.std.specs.Prelude.{◌≡◌, ◌<◌, ◌≤◌, ℕ, ◌+◌, ◌*◌, true, List, length, slice_get, Some, None}
+use Rattle.omi_numbers.specs.declared.words.TheConstants.{OPENMP_VERSION}
 use Rattle.omi_model.specs.declared.id.Rid.{Rid}
 use Rattle.omi_model.specs.declared.id.Tid.{Tid}
-use Rattle.omi_model.specs.Numbers.{flag}
+use Rattle.omi_numbers.specs.Words.{flag, state_word, native_id}
+use Rattle.omi_numbers.specs.Addresses.{entry_address}
+use Rattle.omi_script.specs.Schedules.{schedule_word}
 use Rattle.omi_model.specs.Put.{Slots, found}
 use Rattle.omi_model.specs.declared.slot.Slot.{Slot}
 use Rattle.omi_model.specs.State.{State}
@@ -18,7 +21,6 @@ use Rattle.omi_layout.specs.Named.{number}
 use Rattle.omi_layout.specs.Table.{thread_count, per_thread}
 use Rattle.omi_word.specs.Words.{Words}
 use Rattle.omi_layout.specs.Given.{GivesLayout}
-use Rattle.omi_layout.specs.Codes.{function_word, schedule_word, state_word, native_word}
 use Rattle.omi_rep.specs.Records.{Seen, Records, records_of, thread_address, region_address, task_address, region_word, task_word}
 
 -- this word stands in a field of a record, at a place of the field
@@ -27,7 +29,7 @@ Stands r f at word = r (number f) at ≡ Some word
 
 -- the runtime record has the global values
 pub record ShowsGlobals (r : Seen) (s : State) : Type 0 where
-  pub version : Stands r RuntimeVersion 0 201811
+  pub version : Stands r RuntimeVersion 0 OPENMP_VERSION
   pub threads : Stands r RuntimeThreads 0 s.count
   pub procs : Stands r RuntimeProcs 0 s.environment.procs
   pub debug : Stands r RuntimeDebug 0 (flag s.environment.debug)
@@ -36,7 +38,7 @@ pub record ShowsGlobals (r : Seen) (s : State) : Type 0 where
 -- the life word of a thread is 1 where it has begun and 0 else, and its native word is its id
 pub record ShowsLife (r : Seen) (i : ℕ) (h : Thread) : Type 0 where
   pub life : Stands r ThreadLife 0 (flag h.begun)
-  pub native : Stands r ThreadNative 0 (native_word i)
+  pub native : Stands r ThreadNative 0 (native_id i)
 
 -- the current task and the state of a thread that has begun
 pub record ShowsThread (w : List ℕ) (r : Seen) (h : Thread) : Type 0 where
@@ -50,7 +52,7 @@ pub record ShowsSlot {A : Type 0} (r : Seen) (life : Field) (slot : Slot A) : Ty
 
 -- the record is that of a region
 pub record ShowsRegion (w : List ℕ) (r : Seen) (region : Region) : Type 0 where
-  pub function : Stands r RegionFunction 0 (function_word region.function)
+  pub function : Stands r RegionFunction 0 (entry_address region.function)
   pub enclosing : Stands r RegionEnclosing 0 (region_word w region.enclosing)
   pub encountering : Stands r RegionEncountering 0 (task_word w region.encountering)
   pub size : Stands r RegionSize 0 (length region.team)
@@ -67,7 +69,7 @@ pub record ShowsTask (w : List ℕ) (r : Seen) (t : Task) : Type 0 where
   pub member : Stands r TaskNumber 0 t.number
   pub generating : Stands r TaskGenerating 0 (task_word w t.generating)
   pub scheduling : Stands r TaskScheduling 0 (task_word w t.scheduling)
-  pub function : Stands r TaskFunction 0 (function_word t.function)
+  pub function : Stands r TaskFunction 0 (entry_address t.function)
   pub exit : Stands r TaskExit 0 t.exit
   pub enter : Stands r TaskEnter 0 t.enter
   pub dynamic : Stands r TaskDynamic 0 (flag t.variables.dynamic)

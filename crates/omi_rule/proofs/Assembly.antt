@@ -1,8 +1,9 @@
 -- A step of one thread keeps the rule where it keeps the words and the thread's own part: the other threads' parts stay.
-use Rattle.std.proofs.Common.{◌≡◌, ◌≢◌, ◌+◌, ◌==◌, ◌<◌, ◌^◌, ℕ, Bool, true, false, List, [], ◌∷◌, ◌++◌, length, Some, None, refl, sym, ◌∙◌, subst, arith, eqb-true, eq-eqb, if◌then◌else◌, ◌≤◌, ◌⊎◌, inl, inr, ap}
+use Rattle.std.proofs.Common.{◌≡◌, ◌≢◌, ◌+◌, ◌==◌, ◌<◌, ℕ, Bool, true, false, List, [], ◌∷◌, ◌++◌, length, Some, None, refl, sym, ◌∙◌, subst, arith, eqb-true, eq-eqb, if◌then◌else◌, ◌≤◌, ◌⊎◌, inl, inr, ap}
 use Rattle.std.specs.List.{Contains}
 use Rattle.std.proofs.lemmas.List.{append-nil}
 use Rattle.std.proofs.lemmas.List.Elements.{Contains-append_left}
+use Rattle.omi_model.specs.declared.limits.TheConstants.{MOST_EVENTS}
 use Rattle.omi_word.specs.declared.op.Op.{Op}
 use Rattle.omi_word.specs.declared.op.Op.TheVariants as op
 use Rattle.omi_word.specs.Memory.{address_of}
@@ -63,7 +64,7 @@ pub record Before (p : Program) (w : List ℕ) (m : Memory) (events : List (ℕ 
   pub suits : Suits p w
   pub rule : Rule p w m events s actors
   pub known : i < s.count
-  pub few : length events + 1 < 2 ^ 57
+  pub few : length events + 1 < MOST_EVENTS
   -- what barriers say of other threads stays
   pub barriers : (e : Event) (u : State) → Step p s i e u → (j : ℕ) → j < s.count → j ≢ i → (c : BarrierCounter) → (actors j).counter ≡ counter.Barrier c → KeepsBarrierRow s (actors j) c → KeepsBarrierRow u (actors j) c
 

@@ -17,7 +17,7 @@ use Rattle.omi_model.specs.declared.task.Task.{Task}
 use Rattle.omi_model.specs.Changes.{IsCurrent, encounter}
 use Rattle.omi_model.specs.LawLineage.{HasLineage, IsLineage}
 use Rattle.omi_model.specs.Lists.{may_drop, stays, take_item}
-use Rattle.omi_model.specs.Numbers.{wait_taskwait}
+use Rattle.omi_numbers.specs.declared.states.TheConstants.{WAIT_TASKWAIT}
 use Rattle.omi_model.specs.Opening.{opening}
 use Rattle.omi_model.specs.Reached.{Reached, Step}
 use Rattle.omi_model.specs.Rows.{barrier_items, behind, body_items, call_items, first_of, function_items, last_of_member, main_items, member_items, task_items, shown, working}
@@ -84,7 +84,7 @@ module _ (p : Program) where
       go : (c : Bool) → Below f (item.Enter ∷ (if c then item.StartNow g (final || at.is_final) else item.Defer 0 g (final || at.is_final)) ∷ item.Leave ∷ rest)
       go true = (h.0 g refl, h.1)
       go false = (h.0 g refl, h.1)
-  row_below f at stmt.Taskwait rest h = shown_below f at _ 0 (item.Tasks wait_taskwait ∷ item.WaitDone ∷ working at (item.Leave ∷ rest)) (working_below f at (item.Leave ∷ rest) h.1)
+  row_below f at stmt.Taskwait rest h = shown_below f at _ 0 (item.Tasks WAIT_TASKWAIT ∷ item.WaitDone ∷ working at (item.Leave ∷ rest)) (working_below f at (item.Leave ∷ rest) h.1)
   row_below f at stmt.Taskyield rest h = h.1
   row_below f at stmt.Barrier rest h = barrier_below f at _ (working at (item.Leave ∷ rest)) (working_below f at (item.Leave ∷ rest) h.1)
   row_below f at (stmt.Critical k g) rest h =

@@ -13,8 +13,8 @@ use Rattle.omi_model.specs.Changes.{encounter, list_of}
 use Rattle.omi_model.specs.Lists.{take_item}
 use Rattle.omi_model.specs.Reached.{Step}
 use Rattle.omi_model.specs.State.{State}
-use Rattle.omi_model.specs.Opening.{exit_frame}
-use Rattle.omi_model.specs.Teams.{exit_below, member_task}
+use Rattle.omi_numbers.specs.Addresses.{exit_frame, exit_below}
+use Rattle.omi_model.specs.Teams.{member_task}
 use Rattle.omi_model.proofs.EachObject.{IsTaskLaw, task_step_from}
 use Rattle.omi_model.proofs.Steps.{move_of, moved_on}
 use Rattle.omi_rule.specs.Rule.{AreNewMembers, IsNewMember}
@@ -32,7 +32,7 @@ module _ (p : Program) (z : State) (i : ℕ) (e : Event) (y : Item) (next : Stat
   }
     where
       go : (b : Bool) → j == 0 ≡ b → (member_task p region k t r f j thread).exit ≡ exit_frame thread 1
-      go false e = ap (λ (b : Bool). if b then exit_below t else exit_frame thread 1) e
+      go false e = ap (λ (b : Bool). if b then exit_below t.exit else exit_frame thread 1) e
       go true e = absurd (cc (ap (λ (b : Bool). if b then Begun else NotBegun) (sym e), waits))
 
   task_law : IsTaskLaw p z i e y next (IsNew p)

@@ -8,7 +8,7 @@ use Rattle.omi_model.specs.declared.progress.Progress.TheVariants as progress
 use Rattle.omi_model.specs.declared.region.Region.{Region}
 use Rattle.omi_model.specs.declared.task.Task.{Task}
 use Rattle.omi_model.specs.Changes.{encounter_by, level_of}
-use Rattle.omi_model.specs.Numbers.{idle}
+use Rattle.omi_numbers.specs.declared.states.TheConstants.{IDLE}
 use Rattle.omi_model.specs.Rows.{working}
 use Rattle.omi_model.specs.declared.item.Item.TheVariants as item
 use Rattle.omi_script.specs.declared.env.Env.{Env}
@@ -124,7 +124,7 @@ module _ (p : Program) (s u : State) (i : ℕ) (leaves : LeavesOthers s u i) (j 
   worker_stays : (c : WorkerCounter) → worker_ahead u c ≡ worker_ahead s c
   worker_stays worker.Begin = refl
   worker_stays worker.Offer = refl
-  worker_stays (worker.AddLeft r) = ap (λ (b : Bool). if b then item.State idle 0 ∷ offering else offering) (ap (λ (e : Env). e.debug) leaves.environment)
+  worker_stays (worker.AddLeft r) = ap (λ (b : Bool). if b then item.State IDLE 0 ∷ offering else offering) (ap (λ (e : Env). e.debug) leaves.environment)
   worker_stays worker.IdleState = refl
   worker_stays c = refl
 

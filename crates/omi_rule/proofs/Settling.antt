@@ -8,7 +8,7 @@ use Rattle.omi_model.specs.declared.encounter.Encounter.{Encounter}
 use Rattle.omi_model.specs.declared.item.Item.{Item}
 use Rattle.omi_model.specs.declared.item.Item.TheVariants as item
 use Rattle.omi_model.specs.Rows.{body_items}
-use Rattle.omi_model.specs.Numbers.{wait_barrier_implicit_parallel}
+use Rattle.omi_numbers.specs.declared.states.TheConstants.{WAIT_BARRIER_IMPLICIT_PARALLEL}
 use Rattle.omi_model.specs.Rows as Rows
 use Rattle.omi_pc.specs.declared.actor.Actor.{Actor}
 use Rattle.omi_pc.specs.declared.counter.PlainCounter.TheVariants as plain
@@ -87,11 +87,11 @@ module _ (p : Program) (at : Encounter) (debug : at.debug ≡ p.env.debug) where
   member_ends a f fs last stack is = go p.env.debug debug
     where
       waits : List Item → List Item
-      waits l = item.Tasks wait_barrier_implicit_parallel ∷ (if at.number == 0 then item.Release ∷ item.Pass ∷ l else item.Pass ∷ l)
+      waits l = item.Tasks WAIT_BARRIER_IMPLICIT_PARALLEL ∷ (if at.number == 0 then item.Release ∷ item.Pass ∷ l else item.Pass ∷ l)
 
       go : (d : Bool) → at.debug ≡ d → IsAhead p at (ending_member d a).stack (ending_member d a).counter (Rows.end_of_member at last)
-      go true e = ap (λ (b : Bool). if b then item.State wait_barrier_implicit_parallel 0 ∷ item.Arrive ∷ waits last else item.Arrive ∷ waits last) e ∙ ap (λ l. item.State wait_barrier_implicit_parallel 0 ∷ item.Arrive ∷ waits l) (sym is)
-      go false e = ap (λ (b : Bool). if b then item.State wait_barrier_implicit_parallel 0 ∷ item.Arrive ∷ waits last else item.Arrive ∷ waits last) e ∙ ap (λ l. item.Arrive ∷ waits l) (sym is)
+      go true e = ap (λ (b : Bool). if b then item.State WAIT_BARRIER_IMPLICIT_PARALLEL 0 ∷ item.Arrive ∷ waits last else item.Arrive ∷ waits last) e ∙ ap (λ l. item.State WAIT_BARRIER_IMPLICIT_PARALLEL 0 ∷ item.Arrive ∷ waits l) (sym is)
+      go false e = ap (λ (b : Bool). if b then item.State WAIT_BARRIER_IMPLICIT_PARALLEL 0 ∷ item.Arrive ∷ waits last else item.Arrive ∷ waits last) e ∙ ap (λ l. item.Arrive ∷ waits l) (sym is)
 
   ended_ahead : (a : Actor) (f : Frame) (fs : List Frame) → a.stack ≡ f ∷ fs → ahead p at a.stack ≡ behind_body at f.opened f.function (ahead p at fs)
       → IsAhead p at (ended p.env.debug f.opened a).stack (ended p.env.debug f.opened a).counter (behind_body at f.opened f.function (ahead p at fs))

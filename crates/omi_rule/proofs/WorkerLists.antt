@@ -11,7 +11,7 @@ use Rattle.omi_model.specs.declared.item.Item.TheVariants as item
 use Rattle.omi_model.specs.declared.thread.Thread.{Thread}
 use Rattle.omi_model.specs.Changes.{encounter, encounter_by}
 use Rattle.omi_model.specs.Lists.{stays, take_item}
-use Rattle.omi_model.specs.Numbers.{idle}
+use Rattle.omi_numbers.specs.declared.states.TheConstants.{IDLE}
 use Rattle.omi_model.specs.Opening.{opening}
 use Rattle.omi_model.specs.Reached.{Reached, Step}
 use Rattle.omi_model.specs.Rules as Rules
@@ -27,7 +27,7 @@ use Rattle.omi_rule.proofs.plain.OwnEvents.{environment_stays}
 
 -- what stands behind the task of a worker
 abbrev pub behind_task : Program → List Item
-behind_task p = if p.env.debug then item.State idle 0 ∷ offering else offering
+behind_task p = if p.env.debug then item.State IDLE 0 ∷ offering else offering
 
 abbrev pub WaitsBehind : Program → ℕ → Thread → Type 0
 WaitsBehind p i h = (k : Tid) → h.current ≡ Some k → i ≢ 0 → h.list ≡ behind_task p
@@ -49,7 +49,7 @@ module _ (p : Program) (events : List (ℕ × Event)) (s : State) (reached : Rea
       let same : (item.Serve, []) ≡ (m.item, m.behind) = some_same refl here in
       let seen : (encounter s i).debug ≡ p.env.debug = ap (λ (k : Option Tid). (encounter_by s (option_and_then (task_of s) k)).debug) none ∙ ap (λ (x : Env). x.debug) (environment_stays p events s reached) in
       ap (λ (x : Item × List Item). stays (encounter s i) e x.0 x.1) (sym same)
-      ∙ ap (λ (b : Bool). if b then item.State idle 0 ∷ offering else offering) seen
+      ∙ ap (λ (b : Bool). if b then item.State IDLE 0 ∷ offering else offering) seen
 
   law : (z : State) → EachThread Begins z → IsThreadLaw p z i e next Begins
   law z all = record {

@@ -1,13 +1,14 @@
 -- What is ahead of a task, by where its thread stands: the rest of the statement in work, and the bodies that are open. It is the
 -- task's to-do list.
-use Rattle.std.specs.Prelude.{◌≡◌, ◌⊎◌, ℕ, zero, suc, ◌+◌, ◌==◌, ◌||◌, List, [], ◌∷◌, drop, Option, Some, None, unwrap_or, if◌then◌else◌}
+use Rattle.std.specs.Prelude.{◌≡◌, ◌⊎◌, ℕ, zero, suc, ◌==◌, ◌||◌, List, [], ◌∷◌, drop, Option, Some, None, unwrap_or, if◌then◌else◌}
+use Rattle.omi_numbers.specs.Holders.{lock_wait}
 use Rattle.omi_script.specs.declared.program.Program.{Program}
 use Rattle.omi_script.specs.declared.statement.Stmt.{Stmt}
 use Rattle.omi_script.specs.declared.statement.Stmt.TheVariants as stmt
 use Rattle.omi_model.specs.declared.encounter.Encounter.{Encounter}
 use Rattle.omi_model.specs.declared.item.Item.{Item}
 use Rattle.omi_model.specs.declared.item.Item.TheVariants as item
-use Rattle.omi_model.specs.Numbers.{overhead, wait_barrier_explicit, wait_barrier_implicit_parallel, wait_critical, wait_taskwait}
+use Rattle.omi_numbers.specs.declared.states.TheConstants.{OVERHEAD, WAIT_BARRIER_EXPLICIT, WAIT_BARRIER_IMPLICIT_PARALLEL, WAIT_CRITICAL, WAIT_TASKWAIT}
 use Rattle.omi_model.specs.Rows.{body_items, call_items, end_of_member, shown, work_state, working}
 use Rattle.omi_pc.specs.declared.counter.Counter.{Counter}
 use Rattle.omi_pc.specs.declared.counter.Counter.TheVariants as counter
@@ -120,7 +121,7 @@ plain_ahead p at fs plain.Enter = beginning p at fs
 plain_ahead p at fs plain.Leave = leaving p at fs
 plain_ahead p at fs plain.WorkState = item.State (work_state at.level) 0 ∷ worked p at fs
 plain_ahead p at fs plain.LockState =
-    in_work p fs (λ s. item.State wait_critical (lock_of s + 1) ∷ locking_in p at fs s)
+    in_work p fs (λ s. item.State WAIT_CRITICAL (lock_wait (lock_of s)) ∷ locking_in p at fs s)
 plain_ahead p at fs plain.Lock = in_work p fs (locking_in p at fs)
 plain_ahead p at fs plain.Unlock = in_work p fs (λ s. item.Unlock (lock_of s) ∷ ahead p at fs)
 plain_ahead p at fs plain.Done = item.Done ∷ []
@@ -146,7 +147,7 @@ abbrev pub wanting : Program → Encounter → List Frame → List Item
 wanting p at fs = in_work p fs (wanting_in p at fs)
 
 abbrev pub team_ahead : Program → Encounter → List Frame → TeamCounter → List Item
-team_ahead p at fs team.OverheadState = item.State overhead 0 ∷ wanting p at fs
+team_ahead p at fs team.OverheadState = item.State OVERHEAD 0 ∷ wanting p at fs
 team_ahead p at fs team.LoadLevels = wanting p at fs
 team_ahead p at fs team.LoadActive = wanting p at fs
 team_ahead p at fs (team.LoadVariable word) = wanting p at fs
@@ -182,8 +183,8 @@ behind_barrier p at fs Implicit = last_of fs
 
 -- the state of a thread that waits there
 abbrev pub barrier_state : Barrier → ℕ
-barrier_state Explicit = wait_barrier_explicit
-barrier_state Implicit = wait_barrier_implicit_parallel
+barrier_state Explicit = WAIT_BARRIER_EXPLICIT
+barrier_state Implicit = WAIT_BARRIER_IMPLICIT_PARALLEL
 
 -- behind the tasks that may start in a barrier: member 0 releases it, and each member passes
 abbrev pub passing : Program → Encounter → List Frame → Barrier → List Item
@@ -214,18 +215,18 @@ barrier_ahead p at fs (barrier.LoadReleased b) = released p at fs b
 abbrev pub waiting : Program → Encounter → List Frame → Wait → List Item
 waiting p at fs (wait.Barrier b) = arrived p at fs b
 waiting p at fs wait.Taskwait =
-    item.Tasks wait_taskwait ∷ item.WaitDone ∷ working at (leaving p at fs)
+    item.Tasks WAIT_TASKWAIT ∷ item.WaitDone ∷ working at (leaving p at fs)
 waiting p at fs wait.Taskyield = item.OneTask ∷ item.Yield ∷ leaving p at fs
 
 abbrev pub entering_wait : Program → Encounter → List Frame → Wait → List Item
 entering_wait p at fs (wait.Barrier b) = shown at (barrier_state b) 0 (arrived p at fs b)
-entering_wait p at fs wait.Taskwait = shown at wait_taskwait 0 (waiting p at fs wait.Taskwait)
+entering_wait p at fs wait.Taskwait = shown at WAIT_TASKWAIT 0 (waiting p at fs wait.Taskwait)
 entering_wait p at fs wait.Taskyield = item.Yield ∷ leaving p at fs
 
 -- the store of this state comes next. At `taskyield` there is none
 abbrev pub showing_wait : Program → Encounter → List Frame → Wait → List Item
 showing_wait p at fs (wait.Barrier b) = item.State (barrier_state b) 0 ∷ arrived p at fs b
-showing_wait p at fs wait.Taskwait = item.State wait_taskwait 0 ∷ waiting p at fs wait.Taskwait
+showing_wait p at fs wait.Taskwait = item.State WAIT_TASKWAIT 0 ∷ waiting p at fs wait.Taskwait
 showing_wait p at fs wait.Taskyield = waiting p at fs wait.Taskyield
 
 -- ---- explicit tasks

@@ -9,8 +9,9 @@ use Rattle.omi_model.specs.declared.progress.Progress.TheVariants as progress
 use Rattle.omi_model.specs.declared.region.Region.{Region}
 use Rattle.omi_model.specs.declared.task.Task.{Task}
 use Rattle.omi_model.specs.Changes.{encounter_by}
-use Rattle.omi_model.specs.Numbers.{idle}
-use Rattle.omi_model.specs.Opening.{exit_frame, initial_region, initial_task}
+use Rattle.omi_numbers.specs.declared.states.TheConstants.{IDLE}
+use Rattle.omi_numbers.specs.Addresses.{exit_frame}
+use Rattle.omi_model.specs.Opening.{initial_region, initial_task}
 use Rattle.omi_model.specs.Rows.{worker_items, working}
 use Rattle.omi_model.specs.State.{State, region_of, task_of}
 use Rattle.omi_pc.specs.declared.actor.Actor.{Actor}
@@ -107,13 +108,13 @@ abbrev pub offering : List Item
 offering = item.Offer ∷ item.Serve ∷ []
 
 abbrev pub idling : State → List Item
-idling s = if s.environment.debug then item.State idle 0 ∷ offering else offering
+idling s = if s.environment.debug then item.State IDLE 0 ∷ offering else offering
 
 abbrev pub worker_ahead : State → WorkerCounter → List Item
 worker_ahead s worker.Begin = worker_items
 worker_ahead s worker.Offer = offering
 worker_ahead s (worker.AddLeft r) = idling s
-worker_ahead s worker.IdleState = item.State idle 0 ∷ offering
+worker_ahead s worker.IdleState = item.State IDLE 0 ∷ offering
 worker_ahead s c = item.Serve ∷ []
 
 -- a thread without one is a worker

@@ -1,5 +1,7 @@
 -- At which word a step commits its event, and at which words a thread may wait.
 use Rattle.std.specs.Prelude.{◌≡◌, ◌⊎◌, ℕ, ◌+◌, List, slice_get, Some}
+use Rattle.omi_numbers.specs.declared.holders.TheConstants.{FREE_CLAIM}
+use Rattle.omi_numbers.specs.Holders.{claimed_word}
 use Rattle.omi_word.specs.declared.op.Op.{Op}
 use Rattle.omi_word.specs.declared.op.Op.TheVariants as op
 use Rattle.omi_word.specs.Memory.{address_of}
@@ -7,7 +9,7 @@ use Rattle.omi_model.specs.declared.event.Event.{Event}
 use Rattle.omi_model.specs.declared.event.Event.TheVariants as event
 use Rattle.omi_model.specs.declared.id.Tid.{Tid}
 use Rattle.omi_model.specs.Changes.{OfCurrent, OfCurrentRegion}
-use Rattle.omi_model.specs.Numbers.{default_device_var, dyn_var, max_active_levels_var, nthreads_var, run_sched_var}
+use Rattle.omi_numbers.specs.declared.variables.TheConstants.{DEFAULT_DEVICE_VAR, DYN_VAR, MAX_ACTIVE_LEVELS_VAR, NTHREADS_VAR, RUN_SCHED_VAR}
 use Rattle.omi_model.specs.State.{State}
 use Rattle.omi_layout.specs.declared.field.Field.{Field}
 use Rattle.omi_layout.specs.declared.field.Field.TheVariants.{RegionArrived, RegionReleased, RuntimeLocks, RuntimeMaxActive, TaskChildren, TaskDevice, TaskDynamic, TaskEnter, TaskNthreads, TaskSchedule, TaskSlots, TaskTool, ThreadClaim, ThreadCurrent, ThreadLife, ThreadNative, ThreadState}
@@ -23,15 +25,15 @@ StoresAt o address = (word : ℕ) × (o ≡ op.Store address word)
 
 -- a variable of a data environment is set in this field
 abbrev pub IsVariableField : ℕ → Field → Type 0
-IsVariableField icv TaskDynamic = icv ≡ dyn_var
-IsVariableField icv TaskNthreads = icv ≡ nthreads_var
-IsVariableField icv TaskSchedule = icv ≡ run_sched_var
-IsVariableField icv TaskDevice = icv ≡ default_device_var
+IsVariableField icv TaskDynamic = icv ≡ DYN_VAR
+IsVariableField icv TaskNthreads = icv ≡ NTHREADS_VAR
+IsVariableField icv TaskSchedule = icv ≡ RUN_SCHED_VAR
+IsVariableField icv TaskDevice = icv ≡ DEFAULT_DEVICE_VAR
 IsVariableField icv f = ⊥
 
 -- the one word of an internal control variable: that of the whole program, or the current task's
 abbrev pub SetsAt : List ℕ → State → ℕ → ℕ → Op → Type 0
-SetsAt w s i icv o = ((icv ≡ max_active_levels_var) × StoresAt o (of_runtime w RuntimeMaxActive))
+SetsAt w s i icv o = ((icv ≡ MAX_ACTIVE_LEVELS_VAR) × StoresAt o (of_runtime w RuntimeMaxActive))
     ⊎ ((f : Field) × IsVariableField icv f × OfCurrent s i (λ k t. StoresAt o (of_task w k f)))
 
 -- a thread's row is the implicit task of its member of the current region
@@ -47,7 +49,7 @@ abbrev pub CommitsAt : List ℕ → State → ℕ → Event → Op → Type 0
 CommitsAt w s i event.Begin o = StoresAt o (of_thread w i ThreadLife)
 CommitsAt w s i event.Offer o = StoresAt o (of_thread w i ThreadClaim)
 CommitsAt w s i (event.Want n) o = o ≡ op.Load (of_runtime w RuntimeMaxActive)
-CommitsAt w s i (event.Ask v got) o = o ≡ op.Cas (of_thread w v ThreadClaim) 1 (2 + i)
+CommitsAt w s i (event.Ask v got) o = o ≡ op.Cas (of_thread w v ThreadClaim) FREE_CLAIM (claimed_word i)
 CommitsAt w s i (event.Fork region team) o = StoresAt o (of_thread w i ThreadCurrent)
 CommitsAt w s i (event.ImplicitBegin task) o = StoresAt o (of_thread w i ThreadCurrent)
 CommitsAt w s i (event.State state wait) o = StoresAt o (of_thread w i ThreadState)

@@ -14,11 +14,11 @@ use Rattle.omi_model.specs.Barriers.{AreFinished, HaveArrived}
 use Rattle.omi_model.specs.Columns.{tasks_of}
 use Rattle.omi_model.specs.Fresh.{IsFresh}
 use Rattle.omi_model.specs.LawClaims.{others_below}
-use Rattle.omi_model.specs.Numbers.{flag}
+use Rattle.omi_numbers.specs.Words.{flag}
+use Rattle.omi_script.specs.Schedules.{schedule_word}
 use Rattle.omi_model.specs.State.{State, region_of, task_of}
 use Rattle.omi_model.specs.Teams.{AreAsksOver, got_threads}
 use Rattle.omi_layout.specs.declared.field.Field.TheVariants.{RegionLeft, RegionTeam, ThreadAssign}
-use Rattle.omi_layout.specs.Codes.{schedule_word}
 use Rattle.omi_layout.specs.Field.{regions, tasks, threads}
 use Rattle.omi_layout.specs.Memory.{Memory, Rec}
 use Rattle.omi_layout.specs.Named.{number}

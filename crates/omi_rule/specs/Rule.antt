@@ -8,7 +8,7 @@ use Rattle.omi_model.specs.declared.event.Event.TheVariants as event
 use Rattle.omi_model.specs.declared.id.Tid.{Tid}
 use Rattle.omi_model.specs.declared.progress.Progress.TheVariants.{NotBegun}
 use Rattle.omi_model.specs.declared.task.Task.{Task}
-use Rattle.omi_model.specs.Opening.{exit_frame}
+use Rattle.omi_numbers.specs.Addresses.{exit_frame}
 use Rattle.omi_model.specs.Reached.{Reached}
 use Rattle.omi_model.specs.State.{State, task_of}
 use Rattle.omi_layout.specs.Memory.{Memory}

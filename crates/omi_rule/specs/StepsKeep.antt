@@ -1,5 +1,6 @@
 -- The step keeps the rule: whatever thread makes it, in every valid layout, and whatever the others do.
-use Rattle.std.specs.Prelude.{◌<◌, ◌+◌, ◌^◌, ℕ, List, length}
+use Rattle.std.specs.Prelude.{◌<◌, ◌+◌, ℕ, List, length}
+use Rattle.omi_model.specs.declared.limits.TheConstants.{MOST_EVENTS}
 use Rattle.omi_script.specs.declared.program.Program.{Program}
 use Rattle.omi_model.specs.declared.event.Event.{Event}
 use Rattle.omi_model.specs.State.{State}
@@ -49,10 +50,10 @@ IsKept (counter.Look c) = Unit {0}
 IsKept (counter.Finish c) = IsFinishKept c
 IsKept (counter.Plain c) = Unit {0}
 
--- For fewer than 2^57 events, which every list in memory meets, no count wraps
+-- For fewer than `MOST_EVENTS` events, which every list in memory meets, no count wraps
 abbrev pub StepsKeepRule : Type 0
 StepsKeepRule = (p : Program) (w : List ℕ) (m : Memory) (events : List (ℕ × Event)) (s : State)
     (actors : ℕ → Actor) (i : ℕ) → IsValid w → Suits p w → Rule p w m events s actors
-    → i < s.count → length events + 1 < 2 ^ 57 → IsKept (actors i).counter
+    → i < s.count → length events + 1 < MOST_EVENTS → IsKept (actors i).counter
     → StepKeeps p w m events s actors i (next_of p w (actors i))
     (λ old. resumed_at p w (actors i) (actors i).counter old)

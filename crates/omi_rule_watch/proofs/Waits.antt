@@ -25,7 +25,8 @@ use Rattle.omi_pc.specs.declared.counter.PlainCounter.TheVariants as plain
 use Rattle.omi_pc.specs.declared.frame.Barrier.{Barrier}
 use Rattle.omi_pc.specs.declared.frame.Wait.{Wait}
 use Rattle.omi_pc.specs.declared.frame.Wait.TheVariants as wait
-use Rattle.omi_pc.specs.declared.limits.TheConstants.{OWN_SLOTS, START_WORDS}
+use Rattle.omi_numbers.specs.declared.limits.TheConstants.{OWN_SLOTS}
+use Rattle.omi_pc.specs.declared.limits.TheConstants.{START_WORDS}
 use Rattle.omi_pc.specs.declared.place.Place.{Place}
 use Rattle.omi_pc.specs.declared.task_counter.LookCounter.{LookCounter}
 use Rattle.omi_pc.specs.declared.task_counter.LookCounter.TheVariants as look

@@ -16,7 +16,7 @@ use Rattle.omi_layout.specs.declared.field.Field.TheVariants.{RegionArrived, Reg
 use Rattle.omi_layout.specs.Field.{kind_of}
 use Rattle.omi_layout.specs.Named.{number}
 use Rattle.omi_layout.specs.Table.{per_thread}
-use Rattle.omi_pc.specs.declared.limits.TheConstants.{OWN_SLOTS}
+use Rattle.omi_numbers.specs.declared.limits.TheConstants.{OWN_SLOTS}
 use Rattle.omi_rep.specs.declared.outcome.Outcome.{Outcome}
 use Rattle.omi_rep.specs.declared.outcome.Outcome.TheVariants as outcome
 use Rattle.omi_rep.specs.Records.{task_word}

@@ -1,5 +1,6 @@
 -- The laws of the watch: a program starts with it, and each step of a thread meets what is demanded and keeps it.
-use Rattle.std.specs.Prelude.{◌≡◌, ◌≤◌, ◌<◌, ◌+◌, ◌^◌, ℕ, List, length}
+use Rattle.std.specs.Prelude.{◌≡◌, ◌≤◌, ◌<◌, ◌+◌, ℕ, List, length}
+use Rattle.omi_model.specs.declared.limits.TheConstants.{MOST_EVENTS}
 use Rattle.omi_word.specs.declared.op.Op.{Op}
 use Rattle.omi_script.specs.declared.program.Program.{Program}
 use Rattle.omi_model.specs.declared.event.Event.{Event}
@@ -56,7 +57,7 @@ StepKeepsWatch p w m s i o after h = (x : RecordWord) × IsOn w o x
 abbrev pub StepsKeepWatch : Type 0
 StepsKeepWatch = (p : Program) (w : List ℕ) (m : Memory) (events : List (ℕ × Event)) (s : State)
     (actors : ℕ → Actor) (i : ℕ) → IsValid w → Suits p w → Rule p w m events s actors
-    → i < s.count → length events + 1 < 2 ^ 57 → IsKept (actors i).counter
+    → i < s.count → length events + 1 < MOST_EVENTS → IsKept (actors i).counter
     → (h : Watch) → IsGiven p (actors i) h
     → StepKeepsWatch p w m s i (next_of p w (actors i))
     (λ old. resumed_at p w (actors i) (actors i).counter old) h

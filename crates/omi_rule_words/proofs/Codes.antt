@@ -2,6 +2,7 @@
 use Rattle.std.proofs.Common.{◌≡◌, ◌≢◌, ◌==◌, ℕ, ◌+◌, ◌*◌, ◌/◌, ◌%◌, ◌^◌, ◌<◌, Bool, true, false, List, Some, refl, sym, ap, ◌∙◌, arith, eq-eqb, ne_eqb}
 use Rattle.std.proofs.lemmas.Bool.Decides.{nat_tests}
 use Rattle.std.proofs.lemmas.Nat.{div-mul-add, mod-mul-add}
+use Rattle.omi_rep.specs.Records.{slot_word}
 use Rattle.omi_model.specs.declared.id.Id.{Id}
 use Rattle.omi_model.specs.declared.id.Tid.{Tid}
 use Rattle.omi_model.specs.declared.task.Task.{Task}
@@ -14,7 +15,6 @@ use Rattle.omi_layout.specs.Valid.{IsValid}
 use Rattle.omi_layout.proofs.Arenas.{index_few, tasks_of_valid, threads_of_valid}
 use Rattle.omi_rep.specs.Shows.{IsWithin}
 use Rattle.omi_rule_words.specs.Counts.{is_task, one}
-use Rattle.omi_rule_words.specs.Objects.{slot_word}
 use Rattle.omi_rule_words.proofs.OtherCounts.{is_own_id}
 
 -- a live task has a record of the layout

@@ -19,12 +19,12 @@ use Rattle.omi_layout.specs.Place.{IsSlot}
 use Rattle.omi_layout.specs.Table.{per_thread, width}
 use Rattle.omi_layout.specs.Valid.{IsValid}
 use Rattle.omi_layout.proofs.Puts.{each_put, put_same}
-use Rattle.omi_rep.specs.Records.{task_address}
+use Rattle.omi_rep.specs.Records.{task_address, slot_word}
 use Rattle.omi_rep.specs.Shows.{IsWithin}
 use Rattle.omi_rule_words.specs.Owes.{Owed, nothing}
 use Rattle.omi_rule_words.specs.Counts.{is_some_task, is_task, of_live, one, start_owed, sum_below, sum_of_owed}
 use Rattle.omi_rule_words.specs.Threads.{Has}
-use Rattle.omi_rule_words.specs.Objects.{IsDeferredIn, KeepsPlace, KeepsSlots, slot_word, slots_with}
+use Rattle.omi_rule_words.specs.Objects.{IsDeferredIn, KeepsPlace, KeepsSlots, slots_with}
 use Rattle.omi_rule_words.specs.Words.{KeepsWords}
 use Rattle.omi_rule_words.specs.ExplicitKinds.{DefersKeep, IsFilledFor, IsRow, OwesNew, StartsNowKeep, slot_of, with_slot}
 use Rattle.omi_rule_words.proofs.Begun.{none_found, some_found}

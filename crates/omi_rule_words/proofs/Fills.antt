@@ -2,6 +2,7 @@
 use Rattle.std.proofs.Common.{◌≡◌, ◌≢◌, ◌==◌, ◌&&◌, ℕ, Bool, true, false, List, None, refl, sym, ap, subst, ◌∙◌, arith, if◌then◌else◌}
 use mathlib.Core.Path.{fun_ext}
 use Rattle.std.proofs.lemmas.Bool.Decides.{nat_tests}
+use Rattle.omi_rep.specs.Records.{slot_word}
 use Rattle.omi_model.specs.declared.slot.Slot.{Slot}
 use Rattle.omi_model.specs.declared.task.Task.{Task}
 use Rattle.omi_model.specs.State.{State}
@@ -15,7 +16,7 @@ use Rattle.omi_layout.proofs.Puts.{record_stays, word_stays}
 use Rattle.omi_rule_words.specs.Owes.{Owed}
 use Rattle.omi_rule_words.specs.Counts.{of_live, one, sum_below, has_slot, has_region_slot}
 use Rattle.omi_rule_words.specs.Threads.{KeepsAssign, KeepsRuntime, KeepsThread}
-use Rattle.omi_rule_words.specs.Objects.{KeepsDeferred, KeepsLife, slot_word, slots_with}
+use Rattle.omi_rule_words.specs.Objects.{KeepsDeferred, KeepsLife, slots_with}
 use Rattle.omi_rule_words.specs.Words.{KeepsRegionSlot, KeepsTaskSlot, KeepsWords}
 use Rattle.omi_rule_words.specs.Kinds.{RegionFillsKeep, TaskFillsKeep}
 use Rattle.omi_rule_words.proofs.Alike

@@ -2,6 +2,7 @@
 use Rattle.std.proofs.Common.{◌≡◌, ◌==◌, ◌+◌, ◌&&◌, ◌<◌, ℕ, true, false, inl, inr, List, Some, not, sym, ap, ap₂, ◌∙◌, arith, ne_eqb, if◌then◌else◌}
 use Rattle.std.specs.Prelude.{◌⊎◌, All}
 use Rattle.std.specs.Option.{option_and_then}
+use Rattle.omi_rep.specs.Records.{slot_word}
 use Rattle.omi_model.specs.declared.id.Rid.{Rid}
 use Rattle.omi_model.specs.declared.id.Tid.{Tid}
 use Rattle.omi_model.specs.declared.progress.Progress.TheVariants as progress
@@ -18,7 +19,7 @@ use Rattle.omi_layout.specs.Table.{width}
 use Rattle.omi_rule_words.specs.Owes.{Owed}
 use Rattle.omi_rule_words.specs.Counts.{children_owed, generating_of, has_region_slot, has_slot, is_finished, is_region, is_some_region, is_some_task, is_unfinished, one, pending_owed, start_owed, sum_below, sum_of_owed, unfinished_children, unfinished_in}
 use Rattle.omi_rule_words.specs.Threads.{KeepsAssign, WaitsFor}
-use Rattle.omi_rule_words.specs.Objects.{KeepsDeferred, slot_word, slots_with}
+use Rattle.omi_rule_words.specs.Objects.{KeepsDeferred, slots_with}
 use Rattle.omi_rule_words.specs.Words.{KeepsMaking, KeepsWords}
 use Rattle.omi_rule_words.proofs.Begun.{Grows, IsNew, NewRegion, NewTask}
 use Rattle.omi_rule_words.proofs.Grown.{OwesLess, grown, owes_less, task_after, task_before, tasks_counted}

@@ -11,14 +11,13 @@ use Rattle.omi_model.specs.declared.progress.Progress.TheVariants as progress
 use Rattle.omi_model.specs.declared.region.Region.{Region}
 use Rattle.omi_model.specs.declared.task.Task.{Task}
 use Rattle.omi_model.specs.declared.thread.Thread.{Thread}
-use Rattle.omi_model.specs.Numbers.{flag}
+use Rattle.omi_numbers.specs.Words.{flag, state_word}
 use Rattle.omi_model.specs.Opening.{initial_task, initial_thread, opening, opening_region, opening_task, waiting_worker}
 use Rattle.omi_model.specs.Put.{first_alone, unused}
 use Rattle.omi_model.specs.State.{State}
 use Rattle.omi_model.proofs.OpeningObjects.{each_first_task}
 use Rattle.omi_layout.specs.declared.field.Field.{Field}
 use Rattle.omi_layout.specs.declared.field.Field.TheVariants.{RegionLife, TaskLife, RegionTeam}
-use Rattle.omi_layout.specs.Codes.{state_word}
 use Rattle.omi_layout.specs.Field.{runtime, threads, regions, tasks}
 use Rattle.omi_layout.specs.Memory.{Rec, Made, Memory, memory_of}
 use Rattle.omi_layout.specs.Named.{number}

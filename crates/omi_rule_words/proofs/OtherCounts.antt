@@ -1,6 +1,7 @@
 -- Words for what is counted are others, and one thread owes otherwise on them: what has to be shown of these words so that all is kept.
 use Rattle.std.proofs.Common.{◌≡◌, ◌≢◌, ◌==◌, ◌+◌, ◌-◌, ◌<◌, ◌&&◌, ℕ, Bool, true, false, inl, inr, List, Option, Some, None, refl, sym, ap, subst, ◌∙◌, arith, eqb-true, eq-eqb, if◌then◌else◌}
 use Rattle.std.specs.Prelude.{◌⊎◌, All}
+use Rattle.omi_rep.specs.Records.{slot_word}
 use Rattle.omi_model.specs.declared.id.Id.{Id}
 use Rattle.omi_model.specs.declared.id.Rid.{Rid}
 use Rattle.omi_model.specs.declared.id.Tid.{Tid}
@@ -20,7 +21,7 @@ use Rattle.omi_layout.proofs.Puts.{each_put, put_other, put_same}
 use Rattle.omi_rule_words.specs.Owes.{Owed}
 use Rattle.omi_rule_words.specs.Counts.{children_owed, has_region_slot, has_slot, is_id, left_owed, pending_owed, start_owed, sum_of_owed, unfinished_in}
 use Rattle.omi_rule_words.specs.Threads.{Has, KeepsAssign, KeepsRuntime, KeepsThread}
-use Rattle.omi_rule_words.specs.Objects.{IsDeferredIn, KeepsCounts, KeepsLife, KeepsRegion, slot_word}
+use Rattle.omi_rule_words.specs.Objects.{IsDeferredIn, KeepsCounts, KeepsLife, KeepsRegion}
 use Rattle.omi_rule_words.specs.Words.{AreApart, IsInTheMaking, KeepsMade, KeepsTask, KeepsWords, OwesOnLive, region_in, task_in}
 use Rattle.omi_rule_words.proofs.Fills.{life_same}
 use Rattle.omi_rule_words.proofs.OtherOwes.{assign_owed_same}

@@ -2,6 +2,7 @@
 use Rattle.std.proofs.Common.{◌≡◌, ◌==◌, ◌+◌, ◌<◌, ◌&&◌, ℕ, inl, inr, ◌-◌, List, Option, Some, None, refl, sym, ap, subst, ◌∙◌, arith, if◌then◌else◌}
 use Rattle.std.specs.Prelude.{◌⊎◌}
 use Rattle.std.specs.Option.{option_and_then}
+use Rattle.omi_rep.specs.Records.{slot_word}
 use Rattle.omi_model.specs.declared.id.Rid.{Rid}
 use Rattle.omi_model.specs.declared.id.Tid.{Tid}
 use Rattle.omi_model.specs.declared.progress.Progress.TheVariants as progress
@@ -19,7 +20,7 @@ use Rattle.omi_layout.specs.Table.{per_thread, width}
 use Rattle.omi_rule_words.specs.Owes.{Owed}
 use Rattle.omi_rule_words.specs.Counts.{assign_owed, children_owed, generating_of, has_region_slot, has_slot, is_region, is_some_task, is_unfinished, left_owed, of_live, one, pending_owed, start_owed, sum_below, sum_of_owed, sum_of_slots, unfinished_children, unfinished_in}
 use Rattle.omi_rule_words.specs.Threads.{Has, IsAssignedOnce, KeepsAssign, KeepsRuntime, KeepsThread, WaitsFor}
-use Rattle.omi_rule_words.specs.Objects.{IsDeferredIn, KeepsCounts, KeepsDeferred, KeepsEnvironment, KeepsPlace, KeepsRegion, KeepsSlots, slot_word, slots_with}
+use Rattle.omi_rule_words.specs.Objects.{IsDeferredIn, KeepsCounts, KeepsDeferred, KeepsEnvironment, KeepsPlace, KeepsRegion, KeepsSlots, slots_with}
 use Rattle.omi_rule_words.specs.Words.{KeepsMade, KeepsTask, KeepsWords, region_in, task_in}
 use Rattle.omi_rule_words.specs.TaskKinds.{IsSameTask}
 use Rattle.omi_rule_words.proofs.Alike.{IsSameRegion, SlotsAlike, deferred_in_after, generating_same, life_alike, live_counted, making_after, objects_after, parts_same, region_back, slots_back, task_after, task_back, task_before, task_seen, waits_after}

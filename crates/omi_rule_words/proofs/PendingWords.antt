@@ -2,6 +2,7 @@
 use Rattle.std.proofs.Common.{◌≡◌, ◌≢◌, ◌+◌, ◌<◌, ◌≤◌, ◌^◌, inl, inr, ℕ, List, Option, Some, None, refl, sym, ap, subst, ◌∙◌, arith}
 use Rattle.std.specs.Prelude.{◌⊎◌, IsSome}
 use Rattle.std.proofs.lemmas.Bool.{cases_eq}
+use Rattle.omi_model.specs.declared.limits.TheConstants.{MOST_EVENTS}
 use Rattle.omi_model.specs.declared.id.Id.{Id}
 use Rattle.omi_model.specs.declared.id.Rid.{Rid}
 use Rattle.omi_model.specs.declared.id.Tid.{Tid}
@@ -92,7 +93,7 @@ live_of (Some x) is = (x, refl)
 pub pending_adds_keep : PendingAddsKeep
 pending_adds_keep = λ w m s owes i n keeps known none live small. kept w m s owes i n keeps known none live small
   where
-    kept : (w : List ℕ) (m : Memory) (s : State) (owes : ℕ → Owed) (i : ℕ) (n : Rid) → KeepsWords w m s owes → i < s.count → (owes i).pending ≡ None → IsSome (region_of s n) → word_of_region m n RegionPending < 2 ^ 57
+    kept : (w : List ℕ) (m : Memory) (s : State) (owes : ℕ → Owed) (i : ℕ) (n : Rid) → KeepsWords w m s owes → i < s.count → (owes i).pending ≡ None → IsSome (region_of s n) → word_of_region m n RegionPending < MOST_EVENTS
         → KeepsWords w (with_region_word m n RegionPending (one_more (word_of_region m n RegionPending))) s (replace_at owes i (record (owes i) { pending = Some n }))
     kept w m s owes i n keeps known none live small =
         let (region, is) = live_of (region_of s n) live in

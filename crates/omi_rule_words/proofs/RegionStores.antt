@@ -1,7 +1,8 @@
 -- Stores into the record of a live region that goes on as what it is: arrivals and releases.
-use Rattle.std.proofs.Common.{◌≡◌, ◌≢◌, ◌+◌, ◌^◌, ◌<◌, ℕ, List, length, Some, refl, sym, ap, subst, ◌∙◌, arith}
+use Rattle.std.proofs.Common.{◌≡◌, ◌≢◌, ◌+◌, ◌<◌, ℕ, List, length, Some, refl, sym, ap, subst, ◌∙◌, arith}
 use Rattle.std.specs.Prelude.{slice_index, slice_set, sum}
 use Rattle.std.proofs.lemmas.List.Sums.{sum_by-set}
+use Rattle.omi_model.specs.declared.limits.TheConstants.{MOST_EVENTS}
 use Rattle.omi_model.specs.declared.id.Rid.{Rid}
 use Rattle.omi_model.specs.declared.region.Region.{Region}
 use Rattle.omi_model.specs.declared.slot.Slot.{Slot}
@@ -97,7 +98,7 @@ module _ (w : List ℕ) (m : Memory) (s : State) (owes : ℕ → Owed) (name : R
 pub arrives_keep : ArrivesKeep
 arrives_keep = λ w m s owes t r keeps live member small. kept w m s owes t r keeps live member small
   where
-    kept : (w : List ℕ) (m : Memory) (s : State) (owes : ℕ → Owed) (t : Task) (r : Region) → KeepsWords w m s owes → region_of s t.region ≡ Some r → t.number < length r.arrivals → sum r.arrivals < 2 ^ 57
+    kept : (w : List ℕ) (m : Memory) (s : State) (owes : ℕ → Owed) (t : Task) (r : Region) → KeepsWords w m s owes → region_of s t.region ≡ Some r → t.number < length r.arrivals → sum r.arrivals < MOST_EVENTS
         → KeepsWords w (with_region_word m t.region RegionArrived (one_more (word_of_region m t.region RegionArrived))) (arrived s t) owes
     kept w m s owes t r keeps live member small =
         region_stored w m s owes t.region r RegionArrived 0 word keeps live (λ x. record x { arrivals = slice_set x.arrivals t.number (slice_index x.arrivals t.number + 1) })

@@ -23,12 +23,12 @@ use Rattle.omi_layout.specs.Field.{runtime, threads, regions, tasks}
 use Rattle.omi_layout.specs.Memory.{Rec, Memory}
 use Rattle.omi_layout.specs.Named.{number}
 use Rattle.omi_layout.specs.Table.{per_thread, width}
-use Rattle.omi_layout.specs.Codes.{function_word}
-use Rattle.omi_rep.specs.Records.{region_word, task_word}
+use Rattle.omi_numbers.specs.Addresses.{entry_address}
+use Rattle.omi_rep.specs.Records.{region_word, task_word, slot_word}
 use Rattle.omi_rule_words.specs.Owes.{Owed}
 use Rattle.omi_rule_words.specs.Counts.{children_owed, ended_members, generating_of, has_region_slot, has_slot, is_finished, is_region, is_some_region, is_some_task, is_unfinished, left_owed, of_live, one, pending_owed, start_owed, sum_below, sum_of_owed, sum_of_slots, unfinished_children, unfinished_in}
 use Rattle.omi_rule_words.specs.Threads.{Has, KeepsAssign, KeepsRuntime, KeepsThread, WaitsFor}
-use Rattle.omi_rule_words.specs.Objects.{IsDeferredIn, KeepsCounts, KeepsDeferred, KeepsEnvironment, KeepsLife, KeepsPlace, KeepsRegion, KeepsSlots, slot_word, slots_with}
+use Rattle.omi_rule_words.specs.Objects.{IsDeferredIn, KeepsCounts, KeepsDeferred, KeepsEnvironment, KeepsLife, KeepsPlace, KeepsRegion, KeepsSlots, slots_with}
 use Rattle.omi_rule_words.specs.Words.{AreApart, HasFinished, IsInTheMaking, KeepsMaking, KeepsRegionSlot, KeepsTask, KeepsTaskSlot, KeepsWords, OwesOnLive, region_in, task_in}
 use Rattle.omi_rule_words.proofs.Sums.{sum_same}
 
@@ -282,7 +282,7 @@ module _ (w : List ℕ) (m n : Memory) (s : State) (rs : Slots Region) (ts : Slo
     region_kept : (c k : ℕ) (x y : Region) → (s.regions c k).live ≡ Some x → (rs c k).live ≡ Some y → RegionRenews x y
         → KeepsRegion w s owes (region_in c k (s.regions c k)) (m c regions k) x → KeepsRegion w after other (region_in c k (s.regions c k)) (n c regions k) y
     region_kept c k x y was now r o = record {
-      function = stays RegionFunction 0 (λ e. absurd (omega (arith, e))) ∙ (o.function ∙ sym (ap (λ (z : Region). function_word z.function) r.is));
+      function = stays RegionFunction 0 (λ e. absurd (omega (arith, e))) ∙ (o.function ∙ sym (ap (λ (z : Region). entry_address z.function) r.is));
       enclosing = stays RegionEnclosing 0 (λ e. absurd (omega (arith, e))) ∙ (o.enclosing ∙ sym (ap (λ (z : Region). region_word w z.enclosing) r.is));
       encountering = stays RegionEncountering 0 (λ e. absurd (omega (arith, e))) ∙ (o.encountering ∙ sym (ap (λ (z : Region). task_word w z.encountering) r.is));
       size = stays RegionSize 0 (λ e. absurd (omega (arith, e))) ∙ (o.size ∙ sym (ap (λ (z : Region). length z.team) r.is));

@@ -2,6 +2,7 @@
 use Rattle.std.proofs.Common.{◌≡◌, ◌≢◌, ◌==◌, ◌+◌, ◌<◌, ℕ, true, inl, inr, List, Option, Some, refl, sym, ap, subst, ◌∙◌, arith, ne_eqb}
 use Rattle.std.specs.Prelude.{◌⊎◌}
 use Rattle.std.proofs.lemmas.Bool.{cases_eq}
+use Rattle.omi_rep.specs.Records.{slot_word}
 use Rattle.omi_model.specs.declared.id.Tid.{Tid}
 use Rattle.omi_model.specs.declared.progress.Progress.TheVariants as progress
 use Rattle.omi_model.specs.declared.task.Task.{Task}
@@ -18,7 +19,7 @@ use Rattle.omi_rep.specs.Shows.{IsWithin}
 use Rattle.omi_rule_words.specs.Owes.{Owed, nothing}
 use Rattle.omi_rule_words.specs.Counts.{has_slot, is_task, one, start_owed}
 use Rattle.omi_rule_words.specs.Threads.{Has, KeepsAssign, KeepsRuntime, KeepsThread}
-use Rattle.omi_rule_words.specs.Objects.{IsDeferredIn, slot_word}
+use Rattle.omi_rule_words.specs.Objects.{IsDeferredIn}
 use Rattle.omi_rule_words.specs.Words.{KeepsMade, KeepsRegionSlot, KeepsTask, KeepsTaskSlot, KeepsWords, task_in}
 use Rattle.omi_rule_words.specs.ExplicitKinds.{SlotTakesKeep, slot_of, with_slot}
 use Rattle.omi_rule_words.proofs.Codes.{code_some, has_record, same_codes}

@@ -17,11 +17,11 @@ use Rattle.omi_layout.specs.Field.{tasks, threads}
 use Rattle.omi_layout.specs.Memory.{Memory, replace_at, with_word}
 use Rattle.omi_layout.specs.Named.{number}
 use Rattle.omi_layout.specs.Table.{per_thread, width}
-use Rattle.omi_rep.specs.Records.{task_address}
+use Rattle.omi_rep.specs.Records.{task_address, slot_word}
 use Rattle.omi_rule_words.specs.Owes.{Owed, nothing}
 use Rattle.omi_rule_words.specs.Counts.{children_owed, is_finished, is_region, is_some_task, is_unfinished, one, pending_owed, start_owed, sum_of_owed, unfinished_children, unfinished_in}
 use Rattle.omi_rule_words.specs.Threads.{WaitsFor}
-use Rattle.omi_rule_words.specs.Objects.{IsDeferredIn, KeepsEnvironment, slot_word, slots_with}
+use Rattle.omi_rule_words.specs.Objects.{IsDeferredIn, KeepsEnvironment, slots_with}
 use Rattle.omi_rule_words.specs.Words.{KeepsTask, KeepsWords}
 use Rattle.omi_rule_words.specs.ExplicitKinds.{IsReady, StartsAloneKeep, StartsKeep}
 use Rattle.omi_rule_words.proofs.Changed.{current_stored}

@@ -2,6 +2,7 @@
 use Rattle.std.proofs.Common.{◌≡◌, ◌+◌, ◌<◌, ◌^◌, ℕ, List, Option, Some, None, refl, sym, ap, subst, ◌∙◌, arith}
 use Rattle.std.specs.Prelude.{IsSome}
 use Rattle.std.specs.Option.{option_and_then}
+use Rattle.omi_model.specs.declared.limits.TheConstants.{MOST_EVENTS}
 use Rattle.omi_model.specs.declared.id.Tid.{Tid}
 use Rattle.omi_model.specs.State.{State, task_of}
 use Rattle.omi_layout.specs.declared.field.Field.TheVariants.{TaskChildren}
@@ -28,7 +29,7 @@ on_other q k o is apart = ap (λ (x : Option Tid). one (is_some_task q x)) is �
 pub children_adds_keep : ChildrenAddsKeep
 children_adds_keep = λ w m s owes i k keeps known none live small. kept w m s owes i k keeps known none live small
   where
-    kept : (w : List ℕ) (m : Memory) (s : State) (owes : ℕ → Owed) (i : ℕ) (k : Tid) → KeepsWords w m s owes → i < s.count → (owes i).raised ≡ None → IsSome (task_of s k) → word_of_task m k TaskChildren < 2 ^ 57
+    kept : (w : List ℕ) (m : Memory) (s : State) (owes : ℕ → Owed) (i : ℕ) (k : Tid) → KeepsWords w m s owes → i < s.count → (owes i).raised ≡ None → IsSome (task_of s k) → word_of_task m k TaskChildren < MOST_EVENTS
         → KeepsWords w (with_task_word m k TaskChildren (one_more (word_of_task m k TaskChildren))) s (replace_at owes i (record (owes i) { raised = Some k }))
     kept w m s owes i k keeps known none live small =
         let (t, is) = live_of (task_of s k) live in

@@ -3,6 +3,7 @@ use Rattle.std.proofs.Common.{◌≡◌, ◌≢◌, ◌==◌, ◌+◌, ◌<◌, 
 use Rattle.std.specs.Prelude.{◌⊎◌, All, IsSome, MatchBool}
 use Rattle.std.specs.Option.{option_and_then, option_map}
 use Rattle.std.proofs.lemmas.List.Elements.{All-weaker}
+use Rattle.omi_rep.specs.Records.{slot_word}
 use Rattle.omi_model.specs.declared.id.Id.{Id}
 use Rattle.omi_model.specs.declared.id.Rid.{Rid}
 use Rattle.omi_model.specs.declared.id.Tid.{Tid}
@@ -24,7 +25,7 @@ use Rattle.omi_layout.proofs.Puts.{each_put}
 use Rattle.omi_rule_words.specs.Owes.{Owed}
 use Rattle.omi_rule_words.specs.Counts.{assign_owed, assigns_in, children_owed, generating_of, has_slot, has_region_slot, is_some_region, is_some_task, left_owed, of_live, one, pending_owed, start_owed, sum_below, sum_of_owed, sum_of_slots, unfinished_children, unfinished_in}
 use Rattle.omi_rule_words.specs.Threads.{Has, KeepsAssign, WaitsFor}
-use Rattle.omi_rule_words.specs.Objects.{IsDeferredIn, KeepsCounts, KeepsEnvironment, KeepsLife, KeepsPlace, KeepsRegion, KeepsSlots, slot_word, slots_with}
+use Rattle.omi_rule_words.specs.Objects.{IsDeferredIn, KeepsCounts, KeepsEnvironment, KeepsLife, KeepsPlace, KeepsRegion, KeepsSlots, slots_with}
 use Rattle.omi_rule_words.specs.Words.{AreApart, HasFinished, IsInTheMaking, KeepsMaking, KeepsTask, KeepsTaskSlot, KeepsWords, OwesOnLive, task_in}
 use Rattle.omi_rule_words.proofs.EachPlace.{each_place}
 use Rattle.omi_rule_words.proofs.OtherCounts.{owed_put_same}

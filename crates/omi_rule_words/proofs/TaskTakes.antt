@@ -3,6 +3,7 @@ use Rattle.std.proofs.Common.{◌≡◌, ◌==◌, ◌&&◌, ◌||◌, ◌<◌, 
 use Rattle.std.specs.Prelude.{All}
 use Rattle.std.proofs.lemmas.Bool.Decides.{nat_tests}
 use Rattle.std.proofs.lemmas.List.Elements.{All-push}
+use Rattle.omi_rep.specs.Records.{slot_word}
 use Rattle.omi_model.specs.declared.id.Rid.{Rid}
 use Rattle.omi_model.specs.declared.id.Tid.{Tid}
 use Rattle.omi_model.specs.State.{State}
@@ -14,7 +15,7 @@ use Rattle.omi_layout.proofs.Puts.{each_put, record_stays, word_read}
 use Rattle.omi_rule_words.specs.Owes.{Owed}
 use Rattle.omi_rule_words.specs.Counts.{has_region_slot, has_slot}
 use Rattle.omi_rule_words.specs.Threads.{KeepsAssign, KeepsRuntime, KeepsThread, WaitsFor}
-use Rattle.omi_rule_words.specs.Objects.{KeepsDeferred, KeepsLife, slot_word}
+use Rattle.omi_rule_words.specs.Objects.{KeepsDeferred, KeepsLife}
 use Rattle.omi_rule_words.specs.Words.{AreApart, IsInTheMaking, KeepsMade, KeepsMaking, KeepsRegionSlot, KeepsTaskSlot, KeepsWords}
 use Rattle.omi_rule_words.specs.Kinds.{TaskTakesKeep}
 use Rattle.omi_rule_words.proofs.OtherOwes.{OwesAlike, owes_alike, assign_owed_same, deferred_owed, objects_owed, region_owed, task_owed}

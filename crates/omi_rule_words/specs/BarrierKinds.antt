@@ -1,5 +1,6 @@
 -- Kinds of steps at a barrier: a member arrives, and member 0 releases the barrier.
 use Rattle.std.specs.Prelude.{◌≡◌, ℕ, ◌+◌, ◌%◌, ◌^◌, ◌<◌, List, length, sum, Some}
+use Rattle.omi_model.specs.declared.limits.TheConstants.{MOST_EVENTS}
 use Rattle.omi_model.specs.declared.id.Rid.{Rid}
 use Rattle.omi_model.specs.declared.region.Region.{Region}
 use Rattle.omi_model.specs.declared.task.Task.{Task}
@@ -28,7 +29,7 @@ with_region_word m n f word = with_word m n.0.creator regions n.0.slot (number f
 abbrev pub ArrivesKeep : Type 0
 ArrivesKeep = (w : List ℕ) (m : Memory) (s : State) (owes : ℕ → Owed) (t : Task) (r : Region)
     → KeepsWords w m s owes → region_of s t.region ≡ Some r → t.number < length r.arrivals
-    → sum r.arrivals < 2 ^ 57
+    → sum r.arrivals < MOST_EVENTS
     → KeepsWords w
     (with_region_word m t.region RegionArrived (one_more (word_of_region m t.region RegionArrived)))
     (arrived s t) owes

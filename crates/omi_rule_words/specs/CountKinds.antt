@@ -1,5 +1,6 @@
 -- Kinds of steps on what is counted of explicit tasks: before its event a thread raises the words for a task in the making, and after it the thread lowers those for one that has finished.
 use Rattle.std.specs.Prelude.{◌≡◌, ℕ, ◌+◌, ◌-◌, ◌%◌, ◌^◌, ◌<◌, List, Some, None, IsSome}
+use Rattle.omi_model.specs.declared.limits.TheConstants.{MOST_EVENTS}
 use Rattle.omi_model.specs.declared.id.Rid.{Rid}
 use Rattle.omi_model.specs.declared.id.Tid.{Tid}
 use Rattle.omi_model.specs.State.{State, region_of, task_of}
@@ -30,7 +31,7 @@ with_task_word m k f word = with_word m k.0.creator tasks k.0.slot (number f) 0 
 abbrev pub PendingAddsKeep : Type 0
 PendingAddsKeep = (w : List ℕ) (m : Memory) (s : State) (owes : ℕ → Owed) (i : ℕ) (n : Rid)
     → KeepsWords w m s owes → i < s.count → (owes i).pending ≡ None → IsSome (region_of s n)
-    → word_of_region m n RegionPending < 2 ^ 57
+    → word_of_region m n RegionPending < MOST_EVENTS
     → KeepsWords w
     (with_region_word m n RegionPending (one_more (word_of_region m n RegionPending))) s
     (replace_at owes i (record (owes i) { pending = Some n }))
@@ -39,7 +40,7 @@ PendingAddsKeep = (w : List ℕ) (m : Memory) (s : State) (owes : ℕ → Owed) 
 abbrev pub ChildrenAddsKeep : Type 0
 ChildrenAddsKeep = (w : List ℕ) (m : Memory) (s : State) (owes : ℕ → Owed) (i : ℕ) (k : Tid)
     → KeepsWords w m s owes → i < s.count → (owes i).raised ≡ None → IsSome (task_of s k)
-    → word_of_task m k TaskChildren < 2 ^ 57
+    → word_of_task m k TaskChildren < MOST_EVENTS
     → KeepsWords w (with_task_word m k TaskChildren (one_more (word_of_task m k TaskChildren))) s
     (replace_at owes i (record (owes i) { raised = Some k }))
 

@@ -17,11 +17,11 @@ use Rattle.omi_layout.specs.Named.{number}
 use Rattle.omi_layout.specs.Place.{IsSlot}
 use Rattle.omi_layout.specs.Table.{width}
 use Rattle.omi_layout.specs.Valid.{IsValid}
-use Rattle.omi_rep.specs.Records.{task_address, task_word}
+use Rattle.omi_rep.specs.Records.{task_address, task_word, slot_word}
 use Rattle.omi_rep.specs.Shows.{IsWithin}
 use Rattle.omi_rule_words.specs.Owes.{Owed, nothing}
 use Rattle.omi_rule_words.specs.Threads.{Has}
-use Rattle.omi_rule_words.specs.Objects.{IsDeferredIn, KeepsEnvironment, KeepsPlace, slot_word}
+use Rattle.omi_rule_words.specs.Objects.{IsDeferredIn, KeepsEnvironment, KeepsPlace}
 use Rattle.omi_rule_words.specs.Words.{KeepsWords}
 
 -- ---- slots

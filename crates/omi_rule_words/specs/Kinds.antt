@@ -1,5 +1,6 @@
 -- Kinds of steps: what each keeps of the words, whatever thread makes it.
-use Rattle.std.specs.Prelude.{◌≡◌, ◌≢◌, ℕ, ◌+◌, ◌*◌, ◌<◌, true, false, List, [], ◌∷◌, ◌++◌, Some, None}
+use Rattle.std.specs.Prelude.{◌≡◌, ◌≢◌, ℕ, ◌+◌, ◌<◌, true, false, List, [], ◌∷◌, ◌++◌, Some, None}
+use Rattle.omi_numbers.specs.Lives.{life_word}
 use Rattle.omi_model.specs.declared.id.Rid.{Rid}
 use Rattle.omi_model.specs.declared.id.Tid.{Tid}
 use Rattle.omi_model.specs.declared.item.Item.{Item}
@@ -60,7 +61,7 @@ abbrev pub RegionTakesKeep : Type 0
 RegionTakesKeep = (w : List ℕ) (m : Memory) (s : State) (owes : ℕ → Owed) (i : ℕ) (n : Rid)
     → KeepsWords w m s owes → (owes i).region ≡ None → IsInTheMaking i (s.regions i) n.0
     → KeepsWords w
-    (with_word m i regions n.0.slot (number RegionLife) 0 (2 * n.0.generation + 1)) s
+    (with_word m i regions n.0.slot (number RegionLife) 0 (life_word n.0.generation)) s
     (replace_at owes i (record (owes i) { region = Some n }))
 
 abbrev pub TaskTakesKeep : Type 0
@@ -68,7 +69,7 @@ TaskTakesKeep = (w : List ℕ) (m : Memory) (s : State) (owes : ℕ → Owed) (i
     → KeepsWords w m s owes → IsInTheMaking i (s.tasks i) k.0
     → has_slot k.0.slot (owes i).tasks ≡ false
     → KeepsWords w
-    (with_word m i tasks k.0.slot (number TaskLife) 0 (2 * k.0.generation + 1)) s
+    (with_word m i tasks k.0.slot (number TaskLife) 0 (life_word k.0.generation)) s
     (replace_at owes i (record (owes i) { tasks = (owes i).tasks ++ k ∷ [] }))
 
 -- A task that waits for a thread is stored into the thread's assign word, by the thread that owes it. No other task waits for that

@@ -1,22 +1,21 @@
 -- What the words of live regions and tasks are between any two steps, seen or not: the codes of the state, but for what threads owe.
-use Rattle.std.specs.Prelude.{◌≡◌, ◌⊎◌, ℕ, ◌+◌, ◌*◌, ◌^◌, ◌<◌, ◌==◌, Bool, true, false, List, length, slice_get, sum, Some, None, if◌then◌else◌}
+use Rattle.std.specs.Prelude.{◌≡◌, ◌⊎◌, ℕ, ◌+◌, ◌*◌, ◌<◌, ◌==◌, Bool, true, false, List, length, slice_get, sum, Some, None, if◌then◌else◌}
 use Rattle.omi_model.specs.declared.id.Rid.{Rid}
 use Rattle.omi_model.specs.declared.id.Tid.{Tid}
 use Rattle.omi_model.specs.declared.progress.Progress.TheVariants as progress
 use Rattle.omi_model.specs.declared.region.Region.{Region}
 use Rattle.omi_model.specs.declared.slot.Slot.{Slot}
 use Rattle.omi_model.specs.declared.task.Task.{Task}
-use Rattle.omi_model.specs.Numbers.{flag}
+use Rattle.omi_numbers.specs.Words.{flag}
+use Rattle.omi_numbers.specs.Addresses.{entry_address}
+use Rattle.omi_script.specs.Schedules.{schedule_word}
 use Rattle.omi_model.specs.State.{State, task_of}
 use Rattle.omi_layout.specs.declared.field.Field.{Field}
 use Rattle.omi_layout.specs.declared.field.Field.TheVariants.{RegionFunction, RegionEnclosing, RegionEncountering, RegionSize, RegionLevels, RegionActive, RegionReleased, RegionArrived, RegionPending, RegionLeft, RegionTeam, TaskImplicit, TaskRegion, TaskThread, TaskNumber, TaskGenerating, TaskScheduling, TaskFunction, TaskExit, TaskEnter, TaskDynamic, TaskNthreadsLength, TaskSchedule, TaskDevice, TaskFinal, TaskTool, TaskChildren, TaskNthreads, TaskSlots}
-use Rattle.omi_layout.specs.Codes.{function_word, schedule_word}
-use Rattle.omi_layout.specs.Field.{tasks}
 use Rattle.omi_layout.specs.Memory.{Rec}
 use Rattle.omi_layout.specs.Named.{number}
-use Rattle.omi_layout.specs.Place.{index_of}
 use Rattle.omi_layout.specs.Table.{width}
-use Rattle.omi_rep.specs.Records.{thread_address, region_address, task_address, region_word, task_word}
+use Rattle.omi_rep.specs.Records.{thread_address, region_address, task_address, region_word, task_word, slot_word}
 use Rattle.omi_rule_words.specs.Owes.{Owed}
 use Rattle.omi_rule_words.specs.Counts.{sum_below, sum_of_owed, sum_of_slots, one, unfinished_in, unfinished_children, ended_members, pending_owed, left_owed, children_owed, start_owed}
 use Rattle.omi_rule_words.specs.Threads.{Has}
@@ -34,7 +33,7 @@ pub record KeepsLife {A : Type 0} (r : Rec) (life : Field) (slot : Slot A) (owed
 -- the record of a live region
 pub record KeepsRegion (w : List ℕ) (s : State) (owes : ℕ → Owed) (n : Rid) (r : Rec) (region : Region)
     : Type 0 where
-  pub function : Has r RegionFunction 0 (function_word region.function)
+  pub function : Has r RegionFunction 0 (entry_address region.function)
   pub enclosing : Has r RegionEnclosing 0 (region_word w region.enclosing)
   pub encountering : Has r RegionEncountering 0 (task_word w region.encountering)
   pub size : Has r RegionSize 0 (length region.team)
@@ -55,7 +54,7 @@ pub record KeepsEnvironment (w : List ℕ) (r : Rec) (t : Task) : Type 0 where
   pub implicit : Has r TaskImplicit 0 (flag t.implicit)
   pub region : Has r TaskRegion 0 (region_address w t.region)
   pub generating : Has r TaskGenerating 0 (task_word w t.generating)
-  pub function : Has r TaskFunction 0 (function_word t.function)
+  pub function : Has r TaskFunction 0 (entry_address t.function)
   pub dynamic : Has r TaskDynamic 0 (flag t.variables.dynamic)
   pub nthreads_length : Has r TaskNthreadsLength 0 (length t.variables.nthreads)
   pub schedule : Has r TaskSchedule 0 (schedule_word t.variables.schedule)
@@ -78,11 +77,6 @@ pub record KeepsCounts (w : List ℕ) (s : State) (owes : ℕ → Owed) (k : Tid
       (unfinished_children w s k + sum_of_owed s owes (children_owed s k))
 
 -- ---- slots for deferred tasks
-
--- a deferred task in a slot, by the life word and the number of its record
-abbrev pub slot_word : List ℕ → Tid → ℕ
-slot_word w k =
-    (2 * k.0.generation + 1) * 2 ^ 24 + index_of w tasks k.0.creator k.0.slot
 
 -- a task is deferred in a place of a row: the row is the implicit task of the thread that made it, in its region
 pub record IsDeferredIn (s : State) (row : Task) (place : ℕ) (k : Tid) : Type 0 where

@@ -11,7 +11,7 @@ use Rattle.omi_model.specs.LawNames.{AreNamesLive}
 use Rattle.omi_model.specs.State.{State, region_of, task_of}
 use Rattle.omi_model.specs.Teams.{forked, joined, master_of, member_task, new_region, task_begun, task_ended}
 use Rattle.omi_layout.specs.declared.field.Field.TheVariants.{ThreadCurrent, RegionFunction, RegionEnclosing, RegionEncountering, RegionSize, RegionLevels, RegionActive, RegionTeam, RegionReleased, RegionArrived, RegionPending, RegionLeft, TaskChildren, TaskReferences, TaskSlots}
-use Rattle.omi_layout.specs.Codes.{function_word}
+use Rattle.omi_numbers.specs.Addresses.{entry_address}
 use Rattle.omi_layout.specs.Field.{threads, regions, tasks}
 use Rattle.omi_layout.specs.Memory.{Rec, Made, Memory, replace_at, with_word}
 use Rattle.omi_layout.specs.Named.{number}
@@ -36,7 +36,7 @@ BeginsKeep = (w : List ℕ) (m : Memory) (s : State) (owes : ℕ → Owed) (i : 
 
 -- A record in the making stands filled for a region that is new: its words are the codes of the region, and it counts nothing
 pub record RegionIsFilled (w : List ℕ) (r : Rec) (region : Region) : Type 0 where
-  pub function : Has r RegionFunction 0 (function_word region.function)
+  pub function : Has r RegionFunction 0 (entry_address region.function)
   pub enclosing : Has r RegionEnclosing 0 (region_word w region.enclosing)
   pub encountering : Has r RegionEncountering 0 (task_word w region.encountering)
   pub size : Has r RegionSize 0 (length region.team)

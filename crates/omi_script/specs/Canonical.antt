@@ -5,7 +5,8 @@ use Rattle.std.specs.List.{join_with_byte}
 use Rattle.std.specs.Fmt.{decimal}
 use Rattle.omi_script.specs.Names.{text_of}
 use Rattle.omi_script.specs.Bodies.{name_at}
-use Rattle.omi_script.specs.Schedules.{schedule_kinds, name_in}
+use Rattle.omi_numbers.specs.Names.{name_in}
+use Rattle.omi_numbers.specs.Schedules.{schedule_kinds}
 use Rattle.omi_script.specs.declared.env.Env.{Env}
 use Rattle.omi_script.specs.declared.function.Func.{Func}
 use Rattle.omi_script.specs.declared.program.Program.{Program}

@@ -1,6 +1,7 @@
 -- The workload language: which texts are which programs, and which are refused, at which line and
 -- why.
 use Rattle.std.specs.Prelude.{◌≡◌, ℕ, true, false, List, [], ◌∷◌, position, codes, Some, unwrap_or}
+use Rattle.omi_numbers.specs.declared.schedules.TheConstants.{STATIC}
 use Rattle.omi_script.specs.ParserState.{is_called}
 use Rattle.omi_script.specs.Verdict.{Accepts, Refuses, verdict}
 use Rattle.omi_script.specs.declared.env.Env.{Env}
@@ -21,7 +22,7 @@ env_of h =
       nthreads = unwrap_or h.nthreads (threads_of h ∷ []);
       dynamic = unwrap_or h.dynamic false;
       max_active = unwrap_or h.max_active 8;
-      sched = unwrap_or h.sched (record { kind = 1; chunk = 0 });
+      sched = unwrap_or h.sched (record { kind = STATIC; chunk = 0 });
       device = unwrap_or h.device 0;
       debug = unwrap_or h.debug true;
       procs = unwrap_or h.procs 4;

@@ -2,7 +2,7 @@
 use Rattle.std.specs.Prelude.{ℕ, Bool, true, false, ◌==◌, List, [], ◌∷◌, length, Option, Some, None, option_map, is_some, if◌then◌else◌, bytes_eq, codes}
 use Rattle.std.specs.List.{list_any, slice_split}
 use Rattle.omi_script.specs.Numbers.{is_comma, number_of, sizes_of}
-use Rattle.omi_script.specs.Schedules.{schedule_kind_of}
+use Rattle.omi_numbers.specs.Schedules.{kind_of}
 use Rattle.omi_script.specs.declared.head.Head.{Head}
 use Rattle.omi_script.specs.declared.line.HeadLine.{HeadLine}
 use Rattle.omi_script.specs.declared.line.HeadLine.TheVariants.{Threads, NumThreads, Dynamic, MaxActive, Schedule, Device, Debug, Procs}
@@ -17,7 +17,7 @@ threads_line _ = None
 abbrev pub has_empty_piece : List ℕ → Bool
 has_empty_piece word = list_any (λ piece. length piece == 0) (slice_split is_comma word)
 
--- `env num_threads A,B,..`, 1 to 4 numbers, each 1 to 64
+-- `env num_threads A,B,..`, 1 to `MAX_SIZES` numbers, each 1 to `MAX_SIZE`
 abbrev pub num_threads_line : List ℕ → Option HeadLine
 num_threads_line value = if has_empty_piece value then None else Some (NumThreads (sizes_of value))
 
@@ -32,7 +32,7 @@ is_first_of on off word =
 abbrev pub dynamic_line : List ℕ → Option HeadLine
 dynamic_line value = option_map Dynamic (is_first_of (codes "true") (codes "false") value)
 
--- `env max_active_levels N`, N 0 to 255
+-- `env max_active_levels N`, N 0 to `MAX_LEVELS`
 abbrev pub max_active_line : List ℕ → Option HeadLine
 max_active_line value = Some (MaxActive (number_of 0 MAX_LEVELS value))
 
@@ -44,14 +44,14 @@ schedule_of chunk kind =
 -- KIND,CHUNK, by the pieces between commas
 abbrev pub kind_and_chunk : List (List ℕ) → Option HeadLine
 kind_and_chunk (kind ∷ chunk ∷ []) =
-    if length chunk == 0 then None else option_map (schedule_of chunk) (schedule_kind_of kind)
+    if length chunk == 0 then None else option_map (schedule_of chunk) (kind_of kind)
 kind_and_chunk _ = None
 
--- `env schedule KIND,CHUNK`, CHUNK 0 to 65535
+-- `env schedule KIND,CHUNK`, CHUNK 0 to `MAX_CHUNK`
 abbrev pub schedule_line : List ℕ → Option HeadLine
 schedule_line value = kind_and_chunk (slice_split is_comma value)
 
--- `env device N`, N 0 to 255
+-- `env device N`, N 0 to `MAX_DEVICE`
 abbrev pub device_line : List ℕ → Option HeadLine
 device_line value = Some (Device (number_of 0 MAX_DEVICE value))
 
@@ -59,7 +59,7 @@ device_line value = Some (Device (number_of 0 MAX_DEVICE value))
 abbrev pub debug_line : List ℕ → Option HeadLine
 debug_line value = option_map Debug (is_first_of (codes "enabled") (codes "disabled") value)
 
--- `env procs N`, N 1 to 65535
+-- `env procs N`, N 1 to `MAX_PROCS`
 abbrev pub procs_line : List ℕ → Option HeadLine
 procs_line value = Some (Procs (number_of 1 MAX_PROCS value))
 

@@ -1,6 +1,7 @@
 -- The ranges of the numbers in a program.
 use Rattle.std.specs.Prelude.{ℕ, Bool, true, ◌&&◌, nat_le, ◌^◌, ◌-◌, List, length, Option, Some, None}
 use Rattle.std.specs.List.{list_all}
+use Rattle.omi_numbers.specs.declared.schedules.TheConstants.{STATIC, AUTO}
 use Rattle.omi_script.specs.Names.{is_within}
 use Rattle.omi_script.specs.declared.env.Env.{Env}
 use Rattle.omi_script.specs.declared.statement.Sched.{Sched}
@@ -22,7 +23,7 @@ is_device n = nat_le n MAX_DEVICE
 
 -- the kind is one of static, dynamic, guided and auto, and the chunk not too large
 abbrev pub is_schedule : Sched → Bool
-is_schedule s = is_within 1 4 s.kind && nat_le s.chunk MAX_CHUNK
+is_schedule s = is_within STATIC AUTO s.kind && nat_le s.chunk MAX_CHUNK
 
 -- the element list of nthreads-var
 abbrev pub are_sizes : List ℕ → Bool

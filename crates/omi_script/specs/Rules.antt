@@ -1,6 +1,7 @@
 -- The rules of the language as plain facts of a program. Only the size of a text is no matter of
 -- a program.
 use Rattle.std.specs.Prelude.{◌≡◌, ℕ, List, ◌<◌, ◌≤◌, ◌^◌, ◌-◌, Bool, false, IsTrue, [], length, drop, replicate, slice_get, slice_index, sum_by, Option, Some, codes}
+use Rattle.omi_numbers.specs.declared.schedules.TheConstants.{STATIC, AUTO}
 use Rattle.omi_script.specs.Names.{text_of, is_name_text}
 use Rattle.omi_script.specs.Bodies.{name_at, body_of, HasStatement, named_by}
 use Rattle.omi_script.specs.Reach.{reach_of, reaches, reach_in}
@@ -18,7 +19,7 @@ IsSize n = (1 ≤ n) × (n ≤ MAX_SIZE)
 
 -- a schedule's kind (1 static, 2 dynamic, 3 guided, 4 auto), and its chunk
 abbrev pub IsSchedule : Sched → Type 0
-IsSchedule s = (1 ≤ s.kind) × (s.kind ≤ 4) × (s.chunk ≤ MAX_CHUNK)
+IsSchedule s = (STATIC ≤ s.kind) × (s.kind ≤ AUTO) × (s.chunk ≤ MAX_CHUNK)
 
 -- the numbers of a statement lie in their ranges
 abbrev pub IsInRange : Stmt → Type 0

@@ -1,25 +1,15 @@
--- The kinds of a schedule by OpenMP 5.0: their numbers in this profile, and their names.
-use Rattle.std.specs.Prelude.{ℕ, ◌==◌, List, [], ◌∷◌, codes, bytes_eq, Option, Some, None, if◌then◌else◌}
+-- A schedule as one word.
+use Rattle.std.specs.Prelude.{ℕ, ◌+◌, ◌*◌, ◌/◌, ◌%◌}
+use Rattle.omi_numbers.specs.declared.words.TheConstants.{CHUNK_PLACE}
+use Rattle.omi_script.specs.declared.statement.Sched.{Sched}
 
--- each kind's number and name
-abbrev pub schedule_kinds : List (ℕ × List ℕ)
-schedule_kinds =
-    (1, codes "static")
-    ∷ (2, codes "dynamic")
-    ∷ (3, codes "guided")
-    ∷ (4, codes "auto")
-    ∷ []
+-- the word of a schedule: its chunk, and behind it its kind
+abbrev pub schedule_word : Sched → ℕ
+schedule_word s = s.chunk * CHUNK_PLACE + s.kind
 
--- the name of a number in a table, if it is there
-abbrev pub name_in : List (ℕ × List ℕ) → ℕ → Option (List ℕ)
-name_in [] n = None
-name_in (row ∷ rows) n = if n == row.0 then Some row.1 else name_in rows n
+-- the kind and the chunk in such a word
+abbrev pub kind_in : ℕ → ℕ
+kind_in word = word % CHUNK_PLACE
 
--- the number of a name in a table, if it is there
-abbrev pub number_in : List (ℕ × List ℕ) → List ℕ → Option ℕ
-number_in [] word = None
-number_in (row ∷ rows) word = if bytes_eq word row.1 then Some row.0 else number_in rows word
-
--- the number of the kind with a name
-abbrev pub schedule_kind_of : List ℕ → Option ℕ
-schedule_kind_of word = number_in schedule_kinds word
+abbrev pub chunk_in : ℕ → ℕ
+chunk_in word = word / CHUNK_PLACE

@@ -6,6 +6,7 @@ ghost use Rattle.omi_script.specs.Grammar.{env_of, threads_of};
 
 use crate::line::HeadLine;
 use crate::{Env, NumList, OutOfMemory, Sched};
+use omi_numbers::STATIC;
 use std::alloc::Global;
 
 /// What head lines say, each field by its own line.
@@ -118,7 +119,10 @@ impl Head {
             nthreads: Head::sizes(alloc, threads, self.nthreads)?,
             dynamic: self.dynamic.unwrap_or(false),
             max_active: self.max_active.unwrap_or(8),
-            sched: self.sched.unwrap_or(Sched { kind: 1, chunk: 0 }),
+            sched: self.sched.unwrap_or(Sched {
+                kind: STATIC,
+                chunk: 0,
+            }),
             device: self.device.unwrap_or(0),
             debug: self.debug.unwrap_or(true),
             procs: self.procs.unwrap_or(4),

@@ -9,8 +9,8 @@ use crate::line::HeadLine;
 use crate::number_list::sizes;
 use crate::numbers::{number_u8, number_u16};
 use crate::pieces::{Words, cut_item};
-use crate::schedule::kind_number;
 use crate::{OutOfMemory, Sched};
+use omi_numbers::kind_number;
 use std::alloc::Global;
 
 /// `threads N`

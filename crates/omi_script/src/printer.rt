@@ -7,8 +7,8 @@ ghost use Rattle.omi_script.specs.Grammar.{Grammar};
 ghost use Rattle.std.specs.List.{join_with_byte};
 
 use crate::limits::MAX_BYTES;
-use crate::schedule::kind_name;
 use crate::{Env, Func, FuncList, NumList, OutOfMemory, Program, Sched, Stmt};
+use omi_numbers::kind_name;
 use std::alloc::Global;
 
 /// The name of a kind, none for a number that is no kind's.

@@ -1,8 +1,10 @@
 //! Statements, and lists of them.
 ghost use Rattle.std.specs.Prelude.{◌≡◌};
 ghost use Rattle.omi_script.specs.Constructs.{over};
+ghost use Rattle.omi_script.specs.Schedules.{schedule_word};
 
 use omi_list::{List, OutOfMemory, Same};
+use omi_numbers::CHUNK_PLACE;
 use std::alloc::Global;
 
 /// A schedule: its kind (1 static, 2 dynamic, 3 guided, 4 auto) and its chunk size.
@@ -10,6 +12,15 @@ use std::alloc::Global;
 pub struct Sched {
     pub kind: u8,
     pub chunk: u16,
+}
+
+impl Sched {
+    /// The schedule as one word: its chunk, and behind it its kind.
+    pub fn word(self) -> u64
+        ensures { result ≡ schedule_word self }
+    {
+        u64::from(self.chunk) * CHUNK_PLACE + u64::from(self.kind)
+    }
 }
 
 /// A statement. `f` is the number of a function.

@@ -8,8 +8,8 @@ use crate::limits::{MAX_DEVICE, MAX_LEVELS, MAX_LOCK, MAX_MEMBER, MAX_REPEATS, M
 use crate::line::Line;
 use crate::numbers::{number, number_u8, number_u16};
 use crate::pieces::{Word, Words};
-use crate::schedule::kind_number;
 use crate::statement::Construct;
+use omi_numbers::kind_number;
 
 /// `parallel F` or `parallel F num N`
 fn parallel<'a>(words: &mut Words<'a>) -> Option<Line<'a>>

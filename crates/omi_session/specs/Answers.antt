@@ -1,6 +1,8 @@
 -- What a state answers about its threads, regions and tasks, in the machine's words: a part of the state, Unavailable where the part is none, BadInput where a region has no such member, and Unsupported of native ids of another kind than 0.
-use Rattle.std.specs.Prelude.{◌==◌, ℕ, ◌+◌, slice_get, Result, Ok, Err, if◌then◌else◌}
+use Rattle.std.specs.Prelude.{◌==◌, ℕ, slice_get, Result, Ok, Err, if◌then◌else◌}
 use Rattle.std.specs.Option.{option_map, ok_or}
+use Rattle.omi_numbers.specs.Addresses.{entry_address}
+use Rattle.omi_numbers.specs.Words.{native_id}
 use Rattle.omi_model.specs.declared.id.Rid.{Rid}
 use Rattle.omi_model.specs.declared.id.Tid.{Tid}
 use Rattle.omi_model.specs.declared.region.Region.{Region}
@@ -17,7 +19,7 @@ thread_with s kind native =
 
 -- the native id of a thread
 abbrev pub id_of_thread : ℕ → ℕ → Result ℕ Rc
-id_of_thread kind i = if kind == 0 then Ok (1000 + i) else Err Unsupported
+id_of_thread kind i = if kind == 0 then Ok (native_id i) else Err Unsupported
 
 -- the current task of a thread, and the region of this task
 abbrev pub task_of_thread : State → ℕ → Result Tid Rc
@@ -50,4 +52,4 @@ scheduling_task t = ok_or t.scheduling Unavailable
 
 -- the entry address of a task's function
 abbrev pub function_of_task : Task → Result ℕ Rc
-function_of_task t = Ok (view.entry_address t.function)
+function_of_task t = Ok (entry_address t.function)

@@ -1,7 +1,8 @@
 -- What calls answer where the words that the callbacks tell show a state, about the objects of this state that a tool may be shown.
-use Rattle.std.specs.Prelude.{◌≡◌, ◌≢◌, ℕ, ◌+◌, ◌*◌, List, Option, Some, Result, Ok, Err}
+use Rattle.std.specs.Prelude.{◌≡◌, ◌≢◌, ℕ, List, Option, Some, Result, Ok, Err}
 use Rattle.omi_word.specs.Words.{Words}
 use Rattle.omi_calls.specs.Told.{Told}
+use Rattle.omi_numbers.specs.Lives.{life_word}
 use Rattle.omi_handle.specs.declared.handle.Kind.TheVariants as kind
 use Rattle.omi_handle.specs.declared.handle.Held.{Held}
 use Rattle.omi_handle.specs.Ledger.{Ledger}
@@ -27,11 +28,11 @@ held_thread w i = record { kind = kind.Thread; addr = thread_address w i; life =
 
 abbrev pub held_region : List ℕ → Rid → Held
 held_region w n =
-    record { kind = kind.Region; addr = region_address w n; life = 2 * n.0.generation + 1 }
+    record { kind = kind.Region; addr = region_address w n; life = life_word n.0.generation }
 
 abbrev pub held_task : List ℕ → Tid → Held
 held_task w k =
-    record { kind = kind.Task; addr = task_address w k; life = 2 * k.0.generation + 1 }
+    record { kind = kind.Task; addr = task_address w k; life = life_word k.0.generation }
 
 -- the callbacks tell words that show the state in this layout, which is valid
 pub record ShowsTold (told : Told) (w : List ℕ) (s : State) : Type 0 where

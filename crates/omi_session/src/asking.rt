@@ -17,6 +17,7 @@ use crate::session::Session;
 use omi_calls::{Callbacks, ToHost};
 use omi_handle::{Held, Kind};
 use omi_layout::{Field, Layout};
+use omi_numbers::LIFE_END;
 
 /// The field that has the life word of the records of a kind of object.
 pub fn life_field(kind: Kind) -> Field
@@ -35,7 +36,7 @@ fn is_live(kind: Kind, life: u64) -> bool
 {
     match kind {
         Kind::Thread => life == 1,
-        Kind::Region | Kind::Task => life % 2 == 1 && life < 1 << 33,
+        Kind::Region | Kind::Task => life % 2 == 1 && life < LIFE_END,
     }
 }
 

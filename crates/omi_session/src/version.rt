@@ -1,13 +1,16 @@
 //! The versions of the library.
 
 ghost use Rattle.std.specs.Prelude.{◌≡◌, codes};
+ghost use Rattle.omi_numbers.specs.declared.words.TheConstants.{OPENMP_VERSION};
+
+use omi_numbers::OPENMP_VERSION;
 
 /// The version of the API: that of OpenMP 5.0, as year and month.
-pub const API_VERSION: u64 = 201811;
+pub const API_VERSION: u64 = OPENMP_VERSION;
 
 /// The version of the API.
 pub fn get_api_version() -> u64
-    ensures { result ≡ 201811 }
+    ensures { result ≡ OPENMP_VERSION }
 {
     API_VERSION
 }

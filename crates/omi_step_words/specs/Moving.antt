@@ -1,6 +1,11 @@
--- How a step leaves an actor: at another counter of a family, with another thing gathered.
+-- How a step leaves an actor: at another counter of a family, with another thing gathered, with another task current.
 use Rattle.std.specs.Prelude.{ℕ, slice_set}
+use Rattle.std.specs.Prelude.{ℕ, List}
+use Rattle.omi_word.specs.declared.op.Op.{Op}
+use Rattle.omi_word.specs.declared.op.Op.TheVariants as op
 use Rattle.omi_model.specs.declared.id.Tid.{Tid}
+use Rattle.omi_layout.specs.declared.field.Field.TheVariants.{ThreadCurrent}
+use Rattle.omi_rep.specs.Records.{task_address}
 use Rattle.omi_pc.specs.declared.actor.Actor.{Actor}
 use Rattle.omi_pc.specs.declared.counter.Counter.TheVariants as counter
 use Rattle.omi_pc.specs.declared.gathered.Gathered.{Gathered}
@@ -12,6 +17,7 @@ use Rattle.omi_pc.specs.declared.team_counter.JoinCounter.{JoinCounter}
 use Rattle.omi_pc.specs.declared.team_counter.TeamCounter.{TeamCounter}
 use Rattle.omi_pc.specs.declared.team_counter.WorkerCounter.{WorkerCounter}
 use Rattle.omi_pc.specs.Moves.{closed}
+use Rattle.omi_step_words.specs.Words.{of_thread}
 
 -- a counter of a family comes next. For the plain family this is `goes_to` of omi_pc
 abbrev pub to_worker : WorkerCounter → Actor → Actor
@@ -47,3 +53,7 @@ with_loaded_variable word old a =
 -- the task from which the current one is scheduled
 abbrev pub task_under : Actor → Tid
 task_under a = (closed a).context.task
+
+-- the store of that task into the thread's current word
+abbrev pub storing_under : List ℕ → Actor → Op
+storing_under w a = op.Store (of_thread w a.thread ThreadCurrent) (task_address w (task_under a))

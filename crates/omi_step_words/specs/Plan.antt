@@ -5,7 +5,8 @@ use Rattle.omi_word.specs.declared.op.Op.TheVariants as op
 use Rattle.omi_model.specs.declared.id.Id.{Id}
 use Rattle.omi_layout.specs.declared.field.Field.{Field}
 use Rattle.omi_layout.specs.declared.field.Field.TheVariants.{RegionFunction, RegionEnclosing, RegionEncountering, RegionSize, RegionLevels, RegionActive, RegionReleased, RegionArrived, RegionPending, RegionLeft, TaskImplicit, TaskRegion, TaskThread, TaskNumber, TaskGenerating, TaskScheduling, TaskFunction, TaskExit, TaskEnter, TaskDynamic, TaskNthreadsLength, TaskSchedule, TaskDevice, TaskFinal, TaskTool, TaskChildren, TaskReferences, TaskNthreads, TaskSlots}
-use Rattle.omi_layout.specs.Codes.{flag_word, function_word}
+use Rattle.omi_numbers.specs.Words.{flag}
+use Rattle.omi_numbers.specs.Addresses.{entry_address}
 use Rattle.omi_layout.specs.Field.{IsField, kind_of}
 use Rattle.omi_layout.specs.Memory.{word_address}
 use Rattle.omi_layout.specs.Named.{number}
@@ -37,7 +38,7 @@ filling w n x = op.Store (word_address w n.creator n.slot (number x.field) x.at)
 -- the words of a region's record, but for its life word and its team, in the order of their stores
 abbrev pub region_words : List ℕ → NewRegion → List Planned
 region_words w n =
-    filled RegionFunction 0 (function_word n.function)
+    filled RegionFunction 0 (entry_address n.function)
     ∷ filled RegionEnclosing 0 (region_address w n.enclosing)
     ∷ filled RegionEncountering 0 (task_address w n.encountering)
     ∷ filled RegionSize 0 n.size
@@ -58,20 +59,20 @@ region_plan w n word = slice_index_or (region_words w n) word (zero_in RegionLef
 abbrev pub task_words : List ℕ → NewTask → List Planned
 task_words w t =
     let variable = slice_index t.variables in
-    filled TaskImplicit 0 (flag_word t.implicit)
+    filled TaskImplicit 0 (flag t.implicit)
     ∷ filled TaskRegion 0 (region_address w t.region)
     ∷ filled TaskThread 0 (thread_address w t.thread)
     ∷ filled TaskNumber 0 t.number
     ∷ filled TaskGenerating 0 (task_address w t.generating)
     ∷ filled TaskScheduling 0 (task_word w t.scheduling)
-    ∷ filled TaskFunction 0 (function_word t.function)
+    ∷ filled TaskFunction 0 (entry_address t.function)
     ∷ filled TaskExit 0 t.exit
     ∷ zero_in TaskEnter 0
     ∷ filled TaskDynamic 0 (variable 0)
     ∷ filled TaskNthreadsLength 0 (variable 1)
     ∷ filled TaskSchedule 0 (variable 2)
     ∷ filled TaskDevice 0 (variable 3)
-    ∷ filled TaskFinal 0 (flag_word t.is_final)
+    ∷ filled TaskFinal 0 (flag t.is_final)
     ∷ zero_in TaskTool 0
     ∷ zero_in TaskChildren 0
     ∷ filled TaskReferences 0 t.references

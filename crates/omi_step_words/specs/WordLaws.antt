@@ -1,12 +1,12 @@
 -- Laws of the words that steps store and read back.
 use Rattle.std.specs.Prelude.{◌≡◌, ℕ, ◌+◌, ◌^◌, ◌<◌, true, List}
 use Rattle.omi_model.specs.declared.id.Id.{Id}
-use Rattle.omi_layout.specs.Codes.{function_word}
+use Rattle.omi_numbers.specs.Addresses.{entry_address, function_at}
 use Rattle.omi_layout.specs.Field.{IsKind}
 use Rattle.omi_layout.specs.Place.{IsSlot, slot_address}
 use Rattle.omi_layout.specs.Valid.{IsValid}
 use Rattle.omi_pc.specs.declared.place.Place.{Place}
-use Rattle.omi_step_words.specs.Words.{function_at, generation_of, is_free, object_in, place_at, used_word}
+use Rattle.omi_step_words.specs.Words.{generation_of, is_free, object_in, place_at, used_word}
 
 -- the address of a record tells its slot
 abbrev pub PlacesAreReadBack : Type 0
@@ -17,7 +17,7 @@ PlacesAreReadBack =
 
 -- the entry address of a function tells its number
 abbrev pub FunctionsAreReadBack : Type 0
-FunctionsAreReadBack = (f : ℕ) → f < 256 → function_at (function_word f) ≡ f
+FunctionsAreReadBack = (f : ℕ) → f < 256 → function_at (entry_address f) ≡ f
 
 -- the life word of a record in use tells the generation of its object
 abbrev pub GenerationsAreReadBack : Type 0

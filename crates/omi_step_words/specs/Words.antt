@@ -1,5 +1,7 @@
 -- The words on which a step operates, by the record and the field, and what is read back from a word.
 use Rattle.std.specs.Prelude.{ℕ, ◌==◌, ◌+◌, ◌-◌, ◌*◌, ◌/◌, ◌%◌, ◌^◌, ◌&&◌, nat_lt, Bool, List, if◌then◌else◌}
+use Rattle.omi_numbers.specs.declared.lives.TheConstants.{LIFE_END}
+use Rattle.omi_numbers.specs.Lives.{life_word}
 use Rattle.omi_model.specs.declared.id.Id.{Id}
 use Rattle.omi_model.specs.declared.id.Rid.{Rid}
 use Rattle.omi_model.specs.declared.id.Tid.{Tid}
@@ -39,7 +41,7 @@ of_member w r member = word_address w r.0.creator r.0.slot (number RegionTeam) m
 
 -- the life word of a record that is in use
 abbrev pub used_word : Id → ℕ
-used_word n = 2 * n.generation + 1
+used_word n = life_word n.generation
 
 -- the life word of a record whose object is given back
 abbrev pub unused_word : Id → ℕ
@@ -47,7 +49,7 @@ unused_word n = 2 * n.generation + 2
 
 -- a record that may be taken: its life word is even, and a further generation has a number
 abbrev pub is_free : ℕ → Bool
-is_free life = life % 2 == 0 && nat_lt life (2 ^ 33)
+is_free life = life % 2 == 0 && nat_lt life LIFE_END
 
 -- the generation that a life word counts
 abbrev pub generation_of : ℕ → ℕ
@@ -89,10 +91,6 @@ task_place w address = place_at w tasks address
 
 abbrev pub region_place : List ℕ → ℕ → Place
 region_place w address = place_at w regions address
-
--- the function with an entry address
-abbrev pub function_at : ℕ → ℕ
-function_at word = (word - 0x400000) / 16 % 256
 
 -- ---- sums
 

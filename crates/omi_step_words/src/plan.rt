@@ -1,7 +1,6 @@
 //! What a record in the making is filled with, word by word.
 
 ghost use Rattle.std.specs.Prelude.{◌≡◌, ◌<◌};
-ghost use Rattle.omi_layout.specs.Codes.{function_word};
 ghost use Rattle.omi_layout.specs.Field.{IsField, kind_of, regions, tasks};
 ghost use Rattle.omi_layout.specs.Named.{number};
 ghost use Rattle.omi_layout.specs.Table.{thread_count, width};
@@ -12,6 +11,7 @@ ghost use Rattle.omi_step_words.specs.Plan.{IsPlannedIn, filled, inherited_words
 
 use omi_layout::{Field, Layout};
 use omi_model::{Rid, Tid};
+use omi_numbers::entry_address;
 use omi_pc::limits::VARIABLE_WORDS;
 
 /// A word that is stored into a record: the field, the place in the field, and the word.
@@ -50,13 +50,6 @@ pub struct NewTask {
     pub variables: [u64; VARIABLE_WORDS],
 }
 
-/// The entry address of a function, by its number.
-fn function_word(f: u8) -> u64
-    ensures { result ≡ function_word f }
-{
-    0x40_0000 + 16 * u64::from(f)
-}
-
 /// The address of the record of a task, and 0 for none.
 fn task_word(l: &Layout, task: Option<Tid>) -> u64
     requires { HasOptionalTask l.now.table task }
@@ -86,7 +79,7 @@ pub fn region_plan(l: &Layout, n: &NewRegion, word: u8) -> Planned
     let enclosing = n.enclosing.0;
     let encountering = n.encountering.0;
     match word {
-        0 => filled(Field::RegionFunction, 0, function_word(n.function)),
+        0 => filled(Field::RegionFunction, 0, entry_address(n.function)),
         1 => filled(
             Field::RegionEnclosing,
             0,
@@ -133,7 +126,7 @@ pub fn task_plan(l: &Layout, t: &NewTask, word: u8) -> Planned
             l.task_at(t.generating.0.creator, t.generating.0.slot),
         ),
         5 => filled(Field::TaskScheduling, 0, task_word(l, t.scheduling)),
-        6 => filled(Field::TaskFunction, 0, function_word(t.function)),
+        6 => filled(Field::TaskFunction, 0, entry_address(t.function)),
         7 => filled(Field::TaskExit, 0, t.exit),
         8 => filled(Field::TaskEnter, 0, 0),
         9 => filled(Field::TaskDynamic, 0, v[0]),

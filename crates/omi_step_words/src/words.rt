@@ -1,16 +1,13 @@
 //! What is read back from words.
 
-ghost use Rattle.std.specs.Prelude.{◌≡◌, ◌≤◌, ◌+◌, ◌*◌};
-ghost use Rattle.omi_layout.specs.Codes.{exit_word};
+ghost use Rattle.std.specs.Prelude.{◌≡◌, ◌+◌, ◌*◌};
 ghost use Rattle.omi_step_words.specs.Words;
 ghost use Rattle.omi_step_words.specs.Words.{unused_word, used_word};
 
 use omi_layout::Layout;
 use omi_model::Id;
+use omi_numbers::{LIFE_END, life_word};
 use omi_pc::Place;
-
-/// The entry address of function 0. That of the next one is 16 bytes behind it.
-const FIRST_FUNCTION: u64 = 0x40_0000;
 
 /// The place that stands for an address where no record begins.
 const FIRST_PLACE: Place = Place {
@@ -38,13 +35,6 @@ pub fn region_place(l: &Layout, address: u64) -> Place
     }
 }
 
-/// The number of the function with an entry address.
-pub fn function_at(word: u64) -> u8
-    ensures { result ≡ Words.function_at word }
-{
-    (word.saturating_sub(FIRST_FUNCTION) / 16 % 256) as u8
-}
-
 /// The generation that a life word counts.
 pub fn generation_of(life: u64) -> u32
     ensures { result ≡ Words.generation_of life }
@@ -67,14 +57,14 @@ pub fn object_in(at: Place, life: u64) -> Id
 pub fn is_free(life: u64) -> bool
     ensures { result ≡ Words.is_free life }
 {
-    life % 2 == 0 && life < 1 << 33
+    life % 2 == 0 && life < LIFE_END
 }
 
 /// The life word of a record that is in use.
 pub fn used_word(n: Id) -> u64
     ensures { result ≡ used_word n }
 {
-    2 * u64::from(n.generation) + 1
+    life_word(n.generation)
 }
 
 /// The life word of a record whose object is given back.
@@ -82,12 +72,4 @@ pub fn unused_word(n: Id) -> u64
     ensures { result ≡ unused_word n }
 {
     2 * u64::from(n.generation) + 2
-}
-
-/// The exit frame of a thread's task, where so many tasks are on the thread's chain, this one included.
-pub fn exit_word(thread: u8, depth: u64) -> u64
-    requires { depth ≤ 65536 }
-    ensures { result ≡ exit_word thread depth }
-{
-    0x7f00_0000_0000 + 0x10_0000 * (u64::from(thread) + 1) - 64 * depth
 }

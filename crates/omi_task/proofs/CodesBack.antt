@@ -2,6 +2,7 @@
 use Rattle.std.proofs.Common.{◌≡◌, ℕ, ◌+◌, ◌*◌, ◌/◌, ◌%◌, ◌^◌, ◌<◌, nat_lt, true, List, refl, ap, ap₂, ◌∙◌, arith, if◌then◌else◌}
 use Rattle.std.proofs.lemmas.Bool.Decides.{nat_tests}
 use Rattle.std.proofs.lemmas.Nat.{div-mul-add, mod-mul-add}
+use Rattle.omi_rep.specs.Records.{slot_word}
 use Rattle.omi_model.specs.declared.id.Tid.{Tid}
 use Rattle.omi_layout.specs.Field.{tasks}
 use Rattle.omi_layout.specs.Table.{makers, per_thread}
@@ -12,7 +13,7 @@ use Rattle.omi_step_words.specs.Placed.{HasTask}
 use Rattle.omi_step_words.specs.Words.{initial_place, generation_of, slot_by, used_word}
 use Rattle.omi_step_words.proofs.ReadBack.{generations_back}
 use Rattle.omi_task.specs.SlotLaws.{CodesAreNotZero, CodesAreReadBack}
-use Rattle.omi_task.specs.Slots.{coded_place, slot_word}
+use Rattle.omi_task.specs.Slots.{coded_place}
 
 module _ (w : List ℕ) (k : Tid) (valid : IsValid w) (there : HasTask w k) where
   abbrev index : ℕ

@@ -5,10 +5,9 @@ use Rattle.omi_word.specs.declared.op.Op.{Op}
 use Rattle.omi_word.specs.declared.op.Op.TheVariants as op
 use Rattle.omi_script.specs.declared.program.Program.{Program}
 use Rattle.omi_model.specs.declared.event.Event.TheVariants as event
-use Rattle.omi_layout.specs.declared.field.Field.TheVariants.{ThreadCurrent, RegionPending, TaskLife, TaskImplicit, TaskGenerating, TaskChildren, TaskReferences}
+use Rattle.omi_layout.specs.declared.field.Field.TheVariants.{RegionPending, TaskLife, TaskImplicit, TaskGenerating, TaskChildren, TaskReferences}
 use Rattle.omi_rep.specs.declared.outcome.Outcome.{Outcome}
 use Rattle.omi_rep.specs.declared.outcome.Outcome.TheVariants as outcome
-use Rattle.omi_rep.specs.Records.{task_address}
 use Rattle.omi_pc.specs.declared.actor.Actor.{Actor}
 use Rattle.omi_pc.specs.declared.counter.Counter.{Counter}
 use Rattle.omi_pc.specs.declared.counter.Counter.TheVariants as counter
@@ -24,14 +23,13 @@ use Rattle.omi_pc.specs.declared.task_counter.FinishCounter.{FinishCounter}
 use Rattle.omi_pc.specs.declared.task_counter.FinishCounter.TheVariants as finish
 use Rattle.omi_pc.specs.declared.task_counter.LookCounter.TheVariants as look
 use Rattle.omi_pc.specs.Moves.{closed}
-use Rattle.omi_step_words.specs.Moving.{task_under, to_finish}
-use Rattle.omi_step_words.specs.Words.{object_in, of_place, of_region, of_task, of_thread, task_place, unused_word}
+use Rattle.omi_step_words.specs.Moving.{storing_under, to_finish}
+use Rattle.omi_step_words.specs.Words.{object_in, of_place, of_region, of_task, task_place, unused_word}
 
 -- ---- operations
 
 abbrev pub finish_next : List ℕ → Actor → FinishCounter → Op
-finish_next w a finish.Finish =
-    op.Store (of_thread w a.thread ThreadCurrent) (task_address w (task_under a))
+finish_next w a finish.Finish = storing_under w a
 finish_next w a (finish.LoadGenerating v t) = op.Load (of_task w t TaskGenerating)
 finish_next w a (finish.SubtractChildren v t generating) =
     op.Sub (of_place w generating TaskChildren) 1

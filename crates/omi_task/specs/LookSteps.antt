@@ -6,9 +6,10 @@ use Rattle.omi_word.specs.declared.op.Op.TheVariants as op
 use Rattle.omi_script.specs.declared.program.Program.{Program}
 use Rattle.omi_model.specs.declared.event.Event.TheVariants as event
 use Rattle.omi_model.specs.declared.id.Tid.{Tid}
-use Rattle.omi_model.specs.Numbers.{wait_barrier_explicit, wait_barrier_implicit_parallel, wait_taskwait}
+use Rattle.omi_numbers.specs.declared.states.TheConstants.{WAIT_BARRIER_EXPLICIT, WAIT_BARRIER_IMPLICIT_PARALLEL, WAIT_TASKWAIT}
+use Rattle.omi_numbers.specs.Words.{state_word}
+use Rattle.omi_numbers.specs.Addresses.{function_at}
 use Rattle.omi_layout.specs.declared.field.Field.TheVariants.{ThreadNative, ThreadCurrent, ThreadState, TaskGenerating, TaskFunction, TaskFinal, TaskChildren, TaskSlots}
-use Rattle.omi_layout.specs.Codes.{state_word}
 use Rattle.omi_layout.specs.Memory.{word_address}
 use Rattle.omi_layout.specs.Named.{number}
 use Rattle.omi_rep.specs.declared.outcome.Outcome.{Outcome}
@@ -22,7 +23,8 @@ use Rattle.omi_pc.specs.declared.frame.Barrier.{Barrier}
 use Rattle.omi_pc.specs.declared.frame.Barrier.TheVariants.{Explicit, Implicit}
 use Rattle.omi_pc.specs.declared.frame.Wait.{Wait}
 use Rattle.omi_pc.specs.declared.frame.Wait.TheVariants as wait
-use Rattle.omi_pc.specs.declared.limits.TheConstants.{OWN_SLOTS, START_WORDS}
+use Rattle.omi_numbers.specs.declared.limits.TheConstants.{OWN_SLOTS}
+use Rattle.omi_pc.specs.declared.limits.TheConstants.{START_WORDS}
 use Rattle.omi_pc.specs.declared.place.Place.{Place}
 use Rattle.omi_pc.specs.declared.task_counter.LookCounter.{LookCounter}
 use Rattle.omi_pc.specs.declared.task_counter.LookCounter.TheVariants as look
@@ -32,7 +34,7 @@ use Rattle.omi_pc.specs.Moves.{begun_explicit, back_to_work}
 use Rattle.omi_pc.specs.Settle.{goes_to, settled}
 use Rattle.omi_step_words.specs.Moving.{to_look}
 use Rattle.omi_step_words.specs.Plan.{filling}
-use Rattle.omi_step_words.specs.Words.{function_at, of_member, of_task, of_thread, task_place}
+use Rattle.omi_step_words.specs.Words.{of_member, of_task, of_thread, task_place}
 use Rattle.omi_task.specs.Slots.{coded_task}
 use Rattle.omi_task.specs.Starts.{start_plan, task_context}
 
@@ -40,9 +42,9 @@ use Rattle.omi_task.specs.Starts.{start_plan, task_context}
 
 -- the state of a thread that waits. At `taskyield` it stores none
 abbrev pub wait_state : Wait → ℕ
-wait_state (wait.Barrier Explicit) = wait_barrier_explicit
-wait_state (wait.Barrier Implicit) = wait_barrier_implicit_parallel
-wait_state wait.Taskwait = wait_taskwait
+wait_state (wait.Barrier Explicit) = WAIT_BARRIER_EXPLICIT
+wait_state (wait.Barrier Implicit) = WAIT_BARRIER_IMPLICIT_PARALLEL
+wait_state wait.Taskwait = WAIT_TASKWAIT
 wait_state wait.Taskyield = 0
 
 -- the member whose slot is looked at, by the slot's number: each member has the same count of them

@@ -9,16 +9,17 @@ use Rattle.omi_script.specs.declared.statement.Stmt.TheVariants as stmt
 use Rattle.omi_model.specs.declared.event.Event.TheVariants as event
 use Rattle.omi_model.specs.declared.id.Tid.{Tid}
 use Rattle.omi_layout.specs.declared.field.Field.TheVariants.{ThreadCurrent, RegionPending, TaskLife, TaskChildren, TaskReferences, TaskSlots}
-use Rattle.omi_layout.specs.Codes.{exit_word}
+use Rattle.omi_numbers.specs.Addresses.{exit_frame}
 use Rattle.omi_layout.specs.Field.{tasks}
 use Rattle.omi_layout.specs.Memory.{word_address}
 use Rattle.omi_layout.specs.Named.{number}
 use Rattle.omi_rep.specs.declared.outcome.Outcome.{Outcome}
 use Rattle.omi_rep.specs.declared.outcome.Outcome.TheVariants as outcome
-use Rattle.omi_rep.specs.Records.{task_address}
+use Rattle.omi_rep.specs.Records.{task_address, slot_word}
 use Rattle.omi_pc.specs.declared.actor.Actor.{Actor}
 use Rattle.omi_pc.specs.declared.counter.PlainCounter.TheVariants.{Leave}
-use Rattle.omi_pc.specs.declared.limits.TheConstants.{OWN_SLOTS, TASK_WORDS, VARIABLE_WORDS}
+use Rattle.omi_numbers.specs.declared.limits.TheConstants.{OWN_SLOTS}
+use Rattle.omi_pc.specs.declared.limits.TheConstants.{TASK_WORDS, VARIABLE_WORDS}
 use Rattle.omi_pc.specs.declared.task_counter.TaskCounter.{TaskCounter}
 use Rattle.omi_pc.specs.declared.task_counter.TaskCounter.TheVariants as task
 use Rattle.omi_pc.specs.Frames.{statement_of}
@@ -29,7 +30,6 @@ use Rattle.omi_step_words.specs.Moving.{gathering, to_task, with_loaded_variable
 use Rattle.omi_step_words.specs.Plan.{filling, of_variable, task_plan}
 use Rattle.omi_step_words.specs.Searches.{next_slot, own_place, search_outcome}
 use Rattle.omi_step_words.specs.Words.{is_free, object_in, of_place, of_region, of_task, of_thread, used_word}
-use Rattle.omi_task.specs.Slots.{slot_word}
 use Rattle.omi_task.specs.Starts.{task_context, task_depth}
 
 -- ---- the statement
@@ -64,7 +64,7 @@ new_task p a =
       generating = a.context.task;
       scheduling = Some a.context.task;
       function = made_function p a;
-      exit = exit_word a.thread (task_depth a);
+      exit = exit_frame a.thread (task_depth a);
       is_final = makes_final p a;
       references = 0;
       variables = a.gathered.variables;

@@ -2,7 +2,7 @@
 use Rattle.std.specs.Prelude.{ℕ, ◌+◌, Bool, false, List, [], ◌∷◌, slice_index_or}
 use Rattle.omi_model.specs.declared.id.Tid.{Tid}
 use Rattle.omi_layout.specs.declared.field.Field.TheVariants.{TaskThread, TaskNumber, TaskScheduling, TaskExit, TaskEnter}
-use Rattle.omi_layout.specs.Codes.{exit_word}
+use Rattle.omi_numbers.specs.Addresses.{exit_frame}
 use Rattle.omi_rep.specs.Records.{task_address, thread_address}
 use Rattle.omi_pc.specs.declared.actor.Actor.{Actor}
 use Rattle.omi_pc.specs.declared.context.Context.{Context}
@@ -19,7 +19,7 @@ start_words w a =
     filled TaskThread 0 (thread_address w a.thread)
     ∷ filled TaskNumber 0 a.context.number
     ∷ filled TaskScheduling 0 (task_address w a.context.task)
-    ∷ filled TaskExit 0 (exit_word a.thread (task_depth a))
+    ∷ filled TaskExit 0 (exit_frame a.thread (task_depth a))
     ∷ zero_in TaskEnter 0
     ∷ []
 

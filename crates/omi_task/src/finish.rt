@@ -4,7 +4,6 @@ ghost use Rattle.std.specs.Prelude.{◌≡◌};
 ghost use Rattle.omi_layout.specs.Table.{thread_count};
 ghost use Rattle.omi_pc.specs.Fits.{Fits};
 ghost use Rattle.omi_pc.specs.declared.counter.Counter.TheVariants as counter;
-ghost use Rattle.omi_pc.specs.declared.task_counter.FinishCounter.TheVariants.{Finish};
 ghost use Rattle.omi_step_words.specs.Moving.{to_finish};
 ghost use Rattle.omi_step_words.specs.Placed.{IsPlaced};
 ghost use Rattle.omi_task.specs.FinishSteps.{behind_finish, behind_references, finish_moved, finish_next, finish_outcome, past_finish, wait_of};
@@ -15,23 +14,9 @@ use omi_pc::{Actor, Ancestor, Counter, FinishCounter, LookCounter, Opened, Plain
 use omi_rep::Outcome;
 use omi_script::Program;
 use omi_step_words::{
-    load, object_in, of_place, of_region, of_task, of_thread, store, task_place, task_under,
-    unused_word,
+    load, object_in, of_place, of_region, of_task, store, store_under, task_place, unused_word,
 };
 use omi_word::Op;
-
-/// The store of the task below into the current word.
-fn store_finished(p: &Program, l: &Layout, a: &Actor) -> Op
-    requires fits { Fits p.now a.now }
-    requires threads { p.now.threads ≡ thread_count l.now.table }
-    requires placed { IsPlaced l.now.table a.now }
-    requires at { a.now.counter ≡ counter.Finish Finish }
-    ensures { result ≡ finish_next l.now.table a.now Finish }
-{
-    let task = task_under(a);
-    let record = l.task_at(task.0.creator, task.0.slot);
-    store(of_thread(l, a.thread, Field::ThreadCurrent), record)
-}
 
 /// The operation that a thread makes next behind the end of an explicit task.
 pub fn finish_next(p: &Program, l: &Layout, a: &Actor, c: FinishCounter) -> Op
@@ -42,7 +27,7 @@ pub fn finish_next(p: &Program, l: &Layout, a: &Actor, c: FinishCounter) -> Op
     ensures { result ≡ finish_next l.now.table a.now c }
 {
     match c {
-        FinishCounter::Finish => store_finished(p, l, a),
+        FinishCounter::Finish => store_under(l, a),
         FinishCounter::LoadGenerating { task, .. } => load(of_task(l, task, Field::TaskGenerating)),
         FinishCounter::SubtractChildren { generating, .. } => Op::Sub {
             at: of_place(l, generating, Field::TaskChildren),

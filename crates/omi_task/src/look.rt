@@ -1,6 +1,7 @@
 //! The operations and the outcomes of a wait.
 
 ghost use Rattle.std.specs.Prelude.{◌≡◌, ◌<◌};
+ghost use Rattle.omi_numbers.specs.declared.words.TheConstants.{WAIT_PLACE};
 ghost use Rattle.omi_layout.specs.Table.{thread_count};
 ghost use Rattle.omi_pc.specs.Fits.{Fits};
 ghost use Rattle.omi_pc.specs.declared.counter.Counter.TheVariants as counter;
@@ -11,32 +12,27 @@ use crate::slots::coded_task;
 use crate::starts::start_plan;
 use omi_layout::{Field, Layout};
 use omi_model::Event;
-use omi_pc::limits::OWN_SLOTS;
+use omi_numbers::{
+    OWN_SLOTS, WAIT_BARRIER_EXPLICIT, WAIT_BARRIER_IMPLICIT_PARALLEL, WAIT_TASKWAIT, state_word,
+};
 use omi_pc::{Actor, Barrier, LookCounter, Place, Wait};
 use omi_rep::Outcome;
 use omi_script::Program;
 use omi_step_words::{fill, load, of_task, of_thread, store};
 use omi_word::Op;
 
-/// The states of a thread that waits.
-const WAIT_EXPLICIT: u32 = 0x014;
-
-const WAIT_IMPLICIT: u32 = 0x011;
-
-const WAIT_TASKWAIT: u32 = 0x020;
-
 /// The state of a thread that waits, and 0 for a wait in which it stores none.
 fn wait_state(v: Wait) -> u32
     ensures value { result ≡ wait_state v }
-    ensures small { result < 65536 }
+    ensures small { result < WAIT_PLACE }
 {
     match v {
         Wait::Barrier {
             barrier: Barrier::Explicit,
-        } => WAIT_EXPLICIT,
+        } => WAIT_BARRIER_EXPLICIT,
         Wait::Barrier {
             barrier: Barrier::Implicit,
-        } => WAIT_IMPLICIT,
+        } => WAIT_BARRIER_IMPLICIT_PARALLEL,
         Wait::Taskwait => WAIT_TASKWAIT,
         Wait::Taskyield => 0,
     }
@@ -63,7 +59,7 @@ pub fn look_next(p: &Program, l: &Layout, a: &Actor, c: LookCounter) -> Op
     match c {
         LookCounter::State { wait } => store(
             of_thread(l, i, Field::ThreadState),
-            u64::from(wait_state(wait)),
+            state_word(wait_state(wait), 0),
         ),
         LookCounter::LoadRow { look, .. } => {
             let region = a.context.region.0;

@@ -16,14 +16,15 @@ use crate::slots::coded_task;
 use crate::starts::task_context;
 use omi_layout::Layout;
 use omi_model::Tid;
-use omi_pc::limits::{OWN_SLOTS, START_WORDS};
+use omi_numbers::{OWN_SLOTS, function_at};
+use omi_pc::limits::START_WORDS;
 use omi_pc::{
     Actor, BarrierCounter, Counter, LookCounter, Place, PlainCounter, Wait, bodies_stand,
     stacks_have_room,
 };
 use omi_rep::Outcome;
 use omi_script::Program;
-use omi_step_words::{function_at, task_place};
+use omi_step_words::task_place;
 
 /// The slots of all members.
 fn slots(p: &Program, a: &Actor) -> u64

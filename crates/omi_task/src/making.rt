@@ -6,7 +6,8 @@ ghost use Rattle.omi_layout.specs.Place.{IsSlot};
 ghost use Rattle.omi_layout.specs.Table.{thread_count};
 ghost use Rattle.omi_pc.specs.Fits.{Fits};
 ghost use Rattle.omi_pc.specs.declared.counter.Counter.TheVariants as counter;
-ghost use Rattle.omi_pc.specs.declared.limits.TheConstants.{OWN_SLOTS, TASK_WORDS};
+ghost use Rattle.omi_numbers.specs.declared.limits.TheConstants.{OWN_SLOTS};
+ghost use Rattle.omi_pc.specs.declared.limits.TheConstants.{TASK_WORDS};
 ghost use Rattle.omi_step_words.specs.Placed.{HasOptionalTask, HasRegion, HasTask, IsPlaced};
 ghost use Rattle.omi_step_words.specs.Plan.{filling, task_plan};
 ghost use Rattle.omi_task.specs.MakingSteps;
@@ -15,12 +16,13 @@ ghost use Rattle.omi_task.specs.MakingSteps.{making_next, making_outcome, new_ta
 use crate::slots::slot_word;
 use omi_layout::{Field, Layout};
 use omi_model::{Event, Id};
+use omi_numbers::exit_frame;
 use omi_pc::{Actor, TaskCounter};
 use omi_rep::Outcome;
 use omi_script::{Program, Stmt};
 use omi_step_words::{
-    NewTask, exit_word, fill, load, of_place, of_region, of_task, of_thread, of_variable,
-    own_place, search_outcome, store, task_plan, used_word,
+    NewTask, fill, load, of_place, of_region, of_task, of_thread, of_variable, own_place,
+    search_outcome, store, task_plan, used_word,
 };
 use omi_word::Op;
 
@@ -58,7 +60,7 @@ fn new_task(p: &Program, a: &Actor) -> NewTask
         generating: task,
         scheduling: Some(task),
         function: made_function(p, a),
-        exit: exit_word(a.thread, u64::from(a.context.depth) + 1),
+        exit: exit_frame(a.thread, u64::from(a.context.depth) + 1),
         is_final: makes_final(p, a),
         references: 0,
         variables: a.gathered.variables,

@@ -1,16 +1,15 @@
 //! The words of slots for deferred tasks.
 
 ghost use Rattle.std.specs.Prelude.{◌≡◌};
+ghost use Rattle.omi_rep.specs.Records.{slot_word};
 ghost use Rattle.omi_step_words.specs.Placed.{HasTask};
-ghost use Rattle.omi_task.specs.Slots.{coded_place, coded_task, slot_word};
+ghost use Rattle.omi_task.specs.Slots.{coded_place, coded_task};
 
 use omi_layout::Layout;
 use omi_model::Tid;
+use omi_numbers::CODED_RECORDS;
 use omi_pc::Place;
 use omi_step_words::{object_in, used_word};
-
-/// The number of a record is below this one. The life word stands above it in a code.
-const CODED_RECORDS: u64 = 1 << 24;
 
 /// The place that stands for a code of no record.
 const FIRST_PLACE: Place = Place {

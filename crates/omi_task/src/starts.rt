@@ -10,8 +10,9 @@ ghost use Rattle.omi_task.specs.Starts.{start_plan, task_context};
 
 use omi_layout::{Field, Layout};
 use omi_model::Tid;
+use omi_numbers::exit_frame;
 use omi_pc::{Actor, Context};
-use omi_step_words::{Planned, exit_word};
+use omi_step_words::Planned;
 
 /// A planned word.
 fn planned(field: Field, value: u64) -> Planned
@@ -39,7 +40,7 @@ pub fn start_plan(l: &Layout, a: &Actor, word: u8) -> Planned
         2 => planned(Field::TaskScheduling, l.task_at(task.creator, task.slot)),
         3 => planned(
             Field::TaskExit,
-            exit_word(a.thread, u64::from(a.context.depth) + 1),
+            exit_frame(a.thread, u64::from(a.context.depth) + 1),
         ),
         _ => planned(Field::TaskEnter, 0),
     }

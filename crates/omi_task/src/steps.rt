@@ -4,7 +4,7 @@ ghost use Rattle.std.specs.Prelude.{◌≡◌};
 ghost use Rattle.omi_layout.specs.Table.{thread_count};
 ghost use Rattle.omi_pc.specs.Fits.{Fits};
 ghost use Rattle.omi_step_words.specs.Placed.{IsPlaced};
-ghost use Rattle.omi_task.specs.Steps.{IsTaskCounter, next_of, resumed};
+ghost use Rattle.omi_task.specs.Steps.{IsTaskCounter, IsTaskNext, IsTaskResumed};
 
 use crate::{finish_next, finish_resume, look_next, look_resume, making_next, making_resume};
 use omi_layout::Layout;
@@ -19,7 +19,7 @@ pub fn task_next(p: &Program, l: &Layout, a: &Actor) -> Op
     requires threads { p.now.threads ≡ thread_count l.now.table }
     requires placed { IsPlaced l.now.table a.now }
     requires counter { IsTaskCounter a.now.counter }
-    ensures { result ≡ next_of p.now l.now.table a.now }
+    ensures { IsTaskNext p.now l.now.table a.now a.now.counter result }
 {
     match a.counter {
         Counter::Task(c) => making_next(p, l, a, c),
@@ -36,8 +36,7 @@ pub fn task_resume(p: &Program, l: &Layout, a: &mut Actor, r: Res) -> Outcome
     requires threads { p.now.threads ≡ thread_count l.now.table }
     requires placed { IsPlaced l.now.table a.old }
     requires counter { IsTaskCounter a.old.counter }
-    ensures moved { a.new ≡ (resumed p.now l.now.table a.old r).0 }
-    ensures outcome { result ≡ (resumed p.now l.now.table a.old r).1 }
+    ensures { IsTaskResumed p.now l.now.table a.old a.old.counter r.old (a.new, result) }
 {
     match a.counter {
         Counter::Task(c) => making_resume(p, l, a, c, r.old),

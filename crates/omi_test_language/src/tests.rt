@@ -1,7 +1,8 @@
 //! Each public call once on its happy path, and each limit on both sides.
 use crate::row_tests::{accepts, refuses};
+use omi_numbers::{kind_name, kind_number};
 use omi_script::limits::{MAX_BYTES, MAX_DEPTH, MAX_FUNCTIONS, MAX_STATEMENTS};
-use omi_script::{OutOfMemory, Sched, Stmt, Why, kind_name, kind_number, number, parse, print};
+use omi_script::{OutOfMemory, Sched, Stmt, Why, number, parse, print};
 use std::alloc::Global;
 use std::process::Abort;
 use std::test::Fail;

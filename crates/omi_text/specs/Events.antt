@@ -1,33 +1,31 @@
 -- The line of an event: the number of its step, its thread, and the event.
-use Rattle.std.specs.Prelude.{ℕ, ◌==◌, ◌/◌, ◌%◌, Bool, true, false, List, [], ◌∷◌, ◌++◌, length, map, codes, Option, Some, None, if◌then◌else◌, unwrap_or}
+use Rattle.std.specs.Prelude.{ℕ, ◌==◌, ◌||◌, Bool, true, false, List, [], ◌∷◌, ◌++◌, length, map, codes, Option, Some, None, if◌then◌else◌, unwrap_or}
 use Rattle.std.specs.Fmt.{decimal}
+use Rattle.omi_numbers.specs.Variables.{variables}
 use Rattle.omi_model.specs.declared.event.Event.{Event}
 use Rattle.omi_model.specs.declared.event.Event.TheVariants as event
 use Rattle.omi_model.specs.declared.id.Tid.{Tid}
-use Rattle.omi_model.specs.Numbers.{dyn_var, nthreads_var, run_sched_var, default_device_var, max_active_levels_var}
-use Rattle.omi_script.specs.Schedules.{name_in}
+use Rattle.omi_numbers.specs.declared.variables.TheConstants.{DYN_VAR, NTHREADS_VAR, RUN_SCHED_VAR, DEFAULT_DEVICE_VAR, MAX_ACTIVE_LEVELS_VAR}
+use Rattle.omi_numbers.specs.Names.{name_in}
 use Rattle.omi_text.specs.Ids.{region_id, task_id}
 use Rattle.omi_text.specs.Lines.{line}
 use Rattle.omi_text.specs.Names.{state_text}
 use Rattle.omi_text.specs.Tasks.{schedule_text}
 
--- the internal control variables that an event may set, by number
-abbrev pub variables : List (ℕ × List ℕ)
-variables =
-    (dyn_var, codes "dyn-var")
-    ∷ (nthreads_var, codes "nthreads-var")
-    ∷ (run_sched_var, codes "run-sched-var")
-    ∷ (default_device_var, codes "default-device-var")
-    ∷ (max_active_levels_var, codes "max-active-levels-var")
-    ∷ []
+-- the internal control variables that an event may set
+abbrev pub is_settable : ℕ → Bool
+is_settable icv =
+    icv == DYN_VAR || icv == NTHREADS_VAR || icv == RUN_SCHED_VAR || icv == DEFAULT_DEVICE_VAR
+    || icv == MAX_ACTIVE_LEVELS_VAR
 
--- a variable by its name, or by its number where it has none
+-- such a variable by its name, and any other by its number
 unfoldable pub variable_text : ℕ → List ℕ
-variable_text icv = unwrap_or (name_in variables icv) (decimal icv)
+variable_text icv =
+    if is_settable icv then unwrap_or (name_in variables icv) (decimal icv) else decimal icv
 
 -- the word of a variable, as a report prints it: a schedule as kind and chunk, every other in decimal
 unfoldable pub value_text : ℕ → ℕ → List ℕ
-value_text icv value = if icv == run_sched_var then schedule_text value else decimal value
+value_text icv value = if icv == RUN_SCHED_VAR then schedule_text value else decimal value
 
 -- whether an asked thread joined
 abbrev pub joined_word : Bool → List ℕ

@@ -1,6 +1,7 @@
 -- The two lines of a task: the task, and its data environment.
-use Rattle.std.specs.Prelude.{ℕ, ◌==◌, ◌/◌, ◌%◌, List, [], ◌∷◌, ◌++◌, codes, if◌then◌else◌}
+use Rattle.std.specs.Prelude.{ℕ, ◌==◌, List, [], ◌∷◌, ◌++◌, codes, if◌then◌else◌}
 use Rattle.std.specs.Fmt.{decimal}
+use Rattle.omi_script.specs.Schedules.{kind_in, chunk_in}
 use Rattle.omi_model.specs.declared.view.TaskRow.{TaskRow}
 use Rattle.omi_text.specs.Ids.{region_id, task_id}
 use Rattle.omi_text.specs.Lines.{line, named_value, or_none}
@@ -11,9 +12,9 @@ use Rattle.omi_text.specs.Numbers.{hexadecimal, decimals}
 abbrev pub task_kind : ℕ → List ℕ
 task_kind implicit = if implicit == 0 then codes "explicit" else codes "implicit"
 
--- a schedule, which is stored as its chunk times 8 plus its kind: kind and chunk, joined by a comma
+-- the schedule of a word: kind and chunk, joined by a comma
 unfoldable pub schedule_text : ℕ → List ℕ
-schedule_text word = kind_text (word % 8) ++ 44 ∷ decimal (word / 8)
+schedule_text word = kind_text (kind_in word) ++ 44 ∷ decimal (chunk_in word)
 
 -- task K thread I kind W region R function F generating G scheduling H exit X enter Y tool Z
 unfoldable pub task_line : TaskRow → List ℕ

@@ -2,7 +2,7 @@
 
 ghost use Rattle.std.specs.Prelude.{◌≡◌, ◌++◌, ◌∷◌, [], IfOk, OnOk, codes, map, string_bytes};
 ghost use Rattle.std.specs.List.{flat_map};
-ghost use Rattle.omi_text.specs.Events.{event_line, event_words, joined_word, member_word, value_text, variable_text};
+ghost use Rattle.omi_text.specs.Events.{event_line, event_words, is_settable, joined_word, member_word, value_text, variable_text};
 ghost use Rattle.omi_text.specs.Ids.{region_id, task_id};
 ghost use Rattle.omi_text.specs.Lines.{line};
 
@@ -11,20 +11,29 @@ use crate::ids::{push_region, push_task};
 use crate::names::push_state;
 use crate::tasks::push_schedule;
 use omi_model::{Event, Rid, Team, Tid};
+use omi_numbers::{
+    DEFAULT_DEVICE_VAR, DYN_VAR, MAX_ACTIVE_LEVELS_VAR, NTHREADS_VAR, RUN_SCHED_VAR, variable_name,
+};
 use std::alloc::Global;
 use std::fmt::Write;
 
-/// Adds a variable by its name, or by its number where it has none.
+/// Whether an event may set a variable.
+fn is_settable(icv: u32) -> bool
+    ensures { result ≡ is_settable icv }
+{
+    matches!(
+        icv,
+        DYN_VAR | NTHREADS_VAR | RUN_SCHED_VAR | DEFAULT_DEVICE_VAR | MAX_ACTIVE_LEVELS_VAR
+    )
+}
+
+/// Adds a variable that an event may set by its name, and any other by its number.
 #[tactic(auto, unfolding(crate::specs::Events::variable_text))]
 fn push_variable(text: &mut String, icv: u32) -> Result<(), OutOfMemory>
     ensures { OnOk result (string_bytes text.new ≡ string_bytes text.old ++ variable_text icv) }
 {
-    match icv {
-        1 => text.push_str("dyn-var"),
-        2 => text.push_str("nthreads-var"),
-        3 => text.push_str("run-sched-var"),
-        4 => text.push_str("default-device-var"),
-        7 => text.push_str("max-active-levels-var"),
+    match variable_name(icv) {
+        Some(name) if is_settable(icv) => text.push_str(name),
         _ => write!(text, "{icv}"),
     }
 }
@@ -34,7 +43,7 @@ fn push_variable(text: &mut String, icv: u32) -> Result<(), OutOfMemory>
 fn push_value(text: &mut String, icv: u32, value: u64) -> Result<(), OutOfMemory>
     ensures { OnOk result (string_bytes text.new ≡ string_bytes text.old ++ value_text icv value) }
 {
-    if icv == 3 {
+    if icv == RUN_SCHED_VAR {
         push_schedule(text, value)
     } else {
         write!(text, "{value}")

@@ -13,7 +13,6 @@ mod threads;
 
 pub use events::{event_text, push_event_line};
 pub use head::debug_word;
-pub use names::state_name;
 pub use report::report_text;
 pub use tasks::push_schedule;
 

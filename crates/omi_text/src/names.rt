@@ -1,32 +1,12 @@
-//! The names of states and schedule kinds.
+//! States and schedule kinds by name, or by number where they have none.
 
 ghost use Rattle.std.specs.Prelude.{◌≡◌, ◌++◌, OnOk, string_bytes};
-ghost use Rattle.std.specs.Option.{option_copied};
-ghost use Rattle.omi_text.specs.Names.{states, state_text, kind_text};
-ghost use Rattle.omi_script.specs.Schedules.{name_in};
+ghost use Rattle.omi_text.specs.Names.{state_text, kind_text};
 
 use crate::OutOfMemory;
 use crate::numbers::push_hexadecimal;
-use omi_script::kind_name;
+use omi_numbers::{kind_name, state_name};
 use std::fmt::Write;
-
-/// The name of a state of a thread by OpenMP 5.0. None for a number that this profile gives no state.
-pub fn state_name(state: u32) -> Option<&'static str>
-    ensures { option_copied result ≡ name_in states state }
-{
-    match state {
-        0x000 => Some("work_serial"),
-        0x001 => Some("work_parallel"),
-        0x011 => Some("wait_barrier_implicit_parallel"),
-        0x014 => Some("wait_barrier_explicit"),
-        0x020 => Some("wait_taskwait"),
-        0x021 => Some("wait_taskgroup"),
-        0x042 => Some("wait_critical"),
-        0x100 => Some("idle"),
-        0x101 => Some("overhead"),
-        _ => None,
-    }
-}
 
 /// Adds a state by its name, or by its number where it has none.
 #[tactic(auto, unfolding(crate::specs::Names::state_text))]

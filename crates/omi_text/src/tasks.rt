@@ -11,6 +11,7 @@ use crate::ids::{push_region, push_task, push_task_or_none};
 use crate::names::push_kind;
 use crate::numbers::{push_hexadecimal, push_list};
 use omi_model::{TaskRow, TaskRows};
+use omi_numbers::CHUNK_PLACE;
 use std::fmt::Write;
 
 /// The word for the kind of a task.
@@ -85,13 +86,13 @@ fn push_task_line(text: &mut String, row: &TaskRow) -> Result<(), OutOfMemory>
     push_frames(text, row)
 }
 
-/// Adds a schedule, which is its chunk times 8 plus its kind.
+/// Adds the schedule of a word.
 #[tactic(auto, unfolding(crate::specs::Tasks::schedule_text))]
 pub fn push_schedule(text: &mut String, word: u64) -> Result<(), OutOfMemory>
     ensures { OnOk result (string_bytes text.new ≡ string_bytes text.old ++ schedule_text word) }
 {
-    push_kind(text, word % 8)?;
-    write!(text, ",{}", word / 8)
+    push_kind(text, word % CHUNK_PLACE)?;
+    write!(text, ",{}", word / CHUNK_PLACE)
 }
 
 /// Adds the front of the line of a data environment: dyn-var.

@@ -3,8 +3,8 @@ use Rattle.std.specs.Prelude.{ℕ, List, map}
 use Rattle.std.specs.List.{range_with_len}
 use Rattle.omi_corefile.specs.Spelling.{Core, HoldsImage}
 use Rattle.omi_corefile.specs.declared.core_image.CoreImage.{CoreImage}
-use Rattle.omi_layout.specs.Codes.{native_word}
 use Rattle.omi_word.specs.Words.{words_of}
+use Rattle.omi_numbers.specs.Words.{native_id}
 use Rattle.omi_layout.specs.Valid.{IsValid}
 use Rattle.omi_model.specs.Reached.{Reached}
 use Rattle.omi_model.specs.State.{State}
@@ -14,7 +14,7 @@ use Rattle.omi_script.specs.declared.program.Program.{Program}
 
 -- the native ids of so many threads
 abbrev pub thread_ids : ℕ → List ℕ
-thread_ids threads = map native_word (range_with_len 0 threads)
+thread_ids threads = map native_id (range_with_len 0 threads)
 
 -- a file is a core of threads with these native ids, and these words are its image: byte order 0, the ids as contexts, and one segment,
 -- from the first address on

@@ -6,6 +6,7 @@ ghost use Rattle.omi_corefile.specs.declared.limits.TheConstants.{MOST_CONTEXTS}
 ghost use Rattle.omi_verbs.specs.Cores.{IsCoreOf, thread_ids};
 
 use omi_corefile::core_bytes_of;
+use omi_numbers::native_id;
 use omi_word::{Image, Natives, OutOfMemory};
 use std::alloc::Global;
 
@@ -15,7 +16,7 @@ fn contexts_of(alloc: Global, threads: u8) -> Result<Natives, OutOfMemory>
 {
     let mut ids = Natives::new(alloc);
     for thread in 0..threads {
-        ids.push(1000 + u64::from(thread))?;
+        ids.push(native_id(thread))?;
     }
     Ok(ids)
 }

@@ -8,11 +8,11 @@ ghost use Rattle.omi_walk.specs.Leaves.{Leaves};
 
 use crate::WalkFault;
 use crate::fault::walked;
-use crate::variables::{DEBUG_VAR, MAX_ACTIVE_LEVELS_VAR, NUM_PROCS_VAR};
 use crate::words::space_variable;
 use omi_calls::{Callbacks, ToHost};
 use omi_layout::Field;
 use omi_model::HeadRow;
+use omi_numbers::{DEBUG_VAR, MAX_ACTIVE_LEVELS_VAR, NUM_PROCS_VAR};
 use omi_session::Session;
 
 /// The version of OpenMP that the target's runtime has.

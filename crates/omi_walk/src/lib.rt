@@ -6,6 +6,7 @@ mod fault;
 mod found;
 mod head;
 mod index;
+mod limits;
 mod members;
 mod met;
 mod numbers;
@@ -18,9 +19,9 @@ mod task_rows;
 mod tasks;
 mod thread_rows;
 mod threads;
-mod variables;
 mod view;
 mod words;
 
 pub use fault::WalkFault;
+pub use limits::{HANDLES_BEFORE, HANDLES_WITHIN};
 pub use view::walk;

@@ -12,10 +12,10 @@ ghost use Rattle.omi_walk.specs.Objects.{Stands};
 
 use crate::WalkFault;
 use crate::fault::fault_of;
-use crate::variables::NTHREADS_VAR;
 use omi_calls::{Callbacks, ToHost};
 use omi_handle::TaskHandle;
 use omi_icv::{Scoped, icv_value};
+use omi_numbers::NTHREADS_VAR;
 use omi_script::NumList;
 use omi_session::Session;
 use omi_word::OutOfMemory;

@@ -2,6 +2,7 @@
 
 ghost use Rattle.std.specs.Prelude.{◌≡◌, ◌<◌, ◌≤◌, ◌^◌, ◌∷◌, [], map, Err};
 ghost use Rattle.std.specs.List.{filter_map};
+ghost use Rattle.omi_walk.specs.declared.limits.TheConstants.{HANDLES_WITHIN};
 ghost use Rattle.omi_layout.specs.Field.{regions};
 ghost use Rattle.omi_outside.specs.Outside.{HasCause};
 ghost use Rattle.omi_rep.specs.Look.{each, slots_of};
@@ -54,7 +55,7 @@ fn add_rows<C: Callbacks, F: ToHost>(
     creator: u8,
     rows: &mut RegionRows,
 ) -> Result<(), WalkFault>
-    requires many { s.old.handles.made < 2 ^ 57 }
+    requires many { s.old.handles.made < HANDLES_WITHIN }
     requires live { AreLive C.told s.old index.now }
     ensures look { AddsRows C.told s.old result rows.old rows.new (λ w memory.
         each (look_region w memory) (in_own_slots index.now w creator)) }

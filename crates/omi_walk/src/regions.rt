@@ -16,12 +16,12 @@ use crate::fault::{fault_of, walked};
 use crate::members::members;
 use crate::met::{Met, hand, region_name};
 use crate::related::{Relation, related_of};
-use crate::variables::{ACTIVE_LEVELS_VAR, LEVELS_VAR};
 use crate::words::{region_variable, size_of};
 use omi_calls::{Callbacks, ToHost};
 use omi_handle::RegionHandle;
 use omi_layout::Field;
 use omi_model::{Id, RegionRow, Rid};
+use omi_numbers::{ACTIVE_LEVELS_VAR, LEVELS_VAR};
 use omi_session::{Rc, Session, word};
 use std::alloc::Global;
 

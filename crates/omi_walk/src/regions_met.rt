@@ -1,6 +1,7 @@
 //! The regions of the found threads, by the slots of their records.
 
 ghost use Rattle.std.specs.Prelude.{◌≡◌, ◌<◌, ◌≤◌, ◌^◌, map, length, Err, IfOk, All};
+ghost use Rattle.omi_walk.specs.declared.limits.TheConstants.{HANDLES_WITHIN};
 ghost use Rattle.omi_handle.specs.declared.handle.Kind.TheVariants.{Region};
 ghost use Rattle.omi_outside.specs.Outside.{HasCause};
 ghost use Rattle.omi_rep.specs.LookView.{look_regions};
@@ -50,7 +51,7 @@ pub fn regions_met<C: Callbacks, F: ToHost>(
     alloc: Global,
     found: &List<Found>,
 ) -> Result<BTreeMap<u32, Met>, WalkFault>
-    requires many { s.old.handles.made < 2 ^ 57 }
+    requires many { s.old.handles.made < HANDLES_WITHIN }
     requires few { length found.now ≤ 64 }
     requires found { All (IsFound C.told s.old) found.now }
     ensures look { Indexes C.told s.old s.new (map (λ f. f.thread) found.now) result }

@@ -1,7 +1,8 @@
 //! The chains of the found threads, one after the other.
 
-ghost use Rattle.std.specs.Prelude.{◌≡◌, ◌≤◌, ◌<◌, ◌^◌, Err, length, map, All};
+ghost use Rattle.std.specs.Prelude.{◌≡◌, ◌≤◌, ◌<◌, Err, length, map, All};
 ghost use Rattle.std.specs.List.{flat_map};
+ghost use Rattle.omi_walk.specs.declared.limits.TheConstants.{HANDLES_WITHIN};
 ghost use Rattle.omi_outside.specs.Outside.{HasCause};
 ghost use Rattle.omi_rep.specs.Look.{each, mapped};
 ghost use Rattle.omi_rep.specs.LookView.{look_tasks};
@@ -24,7 +25,7 @@ pub fn task_rows<C: Callbacks, F: ToHost>(
     alloc: Global,
     found: &List<Found>,
 ) -> Result<TaskRows, WalkFault>
-    requires many { s.old.handles.made < 2 ^ 57 }
+    requires many { s.old.handles.made < HANDLES_WITHIN }
     requires few { length found.now ≤ 64 }
     requires found { All (IsFound C.told s.old) found.now }
     ensures look { Looks C.told s.old result (λ w memory.

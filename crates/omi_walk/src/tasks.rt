@@ -22,13 +22,11 @@ use crate::chain::unmet;
 use crate::met::{Met, hand, task_name};
 use crate::numbers::nthreads_of;
 use crate::related::{Relation, region_of, related_of};
-use crate::variables::{
-    DEFAULT_DEVICE_VAR, DYN_VAR, FINAL_TASK_VAR, IMPLICIT_TASK_VAR, RUN_SCHED_VAR,
-};
 use crate::words::{frames_of, function_of, task_variable, tool_of};
 use omi_calls::{Callbacks, ToHost};
 use omi_handle::TaskHandle;
 use omi_model::{Id, Rid, TaskRow, Tid};
+use omi_numbers::{DEFAULT_DEVICE_VAR, DYN_VAR, FINAL_TASK_VAR, IMPLICIT_TASK_VAR, RUN_SCHED_VAR};
 use omi_script::NumList;
 use omi_session::Session;
 use std::alloc::Global;

@@ -1,7 +1,8 @@
 //! The rows of the contexts of a report, and the threads that are found for them.
 
-ghost use Rattle.std.specs.Prelude.{◌≡◌, ◌<◌, ◌≤◌, ◌^◌, ◌++◌, map, length, Err, IfOk, OnOk};
+ghost use Rattle.std.specs.Prelude.{◌≡◌, ◌<◌, ◌≤◌, ◌++◌, map, length, Err, IfOk, OnOk};
 ghost use Rattle.std.specs.List.{All};
+ghost use Rattle.omi_walk.specs.declared.limits.TheConstants.{HANDLES_WITHIN};
 ghost use Rattle.omi_outside.specs.Outside.{HasCause};
 ghost use Rattle.omi_rep.specs.Look.{each};
 ghost use Rattle.omi_rep.specs.LookView.{look_thread, found_threads};
@@ -46,7 +47,7 @@ pub fn thread_rows<C: Callbacks, F: ToHost>(
     alloc: Global,
     contexts: &Natives,
 ) -> Result<SeenThreads, WalkFault>
-    requires many { s.old.handles.made < 2 ^ 57 }
+    requires many { s.old.handles.made < HANDLES_WITHIN }
     requires few { length contexts.now ≤ 64 }
     ensures look { Looks C.told s.old (rows_seen result)
         (λ w memory. each (look_thread w memory) contexts.now) }

@@ -19,13 +19,13 @@ use crate::WalkFault;
 use crate::fault::{absent, untracked};
 use crate::met::{Met, hand, let_go, task_name};
 use crate::related::{Relation, related_of};
-use crate::variables::THREAD_NUM_VAR;
 use omi_ask::get_thread_handle;
 use omi_calls::{Callbacks, ToHost};
 use omi_handle::{Kind, ThreadHandle};
 use omi_icv::{Scoped, get_icv_from_scope, get_state};
 use omi_layout::Field;
 use omi_model::{ThreadPart, ThreadRow};
+use omi_numbers::THREAD_NUM_VAR;
 use omi_session::Session;
 
 /// What is seen of a thread, and its current task.

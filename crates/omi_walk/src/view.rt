@@ -1,6 +1,7 @@
 //! The whole report of a target by inquiries, in the order of its lines.
 
-ghost use Rattle.std.specs.Prelude.{◌≡◌, ◌≤◌, ◌<◌, ◌^◌, Err, length};
+ghost use Rattle.std.specs.Prelude.{◌≡◌, ◌≤◌, ◌<◌, Err, length};
+ghost use Rattle.omi_walk.specs.declared.limits.TheConstants.{HANDLES_BEFORE};
 ghost use Rattle.omi_outside.specs.Outside.{HasCause};
 ghost use Rattle.omi_rep.specs.LookView.{look_view};
 ghost use Rattle.omi_walk.specs.Gives.{Looks};
@@ -25,7 +26,7 @@ pub fn walk<C: Callbacks, F: ToHost>(
     alloc: Global,
     contexts: &Natives,
 ) -> Result<View, WalkFault>
-    requires many { s.old.handles.made < 2 ^ 40 }
+    requires many { s.old.handles.made < HANDLES_BEFORE }
     requires few { length contexts.now ≤ 64 }
     ensures look { Looks C.told s.old result (λ w memory. look_view w memory contexts.now) }
     ensures leaves { Leaves C.told 4294967295 s.old s.new }

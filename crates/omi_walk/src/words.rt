@@ -20,12 +20,12 @@ ghost use Rattle.omi_walk.specs.Parts.{look_size, look_frames};
 
 use crate::WalkFault;
 use crate::fault::{fault_of, walked};
-use crate::variables::TEAM_SIZE_VAR;
 use omi_asktask::{get_task_frame, get_task_function};
 use omi_calls::{Callbacks, ToHost};
 use omi_handle::{RegionHandle, TaskHandle};
 use omi_icv::{Scoped, get_icv_from_scope, get_tool_data};
 use omi_layout::Field;
+use omi_numbers::TEAM_SIZE_VAR;
 use omi_session::Session;
 
 /// A control variable of a task that is one word of its record.

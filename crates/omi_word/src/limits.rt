@@ -3,6 +3,9 @@
 /// The byte address of an image's first word.
 pub const FIRST_ADDRESS: u64 = 0x10000;
 
+/// The byte address at which memory ends: 2^47. Every word of a program lies below it.
+pub const MEMORY_END: u64 = 0x8000_0000_0000;
+
 /// The most words of an image.
 pub const MOST_WORDS: u64 = 1_048_576;
 

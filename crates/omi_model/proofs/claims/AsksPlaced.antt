@@ -11,7 +11,7 @@ use Rattle.omi_model.specs.declared.item.Item.{Item}
 use Rattle.omi_model.specs.declared.item.Item.TheVariants as item
 use Rattle.omi_model.specs.LawClaims.{asks_next}
 use Rattle.omi_model.specs.Lists.{fits, may_drop, opened, stays, take_item}
-use Rattle.omi_model.specs.Numbers.{wait_taskwait}
+use Rattle.omi_numbers.specs.declared.states.TheConstants.{WAIT_TASKWAIT}
 use Rattle.omi_model.specs.Rows.{barrier_items, behind, body_items, call_items, end_of_member, first_of, last_of_member, main_items, member_items, task_items, shown, working}
 use Rattle.omi_model.proofs.EachObject.{start_list}
 use Rattle.omi_model.proofs.ListLaws.{take_keeps}
@@ -74,7 +74,7 @@ module _ (p : Program) where
       go : (c : Bool) → Plainly ((if c then item.StartNow f (final || at.is_final) else item.Defer 0 f (final || at.is_final)) ∷ item.Leave ∷ rest)
       go true = ((refl, refl), ((refl, refl), h))
       go false = ((refl, refl), ((refl, refl), h))
-  row_placed at stmt.Taskwait rest h = shown_plain at _ 0 (item.Tasks wait_taskwait ∷ item.WaitDone ∷ working at (item.Leave ∷ rest)) ((refl, refl), ((refl, refl), leave_plain at rest h))
+  row_placed at stmt.Taskwait rest h = shown_plain at _ 0 (item.Tasks WAIT_TASKWAIT ∷ item.WaitDone ∷ working at (item.Leave ∷ rest)) ((refl, refl), ((refl, refl), leave_plain at rest h))
   row_placed at stmt.Taskyield rest h = ((refl, refl), ((refl, refl), ((refl, refl), h)))
   row_placed at stmt.Barrier rest h = barrier_plain at _ (working at (item.Leave ∷ rest)) (leave_plain at rest h)
   row_placed at (stmt.Critical k f) rest h =

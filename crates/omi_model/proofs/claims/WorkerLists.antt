@@ -11,7 +11,7 @@ use Rattle.omi_model.specs.declared.thread.Thread.{Thread}
 use Rattle.omi_model.specs.Changes.{encounter}
 use Rattle.omi_model.specs.LawClaims.{WaitsForTeam}
 use Rattle.omi_model.specs.Lists.{fits, stays, take_item}
-use Rattle.omi_model.specs.Numbers.{idle}
+use Rattle.omi_numbers.specs.declared.states.TheConstants.{IDLE}
 use Rattle.omi_model.specs.Opening.{opening}
 use Rattle.omi_model.specs.Reached.{Reached, Step}
 use Rattle.omi_model.specs.Rows.{worker_items, shown}
@@ -34,7 +34,7 @@ pub data Place : Type 0 where
 
 abbrev pub list_at : Place → List Item
 list_at Outset = worker_items
-list_at Shows = item.State idle 0 ∷ item.Offer ∷ item.Serve ∷ []
+list_at Shows = item.State IDLE 0 ∷ item.Offer ∷ item.Serve ∷ []
 list_at Offers = item.Offer ∷ item.Serve ∷ []
 list_at Serves = item.Serve ∷ []
 list_at Over = []
@@ -75,10 +75,10 @@ pub record IsTakenAt (at : Encounter) (e : Event) (place : Place) (y : Item) (ys
   pub offered : e ≡ event.Offer → serves after ≡ true
   pub begin : serves place ≡ true → y ≡ item.Serve
 
-shows_or_offers : (at : Encounter) → (after : Place) × (shown at idle 0 (item.Offer ∷ item.Serve ∷ []) ≡ list_at after) × (serves after ≡ false)
+shows_or_offers : (at : Encounter) → (after : Place) × (shown at IDLE 0 (item.Offer ∷ item.Serve ∷ []) ≡ list_at after) × (serves after ≡ false)
 shows_or_offers at = go at.debug
   where
-    go : (d : Bool) → (after : Place) × ((if d then item.State idle 0 ∷ item.Offer ∷ item.Serve ∷ [] else item.Offer ∷ item.Serve ∷ []) ≡ list_at after) × (serves after ≡ false)
+    go : (d : Bool) → (after : Place) × ((if d then item.State IDLE 0 ∷ item.Offer ∷ item.Serve ∷ [] else item.Offer ∷ item.Serve ∷ []) ≡ list_at after) × (serves after ≡ false)
     go true = (Shows, refl, refl)
     go false = (Offers, refl, refl)
 
@@ -102,7 +102,7 @@ module _ (p : Program) (at : Encounter) (e : Event) (y : Item) (ys : List Item) 
 
   pub taken_at : (place : Place) → take_item p at e (list_at place) ≡ Some (y, ys) → IsTakenAt at e place y ys
   taken_at Outset h = taken_head Outset item.Begin (item.Offer ∷ item.Serve ∷ []) (λ fit. record { after = Offers; list = refl; plain = refl; offer = λ f. absurd (false_true f); offered = no_offer item.Begin refl fit; begin = λ f. absurd (false_true f) }) h
-  taken_at Shows h = taken_head Shows (item.State idle 0) (item.Offer ∷ item.Serve ∷ []) (λ fit. record { after = Offers; list = refl; plain = refl; offer = λ f. absurd (false_true f); offered = no_offer (item.State idle 0) refl fit; begin = λ f. absurd (false_true f) }) h
+  taken_at Shows h = taken_head Shows (item.State IDLE 0) (item.Offer ∷ item.Serve ∷ []) (λ fit. record { after = Offers; list = refl; plain = refl; offer = λ f. absurd (false_true f); offered = no_offer (item.State IDLE 0) refl fit; begin = λ f. absurd (false_true f) }) h
   taken_at Offers h = taken_head Offers item.Offer (item.Serve ∷ []) (λ fit. record { after = Serves; list = refl; plain = refl; offer = λ f. offer_only e fit; offered = λ of. refl; begin = λ f. absurd (false_true f) }) h
   taken_at Serves h =
       let (after, is, not) = shows_or_offers at in

@@ -15,7 +15,7 @@ use Rattle.omi_model.specs.declared.task.Task.{Task}
 use Rattle.omi_model.specs.Changes.{IsCurrent, encounter, list_of}
 use Rattle.omi_model.specs.LawLists.{IsListRight}
 use Rattle.omi_model.specs.Lists.{fits, may_drop, stays, take_item}
-use Rattle.omi_model.specs.Numbers.{wait_taskwait}
+use Rattle.omi_numbers.specs.declared.states.TheConstants.{WAIT_TASKWAIT}
 use Rattle.omi_model.specs.Opening.{opening}
 use Rattle.omi_model.specs.Reached.{Reached, Step}
 use Rattle.omi_model.specs.Rows.{barrier_items, behind, body_items, call_items, first_of, last_of_member, main_items, member_items, task_items, shown, working}
@@ -73,7 +73,7 @@ module _ (z : Item) where
         go : (c : Bool) → Closes z (item.Enter ∷ (if c then item.StartNow f (final || at.is_final) else item.Defer 0 f (final || at.is_final)) ∷ item.Leave ∷ rest)
         go true = h
         go false = h
-    row_closes at stmt.Taskwait rest h = shown_closes at _ 0 (item.Tasks wait_taskwait ∷ item.WaitDone ∷ working at (item.Leave ∷ rest)) (working_closes at (item.Leave ∷ rest) h)
+    row_closes at stmt.Taskwait rest h = shown_closes at _ 0 (item.Tasks WAIT_TASKWAIT ∷ item.WaitDone ∷ working at (item.Leave ∷ rest)) (working_closes at (item.Leave ∷ rest) h)
     row_closes at stmt.Taskyield rest h = h
     row_closes at stmt.Barrier rest h = barrier_closes at _ (working at (item.Leave ∷ rest)) (working_closes at (item.Leave ∷ rest) h)
     row_closes at (stmt.Critical k f) rest h =

@@ -15,7 +15,7 @@ use Rattle.omi_model.specs.Changes.{IsCurrent}
 use Rattle.omi_model.specs.LawEncounters.{IsNamedByFirst, IsThreadOf}
 use Rattle.omi_model.specs.LawLineage.{IsLineage}
 use Rattle.omi_model.specs.LawStays.{Stays}
-use Rattle.omi_model.specs.Numbers.{wait_taskwait}
+use Rattle.omi_numbers.specs.declared.states.TheConstants.{WAIT_TASKWAIT}
 use Rattle.omi_model.specs.Opening.{initial_region, opening, opening_region}
 use Rattle.omi_model.specs.Reached.{Reached, Step}
 use Rattle.omi_model.specs.State.{State, task_of}
@@ -70,7 +70,7 @@ child_region s u v k (g ∷ gs) (explicit, w, met, live, here, started, rest) ex
 
 -- a task starts in its own region
 start_region : (x : Item) (k : Tid) (t u : Task) → MayStartAt x k t u → (u.generating ≡ Some k) ⊎ (u.region ≡ t.region)
-start_region (item.Tasks state) k t u may = go (state == wait_taskwait) may
+start_region (item.Tasks state) k t u may = go (state == WAIT_TASKWAIT) may
   where
     go : (b : Bool) → MatchBool b (u.generating ≡ Some k) (u.region ≡ t.region) → (u.generating ≡ Some k) ⊎ (u.region ≡ t.region)
     go true h = inl h

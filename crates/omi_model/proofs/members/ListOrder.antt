@@ -15,7 +15,7 @@ use Rattle.omi_model.specs.Changes.{encounter}
 use Rattle.omi_model.specs.LawOrder.{Arrived, AreBarriersInOrder, HasNoBarrier, IsInOrder, Outside, Released, Stage, Waiting}
 use Rattle.omi_model.specs.LawStays.{Stays}
 use Rattle.omi_model.specs.Lists.{may_drop, stays, take_item}
-use Rattle.omi_model.specs.Numbers.{wait_taskwait}
+use Rattle.omi_numbers.specs.declared.states.TheConstants.{WAIT_TASKWAIT}
 use Rattle.omi_model.specs.Opening.{opening}
 use Rattle.omi_model.specs.Reached.{Reached, Step}
 use Rattle.omi_model.specs.Rows.{barrier_items, behind, body_items, call_items, end_of_member, first_of, last_of_member, main_items, member_items, shown, working}
@@ -76,7 +76,7 @@ module _ (n : ℕ) where
         go : (c : Bool) → IsInOrder n Outside (item.Enter ∷ (if c then item.StartNow f (final || at.is_final) else item.Defer 0 f (final || at.is_final)) ∷ item.Leave ∷ rest)
         go true = h
         go false = h
-    row_order at own stmt.Taskwait rest h = shown_order at _ 0 (item.Tasks wait_taskwait ∷ item.WaitDone ∷ working at (item.Leave ∷ rest)) (working_order at (item.Leave ∷ rest) h)
+    row_order at own stmt.Taskwait rest h = shown_order at _ 0 (item.Tasks WAIT_TASKWAIT ∷ item.WaitDone ∷ working at (item.Leave ∷ rest)) (working_order at (item.Leave ∷ rest) h)
     row_order at own stmt.Taskyield rest h = h
     row_order at own stmt.Barrier rest h = barrier_order at _ (working at (item.Leave ∷ rest)) own (working_order at (item.Leave ∷ rest) h)
     row_order at own (stmt.Critical k f) rest h =

@@ -1,21 +1,21 @@
 -- Over words that show a state, the header and the rows of contexts are those of the state.
-use Rattle.std.proofs.Common.{◌≡◌, ◌==◌, ◌&&◌, ◌⊎◌, inl, inr, ℕ, ◌+◌, ◌-◌, ◌/◌, ◌%◌, ◌<◌, ◌≤◌, Bool, true, false, cond, List, [], ◌∷◌, map, Option, Some, None, refl, sym, ap, ap₂, subst, ◌∙◌, arith, nat_lt, eqb-true, eq-eqb, leb-true, ltb-true}
+use Rattle.std.proofs.Common.{◌≡◌, ◌==◌, ◌&&◌, ◌⊎◌, inl, inr, ℕ, ◌-◌, ◌/◌, ◌%◌, ◌<◌, ◌≤◌, Bool, true, false, cond, List, [], ◌∷◌, map, Option, Some, None, refl, sym, ap, ap₂, subst, ◌∙◌, arith, nat_lt, eqb-true, eq-eqb, leb-true, ltb-true}
 use Rattle.std.specs.Prelude.{Ok, Contains, nat_le}
 use Rattle.std.specs.Option.{option_map, option_and_then}
 use Rattle.std.specs.List.{filter_map, cons_option, range_with_len}
 use Rattle.std.proofs.lemmas.Bool.Decides.{nat_tests}
+use Rattle.omi_numbers.specs.declared.words.TheConstants.{FIRST_NATIVE, OPENMP_VERSION, WAIT_PLACE}
 use Rattle.omi_layout.specs.declared.field.Field.TheVariants.{RuntimeVersion, RuntimeProcs, RuntimeDebug, RuntimeMaxActive, ThreadLife, ThreadNative, ThreadCurrent, ThreadState, TaskNumber}
 use Rattle.omi_layout.specs.Field.{tasks}
 use Rattle.omi_layout.specs.Table.{thread_count}
 use Rattle.omi_layout.specs.Valid.{IsValid}
 use Rattle.omi_word.specs.Words.{Words}
-use Rattle.omi_layout.specs.Codes.{state_word}
+use Rattle.omi_numbers.specs.Words.{state_word, flag, native_id}
 use Rattle.omi_model.specs.declared.id.Id.{Id}
 use Rattle.omi_model.specs.declared.id.Tid.{Tid}
 use Rattle.omi_model.specs.declared.task.Task.{Task}
 use Rattle.omi_model.specs.declared.view.ThreadPart.{ThreadPart}
 use Rattle.omi_model.specs.declared.view.ThreadRow.{ThreadRow}
-use Rattle.omi_model.specs.Numbers.{flag}
 use Rattle.omi_model.specs.State.{State, task_of, current_task}
 use Rattle.omi_model.specs.Views.{head_row, thread_part, thread_with, thread_row}
 use Rattle.omi_model.specs.Visible.{IsVisibleTask}
@@ -37,17 +37,17 @@ abbrev chosen : Bool → Bool → Bool → ℕ → Option ℕ
 chosen x y z i = cond ((x && y) && z) (Some i) None
 
 -- where it is there, it has begun
-pub with_native : (s : State) (native i : ℕ) → thread_with s native ≡ Some i → (1000 + i ≡ native) × HasBegun s i
-with_native s native i is = go (nat_le 1000 native) refl (nat_lt (native - 1000) s.count) refl ((s.threads (native - 1000)).begun) refl is
+pub with_native : (s : State) (native i : ℕ) → thread_with s native ≡ Some i → (native_id i ≡ native) × HasBegun s i
+with_native s native i is = go (nat_le FIRST_NATIVE native) refl (nat_lt (native - FIRST_NATIVE) s.count) refl ((s.threads (native - FIRST_NATIVE)).begun) refl is
   where
-    go : (x : Bool) → nat_le 1000 native ≡ x → (y : Bool) → nat_lt (native - 1000) s.count ≡ y → (z : Bool) → (s.threads (native - 1000)).begun ≡ z
-        → chosen x y z (native - 1000) ≡ Some i → (1000 + i ≡ native) × HasBegun s i
+    go : (x : Bool) → nat_le FIRST_NATIVE native ≡ x → (y : Bool) → nat_lt (native - FIRST_NATIVE) s.count ≡ y → (z : Bool) → (s.threads (native - FIRST_NATIVE)).begun ≡ z
+        → chosen x y z (native - FIRST_NATIVE) ≡ Some i → (native_id i ≡ native) × HasBegun s i
     go true a true b true c e =
-        let at : native - 1000 ≡ i = cc e in
-        let from : 1000 ≤ native = leb-true 1000 native a in (
+        let at : native - FIRST_NATIVE ≡ i = cc e in
+        let from : FIRST_NATIVE ≤ native = leb-true FIRST_NATIVE native a in (
           omega (arith, at, from),
           record {
-            known = subst (λ (j : ℕ). j < s.count) at (ltb-true (native - 1000) s.count b);
+            known = subst (λ (j : ℕ). j < s.count) at (ltb-true (native - FIRST_NATIVE) s.count b);
             begun = ap (λ (j : ℕ). (s.threads j).begun) (sym at) ∙ c;
           },
         )
@@ -56,22 +56,22 @@ with_native s native i is = go (nat_le 1000 native) refl (nat_lt (native - 1000)
     go false a y b z c e = absurd (cc e)
 
 -- where it isn't there, none that has begun has the id
-with_none : (s : State) (native i : ℕ) → thread_with s native ≡ None → HasBegun s i → 1000 + i ≡ native → ⊥
+with_none : (s : State) (native i : ℕ) → thread_with s native ≡ None → HasBegun s i → native_id i ≡ native → ⊥
 with_none s native i none has same =
-    let at : native - 1000 ≡ i = omega (arith, same) in
+    let at : native - FIRST_NATIVE ≡ i = omega (arith, same) in
     let known : i < s.count = has.known in
-    let from : nat_le 1000 native ≡ true = grind (arith, nat_tests) in
-    let low : nat_lt (native - 1000) s.count ≡ true = grind (arith, nat_tests) in
-    let begun : (s.threads (native - 1000)).begun ≡ true = ap (λ (j : ℕ). (s.threads j).begun) at ∙ has.begun in
-    let there : thread_with s native ≡ Some (native - 1000) = λ k. chosen (from k) (low k) (begun k) (native - 1000) in
-    let clash : Some (native - 1000) ≡ None = sym there ∙ none in
+    let from : nat_le FIRST_NATIVE native ≡ true = grind (arith, nat_tests) in
+    let low : nat_lt (native - FIRST_NATIVE) s.count ≡ true = grind (arith, nat_tests) in
+    let begun : (s.threads (native - FIRST_NATIVE)).begun ≡ true = ap (λ (j : ℕ). (s.threads j).begun) at ∙ has.begun in
+    let there : thread_with s native ≡ Some (native - FIRST_NATIVE) = λ k. chosen (from k) (low k) (begun k) (native - FIRST_NATIVE) in
+    let clash : Some (native - FIRST_NATIVE) ≡ None = sym there ∙ none in
     cc clash
 
 -- the state and the wait id of a state word
-state_part : (state wait : ℕ) → state < 65536 → state_word state wait % 65536 ≡ state
+state_part : (state wait : ℕ) → state < WAIT_PLACE → state_word state wait % WAIT_PLACE ≡ state
 state_part state wait small = omega (arith, small)
 
-wait_part : (state wait : ℕ) → state < 65536 → state_word state wait / 65536 ≡ wait
+wait_part : (state wait : ℕ) → state < WAIT_PLACE → state_word state wait / WAIT_PLACE ≡ wait
 wait_part state wait small = omega (arith, small)
 
 module _ (w : List ℕ) (words : Words) (s : State) (valid : IsValid w) (names : AreNames s) (shown : Shows w words s) where
@@ -84,7 +84,7 @@ module _ (w : List ℕ) (words : Words) (s : State) (valid : IsValid w) (names :
       (step _ _ _ _ (word_looked w words (runtime_address w) RuntimeProcs 0 _ globals.procs)
       (step _ _ _ _ (word_looked w words (runtime_address w) RuntimeMaxActive 0 _ globals.max_active)
       (ap (λ (n : ℕ). Ok (record {
-        version = 201811;
+        version = OPENMP_VERSION;
         threads = n;
         debug = flag s.environment.debug;
         procs = s.environment.procs;
@@ -98,22 +98,22 @@ module _ (w : List ℕ) (words : Words) (s : State) (valid : IsValid w) (names :
   for_tried : (native i : ℕ) (is : List ℕ) → i < s.count → look_for w words native (i ∷ is) ≡ tried native i (look_for w words native is) (s.threads i).begun
   for_tried native i is known = step _ _ (flag (s.threads i).begun) _ (word_looked w words (thread_address w i) ThreadLife 0 _ (shown.records.lives i known).life) refl
 
-  named_tried : (native i : ℕ) (more : Look (Option ℕ)) → i < s.count → tried native i more true ≡ cond (1000 + i == native) (Ok (Some i)) more
-  named_tried native i more known = step _ _ (1000 + i) _ (word_looked w words (thread_address w i) ThreadNative 0 _ (shown.records.lives i known).native) refl
+  named_tried : (native i : ℕ) (more : Look (Option ℕ)) → i < s.count → tried native i more true ≡ cond (native_id i == native) (Ok (Some i)) more
+  named_tried native i more known = step _ _ (native_id i) _ (word_looked w words (thread_address w i) ThreadNative 0 _ (shown.records.lives i known).native) refl
 
-  passed : (native i : ℕ) (more : Look (Option ℕ)) → i < s.count → (HasBegun s i → 1000 + i ≡ native → ⊥) → (b : Bool) → (s.threads i).begun ≡ b → tried native i more b ≡ more
+  passed : (native i : ℕ) (more : Look (Option ℕ)) → i < s.count → (HasBegun s i → native_id i ≡ native → ⊥) → (b : Bool) → (s.threads i).begun ≡ b → tried native i more b ≡ more
   passed native i more known other true e =
-      let no : 1000 + i == native ≡ false = (let differs = other (record { known = known; begun = e }) in grind (arith, nat_tests)) in
+      let no : native_id i == native ≡ false = (let differs = other (record { known = known; begun = e }) in grind (arith, nat_tests)) in
       named_tried native i more known ∙ ap (λ (b : Bool). cond b (Ok (Some i)) more) no
   passed native i more known other false e = refl
 
-  none_looked : (native : ℕ) (is : List ℕ) → ((i : ℕ) → Contains is i → i < s.count) → ((i : ℕ) → HasBegun s i → 1000 + i ≡ native → ⊥) → look_for w words native is ≡ Ok None
+  none_looked : (native : ℕ) (is : List ℕ) → ((i : ℕ) → Contains is i → i < s.count) → ((i : ℕ) → HasBegun s i → native_id i ≡ native → ⊥) → look_for w words native is ≡ Ok None
   none_looked native [] known other = refl
   none_looked native (i ∷ is) known other =
       for_tried native i is (known i (here i is)) ∙ passed native i (look_for w words native is) (known i (here i is)) (other i) (s.threads i).begun refl
       ∙ none_looked native is (λ j inside. known j (later i j is inside)) other
 
-  one_looked : (native n : ℕ) (is : List ℕ) → ((i : ℕ) → Contains is i → i < s.count) → HasBegun s n → 1000 + n ≡ native → Contains is n → look_for w words native is ≡ Ok (Some n)
+  one_looked : (native n : ℕ) (is : List ℕ) → ((i : ℕ) → Contains is i → i < s.count) → HasBegun s n → native_id n ≡ native → Contains is n → look_for w words native is ≡ Ok (Some n)
   one_looked native n [] known has same inside = absurd (nowhere n inside)
   one_looked native n (i ∷ is) known has same inside =
       for_tried native i is (known i (here i is)) ∙ go (i == n) refl (either i n is inside) (one_looked native n is (λ j behind. known j (later i j is behind)) has same)
@@ -122,7 +122,7 @@ module _ (w : List ℕ) (words : Words) (s : State) (valid : IsValid w) (names :
       go true e at more =
           let is_it : i ≡ n = eqb-true i n e in
           let begun : (s.threads i).begun ≡ true = ap (λ (j : ℕ). (s.threads j).begun) is_it ∙ has.begun in
-          let test : 1000 + i == native ≡ true = eq-eqb (1000 + i) native (ap (λ (j : ℕ). 1000 + j) is_it ∙ same) in
+          let test : native_id i == native ≡ true = eq-eqb (native_id i) native (ap (λ (j : ℕ). native_id j) is_it ∙ same) in
           ap (tried native i (look_for w words native is)) begun ∙ named_tried native i (look_for w words native is) (known i (here i is))
           ∙ ap (λ (b : Bool). cond b (Ok (Some i)) (look_for w words native is)) test ∙ ap (λ (j : ℕ). Ok (Some j)) is_it
       go false e (inl at) more = absurd (let clash : true ≡ false = sym (eq-eqb i n at) ∙ e in cc clash)
@@ -148,10 +148,10 @@ module _ (w : List ℕ) (words : Words) (s : State) (valid : IsValid w) (names :
     state_looked : look_state w words i ≡ Ok (thread_part s i).state
     state_looked = step _ _ (flag s.environment.debug) _ (word_looked w words (runtime_address w) RuntimeDebug 0 _ shown.records.globals.debug) (go s.environment.debug)
       where
-        small : (s.threads i).state < 65536
+        small : (s.threads i).state < WAIT_PLACE
         small = small_state (s.threads i).state (shown.within.well_formed.states i has.known)
 
-        go : (b : Bool) → cond {A = Look (Option (ℕ × ℕ))} (flag b == 0) (Ok None) (mapped {B = Option (ℕ × ℕ)} (λ (word : ℕ). Some (word % 65536, word / 65536)) (look_word w words (thread_address w i) ThreadState 0))
+        go : (b : Bool) → cond {A = Look (Option (ℕ × ℕ))} (flag b == 0) (Ok None) (mapped {B = Option (ℕ × ℕ)} (λ (word : ℕ). Some (word % WAIT_PLACE, word / WAIT_PLACE)) (look_word w words (thread_address w i) ThreadState 0))
             ≡ Ok (cond {A = Option (ℕ × ℕ)} b (Some ((s.threads i).state, (s.threads i).wait)) None)
         go true =
             step _ _ (state_word (s.threads i).state (s.threads i).wait) _ (word_looked w words (thread_address w i) ThreadState 0 _ (shown.records.threads i has.known has.begun).state)

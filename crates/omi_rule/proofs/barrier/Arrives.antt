@@ -1,6 +1,7 @@
 -- A member arrives at a barrier, and looks at the slots from then on.
-use Rattle.std.proofs.Common.{◌≡◌, ◌<◌, ◌≤◌, ◌+◌, ◌^◌, ℕ, true, List, [], ◌∷◌, ◌++◌, length, sum, Some, refl, sym, ap, ◌∙◌, subst, arith, inl}
+use Rattle.std.proofs.Common.{◌≡◌, ◌<◌, ◌≤◌, ◌+◌, ℕ, true, List, [], ◌∷◌, ◌++◌, length, sum, Some, refl, sym, ap, ◌∙◌, subst, arith, inl}
 use Rattle.std.proofs.lemmas.Option.{slice_get_within}
+use Rattle.omi_model.specs.declared.limits.TheConstants.{MOST_EVENTS}
 use Rattle.omi_word.specs.declared.op.Op.TheVariants as op
 use Rattle.omi_script.specs.declared.program.Program.{Program}
 use Rattle.omi_model.specs.declared.encounter.Encounter.{Encounter}
@@ -99,7 +100,7 @@ module _ (p : Program) (w : List ℕ) (m : Memory) (events : List (ℕ × Event)
   few : sum mine.region.arrivals ≤ length events
   few = arrivals_few p events s before.rule.reached a.context.region mine.region mine.found
 
-  few_own : a.context.arrivals + 1 < 2 ^ 57
+  few_own : a.context.arrivals + 1 < MOST_EVENTS
   few_own =
       let part = part_sum mine.region.arrivals a.context.number in
       let mine_are = mine.arrivals in

@@ -14,7 +14,7 @@ use Rattle.omi_model.specs.State.{State}
 use Rattle.omi_model.proofs.Slots.{put_same}
 use Rattle.omi_model.proofs.Steps.{relisted}
 use Rattle.omi_layout.specs.declared.field.Field.TheVariants.{ThreadState}
-use Rattle.omi_layout.specs.Codes.{state_word}
+use Rattle.omi_numbers.specs.Words.{state_word}
 use Rattle.omi_layout.specs.Field.{threads}
 use Rattle.omi_layout.specs.Memory.{Memory, with_word}
 use Rattle.omi_layout.specs.Named.{number}

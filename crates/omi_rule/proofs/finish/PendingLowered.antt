@@ -8,7 +8,7 @@ use Rattle.omi_model.specs.declared.encounter.Encounter.{Encounter}
 use Rattle.omi_model.specs.declared.event.Event.{Event}
 use Rattle.omi_model.specs.declared.item.Item.{Item}
 use Rattle.omi_model.specs.declared.item.Item.TheVariants as item
-use Rattle.omi_model.specs.Numbers.{wait_taskwait}
+use Rattle.omi_numbers.specs.declared.states.TheConstants.{WAIT_TASKWAIT}
 use Rattle.omi_model.specs.State.{State}
 use Rattle.omi_layout.specs.declared.field.Field.TheVariants.{RegionPending}
 use Rattle.omi_layout.specs.Memory.{Memory, replace_at}
@@ -101,10 +101,10 @@ module _ (p : Program) (w : List ℕ) (m : Memory) (events : List (ℕ × Event)
   task_waits : (b : Bool) → p.env.debug ≡ b → IsBack p a (Some wait.Taskwait) → list ≡ resuming p At a.stack (Some wait.Taskwait) → Goes (by_debug wait.Taskwait b)
   task_waits true e back is =
       leads (counter.Look (look.State wait.Taskwait)) refl
-      (record { fits = (back, tt); placed = tt; ahead = is ∙ ap (λ (d : Bool). if d then item.State wait_taskwait 0 ∷ Ahead.waiting p At a.stack wait.Taskwait else Ahead.waiting p At a.stack wait.Taskwait) (sees_debug p w m events s actors i before standing at tt ∙ e); row = tt; ended = tt })
+      (record { fits = (back, tt); placed = tt; ahead = is ∙ ap (λ (d : Bool). if d then item.State WAIT_TASKWAIT 0 ∷ Ahead.waiting p At a.stack wait.Taskwait else Ahead.waiting p At a.stack wait.Taskwait) (sees_debug p w m events s actors i before standing at tt ∙ e); row = tt; ended = tt })
   task_waits false e back is =
       leads (counter.Look (look.LoadRow wait.Taskwait 0)) refl
-      (record { fits = ((back, some_slot), refl); placed = tt; ahead = is ∙ ap (λ (d : Bool). if d then item.State wait_taskwait 0 ∷ Ahead.waiting p At a.stack wait.Taskwait else Ahead.waiting p At a.stack wait.Taskwait) (sees_debug p w m events s actors i before standing at tt ∙ e); row = tt; ended = tt })
+      (record { fits = ((back, some_slot), refl); placed = tt; ahead = is ∙ ap (λ (d : Bool). if d then item.State WAIT_TASKWAIT 0 ∷ Ahead.waiting p At a.stack wait.Taskwait else Ahead.waiting p At a.stack wait.Taskwait) (sees_debug p w m events s actors i before standing at tt ∙ e); row = tt; ended = tt })
 
   waits : (x : Wait) → IsBack p a (Some x) → list ≡ resuming p At a.stack (Some x) → Goes (behind_finish p (Some x))
   waits (wait.Barrier x) back is = barrier_waits x p.env.debug refl back is

@@ -6,7 +6,8 @@ use Rattle.omi_script.proofs.RuleLemmas.{Rules-from_accepted}
 use Rattle.omi_model.specs.declared.event.Event.{Event}
 use Rattle.omi_model.specs.declared.id.Tid.{Tid}
 use Rattle.omi_model.specs.declared.task.Task.{Task}
-use Rattle.omi_model.specs.Numbers.{flag}
+use Rattle.omi_numbers.specs.Words.{flag}
+use Rattle.omi_numbers.specs.Addresses.{function_at}
 use Rattle.omi_model.specs.State.{State, region_of}
 use Rattle.omi_layout.specs.declared.field.Field.{Field}
 use Rattle.omi_layout.specs.declared.field.Field.TheVariants.{TaskFinal, TaskFunction}
@@ -25,7 +26,7 @@ use Rattle.omi_pc.specs.Fits.{HasInHand, IsBack}
 use Rattle.omi_pc.specs.Stacks.{task_function}
 use Rattle.omi_rule_words.specs.Objects.{KeepsEnvironment}
 use Rattle.omi_step_words.specs.Placed.{HasTask}
-use Rattle.omi_step_words.specs.Words.{function_at, of_task}
+use Rattle.omi_step_words.specs.Words.{of_task}
 use Rattle.omi_step_words.proofs.ReadBack.{functions_back}
 use Rattle.omi_task.specs.LookSteps.{look_moved, look_next, look_outcome}
 use Rattle.omi_rule.specs.Chains.{KeepsContext}

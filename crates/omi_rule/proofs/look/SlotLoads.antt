@@ -1,5 +1,6 @@
 -- A thread in a wait looks at a slot: where it finds a task it goes on to test or to take it, and else it looks on.
 use Rattle.std.proofs.Common.{◌≡◌, ◌≢◌, ◌+◌, ◌%◌, ◌<◌, ◌==◌, ◌⊎◌, inl, inr, ℕ, Bool, true, false, List, Some, refl, sym, ap, subst, arith, ◌∙◌, eq-eqb, if◌then◌else◌}
+use Rattle.omi_rep.specs.Records.{slot_word}
 use Rattle.omi_word.specs.declared.op.Op.TheVariants as op
 use Rattle.omi_script.specs.declared.program.Program.{Program}
 use Rattle.omi_model.specs.declared.event.Event.{Event}
@@ -17,7 +18,7 @@ use Rattle.omi_pc.specs.declared.counter.Counter.{Counter}
 use Rattle.omi_pc.specs.declared.counter.Counter.TheVariants as counter
 use Rattle.omi_pc.specs.declared.frame.Wait.{Wait}
 use Rattle.omi_pc.specs.declared.frame.Wait.TheVariants as wait
-use Rattle.omi_pc.specs.declared.limits.TheConstants.{OWN_SLOTS}
+use Rattle.omi_numbers.specs.declared.limits.TheConstants.{OWN_SLOTS}
 use Rattle.omi_pc.specs.declared.place.Place.{Place}
 use Rattle.omi_pc.specs.declared.task_counter.LookCounter.TheVariants as look
 use Rattle.omi_pc.specs.Fits.{LooksAt}
@@ -33,7 +34,7 @@ use Rattle.omi_rule.proofs.barrier.AtCounter.{GoesTo, ahead_is, fits_counter, he
 use Rattle.omi_model.proofs.NamesLive.{names_live}
 use Rattle.omi_layout.specs.Table.{width}
 use Rattle.omi_layout.specs.Valid.{IsValid}
-use Rattle.omi_rule_words.specs.Objects.{IsDeferredIn, slot_word}
+use Rattle.omi_rule_words.specs.Objects.{IsDeferredIn}
 use Rattle.omi_rule_words.proofs.Shown.{found_generations}
 use Rattle.omi_task.specs.Slots.{coded_task}
 use Rattle.omi_task.proofs.CodesBack.{codes_back}

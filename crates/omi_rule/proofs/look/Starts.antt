@@ -1,6 +1,7 @@
 -- A task in the hand starts: it is scheduled from the current one, which waits under its body.
-use Rattle.std.proofs.Common.{◌≡◌, ◌<◌, ◌+◌, ◌-◌, ◌*◌, inl, ℕ, Bool, false, List, [], ◌∷◌, ◌++◌, Option, Some, refl, sym, ap, ◌∙◌, subst, arith}
+use Rattle.std.proofs.Common.{◌≡◌, ◌<◌, ◌+◌, inl, ℕ, Bool, false, List, [], ◌∷◌, ◌++◌, Option, Some, refl, sym, ap, ◌∙◌, subst, arith}
 use Rattle.std.specs.Option.{option_and_then, option_map}
+use Rattle.omi_numbers.specs.Addresses.{exit_below, exit_frame}
 use Rattle.omi_word.specs.declared.op.Op.TheVariants as op
 use Rattle.omi_script.specs.declared.env.Env.{Env}
 use Rattle.omi_script.specs.declared.program.Program.{Program}
@@ -16,7 +17,7 @@ use Rattle.omi_model.specs.declared.task.Task.{Task}
 use Rattle.omi_model.specs.declared.thread.Thread.{Thread}
 use Rattle.omi_model.specs.Changes.{IsCurrent, encounter, encounter_by, level_of, on_task, with_current}
 use Rattle.omi_model.specs.Lists.{stays, take_item}
-use Rattle.omi_model.specs.Numbers.{wait_taskwait}
+use Rattle.omi_numbers.specs.declared.states.TheConstants.{WAIT_TASKWAIT}
 use Rattle.omi_model.specs.Put.{put}
 use Rattle.omi_model.specs.Reached.{Step}
 use Rattle.omi_model.specs.Rows.{task_items, working}
@@ -136,7 +137,7 @@ module _ (p : Program) (w : List ℕ) (m : Memory) (events : List (ℕ × Event)
 
   -- ---- the words
 
-  exit_is : T.exit - 64 ≡ 0x7f0000000000 + 0x100000 * (i + 1) - 64 * (a.context.depth + 1)
+  exit_is : exit_below T.exit ≡ exit_frame i (a.context.depth + 1)
   exit_is = let is = mine.exit in omega (arith, is)
 
   placed_here : KeepsPlace w (m t.0.creator tasks t.0.slot) (scheduled i K T U)
@@ -144,7 +145,7 @@ module _ (p : Program) (w : List ℕ) (m : Memory) (events : List (ℕ × Event)
     thread = hand.1 0 (omega arith) ∙ ap (thread_address w) (own p w m events s actors i before standing at tt).thread;
     member = hand.1 1 (omega arith) ∙ sym mine.number;
     scheduling = hand.1 2 (omega arith);
-    exit = hand.1 3 (omega arith) ∙ ap (λ j. 0x7f0000000000 + 0x100000 * (j + 1) - 64 * (a.context.depth + 1)) (own p w m events s actors i before standing at tt).thread ∙ sym exit_is;
+    exit = hand.1 3 (omega arith) ∙ ap (λ j. exit_frame j (a.context.depth + 1)) (own p w m events s actors i before standing at tt).thread ∙ sym exit_is;
     enter = hand.1 4 (omega arith);
   }
 
@@ -158,7 +159,7 @@ module _ (p : Program) (w : List ℕ) (m : Memory) (events : List (ℕ × Event)
 
   abbrev item_of : Wait → Item
   item_of (wait.Barrier b) = item.Tasks (Ahead.barrier_state b)
-  item_of wait.Taskwait = item.Tasks wait_taskwait
+  item_of wait.Taskwait = item.Tasks WAIT_TASKWAIT
   item_of wait.Taskyield = item.OneTask
 
   abbrev rest_of : Wait → List Item

@@ -1,5 +1,5 @@
 -- The plain step by which a task enters the runtime: what comes next is by the statement in work.
-use Rattle.std.proofs.Common.{◌≡◌, ◌+◌, ◌-◌, ◌==◌, ◌||◌, ℕ, Bool, true, false, List, [], ◌∷◌, ◌++◌, Option, Some, None, refl, sym, ap, ◌∙◌, subst, arith, if◌then◌else◌}
+use Rattle.std.proofs.Common.{◌≡◌, ◌+◌, ◌==◌, ◌||◌, ℕ, Bool, true, false, List, [], ◌∷◌, ◌++◌, Option, Some, None, refl, sym, ap, ◌∙◌, subst, arith, if◌then◌else◌}
 use Rattle.omi_script.specs.declared.program.Program.{Program}
 use Rattle.omi_script.specs.declared.statement.Stmt.{Stmt}
 use Rattle.omi_script.specs.declared.statement.Stmt.TheVariants as stmt
@@ -13,7 +13,8 @@ use Rattle.omi_model.specs.declared.task.Task.{Task}
 use Rattle.omi_model.specs.Changes.{encounter_by, on_task}
 use Rattle.omi_model.specs.LawOrder.{AreBarriersInOrder, HasNoBarrier}
 use Rattle.omi_model.specs.Lists.{opened, take_item}
-use Rattle.omi_model.specs.Numbers.{overhead, wait_barrier_explicit, wait_critical, wait_taskwait}
+use Rattle.omi_numbers.specs.declared.states.TheConstants.{OVERHEAD, WAIT_BARRIER_EXPLICIT, WAIT_CRITICAL, WAIT_TASKWAIT}
+use Rattle.omi_numbers.specs.Addresses.{exit_frame, enter_frame}
 use Rattle.omi_model.specs.Opening.{opening}
 use Rattle.omi_model.specs.Reached.{Reached, Step}
 use Rattle.omi_model.specs.Rows as Rows
@@ -24,7 +25,6 @@ use Rattle.omi_model.proofs.members.ListOrder.{barriers_ordered}
 use Rattle.omi_model.proofs.SchedulingChains.{leads_on}
 use Rattle.omi_model.proofs.Steps.{at_current, relisted}
 use Rattle.omi_layout.specs.declared.field.Field.TheVariants.{TaskEnter}
-use Rattle.omi_layout.specs.Codes.{exit_word}
 use Rattle.omi_layout.specs.Memory.{Memory}
 use Rattle.omi_pc.specs.declared.actor.Actor.{Actor}
 use Rattle.omi_pc.specs.declared.context.Context.{Context}
@@ -70,10 +70,10 @@ module _ (p : Program) (at : Encounter) (fs : List Frame) where
   of_team f num xs = item.Want num ∷ item.Asks ∷ item.Fork f ∷ Rows.working at xs
 
   abbrev of_wait : List Item → List Item
-  of_wait xs = item.Tasks wait_taskwait ∷ item.WaitDone ∷ Rows.working at xs
+  of_wait xs = item.Tasks WAIT_TASKWAIT ∷ item.WaitDone ∷ Rows.working at xs
 
   abbrev of_barrier : List Item → List Item
-  of_barrier xs = item.Arrive ∷ item.Tasks wait_barrier_explicit ∷ (if at.number == 0 then item.Release ∷ item.Pass ∷ Rows.working at xs else item.Pass ∷ Rows.working at xs)
+  of_barrier xs = item.Arrive ∷ item.Tasks WAIT_BARRIER_EXPLICIT ∷ (if at.number == 0 then item.Release ∷ item.Pass ∷ Rows.working at xs else item.Pass ∷ Rows.working at xs)
 
   abbrev of_lock : ℕ → List Item → List Item
   of_lock l xs = item.Lock l ∷ Rows.working at xs
@@ -101,33 +101,33 @@ module _ (p : Program) (at : Encounter) (fs : List Frame) where
 
   enter_ahead : (d : Bool) → at.debug ≡ d → (final : Bool) → at.is_final ≡ final → (x : Stmt) → IsAt p fs x → Enters x → IsAhead p at fs (behind_enter d final (Some x)) (behind p at x rest)
   enter_ahead true e final is_final (stmt.Parallel f num) is enters =
-      ap (λ (b : Bool). with_state b overhead 0 (of_team f num (item.Leave ∷ rest))) e
-      ∙ ap (λ (xs : List Item). item.State overhead 0 ∷ of_team f num xs) (leaves (stmt.Parallel f num) is)
-      ∙ ap (λ (xs : List Item). item.State overhead 0 ∷ xs) (sym (in_work_is p fs (stmt.Parallel f num) (wanting_in p at fs) is))
+      ap (λ (b : Bool). with_state b OVERHEAD 0 (of_team f num (item.Leave ∷ rest))) e
+      ∙ ap (λ (xs : List Item). item.State OVERHEAD 0 ∷ of_team f num xs) (leaves (stmt.Parallel f num) is)
+      ∙ ap (λ (xs : List Item). item.State OVERHEAD 0 ∷ xs) (sym (in_work_is p fs (stmt.Parallel f num) (wanting_in p at fs) is))
   enter_ahead false e final is_final (stmt.Parallel f num) is enters =
-      ap (λ (b : Bool). with_state b overhead 0 (of_team f num (item.Leave ∷ rest))) e
+      ap (λ (b : Bool). with_state b OVERHEAD 0 (of_team f num (item.Leave ∷ rest))) e
       ∙ ap (λ (xs : List Item). of_team f num xs) (leaves (stmt.Parallel f num) is)
       ∙ sym (in_work_is p fs (stmt.Parallel f num) (wanting_in p at fs) is)
   enter_ahead d e final is_final (stmt.Task f undeferred given) is enters = task_ahead f undeferred given final is_final is
   enter_ahead true e final is_final stmt.Taskwait is enters =
-      ap (λ (b : Bool). with_state b wait_taskwait 0 (of_wait (item.Leave ∷ rest))) e
-      ∙ ap (λ (xs : List Item). item.State wait_taskwait 0 ∷ of_wait xs) (leaves stmt.Taskwait is)
+      ap (λ (b : Bool). with_state b WAIT_TASKWAIT 0 (of_wait (item.Leave ∷ rest))) e
+      ∙ ap (λ (xs : List Item). item.State WAIT_TASKWAIT 0 ∷ of_wait xs) (leaves stmt.Taskwait is)
   enter_ahead false e final is_final stmt.Taskwait is enters =
-      ap (λ (b : Bool). with_state b wait_taskwait 0 (of_wait (item.Leave ∷ rest))) e
+      ap (λ (b : Bool). with_state b WAIT_TASKWAIT 0 (of_wait (item.Leave ∷ rest))) e
       ∙ ap (λ (xs : List Item). of_wait xs) (leaves stmt.Taskwait is)
   enter_ahead d e final is_final stmt.Taskyield is enters = ap (λ (xs : List Item). item.OneTask ∷ item.Yield ∷ xs) (leaves stmt.Taskyield is)
   enter_ahead true e final is_final stmt.Barrier is enters =
-      ap (λ (b : Bool). with_state b wait_barrier_explicit 0 (of_barrier (item.Leave ∷ rest))) e
-      ∙ ap (λ (xs : List Item). item.State wait_barrier_explicit 0 ∷ of_barrier xs) (leaves stmt.Barrier is)
+      ap (λ (b : Bool). with_state b WAIT_BARRIER_EXPLICIT 0 (of_barrier (item.Leave ∷ rest))) e
+      ∙ ap (λ (xs : List Item). item.State WAIT_BARRIER_EXPLICIT 0 ∷ of_barrier xs) (leaves stmt.Barrier is)
   enter_ahead false e final is_final stmt.Barrier is enters =
-      ap (λ (b : Bool). with_state b wait_barrier_explicit 0 (of_barrier (item.Leave ∷ rest))) e
+      ap (λ (b : Bool). with_state b WAIT_BARRIER_EXPLICIT 0 (of_barrier (item.Leave ∷ rest))) e
       ∙ ap (λ (xs : List Item). of_barrier xs) (leaves stmt.Barrier is)
   enter_ahead true e final is_final (stmt.Critical l f) is enters =
-      ap (λ (b : Bool). with_state b wait_critical (l + 1) (of_lock l (item.Leave ∷ item.Call f ∷ call_items p f (item.Unlock l ∷ rest)))) e
-      ∙ ap (λ (xs : List Item). item.State wait_critical (l + 1) ∷ of_lock l xs) (leaves (stmt.Critical l f) is)
-      ∙ sym (in_work_is p fs (stmt.Critical l f) (λ y. item.State wait_critical (lock_of y + 1) ∷ locking_in p at fs y) is)
+      ap (λ (b : Bool). with_state b WAIT_CRITICAL (l + 1) (of_lock l (item.Leave ∷ item.Call f ∷ call_items p f (item.Unlock l ∷ rest)))) e
+      ∙ ap (λ (xs : List Item). item.State WAIT_CRITICAL (l + 1) ∷ of_lock l xs) (leaves (stmt.Critical l f) is)
+      ∙ sym (in_work_is p fs (stmt.Critical l f) (λ y. item.State WAIT_CRITICAL (lock_of y + 1) ∷ locking_in p at fs y) is)
   enter_ahead false e final is_final (stmt.Critical l f) is enters =
-      ap (λ (b : Bool). with_state b wait_critical (l + 1) (of_lock l (item.Leave ∷ item.Call f ∷ call_items p f (item.Unlock l ∷ rest)))) e
+      ap (λ (b : Bool). with_state b WAIT_CRITICAL (l + 1) (of_lock l (item.Leave ∷ item.Call f ∷ call_items p f (item.Unlock l ∷ rest)))) e
       ∙ ap (λ (xs : List Item). of_lock l xs) (leaves (stmt.Critical l f) is)
       ∙ sym (in_work_is p fs (stmt.Critical l f) (locking_in p at fs) is)
   enter_ahead d e final is_final _ is enters = absurd enters
@@ -191,7 +191,7 @@ module _ (p : Program) (w : List ℕ) (m : Memory) (events : List (ℕ × Event)
 
   -- the task shows its enter frame
   abbrev shown : Task → Task
-  shown u = record u { enter = t.exit - 32 }
+  shown u = record u { enter = enter_frame t.exit }
 
   abbrev after_enter : Stmt → State
   after_enter x = on_task (middle p w m events s actors i before plain.Enter at_counter (zs x)) k shown
@@ -215,7 +215,7 @@ module _ (p : Program) (w : List ℕ) (m : Memory) (events : List (ℕ × Event)
       reached : Reached p (events ++ (i, event.Enter) ∷ []) (after_enter stmt.Barrier)
       reached = leads_on p (opening p) events s (i, event.Enter) (after_enter stmt.Barrier) before.rule.reached (enter_step stmt.Barrier is tt)
 
-      has_one : (b : Bool) (xs : List Item) → HasNoBarrier (if b then item.State wait_barrier_explicit 0 ∷ item.Arrive ∷ xs else item.Arrive ∷ xs) → ⊥
+      has_one : (b : Bool) (xs : List Item) → HasNoBarrier (if b then item.State WAIT_BARRIER_EXPLICIT 0 ∷ item.Arrive ∷ xs else item.Arrive ∷ xs) → ⊥
       has_one true xs none = none
       has_one false xs none = none
 
@@ -248,7 +248,7 @@ module _ (p : Program) (w : List ℕ) (m : Memory) (events : List (ℕ × Event)
       let o = own_task p w m events s actors i before plain.Enter at_counter in
       let (x, is, enters) = fits_counter p w m events s actors i before plain.Enter at_counter in
       let word : ℕ = enter_word a in
-      let word_is : word ≡ t.exit - 32 = ap (λ n. n - 32) (ap (λ j. exit_word j a.context.depth) own.thread ∙ sym o.exit) in
+      let word_is : word ≡ enter_frame t.exit = ap enter_frame (ap (λ j. exit_frame j a.context.depth) own.thread ∙ sym o.exit) in
       let z : State = middle p w m events s actors i before plain.Enter at_counter (zs x) in
       let first : IsEntered p (past_enter p a) (past_enter p a).counter = subst (λ (q : Option Stmt). IsEntered p (past_enter p a) (behind_enter p.env.debug a.context.is_final q)) (sym is) (enter_first p (past_enter p a) p.env.debug x is enters) in (
         task_word_at p w m events s actors i before plain.Enter at_counter TaskEnter,
@@ -256,8 +256,8 @@ module _ (p : Program) (w : List ℕ) (m : Memory) (events : List (ℕ × Event)
         task_event p w m events s actors i before plain.Enter at_counter (zs x) TaskEnter word shown refl enter_of_task
             (λ v. record { implicit = refl; region = refl; thread = refl; number = refl; scheduling = refl; exit = refl; final = refl; progress = refl })
             (λ v. refl) (record { implicit = refl; region = refl; thread = refl; generating = refl; progress = refl; place = refl })
-            (enter_environment w _ t word (t.exit - 32) (zs x) (has_environment p w m events s actors i before plain.Enter at_counter))
-            (enter_place w _ t word (t.exit - 32) (zs x) word_is (has_place p w m events s actors i before plain.Enter at_counter))
+            (enter_environment w _ t word (enter_frame t.exit) (zs x) (has_environment p w m events s actors i before plain.Enter at_counter))
+            (enter_place w _ t word (enter_frame t.exit) (zs x) word_is (has_place p w m events s actors i before plain.Enter at_counter))
             (past_enter p a) (outcome.Event event.Enter) event.Enter item.Enter refl (λ q. q) (λ n e. absurd (cc e)) (takes x is enters)
             (k, t, now_current p w m events s actors i before plain.Enter at_counter, tt) refl
             (at_current z i k (relisted (zs x) t) (Settings.entered z) (middle_current p w m events s actors i before plain.Enter at_counter (zs x)))

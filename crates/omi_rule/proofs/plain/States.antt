@@ -4,6 +4,7 @@ use Rattle.std.specs.Prelude.{MatchOption}
 use Rattle.std.specs.Option.{option_map_or}
 use Rattle.std.proofs.lemmas.Bool.{false≢true}
 use Rattle.std.proofs.lemmas.Bool.Decides.{nat_tests}
+use Rattle.omi_numbers.specs.Holders.{lock_wait}
 use Rattle.omi_word.specs.declared.op.Op.{Op}
 use Rattle.omi_word.specs.declared.op.Op.TheVariants as op
 use Rattle.omi_script.specs.declared.program.Program.{Program}
@@ -22,7 +23,8 @@ use Rattle.omi_model.specs.declared.thread.Thread.{Thread}
 use Rattle.omi_model.specs.Changes.{encounter_by, level_of}
 use Rattle.omi_model.specs.LawLevels.{IsEnclosedIn}
 use Rattle.omi_model.specs.Lists.{take_item}
-use Rattle.omi_model.specs.Numbers.{wait_critical, work_parallel, work_serial}
+use Rattle.omi_numbers.specs.declared.states.TheConstants.{WAIT_CRITICAL, WORK_PARALLEL, WORK_SERIAL}
+use Rattle.omi_numbers.specs.Words.{state_word}
 use Rattle.omi_model.specs.Opening.{initial_region, opening, opening_region}
 use Rattle.omi_model.specs.Reached.{Reached}
 use Rattle.omi_model.specs.Rows as Rows
@@ -33,7 +35,6 @@ use Rattle.omi_model.proofs.Slots.{id_same, some_same}
 use Rattle.omi_model.proofs.StaysKept.{stay}
 use Rattle.omi_model.proofs.Steps.{relisted}
 use Rattle.omi_layout.specs.declared.field.Field.TheVariants.{ThreadState}
-use Rattle.omi_layout.specs.Codes.{state_word}
 use Rattle.omi_layout.specs.Memory.{Memory}
 use Rattle.omi_layout.proofs.Puts.{put_same}
 use Rattle.omi_pc.specs.declared.actor.Actor.{Actor}
@@ -44,7 +45,7 @@ use Rattle.omi_pc.specs.Moves.{worked}
 use Rattle.omi_pc.specs.Settle.{goes_to}
 use Rattle.omi_pc.proofs.Moved.{worked_fits}
 use Rattle.omi_pc.proofs.Unmoved.{worked_differs}
-use Rattle.omi_plain.specs.PlainSteps.{is_initial, lock_wait, plain_moved, plain_next, plain_outcome, actor_work_state}
+use Rattle.omi_plain.specs.PlainSteps.{is_initial, plain_moved, plain_next, plain_outcome, actor_work_state}
 use Rattle.omi_plain.proofs.StayPlaced.{steps_stay_placed}
 use Rattle.omi_rep.specs.declared.outcome.Outcome.TheVariants as outcome
 use Rattle.omi_rule_words.specs.Kinds.{with_thread}
@@ -106,7 +107,7 @@ module _ (p : Program) (w : List ℕ) (m : Memory) (events : List (ℕ × Event)
       let o = own_task p w m events s actors i before c at_counter in
       let level : at.level ≡ o.region.levels =
       ap (λ (x : Option Task). (encounter_by s x).level) o.live ∙ ap (level_of s) o.region_is ∙ ap (λ (x : Option Region). option_map_or (λ r. r.levels) x 0) o.found in
-      ap (λ (b : Bool). if b then work_serial else work_parallel) (initial_level p events s before.rule.reached (actors i).context.region o.region o.found)
+      ap (λ (b : Bool). if b then WORK_SERIAL else WORK_PARALLEL) (initial_level p events s before.rule.reached (actors i).context.region o.region o.found)
       ∙ ap Rows.work_state (sym level)
 
   abbrev state_at : RecordWord
@@ -170,10 +171,10 @@ module _ (p : Program) (w : List ℕ) (m : Memory) (events : List (ℕ × Event)
       let critical = fits_counter p w m events s actors i before plain.LockState at_counter in
       let (f, is) = at_critical p w m events s actors i before plain.LockState at_counter critical in
       let zs : List Item = in_work p (actors i).stack (locking_in p sees_here (actors i).stack) in
-      let rows : in_work p (actors i).stack (λ x. item.State wait_critical (lock_of x + 1) ∷ locking_in p sees_here (actors i).stack x) ≡ item.State wait_critical (l + 1) ∷ zs =
-      in_work_is p (actors i).stack (stmt.Critical l f) (λ x. item.State wait_critical (lock_of x + 1) ∷ locking_in p sees_here (actors i).stack x) is
-      ∙ ap (λ (xs : List Item). item.State wait_critical (l + 1) ∷ xs) (sym (in_work_is p (actors i).stack (stmt.Critical l f) (locking_in p sees_here (actors i).stack) is)) in
-      state_event p w m events s actors i before plain.LockState at_counter wait_critical (lock_wait l) zs rows (goes_to plain.Lock (actors i))
+      let rows : in_work p (actors i).stack (λ x. item.State WAIT_CRITICAL (lock_of x + 1) ∷ locking_in p sees_here (actors i).stack x) ≡ item.State WAIT_CRITICAL (l + 1) ∷ zs =
+      in_work_is p (actors i).stack (stmt.Critical l f) (λ x. item.State WAIT_CRITICAL (lock_of x + 1) ∷ locking_in p sees_here (actors i).stack x) is
+      ∙ ap (λ (xs : List Item). item.State WAIT_CRITICAL (l + 1) ∷ xs) (sym (in_work_is p (actors i).stack (stmt.Critical l f) (locking_in p sees_here (actors i).stack) is)) in
+      state_event p w m events s actors i before plain.LockState at_counter WAIT_CRITICAL (lock_wait l) zs rows (goes_to plain.Lock (actors i))
       (goes_on p w m events s actors i before plain.LockState at_counter (goes_to plain.Lock (actors i)) zs
       (record { thread = refl; context = refl; gathered = refl })
       (record { thread = own.fits.thread; variables = own.fits.variables; bodies = own.fits.bodies; counter = critical })

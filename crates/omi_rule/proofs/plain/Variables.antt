@@ -15,13 +15,14 @@ use Rattle.omi_model.specs.declared.task.Task.{Task}
 use Rattle.omi_model.specs.declared.task.Variables.{Variables}
 use Rattle.omi_model.specs.Changes.{on_task}
 use Rattle.omi_model.specs.Lists.{opened, take_item}
-use Rattle.omi_model.specs.Numbers.{default_device_var, dyn_var, flag, max_active_levels_var, nthreads_var, run_sched_var}
+use Rattle.omi_numbers.specs.declared.variables.TheConstants.{DEFAULT_DEVICE_VAR, DYN_VAR, MAX_ACTIVE_LEVELS_VAR, NTHREADS_VAR, RUN_SCHED_VAR}
+use Rattle.omi_numbers.specs.Words.{flag}
+use Rattle.omi_script.specs.Schedules.{schedule_word}
 use Rattle.omi_model.specs.Rows.{first_of}
 use Rattle.omi_model.specs.Settings.{with_head, with_set, with_task_variable, with_variable, with_variable_of}
 use Rattle.omi_model.specs.State.{State, task_of}
 use Rattle.omi_layout.specs.declared.field.Field.{Field}
 use Rattle.omi_layout.specs.declared.field.Field.TheVariants.{RuntimeMaxActive, TaskDevice, TaskDynamic, TaskNthreads, TaskSchedule}
-use Rattle.omi_layout.specs.Codes.{flag_word, schedule_word}
 use Rattle.omi_layout.specs.Field.{kind_of, tasks}
 use Rattle.omi_layout.specs.Memory.{Memory, Rec, with_word_in}
 use Rattle.omi_layout.specs.Named.{number}
@@ -57,7 +58,7 @@ use Rattle.omi_rule.proofs.plain.TaskWords.{has_environment, has_place, middle, 
 schedule_back : (word : ℕ) → word ≡ word / 8 * 8 + word % 8
 schedule_back word = omega arith
 
-flag_back : (b : Bool) → flag_word b ≡ flag (not (flag_word b == 0))
+flag_back : (b : Bool) → flag b ≡ flag (not (flag b == 0))
 flag_back true = refl
 flag_back false = refl
 
@@ -75,7 +76,7 @@ abbrev with_variables : Task → List Item → Variables → Task
 with_variables t zs v = record t { list = zs; variables = v }
 
 module _ (w : List ℕ) (r : Rec) (t : Task) (zs : List Item) (o : KeepsEnvironment w r t) where
-  dynamic_kept : (b : Bool) → KeepsEnvironment w (with_word_in r (number TaskDynamic) 0 (flag_word b)) (with_variables t zs (record t.variables { dynamic = not (flag_word b == 0) }))
+  dynamic_kept : (b : Bool) → KeepsEnvironment w (with_word_in r (number TaskDynamic) 0 (flag b)) (with_variables t zs (record t.variables { dynamic = not (flag b == 0) }))
   dynamic_kept b = record {
     implicit = o.implicit;
     region = o.region;
@@ -194,16 +195,16 @@ module _ (p : Program) (w : List ℕ) (m : Memory) (events : List (ℕ × Event)
 
   -- the variable of the whole program
   max_active_event : (n : ℕ) → IsAt p a.stack (stmt.SetMaxActive n)
-      → StepKeeps p w m events s actors i (op.Store (of_runtime w RuntimeMaxActive) n) (λ old. (settled p a, outcome.Event (event.Set max_active_levels_var n)))
+      → StepKeeps p w m events s actors i (op.Store (of_runtime w RuntimeMaxActive) n) (λ old. (settled p a, outcome.Event (event.Set MAX_ACTIVE_LEVELS_VAR n)))
   max_active_event n is =
       let o = (middle_words p w m events s actors i before plain.Set at_counter rest).runtime_record in (
         record { creator = 0; slot = 0; field = RuntimeMaxActive; place = 0 },
         record { there = record { field = numbered_field RuntimeMaxActive; record_slot = record { made_by = omega arith; within = omega arith }; within = omega arith }; address = refl },
         runtime_event p w m events s actors i before plain.Set at_counter rest (op.Store (of_runtime w RuntimeMaxActive) n) RuntimeMaxActive 0 n n z.locks refl
             (record { version = o.version; threads = o.threads; procs = o.procs; debug = o.debug; max_active = refl; locks = o.locks })
-            (settled p a) (outcome.Event (event.Set max_active_levels_var n)) (event.Set max_active_levels_var n) (item.Set max_active_levels_var n) refl (λ q. q) (λ q e. absurd (cc e))
-            (set_takes (stmt.SetMaxActive n) max_active_levels_var n is refl) (k, t, now_current p w m events s actors i before plain.Set at_counter, tt) refl refl
-            (inl (refl, (n, refl))) goes (first.ended (events ++ (i, event.Set max_active_levels_var n) ∷ []) i),
+            (settled p a) (outcome.Event (event.Set MAX_ACTIVE_LEVELS_VAR n)) (event.Set MAX_ACTIVE_LEVELS_VAR n) (item.Set MAX_ACTIVE_LEVELS_VAR n) refl (λ q. q) (λ q e. absurd (cc e))
+            (set_takes (stmt.SetMaxActive n) MAX_ACTIVE_LEVELS_VAR n is refl) (k, t, now_current p w m events s actors i before plain.Set at_counter, tt) refl refl
+            (inl (refl, (n, refl))) goes (first.ended (events ++ (i, event.Set MAX_ACTIVE_LEVELS_VAR n) ∷ []) i),
       )
 
   row_of : (x : Stmt) → Sets x → ◌≡◌ {A = Item × List Item} (first_of at x, rest) (item.Set (set_number (Some x)) (set_word (Some x)), rest)
@@ -212,25 +213,25 @@ module _ (p : Program) (w : List ℕ) (m : Memory) (events : List (ℕ × Event)
   sets_by : (x : Stmt) → IsAt p a.stack x → Sets x → StepKeeps p w m events s actors i (op.Store (set_address w a (Some x)) (set_word (Some x))) (λ old. (settled p a, set_outcome (Some x)))
   sets_by (stmt.SetNumThreads n) is sets =
       let o = has_place p w m events s actors i before plain.Set at_counter in
-      variable_event (stmt.SetNumThreads n) TaskNthreads nthreads_var n _ is refl refl
+      variable_event (stmt.SetNumThreads n) TaskNthreads NTHREADS_VAR n _ is refl refl
       (record { life = λ e. absurd (omega (arith, e)); children = λ e. absurd (omega (arith, e)); references = λ e. absurd (omega (arith, e)); slots = λ e. absurd (omega (arith, e)) })
       refl refl (nthreads_kept w own_record t rest (has_environment p w m events s actors i before plain.Set at_counter) n)
       (record { thread = o.thread; member = o.member; scheduling = o.scheduling; exit = o.exit; enter = o.enter }) refl
   sets_by (stmt.SetDynamic b) is sets =
       let o = has_place p w m events s actors i before plain.Set at_counter in
-      variable_event (stmt.SetDynamic b) TaskDynamic dyn_var (flag_word b) _ is (row_of (stmt.SetDynamic b) sets) refl
+      variable_event (stmt.SetDynamic b) TaskDynamic DYN_VAR (flag b) _ is (row_of (stmt.SetDynamic b) sets) refl
       (record { life = λ e. absurd (omega (arith, e)); children = λ e. absurd (omega (arith, e)); references = λ e. absurd (omega (arith, e)); slots = λ e. absurd (omega (arith, e)) })
       refl refl (dynamic_kept w own_record t rest (has_environment p w m events s actors i before plain.Set at_counter) b)
       (record { thread = o.thread; member = o.member; scheduling = o.scheduling; exit = o.exit; enter = o.enter }) refl
   sets_by (stmt.SetSchedule x) is sets =
       let o = has_place p w m events s actors i before plain.Set at_counter in
-      variable_event (stmt.SetSchedule x) TaskSchedule run_sched_var (schedule_word x) _ is refl refl
+      variable_event (stmt.SetSchedule x) TaskSchedule RUN_SCHED_VAR (schedule_word x) _ is refl refl
       (record { life = λ e. absurd (omega (arith, e)); children = λ e. absurd (omega (arith, e)); references = λ e. absurd (omega (arith, e)); slots = λ e. absurd (omega (arith, e)) })
       refl refl (schedule_kept w own_record t rest (has_environment p w m events s actors i before plain.Set at_counter) (schedule_word x))
       (record { thread = o.thread; member = o.member; scheduling = o.scheduling; exit = o.exit; enter = o.enter }) refl
   sets_by (stmt.SetDevice d) is sets =
       let o = has_place p w m events s actors i before plain.Set at_counter in
-      variable_event (stmt.SetDevice d) TaskDevice default_device_var d _ is refl refl
+      variable_event (stmt.SetDevice d) TaskDevice DEFAULT_DEVICE_VAR d _ is refl refl
       (record { life = λ e. absurd (omega (arith, e)); children = λ e. absurd (omega (arith, e)); references = λ e. absurd (omega (arith, e)); slots = λ e. absurd (omega (arith, e)) })
       refl refl (device_kept w own_record t rest (has_environment p w m events s actors i before plain.Set at_counter) d)
       (record { thread = o.thread; member = o.member; scheduling = o.scheduling; exit = o.exit; enter = o.enter }) refl

@@ -1,6 +1,7 @@
 -- A new task is deferred: its code is stored into the own slot that is empty, and its thread leaves the construct.
 use Rattle.std.proofs.Common.{◌≡◌, ◌||◌, ◌<◌, nat_lt, inl, inr, slice_get, ℕ, Bool, true, false, List, [], ◌∷◌, ◌++◌, Some, None, refl, sym, ap, ◌∙◌, subst, arith, if◌then◌else◌}
 use Rattle.std.proofs.lemmas.Bool.Decides.{nat_tests}
+use Rattle.omi_rep.specs.Records.{slot_word}
 use Rattle.omi_word.specs.declared.op.Op.{Op}
 use Rattle.omi_word.specs.declared.op.Op.TheVariants as op
 use Rattle.omi_script.specs.declared.program.Program.{Program}
@@ -30,7 +31,8 @@ use Rattle.omi_pc.specs.declared.counter.Counter.TheVariants as counter
 use Rattle.omi_pc.specs.declared.counter.PlainCounter.TheVariants as plain
 use Rattle.omi_pc.specs.declared.task_counter.TaskCounter.{TaskCounter}
 use Rattle.omi_pc.specs.declared.task_counter.TaskCounter.TheVariants as task
-use Rattle.omi_pc.specs.declared.limits.TheConstants.{OWN_SLOTS, TASK_WORDS}
+use Rattle.omi_numbers.specs.declared.limits.TheConstants.{OWN_SLOTS}
+use Rattle.omi_pc.specs.declared.limits.TheConstants.{TASK_WORDS}
 use Rattle.omi_pc.specs.Settle.{goes_to}
 use Rattle.omi_rep.specs.declared.outcome.Outcome.TheVariants as outcome
 use Rattle.omi_rule_words.specs.ExplicitKinds.{IsPlaceField, IsRow, OfEnter, OfExit, OfNumber, OfScheduling, OfThread, with_slot}
@@ -38,7 +40,6 @@ use Rattle.omi_rule_words.specs.Owes.{all_owed, nothing}
 use Rattle.omi_rule_words.specs.Words.{KeepsWords}
 use Rattle.omi_step_words.specs.Placed.{HasTask}
 use Rattle.omi_task.specs.MakingSteps.{made_function, makes_final, making_moved, making_next, making_outcome, of_own_slot}
-use Rattle.omi_task.specs.Slots.{slot_word}
 use Rattle.omi_rule.specs.Ahead.{leaving, task_ahead}
 use Rattle.omi_rule.specs.Chains.{Stands, StandsWith, encounter_of}
 use Rattle.omi_rule.specs.Rows.{Defers, HasFilledTask}

@@ -3,10 +3,9 @@ use Rattle.std.proofs.lemmas.Option.{slice_get_within}
 use Rattle.std.proofs.Common.{◌≡◌, ◌<◌, ◌≤◌, ℕ, zero, suc, Bool, true, false, List, length, slice_get, slice_index, Some, refl, sym, ap, ◌∙◌, arith}
 use Rattle.omi_script.specs.declared.program.Program.{Program}
 use Rattle.omi_model.specs.declared.task.Task.{Task}
-use Rattle.omi_model.specs.Numbers.{flag}
-use Rattle.omi_model.specs.Opening.{exit_frame}
+use Rattle.omi_numbers.specs.Words.{flag}
+use Rattle.omi_numbers.specs.Addresses.{exit_frame, entry_address}
 use Rattle.omi_model.specs.Tasking.{deferred_task, scheduled}
-use Rattle.omi_layout.specs.Codes.{flag_word, function_word}
 use Rattle.omi_layout.specs.declared.field.Field.TheVariants.{TaskNthreads}
 use Rattle.omi_layout.specs.Memory.{Rec}
 use Rattle.omi_pc.specs.declared.actor.Actor.{Actor}
@@ -28,19 +27,19 @@ module _ (p : Program) (w : List ℕ) (a : Actor) (f : ℕ) (final : Bool) (plac
       implicit = filled 0 (omega arith);
       region = filled 1 (omega arith) ∙ ap (region_address w) (sym region);
       generating = filled 4 (omega arith);
-      function = filled 6 (omega arith) ∙ ap function_word function;
+      function = filled 6 (omega arith) ∙ ap entry_address function;
       dynamic = filled 9 (omega arith) ∙ known 0 (omega arith);
       nthreads_length = filled 10 (omega arith) ∙ known 1 (omega arith);
       schedule = filled 11 (omega arith) ∙ known 2 (omega arith);
       device = filled 12 (omega arith) ∙ known 3 (omega arith);
-      final = filled 13 (omega arith) ∙ ap flag_word final_is ∙ flags final;
+      final = filled 13 (omega arith) ∙ ap flag final_is ∙ flags final;
       tool = filled 14 (omega arith);
       nthreads = elements;
     };
     children = filled 15 (omega arith);
   }
     where
-      flags : (b : Bool) → flag_word b ≡ flag b
+      flags : (b : Bool) → flag b ≡ flag b
       flags true = refl
       flags false = refl
 

@@ -1,8 +1,9 @@
 -- A thread raises the counts for a new task: in its region, and in the task that makes it.
-use Rattle.std.proofs.Common.{◌^◌, ◌≡◌, ◌<◌, inl, ℕ, List, [], ◌∷◌, Option, Some, None, refl, sym, ap, ◌∙◌, subst, arith}
+use Rattle.std.proofs.Common.{◌≡◌, ◌<◌, inl, ℕ, List, [], ◌∷◌, Option, Some, None, refl, sym, ap, ◌∙◌, subst, arith}
 use Rattle.std.specs.List.{All}
 use Rattle.std.specs.Prelude.{IsSome}
 use Rattle.std.proofs.lemmas.List.Elements.{All-head}
+use Rattle.omi_model.specs.declared.limits.TheConstants.{MOST_EVENTS}
 use Rattle.omi_word.specs.declared.op.Op.TheVariants as op
 use Rattle.omi_script.specs.declared.program.Program.{Program}
 use Rattle.omi_model.specs.declared.event.Event.{Event}
@@ -80,7 +81,7 @@ module _ (p : Program) (w : List ℕ) (m : Memory) (events : List (ℕ × Event)
         let here = context p w m events s actors i before C at in
         let counted = (region_kept p w m events s actors before.rule n here.region here.found).pending in
         let most = pending_few w s before.valid before.rule.within.count (all_owed actors) n in
-        let few : word_of_region m n RegionPending < 2 ^ 57 = omega (arith, counted, most) in
+        let few : word_of_region m n RegionPending < MOST_EVENTS = omega (arith, counted, most) in
         owed_after w N s actors i Then (record (in_the_making t) { pending = Some n }) refl
         (subst (λ (x : Owed). KeepsWords w N s (replace_at (all_owed actors) i (record x { pending = Some n }))) o
         (pending_adds_keep w m s (all_owed actors) i n before.rule.words before.known (ap (λ (x : Owed). x.pending) o) (subst IsSome (sym here.found) refl) few))
@@ -125,7 +126,7 @@ module _ (p : Program) (w : List ℕ) (m : Memory) (events : List (ℕ × Event)
         let here = context p w m events s actors i before D at in
         let counted = (task_kept p w m events s actors before.rule k here.task here.live).counts.children in
         let most = children_few w s before.valid before.rule.within.count (all_owed actors) k in
-        let few : word_of_task m k TaskChildren < 2 ^ 57 = omega (arith, counted, most) in
+        let few : word_of_task m k TaskChildren < MOST_EVENTS = omega (arith, counted, most) in
         owed_after w After s actors i b (with_raises (actors i).context t) is
         (subst (λ (x : Owed). KeepsWords w After s (replace_at (all_owed actors) i (record x { raised = Some k }))) o
         (children_adds_keep w m s (all_owed actors) i k before.rule.words before.known (ap (λ (x : Owed). x.raised) o) (subst IsSome (sym here.live) refl) few))

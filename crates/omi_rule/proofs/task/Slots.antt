@@ -1,6 +1,7 @@
 -- A `task` construct looks for an own slot that is empty: a slot in which a deferred task stands is passed over.
 use Rattle.std.proofs.Common.{◌≡◌, ◌≢◌, ◌==◌, ◌&&◌, ◌||◌, ◌+◌, ◌<◌, nat_lt, inl, inr, ◌⊎◌, ℕ, Bool, true, false, List, [], ◌∷◌, ◌++◌, slice_get, Option, Some, None, unwrap_or, refl, sym, ap, ◌∙◌, subst, arith, eq-eqb, eqb-true, ltb-true, if◌then◌else◌}
 use Rattle.std.proofs.lemmas.Bool.Decides.{nat_tests}
+use Rattle.omi_rep.specs.Records.{slot_word}
 use Rattle.omi_word.specs.declared.op.Op.TheVariants as op
 use Rattle.omi_script.specs.declared.program.Program.{Program}
 use Rattle.omi_model.specs.declared.encounter.Encounter.{Encounter}
@@ -26,12 +27,12 @@ use Rattle.omi_layout.specs.Field.{tasks}
 use Rattle.omi_layout.specs.Memory.{Memory, replace_at}
 use Rattle.omi_pc.specs.declared.actor.Actor.{Actor}
 use Rattle.omi_pc.specs.declared.counter.Counter.TheVariants as counter
-use Rattle.omi_pc.specs.declared.limits.TheConstants.{OWN_SLOTS}
+use Rattle.omi_numbers.specs.declared.limits.TheConstants.{OWN_SLOTS}
 use Rattle.omi_pc.specs.declared.task_counter.TaskCounter.{TaskCounter}
 use Rattle.omi_pc.specs.declared.task_counter.TaskCounter.TheVariants as task
 use Rattle.omi_pc.specs.Fits.{FitsTask}
 use Rattle.omi_rep.specs.declared.outcome.Outcome.TheVariants as outcome
-use Rattle.omi_rule_words.specs.Objects.{IsDeferredIn, slot_word}
+use Rattle.omi_rule_words.specs.Objects.{IsDeferredIn}
 use Rattle.omi_rule_words.specs.Owes.{all_owed, nothing, owed}
 use Rattle.omi_rule_words.specs.Threads.{Has}
 use Rattle.omi_rule_words.specs.Words.{KeepsWords}

@@ -6,10 +6,9 @@ use Rattle.omi_model.specs.declared.id.Rid.{Rid}
 use Rattle.omi_model.specs.declared.id.Tid.{Tid}
 use Rattle.omi_model.specs.declared.region.Region.{Region}
 use Rattle.omi_model.specs.declared.task.Task.{Task}
-use Rattle.omi_model.specs.Opening.{exit_frame}
+use Rattle.omi_numbers.specs.Addresses.{exit_frame, entry_address, exit_below}
 use Rattle.omi_model.specs.Teams.{member_task, new_region, shortened}
 use Rattle.omi_layout.specs.declared.field.Field.TheVariants.{RegionTeam, TaskNthreads, TaskSlots}
-use Rattle.omi_layout.specs.Codes.{exit_word, function_word}
 use Rattle.omi_layout.specs.Memory.{Rec}
 use Rattle.omi_layout.specs.Named.{number}
 use Rattle.omi_layout.specs.Table.{width}
@@ -39,7 +38,7 @@ module _ (p : Program) (w : List ℕ) (a : Actor) (n : Rid) (f : ℕ) (t : Task)
       → ((j : ℕ) → j < length a.gathered.team → q (number RegionTeam) j ≡ task_address w (member_of a.gathered.team j).0)
       → IsFilled q (region_plan w (TeamParts.planned_region p a)) REGION_WORDS → RegionIsFilled w q (new_region a.context.task t r a.gathered.team f)
   region_filled q levels active low few team o = record {
-    function = o 0 (omega arith) ∙ ap function_word function;
+    function = o 0 (omega arith) ∙ ap entry_address function;
     enclosing = o 1 (omega arith) ∙ ap (region_address w) (sym region_is);
     encountering = o 2 (omega arith);
     size = o 3 (omega arith);
@@ -66,7 +65,7 @@ module _ (p : Program) (w : List ℕ) (a : Actor) (n : Rid) (f : ℕ) (t : Task)
       implicit = o 0 (omega arith);
       region = o 1 (omega arith);
       generating = o 4 (omega arith);
-      function = o 6 (omega arith) ∙ ap function_word function;
+      function = o 6 (omega arith) ∙ ap entry_address function;
       dynamic = o 9 (omega arith) ∙ inherits.dynamic;
       nthreads_length = o 10 (omega arith) ∙ inherits.size;
       schedule = o 11 (omega arith) ∙ inherits.schedule;
@@ -79,7 +78,7 @@ module _ (p : Program) (w : List ℕ) (a : Actor) (n : Rid) (f : ℕ) (t : Task)
       thread = o 2 (omega arith) ∙ ap (λ (y : Tid × ℕ). thread_address w y.1) at;
       member = o 3 (omega arith);
       scheduling = o 5 (omega arith);
-      exit = o 7 (omega arith) ∙ ap (λ (y : Tid × ℕ). exit_word y.1 (TeamParts.member_depth a j)) at ∙ go (j == 0) refl;
+      exit = o 7 (omega arith) ∙ ap (λ (y : Tid × ℕ). exit_frame y.1 (TeamParts.member_depth a j)) at ∙ go (j == 0) refl;
       enter = o 8 (omega arith);
     };
     children = o 15 (omega arith);
@@ -104,6 +103,6 @@ module _ (p : Program) (w : List ℕ) (a : Actor) (n : Rid) (f : ℕ) (t : Task)
       slots (suc (suc (suc zero))) within = o 24 (omega arith)
       slots (suc (suc (suc (suc k)))) within = absurd (omega (arith, within))
 
-      go : (b : Bool) → j == 0 ≡ b → exit_word m.1 (if b then a.context.depth + 1 else 1) ≡ (if b then t.exit - 64 else exit_frame m.1 1)
+      go : (b : Bool) → j == 0 ≡ b → exit_frame m.1 (if b then a.context.depth + 1 else 1) ≡ (if b then exit_below t.exit else exit_frame m.1 1)
       go true e = let is = exit (eqb-true j 0 e) in omega (arith, is)
       go false e = refl

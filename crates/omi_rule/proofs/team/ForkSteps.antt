@@ -1,6 +1,6 @@
 -- A fork is legal, and its words are kept.
 use Rattle.std.proofs.Common.{◌≡◌, ◌<◌, ℕ, true, List, ◌∷◌, length, drop, map, slice_index, Option, Some, refl, sym, ap, ◌∙◌, subst, arith}
-use Rattle.omi_model.specs.Opening.{exit_frame}
+use Rattle.omi_numbers.specs.Addresses.{exit_frame}
 use Rattle.std.proofs.lemmas.Option.{slice_get_within}
 use Rattle.std.specs.List.{All, Contains}
 use Rattle.std.specs.Option.{option_map}

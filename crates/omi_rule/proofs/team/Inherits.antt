@@ -3,9 +3,9 @@ use Rattle.std.proofs.Common.{◌≡◌, ◌+◌, ◌-◌, ◌<◌, ◌≤◌, n
 use Rattle.std.proofs.lemmas.Bool.Decides.{nat_tests}
 use Rattle.std.proofs.lemmas.Option.{slice_get_within}
 use Rattle.omi_model.specs.declared.task.Variables.{Variables}
-use Rattle.omi_model.specs.Numbers.{flag}
+use Rattle.omi_numbers.specs.Words.{flag}
+use Rattle.omi_script.specs.Schedules.{schedule_word}
 use Rattle.omi_model.specs.Teams.{shortened}
-use Rattle.omi_layout.specs.Codes.{schedule_word}
 use Rattle.omi_step_words.specs.Plan.{inherited_words}
 use Rattle.omi_rule.specs.Rows.{IsVariable}
 

@@ -8,13 +8,13 @@ use Rattle.omi_model.specs.declared.item.Item.{Item}
 use Rattle.omi_model.specs.declared.item.Item.TheVariants as item
 use Rattle.omi_model.specs.declared.thread.Thread.{Thread}
 use Rattle.omi_model.specs.Changes.{on_task}
-use Rattle.omi_model.specs.Numbers.{overhead}
+use Rattle.omi_numbers.specs.declared.states.TheConstants.{OVERHEAD}
+use Rattle.omi_numbers.specs.Words.{state_word}
 use Rattle.omi_model.specs.Settings.{with_state}
 use Rattle.omi_model.specs.State.{State}
 use Rattle.omi_model.proofs.Slots.{put_same}
 use Rattle.omi_model.proofs.Steps.{relisted}
 use Rattle.omi_layout.specs.declared.field.Field.TheVariants.{ThreadState}
-use Rattle.omi_layout.specs.Codes.{state_word}
 use Rattle.omi_layout.specs.Field.{threads}
 use Rattle.omi_layout.specs.Memory.{Memory, with_word}
 use Rattle.omi_layout.specs.Named.{number}
@@ -45,10 +45,10 @@ module _ (p : Program) (w : List ℕ) (m : Memory) (events : List (ℕ × Event)
   behind = wanting p (encounter_of s (actors i).context) (actors i).stack
 
   abbrev next : State
-  next = with_state (on_task s (actors i).context.task (relisted (wanting p (encounter_of s (actors i).context) (actors i).stack))) i overhead 0
+  next = with_state (on_task s (actors i).context.task (relisted (wanting p (encounter_of s (actors i).context) (actors i).stack))) i OVERHEAD 0
 
   abbrev word : ℕ
-  word = state_word overhead 0
+  word = state_word OVERHEAD 0
 
   abbrev X : RecordWord
   X = record { creator = i; slot = 0; field = ThreadState; place = 0 }
@@ -56,13 +56,13 @@ module _ (p : Program) (w : List ℕ) (m : Memory) (events : List (ℕ × Event)
   words : KeepsWords w (with_word m i threads 0 (number ThreadState) 0 word) next (all_owed actors)
   words =
       let o = (before.rule.words.made i before.known).thread in
-      thread_stores_keep w m (on_task s (actors i).context.task (relisted behind)) (all_owed actors) i (record (s.threads i) { state = overhead; wait = 0 }) ThreadState word (words_moved p w m events s actors i before C at behind)
+      thread_stores_keep w m (on_task s (actors i).context.task (relisted behind)) (all_owed actors) i (record (s.threads i) { state = OVERHEAD; wait = 0 }) ThreadState word (words_moved p w m events s actors i before C at behind)
       (λ same. omega (arith, same)) (record { life = o.life; native = o.native; current = o.current; state = refl; claim = o.claim })
 
   changes : ChangesTask s next i (actors i).context.task
   changes =
       own_changes p s i (actors i) (stands p w m events s actors i before C at) (relisted behind) next (λ t live. relisted_alike behind t) refl
-      (ap (λ (h : Thread). h.current) (put_same s.threads i (record (s.threads i) { state = overhead; wait = 0 }))) refl refl
+      (ap (λ (h : Thread). h.current) (put_same s.threads i (record (s.threads i) { state = OVERHEAD; wait = 0 }))) refl refl
 
   pub overhead_keeps : StepKeeps p w m events s actors i (team_next p w (actors i) C) (λ old. (team_moved p w (actors i) C old, team_outcome p w (actors i) C old))
   overhead_keeps =
@@ -73,9 +73,9 @@ module _ (p : Program) (w : List ℕ) (m : Memory) (events : List (ℕ × Event)
           there = record { field = record { from = omega arith; to = omega arith }; record_slot = record { made_by = known; within = omega arith }; within = omega arith };
           address = ap (λ j. of_thread w j ThreadState) thread;
         },
-        team_event p w m events s actors i before C at (op.Store (of_thread w (actors i).thread ThreadState) word) X team.LoadLevels (actors i).gathered (event.State overhead 0) (item.State overhead 0) behind behind next
+        team_event p w m events s actors i before C at (op.Store (of_thread w (actors i).thread ThreadState) word) X team.LoadLevels (actors i).gathered (event.State OVERHEAD 0) (item.State OVERHEAD 0) behind behind next
             (λ none. none) (λ f e. absurd (cc e)) refl
-            (step p w m events s actors i before C at (event.State overhead 0) (item.State overhead 0) behind behind next refl tt refl refl)
+            (step p w m events s actors i before C at (event.State OVERHEAD 0) (item.State OVERHEAD 0) behind behind next refl tt refl refl)
             (word, ap (λ j. op.Store (of_thread w j ThreadState) word) thread) words (sym (owes p w m events s actors i before C at))
             (λ j other. spares_threads m s i ThreadState word j (actors j) (λ same. omega (arith, same)))
             changes refl refl

@@ -15,7 +15,7 @@ use Rattle.omi_model.specs.State.{State}
 use Rattle.omi_layout.proofs.Arenas.{test_left, test_right}
 use Rattle.omi_layout.specs.declared.field.Field.{Field}
 use Rattle.omi_layout.specs.declared.field.Field.TheVariants.{RegionTeam}
-use Rattle.omi_layout.specs.Codes.{exit_word}
+use Rattle.omi_numbers.specs.Addresses.{exit_frame}
 use Rattle.omi_layout.specs.Field.{regions, tasks}
 use Rattle.omi_layout.specs.Memory.{Memory, Rec, replace_at}
 use Rattle.omi_layout.specs.Named.{number}
@@ -142,7 +142,7 @@ filled_goes p w m n a r k d team size same in_region in_tasks in_team o = record
     whole = ap (λ size. record { enclosing = a.context.region; encountering = a.context.task; function = region_function p a; size = size; levels = plus a.gathered.levels 1; active = plus a.gathered.active (if nat_lt 1 size then 1 else 0) }) size
 
     member : Tid × ℕ → ℕ → NewTask
-    member y j = record (new_member p a r j) { thread = y.1; exit = exit_word y.1 (member_depth a j) }
+    member y j = record (new_member p a r j) { thread = y.1; exit = exit_frame y.1 (member_depth a j) }
 
 -- where no word changed
 pub filled_as_before : (p : Program) (w : List ℕ) (m : Memory) (a : Actor) (r : Rid) (k : ℕ) (d : TeamCounter) → HasFilled p w m a r k → HasFilled p w m (going d a.gathered a) r k

@@ -12,7 +12,7 @@ use Rattle.omi_model.specs.declared.task.Task.{Task}
 use Rattle.omi_model.specs.declared.task.Variables.{Variables}
 use Rattle.omi_model.specs.LawStays.{Stays}
 use Rattle.omi_model.specs.Lists.{fits}
-use Rattle.omi_model.specs.Numbers.{nthreads_var}
+use Rattle.omi_numbers.specs.declared.variables.TheConstants.{NTHREADS_VAR}
 use Rattle.omi_model.specs.Opening.{opening}
 use Rattle.omi_model.specs.Reached.{Reached, Step}
 use Rattle.omi_model.specs.Settings.{with_head, with_variable}
@@ -48,7 +48,7 @@ all_sizes : (ns : List ℕ) → ((k : ℕ) → k < length ns → IsSize (slice_i
 all_sizes [] each = tt
 all_sizes (n ∷ ns) each = (each 0 (omega arith), all_sizes ns (λ k within. each (suc k) (omega (arith, within))))
 
-size_item : (icv value : ℕ) (y : Item) → fits (event.Set icv value) y ≡ true → IsItemRight y → icv ≡ nthreads_var → IsSize value
+size_item : (icv value : ℕ) (y : Item) → fits (event.Set icv value) y ≡ true → IsItemRight y → icv ≡ NTHREADS_VAR → IsSize value
 size_item icv value (item.Set v x) fit is at =
     let icv_is = eqb-true icv v (and_left (icv == v) (value == x) fit) in
     subst IsSize (sym (eqb-true value x (and_right (icv == v) (value == x) fit))) (is.1 (sym icv_is ∙ at))
@@ -60,7 +60,7 @@ sizes_step p events s reached i e next step all = task_step p HasSizes s i e nex
     of_set : (icv value : ℕ) (v u : Variables) → with_variable icv value v ≡ Some u → e ≡ event.Set icv value → AreSizes v.nthreads → AreSizes u.nthreads
     of_set icv value v u f at_set o = go (set_nthreads icv value v u f)
       where
-        go : (u.nthreads ≡ v.nthreads) ⊎ ((icv ≡ nthreads_var) × (u.nthreads ≡ with_head value v.nthreads)) → AreSizes u.nthreads
+        go : (u.nthreads ≡ v.nthreads) ⊎ ((icv ≡ NTHREADS_VAR) × (u.nthreads ≡ with_head value v.nthreads)) → AreSizes u.nthreads
         go (inl same) = subst AreSizes (sym same) o
         go (inr (at, same)) =
             let tables = in_tables p events s reached in

@@ -19,7 +19,7 @@ use Rattle.omi_model.specs.declared.thread.Thread.{Thread}
 use Rattle.omi_model.specs.Changes.{encounter, encounter_by, level_of, on_thread}
 use Rattle.omi_model.specs.Lists.{stays, take_item}
 use Rattle.omi_model.specs.Reached.{Step}
-use Rattle.omi_model.specs.Opening.{exit_frame}
+use Rattle.omi_numbers.specs.Addresses.{exit_frame}
 use Rattle.omi_model.specs.Rows.{end_of_member, function_items, member_items, working}
 use Rattle.omi_model.specs.State.{State, region_of, task_of}
 use Rattle.omi_model.specs.Teams.{task_begun}

@@ -16,7 +16,7 @@ use Rattle.omi_model.specs.declared.task.Task.{Task}
 use Rattle.omi_model.specs.declared.thread.Thread.{Thread}
 use Rattle.omi_model.specs.Changes.{IsCurrent, encounter, list_of, on_task}
 use Rattle.omi_model.specs.Lists.{take_item}
-use Rattle.omi_model.specs.Numbers.{idle}
+use Rattle.omi_numbers.specs.declared.states.TheConstants.{IDLE}
 use Rattle.omi_model.specs.Reached.{Step}
 use Rattle.std.specs.Prelude.{IsSome}
 use Rattle.std.specs.Option.{option_map}
@@ -76,9 +76,9 @@ use Rattle.omi_rule.specs.Chains.{RunsFunctions}
 
 -- behind the stored state, or without one
 idle_ahead : (p : Program) (s : State) → s.environment ≡ p.env → idling s ≡ worker_ahead s (idle_counter p)
-idle_ahead p s same = ap (λ (e : Env). if e.debug then item.State idle 0 ∷ offering else offering) same ∙ go p.env.debug
+idle_ahead p s same = ap (λ (e : Env). if e.debug then item.State IDLE 0 ∷ offering else offering) same ∙ go p.env.debug
   where
-    go : (d : Bool) → (if d then item.State idle 0 ∷ offering else offering) ≡ worker_ahead s (if d then worker.IdleState else worker.Offer)
+    go : (d : Bool) → (if d then item.State IDLE 0 ∷ offering else offering) ≡ worker_ahead s (if d then worker.IdleState else worker.Offer)
     go true = refl
     go false = refl
 
@@ -272,7 +272,7 @@ module _ (p : Program) (w : List ℕ) (m : Memory) (events : List (ℕ × Event)
         stands = subst (StandsWith p u i b) (sym stack_is) (record {
           current = none_now;
           ahead = ap (λ (h : Thread). h.list) (put_same z.threads i (record (z.threads i) { current = None })) ∙ worker_lists p events s before.rule.reached i k current.name first
-              ∙ ap (λ (e : Env). if e.debug then item.State idle 0 ∷ offering else offering) (sym (environment_stays p events s before.rule.reached));
+              ∙ ap (λ (e : Env). if e.debug then item.State IDLE 0 ∷ offering else offering) (sym (environment_stays p events s before.rule.reached));
         });
         runs = subst (RunsFunctions u (closed (actors i)).context) (sym stack_is) tt;
         row = tt;

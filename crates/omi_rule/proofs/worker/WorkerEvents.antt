@@ -10,7 +10,8 @@ use Rattle.omi_model.specs.declared.item.Item.TheVariants as item
 use Rattle.omi_model.specs.declared.thread.Thread.{Thread}
 use Rattle.omi_model.specs.Changes.{encounter, list_of, on_thread, with_list}
 use Rattle.omi_model.specs.Lists.{stays, take_item}
-use Rattle.omi_model.specs.Numbers.{idle}
+use Rattle.omi_numbers.specs.declared.states.TheConstants.{IDLE}
+use Rattle.omi_numbers.specs.Words.{state_word}
 use Rattle.omi_model.specs.Reached.{Step}
 use Rattle.omi_model.specs.Rules as Rules
 use Rattle.omi_model.specs.Rules.{effect}
@@ -19,7 +20,6 @@ use Rattle.omi_model.proofs.Slots.{put_same, some_same}
 use Rattle.omi_model.proofs.claims.ClaimLaws.{claims_kept}
 use Rattle.omi_layout.specs.declared.field.Field.{Field}
 use Rattle.omi_layout.specs.declared.field.Field.TheVariants.{ThreadAssign, ThreadClaim, ThreadLife, ThreadState}
-use Rattle.omi_layout.specs.Codes.{state_word}
 use Rattle.omi_layout.specs.Field.{IsField, kind_of, threads}
 use Rattle.omi_layout.specs.Memory.{IsRecordWord, Memory, Rec, replace_at, with_word, with_word_in}
 use Rattle.omi_layout.specs.Named.{number}
@@ -189,8 +189,8 @@ module _ (p : Program) (w : List ℕ) (m : Memory) (events : List (ℕ × Event)
   idles at =
       let alone : IsAlone (actors i) = fits_worker worker.IdleState at in (
         thread_word i ThreadState,
-        thread_on ThreadState (state_word idle 0) (record { from = omega arith; to = omega arith }) refl (omega arith),
-        worker_event worker.IdleState at alone (event.State idle 0) (item.State idle 0) (item.Offer ∷ item.Serve ∷ []) (λ h. record h { state = idle; wait = 0 }) ThreadState (state_word idle 0) worker.Offer refl refl tt (λ z. refl) (λ none. none) (λ h is. absurd (cc is)) (λ h. refl) (λ h. refl)
+        thread_on ThreadState (state_word IDLE 0) (record { from = omega arith; to = omega arith }) refl (omega arith),
+        worker_event worker.IdleState at alone (event.State IDLE 0) (item.State IDLE 0) (item.Offer ∷ item.Serve ∷ []) (λ h. record h { state = IDLE; wait = 0 }) ThreadState (state_word IDLE 0) worker.Offer refl refl tt (λ z. refl) (λ none. none) (λ h is. absurd (cc is)) (λ h. refl) (λ h. refl)
             (λ r h is. record { life = is.life; native = is.native; current = is.current; state = refl; claim = is.claim }) (λ same. absurd (omega (arith, same))) refl
-            alone tt (λ q is. refl) (λ r q. tt) refl (thread_word i ThreadState) refl (state_word idle 0, ap (λ x. op.Store x (state_word idle 0)) (own_thread ThreadState)),
+            alone tt (λ q is. refl) (λ r q. tt) refl (thread_word i ThreadState) refl (state_word IDLE 0, ap (λ x. op.Store x (state_word IDLE 0)) (own_thread ThreadState)),
       )

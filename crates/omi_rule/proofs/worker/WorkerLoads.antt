@@ -43,7 +43,8 @@ use Rattle.omi_rule_words.proofs.Forks.{address_some}
 use Rattle.omi_rule_words.proofs.Moves.{moves_keep}
 use Rattle.omi_step_words.specs.Moving.{to_worker}
 use Rattle.omi_step_words.specs.Placed.{IsPlacedCounter, IsPlacedWorker}
-use Rattle.omi_step_words.specs.Words.{function_at, generation_of, object_in, of_place, of_region, of_task, of_thread, region_place, task_place}
+use Rattle.omi_step_words.specs.Words.{generation_of, object_in, of_place, of_region, of_task, of_thread, region_place, task_place}
+use Rattle.omi_numbers.specs.Addresses.{function_at}
 use Rattle.omi_step_words.proofs.ReadBack.{functions_back, generations_back, places_back}
 use Rattle.omi_fork.specs.WorkerSteps.{worker_moved, worker_next, worker_outcome}
 use Rattle.omi_rule.specs.Chains.{worker_ahead}

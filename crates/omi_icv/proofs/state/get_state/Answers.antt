@@ -52,7 +52,7 @@ returns-clause-answer g c =
     (asked_then _ (g.C.Callbacks.told c.runtime_word.new.s.table.calls) _ _ c.in_ok-debug.debug _ c.runtime_word.ensures.same.table.same debug
     (asked_false _ _ _ _ _ on
     (asked_then _ (g.C.Callbacks.told c.word.new.s.table.calls) _ _ c.in_ok-state.state _ c.word.ensures.same.table.same kept
-    (asked_answer _ _ _ refl))))
+    (asked_answer _ _ _ (λ i. Ok (c.state_of.ensures i, c.wait_of.ensures i))))))
 
 pub returns-in_err-thread-clause-shown : goal.returns-in_err-thread-clause-shown
 returns-in_err-thread-clause-shown g c = λ s shown t.

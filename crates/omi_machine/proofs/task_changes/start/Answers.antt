@@ -49,7 +49,7 @@ returns-clause-done c =
     let list : c.push_working.new.list ≡ working (encounter (state_of s) i) u.list = added ∙ ap (λ (at : Encounter). working at u.list) c.encounter-at.ensures in
     let back =
     c.put_live-2.ensures
-    ∙ ap (λ (e : ℕ). with_slot c.take_live.new.slots task.0 (record { generations = task.0.generation + 1; live = Some (record (scheduled i k t u) { exit = e; list = c.push_working.new.list }) })) c.exit_from-exit.ensures
+    ∙ ap (λ (e : ℕ). with_slot c.take_live.new.slots task.0 (record { generations = task.0.generation + 1; live = Some (record (scheduled i k t u) { exit = e; list = c.push_working.new.list }) })) c.exit_below-exit.ensures
     ∙ ap (λ (l : List Item). with_slot c.take_live.new.slots task.0 (record { generations = task.0.generation + 1; live = Some (record (scheduled i k t u) { list = l }) })) list in
     let starts = task_changed s c.take_live.new.slots c.put_live-2.new.slots task _ (λ u. record (scheduled i k t u) { list = working (encounter (state_of s) i) u.list }) u took.kept took.found took.taken back in
     let whole = c.set_current.ensures ∙ ap (λ (x : State). with_current x i (Some task)) starts in

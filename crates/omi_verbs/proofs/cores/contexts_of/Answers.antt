@@ -6,6 +6,6 @@ use Rattle.omi_verbs.proofs.cores.contexts_of.Goals as goal
 pub loop-thread-preserved : goal.loop-thread-preserved
 loop-thread-preserved c =
     c.in_ok-push.ensures.added
-    ∙ ap (λ (ids : List ℕ). ids ++ (1000 + c.from.result) ∷ []) c.loop-thread.invariant
-    ∙ ap (λ n. thread_ids c.loop-thread.thread ++ (1000 + n) ∷ []) c.from.ensures
+    ∙ ap (λ (ids : List ℕ). ids ++ c.native_id.result ∷ []) c.loop-thread.invariant
+    ∙ ap (λ n. thread_ids c.loop-thread.thread ++ n ∷ []) c.native_id.ensures
     ∙ one_more c.loop-thread.thread

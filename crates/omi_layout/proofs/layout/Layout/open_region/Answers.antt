@@ -1,4 +1,4 @@
-use Rattle.std.proofs.Common.{[], ◌∷◌, ◌+◌, ◌*◌, refl, ap, ◌∙◌, arith}
+use Rattle.std.proofs.Common.{[], ◌∷◌, refl, ap, ◌∙◌, arith}
 use Rattle.std.proofs.lemmas.List.Elements.{All-from_recursion}
 use Rattle.omi_layout.specs.declared.field.Field.TheVariants.{RegionLife, RegionFunction, RegionSize, RegionTeam}
 use Rattle.omi_layout.specs.Memory.{Rec, memory_of}
@@ -19,7 +19,7 @@ fill-requires-clause-slot c = record { made_by = some_threads c.args.self.now.ta
 pub fill-requires-clause-entries : goal.fill-requires-clause-entries
 fill-requires-clause-entries c =
     All-from_recursion (IsEntryOf c.args.self.now.table 3)
-    ((RegionLife, 0, 1) ∷ (RegionFunction, 0, 0x400000 + 16 * c.from.result) ∷ (RegionSize, 0, 1) ∷ (RegionTeam, 0, c.task_at.result) ∷ [])
+    ((RegionLife, 0, 1) ∷ (RegionFunction, 0, c.entry_address.result) ∷ (RegionSize, 0, 1) ∷ (RegionTeam, 0, c.task_at.result) ∷ [])
     ((refl, omega arith), ((refl, omega arith), ((refl, omega arith), ((refl, some_threads c.args.self.now.table c.args.self.now.valid), tt))))
 
 pub returns-clause-opens : goal.returns-clause-opens
@@ -28,7 +28,7 @@ returns-clause-opens c =
     let zero = c.requires.zero in
     record {
       life = ap (λ (r : Rec). r 13 0) here;
-      function = ap (λ (r : Rec). r 14 0) here ∙ ap (λ n. 0x400000 + 16 * n) c.from.ensures;
+      function = ap (λ (r : Rec). r 14 0) here ∙ c.entry_address.ensures;
       enclosing = ap (λ (r : Rec). r 15 0) here ∙ zero 15 0;
       encountering = ap (λ (r : Rec). r 16 0) here ∙ zero 16 0;
       size = ap (λ (r : Rec). r 17 0) here;

@@ -1,4 +1,4 @@
-use Rattle.std.proofs.Common.{◌≡◌, ℕ, zero, suc, ◌+◌, ◌*◌, [], ◌∷◌, refl, sym, ap, ap₂, ◌∙◌, arith}
+use Rattle.std.proofs.Common.{◌≡◌, ℕ, zero, suc, [], ◌∷◌, refl, sym, ap, ◌∙◌, arith}
 use Rattle.std.proofs.lemmas.List.{get_or_past}
 use Rattle.std.proofs.lemmas.List.Elements.{All-from_recursion}
 use Rattle.std.specs.Prelude.{slice_index}
@@ -26,8 +26,8 @@ pub fill-requires-clause-entries : goal.fill-requires-clause-entries
 fill-requires-clause-entries c =
     All-from_recursion (IsEntryOf c.args.self.now.table 4)
     ((TaskLife, 0, 1) ∷ (TaskImplicit, 0, 1) ∷ (TaskRegion, 0, c.region_at.result) ∷ (TaskThread, 0, c.thread_at.result)
-    ∷ (TaskFunction, 0, 0x400000 + 16 * c.from.result) ∷ (TaskExit, 0, 0x7f00000fffc0) ∷ (TaskDynamic, 0, c.from-2.result)
-    ∷ (TaskNthreadsLength, 0, c.len.result) ∷ (TaskSchedule, 0, c.from-3.result * 8 + c.from-4.result) ∷ (TaskDevice, 0, c.from-5.result)
+    ∷ (TaskFunction, 0, c.entry_address.result) ∷ (TaskExit, 0, c.exit_frame.result) ∷ (TaskDynamic, 0, c.from.result)
+    ∷ (TaskNthreadsLength, 0, c.len.result) ∷ (TaskSchedule, 0, c.word.result) ∷ (TaskDevice, 0, c.from-2.result)
     ∷ (TaskNthreads, 0, c.element.result) ∷ (TaskNthreads, 1, c.element-2.result) ∷ (TaskNthreads, 2, c.element-3.result)
     ∷ (TaskNthreads, 3, c.element-4.result) ∷ [])
     ((refl, omega arith), ((refl, omega arith), ((refl, omega arith), ((refl, omega arith), ((refl, omega arith), ((refl, omega arith), ((refl, omega arith), ((refl, omega arith), ((refl, omega arith), ((refl, omega arith), ((refl, omega arith), ((refl, omega arith), ((refl, omega arith), ((refl, omega arith), tt))))))))))))))
@@ -44,13 +44,13 @@ returns-clause-opens c =
       member = ap (λ (r : Rec). r 29 0) here ∙ none 29 0;
       generating = ap (λ (r : Rec). r 30 0) here ∙ none 30 0;
       scheduling = ap (λ (r : Rec). r 31 0) here ∙ none 31 0;
-      function = ap (λ (r : Rec). r 32 0) here ∙ ap (λ n. 0x400000 + 16 * n) c.from.ensures;
-      exit = ap (λ (r : Rec). r 33 0) here;
+      function = ap (λ (r : Rec). r 32 0) here ∙ c.entry_address.ensures;
+      exit = ap (λ (r : Rec). r 33 0) here ∙ c.exit_frame.ensures;
       enter = ap (λ (r : Rec). r 34 0) here ∙ none 34 0;
-      dynamic = ap (λ (r : Rec). r 35 0) here ∙ c.from-2.ensures ∙ flag_is c.args.p.now.env.dynamic;
+      dynamic = ap (λ (r : Rec). r 35 0) here ∙ c.from.ensures ∙ flag_is c.args.p.now.env.dynamic;
       nthreads_length = ap (λ (r : Rec). r 36 0) here ∙ c.len.ensures;
-      schedule = ap (λ (r : Rec). r 37 0) here ∙ ap₂ (λ x y. x * 8 + y) c.from-3.ensures c.from-4.ensures;
-      device = ap (λ (r : Rec). r 38 0) here ∙ c.from-5.ensures;
+      schedule = ap (λ (r : Rec). r 37 0) here ∙ c.word.ensures;
+      device = ap (λ (r : Rec). r 38 0) here ∙ c.from-2.ensures;
       final = ap (λ (r : Rec). r 39 0) here ∙ none 39 0;
       tool = ap (λ (r : Rec). r 40 0) here ∙ none 40 0;
       children = ap (λ (r : Rec). r 41 0) here ∙ none 41 0;

@@ -1,4 +1,5 @@
-use Rattle.std.proofs.Common.{cond, ap, sym, ◌+◌, ◌∙◌}
+use Rattle.std.proofs.Common.{cond, ap, sym, ◌∙◌}
+use Rattle.omi_numbers.specs.declared.states.TheConstants.{WORK_SERIAL, IDLE}
 use Rattle.omi_layout.specs.Memory.{Rec}
 use Rattle.omi_layout.specs.Place.{slot_address}
 use Rattle.omi_layout.proofs.Filling.{not_first}
@@ -12,9 +13,9 @@ returns-clause-opens c =
     let worker = not_first i c.requires.worker in
     record {
       life = ap (λ (r : Rec). r 7 0) here ∙ c.requires.zero 7 0 ∙ sym (ap (λ b. cond b 1 0) worker);
-      native = ap (λ (r : Rec). r 8 0) here ∙ ap (λ n. 1000 + n) c.from.ensures;
+      native = ap (λ (r : Rec). r 8 0) here ∙ c.native_id.ensures;
       current = ap (λ (r : Rec). r 9 0) here ∙ c.requires.zero 9 0 ∙ sym (ap (λ b. cond b (slot_address w 4 0 0) 0) worker);
-      state = ap (λ (r : Rec). r 10 0) here ∙ sym (ap (λ b. cond b 0 0x100) worker);
+      state = ap (λ (r : Rec). r 10 0) here ∙ c.from.ensures ∙ sym (ap (λ b. cond b WORK_SERIAL IDLE) worker);
       claim = ap (λ (r : Rec). r 11 0) here ∙ c.requires.zero 11 0;
       assign = ap (λ (r : Rec). r 12 0) here ∙ c.requires.zero 12 0;
     }

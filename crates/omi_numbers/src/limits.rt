@@ -1,0 +1,4 @@
+//! Limits that the abstract machine and the memory share.
+
+/// The slots for deferred tasks of an implicit task.
+pub const OWN_SLOTS: u8 = 4;
