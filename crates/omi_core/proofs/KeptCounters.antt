@@ -35,13 +35,14 @@ use Rattle.omi_pc.specs.declared.team_counter.TeamCounter.TheVariants as team
 use Rattle.omi_pc.specs.declared.team_counter.WorkerCounter.{WorkerCounter}
 use Rattle.omi_pc.specs.declared.team_counter.WorkerCounter.TheVariants as worker
 use Rattle.omi_pc.specs.Fits.{slots_of}
-use Rattle.omi_pc.specs.Frames.{advanced, next_statement, at_start}
-use Rattle.omi_pc.specs.Moves.{begun_master, begun_worker, closed, closed_in, returned, returned_by, returned_in, worked, worked_at, worked_in, back_to_work, begun_explicit}
-use Rattle.omi_pc.specs.Settle.{statement_begun, calling, ended, goes_to, settled, settled_by, settled_in}
+use Rattle.omi_pc.specs.Frames.{at_start}
+use Rattle.omi_pc.specs.Moves.{begun_master, begun_worker, closed, closed_in, returned, worked, back_to_work, begun_explicit}
+use Rattle.omi_pc.specs.Settle.{settled}
 use Rattle.omi_pc.specs.declared.frame.Opened.TheVariants.{Main}
 use Rattle.omi_pc.specs.declared.task_counter.TaskCounter.{TaskCounter}
 use Rattle.omi_pc.specs.declared.task_counter.TaskCounter.TheVariants as task
 use Rattle.omi_pc.specs.Opening.{opening_actor, waiting_actor}
+use Rattle.omi_pc.proofs.NextCounters.{HoldsNext, returned_next, settled_next, worked_next, working_next}
 use Rattle.omi_rep.specs.Records.{task_address}
 use Rattle.omi_step_words.specs.Moving.{to_barrier, to_join, to_team, to_worker, to_look}
 use Rattle.omi_step_words.specs.Words.{task_place, is_free, object_in}
@@ -66,84 +67,20 @@ use Rattle.omi_core.proofs.Stepping.{actors_set}
 
 -- ---- moves between statements
 
-kept_begun : (s : Stmt) (a : Actor) → IsKept (statement_begun s a).counter
-kept_begun (stmt.Parallel f num) a = tt
-kept_begun (stmt.Task f undeferred final) a = tt
-kept_begun stmt.Taskwait a = tt
-kept_begun stmt.Taskyield a = tt
-kept_begun stmt.Barrier a = tt
-kept_begun (stmt.Critical k f) a = tt
-kept_begun (stmt.Call f) a = tt
-kept_begun (stmt.Only m f) a = go (a.context.number == m)
-  where
-    go : (b : Bool) → IsKept (if b then calling f opened.Call a else record a { counter = counter.Plain plain.Skip }).counter
-    go true = tt
-    go false = tt
-kept_begun (stmt.Repeat zero f) a = tt
-kept_begun (stmt.Repeat (suc n) f) a = tt
-kept_begun (stmt.SetNumThreads n) a = tt
-kept_begun (stmt.SetDynamic b) a = tt
-kept_begun (stmt.SetMaxActive n) a = tt
-kept_begun (stmt.SetSchedule s) a = tt
-kept_begun (stmt.SetDevice d) a = tt
-kept_begun (stmt.Tool x) a = tt
-kept_begun stmt.Work a = tt
-
-kept_ended : (debug : Bool) (o : Opened) (a : Actor) → IsKept (ended debug o a).counter
-kept_ended debug opened.Main a = tt
-kept_ended debug opened.Worker a = tt
-kept_ended debug (opened.Master saved) a = tt
-kept_ended debug (opened.Task v saved) a = tt
-kept_ended debug opened.Call a = tt
-kept_ended debug (opened.Repeat left) a = tt
-kept_ended debug (opened.Critical k) a = tt
-
-kept_settled_by : (p : Program) (a : Actor) (f : Frame) (fs : List Frame) (s : Option Stmt) → IsKept (settled_by p a f fs s).counter
-kept_settled_by p a f fs (Some s) = kept_begun s (record a { stack = advanced f ∷ fs })
-kept_settled_by p a f fs None = kept_ended p.env.debug f.opened a
+kept_next : HoldsNext IsKept
+kept_next = record { plain = λ c before. tt; state = tt; arrive = tt; finish = tt }
 
 kept_settled : (p : Program) (a : Actor) → IsKept a.counter → IsKept (settled p a).counter
-kept_settled p a kept_now = go a.stack
-  where
-    go : (fs : List Frame) → IsKept (settled_in p a fs).counter
-    go [] = kept_now
-    go (f ∷ fs) = kept_settled_by p a f fs (next_statement p f)
+kept_settled p a kept_now = settled_next IsKept kept_next p a (λ none. kept_now)
 
 kept_worked : (p : Program) (a : Actor) → IsKept a.counter → IsKept (worked p a).counter
-kept_worked p a kept_now = go a.stack
-  where
-    at : (n : ℕ) → IsKept (worked_at p n a).counter
-    at zero = kept_settled p a kept_now
-    at (suc n) = tt
-
-    go : (fs : List Frame) → IsKept (worked_in p fs a).counter
-    go [] = kept_now
-    go (f ∷ fs) = at f.next
+kept_worked p a kept_now = worked_next IsKept kept_next p a (λ none. kept_now)
 
 kept_working : (p : Program) (a : Actor) → IsKept a.counter → IsKept (back_to_work p a).counter
-kept_working p a kept_now = go p.env.debug
-  where
-    go : (b : Bool) → IsKept (if b then goes_to plain.WorkState a else worked p a).counter
-    go true = tt
-    go false = kept_worked p a kept_now
+kept_working p a kept_now = working_next IsKept kept_next p a (λ none. kept_now)
 
 kept_returned : (p : Program) (a : Actor) → IsKept a.counter → IsKept (returned p a).counter
-kept_returned p a kept_now = go a.stack
-  where
-    by : (o : Opened) (f : Frame) (fs : List Frame) → IsKept (returned_by p o f fs a).counter
-    by opened.Main f fs = kept_now
-    by opened.Worker f fs = kept_now
-    by (opened.Master saved) f fs = kept_now
-    by (opened.Task v saved) f fs = kept_now
-    by opened.Call f fs = kept_settled p (record a { stack = fs }) kept_now
-    by (opened.Repeat zero) f fs = tt
-    by (opened.Repeat (suc zero)) f fs = tt
-    by (opened.Repeat (suc (suc left))) f fs = tt
-    by (opened.Critical k) f fs = tt
-
-    go : (fs : List Frame) → IsKept (returned_in p fs a).counter
-    go [] = kept_now
-    go (f ∷ fs) = by f.opened f fs
+kept_returned p a kept_now = returned_next IsKept kept_next p a kept_now
 
 kept_closed : (a : Actor) → IsKept a.counter → IsKept (closed a).counter
 kept_closed a kept_now = go a.stack

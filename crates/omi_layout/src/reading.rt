@@ -5,8 +5,8 @@ ghost use Rattle.omi_layout.specs.Given.{GivesLayout};
 
 use crate::fault::LayoutFault;
 use crate::layout::Layout;
-use omi_word::{WordMemory, look_up};
 use crate::limits::TABLE_WORDS;
+use omi_word::{WordMemory, look_up};
 
 /// Why words give no layout.
 #[derive(Clone, Copy, Debug, PartialEq, Eq)]

@@ -6,46 +6,37 @@ ghost use Rattle.omi_script.specs.declared.program.Program.{Program};
 ghost use Rattle.omi_model.specs.Lists.{fits, may_drop, opened};
 ghost use Rattle.omi_model.specs.Rows.{first_of};
 
-use omi_model::{Encounter, Event, Item};
-use omi_numbers::{
-    DEFAULT_DEVICE_VAR, DYN_VAR, MAX_ACTIVE_LEVELS_VAR, NTHREADS_VAR, OWN_SLOTS, RUN_SCHED_VAR,
-};
+use omi_model::{Encounter, Event, Item, Shape};
+use omi_numbers::OWN_SLOTS;
 use omi_script::Stmt;
 
 /// The first item of a statement's row.
 pub fn first_item(at: Encounter, s: Stmt) -> Item
     ensures { result ≡ first_of at s }
 {
-    match s {
-        Stmt::Parallel { .. }
-        | Stmt::Task { .. }
-        | Stmt::Taskwait
-        | Stmt::Taskyield
-        | Stmt::Barrier
-        | Stmt::Critical { .. } => Item::Enter,
-        Stmt::Call { f } => Item::Call { f },
-        Stmt::Only { m, f } => {
+    match Shape::of(&s) {
+        Shape::Parallel { .. }
+        | Shape::Task { .. }
+        | Shape::Taskwait
+        | Shape::Taskyield
+        | Shape::Barrier
+        | Shape::Critical { .. } => Item::Enter,
+        Shape::Call { f } => Item::Call { f },
+        Shape::Only { m, f } => {
             if at.number == m as u64 {
                 Item::Call { f }
             } else {
                 Item::Skip
             }
         }
-        Stmt::Repeat { n, f } => { if n == 0 { Item::Skip } else { Item::Call { f } } }
-        Stmt::SetNumThreads(n) => set(NTHREADS_VAR, n as u64),
-        Stmt::SetDynamic(b) => set(DYN_VAR, b as u64),
-        Stmt::SetMaxActive(m) => set(MAX_ACTIVE_LEVELS_VAR, m as u64),
-        Stmt::SetSchedule(s) => set(RUN_SCHED_VAR, s.word()),
-        Stmt::SetDevice(d) => set(DEFAULT_DEVICE_VAR, d as u64),
-        Stmt::Tool(x) => Item::SetTool { x },
-        Stmt::Work => Item::Work,
+        Shape::Repeat { n, f } => { if n == 0 { Item::Skip } else { Item::Call { f } } }
+        Shape::Sets { variable, word } => Item::Set {
+            icv: variable,
+            value: word,
+        },
+        Shape::Tool(x) => Item::SetTool { x },
+        Shape::Work => Item::Work,
     }
-}
-
-fn set(icv: u32, value: u64) -> Item
-    ensures { result ≡ Item.Set icv value }
-{
-    Item::Set { icv, value }
 }
 
 /// The head of a list, once a statement is replaced by its row.

@@ -5,7 +5,7 @@ ghost use Rattle.omi_numbers.specs.declared.states.TheConstants.{OVERHEAD, WAIT_
 ghost use Rattle.omi_model.specs.Rows.{barrier_items, behind, call_items, shown, working};
 
 use crate::first_lists::{push_barrier, push_function, push_shown, push_working};
-use omi_model::{Encounter, Item, ItemList};
+use omi_model::{Encounter, Item, ItemList, Shape};
 use omi_numbers::{OVERHEAD, WAIT_BARRIER_EXPLICIT, WAIT_CRITICAL, WAIT_TASKWAIT, lock_wait};
 use omi_script::{Program, Stmt};
 use omi_word::OutOfMemory;
@@ -151,32 +151,26 @@ pub(crate) fn push_behind(
 ) -> Result<(), OutOfMemory>
     ensures { OnOk result (list.new ≡ behind p.now at s list.old) }
 {
-    match s {
-        Stmt::Parallel { f, num } => push_parallel(list, at, f, num),
-        Stmt::Task {
+    match Shape::of(&s) {
+        Shape::Parallel { f, num } => push_parallel(list, at, f, num),
+        Shape::Task {
             f,
             undeferred,
             is_final,
         } => push_task(list, at, f, undeferred, is_final),
-        Stmt::Taskwait => push_taskwait(list, at),
-        Stmt::Taskyield => push_taskyield(list),
-        Stmt::Barrier => push_explicit_barrier(list, at),
-        Stmt::Critical { k, f } => push_critical(list, p, at, k, f),
-        Stmt::Call { f } => push_call(list, p, f),
-        Stmt::Only { m, f } => {
+        Shape::Taskwait => push_taskwait(list, at),
+        Shape::Taskyield => push_taskyield(list),
+        Shape::Barrier => push_explicit_barrier(list, at),
+        Shape::Critical { k, f } => push_critical(list, p, at, k, f),
+        Shape::Call { f } => push_call(list, p, f),
+        Shape::Only { m, f } => {
             if at.number == m as u64 {
                 push_call(list, p, f)
             } else {
                 Ok(())
             }
         }
-        Stmt::Repeat { n, f } => push_repeat(list, p, at, n, f),
-        Stmt::SetNumThreads(_)
-        | Stmt::SetDynamic(_)
-        | Stmt::SetMaxActive(_)
-        | Stmt::SetSchedule(_)
-        | Stmt::SetDevice(_)
-        | Stmt::Tool(_)
-        | Stmt::Work => Ok(()),
+        Shape::Repeat { n, f } => push_repeat(list, p, at, n, f),
+        Shape::Sets { .. } | Shape::Tool(_) | Shape::Work => Ok(()),
     }
 }

@@ -214,13 +214,7 @@ module _ (p : Program) (b : ℕ → ℕ) (ok : IsCounted p b) where
     row_ready w (stmt.Repeat (suc n) f) rest is r =
         let again : IsReady b at.number Outside (n * b f + w) (item.Do (stmt.Repeat n f) ∷ rest) = record { in_order = r.in_order; barriers = omega (arith, r.barriers); is_fair = r.is_fair } in
         subst (λ k. IsReady b at.number Outside k (item.Call f ∷ call_items p f (item.Do (stmt.Repeat n f) ∷ rest))) (grind arith) (call_row at.number f (n * b f + w) (item.Do (stmt.Repeat n f) ∷ rest) again)
-    row_ready w (stmt.SetNumThreads n) rest is r = none_more _ (on (item.Set _ _) rest refl r)
-    row_ready w (stmt.SetDynamic x) rest is r = none_more _ (on (item.Set _ _) rest refl r)
-    row_ready w (stmt.SetMaxActive n) rest is r = none_more _ (on (item.Set _ _) rest refl r)
-    row_ready w (stmt.SetSchedule s) rest is r = none_more _ (on (item.Set _ _) rest refl r)
-    row_ready w (stmt.SetDevice d) rest is r = none_more _ (on (item.Set _ _) rest refl r)
-    row_ready w (stmt.Tool x) rest is r = none_more _ (on (item.SetTool x) rest refl r)
-    row_ready w stmt.Work rest is r = none_more _ (on item.Work rest refl r)
+    row_ready w s rest is r = none_more _ (on (first_of at s) rest refl r)
 
     -- a list is as ready when its first item is opened
     open_do : (ph : Phase) (w : ℕ) (s : Stmt) (xs : List Item) → IsReady b at.number ph w (item.Do s ∷ xs) → IsReady b at.number ph w (first_of at s ∷ behind p at s xs)

@@ -52,6 +52,24 @@ pub record IsThreadLaw (p : Program) (s : State) (i : ℕ) (e : Event) (next : S
   pub starts : (task : Tid) (x : Item) (k : Tid) (t : Task) → IsCurrent s i k t → MayStart s task x k t → ((u : Task) × (task_of next task ≡ Some u) × (u.progress ≡ Begun) × (u.scheduling ≡ Some k)) → R i (s.threads i) → R i (record (s.threads i) { current = Some task })
   pub finishes : (k : Tid) (t : Task) → IsCurrent s i k t → t.implicit ≡ false → is_end e ≡ true → R i (s.threads i) → R i (record (s.threads i) { current = t.scheduling })
 
+-- a law of lists alone: an effect leaves them
+pub of_lists : (p : Program) (s : State) (i : ℕ) (e : Event) (next : State) (P : ℕ → List Item → Type 0) → IsThreadLaw p s i e next (λ j h. P j h.list)
+of_lists p s i e next P = record {
+  begins = λ may q. q;
+  offers = λ may of q. q;
+  wants = λ n num may of q. q;
+  asks = λ w got may of q. q;
+  claims = λ w may of q. q;
+  shows = λ state wait of q. q;
+  forks = λ region team f k t r is found may new q. q;
+  joins_team = λ task may of q. q;
+  ends = λ k t r is found im other over q. q;
+  joins = λ k t r is found may of q. q;
+  makes = λ task f final k t is new q. q;
+  starts = λ task x k t is may new q. q;
+  finishes = λ k t is ex over q. q;
+}
+
 -- a task that starts has begun afterwards
 started_found : (s : State) (k j : Tid) (f : Task → Task) (t : Task) → task_of s k ≡ Some t → ((u : Task) → (f u).progress ≡ Begun) → ((u : Task) → (f u).scheduling ≡ Some j) → (u : Task) × (task_of (on_task s k f) k ≡ Some u) × (u.progress ≡ Begun) × (u.scheduling ≡ Some j)
 started_found s k j f t live begun from = (f t, on_same s.tasks k.0 f ∙ ap (option_map f) live, begun t, from t)

@@ -13,7 +13,9 @@ pub mod MembersKnown
 pub mod LevelsCount
 pub mod NthreadsShortened
 pub mod ListLaws
+pub mod RowLaws
 pub mod BarrierOrder
+pub mod SlotEffects
 pub mod BarrierSteps
 pub mod BarrierCounts
 pub mod BarrierLaw

@@ -32,9 +32,9 @@ use Rattle.omi_model.specs.Tasking.{deferred, finished, started, started_alone, 
 use Rattle.omi_model.specs.Teams.{forked, joined, task_ended}
 use Rattle.omi_model.proofs.ChainsKept.{current_begun}
 use Rattle.omi_model.proofs.EachObject.{EachTask, IsTaskLaw, list_of_current, start_list, task_step_from}
-use Rattle.omi_model.proofs.EachThread.{EachThread, IsThreadLaw, thread_step}
+use Rattle.omi_model.proofs.EachThread.{EachThread, of_lists, thread_step}
 use Rattle.omi_model.proofs.ListLaws.{take_fits, take_keeps}
-use Rattle.omi_model.proofs.LockLists.{Gives, is_lock_event, main_back, member_back, stays_back, take_back, task_back, working_back}
+use Rattle.omi_model.proofs.LockLists.{Gives, is_lock_event, main_back, member_back, start_back, stays_back, take_back, task_back}
 use Rattle.omi_model.proofs.NamesLive.{names_live}
 use Rattle.omi_model.proofs.OpeningObjects.{each_first_task, each_first_thread}
 use Rattle.omi_model.proofs.SchedulingChains.{over_reached}
@@ -82,24 +82,8 @@ IdleLists j h = NoLocks h.list
 
 idle_step : (p : Program) (s : State) (i : ℕ) (e : Event) (next : State) → Step p s i e next → EachThread IdleLists s → EachThread IdleLists next
 idle_step p s i e next step all = thread_step p IdleLists s i e next step
-    (λ y ys none taken q. no_stays (encounter s i) e y ys (no_take p (encounter s i) e (s.threads i).list y ys taken q)) law all
-  where
-    law : (middle : State) → IsRelisted s middle → Stays middle next → EachThread IdleLists middle → IsThreadLaw p middle i e next IdleLists
-    law middle relists later of_threads = record {
-      begins = λ may q. q;
-      offers = λ may of q. q;
-      wants = λ n num may of q. q;
-      asks = λ w got may of q. q;
-      claims = λ w may of q. q;
-      shows = λ state wait of q. q;
-      forks = λ region team f k t r is found may new q. q;
-      joins_team = λ task may of q. q;
-      ends = λ k t r is found im other over q. q;
-      joins = λ k t r is found may of q. q;
-      makes = λ task f final k t is new q. q;
-      starts = λ task x k t is may new q. q;
-      finishes = λ k t is ex over q. q;
-    }
+    (λ y ys none taken q. no_stays (encounter s i) e y ys (no_take p (encounter s i) e (s.threads i).list y ys taken q))
+    (λ middle before later all_lists. of_lists p middle i e next (λ j xs. NoLocks xs)) all
 
 -- ---- which events change the locks
 
@@ -138,10 +122,6 @@ Owns k holder n t = ((holder ≡ Some n) × Gives k 1 t.list) ⊎ ((holder ≡ S
 
 abbrev pub IsThreadOf : State → ℕ → Option Tid → Type 0
 IsThreadOf s k holder = MatchOption holder (s.locks k ≡ None) (λ n. (t : Task) × (task_of s n ≡ Some t) × (s.locks k ≡ Some t.thread) × (t.progress ≡ Deferred → ⊥))
-
-start_back : (k : ℕ) (x : Item) (at : Encounter) (zs : List Item) → Gives k 0 zs → Gives k 0 (start_list x at zs)
-start_back k (item.Tasks state) at zs h = working_back k 0 at zs h
-start_back k x at zs h = h
 
 module _ (k : ℕ) (p : Program) (events : List (ℕ × Event)) (s : State) (reached : Reached p events s) (i : ℕ) (e : Event) (next : State) (step : Step p s i e next) (idle : EachThread IdleLists s) where
   m : IsMove p s i e next

@@ -1,29 +1,25 @@
 -- The slots in which tasks live: each was made by an event.
-use Rattle.std.proofs.Common.{◌≡◌, ℕ, true, false, List, [], ◌∷◌, Some, ◌+◌, ◌-◌, sym, subst}
-use Rattle.std.specs.Prelude.{IfSome, ⊤}
+use Rattle.std.proofs.Common.{◌≡◌, ℕ, List, [], ◌∷◌, Some, ◌+◌, sym, subst}
+use Rattle.std.specs.Prelude.{⊤}
 use Rattle.omi_script.specs.declared.program.Program.{Program}
 use Rattle.omi_model.specs.declared.event.Event.{Event}
 use Rattle.omi_model.specs.declared.event.Event.TheVariants as event
 use Rattle.omi_model.specs.declared.id.Id.{Id}
 use Rattle.omi_model.specs.declared.id.Tid.{Tid}
 use Rattle.omi_model.specs.declared.item.Item.{Item}
-use Rattle.omi_model.specs.declared.item.Item.TheVariants as item
-use Rattle.omi_model.specs.declared.progress.Progress.TheVariants.{Begun, Finished}
+use Rattle.omi_model.specs.declared.progress.Progress.TheVariants.{Finished}
 use Rattle.omi_model.specs.declared.slot.Slot.{Slot}
 use Rattle.omi_model.specs.declared.task.Task.{Task}
-use Rattle.omi_model.specs.Barriers.{arrived, released}
-use Rattle.omi_model.specs.Changes.{on_task, with_list}
+use Rattle.omi_model.specs.Changes.{with_list}
 use Rattle.omi_model.specs.Put.{Slots, made, on}
 use Rattle.omi_model.specs.Reached.{Leads, Step}
-use Rattle.omi_model.specs.Rows.{working}
-use Rattle.omi_model.specs.Rules.{Rule, effect}
-use Rattle.omi_model.specs.Settings.{entered, left, with_tool}
+use Rattle.omi_model.specs.Rules.{effect}
 use Rattle.omi_model.specs.State.{State}
-use Rattle.omi_model.specs.Tasking.{deferred, deferred_task, finished, scheduled, started, started_alone, started_now}
 use Rattle.omi_model.specs.Changes.{encounter}
-use Rattle.omi_model.specs.Teams.{forked, joined, member_task, task_ended, with_members}
+use Rattle.omi_model.specs.Teams.{member_task, with_members}
+use Rattle.omi_model.proofs.SlotEffects.{OfSlots, slots_effect}
 use Rattle.omi_model.proofs.Slots.{each_slot}
-use Rattle.omi_model.proofs.Steps.{from_some, list_moves, move_of, of_current, of_current_region, of_region, of_set, on_live, relisted}
+use Rattle.omi_model.proofs.Steps.{from_some, list_moves, move_of, on_live, relisted}
 use Rattle.omi_model.specs.Lists.{stays}
 
 -- tasks live only in these places
@@ -56,42 +52,25 @@ module _ (P : ℕ → ℕ → Type 0) where
   Lives u = LivesIn P u.tasks
 
   module _ (p : Program) (s : State) (i : ℕ) (all : LivesIn P s.tasks) where
-    changed : (k : Tid) (f : Task → Task) → Lives (on_task s k f)
-    changed k f = lives_on s.tasks k.0 f all
-
-    lives_effect : (e : Event) (y : Item) → Rule s i e y → MakesIn P e → IfSome (effect p s i e y) Lives
-    lives_effect (event.Ask w true) y rule here = all
-    lives_effect (event.Ask w false) y rule here = all
-    lives_effect (event.Fork region team) (item.Fork f) rule here = of_region s i (forked p s i region team f) Lives _ rule (λ k t r is found may. lives_members (member_task p region k t r f) 0 team s.tasks here all)
-    lives_effect (event.Fork region team) y rule here = tt
-    lives_effect (event.ImplicitBegin task) y rule here = changed task (λ t. record t { progress = Begun })
-    lives_effect event.Enter y rule here = of_current s i (entered s) Lives (λ k t. ⊤) rule (λ k t is h. changed k (λ u. record u { enter = t.exit - 32 }))
-    lives_effect event.Leave y rule here = of_current s i (left s) Lives (λ k t. ⊤) rule (λ k t is h. changed k (λ u. record u { enter = 0 }))
-    lives_effect event.Arrive y rule here = of_current_region s i (λ k t. arrived s t) Lives _ rule (λ k t r is found h. all)
-    lives_effect event.Release y rule here = of_current_region s i (λ k t. released s t) Lives _ rule (λ k t r is found h. all)
-    lives_effect (event.ImplicitEnd task) y rule here = of_current_region s i (task_ended s i) Lives _ rule (λ k t r is found h. changed k (λ u. record u { progress = Finished }))
-    lives_effect (event.Join region) y rule here = of_region s i (joined s i) Lives _ rule (λ k t r is found h. changed k (λ u. record u { progress = Finished }))
-    lives_effect (event.FreeTask task) y rule here = tt
-    lives_effect (event.FreeRegion region) y rule here = tt
-    lives_effect (event.Defer task) (item.Defer seen f final) rule here = of_current s i (deferred p s task f final seen) Lives _ rule (λ k t is h. lives_made s.tasks task.0 (deferred_task p k t f final seen) all here)
-    lives_effect (event.Defer task) y rule here = tt
-    lives_effect (event.StartNow task) (item.Defer seen f final) rule here = of_current s i (started_now p s i task f final) Lives _ rule (λ k t is h. lives_made s.tasks task.0 (scheduled i k t (deferred_task p k t f final 0)) all here)
-    lives_effect (event.StartNow task) (item.StartNow f final) rule here = of_current s i (started_now p s i task f final) Lives _ rule (λ k t is h. lives_made s.tasks task.0 (scheduled i k t (deferred_task p k t f final 0)) all here)
-    lives_effect (event.StartNow task) y rule here = tt
-    lives_effect (event.Start task) (item.Tasks state) rule here = of_current s i (started s i task) Lives _ rule (λ k t is h. changed task (λ u. record (scheduled i k t u) { list = working (encounter s i) u.list }))
-    lives_effect (event.Start task) item.OneTask rule here = of_current s i (started_alone s i task) Lives _ rule (λ k t is h. changed task (scheduled i k t))
-    lives_effect (event.Start task) y rule here = tt
-    lives_effect (event.Finish task) y rule here = of_current s i (finished s i) Lives _ rule (λ k t is h. changed k (λ u. record u { progress = Finished }))
-    lives_effect (event.Set icv value) y rule here = of_set s i icv value Lives rule all (λ k t v is e. changed k (λ u. record u { variables = v }))
-    lives_effect (event.SetTool x) y rule here = of_current s i (λ k t. with_tool s x k) Lives (λ k t. ⊤) rule (λ k t is h. changed k (λ u. record u { tool = x }))
-    lives_effect e y rule here = all
+    lives : OfSlots p s i (λ e regions tasks. MakesIn P e → LivesIn P tasks)
+    lives = record {
+      stays = λ e same here. all;
+      tasks = λ e same n f here. lives_on s.tasks n.0 f all;
+      defers = λ task x here. lives_made s.tasks task.0 x all here;
+      starts_now = λ task x here. lives_made s.tasks task.0 x all here;
+      forks = λ region team f k t r may here. lives_members (member_task p region k t r f) 0 team s.tasks here all;
+      arrives = λ k t is here. all;
+      releases = λ k t r is found may here. all;
+      ends = λ task k t is here. lives_on s.tasks k.0 (λ u. record u { progress = Finished }) all;
+      joins = λ region k t r is here. lives_on s.tasks k.0 (λ u. record u { progress = Finished }) all;
+    }
 
   lives_step : (p : Program) (s : State) (i : ℕ) (e : Event) (next : State) → Step p s i e next → MakesIn P e → LivesIn P s.tasks → LivesIn P next.tasks
   lives_step p s i e after_step step here all =
       let m = move_of p s i e after_step step in
       let zs : List Item = stays (encounter s i) e m.item m.behind in
       let middle : Lives (with_list s i zs) = list_moves s i zs Lives (λ k is. lives_on s.tasks k.0 (relisted zs) all) (λ none. all) in
-      from_some Lives (effect p (with_list s i zs) i e m.item) after_step m.effect_is (lives_effect p (with_list s i zs) i middle e m.item m.rule_moved here)
+      from_some (λ u. MakesIn P e → Lives u) (effect p (with_list s i zs) i e m.item) after_step m.effect_is (slots_effect p (with_list s i zs) i (λ e regions tasks. MakesIn P e → LivesIn P tasks) (lives p (with_list s i zs) i middle) e m.item m.rule_moved) here
 
   abbrev pub EachMakesIn : List (ℕ × Event) → Type 0
   EachMakesIn [] = ⊤

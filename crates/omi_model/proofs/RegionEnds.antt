@@ -12,7 +12,6 @@ use Rattle.omi_model.specs.declared.progress.Progress.TheVariants.{Begun, Deferr
 use Rattle.omi_model.specs.declared.region.Region.{Region}
 use Rattle.omi_model.specs.declared.task.Task.{Task}
 use Rattle.omi_model.specs.Barriers.{AreFinished}
-use Rattle.omi_model.specs.declared.encounter.Encounter.{Encounter}
 use Rattle.omi_model.specs.Changes.{IsCurrent, encounter, list_of}
 use Rattle.omi_model.specs.LawEnds.{IsLast}
 use Rattle.omi_model.specs.LawStays.{Stays}
@@ -27,8 +26,8 @@ use Rattle.omi_model.proofs.BarrierOrder.{IsReady, Outside, Phase, Released, Wai
 use Rattle.omi_model.proofs.BarrierSteps.{Changes, IsUntouched, region_changed}
 use Rattle.omi_model.proofs.ChainsKept.{current_begun}
 use Rattle.omi_model.proofs.Covered.{Covers, HasBehind, main_covers, member_covers, stays_covers, take_covers}
-use Rattle.omi_model.proofs.EachObject.{EachTask, IsTaskLaw, list_of_current, over_events, start_list, task_step, task_step_from}
-use Rattle.omi_model.proofs.LastItems.{Lasts, main_lasts, member_lasts, stays_lasts, take_lasts, task_lasts, working_lasts}
+use Rattle.omi_model.proofs.EachObject.{EachTask, IsTaskLaw, list_of_current, over_events, task_step, task_step_from}
+use Rattle.omi_model.proofs.LastItems.{Closes, main_closes, member_closes, start_closes, stays_closes, take_closes, task_closes}
 use Rattle.omi_model.proofs.ListLaws.{take_fits}
 use Rattle.omi_model.proofs.NamesLive.{names_live}
 use Rattle.omi_model.proofs.OpeningObjects.{each_first_task}
@@ -208,16 +207,16 @@ rests p events s reached =
 
 -- ---- the last event of a member
 
-abbrev HasLast : Tid → Task → Type 0
-HasLast k t = Lasts t.implicit t.list
+-- only an implicit task has the end of the program
+abbrev pub MayClose : Bool → Item → Type 0
+MayClose implicit x = x ≡ item.Done → implicit ≡ true
 
-start_lasts : (b : Bool) (x : Item) (at : Encounter) (zs : List Item) → Lasts b zs → Lasts b (start_list x at zs)
-start_lasts b (item.Tasks state) at zs h = working_lasts b at zs h
-start_lasts b x at zs h = h
+abbrev HasLast : Tid → Task → Type 0
+HasLast k t = Closes (MayClose t.implicit) t.list
 
 lasts_step : (p : Program) (s : State) (i : ℕ) (e : Event) (next : State) → Step p s i e next → EachTask HasLast s → EachTask HasLast next
 lasts_step p s i e next step all = task_step p HasLast s i e next step
-    (λ k t y ys is taken h. stays_lasts t.implicit (encounter s i) e y ys (take_lasts t.implicit p (encounter s i) e t.list y ys taken h)) law all
+    (λ k t y ys is taken h. stays_closes (MayClose t.implicit) (encounter s i) e y ys (take_closes (MayClose t.implicit) p (encounter s i) e t.list y ys taken h)) law all
   where
     law : (middle : State) (y : Item) → IsRelisted s middle → Stays middle next → EachTask HasLast middle → IsTaskLaw p middle i e y next HasLast
     law middle y relists later of_tasks = record {
@@ -226,15 +225,15 @@ lasts_step p s i e next step all = task_step p HasLast s i e next step
       sets = λ k t icv value v f at_set q. q;
       begins = λ k t waits mine by q. q;
       finishes = λ k t is over q. q;
-      starts = λ k u j t x is live ex de may of by q. start_lasts u.implicit x (encounter middle i) u.list q;
-      members = λ region team f k t r is found may new of by j m at. member_lasts true p (record { debug = p.env.debug; number = j; level = r.levels + 1; is_final = false }) f;
-      deferred = λ task f final seen k t is of fresh. task_lasts false p f;
-      made = λ task f final k t is of fresh by. task_lasts false p f;
+      starts = λ k u j t x is live ex de may of by q. start_closes (MayClose u.implicit) x (encounter middle i) u.list q;
+      members = λ region team f k t r is found may new of by j m at. member_closes (MayClose true) p (record { debug = p.env.debug; number = j; level = r.levels + 1; is_final = false }) f (λ done. refl);
+      deferred = λ task f final seen k t is of fresh. task_closes (MayClose false) p (λ done. absurd (cc done)) f;
+      made = λ task f final k t is of fresh by. task_closes (MayClose false) p (λ done. absurd (cc done)) f;
     }
 
 lasts : (p : Program) (events : List (ℕ × Event)) (s : State) → Reached p events s → EachTask HasLast s
 lasts p events s reached = over_events p (EachTask HasLast) (λ u i e next step h. lasts_step p u i e next step h) (opening p) events s reached
-    (each_first_task p HasLast (main_lasts true p refl (record { debug = p.env.debug; number = 0; level = 0; is_final = false })))
+    (each_first_task p HasLast (main_closes (MayClose true) p (λ done. refl) (record { debug = p.env.debug; number = 0; level = 0; is_final = false })))
 
 pub outside_is : (ph : Phase) → is_outside ph ≡ true → ph ≡ Outside
 outside_is Outside h = refl
@@ -243,13 +242,13 @@ outside_is Released h = absurd (false_true h)
 outside_is Wrong h = absurd (false_true h)
 
 -- where the last event of a member stands at the head, the member has no barrier ahead
-pub at_the_end : (p : Program) (e : Event) (y : Item) (ys : List Item) (t : Task) (ph : Phase) (w : ℕ) → IsLast e → fits e y ≡ true → Lasts t.implicit (y ∷ ys)
+pub at_the_end : (p : Program) (e : Event) (y : Item) (ys : List Item) (t : Task) (ph : Phase) (w : ℕ) → IsLast e → fits e y ≡ true → Closes (MayClose t.implicit) (y ∷ ys)
     → IsReady (barriers_of p) t.number ph w (y ∷ ys) → (w ≡ 0) × (ph ≡ Outside)
-at_the_end p (event.ImplicitEnd task) item.ImplicitEnd ys t ph w last fit h ready = ended ys h.0 ready
+at_the_end p (event.ImplicitEnd task) item.ImplicitEnd ys t ph w last fit h ready = ended ys h.1 ready
   where
     ended : (ys : List Item) → ys ≡ [] → IsReady (barriers_of p) t.number ph w (item.ImplicitEnd ∷ ys) → (w ≡ 0) × (ph ≡ Outside)
     ended ys none r' = (sym (subst (λ zs. left (barriers_of p) (item.ImplicitEnd ∷ zs) ≡ w) none r'.barriers), outside_is ph (subst (λ zs. order t.number ph (item.ImplicitEnd ∷ zs) ≡ true) none r'.in_order))
-at_the_end p (event.Join region) item.Join ys t ph w last fit h ready = ended ys h.0 ready
+at_the_end p (event.Join region) item.Join ys t ph w last fit h ready = ended ys h.1 ready
   where
     ended : (ys : List Item) → ys ≡ [] → IsReady (barriers_of p) t.number ph w (item.Join ∷ ys) → (w ≡ 0) × (ph ≡ Outside)
     ended ys none r' = (sym (subst (λ zs. left (barriers_of p) (item.Join ∷ zs) ≡ w) none r'.barriers), outside_is ph (subst (λ zs. order t.number ph (item.Join ∷ zs) ≡ true) none r'.in_order))
@@ -268,12 +267,12 @@ pub leads_append : (p : Program) (s : State) (xs : List (ℕ × Event)) (u : Sta
 leads_append p s [] u ys w same leads = subst (λ x. Leads p x ys w) same leads
 leads_append p s (x ∷ xs) u ys w (mid, step, first) leads = (mid, step, leads_append p mid xs u ys w first leads)
 
-implicit_last : (p : Program) (s : State) (i : ℕ) (e : Event) (y : Item) (ys : List Item) (k : Tid) (t : Task) → IsLast e → fits e y ≡ true → Rule s i e y → IsCurrent s i k t → Lasts t.implicit (y ∷ ys) → t.implicit ≡ true
+implicit_last : (p : Program) (s : State) (i : ℕ) (e : Event) (y : Item) (ys : List Item) (k : Tid) (t : Task) → IsLast e → fits e y ≡ true → Rule s i e y → IsCurrent s i k t → Closes (MayClose t.implicit) (y ∷ ys) → t.implicit ≡ true
 implicit_last p s i (event.ImplicitEnd task) y ys k t last fit (k0, t0, r0, is0, found0, may) is h =
     ap (λ (x : Task). x.implicit) (some_same is.live (ap (task_of s) (some_same is.name is0.name) ∙ is0.live)) ∙ may.implicit
 implicit_last p s i (event.Join region) y ys k t last fit (k0, t0, r0, is0, found0, may) is h =
     ap (λ (x : Task). x.implicit) (some_same is.live (ap (task_of s) (some_same is.name is0.name) ∙ is0.live)) ∙ may.implicit
-implicit_last p s i event.Done item.Done ys k t last fit rule is h = h.0
+implicit_last p s i event.Done item.Done ys k t last fit rule is h = h.0 refl
 implicit_last p s i event.Done y ys k t last fit rule is h = absurd (false_true fit)
 implicit_last p s i e y ys k t last fit rule is h = absurd last
 
@@ -283,7 +282,7 @@ regions_end p events more s u reached i e k t last legal is leads n v live ex re
     let at = encounter s i in
     let taken : take_item p at e t.list ≡ Some (legal.item, legal.behind) = ap (take_item p at e) (sym (list_of_current s i k t is)) ∙ legal.taken in
     let fit = take_fits p at e t.list legal.item legal.behind taken in
-    let h : Lasts t.implicit (legal.item ∷ legal.behind) = take_lasts t.implicit p at e t.list legal.item legal.behind taken (lasts p events s reached k t is.live) in
+    let h : Closes (MayClose t.implicit) (legal.item ∷ legal.behind) = take_closes (MayClose t.implicit) p at e t.list legal.item legal.behind taken (lasts p events s reached k t is.live) in
     let im = implicit_last p s i e legal.item legal.behind k t last fit legal.rule is h in
     let (r, found, member) = ((placed p events s reached).places k t is.live).0 im in
     let number = number_met s i k t is in

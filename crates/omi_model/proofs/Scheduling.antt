@@ -23,18 +23,14 @@ use Rattle.omi_model.specs.State.{State, task_of}
 use Rattle.omi_model.specs.Tasking.{MayStartAt}
 use Rattle.omi_model.proofs.BarrierLaw.{placed}
 use Rattle.omi_model.proofs.BarrierOrder.{Outside, order, wrong}
-use Rattle.omi_model.proofs.EachObject.{EachTask, IsTaskLaw, list_of_current, over_events, start_list, task_step}
+use Rattle.omi_model.proofs.EachObject.{EachTask, IsTaskLaw, list_of_current, over_events, task_step}
 use Rattle.omi_model.proofs.OpeningObjects.{each_first_task}
 use Rattle.omi_model.proofs.Slots.{false_true, none_some, some_same}
 use Rattle.omi_model.proofs.Steps.{IsRelisted}
-use Rattle.omi_model.proofs.WaitLists.{Waits, main_waits, member_waits, stays_waits, take_waits, task_waits, working_waits}
+use Rattle.omi_model.proofs.WaitLists.{Waits, main_waits, member_waits, start_waits, stays_waits, take_waits, task_waits}
 
 abbrev TaskWaits : Tid → Task → Type 0
 TaskWaits k t = Waits t.list
-
-start_waits : (x : Item) (at : Encounter) (zs : List Item) → Waits zs → Waits (start_list x at zs)
-start_waits (item.Tasks state) at zs h = working_waits at zs h
-start_waits x at zs h = h
 
 waits_step : (p : Program) (s : State) (i : ℕ) (e : Event) (next : State) → Step p s i e next → EachTask TaskWaits s → EachTask TaskWaits next
 waits_step p s i e next step all = task_step p TaskWaits s i e next step

@@ -1,5 +1,5 @@
 -- The items of to-do lists have states of the table of states, schedules of the four kinds, and sizes of teams in their range.
-use Rattle.std.proofs.Common.{◌≡◌, ◌==◌, ℕ, zero, suc, ◌+◌, ◌*◌, ◌%◌, ◌<◌, ◌≤◌, ◌||◌, Bool, true, false, List, [], ◌∷◌, slice_get, get_or, Some, if◌then◌else◌, refl, subst, arith}
+use Rattle.std.proofs.Common.{◌≡◌, ◌≢◌, ◌==◌, ℕ, zero, suc, ◌+◌, ◌*◌, ◌%◌, ◌<◌, ◌≤◌, ◌||◌, Bool, true, false, List, [], ◌∷◌, slice_get, get_or, Some, if◌then◌else◌, refl, subst, arith}
 use Rattle.std.specs.List.{Contains}
 use Rattle.omi_script.proofs.RuleLemmas.{Rules-from_accepted}
 use Rattle.omi_script.specs.Bodies.{HasStatement, body_of}
@@ -12,27 +12,36 @@ use Rattle.omi_model.specs.declared.event.Event.{Event}
 use Rattle.omi_model.specs.declared.event.Event.TheVariants as event
 use Rattle.omi_model.specs.declared.item.Item.{Item}
 use Rattle.omi_model.specs.declared.item.Item.TheVariants as item
+use Rattle.omi_model.specs.declared.shape.Shape.{Shape}
+use Rattle.omi_model.specs.declared.shape.Shape.TheVariants as shape
 use Rattle.omi_model.specs.Lists.{stays, take_item}
 use Rattle.omi_numbers.specs.declared.variables.TheConstants.{DYN_VAR, DEFAULT_DEVICE_VAR, MAX_ACTIVE_LEVELS_VAR, NTHREADS_VAR, RUN_SCHED_VAR}
 use Rattle.omi_numbers.specs.declared.states.TheConstants.{IDLE, OVERHEAD, WAIT_BARRIER_EXPLICIT, WAIT_BARRIER_IMPLICIT_PARALLEL, WAIT_CRITICAL, WAIT_TASKWAIT}
 use Rattle.omi_numbers.specs.States.{state_numbers}
-use Rattle.omi_model.specs.Rows.{barrier_items, behind, body_items, call_items, end_of_member, first_of, last_of_member, main_items, member_items, task_items, worker_items, shown, work_state, working}
+use Rattle.omi_model.specs.Rows.{barrier_items, body_items, call_items, end_of_member, last_of_member, main_items, member_items, task_items, worker_items, shown, work_state, working, first_item, items_behind}
+use Rattle.omi_model.specs.Shapes.{shape_of}
 use Rattle.omi_model.proofs.ListLaws.{take_keeps}
 
 -- a kind of schedule
 abbrev pub IsKind : ℕ → Type 0
 IsKind n = (1 ≤ n) × (n ≤ 4)
 
+-- the word to which a variable is set
+abbrev pub IsSetRight : ℕ → ℕ → Type 0
+IsSetRight icv value = (icv ≡ RUN_SCHED_VAR → IsKind (value % 8)) × (icv ≡ NTHREADS_VAR → IsSize value)
+
+abbrev pub IsShapeRight : Shape → Type 0
+IsShapeRight (shape.Sets variable word) = IsSetRight variable word
+IsShapeRight q = Unit {0}
+
 abbrev pub IsStmtRight : Stmt → Type 0
-IsStmtRight (stmt.SetNumThreads n) = IsSize n
-IsStmtRight (stmt.SetSchedule s) = IsKind s.kind
-IsStmtRight s = Unit {0}
+IsStmtRight s = IsShapeRight (shape_of s)
 
 abbrev pub IsItemRight : Item → Type 0
 IsItemRight (item.Do s) = IsStmtRight s
-IsItemRight (item.State state wait) = Contains state_numbers state
-IsItemRight (item.Tasks state) = Contains state_numbers state
-IsItemRight (item.Set icv value) = (icv ≡ RUN_SCHED_VAR → IsKind (value % 8)) × (icv ≡ NTHREADS_VAR → IsSize value)
+IsItemRight (item.State state wait) = Contains states state
+IsItemRight (item.Tasks state) = Contains states state
+IsItemRight (item.Set icv value) = IsSetRight icv value
 IsItemRight x = Unit {0}
 
 abbrev pub AreRight : List Item → Type 0
@@ -68,10 +77,22 @@ barrier_right at state rest in_states h = shown_right at state 0 (item.Arrive �
     go true = (tt, (in_states, (tt, (tt, h))))
     go false = (tt, (in_states, (tt, h)))
 
+-- a variable that is neither has any word
+other_right : (icv value : ℕ) → icv ≢ RUN_SCHED_VAR → icv ≢ NTHREADS_VAR → IsSetRight icv value
+other_right icv value not_schedule not_size = (λ e. absurd (not_schedule e), λ e. absurd (not_size e))
+
+kind_of : (chunk kind : ℕ) → kind < 8 → kind ≡ (chunk * 8 + kind) % 8
+kind_of chunk kind less = grind arith
+
 module _ (p : Program) where
   stmt_right : (f : ℕ) (s : Stmt) → HasStatement p.funcs f s → IsStmtRight s
-  stmt_right f (stmt.SetNumThreads n) at = (Rules-from_accepted p).ranges f (stmt.SetNumThreads n) at
-  stmt_right f (stmt.SetSchedule s) at = let range = (Rules-from_accepted p).ranges f (stmt.SetSchedule s) at in (range.0, range.1)
+  stmt_right f (stmt.SetNumThreads n) at = (λ e. absurd (let other : NTHREADS_VAR ≡ run_sched_var = e in omega arith), λ e. (Rules-from_accepted p).ranges f (stmt.SetNumThreads n) at)
+  stmt_right f (stmt.SetSchedule s) at =
+      let range = (Rules-from_accepted p).ranges f (stmt.SetSchedule s) at in
+      (λ e. subst IsKind (kind_of s.chunk s.kind (omega (arith, range.1))) (range.0, range.1), λ e. absurd (let other : RUN_SCHED_VAR ≡ nthreads_var = e in omega arith))
+  stmt_right f (stmt.SetDynamic b) at = other_right DYN_VAR _ (λ e. omega (arith, e)) (λ e. omega (arith, e))
+  stmt_right f (stmt.SetMaxActive n) at = other_right MAX_ACTIVE_LEVELS_VAR n (λ e. omega (arith, e)) (λ e. omega (arith, e))
+  stmt_right f (stmt.SetDevice d) at = other_right DEFAULT_DEVICE_VAR d (λ e. omega (arith, e)) (λ e. omega (arith, e))
   stmt_right f s at = tt
 
   by_place : (ss : List Stmt) (rest : List Item) → ((k : ℕ) (s : Stmt) → slice_get ss k ≡ Some s → IsStmtRight s) → AreRight rest → AreRight (body_items ss rest)
@@ -84,45 +105,38 @@ module _ (p : Program) where
   call_right : (f : ℕ) (rest : List Item) → AreRight rest → AreRight (call_items p f rest)
   call_right f rest h = body_right f (item.Ret ∷ rest) (tt, h)
 
-  row_right : (at : Encounter) (s : Stmt) (rest : List Item) → AreRight (item.Do s ∷ rest) → AreRight (first_of at s ∷ behind p at s rest)
-  row_right at (stmt.Parallel f num) rest (is, h) =
+  row_right : (at : Encounter) (q : Shape) (rest : List Item) → IsShapeRight q × AreRight rest → AreRight (first_item at q ∷ items_behind p at q rest)
+  row_right at (shape.Parallel f num) rest (is, h) =
       (tt, shown_right at OVERHEAD 0 (item.Want num ∷ item.Asks ∷ item.Fork f ∷ working at (item.Leave ∷ rest)) (in_table OVERHEAD 8 (omega arith) refl) (tt, (tt, (tt, working_right at (item.Leave ∷ rest) (tt, h)))))
-  row_right at (stmt.Task f undeferred final) rest (is, h) = go (undeferred || at.is_final)
+  row_right at (shape.Task f undeferred final) rest (is, h) = go (undeferred || at.is_final)
     where
       go : (c : Bool) → AreRight (item.Enter ∷ (if c then item.StartNow f (final || at.is_final) else item.Defer 0 f (final || at.is_final)) ∷ item.Leave ∷ rest)
       go true = (tt, (tt, (tt, h)))
       go false = (tt, (tt, (tt, h)))
-  row_right at stmt.Taskwait rest (is, h) =
+  row_right at shape.Taskwait rest (is, h) =
       let wait = in_table WAIT_TASKWAIT 4 (omega arith) refl in
       (tt, shown_right at WAIT_TASKWAIT 0 (item.Tasks WAIT_TASKWAIT ∷ item.WaitDone ∷ working at (item.Leave ∷ rest)) wait (wait, (tt, working_right at (item.Leave ∷ rest) (tt, h))))
-  row_right at stmt.Taskyield rest (is, h) = (tt, (tt, (tt, (tt, h))))
-  row_right at stmt.Barrier rest (is, h) = (tt, barrier_right at WAIT_BARRIER_EXPLICIT (working at (item.Leave ∷ rest)) (in_table WAIT_BARRIER_EXPLICIT 3 (omega arith) refl) (working_right at (item.Leave ∷ rest) (tt, h)))
-  row_right at (stmt.Critical k f) rest (is, h) = (
+  row_right at shape.Taskyield rest (is, h) = (tt, (tt, (tt, (tt, h))))
+  row_right at shape.Barrier rest (is, h) = (tt, barrier_right at WAIT_BARRIER_EXPLICIT (working at (item.Leave ∷ rest)) (in_table WAIT_BARRIER_EXPLICIT 3 (omega arith) refl) (working_right at (item.Leave ∷ rest) (tt, h)))
+  row_right at (shape.Critical k f) rest (is, h) = (
     tt,
     shown_right at WAIT_CRITICAL (k + 1) (item.Lock k ∷ working at (item.Leave ∷ item.Call f ∷ call_items p f (item.Unlock k ∷ rest))) (in_table WAIT_CRITICAL 6 (omega arith) refl)
         (tt, working_right at (item.Leave ∷ item.Call f ∷ call_items p f (item.Unlock k ∷ rest)) (tt, (tt, call_right f (item.Unlock k ∷ rest) (tt, h)))),
   )
-  row_right at (stmt.Call f) rest (is, h) = (tt, call_right f rest h)
-  row_right at (stmt.Only m f) rest (is, h) = go (at.number == m)
+  row_right at (shape.Call f) rest (is, h) = (tt, call_right f rest h)
+  row_right at (shape.Only m f) rest (is, h) = go (at.number == m)
     where
       go : (c : Bool) → AreRight ((if c then item.Call f else item.Skip) ∷ (if c then call_items p f rest else rest))
       go true = (tt, call_right f rest h)
       go false = (tt, h)
-  row_right at (stmt.Repeat zero f) rest (is, h) = (tt, h)
-  row_right at (stmt.Repeat (suc n) f) rest (is, h) = (tt, call_right f (item.Do (stmt.Repeat n f) ∷ rest) (tt, h))
-  row_right at (stmt.SetNumThreads n) rest (is, h) = ((λ e. absurd (let other : NTHREADS_VAR ≡ RUN_SCHED_VAR = e in omega arith), λ e. is), h)
-  row_right at (stmt.SetDynamic x) rest (is, h) = ((λ e. absurd (let other : DYN_VAR ≡ RUN_SCHED_VAR = e in omega arith), λ e. absurd (let other : DYN_VAR ≡ NTHREADS_VAR = e in omega arith)), h)
-  row_right at (stmt.SetMaxActive n) rest (is, h) = ((λ e. absurd (let other : MAX_ACTIVE_LEVELS_VAR ≡ RUN_SCHED_VAR = e in omega arith), λ e. absurd (let other : MAX_ACTIVE_LEVELS_VAR ≡ NTHREADS_VAR = e in omega arith)), h)
-  row_right at (stmt.SetSchedule s) rest (is, h) = ((λ e. subst IsKind (kind_of s.chunk s.kind (omega (arith, is.1))) is, λ e. absurd (let other : RUN_SCHED_VAR ≡ NTHREADS_VAR = e in omega arith)), h)
-    where
-      kind_of : (chunk kind : ℕ) → kind < 8 → kind ≡ (chunk * 8 + kind) % 8
-      kind_of chunk kind less = grind arith
-  row_right at (stmt.SetDevice d) rest (is, h) = ((λ e. absurd (let other : DEFAULT_DEVICE_VAR ≡ RUN_SCHED_VAR = e in omega arith), λ e. absurd (let other : DEFAULT_DEVICE_VAR ≡ NTHREADS_VAR = e in omega arith)), h)
-  row_right at (stmt.Tool x) rest (is, h) = (tt, h)
-  row_right at stmt.Work rest (is, h) = (tt, h)
+  row_right at (shape.Repeat zero f) rest (is, h) = (tt, h)
+  row_right at (shape.Repeat (suc n) f) rest (is, h) = (tt, call_right f (item.Do (stmt.Repeat n f) ∷ rest) (tt, h))
+  row_right at (shape.Sets variable word) rest (is, h) = (is, h)
+  row_right at (shape.Tool x) rest (is, h) = (tt, h)
+  row_right at shape.Work rest (is, h) = (tt, h)
 
   pub take_right : (at : Encounter) (e : Event) (xs : List Item) (y : Item) (ys : List Item) → take_item p at e xs ≡ Some (y, ys) → AreRight xs → AreRight (y ∷ ys)
-  take_right at = take_keeps p at AreRight (λ x xs may h. h.1) (row_right at)
+  take_right at = take_keeps p at AreRight (λ x xs may h. h.1) (λ s. row_right at (shape_of s))
 
   pub task_right : (f : ℕ) → AreRight (task_items p f)
   task_right f = body_right f (item.Finish ∷ []) (tt, tt)

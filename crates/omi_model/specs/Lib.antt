@@ -3,6 +3,7 @@
 pub mod Put
 pub mod Fresh
 pub mod State
+pub mod Shapes
 pub mod Rows
 pub mod Lists
 pub mod Opening

@@ -1,10 +1,9 @@
 -- Rows: the events of each statement in their order, as items of a to-do list. A list holds statements and items; a statement at its head is replaced by its row once an event of the row comes.
-use Rattle.std.specs.Prelude.{ℕ, zero, suc, ◌==◌, ◌||◌, Bool, true, false, List, [], ◌∷◌, Option, if◌then◌else◌}
+use Rattle.std.specs.Prelude.{ℕ, zero, suc, ◌==◌, ◌||◌, List, [], ◌∷◌, if◌then◌else◌}
 use Rattle.omi_numbers.specs.Holders.{lock_wait}
 use Rattle.omi_script.specs.Schedules.{schedule_word}
 use Rattle.omi_script.specs.Bodies.{body_of}
 use Rattle.omi_script.specs.declared.program.Program.{Program}
-use Rattle.omi_script.specs.declared.statement.Sched.{Sched}
 use Rattle.omi_script.specs.declared.statement.Stmt.{Stmt}
 use Rattle.omi_script.specs.declared.statement.Stmt.TheVariants as stmt
 use Rattle.omi_model.specs.declared.encounter.Encounter.{Encounter}
@@ -13,6 +12,9 @@ use Rattle.omi_model.specs.declared.item.Item.TheVariants as item
 use Rattle.omi_numbers.specs.declared.states.TheConstants.{WORK_SERIAL, WORK_PARALLEL, WAIT_BARRIER_IMPLICIT_PARALLEL, WAIT_BARRIER_EXPLICIT, WAIT_TASKWAIT, WAIT_CRITICAL, OVERHEAD}
 use Rattle.omi_numbers.specs.declared.variables.TheConstants.{DYN_VAR, NTHREADS_VAR, RUN_SCHED_VAR, DEFAULT_DEVICE_VAR, MAX_ACTIVE_LEVELS_VAR}
 use Rattle.omi_numbers.specs.Words.{flag}
+use Rattle.omi_model.specs.declared.shape.Shape.{Shape}
+use Rattle.omi_model.specs.declared.shape.Shape.TheVariants as shape
+use Rattle.omi_model.specs.Shapes.{shape_of}
 
 -- ---- parts of rows, in front of a rest
 
@@ -53,54 +55,53 @@ call_items p f rest = function_items p f (item.Ret ∷ rest)
 
 -- ---- rows
 
--- the first item of a statement's row
-abbrev pub first_of : Encounter → Stmt → Item
-first_of at (stmt.Parallel f num) = item.Enter
-first_of at (stmt.Task f undeferred final) = item.Enter
-first_of at stmt.Taskwait = item.Enter
-first_of at stmt.Taskyield = item.Enter
-first_of at stmt.Barrier = item.Enter
-first_of at (stmt.Critical k f) = item.Enter
-first_of at (stmt.Call f) = item.Call f
-first_of at (stmt.Only m f) = if at.number == m then item.Call f else item.Skip
-first_of at (stmt.Repeat zero f) = item.Skip
-first_of at (stmt.Repeat (suc n) f) = item.Call f
-first_of at (stmt.SetNumThreads n) = item.Set NTHREADS_VAR n
-first_of at (stmt.SetDynamic b) = item.Set DYN_VAR (flag b)
-first_of at (stmt.SetMaxActive m) = item.Set MAX_ACTIVE_LEVELS_VAR m
-first_of at (stmt.SetSchedule s) = item.Set RUN_SCHED_VAR (schedule_word s)
-first_of at (stmt.SetDevice d) = item.Set DEFAULT_DEVICE_VAR d
-first_of at (stmt.Tool x) = item.SetTool x
-first_of at stmt.Work = item.Work
+-- the first item of a row, by the shape of the statement
+abbrev pub first_item : Encounter → Shape → Item
+first_item at (shape.Parallel f num) = item.Enter
+first_item at (shape.Task f undeferred final) = item.Enter
+first_item at shape.Taskwait = item.Enter
+first_item at shape.Taskyield = item.Enter
+first_item at shape.Barrier = item.Enter
+first_item at (shape.Critical k f) = item.Enter
+first_item at (shape.Call f) = item.Call f
+first_item at (shape.Only m f) = if at.number == m then item.Call f else item.Skip
+first_item at (shape.Repeat zero f) = item.Skip
+first_item at (shape.Repeat (suc n) f) = item.Call f
+first_item at (shape.Sets variable word) = item.Set variable word
+first_item at (shape.Tool x) = item.SetTool x
+first_item at shape.Work = item.Work
 
--- what stands behind the first item of a statement's row
-abbrev pub behind : Program → Encounter → Stmt → List Item → List Item
-behind p at (stmt.Parallel f num) rest =
+-- what stands behind it
+abbrev pub items_behind : Program → Encounter → Shape → List Item → List Item
+items_behind p at (shape.Parallel f num) rest =
     shown at OVERHEAD 0 (item.Want num ∷ item.Asks ∷ item.Fork f ∷ working at (item.Leave ∷ rest))
-behind p at (stmt.Task f undeferred final) rest =
+items_behind p at (shape.Task f undeferred final) rest =
     (if undeferred || at.is_final then item.StartNow f (final || at.is_final)
     else item.Defer 0 f (final || at.is_final)) ∷ item.Leave ∷ rest
-behind p at stmt.Taskwait rest =
+items_behind p at shape.Taskwait rest =
     shown at WAIT_TASKWAIT 0
     (item.Tasks WAIT_TASKWAIT ∷ item.WaitDone ∷ working at (item.Leave ∷ rest))
-behind p at stmt.Taskyield rest = item.OneTask ∷ item.Yield ∷ item.Leave ∷ rest
-behind p at stmt.Barrier rest =
+items_behind p at shape.Taskyield rest = item.OneTask ∷ item.Yield ∷ item.Leave ∷ rest
+items_behind p at shape.Barrier rest =
     barrier_items at WAIT_BARRIER_EXPLICIT (working at (item.Leave ∷ rest))
-behind p at (stmt.Critical k f) rest =
+items_behind p at (shape.Critical k f) rest =
     shown at WAIT_CRITICAL (lock_wait k)
     (item.Lock k
     ∷ working at (item.Leave ∷ item.Call f ∷ call_items p f (item.Unlock k ∷ rest)))
-behind p at (stmt.Call f) rest = call_items p f rest
-behind p at (stmt.Only m f) rest = if at.number == m then call_items p f rest else rest
-behind p at (stmt.Repeat zero f) rest = rest
-behind p at (stmt.Repeat (suc n) f) rest = call_items p f (item.Do (stmt.Repeat n f) ∷ rest)
-behind p at (stmt.SetNumThreads n) rest = rest
-behind p at (stmt.SetDynamic b) rest = rest
-behind p at (stmt.SetMaxActive m) rest = rest
-behind p at (stmt.SetSchedule s) rest = rest
-behind p at (stmt.SetDevice d) rest = rest
-behind p at (stmt.Tool x) rest = rest
-behind p at stmt.Work rest = rest
+items_behind p at (shape.Call f) rest = call_items p f rest
+items_behind p at (shape.Only m f) rest = if at.number == m then call_items p f rest else rest
+items_behind p at (shape.Repeat zero f) rest = rest
+items_behind p at (shape.Repeat (suc n) f) rest = call_items p f (item.Do (stmt.Repeat n f) ∷ rest)
+items_behind p at (shape.Sets variable word) rest = rest
+items_behind p at (shape.Tool x) rest = rest
+items_behind p at shape.Work rest = rest
+
+-- the same for a statement
+abbrev pub first_of : Encounter → Stmt → Item
+first_of at s = first_item at (shape_of s)
+
+abbrev pub behind : Program → Encounter → Stmt → List Item → List Item
+behind p at s rest = items_behind p at (shape_of s) rest
 
 -- ---- first lists
 

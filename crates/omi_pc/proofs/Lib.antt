@@ -4,6 +4,7 @@ pub mod Downwards
 pub mod Depths
 pub mod Positions
 pub mod Unmoved
+pub mod NextCounters
 pub mod Settled
 pub mod Moved
 pub mod Arrived

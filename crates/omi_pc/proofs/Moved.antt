@@ -113,18 +113,7 @@ enters (stmt.Parallel f num) is = tt
 enters stmt.Taskwait is = tt
 enters stmt.Barrier is = tt
 enters (stmt.Critical k f) is = tt
-enters (stmt.Task f undeferred final) is = absurd is
-enters stmt.Taskyield is = absurd is
-enters (stmt.Call f) is = absurd is
-enters (stmt.Only m f) is = absurd is
-enters (stmt.Repeat n f) is = absurd is
-enters (stmt.SetNumThreads n) is = absurd is
-enters (stmt.SetDynamic b) is = absurd is
-enters (stmt.SetMaxActive n) is = absurd is
-enters (stmt.SetSchedule s) is = absurd is
-enters (stmt.SetDevice d) is = absurd is
-enters (stmt.Tool x) is = absurd is
-enters stmt.Work is = absurd is
+enters s is = absurd is
 
 module _ (p : Program) (a : Actor) (task : HasTask p a) where
   -- in a body that has not begun, or with a statement in work

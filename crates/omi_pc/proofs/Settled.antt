@@ -90,23 +90,13 @@ module _ (p : Program) (a : Actor) (f : Frame) (fs : List Frame) (bodies : AreOp
       }
 
   begun_fits : (s : Stmt) → IsAt p (f ∷ fs) s → Comes p (statement_begun s there)
-  begun_fits (stmt.Parallel g num) at = record { bodies = bodies; counter = (stmt.Parallel g num, at, tt) }
-  begun_fits (stmt.Task g undeferred final) at = record { bodies = bodies; counter = (stmt.Task g undeferred final, at, tt) }
-  begun_fits stmt.Taskwait at = record { bodies = bodies; counter = (stmt.Taskwait, at, tt) }
-  begun_fits stmt.Taskyield at = record { bodies = bodies; counter = (stmt.Taskyield, at, tt) }
-  begun_fits stmt.Barrier at = record { bodies = bodies; counter = (stmt.Barrier, at, tt) }
-  begun_fits (stmt.Critical k g) at = record { bodies = bodies; counter = (stmt.Critical k g, at, tt) }
   begun_fits (stmt.Call g) at =
       record { bodies = opens p a.context f fs (stmt.Call g) g opened.Call bodies at refl (inl at) refl; counter = (refl, refl) }
   begun_fits (stmt.Only m g) at = only_fits m g at (a.context.number == m) refl
   begun_fits (stmt.Repeat n g) at = repeat_fits n g at
-  begun_fits (stmt.SetNumThreads n) at = record { bodies = bodies; counter = (stmt.SetNumThreads n, at, tt) }
-  begun_fits (stmt.SetDynamic b) at = record { bodies = bodies; counter = (stmt.SetDynamic b, at, tt) }
-  begun_fits (stmt.SetMaxActive n) at = record { bodies = bodies; counter = (stmt.SetMaxActive n, at, tt) }
-  begun_fits (stmt.SetSchedule s) at = record { bodies = bodies; counter = (stmt.SetSchedule s, at, tt) }
-  begun_fits (stmt.SetDevice d) at = record { bodies = bodies; counter = (stmt.SetDevice d, at, tt) }
   begun_fits (stmt.Tool x) at = record { bodies = bodies; counter = (x, at) }
   begun_fits stmt.Work at = record { bodies = bodies; counter = at }
+  begun_fits s at = record { bodies = bodies; counter = (s, at, tt) }
 
 -- a frame whose next statement is in work from now on
 advances : (p : Program) (c : Context) (f : Frame) (fs : List Frame) (s : Stmt) → next_statement p f ≡ Some s → AreOpen p c (f ∷ fs) → AreOpen p c (advanced f ∷ fs)

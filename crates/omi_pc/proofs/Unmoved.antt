@@ -31,22 +31,9 @@ module _ (a : Actor) (fs : List Frame) where
   repeat_differs (suc n) g = same a _ _
 
   begun_differs : (s : Stmt) → DifferInBodies a (statement_begun s there)
-  begun_differs (stmt.Parallel g num) = same a _ _
-  begun_differs (stmt.Task g undeferred final) = same a _ _
-  begun_differs stmt.Taskwait = same a _ _
-  begun_differs stmt.Taskyield = same a _ _
-  begun_differs stmt.Barrier = same a _ _
-  begun_differs (stmt.Critical k g) = same a _ _
-  begun_differs (stmt.Call g) = same a _ _
   begun_differs (stmt.Only m g) = only_differs g (a.context.number == m)
   begun_differs (stmt.Repeat n g) = repeat_differs n g
-  begun_differs (stmt.SetNumThreads n) = same a _ _
-  begun_differs (stmt.SetDynamic b) = same a _ _
-  begun_differs (stmt.SetMaxActive n) = same a _ _
-  begun_differs (stmt.SetSchedule s) = same a _ _
-  begun_differs (stmt.SetDevice d) = same a _ _
-  begun_differs (stmt.Tool x) = same a _ _
-  begun_differs stmt.Work = same a _ _
+  begun_differs s = same a _ _
 
 ended_differs : (a : Actor) (debug : Bool) (o : Opened) → DifferInBodies a (ended debug o a)
 ended_differs a debug opened.Main = same a _ _

@@ -5,6 +5,9 @@ use Rattle.omi_script.specs.declared.statement.Stmt.{Stmt}
 use Rattle.omi_script.specs.declared.statement.Stmt.TheVariants as stmt
 use Rattle.omi_model.specs.declared.id.Rid.{Rid}
 use Rattle.omi_model.specs.declared.id.Tid.{Tid}
+use Rattle.omi_model.specs.declared.shape.Shape.{Shape}
+use Rattle.omi_model.specs.declared.shape.Shape.TheVariants as shape
+use Rattle.omi_model.specs.Shapes.{shape_of}
 use Rattle.omi_pc.specs.declared.actor.Actor.{Actor}
 use Rattle.omi_pc.specs.declared.counter.Counter.{Counter}
 use Rattle.omi_pc.specs.declared.counter.Counter.TheVariants as counter
@@ -33,40 +36,69 @@ use Rattle.omi_pc.specs.declared.team_counter.WorkerCounter.TheVariants as worke
 use Rattle.omi_pc.specs.OpenBodies.{AreOpen, IsAt, IsAtEnd, IsAtStart, IsCalled, IsExplicit, IsMain, IsMaster, IsWaiting, IsWorker, StartsWorking}
 use Rattle.omi_pc.specs.Stacks.{task_function}
 
--- ---- statements
+-- ---- statements, by their shapes
 
 -- statements that enter the runtime and leave it again
+abbrev pub ShapeEnters : Shape → Type 0
+ShapeEnters (shape.Parallel f num) = Unit {0}
+ShapeEnters (shape.Task f undeferred final) = Unit {0}
+ShapeEnters shape.Taskwait = Unit {0}
+ShapeEnters shape.Taskyield = Unit {0}
+ShapeEnters shape.Barrier = Unit {0}
+ShapeEnters (shape.Critical k f) = Unit {0}
+ShapeEnters (shape.Call f) = ⊥
+ShapeEnters (shape.Only m f) = ⊥
+ShapeEnters (shape.Repeat n f) = ⊥
+ShapeEnters (shape.Sets variable word) = ⊥
+ShapeEnters (shape.Tool x) = ⊥
+ShapeEnters shape.Work = ⊥
+
 abbrev pub Enters : Stmt → Type 0
-Enters (stmt.Parallel f num) = Unit {0}
-Enters (stmt.Task f undeferred final) = Unit {0}
-Enters stmt.Taskwait = Unit {0}
-Enters stmt.Taskyield = Unit {0}
-Enters stmt.Barrier = Unit {0}
-Enters (stmt.Critical k f) = Unit {0}
-Enters _ = ⊥
+Enters s = ShapeEnters (shape_of s)
 
 -- those of them after which a working state is stored
+abbrev pub ShapeStoresState : Shape → Type 0
+ShapeStoresState (shape.Parallel f num) = Unit {0}
+ShapeStoresState (shape.Task f undeferred final) = ⊥
+ShapeStoresState shape.Taskwait = Unit {0}
+ShapeStoresState shape.Taskyield = ⊥
+ShapeStoresState shape.Barrier = Unit {0}
+ShapeStoresState (shape.Critical k f) = Unit {0}
+ShapeStoresState (shape.Call f) = ⊥
+ShapeStoresState (shape.Only m f) = ⊥
+ShapeStoresState (shape.Repeat n f) = ⊥
+ShapeStoresState (shape.Sets variable word) = ⊥
+ShapeStoresState (shape.Tool x) = ⊥
+ShapeStoresState shape.Work = ⊥
+
 abbrev pub StoresState : Stmt → Type 0
-StoresState (stmt.Parallel f num) = Unit {0}
-StoresState stmt.Taskwait = Unit {0}
-StoresState stmt.Barrier = Unit {0}
-StoresState (stmt.Critical k f) = Unit {0}
-StoresState _ = ⊥
+StoresState s = ShapeStoresState (shape_of s)
 
 -- statements that set an internal control variable
+abbrev pub ShapeSets : Shape → Type 0
+ShapeSets (shape.Sets variable word) = Unit {0}
+ShapeSets _ = ⊥
+
 abbrev pub Sets : Stmt → Type 0
-Sets (stmt.SetNumThreads n) = Unit {0}
-Sets (stmt.SetDynamic b) = Unit {0}
-Sets (stmt.SetMaxActive n) = Unit {0}
-Sets (stmt.SetSchedule s) = Unit {0}
-Sets (stmt.SetDevice d) = Unit {0}
-Sets _ = ⊥
+Sets s = ShapeSets (shape_of s)
 
 -- statements that the member with this number passes over: `repeat`, once no round is left, and `only` of another member
+abbrev pub ShapeSkips : ℕ → Shape → Type 0
+ShapeSkips number (shape.Parallel f num) = ⊥
+ShapeSkips number (shape.Task f undeferred final) = ⊥
+ShapeSkips number shape.Taskwait = ⊥
+ShapeSkips number shape.Taskyield = ⊥
+ShapeSkips number shape.Barrier = ⊥
+ShapeSkips number (shape.Critical k f) = ⊥
+ShapeSkips number (shape.Call f) = ⊥
+ShapeSkips number (shape.Only m f) = number ≢ m
+ShapeSkips number (shape.Repeat n f) = Unit {0}
+ShapeSkips number (shape.Sets variable word) = ⊥
+ShapeSkips number (shape.Tool x) = ⊥
+ShapeSkips number shape.Work = ⊥
+
 abbrev pub Skips : ℕ → Stmt → Type 0
-Skips number (stmt.Repeat n f) = Unit {0}
-Skips number (stmt.Only m f) = number ≢ m
-Skips number _ = ⊥
+Skips number s = ShapeSkips number (shape_of s)
 
 -- a statement of a kind is in work
 abbrev pub IsAtSome : Program → Actor → (Stmt → Type 0) → Type 0

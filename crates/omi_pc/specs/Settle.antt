@@ -2,7 +2,9 @@
 use Rattle.std.specs.Prelude.{ℕ, zero, suc, ◌==◌, Bool, List, [], ◌∷◌, Option, Some, None, if◌then◌else◌}
 use Rattle.omi_script.specs.declared.program.Program.{Program}
 use Rattle.omi_script.specs.declared.statement.Stmt.{Stmt}
-use Rattle.omi_script.specs.declared.statement.Stmt.TheVariants as stmt
+use Rattle.omi_model.specs.declared.shape.Shape.{Shape}
+use Rattle.omi_model.specs.declared.shape.Shape.TheVariants as shape
+use Rattle.omi_model.specs.Shapes.{shape_of}
 use Rattle.omi_pc.specs.declared.actor.Actor.{Actor}
 use Rattle.omi_pc.specs.declared.counter.Counter.TheVariants as counter
 use Rattle.omi_pc.specs.declared.counter.PlainCounter.{PlainCounter}
@@ -42,28 +44,23 @@ abbrev pub repeating : ℕ → ℕ → Actor → Actor
 repeating zero f a = skipping a
 repeating (suc n) f a = calling f (opened.Repeat (suc n)) a
 
--- the statements that set an internal control variable
-abbrev pub setting : Actor → Actor
-setting a = goes_to plain.Set a
+-- a statement of a shape begins
+abbrev pub begun_by : Shape → Actor → Actor
+begun_by (shape.Parallel f num) a = entering a
+begun_by (shape.Task f undeferred final) a = entering a
+begun_by shape.Taskwait a = entering a
+begun_by shape.Taskyield a = entering a
+begun_by shape.Barrier a = entering a
+begun_by (shape.Critical k f) a = entering a
+begun_by (shape.Call f) a = calling f opened.Call a
+begun_by (shape.Only m f) a = calling_only m f a
+begun_by (shape.Repeat n f) a = repeating n f a
+begun_by (shape.Sets variable word) a = goes_to plain.Set a
+begun_by (shape.Tool x) a = goes_to plain.Tool a
+begun_by shape.Work a = goes_to plain.Work a
 
--- a statement begins
 abbrev pub statement_begun : Stmt → Actor → Actor
-statement_begun (stmt.Parallel f num) a = entering a
-statement_begun (stmt.Task f undeferred final) a = entering a
-statement_begun stmt.Taskwait a = entering a
-statement_begun stmt.Taskyield a = entering a
-statement_begun stmt.Barrier a = entering a
-statement_begun (stmt.Critical k f) a = entering a
-statement_begun (stmt.Call f) a = calling f opened.Call a
-statement_begun (stmt.Only m f) a = calling_only m f a
-statement_begun (stmt.Repeat n f) a = repeating n f a
-statement_begun (stmt.SetNumThreads n) a = setting a
-statement_begun (stmt.SetDynamic b) a = setting a
-statement_begun (stmt.SetMaxActive n) a = setting a
-statement_begun (stmt.SetSchedule s) a = setting a
-statement_begun (stmt.SetDevice d) a = setting a
-statement_begun (stmt.Tool x) a = goes_to plain.Tool a
-statement_begun stmt.Work a = goes_to plain.Work a
+statement_begun s a = begun_by (shape_of s) a
 
 -- ---- the end of a body
 

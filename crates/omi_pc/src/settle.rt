@@ -7,6 +7,7 @@ ghost use Rattle.omi_pc.specs.OpenBodies.{AreOpen};
 ghost use Rattle.omi_pc.specs.Settle.{statement_begun, calling, ended, ending_member, goes_to, repeating, settled, calling_only};
 
 use crate::{Actor, Barrier, BarrierCounter, Counter, FinishCounter, Frame, Opened, PlainCounter};
+use omi_model::Shape;
 use omi_script::{Program, Stmt};
 
 /// The statement at a position in the body of a function. None behind the body, or where there is no such function.
@@ -66,23 +67,19 @@ impl Actor {
         requires { length self.old.stack < STACK_ROOM }
         ensures { self.new ≡ statement_begun s self.old }
     {
-        match s {
-            Stmt::Parallel { .. }
-            | Stmt::Task { .. }
-            | Stmt::Taskwait
-            | Stmt::Taskyield
-            | Stmt::Barrier
-            | Stmt::Critical { .. } => self.go_to(PlainCounter::Enter),
-            Stmt::Call { f } => self.call(f, Opened::Call),
-            Stmt::Only { m, f } => self.call_only(m, f),
-            Stmt::Repeat { n, f } => self.repeat(n, f),
-            Stmt::SetNumThreads(_)
-            | Stmt::SetDynamic(_)
-            | Stmt::SetMaxActive(_)
-            | Stmt::SetSchedule(_)
-            | Stmt::SetDevice(_) => self.go_to(PlainCounter::Set),
-            Stmt::Tool(_) => self.go_to(PlainCounter::Tool),
-            Stmt::Work => self.go_to(PlainCounter::Work),
+        match Shape::of(&s) {
+            Shape::Parallel { .. }
+            | Shape::Task { .. }
+            | Shape::Taskwait
+            | Shape::Taskyield
+            | Shape::Barrier
+            | Shape::Critical { .. } => self.go_to(PlainCounter::Enter),
+            Shape::Call { f } => self.call(f, Opened::Call),
+            Shape::Only { m, f } => self.call_only(m, f),
+            Shape::Repeat { n, f } => self.repeat(n, f),
+            Shape::Sets { .. } => self.go_to(PlainCounter::Set),
+            Shape::Tool(_) => self.go_to(PlainCounter::Tool),
+            Shape::Work => self.go_to(PlainCounter::Work),
         }
     }
 

@@ -96,21 +96,7 @@ module _ (p : Program) (a : Actor) (fits : Fits p a) where
         bodies = call_opens p a.context a.stack (stmt.Critical k f) f (opened.Critical k) fits.bodies at refl at refl;
         counter = (refl, refl);
       }
-  leaves_by (stmt.Parallel f num) at = settles (stmt.Parallel f num) at
-  leaves_by (stmt.Task f undeferred given) at = settles (stmt.Task f undeferred given) at
-  leaves_by stmt.Taskwait at = settles stmt.Taskwait at
-  leaves_by stmt.Taskyield at = settles stmt.Taskyield at
-  leaves_by stmt.Barrier at = settles stmt.Barrier at
-  leaves_by (stmt.Call f) at = settles (stmt.Call f) at
-  leaves_by (stmt.Only m f) at = settles (stmt.Only m f) at
-  leaves_by (stmt.Repeat n f) at = settles (stmt.Repeat n f) at
-  leaves_by (stmt.SetNumThreads n) at = settles (stmt.SetNumThreads n) at
-  leaves_by (stmt.SetDynamic b) at = settles (stmt.SetDynamic b) at
-  leaves_by (stmt.SetMaxActive n) at = settles (stmt.SetMaxActive n) at
-  leaves_by (stmt.SetSchedule s) at = settles (stmt.SetSchedule s) at
-  leaves_by (stmt.SetDevice d) at = settles (stmt.SetDevice d) at
-  leaves_by (stmt.Tool x) at = settles (stmt.Tool x) at
-  leaves_by stmt.Work at = settles stmt.Work at
+  leaves_by s at = settles s at
 
   -- ---- all counters
 

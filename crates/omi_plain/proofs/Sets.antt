@@ -1,13 +1,18 @@
 -- What statements that set a variable say is what the machine's rows have.
-use Rattle.std.proofs.Common.{true, false, refl}
-use Rattle.omi_script.specs.declared.statement.Stmt.TheVariants as stmt
+use Rattle.std.proofs.Common.{◌≡◌, refl}
+use Rattle.omi_model.specs.declared.encounter.Encounter.{Encounter}
+use Rattle.omi_model.specs.declared.item.Item.TheVariants as item
+use Rattle.omi_model.specs.declared.shape.Shape.{Shape}
+use Rattle.omi_model.specs.declared.shape.Shape.TheVariants as shape
+use Rattle.omi_model.specs.Rows.{first_item}
+use Rattle.omi_model.specs.Shapes.{shape_of}
+use Rattle.omi_pc.specs.Fits.{ShapeSets}
 use Rattle.omi_plain.specs.StatementLaws.{VariablesAreSetAsRowsSay}
+use Rattle.omi_plain.specs.Statements.{variable_of, word_of}
+
+set_as_row : (at : Encounter) (q : Shape) → ShapeSets q → first_item at q ≡ item.Set (variable_of q) (word_of q)
+set_as_row at (shape.Sets variable word) sets = refl
+set_as_row at _ sets = absurd sets
 
 pub sets_as_rows : VariablesAreSetAsRowsSay
-sets_as_rows at (stmt.SetNumThreads n) sets = refl
-sets_as_rows at (stmt.SetDynamic true) sets = refl
-sets_as_rows at (stmt.SetDynamic false) sets = refl
-sets_as_rows at (stmt.SetMaxActive n) sets = refl
-sets_as_rows at (stmt.SetSchedule s) sets = refl
-sets_as_rows at (stmt.SetDevice d) sets = refl
-sets_as_rows at _ sets = absurd sets
+sets_as_rows at s sets = set_as_row at (shape_of s) sets

@@ -35,22 +35,10 @@ module _ (p : Program) (w : List ℕ) where
     repeat_placed (suc n) g = record { bodies = (all.0, all); counter = tt }
 
     begun_placed : (s : Stmt) → IsPlaced w (statement_begun s there)
-    begun_placed (stmt.Parallel g num) = record { bodies = all; counter = tt }
-    begun_placed (stmt.Task g undeferred final) = record { bodies = all; counter = tt }
-    begun_placed stmt.Taskwait = record { bodies = all; counter = tt }
-    begun_placed stmt.Taskyield = record { bodies = all; counter = tt }
-    begun_placed stmt.Barrier = record { bodies = all; counter = tt }
-    begun_placed (stmt.Critical k g) = record { bodies = all; counter = tt }
     begun_placed (stmt.Call g) = record { bodies = (all.0, all); counter = tt }
     begun_placed (stmt.Only m g) = only_placed g (a.context.number == m)
     begun_placed (stmt.Repeat n g) = repeat_placed n g
-    begun_placed (stmt.SetNumThreads n) = record { bodies = all; counter = tt }
-    begun_placed (stmt.SetDynamic b) = record { bodies = all; counter = tt }
-    begun_placed (stmt.SetMaxActive n) = record { bodies = all; counter = tt }
-    begun_placed (stmt.SetSchedule s) = record { bodies = all; counter = tt }
-    begun_placed (stmt.SetDevice d) = record { bodies = all; counter = tt }
-    begun_placed (stmt.Tool x) = record { bodies = all; counter = tt }
-    begun_placed stmt.Work = record { bodies = all; counter = tt }
+    begun_placed s = record { bodies = all; counter = tt }
 
   -- ---- a body ends
 
@@ -141,22 +129,11 @@ module _ (p : Program) (w : List ℕ) where
     enters_by debug final (Some (stmt.Task f undeferred given)) = task_placed (undeferred || final)
     enters_by true final (Some stmt.Taskwait) = record { bodies = at.bodies; counter = tt }
     enters_by false final (Some stmt.Taskwait) = record { bodies = at.bodies; counter = tt }
-    enters_by debug final (Some stmt.Taskyield) = record { bodies = at.bodies; counter = tt }
     enters_by true final (Some stmt.Barrier) = record { bodies = at.bodies; counter = tt }
     enters_by false final (Some stmt.Barrier) = record { bodies = at.bodies; counter = tt }
     enters_by true final (Some (stmt.Critical k f)) = record { bodies = at.bodies; counter = tt }
     enters_by false final (Some (stmt.Critical k f)) = record { bodies = at.bodies; counter = tt }
-    enters_by debug final (Some (stmt.Call f)) = record { bodies = at.bodies; counter = tt }
-    enters_by debug final (Some (stmt.Only m f)) = record { bodies = at.bodies; counter = tt }
-    enters_by debug final (Some (stmt.Repeat n f)) = record { bodies = at.bodies; counter = tt }
-    enters_by debug final (Some (stmt.SetNumThreads n)) = record { bodies = at.bodies; counter = tt }
-    enters_by debug final (Some (stmt.SetDynamic b)) = record { bodies = at.bodies; counter = tt }
-    enters_by debug final (Some (stmt.SetMaxActive n)) = record { bodies = at.bodies; counter = tt }
-    enters_by debug final (Some (stmt.SetSchedule s)) = record { bodies = at.bodies; counter = tt }
-    enters_by debug final (Some (stmt.SetDevice d)) = record { bodies = at.bodies; counter = tt }
-    enters_by debug final (Some (stmt.Tool x)) = record { bodies = at.bodies; counter = tt }
-    enters_by debug final (Some stmt.Work) = record { bodies = at.bodies; counter = tt }
-    enters_by debug final None = record { bodies = at.bodies; counter = tt }
+    enters_by debug final o = record { bodies = at.bodies; counter = tt }
 
     -- a body under a lock, which begins where a statement is in work
     calls_in : (fs : List Frame) (k f : ℕ) → statement_of p fs ≡ Some (stmt.Critical k f) → AreContextsPlaced w a.context fs
@@ -166,22 +143,7 @@ module _ (p : Program) (w : List ℕ) where
 
     leaves_by : (o : Option Stmt) → statement_of p a.stack ≡ o → IsPlaced w (left_behind p o a)
     leaves_by (Some (stmt.Critical k f)) is = record { bodies = calls_in a.stack k f is at.bodies; counter = tt }
-    leaves_by (Some (stmt.Parallel f num)) is = settled_placed a at
-    leaves_by (Some (stmt.Task f undeferred given)) is = settled_placed a at
-    leaves_by (Some stmt.Taskwait) is = settled_placed a at
-    leaves_by (Some stmt.Taskyield) is = settled_placed a at
-    leaves_by (Some stmt.Barrier) is = settled_placed a at
-    leaves_by (Some (stmt.Call f)) is = settled_placed a at
-    leaves_by (Some (stmt.Only m f)) is = settled_placed a at
-    leaves_by (Some (stmt.Repeat n f)) is = settled_placed a at
-    leaves_by (Some (stmt.SetNumThreads n)) is = settled_placed a at
-    leaves_by (Some (stmt.SetDynamic b)) is = settled_placed a at
-    leaves_by (Some (stmt.SetMaxActive n)) is = settled_placed a at
-    leaves_by (Some (stmt.SetSchedule s)) is = settled_placed a at
-    leaves_by (Some (stmt.SetDevice d)) is = settled_placed a at
-    leaves_by (Some (stmt.Tool x)) is = settled_placed a at
-    leaves_by (Some stmt.Work) is = settled_placed a at
-    leaves_by None is = settled_placed a at
+    leaves_by o is = settled_placed a at
 
     -- ---- all counters
 

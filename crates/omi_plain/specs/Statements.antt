@@ -1,11 +1,14 @@
 -- What the statement in work says: the variable that it sets, the word of a tool, the lock of a critical region.
-use Rattle.std.specs.Prelude.{ℕ, List, Option, Some}
+use Rattle.std.specs.Prelude.{◌==◌, ℕ, List, Option, Some, None, if◌then◌else◌}
 use Rattle.omi_script.specs.declared.program.Program.{Program}
 use Rattle.omi_script.specs.declared.statement.Stmt.{Stmt}
 use Rattle.omi_script.specs.declared.statement.Stmt.TheVariants as stmt
 use Rattle.omi_numbers.specs.declared.variables.TheConstants.{DYN_VAR, NTHREADS_VAR, RUN_SCHED_VAR, DEFAULT_DEVICE_VAR, MAX_ACTIVE_LEVELS_VAR}
 use Rattle.omi_numbers.specs.Words.{flag}
 use Rattle.omi_script.specs.Schedules.{schedule_word}
+use Rattle.omi_model.specs.declared.shape.Shape.{Shape}
+use Rattle.omi_model.specs.declared.shape.Shape.TheVariants as shape
+use Rattle.omi_model.specs.Shapes.{shape_of}
 use Rattle.omi_layout.specs.declared.field.Field.TheVariants.{RuntimeMaxActive, TaskDynamic, TaskSchedule, TaskDevice, TaskNthreads}
 use Rattle.omi_pc.specs.declared.actor.Actor.{Actor}
 use Rattle.omi_pc.specs.Frames.{statement_of}
@@ -17,33 +20,36 @@ in_work p a = statement_of p a.stack
 
 -- ---- internal control variables. A statement that sets none has 0
 
--- the number of the variable that a statement sets
+-- the number of the variable that is set
+abbrev pub variable_of : Shape → ℕ
+variable_of (shape.Sets variable word) = variable
+variable_of _ = 0
+
 abbrev pub set_number : Option Stmt → ℕ
-set_number (Some (stmt.SetNumThreads n)) = NTHREADS_VAR
-set_number (Some (stmt.SetDynamic b)) = DYN_VAR
-set_number (Some (stmt.SetMaxActive n)) = MAX_ACTIVE_LEVELS_VAR
-set_number (Some (stmt.SetSchedule s)) = RUN_SCHED_VAR
-set_number (Some (stmt.SetDevice d)) = DEFAULT_DEVICE_VAR
-set_number _ = 0
+set_number (Some s) = variable_of (shape_of s)
+set_number None = 0
 
 -- the word of its value
+abbrev pub word_of : Shape → ℕ
+word_of (shape.Sets variable word) = word
+word_of _ = 0
+
 abbrev pub set_word : Option Stmt → ℕ
-set_word (Some (stmt.SetNumThreads n)) = n
-set_word (Some (stmt.SetDynamic b)) = flag b
-set_word (Some (stmt.SetMaxActive n)) = n
-set_word (Some (stmt.SetSchedule s)) = schedule_word s
-set_word (Some (stmt.SetDevice d)) = d
-set_word _ = 0
+set_word (Some s) = word_of (shape_of s)
+set_word None = 0
 
 -- the address of its one word: max-active-levels-var is the program's, and the others are the current task's. nthreads-var is set
 -- by its first element
+abbrev pub variable_address : List ℕ → Actor → ℕ → ℕ
+variable_address w a variable =
+    if variable == NTHREADS_VAR then of_task w a.context.task TaskNthreads
+    else (if variable == DYN_VAR then of_task w a.context.task TaskDynamic
+    else (if variable == MAX_ACTIVE_LEVELS_VAR then of_runtime w RuntimeMaxActive
+    else (if variable == RUN_SCHED_VAR then of_task w a.context.task TaskSchedule
+    else (if variable == DEFAULT_DEVICE_VAR then of_task w a.context.task TaskDevice else 0))))
+
 abbrev pub set_address : List ℕ → Actor → Option Stmt → ℕ
-set_address w a (Some (stmt.SetNumThreads n)) = of_task w a.context.task TaskNthreads
-set_address w a (Some (stmt.SetDynamic b)) = of_task w a.context.task TaskDynamic
-set_address w a (Some (stmt.SetMaxActive n)) = of_runtime w RuntimeMaxActive
-set_address w a (Some (stmt.SetSchedule s)) = of_task w a.context.task TaskSchedule
-set_address w a (Some (stmt.SetDevice d)) = of_task w a.context.task TaskDevice
-set_address w a _ = 0
+set_address w a s = variable_address w a (set_number s)
 
 -- ---- the tool word, and critical regions. Any other statement has 0
 

@@ -7,6 +7,7 @@ ghost use Rattle.omi_plain.specs.Statements;
 ghost use Rattle.omi_plain.specs.Statements.{in_work, set_address};
 
 use omi_layout::{Field, Layout};
+use omi_model::Shape;
 use omi_numbers::{
     DEFAULT_DEVICE_VAR, DYN_VAR, MAX_ACTIVE_LEVELS_VAR, NTHREADS_VAR, RUN_SCHED_VAR,
 };
@@ -18,12 +19,11 @@ use omi_step_words::{of_runtime, of_task};
 pub fn set_number(s: Option<Stmt>) -> u32
     ensures { result ≡ Statements.set_number s }
 {
-    match s {
-        Some(Stmt::SetNumThreads(_)) => NTHREADS_VAR,
-        Some(Stmt::SetDynamic(_)) => DYN_VAR,
-        Some(Stmt::SetMaxActive(_)) => MAX_ACTIVE_LEVELS_VAR,
-        Some(Stmt::SetSchedule(_)) => RUN_SCHED_VAR,
-        Some(Stmt::SetDevice(_)) => DEFAULT_DEVICE_VAR,
+    let Some(s) = s else {
+        return 0;
+    };
+    match Shape::of(&s) {
+        Shape::Sets { variable, .. } => variable,
         _ => 0,
     }
 }
@@ -32,12 +32,11 @@ pub fn set_number(s: Option<Stmt>) -> u32
 pub fn set_word(s: Option<Stmt>) -> u64
     ensures { result ≡ Statements.set_word s }
 {
-    match s {
-        Some(Stmt::SetNumThreads(n)) => u64::from(n),
-        Some(Stmt::SetDynamic(b)) => u64::from(b),
-        Some(Stmt::SetMaxActive(n)) => u64::from(n),
-        Some(Stmt::SetSchedule(s)) => s.word(),
-        Some(Stmt::SetDevice(n)) => u64::from(n),
+    let Some(s) = s else {
+        return 0;
+    };
+    match Shape::of(&s) {
+        Shape::Sets { word, .. } => word,
         _ => 0,
     }
 }
@@ -48,12 +47,12 @@ pub fn set_address(l: &Layout, a: &Actor, s: Option<Stmt>) -> u64
     ensures { result ≡ set_address l.now.table a.now s }
 {
     let task = a.context.task;
-    match s {
-        Some(Stmt::SetNumThreads(_)) => of_task(l, task, Field::TaskNthreads),
-        Some(Stmt::SetDynamic(_)) => of_task(l, task, Field::TaskDynamic),
-        Some(Stmt::SetMaxActive(_)) => of_runtime(l, Field::RuntimeMaxActive),
-        Some(Stmt::SetSchedule(_)) => of_task(l, task, Field::TaskSchedule),
-        Some(Stmt::SetDevice(_)) => of_task(l, task, Field::TaskDevice),
+    match set_number(s) {
+        NTHREADS_VAR => of_task(l, task, Field::TaskNthreads),
+        DYN_VAR => of_task(l, task, Field::TaskDynamic),
+        MAX_ACTIVE_LEVELS_VAR => of_runtime(l, Field::RuntimeMaxActive),
+        RUN_SCHED_VAR => of_task(l, task, Field::TaskSchedule),
+        DEFAULT_DEVICE_VAR => of_task(l, task, Field::TaskDevice),
         _ => 0,
     }
 }

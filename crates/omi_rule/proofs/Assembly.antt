@@ -41,6 +41,7 @@ use Rattle.omi_rep.specs.Suits.{Suits}
 use Rattle.omi_rule_words.specs.ExplicitKinds.{IsPlaceField, slot_of}
 use Rattle.omi_rule_words.specs.Owes.{all_owed, owed}
 use Rattle.omi_rule_words.specs.Words.{KeepsWords}
+use Rattle.omi_rule_words.proofs.Moves.{moves_keep}
 use Rattle.omi_rule_words.proofs.Shown.{found_generations}
 use Rattle.omi_rule.specs.Commits.{CommitsAt, Compares}
 use Rattle.omi_rule.specs.LeavesOthers.{LeavesOthers}
@@ -312,3 +313,28 @@ module _ (p : Program) (w : List ℕ) (m : Memory) (events : List (ℕ × Event)
   -- a load leaves the memory
   pub of_load : (at : ℕ) (x : RecordWord) → left_in m (op.Load at) x ≡ m
   of_load at x = word_back m x.creator (kind_of (number x.field)) x.slot (number x.field) x.place
+
+  -- a step that leaves the memory, and behind which its thread owes the same
+  module _ (o : Op) (x : RecordWord) (b : Actor) (stays : left_in m o x ≡ m) (same : owed b ≡ owed (actors i)) (own : KeepsThread p w m events s i b) where
+    words_stay : KeepsWords w (left_in m o x) s (all_owed (replace_at actors i b))
+    words_stay = subst (λ (n : Memory). KeepsWords w n s (all_owed (replace_at actors i b))) (sym stays) (moves_keep w m s actors i b rule.words same)
+
+    spared : (j : ℕ) → j ≢ i → Spares m (left_in m o x) s j (actors j)
+    spared j other = subst (λ (n : Memory). Spares m n s j (actors j)) (sym stays) (spares_none m s j (actors j))
+
+    thread_stays : KeepsThread p w (left_in m o x) events s i b
+    thread_stays = subst (λ (n : Memory). KeepsThread p w n events s i b) (sym stays) own
+
+    pub quiet_stays : KeepsRule p w m events s actors i o x (b, outcome.Quiet)
+    quiet_stays = quiet_keeps o x (b, outcome.Quiet) refl words_stay spared thread_stays
+
+    pub waits_stay : (address : ℕ) → Waits w s i address (found_in m x) → Compares o → address ≡ address_of o → KeepsRule p w m events s actors i o x (b, outcome.NotReady address (found_in m x))
+    waits_stay address waits compares there = waits_keep o x (b, outcome.NotReady address (found_in m x)) address refl waits compares there words_stay spared thread_stays
+
+  -- a load that leads on, and one that finds a word on which the thread waits
+  pub load_stays : (address : ℕ) (x : RecordWord) (b : Actor) → owed b ≡ owed (actors i) → KeepsThread p w m events s i b → KeepsRule p w m events s actors i (op.Load address) x (b, outcome.Quiet)
+  load_stays address x b same own = quiet_stays (op.Load address) x b (of_load address x) same own
+
+  pub load_waits : (address : ℕ) (x : RecordWord) (b : Actor) → Waits w s i address (found_in m x) → owed b ≡ owed (actors i) → KeepsThread p w m events s i b
+      → KeepsRule p w m events s actors i (op.Load address) x (b, outcome.NotReady address (found_in m x))
+  load_waits address x b waits same own = waits_stay (op.Load address) x b (of_load address x) same own address waits tt refl

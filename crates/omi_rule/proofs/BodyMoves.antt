@@ -30,27 +30,14 @@ module _ (P : Context → List Frame → Type 0) (laws : IsOfBodies P) (p : Prog
       subst (λ (y : List Frame). P a.context (at_start g o ∷ y)) (sym is) (laws.calls a.context g o f fs c (subst (P a.context) is x))
 
   begins : (s : Stmt) (a : Actor) (f : Frame) (fs : List Frame) → a.stack ≡ f ∷ fs → Of a → Of (statement_begun s a)
-  begins (stmt.Parallel g num) a f fs is o = o
-  begins (stmt.Task g undeferred final) a f fs is o = o
-  begins stmt.Taskwait a f fs is o = o
-  begins stmt.Taskyield a f fs is o = o
-  begins stmt.Barrier a f fs is o = o
-  begins (stmt.Critical k g) a f fs is o = o
   begins (stmt.Call g) a f fs is o = called g opened.Call a f fs is refl o
   begins (stmt.Only m g) a f fs is o = go (a.context.number == m)
     where
       go : (b : Bool) → Of (if b then calling g opened.Call a else skipping a)
       go true = called g opened.Call a f fs is refl o
       go false = o
-  begins (stmt.Repeat zero g) a f fs is o = o
   begins (stmt.Repeat (suc n) g) a f fs is o = called g (opened.Repeat (suc n)) a f fs is refl o
-  begins (stmt.SetNumThreads n) a f fs is o = o
-  begins (stmt.SetDynamic b) a f fs is o = o
-  begins (stmt.SetMaxActive n) a f fs is o = o
-  begins (stmt.SetSchedule x) a f fs is o = o
-  begins (stmt.SetDevice d) a f fs is o = o
-  begins (stmt.Tool x) a f fs is o = o
-  begins stmt.Work a f fs is o = o
+  begins s a f fs is o = o
 
   ends : (debug : Bool) (o : Opened) (a : Actor) → Of a → Of (ended debug o a)
   ends debug opened.Main a x = x

@@ -1,6 +1,6 @@
 -- Functions go down: a to-do list makes only tasks over smaller functions than its task's own, so each explicit task runs a smaller
 -- function than the task that made it.
-use Rattle.std.proofs.Common.{◌≡◌, ◌==◌, ◌<◌, ◌≤◌, ◌+◌, ◌⊎◌, inl, inr, ℕ, zero, suc, ◌||◌, Bool, true, false, List, [], ◌∷◌, slice_get, Some, if◌then◌else◌, refl, sym, ap, ◌∙◌, subst, arith}
+use Rattle.std.proofs.Common.{◌≡◌, ◌==◌, ◌<◌, ◌≤◌, ◌+◌, ◌⊎◌, inl, inr, ℕ, suc, ◌||◌, Bool, true, false, List, [], ◌∷◌, slice_get, Some, if◌then◌else◌, refl, sym, ap, ◌∙◌, subst, arith}
 use Rattle.omi_script.specs.Bodies.{body_of, named_by}
 use Rattle.omi_script.specs.declared.program.Program.{Program}
 use Rattle.omi_script.specs.declared.statement.Stmt.{Stmt}
@@ -85,7 +85,6 @@ module _ (p : Program) where
       go true = (h.0 g refl, h.1)
       go false = (h.0 g refl, h.1)
   row_below f at stmt.Taskwait rest h = shown_below f at _ 0 (item.Tasks WAIT_TASKWAIT ∷ item.WaitDone ∷ working at (item.Leave ∷ rest)) (working_below f at (item.Leave ∷ rest) h.1)
-  row_below f at stmt.Taskyield rest h = h.1
   row_below f at stmt.Barrier rest h = barrier_below f at _ (working at (item.Leave ∷ rest)) (working_below f at (item.Leave ∷ rest) h.1)
   row_below f at (stmt.Critical k g) rest h =
       shown_below f at _ _ (item.Lock k ∷ working at (item.Leave ∷ item.Call g ∷ call_items p g (item.Unlock k ∷ rest)))
@@ -96,15 +95,8 @@ module _ (p : Program) where
       go : (c : Bool) → Below f ((if c then item.Call g else item.Skip) ∷ (if c then call_items p g rest else rest))
       go true = call_below f g rest (h.0 g refl) h.1
       go false = h.1
-  row_below f at (stmt.Repeat zero g) rest h = h.1
   row_below f at (stmt.Repeat (suc n) g) rest h = call_below f g (item.Do (stmt.Repeat n g) ∷ rest) (h.0 g refl) (h.0, h.1)
-  row_below f at (stmt.SetNumThreads n) rest h = h.1
-  row_below f at (stmt.SetDynamic x) rest h = h.1
-  row_below f at (stmt.SetMaxActive n) rest h = h.1
-  row_below f at (stmt.SetSchedule s) rest h = h.1
-  row_below f at (stmt.SetDevice d) rest h = h.1
-  row_below f at (stmt.Tool x) rest h = h.1
-  row_below f at stmt.Work rest h = h.1
+  row_below f at s rest h = h.1
 
   drop_below : (f : ℕ) (x : Item) (xs : List Item) → may_drop x ≡ true → Below f (x ∷ xs) → Below f xs
   drop_below f item.Asks xs may h = h

@@ -17,13 +17,6 @@ abbrev pub at_counter : Counter → Actor → Actor
 at_counter x a = record a { counter = x }
 
 begun_forgets : (s : Stmt) (a : Actor) (x : Counter) → statement_begun s (at_counter x a) ≡ statement_begun s a
-begun_forgets (stmt.Parallel g num) a x = refl
-begun_forgets (stmt.Task g undeferred final) a x = refl
-begun_forgets stmt.Taskwait a x = refl
-begun_forgets stmt.Taskyield a x = refl
-begun_forgets stmt.Barrier a x = refl
-begun_forgets (stmt.Critical k g) a x = refl
-begun_forgets (stmt.Call g) a x = refl
 begun_forgets (stmt.Only m g) a x = go (a.context.number == m)
   where
     go : (b : Bool) → (if b then calling g opened.Call (at_counter x a) else skipping (at_counter x a)) ≡ (if b then calling g opened.Call a else skipping a)
@@ -31,13 +24,7 @@ begun_forgets (stmt.Only m g) a x = go (a.context.number == m)
     go false = refl
 begun_forgets (stmt.Repeat zero g) a x = refl
 begun_forgets (stmt.Repeat (suc n) g) a x = refl
-begun_forgets (stmt.SetNumThreads n) a x = refl
-begun_forgets (stmt.SetDynamic b) a x = refl
-begun_forgets (stmt.SetMaxActive n) a x = refl
-begun_forgets (stmt.SetSchedule y) a x = refl
-begun_forgets (stmt.SetDevice d) a x = refl
-begun_forgets (stmt.Tool y) a x = refl
-begun_forgets stmt.Work a x = refl
+begun_forgets s a x = refl
 
 ended_forgets : (debug : Bool) (o : Opened) (a : Actor) (x : Counter) → ended debug o (at_counter x a) ≡ ended debug o a
 ended_forgets debug opened.Main a x = refl

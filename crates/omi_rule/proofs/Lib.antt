@@ -9,7 +9,9 @@ pub mod NamesStay
 pub mod OwnRow
 pub mod RowsStay
 pub mod Assembly
+pub mod OwnWords
 pub mod OwnTask
+pub mod SameBodies
 pub mod Runs
 pub mod Owing
 pub mod worker

@@ -284,6 +284,17 @@ module _ (z : State) (i : ℕ) (knows : KnowsOwn z i) where
   joins : (r : Region) → IsSameForOthers i r (record r { joined = true })
   joins r = record { arrivals = λ j m at other. refl; released = λ m at other. refl; team = refl; levels = refl; active = refl }
 
+  by_locks : (l : ℕ → Option ℕ) → LeavesOthers z (record z { locks = l }) i
+  by_locks l = record {
+    environment = refl;
+    count = refl;
+    threads = threads_same z i;
+    tasks = λ k t live other begun. live;
+    regions = regions_same z i;
+    regions_fresh = λ j n other fresh. fresh;
+    tasks_fresh = λ j n other fresh. fresh;
+  }
+
   effect_leaves : (p : Program) (e : Event) (y : Item) → Rule z i e y → IfSome (effect p z i e y) of_leaves
   effect_leaves p event.Begin y rule = by_thread _
   effect_leaves p event.Offer y rule = by_thread _
@@ -360,29 +371,7 @@ module _ (z : State) (i : ℕ) (knows : KnowsOwn z i) where
       }
   effect_leaves p (event.SetTool x) y rule = of_current z i (λ k t. with_tool z x k) of_leaves (λ k t. ⊤) rule (λ k t is h. by_task k _ (own_task z i k t is knows))
   effect_leaves p (event.Lock k) y rule = by_locks _
-    where
-      by_locks : (l : ℕ → Option ℕ) → LeavesOthers z (record z { locks = l }) i
-      by_locks l = record {
-        environment = refl;
-        count = refl;
-        threads = threads_same z i;
-        tasks = λ k t live other begun. live;
-        regions = regions_same z i;
-        regions_fresh = λ j n other fresh. fresh;
-        tasks_fresh = λ j n other fresh. fresh;
-      }
   effect_leaves p (event.Unlock k) y rule = by_locks _
-    where
-      by_locks : (l : ℕ → Option ℕ) → LeavesOthers z (record z { locks = l }) i
-      by_locks l = record {
-        environment = refl;
-        count = refl;
-        threads = threads_same z i;
-        tasks = λ k t live other begun. live;
-        regions = regions_same z i;
-        regions_fresh = λ j n other fresh. fresh;
-        tasks_fresh = λ j n other fresh. fresh;
-      }
   effect_leaves p event.Work y rule = unchanged
   effect_leaves p (event.Call f) y rule = unchanged
   effect_leaves p event.Skip y rule = unchanged

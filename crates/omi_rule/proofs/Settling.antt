@@ -53,13 +53,6 @@ module _ (p : Program) (at : Encounter) (debug : at.debug ≡ p.env.debug) where
   -- ---- a statement begins
 
   begun_ahead : (b : Actor) (s : Stmt) → statement_of p b.stack ≡ Some s → IsAhead p at (statement_begun s b).stack (statement_begun s b).counter (item.Do s ∷ ahead p at b.stack)
-  begun_ahead b (stmt.Parallel f num) is = sym (in_work_is p b.stack _ _ is)
-  begun_ahead b (stmt.Task f undeferred final) is = sym (in_work_is p b.stack _ _ is)
-  begun_ahead b stmt.Taskwait is = sym (in_work_is p b.stack _ _ is)
-  begun_ahead b stmt.Taskyield is = sym (in_work_is p b.stack _ _ is)
-  begun_ahead b stmt.Barrier is = sym (in_work_is p b.stack _ _ is)
-  begun_ahead b (stmt.Critical k f) is = sym (in_work_is p b.stack _ _ is)
-  begun_ahead b (stmt.Call f) is = sym (in_work_is p b.stack _ _ is)
   begun_ahead b (stmt.Only m f) is = go (b.context.number == m) refl
     where
       go : (x : Bool) → b.context.number == m ≡ x → IsAhead p at (statement_begun (stmt.Only m f) b).stack (statement_begun (stmt.Only m f) b).counter (item.Do (stmt.Only m f) ∷ ahead p at b.stack)
@@ -69,15 +62,8 @@ module _ (p : Program) (at : Encounter) (debug : at.debug ≡ p.env.debug) where
       go false e =
           subst (λ (c : Actor). IsAhead p at c.stack c.counter (item.Do (stmt.Only m f) ∷ ahead p at b.stack))
           (ap (λ (x : Bool). if x then calling f opened.Call b else skipping b) (sym e)) (sym (in_work_is p b.stack _ _ is))
-  begun_ahead b (stmt.Repeat zero f) is = sym (in_work_is p b.stack _ _ is)
   begun_ahead b (stmt.Repeat (suc n) f) is = refl
-  begun_ahead b (stmt.SetNumThreads n) is = sym (in_work_is p b.stack _ _ is)
-  begun_ahead b (stmt.SetDynamic x) is = sym (in_work_is p b.stack _ _ is)
-  begun_ahead b (stmt.SetMaxActive n) is = sym (in_work_is p b.stack _ _ is)
-  begun_ahead b (stmt.SetSchedule x) is = sym (in_work_is p b.stack _ _ is)
-  begun_ahead b (stmt.SetDevice d) is = sym (in_work_is p b.stack _ _ is)
-  begun_ahead b (stmt.Tool x) is = sym (in_work_is p b.stack _ _ is)
-  begun_ahead b stmt.Work is = sym (in_work_is p b.stack _ _ is)
+  begun_ahead b s is = sym (in_work_is p b.stack _ _ is)
 
   -- ---- a body ends
 

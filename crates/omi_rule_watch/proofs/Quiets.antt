@@ -1,8 +1,7 @@
 -- A step of a thread leaves no more quiet steps behind it than its next counter says.
-use Rattle.std.proofs.Common.{◌≡◌, ◌≤◌, ◌<◌, ◌+◌, ◌%◌, ◌==◌, ℕ, zero, suc, Bool, true, false, List, [], ◌∷◌, Option, Some, None, refl, sym, subst, arith, if◌then◌else◌}
+use Rattle.std.proofs.Common.{◌≡◌, ◌≤◌, ◌<◌, ◌+◌, ◌%◌, ◌==◌, ℕ, Bool, true, false, List, [], ◌∷◌, Option, Some, None, refl, subst, arith, if◌then◌else◌}
 use Rattle.std.specs.Prelude.{nat_lt}
 use Rattle.omi_script.specs.declared.program.Program.{Program}
-use Rattle.omi_script.specs.declared.statement.Stmt.{Stmt}
 use Rattle.omi_script.specs.declared.statement.Stmt.TheVariants as stmt
 use Rattle.omi_layout.specs.Field.{regions, tasks}
 use Rattle.omi_pc.specs.declared.actor.Actor.{Actor}
@@ -12,8 +11,6 @@ use Rattle.omi_pc.specs.declared.counter.PlainCounter.{PlainCounter}
 use Rattle.omi_pc.specs.declared.counter.PlainCounter.TheVariants as plain
 use Rattle.omi_pc.specs.declared.frame.Barrier.TheVariants.{Explicit, Implicit}
 use Rattle.omi_pc.specs.declared.frame.Frame.{Frame}
-use Rattle.omi_pc.specs.declared.frame.Opened.{Opened}
-use Rattle.omi_pc.specs.declared.frame.Opened.TheVariants as opened
 use Rattle.omi_pc.specs.declared.frame.Wait.{Wait}
 use Rattle.omi_pc.specs.declared.frame.Wait.TheVariants as wait
 use Rattle.omi_numbers.specs.declared.limits.TheConstants.{OWN_SLOTS}
@@ -34,10 +31,9 @@ use Rattle.omi_pc.specs.declared.team_counter.TeamCounter.TheVariants as team
 use Rattle.omi_pc.specs.declared.team_counter.WorkerCounter.{WorkerCounter}
 use Rattle.omi_pc.specs.declared.team_counter.WorkerCounter.TheVariants as worker
 use Rattle.omi_pc.specs.Fits.{FitsCounter, FitsLook, FitsTask, FitsTeam, Waits, slots_of}
-use Rattle.omi_pc.specs.Frames.{advanced, next_statement}
-use Rattle.omi_pc.specs.Moves.{worked, worked_at, worked_in, back_to_work}
+use Rattle.omi_pc.specs.Moves.{back_to_work}
 use Rattle.omi_pc.specs.OpenBodies.{AreOpen, IsAt, IsAtBarrier, IsAtStart, IsMaster}
-use Rattle.omi_pc.specs.Settle.{statement_begun, calling, ended, goes_to, settled_by, settled_in}
+use Rattle.omi_pc.proofs.NextCounters.{HoldsNext, working_next}
 use Rattle.omi_rep.specs.declared.outcome.Outcome.{Outcome}
 use Rattle.omi_rep.specs.declared.outcome.Outcome.TheVariants as outcome
 use Rattle.omi_step_words.specs.Moving.{to_barrier, to_join, to_look, to_team, to_worker}
@@ -63,63 +59,16 @@ use Rattle.omi_rule_watch.proofs.Cases.{one_of, paired}
 
 -- ---- moves between statements
 
-carried_begun : (t : ℕ) (s : Stmt) (a : Actor) → carried t ≤ most_quiet t (statement_begun s a).counter
-carried_begun t (stmt.Parallel f num) a = omega arith
-carried_begun t (stmt.Task f undeferred final) a = omega arith
-carried_begun t stmt.Taskwait a = omega arith
-carried_begun t stmt.Taskyield a = omega arith
-carried_begun t stmt.Barrier a = omega arith
-carried_begun t (stmt.Critical k f) a = omega arith
-carried_begun t (stmt.Call f) a = omega arith
-carried_begun t (stmt.Only m f) a = go (a.context.number == m)
-  where
-    go : (b : Bool) → carried t ≤ most_quiet t (if b then calling f opened.Call a else record a { counter = counter.Plain plain.Skip }).counter
-    go true = omega arith
-    go false = omega arith
-carried_begun t (stmt.Repeat zero f) a = omega arith
-carried_begun t (stmt.Repeat (suc n) f) a = omega arith
-carried_begun t (stmt.SetNumThreads n) a = omega arith
-carried_begun t (stmt.SetDynamic b) a = omega arith
-carried_begun t (stmt.SetMaxActive n) a = omega arith
-carried_begun t (stmt.SetSchedule s) a = omega arith
-carried_begun t (stmt.SetDevice d) a = omega arith
-carried_begun t (stmt.Tool x) a = omega arith
-carried_begun t stmt.Work a = omega arith
+-- each of them carries as much
+abbrev Carries : ℕ → Counter → Type 0
+Carries t c = carried t ≤ most_quiet t c
 
-carried_ended : (t : ℕ) (debug : Bool) (o : Opened) (a : Actor) → carried t ≤ most_quiet t (ended debug o a).counter
-carried_ended t true opened.Main a = omega arith
-carried_ended t false opened.Main a = omega arith
-carried_ended t true opened.Worker a = omega arith
-carried_ended t false opened.Worker a = omega arith
-carried_ended t true (opened.Master saved) a = omega arith
-carried_ended t false (opened.Master saved) a = omega arith
-carried_ended t debug (opened.Task v saved) a = omega arith
-carried_ended t debug opened.Call a = omega arith
-carried_ended t debug (opened.Repeat left) a = omega arith
-carried_ended t debug (opened.Critical k) a = omega arith
+carries_next : (t : ℕ) → HoldsNext (Carries t)
+carries_next t = record { plain = λ c before. omega arith; state = omega arith; arrive = omega arith; finish = omega arith }
 
-carried_settled : (t : ℕ) (p : Program) (a : Actor) (f : Frame) (fs : List Frame) (s : Option Stmt) → carried t ≤ most_quiet t (settled_by p a f fs s).counter
-carried_settled t p a f fs (Some s) = carried_begun t s (record a { stack = advanced f ∷ fs })
-carried_settled t p a f fs None = carried_ended t p.env.debug f.opened a
-
-carried_worked : (t : ℕ) (p : Program) (a : Actor) (f : Frame) (fs : List Frame) → a.stack ≡ f ∷ fs → carried t ≤ most_quiet t (worked_in p (f ∷ fs) a).counter
-carried_worked t p a f fs is = at f.next
-  where
-    at : (n : ℕ) → carried t ≤ most_quiet t (worked_at p n a).counter
-    at zero = subst (λ gs. carried t ≤ most_quiet t (settled_in p a gs).counter) (sym is) (carried_settled t p a f fs (next_statement p f))
-    at (suc n) = omega arith
-
--- a thread with an bodies body works again
+-- a thread with an open body works again
 carried_working : (t : ℕ) (p : Program) (a : Actor) → IsAtStart IsMaster a.stack → carried t ≤ most_quiet t (back_to_work p a).counter
-carried_working t p a starts = go p.env.debug
-  where
-    by : (fs : List Frame) → a.stack ≡ fs → IsAtStart IsMaster fs → carried t ≤ most_quiet t (worked_in p fs a).counter
-    by [] is none = absurd none
-    by (f ∷ fs) is some = carried_worked t p a f fs is
-
-    go : (b : Bool) → carried t ≤ most_quiet t (if b then goes_to plain.WorkState a else worked p a).counter
-    go true = omega arith
-    go false = by a.stack refl starts
+carried_working t p a starts = working_next (Carries t) (carries_next t) p a (λ none. absurd (subst (λ (fs : List Frame). IsAtStart IsMaster fs) none starts))
 
 -- ---- where a step goes by what it found
 

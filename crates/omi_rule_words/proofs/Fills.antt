@@ -15,10 +15,11 @@ use Rattle.omi_layout.specs.Table.{width}
 use Rattle.omi_layout.proofs.Puts.{record_stays, word_stays}
 use Rattle.omi_rule_words.specs.Owes.{Owed}
 use Rattle.omi_rule_words.specs.Counts.{of_live, one, sum_below, has_slot, has_region_slot}
-use Rattle.omi_rule_words.specs.Threads.{KeepsAssign, KeepsRuntime, KeepsThread}
+use Rattle.omi_rule_words.specs.Threads.{KeepsRuntime}
 use Rattle.omi_rule_words.specs.Objects.{KeepsDeferred, KeepsLife, slots_with}
 use Rattle.omi_rule_words.specs.Words.{KeepsRegionSlot, KeepsTaskSlot, KeepsWords}
 use Rattle.omi_rule_words.specs.Kinds.{RegionFillsKeep, TaskFillsKeep}
+use Rattle.omi_rule_words.proofs.MadeSlots.{made_kept}
 use Rattle.omi_rule_words.proofs.Alike
 use Rattle.omi_rule_words.proofs.Sums.{slots_same}
 
@@ -59,15 +60,8 @@ region_fills_keep = λ w m s owes i slot f at word keeps none other. kept w m s 
       runtime_record = subst (λ (r : Rec). KeepsRuntime w r s) (sym (stays 0 runtime 0 (λ kind. absurd (omega (arith, kind))))) keeps.runtime_record;
       made = λ j known.
           let o = keeps.made j known in
-          let thread : n j threads 0 ≡ m j threads 0 = stays j threads 0 (λ kind. absurd (omega (arith, kind))) in
-          record {
-            thread = subst (λ (r : Rec). KeepsThread w j r (s.threads j)) (sym thread) o.thread;
-            assign = subst (λ (r : Rec). KeepsAssign w s owes j r) (sym thread) o.assign;
-            regions = λ k within. region j k (o.regions k within) (j == i && k == slot) refl;
-            tasks = λ k within. subst (λ (r : Rec). KeepsTaskSlot w s owes j k r) (sym (stays j tasks k (λ kind. absurd (omega (arith, kind))))) (o.tasks k within);
-            making = o.making;
-            objects = o.objects;
-          };
+          made_kept w s owes j (m j) (n j) (stays j threads 0 (λ kind. absurd (omega (arith, kind)))) o (λ k within. region j k (o.regions k within) (j == i && k == slot) refl)
+          (λ k within. subst (λ (r : Rec). KeepsTaskSlot w s owes j k r) (sym (stays j tasks k (λ kind. absurd (omega (arith, kind))))) (o.tasks k within));
       deferred = subst (λ (r : ℕ → ℕ → Rec). KeepsDeferred w r s owes) (sym tasks_same) keeps.deferred;
     }
       where
@@ -103,15 +97,8 @@ task_fills_keep = λ w m s owes i slot f at word keeps none other. kept w m s ow
       runtime_record = subst (λ (r : Rec). KeepsRuntime w r s) (sym (stays 0 runtime 0 (λ kind. absurd (omega (arith, kind))))) keeps.runtime_record;
       made = λ j known.
           let o = keeps.made j known in
-          let thread : n j threads 0 ≡ m j threads 0 = stays j threads 0 (λ kind. absurd (omega (arith, kind))) in
-          record {
-            thread = subst (λ (r : Rec). KeepsThread w j r (s.threads j)) (sym thread) o.thread;
-            assign = subst (λ (r : Rec). KeepsAssign w s owes j r) (sym thread) o.assign;
-            regions = λ k within. subst (λ (r : Rec). KeepsRegionSlot w s owes j k r) (sym (stays j regions k (λ kind. absurd (omega (arith, kind))))) (o.regions k within);
-            tasks = λ k within. task j k (o.tasks k within) (j == i && k == slot) refl;
-            making = o.making;
-            objects = o.objects;
-          };
+          made_kept w s owes j (m j) (n j) (stays j threads 0 (λ kind. absurd (omega (arith, kind)))) o (λ k within. subst (λ (r : Rec). KeepsRegionSlot w s owes j k r) (sym (stays j regions k (λ kind. absurd (omega (arith, kind))))) (o.regions k within))
+          (λ k within. task j k (o.tasks k within) (j == i && k == slot) refl);
       deferred = record { once = λ k t live deferred. let was = keeps.deferred.once k t live deferred in let same = slots_stay w m s i slot (number f) at word none (slot_word w k) in omega (arith, was, same); hands = keeps.deferred.hands };
     }
       where

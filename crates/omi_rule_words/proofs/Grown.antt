@@ -26,6 +26,7 @@ use Rattle.omi_rule_words.specs.Counts.{children_owed, generating_of, has_region
 use Rattle.omi_rule_words.specs.Threads.{Has, KeepsAssign, WaitsFor}
 use Rattle.omi_rule_words.specs.Objects.{IsDeferredIn, KeepsCounts, KeepsDeferred, KeepsLife, KeepsRegion, KeepsSlots}
 use Rattle.omi_rule_words.specs.Words.{HasFinished, KeepsMaking, KeepsRegionSlot, KeepsTask, KeepsTaskSlot, KeepsWords, OwesOnLive, region_in, task_in}
+use Rattle.omi_rule_words.proofs.CountedRegions.{region_counted}
 use Rattle.omi_rule_words.proofs.Begun.{Grows, IsNew, NewRegion, NewTask, begun_life, found_stays, found_was, none_found, one_none, some_found, some_stays}
 use Rattle.omi_rule_words.proofs.OtherOwes.{OwesAlike}
 use Rattle.omi_rule_words.proofs.PlaceStores.{unseen}
@@ -207,19 +208,7 @@ module _ (w : List ℕ) (m : Memory) (s : State) (rs : Slots Region) (ts : Slots
     -- ---- objects that were live
 
     region_kept : (n : Rid) (r : Rec) (x : Region) → KeepsRegion w s owes n r x → KeepsRegion w after other n r x
-    region_kept n r x o = record {
-      function = o.function;
-      enclosing = o.enclosing;
-      encountering = o.encountering;
-      size = o.size;
-      levels = o.levels;
-      active = o.active;
-      team = o.team;
-      released = o.released;
-      arrived = o.arrived;
-      pending = let was = o.pending in let change = pending_counted n in omega (arith, was, change);
-      left = let was = o.left in let owed = left_same n in omega (arith, was, owed);
-    }
+    region_kept n r x o = region_counted w s after owes other n r x (pending_counted n) (left_same n) o
 
     counts_kept : (k : Tid) (r : Rec) → KeepsCounts w s owes k r → KeepsCounts w after other k r
     counts_kept k r o = record {

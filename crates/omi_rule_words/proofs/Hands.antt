@@ -10,6 +10,7 @@ use Rattle.omi_layout.specs.Memory.{Made, Rec, replace_at}
 use Rattle.omi_rule_words.specs.Owes.{Owed}
 use Rattle.omi_rule_words.specs.Objects.{KeepsRegion}
 use Rattle.omi_rule_words.specs.Words.{KeepsMade, KeepsTask}
+use Rattle.omi_rule_words.proofs.CountedRegions.{region_counted}
 
 abbrev pub with_hands : (ℕ → Owed) → (ℕ → Option Tid) → ℕ → Owed
 with_hands owes hands = λ j. record (owes j) { hand = hands j }
@@ -27,19 +28,7 @@ module _ (w : List ℕ) (s : State) (owes : ℕ → Owed) (hands : ℕ → Optio
   other = with_hands owes hands
 
   region_rehanded : (n : Rid) (r : Rec) (x : Region) → KeepsRegion w s owes n r x → KeepsRegion w s other n r x
-  region_rehanded n r x o = record {
-    function = o.function;
-    enclosing = o.enclosing;
-    encountering = o.encountering;
-    size = o.size;
-    levels = o.levels;
-    active = o.active;
-    team = o.team;
-    released = o.released;
-    arrived = o.arrived;
-    pending = o.pending;
-    left = o.left;
-  }
+  region_rehanded n r x o = region_counted w s s owes other n r x refl refl o
 
   task_rehanded : (k : Tid) (r : Rec) (t : Task) → KeepsTask w s owes k r t → KeepsTask w s other k r t
   task_rehanded k r t o = record { environment = o.environment; place = o.place; counts = record { children = o.counts.children }; slots = o.slots }

@@ -1,18 +1,18 @@
 -- Threads that owe nothing: those that work, arrive at a barrier, or have not begun. The actors with which a program starts do.
-use Rattle.std.proofs.Common.{◌≡◌, ◌==◌, ℕ, zero, suc, if◌then◌else◌, Bool, true, false, List, [], ◌∷◌, Some, None, Option, refl}
+use Rattle.std.proofs.Common.{◌≡◌, ℕ, zero, suc, List, [], ◌∷◌, Some, None, Option, refl}
 use Rattle.omi_script.specs.declared.program.Program.{Program}
 use Rattle.omi_script.specs.declared.statement.Stmt.{Stmt}
-use Rattle.omi_script.specs.declared.statement.Stmt.TheVariants as stmt
 use Rattle.omi_model.specs.declared.id.Tid.{Tid}
 use Rattle.omi_pc.specs.declared.actor.Actor.{Actor}
 use Rattle.omi_pc.specs.declared.context.Context.{Context}
 use Rattle.omi_pc.specs.declared.counter.Counter.{Counter}
 use Rattle.omi_pc.specs.declared.counter.Counter.TheVariants as counter
-use Rattle.omi_pc.specs.declared.frame.Opened.TheVariants.{Main, Call}
+use Rattle.omi_pc.specs.declared.frame.Opened.TheVariants.{Main}
 use Rattle.omi_pc.specs.declared.team_counter.WorkerCounter.TheVariants as worker
 use Rattle.omi_pc.specs.Frames.{at_start, advanced, next_statement}
 use Rattle.omi_pc.specs.Opening.{opening_actor, waiting_actor}
-use Rattle.omi_pc.specs.Settle.{statement_begun, calling, skipping, settled_by}
+use Rattle.omi_pc.specs.Settle.{settled_by}
+use Rattle.omi_pc.proofs.NextCounters.{begun_next}
 use Rattle.omi_rule_words.specs.Owes.{owed, owed_at, nothing}
 
 -- at these counters a thread owes nothing
@@ -33,30 +33,6 @@ owes_nothing context members (counter.Barrier c) is = refl
 owes_nothing context members (counter.Plain c) is = refl
 owes_nothing context members _ is = absurd is
 
--- a statement begins with a counter at which nothing is owed
-begun_idle : (s : Stmt) (a : Actor) → IsIdle (statement_begun s a).counter
-begun_idle (stmt.Parallel f num) a = tt
-begun_idle (stmt.Task f undeferred final) a = tt
-begun_idle stmt.Taskwait a = tt
-begun_idle stmt.Taskyield a = tt
-begun_idle stmt.Barrier a = tt
-begun_idle (stmt.Critical k f) a = tt
-begun_idle (stmt.Call f) a = tt
-begun_idle (stmt.Only m f) a = go (a.context.number == m)
-  where
-    go : (b : Bool) → IsIdle (if b then calling f Call a else skipping a).counter
-    go true = tt
-    go false = tt
-begun_idle (stmt.Repeat zero f) a = tt
-begun_idle (stmt.Repeat (suc n) f) a = tt
-begun_idle (stmt.SetNumThreads n) a = tt
-begun_idle (stmt.SetDynamic b) a = tt
-begun_idle (stmt.SetMaxActive n) a = tt
-begun_idle (stmt.SetSchedule s) a = tt
-begun_idle (stmt.SetDevice d) a = tt
-begun_idle (stmt.Tool x) a = tt
-begun_idle stmt.Work a = tt
-
 opening_idle : (p : Program) (i : ℕ) → IsIdle (opening_actor p i).counter
 opening_idle p (suc i) = tt
 opening_idle p zero = go (next_statement p (at_start p.main Main))
@@ -65,7 +41,7 @@ opening_idle p zero = go (next_statement p (at_start p.main Main))
     a = record (waiting_actor 0) { stack = at_start p.main Main ∷ [] }
 
     go : (s : Option Stmt) → IsIdle (settled_by p a (at_start p.main Main) [] s).counter
-    go (Some s) = begun_idle s (record a { stack = advanced (at_start p.main Main) ∷ [] })
+    go (Some s) = begun_next IsIdle (λ c before. tt) s (record a { stack = advanced (at_start p.main Main) ∷ [] })
     go None = tt
 
 pub opening_owes : (p : Program) (i : ℕ) → owed (opening_actor p i) ≡ nothing

@@ -3,8 +3,10 @@ pub mod Sums
 pub mod Opened
 pub mod Shown
 pub mod ThreadStores
+pub mod MadeSlots
 pub mod Fills
 pub mod Moves
+pub mod CountedRegions
 pub mod OtherOwes
 pub mod RegionTakes
 pub mod TaskTakes

@@ -13,6 +13,7 @@ use Rattle.omi_rule_words.specs.Counts.{sum_of_owed, pending_owed, left_owed, ch
 use Rattle.omi_rule_words.specs.Objects.{KeepsCounts, KeepsDeferred, KeepsRegion}
 use Rattle.omi_rule_words.specs.Threads.{KeepsAssign, WaitsFor}
 use Rattle.omi_rule_words.specs.Words.{KeepsTask, OwesOnLive}
+use Rattle.omi_rule_words.proofs.CountedRegions.{region_counted}
 use Rattle.omi_rule_words.proofs.Sums.{sum_same}
 
 -- two threads owe the same, but for records in the making, assign words and tasks that were met
@@ -31,25 +32,9 @@ module _ (w : List ℕ) (s : State) (owes other : ℕ → Owed) (alike : (j : �
   same f each = sum_same s.count (λ j. f (other j)) (λ j. f (owes j)) each
 
   pub region_owed : (n : Rid) (r : Rec) (x : Region) → KeepsRegion w s owes n r x → KeepsRegion w s other n r x
-  region_owed n r x o = record {
-    function = o.function;
-    enclosing = o.enclosing;
-    encountering = o.encountering;
-    size = o.size;
-    levels = o.levels;
-    active = o.active;
-    team = o.team;
-    released = o.released;
-    arrived = o.arrived;
-    pending =
-        let was = o.pending in
-        let owed = same (pending_owed n) (λ j. ap (λ q. one (is_some_region n q)) (alike j).pending) in
-        omega (arith, was, owed);
-    left =
-        let was = o.left in
-        let owed = same (left_owed n) (λ j. ap (λ q. one (is_some_region n q)) (alike j).left) in
-        omega (arith, was, owed);
-  }
+  region_owed n r x o =
+      let pending = same (pending_owed n) (λ j. ap (λ q. one (is_some_region n q)) (alike j).pending) in
+      region_counted w s s owes other n r x (omega (arith, pending)) (same (left_owed n) (λ j. ap (λ q. one (is_some_region n q)) (alike j).left)) o
 
   counts_owed : (k : Tid) (r : Rec) → KeepsCounts w s owes k r → KeepsCounts w s other k r
   counts_owed k r o = record {

@@ -23,6 +23,7 @@ use Rattle.omi_rule_words.specs.Threads.{Has, IsAssignedOnce, KeepsAssign, Keeps
 use Rattle.omi_rule_words.specs.Objects.{IsDeferredIn, KeepsCounts, KeepsDeferred, KeepsEnvironment, KeepsPlace, KeepsRegion, KeepsSlots, slots_with}
 use Rattle.omi_rule_words.specs.Words.{KeepsMade, KeepsTask, KeepsWords, region_in, task_in}
 use Rattle.omi_rule_words.specs.TaskKinds.{IsSameTask}
+use Rattle.omi_rule_words.proofs.CountedRegions.{region_counted}
 use Rattle.omi_rule_words.proofs.Alike.{IsSameRegion, SlotsAlike, deferred_in_after, generating_same, life_alike, live_counted, making_after, objects_after, parts_same, region_back, slots_back, task_after, task_back, task_before, task_seen, waits_after}
 use Rattle.omi_rule_words.proofs.Sums.{sum_same}
 
@@ -69,27 +70,11 @@ module _ (w : List ℕ) (s u : State) (owes : ℕ → Owed) (count : u.count ≡
   owed_counted f g same = ap (λ n. sum_below n (λ i. f (owes i))) count ∙ sum_same s.count (λ i. f (owes i)) (λ i. g (owes i)) (λ i. same (owes i))
 
   region_kept : (n : Rid) (r : Rec) (x : Region) → KeepsRegion w s owes n r x → KeepsRegion w u owes n r x
-  region_kept n r x o = record {
-    function = o.function;
-    enclosing = o.enclosing;
-    encountering = o.encountering;
-    size = o.size;
-    levels = o.levels;
-    active = o.active;
-    team = o.team;
-    released = o.released;
-    arrived = o.arrived;
-    pending =
-        let was = o.pending in
-        let same : unfinished_in w u n ≡ unfinished_in w s n
-        = tasks_counted (λ c k t. one (is_unfinished t && is_region n t.region)) (λ c k t v alike. parts_same (λ i p q g. one (is_unfinished (record v { implicit = i; progress = p }) && is_region n q)) t v alike) in
-        let owed : sum_of_owed u owes (pending_owed n) ≡ sum_of_owed s owes (pending_owed n) = owed_counted (pending_owed n) (pending_owed n) (λ o. refl) in
-        omega (arith, was, same, owed);
-    left =
-        let was = o.left in
-        let owed : sum_of_owed u owes (left_owed n) ≡ sum_of_owed s owes (left_owed n) = owed_counted (left_owed n) (left_owed n) (λ o. refl) in
-        omega (arith, was, owed);
-  }
+  region_kept n r x o =
+      let same : unfinished_in w u n ≡ unfinished_in w s n
+      = tasks_counted (λ c k t. one (is_unfinished t && is_region n t.region)) (λ c k t v alike. parts_same (λ i p q g. one (is_unfinished (record v { implicit = i; progress = p }) && is_region n q)) t v alike) in
+      let owed : sum_of_owed u owes (pending_owed n) ≡ sum_of_owed s owes (pending_owed n) = owed_counted (pending_owed n) (pending_owed n) (λ o. refl) in
+      region_counted w s u owes owes n r x (omega (arith, same, owed)) (owed_counted (left_owed n) (left_owed n) (λ o. refl)) o
 
   counts_kept : (k : Tid) (r : Rec) → KeepsCounts w s owes k r → KeepsCounts w u owes k r
   counts_kept k r o = record {

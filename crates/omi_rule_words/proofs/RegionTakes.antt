@@ -1,5 +1,5 @@
 -- A record is taken for a region.
-use Rattle.std.proofs.Common.{◌≡◌, ◌==◌, ◌&&◌, ◌<◌, ℕ, ◌+◌, ◌*◌, Bool, true, false, List, Some, None, refl, sym, ap, subst, ◌∙◌, arith, eqb-true, if◌then◌else◌}
+use Rattle.std.proofs.Common.{◌≡◌, ◌==◌, ◌&&◌, ◌<◌, ℕ, ◌+◌, ◌*◌, Bool, true, false, List, Some, None, refl, sym, ap, subst, ◌∙◌, arith, if◌then◌else◌}
 use mathlib.Core.Path.{fun_ext}
 use Rattle.std.specs.Prelude.{All}
 use Rattle.std.proofs.lemmas.Bool.Decides.{nat_tests}
@@ -99,11 +99,8 @@ module _ (w : List ℕ) (m : Memory) (s : State) (owes : ℕ → Owed) (i : ℕ)
     apart = before.apart;
   }
 
-  making_kept : (j : ℕ) → KeepsMaking s j (owes j) → (b : Bool) → j == i ≡ b → KeepsMaking s j (if b then p else owes j)
-  making_kept j o true e =
-      let creator : j ≡ i = eqb-true j i e in
-      subst (λ c. KeepsMaking s c p) (sym creator) (own_making (subst (λ c. KeepsMaking s c (owes c)) creator o))
-  making_kept j o false e = o
+  making_kept : (j : ℕ) → KeepsMaking s j (owes j) → KeepsMaking s j (other j)
+  making_kept j = each_put (λ k (x : Owed). KeepsMaking s k (owes k) → KeepsMaking s k x) owes i p own_making j (λ _ o. o)
 
   tasks_same : ◌≡◌ {A = ℕ → ℕ → Rec} (λ c. after c tasks) (λ c. m c tasks)
   tasks_same = fun_ext (λ c. fun_ext (λ k. stays c tasks k (λ kind. absurd (omega (arith, kind)))))
@@ -122,7 +119,7 @@ module _ (w : List ℕ) (m : Memory) (s : State) (owes : ℕ → Owed) (i : ℕ)
               life = subst (λ (ks : List Tid). KeepsLife (m j tasks k) TaskLife (s.tasks j k) (has_slot k ks)) (sym (made_tasks j)) task.life;
               live = λ t is. task_owed w s owes other alike _ (m j tasks k) t (task.live t is);
             });
-        making = making_kept j o.making (j == i) refl;
+        making = making_kept j o.making;
         objects = objects_owed s (owes j) (other j) (alike j) (subst (λ (ms : List (Tid × ℕ)). All (λ x. WaitsFor s x.1 x.0) ms) (sym (assigns j)) o.objects.assigns) o.objects;
       }
 

@@ -18,10 +18,11 @@ use Rattle.omi_layout.proofs.Puts.{each_put, record_stays, word_read, word_stays
 use Rattle.omi_rep.specs.Shows.{IsWithin}
 use Rattle.omi_rule_words.specs.Owes.{Owed, nothing}
 use Rattle.omi_rule_words.specs.Counts.{has_slot, is_task, one, start_owed}
-use Rattle.omi_rule_words.specs.Threads.{Has, KeepsAssign, KeepsRuntime, KeepsThread}
+use Rattle.omi_rule_words.specs.Threads.{Has, KeepsRuntime}
 use Rattle.omi_rule_words.specs.Objects.{IsDeferredIn}
 use Rattle.omi_rule_words.specs.Words.{KeepsMade, KeepsRegionSlot, KeepsTask, KeepsTaskSlot, KeepsWords, task_in}
 use Rattle.omi_rule_words.specs.ExplicitKinds.{SlotTakesKeep, slot_of, with_slot}
+use Rattle.omi_rule_words.proofs.MadeSlots.{made_kept}
 use Rattle.omi_rule_words.proofs.Codes.{code_some, has_record, same_codes}
 use Rattle.omi_rule_words.proofs.EachPlace.{each_place}
 use Rattle.omi_rule_words.proofs.Fills.{life_same}
@@ -92,17 +93,10 @@ module _ (w : List ℕ) (m : Memory) (s : State) (owes : ℕ → Owed) (i : ℕ)
       })
       (λ c j apart o. subst (λ (r : Rec). KeepsTaskSlot w s owes c j r) (sym (record_stays m row.0.creator tasks row.0.slot (number TaskSlots) place word c tasks j (λ creator _ slot. apart creator slot))) o)
 
-  made_kept : (j : ℕ) → KeepsMade w s owes j (m j) → KeepsMade w s owes j (after j)
-  made_kept j o =
-      let thread : after j threads 0 ≡ m j threads 0 = stays j threads 0 (λ kind. absurd (omega (arith, kind))) in
-      record {
-        thread = subst (λ (r : Rec). KeepsThread w j r (s.threads j)) (sym thread) o.thread;
-        assign = subst (λ (r : Rec). KeepsAssign w s owes j r) (sym thread) o.assign;
-        regions = λ k below. subst (λ (r : Rec). KeepsRegionSlot w s owes j k r) (sym (stays j regions k (λ kind. absurd (omega (arith, kind))))) (o.regions k below);
-        tasks = λ k below. slot_kept j k (o.tasks k below);
-        making = o.making;
-        objects = o.objects;
-      }
+  made_stored : (j : ℕ) → KeepsMade w s owes j (m j) → KeepsMade w s owes j (after j)
+  made_stored j o =
+      made_kept w s owes j (m j) (after j) (stays j threads 0 (λ kind. absurd (omega (arith, kind)))) o
+      (λ k below. subst (λ (r : Rec). KeepsRegionSlot w s owes j k r) (sym (stays j regions k (λ kind. absurd (omega (arith, kind))))) (o.regions k below)) (λ k below. slot_kept j k (o.tasks k below))
 
   -- each deferred task is where it was, or has changed its slot for a hand or its hand for a slot
   pub slot_stored : ((q : Tid) (t : Task) → task_of s q ≡ Some t → t.progress ≡ progress.Deferred
@@ -111,7 +105,7 @@ module _ (w : List ℕ) (m : Memory) (s : State) (owes : ℕ → Owed) (i : ℕ)
       → KeepsWords w after s (replace_at owes i p)
   slot_stored balance held = record {
     runtime_record = subst (λ (r : Rec). KeepsRuntime w r s) (sym (stays 0 runtime 0 (λ kind. absurd (omega (arith, kind))))) keeps.runtime_record;
-    made = λ j below. subst (λ (o : ℕ → Owed). KeepsMade w s o j (after j)) (one_hand owes i hand) (made_rehanded w s owes (replace_at (λ c. (owes c).hand) i hand) j (after j) (made_kept j (keeps.made j below)));
+    made = λ j below. subst (λ (o : ℕ → Owed). KeepsMade w s o j (after j)) (one_hand owes i hand) (made_rehanded w s owes (replace_at (λ c. (owes c).hand) i hand) j (after j) (made_stored j (keeps.made j below)));
     deferred = record {
       once = λ q t is deferred.
           let was = keeps.deferred.once q t is deferred in

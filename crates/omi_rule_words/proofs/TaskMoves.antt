@@ -27,6 +27,7 @@ use Rattle.omi_rule_words.specs.Counts.{assign_owed, assigns_in, children_owed, 
 use Rattle.omi_rule_words.specs.Threads.{Has, KeepsAssign, WaitsFor}
 use Rattle.omi_rule_words.specs.Objects.{IsDeferredIn, KeepsCounts, KeepsEnvironment, KeepsLife, KeepsPlace, KeepsRegion, KeepsSlots, slots_with}
 use Rattle.omi_rule_words.specs.Words.{AreApart, HasFinished, IsInTheMaking, KeepsMaking, KeepsTask, KeepsTaskSlot, KeepsWords, OwesOnLive, task_in}
+use Rattle.omi_rule_words.proofs.CountedRegions.{region_counted}
 use Rattle.omi_rule_words.proofs.EachPlace.{each_place}
 use Rattle.omi_rule_words.proofs.OtherCounts.{owed_put_same}
 use Rattle.omi_rule_words.proofs.Shown.{found_generations}
@@ -203,22 +204,8 @@ module _ (w : List ℕ) (s : State) (k : Tid) (t : Task) (g : Task → Task) (li
     alike j = each_put (λ c (x : Owed). TeamsAlike x (owes c)) owes i p alike_own j (λ _. record { region = refl; tasks = refl; left = refl; assigns = refl; met = refl })
 
     region_kept : (n : Rid) (r : Rec) (x : Region) → KeepsRegion w s owes n r x → KeepsRegion w after other n r x
-    region_kept n r x o = record {
-      function = o.function;
-      enclosing = o.enclosing;
-      encountering = o.encountering;
-      size = o.size;
-      levels = o.levels;
-      active = o.active;
-      team = o.team;
-      released = o.released;
-      arrived = o.arrived;
-      pending = let was = o.pending in let change = pending_counted n in omega (arith, was, change);
-      left =
-          let was = o.left in
-          let owed = owed_put_same s owes i p (left_owed n) (ap (λ q. one (is_some_region n q)) alike_own.left) in
-          omega (arith, was, owed);
-    }
+    region_kept n r x o =
+        region_counted w s after owes other n r x (pending_counted n) (owed_put_same s owes i p (left_owed n) (ap (λ q. one (is_some_region n q)) alike_own.left)) o
 
     counts_kept : (q : Tid) (r : Rec) → KeepsCounts w s owes q r → KeepsCounts w after other q r
     counts_kept q r o = record {

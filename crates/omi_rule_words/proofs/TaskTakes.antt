@@ -122,11 +122,8 @@ module _ (w : List ℕ) (m : Memory) (s : State) (owes : ℕ → Owed) (i : ℕ)
     apart = apart_more (owes i).tasks n before.apart unused;
   }
 
-  making_kept : (j : ℕ) → KeepsMaking s j (owes j) → (b : Bool) → j == i ≡ b → KeepsMaking s j (if b then p else owes j)
-  making_kept j o true e =
-      let creator : j ≡ i = eqb-true j i e in
-      subst (λ c. KeepsMaking s c p) (sym creator) (own_making (subst (λ c. KeepsMaking s c (owes c)) creator o))
-  making_kept j o false e = o
+  making_kept : (j : ℕ) → KeepsMaking s j (owes j) → KeepsMaking s j (other j)
+  making_kept j = each_put (λ k (x : Owed). KeepsMaking s k (owes k) → KeepsMaking s k x) owes i p own_making j (λ _ o. o)
 
   made : (j : ℕ) → j < s.count → KeepsMade w s other j (after j)
   made j known =
@@ -142,7 +139,7 @@ module _ (w : List ℕ) (m : Memory) (s : State) (owes : ℕ → Owed) (i : ℕ)
               live = λ x is. region_owed w s owes other alike _ (m j regions k) x (region.live x is);
             });
         tasks = λ k within. task j k (o.tasks k within) (j == i && k == slot) refl;
-        making = making_kept j o.making (j == i) refl;
+        making = making_kept j o.making;
         objects = objects_owed s (owes j) (other j) (alike j) (subst (λ (ms : List (Tid × ℕ)). All (λ x. WaitsFor s x.1 x.0) ms) (sym (assigns j)) o.objects.assigns) o.objects;
       }
 

@@ -8,7 +8,7 @@ use Rattle.std.proofs.lemmas.Bool.{le-leb}
 use Rattle.std.proofs.lemmas.Bool.Decides.{nat_tests}
 use Rattle.omi_script.specs.declared.line.Line.TheVariants as line
 use Rattle.omi_script.specs.declared.statement.Construct.TheVariants as construct
-use Rattle.omi_script.specs.declared.statement.Stmt.TheVariants.{Parallel, Task, Taskwait, Taskyield, Barrier, Critical, Call, Only, Repeat, SetNumThreads, SetDynamic, SetMaxActive, SetSchedule, SetDevice, Tool, Work}
+use Rattle.omi_script.specs.declared.statement.Stmt.TheVariants.{Parallel, Task, Critical, Call, Only, Repeat, SetNumThreads, SetDynamic, SetMaxActive, SetSchedule, SetDevice, Tool}
 use Rattle.omi_script.specs.Bodies.{name_at, named_by}
 use Rattle.omi_script.specs.Canonical.{kind_text, statement_words}
 use Rattle.omi_script.specs.Constructs.{over}
@@ -47,16 +47,7 @@ over_again (Critical k g) f e = let same : g ≡ f = cc e in (construct.Critical
 over_again (Call g) f e = let same : g ≡ f = cc e in (construct.Call, refl, ap Call (sym same))
 over_again (Only m g) f e = let same : g ≡ f = cc e in (construct.Only m, refl, ap (Only m) (sym same))
 over_again (Repeat n g) f e = let same : g ≡ f = cc e in (construct.Repeat n, refl, ap (Repeat n) (sym same))
-over_again Taskwait f e = absurd (cc e)
-over_again Taskyield f e = absurd (cc e)
-over_again Barrier f e = absurd (cc e)
-over_again (SetNumThreads n) f e = absurd (cc e)
-over_again (SetDynamic b) f e = absurd (cc e)
-over_again (SetMaxActive n) f e = absurd (cc e)
-over_again (SetSchedule x) f e = absurd (cc e)
-over_again (SetDevice n) f e = absurd (cc e)
-over_again (Tool x) f e = absurd (cc e)
-over_again Work f e = absurd (cc e)
+over_again s f e = absurd (cc e)
 
 -- the words of a statement say its line
 pub said : (funcs : List Func) (s : Stmt) → is_in_range s ≡ true → line_of (statement_words funcs s) ≡ Some (line_of_statement funcs s)
@@ -66,9 +57,6 @@ said funcs (Task f false false) h = refl
 said funcs (Task f true false) h = refl
 said funcs (Task f false true) h = refl
 said funcs (Task f true true) h = refl
-said funcs Taskwait h = refl
-said funcs Taskyield h = refl
-said funcs Barrier h = refl
 said funcs (Critical n f) h = ap (λ o. Some (line.Construct (name_at funcs f) (option_map construct.Critical o))) (number_up_to-decimal MAX_LOCK n (omega arith) h)
 said funcs (Call f) h = refl
 said funcs (Only n f) h = ap (λ o. Some (line.Construct (name_at funcs f) (option_map construct.Only o))) (number_up_to-decimal MAX_MEMBER n (omega arith) h)
@@ -82,7 +70,7 @@ said funcs (SetSchedule s) h =
     ∙ ap (λ o. Some (line.StandAlone (option_map (λ n. SetSchedule (record { kind = s.kind; chunk = n })) o))) (number_up_to-decimal MAX_CHUNK s.chunk (omega arith) (chunk_within s h))
 said funcs (SetDevice n) h = ap (λ o. Some (line.StandAlone (option_map SetDevice o))) (number_up_to-decimal MAX_DEVICE n (omega arith) h)
 said funcs (Tool x) h = ap (λ o. Some (line.StandAlone (option_map Tool o))) (number_up_to-decimal 18446744073709551615 x (omega arith) h)
-said funcs Work h = refl
+said funcs s h = refl
 
 -- one word more
 pub one_word : (a : List ℕ) → is_plain a ≡ true → list_all is_plain (a ∷ []) ≡ true
@@ -99,9 +87,6 @@ plain_words funcs (Task f false false) h e = one_word (name_at funcs f) e
 plain_words funcs (Task f true false) h e = one_word (name_at funcs f) e
 plain_words funcs (Task f false true) h e = one_word (name_at funcs f) e
 plain_words funcs (Task f true true) h e = one_word (name_at funcs f) e
-plain_words funcs Taskwait h e = refl
-plain_words funcs Taskyield h e = refl
-plain_words funcs Barrier h e = refl
 plain_words funcs (Critical n f) h e = two_words (decimal n) (name_at funcs f) (plain-decimal n (below_word MAX_LOCK n (omega arith) h)) e
 plain_words funcs (Call f) h e = one_word (name_at funcs f) e
 plain_words funcs (Only n f) h e = two_words (decimal n) (name_at funcs f) (plain-decimal n (below_word MAX_MEMBER n (omega arith) h)) e
@@ -113,7 +98,7 @@ plain_words funcs (SetMaxActive n) h e = one_word (decimal n) (plain-decimal n (
 plain_words funcs (SetSchedule s) h e = two_words (kind_text s.kind) (decimal s.chunk) (plain-kind_text s.kind (kind_within s h)) (plain-decimal s.chunk (chunk_small s h))
 plain_words funcs (SetDevice n) h e = one_word (decimal n) (plain-decimal n (below_word MAX_DEVICE n (omega arith) h))
 plain_words funcs (Tool x) h e = one_word (decimal x) (plain-decimal x (below_word 18446744073709551615 x (omega arith) h))
-plain_words funcs Work h e = refl
+plain_words funcs s h e = refl
 
 begins_continues : (b : ℕ) → begins_name b ≡ true → continues_name b ≡ true
 begins_continues b h = ap (λ t. t || is_digit b) h

@@ -11,7 +11,7 @@ use Rattle.omi_script.specs.Ranges.{is_in_range}
 use Rattle.omi_script.specs.Reach.{Reach, are_allowed, depth_of, greatest, is_allowed, names_rightly, reach_at, reach_in, reach_of, reaches, reaches_barrier}
 use Rattle.omi_script.specs.declared.function.Func.{Func}
 use Rattle.omi_script.specs.declared.statement.Stmt.{Stmt}
-use Rattle.omi_script.specs.declared.statement.Stmt.TheVariants.{Parallel, Task, Taskwait, Taskyield, Barrier, Critical, Call, Only, Repeat, SetNumThreads, SetDynamic, SetMaxActive, SetSchedule, SetDevice, Tool, Work}
+use Rattle.omi_script.specs.declared.statement.Stmt.TheVariants.{Parallel, Task, Critical, Call, Only, Repeat}
 use Rattle.omi_script.proofs.Conjunctions.{and_left, and_right}
 use Rattle.omi_script.proofs.NamingLemmas.{IsBelow, named_above}
 use Rattle.omi_script.proofs.StateLemmas.{length-reaches}
@@ -67,40 +67,20 @@ abbrev SameFor : List Reach → List Reach → Option ℕ → Type 0
 SameFor xs ys o = (g : ℕ) → o ≡ Some g → reach_at xs g ≡ reach_at ys g
 
 same_barrier : (xs ys : List Reach) (s : Stmt) → SameFor xs ys (named_by s) → reaches_barrier xs s ≡ reaches_barrier ys s
-same_barrier xs ys (Parallel f num) h = refl
-same_barrier xs ys (Task f undeferred is_final) h = refl
-same_barrier xs ys Taskwait h = refl
-same_barrier xs ys Taskyield h = refl
-same_barrier xs ys Barrier h = refl
 same_barrier xs ys (Critical k f) h = ap (λ (r : Reach). r.barrier) (h f refl)
 same_barrier xs ys (Call f) h = ap (λ (r : Reach). r.barrier) (h f refl)
 same_barrier xs ys (Only m f) h = ap (λ (r : Reach). r.barrier) (h f refl)
 same_barrier xs ys (Repeat n f) h = ap (λ (r : Reach). r.barrier) (h f refl)
-same_barrier xs ys (SetNumThreads n) h = refl
-same_barrier xs ys (SetDynamic b) h = refl
-same_barrier xs ys (SetMaxActive n) h = refl
-same_barrier xs ys (SetSchedule s) h = refl
-same_barrier xs ys (SetDevice n) h = refl
-same_barrier xs ys (Tool x) h = refl
-same_barrier xs ys Work h = refl
+same_barrier xs ys s h = refl
 
 same_depth : (xs ys : List Reach) (s : Stmt) → SameFor xs ys (named_by s) → depth_of xs s ≡ depth_of ys s
 same_depth xs ys (Parallel f num) h = ap (λ (r : Reach). r.depth + 1) (h f refl)
 same_depth xs ys (Task f undeferred is_final) h = ap (λ (r : Reach). r.depth) (h f refl)
-same_depth xs ys Taskwait h = refl
-same_depth xs ys Taskyield h = refl
-same_depth xs ys Barrier h = refl
 same_depth xs ys (Critical k f) h = ap (λ (r : Reach). r.depth) (h f refl)
 same_depth xs ys (Call f) h = ap (λ (r : Reach). r.depth) (h f refl)
 same_depth xs ys (Only m f) h = ap (λ (r : Reach). r.depth) (h f refl)
 same_depth xs ys (Repeat n f) h = ap (λ (r : Reach). r.depth) (h f refl)
-same_depth xs ys (SetNumThreads n) h = refl
-same_depth xs ys (SetDynamic b) h = refl
-same_depth xs ys (SetMaxActive n) h = refl
-same_depth xs ys (SetSchedule s) h = refl
-same_depth xs ys (SetDevice n) h = refl
-same_depth xs ys (Tool x) h = refl
-same_depth xs ys Work h = refl
+same_depth xs ys s h = refl
 
 -- what a list of statements reaches, where each function above reaches the same
 same_body : (xs ys : List Reach) (body : List Stmt) → ((g : ℕ) → g < length xs → reach_at xs g ≡ reach_at ys g) → list_all (is_allowed xs) body ≡ true

@@ -9,7 +9,7 @@ use Rattle.omi_script.specs.LineFaults.{is_task_with_barrier, is_too_deep, nests
 use Rattle.omi_script.specs.Reach.{Reach, is_above, names_rightly, reach_at}
 use Rattle.omi_script.specs.declared.limits.TheConstants.{MAX_DEPTH, MAX_NAME}
 use Rattle.omi_script.specs.declared.statement.Stmt.{Stmt}
-use Rattle.omi_script.specs.declared.statement.Stmt.TheVariants.{Parallel, Task, Taskwait, Taskyield, Barrier, Critical, Call, Only, Repeat, SetNumThreads, SetDynamic, SetMaxActive, SetSchedule, SetDevice, Tool, Work}
+use Rattle.omi_script.specs.declared.statement.Stmt.TheVariants.{Parallel, Task, Critical, Call, Only, Repeat}
 use Rattle.omi_script.proofs.Conjunctions.{and_left, and_right, and_true, not_so}
 
 -- a place that is found is one of the list
@@ -43,16 +43,7 @@ rightly_named above (Critical k f) l a b c = and_true (is_above above f) (not (r
 rightly_named above (Only m f) l a b c = and_true (is_above above f) (not (reach_at above f).barrier) (lt-ltb f (length above) l) (ap not b)
 rightly_named above (Call f) l a b c = lt-ltb f (length above) l
 rightly_named above (Repeat n f) l a b c = lt-ltb f (length above) l
-rightly_named above Taskwait l a b c = refl
-rightly_named above Taskyield l a b c = refl
-rightly_named above Barrier l a b c = refl
-rightly_named above (SetNumThreads n) l a b c = refl
-rightly_named above (SetDynamic x) l a b c = refl
-rightly_named above (SetMaxActive n) l a b c = refl
-rightly_named above (SetSchedule x) l a b c = refl
-rightly_named above (SetDevice n) l a b c = refl
-rightly_named above (Tool x) l a b c = refl
-rightly_named above Work l a b c = refl
+rightly_named above s l a b c = refl
 
 -- a statement names a function above
 pub named_above : (above : List Reach) (s : Stmt) → names_rightly above s ≡ true → IsBelow (length above) (named_by s)

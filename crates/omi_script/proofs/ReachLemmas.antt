@@ -6,7 +6,7 @@ use Rattle.std.proofs.Math.Seq.{get_or-append_seam}
 use Rattle.omi_script.specs.Reach.{Reach, depth_of, greatest, reach_at, reach_of, reaches}
 use Rattle.omi_script.specs.declared.function.Func.{Func}
 use Rattle.omi_script.specs.declared.statement.Stmt.{Stmt}
-use Rattle.omi_script.specs.declared.statement.Stmt.TheVariants.{Parallel, Task, Taskwait, Taskyield, Barrier, Critical, Call, Only, Repeat, SetNumThreads, SetDynamic, SetMaxActive, SetSchedule, SetDevice, Tool, Work}
+use Rattle.omi_script.specs.declared.statement.Stmt.TheVariants.{Parallel, Task, Critical, Call, Only, Repeat}
 use Rattle.omi_script.proofs.StateLemmas.{reaches_more}
 
 greatest_append : (ns : List ℕ) (n : ℕ) → greatest (ns ++ n ∷ []) ≡ max (greatest ns) n
@@ -28,16 +28,7 @@ depth_within above (Critical k f) h = omega (arith, h f)
 depth_within above (Call f) h = omega (arith, h f)
 depth_within above (Only m f) h = omega (arith, h f)
 depth_within above (Repeat n f) h = omega (arith, h f)
-depth_within above Taskwait h = omega arith
-depth_within above Taskyield h = omega arith
-depth_within above Barrier h = omega arith
-depth_within above (SetNumThreads n) h = omega arith
-depth_within above (SetDynamic b) h = omega arith
-depth_within above (SetMaxActive n) h = omega arith
-depth_within above (SetSchedule s) h = omega arith
-depth_within above (SetDevice n) h = omega arith
-depth_within above (Tool x) h = omega arith
-depth_within above Work h = omega arith
+depth_within above s h = omega arith
 
 greatest_within : (above : List Reach) (body : List Stmt) → AreShallow above → greatest (map (depth_of above) body) ≤ length above + 1
 greatest_within above [] h = omega arith

@@ -22,7 +22,7 @@ use Rattle.omi_script.specs.declared.name.Name.{Name}
 use Rattle.omi_script.specs.declared.program.Program.{Program}
 use Rattle.omi_script.specs.declared.statement.Sched.{Sched}
 use Rattle.omi_script.specs.declared.statement.Stmt.{Stmt}
-use Rattle.omi_script.specs.declared.statement.Stmt.TheVariants.{Parallel, Task, Taskwait, Taskyield, Barrier, Critical, Call, Only, Repeat, SetNumThreads, SetDynamic, SetMaxActive, SetSchedule, SetDevice, Tool, Work}
+use Rattle.omi_script.specs.declared.statement.Stmt.TheVariants.{Parallel, Task, Critical, Only, Repeat, SetNumThreads, SetMaxActive, SetSchedule, SetDevice, Tool}
 use Rattle.omi_script.proofs.Conjunctions.{and_left, and_right, not_so}
 use Rattle.omi_script.proofs.RangeLemmas.{EnvTests, env_tests}
 use Rattle.omi_script.proofs.NamingLemmas.{IsBelow, named_above}
@@ -80,23 +80,16 @@ IsSchedule-from_test s h =
     (kind.0, kind.1, leb-true s.chunk MAX_CHUNK (and_right (is_within 1 4 s.kind) (nat_le s.chunk MAX_CHUNK) h))
 
 IsInRange-from_test : (s : Stmt) → is_in_range s ≡ true → IsInRange s
-IsInRange-from_test (Parallel f None) h = tt
 IsInRange-from_test (Parallel f (Some n)) h = within 1 MAX_SIZE n h
-IsInRange-from_test (Task f undeferred is_final) h = tt
-IsInRange-from_test Taskwait h = tt
-IsInRange-from_test Taskyield h = tt
-IsInRange-from_test Barrier h = tt
 IsInRange-from_test (Critical k f) h = leb-true k MAX_LOCK h
-IsInRange-from_test (Call f) h = tt
 IsInRange-from_test (Only m f) h = leb-true m MAX_MEMBER h
 IsInRange-from_test (Repeat n f) h = leb-true n MAX_REPEATS h
 IsInRange-from_test (SetNumThreads n) h = within 1 MAX_SIZE n h
-IsInRange-from_test (SetDynamic b) h = tt
 IsInRange-from_test (SetMaxActive n) h = leb-true n MAX_LEVELS h
 IsInRange-from_test (SetSchedule s) h = IsSchedule-from_test s h
 IsInRange-from_test (SetDevice n) h = leb-true n MAX_DEVICE h
 IsInRange-from_test (Tool x) h = leb-true x 18446744073709551615 h
-IsInRange-from_test Work h = tt
+IsInRange-from_test s h = tt
 
 some_byte : (n : ℕ) (bytes : List ℕ) → is_name_text (take n bytes) ≡ true → 1 ≤ n
 some_byte zero bytes h = absurd (cc)

@@ -4,10 +4,10 @@ use omi_model::{
     HeadRow, Id, MemberRow, MemberRows, RegionRow, RegionRows, Rid, TaskRow, TaskRows, ThreadPart,
     ThreadRow, ThreadRows, Tid, View,
 };
+use omi_numbers::{kind_name, state_name};
 use omi_script::NumList;
 use omi_test_rows::FORKED;
 use omi_text::report_text;
-use omi_numbers::{kind_name, state_name};
 use std::alloc::{AllocError, Global};
 use std::process::Abort;
 use std::test::*;

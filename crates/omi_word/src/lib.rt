@@ -9,7 +9,9 @@ mod symbol_table;
 mod word_memory;
 
 pub use image::Image;
-pub use limits::{COUNT_PLACE, FIRST_ADDRESS, FIRST_PLACE, MOST_SYMBOLS, MOST_WORDS, SYMBOL_BYTES, MEMORY_END};
+pub use limits::{
+    COUNT_PLACE, FIRST_ADDRESS, FIRST_PLACE, MEMORY_END, MOST_SYMBOLS, MOST_WORDS, SYMBOL_BYTES,
+};
 pub use natives::Natives;
 pub use omi_list::OutOfMemory;
 pub use op::{Op, Res};

@@ -1,5 +1,5 @@
 -- In each list the asks of a fork stand between its want and the fork itself.
-use Rattle.std.proofs.Common.{◌≡◌, ◌==◌, ℕ, zero, suc, ◌||◌, Bool, true, false, List, [], ◌∷◌, Some, None, if◌then◌else◌, refl, sym, ap, ◌∙◌, subst}
+use Rattle.std.proofs.Common.{◌≡◌, ◌==◌, ℕ, zero, suc, Bool, true, false, List, [], ◌∷◌, Some, None, if◌then◌else◌, refl, sym, ap, ◌∙◌, subst}
 use Rattle.omi_script.specs.Bodies.{body_of}
 use Rattle.omi_script.specs.declared.program.Program.{Program}
 use Rattle.omi_script.specs.declared.statement.Stmt.{Stmt}
@@ -12,9 +12,11 @@ use Rattle.omi_model.specs.declared.item.Item.TheVariants as item
 use Rattle.omi_model.specs.LawClaims.{asks_next}
 use Rattle.omi_model.specs.Lists.{fits, may_drop, opened, stays, take_item}
 use Rattle.omi_numbers.specs.declared.states.TheConstants.{WAIT_TASKWAIT}
-use Rattle.omi_model.specs.Rows.{barrier_items, behind, body_items, call_items, end_of_member, first_of, last_of_member, main_items, member_items, task_items, shown, working}
+use Rattle.omi_model.specs.Rows.{first_of, main_items, member_items, task_items}
+use Rattle.omi_model.specs.Shapes.{shape_of}
 use Rattle.omi_model.proofs.EachObject.{start_list}
 use Rattle.omi_model.proofs.ListLaws.{take_keeps}
+use Rattle.omi_model.proofs.RowLaws.{KeepsPlain, KeepsRows, barrier_keeps, critical_keeps, last_keeps, main_keeps, member_keeps, row_keeps, shown_keeps, start_keeps, task_keeps}
 use Rattle.omi_model.proofs.Slots.{false_true, none_some, some_same}
 
 abbrev pub fork_next : List Item → Bool
@@ -38,89 +40,38 @@ Placed (x ∷ xs) = Follows x xs × Placed xs
 abbrev pub Plainly : List Item → Type 0
 Plainly xs = IsPlain xs × Placed xs
 
-shown_plain : (at : Encounter) (state wait : ℕ) (xs : List Item) → Plainly xs → Plainly (shown at state wait xs)
-shown_plain at state wait xs h = go at.debug
-  where
-    go : (d : Bool) → Plainly (if d then item.State state wait ∷ xs else xs)
-    go true = ((refl, refl), h)
-    go false = h
-
-working_plain : (at : Encounter) (xs : List Item) → Plainly xs → Plainly (working at xs)
-working_plain at xs h = shown_plain at _ 0 xs h
-
-body_plain : (ss : List Stmt) (rest : List Item) → Plainly rest → Plainly (body_items ss rest)
-body_plain [] rest h = h
-body_plain (s ∷ ss) rest h = ((refl, refl), body_plain ss rest h)
-
-barrier_plain : (at : Encounter) (state : ℕ) (rest : List Item) → Plainly rest → Plainly (barrier_items at state rest)
-barrier_plain at state rest h = shown_plain at state 0 (item.Arrive ∷ item.Tasks state ∷ (if at.number == 0 then item.Release ∷ item.Pass ∷ rest else item.Pass ∷ rest)) (go (at.number == 0))
-  where
-    go : (d : Bool) → Plainly (item.Arrive ∷ item.Tasks state ∷ (if d then item.Release ∷ item.Pass ∷ rest else item.Pass ∷ rest))
-    go true = ((refl, refl), ((refl, refl), ((refl, refl), ((refl, refl), h))))
-    go false = ((refl, refl), ((refl, refl), ((refl, refl), h)))
+plain_asks : KeepsPlain Plainly
+plain_asks (item.Want num) xs plain h = absurd (false_true plain)
+plain_asks item.Asks xs plain h = absurd (false_true plain)
+plain_asks (item.Fork f) xs plain h = absurd (false_true plain)
+plain_asks x xs plain h = ((refl, refl), h)
 
 module _ (p : Program) where
-  call_plain : (f : ℕ) (rest : List Item) → Plainly rest → Plainly (call_items p f rest)
-  call_plain f rest h = body_plain (body_of p.funcs f) (item.Ret ∷ rest) ((refl, refl), h)
-
-  leave_plain : (at : Encounter) (rest : List Item) → Plainly rest → Plainly (working at (item.Leave ∷ rest))
-  leave_plain at rest h = working_plain at (item.Leave ∷ rest) ((refl, refl), h)
-
-  -- the rows
-  row_placed : (at : Encounter) (s : Stmt) (rest : List Item) → Placed (item.Do s ∷ rest) → Placed (first_of at s ∷ behind p at s rest)
-  row_placed at (stmt.Parallel f num) rest h = shown_plain at _ 0 (item.Want num ∷ item.Asks ∷ item.Fork f ∷ working at (item.Leave ∷ rest)) ((refl, refl), (refl, (refl, leave_plain at rest h)))
-  row_placed at (stmt.Task f undeferred final) rest h = go (undeferred || at.is_final)
-    where
-      go : (c : Bool) → Plainly ((if c then item.StartNow f (final || at.is_final) else item.Defer 0 f (final || at.is_final)) ∷ item.Leave ∷ rest)
-      go true = ((refl, refl), ((refl, refl), h))
-      go false = ((refl, refl), ((refl, refl), h))
-  row_placed at stmt.Taskwait rest h = shown_plain at _ 0 (item.Tasks WAIT_TASKWAIT ∷ item.WaitDone ∷ working at (item.Leave ∷ rest)) ((refl, refl), ((refl, refl), leave_plain at rest h))
-  row_placed at stmt.Taskyield rest h = ((refl, refl), ((refl, refl), ((refl, refl), h)))
-  row_placed at stmt.Barrier rest h = barrier_plain at _ (working at (item.Leave ∷ rest)) (leave_plain at rest h)
-  row_placed at (stmt.Critical k f) rest h =
-      shown_plain at _ _ (item.Lock k ∷ working at (item.Leave ∷ item.Call f ∷ call_items p f (item.Unlock k ∷ rest)))
-      ((refl, refl), working_plain at (item.Leave ∷ item.Call f ∷ call_items p f (item.Unlock k ∷ rest)) ((refl, refl), ((refl, refl), call_plain f (item.Unlock k ∷ rest) ((refl, refl), h))))
-  row_placed at (stmt.Call f) rest h = call_plain f rest h
-  row_placed at (stmt.Only m f) rest h = go (at.number == m)
-    where
-      go : (c : Bool) → Placed ((if c then item.Call f else item.Skip) ∷ (if c then call_items p f rest else rest))
-      go true = call_plain f rest h
-      go false = h
-  row_placed at (stmt.Repeat zero f) rest h = h
-  row_placed at (stmt.Repeat (suc n) f) rest h = call_plain f (item.Do (stmt.Repeat n f) ∷ rest) ((refl, refl), h)
-  row_placed at (stmt.SetNumThreads n) rest h = h
-  row_placed at (stmt.SetDynamic x) rest h = h
-  row_placed at (stmt.SetMaxActive n) rest h = h
-  row_placed at (stmt.SetSchedule s) rest h = h
-  row_placed at (stmt.SetDevice d) rest h = h
-  row_placed at (stmt.Tool x) rest h = h
-  row_placed at stmt.Work rest h = h
+  asks : (at : Encounter) → KeepsRows p at Plainly
+  asks at = record {
+    plain = plain_asks;
+    fork = λ num f xs h. ((refl, refl), (refl, (refl, h)));
+    taskwait = λ xs h. ((refl, refl), h);
+    barrier = λ state xs other h. ((refl, refl), ((refl, refl), ((refl, refl), h)));
+    first_barrier = λ state xs first h. ((refl, refl), ((refl, refl), ((refl, refl), ((refl, refl), h))));
+    critical = λ k f xs h. ((refl, refl), critical_keeps Plainly plain_asks p at f (item.Unlock k ∷ xs) ((refl, refl), h));
+  }
 
   pub take_placed : (at : Encounter) (e : Event) (xs : List Item) (y : Item) (ys : List Item) → take_item p at e xs ≡ Some (y, ys) → Placed xs → Placed (y ∷ ys)
-  take_placed at = take_keeps p at Placed (λ x xs may h. h.1) (row_placed at)
+  take_placed at = take_keeps p at Placed (λ x xs may h. h.1) (λ s xs h. (row_keeps p at Plainly (asks at) (shape_of s) xs h).1)
 
   pub task_plain : (f : ℕ) → Plainly (task_items p f)
-  task_plain f = body_plain (body_of p.funcs f) (item.Finish ∷ []) ((refl, refl), ((refl, refl), tt))
-
-  end_plain : (at : Encounter) (x : Item) → Plainly (x ∷ []) → Plainly (end_of_member at (x ∷ []))
-  end_plain at x h = barrier_plain at _ (x ∷ []) h
-
-  last_plain : (n : ℕ) → Plainly (last_of_member n ∷ [])
-  last_plain n = go (n == 0)
-    where
-      go : (c : Bool) → Plainly ((if c then item.Join else item.ImplicitEnd) ∷ [])
-      go true = ((refl, refl), ((refl, refl), tt))
-      go false = ((refl, refl), ((refl, refl), tt))
+  task_plain f = task_keeps Plainly plain_asks p f ((refl, refl), ((refl, refl), tt))
 
   pub member_plain : (at : Encounter) (f : ℕ) → Plainly (member_items p at f)
-  member_plain at f = working_plain at _ (body_plain (body_of p.funcs f) (end_of_member at (last_of_member at.number ∷ [])) (end_plain at (last_of_member at.number) (last_plain at.number)))
+  member_plain at f =
+      member_keeps Plainly plain_asks p at f (barrier_keeps p at Plainly (asks at) _ _ (last_keeps Plainly ((refl, refl), ((refl, refl), tt)) ((refl, refl), ((refl, refl), tt)) at.number))
 
   pub main_plain : (at : Encounter) → Plainly (main_items at (body_of p.funcs p.main))
-  main_plain at = body_plain (body_of p.funcs p.main) (end_of_member at (item.Done ∷ [])) (end_plain at item.Done ((refl, refl), ((refl, refl), tt)))
+  main_plain at = main_keeps Plainly plain_asks p at (barrier_keeps p at Plainly (asks at) _ (item.Done ∷ []) ((refl, refl), ((refl, refl), tt)))
 
-pub start_plain : (x : Item) (at : Encounter) (zs : List Item) → Plainly zs → Plainly (start_list x at zs)
-start_plain (item.Tasks state) at zs h = working_plain at zs h
-start_plain x at zs h = h
+pub start_plain : (x : Item) (at : Encounter) (xs : List Item) → Plainly xs → Plainly (start_list x at xs)
+start_plain x at xs h = start_keeps Plainly plain_asks x at xs h
 
 -- ---- what an event leaves
 
@@ -135,8 +86,8 @@ StartsPlaced xs = Placed xs × (fork_next xs ≡ false)
 
 pub stays_placed : (at : Encounter) (e : Event) (y : Item) (ys : List Item) → Placed (y ∷ ys) → StartsPlaced (stays at e y ys)
 stays_placed at e item.Asks ys h = (h, refl)
-stays_placed at e item.Serve ys h = let q = shown_plain at _ 0 (item.Offer ∷ item.Serve ∷ ys) ((refl, refl), ((refl, refl), h)) in (q.1, q.0.1)
-stays_placed at e (item.Tasks state) ys h = let q = shown_plain at state 0 (item.Tasks state ∷ ys) ((refl, refl), h) in (q.1, q.0.1)
+stays_placed at e item.Serve ys h = let q = shown_keeps Plainly plain_asks at _ 0 (item.Offer ∷ item.Serve ∷ ys) ((refl, refl), ((refl, refl), h)) in (q.1, q.0.1)
+stays_placed at e (item.Tasks state) ys h = let q = shown_keeps Plainly plain_asks at state 0 (item.Tasks state ∷ ys) ((refl, refl), h) in (q.1, q.0.1)
 stays_placed at e (item.Want num) ys h = (h.1, asks_no_fork ys h.0)
 stays_placed at (event.Seen j) (item.Defer seen f final) ys h = (h, refl)
 stays_placed at e y ys h = (h.1, h.0.1)
@@ -150,8 +101,8 @@ is_asking x = false
 pub stays_asking : (at : Encounter) (e : Event) (y : Item) (ys : List Item) → Placed (y ∷ ys) → asks_next (stays at e y ys) ≡ true → is_asking y ≡ true
 stays_asking at e item.Asks ys h is = refl
 stays_asking at e (item.Want num) ys h is = refl
-stays_asking at e item.Serve ys h is = let q = shown_plain at _ 0 (item.Offer ∷ item.Serve ∷ ys) ((refl, refl), ((refl, refl), h)) in absurd (false_true (sym q.0.0 ∙ is))
-stays_asking at e (item.Tasks state) ys h is = let q = shown_plain at state 0 (item.Tasks state ∷ ys) ((refl, refl), h) in absurd (false_true (sym q.0.0 ∙ is))
+stays_asking at e item.Serve ys h is = let q = shown_keeps Plainly plain_asks at _ 0 (item.Offer ∷ item.Serve ∷ ys) ((refl, refl), ((refl, refl), h)) in absurd (false_true (sym q.0.0 ∙ is))
+stays_asking at e (item.Tasks state) ys h is = let q = shown_keeps Plainly plain_asks at state 0 (item.Tasks state ∷ ys) ((refl, refl), h) in absurd (false_true (sym q.0.0 ∙ is))
 stays_asking at (event.Seen j) (item.Defer seen f final) ys h is = absurd (false_true is)
 stays_asking at e y ys h is = absurd (false_true (sym h.0.0 ∙ is))
 

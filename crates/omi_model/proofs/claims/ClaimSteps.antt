@@ -26,7 +26,7 @@ use Rattle.omi_model.proofs.claims.AsksCurrent.{new_name}
 use Rattle.omi_model.proofs.claims.AsksPlaced.{is_asking, is_forking}
 use Rattle.omi_model.proofs.ChainsKept.{current_begun}
 use Rattle.omi_model.proofs.EachObject.{EachTask, IsTaskLaw, members_found, task_step, task_step_from}
-use Rattle.omi_model.proofs.EachThread.{EachThread, IsThreadLaw, thread_step}
+use Rattle.omi_model.proofs.EachThread.{EachThread, IsThreadLaw, of_lists, thread_step}
 use Rattle.omi_model.proofs.ListLaws.{take_fits}
 use Rattle.omi_model.proofs.Slots.{false_true, put_other, put_same, some_same}
 use Rattle.omi_model.proofs.StaysKept.{new_team, stays_step}
@@ -203,24 +203,8 @@ module _ (p : Program) (s : State) (i : ℕ) (e : Event) (next : State) (step : 
 
   -- other threads keep their lists
   pub list_kept : EachThread (λ j h. j ≢ i → h.list ≡ (s.threads j).list) next
-  list_kept = thread_step p (λ j h. j ≢ i → h.list ≡ (s.threads j).list) s i e next step (λ y ys none taken q ne. absurd (ne refl)) law (λ j ne. refl)
-    where
-      law : (u : State) → IsRelisted s u → Stays u next → EachThread (λ j h. j ≢ i → h.list ≡ (s.threads j).list) u → IsThreadLaw p u i e next (λ j h. j ≢ i → h.list ≡ (s.threads j).list)
-      law u relists later all = record {
-        begins = λ may q. q;
-        offers = λ may of q. q;
-        wants = λ n num may of q. q;
-        asks = λ w got may of q. q;
-        claims = λ w may of q. q;
-        shows = λ state wait of q. q;
-        forks = λ region team f k t r is found may new q. q;
-        joins_team = λ task may of q. q;
-        ends = λ k t r is found im other over q. q;
-        joins = λ k t r is found may of q. q;
-        makes = λ task f final k t is new q. q;
-        starts = λ task x k t is may new q. q;
-        finishes = λ k t is ex over q. q;
-      }
+  list_kept = thread_step p (λ j h. j ≢ i → h.list ≡ (s.threads j).list) s i e next step (λ y ys none taken q ne. absurd (ne refl))
+      (λ u relists later all. of_lists p u i e next (λ j xs. j ≢ i → xs ≡ (s.threads j).list)) (λ j ne. refl)
 
   -- a thread that has a task had one, or begins a task that was made for it
   abbrev HadTask : ℕ → Thread → Type 0

@@ -20,7 +20,8 @@ use Rattle.omi_model.specs.Reached.{Reached, Step}
 use Rattle.omi_model.specs.State.{State, region_of}
 use Rattle.omi_model.specs.Teams.{master_of}
 use Rattle.omi_model.proofs.ChainsKept.{current_begun}
-use Rattle.omi_model.proofs.members.ClosingItems.{Closes, closing_of, last_items, take_closes}
+use Rattle.omi_model.proofs.members.ClosingItems.{IsIt, closing_of, last_items}
+use Rattle.omi_model.proofs.LastItems.{Closes, take_closes}
 use Rattle.omi_model.proofs.EachObject.{EachTask, IsTaskLaw, list_of_current, task_step}
 use Rattle.omi_model.proofs.EachThread.{EachThread, IsThreadLaw, thread_step}
 use Rattle.omi_model.proofs.ListLaws.{take_fits}
@@ -102,8 +103,8 @@ module _ (p : Program) (events : List (ℕ × Event)) (s : State) (reached : Rea
       go None none =
           let generating : t.generating ≡ None = ((members_known p events s reached).encountered k t is.live).generating im r found ∙ none in
           let z : closing_of t.implicit t.generating t.number ≡ item.Done = ap (λ b. closing_of b t.generating t.number) im ∙ ap (λ o. closing_of true o t.number) generating in
-          let closes : Closes item.Done (m.item ∷ m.behind) = subst (λ x. Closes x (m.item ∷ m.behind)) z (take_closes (closing_of t.implicit t.generating t.number) p (encounter s i) e t.list m.item m.behind taken (last_items p events s reached k t is.live).closes) in
-          absurd (done_join (subst (λ x. Closes item.Done (x ∷ m.behind)) joins closes).0)
+          let closes : Closes (IsIt item.Done) (m.item ∷ m.behind) = subst (λ x. Closes (IsIt x) (m.item ∷ m.behind)) z (take_closes (IsIt (closing_of t.implicit t.generating t.number)) p (encounter s i) e t.list m.item m.behind taken (last_items p events s reached k t is.live).closes) in
+          absurd (done_join (subst (λ x. Closes (IsIt item.Done) (x ∷ m.behind)) joins closes).0)
 
   pub first_step : EachTask RunsElsewhere s → EachThread HasTask s → EachThread HasTask next
   first_step elsewhere all = thread_step p HasTask s i e next step (λ y ys none taken q. q) law all

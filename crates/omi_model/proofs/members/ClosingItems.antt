@@ -1,9 +1,6 @@
 -- The item that closes a task's list is the last one: the finish of an explicit task, the join of member 0, the end of another member, and the end of the program in the initial task. A task that is finished has an empty list.
-use Rattle.std.proofs.Common.{◌≡◌, ◌==◌, ◌⊎◌, inl, inr, ℕ, zero, suc, ◌+◌, ◌||◌, Bool, true, false, List, [], ◌∷◌, Option, Some, None, if◌then◌else◌, refl, sym, ap, ◌∙◌, subst}
-use Rattle.omi_script.specs.Bodies.{body_of}
+use Rattle.std.proofs.Common.{◌≡◌, ◌==◌, ◌⊎◌, inl, inr, ℕ, ◌+◌, Bool, true, false, List, [], ◌∷◌, Option, Some, None, if◌then◌else◌, refl, sym, ap, ◌∙◌, subst}
 use Rattle.omi_script.specs.declared.program.Program.{Program}
-use Rattle.omi_script.specs.declared.statement.Stmt.{Stmt}
-use Rattle.omi_script.specs.declared.statement.Stmt.TheVariants as stmt
 use Rattle.omi_model.specs.declared.encounter.Encounter.{Encounter}
 use Rattle.omi_model.specs.declared.event.Event.{Event}
 use Rattle.omi_model.specs.declared.event.Event.TheVariants as event
@@ -14,136 +11,37 @@ use Rattle.omi_model.specs.declared.progress.Progress.TheVariants.{Begun, Deferr
 use Rattle.omi_model.specs.declared.task.Task.{Task}
 use Rattle.omi_model.specs.Changes.{IsCurrent, encounter, list_of}
 use Rattle.omi_model.specs.LawLists.{IsListRight}
-use Rattle.omi_model.specs.Lists.{fits, may_drop, stays, take_item}
+use Rattle.omi_model.specs.Lists.{fits, stays, take_item}
 use Rattle.omi_numbers.specs.declared.states.TheConstants.{WAIT_TASKWAIT}
 use Rattle.omi_model.specs.Opening.{opening}
 use Rattle.omi_model.specs.Reached.{Reached, Step}
-use Rattle.omi_model.specs.Rows.{barrier_items, behind, body_items, call_items, first_of, last_of_member, main_items, member_items, task_items, shown, working}
+use Rattle.omi_model.specs.Rows.{last_of_member}
 use Rattle.omi_model.specs.State.{State, task_of}
 use Rattle.omi_model.specs.Tasking.{MayStartAt, deferred_task, scheduled}
 use Rattle.omi_model.specs.Teams.{member_task}
 use Rattle.omi_model.proofs.ChainsKept.{current_begun}
 use Rattle.omi_model.proofs.EachObject.{EachTask, IsTaskLaw, is_end, start_list, task_step_from}
 use Rattle.omi_model.proofs.members.FirstLists.{first_lists}
-use Rattle.omi_model.proofs.ListLaws.{take_fits, take_keeps}
+use Rattle.omi_model.proofs.LastItems.{Closes, main_closes, member_closes, start_closes, stays_closes, take_closes, task_closes}
+use Rattle.omi_model.proofs.ListLaws.{take_fits}
 use Rattle.omi_model.proofs.OpeningObjects.{each_first_task}
 use Rattle.omi_model.proofs.SchedulingChains.{over_reached}
 use Rattle.omi_model.proofs.Slots.{false_true}
 use Rattle.omi_model.proofs.Steps.{IsMove, IsRelisted, is_relisted, move_of, moved_on}
 
--- nothing stands behind a closing item, and it is this one
-abbrev pub Closes : Item → List Item → Type 0
-Closes z [] = Unit {0}
-Closes z (item.ImplicitEnd ∷ xs) = (z ≡ item.ImplicitEnd) × (xs ≡ []) × Closes z xs
-Closes z (item.Join ∷ xs) = (z ≡ item.Join) × (xs ≡ []) × Closes z xs
-Closes z (item.Done ∷ xs) = (z ≡ item.Done) × (xs ≡ []) × Closes z xs
-Closes z (item.Finish ∷ xs) = (z ≡ item.Finish) × (xs ≡ []) × Closes z xs
-Closes z (x ∷ xs) = Closes z xs
+-- it is this one
+abbrev pub IsIt : Item → Item → Type 0
+IsIt z x = z ≡ x
 
-module _ (z : Item) where
-  shown_closes : (at : Encounter) (state wait : ℕ) (xs : List Item) → Closes z xs → Closes z (shown at state wait xs)
-  shown_closes at state wait xs h = go at.debug
-    where
-      go : (d : Bool) → Closes z (if d then item.State state wait ∷ xs else xs)
-      go true = h
-      go false = h
-
-  working_closes : (at : Encounter) (xs : List Item) → Closes z xs → Closes z (working at xs)
-  working_closes at xs h = shown_closes at _ 0 xs h
-
-  body_closes : (ss : List Stmt) (rest : List Item) → Closes z rest → Closes z (body_items ss rest)
-  body_closes [] rest h = h
-  body_closes (s ∷ ss) rest h = body_closes ss rest h
-
-  barrier_closes : (at : Encounter) (state : ℕ) (rest : List Item) → Closes z rest → Closes z (barrier_items at state rest)
-  barrier_closes at state rest h = shown_closes at state 0 _ (go (at.number == 0))
-    where
-      go : (d : Bool) → Closes z (item.Arrive ∷ item.Tasks state ∷ (if d then item.Release ∷ item.Pass ∷ rest else item.Pass ∷ rest))
-      go true = h
-      go false = h
-
-  module _ (p : Program) where
-    call_closes : (f : ℕ) (rest : List Item) → Closes z rest → Closes z (call_items p f rest)
-    call_closes f rest h = body_closes (body_of p.funcs f) (item.Ret ∷ rest) h
-
-    row_closes : (at : Encounter) (s : Stmt) (rest : List Item) → Closes z (item.Do s ∷ rest) → Closes z (first_of at s ∷ behind p at s rest)
-    row_closes at (stmt.Parallel f num) rest h = shown_closes at _ 0 (item.Want num ∷ item.Asks ∷ item.Fork f ∷ working at (item.Leave ∷ rest)) (working_closes at (item.Leave ∷ rest) h)
-    row_closes at (stmt.Task f undeferred final) rest h = go (undeferred || at.is_final)
-      where
-        go : (c : Bool) → Closes z (item.Enter ∷ (if c then item.StartNow f (final || at.is_final) else item.Defer 0 f (final || at.is_final)) ∷ item.Leave ∷ rest)
-        go true = h
-        go false = h
-    row_closes at stmt.Taskwait rest h = shown_closes at _ 0 (item.Tasks WAIT_TASKWAIT ∷ item.WaitDone ∷ working at (item.Leave ∷ rest)) (working_closes at (item.Leave ∷ rest) h)
-    row_closes at stmt.Taskyield rest h = h
-    row_closes at stmt.Barrier rest h = barrier_closes at _ (working at (item.Leave ∷ rest)) (working_closes at (item.Leave ∷ rest) h)
-    row_closes at (stmt.Critical k f) rest h =
-        shown_closes at _ _ (item.Lock k ∷ working at (item.Leave ∷ item.Call f ∷ call_items p f (item.Unlock k ∷ rest)))
-        (working_closes at (item.Leave ∷ item.Call f ∷ call_items p f (item.Unlock k ∷ rest)) (call_closes f (item.Unlock k ∷ rest) h))
-    row_closes at (stmt.Call f) rest h = call_closes f rest h
-    row_closes at (stmt.Only m f) rest h = go (at.number == m)
-      where
-        go : (c : Bool) → Closes z ((if c then item.Call f else item.Skip) ∷ (if c then call_items p f rest else rest))
-        go true = call_closes f rest h
-        go false = h
-    row_closes at (stmt.Repeat zero f) rest h = h
-    row_closes at (stmt.Repeat (suc n) f) rest h = call_closes f (item.Do (stmt.Repeat n f) ∷ rest) h
-    row_closes at (stmt.SetNumThreads n) rest h = h
-    row_closes at (stmt.SetDynamic x) rest h = h
-    row_closes at (stmt.SetMaxActive n) rest h = h
-    row_closes at (stmt.SetSchedule s) rest h = h
-    row_closes at (stmt.SetDevice d) rest h = h
-    row_closes at (stmt.Tool x) rest h = h
-    row_closes at stmt.Work rest h = h
-
-    drop_closes : (x : Item) (xs : List Item) → may_drop x ≡ true → Closes z (x ∷ xs) → Closes z xs
-    drop_closes item.Asks xs may h = h
-    drop_closes (item.Tasks state) xs may h = h
-    drop_closes item.OneTask xs may h = h
-    drop_closes x xs may h = absurd (false_true may)
-
-    pub take_closes : (at : Encounter) (e : Event) (xs : List Item) (y : Item) (ys : List Item) → take_item p at e xs ≡ Some (y, ys) → Closes z xs → Closes z (y ∷ ys)
-    take_closes at = take_keeps p at (Closes z) drop_closes (row_closes at)
-
-    task_closes : z ≡ item.Finish → (f : ℕ) → Closes z (task_items p f)
-    task_closes is f = body_closes (body_of p.funcs f) (item.Finish ∷ []) (is, refl, tt)
-
-    last_closes : (n : ℕ) → z ≡ last_of_member n → Closes z (last_of_member n ∷ [])
-    last_closes n = go (n == 0)
-      where
-        go : (c : Bool) → z ≡ (if c then item.Join else item.ImplicitEnd) → Closes z ((if c then item.Join else item.ImplicitEnd) ∷ [])
-        go true is = (is, refl, tt)
-        go false is = (is, refl, tt)
-
-    member_closes : (at : Encounter) (f : ℕ) → z ≡ last_of_member at.number → Closes z (member_items p at f)
-    member_closes at f is = working_closes at _ (body_closes (body_of p.funcs f) _ (barrier_closes at _ (last_of_member at.number ∷ []) (last_closes at.number is)))
-
-    main_closes : z ≡ item.Done → (at : Encounter) → Closes z (main_items at (body_of p.funcs p.main))
-    main_closes is at = body_closes (body_of p.funcs p.main) _ (barrier_closes at _ (item.Done ∷ []) (is, refl, tt))
-
-  stays_closes : (at : Encounter) (e : Event) (y : Item) (ys : List Item) → Closes z (y ∷ ys) → Closes z (stays at e y ys)
-  stays_closes at e item.Asks ys h = h
-  stays_closes at e item.Serve ys h = shown_closes at _ 0 (item.Offer ∷ item.Serve ∷ ys) h
-  stays_closes at e (item.Tasks state) ys h = shown_closes at state 0 (item.Tasks state ∷ ys) h
-  stays_closes at (event.Seen j) (item.Defer seen f final) ys h = h
-  stays_closes at e item.ImplicitEnd ys h = h.2
-  stays_closes at e item.Join ys h = h.2
-  stays_closes at e item.Done ys h = h.2
-  stays_closes at e item.Finish ys h = h.2
-  stays_closes at e y ys h = h
-
-  start_closes : (x : Item) (at : Encounter) (zs : List Item) → Closes z zs → Closes z (start_list x at zs)
-  start_closes (item.Tasks state) at zs h = working_closes at zs h
-  start_closes x at zs h = h
-
-  -- an event that ends its task takes the last item
-  end_takes_last : (at : Encounter) (e : Event) (y : Item) (ys : List Item) → is_end e ≡ true → fits e y ≡ true → Closes z (y ∷ ys) → stays at e y ys ≡ []
-  end_takes_last at (event.ImplicitEnd task) item.ImplicitEnd ys over fit h = h.1
-  end_takes_last at (event.Join region) item.Join ys over fit h = h.1
-  end_takes_last at (event.Finish task) item.Finish ys over fit h = h.1
-  end_takes_last at (event.ImplicitEnd task) y ys over fit h = absurd (false_true fit)
-  end_takes_last at (event.Join region) y ys over fit h = absurd (false_true fit)
-  end_takes_last at (event.Finish task) y ys over fit h = absurd (false_true fit)
-  end_takes_last at e y ys over fit h = absurd (false_true over)
+-- an event that ends its task takes the last item
+end_takes_last : (z : Item) (at : Encounter) (e : Event) (y : Item) (ys : List Item) → is_end e ≡ true → fits e y ≡ true → Closes (IsIt z) (y ∷ ys) → stays at e y ys ≡ []
+end_takes_last z at (event.ImplicitEnd task) item.ImplicitEnd ys over fit h = h.1
+end_takes_last z at (event.Join region) item.Join ys over fit h = h.1
+end_takes_last z at (event.Finish task) item.Finish ys over fit h = h.1
+end_takes_last z at (event.ImplicitEnd task) y ys over fit h = absurd (false_true fit)
+end_takes_last z at (event.Join region) y ys over fit h = absurd (false_true fit)
+end_takes_last z at (event.Finish task) y ys over fit h = absurd (false_true fit)
+end_takes_last z at e y ys over fit h = absurd (false_true over)
 
 -- an item that closes a list
 abbrev pub is_closing : Item → Bool
@@ -175,7 +73,7 @@ closing_of true None number = item.Done
 closing_of true (Some k) number = last_of_member number
 
 abbrev pub IsClosed : Task → Type 0
-IsClosed t = Closes (closing_of t.implicit t.generating t.number) t.list
+IsClosed t = Closes (IsIt (closing_of t.implicit t.generating t.number)) t.list
 
 pub record HasLastItem (t : Task) : Type 0 where
   pub closes : IsClosed t
@@ -208,9 +106,9 @@ module _ (p : Program) (events : List (ℕ × Event)) (s : State) (reached : Rea
       moves : (k : Tid) (t : Task) → IsCurrent s i k t → take_item p (encounter s i) e t.list ≡ Some (m.item, m.behind) → HasLastItem t → IsLastTaken k (record t { list = stays (encounter s i) e m.item m.behind })
       moves k t is taken h =
           let z = closing_of t.implicit t.generating t.number in
-          let closes = take_closes z p (encounter s i) e t.list m.item m.behind taken h.closes in
+          let closes = take_closes (IsIt z) p (encounter s i) e t.list m.item m.behind taken h.closes in
           record {
-            is = record { closes = stays_closes z (encounter s i) e m.item m.behind closes; finished = λ f. absurd (begun_finished (sym (current_begun p events s reached i k t is.name is.live).0 ∙ f)) };
+            is = record { closes = stays_closes (IsIt z) (encounter s i) e m.item m.behind closes; finished = λ f. absurd (begun_finished (sym (current_begun p events s reached i k t is.name is.live).0 ∙ f)) };
             over = λ name over. end_takes_last z (encounter s i) e m.item m.behind over (take_fits p (encounter s i) e t.list m.item m.behind taken) closes;
           }
 
@@ -231,9 +129,9 @@ module _ (p : Program) (events : List (ℕ × Event)) (s : State) (reached : Rea
         starts = λ k u j t x is live ex de may of by q. other k _ (λ name over. absurd (no_end x of (start_item j t u x may) over)) (started u ex x (encounter (moved_on s i e m.item m.behind) i) t.number q.is.closes) begun_finished;
         members = λ region team f k t r is found may new of by j n at.
             other n.0 (member_task p region k t r f j n.1) (λ name over. absurd (no_end (item.Fork f) of refl over))
-            (member_closes (last_of_member j) p (record { debug = p.env.debug; number = j; level = r.levels + 1; is_final = false }) f refl) (waits_finished (j == 0));
-        deferred = λ task f final seen k t is of fresh. other task (deferred_task p k t f final seen) (λ name over. absurd (no_end (item.Defer seen f final) of refl over)) (task_closes item.Finish p refl f) deferred_finished;
-        made = λ task f final k t is of fresh by. other task (scheduled i k t (deferred_task p k t f final 0)) (λ name over. absurd (no_end_now f final of over)) (task_closes item.Finish p refl f) begun_finished;
+            (member_closes (IsIt (last_of_member j)) p (record { debug = p.env.debug; number = j; level = r.levels + 1; is_final = false }) f refl) (waits_finished (j == 0));
+        deferred = λ task f final seen k t is of fresh. other task (deferred_task p k t f final seen) (λ name over. absurd (no_end (item.Defer seen f final) of refl over)) (task_closes (IsIt item.Finish) p refl f) deferred_finished;
+        made = λ task f final k t is of fresh by. other task (scheduled i k t (deferred_task p k t f final 0)) (λ name over. absurd (no_end_now f final of over)) (task_closes (IsIt item.Finish) p refl f) begun_finished;
       }
         where
           no_end : (x : Item) → m.item ≡ x → is_closing x ≡ false → is_end e ≡ true → ⊥
@@ -243,10 +141,10 @@ module _ (p : Program) (events : List (ℕ × Event)) (s : State) (reached : Rea
           no_end_now f final (inl of) over = no_end (item.StartNow f final) of refl over
           no_end_now f final (inr (seen, of)) over = no_end (item.Defer seen f final) of refl over
 
-          started : (u : Task) → u.implicit ≡ false → (x : Item) (at : Encounter) (number : ℕ) → IsClosed u → Closes (closing_of u.implicit u.generating number) (start_list x at u.list)
+          started : (u : Task) → u.implicit ≡ false → (x : Item) (at : Encounter) (number : ℕ) → IsClosed u → Closes (IsIt (closing_of u.implicit u.generating number)) (start_list x at u.list)
           started u ex x at number h =
               let explicit : closing_of u.implicit u.generating u.number ≡ closing_of u.implicit u.generating number = ap (λ b. closing_of b u.generating u.number) ex ∙ sym (ap (λ b. closing_of b u.generating number) ex) in
-              start_closes (closing_of u.implicit u.generating number) x at u.list (subst (λ z. Closes z u.list) explicit h)
+              start_closes (IsIt (closing_of u.implicit u.generating number)) x at u.list (subst (λ z. Closes (IsIt z) u.list) explicit h)
 
   pub last_step : EachTask (λ k t. HasLastItem t) next
   last_step k t live = (last_taken k t live).is
@@ -254,7 +152,7 @@ module _ (p : Program) (events : List (ℕ × Event)) (s : State) (reached : Rea
 pub last_items : (p : Program) (events : List (ℕ × Event)) (s : State) → Reached p events s → EachTask (λ k t. HasLastItem t) s
 last_items p events s reached =
     over_reached p (λ u. EachTask (λ k t. HasLastItem t) u) (λ first u first_reached i e next step h. last_step p first u first_reached i e next step h) [] (opening p) refl events s reached
-    (each_first_task p (λ k t. HasLastItem t) (record { closes = main_closes item.Done p refl (record { debug = p.env.debug; number = 0; level = 0; is_final = false }); finished = λ f. absurd (begun_finished f) }))
+    (each_first_task p (λ k t. HasLastItem t) (record { closes = main_closes (IsIt item.Done) p refl (record { debug = p.env.debug; number = 0; level = 0; is_final = false }); finished = λ f. absurd (begun_finished f) }))
 
 pub lists_right : (p : Program) (events : List (ℕ × Event)) (s : State) → Reached p events s → (k : Tid) (t : Task) → task_of s k ≡ Some t → IsListRight p s t
 lists_right p events s reached k t live =

@@ -1,9 +1,8 @@
 -- The order of the items of barriers in each list.
-use Rattle.std.proofs.Common.{◌≡◌, ◌==◌, ◌+◌, ℕ, zero, suc, ◌||◌, Bool, true, false, List, [], ◌∷◌, Some, if◌then◌else◌, refl, sym, ◌∙◌, arith, eqb-true, eq-eqb}
+use Rattle.std.proofs.Common.{◌≡◌, ◌+◌, ℕ, Bool, true, false, List, [], ◌∷◌, Some, if◌then◌else◌, refl, sym, ◌∙◌, arith, eqb-true, eq-eqb}
 use Rattle.omi_script.specs.Bodies.{body_of}
 use Rattle.omi_script.specs.declared.program.Program.{Program}
 use Rattle.omi_script.specs.declared.statement.Stmt.{Stmt}
-use Rattle.omi_script.specs.declared.statement.Stmt.TheVariants as stmt
 use Rattle.omi_model.specs.declared.encounter.Encounter.{Encounter}
 use Rattle.omi_model.specs.declared.event.Event.{Event}
 use Rattle.omi_model.specs.declared.event.Event.TheVariants as event
@@ -18,7 +17,8 @@ use Rattle.omi_model.specs.Lists.{may_drop, stays, take_item}
 use Rattle.omi_numbers.specs.declared.states.TheConstants.{WAIT_TASKWAIT}
 use Rattle.omi_model.specs.Opening.{opening}
 use Rattle.omi_model.specs.Reached.{Reached, Step}
-use Rattle.omi_model.specs.Rows.{barrier_items, behind, body_items, call_items, end_of_member, first_of, last_of_member, main_items, member_items, shown, working}
+use Rattle.omi_model.specs.Rows.{behind, first_of, main_items, member_items, shown}
+use Rattle.omi_model.specs.Shapes.{shape_of}
 use Rattle.omi_model.specs.State.{State, task_of}
 use Rattle.omi_model.proofs.BarrierCounts.{barriers_of}
 use Rattle.omi_model.proofs.BarrierLaw.{number_met, placed}
@@ -26,6 +26,7 @@ use Rattle.omi_model.proofs.BarrierOrder.{Outside as Clear, left, order, wrong}
 use Rattle.omi_model.proofs.EachObject.{EachTask, IsTaskLaw, over_events, task_step}
 use Rattle.omi_model.proofs.ListLaws.{take_keeps}
 use Rattle.omi_model.proofs.OpeningObjects.{each_first_task}
+use Rattle.omi_model.proofs.RowLaws.{KeepsPlain, KeepsRows, barrier_keeps, critical_keeps, last_keeps, main_keeps, member_keeps, row_keeps, shown_keeps}
 use Rattle.omi_model.proofs.Slots.{false_true}
 use Rattle.omi_model.proofs.Steps.{IsRelisted}
 
@@ -34,12 +35,11 @@ abbrev pub Ordered : ℕ → List Item → Type 0
 Ordered n xs = (stage : Stage) × IsInOrder n stage xs
 
 module _ (n : ℕ) where
-  shown_order : (at : Encounter) (state wait : ℕ) (xs : List Item) → IsInOrder n Outside xs → IsInOrder n Outside (shown at state wait xs)
-  shown_order at state wait xs h = go at.debug
-    where
-      go : (d : Bool) → IsInOrder n Outside (if d then item.State state wait ∷ xs else xs)
-      go true = h
-      go false = h
+  plain_order : KeepsPlain (IsInOrder n Outside)
+  plain_order item.Arrive xs plain h = absurd (false_true plain)
+  plain_order item.Release xs plain h = absurd (false_true plain)
+  plain_order item.Pass xs plain h = absurd (false_true plain)
+  plain_order x xs plain h = h
 
   shown_arrived : (at : Encounter) (state wait : ℕ) (xs : List Item) → IsInOrder n Arrived xs → IsInOrder n Arrived (shown at state wait xs)
   shown_arrived at state wait xs h = go at.debug
@@ -48,58 +48,19 @@ module _ (n : ℕ) where
       go true = h
       go false = h
 
-  working_order : (at : Encounter) (xs : List Item) → IsInOrder n Outside xs → IsInOrder n Outside (working at xs)
-  working_order at xs h = shown_order at _ 0 xs h
-
-  body_order : (ss : List Stmt) (rest : List Item) → IsInOrder n Outside rest → IsInOrder n Outside (body_items ss rest)
-  body_order [] rest h = h
-  body_order (s ∷ ss) rest h = body_order ss rest h
-
-  barrier_order : (at : Encounter) (state : ℕ) (rest : List Item) → at.number ≡ n → IsInOrder n Outside rest → IsInOrder n Outside (barrier_items at state rest)
-  barrier_order at state rest own h = shown_order at state 0 (item.Arrive ∷ item.Tasks state ∷ (if at.number == 0 then item.Release ∷ item.Pass ∷ rest else item.Pass ∷ rest)) (go (at.number == 0) refl)
-    where
-      clash : at.number == 0 ≡ false → n ≡ 0 → ⊥
-      clash apart first = false_true (sym apart ∙ eq-eqb at.number 0 (own ∙ first))
-
-      go : (d : Bool) → at.number == 0 ≡ d → IsInOrder n Outside (item.Arrive ∷ item.Tasks state ∷ (if d then item.Release ∷ item.Pass ∷ rest else item.Pass ∷ rest))
-      go true is = (sym own ∙ eqb-true at.number 0 is, h)
-      go false is = (clash is, h)
-
   module _ (p : Program) where
-    call_order : (f : ℕ) (rest : List Item) → IsInOrder n Outside rest → IsInOrder n Outside (call_items p f rest)
-    call_order f rest h = body_order (body_of p.funcs f) (item.Ret ∷ rest) h
-
-    row_order : (at : Encounter) → at.number ≡ n → (s : Stmt) (rest : List Item) → IsInOrder n Outside rest → IsInOrder n Outside (first_of at s ∷ behind p at s rest)
-    row_order at own (stmt.Parallel f num) rest h = shown_order at _ 0 (item.Want num ∷ item.Asks ∷ item.Fork f ∷ working at (item.Leave ∷ rest)) (working_order at (item.Leave ∷ rest) h)
-    row_order at own (stmt.Task f undeferred final) rest h = go (undeferred || at.is_final)
-      where
-        go : (c : Bool) → IsInOrder n Outside (item.Enter ∷ (if c then item.StartNow f (final || at.is_final) else item.Defer 0 f (final || at.is_final)) ∷ item.Leave ∷ rest)
-        go true = h
-        go false = h
-    row_order at own stmt.Taskwait rest h = shown_order at _ 0 (item.Tasks WAIT_TASKWAIT ∷ item.WaitDone ∷ working at (item.Leave ∷ rest)) (working_order at (item.Leave ∷ rest) h)
-    row_order at own stmt.Taskyield rest h = h
-    row_order at own stmt.Barrier rest h = barrier_order at _ (working at (item.Leave ∷ rest)) own (working_order at (item.Leave ∷ rest) h)
-    row_order at own (stmt.Critical k f) rest h =
-        shown_order at _ _ (item.Lock k ∷ working at (item.Leave ∷ item.Call f ∷ call_items p f (item.Unlock k ∷ rest)))
-        (working_order at (item.Leave ∷ item.Call f ∷ call_items p f (item.Unlock k ∷ rest)) (call_order f (item.Unlock k ∷ rest) h))
-    row_order at own (stmt.Call f) rest h = call_order f rest h
-    row_order at own (stmt.Only m f) rest h = go (at.number == m)
-      where
-        go : (c : Bool) → IsInOrder n Outside ((if c then item.Call f else item.Skip) ∷ (if c then call_items p f rest else rest))
-        go true = call_order f rest h
-        go false = h
-    row_order at own (stmt.Repeat zero f) rest h = h
-    row_order at own (stmt.Repeat (suc k) f) rest h = call_order f (item.Do (stmt.Repeat k f) ∷ rest) h
-    row_order at own (stmt.SetNumThreads k) rest h = h
-    row_order at own (stmt.SetDynamic x) rest h = h
-    row_order at own (stmt.SetMaxActive k) rest h = h
-    row_order at own (stmt.SetSchedule s) rest h = h
-    row_order at own (stmt.SetDevice d) rest h = h
-    row_order at own (stmt.Tool x) rest h = h
-    row_order at own stmt.Work rest h = h
+    in_order : (at : Encounter) → at.number ≡ n → KeepsRows p at (IsInOrder n Outside)
+    in_order at own = record {
+      plain = plain_order;
+      fork = λ num f xs h. h;
+      taskwait = λ xs h. h;
+      barrier = λ state xs other h. ((λ first. false_true (sym other ∙ eq-eqb at.number 0 (own ∙ first))), h);
+      first_barrier = λ state xs first h. (sym own ∙ eqb-true at.number 0 first, h);
+      critical = λ k f xs h. critical_keeps (IsInOrder n Outside) plain_order p at f (item.Unlock k ∷ xs) h;
+    }
 
     rows_ordered : (at : Encounter) → at.number ≡ n → (s : Stmt) (rest : List Item) → Ordered n (item.Do s ∷ rest) → Ordered n (first_of at s ∷ behind p at s rest)
-    rows_ordered at own s rest (Outside, h) = (Outside, row_order at own s rest h)
+    rows_ordered at own s rest (Outside, h) = (Outside, row_keeps p at (IsInOrder n Outside) (in_order at own) (shape_of s) rest h)
     rows_ordered at own s rest (Arrived, h) = absurd h
     rows_ordered at own s rest (Waiting, h) = absurd h
     rows_ordered at own s rest (Released, h) = absurd h
@@ -122,19 +83,11 @@ module _ (n : ℕ) where
     take_ordered : (at : Encounter) → at.number ≡ n → (e : Event) (xs : List Item) (y : Item) (ys : List Item) → take_item p at e xs ≡ Some (y, ys) → Ordered n xs → Ordered n (y ∷ ys)
     take_ordered at own = take_keeps p at (Ordered n) drop_ordered (rows_ordered at own)
 
-    last_order : (m : ℕ) → IsInOrder n Outside (last_of_member m ∷ [])
-    last_order m = go (m == 0)
-      where
-        go : (c : Bool) → IsInOrder n Outside ((if c then item.Join else item.ImplicitEnd) ∷ [])
-        go true = tt
-        go false = tt
-
     member_order : (at : Encounter) (f : ℕ) → at.number ≡ n → IsInOrder n Outside (member_items p at f)
-    member_order at f own =
-        working_order at _ (body_order (body_of p.funcs f) (end_of_member at (last_of_member at.number ∷ [])) (barrier_order at _ (last_of_member at.number ∷ []) own (last_order at.number)))
+    member_order at f own = member_keeps (IsInOrder n Outside) plain_order p at f (barrier_keeps p at (IsInOrder n Outside) (in_order at own) _ _ (last_keeps (IsInOrder n Outside) tt tt at.number))
 
     main_order : (at : Encounter) → at.number ≡ n → IsInOrder n Outside (main_items at (body_of p.funcs p.main))
-    main_order at own = body_order (body_of p.funcs p.main) (end_of_member at (item.Done ∷ [])) (barrier_order at _ (item.Done ∷ []) own tt)
+    main_order at own = main_keeps (IsInOrder n Outside) plain_order p at (barrier_keeps p at (IsInOrder n Outside) (in_order at own) _ (item.Done ∷ []) tt)
 
   -- behind an item
   rest_ordered : (y : Item) (ys : List Item) → Ordered n (y ∷ ys) → Ordered n ys
@@ -152,13 +105,13 @@ module _ (n : ℕ) where
   rest_ordered y ys (Released, h) = absurd h
 
   serve_ordered : (at : Encounter) (ys : List Item) → Ordered n (item.Serve ∷ ys) → Ordered n (shown at 0x100 0 (item.Offer ∷ item.Serve ∷ ys))
-  serve_ordered at ys (Outside, h) = (Outside, shown_order at 0x100 0 (item.Offer ∷ item.Serve ∷ ys) h)
+  serve_ordered at ys (Outside, h) = (Outside, shown_keeps (IsInOrder n Outside) plain_order at 0x100 0 (item.Offer ∷ item.Serve ∷ ys) h)
   serve_ordered at ys (Arrived, h) = absurd h
   serve_ordered at ys (Waiting, h) = absurd h
   serve_ordered at ys (Released, h) = absurd h
 
   tasks_ordered : (at : Encounter) (state : ℕ) (ys : List Item) → Ordered n (item.Tasks state ∷ ys) → Ordered n (shown at state 0 (item.Tasks state ∷ ys))
-  tasks_ordered at state ys (Outside, h) = (Outside, shown_order at state 0 (item.Tasks state ∷ ys) h)
+  tasks_ordered at state ys (Outside, h) = (Outside, shown_keeps (IsInOrder n Outside) plain_order at state 0 (item.Tasks state ∷ ys) h)
   tasks_ordered at state ys (Arrived, h) = (Arrived, shown_arrived at state 0 (item.Tasks state ∷ ys) h)
   tasks_ordered at state ys (Waiting, h) = absurd h
   tasks_ordered at state ys (Released, h) = absurd h

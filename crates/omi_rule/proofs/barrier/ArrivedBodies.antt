@@ -28,7 +28,7 @@ use Rattle.omi_pc.specs.declared.frame.Opened.TheVariants as opened
 use Rattle.omi_pc.specs.FitLaws.{arrived}
 use Rattle.omi_pc.specs.Moves.{context_under}
 use Rattle.omi_pc.specs.OpenBodies.{AreOpen, IsMasterOf, StandsOn}
-use Rattle.omi_step_words.specs.Placed.{AreContextsPlaced, IsContextPlaced}
+use Rattle.omi_step_words.specs.Placed.{AreContextsPlaced}
 use Rattle.omi_rule.specs.Ahead.{leaving, resuming}
 use Rattle.omi_rule.specs.Chains.{IsScheduledFrom, IsSuspended, KeepsBodies, KeepsBody, KeepsContext, RunsFunctions, encounter_of}
 use Rattle.omi_rule.proofs.OthersStand.{of_innermost}
@@ -214,35 +214,22 @@ module _ (p : Program) (z : State) (i : ℕ) (n : Rid) (j : ℕ) where
         under_arrives fs f.function f.opened is.stands below was was_body was_rest rest (λ a b e. bodies_arrive fs a b e),
       )
 
+-- what holds under a body holds under it behind the arrival, if it does in the own task
+under_arrived : (P : Context → List Frame → Type 0) (n : ℕ) (fs : List Frame) (c : Context) (x : Opened) → P (context_under c x) fs → (P c fs → P (arrived n c) fs) → P (context_under (arrived n c) x) fs
+under_arrived P n fs c opened.Main o own = own o
+under_arrived P n fs c opened.Worker o own = own o
+under_arrived P n fs c (opened.Master saved) o own = o
+under_arrived P n fs c (opened.Task x saved) o own = o
+under_arrived P n fs c opened.Call o own = own o
+under_arrived P n fs c (opened.Repeat left) o own = own o
+under_arrived P n fs c (opened.Critical k) o own = own o
+
 -- the contexts name the same records
-module _ (w : List ℕ) (n : ℕ) where
-  context_placed : (c : Context) → IsContextPlaced w c → IsContextPlaced w (arrived n c)
-  context_placed c o = record { task = o.task; region = o.region; row = o.row }
-
-  under_placed : (fs : List Frame) (c : Context) (x : Opened) → AreContextsPlaced w (context_under c x) fs → (AreContextsPlaced w c fs → AreContextsPlaced w (arrived n c) fs) → AreContextsPlaced w (context_under (arrived n c) x) fs
-  under_placed fs c opened.Main o own = own o
-  under_placed fs c opened.Worker o own = own o
-  under_placed fs c (opened.Master saved) o own = o
-  under_placed fs c (opened.Task x saved) o own = o
-  under_placed fs c opened.Call o own = own o
-  under_placed fs c (opened.Repeat left) o own = own o
-  under_placed fs c (opened.Critical k) o own = own o
-
-  pub contexts_arrive : (fs : List Frame) (c : Context) → AreContextsPlaced w c fs → AreContextsPlaced w (arrived n c) fs
-  contexts_arrive [] c o = tt
-  contexts_arrive (f ∷ fs) c (o, rest) = (context_placed c o, under_placed fs c f.opened rest (λ x. contexts_arrive fs c x))
+pub contexts_arrive : (w : List ℕ) (n : ℕ) (fs : List Frame) (c : Context) → AreContextsPlaced w c fs → AreContextsPlaced w (arrived n c) fs
+contexts_arrive w n [] c o = tt
+contexts_arrive w n (f ∷ fs) c (o, rest) = (record { task = o.task; region = o.region; row = o.row }, under_arrived (AreContextsPlaced w) n fs c f.opened rest (λ x. contexts_arrive w n fs c x))
 
 -- and their tasks run the same functions
-module _ (u : State) (n : ℕ) where
-  under_runs : (fs : List Frame) (c : Context) (x : Opened) → RunsFunctions u (context_under c x) fs → (RunsFunctions u c fs → RunsFunctions u (arrived n c) fs) → RunsFunctions u (context_under (arrived n c) x) fs
-  under_runs fs c opened.Main o own = own o
-  under_runs fs c opened.Worker o own = own o
-  under_runs fs c (opened.Master saved) o own = o
-  under_runs fs c (opened.Task x saved) o own = o
-  under_runs fs c opened.Call o own = own o
-  under_runs fs c (opened.Repeat left) o own = own o
-  under_runs fs c (opened.Critical k) o own = own o
-
-  pub functions_arrive : (fs : List Frame) (c : Context) → RunsFunctions u c fs → RunsFunctions u (arrived n c) fs
-  functions_arrive [] c o = tt
-  functions_arrive (f ∷ fs) c (o, rest) = (o, under_runs fs c f.opened rest (λ x. functions_arrive fs c x))
+pub functions_arrive : (u : State) (n : ℕ) (fs : List Frame) (c : Context) → RunsFunctions u c fs → RunsFunctions u (arrived n c) fs
+functions_arrive u n [] c o = tt
+functions_arrive u n (f ∷ fs) c (o, rest) = (o, under_arrived (RunsFunctions u) n fs c f.opened rest (λ x. functions_arrive u n fs c x))

@@ -1,5 +1,5 @@
 -- A thread at a counter of a member, at a barrier, at a join or in a wait: its task, the words of its region, and the thread where only its counter changes.
-use Rattle.std.proofs.Common.{◌≡◌, ◌<◌, ◌==◌, ℕ, List, ◌∷◌, Option, Some, refl, sym, ap, ◌∙◌, subst, arith, if◌then◌else◌}
+use Rattle.std.proofs.Common.{◌≡◌, ◌<◌, ℕ, List, ◌∷◌, Option, Some, sym, ap, ◌∙◌, subst, arith}
 use Rattle.std.proofs.lemmas.Bool.Decides.{nat_tests}
 use Rattle.omi_word.specs.declared.op.Op.{Op}
 use Rattle.omi_word.specs.declared.op.Op.TheVariants as op
@@ -31,19 +31,19 @@ use Rattle.omi_pc.specs.OpenBodies.{AreOpen, IsContext}
 use Rattle.omi_rep.specs.declared.outcome.Outcome.TheVariants as outcome
 use Rattle.omi_rule_words.specs.Objects.{KeepsRegion}
 use Rattle.omi_rule_words.specs.Owes.{all_owed, owed, owed_at}
-use Rattle.omi_rule_words.specs.Words.{KeepsWords, region_in}
-use Rattle.omi_rule_words.proofs.Moves.{moves_keep}
+use Rattle.omi_rule_words.specs.Words.{region_in}
 use Rattle.omi_rule_words.proofs.OtherCounts.{name_of_slot}
 use Rattle.omi_step_words.specs.Placed.{AreContextsPlaced, IsContextPlaced, IsPlacedCounter}
 use Rattle.omi_rule.specs.Ahead.{IsAhead}
-use Rattle.omi_rule.specs.Chains.{KeepsContext, Stands, StandsInTask, StandsWith, encounter_of}
+use Rattle.omi_rule.specs.Chains.{KeepsContext, StandsInTask, encounter_of}
 use Rattle.omi_rule.specs.Rows.{KeepsRow}
 use Rattle.omi_rule.specs.Rule.{HasEnded, KeepsThread}
 use Rattle.omi_rule.specs.Steps.{KeepsRule, RecordWord, found_in, left_in}
 use Rattle.omi_rule.specs.Waits.{Waits}
-use Rattle.omi_rule.proofs.Assembly.{Before, of_load, quiet_keeps, spares_none, waits_keep}
+use Rattle.omi_rule.proofs.SameBodies.{same_bodies}
+use Rattle.omi_rule.proofs.Assembly
+use Rattle.omi_rule.proofs.Assembly.{Before, load_stays, quiet_stays}
 use Rattle.omi_rule.proofs.OwnTask.{in_task, is_current, own_ahead, top}
-use Rattle.omi_rule.proofs.RowsStay.{Spares}
 use Rattle.omi_rule.proofs.plain.OwnEvents.{environment_stays}
 
 -- the thread with another counter
@@ -157,16 +157,6 @@ module _ (p : Program) (w : List ℕ) (m : Memory) (events : List (ℕ × Event)
     pub row : KeepsRow p w m s i (at_counter to a) to
     pub ended : HasEnded events i to
 
-  stands_at : (to : Counter) → IsAhead p sees a.stack to here.task.list → Stands p s i (at_counter to a)
-  stands_at to is =
-      let (f, fs, is_stack, o) = body in
-      subst (StandsWith p s i (at_counter to a)) (sym is_stack)
-      (record {
-        current = stands.current;
-        bodies = stands.bodies;
-        ahead = λ t live. subst (λ (v : Task). IsAhead p sees a.stack to v.list) (some_same here.live live) is;
-      })
-
   -- the thread at another counter, whatever it owes there
   pub record StandsAt (n : Memory) (to : Counter) : Type 0 where
     pub fits : FitsCounter p (at_counter to a) to
@@ -176,38 +166,24 @@ module _ (p : Program) (w : List ℕ) (m : Memory) (events : List (ℕ × Event)
     pub ended : HasEnded events i to
 
   pub thread_with : (n : Memory) (to : Counter) → StandsAt n to → KeepsThread p w n events s i (at_counter to a)
-  thread_with n to goes = record {
-    thread = own.thread;
-    fits = record { thread = own.fits.thread; variables = own.fits.variables; bodies = own.fits.bodies; counter = goes.fits };
-    placed = record { bodies = own.placed.bodies; counter = goes.placed };
-    stands = stands_at to goes.ahead;
-    runs = own.runs;
-    row = goes.row;
-    ended = goes.ended;
-  }
+  thread_with n to goes =
+      let (f, fs, is_stack, o) = body in
+      same_bodies p w m events s i a own f fs is_stack o n to a.gathered own.fits.variables goes.fits goes.placed
+      (λ t live. subst (λ (v : Task). IsAhead p sees a.stack to v.list) (some_same here.live live) goes.ahead) goes.row goes.ended
 
   thread_at : (to : Counter) → GoesTo to → KeepsThread p w m events s i (at_counter to a)
   thread_at to goes = thread_with m to (record { fits = goes.fits; placed = goes.placed; ahead = goes.ahead; row = goes.row; ended = goes.ended })
 
-  words_at : (to : Counter) → GoesTo to → KeepsWords w m s (all_owed (λ j. if j == i then at_counter to a else actors j))
-  words_at to goes = moves_keep w m s actors i (at_counter to a) before.rule.words (goes.owes ∙ sym owes_now)
+  owes_at : (to : Counter) → GoesTo to → owed (at_counter to a) ≡ owed a
+  owes_at to goes = goes.owes ∙ sym owes_now
 
   -- an operation that leaves the memory and leads to another counter
   pub same_quiet : (o : Op) (y : RecordWord) (to : Counter) → left_in m o y ≡ m → GoesTo to → KeepsRule p w m events s actors i o y (at_counter to a, outcome.Quiet)
-  same_quiet o y to same goes =
-      quiet_keeps p w m events s actors i before o y (at_counter to a, outcome.Quiet) refl
-      (subst (λ (n : Memory). KeepsWords w n s (all_owed (λ j. if j == i then at_counter to a else actors j))) (sym same) (words_at to goes))
-      (λ j other. subst (λ (n : Memory). Spares m n s j (actors j)) (sym same) (spares_none m s j (actors j)))
-      (subst (λ (n : Memory). KeepsThread p w n events s i (at_counter to a)) (sym same) (thread_at to goes))
+  same_quiet o y to same goes = quiet_stays p w m events s actors i before o y (at_counter to a) same (owes_at to goes) (thread_at to goes)
 
   pub load_quiet : (address : ℕ) (y : RecordWord) (to : Counter) → GoesTo to → KeepsRule p w m events s actors i (op.Load address) y (at_counter to a, outcome.Quiet)
-  load_quiet address y to goes = same_quiet (op.Load address) y to (of_load p w m events s actors i before address y) goes
+  load_quiet address y to goes = load_stays p w m events s actors i before address y (at_counter to a) (owes_at to goes) (thread_at to goes)
 
   -- and one at which the thread waits
   pub load_waits : (address : ℕ) (y : RecordWord) (to : Counter) → GoesTo to → Waits w s i address (found_in m y) → KeepsRule p w m events s actors i (op.Load address) y (at_counter to a, outcome.NotReady address (found_in m y))
-  load_waits address y to goes waits =
-      let same = of_load p w m events s actors i before address y in
-      waits_keep p w m events s actors i before (op.Load address) y (at_counter to a, outcome.NotReady address (found_in m y)) address refl waits tt refl
-      (subst (λ (n : Memory). KeepsWords w n s (all_owed (λ j. if j == i then at_counter to a else actors j))) (sym same) (words_at to goes))
-      (λ j other. subst (λ (n : Memory). Spares m n s j (actors j)) (sym same) (spares_none m s j (actors j)))
-      (subst (λ (n : Memory). KeepsThread p w n events s i (at_counter to a)) (sym same) (thread_at to goes))
+  load_waits address y to goes waits = Assembly.load_waits p w m events s actors i before address y (at_counter to a) waits (owes_at to goes) (thread_at to goes)

@@ -1,29 +1,24 @@
 -- Each live task has a name: where a task lives, the slot has had a generation.
 use Rattle.std.proofs.Common.{◌≡◌, ◌≢◌, ◌+◌, ◌-◌, ◌==◌, ◌&&◌, ℕ, Bool, true, false, List, [], ◌∷◌, Option, Some, None, refl, ap, ◌∙◌, arith, eq-eqb, if◌then◌else◌}
-use Rattle.std.specs.Prelude.{IfSome, ⊤}
 use Rattle.std.specs.Option.{option_map}
 use Rattle.omi_script.specs.declared.program.Program.{Program}
 use Rattle.omi_model.specs.declared.event.Event.{Event}
-use Rattle.omi_model.specs.declared.event.Event.TheVariants as event
 use Rattle.omi_model.specs.declared.id.Id.{Id}
 use Rattle.omi_model.specs.declared.id.Tid.{Tid}
 use Rattle.omi_model.specs.declared.item.Item.{Item}
-use Rattle.omi_model.specs.declared.item.Item.TheVariants as item
 use Rattle.omi_model.specs.declared.slot.Slot.{Slot}
 use Rattle.omi_model.specs.declared.task.Task.{Task}
-use Rattle.omi_model.specs.Barriers.{arrived, released}
 use Rattle.omi_model.specs.Changes.{with_list}
 use Rattle.omi_model.specs.Opening.{opening, opening_task}
 use Rattle.omi_model.specs.Put.{Slots, changed, made, on, unused}
 use Rattle.omi_model.specs.Reached.{Reached, Step}
-use Rattle.omi_model.specs.Rules.{Rule, effect}
-use Rattle.omi_model.specs.Settings.{entered, left, with_tool}
+use Rattle.omi_model.specs.Rules.{effect}
 use Rattle.omi_model.specs.State.{State, task_of}
-use Rattle.omi_model.specs.Tasking.{MayFinish, MayStart, deferred, finished, started, started_alone, started_now}
-use Rattle.omi_model.specs.Teams.{forked, joined, member_task, task_ended, with_members}
+use Rattle.omi_model.specs.Teams.{member_task, with_members}
 use Rattle.omi_model.proofs.EachObject.{over_events}
+use Rattle.omi_model.proofs.SlotEffects.{OfSlots, slots_effect}
 use Rattle.omi_model.proofs.Slots.{each_slot, none_some}
-use Rattle.omi_model.proofs.Steps.{from_some, list_moves, move_of, moved_on, of_current, of_current_region, of_region, of_set}
+use Rattle.omi_model.proofs.Steps.{from_some, list_moves, move_of, moved_on}
 
 -- where an object lives, the slot has had a generation
 abbrev pub IsCounted : {A : Type 0} → Slot A → Type 0
@@ -57,46 +52,18 @@ module _ (p : Program) (z : State) (i : ℕ) (all : AreCounted z.tasks) where
   by_task : (k : Tid) (f : Task → Task) → AreCounted (on z.tasks k.0 f)
   by_task k f = counted_on z.tasks k.0 f all
 
-  effect_counted : (e : Event) (y : Item) → Rule z i e y → IfSome (effect p z i e y) of_counted
-  effect_counted (event.Ask w true) y rule = all
-  effect_counted (event.Ask w false) y rule = all
-  effect_counted event.Begin y rule = all
-  effect_counted event.Offer y rule = all
-  effect_counted (event.Want n) y rule = all
-  effect_counted (event.Fork region team) (item.Fork f) rule = of_region z i (forked p z i region team f) of_counted _ rule (λ k t r is found may. counted_members (member_task p region k t r f) 0 team z.tasks all)
-  effect_counted (event.Fork region team) y rule = tt
-  effect_counted (event.ImplicitBegin task) y rule = by_task task _
-  effect_counted (event.State state wait) y rule = all
-  effect_counted event.Enter y rule = of_current z i (entered z) of_counted (λ k t. ⊤) rule (λ k t is h. by_task k _)
-  effect_counted event.Leave y rule = of_current z i (left z) of_counted (λ k t. ⊤) rule (λ k t is h. by_task k _)
-  effect_counted event.Arrive y rule = of_current_region z i (λ k t. arrived z t) of_counted _ rule (λ k t r is found h. all)
-  effect_counted event.Release y rule = of_current_region z i (λ k t. released z t) of_counted _ rule (λ k t r is found h. all)
-  effect_counted event.Pass y rule = all
-  effect_counted (event.ImplicitEnd task) y rule = of_current_region z i (task_ended z i) of_counted _ rule (λ k t r is found h. by_task k _)
-  effect_counted (event.Join region) y rule = of_region z i (joined z i) of_counted _ rule (λ k t r is found h. by_task k _)
-  effect_counted (event.FreeTask task) y rule = tt
-  effect_counted (event.FreeRegion region) y rule = tt
-  effect_counted (event.Seen j) y rule = all
-  effect_counted (event.Defer task) (item.Defer seen f final) rule = of_current z i (deferred p z task f final seen) of_counted _ rule (λ k t is h. counted_made z.tasks task.0 _ all)
-  effect_counted (event.Defer task) y rule = tt
-  effect_counted (event.StartNow task) (item.Defer seen f final) rule = of_current z i (started_now p z i task f final) of_counted _ rule (λ k t is h. counted_made z.tasks task.0 _ all)
-  effect_counted (event.StartNow task) (item.StartNow f final) rule = of_current z i (started_now p z i task f final) of_counted _ rule (λ k t is h. counted_made z.tasks task.0 _ all)
-  effect_counted (event.StartNow task) y rule = tt
-  effect_counted (event.Start task) (item.Tasks state) rule = of_current z i (started z i task) of_counted (MayStart z task (item.Tasks state)) rule (λ k t is may. by_task task _)
-  effect_counted (event.Start task) item.OneTask rule = of_current z i (started_alone z i task) of_counted (MayStart z task item.OneTask) rule (λ k t is may. by_task task _)
-  effect_counted (event.Start task) y rule = tt
-  effect_counted (event.Finish task) y rule = of_current z i (finished z i) of_counted (MayFinish task) rule (λ k t is h. by_task k _)
-  effect_counted event.WaitDone y rule = all
-  effect_counted event.Yield y rule = all
-  effect_counted (event.Set icv value) y rule = of_set z i icv value of_counted rule all (λ k t v is e. by_task k _)
-  effect_counted (event.SetTool x) y rule = of_current z i (λ k t. with_tool z x k) of_counted (λ k t. ⊤) rule (λ k t is h. by_task k _)
-  effect_counted (event.Lock k) y rule = all
-  effect_counted (event.Unlock k) y rule = all
-  effect_counted event.Work y rule = all
-  effect_counted (event.Call f) y rule = all
-  effect_counted event.Skip y rule = all
-  effect_counted event.Ret y rule = all
-  effect_counted event.Done y rule = all
+  effect_counted : OfSlots p z i (λ e regions tasks. AreCounted tasks)
+  effect_counted = record {
+    stays = λ e same. all;
+    tasks = λ e same n f. by_task n f;
+    defers = λ task x. counted_made z.tasks task.0 x all;
+    starts_now = λ task x. counted_made z.tasks task.0 x all;
+    forks = λ region team f k t r may. counted_members (member_task p region k t r f) 0 team z.tasks all;
+    arrives = λ k t is. all;
+    releases = λ k t r is found may. all;
+    ends = λ task k t is. by_task k _;
+    joins = λ region k t r is. by_task k _;
+  }
 
   list_counted : (zs : List Item) → AreCounted (with_list z i zs).tasks
   list_counted zs = list_moves z i zs of_counted (λ k is. by_task k _) (λ none. all)
@@ -105,7 +72,7 @@ counted_step : (p : Program) (s : State) (i : ℕ) (e : Event) (next : State) �
 counted_step p s i e next step all =
     let m = move_of p s i e next step in
     let middle : State = moved_on s i e m.item m.behind in
-    from_some (λ (u : State). AreCounted u.tasks) (effect p middle i e m.item) next m.effect_is (effect_counted p middle i (list_counted p s i all _) e m.item m.rule_moved)
+    from_some (λ (u : State). AreCounted u.tasks) (effect p middle i e m.item) next m.effect_is (slots_effect p middle i (λ e regions tasks. AreCounted tasks) (effect_counted p middle i (list_counted p s i all _)) e m.item m.rule_moved)
 
 counted_first : (p : Program) → AreCounted (opening p).tasks
 counted_first p c k = go (c == 0 && k == 0)

@@ -1,5 +1,5 @@
 -- Member 0 releases a barrier.
-use Rattle.std.proofs.Common.{◌≡◌, ◌<◌, ◌+◌, ℕ, ◌⊎◌, inl, inr, List, length, Option, Some, refl, sym, ap, ◌∙◌, subst, arith}
+use Rattle.std.proofs.Common.{◌≡◌, ◌<◌, ◌+◌, ℕ, inl, List, length, Option, Some, refl, sym, ap, ◌∙◌, subst, arith}
 use Rattle.std.specs.Option.{option_map}
 use Rattle.std.proofs.lemmas.Option.{slice_get_within}
 use Rattle.omi_word.specs.declared.op.Op.TheVariants as op
@@ -14,11 +14,11 @@ use Rattle.omi_model.specs.declared.region.Region.{Region}
 use Rattle.omi_model.specs.Barriers.{AreFinished, HaveArrived, released}
 use Rattle.omi_model.specs.Changes.{IsCurrent, on_region}
 use Rattle.omi_model.specs.Lists.{take_item}
-use Rattle.omi_model.specs.Put.{named}
 use Rattle.omi_model.specs.Reached.{Step}
 use Rattle.omi_model.specs.State.{State, region_of}
+use Rattle.omi_model.proofs.SlotEffects.{changed}
 use Rattle.omi_model.proofs.MembersKnown.{members_known}
-use Rattle.omi_model.proofs.Slots.{on_other, on_same, same_or_not, some_same}
+use Rattle.omi_model.proofs.Slots.{on_same, some_same}
 use Rattle.omi_model.proofs.Steps.{at_current, current_moved, relisted}
 use Rattle.omi_layout.specs.declared.field.Field.TheVariants.{RegionReleased}
 use Rattle.omi_layout.specs.Memory.{Memory}
@@ -112,17 +112,9 @@ module _ (p : Program) (w : List ℕ) (m : Memory) (events : List (ℕ × Event)
       (releases_keep w m listed (all_owed actors) (relisted behind own.task) own.region (relisted_words p w m events s actors i before (counter.Barrier c) at tt behind) there))
 
   regions_go_on : (n : Rid) (r : Region) → region_of s n ≡ Some r → (q : Region) × (region_of next n ≡ Some q) × (q.team ≡ r.team) × (q.levels ≡ r.levels) × (q.arrivals ≡ r.arrivals)
-  regions_go_on n r live = go (same_or_not n.0 own.task.region.0)
-    where
-      go : (n.0 ≡ own.task.region.0) ⊎ (n.0 ≡ own.task.region.0 → ⊥) → (q : Region) × (region_of next n ≡ Some q) × (q.team ≡ r.team) × (q.levels ≡ r.levels) × (q.arrivals ≡ r.arrivals)
-      go (inl same) = (
-        once_more r,
-        ap (named next.regions) same ∙ on_same s.regions own.task.region.0 once_more ∙ ap (λ (o : Option Region). option_map once_more o) (ap (named s.regions) (sym same) ∙ live),
-        refl,
-        refl,
-        refl,
-      )
-      go (inr other) = (r, on_other s.regions own.task.region.0 once_more n.0 other ∙ live, refl, refl, refl)
+  regions_go_on n r live =
+      let (q, found, same) = changed s.regions own.task.region once_more (λ x y. (y.team ≡ x.team) × (y.levels ≡ x.levels) × (y.arrivals ≡ x.arrivals)) n r live (λ _. (refl, refl, refl)) (λ _. (refl, refl, refl)) in
+      (q, found, same.0, same.1, same.2)
 
   changes : ChangesTask s next i a.context.task
   changes =

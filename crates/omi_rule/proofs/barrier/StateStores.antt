@@ -1,5 +1,5 @@
 -- A thread stores its state at a counter of a member, and goes on with its task.
-use Rattle.std.proofs.Common.{◌≡◌, ◌<◌, ℕ, List, [], ◌∷◌, ◌++◌, Some, refl, ap, subst, arith}
+use Rattle.std.proofs.Common.{◌≡◌, ℕ, List, [], ◌∷◌, ◌++◌, Some, refl, ap, arith}
 use Rattle.omi_word.specs.declared.op.Op.TheVariants as op
 use Rattle.omi_script.specs.declared.program.Program.{Program}
 use Rattle.omi_model.specs.declared.encounter.Encounter.{Encounter}
@@ -18,8 +18,6 @@ use Rattle.omi_numbers.specs.Words.{state_word}
 use Rattle.omi_layout.specs.Field.{threads}
 use Rattle.omi_layout.specs.Memory.{Memory, with_word}
 use Rattle.omi_layout.specs.Named.{number}
-use Rattle.omi_layout.specs.Table.{thread_count}
-use Rattle.omi_layout.proofs.Numbers.{numbered_field}
 use Rattle.omi_pc.specs.declared.actor.Actor.{Actor}
 use Rattle.omi_pc.specs.declared.counter.Counter.{Counter}
 use Rattle.omi_rep.specs.declared.outcome.Outcome.TheVariants as outcome
@@ -28,6 +26,7 @@ use Rattle.omi_rule_words.specs.Words.{KeepsWords}
 use Rattle.omi_rule_words.proofs.ThreadStores.{thread_stores_keep}
 use Rattle.omi_step_words.specs.Words.{of_thread}
 use Rattle.omi_rule.specs.Steps.{IsOn, KeepsRule, RecordWord}
+use Rattle.omi_rule.proofs.OwnWords.{store_on, thread_word}
 use Rattle.omi_rule.proofs.Assembly.{Before, spares_threads}
 use Rattle.omi_rule.proofs.Own.{ChangesTask}
 use Rattle.omi_rule.proofs.OwnTask.{own_changes, relisted_alike}
@@ -52,16 +51,10 @@ module _ (p : Program) (w : List ℕ) (m : Memory) (events : List (ℕ × Event)
   word = state_word state 0
 
   abbrev pub on_state : RecordWord
-  on_state = record { creator = i; slot = 0; field = ThreadState; place = 0 }
-
-  known_thread : i < thread_count w
-  known_thread = subst (λ n. i < n) before.rule.within.count before.known
+  on_state = thread_word i ThreadState
 
   pub is_on : IsOn w (op.Store (of_thread w a.thread ThreadState) word) on_state
-  is_on = record {
-    there = record { field = numbered_field ThreadState; record_slot = record { made_by = known_thread; within = omega arith }; within = omega arith };
-    address = ap (λ j. of_thread w j ThreadState) (own p w m events s actors i before standing at of_member).thread;
-  }
+  is_on = store_on p w m events s actors i before ThreadState word refl
 
   words : KeepsWords w (with_word m i threads 0 (number ThreadState) 0 word) next (all_owed actors)
   words =

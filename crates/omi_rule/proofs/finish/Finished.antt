@@ -1,5 +1,5 @@
 -- An explicit task finishes: its body is closed, and the task that it was scheduled from goes on once the counts are lowered.
-use Rattle.std.proofs.Common.{◌≡◌, ◌<◌, ℕ, false, List, [], ◌∷◌, ◌++◌, length, Option, Some, None, refl, sym, ap, ◌∙◌, subst, arith}
+use Rattle.std.proofs.Common.{◌≡◌, ℕ, false, List, [], ◌∷◌, ◌++◌, length, Option, Some, None, refl, sym, ap, ◌∙◌, subst, arith}
 use Rattle.std.specs.Option.{option_map}
 use Rattle.omi_word.specs.declared.op.Op.TheVariants as op
 use Rattle.omi_script.specs.declared.program.Program.{Program}
@@ -24,8 +24,6 @@ use Rattle.omi_layout.specs.declared.field.Field.TheVariants.{ThreadCurrent}
 use Rattle.omi_layout.specs.Field.{threads}
 use Rattle.omi_layout.specs.Memory.{Memory, with_word}
 use Rattle.omi_layout.specs.Named.{number}
-use Rattle.omi_layout.specs.Table.{thread_count}
-use Rattle.omi_layout.proofs.Numbers.{numbered_field}
 use Rattle.omi_pc.specs.declared.actor.Actor.{Actor}
 use Rattle.omi_pc.specs.declared.context.Context.{Context}
 use Rattle.omi_pc.specs.declared.counter.Counter.{Counter}
@@ -47,6 +45,7 @@ use Rattle.omi_step_words.specs.Words.{of_thread}
 use Rattle.omi_rule.specs.Ahead.{IsAhead, ahead, behind_body, resuming}
 use Rattle.omi_rule.specs.Chains.{IsScheduledFrom, IsSuspended, KeepsBodies, KeepsBody, KeepsContext, Stands, StandsWith, encounter_of}
 use Rattle.omi_rule.specs.Steps.{IsOn, KeepsRule, RecordWord, StepKeeps}
+use Rattle.omi_rule.proofs.OwnWords.{store_on, thread_word}
 use Rattle.omi_rule.proofs.Assembly.{Before, plain_event_keeps, spares_threads}
 use Rattle.omi_rule.proofs.Own.{AreBelow, IsBelow}
 use Rattle.omi_rule.proofs.OthersStand.{of_innermost}
@@ -111,11 +110,8 @@ module _ (p : Program) (w : List ℕ) (m : Memory) (events : List (ℕ × Event)
     regions = λ n r live. (r, live, refl, refl, refl);
   }
 
-  known_thread : i < thread_count w
-  known_thread = subst (λ n. i < n) before.rule.within.count before.known
-
   abbrev on_current : RecordWord
-  on_current = record { creator = i; slot = 0; field = ThreadCurrent; place = 0 }
+  on_current = thread_word i ThreadCurrent
 
   abbrev later : List (ℕ × Event)
   later = events ++ (i, event.Finish a.context.task) ∷ []
@@ -124,10 +120,7 @@ module _ (p : Program) (w : List ℕ) (m : Memory) (events : List (ℕ × Event)
   Goes b = KeepsRule p w m events s actors i (op.Store (of_thread w a.thread ThreadCurrent) (task_address w (task_under a))) on_current (b, outcome.Event (event.Finish a.context.task))
 
   is_on : IsOn w (op.Store (of_thread w a.thread ThreadCurrent) (task_address w (task_under a))) on_current
-  is_on = record {
-    there = record { field = numbered_field ThreadCurrent; record_slot = record { made_by = known_thread; within = omega arith }; within = omega arith };
-    address = ap (λ j. of_thread w j ThreadCurrent) (own p w m events s actors i before x at tt).thread;
-  }
+  is_on = store_on p w m events s actors i before ThreadCurrent (task_address w (task_under a)) refl
 
   -- ---- with the bodies of the stack
 

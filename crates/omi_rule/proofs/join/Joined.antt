@@ -1,7 +1,6 @@
 -- Member 0 joins the others, which have all left: the region is over, and the task that encountered it goes on.
-use Rattle.std.proofs.Common.{◌≡◌, ◌≢◌, ◌<◌, ℕ, ◌⊎◌, zero, suc, inl, inr, Bool, true, false, List, [], ◌∷◌, ◌++◌, drop, Option, Some, refl, sym, ap, ◌∙◌, subst, arith, if◌then◌else◌}
+use Rattle.std.proofs.Common.{◌≡◌, ◌≢◌, ◌<◌, ℕ, zero, suc, inr, Bool, true, false, List, [], ◌∷◌, ◌++◌, drop, Option, Some, refl, sym, ap, ◌∙◌, subst, arith, if◌then◌else◌}
 use Rattle.std.specs.List.{All}
-use Rattle.std.specs.Option.{option_map}
 use Rattle.omi_word.specs.declared.op.Op.TheVariants as op
 use Rattle.omi_script.specs.declared.program.Program.{Program}
 use Rattle.omi_script.specs.declared.statement.Stmt.TheVariants as stmt
@@ -18,19 +17,18 @@ use Rattle.omi_model.specs.declared.thread.Thread.{Thread}
 use Rattle.omi_script.specs.declared.env.Env.{Env}
 use Rattle.omi_model.specs.Changes.{IsCurrent, encounter_by}
 use Rattle.omi_model.specs.Lists.{take_item}
-use Rattle.omi_model.specs.Put.{named, on}
+use Rattle.omi_model.specs.Put.{on}
 use Rattle.omi_model.specs.Reached.{Step}
 use Rattle.omi_model.specs.Rows.{work_state, working as working_row}
 use Rattle.omi_model.specs.State.{State, region_of}
 use Rattle.omi_model.specs.Teams.{joined}
-use Rattle.omi_model.proofs.Slots.{on_other, on_same, put_same, same_or_not, some_same}
+use Rattle.omi_model.proofs.SlotEffects.{changed}
+use Rattle.omi_model.proofs.Slots.{on_other, put_same, some_same}
 use Rattle.omi_model.proofs.Steps.{at_region, current_moved, relisted}
 use Rattle.omi_layout.specs.declared.field.Field.TheVariants.{ThreadCurrent}
 use Rattle.omi_layout.specs.Field.{threads}
 use Rattle.omi_layout.specs.Memory.{Memory, with_word}
 use Rattle.omi_layout.specs.Named.{number}
-use Rattle.omi_layout.specs.Table.{thread_count}
-use Rattle.omi_layout.proofs.Numbers.{numbered_field}
 use Rattle.omi_pc.specs.declared.actor.Actor.{Actor}
 use Rattle.omi_pc.specs.declared.context.Context.{Context}
 use Rattle.omi_pc.specs.declared.counter.Counter.{Counter}
@@ -60,6 +58,7 @@ use Rattle.omi_rule.specs.Ahead as Ahead
 use Rattle.omi_rule.specs.Chains.{IsScheduledFrom, IsSuspended, KeepsBodies, KeepsBody, KeepsContext, Stands, StandsWith, encounter_of}
 use Rattle.omi_rule.specs.Rule.{HasEnded}
 use Rattle.omi_rule.specs.Steps.{IsOn, KeepsRule, RecordWord, StepKeeps}
+use Rattle.omi_rule.proofs.OwnWords.{store_on, thread_word}
 use Rattle.omi_rule.proofs.Assembly.{Before, plain_event_keeps, spares_threads}
 use Rattle.omi_rule.proofs.Own.{AreBelow, IsBelow}
 use Rattle.omi_rule.proofs.OthersStand.{of_innermost}
@@ -113,17 +112,9 @@ module _ (p : Program) (w : List ℕ) (m : Memory) (events : List (ℕ × Event)
   -- ---- what stays
 
   regions_go_on : (n : Rid) (r : Region) → region_of s n ≡ Some r → (q : Region) × (region_of next n ≡ Some q) × (q.team ≡ r.team) × (q.levels ≡ r.levels) × (q.arrivals ≡ r.arrivals)
-  regions_go_on n r live = go (same_or_not n.0 mine.task.region.0)
-    where
-      go : (n.0 ≡ mine.task.region.0) ⊎ (n.0 ≡ mine.task.region.0 → ⊥) → (q : Region) × (region_of next n ≡ Some q) × (q.team ≡ r.team) × (q.levels ≡ r.levels) × (q.arrivals ≡ r.arrivals)
-      go (inl same) = (
-        is_over r,
-        ap (named next.regions) same ∙ on_same s.regions mine.task.region.0 is_over ∙ ap (λ (o : Option Region). option_map is_over o) (ap (named s.regions) (sym same) ∙ live),
-        refl,
-        refl,
-        refl,
-      )
-      go (inr other) = (r, on_other s.regions mine.task.region.0 is_over n.0 other ∙ live, refl, refl, refl)
+  regions_go_on n r live =
+      let (q, found, same) = changed s.regions mine.task.region is_over (λ x y. (y.team ≡ x.team) × (y.levels ≡ x.levels) × (y.arrivals ≡ x.arrivals)) n r live (λ _. (refl, refl, refl)) (λ _. (refl, refl, refl)) in
+      (q, found, same.0, same.1, same.2)
 
   leaves : LeavesUnder s next a.context.task
   leaves = record {
@@ -134,11 +125,8 @@ module _ (p : Program) (w : List ℕ) (m : Memory) (events : List (ℕ × Event)
     regions = regions_go_on;
   }
 
-  known_thread : i < thread_count w
-  known_thread = subst (λ n. i < n) before.rule.within.count before.known
-
   abbrev on_current : RecordWord
-  on_current = record { creator = i; slot = 0; field = ThreadCurrent; place = 0 }
+  on_current = thread_word i ThreadCurrent
 
   abbrev later : List (ℕ × Event)
   later = events ++ (i, event.Join a.context.region) ∷ []
@@ -147,10 +135,7 @@ module _ (p : Program) (w : List ℕ) (m : Memory) (events : List (ℕ × Event)
   Goes b = KeepsRule p w m events s actors i (op.Store (of_thread w a.thread ThreadCurrent) (task_address w (task_under a))) on_current (b, outcome.Event (event.Join a.context.region))
 
   is_on : IsOn w (op.Store (of_thread w a.thread ThreadCurrent) (task_address w (task_under a))) on_current
-  is_on = record {
-    there = record { field = numbered_field ThreadCurrent; record_slot = record { made_by = known_thread; within = omega arith }; within = omega arith };
-    address = ap (λ j. of_thread w j ThreadCurrent) (own p w m events s actors i before x at tt).thread;
-  }
+  is_on = store_on p w m events s actors i before ThreadCurrent (task_address w (task_under a)) refl
 
   -- ---- with the bodies of the stack
 

@@ -1,5 +1,5 @@
 -- A task in the hand starts: it is scheduled from the current one, which waits under its body.
-use Rattle.std.proofs.Common.{◌≡◌, ◌<◌, ◌+◌, inl, ℕ, Bool, false, List, [], ◌∷◌, ◌++◌, Option, Some, refl, sym, ap, ◌∙◌, subst, arith}
+use Rattle.std.proofs.Common.{◌≡◌, ◌+◌, inl, ℕ, Bool, false, List, [], ◌∷◌, ◌++◌, Option, Some, refl, sym, ap, ◌∙◌, arith}
 use Rattle.std.specs.Option.{option_and_then, option_map}
 use Rattle.omi_numbers.specs.Addresses.{exit_below, exit_frame}
 use Rattle.omi_word.specs.declared.op.Op.TheVariants as op
@@ -32,8 +32,6 @@ use Rattle.omi_layout.specs.declared.field.Field.TheVariants.{ThreadCurrent}
 use Rattle.omi_layout.specs.Field.{tasks, threads}
 use Rattle.omi_layout.specs.Memory.{Memory, with_word}
 use Rattle.omi_layout.specs.Named.{number}
-use Rattle.omi_layout.specs.Table.{thread_count}
-use Rattle.omi_layout.proofs.Numbers.{numbered_field}
 use Rattle.omi_pc.specs.declared.actor.Actor.{Actor}
 use Rattle.omi_pc.specs.declared.context.Context.{Context}
 use Rattle.omi_pc.specs.declared.counter.Counter.{Counter}
@@ -69,6 +67,7 @@ use Rattle.omi_rule.specs.Chains.{IsSuspended, KeepsBodies, KeepsContext, RunsFu
 use Rattle.omi_rule.specs.Rows.{HasPlaced, MayStartIn}
 use Rattle.omi_rule.specs.Rule.{KeepsThread}
 use Rattle.omi_rule.specs.Steps.{IsOn, KeepsRule, RecordWord, StepKeeps}
+use Rattle.omi_rule.proofs.OwnWords.{store_on, thread_word}
 use Rattle.omi_rule.proofs.Assembly.{Before, plain_event_keeps, spares_threads}
 use Rattle.omi_rule.proofs.Begun.{settles, settles_owing_nothing, works, works_owing_nothing}
 use Rattle.omi_rule.proofs.OthersStand.{of_innermost}
@@ -337,15 +336,10 @@ module _ (p : Program) (w : List ℕ) (m : Memory) (events : List (ℕ × Event)
   later = events ++ (i, event.Start t) ∷ []
 
   abbrev on_current : RecordWord
-  on_current = record { creator = i; slot = 0; field = ThreadCurrent; place = 0 }
+  on_current = thread_word i ThreadCurrent
 
   is_on : IsOn w (op.Store (of_thread w a.thread ThreadCurrent) (task_address w t)) on_current
-  is_on =
-      let known : i < thread_count w = subst (λ k. i < k) before.rule.within.count before.known in
-      record {
-        there = record { field = numbered_field ThreadCurrent; record_slot = record { made_by = known; within = omega arith }; within = omega arith };
-        address = ap (λ j. of_thread w j ThreadCurrent) (own p w m events s actors i before standing at tt).thread;
-      }
+  is_on = store_on p w m events s actors i before ThreadCurrent (task_address w t) refl
 
   abbrev Goes : Actor → Type 0
   Goes c = KeepsRule p w m events s actors i (op.Store (of_thread w a.thread ThreadCurrent) (task_address w t)) on_current (c, outcome.Event (event.Start t))

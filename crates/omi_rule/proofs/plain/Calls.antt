@@ -31,6 +31,7 @@ use Rattle.omi_pc.specs.Settle.{settled}
 use Rattle.omi_pc.specs.Stacks.{function_of}
 use Rattle.omi_pc.proofs.Moved.{returned_fits}
 use Rattle.omi_pc.proofs.Unmoved.{returned_differs}
+use Rattle.omi_pc.proofs.NextCounters.{IsBefore}
 use Rattle.omi_plain.specs.PlainSteps.{loading_native, plain_moved, plain_next, plain_outcome}
 use Rattle.omi_plain.proofs.StayPlaced.{steps_stay_placed}
 use Rattle.omi_rep.specs.declared.outcome.Outcome.TheVariants as outcome
@@ -43,7 +44,7 @@ use Rattle.omi_rule.proofs.BodyMoves.{returned_of}
 use Rattle.omi_rule.proofs.NothingNew.{Makes}
 use Rattle.omi_rule.proofs.OwnTask.{top}
 use Rattle.omi_rule.proofs.Settling.{behind_return, in_work_is, returned_ahead, returns}
-use Rattle.omi_rule.proofs.plain.Firsts.{IsBefore, IsGrounded, grounds_are_of_bodies, returned_first, settled_first}
+use Rattle.omi_rule.proofs.plain.Firsts.{IsGrounded, grounds_are_of_bodies, returned_first, settled_first}
 use Rattle.omi_rule.proofs.plain.OwnEvents.{at_debug, body, fits_counter}
 use Rattle.omi_rule.proofs.plain.Loads.{goes_on, has_task, here, load_keeps, loads_native, native, native_on, on_ground, sees, settled_goes, takes_head, was_first}
 

@@ -25,17 +25,13 @@ use Rattle.omi_pc.specs.Settle.{goes_to}
 use Rattle.omi_plain.specs.PlainSteps.{loading_native, plain_moved, plain_next, plain_outcome}
 use Rattle.omi_plain.proofs.StayPlaced.{steps_stay_placed}
 use Rattle.omi_rep.specs.declared.outcome.Outcome.TheVariants as outcome
-use Rattle.omi_rule_words.specs.Owes.{all_owed}
-use Rattle.omi_rule_words.specs.Words.{KeepsWords}
-use Rattle.omi_rule_words.proofs.Moves.{moves_keep}
 use Rattle.omi_step_words.specs.Words.{of_thread}
 use Rattle.omi_layout.specs.declared.field.Field.TheVariants.{ThreadNative}
 use Rattle.omi_rule.specs.Chains.{KeepsBodies, KeepsBody}
-use Rattle.omi_rule.specs.Rule.{HasEnded, KeepsThread, Rule}
-use Rattle.omi_rule.specs.Steps.{KeepsRule, StepKeeps, left_in}
-use Rattle.omi_rule.proofs.Assembly.{Before, of_load, quiet_keeps, spares_none}
+use Rattle.omi_rule.specs.Rule.{HasEnded, Rule}
+use Rattle.omi_rule.specs.Steps.{StepKeeps, left_in}
+use Rattle.omi_rule.proofs.Assembly.{Before, load_stays}
 use Rattle.omi_rule.proofs.OwnTask.{top}
-use Rattle.omi_rule.proofs.RowsStay.{Spares}
 use Rattle.omi_rule.proofs.plain.OwnEvents.{GoesOn, fits_counter}
 use Rattle.omi_rule.proofs.plain.Loads.{here, load_keeps, loads_native, native, native_on, on_ground, sees}
 
@@ -90,12 +86,7 @@ module _ (p : Program) (w : List ℕ) (m : Memory) (events : List (ℕ × Event)
   ended_keeps at_counter =
       let own = before.rule.threads i before.known in
       let x = native p w m events s actors i before in
-      let same : left_in m (loading_native w (actors i)) x ≡ m = of_load p w m events s actors i before (of_thread w (actors i).thread ThreadNative) x in
-      let stays : KeepsRule p w m events s actors i (loading_native w (actors i)) x (actors i, outcome.Quiet) =
-      quiet_keeps p w m events s actors i before (loading_native w (actors i)) x (actors i, outcome.Quiet) refl
-      (subst (λ (n : Memory). KeepsWords w n s (all_owed (replace_at actors i (actors i)))) (sym same) (moves_keep w m s actors i (actors i) before.rule.words refl))
-      (λ j other. subst (λ (n : Memory). Spares m n s j (actors j)) (sym same) (spares_none m s j (actors j)))
-      (subst (λ (n : Memory). KeepsThread p w n events s i (actors i)) (sym same) own) in (
+      let stays = load_stays p w m events s actors i before (of_thread w (actors i).thread ThreadNative) x (actors i) refl own in (
         x,
         native_on p w m events s actors i before,
         record {

@@ -121,39 +121,11 @@ module _ (p : Program) (w : List ℕ) (m : Memory) (events : List (ℕ × Event)
         subst (λ (y : List Frame). P a.context (record { function = f; next = 0; opened = bodies.Critical l } ∷ y)) (sym stack)
         (laws.calls a.context f (bodies.Critical l) g gs refl (subst (λ (y : List Frame). P a.context y) stack all)))
         refl
-    leaves_by (stmt.Parallel f num) is placed = settles placed
-    leaves_by (stmt.Task f undeferred given) is placed = settles placed
-    leaves_by stmt.Taskwait is placed = settles placed
-    leaves_by stmt.Taskyield is placed = settles placed
-    leaves_by stmt.Barrier is placed = settles placed
-    leaves_by (stmt.Call f) is placed = settles placed
-    leaves_by (stmt.Only n f) is placed = settles placed
-    leaves_by (stmt.Repeat n f) is placed = settles placed
-    leaves_by (stmt.SetNumThreads n) is placed = settles placed
-    leaves_by (stmt.SetDynamic b) is placed = settles placed
-    leaves_by (stmt.SetMaxActive n) is placed = settles placed
-    leaves_by (stmt.SetSchedule x) is placed = settles placed
-    leaves_by (stmt.SetDevice d) is placed = settles placed
-    leaves_by (stmt.Tool x) is placed = settles placed
-    leaves_by stmt.Work is placed = settles placed
+    leaves_by x is placed = settles placed
 
     left_first : (x : Stmt) → IsFirst (left_behind p (Some x) a).counter
     left_first (stmt.Critical l f) = plain_first plain.Call tt
-    left_first (stmt.Parallel f num) = settled_first p a (was_first p w m events s actors i before plain.Leave at_counter tt)
-    left_first (stmt.Task f undeferred given) = settled_first p a (was_first p w m events s actors i before plain.Leave at_counter tt)
-    left_first stmt.Taskwait = settled_first p a (was_first p w m events s actors i before plain.Leave at_counter tt)
-    left_first stmt.Taskyield = settled_first p a (was_first p w m events s actors i before plain.Leave at_counter tt)
-    left_first stmt.Barrier = settled_first p a (was_first p w m events s actors i before plain.Leave at_counter tt)
-    left_first (stmt.Call f) = settled_first p a (was_first p w m events s actors i before plain.Leave at_counter tt)
-    left_first (stmt.Only n f) = settled_first p a (was_first p w m events s actors i before plain.Leave at_counter tt)
-    left_first (stmt.Repeat n f) = settled_first p a (was_first p w m events s actors i before plain.Leave at_counter tt)
-    left_first (stmt.SetNumThreads n) = settled_first p a (was_first p w m events s actors i before plain.Leave at_counter tt)
-    left_first (stmt.SetDynamic b) = settled_first p a (was_first p w m events s actors i before plain.Leave at_counter tt)
-    left_first (stmt.SetMaxActive n) = settled_first p a (was_first p w m events s actors i before plain.Leave at_counter tt)
-    left_first (stmt.SetSchedule x) = settled_first p a (was_first p w m events s actors i before plain.Leave at_counter tt)
-    left_first (stmt.SetDevice d) = settled_first p a (was_first p w m events s actors i before plain.Leave at_counter tt)
-    left_first (stmt.Tool x) = settled_first p a (was_first p w m events s actors i before plain.Leave at_counter tt)
-    left_first stmt.Work = settled_first p a (was_first p w m events s actors i before plain.Leave at_counter tt)
+    left_first x = settled_first p a (was_first p w m events s actors i before plain.Leave at_counter tt)
 
     pub leave_keeps : StepKeeps p w m events s actors i (plain_next p w (actors i) plain.Leave) (λ old. (plain_moved p (actors i) plain.Leave old, plain_outcome p w (actors i) plain.Leave old))
     leave_keeps =

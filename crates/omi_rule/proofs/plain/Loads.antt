@@ -1,6 +1,5 @@
 -- The plain steps that need no word: work, calls, statements that are passed over, and returns. Each loads the thread's native id.
 use Rattle.std.proofs.Common.{◌≡◌, ◌<◌, ℕ, Bool, true, List, [], ◌∷◌, ◌++◌, length, Some, None, refl, sym, ap, ◌∙◌, subst, arith, if◌then◌else◌}
-use Rattle.std.proofs.lemmas.Bool.Decides.{nat_tests}
 use Rattle.omi_word.specs.declared.op.Op.TheVariants as op
 use Rattle.omi_script.specs.declared.program.Program.{Program}
 use Rattle.omi_script.specs.declared.statement.Stmt.TheVariants as stmt
@@ -14,15 +13,8 @@ use Rattle.omi_model.specs.Lists.{fits, may_drop, opened, stays, take_item}
 use Rattle.omi_model.specs.Rules.{Rule, effect}
 use Rattle.omi_model.specs.State.{State}
 use Rattle.omi_model.proofs.Steps.{relisted}
-use Rattle.omi_layout.specs.declared.field.Field.{Field}
 use Rattle.omi_layout.specs.declared.field.Field.TheVariants.{ThreadNative}
-use Rattle.omi_layout.specs.Field.{kind_of, threads}
-use Rattle.omi_layout.specs.Memory.{IsRecordWord, Memory}
-use Rattle.omi_layout.specs.Named.{number}
-use Rattle.omi_layout.specs.Place.{IsSlot}
-use Rattle.omi_layout.specs.Table.{thread_count, width}
-use Rattle.omi_layout.proofs.Arenas.{some_threads}
-use Rattle.omi_layout.proofs.Numbers.{numbered_field}
+use Rattle.omi_layout.specs.Memory.{Memory}
 use Rattle.omi_pc.specs.declared.actor.Actor.{Actor}
 use Rattle.omi_pc.specs.declared.context.Context.{Context}
 use Rattle.omi_pc.specs.declared.counter.Counter.TheVariants as counter
@@ -48,13 +40,14 @@ use Rattle.omi_rule.specs.Chains.{KeepsBodies, KeepsContext, RunsFunctions, Stan
 use Rattle.omi_rule.specs.Commits.{CommitsAt}
 use Rattle.omi_rule.specs.Rule.{HasEnded}
 use Rattle.omi_rule.specs.Steps.{IsOn, KeepsRule, RecordWord, StepKeeps, left_in}
+use Rattle.omi_rule.proofs.OwnWords.{load_on, thread_word}
 use Rattle.omi_rule.proofs.Assembly.{Before, of_load, spares_none}
 use Rattle.omi_rule.proofs.BodyMoves.{settled_of}
 use Rattle.omi_rule.proofs.NothingNew.{Makes}
 use Rattle.omi_rule.proofs.OwnTask.{bodies_are_of_bodies, list_moved, own_changes, relisted_ahead, relisted_alike}
 use Rattle.omi_rule.proofs.RowsStay.{Spares}
 use Rattle.omi_rule.proofs.Settling.{in_work_is, settled_ahead}
-use Rattle.omi_rule.proofs.plain.Firsts.{IsBefore, IsFirst, IsGrounded, grounded, grounds_are_of_bodies, plain_first, settled_first}
+use Rattle.omi_rule.proofs.plain.Firsts.{IsFirst, IsGrounded, grounded, grounds_are_of_bodies, plain_first, settled_first}
 use Rattle.omi_rule.proofs.plain.OwnEvents.{GoesOn, at_debug, body, fits_counter, own_event, stands, steps}
 use Rattle.omi_rule_words.specs.Owes.{nothing, owed}
 use Rattle.omi_rule.specs.Rows.{KeepsRow}
@@ -62,6 +55,7 @@ use Rattle.omi_rule.proofs.Runs.{runs_are_of_bodies}
 use Rattle.omi_rule.proofs.BodyMoves.{IsOfBodies}
 use Rattle.omi_pc.specs.declared.frame.Frame.{Frame}
 use Rattle.omi_pc.specs.declared.context.Context.{Context}
+use Rattle.omi_pc.proofs.NextCounters.{IsBefore}
 
 -- ---- the head of a list
 
@@ -72,33 +66,15 @@ takes_head p at e x xs y zs is fit =
     ∙ ap (λ (b : Bool). if b then Some (y, zs) else (if may_drop x then take_item p at e xs else None)) fit
 
 module _ (p : Program) (w : List ℕ) (m : Memory) (events : List (ℕ × Event)) (s : State) (actors : ℕ → Actor) (i : ℕ) (before : Before p w m events s actors i) where
-  -- ---- the word
-
-  pub known_thread : i < thread_count w
-  known_thread = subst (λ n. i < n) before.rule.within.count before.known
-
-  wide : (f : ℕ) → 0 < width w f
-  wide f = grind (arith, nat_tests, some_threads w before.valid)
-
-  pub thread_word : (f : Field) → kind_of (number f) ≡ threads → IsRecordWord w i 0 (number f) 0
-  thread_word f kind = record {
-    field = numbered_field f;
-    record_slot = subst (λ q. IsSlot w q i 0) (sym kind) (record { made_by = known_thread; within = omega arith });
-    within = wide (number f);
-  }
-
   -- the load of the native id
   abbrev pub native : RecordWord
-  native = record { creator = i; slot = 0; field = ThreadNative; place = 0 }
+  native = thread_word i ThreadNative
 
   pub loads_native : loading_native w (actors i) ≡ op.Load (of_thread w i ThreadNative)
   loads_native = ap (λ j. op.Load (of_thread w j ThreadNative)) (before.rule.threads i before.known).thread
 
   pub native_on : IsOn w (loading_native w (actors i)) native
-  native_on = record {
-    there = thread_word ThreadNative refl;
-    address = ap (λ j. of_thread w j ThreadNative) (before.rule.threads i before.known).thread;
-  }
+  native_on = load_on p w m events s actors i before ThreadNative refl
 
   module _ (c : PlainCounter) (at_counter : (actors i).counter ≡ counter.Plain c) where
     abbrev pub here : StandsInTask p s i (actors i)

@@ -28,8 +28,7 @@ use Rattle.omi_model.proofs.Steps.{relisted}
 use Rattle.omi_layout.specs.declared.field.Field.{Field}
 use Rattle.omi_layout.specs.declared.field.Field.TheVariants.{RuntimeLocks}
 use Rattle.omi_layout.specs.Field.{runtime}
-use Rattle.omi_layout.specs.Memory.{IsRecordWord, Memory, Rec, with_word, with_word_in, word_address}
-use Rattle.omi_layout.specs.Memory as Words
+use Rattle.omi_layout.specs.Memory.{IsRecordWord, Memory, Rec, with_word, with_word_in}
 use Rattle.omi_layout.specs.Named.{number}
 use Rattle.omi_layout.specs.Table.{width}
 use Rattle.omi_layout.proofs.Numbers.{numbered_field}
@@ -56,16 +55,15 @@ use Rattle.omi_rule_words.specs.Owes.{all_owed}
 use Rattle.omi_rule_words.specs.TaskKinds.{with_runtime}
 use Rattle.omi_rule_words.specs.Threads.{KeepsRuntime, lock_word}
 use Rattle.omi_rule_words.specs.Words.{KeepsWords}
-use Rattle.omi_rule_words.proofs.Moves.{moves_keep}
 use Rattle.omi_rule_words.proofs.RuntimeStores.{runtime_stores_keep}
 use Rattle.omi_rule.specs.Ahead as Ahead
 use Rattle.omi_rule.specs.Ahead.{IsAhead, ahead, leaving, locking_in, lock_of, plain_ahead}
 use Rattle.omi_rule.specs.Commits.{CommitsAt}
-use Rattle.omi_rule.specs.Rule.{HasEnded, KeepsThread}
+use Rattle.omi_rule.specs.Rule.{HasEnded}
 use Rattle.omi_rule.specs.Steps.{KeepsRule, RecordWord, StepKeeps, found_in, left_in}
 use Rattle.omi_rule.specs.Waits.{locks_next}
 use Rattle.omi_rule.specs.Waits.Waits.{ForLock}
-use Rattle.omi_rule.proofs.Assembly.{Before, spares_none, spares_runtime, waits_keep}
+use Rattle.omi_rule.proofs.Assembly.{Before, spares_runtime, waits_stay}
 use Rattle.omi_rule.proofs.BodyMoves.{working_of}
 use Rattle.omi_rule.proofs.NothingNew.{Makes}
 use Rattle.omi_rule.proofs.OwnTask.{own_changes, relisted_ahead, relisted_alike}
@@ -289,11 +287,8 @@ module _ (p : Program) (w : List ℕ) (m : Memory) (events : List (ℕ × Event)
         let same : left_in m exchange at_lock ≡ m =
         ap (λ (b : Bool). with_word m 0 runtime 0 (number RuntimeLocks) taken (if b then a.thread + 1 else found)) held ∙ word_back m 0 runtime 0 (number RuntimeLocks) taken in
         let next : locks_next taken o.task.list = subst (locks_next taken) (sym (list_is p w m events s actors i before plain.Lock at_counter ∙ lock_ahead)) refl in
-        waits_keep p w m events s actors i before exchange at_lock (a, outcome.NotReady (of_lock w taken) found) (of_lock w taken) refl
+        waits_stay p w m events s actors i before exchange at_lock a same refl own (of_lock w taken)
         (ForLock taken (a.context.task, o.task, now_current p w m events s actors i before plain.Lock at_counter, next) refl (λ e. false≢true (sym held ∙ eq-eqb found 0 e))) tt refl
-        (subst (λ (n : Memory). KeepsWords w n s (all_owed (Words.replace_at actors i a))) (sym same) (moves_keep w m s actors i a before.rule.words refl))
-        (λ j other. subst (λ (n : Memory). Spares m n s j (actors j)) (sym same) (spares_none m s j (actors j)))
-        (subst (λ (n : Memory). KeepsThread p w n events s i a) (sym same) own)
 
     pub lock_keeps : StepKeeps p w m events s actors i (plain_next p w (actors i) plain.Lock) (λ old. (plain_moved p (actors i) plain.Lock old, plain_outcome p w (actors i) plain.Lock old))
     lock_keeps = (

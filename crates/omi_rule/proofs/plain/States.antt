@@ -56,13 +56,14 @@ use Rattle.omi_rule.specs.Ahead as Ahead
 use Rattle.omi_rule.specs.Ahead.{in_work, lock_of, locking_in, plain_ahead}
 use Rattle.omi_rule.specs.Rule.{HasEnded}
 use Rattle.omi_rule.specs.Steps.{RecordWord, StepKeeps}
+use Rattle.omi_rule.proofs.OwnWords.{store_on}
 use Rattle.omi_rule.proofs.Assembly.{Before, spares_threads}
 use Rattle.omi_rule.proofs.BodyMoves.{worked_of}
 use Rattle.omi_rule.proofs.OwnTask.{own_changes, relisted_ahead, relisted_alike}
 use Rattle.omi_rule.proofs.Settling.{in_work_is, worked_ahead}
 use Rattle.omi_rule.proofs.plain.Firsts.{IsGrounded, grounds_are_of_bodies, plain_first, worked_first}
 use Rattle.omi_rule.proofs.plain.OwnEvents.{GoesOn, at_debug, body, fits_counter, own_event, steps}
-use Rattle.omi_rule.proofs.plain.Loads.{goes_on, has_task, here, on_ground, sees, takes_head, thread_word, was_first}
+use Rattle.omi_rule.proofs.plain.Loads.{goes_on, has_task, here, on_ground, sees, takes_head, was_first}
 use Rattle.omi_rule.proofs.plain.Locks.{at_critical, lock}
 use Rattle.omi_rule.proofs.plain.TaskWords.{middle, middle_words, own_task}
 
@@ -131,7 +132,7 @@ module _ (p : Program) (w : List ℕ) (m : Memory) (events : List (ℕ × Event)
       let taken : take_item p at e (plain_ahead p at (actors i).stack c) ≡ Some (y, zs) =
       ap (take_item p at e) list ∙ takes_head p at e y zs y zs refl (ap (λ (b : Bool). b && (wait == wait)) (eq-eqb state state refl) ∙ eq-eqb wait wait refl) in (
         state_at,
-        record { there = thread_word p w m events s actors i before ThreadState refl; address = ap (λ j. of_thread w j ThreadState) own.thread },
+        store_on p w m events s actors i before ThreadState (state_word state wait) refl,
         own_event p w m events s actors i before c at_counter (shows state wait) state_at b (outcome.Event e) e y zs u refl (λ q. q) (λ n q. absurd (cc q)) taken
             (steps p w m events s actors i before c at_counter e y zs u taken tt refl refl) (state_word state wait, ap (λ j. op.Store (of_thread w j ThreadState) (state_word state wait)) own.thread)
             (thread_stores_keep w m z (all_owed actors) i h ThreadState (state_word state wait) (middle_words p w m events s actors i before c at_counter zs) (λ q. absurd (omega (arith, q)))

@@ -18,7 +18,6 @@ use Rattle.omi_model.specs.Lists.{opened, take_item}
 use Rattle.omi_numbers.specs.declared.variables.TheConstants.{DEFAULT_DEVICE_VAR, DYN_VAR, MAX_ACTIVE_LEVELS_VAR, NTHREADS_VAR, RUN_SCHED_VAR}
 use Rattle.omi_numbers.specs.Words.{flag}
 use Rattle.omi_script.specs.Schedules.{schedule_word}
-use Rattle.omi_model.specs.Rows.{first_of}
 use Rattle.omi_model.specs.Settings.{with_head, with_set, with_task_variable, with_variable, with_variable_of}
 use Rattle.omi_model.specs.State.{State, task_of}
 use Rattle.omi_layout.specs.declared.field.Field.{Field}
@@ -34,8 +33,7 @@ use Rattle.omi_pc.specs.Fits.{Sets}
 use Rattle.omi_pc.specs.OpenBodies.{IsAt}
 use Rattle.omi_pc.specs.Settle.{settled}
 use Rattle.omi_plain.specs.PlainSteps.{plain_moved, plain_next, plain_outcome, set_outcome}
-use Rattle.omi_plain.specs.Statements.{set_address, set_number, set_word}
-use Rattle.omi_plain.proofs.Sets.{sets_as_rows}
+use Rattle.omi_plain.specs.Statements.{set_address, set_word}
 use Rattle.omi_plain.proofs.StayPlaced.{steps_stay_placed}
 use Rattle.omi_rep.specs.declared.outcome.Outcome.TheVariants as outcome
 use Rattle.omi_rule_words.specs.Objects.{KeepsEnvironment, KeepsPlace}
@@ -207,34 +205,29 @@ module _ (p : Program) (w : List ℕ) (m : Memory) (events : List (ℕ × Event)
             (inl (refl, (n, refl))) goes (first.ended (events ++ (i, event.Set MAX_ACTIVE_LEVELS_VAR n) ∷ []) i),
       )
 
-  row_of : (x : Stmt) → Sets x → ◌≡◌ {A = Item × List Item} (first_of at x, rest) (item.Set (set_number (Some x)) (set_word (Some x)), rest)
-  row_of x sets = ap {B = Item × List Item} (λ (y : Item). (y, rest)) (sets_as_rows at x sets)
+  environment : KeepsEnvironment w own_record t
+  environment = has_environment p w m events s actors i before plain.Set at_counter
+
+  place : KeepsPlace w own_record t
+  place = has_place p w m events s actors i before plain.Set at_counter
 
   sets_by : (x : Stmt) → IsAt p a.stack x → Sets x → StepKeeps p w m events s actors i (op.Store (set_address w a (Some x)) (set_word (Some x))) (λ old. (settled p a, set_outcome (Some x)))
   sets_by (stmt.SetNumThreads n) is sets =
-      let o = has_place p w m events s actors i before plain.Set at_counter in
       variable_event (stmt.SetNumThreads n) TaskNthreads NTHREADS_VAR n _ is refl refl
       (record { life = λ e. absurd (omega (arith, e)); children = λ e. absurd (omega (arith, e)); references = λ e. absurd (omega (arith, e)); slots = λ e. absurd (omega (arith, e)) })
-      refl refl (nthreads_kept w own_record t rest (has_environment p w m events s actors i before plain.Set at_counter) n)
-      (record { thread = o.thread; member = o.member; scheduling = o.scheduling; exit = o.exit; enter = o.enter }) refl
+      refl refl (nthreads_kept w own_record t rest environment n) (record { thread = place.thread; member = place.member; scheduling = place.scheduling; exit = place.exit; enter = place.enter }) refl
   sets_by (stmt.SetDynamic b) is sets =
-      let o = has_place p w m events s actors i before plain.Set at_counter in
-      variable_event (stmt.SetDynamic b) TaskDynamic DYN_VAR (flag b) _ is (row_of (stmt.SetDynamic b) sets) refl
+      variable_event (stmt.SetDynamic b) TaskDynamic DYN_VAR (flag b) _ is refl refl
       (record { life = λ e. absurd (omega (arith, e)); children = λ e. absurd (omega (arith, e)); references = λ e. absurd (omega (arith, e)); slots = λ e. absurd (omega (arith, e)) })
-      refl refl (dynamic_kept w own_record t rest (has_environment p w m events s actors i before plain.Set at_counter) b)
-      (record { thread = o.thread; member = o.member; scheduling = o.scheduling; exit = o.exit; enter = o.enter }) refl
+      refl refl (dynamic_kept w own_record t rest environment b) (record { thread = place.thread; member = place.member; scheduling = place.scheduling; exit = place.exit; enter = place.enter }) refl
   sets_by (stmt.SetSchedule x) is sets =
-      let o = has_place p w m events s actors i before plain.Set at_counter in
       variable_event (stmt.SetSchedule x) TaskSchedule RUN_SCHED_VAR (schedule_word x) _ is refl refl
       (record { life = λ e. absurd (omega (arith, e)); children = λ e. absurd (omega (arith, e)); references = λ e. absurd (omega (arith, e)); slots = λ e. absurd (omega (arith, e)) })
-      refl refl (schedule_kept w own_record t rest (has_environment p w m events s actors i before plain.Set at_counter) (schedule_word x))
-      (record { thread = o.thread; member = o.member; scheduling = o.scheduling; exit = o.exit; enter = o.enter }) refl
+      refl refl (schedule_kept w own_record t rest environment (schedule_word x)) (record { thread = place.thread; member = place.member; scheduling = place.scheduling; exit = place.exit; enter = place.enter }) refl
   sets_by (stmt.SetDevice d) is sets =
-      let o = has_place p w m events s actors i before plain.Set at_counter in
       variable_event (stmt.SetDevice d) TaskDevice DEFAULT_DEVICE_VAR d _ is refl refl
       (record { life = λ e. absurd (omega (arith, e)); children = λ e. absurd (omega (arith, e)); references = λ e. absurd (omega (arith, e)); slots = λ e. absurd (omega (arith, e)) })
-      refl refl (device_kept w own_record t rest (has_environment p w m events s actors i before plain.Set at_counter) d)
-      (record { thread = o.thread; member = o.member; scheduling = o.scheduling; exit = o.exit; enter = o.enter }) refl
+      refl refl (device_kept w own_record t rest environment d) (record { thread = place.thread; member = place.member; scheduling = place.scheduling; exit = place.exit; enter = place.enter }) refl
   sets_by (stmt.SetMaxActive n) is sets = max_active_event n is
   sets_by _ is sets = absurd sets
 

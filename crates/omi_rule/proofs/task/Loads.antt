@@ -25,8 +25,8 @@ use Rattle.omi_step_words.specs.Plan.{of_variable, variable_at}
 use Rattle.omi_task.specs.MakingSteps.{making_moved, making_next, making_outcome}
 use Rattle.omi_rule.specs.Rows.{HasPlace, IsVariable, KnowsVariables}
 use Rattle.omi_rule.specs.Steps.{KeepsRule, RecordWord, StepKeeps, found_in}
-use Rattle.omi_rule.proofs.Assembly.{Before}
-use Rattle.omi_rule.proofs.task.Within.{context, context_placed, fits, going, goes_on, loaded, own, owes, row, task_record}
+use Rattle.omi_rule.proofs.Assembly.{Before, load_stays}
+use Rattle.omi_rule.proofs.task.Within.{context, context_placed, fits, going, goes_on, own, owes, row, task_record}
 use Rattle.omi_rule.proofs.team.Loads.{variable_field, variable_is, variable_word, variables_more}
 
 -- the slot into which the task goes stays empty where the thread goes on within its construct
@@ -79,14 +79,14 @@ module _ (p : Program) (w : List ℕ) (m : Memory) (events : List (ℕ × Event)
       go : (b : Bool) → nat_lt (word + 1) VARIABLE_WORDS ≡ b → KeepsRule p w m events s actors i (op.Load (of_variable w Name word)) X (to_task (if b then task.LoadVariable place (word + 1) else task.LoadLife place 0) (with_loaded_variable word (found_in m X) (actors i)), outcome.Quiet)
       go true e =
           let d : TaskCounter = task.LoadVariable place (word + 1) in
-          loaded p w m events s actors i before C at (of_variable w Name word) X (going d Then (actors i)) (sym (owes p w m events s actors i before C at))
+          load_stays p w m events s actors i before (of_variable w Name word) X (going d Then (actors i)) (sym (owes p w m events s actors i before C at))
           (goes_on p w m events s actors i before C at m d Then variables refl
           ((fits p w m events s actors i before C at).0, ltb-true (word + 1) VARIABLE_WORDS e) tt
           (place_goes p m (actors i) d Then place (row p w m events s actors i before C at).0, known d))
       go false e =
           let all : word + 1 ≡ VARIABLE_WORDS = grind (arith, nat_tests, below) in
           let d : TaskCounter = task.LoadLife place 0 in
-          loaded p w m events s actors i before C at (of_variable w Name word) X (going d Then (actors i)) (sym (owes p w m events s actors i before C at))
+          load_stays p w m events s actors i before (of_variable w Name word) X (going d Then (actors i)) (sym (owes p w m events s actors i before C at))
           (goes_on p w m events s actors i before C at m d Then variables refl
           (fits p w m events s actors i before C at).0 (some_tasks w before.valid)
           (place_goes p m (actors i) d Then place (row p w m events s actors i before C at).0, subst (KnowsVariables s (going d Then (actors i))) all (known d)))

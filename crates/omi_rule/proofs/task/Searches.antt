@@ -38,11 +38,11 @@ use Rattle.omi_rule.specs.Rows.{HasLoaded}
 use Rattle.omi_rule.specs.Steps.{KeepsRule, RecordWord, StepKeeps, found_in}
 use Rattle.omi_rule.specs.Waits as Waits
 use Rattle.omi_rule.specs.Waits.{makes_next}
-use Rattle.omi_rule.proofs.Assembly.{Before}
+use Rattle.omi_rule.proofs.Assembly.{Before, load_stays, load_waits}
 use Rattle.omi_rule.proofs.OwnTask.{is_current}
 use Rattle.omi_rule.proofs.Settling.{in_work_is}
 use Rattle.omi_rule.proofs.task.Loads.{place_goes}
-use Rattle.omi_rule.proofs.task.Within.{context, fits, going, goes_on, list_is, load_waits, loaded, own, owes, placed, row, stands, thread_there}
+use Rattle.omi_rule.proofs.task.Within.{context, fits, going, goes_on, list_is, own, owes, placed, row, stands, thread_there}
 use Rattle.omi_rule.proofs.team.Records.{free_slot, next_within}
 
 -- the making of a task is next, whatever place it is for
@@ -100,13 +100,13 @@ module _ (p : Program) (w : List ℕ) (m : Memory) (events : List (ℕ × Event)
           let t : Tid = record { 0 = object_in (own_place (actors i) slot) (found_in m X) } in
           let next : TaskCounter = task.Take place t in
           let (fresh, none) = free_slot s.tasks i (actors i).thread slot TaskLife (m (actors i).thread tasks slot) (has_slot slot (owed (actors i)).tasks) same_thread life free in
-          loaded p w m events s actors i before C at (of_place w (own_place (actors i) slot) TaskLife) X (to_task next (actors i)) (sym (owes p w m events s actors i before C at))
+          load_stays p w m events s actors i before (of_place w (own_place (actors i) slot) TaskLife) X (to_task next (actors i)) (sym (owes p w m events s actors i before C at))
           (goes_on p w m events s actors i before C at m next (actors i).gathered (own p w m events s actors i before C at).fits.variables refl
           (fits p w m events s actors i before C at, refl) there
           (loaded_goes p m s (actors i) next place (row p w m events s actors i before C at), fresh))
       go false taken =
           let next : TaskCounter = task.LoadLife place (next_slot w tasks slot) in
-          load_waits p w m events s actors i before C at (of_place w (own_place (actors i) slot) TaskLife) X (to_task next (actors i))
+          load_waits p w m events s actors i before (of_place w (own_place (actors i) slot) TaskLife) X (to_task next (actors i))
           (Waits.ForTaskRecord (inr makes)
           (record { slot = slot; within = within; address_is = ap (λ j. of_place w (record { creator = j; slot = slot }) TaskLife) same_thread; taken = taken }))
           (sym (owes p w m events s actors i before C at))

@@ -45,14 +45,14 @@ use Rattle.omi_rule.specs.Chains.{encounter_of}
 use Rattle.omi_rule.specs.Rows.{Defers, KeepsTaskRow}
 use Rattle.omi_rule.specs.Rule.{KeepsThread}
 use Rattle.omi_rule.specs.Steps.{KeepsRule, RecordWord, StepKeeps, found_in, left_in}
-use Rattle.omi_rule.proofs.Assembly.{Before, of_load, plain_event_keeps, spares_none}
+use Rattle.omi_rule.proofs.Assembly.{Before, load_stays, of_load, plain_event_keeps, spares_none}
 use Rattle.omi_rule.proofs.KeptObjects.{task_kept}
 use Rattle.omi_rule.proofs.Own.{ChangesTask, context_kept}
 use Rattle.omi_rule.proofs.OwnTask.{is_current, own_changes, own_stands, relisted_ahead, relisted_alike}
 use Rattle.omi_rule.proofs.RowsStay.{Spares}
 use Rattle.omi_rule.proofs.Runs.{stack_runs}
 use Rattle.omi_rule.proofs.task.Events.{making_is, none_new, sees_final, step, words_moved}
-use Rattle.omi_rule.proofs.task.Within.{context, context_placed, fits, going, goes_on, loaded, own, own_slots, owes, row, standing, stands}
+use Rattle.omi_rule.proofs.task.Within.{context, context_placed, fits, going, goes_on, own, own_slots, owes, row, standing, stands}
 
 -- a deferred task is explicit
 pub deferred_explicit : (p : Program) (events : List (ℕ × Event)) (s : State) → Reached p events s → (k : Tid) (t : Task) → task_of s k ≡ Some t → t.progress ≡ Deferred → t.implicit ≡ false
@@ -93,7 +93,7 @@ module _ (p : Program) (w : List ℕ) (m : Memory) (events : List (ℕ × Event)
   empty_keeps none =
       let o = context p w m events s actors i before C at in
       let d : TaskCounter = task.LoadVariable (Some place) 0 in
-      loaded p w m events s actors i before C at O X (to_task d (actors i)) (sym (owes p w m events s actors i before C at))
+      load_stays p w m events s actors i before O X (to_task d (actors i)) (sym (owes p w m events s actors i before C at))
       (goes_on p w m events s actors i before C at m d (actors i).gathered (own p w m events s actors i before C at).fits.variables refl
       (fits p w m events s actors i before C at, omega arith) tt
       ((defers, none), (o.task, o.live, λ j below. absurd (omega (arith, below)))))

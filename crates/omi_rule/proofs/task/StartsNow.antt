@@ -1,5 +1,5 @@
 -- A new task starts at once: its record is stored as the current task's, and its thread goes on in its body.
-use Rattle.std.proofs.Common.{◌≡◌, ◌||◌, ◌<◌, ℕ, Bool, true, false, List, [], ◌∷◌, ◌++◌, Option, Some, None, refl, sym, ap, ◌∙◌, subst, arith, if◌then◌else◌}
+use Rattle.std.proofs.Common.{◌≡◌, ◌||◌, ℕ, Bool, true, false, List, [], ◌∷◌, ◌++◌, Option, Some, None, refl, sym, ap, ◌∙◌, arith, if◌then◌else◌}
 use Rattle.omi_word.specs.declared.op.Op.TheVariants as op
 use Rattle.omi_script.specs.declared.env.Env.{Env}
 use Rattle.omi_script.specs.declared.program.Program.{Program}
@@ -53,6 +53,7 @@ use Rattle.omi_rule.specs.Chains.{KeepsBodies, KeepsContext, RunsFunctions, enco
 use Rattle.omi_rule.specs.Rows.{HasFilledTask}
 use Rattle.omi_rule.specs.Rule.{KeepsThread}
 use Rattle.omi_rule.specs.Steps.{RecordWord, StepKeeps}
+use Rattle.omi_rule.proofs.OwnWords.{store_on, thread_word}
 use Rattle.omi_rule.proofs.Assembly.{Before, event_keeps, spares_threads}
 use Rattle.omi_rule_words.proofs.Defers.{starts_now_keep}
 use Rattle.omi_rule.proofs.Begun.{settled_is_first, settles}
@@ -110,7 +111,7 @@ module _ (p : Program) (w : List ℕ) (m : Memory) (events : List (ℕ × Event)
   U = started_now p Z i t f final (actors i).context.task Maker
 
   abbrev X : RecordWord
-  X = record { creator = i; slot = 0; field = ThreadCurrent; place = 0 }
+  X = thread_word i ThreadCurrent
 
   abbrev N : Memory
   N = with_word m i threads 0 (number ThreadCurrent) 0 (task_address w t)
@@ -247,10 +248,7 @@ module _ (p : Program) (w : List ℕ) (m : Memory) (events : List (ℕ × Event)
   pub start_now_keeps : StepKeeps p w m events s actors i (making_next p w (actors i) C) (λ old. (making_moved p w (actors i) C old, making_outcome w (actors i) C old))
   start_now_keeps = (
     X,
-    record {
-      there = record { field = record { from = omega arith; to = omega arith }; record_slot = record { made_by = subst (λ n. i < n) before.rule.within.count before.known; within = omega arith }; within = omega arith };
-      address = ap (λ j. of_thread w j ThreadCurrent) (own p w m events s actors i before C at).thread;
-    },
+    store_on p w m events s actors i before ThreadCurrent (task_address w t) refl,
     event_keeps p w m events s actors i before (op.Store (of_thread w (actors i).thread ThreadCurrent) (task_address w t)) X (settled p b, outcome.Event (event.StartNow t)) (event.StartNow t) U refl done
         (task_address w t, ap (λ j. op.Store (of_thread w j ThreadCurrent) (task_address w t)) (own p w m events s actors i before C at).thread)
         before.rule.within.regions (tasks_within p w m s (all_owed actors) i (actors i) t Maker Z ready New U refl refl refl)

@@ -1,5 +1,6 @@
 -- A thread forks: it goes on with member 0 of its team, on top of the encountering task.
 use Rattle.std.proofs.Common.{◌≡◌, ◌+◌, ◌++◌, ◌<◌, ◌≤◌, nat_lt, ℕ, inl, Bool, true, false, List, [], ◌∷◌, length, drop, Option, Some, refl, sym, ap, ◌∙◌, subst, arith, ltb-true, if◌then◌else◌}
+use Rattle.omi_rule.proofs.OwnWords.{store_on, thread_word}
 use Rattle.omi_rule.proofs.OthersStand.{of_innermost}
 use Rattle.std.specs.Option.{option_map_or}
 use Rattle.std.proofs.lemmas.Bool.Decides.{nat_tests}
@@ -114,7 +115,7 @@ module _ (p : Program) (w : List ℕ) (m : Memory) (events : List (ℕ × Event)
   New = new_region (actors i).context.task (moved p w m events s actors i before r at) (here p w m events s actors i before r at).region (actors i).gathered.team (next p w m events s actors i before r at).function
 
   abbrev X : RecordWord
-  X = record { creator = i; slot = 0; field = ThreadCurrent; place = 0 }
+  X = thread_word i ThreadCurrent
 
   abbrev N : Memory
   N = with_word m i threads 0 (number ThreadCurrent) 0 (task_address w (member_of (actors i).gathered.team 0).0)
@@ -303,10 +304,7 @@ module _ (p : Program) (w : List ℕ) (m : Memory) (events : List (ℕ × Event)
   pub fork_keeps : StepKeeps p w m events s actors i (team_next p w (actors i) C) (λ old. (team_moved p w (actors i) C old, team_outcome p w (actors i) C old))
   fork_keeps = (
     X,
-    record {
-      there = record { field = record { from = omega arith; to = omega arith }; record_slot = record { made_by = subst (λ n. i < n) before.rule.within.count before.known; within = omega arith }; within = omega arith };
-      address = ap (λ j. of_thread w j ThreadCurrent) (own p w m events s actors i before C at).thread;
-    },
+    store_on p w m events s actors i before ThreadCurrent _ refl,
     go (nat_lt 1 (team_size (actors i))) refl,
   )
     where

@@ -28,8 +28,8 @@ use Rattle.omi_step_words.specs.Words.{of_region}
 use Rattle.omi_fork.specs.TeamSteps.{team_moved, team_next, team_outcome}
 use Rattle.omi_rule.specs.Rows.{IsVariable, KnowsVariables}
 use Rattle.omi_rule.specs.Steps.{KeepsRule, RecordWord, StepKeeps, found_in}
-use Rattle.omi_rule.proofs.Assembly.{Before}
-use Rattle.omi_rule.proofs.team.Within.{context, fits, going, goes_on, loaded, own, owes, region_record, region_slot, row, task_record, task_slot}
+use Rattle.omi_rule.proofs.Assembly.{Before, load_stays}
+use Rattle.omi_rule.proofs.team.Within.{context, fits, going, goes_on, own, owes, region_record, region_slot, row, task_record, task_slot}
 
 module _ (p : Program) (w : List ℕ) (m : Memory) (events : List (ℕ × Event)) (s : State) (actors : ℕ → Actor) (i : ℕ) (before : Before p w m events s actors i) where
   abbrev a : Actor
@@ -47,7 +47,7 @@ module _ (p : Program) (w : List ℕ) (m : Memory) (events : List (ℕ × Event)
       let word : found_in m x ≡ o.region.levels = (region_record p w m events s actors i before team.LoadLevels at).levels in (
         x,
         record { there = record { field = record { from = omega arith; to = omega arith }; record_slot = region_slot p w m events s actors i before team.LoadLevels at; within = omega arith }; address = refl },
-        loaded p w m events s actors i before team.LoadLevels at (of_region w n RegionLevels) x (going team.LoadActive (record g { levels = found_in m x }) a) (sym (owes p w m events s actors i before team.LoadLevels at))
+        load_stays p w m events s actors i before (of_region w n RegionLevels) x (going team.LoadActive (record g { levels = found_in m x }) a) (sym (owes p w m events s actors i before team.LoadLevels at))
             (goes_on p w m events s actors i before team.LoadLevels at m team.LoadActive (record g { levels = found_in m x }) (own p w m events s actors i before team.LoadLevels at).fits.variables refl
             (fits p w m events s actors i before team.LoadLevels at) tt (o.region, o.found, sym word)),
       )
@@ -64,7 +64,7 @@ module _ (p : Program) (w : List ℕ) (m : Memory) (events : List (ℕ × Event)
       let fits_now = fits p w m events s actors i before team.LoadActive at in (
         x,
         record { there = record { field = record { from = omega arith; to = omega arith }; record_slot = region_slot p w m events s actors i before team.LoadActive at; within = omega arith }; address = refl },
-        loaded p w m events s actors i before team.LoadActive at (of_region w n RegionActive) x (going (team.LoadVariable 0) (record g { active = found_in m x }) a) (sym (owes p w m events s actors i before team.LoadActive at))
+        load_stays p w m events s actors i before (of_region w n RegionActive) x (going (team.LoadVariable 0) (record g { active = found_in m x }) a) (sym (owes p w m events s actors i before team.LoadActive at))
             (goes_on p w m events s actors i before team.LoadActive at m (team.LoadVariable 0) (record g { active = found_in m x }) (own p w m events s actors i before team.LoadActive at).fits.variables refl
             (fits_now, omega arith) tt
             ((r, found, levels, sym (word ∙ ap (λ (y : Region). y.active) same)), (o.task, o.live, λ j below. absurd (omega (arith, below))))),
@@ -160,12 +160,12 @@ module _ (p : Program) (w : List ℕ) (m : Memory) (events : List (ℕ × Event)
       go true e =
           let next : word + 1 < VARIABLE_WORDS = ltb-true (word + 1) VARIABLE_WORDS e in
           let (active, others) = row p w m events s actors i before (team.LoadVariable word) at in
-          loaded p w m events s actors i before (team.LoadVariable word) at (of_variable w Name word) X (going (team.LoadVariable (word + 1)) Then (actors i)) (sym (owes p w m events s actors i before (team.LoadVariable word) at))
+          load_stays p w m events s actors i before (of_variable w Name word) X (going (team.LoadVariable (word + 1)) Then (actors i)) (sym (owes p w m events s actors i before (team.LoadVariable word) at))
           (goes_on p w m events s actors i before (team.LoadVariable word) at m (team.LoadVariable (word + 1)) Then variables refl
           ((fits p w m events s actors i before (team.LoadVariable word) at).0, next) tt (active, known))
       go false e =
           let all : word + 1 ≡ VARIABLE_WORDS = grind (arith, nat_tests, below) in
           let (active, others) = row p w m events s actors i before (team.LoadVariable word) at in
-          loaded p w m events s actors i before (team.LoadVariable word) at (of_variable w Name word) X (going team.Want Then (actors i)) (sym (owes p w m events s actors i before (team.LoadVariable word) at))
+          load_stays p w m events s actors i before (of_variable w Name word) X (going team.Want Then (actors i)) (sym (owes p w m events s actors i before (team.LoadVariable word) at))
           (goes_on p w m events s actors i before (team.LoadVariable word) at m team.Want Then variables refl
           (fits p w m events s actors i before (team.LoadVariable word) at).0 tt (record { region = active; task = subst (KnowsVariables s (going team.Want Then (actors i))) all known }))

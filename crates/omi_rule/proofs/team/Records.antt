@@ -1,6 +1,5 @@
 -- What the searches and the fills of records have in common: a free slot, what is owed, and what is asked.
 use Rattle.std.proofs.Common.{◌≡◌, ◌+◌, ◌%◌, ◌^◌, ◌==◌, ◌<◌, nat_lt, ℕ, Bool, true, false, List, length, map, Option, Some, None, refl, sym, ap, ◌∙◌, subst, arith, eqb-true, ltb-true, if◌then◌else◌}
-use Rattle.omi_word.specs.declared.op.Op.TheVariants as op
 use Rattle.omi_script.specs.declared.program.Program.{Program}
 use Rattle.omi_script.specs.declared.statement.Stmt.{Stmt}
 use Rattle.omi_script.specs.declared.statement.Stmt.TheVariants as stmt
@@ -17,7 +16,7 @@ use Rattle.omi_layout.specs.declared.field.Field.{Field}
 use Rattle.omi_layout.specs.declared.field.Field.TheVariants.{RegionTeam}
 use Rattle.omi_numbers.specs.Addresses.{exit_frame}
 use Rattle.omi_layout.specs.Field.{regions, tasks}
-use Rattle.omi_layout.specs.Memory.{Memory, Rec, replace_at}
+use Rattle.omi_layout.specs.Memory.{Memory, Rec}
 use Rattle.omi_layout.specs.Named.{number}
 use Rattle.omi_layout.specs.Table.{per_thread}
 use Rattle.omi_pc.specs.declared.actor.Actor.{Actor}
@@ -28,12 +27,8 @@ use Rattle.omi_pc.specs.declared.limits.TheConstants.{REGION_WORDS}
 use Rattle.omi_pc.specs.declared.team_counter.TeamCounter.{TeamCounter}
 use Rattle.omi_pc.specs.Fits.{IsAtParallel, IsParallel}
 use Rattle.omi_pc.specs.OpenBodies.{IsAt}
-use Rattle.omi_rep.specs.declared.outcome.Outcome.TheVariants as outcome
 use Rattle.omi_rep.specs.Records.{task_address}
 use Rattle.omi_rule_words.specs.Objects.{KeepsLife}
-use Rattle.omi_rule_words.specs.Owes.{all_owed, owed}
-use Rattle.omi_rule_words.specs.Words.{KeepsWords}
-use Rattle.omi_rule_words.proofs.Moves.{moves_keep}
 use Rattle.omi_step_words.specs.declared.plan.NewRegion.{NewRegion}
 use Rattle.omi_step_words.specs.declared.plan.NewTask.{NewTask}
 use Rattle.omi_step_words.specs.Members.{member_of}
@@ -45,12 +40,8 @@ use Rattle.omi_step_words.specs.Searches.{next_slot}
 use Rattle.omi_rule.specs.Ahead.{IsAhead, forking, team_ahead}
 use Rattle.omi_rule.specs.Chains.{encounter_of}
 use Rattle.omi_rule.specs.Rows.{HasFilled, HasGeneration, HasTeam}
-use Rattle.omi_rule.specs.Rule.{KeepsThread}
-use Rattle.omi_rule.specs.Steps.{KeepsRule, RecordWord, found_in, left_in}
-use Rattle.omi_rule.specs.Waits.{Waits}
-use Rattle.omi_rule.proofs.Assembly.{Before, of_load, spares_none, waits_keep}
+use Rattle.omi_rule.proofs.Assembly.{Before}
 use Rattle.omi_rule.proofs.OwnTask.{is_current, top}
-use Rattle.omi_rule.proofs.RowsStay.{Spares}
 use Rattle.omi_rule.proofs.Settling.{in_work_is}
 use Rattle.omi_rule.proofs.team.Within.{going, standing}
 
@@ -97,16 +88,6 @@ module _ (p : Program) (w : List ℕ) (m : Memory) (events : List (ℕ × Event)
       let t = (top p s i (actors i) o).task in
       let list : t.list ≡ forking p (encounter_of s (actors i).context) (actors i).stack = subst (λ (y : Counter). IsAhead p (encounter_of s (actors i).context) (actors i).stack y t.list) at (o.ahead t (top p s i (actors i) o).live) ∙ forks in
       record { name = (actors i).context.task; task = t; current = is_current p s i (actors i) o; next = ap asks_next list ∙ asks_ahead p (encounter_of s (actors i).context) (actors i).stack x is parallel }
-
-  -- a load that finds a word on which the thread waits
-  pub load_waits : (address : ℕ) (x : RecordWord) (b : Actor) → Waits w s i address (found_in m x) → owed b ≡ owed (actors i) → KeepsThread p w m events s i b
-      → KeepsRule p w m events s actors i (op.Load address) x (b, outcome.NotReady address (found_in m x))
-  load_waits address x b waits same thread =
-      let stays : left_in m (op.Load address) x ≡ m = of_load p w m events s actors i before address x in
-      waits_keep p w m events s actors i before (op.Load address) x (b, outcome.NotReady address (found_in m x)) address refl waits tt refl
-      (subst (λ (n : Memory). KeepsWords w n s (all_owed (replace_at actors i b))) (sym stays) (moves_keep w m s actors i b before.rule.words same))
-      (λ j other. subst (λ (n : Memory). Spares m n s j (actors j)) (sym stays) (spares_none m s j (actors j)))
-      (subst (λ (n : Memory). KeepsThread p w n events s i b) (sym stays) thread)
 
 -- ---- what is asked
 

@@ -25,9 +25,9 @@ use Rattle.omi_fork.specs.TeamSteps.{team_moved, team_next, team_outcome}
 use Rattle.omi_rule.specs.Rows.{HasFilled, HasTeam}
 use Rattle.omi_rule.specs.Steps.{KeepsRule, RecordWord, StepKeeps, found_in}
 use Rattle.omi_rule.specs.Waits as Waits
-use Rattle.omi_rule.proofs.Assembly.{Before}
-use Rattle.omi_rule.proofs.team.Records.{filled_as_before, free_slot, is_forking, load_waits, next_within, team_goes}
-use Rattle.omi_rule.proofs.team.Within.{fits, goes_on, loaded, own, owes, placed, row}
+use Rattle.omi_rule.proofs.Assembly.{Before, load_stays, load_waits}
+use Rattle.omi_rule.proofs.team.Records.{filled_as_before, free_slot, is_forking, next_within, team_goes}
+use Rattle.omi_rule.proofs.team.Within.{fits, goes_on, own, owes, placed, row}
 
 module _ (p : Program) (w : List ℕ) (m : Memory) (events : List (ℕ × Event)) (s : State) (actors : ℕ → Actor) (i : ℕ) (before : Before p w m events s actors i) where
   -- the thread is one of the layout
@@ -67,13 +67,13 @@ module _ (p : Program) (w : List ℕ) (m : Memory) (events : List (ℕ × Event)
         go true free =
             let r : Rid = record { 0 = object_in (own_place (actors i) slot) (found_in m X) } in
             let (fresh, none) = free_slot s.regions i (actors i).thread slot RegionLife (m (actors i).thread regions slot) (has_region_slot slot (owed (actors i)).region) mine life free in
-            loaded p w m events s actors i before C at (of_place w (own_place (actors i) slot) RegionLife) X (to_team (team.TakeRegion r) (actors i)) (sym (owes p w m events s actors i before C at))
+            load_stays p w m events s actors i before (of_place w (own_place (actors i) slot) RegionLife) X (to_team (team.TakeRegion r) (actors i)) (sym (owes p w m events s actors i before C at))
             (goes_on p w m events s actors i before C at m (team.TakeRegion r) (actors i).gathered (own p w m events s actors i before C at).fits.variables refl
             (fits p w m events s actors i before C at, refl)
             (record { made_by = (let known = before.known in let count = before.rule.within.count in let same = mine in omega (arith, same, known, count)); within = placed p w m events s actors i before C at })
             (team_goes s i (actors i) (team.TakeRegion r) (actors i).gathered.team refl (row p w m events s actors i before C at), fresh))
         go false taken =
-            load_waits p w m events s actors i before C at (of_place w (own_place (actors i) slot) RegionLife) X (to_team (team.LoadRegionLife (next_slot w regions slot)) (actors i))
+            load_waits p w m events s actors i before (of_place w (own_place (actors i) slot) RegionLife) X (to_team (team.LoadRegionLife (next_slot w regions slot)) (actors i))
             (Waits.ForRegion (is_forking p w m events s actors i before C at refl (fits p w m events s actors i before C at).0)
             (record { slot = slot; within = placed p w m events s actors i before C at; address_is = ap (λ j. of_place w (record { creator = j; slot = slot }) RegionLife) mine; taken = taken }))
             (sym (owes p w m events s actors i before C at))
@@ -119,14 +119,14 @@ module _ (p : Program) (w : List ℕ) (m : Memory) (events : List (ℕ × Event)
             let next : TeamCounter = team.TakeTask r member t in
             let (fresh, none) = free_slot s.tasks i (actors i).thread slot TaskLife (m (actors i).thread tasks slot) (has_slot slot (owed (actors i)).tasks) same_thread task_life free in
             let mine = fits p w m events s actors i before D at in
-            loaded p w m events s actors i before D at (of_place w (own_place (actors i) slot) TaskLife) Y (to_team next (actors i)) (sym (owes p w m events s actors i before D at))
+            load_stays p w m events s actors i before (of_place w (own_place (actors i) slot) TaskLife) Y (to_team next (actors i)) (sym (owes p w m events s actors i before D at))
             (goes_on p w m events s actors i before D at m next (actors i).gathered (own p w m events s actors i before D at).fits.variables refl
             (mine.0, mine.1, refl)
             ((placed p w m events s actors i before D at).0, there)
             (team_goes s i (actors i) next (actors i).gathered.team refl asks, filled_as_before p w m (actors i) r member next filled, fresh, ap (λ (o : Owed). has_slot slot o.tasks) (sym (owes p w m events s actors i before D at)) ∙ none))
         go false taken =
             let next : TeamCounter = team.LoadTaskLife r member (next_slot w tasks slot) in
-            load_waits p w m events s actors i before D at (of_place w (own_place (actors i) slot) TaskLife) Y (to_team next (actors i))
+            load_waits p w m events s actors i before (of_place w (own_place (actors i) slot) TaskLife) Y (to_team next (actors i))
             (Waits.ForTaskRecord (inl (is_forking p w m events s actors i before D at refl (fits p w m events s actors i before D at).0.0.0))
             (record { slot = slot; within = (placed p w m events s actors i before D at).1; address_is = ap (λ j. of_place w (record { creator = j; slot = slot }) TaskLife) same_thread; taken = taken }))
             (sym (owes p w m events s actors i before D at))

@@ -1,9 +1,8 @@
 -- A step of a thread within a parallel construct: no event, the same bodies open, and the same ahead of the task.
-use Rattle.std.proofs.Common.{◌≡◌, inl, ℕ, List, ◌∷◌, length, refl, sym, ap, ◌∙◌, subst, ◌≤◌}
+use Rattle.std.proofs.Common.{◌≡◌, inl, ℕ, List, ◌∷◌, length, sym, ap, ◌∙◌, subst, ◌≤◌}
 use Rattle.omi_rule.proofs.KeptObjects.{region_kept, task_kept}
 use Rattle.omi_model.specs.WellFormed.{AreInRange}
 use Rattle.omi_model.specs.declared.task.Task.{Task}
-use Rattle.omi_word.specs.declared.op.Op.TheVariants as op
 use Rattle.omi_script.specs.declared.program.Program.{Program}
 use Rattle.omi_model.specs.declared.event.Event.{Event}
 use Rattle.omi_model.specs.State.{State}
@@ -11,7 +10,7 @@ use Rattle.omi_model.specs.Visible.{IsVisibleTask}
 use Rattle.omi_model.proofs.ReachedWellFormed.{reached_well_formed}
 use Rattle.omi_model.proofs.Slots.{some_same}
 use Rattle.omi_layout.specs.Field.{regions, tasks}
-use Rattle.omi_layout.specs.Memory.{Memory, replace_at}
+use Rattle.omi_layout.specs.Memory.{Memory}
 use Rattle.omi_layout.specs.Place.{IsSlot}
 use Rattle.omi_pc.specs.declared.actor.Actor.{Actor}
 use Rattle.omi_pc.specs.declared.counter.Counter.{Counter}
@@ -21,20 +20,16 @@ use Rattle.omi_pc.specs.declared.gathered.Gathered.{Gathered}
 use Rattle.omi_pc.specs.declared.limits.TheConstants.{VARIABLE_WORDS}
 use Rattle.omi_pc.specs.declared.team_counter.TeamCounter.{TeamCounter}
 use Rattle.omi_pc.specs.Fits.{FitsCounter, FitsTeam}
-use Rattle.omi_rep.specs.declared.outcome.Outcome.TheVariants as outcome
 use Rattle.omi_rule_words.specs.Objects.{KeepsEnvironment, KeepsRegion}
 use Rattle.omi_rule_words.specs.Owes.{all_owed, by_team, owed, owed_at}
-use Rattle.omi_rule_words.specs.Words.{KeepsWords}
-use Rattle.omi_rule_words.proofs.Moves.{moves_keep}
 use Rattle.omi_step_words.specs.Placed.{AreContextsPlaced, IsContextPlaced, IsPlacedCounter, IsPlacedTeam}
 use Rattle.omi_rule.specs.Ahead.{IsAhead, team_ahead}
-use Rattle.omi_rule.specs.Chains.{KeepsContext, StandsInTask, StandsWith, encounter_of}
+use Rattle.omi_rule.specs.Chains.{KeepsContext, StandsInTask, encounter_of}
 use Rattle.omi_rule.specs.Rows.{KeepsRow, KeepsTeamRow}
 use Rattle.omi_rule.specs.Rule.{KeepsThread}
-use Rattle.omi_rule.specs.Steps.{KeepsRule, RecordWord, left_in}
-use Rattle.omi_rule.proofs.Assembly.{Before, of_load, quiet_keeps, spares_none}
+use Rattle.omi_rule.proofs.Assembly.{Before}
 use Rattle.omi_rule.proofs.OwnTask.{in_task, top}
-use Rattle.omi_rule.proofs.RowsStay.{Spares}
+use Rattle.omi_rule.proofs.SameBodies.{same_bodies}
 
 -- at another counter of the construct, with this gathered
 abbrev pub going : TeamCounter → Gathered → Actor → Actor
@@ -90,36 +85,10 @@ module _ (p : Program) (w : List ℕ) (m : Memory) (events : List (ℕ × Event)
       → team_ahead p (encounter_of s (actors i).context) (actors i).stack d ≡ team_ahead p (encounter_of s (actors i).context) (actors i).stack c
       → FitsTeam p (going d g (actors i)) d → IsPlacedTeam w (going d g (actors i)) d → KeepsTeamRow p w n s i (going d g (actors i)) d
       → KeepsThread p w n events s i (going d g (actors i))
-  goes_on n d g variables same fits_there placed_there row_there = record {
-    thread = own.thread;
-    fits = record { thread = own.fits.thread; variables = variables; bodies = own.fits.bodies; counter = fits_there };
-    placed = record { bodies = own.placed.bodies; counter = placed_there };
-    stands = stands;
-    runs = own.runs;
-    row = row_there;
-    ended = tt;
-  }
-    where
-      stands : StandsWith p s i (going d g (actors i)) (actors i).stack
-      stands =
-          let (f, fs, stack, o) = standing in
-          subst (StandsWith p s i (going d g (actors i))) (sym stack)
-          (record {
-            current = o.current;
-            bodies = o.bodies;
-            ahead = λ t live. subst (λ (x : Counter). IsAhead p (encounter_of s (actors i).context) (actors i).stack x t.list) at (o.ahead t live) ∙ sym same;
-          })
-
-  -- ---- steps without an event
-
-  -- a load
-  pub loaded : (address : ℕ) (x : RecordWord) (b : Actor) → owed b ≡ owed (actors i) → KeepsThread p w m events s i b → KeepsRule p w m events s actors i (op.Load address) x (b, outcome.Quiet)
-  loaded address x b same thread =
-      let stays : left_in m (op.Load address) x ≡ m = of_load p w m events s actors i before address x in
-      quiet_keeps p w m events s actors i before (op.Load address) x (b, outcome.Quiet) refl
-      (subst (λ (n : Memory). KeepsWords w n s (all_owed (replace_at actors i b))) (sym stays) (moves_keep w m s actors i b before.rule.words same))
-      (λ j other. subst (λ (n : Memory). Spares m n s j (actors j)) (sym stays) (spares_none m s j (actors j)))
-      (subst (λ (n : Memory). KeepsThread p w n events s i b) (sym stays) thread)
+  goes_on n d g variables same fits_there placed_there row_there =
+      let (f, fs, stack, o) = standing in
+      same_bodies p w m events s i (actors i) own f fs stack o n (counter.Team d) g variables fits_there placed_there
+      (λ t live. subst (λ (x : Counter). IsAhead p (encounter_of s (actors i).context) (actors i).stack x t.list) at (o.ahead t live) ∙ sym same) row_there tt
 
   -- ---- records
 

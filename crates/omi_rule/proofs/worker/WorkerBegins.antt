@@ -59,6 +59,7 @@ use Rattle.omi_rule.specs.Chains.{KeepsBodies, KeepsContext, encounter_of}
 use Rattle.omi_rule.specs.Rows.{HasSize}
 use Rattle.omi_rule.specs.Rule.{IsNewMember, KeepsThread}
 use Rattle.omi_rule.specs.Steps.{KeepsRule, StepKeeps}
+use Rattle.omi_rule.proofs.OwnWords.{own_thread, store_on, thread_word}
 use Rattle.omi_rule.proofs.Assembly.{Before, plain_event_keeps, spares_threads}
 use Rattle.omi_rule.proofs.Begun.{works, works_owing_nothing}
 use Rattle.omi_rule.proofs.KeptObjects.{region_there, task_there}
@@ -66,7 +67,7 @@ use Rattle.omi_rule.proofs.MemberFunctions.{member_function}
 use Rattle.omi_rule.proofs.NewMembers.{waiting_step}
 use Rattle.omi_rule.proofs.Owing.{idle_moved, owed_after, step_of}
 use Rattle.omi_rule.proofs.plain.OwnEvents.{environment_stays}
-use Rattle.omi_rule.proofs.worker.WorkerEvents.{own_thread, fits_worker, owes_now, row_is, stands_alone, taken_list, thread_on, thread_word}
+use Rattle.omi_rule.proofs.worker.WorkerEvents.{fits_worker, owes_now, row_is, stands_alone, taken_list}
 use Rattle.omi_rule.proofs.worker.WorkerLoads.{implicit_is, one_waits}
 use Rattle.omi_rule.specs.Chains.{RunsFunctions}
 
@@ -265,6 +266,6 @@ begins_implicit p w m events s actors i before k f q size n at = go (row_is p w 
         → StepKeeps p w m events s actors i (op.Store (of_thread w (actors i).thread ThreadCurrent) (task_address w k)) (λ old. (Moves.back_to_work p (begun_worker f (member_context k q size n) (actors i)), outcome.Event (event.ImplicitBegin k)))
     go ((o, (is_f, is_q, is_n)), (r, found, sized)) = (
       thread_word i ThreadCurrent,
-      thread_on p w m events s actors i before ThreadCurrent (task_address w k) (record { from = omega arith; to = omega arith }) refl (omega arith),
+      store_on p w m events s actors i before ThreadCurrent (task_address w k) refl,
       begins_task p w m events s actors i before k f q size n at o is_f is_q is_n r found sized,
     )

@@ -62,6 +62,7 @@ use Rattle.omi_rule.specs.Ahead.{IsAhead}
 use Rattle.omi_rule.specs.Chains.{KeepsContext, StandsInTask, StandsWith, encounter_of, idling, offering, worker_ahead}
 use Rattle.omi_rule.specs.Rule.{KeepsThread}
 use Rattle.omi_rule.specs.Steps.{KeepsRule, StepKeeps, left_in}
+use Rattle.omi_rule.proofs.OwnWords.{own_thread, store_on, thread_word}
 use Rattle.omi_rule.proofs.Assembly.{Before, plain_event_keeps, quiet_keeps, spares_region, spares_threads}
 use Rattle.omi_rule.proofs.KeptObjects.{region_kept, region_there}
 use Rattle.omi_rule.proofs.NewMembers.{waiting_step}
@@ -70,7 +71,7 @@ use Rattle.omi_rule.proofs.OwnTask.{is_current, list_moved, own_ahead, own_list,
 use Rattle.omi_rule.proofs.WorkerLists.{worker_lists}
 use Rattle.omi_rule.proofs.plain.OwnEvents.{environment_stays}
 use Rattle.omi_rule.proofs.join.Departures.{ended_few}
-use Rattle.omi_rule.proofs.worker.WorkerEvents.{alone_after, fits_worker, own_thread, owes_now, stands_alone, thread_on, thread_word, worker_list}
+use Rattle.omi_rule.proofs.worker.WorkerEvents.{alone_after, fits_worker, owes_now, stands_alone, worker_list}
 use Rattle.omi_rule.proofs.worker.WorkerLoads.{region_maker_of, task_word}
 use Rattle.omi_rule.specs.Chains.{RunsFunctions}
 
@@ -298,6 +299,6 @@ ends_implicit p w m events s actors i before at = go (actors i).stack refl (fits
     go [] is none = absurd none
     go (f ∷ fs) is end = (
       thread_word i ThreadCurrent,
-      thread_on p w m events s actors i before ThreadCurrent 0 (record { from = omega arith; to = omega arith }) refl (omega arith),
+      store_on p w m events s actors i before ThreadCurrent 0 refl,
       ends_rule p w m events s actors i before at f fs is,
     )

@@ -1,5 +1,5 @@
 -- A worker begins, offers itself, and is idle again: events on its own record.
-use Rattle.std.proofs.Common.{◌≡◌, ◌≢◌, ◌<◌, ◌++◌, ℕ, true, List, [], ◌∷◌, Some, None, refl, sym, ap, ◌∙◌, subst, arith}
+use Rattle.std.proofs.Common.{◌≡◌, ◌≢◌, ◌++◌, ℕ, true, List, [], ◌∷◌, Some, None, refl, sym, ap, ◌∙◌, subst, arith}
 use Rattle.omi_word.specs.declared.op.Op.TheVariants as op
 use Rattle.omi_script.specs.declared.program.Program.{Program}
 use Rattle.omi_model.specs.declared.claim.Claim.TheVariants as claim
@@ -20,11 +20,9 @@ use Rattle.omi_model.proofs.Slots.{put_same, some_same}
 use Rattle.omi_model.proofs.claims.ClaimLaws.{claims_kept}
 use Rattle.omi_layout.specs.declared.field.Field.{Field}
 use Rattle.omi_layout.specs.declared.field.Field.TheVariants.{ThreadAssign, ThreadClaim, ThreadLife, ThreadState}
-use Rattle.omi_layout.specs.Field.{IsField, kind_of, threads}
-use Rattle.omi_layout.specs.Memory.{IsRecordWord, Memory, Rec, replace_at, with_word, with_word_in}
+use Rattle.omi_layout.specs.Field.{kind_of, threads}
+use Rattle.omi_layout.specs.Memory.{Memory, Rec, replace_at, with_word, with_word_in}
 use Rattle.omi_layout.specs.Named.{number}
-use Rattle.omi_layout.specs.Place.{IsSlot}
-use Rattle.omi_layout.specs.Table.{thread_count, width}
 use Rattle.omi_pc.specs.declared.actor.Actor.{Actor}
 use Rattle.omi_pc.specs.declared.counter.Counter.TheVariants as counter
 use Rattle.omi_pc.specs.declared.team_counter.WorkerCounter.{WorkerCounter}
@@ -45,7 +43,8 @@ use Rattle.omi_rule.specs.Chains.{IsWorkerAhead, StandsAlone, StandsWith, worker
 use Rattle.omi_rule.specs.Commits.{CommitsAt}
 use Rattle.omi_rule.specs.Rows.{KeepsRow, KeepsWorkerRow}
 use Rattle.omi_rule.specs.Rule.{KeepsThread}
-use Rattle.omi_rule.specs.Steps.{IsOn, KeepsRule, RecordWord, StepKeeps, left_in}
+use Rattle.omi_rule.specs.Steps.{KeepsRule, RecordWord, StepKeeps, left_in}
+use Rattle.omi_rule.proofs.OwnWords.{own_thread, store_on, thread_word}
 use Rattle.omi_rule.proofs.Assembly.{Before, plain_event_keeps, spares_threads}
 use Rattle.omi_rule.proofs.NewMembers.{waiting_step}
 use Rattle.omi_rule.proofs.NothingNew.{Makes}
@@ -53,23 +52,12 @@ use Rattle.omi_rule.proofs.RowsStay.{Spares}
 use Rattle.omi_rule.proofs.Owing.{idle_list, idle_moved, step_of}
 use Rattle.omi_rule.specs.Chains.{RunsFunctions}
 
--- the word of a field in the record of thread i
-abbrev pub thread_word : ℕ → Field → RecordWord
-thread_word i f = record { creator = i; slot = 0; field = f; place = 0 }
-
 module _ (p : Program) (w : List ℕ) (m : Memory) (events : List (ℕ × Event)) (s : State) (actors : ℕ → Actor) (i : ℕ) (before : Before p w m events s actors i) where
   abbrev a : Actor
   a = actors i
 
   abbrev o : KeepsThread p w m events s i (actors i)
   o = before.rule.threads i before.known
-
-  pub maker : i < thread_count w
-  maker = subst (λ n. i < n) before.rule.within.count before.known
-
-  -- an actor's thread is i
-  pub own_thread : (f : Field) → of_thread w (actors i).thread f ≡ of_thread w i f
-  own_thread f = ap (λ j. of_thread w j f) o.thread
 
   module _ (c : WorkerCounter) (at : (actors i).counter ≡ counter.Worker c) where
     pub fits_worker : FitsWorker p (actors i) c
@@ -154,21 +142,14 @@ module _ (p : Program) (w : List ℕ) (m : Memory) (events : List (ℕ × Event)
 
   -- ---- the events
 
-  -- the record of a thread stands among the words
-  pub thread_there : (f : Field) → IsField (number f) → kind_of (number f) ≡ threads → 0 < width w (number f) → IsRecordWord w i 0 (number f) 0
-  thread_there f field kind within = record { field = field; record_slot = subst (λ k. IsSlot w k i 0) (sym kind) (record { made_by = maker; within = omega arith }); within = within }
-
-  pub thread_on : (f : Field) (v : ℕ) → IsField (number f) → kind_of (number f) ≡ threads → 0 < width w (number f) → IsOn w (op.Store (of_thread w (actors i).thread f) v) (thread_word i f)
-  thread_on f v field kind within = record { there = thread_there f field kind within; address = own_thread f }
-
   pub begins : (actors i).counter ≡ counter.Worker worker.Begin → StepKeeps p w m events s actors i (worker_next w (actors i) worker.Begin) (λ old. (worker_moved p w (actors i) worker.Begin old, worker_outcome w (actors i) worker.Begin old))
   begins at =
       let alone : IsAlone (actors i) = fits_worker worker.Begin at in (
         thread_word i ThreadLife,
-        thread_on ThreadLife 1 (record { from = omega arith; to = omega arith }) refl (omega arith),
+        store_on p w m events s actors i before ThreadLife 1 refl,
         worker_event worker.Begin at alone event.Begin item.Begin (item.Offer ∷ item.Serve ∷ []) (λ h. record h { begun = true }) ThreadLife 1 worker.Offer refl refl (row_is worker.Begin at) (λ z. refl) (λ none. none) (λ h is. absurd (cc is)) (λ h. refl) (λ h. refl)
             (λ r h is. record { life = refl; native = is.native; current = is.current; state = is.state; claim = is.claim }) (λ same. absurd (omega (arith, same))) refl
-            alone tt (λ q is. refl) (λ r q. tt) refl (thread_word i ThreadLife) refl (1, ap (λ x. op.Store x 1) (own_thread ThreadLife)),
+            alone tt (λ q is. refl) (λ r q. tt) refl (thread_word i ThreadLife) refl (1, ap (λ x. op.Store x 1) (own_thread p w m events s actors i before ThreadLife)),
       )
 
   pub offers : (actors i).counter ≡ counter.Worker worker.Offer → StepKeeps p w m events s actors i (worker_next w (actors i) worker.Offer) (λ old. (worker_moved p w (actors i) worker.Offer old, worker_outcome w (actors i) worker.Offer old))
@@ -177,20 +158,20 @@ module _ (p : Program) (w : List ℕ) (m : Memory) (events : List (ℕ × Event)
       let none : (s.threads i).current ≡ None = (stands_alone worker.Offer at alone).current in
       let list : (s.threads i).list ≡ item.Offer ∷ item.Serve ∷ [] = worker_list worker.Offer at alone in (
         thread_word i ThreadClaim,
-        thread_on ThreadClaim 1 (record { from = omega arith; to = omega arith }) refl (omega arith),
+        store_on p w m events s actors i before ThreadClaim 1 refl,
         worker_event worker.Offer at alone event.Offer item.Offer (item.Serve ∷ []) (λ h. record h { claim = claim.Free }) ThreadClaim 1 worker.LoadAssign refl refl
             (record { idle = none; held = λ free. let (waits, nobody) = (claims_kept p events s before.rule.reached i).free free in absurd (cc (sym list ∙ waits.ahead)) })
             (λ z. refl) (λ none. none) (λ h is. absurd (cc is)) (λ h. refl) (λ h. refl)
             (λ r h is. record { life = is.life; native = is.native; current = is.current; state = is.state; claim = refl }) (λ same. absurd (omega (arith, same))) refl
-            alone tt (λ q is. refl) (λ r q. tt) refl (thread_word i ThreadClaim) refl (1, ap (λ x. op.Store x 1) (own_thread ThreadClaim)),
+            alone tt (λ q is. refl) (λ r q. tt) refl (thread_word i ThreadClaim) refl (1, ap (λ x. op.Store x 1) (own_thread p w m events s actors i before ThreadClaim)),
       )
 
   pub idles : (actors i).counter ≡ counter.Worker worker.IdleState → StepKeeps p w m events s actors i (worker_next w (actors i) worker.IdleState) (λ old. (worker_moved p w (actors i) worker.IdleState old, worker_outcome w (actors i) worker.IdleState old))
   idles at =
       let alone : IsAlone (actors i) = fits_worker worker.IdleState at in (
         thread_word i ThreadState,
-        thread_on ThreadState (state_word IDLE 0) (record { from = omega arith; to = omega arith }) refl (omega arith),
+        store_on p w m events s actors i before ThreadState (state_word IDLE 0) refl,
         worker_event worker.IdleState at alone (event.State IDLE 0) (item.State IDLE 0) (item.Offer ∷ item.Serve ∷ []) (λ h. record h { state = IDLE; wait = 0 }) ThreadState (state_word IDLE 0) worker.Offer refl refl tt (λ z. refl) (λ none. none) (λ h is. absurd (cc is)) (λ h. refl) (λ h. refl)
             (λ r h is. record { life = is.life; native = is.native; current = is.current; state = refl; claim = is.claim }) (λ same. absurd (omega (arith, same))) refl
-            alone tt (λ q is. refl) (λ r q. tt) refl (thread_word i ThreadState) refl (state_word IDLE 0, ap (λ x. op.Store x (state_word IDLE 0)) (own_thread ThreadState)),
+            alone tt (λ q is. refl) (λ r q. tt) refl (thread_word i ThreadState) refl (state_word IDLE 0, ap (λ x. op.Store x (state_word IDLE 0)) (own_thread p w m events s actors i before ThreadState)),
       )

@@ -23,7 +23,7 @@ use Rattle.omi_model.proofs.claims.ClaimLaws.{claims_kept}
 use Rattle.omi_layout.specs.declared.field.Field.{Field}
 use Rattle.omi_layout.specs.declared.field.Field.TheVariants.{RegionLife, RegionSize, TaskFunction, TaskLife, TaskNumber, TaskRegion, ThreadAssign}
 use Rattle.omi_layout.specs.Field.{IsField, kind_of, regions, tasks, threads}
-use Rattle.omi_layout.specs.Memory.{Memory, replace_at, with_word}
+use Rattle.omi_layout.specs.Memory.{Memory, with_word}
 use Rattle.omi_layout.specs.Named.{number}
 use Rattle.omi_layout.specs.Place.{IsSlot}
 use Rattle.omi_layout.specs.Table.{width}
@@ -37,10 +37,8 @@ use Rattle.omi_rep.specs.declared.outcome.Outcome.TheVariants as outcome
 use Rattle.omi_rep.specs.Records.{task_address}
 use Rattle.omi_rule_words.specs.Owes.{Owed, all_owed, by_worker, nothing}
 use Rattle.omi_rule_words.specs.Threads.{KeepsAssign, WaitsFor}
-use Rattle.omi_rule_words.specs.Words.{KeepsWords}
 use Rattle.omi_rule_words.proofs.Assigns.{assign_clears_keep}
 use Rattle.omi_rule_words.proofs.Forks.{address_some}
-use Rattle.omi_rule_words.proofs.Moves.{moves_keep}
 use Rattle.omi_step_words.specs.Moving.{to_worker}
 use Rattle.omi_step_words.specs.Placed.{IsPlacedCounter, IsPlacedWorker}
 use Rattle.omi_step_words.specs.Words.{generation_of, object_in, of_place, of_region, of_task, of_thread, region_place, task_place}
@@ -49,15 +47,14 @@ use Rattle.omi_step_words.proofs.ReadBack.{functions_back, generations_back, pla
 use Rattle.omi_fork.specs.WorkerSteps.{worker_moved, worker_next, worker_outcome}
 use Rattle.omi_rule.specs.Chains.{worker_ahead}
 use Rattle.omi_rule.specs.Rows.{HasSize, KeepsWorkerRow, place_of}
-use Rattle.omi_rule.specs.Rule.{KeepsThread}
-use Rattle.omi_rule.specs.Steps.{IsOn, KeepsRule, RecordWord, StepKeeps, left_in}
+use Rattle.omi_rule.specs.Steps.{IsOn, KeepsRule, RecordWord, StepKeeps}
 use Rattle.omi_rule.specs.Waits.{ForTask}
-use Rattle.omi_rule.proofs.Assembly.{Before, of_load, quiet_keeps, spares_none, spares_own, waits_keep}
+use Rattle.omi_rule.proofs.OwnWords.{load_on, own_thread, store_on, thread_word}
+use Rattle.omi_rule.proofs.Assembly.{Before, load_stays, load_waits, quiet_keeps, spares_own}
 use Rattle.omi_rule.proofs.Generations.{generations_below}
 use Rattle.omi_rule.proofs.KeptObjects.{member_seen, region_kept, region_life, region_there, task_kept, task_life, task_there}
 use Rattle.omi_rule.proofs.Owing.{owed_after}
-use Rattle.omi_rule.proofs.RowsStay.{Spares}
-use Rattle.omi_rule.proofs.worker.WorkerEvents.{alone_after, fits_worker, own_thread, owes_now, row_is, stands_alone, thread_there, thread_word, worker_list}
+use Rattle.omi_rule.proofs.worker.WorkerEvents.{alone_after, fits_worker, owes_now, row_is, stands_alone, worker_list}
 
 -- words of a task's and of a region's record
 abbrev pub task_word : Id → Field → RecordWord
@@ -109,12 +106,8 @@ module _ (p : Program) (w : List ℕ) (m : Memory) (events : List (ℕ × Event)
   module _ (c : WorkerCounter) (at : (actors i).counter ≡ counter.Worker c) (alone : (actors i).stack ≡ []) (address : ℕ) (x : RecordWord) (d : WorkerCounter) where
     goes_on : FitsWorker p (to_worker d (actors i)) d → IsPlacedWorker w d → worker_ahead s d ≡ worker_ahead s c → KeepsWorkerRow w m s i d → by_worker d ≡ by_worker c → KeepsRule p w m events s actors i (op.Load address) x (to_worker d (actors i), outcome.Quiet)
     goes_on fits placed list row owes =
-        let same : left_in m (op.Load address) x ≡ m = of_load p w m events s actors i before address x in
-        quiet_keeps p w m events s actors i before (op.Load address) x (to_worker d (actors i), outcome.Quiet) refl
-        (subst (λ (n : Memory). KeepsWords w n s (all_owed (replace_at actors i (to_worker d (actors i))))) (sym same) (moves_keep w m s actors i (to_worker d (actors i)) before.rule.words (owes ∙ sym (owes_now p w m events s actors i before c at))))
-        (λ j other. subst (λ (n : Memory). Spares m n s j (actors j)) (sym same) (spares_none m s j (actors j)))
-        (subst (λ (n : Memory). KeepsThread p w n events s i (to_worker d (actors i))) (sym same)
-        (alone_after p w m events s actors i before c at alone m events s d fits placed (stands_alone p w m events s actors i before c at alone).current (worker_list p w m events s actors i before c at alone ∙ sym list) row))
+        load_stays p w m events s actors i before address x (to_worker d (actors i)) (owes ∙ sym (owes_now p w m events s actors i before c at))
+        (alone_after p w m events s actors i before c at alone m events s d fits placed (stands_alone p w m events s actors i before c at alone).current (worker_list p w m events s actors i before c at alone ∙ sym list) row)
 
   -- ---- the records of a task and of a region
 
@@ -162,7 +155,7 @@ module _ (p : Program) (w : List ℕ) (m : Memory) (events : List (ℕ × Event)
       → StepKeeps p w m events s actors i (worker_next w (actors i) worker.LoadAssign) (λ old. (worker_moved p w (actors i) worker.LoadAssign old, worker_outcome w (actors i) worker.LoadAssign old))
   loads_assign at = (
     thread_word i ThreadAssign,
-    record { there = thread_there p w m events s actors i before ThreadAssign (record { from = omega arith; to = omega arith }) refl (omega arith); address = own_thread p w m events s actors i before ThreadAssign },
+    load_on p w m events s actors i before ThreadAssign refl,
     go (m i threads 0 (number ThreadAssign) 0 == 0) refl,
   )
     where
@@ -181,12 +174,8 @@ module _ (p : Program) (w : List ℕ) (m : Memory) (events : List (ℕ × Event)
             (if b then outcome.NotReady (of_thread w (actors i).thread ThreadAssign) (m i threads 0 (number ThreadAssign) 0) else outcome.Quiet),
           )
       go true e =
-          let same : left_in m (op.Load (of_thread w (actors i).thread ThreadAssign)) (thread_word i ThreadAssign) ≡ m = of_load p w m events s actors i before (of_thread w (actors i).thread ThreadAssign) (thread_word i ThreadAssign) in
-          waits_keep p w m events s actors i before (op.Load (of_thread w (actors i).thread ThreadAssign)) (thread_word i ThreadAssign) (actors i, outcome.NotReady (of_thread w (actors i).thread ThreadAssign) (m i threads 0 (number ThreadAssign) 0)) (of_thread w (actors i).thread ThreadAssign) refl
-          (ForTask waiting (own_thread p w m events s actors i before ThreadAssign) (eqb-true (m i threads 0 (number ThreadAssign) 0) 0 e)) tt refl
-          (subst (λ (n : Memory). KeepsWords w n s (all_owed (replace_at actors i (actors i)))) (sym same) (moves_keep w m s actors i (actors i) before.rule.words refl))
-          (λ j other. subst (λ (n : Memory). Spares m n s j (actors j)) (sym same) (spares_none m s j (actors j)))
-          (subst (λ (n : Memory). KeepsThread p w n events s i (actors i)) (sym same) (before.rule.threads i before.known))
+          load_waits p w m events s actors i before (of_thread w (actors i).thread ThreadAssign) (thread_word i ThreadAssign) (actors i)
+          (ForTask waiting (own_thread p w m events s actors i before ThreadAssign) (eqb-true (m i threads 0 (number ThreadAssign) 0) 0 e)) refl (before.rule.threads i before.known)
       go false e = by (decided waiting)
         where
           some : m i threads 0 (number ThreadAssign) 0 ≢ 0
@@ -210,7 +199,7 @@ module _ (p : Program) (w : List ℕ) (m : Memory) (events : List (ℕ × Event)
       → StepKeeps p w m events s actors i (worker_next w (actors i) (worker.ClearAssign t)) (λ old. (worker_moved p w (actors i) (worker.ClearAssign t) old, worker_outcome w (actors i) (worker.ClearAssign t) old))
   clears_assign t at = (
     thread_word i ThreadAssign,
-    record { there = thread_there p w m events s actors i before ThreadAssign (record { from = omega arith; to = omega arith }) refl (omega arith); address = own_thread p w m events s actors i before ThreadAssign },
+    store_on p w m events s actors i before ThreadAssign 0 refl,
     go (row_is p w m events s actors i before (worker.ClearAssign t) at),
   )
     where
