@@ -4,7 +4,7 @@ use Rattle.std.proofs.lemmas.Grind.{common_steps}
 use Rattle.std.specs.Prelude.{slice_get}
 use Rattle.std.specs.Option.{option_or}
 use Rattle.omi_corefile.specs.declared.segment.Segment.{Segment}
-use Rattle.omi_calls.specs.Told.{word_at}
+use Rattle.omi_calls.specs.Told.{aligned_word_at}
 use Rattle.omi_calls.specs.CoreWords.{word_of, words_of_segments}
 
 -- one segment more was looked at
@@ -17,5 +17,5 @@ segment_more (x ∷ xs) zero next s addr after is =
 segment_more (x ∷ xs) (suc place) next s addr after is = rw after (segment_more xs place (suc place) s addr refl is)
 
 -- the word at an aligned address
-pub word_aligned : (segments : List Segment) (addr : ℕ) → addr % 8 ≡ 0 → word_at (words_of_segments segments) addr ≡ words_of_segments segments addr
+pub word_aligned : (segments : List Segment) (addr : ℕ) → addr % 8 ≡ 0 → aligned_word_at (words_of_segments segments) addr ≡ words_of_segments segments addr
 word_aligned segments addr aligned = grind (arith, common_steps)

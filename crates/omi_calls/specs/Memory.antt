@@ -4,7 +4,7 @@ use Rattle.std.specs.List.{list_any}
 use Rattle.omi_corefile.specs.declared.core_image.CoreImage.{CoreImage}
 use Rattle.omi_calls.specs.declared.memory.MemCalls.{MemCalls}
 use Rattle.omi_calls.specs.declared.callbacks.Sizes.{Sizes}
-use Rattle.omi_calls.specs.Told.{Told, word_at}
+use Rattle.omi_calls.specs.Told.{Told, aligned_word_at}
 use Rattle.omi_calls.specs.CoreWords.{words_of_segments}
 use Rattle.omi_word.specs.SymbolTable.{symbol_in}
 
@@ -24,7 +24,7 @@ abbrev pub told_by : CoreImage → Told
 told_by core = record {
   order = Some core.order;
   words = Some (words_of_segments core.segments);
-  symbols = Some (symbol_in (word_at (words_of_segments core.segments)));
+  symbols = Some (symbol_in (aligned_word_at (words_of_segments core.segments)));
   sizes = usual_sizes;
 }
 

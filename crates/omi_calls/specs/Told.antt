@@ -17,8 +17,8 @@ pub record Told : Type 0 where
   pub sizes : Sizes
 
 -- the word at an address, which is a multiple of 8
-abbrev pub word_at : Words → ℕ → Option ℕ
-word_at words addr = if addr % 8 == 0 then words addr else None
+abbrev pub aligned_word_at : Words → ℕ → Option ℕ
+aligned_word_at words addr = if addr % 8 == 0 then words addr else None
 
 -- the number of eight bytes in this order
 abbrev pub number_of : ℕ → List ℕ → ℕ

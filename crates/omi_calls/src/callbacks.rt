@@ -3,7 +3,7 @@
 ghost use Rattle.std.specs.Prelude.{◌≡◌, ℕ, Some};
 ghost use Rattle.omi_outside.specs.Outside.{HasCause};
 ghost use Rattle.omi_word.specs.Words.{Words};
-ghost use Rattle.omi_calls.specs.Told.{Told, Symbols, word_at, number_of};
+ghost use Rattle.omi_calls.specs.Told.{Told, Symbols, aligned_word_at, number_of};
 ghost use Rattle.omi_calls.specs.Answers.{SaysMapped, SaysPlace};
 ghost use Rattle.omi_word.specs.SymbolTable.{symbol_in};
 
@@ -56,10 +56,10 @@ pub trait Callbacks {
     /// are told, NotMapped comes exactly where the address is unaligned or no word stands there.
     fn read_memory(&mut self, addr: u64, to: &mut [u8; 8]) -> Got
         ensures mapped { (words : Words) → (told self.old).words ≡ Some words
-            → SaysMapped result (word_at words addr) }
+            → SaysMapped result (aligned_word_at words addr) }
         ensures bytes { (words : Words) (order : ℕ) → (told self.old).words ≡ Some words
             → (told self.old).order ≡ Some order → result ≡ Got.Bytes
-            → word_at words addr ≡ Some (number_of order to.new) }
+            → aligned_word_at words addr ≡ Some (number_of order to.new) }
         ensures same { told self.new ≡ told self.old }
         ensures cause { HasCause (faults self.old) (faults self.new) (result ≡ Got.Failed) };
 
@@ -69,7 +69,7 @@ pub trait Callbacks {
         ensures symbol { (symbols : Symbols) → (told self.old).symbols ≡ Some symbols
             → SaysPlace result (symbols name.now) }
         ensures table { (words : Words) → (told self.old).words ≡ Some words
-            → SaysPlace result (symbol_in (word_at words) name.now) }
+            → SaysPlace result (symbol_in (aligned_word_at words) name.now) }
         ensures same { told self.new ≡ told self.old }
         ensures cause { HasCause (faults self.old) (faults self.new) (result ≡ Place.Failed) };
 

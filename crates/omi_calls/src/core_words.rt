@@ -1,7 +1,7 @@
 //! The words of a core, by their addresses.
 
 ghost use Rattle.std.specs.Prelude.{◌≡◌};
-ghost use Rattle.omi_calls.specs.Told.{word_at};
+ghost use Rattle.omi_calls.specs.Told.{aligned_word_at};
 ghost use Rattle.omi_calls.specs.CoreWords.{word_of, words_of_segments};
 
 use omi_corefile::{CoreImage, Segment};
@@ -25,7 +25,7 @@ fn segment_word(segment: &Segment, addr: u64) -> Option<u64>
 /// The word of a core at a byte address. None where the address is unaligned or no word stands
 /// there.
 pub fn core_word(core: &CoreImage, addr: u64) -> Option<u64>
-    ensures { result ≡ word_at (words_of_segments core.now.segments) addr }
+    ensures { result ≡ aligned_word_at (words_of_segments core.now.segments) addr }
 {
     if addr % 8 != 0 {
         return None;
@@ -46,7 +46,7 @@ pub struct CoreWords<'a> {
 }
 
 impl<'a> WordMemory for CoreWords<'a> {
-    ghost words = { λ words. word_at (words_of_segments words.core.now.segments) };
+    ghost words = { λ words. aligned_word_at (words_of_segments words.core.now.segments) };
 
     fn word(&self, addr: u64) -> Option<u64> {
         core_word(self.core, addr)

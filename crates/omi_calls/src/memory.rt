@@ -4,7 +4,7 @@ ghost use Rattle.std.specs.Prelude.{◌≡◌, ◌↔◌, ◌≤◌, ℕ, ◌==�
 ghost use Rattle.std.specs.List.{list_any};
 ghost use Rattle.omi_outside.specs.Outside.{HasCause, Rose};
 ghost use Rattle.omi_word.specs.Words.{Words};
-ghost use Rattle.omi_calls.specs.Told.{Symbols, word_at, number_of};
+ghost use Rattle.omi_calls.specs.Told.{Symbols, aligned_word_at, number_of};
 ghost use Rattle.omi_calls.specs.Answers.{SaysMapped, SaysPlace};
 ghost use Rattle.omi_word.specs.SymbolTable.{symbol_in};
 ghost use Rattle.omi_calls.specs.Memory.{told_by, told_of, calls_made, faults_counted, is_to_fail, next_count};
@@ -80,10 +80,10 @@ impl Callbacks for MemCalls {
 
     fn read_memory(&mut self, addr: u64, to: &mut [u8; 8]) -> Got
         ensures mapped { (words : Words) → (told_of self.old).words ≡ Some words
-            → SaysMapped result (word_at words addr) }
+            → SaysMapped result (aligned_word_at words addr) }
         ensures bytes { (words : Words) (order : ℕ) → (told_of self.old).words ≡ Some words
             → (told_of self.old).order ≡ Some order → result ≡ Got.Bytes
-            → word_at words addr ≡ Some (number_of order to.new) }
+            → aligned_word_at words addr ≡ Some (number_of order to.new) }
         ensures same { told_of self.new ≡ told_of self.old }
         ensures cause { HasCause (faults_counted self.old) (faults_counted self.new)
             (result ≡ Got.Failed) }
@@ -112,7 +112,7 @@ impl Callbacks for MemCalls {
         ensures symbol { (symbols : Symbols) → (told_of self.old).symbols ≡ Some symbols
             → SaysPlace result (symbols name.now) }
         ensures table { (words : Words) → (told_of self.old).words ≡ Some words
-            → SaysPlace result (symbol_in (word_at words) name.now) }
+            → SaysPlace result (symbol_in (aligned_word_at words) name.now) }
         ensures same { told_of self.new ≡ told_of self.old }
         ensures cause { HasCause (faults_counted self.old) (faults_counted self.new)
             (result ≡ Place.Failed) }

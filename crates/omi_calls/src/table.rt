@@ -3,7 +3,7 @@
 ghost use Rattle.std.specs.Prelude.{◌≡◌, ℕ, ◌↔◌, List, Some, IsErr, IfOk, IsSome};
 ghost use Rattle.omi_outside.specs.Outside.{HasCause};
 ghost use Rattle.omi_word.specs.Words.{Words};
-ghost use Rattle.omi_calls.specs.Told.{Symbols, word_at, number_of};
+ghost use Rattle.omi_calls.specs.Told.{Symbols, aligned_word_at, number_of};
 ghost use Rattle.omi_calls.specs.Answers.{SaysPlace};
 ghost use Rattle.omi_word.specs.SymbolTable.{symbol_in};
 ghost use Rattle.omi_calls.specs.Kept.{IsOrderOf, TakesAll, GivesNumbers};
@@ -92,10 +92,10 @@ impl<C: Callbacks, F: ToHost> Table<C, F> {
     /// The number at a byte address. None exactly where the read was NotMapped.
     pub fn word(&mut self, addr: u64) -> Result<Option<u64>, CallbackFailed>
         ensures mapped { (words : Words) → (C.told self.old.calls).words ≡ Some words
-            → IfOk result (λ word. IsSome word ↔ IsSome (word_at words addr)) }
+            → IfOk result (λ word. IsSome word ↔ IsSome (aligned_word_at words addr)) }
         ensures word { (words : Words) (order : ℕ) → (C.told self.old.calls).words ≡ Some words
             → (C.told self.old.calls).order ≡ Some order
-            → IfOk result (λ word. word ≡ word_at words addr) }
+            → IfOk result (λ word. word ≡ aligned_word_at words addr) }
         ensures same { C.told self.new.calls ≡ C.told self.old.calls }
         ensures order { self.new.order ≡ self.old.order }
         ensures to_host { self.new.to_host ≡ self.old.to_host }
@@ -116,7 +116,7 @@ impl<C: Callbacks, F: ToHost> Table<C, F> {
         ensures symbol { (symbols : Symbols) → (C.told self.old.calls).symbols ≡ Some symbols
             → SaysPlace result (symbols name.now) }
         ensures table { (words : Words) → (C.told self.old.calls).words ≡ Some words
-            → SaysPlace result (symbol_in (word_at words) name.now) }
+            → SaysPlace result (symbol_in (aligned_word_at words) name.now) }
         ensures same { C.told self.new.calls ≡ C.told self.old.calls }
         ensures order { self.new.order ≡ self.old.order }
         ensures to_host { self.new.to_host ≡ self.old.to_host }

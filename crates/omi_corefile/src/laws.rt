@@ -69,7 +69,8 @@ pub fn bad_fields()
     // A start address that no segment has, or that isn't above the end of the segment before.
     ensures start { (c : CoreImage) (before after : List Segment) (s : Segment) (n : ℕ)
         → c.segments ≡ before ++ s ∷ after → n < 2 ^ 64 → NeverStarts n
-        → let at = start_place c before in IsFaultAt c at (eight_bytes n) (CoreFault.SegmentOrder at) }
+        → let at = start_place c before
+        in IsFaultAt c at (eight_bytes n) (CoreFault.SegmentOrder at) }
     ensures touching { (c : CoreImage) (before after : List Segment) (last s : Segment) (n : ℕ)
         → c.segments ≡ before ++ last ∷ s ∷ after → n ≤ last.start + 8 * length last.words
         → let at = start_place c (before ++ last ∷ []) in
@@ -78,7 +79,8 @@ pub fn bad_fields()
     // A segment of no words, and one of more words than the limit of all segments leaves.
     ensures no_words { (c : CoreImage) (before after : List Segment) (s : Segment)
         → c.segments ≡ before ++ s ∷ after
-        → let at = count_place c before in IsFaultAt c at (eight_bytes 0) (CoreFault.SegmentOrder at) }
+        → let at = count_place c before
+        in IsFaultAt c at (eight_bytes 0) (CoreFault.SegmentOrder at) }
     ensures too_large { (c : CoreImage) (before after : List Segment) (s : Segment) (n : ℕ)
         → c.segments ≡ before ++ s ∷ after → n < 2 ^ 64
         → MOST_SEGMENT_WORDS < total_words before + n

@@ -25,7 +25,7 @@ pub fn task_row(alloc: Global, i: u8, k: Tid, t: &Task) -> Result<TaskRow, OutOf
         tool: t.tool,
         dyn_var: t.variables.dynamic as u64,
         nthreads: t.variables.nthreads.same(alloc)?,
-        sched: schedule_word(t.variables.schedule),
+        sched: t.variables.schedule.word(),
         device: t.variables.device,
         final_task: t.is_final as u64,
     })

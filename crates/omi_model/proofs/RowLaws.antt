@@ -1,6 +1,6 @@
 -- Rows keep a law of lists: where the law holds of a list, it holds with a row, a body or a call in front of it, and of the lists with which tasks begin.
 use Rattle.std.proofs.Common.{◌≡◌, ◌==◌, ℕ, zero, suc, ◌+◌, ◌||◌, Bool, true, false, List, [], ◌∷◌, Option, if◌then◌else◌, refl}
-use Rattle.omi_numbers.specs.declared.states.TheConstants.{OVERHEAD, WAIT_BARRIER_EXPLICIT, WAIT_BARRIER_IMPLICIT_PARALLEL, WAIT_CRITICAL, WAIT_TASKWAIT}
+use Rattle.omi_numbers.specs.declared.states.TheConstants.{OVERHEAD, WAIT_BARRIER_EXPLICIT, WAIT_CRITICAL, WAIT_TASKWAIT}
 use Rattle.omi_script.specs.Bodies.{body_of}
 use Rattle.omi_script.specs.declared.program.Program.{Program}
 use Rattle.omi_script.specs.declared.statement.Stmt.{Stmt}
@@ -91,9 +91,6 @@ module _ (p : Program) (at : Encounter) (P : List Item → Type 0) (keeps : Keep
       go : (d : Bool) → at.number == 0 ≡ d → P (item.Arrive ∷ item.Tasks state ∷ (if d then item.Release ∷ item.Pass ∷ xs else item.Pass ∷ xs))
       go true is = keeps.first_barrier state xs is h
       go false is = keeps.barrier state xs is h
-
-  pub end_keeps : P (last_of_member at.number ∷ []) → P (end_of_member at (last_of_member at.number ∷ []))
-  end_keeps h = barrier_keeps WAIT_BARRIER_IMPLICIT_PARALLEL (last_of_member at.number ∷ []) h
 
   leaving : (xs : List Item) → P xs → P (working at (item.Leave ∷ xs))
   leaving xs h = leaving_keeps P keeps.plain at xs h

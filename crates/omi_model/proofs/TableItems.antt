@@ -39,8 +39,8 @@ IsStmtRight s = IsShapeRight (shape_of s)
 
 abbrev pub IsItemRight : Item → Type 0
 IsItemRight (item.Do s) = IsStmtRight s
-IsItemRight (item.State state wait) = Contains states state
-IsItemRight (item.Tasks state) = Contains states state
+IsItemRight (item.State state wait) = Contains state_numbers state
+IsItemRight (item.Tasks state) = Contains state_numbers state
 IsItemRight (item.Set icv value) = IsSetRight icv value
 IsItemRight x = Unit {0}
 
@@ -86,10 +86,10 @@ kind_of chunk kind less = grind arith
 
 module _ (p : Program) where
   stmt_right : (f : ℕ) (s : Stmt) → HasStatement p.funcs f s → IsStmtRight s
-  stmt_right f (stmt.SetNumThreads n) at = (λ e. absurd (let other : NTHREADS_VAR ≡ run_sched_var = e in omega arith), λ e. (Rules-from_accepted p).ranges f (stmt.SetNumThreads n) at)
+  stmt_right f (stmt.SetNumThreads n) at = (λ e. absurd (let other : NTHREADS_VAR ≡ RUN_SCHED_VAR = e in omega arith), λ e. (Rules-from_accepted p).ranges f (stmt.SetNumThreads n) at)
   stmt_right f (stmt.SetSchedule s) at =
       let range = (Rules-from_accepted p).ranges f (stmt.SetSchedule s) at in
-      (λ e. subst IsKind (kind_of s.chunk s.kind (omega (arith, range.1))) (range.0, range.1), λ e. absurd (let other : RUN_SCHED_VAR ≡ nthreads_var = e in omega arith))
+      (λ e. subst IsKind (kind_of s.chunk s.kind (omega (arith, range.1))) (range.0, range.1), λ e. absurd (let other : RUN_SCHED_VAR ≡ NTHREADS_VAR = e in omega arith))
   stmt_right f (stmt.SetDynamic b) at = other_right DYN_VAR _ (λ e. omega (arith, e)) (λ e. omega (arith, e))
   stmt_right f (stmt.SetMaxActive n) at = other_right MAX_ACTIVE_LEVELS_VAR n (λ e. omega (arith, e)) (λ e. omega (arith, e))
   stmt_right f (stmt.SetDevice d) at = other_right DEFAULT_DEVICE_VAR d (λ e. omega (arith, e)) (λ e. omega (arith, e))

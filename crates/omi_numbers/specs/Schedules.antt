@@ -13,5 +13,5 @@ schedule_kinds =
     ∷ []
 
 -- the number of the kind with a name
-abbrev pub kind_of : List ℕ → Option ℕ
-kind_of word = number_in schedule_kinds word
+abbrev pub schedule_kind_of : List ℕ → Option ℕ
+schedule_kind_of word = number_in schedule_kinds word

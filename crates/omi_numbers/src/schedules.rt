@@ -3,7 +3,7 @@
 ghost use Rattle.std.specs.Prelude.{◌≡◌};
 ghost use Rattle.std.specs.Option.{option_copied};
 ghost use Rattle.omi_numbers.specs.Names.{name_in};
-ghost use Rattle.omi_numbers.specs.Schedules.{schedule_kinds, kind_of};
+ghost use Rattle.omi_numbers.specs.Schedules.{schedule_kinds, schedule_kind_of};
 
 pub const STATIC: u8 = 1;
 
@@ -33,7 +33,7 @@ pub fn kind_name(kind: u64) -> Option<&'static str>
 
 /// The number of the schedule kind with a name. None where no kind has it.
 pub fn kind_number(word: &[u8]) -> Option<u8>
-    ensures { result ≡ kind_of word.now }
+    ensures { result ≡ schedule_kind_of word.now }
 {
     if word == b"static".as_slice() {
         Some(STATIC)

@@ -8,7 +8,7 @@ use Rattle.std.proofs.lemmas.Bool.Decides.{nat_tests}
 use Rattle.omi_outside.specs.Outside.{Told as FileTold}
 use Rattle.omi_corefile.specs.Refusals.{Refusal, Parts, reading}
 use Rattle.omi_word.specs.Words.{Words}
-use Rattle.omi_calls.specs.Told.{Symbols, word_at, number_of}
+use Rattle.omi_calls.specs.Told.{Symbols, aligned_word_at, number_of}
 use Rattle.omi_word.specs.SymbolTable.{symbol_in}
 use Rattle.omi_calls.specs.CoreWords.{word_of, words_of_segments}
 use Rattle.omi_calls.proofs.ToldSymbols.{same_symbols}
@@ -105,7 +105,7 @@ pub record TellsPlaces (told : FileTold) (spans : List Span) (words : Words) (ad
   pub bytes : List ℕ
   pub holds : Holds told bytes
   pub order_is : (order : ℕ) → (told_by_file told).order ≡ Some order → order ≡ 0
-  pub word_is : word_at words addr ≡ option_map (word_there bytes) (place_in spans addr)
+  pub word_is : aligned_word_at words addr ≡ option_map (word_there bytes) (place_in spans addr)
 
 same_order : (a b : ℕ) → (let some : ℕ → Option ℕ = λ n. Some n in some a ≡ some b) → a ≡ b
 same_order a b e = cc
@@ -125,7 +125,7 @@ tells_places told contexts spans words addr e parts aligned =
 
 -- ---- the answers of a read
 
-pub unaligned : (words : Words) (addr : ℕ) → (addr % 8 ≡ 0 → ⊥) → word_at words addr ≡ None
+pub unaligned : (words : Words) (addr : ℕ) → (addr % 8 ≡ 0 → ⊥) → aligned_word_at words addr ≡ None
 unaligned words addr lacks = let test : eqb (addr % 8) 0 ≡ false = ne_eqb (addr % 8) 0 lacks in rw test refl
 
 none_there : (f : ℕ → ℕ) (o : Option ℕ) → is_some o ≡ false → option_map f o ≡ None
@@ -138,14 +138,14 @@ some_there f (Some at) stands = refl
 
 -- no word stands there
 pub not_mapped : (told : FileTold) (contexts : List ℕ) (spans : List Span) (words : Words) (addr : ℕ) → (told_by_file told).words ≡ Some words
-    → ArePartsOf told contexts spans → addr % 8 ≡ 0 → is_some (place_in spans addr) ≡ false → word_at words addr ≡ None
+    → ArePartsOf told contexts spans → addr % 8 ≡ 0 → is_some (place_in spans addr) ≡ false → aligned_word_at words addr ≡ None
 not_mapped told contexts spans words addr e parts aligned lacks =
     let t = tells_places told contexts spans words addr e parts aligned in
     t.word_is ∙ none_there (word_there t.bytes) (place_in spans addr) lacks
 
 -- a word stands there
 pub mapped : (told : FileTold) (contexts : List ℕ) (spans : List Span) (words : Words) (addr : ℕ) → (told_by_file told).words ≡ Some words
-    → ArePartsOf told contexts spans → addr % 8 ≡ 0 → is_some (place_in spans addr) ≡ true → IsSome (word_at words addr)
+    → ArePartsOf told contexts spans → addr % 8 ≡ 0 → is_some (place_in spans addr) ≡ true → IsSome (aligned_word_at words addr)
 mapped told contexts spans words addr e parts aligned stands =
     let t = tells_places told contexts spans words addr e parts aligned in
     subst IsSome (sym t.word_is) (some_there (word_there t.bytes) (place_in spans addr) stands)
@@ -159,7 +159,7 @@ by_place bytes word (Some at) stands is = ap (λ (w : List ℕ). Some (from_le_b
 pub in_page : (told : FileTold) (contexts : List ℕ) (spans : List Span) (words : Words) (order addr : ℕ) (word items : List ℕ) → (told_by_file told).words ≡ Some words → (told_by_file told).order ≡ Some order
     → ArePartsOf told contexts spans → addr % 8 ≡ 0 → is_some (place_in spans addr) ≡ true
     → ((bytes : List ℕ) → Holds told bytes → IsPage bytes spans (addr / 4096) items) → word ≡ eight_at items (addr % 4096)
-    → word_at words addr ≡ Some (number_of order word)
+    → aligned_word_at words addr ≡ Some (number_of order word)
 in_page told contexts spans words order addr word items e told_order parts aligned stands page is =
     let t = tells_places told contexts spans words addr e parts aligned in
     let here : 4096 * (addr / 4096) + addr % 4096 ≡ addr = omega arith in
@@ -181,13 +181,13 @@ told_order told contexts spans words e parts =
 pub record TellsSymbols (told : FileTold) (symbols : Symbols) : Type 0 where
   pub words : Words
   pub told_words : (told_by_file told).words ≡ Some words
-  pub symbols_are : symbol_in (word_at words) ≡ symbols
+  pub symbols_are : symbol_in (aligned_word_at words) ≡ symbols
 
 symbols_by : (bytes : List ℕ) (symbols : Symbols) (read : Result Parts Refusal) → reading bytes ≡ read → (told_by_reading read).symbols ≡ Some symbols → TellsSymbols (Some (Some bytes)) symbols
 symbols_by bytes symbols (Ok parts) is e = record {
   words = words_of_segments parts.segments;
   told_words = ap (λ r. (told_by_reading r).words) is;
-  symbols_are = same_symbols (symbol_in (word_at (words_of_segments parts.segments))) symbols e;
+  symbols_are = same_symbols (symbol_in (aligned_word_at (words_of_segments parts.segments))) symbols e;
 }
 symbols_by bytes symbols (Err refusal) is e = absurd cc
 

@@ -2,7 +2,7 @@
 use Rattle.std.specs.Prelude.{Some, None, Result, Ok, Err}
 use Rattle.omi_outside.specs.Outside.{Told as FileTold}
 use Rattle.omi_corefile.specs.Refusals.{Refusal, Parts, reading}
-use Rattle.omi_calls.specs.Told.{Told, word_at}
+use Rattle.omi_calls.specs.Told.{Told, aligned_word_at}
 use Rattle.omi_calls.specs.CoreWords.{words_of_segments}
 use Rattle.omi_word.specs.SymbolTable.{symbol_in}
 use Rattle.omi_calls.specs.Memory.{usual_sizes}
@@ -16,7 +16,7 @@ abbrev pub told_by_reading : Result Parts Refusal → Told
 told_by_reading (Ok parts) = record {
   order = Some parts.order;
   words = Some (words_of_segments parts.segments);
-  symbols = Some (symbol_in (word_at (words_of_segments parts.segments)));
+  symbols = Some (symbol_in (aligned_word_at (words_of_segments parts.segments)));
   sizes = usual_sizes;
 }
 told_by_reading (Err refusal) = told_nothing

@@ -7,7 +7,7 @@ ghost use Rattle.omi_corefile.specs.Refusals.{CoreRefused};
 ghost use Rattle.omi_corefile.specs.declared.core_image.CoreImage.{CoreImage};
 ghost use Rattle.omi_corefile.specs.declared.fault.CoreFault.{CoreFault};
 ghost use Rattle.omi_word.specs.Words.{Words};
-ghost use Rattle.omi_calls.specs.Told.{Symbols, word_at, number_of};
+ghost use Rattle.omi_calls.specs.Told.{Symbols, aligned_word_at, number_of};
 ghost use Rattle.omi_calls.specs.Answers.{SaysMapped, SaysPlace};
 ghost use Rattle.omi_word.specs.SymbolTable.{symbol_in};
 ghost use Rattle.omi_calls.specs.Memory.{told_by};
@@ -150,10 +150,10 @@ impl<'a, F: Files> Callbacks for Pages<'a, F> {
 
     fn read_memory(&mut self, addr: u64, to: &mut [u8; 8]) -> Got
         ensures mapped { (words : Words) → (told_of self.old).words ≡ Some words
-            → SaysMapped result (word_at words addr) }
+            → SaysMapped result (aligned_word_at words addr) }
         ensures bytes { (words : Words) (order : ℕ) → (told_of self.old).words ≡ Some words
             → (told_of self.old).order ≡ Some order → result ≡ Got.Bytes
-            → word_at words addr ≡ Some (number_of order to.new) }
+            → aligned_word_at words addr ≡ Some (number_of order to.new) }
         ensures same { told_of self.new ≡ told_of self.old }
         ensures cause { HasCause (faults_counted self.old) (faults_counted self.new)
             (result ≡ Got.Failed) }
@@ -188,7 +188,7 @@ impl<'a, F: Files> Callbacks for Pages<'a, F> {
         ensures symbol { (symbols : Symbols) → (told_of self.old).symbols ≡ Some symbols
             → SaysPlace result (symbols name.now) }
         ensures table { (words : Words) → (told_of self.old).words ≡ Some words
-            → SaysPlace result (symbol_in (word_at words) name.now) }
+            → SaysPlace result (symbol_in (aligned_word_at words) name.now) }
         ensures same { told_of self.new ≡ told_of self.old }
         ensures cause { HasCause (faults_counted self.old) (faults_counted self.new)
             (result ≡ Place.Failed) }

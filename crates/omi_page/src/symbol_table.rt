@@ -4,7 +4,7 @@ ghost use Rattle.std.specs.Prelude.{◌≡◌, ◌≤◌, [], ◌∷◌, Some, I
 ghost use Rattle.omi_page.specs.AllWords.{all_words};
 ghost use Rattle.omi_outside.specs.Outside.{HasCause};
 ghost use Rattle.omi_word.specs.Words.{Words};
-ghost use Rattle.omi_calls.specs.Told.{word_at};
+ghost use Rattle.omi_calls.specs.Told.{aligned_word_at};
 ghost use Rattle.omi_word.specs.SymbolTable.{words_from, symbol_in};
 
 use crate::Pages;
@@ -31,7 +31,7 @@ impl<'a, F: Files> Pages<'a, F> {
     /// The word at a byte address. None where the address is unaligned or no word stands there.
     fn word(&mut self, addr: u64) -> Result<Option<u64>, CallbackFailed>
         ensures word { (words : Words) → (told_of self.old).words ≡ Some words
-            → IfOk result (λ word. word ≡ word_at words addr) }
+            → IfOk result (λ word. word ≡ aligned_word_at words addr) }
         ensures same { told_of self.new ≡ told_of self.old }
         ensures cause { HasCause (faults_counted self.old) (faults_counted self.new)
             (IsErr result) }
@@ -49,7 +49,7 @@ impl<'a, F: Files> Pages<'a, F> {
     fn five_words(&mut self, at: u64) -> Result<Option<[u64; 5]>, CallbackFailed>
         requires { at ≤ 66184 }
         ensures words { (words : Words) → (told_of self.old).words ≡ Some words
-            → IfOk result (λ five. five ≡ words_from (word_at words) at 5) }
+            → IfOk result (λ five. five ≡ words_from (aligned_word_at words) at 5) }
         ensures same { told_of self.new ≡ told_of self.old }
         ensures cause { HasCause (faults_counted self.old) (faults_counted self.new)
             (IsErr result) }
@@ -67,7 +67,7 @@ impl<'a, F: Files> Pages<'a, F> {
     /// the count exceeds 16, or where no symbol has the name.
     pub fn symbol(&mut self, name: &str) -> Result<Option<u64>, CallbackFailed>
         ensures symbol { (words : Words) → (told_of self.old).words ≡ Some words
-            → IfOk result (λ addr. addr ≡ symbol_in (word_at words) name.now) }
+            → IfOk result (λ addr. addr ≡ symbol_in (aligned_word_at words) name.now) }
         ensures same { told_of self.new ≡ told_of self.old }
         ensures cause { HasCause (faults_counted self.old) (faults_counted self.new)
             (IsErr result) }

@@ -56,20 +56,11 @@ ShapeEnters shape.Work = ⊥
 abbrev pub Enters : Stmt → Type 0
 Enters s = ShapeEnters (shape_of s)
 
--- those of them after which a working state is stored
+-- those of them after which a working state is stored: all but `task` and `taskyield`
 abbrev pub ShapeStoresState : Shape → Type 0
-ShapeStoresState (shape.Parallel f num) = Unit {0}
 ShapeStoresState (shape.Task f undeferred final) = ⊥
-ShapeStoresState shape.Taskwait = Unit {0}
 ShapeStoresState shape.Taskyield = ⊥
-ShapeStoresState shape.Barrier = Unit {0}
-ShapeStoresState (shape.Critical k f) = Unit {0}
-ShapeStoresState (shape.Call f) = ⊥
-ShapeStoresState (shape.Only m f) = ⊥
-ShapeStoresState (shape.Repeat n f) = ⊥
-ShapeStoresState (shape.Sets variable word) = ⊥
-ShapeStoresState (shape.Tool x) = ⊥
-ShapeStoresState shape.Work = ⊥
+ShapeStoresState x = ShapeEnters x
 
 abbrev pub StoresState : Stmt → Type 0
 StoresState s = ShapeStoresState (shape_of s)

@@ -30,12 +30,12 @@ set_number (Some s) = variable_of (shape_of s)
 set_number None = 0
 
 -- the word of its value
-abbrev pub word_of : Shape → ℕ
-word_of (shape.Sets variable word) = word
-word_of _ = 0
+abbrev pub word_to_set : Shape → ℕ
+word_to_set (shape.Sets variable word) = word
+word_to_set _ = 0
 
 abbrev pub set_word : Option Stmt → ℕ
-set_word (Some s) = word_of (shape_of s)
+set_word (Some s) = word_to_set (shape_of s)
 set_word None = 0
 
 -- the address of its one word: max-active-levels-var is the program's, and the others are the current task's. nthreads-var is set

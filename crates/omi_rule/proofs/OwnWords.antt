@@ -23,10 +23,10 @@ abbrev pub thread_word : ℕ → Field → RecordWord
 thread_word i f = record { creator = i; slot = 0; field = f; place = 0 }
 
 module _ (p : Program) (w : List ℕ) (m : Memory) (events : List (ℕ × Event)) (s : State) (actors : ℕ → Actor) (i : ℕ) (before : Before p w m events s actors i) where
-  pub known_thread : i < thread_count w
+  known_thread : i < thread_count w
   known_thread = subst (λ n. i < n) before.rule.within.count before.known
 
-  pub wide : (f : ℕ) → 0 < width w f
+  wide : (f : ℕ) → 0 < width w f
   wide f = grind (arith, nat_tests, some_threads w before.valid)
 
   -- an actor's thread is i

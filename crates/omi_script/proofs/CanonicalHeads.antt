@@ -11,7 +11,7 @@ use Rattle.omi_script.specs.Names.{is_within}
 use Rattle.omi_script.specs.Numbers.{number_of, sizes_of}
 use Rattle.omi_script.specs.ParserState.{first_state, no_head}
 use Rattle.omi_script.specs.Ranges.{are_sizes, is_device, is_env, is_level_count, is_processor_count, is_schedule}
-use Rattle.omi_numbers.specs.Schedules.{kind_of}
+use Rattle.omi_numbers.specs.Schedules.{schedule_kind_of}
 use Rattle.omi_script.specs.declared.env.Env.{Env}
 use Rattle.omi_script.specs.declared.head.Head.{Head}
 use Rattle.omi_script.specs.declared.limits.TheConstants.{MAX_CHUNK, MAX_DEVICE, MAX_LEVELS, MAX_PROCS, MAX_THREADS}
@@ -61,7 +61,7 @@ says_max_active n h = ap (λ o. Some (line.Head (MaxActive o))) (number_up_to-de
 says_schedule : (s : Sched) → is_schedule s ≡ true → line_of (env_words (codes "schedule") (schedule_text s)) ≡ Some (line.Head (Schedule (Some s)))
 says_schedule s h =
     ap (λ ps. option_map line.Head (kind_and_chunk ps)) (pieces-schedule s h)
-    ∙ ap (λ (b : Bool). option_map line.Head (if b then None else of_kind (kind_of (kind_text s.kind)))) (plain_not_empty (decimal s.chunk) (plain-decimal s.chunk (chunk_small s h)))
+    ∙ ap (λ (b : Bool). option_map line.Head (if b then None else of_kind (schedule_kind_of (kind_text s.kind)))) (plain_not_empty (decimal s.chunk) (plain-decimal s.chunk (chunk_small s h)))
     ∙ ap (λ o. option_map line.Head (of_kind o)) (kind_of-kind_text s.kind (kind_within s h))
     ∙ ap (λ o. Some (line.Head (Schedule (option_map (λ n. record { kind = s.kind; chunk = n }) o)))) (number_up_to-decimal MAX_CHUNK s.chunk (omega arith) (chunk_within s h))
   where

@@ -16,7 +16,7 @@ use Rattle.omi_script.specs.LineFaults.{least}
 use Rattle.omi_script.specs.Names.{is_digit, is_within}
 use Rattle.omi_script.specs.Numbers.{each_of, is_comma, is_decimal, number_of, numbers_of, sizes_of, value_of}
 use Rattle.omi_script.specs.Ranges.{are_sizes, is_schedule, is_size}
-use Rattle.omi_numbers.specs.Schedules.{kind_of}
+use Rattle.omi_numbers.specs.Schedules.{schedule_kind_of}
 use Rattle.omi_script.specs.declared.limits.TheConstants.{MAX_CHUNK, MAX_SIZE, MAX_SIZES}
 use Rattle.omi_script.specs.declared.statement.Sched.{Sched}
 use Rattle.omi_script.proofs.Conjunctions.{and_left, and_right, and_true}
@@ -132,8 +132,8 @@ by_kind P a b c d (suc (suc (suc (suc zero)))) h = d
 by_kind P a b c d (suc (suc (suc (suc (suc k))))) h = let l : suc (suc (suc (suc (suc k)))) ≤ 4 = leb-true (suc (suc (suc (suc (suc k))))) 4 (and_right (nat_le 1 (suc (suc (suc (suc (suc k)))))) (nat_le (suc (suc (suc (suc (suc k))))) 4) h) in absurd (omega arith)
 
 -- a schedule's kind is read again
-pub kind_of-kind_text : (k : ℕ) → is_within 1 4 k ≡ true → kind_of (kind_text k) ≡ Some k
-kind_of-kind_text = by_kind (λ k. kind_of (kind_text k) ≡ Some k) refl refl refl refl
+pub kind_of-kind_text : (k : ℕ) → is_within 1 4 k ≡ true → schedule_kind_of (kind_text k) ≡ Some k
+kind_of-kind_text = by_kind (λ k. schedule_kind_of (kind_text k) ≡ Some k) refl refl refl refl
 
 -- a schedule's kind is a word
 pub plain-kind_text : (k : ℕ) → is_within 1 4 k ≡ true → is_plain (kind_text k) ≡ true

@@ -15,7 +15,7 @@ use Rattle.omi_script.specs.Line.{begins_comment, closing_line, function_line, l
 use Rattle.omi_script.specs.Names.{is_within}
 use Rattle.omi_script.specs.Numbers.{is_comma, number_of, sizes_of}
 use Rattle.omi_script.specs.Ranges.{are_sizes, is_device, is_in_range, is_level_count, is_processor_count, is_schedule}
-use Rattle.omi_numbers.specs.Schedules.{kind_of}
+use Rattle.omi_numbers.specs.Schedules.{schedule_kind_of}
 use Rattle.omi_script.specs.StatementLines.{bare_line, call_line, critical_line, only_line, parallel_line, repeat_line, set_device_line, set_dynamic_line, set_max_active_line, set_num_threads_line, set_schedule_line, statement_line, task_construct_line, task_construct, tool_line}
 use Rattle.omi_script.specs.declared.head.Head.{Head}
 use Rattle.omi_script.specs.declared.limits.TheConstants.{MAX_CHUNK, MAX_DEVICE, MAX_LEVELS, MAX_LOCK, MAX_MEMBER, MAX_PROCS, MAX_REPEATS, MAX_SIZE, MAX_THREADS}
@@ -99,7 +99,7 @@ kind_chosen : (b : Bool) (x y : Option ℕ) → is_kind x ≡ true → is_kind y
 kind_chosen true x y h k = h
 kind_chosen false x y h k = k
 
-kind_within : (word : List ℕ) → is_kind (kind_of word) ≡ true
+kind_within : (word : List ℕ) → is_kind (schedule_kind_of word) ≡ true
 kind_within word =
     kind_chosen (bytes_eq word (codes "static")) _ _ refl
     (kind_chosen (bytes_eq word (codes "dynamic")) _ _ refl
@@ -130,7 +130,7 @@ with_kind (Some k) chunk e = with_chunk k chunk e
 schedule_good : (pieces : List (List ℕ)) → is_good_head (kind_and_chunk pieces) ≡ true
 schedule_good [] = refl
 schedule_good (kind ∷ []) = refl
-schedule_good (kind ∷ chunk ∷ []) = head_chosen (length chunk == 0) None _ refl (with_kind (kind_of kind) chunk (kind_within kind))
+schedule_good (kind ∷ chunk ∷ []) = head_chosen (length chunk == 0) None _ refl (with_kind (schedule_kind_of kind) chunk (kind_within kind))
 schedule_good (kind ∷ chunk ∷ more ∷ pieces) = refl
 
 dynamic_good : (o : Option Bool) → is_good_head (option_map Dynamic o) ≡ true
@@ -244,7 +244,7 @@ set_schedule_kind (Some k) chunk e =
 set_schedule_good : (ws : List (List ℕ)) → is_good (set_schedule_line ws) ≡ true
 set_schedule_good [] = refl
 set_schedule_good (kind ∷ []) = refl
-set_schedule_good (kind ∷ chunk ∷ []) = set_schedule_kind (kind_of kind) chunk (kind_within kind)
+set_schedule_good (kind ∷ chunk ∷ []) = set_schedule_kind (schedule_kind_of kind) chunk (kind_within kind)
 set_schedule_good (kind ∷ chunk ∷ more ∷ ws) = refl
 
 set_device_good : (ws : List (List ℕ)) → is_good (set_device_line ws) ≡ true

@@ -2,7 +2,7 @@
 use Rattle.std.specs.Prelude.{ℕ, Bool, true, false, ◌==◌, List, [], ◌∷◌, length, Option, Some, None, option_map, is_some, if◌then◌else◌, bytes_eq, codes}
 use Rattle.std.specs.List.{list_any, slice_split}
 use Rattle.omi_script.specs.Numbers.{is_comma, number_of, sizes_of}
-use Rattle.omi_numbers.specs.Schedules.{kind_of}
+use Rattle.omi_numbers.specs.Schedules.{schedule_kind_of}
 use Rattle.omi_script.specs.declared.head.Head.{Head}
 use Rattle.omi_script.specs.declared.line.HeadLine.{HeadLine}
 use Rattle.omi_script.specs.declared.line.HeadLine.TheVariants.{Threads, NumThreads, Dynamic, MaxActive, Schedule, Device, Debug, Procs}
@@ -44,7 +44,7 @@ schedule_of chunk kind =
 -- KIND,CHUNK, by the pieces between commas
 abbrev pub kind_and_chunk : List (List ℕ) → Option HeadLine
 kind_and_chunk (kind ∷ chunk ∷ []) =
-    if length chunk == 0 then None else option_map (schedule_of chunk) (kind_of kind)
+    if length chunk == 0 then None else option_map (schedule_of chunk) (schedule_kind_of kind)
 kind_and_chunk _ = None
 
 -- `env schedule KIND,CHUNK`, CHUNK 0 to `MAX_CHUNK`

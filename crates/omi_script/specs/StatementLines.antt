@@ -2,7 +2,7 @@
 -- first.
 use Rattle.std.specs.Prelude.{ℕ, ◌&&◌, ◌==◌, List, [], ◌∷◌, Option, Some, None, option_map, option_and_then, if◌then◌else◌, bytes_eq, codes}
 use Rattle.omi_script.specs.Numbers.{number_of}
-use Rattle.omi_numbers.specs.Schedules.{kind_of}
+use Rattle.omi_numbers.specs.Schedules.{schedule_kind_of}
 use Rattle.omi_script.specs.declared.line.Line.{Line}
 use Rattle.omi_script.specs.declared.line.Line.TheVariants as line
 use Rattle.omi_script.specs.declared.statement.Construct.{Construct}
@@ -92,7 +92,7 @@ abbrev pub set_schedule_line : List (List ℕ) → Option Line
 set_schedule_line (kind ∷ chunk ∷ []) =
     option_map
     (λ k. stand_alone (λ n. SetSchedule (record { kind = k; chunk = n })) (number_of 0 MAX_CHUNK chunk))
-    (kind_of kind)
+    (schedule_kind_of kind)
 set_schedule_line _ = None
 
 -- `set_default_device N`, N 0 to 255

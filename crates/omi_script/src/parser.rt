@@ -193,7 +193,8 @@ impl Parser {
 
     /// Reads a line: the state after it, or its least fault.
     pub fn read(self, alloc: Global, bytes: &[u8]) -> Result<Parser, LineError>
-        ensures { Answers (has_fault self.state bytes.now) (parser_after self.state bytes.now) result }
+        ensures { Answers (has_fault self.state bytes.now) (parser_after self.state bytes.now)
+            result }
     {
         if !are_text(bytes) {
             return Err(LineError::Fault(Why::NotText));

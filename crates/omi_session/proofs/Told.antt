@@ -2,14 +2,14 @@
 use Rattle.std.proofs.Common.{◌≡◌, ℕ, ◌≤◌, Some, sym, ap, subst, ◌∙◌, arith}
 use Rattle.omi_outside.specs.Outside.{HasCause}
 use Rattle.omi_word.specs.Words.{Words}
-use Rattle.omi_calls.specs.Told.{Told, word_at}
+use Rattle.omi_calls.specs.Told.{Told, aligned_word_at}
 use Rattle.omi_calls.specs.Kept.{Kept}
 use Rattle.omi_session.specs.Opened.{Opened, StaysWhole}
 use Rattle.omi_session.specs.Tells.{Tells, KeepsTold}
 
 -- what holds of the told words holds of the memory that they are
 pub as_told : (told now : Told) (memory : Words) → now ≡ told → Tells told memory → (P : Words → Type 0)
-    → ((words : Words) (order : ℕ) → now.words ≡ Some words → now.order ≡ Some order → P (word_at words)) → P memory
+    → ((words : Words) (order : ℕ) → now.words ≡ Some words → now.order ≡ Some order → P (aligned_word_at words)) → P memory
 as_told told now memory same t P holds =
     subst P (sym t.is) (holds t.words t.order (ap (λ x. x.words) same ∙ t.words_told) (ap (λ x. x.order) same ∙ t.order_told))
 

@@ -4,7 +4,7 @@ ghost use Rattle.std.specs.Prelude.{◌≡◌, ◌≢◌, ℕ, ◌+◌, ◌-◌,
 ghost use Rattle.std.specs.Bool.{OnFalse};
 ghost use Rattle.std.specs.FinMap.{get, insert, remove};
 ghost use Rattle.omi_outside.specs.Outside.{HasCause};
-ghost use Rattle.omi_calls.specs.Told.{word_at};
+ghost use Rattle.omi_calls.specs.Told.{aligned_word_at};
 ghost use Rattle.omi_handle.specs.declared.handle.Held.{Held};
 ghost use Rattle.omi_word.specs.Words.{Words};
 ghost use Rattle.omi_layout.specs.declared.limits.TheConstants.{LAST_END};
@@ -85,7 +85,7 @@ impl<C: Callbacks, F: ToHost> Session<C, F> {
         ensures word { (memory : Words) → Tells (C.told self.old.table.calls) memory
             → IfOk result (λ word. word ≡ memory addr) }
         ensures mapped { (words : Words) → (C.told self.old.table.calls).words ≡ Some words
-            → IfOk result (λ word. IsSome word ↔ IsSome (word_at words addr)) }
+            → IfOk result (λ word. IsSome word ↔ IsSome (aligned_word_at words addr)) }
         ensures same { StaysWhole C.told self.old self.new }
         ensures cause { HasCause (C.faults self.old.table.calls) (C.faults self.new.table.calls)
             (IsErr result) }

@@ -8,6 +8,8 @@ mod corefile_tests;
 #[cfg(test)]
 mod cores;
 #[cfg(test)]
+mod headers;
+#[cfg(test)]
 mod page_fault_tests;
 #[cfg(test)]
 mod page_tests;

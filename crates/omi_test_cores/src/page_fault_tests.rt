@@ -1,6 +1,7 @@
 //! Each fault of a core file, at its place: files written out by hand, and those that end inside a core.
 
 use crate::cores::three_segments;
+use crate::headers::HEADERS;
 use crate::sparing::Sparing;
 use omi_corefile::{CoreFault, MOST_SEGMENT_WORDS};
 use omi_page::{PageError, Pages};
@@ -39,25 +40,8 @@ fn file(alloc: Global, contexts: u8, segments: u8, numbers: &[u64]) -> Result<Ve
 
 #[test]
 fn headers(rt: HostRuntime) {
-    let rows: [(&[u8], u64, CoreFault); 8] = [
-        (b"", 0, CoreFault::Short(0)),
-        (b"OMPDCOR2", 0, CoreFault::BadMagic),
-        (b"XMPDCOR", 7, CoreFault::Short(7)),
-        (b"OMPDCOR1\x02\x01", 8, CoreFault::Version(2)),
-        (b"OMPDCOR1\x01\x01", 9, CoreFault::Order(1)),
-        (b"OMPDCOR1\x01\x00\x41\x00", 10, CoreFault::BadContext(10)),
-        (
-            b"OMPDCOR1\x01\x00\x40\x00\x41\x00\x00",
-            15,
-            CoreFault::Short(15),
-        ),
-        (
-            b"OMPDCOR1\x01\x00\x40\x00\x41\x00\x00\x00",
-            12,
-            CoreFault::SegmentOrder(12),
-        ),
-    ];
-    for (bytes, place, fault) in rows {
+    assert!(rt; is_refused(rt.alloc(), b"", 0, CoreFault::Short(0)));
+    for (bytes, place, fault) in HEADERS {
         assert!(rt; is_refused(rt.alloc(), bytes, place, fault));
     }
 }

@@ -151,26 +151,6 @@ fn null_ends_in<F: ToHost>(alloc: Global, order: ByteOrder, to_host: F) -> Resul
     Ok(has)
 }
 
-#[test]
-fn null_ends(rt: HostRuntime) -> Result<(), Fail> {
-    let little = null_ends_in(
-        rt.alloc(),
-        LITTLE,
-        |bytes: [u8; 8]| -> u64
-            ensures { result ≡ from_le_bytes w64 bytes }
-        { u64::from_le_bytes(bytes) },
-    )?;
-    let big = null_ends_in(
-        rt.alloc(),
-        BIG,
-        |bytes: [u8; 8]| -> u64
-            ensures { result ≡ from_be_bytes w64 bytes }
-        { u64::from_be_bytes(bytes) },
-    )?;
-    assert_eq!(rt; (little, big), (true, true));
-    Ok(())
-}
-
 /// Whether the team of the region has two members, and no third.
 fn has_two_members<F: ToHost>(s: &mut Stopped<'_, F>) -> Result<bool, Rc> {
     let found = thread(s, 1000)?;
@@ -196,23 +176,37 @@ fn team_numbers_in<F: ToHost>(alloc: Global, order: ByteOrder, to_host: F) -> Re
     Ok(has)
 }
 
+/// Whether there are null ends before the first step of an empty run, and two members at the fork of a team of two.
+fn null_ends_and_numbers_in<F: ToHost + Copy>(
+    alloc: Global,
+    order: ByteOrder,
+    to_host: F,
+) -> Result<(bool, bool), Wrong>
+    requires takes { TakesAll (F.takes to_host) }
+    requires gives { GivesNumbers (F.gives to_host) (if order.highest_first then 1 else 0) }
+{
+    let null_ends = null_ends_in(alloc, order, to_host)?;
+    let numbers = team_numbers_in(alloc, order, to_host)?;
+    Ok((null_ends, numbers))
+}
+
 #[test]
-fn team_numbers(rt: HostRuntime) -> Result<(), Fail> {
-    let little = team_numbers_in(
+fn null_ends_and_team_numbers(rt: HostRuntime) -> Result<(), Fail> {
+    let little = null_ends_and_numbers_in(
         rt.alloc(),
         LITTLE,
         |bytes: [u8; 8]| -> u64
             ensures { result ≡ from_le_bytes w64 bytes }
         { u64::from_le_bytes(bytes) },
     )?;
-    let big = team_numbers_in(
+    let big = null_ends_and_numbers_in(
         rt.alloc(),
         BIG,
         |bytes: [u8; 8]| -> u64
             ensures { result ≡ from_be_bytes w64 bytes }
         { u64::from_be_bytes(bytes) },
     )?;
-    assert_eq!(rt; (little, big), (true, true));
+    assert_eq!(rt; (little, big), ((true, true), (true, true)));
     Ok(())
 }
 

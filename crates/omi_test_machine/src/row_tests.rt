@@ -137,41 +137,18 @@ fn expect(rt: &impl Abort, alloc: Global, row: &Row) -> Result<(), Fail> {
 }
 
 #[test]
-fn a_list_with_a_changed_head(rt: HostRuntime) -> Result<(), Fail> {
-    expect(&rt, rt.alloc(), &A_LIST_WITH_A_CHANGED_HEAD)
-}
-
-#[test]
-fn too_few_threads(rt: HostRuntime) -> Result<(), Fail> {
-    expect(&rt, rt.alloc(), &TOO_FEW_THREADS)
-}
-
-#[test]
-fn a_contested_worker(rt: HostRuntime) -> Result<(), Fail> {
-    expect(&rt, rt.alloc(), &A_CONTESTED_WORKER)
-}
-
-#[test]
-fn limit_of_active_levels(rt: HostRuntime) -> Result<(), Fail> {
-    expect(&rt, rt.alloc(), &LIMIT_OF_ACTIVE_LEVELS)
-}
-
-#[test]
-fn an_ended_ancestor(rt: HostRuntime) -> Result<(), Fail> {
-    expect(&rt, rt.alloc(), &AN_ENDED_ANCESTOR)
-}
-
-#[test]
-fn a_full_row_of_slots(rt: HostRuntime) -> Result<(), Fail> {
-    expect(&rt, rt.alloc(), &A_FULL_ROW_OF_SLOTS)
-}
-
-#[test]
-fn nested_chain(rt: HostRuntime) -> Result<(), Fail> {
-    expect(&rt, rt.alloc(), &NESTED_CHAIN)
-}
-
-#[test]
-fn waits_and_a_lock(rt: HostRuntime) -> Result<(), Fail> {
-    expect(&rt, rt.alloc(), &WAITS_AND_A_LOCK)
+fn each_row(rt: HostRuntime) -> Result<(), Fail> {
+    for row in [
+        &A_LIST_WITH_A_CHANGED_HEAD,
+        &TOO_FEW_THREADS,
+        &A_CONTESTED_WORKER,
+        &LIMIT_OF_ACTIVE_LEVELS,
+        &AN_ENDED_ANCESTOR,
+        &A_FULL_ROW_OF_SLOTS,
+        &NESTED_CHAIN,
+        &WAITS_AND_A_LOCK,
+    ] {
+        expect(&rt, rt.alloc(), row)?;
+    }
+    Ok(())
 }

@@ -28,18 +28,7 @@ const GOING_ON: u64 = 57;
 /// No change of words.
 const NONE: [(u64, Option<u64>); 2] = [(0, Some(0)); 2];
 
-#[test]
-fn reads_and_look_ups(rt: HostRuntime) -> Result<(), Fail> {
-    reads_and_look_ups_by(
-        &rt,
-        rt.alloc(),
-        |bytes: [u8; 8]| -> u64
-            ensures { result ≡ from_le_bytes w64 bytes }
-        { u64::from_le_bytes(bytes) },
-    )
-}
-
-fn reads_and_look_ups_by<F: ToHost + Copy>(
+fn reads_and_look_ups<F: ToHost + Copy>(
     rt: &impl Abort,
     alloc: Global,
     to_host: F,
@@ -82,18 +71,7 @@ fn twice<F: ToHost + Copy>(
 }
 
 /// Each read of an inquiry fails, and the inquiry is made again with the same handle. The read behind its last one is the next inquiry's.
-#[test]
-fn each_read_fails_in_turn(rt: HostRuntime) -> Result<(), Fail> {
-    each_read_fails_in_turn_by(
-        &rt,
-        rt.alloc(),
-        |bytes: [u8; 8]| -> u64
-            ensures { result ≡ from_le_bytes w64 bytes }
-        { u64::from_le_bytes(bytes) },
-    )
-}
-
-fn each_read_fails_in_turn_by<F: ToHost + Copy>(
+fn each_read_fails_in_turn<F: ToHost + Copy>(
     rt: &impl Abort,
     alloc: Global,
     to_host: F,
@@ -115,18 +93,7 @@ fn each_read_fails_in_turn_by<F: ToHost + Copy>(
 }
 
 /// A read that fails comes before what its word would have said, and behind what earlier words said.
-#[test]
-fn a_failed_read_and_another_refusal(rt: HostRuntime) -> Result<(), Fail> {
-    a_failed_read_and_another_refusal_by(
-        &rt,
-        rt.alloc(),
-        |bytes: [u8; 8]| -> u64
-            ensures { result ≡ from_le_bytes w64 bytes }
-        { u64::from_le_bytes(bytes) },
-    )
-}
-
-fn a_failed_read_and_another_refusal_by<F: ToHost + Copy>(
+fn a_failed_read_and_another_refusal<F: ToHost + Copy>(
     rt: &impl Abort,
     alloc: Global,
     to_host: F,
@@ -204,18 +171,7 @@ fn turned(h: Three) -> Three {
 
 /// A handle of another kind is refused before any word is read, and so is one that was let go, also for ids of another kind. The inquiry
 /// without a handle comes last, and its first read is the first of all.
-#[test]
-fn handles_that_are_not_held(rt: HostRuntime) -> Result<(), Fail> {
-    handles_that_are_not_held_by(
-        &rt,
-        rt.alloc(),
-        |bytes: [u8; 8]| -> u64
-            ensures { result ≡ from_le_bytes w64 bytes }
-        { u64::from_le_bytes(bytes) },
-    )
-}
-
-fn handles_that_are_not_held_by<F: ToHost + Copy>(
+fn handles_that_are_not_held<F: ToHost + Copy>(
     rt: &impl Abort,
     alloc: Global,
     to_host: F,
@@ -247,18 +203,7 @@ fn handles_that_are_not_held_by<F: ToHost + Copy>(
 }
 
 /// Ids of another kind are refused before any word is read.
-#[test]
-fn ids_of_another_kind(rt: HostRuntime) -> Result<(), Fail> {
-    ids_of_another_kind_by(
-        &rt,
-        rt.alloc(),
-        |bytes: [u8; 8]| -> u64
-            ensures { result ≡ from_le_bytes w64 bytes }
-        { u64::from_le_bytes(bytes) },
-    )
-}
-
-fn ids_of_another_kind_by<F: ToHost + Copy>(
+fn ids_of_another_kind<F: ToHost + Copy>(
     rt: &impl Abort,
     alloc: Global,
     to_host: F,
@@ -289,4 +234,28 @@ fn ids_of_another_kind_by<F: ToHost + Copy>(
         Err(Rc::StaleHandle)
     );
     Ok(())
+}
+
+/// All of these, by one conversion of the bytes of a word.
+fn each_by<F: ToHost + Copy>(rt: &impl Abort, alloc: Global, to_host: F) -> Result<(), Fail>
+    requires takes { TakesAll (F.takes to_host) }
+    requires gives { GivesNumbers (F.gives to_host) 0 }
+{
+    reads_and_look_ups(rt, alloc, to_host)?;
+    each_read_fails_in_turn(rt, alloc, to_host)?;
+    a_failed_read_and_another_refusal(rt, alloc, to_host)?;
+    handles_that_are_not_held(rt, alloc, to_host)?;
+    ids_of_another_kind(rt, alloc, to_host)?;
+    Ok(())
+}
+
+#[test]
+fn each(rt: HostRuntime) -> Result<(), Fail> {
+    each_by(
+        &rt,
+        rt.alloc(),
+        |bytes: [u8; 8]| -> u64
+            ensures { result ≡ from_le_bytes w64 bytes }
+        { u64::from_le_bytes(bytes) },
+    )
 }

@@ -123,39 +123,19 @@ fn in_all_families(alloc: Global, script: &str, moves: &str) -> Result<(), Wrong
     Ok(())
 }
 
+/// Each place at which a thread waits: a team and its records, two barriers, a lock, tasks of a region, children, and the record of a task.
 #[test]
-fn a_team_and_its_records(rt: HostRuntime) -> Result<(), Fail> {
-    in_all_families(rt.alloc(), A_TEAM_OF_TWO, A_TEAM)?;
-    Ok(())
-}
-
-#[test]
-fn two_barriers(rt: HostRuntime) -> Result<(), Fail> {
-    in_all_families(rt.alloc(), TWO_BARRIERS, BARRIERS)?;
-    Ok(())
-}
-
-#[test]
-fn a_lock(rt: HostRuntime) -> Result<(), Fail> {
-    in_all_families(rt.alloc(), ONE_LOCK, A_LOCK)?;
-    Ok(())
-}
-
-#[test]
-fn tasks_of_a_region(rt: HostRuntime) -> Result<(), Fail> {
-    in_all_families(rt.alloc(), A_TASK_OF_EACH_MEMBER, TASKS_OF_A_REGION)?;
-    Ok(())
-}
-
-#[test]
-fn children(rt: HostRuntime) -> Result<(), Fail> {
-    in_all_families(rt.alloc(), WAITS_FOR_TASKS, CHILDREN)?;
-    Ok(())
-}
-
-#[test]
-fn a_task_record(rt: HostRuntime) -> Result<(), Fail> {
-    in_all_families(rt.alloc(), A_FULL_ROW, A_TASK_RECORD)?;
+fn each_wait(rt: HostRuntime) -> Result<(), Fail> {
+    for (script, moves) in [
+        (A_TEAM_OF_TWO, A_TEAM),
+        (TWO_BARRIERS, BARRIERS),
+        (ONE_LOCK, A_LOCK),
+        (A_TASK_OF_EACH_MEMBER, TASKS_OF_A_REGION),
+        (WAITS_FOR_TASKS, CHILDREN),
+        (A_FULL_ROW, A_TASK_RECORD),
+    ] {
+        in_all_families(rt.alloc(), script, moves)?;
+    }
     Ok(())
 }
 

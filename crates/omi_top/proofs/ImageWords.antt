@@ -4,7 +4,7 @@ use Rattle.std.specs.Prelude.{nat_le, nat_lt, slice_get, slice_index}
 use Rattle.std.specs.Option.{option_or}
 use Rattle.std.proofs.lemmas.Bool.{ltb-true, ltb-false}
 use Rattle.std.proofs.lemmas.Option.{slice_get-get_or, slice_get_past}
-use Rattle.omi_calls.specs.Told.{word_at}
+use Rattle.omi_calls.specs.Told.{aligned_word_at}
 use Rattle.omi_calls.specs.CoreWords.{words_of_segments as segment_words}
 use Rattle.omi_corefile.specs.Spelling.{HoldsImage}
 use Rattle.omi_corefile.specs.declared.core_image.CoreImage.{CoreImage}
@@ -22,7 +22,7 @@ at_place true false within words place e = refl
 at_place true true true words place e = ap (λ (x : Option ℕ). option_or x None) (slice_get-get_or words place 0 (ltb-true place (length words) e))
 at_place true true false words place e = ap (λ (x : Option ℕ). option_or x None) (slice_get_past words place (ltb-false place (length words) e))
 
-alone : (words : List ℕ) (addr : ℕ) → word_at (segment_words (record { start = FIRST_ADDRESS; words = words } ∷ [])) addr ≡ words_of words addr
+alone : (words : List ℕ) (addr : ℕ) → aligned_word_at (segment_words (record { start = FIRST_ADDRESS; words = words } ∷ [])) addr ≡ words_of words addr
 alone words addr = at_place (addr % 8 == 0) (nat_le FIRST_ADDRESS addr) (nat_lt (place_of addr) (length words)) words (place_of addr) refl
 
 -- two memories with the same word at each address are one
@@ -31,5 +31,5 @@ same_words f g each = λ i addr. each addr i
 
 pub image_words : (ids words : List ℕ) (core : CoreImage) → HoldsImage ids words core → words_of_core core ≡ words_of words
 image_words ids words core holds =
-    ap (λ (segments : List Segment). word_at (segment_words segments)) holds.segments
-    ∙ same_words (word_at (segment_words (record { start = FIRST_ADDRESS; words = words } ∷ []))) (words_of words) (alone words)
+    ap (λ (segments : List Segment). aligned_word_at (segment_words segments)) holds.segments
+    ∙ same_words (aligned_word_at (segment_words (record { start = FIRST_ADDRESS; words = words } ∷ []))) (words_of words) (alone words)

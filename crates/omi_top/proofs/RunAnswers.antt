@@ -20,6 +20,7 @@ read_back plan script core refusal.OutOfMemory is = tt
 read_back plan script core r is = is
 
 show_never_behind : (core : List ℕ) (r : Refusal) → IsBehind (Show core) r → ⊥
+show_never_behind core refusal.OutOfMemory is = is
 show_never_behind core r is = is
 
 -- what `show` is refused for stands behind the core that was written: it refuses no words and no script

@@ -1,6 +1,6 @@
 -- What a core file is to `show`: its words, a look at them through the layout that they give, and why there is none.
 use Rattle.std.specs.Prelude.{◌≡◌, ◌⊎◌, ℕ, List, Err, ⊤}
-use Rattle.omi_calls.specs.Told.{word_at}
+use Rattle.omi_calls.specs.Told.{aligned_word_at}
 use Rattle.omi_calls.specs.CoreWords.{words_of_segments as segment_words}
 use Rattle.omi_corefile.specs.Spelling.{Core}
 use Rattle.omi_corefile.specs.declared.core_image.CoreImage.{CoreImage}
@@ -21,7 +21,7 @@ use Rattle.omi_rep.specs.ShownLooks.{AreNames}
 
 -- the words of a core by their addresses: those of its segments, none at an unaligned address
 abbrev pub words_of_core : CoreImage → Words
-words_of_core core = word_at (segment_words core.segments)
+words_of_core core = aligned_word_at (segment_words core.segments)
 
 -- a look at the words of a core through the valid layout that they give, for the core's contexts, gives this view, or this fault
 pub record IsLooked (core : CoreImage) (look : Look View) : Type 0 where

@@ -66,6 +66,10 @@ met_more old new key before same updates address =
     go true e = refl
     go false e = e
 
+-- what holds where a chain goes on, at the object there and for as many steps as are left
+pub goes_on : {A : Type 0} (P : ℕ → Option A → Type 0) (left next : ℕ) (o : Option A) (x : A) → o ≡ Some x → left ≡ next → P left o → P next (Some x)
+goes_on P left next o x is same so = subst (λ n. P n (Some x)) same (subst (P left) is so)
+
 -- the chain so far, and what is left of it
 pub record ChainSoFar {C F : Type 0} (told : C → Told) (s : Opened C F) (first : Id) (chain : List Met) (known : ℕ → Bool) (left : ℕ) (current : Option Met) : Type 0 where
   pub before : List ℕ

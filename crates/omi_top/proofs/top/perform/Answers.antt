@@ -23,7 +23,7 @@ returns-in-Make-clause-performed g c =
       answer = λ told. c.make.ensures.answer (g.F.Files.told c.args.files.now);
       read = record { later = omega arith; failed = λ is. absurd (late_not_read c.make.result c.make.ensures.late is) };
       write = c.make.ensures.write;
-      unwritten = late_writes _ (Make _ _) c.make.result c.make.ensures.late;
+      unwritten = late_writes _ (Make c.in-Make.nodes c.in-Make.script.now) c.make.result c.make.ensures.late;
       stays = record { files_told = refl; files_writes = refl; dest_reads = c.make.ensures.dest_reads; others = c.make.ensures.others };
     })
 

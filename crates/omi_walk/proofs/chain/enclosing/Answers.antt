@@ -1,4 +1,4 @@
-use Rattle.std.proofs.Common.{◌≡◌, ◌∷◌, [], ℕ, ◌-◌, ◌+◌, suc, Some, refl, ap, subst, ◌∙◌, arith}
+use Rattle.std.proofs.Common.{◌≡◌, ◌∷◌, [], ℕ, ◌-◌, ◌+◌, suc, refl, ap, subst, ◌∙◌, arith}
 use Rattle.std.specs.Prelude.{IfSome}
 use Rattle.std.specs.Ordering.{nat_cmp}
 use Rattle.std.specs.BTreeSet.{contains}
@@ -9,7 +9,7 @@ use Rattle.omi_layout.specs.Field.{regions}
 use Rattle.omi_layout.specs.Table.{records}
 use Rattle.omi_rep.specs.Look.{was_met}
 use Rattle.omi_walk.specs.Objects.{IsMet}
-use Rattle.omi_walk.proofs.Chained.{ChainSoFar, chain_begins, chain_next, chain_stops, chain_ends, chain_cycles, met_more, met_in_address, now_met, one_met}
+use Rattle.omi_walk.proofs.Chained.{ChainSoFar, chain_begins, chain_next, chain_stops, chain_ends, chain_cycles, met_more, met_in_address, now_met, one_met, goes_on}
 use Rattle.omi_walk.proofs.Steps.{leaves_then, look_unsaid, met_after}
 use Rattle.omi_walk.proofs.chain.enclosing.Goals as goal
 
@@ -44,11 +44,8 @@ returns-in_err-current-clause-look g c =
     let p = err_from_is_err_and c.from_residual-in_err-current.result c.from_residual-in_err-current.ensures.1 in
     let told = g.C.Callbacks.told in
     let region = c.in-Some.region in
-    let one : c.region_count-end.result - c.loop.counter ≡ suc (c.region_count-end.result - (c.loop.counter + 1)) = omega (arith, c.loop-test.true) in
-    let so = subst (λ left. ChainSoFar told c.args.s.now c.args.first.name c.loop.chain (contains nat_cmp c.loop.met) left (Some region)) one
-    (subst (λ o. ChainSoFar told c.args.s.now c.args.first.name c.loop.chain (contains nat_cmp c.loop.met) (c.region_count-end.result - c.loop.counter) o) c.in-Some.is c.loop.invariant.so) in
-    let met = subst (λ o. IfSome o (IsMet told c.loop.s Region)) c.in-Some.is c.loop.invariant.current in
-    let there = met_in_address told c.args.s.now c.loop.s Region (Some region) c.loop.invariant.leaves.stays met region refl in
+    let so = goes_on (ChainSoFar told c.args.s.now c.args.first.name c.loop.chain (contains nat_cmp c.loop.met)) _ (suc (c.region_count-end.result - (c.loop.counter + 1))) _ region c.in-Some.is (omega (arith, c.loop-test.true)) c.loop.invariant.so in
+    let there = met_in_address told c.args.s.now c.loop.s Region c.loop.current c.loop.invariant.leaves.stays c.loop.invariant.current region c.in-Some.is in
     let seen = now_met told c.args.s.now c.args.first.name c.loop.s c.loop.invariant.leaves.stays c.loop.chain (contains nat_cmp c.loop.met) (c.region_count-end.result - (c.loop.counter + 1)) region so in
     let same = λ (address : ℕ). met_more c.loop.met c.insert.new.self region.held.addr so.before so.same c.in_ok-insert.ensures.updates address ∙ ap (λ a. was_met (a ∷ so.before) address) there in
     rw (p.1, p.2) (chain_stops told c.args.s.now c.args.first.name c.loop.s c.loop.invariant.leaves.stays c.loop.chain (contains nat_cmp c.loop.met) _ region so c.in_err-current.field-0.0
@@ -75,11 +72,8 @@ loop-preserved g c = record {
   so =
       let told = g.C.Callbacks.told in
       let region = c.in-Some.region in
-      let one : c.region_count-end.result - c.loop.counter ≡ suc (c.region_count-end.result - (c.loop.counter + 1)) = omega (arith, c.loop-test.true) in
-      let so = subst (λ left. ChainSoFar told c.args.s.now c.args.first.name c.loop.chain (contains nat_cmp c.loop.met) left (Some region)) one
-      (subst (λ o. ChainSoFar told c.args.s.now c.args.first.name c.loop.chain (contains nat_cmp c.loop.met) (c.region_count-end.result - c.loop.counter) o) c.in-Some.is c.loop.invariant.so) in
-      let met = subst (λ o. IfSome o (IsMet told c.loop.s Region)) c.in-Some.is c.loop.invariant.current in
-      let there = met_in_address told c.args.s.now c.loop.s Region (Some region) c.loop.invariant.leaves.stays met region refl in
+      let so = goes_on (ChainSoFar told c.args.s.now c.args.first.name c.loop.chain (contains nat_cmp c.loop.met)) _ (suc (c.region_count-end.result - (c.loop.counter + 1))) _ region c.in-Some.is (omega (arith, c.loop-test.true)) c.loop.invariant.so in
+      let there = met_in_address told c.args.s.now c.loop.s Region c.loop.current c.loop.invariant.leaves.stays c.loop.invariant.current region c.in-Some.is in
       let seen = now_met told c.args.s.now c.args.first.name c.loop.s c.loop.invariant.leaves.stays c.loop.chain (contains nat_cmp c.loop.met) (c.region_count-end.result - (c.loop.counter + 1)) region so in
       let same = λ (address : ℕ). met_more c.loop.met c.insert.new.self region.held.addr so.before so.same c.in_ok-insert.ensures.updates address ∙ ap (λ a. was_met (a ∷ so.before) address) there in
       rw c.in_ok-push.ensures.added (chain_next told c.args.s.now c.args.first.name c.loop.s c.loop.invariant.leaves.stays c.loop.chain (contains nat_cmp c.loop.met) _ region so
@@ -96,9 +90,6 @@ pub returns-clause-look : goal.returns-clause-look
 returns-clause-look g c =
     let told = g.C.Callbacks.told in
     let region = c.in-Some-current.region in
-    let none : c.region_count-end.result - c.loop.counter ≡ 0 = omega (arith, c.loop-test.false) in
-    let so = subst (λ left. ChainSoFar told c.args.s.now c.args.first.name c.loop.chain (contains nat_cmp c.loop.met) left (Some region)) none
-    (subst (λ o. ChainSoFar told c.args.s.now c.args.first.name c.loop.chain (contains nat_cmp c.loop.met) (c.region_count-end.result - c.loop.counter) o) c.in-Some-current.is c.loop.invariant.so) in
-    let met = subst (λ o. IfSome o (IsMet told c.loop.s Region)) c.in-Some-current.is c.loop.invariant.current in
+    let so = goes_on (ChainSoFar told c.args.s.now c.args.first.name c.loop.chain (contains nat_cmp c.loop.met)) _ 0 _ region c.in-Some-current.is (omega (arith, c.loop-test.false)) c.loop.invariant.so in
     chain_cycles told c.args.s.now c.args.first.name c.loop.chain (contains nat_cmp c.loop.met) region
-    (met_in_address told c.args.s.now c.loop.s Region (Some region) c.loop.invariant.leaves.stays met region refl) so
+    (met_in_address told c.args.s.now c.loop.s Region c.loop.current c.loop.invariant.leaves.stays c.loop.invariant.current region c.in-Some-current.is) so

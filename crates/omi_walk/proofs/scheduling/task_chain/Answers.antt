@@ -1,5 +1,4 @@
-use Rattle.std.proofs.Common.{append_assoc, append-nil, ◌≡◌, ◌∷◌, ◌++◌, [], ℕ, ◌-◌, ◌+◌, suc, Some, refl, sym, ap, subst, ◌∙◌, arith}
-use Rattle.std.specs.Prelude.{IfSome}
+use Rattle.std.proofs.Common.{append_assoc, append-nil, ◌≡◌, ◌∷◌, ◌++◌, [], ℕ, ◌-◌, ◌+◌, suc, refl, sym, ap, subst, ◌∙◌, arith}
 use Rattle.std.specs.Ordering.{nat_cmp}
 use Rattle.std.specs.BTreeSet.{contains}
 use Rattle.std.proofs.lemmas.Result.{err_from_is_err_and}
@@ -7,8 +6,8 @@ use Rattle.omi_handle.specs.declared.handle.Kind.TheVariants.{Task}
 use Rattle.omi_layout.specs.Field.{tasks}
 use Rattle.omi_layout.specs.Table.{records}
 use Rattle.omi_rep.specs.Look.{was_met}
-use Rattle.omi_walk.specs.Objects.{IsMet, name_in}
-use Rattle.omi_walk.proofs.Chained.{met_more, met_in_address}
+use Rattle.omi_walk.specs.Objects.{name_in}
+use Rattle.omi_walk.proofs.Chained.{met_more, met_in_address, goes_on}
 use Rattle.omi_walk.proofs.Steps.{leaves_then, look_unsaid}
 use Rattle.omi_walk.proofs.TaskChained.{TasksSoFar, tasks_begin, tasks_next, tasks_stop, tasks_end, tasks_cycle, now_met}
 use Rattle.omi_walk.proofs.scheduling.task_chain.Goals as goal
@@ -49,11 +48,8 @@ returns-in_err-link-clause-look g c =
     let p = err_from_is_err_and c.from_residual-in_err-link.result c.from_residual-in_err-link.ensures.1 in
     let told = g.C.Callbacks.told in
     let task = c.in-Some.task in
-    let one : c.task_count-end.result - c.loop.counter ≡ suc (c.task_count-end.result - (c.loop.counter + 1)) = omega (arith, c.loop-test.true) in
-    let so = subst (λ left. TasksSoFar told c.args.s.now c.args.thread (name_in c.args.first) c.loop.invariant.added (contains nat_cmp c.loop.met) left (Some task.name)) one
-    (subst (λ o. TasksSoFar told c.args.s.now c.args.thread (name_in c.args.first) c.loop.invariant.added (contains nat_cmp c.loop.met) (c.task_count-end.result - c.loop.counter) (name_in o)) c.in-Some.is c.loop.invariant.so) in
-    let met = subst (λ o. IfSome o (IsMet told c.loop.s Task)) c.in-Some.is c.loop.invariant.met in
-    let there = met_in_address told c.args.s.now c.loop.s Task (Some task) c.loop.invariant.leaves.stays met task refl in
+    let so = goes_on (λ left o. TasksSoFar told c.args.s.now c.args.thread (name_in c.args.first) c.loop.invariant.added (contains nat_cmp c.loop.met) left (name_in o)) _ (suc (c.task_count-end.result - (c.loop.counter + 1))) _ task c.in-Some.is (omega (arith, c.loop-test.true)) c.loop.invariant.so in
+    let there = met_in_address told c.args.s.now c.loop.s Task c.loop.current c.loop.invariant.leaves.stays c.loop.invariant.met task c.in-Some.is in
     let seen = now_met told c.args.s.now c.args.thread (name_in c.args.first) c.loop.s c.loop.invariant.leaves.stays c.loop.invariant.added (contains nat_cmp c.loop.met) (c.task_count-end.result - (c.loop.counter + 1)) task.name so in
     let same = λ (address : ℕ). met_more c.loop.met c.insert.new.self task.held.addr so.before so.same c.in_ok-insert.ensures.updates address ∙ ap (λ a. was_met (a ∷ so.before) address) there in
     rw (p.1, p.2) (tasks_stop told c.args.s.now c.args.thread (name_in c.args.first) c.loop.s c.loop.invariant.leaves.stays c.loop.invariant.added (contains nat_cmp c.loop.met) _ task.name so c.in_err-link.field-0.0
@@ -76,11 +72,8 @@ loop-preserved g c = record {
   so =
       let told = g.C.Callbacks.told in
       let task = c.in-Some.task in
-      let one : c.task_count-end.result - c.loop.counter ≡ suc (c.task_count-end.result - (c.loop.counter + 1)) = omega (arith, c.loop-test.true) in
-      let so = subst (λ left. TasksSoFar told c.args.s.now c.args.thread (name_in c.args.first) c.loop.invariant.added (contains nat_cmp c.loop.met) left (Some task.name)) one
-      (subst (λ o. TasksSoFar told c.args.s.now c.args.thread (name_in c.args.first) c.loop.invariant.added (contains nat_cmp c.loop.met) (c.task_count-end.result - c.loop.counter) (name_in o)) c.in-Some.is c.loop.invariant.so) in
-      let met = subst (λ o. IfSome o (IsMet told c.loop.s Task)) c.in-Some.is c.loop.invariant.met in
-      let there = met_in_address told c.args.s.now c.loop.s Task (Some task) c.loop.invariant.leaves.stays met task refl in
+      let so = goes_on (λ left o. TasksSoFar told c.args.s.now c.args.thread (name_in c.args.first) c.loop.invariant.added (contains nat_cmp c.loop.met) left (name_in o)) _ (suc (c.task_count-end.result - (c.loop.counter + 1))) _ task c.in-Some.is (omega (arith, c.loop-test.true)) c.loop.invariant.so in
+      let there = met_in_address told c.args.s.now c.loop.s Task c.loop.current c.loop.invariant.leaves.stays c.loop.invariant.met task c.in-Some.is in
       let seen = now_met told c.args.s.now c.args.thread (name_in c.args.first) c.loop.s c.loop.invariant.leaves.stays c.loop.invariant.added (contains nat_cmp c.loop.met) (c.task_count-end.result - (c.loop.counter + 1)) task.name so in
       let same = λ (address : ℕ). met_more c.loop.met c.insert.new.self task.held.addr so.before so.same c.in_ok-insert.ensures.updates address ∙ ap (λ a. was_met (a ∷ so.before) address) there in
       tasks_next told c.args.s.now c.args.thread (name_in c.args.first) c.loop.s c.loop.invariant.leaves.stays c.loop.invariant.added (contains nat_cmp c.loop.met) _ task.name so
@@ -101,9 +94,6 @@ pub returns-clause-look : goal.returns-clause-look
 returns-clause-look g c =
     let told = g.C.Callbacks.told in
     let task = c.in-Some-current.task in
-    let none : c.task_count-end.result - c.loop.counter ≡ 0 = omega (arith, c.loop-test.false) in
-    let so = subst (λ left. TasksSoFar told c.args.s.now c.args.thread (name_in c.args.first) c.loop.invariant.added (contains nat_cmp c.loop.met) left (Some task.name)) none
-    (subst (λ o. TasksSoFar told c.args.s.now c.args.thread (name_in c.args.first) c.loop.invariant.added (contains nat_cmp c.loop.met) (c.task_count-end.result - c.loop.counter) (name_in o)) c.in-Some-current.is c.loop.invariant.so) in
-    let met = subst (λ o. IfSome o (IsMet told c.loop.s Task)) c.in-Some-current.is c.loop.invariant.met in
+    let so = goes_on (λ left o. TasksSoFar told c.args.s.now c.args.thread (name_in c.args.first) c.loop.invariant.added (contains nat_cmp c.loop.met) left (name_in o)) _ 0 _ task c.in-Some-current.is (omega (arith, c.loop-test.false)) c.loop.invariant.so in
     tasks_cycle told c.args.s.now c.args.thread (name_in c.args.first) c.loop.invariant.added (contains nat_cmp c.loop.met) task.name task.held.addr
-    (met_in_address told c.args.s.now c.loop.s Task (Some task) c.loop.invariant.leaves.stays met task refl) so
+    (met_in_address told c.args.s.now c.loop.s Task c.loop.current c.loop.invariant.leaves.stays c.loop.invariant.met task c.in-Some-current.is) so
