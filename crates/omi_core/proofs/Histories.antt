@@ -44,4 +44,4 @@ module _ (a : Run) (k : KeepsRun a) where
       (stands n seen RegionArrived _ refl kept.arrived, stands n seen RegionReleased _ refl kept.released)
 
   pub history : HasHistory a
-  history = (k.entries, k.state, record { made_by = k.made_by; tables = k.tables; reached = k.rule.reached; shows = shows_state a k k.state k.rule.reached; counts = counted })
+  history = (k.entries, k.state, record { made_by = k.made_by; follow = λ i. (k.behind i).follow; tables = k.tables; reached = k.rule.reached; shows = shows_state a k k.state k.rule.reached; counts = counted })

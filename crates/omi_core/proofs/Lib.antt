@@ -1,4 +1,5 @@
 pub mod Reaching
+pub mod Found
 pub mod History
 pub mod Stepping
 pub mod Opened

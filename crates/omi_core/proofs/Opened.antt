@@ -77,6 +77,7 @@ opened_run a valid suits words actors none no_step = record {
     events = none;
     made = no_step;
   };
+  behind = λ i. record { follow = refl; actor = ap (λ (xs : ℕ → Actor). xs i) (actors_open a.program a.actors actors) };
   workers = at_begin;
   watched = λ i. subst (λ (b : Actor). IsGiven a.program b opening_watch) (sym (ap (λ (xs : ℕ → Actor). xs i) (actors_open a.program a.actors actors))) (openings_given a.program i);
 }

@@ -46,10 +46,11 @@ use Rattle.omi_rule_watch.specs.Watch.{Watch, watched}
 use Rattle.omi_rule_watch.specs.WatchLaws.{StepKeepsWatch}
 use Rattle.omi_rule_watch.proofs.Kept.{watch_kept}
 use Rattle.omi_core.specs.declared.entry.Entry.{Entry}
-use Rattle.omi_core.specs.Kept.{IsUnderWay, KeepsCore, KeepsRun}
+use Rattle.omi_core.specs.Kept.{IsBehind, IsUnderWay, KeepsCore, KeepsRun}
 use Rattle.omi_core.specs.Runs.{Run, actors_in, events_in, spare_in}
 use Rattle.omi_core.specs.RunSteps.{IsRight, ShowsState, event_of, made_of, seats_of}
 use Rattle.omi_core.specs.Steps.{IsStepFrom, IsWatched, events_behind, opening_watches, steps_of}
+use Rattle.omi_core.proofs.Found.{behind_step}
 use Rattle.omi_core.proofs.History.{commits_behind, event_committed, events_append, events_one_more, goes_under_way, made_length, made_one_more, other_one_more, own_one_more, starts_right, steps_one_more}
 use Rattle.omi_core.proofs.Reaching.{reached_one}
 
@@ -96,6 +97,7 @@ other_room a k es made events steps =
         rule = rule;
         entries = run.entries;
         made_by = record { steps = run.made_by.steps; events = events ∙ run.made_by.events; made = steps ∙ run.made_by.made };
+        behind = run.behind;
         workers = run.workers;
         watched = run.watched;
       };
@@ -342,6 +344,21 @@ module _ (a : Run) (k : KeepsRun a) (i : ℕ) (thread : i < a.program.threads) w
               subst (λ es. IsUnderWay es (actors_in a.actors j).counter) (sym (other_one_more j i k.entries e (λ same. let yes : j == i ≡ true = eq-eqb j i (sym same) in cc (is, yes))))
               (k.workers j worker)
 
+      -- the thread is behind one step more
+      each_behind : (j : ℕ) → IsBehind a.program a.table j (steps_of j (k.entries ++ (i, e) ∷ [])) (actors_in actors_behind j)
+      each_behind j = subst (λ (xs : ℕ → Actor). IsBehind a.program a.table j (steps_of j (k.entries ++ (i, e) ∷ [])) (xs j)) (sym actors_now) (go (j == i) refl)
+        where
+          go : (t : Bool) → j == i ≡ t → IsBehind a.program a.table j (steps_of j (k.entries ++ (i, e) ∷ [])) (if t then (behind (word_at a.words (address_of op))).0 else actors_in a.actors j)
+          go true is =
+              let same : j ≡ i = eqb-true j i is in
+              subst (λ z. IsBehind a.program a.table z (steps_of z (k.entries ++ (i, e) ∷ [])) (behind (word_at a.words (address_of op))).0) (sym same)
+              (subst (λ es. IsBehind a.program a.table i es (behind (word_at a.words (address_of op))).0) (sym (own_one_more i k.entries e))
+              (subst (λ n. IsBehind a.program a.table i (steps_of i k.entries ++ e ∷ []) (behind n).0) old_is
+              (behind_step a.program a.table i (steps_of i k.entries) (actors_in a.actors i) e (k.behind i) op_is outcome_is)))
+          go false is =
+              subst (λ es. IsBehind a.program a.table j es (actors_in a.actors j)) (sym (other_one_more j i k.entries e (λ same. let yes : j == i ≡ true = eq-eqb j i (sym same) in cc (is, yes))))
+              (k.behind j)
+
       -- each thread's actor gives its watch
       all_watched : (j : ℕ) → IsGiven a.program (actors_in actors_behind j) (replace_at k.made_by.steps.watches i (watch_of e) j)
       all_watched j = subst (λ (xs : ℕ → Actor). IsGiven a.program (xs j) (replace_at k.made_by.steps.watches i (watch_of e) j)) (sym actors_now) (go (j == i))
@@ -379,6 +396,7 @@ module _ (a : Run) (k : KeepsRun a) (i : ℕ) (thread : i < a.program.threads) w
               ∙ sym (events_one_more 0 k.entries i e);
           made = one ∙ ap (λ (ys : List Made). ys ++ made_of i e ∷ []) k.made_by.made ∙ sym (made_one_more k.entries i e);
         };
+        behind = each_behind;
         workers = under_way;
         watched = all_watched;
       }

@@ -1,5 +1,5 @@
--- What a run is by its steps: they lead from the opening words to its words, with its events, and its words show the state that these
--- events reach, and count its arrivals and releases.
+-- What a run is by its steps: each is the one that its thread makes next, they lead from the opening words to its words, with its events,
+-- and its words show the state that these events reach, and count its arrivals and releases.
 use Rattle.std.specs.Prelude.{◌≡◌, ℕ, List, sum}
 use Rattle.omi_model.specs.declared.id.Rid.{Rid}
 use Rattle.omi_model.specs.Reached.{Reached}
@@ -12,8 +12,9 @@ use Rattle.omi_word.specs.Words.{words_of}
 use Rattle.omi_rep.specs.Records.{Seen, records_of}
 use Rattle.omi_rep.specs.Shows.{Shows, Stands}
 use Rattle.omi_core.specs.declared.entry.Entry.{Entry}
+use Rattle.omi_core.specs.Found.{MakeNext}
 use Rattle.omi_core.specs.Runs.{Run, events_in}
-use Rattle.omi_core.specs.Steps.{AreStepsOf, events_behind, made_of_steps}
+use Rattle.omi_core.specs.Steps.{AreStepsOf, events_behind, made_of_steps, steps_of}
 
 -- a run is what these steps make: its words, its numbered events and the steps that it keeps. Its events reach this state
 pub record IsMadeBy (a : Run) (xs : List (ℕ × Entry)) (s : State) : Type 0 where
@@ -31,9 +32,11 @@ Counts w words s = (n : Rid) → (seen : IsVisibleRegion s n)
     → Stands (record_of w words n) RegionArrived 0 (sum seen.region.arrivals)
     × Stands (record_of w words n) RegionReleased 0 seen.region.released
 
--- these steps and this state are those of a run, whose words begin with the tables of its layout
+-- these steps and this state are those of a run, whose words begin with the tables of its layout. Each step is the one that its thread
+-- makes next
 pub record IsHistory (a : Run) (xs : List (ℕ × Entry)) (s : State) : Type 0 where
   pub made_by : IsMadeBy a xs s
+  pub follow : (i : ℕ) → MakeNext a.program a.table i (steps_of i xs)
   pub tables : HasTables a.table a.words
   pub reached : Reached a.program (events_in a.events.items) s
   pub shows : Shows a.table (words_of a.words) s

@@ -10,11 +10,13 @@ use Rattle.omi_pc.specs.declared.actor.Actor.{Actor}
 use Rattle.omi_pc.specs.declared.counter.Counter.{Counter}
 use Rattle.omi_pc.specs.declared.counter.Counter.TheVariants as counter
 use Rattle.omi_pc.specs.declared.team_counter.WorkerCounter.TheVariants as worker
+use Rattle.omi_pc.specs.Opening.{opening_actor}
 use Rattle.omi_rep.specs.Suits.{Suits}
 use Rattle.omi_rule.specs.Rule.{Rule}
 use Rattle.omi_rule.specs.StepsKeep.{IsKept}
 use Rattle.omi_rule_watch.specs.Given.{IsGiven}
 use Rattle.omi_core.specs.declared.entry.Entry.{Entry}
+use Rattle.omi_core.specs.Found.{MakeNext, actor_behind, found_by}
 use Rattle.omi_core.specs.Runs.{Run, actors_in, events_in}
 use Rattle.omi_core.specs.Histories.{IsMadeBy}
 use Rattle.omi_core.specs.Steps.{StartsAsWorker, steps_of}
@@ -24,6 +26,12 @@ abbrev pub IsUnderWay : List Entry → Counter → Type 0
 IsUnderWay [] c = c ≡ counter.Worker worker.Begin
 IsUnderWay (e ∷ []) c = StartsAsWorker (e ∷ []) × (c ≡ counter.Worker worker.Offer)
 IsUnderWay (e ∷ f ∷ es) c = StartsAsWorker (e ∷ f ∷ es)
+
+-- a thread that made these steps, each the one that it makes next, has this actor
+pub record IsBehind (p : Program) (w : List ℕ) (thread : ℕ) (es : List Entry) (a : Actor)
+    : Type 0 where
+  pub follow : MakeNext p w thread es
+  pub actor : a ≡ actor_behind p w (opening_actor p thread) (found_by es)
 
 pub record KeepsRun (a : Run) : Type 0 where
   pub state : State
@@ -37,6 +45,7 @@ pub record KeepsRun (a : Run) : Type 0 where
       (actors_in a.actors)
   pub entries : List (ℕ × Entry)
   pub made_by : IsMadeBy a entries state
+  pub behind : (i : ℕ) → IsBehind a.program a.table i (steps_of i entries) (actors_in a.actors i)
   pub workers : (i : ℕ) → 0 < i → IsUnderWay (steps_of i entries) (actors_in a.actors i).counter
   pub watched : (i : ℕ) → IsGiven a.program (actors_in a.actors i) (made_by.steps.watches i)
 

@@ -22,7 +22,7 @@ use Rattle.omi_core.specs.Steps.{AreStepsOf, events_behind, steps_of}
 use Rattle.omi_core.proofs.Histories.{counted}
 use Rattle.omi_core.proofs.Stepping.{shows_state}
 use Rattle.omi_live.specs.declared.known.Part.{Part}
-use Rattle.omi_live.specs.Found.{actor_after, actor_behind, entries_from, entry_at}
+use Rattle.omi_core.specs.Found.{actor_after, actor_behind, entries_from, entry_at}
 use Rattle.omi_live.specs.Joined.{AreRunsKnown, IsRunKnown}
 use Rattle.omi_live.specs.Live.{IsLive, IsRunOf}
 use Rattle.omi_live.specs.Running.{IsPart, IsRaised, IsStopWord, Keeps, steps_known}

@@ -19,7 +19,7 @@ use Rattle.omi_live.specs.Plays.{finds, heard, untouched}
 use Rattle.omi_live.specs.Running.{steps_known}
 use Rattle.omi_live.specs.Stops.{GoesOn, IsUntil, WentOn, ends_at, is_ended, some_stop, stops_at}
 use Rattle.omi_live.specs.Work.{HasRoom, HasStepped, HasWorked, HasLooked, IsAtWork, IsReady, IsSameBut}
-use Rattle.omi_live.proofs.Found.{stops_last}
+use Rattle.omi_live.proofs.StopsLast.{stops_last}
 use Rattle.omi_live.proofs.Working.{entry_known, steps_found, steps_one_more}
 
 -- ---- steps

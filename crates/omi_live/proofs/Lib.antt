@@ -1,4 +1,4 @@
-pub mod Found
+pub mod StopsLast
 pub mod Count
 pub mod Stepped
 pub mod Looked

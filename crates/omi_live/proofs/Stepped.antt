@@ -27,12 +27,13 @@ use Rattle.omi_core.proofs.KeptCounters.{step_kept}
 use Rattle.omi_core.proofs.Stepping.{entries_behind, few_seats, inside, keeps_behind, other_room, own, same_entries}
 use Rattle.omi_live.specs.declared.known.Part.{Part}
 use Rattle.omi_live.specs.declared.limits.TheConstants.{MOST_BUDGET}
-use Rattle.omi_live.specs.Found.{actor_after, entries_from, entry_at}
+use Rattle.omi_core.specs.Found.{actor_after, entries_from, entry_at}
 use Rattle.omi_live.specs.Plays.{CanStep, Seated, finds, stepped}
 use Rattle.omi_live.specs.Stops.{some_stop}
 use Rattle.omi_live.specs.Running.{AreKnown, IsPart, IsRaised, IsStopWord, Keeps, actor_known, steps_known}
 use Rattle.omi_live.proofs.Count.{are_of, few_in_all}
-use Rattle.omi_live.proofs.Found.{as_many, behind_one_more, entries_one_more, still_stops}
+use Rattle.omi_core.proofs.Found.{as_many, behind_one_more, entries_one_more}
+use Rattle.omi_live.proofs.StopsLast.{still_stops}
 
 -- ---- room
 

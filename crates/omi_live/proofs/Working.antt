@@ -16,11 +16,11 @@ use Rattle.omi_core.specs.Steps.{events_behind}
 use Rattle.omi_core.proofs.History.{events_one_more}
 use Rattle.omi_live.specs.declared.known.Part.{Part}
 use Rattle.omi_live.specs.declared.worker.Worker.{Worker}
-use Rattle.omi_live.specs.Found.{actor_after, entry_at}
+use Rattle.omi_core.specs.Found.{actor_after, entry_at}
 use Rattle.omi_live.specs.Plays.{finds}
 use Rattle.omi_live.specs.Running.{actor_known, steps_known}
 use Rattle.omi_live.specs.Work.{HasFound, IsAtWork, own_steps}
-use Rattle.omi_live.proofs.Found.{as_many, behind_one_more, entries_one_more}
+use Rattle.omi_core.proofs.Found.{as_many, behind_one_more, entries_one_more}
 
 -- the step that finds a word
 abbrev pub entry_known : Part → ℕ → Entry

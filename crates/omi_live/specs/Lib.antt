@@ -1,6 +1,4 @@
--- The definitions to believe, in reading order: what a thread makes of the words that it finds, why it stops, and what a run of
--- threads is.
-pub mod Found
+-- The definitions to believe, in reading order: why a thread stops, and what a run of threads is.
 pub mod Stops
 pub mod Live
 -- The rule of the table of words, and what an operation on it tells a seat

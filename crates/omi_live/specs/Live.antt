@@ -17,19 +17,19 @@ use Rattle.omi_core.specs.Histories.{Counts}
 use Rattle.omi_core.specs.Runs.{events_in}
 use Rattle.omi_core.specs.RunSteps.{made_of}
 use Rattle.omi_core.specs.Steps.{AreStepsOf, events_behind, steps_of}
-use Rattle.omi_live.specs.Found.{actor_behind, entries_from}
+use Rattle.omi_core.specs.Found.{MakeNext, actor_behind, found_by}
 use Rattle.omi_live.specs.Stops.{IsUntil, WentOn, some_stop}
 use Rattle.omi_live.specs.Work.{own_steps}
 
--- what a thread keeps of its steps, numbered by themselves, and why it made no further one: the steps follow from the words that they
--- found, and an event at which the run is to stop, and `done`, are the last of them
+-- what a thread keeps of its steps, numbered by themselves, and why it made no further one: each step is the one that the thread
+-- makes next, and an event at which the run is to stop, and `done`, are the last of them
 pub record IsRunOf (p : Program) (l : Layout) (budget : ℕ) (on : Option Break) (thread : ℕ)
     (es : List Entry) (r : ThreadRun) : Type 0 where
-  pub follow : es ≡ entries_from p l.table (opening_actor p thread) (map (λ e. e.old) es)
+  pub follow : MakeNext p l.table thread es
   pub steps : r.steps ≡ length es
   pub made : r.made.items ≡ map (made_of thread) es
   pub events : r.events.items ≡ events_behind 0 (own_steps thread es)
-  pub actor : r.actor ≡ actor_behind p l.table (opening_actor p thread) (map (λ e. e.old) es)
+  pub actor : r.actor ≡ actor_behind p l.table (opening_actor p thread) (found_by es)
   pub most : length es ≤ budget
   pub went_on : WentOn on es
   pub reason : IsUntil budget es r.until

@@ -12,7 +12,7 @@ use Rattle.omi_step_words.specs.Placed.{IsPlaced}
 use Rattle.omi_actor.specs.Steps.{next_of}
 use Rattle.omi_core.specs.RunSteps.{seats_of}
 use Rattle.omi_live.specs.declared.known.Part.{Part}
-use Rattle.omi_live.specs.Found.{entry_at}
+use Rattle.omi_core.specs.Found.{entry_at}
 use Rattle.omi_live.specs.Running.{actor_known}
 
 -- a seat: what it knows, and no slot

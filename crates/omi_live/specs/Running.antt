@@ -15,7 +15,7 @@ use Rattle.omi_core.specs.Runs.{Run, actors_in}
 use Rattle.omi_core.specs.Steps.{steps_of}
 use Rattle.omi_live.specs.declared.known.Part.{Part}
 use Rattle.omi_live.specs.declared.limits.TheConstants.{MOST_BUDGET}
-use Rattle.omi_live.specs.Found.{actor_behind, entries_from}
+use Rattle.omi_core.specs.Found.{actor_behind, entries_from}
 use Rattle.omi_live.specs.Stops.{some_stop}
 
 -- the steps of a thread that are known, and its actor behind them

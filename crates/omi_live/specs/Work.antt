@@ -17,7 +17,7 @@ use Rattle.omi_live.specs.declared.known.Part.{Part}
 use Rattle.omi_live.specs.declared.limits.TheConstants.{MOST_BUDGET}
 use Rattle.omi_live.specs.declared.rule.Given.{Given}
 use Rattle.omi_live.specs.declared.worker.Worker.{Worker}
-use Rattle.omi_live.specs.Found.{entry_at}
+use Rattle.omi_core.specs.Found.{entry_at}
 use Rattle.omi_live.specs.Plays.{CanStep, Seated, finds, heard}
 use Rattle.omi_live.specs.Running.{actor_known, steps_known}
 use Rattle.omi_live.specs.Stops.{IsUntil, WentOn}

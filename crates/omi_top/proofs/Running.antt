@@ -10,10 +10,11 @@ use Rattle.omi_run_lists.specs.declared.made.Made.{Made}
 use Rattle.omi_core.specs.declared.entry.Entry.{Entry}
 use Rattle.omi_core.specs.declared.stop.End.{End}
 use Rattle.omi_core.specs.Ends.{IsEnded}
+use Rattle.omi_core.specs.Found.{MakeNext}
 use Rattle.omi_core.specs.Histories.{Counts}
 use Rattle.omi_core.specs.Runs.{Run, events_in}
 use Rattle.omi_core.specs.Schedules.{threads_by}
-use Rattle.omi_core.specs.Steps.{AreStepsOf, events_behind, made_of_steps, threads_of_steps}
+use Rattle.omi_core.specs.Steps.{AreStepsOf, events_behind, made_of_steps, steps_of, threads_of_steps}
 use Rattle.omi_core.proofs.History.{made_length}
 use Rattle.omi_top.specs.declared.plan.Plan.{Plan}
 use Rattle.omi_top.specs.declared.run.Ran.{Ran}
@@ -52,6 +53,7 @@ made_run p plan ran r =
       state = s;
       run = record {
         steps = steps;
+        follow = λ i. subst (λ (q : Program). MakeNext q r.w i (steps_of i xs)) program (subst (λ t. MakeNext last.program t i (steps_of i xs)) table (h.follow i));
         threads =
             sym (kept_threads xs)
             ∙ ap (map (λ (m : Made). m.thread)) (sym (sym all ∙ h.made_by.made))
