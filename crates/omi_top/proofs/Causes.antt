@@ -1,5 +1,5 @@
 -- What a printed text and a fault of writing are not, for the causes that each layer of the top call says.
-use Rattle.std.proofs.Common.{◌≡◌, ◌≤◌, arith, inl, inr, ℕ, Ok, Err, subst}
+use Rattle.std.proofs.Common.{◌≤◌, arith, inl, inr, ℕ, Ok, Err, subst}
 use Rattle.std.specs.Prelude.{Result, IfErr, IsErrAnd}
 use Rattle.std.specs.Global.{Vec}
 use Rattle.omi_outside.specs.Outside.{Rose}

@@ -1,6 +1,5 @@
 -- The exits of `stop`: what each result is an answer to.
-use Rattle.std.proofs.Common.{◌≡◌, ◌⊎◌, ◌<◌, inl, inr, ℕ, Bool, true, false, List, length, Option, Some, None, Ok, Err, refl, sym, ◌∙◌, ap, subst}
-use Rattle.std.specs.Prelude.{Result}
+use Rattle.std.proofs.Common.{◌≡◌, ◌⊎◌, ◌<◌, inl, inr, ℕ, List, length, Option, Some, None, Ok, Err, refl, sym, ◌∙◌, ap, subst}
 use Rattle.std.specs.Global.{Vec}
 use Rattle.omi_outside.specs.Outside.{Told, holding, IsCut}
 use Rattle.omi_outside.specs.declared.files.Refused.{Refused as RefusedWrite}
@@ -22,7 +21,6 @@ use Rattle.omi_verbs.specs.Refusal.{refusal_of_write, status_of, IsUnread}
 use Rattle.omi_verbs.proofs.Elsewhere.{late}
 use Rattle.omi_verbs.specs.declared.refusal.Input.TheVariants as input
 use Rattle.omi_verbs.specs.declared.refusal.Refusal.{Refusal}
-use Rattle.omi_verbs.specs.declared.refusal.Refusal.TheVariants as refusal
 
 module _ (plan : Plan) (script core : List ℕ) (told : List ℕ → Told) (content : Option (List ℕ)) (is : told script ≡ Some content) where
   -- there is no program: the script is refused, can't be read, or memory ran out

@@ -1,6 +1,6 @@
 -- What each layer of the top call says alike: what a command's verb and what a whole call leaves of the outside, and for what cause each status
 -- comes, by what is seen before and behind.
-use Rattle.std.specs.Prelude.{◌≡◌, ◌⊎◌, ◌≤◌, ℕ, List, Option, Result, IfErr, IsErrAnd, IsErrOf}
+use Rattle.std.specs.Prelude.{◌≡◌, ◌⊎◌, ◌≤◌, ℕ, List, Result, IfErr, IsErrAnd, IsErrOf}
 use Rattle.std.specs.Global.{Vec}
 use Rattle.omi_outside.specs.Outside.{HasCause, Rose}
 use Rattle.omi_outside.specs.declared.status.Status.{Status}

@@ -1,5 +1,5 @@
 -- The definitions to believe, in reading order: what a run of `stop` is to be, what a command line asks for, what its answer is, what a
--- core is to `show`, and what a run is.
+-- core is to `show`, what a run is, and that there is one.
 pub mod Plan
 pub mod Command
 pub mod Answer
@@ -8,6 +8,7 @@ pub mod Shown
 pub mod Run
 pub mod Lines
 pub mod Make
+pub mod Determined
 -- What private functions of the code stand on: a request as a command; what each layer of the top call says alike; what a core tells; and a run that was made
 pub mod Asked
 pub mod Causes

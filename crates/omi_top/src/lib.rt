@@ -3,6 +3,7 @@
 
 mod command;
 mod core_calls;
+mod laws;
 mod limits;
 mod lines;
 mod make;
@@ -13,4 +14,5 @@ mod show;
 mod stop;
 mod top;
 
+pub use laws::runs_are_determined;
 pub use top::run_top;
