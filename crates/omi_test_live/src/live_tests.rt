@@ -3,6 +3,7 @@
 ghost use Rattle.std.specs.Prelude.{◌≤◌};
 ghost use Rattle.omi_live.specs.declared.limits.TheConstants.{MOST_BUDGET};
 
+use crate::gates::{Leading, Meeting};
 use omi_core::{Break, Until};
 use omi_layout::{Layout, MOST_THREADS};
 use omi_live::{LiveEnd, live};
@@ -11,8 +12,6 @@ use omi_rep::suits;
 use omi_script::parse;
 use omi_test_rows::A_TEAM_OF_TWO;
 use std::alloc::Global;
-use std::sync::atomic::AtomicU64;
-use std::sync::atomic::Ordering::SeqCst;
 use std::test::Fail;
 use std::thread::Threads;
 
@@ -23,8 +22,9 @@ const A_TEAM_OF_ONE: &str = "threads 1\nfunc f\nwork\nend\nfunc main\nparallel f
 const A_TASK: &str =
     "threads 4\nfunc t\nwork\nend\nfunc b\ntask t\ntaskwait\nend\nfunc main\nparallel b num 4\nend\n";
 
-/// So long a thread waits for another one.
-const MOST_TURNS: u64 = 100_000_000;
+/// A team of as many threads as a program can have.
+const A_TEAM_OF_SIXTEEN: &str =
+    "threads 16\nfunc f\nwork\nend\nfunc main\nparallel f num 16\nend\n";
 
 /// What the threads of a script's program make, in the layout of family 0.
 fn run<R: Threads + Sync, G: Gate>(
@@ -89,49 +89,66 @@ fn a_break_stops(rt: HostRuntime) -> Result<(), Fail> {
     Ok(())
 }
 
-/// Holds threads 0 and 1 before their second steps, each until the other one has made its first.
-#[derive(Drop)]
-struct Holds {
-    first: AtomicU64,
-    second: AtomicU64,
-    turns: AtomicU64,
-}
-
-impl Holds {
-    /// Waits for so many turns at most, which are counted.
-    fn wait(&self, other: &AtomicU64) {
-        for _turn in 0..MOST_TURNS {
-            if other.load(SeqCst) == 1 {
-                break;
-            }
-            self.turns.fetch_add(1, SeqCst);
-        }
-    }
-}
-
-impl Gate for Holds {
-    fn pass(&self, thread: u8, step: u64) {
-        if thread == 0 && step == 2 {
-            self.first.store(1, SeqCst);
-            self.wait(&self.second);
-        }
-        if thread == 1 && step == 2 {
-            self.second.store(1, SeqCst);
-            self.wait(&self.first);
-        }
-    }
-}
-
-/// A body that lets the threads work one after another, in whatever order, waits in vain for one of them.
+/// All threads stand before their second steps at once. Where they work one after another, in whatever order, or pass no gate, none meets
+/// the others.
 #[test]
 fn threads_run_beside_each_other(rt: HostRuntime) -> Result<(), Fail> {
-    let gate = Holds {
-        first: AtomicU64::new(0),
-        second: AtomicU64::new(0),
-        turns: AtomicU64::new(0),
-    };
-    let end = run(&rt, rt.alloc(), A_TEAM_OF_TWO, 5, None, &gate);
-    assert!(rt; end.is_some());
-    assert!(rt; gate.turns.load(SeqCst) < MOST_TURNS);
+    for (script, threads, passes) in [
+        (A_TEAM_OF_TWO, 2, 10),
+        (A_TASK, 4, 20),
+        (A_TEAM_OF_SIXTEEN, 16, 80),
+    ] {
+        let gate = Meeting::of(threads);
+        let end = run(&rt, rt.alloc(), script, 5, None, &gate);
+        assert!(rt; end.is_some(), "{threads} threads");
+        let end = end.unwrap();
+        assert_eq!(rt; gate.met(), threads);
+        assert_eq!(rt; gate.passes(), passes, "{threads} threads");
+        assert_eq!(rt; end.runs.len() as u64, threads);
+        for thread in end.runs.as_slice() {
+            assert_eq!(rt; thread.steps, 5, "{threads} threads");
+            assert_eq!(rt; thread.until, Until::Budget, "{threads} threads");
+        }
+    }
+    Ok(())
+}
+
+/// A worker begins with its first step. All others, which are held before a step of theirs until then, don't make it.
+#[test]
+fn a_break_is_seen_by_others(rt: HostRuntime) -> Result<(), Fail> {
+    for (script, threads, leader, step) in [
+        (A_TEAM_OF_TWO, 2, 1, 1),
+        (A_TEAM_OF_TWO, 2, 1, 2),
+        (A_TEAM_OF_TWO, 2, 1, 3),
+        (A_TASK, 4, 1, 1),
+        (A_TASK, 4, 2, 1),
+        (A_TASK, 4, 3, 1),
+    ] {
+        let gate = Leading::by(leader, threads, step);
+        let on = Some(Break::ThreadBegin);
+        let end = run(&rt, rt.alloc(), script, 5, on, &gate);
+        assert!(rt; end.is_some());
+        let end = end.unwrap();
+        assert_eq!(rt;
+            gate.let_go(),
+            threads,
+            "led by {leader}, before step {step}"
+        );
+        assert_eq!(rt; end.runs.len() as u64, threads);
+        for thread in 0..end.runs.len() {
+            let run = end.runs.get(thread);
+            let made = if thread == usize::from(leader) {
+                1
+            } else {
+                step.saturating_sub(1)
+            };
+            assert_eq!(rt; run.steps, made, "thread {thread} led by {leader}");
+            assert_eq!(rt;
+                run.until,
+                Until::Stopped,
+                "thread {thread} led by {leader}"
+            );
+        }
+    }
     Ok(())
 }

@@ -1,7 +1,8 @@
 //! Runs of threads through the top call, and each of its refusals.
 
+use crate::gates::{Leading, Meeting};
 use omi_live_top::live_top;
-use omi_outside::{Call, FreeGate, MemFiles, MemSink, Status};
+use omi_outside::{Call, FreeGate, Gate, MemFiles, MemSink, Status};
 use omi_test_rows::{A_FULL_ROW, A_TEAM_OF_TWO};
 use omi_top::run_top;
 use std::alloc::{AllocError, Global};
@@ -66,6 +67,19 @@ fn call<R: Threads + Sync>(
     failing: Option<Call>,
     puts: Vec<u64>,
 ) -> Result<Done, AllocError> {
+    call_past(rt, alloc, line, script, failing, puts, &FreeGate)
+}
+
+/// The same, with the gate that is passed before each step.
+fn call_past<R: Threads + Sync, G: Gate>(
+    rt: &R,
+    alloc: Global,
+    line: &str,
+    script: &str,
+    failing: Option<Call>,
+    puts: Vec<u64>,
+    gate: &G,
+) -> Result<Done, AllocError> {
     let mut calls = Vec::new(alloc);
     if let Some(kind) = failing {
         calls.push((kind, 1))?;
@@ -76,7 +90,7 @@ fn call<R: Threads + Sync>(
     files.put("other", b"stays")?;
     let mut out = MemSink::new(alloc, puts);
     let words = words_of(alloc, line)?;
-    let status = live_top(rt, alloc, &words, &mut files, &mut out, &FreeGate);
+    let status = live_top(rt, alloc, &words, &mut files, &mut out, gate);
     Ok(Done { status, files, out })
 }
 
@@ -161,6 +175,42 @@ fn a_break_is_printed_last(rt: HostRuntime) -> Result<(), Fail> {
     assert!(&rt; !team.contains('\n'));
     let shown = inspect(alloc, "show c", &mut done.files)?;
     assert_eq!(&rt; shown.status, Status::Success);
+    Ok(())
+}
+
+/// Two threads stand before their second steps at once. A worker begins with its first step, and is free with its second; a team comes
+/// no sooner than behind the fifth step of the other thread.
+#[test]
+fn threads_run_beside_each_other(rt: HostRuntime) -> Result<(), Fail> {
+    let alloc = rt.alloc();
+    let gate = Meeting::of(2);
+    let puts = Vec::new(alloc);
+    let done = call_past(&rt, alloc, "5 s c", A_TEAM_OF_TWO, None, puts, &gate)?;
+    assert_eq!(&rt; done.status, Status::Success);
+    assert_eq!(&rt; gate.met(), 2);
+    assert_eq!(&rt; gate.passes(), 10);
+    let printed = done.printed(alloc)?;
+    assert!(&rt; printed.starts_with("thread 0 steps 5\n"));
+    let last = "thread 1 steps 5\n1 t1 begin\n2 t1 offer\nend budget 5\n";
+    assert!(&rt; printed.ends_with(last));
+    Ok(())
+}
+
+/// Thread 0 is held before its first step until thread 1 has begun, and makes none.
+#[test]
+fn a_break_is_seen_by_others(rt: HostRuntime) -> Result<(), Fail> {
+    let alloc = rt.alloc();
+    let gate = Leading::by(1, 2, 1);
+    let line = "5 s c --break thread_begin";
+    let puts = Vec::new(alloc);
+    let done = call_past(&rt, alloc, line, A_TEAM_OF_TWO, None, puts, &gate)?;
+    assert_eq!(&rt; done.status, Status::Success);
+    assert_eq!(&rt; gate.let_go(), 2);
+    let printed = done.printed(alloc)?;
+    assert_eq!(&rt;
+        printed.as_str(),
+        "thread 0 steps 0\nthread 1 steps 1\n1 t1 begin\nend budget 5\n"
+    );
     Ok(())
 }
 

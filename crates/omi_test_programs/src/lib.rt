@@ -6,6 +6,8 @@ mod layout_tests;
 #[cfg(test)]
 mod make_tests;
 #[cfg(test)]
+mod order_tests;
+#[cfg(test)]
 mod run_tests;
 #[cfg(test)]
 mod show_tests;
@@ -13,3 +15,5 @@ mod show_tests;
 mod size_tests;
 #[cfg(test)]
 mod tests;
+#[cfg(test)]
+mod watched;

@@ -108,3 +108,36 @@ fn failing_reads_writes_and_puts(rt: HostRuntime) -> Result<(), Fail> {
     expect_failed(&rt, alloc, &own, (&[], &[], &[1]), faulty, whole)?;
     Ok(())
 }
+
+/// The events of the team of two up to its fork, and why its run ends there.
+const TO_THE_FORK: &str = "1 t0 enter
+2 t1 begin
+3 t0 state overhead 0
+4 t1 offer
+25 t0 want 2
+27 t0 ask 1 got
+173 t0 fork r0.1.0 size 2 team k0.1.0@0 k0.2.0@1
+end steps 173 events 7 by break
+";
+
+/// A run up to the first event of a kind puts the events up to it, and the report of what is read back behind them. It leaves the core of its last step.
+#[test]
+fn a_run_up_to_a_break(rt: HostRuntime) -> Result<(), Fail> {
+    let alloc = rt.alloc();
+    let fork = core_of(alloc, "173", A_TEAM_OF_TWO)?;
+    let line = [
+        "run",
+        "100000",
+        "s",
+        "c",
+        "--break",
+        "parallel_begin",
+        "--count",
+        "1",
+    ];
+    let done = call(alloc, &line, (A_TEAM_OF_TWO, Some(&fork)), &[], &[], &[])?;
+    assert_eq!(rt; done.status, Status::Success);
+    assert!(rt; are(done.out.bytes(), &[TO_THE_FORK, FORKED]));
+    assert_eq!(rt; done.dest.bytes("c"), Some(fork.as_slice()));
+    Ok(())
+}
