@@ -116,9 +116,10 @@ stopped_one : (p : Program) (plan : Plan) (core text other said : List ℕ) → 
 stopped_one p plan core text other said a b =
     let same = one_family plan.layout p.threads b.w a.w b.family a.family in
     let one = is_one a.w p plan a.entries b.entries a.end b.end a.words b.words a.state b.state a.valid a.run
-            (subst (λ w. IsRun w p plan b.entries b.end b.words b.state) same b.run) in
-    (a.core_is ∙ ap (core_bytes (thread_ids p.threads)) one.words_are ∙ sym b.core_is,
-    a.text_is ∙ ap (λ zs. run_text (events_behind 0 zs) (length zs) a.end) one.entries ∙ ap (run_text (events_behind 0 b.entries) (length b.entries)) one.end_is ∙ sym b.text_is)
+    (subst (λ w. IsRun w p plan b.entries b.end b.words b.state) same b.run) in (
+      a.core_is ∙ ap (core_bytes (thread_ids p.threads)) one.words_are ∙ sym b.core_is,
+      a.text_is ∙ ap (λ zs. run_text (events_behind 0 zs) (length zs) a.end) one.entries ∙ ap (run_text (events_behind 0 b.entries) (length b.entries)) one.end_is ∙ sym b.text_is,
+    )
 
 pub stops_determined : StopsAreDetermined
 stops_determined plan script core text other said (p, g, a) (q, h, b) = stopped_one p plan core text other said a (subst (λ (z : Program). IsStopped z plan other said) (one_program script q p h g) b)
@@ -127,7 +128,7 @@ made_one : (n : ℕ) (p : Program) (line said : List ℕ) → IsMade n p line �
 made_one n p line said a b =
     let same = one_family make_plan.layout p.threads b.w a.w b.family a.family in
     let one = is_one a.w p make_plan a.entries b.entries a.end b.end a.words b.words a.state b.state (valid_family p make_plan.layout a.w a.family) a.run
-            (subst (λ w. IsRun w p make_plan b.entries b.end b.words b.state) same b.run) in
+    (subst (λ w. IsRun w p make_plan b.entries b.end b.words b.state) same b.run) in
     a.line_is ∙ ap (λ zs. made_line n (count_of TaskBegin (events_behind 0 zs)) a.end) one.entries ∙ ap (made_line n (count_of TaskBegin (events_behind 0 b.entries))) one.end_is ∙ sym b.line_is
 
 pub makes_determined : MakesAreDetermined

@@ -86,7 +86,7 @@ are_played p w words past s watches ((i, e) ∷ xs) last t later actors (next, w
     let op : e.op ≡ next_of p w (actors i) = ap (λ (x : Entry). x.op) is in
     let old : e.old ≡ word_at words (address_of (next_of p w (actors i))) = one.found ∙ ap (λ (o : Op). word_at words (address_of o)) op in
     let behind = are_played p w (words_after words e.op) (past ++ committed i e.outcome) next (replace_at watches i watch) xs last t later
-            (replace_at actors i (actor_after p w (actors i) e.old)) rest (rest_goes p w actors i e xs goes) in
+    (replace_at actors i (actor_after p w (actors i) e.old)) rest (rest_goes p w actors i e xs goes) in
     ap (λ (x : Entry). (i, x) ∷ xs) (is ∙ ap (entry_at p w (actors i)) old)
     ∙ ap (λ ys. (i, next_entry p w words (actors i)) ∷ ys)
     (behind
@@ -111,6 +111,7 @@ pub front_of_threads : (how : Schedule) (threads n m : ℕ) → (js : List ℕ) 
 front_of_threads how threads n zero = let all : n + 0 ≡ n = omega arith in ([], ap (threads_by how threads) all ∙ sym (append-nil (threads_by how threads n)))
 front_of_threads how threads n (suc m) =
     let (js, same) = front_of_threads how threads n m in
-    let next : n + suc m ≡ suc (n + m) = omega arith in
-    (js ++ thread_at how threads (n + m) ∷ [],
-    ap (threads_by how threads) next ∙ ap (λ ys. ys ++ thread_at how threads (n + m) ∷ []) same ∙ append_assoc (threads_by how threads n) js (thread_at how threads (n + m) ∷ []))
+    let next : n + suc m ≡ suc (n + m) = omega arith in (
+      js ++ thread_at how threads (n + m) ∷ [],
+      ap (threads_by how threads) next ∙ ap (λ ys. ys ++ thread_at how threads (n + m) ∷ []) same ∙ append_assoc (threads_by how threads n) js (thread_at how threads (n + m) ∷ []),
+    )
