@@ -2,8 +2,8 @@
 
 ghost use Rattle.omi_top.specs.Determined.{MakesAreDetermined, RunsAreDetermined, StopsAreDetermined};
 
-/// There is one run of a program by a plan. So the core and the text of `stop`, those of the run within `run`, and the line of
-/// `make` follow from the words of the command and the script.
+/// There is at most one run of a program by a plan. So the core and the text of `stop`, and those of the run within `run`, follow from
+/// the plan and the script, and the line of `make` from its number.
 pub fn runs_are_determined()
     ensures runs { RunsAreDetermined }
     ensures stops { StopsAreDetermined }
