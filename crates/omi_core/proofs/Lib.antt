@@ -1,5 +1,7 @@
 pub mod Reaching
 pub mod Found
+pub mod Played
+pub mod OneEnd
 pub mod History
 pub mod Stepping
 pub mod Opened

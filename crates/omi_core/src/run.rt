@@ -135,8 +135,8 @@ impl Core {
         &self.events
     }
 
-    /// The steps so far, in order. There are entries of these threads, operations and words that lead from the opening words to the
-    /// run's words, with its events, and its words show the state that these events reach.
+    /// The steps so far, in order. There are entries of these threads, operations and words, each the one that its thread makes next, that
+    /// lead from the opening words to the run's words, with its events, and its words show the state that these events reach.
     pub fn made(&self) -> &MadeList
         ensures made { result.now ≡ self.now.made }
         ensures history { HasHistory self.now }

@@ -17,7 +17,7 @@ use Rattle.omi_word.specs.declared.limits.TheConstants.{FIRST_ADDRESS, MEMORY_EN
 use Rattle.omi_corefile.specs.declared.limits.TheConstants.{MOST_CONTEXTS, MOST_SEGMENTS, MOST_SEGMENT_WORDS}
 use Rattle.omi_corefile.specs.Spelling.{eight_bytes, numbers, header, segment_bytes, spelling}
 use Rattle.omi_corefile.specs.BadFields.{IsFaultAt, id_place, start_place, count_place, NeverStarts}
-use Rattle.omi_corefile.specs.Refusals.{Refusal, ReadStep, ◌>>=◌, place_in_file, magic_at, byte_at, number_at, judged, version_at, order_at, context_count_at, segment_count_at, id_at, contexts_at, start_at, word_count_at, words_at, row_at, Left, left_after, segment_at, segments_at, Header, header_at, Parts, parts_at, reading}
+use Rattle.omi_corefile.specs.Refusals.{ReadRefusal, ReadStep, ◌>>=◌, place_in_file, magic_at, byte_at, number_at, judged, version_at, order_at, context_count_at, segment_count_at, id_at, contexts_at, start_at, word_count_at, words_at, row_at, Left, left_after, segment_at, segments_at, Header, header_at, Parts, parts_at, reading}
 use Rattle.omi_corefile.proofs.Bounds.{Bounds, bounds}
 use Rattle.omi_corefile.proofs.Lengths.{length-numbers, length-segments}
 use Rattle.omi_corefile.proofs.Numbers.{bind_again, HasWidth, width16, width32, width64, magic_again}
@@ -55,12 +55,12 @@ after_magic : ℕ → List ℕ → ReadStep Header
 after_magic len magic = version_at len magic >>= λ version. order_at len version.1 >>= λ order. context_count_at len order.1 >>= λ contexts. segment_count_at len contexts.1 >>= λ segments. Ok (record { order = order.0; contexts = contexts.0; segments = segments.0 }, segments.1)
 
 -- a file whose header is refused
-header_failed : (bytes : List ℕ) (r : Refusal) → header_at (length bytes) bytes ≡ Err r → reading bytes ≡ Err r
+header_failed : (bytes : List ℕ) (r : ReadRefusal) → header_at (length bytes) bytes ≡ Err r → reading bytes ≡ Err r
 unfolding parts_at reading
 header_failed bytes r e = bind_failed (parts_at (length bytes) bytes) (ended (length bytes)) r (bind_failed (header_at (length bytes) bytes) (after_header (length bytes)) r e)
 
 -- a header whose name is that of the format is refused by what follows it
-named_failed : (rest : List ℕ) (r : Refusal) → (let bytes = codes "OMPDCOR1" ++ rest in after_magic (length bytes) rest ≡ Err r → reading bytes ≡ Err r)
+named_failed : (rest : List ℕ) (r : ReadRefusal) → (let bytes = codes "OMPDCOR1" ++ rest in after_magic (length bytes) rest ≡ Err r → reading bytes ≡ Err r)
 unfolding header_at after_magic
 named_failed rest r e =
     let bytes : List ℕ = codes "OMPDCOR1" ++ rest in
@@ -165,7 +165,7 @@ good_front Good next s (x ∷ xs) ys good = (good.0, good_front Good next (next 
 -- a row is refused by the first of it that is
 row_failed : {S A : Type 0} (len : ℕ) (Good : S → A → Type 0) (one : S → List ℕ → ReadStep A) (next : S → A → S) (spell : A → List ℕ)
     → ((s : S) (x : A) → Good s x → Reads len (one s) (spell x) x)
-    → (s : S) (row after : List A) (y : A) (bytes : List ℕ) (r : Refusal) → AreGood Good next s row → one (state_after next s row) bytes ≡ Err r
+    → (s : S) (row after : List A) (y : A) (bytes : List ℕ) (r : ReadRefusal) → AreGood Good next s row → one (state_after next s row) bytes ≡ Err r
     → row_at one next (length (row ++ y ∷ after)) s (flat_map spell row ++ bytes) ≡ Err r
 unfolding row_at state_after
 row_failed len Good one next spell each s [] after y bytes r good failed = bind_failed (one s bytes) _ r failed
@@ -183,7 +183,7 @@ row_failed {S} {A} len Good one next spell each s (x ∷ row) after y bytes r go
 abbrev header_of : CoreImage → List ℕ
 header_of c = header 0 (length c.contexts) (length c.segments)
 
-contexts_failed : (c : CoreImage) (rest : List ℕ) (r : Refusal) → (let bytes = header_of c ++ rest in contexts_at (length bytes) (length c.contexts) rest ≡ Err r → reading bytes ≡ Err r)
+contexts_failed : (c : CoreImage) (rest : List ℕ) (r : ReadRefusal) → (let bytes = header_of c ++ rest in contexts_at (length bytes) (length c.contexts) rest ≡ Err r → reading bytes ≡ Err r)
 unfolding parts_at reading
 contexts_failed c rest r e =
     let bytes : List ℕ = header_of c ++ rest in
@@ -242,7 +242,7 @@ contexts_of c = header_of c ++ numbers c.contexts
 abbrev left_behind : List Segment → Left
 left_behind before = state_after left_after (FIRST_ADDRESS, MOST_SEGMENT_WORDS) before
 
-segments_failed : (c : CoreImage) (rest : List ℕ) (r : Refusal) → (let bytes = contexts_of c ++ rest in segments_at (length bytes) (length c.segments) rest ≡ Err r → reading bytes ≡ Err r)
+segments_failed : (c : CoreImage) (rest : List ℕ) (r : ReadRefusal) → (let bytes = contexts_of c ++ rest in segments_at (length bytes) (length c.segments) rest ≡ Err r → reading bytes ≡ Err r)
 unfolding parts_at reading
 segments_failed c rest r e =
     let bytes : List ℕ = contexts_of c ++ rest in

@@ -17,7 +17,7 @@ use Rattle.omi_corefile.specs.Limits.{rises_from, are_words, rise_apart_from, to
 use Rattle.omi_word.specs.declared.limits.TheConstants.{FIRST_ADDRESS}
 use Rattle.omi_corefile.specs.declared.limits.TheConstants.{MOST_CONTEXTS, MOST_SEGMENTS, MOST_SEGMENT_WORDS}
 use Rattle.omi_corefile.specs.Spelling.{numbers, header, segment_bytes, spelling_of, spelling, Core}
-use Rattle.omi_corefile.specs.Refusals.{Refusal, ReadStep, ◌>>=◌, AreBytes, number_at, byte_at, magic_at, version_at, order_at, context_count_at, segment_count_at, contexts_at, segments_at, Header, header_at, place_in_file, short, trailing, Parts, parts_at, reading, CoreRefused}
+use Rattle.omi_corefile.specs.Refusals.{ReadRefusal, ReadStep, ◌>>=◌, AreBytes, number_at, byte_at, magic_at, version_at, order_at, context_count_at, segment_count_at, contexts_at, segments_at, Header, header_at, place_in_file, short, trailing, Parts, parts_at, reading, CoreRefused}
 use Rattle.omi_corefile.proofs.Bounds.{Bounds, bounds}
 use Rattle.omi_corefile.proofs.Numbers.{bind_ok, bind_again, passed, ok_is, Takes, Takes-then, width16, width32, number_taken, byte_taken, judged_taken, magic_taken, magic_again}
 use Rattle.omi_corefile.proofs.Readings.{Reads, Reads-then, Reads-map, Reads-number, Reads-byte, Reads-judged, bind_failed}
@@ -109,7 +109,7 @@ abbrev pub after_segments : Header → List ℕ → List Segment × List ℕ →
 after_segments counts contexts segments = Ok (record { order = counts.order; contexts = contexts; segments = segments.0 }, segments.1)
 
 -- nothing follows the last segment
-abbrev pub ended : ℕ → Parts × List ℕ → Result Parts Refusal
+abbrev pub ended : ℕ → Parts × List ℕ → Result Parts ReadRefusal
 ended len parts = cond (eqb (length parts.1) 0) (Ok parts.0) (Err (trailing len parts.1))
 
 -- these parts keep the limits, and are spelled so
@@ -233,7 +233,7 @@ core_unique bytes c d is_c is_d =
 
 -- ---- one answer
 
-answer_of : (bytes : List ℕ) (read : Result Parts Refusal) → AreBytes bytes → reading bytes ≡ read → IsCore bytes ⊎ IsRefused bytes
+answer_of : (bytes : List ℕ) (read : Result Parts ReadRefusal) → AreBytes bytes → reading bytes ≡ read → IsCore bytes ⊎ IsRefused bytes
 answer_of bytes (Ok p) are e =
     let file = reading_taken bytes p are e in
     inl (core_with p file.0, file.1)

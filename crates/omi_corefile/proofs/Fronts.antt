@@ -10,7 +10,7 @@ use Rattle.omi_corefile.specs.declared.fault.CoreFault.{CoreFault}
 use Rattle.omi_corefile.specs.declared.fault.CoreFault.TheVariants.{BadMagic, Version, Order, Trailing, TooLarge, SegmentOrder, BadContext}
 use Rattle.omi_corefile.specs.declared.limits.TheConstants.{MOST_BYTES, MOST_CONTEXTS, MOST_SEGMENTS}
 use Rattle.omi_corefile.specs.Limits.{is_start}
-use Rattle.omi_corefile.specs.Refusals.{Refusal, ReadStep, ◌>>=◌, place_in_file, byte_at, number_at, judged, magic_at, id_at, row_at, contexts_at, words_at, Left, left_after, segment_at, segments_at, Header, header_at, Parts, parts_at, reading}
+use Rattle.omi_corefile.specs.Refusals.{ReadRefusal, ReadStep, ◌>>=◌, place_in_file, byte_at, number_at, judged, magic_at, id_at, row_at, contexts_at, words_at, Left, left_after, segment_at, segments_at, Header, header_at, Parts, parts_at, reading}
 use Rattle.omi_corefile.proofs.FileLaws.{ended}
 
 -- What a step gives of a front of a file, and what it gives of the front and a tail: the same fault, or the same value. What is left of the front has enough for what comes next.
@@ -139,7 +139,7 @@ same_segments len more count front tail long =
     (λ row k ended. omega (arith, ended.1.1))
 
 -- the same of the name of the format, which has no value
-abbrev SameRest : ℕ → List ℕ → Result (List ℕ) Refusal → Result (List ℕ) Refusal → Type 0
+abbrev SameRest : ℕ → List ℕ → Result (List ℕ) ReadRefusal → Result (List ℕ) ReadRefusal → Type 0
 SameRest more tail (Ok rest) whole = (whole ≡ Ok (rest ++ tail)) × (more ≤ length rest)
 SameRest more tail (Err e) whole = whole ≡ Err e
 
@@ -154,7 +154,7 @@ same_magic len other more front tail long =
     by_test true = (refl, omega (arith, long, length-drop 8 front))
     by_test false = refl
 
-magic_then : {B : Type 0} (After : B → ℕ → Type 0) (more : ℕ) (tail : List ℕ) (front whole : Result (List ℕ) Refusal) (f g : List ℕ → ReadStep B) → SameRest more tail front whole
+magic_then : {B : Type 0} (After : B → ℕ → Type 0) (more : ℕ) (tail : List ℕ) (front whole : Result (List ℕ) ReadRefusal) (f g : List ℕ → ReadStep B) → SameRest more tail front whole
     → ((rest : List ℕ) → more ≤ length rest → Same After tail (f rest) (g (rest ++ tail))) → Same After tail (front >>= f) (whole >>= g)
 magic_then After more tail (Ok rest) whole f g same then = subst (λ y. Same After tail (f rest) (y >>= g)) (sym same.0) (then rest same.1)
 magic_then After more tail (Err e) whole f g same then = ap (λ y. y >>= g) same

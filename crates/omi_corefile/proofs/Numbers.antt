@@ -9,30 +9,30 @@ use Rattle.std.proofs.lemmas.List.{take-append-drop, length-append, length-take,
 use Rattle.std.proofs.lemmas.Nat.{le_bytes_2, le_bytes_4, le_bytes_8, from_le_bytes-to_le_bytes_2, from_le_bytes-to_le_bytes_4, from_le_bytes-to_le_bytes_8}
 use Rattle.omi_corefile.specs.declared.fault.CoreFault.{CoreFault}
 use Rattle.omi_corefile.specs.declared.fault.CoreFault.TheVariants.{BadMagic}
-use Rattle.omi_corefile.specs.Refusals.{Refusal, ReadStep, ◌>>=◌, AreBytes, short, number_at, byte_at, judged, magic_at}
+use Rattle.omi_corefile.specs.Refusals.{ReadRefusal, ReadStep, ◌>>=◌, AreBytes, short, number_at, byte_at, judged, magic_at}
 
 -- ---- steps
 
 -- a step that did not fail had a value
-pub bind_ok : {A B : Type 0} (read : Result A Refusal) (f : A → Result B Refusal) (y : B) → (read >>= f) ≡ Ok y → (x : A) × (read ≡ Ok x) × (f x ≡ Ok y)
+pub bind_ok : {A B : Type 0} (read : Result A ReadRefusal) (f : A → Result B ReadRefusal) (y : B) → (read >>= f) ≡ Ok y → (x : A) × (read ≡ Ok x) × (f x ≡ Ok y)
 bind_ok (Ok x) f y e = (x, refl, e)
 bind_ok (Err d) f y e = absurd cc
 
 -- a step that had a value goes on with it
-pub bind_again : {A B : Type 0} (read : Result A Refusal) (f : A → Result B Refusal) (x : A) → read ≡ Ok x → (read >>= f) ≡ f x
+pub bind_again : {A B : Type 0} (read : Result A ReadRefusal) (f : A → Result B ReadRefusal) (x : A) → read ≡ Ok x → (read >>= f) ≡ f x
 bind_again read f x e = rw e refl
 
 -- a test that did not fail
-pub passed : {A : Type 0} (b : Bool) (r : Refusal) (x y : A) → cond b (Ok x) (Err r) ≡ Ok y → (b ≡ true) × (x ≡ y)
+pub passed : {A : Type 0} (b : Bool) (r : ReadRefusal) (x y : A) → cond b (Ok x) (Err r) ≡ Ok y → (b ≡ true) × (x ≡ y)
 passed true r x y e = (refl, cc)
 passed false r x y e = absurd cc
 
 -- a test for a fault that did not show it
-pub not_failed : {A : Type 0} (b : Bool) (r : Refusal) (read : Result A Refusal) (y : A) → cond b (Err r) read ≡ Ok y → (b ≡ false) × (read ≡ Ok y)
+pub not_failed : {A : Type 0} (b : Bool) (r : ReadRefusal) (read : Result A ReadRefusal) (y : A) → cond b (Err r) read ≡ Ok y → (b ≡ false) × (read ≡ Ok y)
 not_failed true r read y e = absurd cc
 not_failed false r read y e = (refl, e)
 
-pub ok_is : {A : Type 0} (x y : A) → (let good : A → Result A Refusal = λ a. Ok a in good x ≡ good y) → x ≡ y
+pub ok_is : {A : Type 0} (x y : A) → (let good : A → Result A ReadRefusal = λ a. Ok a in good x ≡ good y) → x ≡ y
 ok_is x y e = cc
 
 -- ---- bytes

@@ -5,7 +5,7 @@ use Rattle.std.proofs.Math.Seq.{take-append-add}
 use Rattle.std.proofs.lemmas.Bool.{cases_lt, lt-ltb, le-ltb}
 use Rattle.std.proofs.lemmas.List.{take_at, drop_at, take-append-le, length-take-le}
 use Rattle.omi_corefile.specs.declared.fault.CoreFault.{CoreFault}
-use Rattle.omi_corefile.specs.Refusals.{Refusal, ReadStep, ◌>>=◌, short, number_at, byte_at, judged}
+use Rattle.omi_corefile.specs.Refusals.{ReadRefusal, ReadStep, ◌>>=◌, short, number_at, byte_at, judged}
 use Rattle.omi_corefile.proofs.Numbers.{bind_again, HasWidth}
 
 pub record Reads {A : Type 0} (len : ℕ) (one : List ℕ → ReadStep A) (text : List ℕ) (x : A) : Type 0 where
@@ -13,7 +13,7 @@ pub record Reads {A : Type 0} (len : ℕ) (one : List ℕ → ReadStep A) (text 
   pub cut : (n : ℕ) → n < length text → one (take n text) ≡ Err (short len)
 
 -- a step that failed fails what follows it
-pub bind_failed : {A B : Type 0} (read : Result A Refusal) (f : A → Result B Refusal) (r : Refusal) → read ≡ Err r → (read >>= f) ≡ Err r
+pub bind_failed : {A B : Type 0} (read : Result A ReadRefusal) (f : A → Result B ReadRefusal) (r : ReadRefusal) → read ≡ Err r → (read >>= f) ≡ Err r
 bind_failed read f r e = rw e refl
 
 -- nothing is read

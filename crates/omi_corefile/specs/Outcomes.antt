@@ -5,15 +5,15 @@ use Rattle.omi_corefile.specs.declared.fault.CoreFault.{CoreFault}
 use Rattle.omi_corefile.specs.declared.fault.CoreError.{CoreError}
 use Rattle.omi_corefile.specs.declared.fault.CoreError.TheVariants.{Fault, OutOfMemory}
 use Rattle.omi_corefile.specs.Spelling.{Core}
-use Rattle.omi_corefile.specs.Refusals.{Refusal, CoreRefused}
+use Rattle.omi_corefile.specs.Refusals.{ReadRefusal, CoreRefused}
 
 -- memory ran out, or reading gives this fault
-abbrev pub Fails : {Y : Type 0} → CoreError → Result Y Refusal → Type 0
+abbrev pub Fails : {Y : Type 0} → CoreError → Result Y ReadRefusal → Type 0
 Fails (Fault at why) read = read ≡ Err (at, why)
 Fails OutOfMemory read = Unit {0}
 
 -- what the code answered, seen by `view`, is what reading gives, unless memory ran out
-abbrev pub Gives : {X Y : Type 0} → (X → Y) → Result X CoreError → Result Y Refusal → Type 0
+abbrev pub Gives : {X Y : Type 0} → (X → Y) → Result X CoreError → Result Y ReadRefusal → Type 0
 Gives view (Ok x) read = read ≡ Ok (view x)
 Gives view (Err e) read = Fails e read
 

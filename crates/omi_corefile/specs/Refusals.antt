@@ -10,24 +10,24 @@ use Rattle.omi_word.specs.declared.limits.TheConstants.{FIRST_ADDRESS}
 use Rattle.omi_corefile.specs.declared.limits.TheConstants.{MOST_CONTEXTS, MOST_SEGMENTS, MOST_SEGMENT_WORDS}
 
 -- a place and what is wrong there
-abbrev pub Refusal : Type 0
-Refusal = ℕ × CoreFault
+abbrev pub ReadRefusal : Type 0
+ReadRefusal = ℕ × CoreFault
 
 infixl 10 ◌>>=◌
-abbrev pub ◌>>=◌ : {A B : Type 0} → Result A Refusal → (A → Result B Refusal) → Result B Refusal
+abbrev pub ◌>>=◌ : {A B : Type 0} → Result A ReadRefusal → (A → Result B ReadRefusal) → Result B ReadRefusal
 (Ok x) >>= f = f x
 (Err e) >>= f = Err e
 
 -- What follows reads a file of `len` bytes, of which `bytes` are left. A step gives what stands in front and the bytes after it.
 abbrev pub ReadStep : Type 0 → Type 0
-ReadStep A = Result (A × List ℕ) Refusal
+ReadStep A = Result (A × List ℕ) ReadRefusal
 
 -- the place of what is left
 abbrev pub place_in_file : ℕ → List ℕ → ℕ
 place_in_file len bytes = len - length bytes
 
 -- the file ends before a field is whole
-abbrev pub short : ℕ → Refusal
+abbrev pub short : ℕ → ReadRefusal
 short len = (len, Short len)
 
 -- a number of one byte
@@ -45,7 +45,7 @@ abbrev pub judged : (ℕ → Bool) → (ℕ → ℕ → CoreFault) → ℕ → R
 judged allowed fault at read = read >>= λ n. if allowed n.0 then Ok n else Err (at, fault n.0 at)
 
 -- the name of the format
-unfoldable pub magic_at : ℕ → List ℕ → Result (List ℕ) Refusal
+unfoldable pub magic_at : ℕ → List ℕ → Result (List ℕ) ReadRefusal
 magic_at len bytes = if nat_lt (length bytes) 8 then Err (short len)
     else if starts_with nat_eq bytes (codes "OMPDCOR1") then Ok (drop 8 bytes)
     else Err (0, BadMagic)
@@ -156,11 +156,11 @@ parts_at len bytes = do
   Ok (record { order = counts.0.order; contexts = contexts.0; segments = segments.0 }, segments.1)
 
 -- bytes follow the last segment
-abbrev pub trailing : ℕ → List ℕ → Refusal
+abbrev pub trailing : ℕ → List ℕ → ReadRefusal
 trailing len bytes = (place_in_file len bytes, Trailing (place_in_file len bytes))
 
 -- the whole file: nothing follows the last segment
-unfoldable pub reading : List ℕ → Result Parts Refusal
+unfoldable pub reading : List ℕ → Result Parts ReadRefusal
 reading bytes = do
   parts ← parts_at (length bytes) bytes
   if length parts.1 == 0 then Ok parts.0 else Err (trailing (length bytes) parts.1)

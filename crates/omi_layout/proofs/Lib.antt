@@ -12,3 +12,5 @@ pub mod Numbers
 pub mod OneAnswer
 pub mod Filling
 pub mod Zeros
+pub mod OneOpening
+pub mod OneFamily

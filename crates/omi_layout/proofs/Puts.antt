@@ -1,7 +1,7 @@
 -- One word of a memory replaced: what is read there, and that every other word stays.
 use Rattle.std.proofs.Common.{◌≡◌, ◌==◌, ◌≢◌, ℕ, Bool, true, false, cond, refl, sym, ap, ◌∙◌, subst, eqb-true, eq-eqb, ne_eqb}
 use mathlib.Core.Path.{fun_ext}
-use Rattle.omi_layout.specs.Memory.{Memory, Made, Rec, replace_at, with_word_in, with_record, with_word}
+use Rattle.omi_layout.specs.Memory.{Memory, MadeRecords, Rec, replace_at, with_word_in, with_record, with_word}
 
 pub put_same : {A : Type 0} (m : ℕ → A) (i : ℕ) (x : A) → replace_at m i x i ≡ x
 put_same m i x = ap (λ b. cond b x (m i)) (eq-eqb i i refl)
@@ -33,7 +33,7 @@ written_at : (m n : Memory) (c q s f k v : ℕ) → n c q s f k ≡ v
     → ((d p t g h : ℕ) → (d ≡ c → p ≡ q → t ≡ s → g ≡ f → h ≡ k → ⊥) → n d p t g h ≡ m d p t g h)
     → (d p t g h : ℕ) → n d p t g h ≡ with_word m c q s f k v d p t g h
 written_at m n c q s f k v same other d p t g h =
-    each_put (λ d' (x : Made). n d' p t g h ≡ x p t g h) m c (with_record (m c) q s (with_word_in (m c q s) f k v))
+    each_put (λ d' (x : MadeRecords). n d' p t g h ≡ x p t g h) m c (with_record (m c) q s (with_word_in (m c q s) f k v))
     (each_put (λ p' (x : ℕ → Rec). n c p' t g h ≡ x t g h) (m c) q (replace_at (m c q) s (with_word_in (m c q s) f k v))
     (each_put (λ t' (x : Rec). n c q t' g h ≡ x g h) (m c q) s (with_word_in (m c q s) f k v)
     (each_put (λ g' (x : ℕ → ℕ). n c q s g' h ≡ x h) (m c q s) f (replace_at (m c q s f) k v)
@@ -55,12 +55,12 @@ word_back m c q s f k =
     let field : with_word_in (m c q s) f k (m c q s f k) ≡ m c q s = ap (λ (x : ℕ → ℕ). replace_at (m c q s) f x) (put_back (m c q s f) k) ∙ put_back (m c q s) f in
     let made : with_record (m c) q s (with_word_in (m c q s) f k (m c q s f k)) ≡ m c =
     ap (λ (x : Rec). with_record (m c) q s x) field ∙ (ap (λ (x : ℕ → Rec). replace_at (m c) q x) (put_back (m c q) s) ∙ put_back (m c) q) in
-    ap (λ (x : Made). replace_at m c x) made ∙ put_back m c
+    ap (λ (x : MadeRecords). replace_at m c x) made ∙ put_back m c
 
 -- what is read where a word was written
 pub word_read : (m : Memory) (c q s f k v : ℕ) → with_word m c q s f k v c q s f k ≡ v
 word_read m c q s f k v =
-    ap (λ (x : Made). x q s f k) (put_same m c (with_record (m c) q s (with_word_in (m c q s) f k v)))
+    ap (λ (x : MadeRecords). x q s f k) (put_same m c (with_record (m c) q s (with_word_in (m c q s) f k v)))
     ∙ ap (λ (x : ℕ → Rec). x s f k) (put_same (m c) q (replace_at (m c q) s (with_word_in (m c q s) f k v)))
     ∙ ap (λ (x : Rec). x f k) (put_same (m c q) s (with_word_in (m c q s) f k v))
     ∙ ap (λ (x : ℕ → ℕ). x k) (put_same (m c q s) f (replace_at (m c q s f) k v))
@@ -70,7 +70,7 @@ word_read m c q s f k v =
 pub word_stays : (m : Memory) (c q s f k v d p t g h : ℕ) → (d ≡ c → p ≡ q → t ≡ s → g ≡ f → h ≡ k → ⊥)
     → with_word m c q s f k v d p t g h ≡ m d p t g h
 word_stays m c q s f k v d p t g h ne =
-    each_put (λ d' (x : Made). d' ≡ d → x p t g h ≡ m d' p t g h) m c (with_record (m c) q s (with_word_in (m c q s) f k v))
+    each_put (λ d' (x : MadeRecords). d' ≡ d → x p t g h ≡ m d' p t g h) m c (with_record (m c) q s (with_word_in (m c q s) f k v))
     (λ ed. each_put (λ p' (x : ℕ → Rec). p' ≡ p → x t g h ≡ m c p' t g h) (m c) q (replace_at (m c q) s (with_word_in (m c q s) f k v))
     (λ ep. each_put (λ t' (x : Rec). t' ≡ t → x g h ≡ m c q t' g h) (m c q) s (with_word_in (m c q s) f k v)
     (λ et. each_put (λ g' (x : ℕ → ℕ). g' ≡ g → x h ≡ m c q s g' h) (m c q s) f (replace_at (m c q s f) k v)
@@ -83,14 +83,14 @@ word_stays m c q s f k v d p t g h ne =
 -- the record in which a word was written
 pub record_read : (m : Memory) (c q s f k v : ℕ) → with_word m c q s f k v c q s ≡ with_word_in (m c q s) f k v
 record_read m c q s f k v =
-    ap (λ (x : Made). x q s) (put_same m c (with_record (m c) q s (with_word_in (m c q s) f k v)))
+    ap (λ (x : MadeRecords). x q s) (put_same m c (with_record (m c) q s (with_word_in (m c q s) f k v)))
     ∙ ap (λ (x : ℕ → Rec). x s) (put_same (m c) q (replace_at (m c q) s (with_word_in (m c q s) f k v)))
     ∙ put_same (m c q) s (with_word_in (m c q s) f k v)
 
 -- and every other record
 pub record_stays : (m : Memory) (c q s f k v d p t : ℕ) → (d ≡ c → p ≡ q → t ≡ s → ⊥) → with_word m c q s f k v d p t ≡ m d p t
 record_stays m c q s f k v d p t ne =
-    each_put (λ d' (x : Made). d' ≡ d → x p t ≡ m d' p t) m c (with_record (m c) q s (with_word_in (m c q s) f k v))
+    each_put (λ d' (x : MadeRecords). d' ≡ d → x p t ≡ m d' p t) m c (with_record (m c) q s (with_word_in (m c q s) f k v))
     (λ ed. each_put (λ p' (x : ℕ → Rec). p' ≡ p → x t ≡ m c p' t) (m c) q (replace_at (m c q) s (with_word_in (m c q s) f k v))
     (λ ep. each_put (λ t' (x : Rec). t' ≡ t → x ≡ m c q t') (m c q) s (with_word_in (m c q s) f k v)
     (λ et. absurd (ne (sym ed) (sym ep) (sym et)))

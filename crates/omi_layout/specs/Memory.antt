@@ -12,12 +12,12 @@ abbrev pub Rec : Type 0
 Rec = ℕ → ℕ → ℕ
 
 -- the records that a thread made, by kind and slot
-abbrev pub Made : Type 0
-Made = ℕ → ℕ → Rec
+abbrev pub MadeRecords : Type 0
+MadeRecords = ℕ → ℕ → Rec
 
 -- the words of all records, by the thread that made the record. The runtime record is made by thread 0, and each thread's own record by itself, both in slot 0
 abbrev pub Memory : Type 0
-Memory = ℕ → Made
+Memory = ℕ → MadeRecords
 
 -- one place of a function is replaced
 abbrev pub replace_at : {A : Type 0} → (ℕ → A) → ℕ → A → ℕ → A
@@ -28,7 +28,7 @@ abbrev pub with_word_in : Rec → ℕ → ℕ → ℕ → Rec
 with_word_in r f at word = replace_at r f (replace_at (r f) at word)
 
 -- the records of a thread with one record replaced
-abbrev pub with_record : Made → ℕ → ℕ → Rec → Made
+abbrev pub with_record : MadeRecords → ℕ → ℕ → Rec → MadeRecords
 with_record made kind slot r = replace_at made kind (replace_at (made kind) slot r)
 
 -- a memory with one word replaced

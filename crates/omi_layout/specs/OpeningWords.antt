@@ -9,7 +9,7 @@ use Rattle.omi_layout.specs.Named.{number}
 use Rattle.omi_layout.specs.Table.{thread_count}
 use Rattle.omi_layout.specs.Place.{slot_address, image_words}
 use Rattle.omi_layout.specs.Words.{IsGap}
-use Rattle.omi_layout.specs.Memory.{Rec, Made, memory_of}
+use Rattle.omi_layout.specs.Memory.{Rec, MadeRecords, memory_of}
 use Rattle.omi_layout.specs.Given.{HasTables}
 use Rattle.omi_numbers.specs.Words.{flag, native_id}
 use Rattle.omi_numbers.specs.Addresses.{entry_address, exit_frame}
@@ -77,7 +77,7 @@ abbrev pub IsZero : Rec → Type 0
 IsZero r = (f at : ℕ) → r f at ≡ 0
 
 -- the records that a thread makes: the initial region and task are in slot 0 of thread 0, and all others are 0
-pub record OpensMade (p : Program) (w : List ℕ) (i : ℕ) (made : Made) : Type 0 where
+pub record OpensMade (p : Program) (w : List ℕ) (i : ℕ) (made : MadeRecords) : Type 0 where
   pub thread : OpensThread w i (made threads 0)
   pub region : i ≡ 0 → OpensRegion p w (made regions 0)
   pub task : i ≡ 0 → OpensTask p w (made tasks 0)

@@ -30,10 +30,10 @@ pub const FAMILY_REGIONS: u64 = 16;
 /// The records of tasks that a thread may make in a layout of a family.
 pub const FAMILY_TASKS: u64 = 256;
 
-/// More words than an arena has in a layout of a family.
+/// An arena of a layout of a family has at most so many words. No layout has as many: the bound serves sums of lengths.
 pub const MOST_FAMILY_WORDS: u64 = 2_097_152;
 
-/// The most records of an arena: those that 64 threads make.
+/// An arena has at most so many records. No valid layout has as many: the bound serves products of counts and sizes.
 pub const MOST_RECORDS: u64 = 262_144;
 
 /// The byte address at which an arena has to end at last: the end of memory.

@@ -22,7 +22,7 @@ use Rattle.omi_line.specs.LineError.{line_error_of}
 use Rattle.omi_line.specs.Command.{line_app}
 use Rattle.omi_line.specs.Hyphen.{gives_hyphen}
 use Rattle.omi_line.specs.Line.{split_of, value_in}
-use Rattle.omi_line.specs.Word.{Name, Seed, Break, Count, Layout}
+use Rattle.omi_line.specs.Word.{OptionName, Seed, Break, Count, Layout}
 use Rattle.omi_line.proofs.Matches.{reads_line}
 use Rattle.omi_line.proofs.Rows.{first_of-all_of}
 use Rattle.omi_line.proofs.Shown.{Shows, id_of, words_id}
@@ -42,7 +42,7 @@ pub record HasRows (line : Line) (rows : List Row) : Type 0 where
   pub count : line.count ≡ first_of (codes "count") rows
   pub layout : line.layout ≡ first_of (codes "layout") rows
 
-first_shown : (name : Name) (rows : List Row) (line : Line) → Shows rows line → first_of (id_of name) rows ≡ value_in name line
+first_shown : (name : OptionName) (rows : List Row) (line : Line) → Shows rows line → first_of (id_of name) rows ≡ value_in name line
 first_shown name rows line shown = first_of-all_of (id_of name) rows
     ∙ ap (option_and_then (λ (values : List Text). slice_get values 0)) (shown.values name) ∙ go (value_in name line)
   where

@@ -8,7 +8,7 @@ use Rattle.std.proofs.lemmas.Slice.Eq.{bytes_eq-Decides}
 use Rattle.clap.specs.Walk.{Text}
 use borrow.Author.Tests.{both_ways, eqb-true}
 use Rattle.omi_line.specs.declared.line.Line.{Line}
-use Rattle.omi_line.specs.Word.{Name, Kind, Seed, Break, Count, Layout, Positional, Rest, Given, Named, RefusedWord, begins_with_hyphen, hyphen_kind, is_equals, word_kind, long_kind, option_kind, option_named}
+use Rattle.omi_line.specs.Word.{OptionName, Kind, Seed, Break, Count, Layout, Positional, Rest, Given, Named, RefusedWord, begins_with_hyphen, hyphen_kind, is_equals, word_kind, long_kind, option_kind, option_named}
 use Rattle.omi_line.specs.Line.{split_from, split_of, split_word, with_value}
 use Rattle.omi_line.specs.Hyphen.{gives_hyphen, hyphen_word, is_lone_hyphen, is_named}
 use Rattle.omi_line.proofs.Sees.{is_rest}
@@ -19,7 +19,7 @@ use Rattle.omi_line.proofs.Splits.{plain_kind}
 
 record RefusesWords (words : List Text) : Type 0 where
   free : (line : Line) → gives_hyphen words false ≡ true → split_from words None line ≡ None
-  waits : (name : Name) (line : Line) → gives_hyphen words true ≡ true → split_from words (Some name) line ≡ None
+  waits : (name : OptionName) (line : Line) → gives_hyphen words true ≡ true → split_from words (Some name) line ≡ None
 
 refuses_none : RefusesWords []
 unfolding gives_hyphen
@@ -57,7 +57,7 @@ refuses_word word rest next = record {
     free_word (Named name) line is = next.waits name line is
     free_word RefusedWord line is = refl
 
-    waiting_word : (name : Name) (line : Line) → hyphen_word (word_kind word) (is_lone_hyphen word) (gives_hyphen rest) ≡ true → (begins : Bool) → begins_with_hyphen word ≡ begins
+    waiting_word : (name : OptionName) (line : Line) → hyphen_word (word_kind word) (is_lone_hyphen word) (gives_hyphen rest) ≡ true → (begins : Bool) → begins_with_hyphen word ≡ begins
         → cond (begins_with_hyphen word) None (option_and_then (split_from rest None) (with_value name word line)) ≡ None
     waiting_word name line is true begins = rw begins refl
     waiting_word name line is false begins =
@@ -84,10 +84,10 @@ before_all p (byte ∷ text) none = go (p byte) refl none (before_all p text)
         let one_more : 1 + position_or_len p text ≡ suc (position_or_len p text) = omega arith in
         rw is (ap (λ (n : ℕ). take n (byte ∷ text)) one_more ∙ ap (λ (rest : Text). byte ∷ rest) (next none))
 
-named_is : (text : Text) (name : Name) → option_named text ≡ Some name → text ≡ id_of name
+named_is : (text : Text) (name : OptionName) → option_named text ≡ Some name → text ≡ id_of name
 named_is text name is = go (bytes_eq (codes "seed") text) refl (bytes_eq (codes "break") text) refl (bytes_eq (codes "count") text) refl (bytes_eq (codes "layout") text) refl is
   where
-    that : (id : Text) (other : Name) → bytes_eq id text ≡ true → id_of other ≡ id → Some other ≡ Some name → text ≡ id_of name
+    that : (id : Text) (other : OptionName) → bytes_eq id text ≡ true → id_of other ≡ id → Some other ≡ Some name → text ≡ id_of name
     that id other same spelt named = sym ((bytes_eq-Decides id text).0 same) ∙ sym spelt ∙ ap id_of (cc)
 
     go : (a : Bool) → bytes_eq (codes "seed") text ≡ a → (b : Bool) → bytes_eq (codes "break") text ≡ b → (d : Bool) → bytes_eq (codes "count") text ≡ d → (e : Bool) → bytes_eq (codes "layout") text ≡ e
@@ -98,7 +98,7 @@ named_is text name is = go (bytes_eq (codes "seed") text) refl (bytes_eq (codes 
     go false p false q false r true same named = that (codes "layout") Layout same refl named
     go false p false q false r false t named = absurd (cc)
 
-option_spelt : (named : Option Name) (text : Text) (name : Name) → option_kind named text ≡ Named name → (named ≡ Some name) × (list_any is_equals text ≡ false)
+option_spelt : (named : Option OptionName) (text : Text) (name : OptionName) → option_kind named text ≡ Named name → (named ≡ Some name) × (list_any is_equals text ≡ false)
 option_spelt None text name is = absurd (cc)
 option_spelt (Some other) text name is = go (list_any is_equals text) refl is
   where
@@ -106,13 +106,13 @@ option_spelt (Some other) text name is = go (list_any is_equals text) refl is
     go true has is = absurd (cc)
     go false has is = (cc, has)
 
-long_spelt : (text : Text) (name : Name) → long_kind text ≡ Named name → text ≡ id_of name
+long_spelt : (text : Text) (name : OptionName) → long_kind text ≡ Named name → text ≡ id_of name
 long_spelt [] name is = absurd (cc)
 long_spelt (byte ∷ text) name is =
     let parts = option_spelt (option_named (before_first is_equals (byte ∷ text))) (byte ∷ text) name is in
     sym (before_all is_equals (byte ∷ text) parts.1) ∙ named_is (before_first is_equals (byte ∷ text)) name parts.0
 
-hyphen_spelt : (text : Text) (name : Name) → hyphen_kind text ≡ Named name → text ≡ 45 ∷ id_of name
+hyphen_spelt : (text : Text) (name : OptionName) → hyphen_kind text ≡ Named name → text ≡ 45 ∷ id_of name
 hyphen_spelt [] name is = absurd (cc)
 hyphen_spelt (byte ∷ text) name is = go (byte == 45) refl is
   where
@@ -120,7 +120,7 @@ hyphen_spelt (byte ∷ text) name is = go (byte == 45) refl is
     go true hyphen is = (λ i. eqb-true byte 45 hyphen i ∷ long_spelt text name is i)
     go false hyphen is = absurd (cc)
 
-word_spelt : (word : Text) (name : Name) → word_kind word ≡ Named name → word ≡ 45 ∷ 45 ∷ id_of name
+word_spelt : (word : Text) (name : OptionName) → word_kind word ≡ Named name → word ≡ 45 ∷ 45 ∷ id_of name
 word_spelt [] name is = absurd (cc)
 word_spelt (byte ∷ text) name is = go (byte == 45) refl is
   where
@@ -133,7 +133,7 @@ pub not_named : (word : Text) → (word ≡ codes "--seed" → ⊥) → (word �
     → false ≡ is_named (word_kind word)
 not_named word seed break_ count layout = go (word_kind word) refl
   where
-    never : (name : Name) → word ≡ 45 ∷ 45 ∷ id_of name → ⊥
+    never : (name : OptionName) → word ≡ 45 ∷ 45 ∷ id_of name → ⊥
     never Seed is = seed is
     never Break is = break_ is
     never Count is = count is
@@ -148,7 +148,7 @@ not_named word seed break_ count layout = go (word_kind word) refl
 
 -- a word of this kind is `--`
 
-option_no_rest : (named : Option Name) (text : Text) → option_kind named text ≡ Rest → ⊥
+option_no_rest : (named : Option OptionName) (text : Text) → option_kind named text ≡ Rest → ⊥
 option_no_rest None text is = cc
 option_no_rest (Some name) text is = go (list_any is_equals text) is
   where

@@ -9,7 +9,7 @@ use Rattle.clap.specs.Walk.{Held, Row, Rule, Text, Waiting, Walk, idle, option, 
 use Rattle.clap.specs.declared.error.kind.ErrorKind.TheVariants as kind
 use Rattle.clap.specs.declared.parser.matches.ValueSource.TheVariants.{CommandLine}
 use Rattle.omi_line.specs.Command.{line_app, option_rule, words_rule}
-use Rattle.omi_line.specs.Word.{Name, Seed, Break, Count, Layout, option_named}
+use Rattle.omi_line.specs.Word.{OptionName, Seed, Break, Count, Layout, option_named}
 use Rattle.omi_line.proofs.Sees.{IsLongWord, IsPlainWord, IsShortWord}
 use Rattle.omi_line.proofs.Shown.{id_of, words_id}
 use Rattle.omi_line.proofs.Steps.{Steps, held_at, walk_at, plain_steps, long_steps, short_steps}
@@ -21,7 +21,7 @@ line_shape = (built line_app).top
 abbrev pub line_rules : List Rule
 line_rules = line_shape.rules
 
-abbrev pub rule_for : Name → Rule
+abbrev pub rule_for : OptionName → Rule
 rule_for name = filled (option_rule (id_of name))
 
 abbrev pub words_built : Rule
@@ -52,19 +52,19 @@ abbrev pub rows_with : List Row → Option (Text × List Text) → List Row
 rows_with rows pending = settled_rows line_rules pending rows
 
 -- the rows after an option's value, and after a positional word
-abbrev pub rows_after_value : Name → Text → List Row → List Row
+abbrev pub rows_after_value : OptionName → Text → List Row → List Row
 rows_after_value name given rows = with_values (id_of name) (reading_by (rule_for name)) CommandLine (given ∷ []) (without (id_of name) rows)
 
 abbrev pub rows_after_word : Text → List Row → List Row
 rows_after_word word rows = with_values words_id (reading_by words_built) CommandLine (word ∷ []) rows
 
-abbrev pub repeated : Name → List Row → Kinds
+abbrev pub repeated : OptionName → List Row → Kinds
 repeated name rows = cond (has_row (id_of name) rows) (kind.ArgumentConflict ∷ []) []
 
-abbrev pub value_fault : Name → Text → List Row → Kinds
+abbrev pub value_fault : OptionName → Text → List Row → Kinds
 value_fault name given rows = use_fault false (rule_for name) (given ∷ []) rows
 
-pub value_fault-repeated : (name : Name) (given : Text) (rows : List Row) → value_fault name given rows ≡ repeated name rows
+pub value_fault-repeated : (name : OptionName) (given : Text) (rows : List Row) → value_fault name given rows ≡ repeated name rows
 value_fault-repeated name given rows = go (has_row (id_of name) rows)
   where
     go : (has : Bool) → or_else (cond (has && true) (kind.ArgumentConflict ∷ []) []) [] ≡ cond has (kind.ArgumentConflict ∷ []) []
@@ -80,19 +80,19 @@ word_pending rows word = refl
 pub rows_with_word : (rows : List Row) (word : Text) → rows_with rows (Some (words_id, word ∷ [])) ≡ rows_after_word word rows
 rows_with_word rows word = refl
 
-pub name_pending : (name : Name) (rows : List Row) → pending_fault rows (Some (id_of name, [])) ≡ kind.InvalidValue ∷ []
+pub name_pending : (name : OptionName) (rows : List Row) → pending_fault rows (Some (id_of name, [])) ≡ kind.InvalidValue ∷ []
 name_pending Seed rows = refl
 name_pending Break rows = refl
 name_pending Count rows = refl
 name_pending Layout rows = refl
 
-pub value_pending : (name : Name) (given : Text) (rows : List Row) → pending_fault rows (Some (id_of name, given ∷ [])) ≡ value_fault name given rows
+pub value_pending : (name : OptionName) (given : Text) (rows : List Row) → pending_fault rows (Some (id_of name, given ∷ [])) ≡ value_fault name given rows
 value_pending Seed given rows = refl
 value_pending Break given rows = refl
 value_pending Count given rows = refl
 value_pending Layout given rows = refl
 
-pub rows_with_value : (name : Name) (given : Text) (rows : List Row) → rows_with rows (Some (id_of name, given ∷ [])) ≡ rows_after_value name given rows
+pub rows_with_value : (name : OptionName) (given : Text) (rows : List Row) → rows_with rows (Some (id_of name, given ∷ [])) ≡ rows_after_value name given rows
 rows_with_value Seed given rows = refl
 rows_with_value Break given rows = refl
 rows_with_value Count given rows = refl
@@ -153,7 +153,7 @@ or_else-nil [] = refl
 or_else-nil (k ∷ ks) = refl
 
 -- an option with its value
-pub given_step : (rows : List Row) (pending : Option (Text × List Text)) (waiting : Waiting) (word text : Text) (name : Name) (given : Text)
+pub given_step : (rows : List Row) (pending : Option (Text × List Text)) (waiting : Waiting) (word text : Text) (name : OptionName) (given : Text)
     → IsLongWord word text (Some given) → option_named text ≡ Some name
     → LineSteps (walk_at rows pending waiting false) word (or_else (pending_fault rows pending) (repeated name (rows_with rows pending)))
     (walk_at (rows_after_value name given (rows_with rows pending)) None idle false)
@@ -168,7 +168,7 @@ given_step rows pending waiting word text name given is named =
     }
 
 -- an option whose value is the next word
-pub named_step : (rows : List Row) (pending : Option (Text × List Text)) (waiting : Waiting) (word text : Text) (name : Name)
+pub named_step : (rows : List Row) (pending : Option (Text × List Text)) (waiting : Waiting) (word text : Text) (name : OptionName)
     → IsLongWord word text None → option_named text ≡ Some name
     → LineSteps (walk_at rows pending waiting false) word (pending_fault rows pending)
     (walk_at (rows_with rows pending) (Some (id_of name, [])) (option (id_of name)) false)
@@ -183,7 +183,7 @@ named_step rows pending waiting word text name is named =
     }
 
 -- the value of the option that waits for it
-pub value_step : (rows : List Row) (name : Name) (word : Text) → IsPlainWord word
+pub value_step : (rows : List Row) (name : OptionName) (word : Text) → IsPlainWord word
     → LineSteps (walk_at rows (Some (id_of name, [])) (option (id_of name)) false) word [] (walk_at rows (Some (id_of name, word ∷ [])) idle false)
 value_step rows Seed word plain = plain_steps line_shape rows (Some (codes "seed", [])) (option (codes "seed")) word plain
 value_step rows Break word plain = plain_steps line_shape rows (Some (codes "break", [])) (option (codes "break")) word plain

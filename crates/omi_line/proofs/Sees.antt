@@ -7,7 +7,7 @@ use Rattle.std.proofs.lemmas.Str.{IsUtf8-past_char, encode_ascii, encodes-chars}
 use Rattle.clap.specs.Lexer.{long_of, short_of, name_and_value}
 use Rattle.clap.specs.Walk.{Text}
 use borrow.Author.Tests.{eqb-true}
-use Rattle.omi_line.specs.Word.{Name, Kind, Positional, Rest, Given, Named, RefusedWord, hyphen_kind, is_equals, word_kind, long_kind, option_kind, option_named}
+use Rattle.omi_line.specs.Word.{OptionName, Kind, Positional, Rest, Given, Named, RefusedWord, hyphen_kind, is_equals, word_kind, long_kind, option_kind, option_named}
 
 abbrev pub is_rest : Text → Bool
 is_rest word = bytes_eq word (45 ∷ 45 ∷ [])
@@ -55,7 +55,7 @@ sees_long : (text : Text) → Sees (45 ∷ 45 ∷ text) (long_kind text)
 sees_long [] = refl
 sees_long (byte ∷ rest) = go (option_named (before_first is_equals (byte ∷ rest))) refl (list_any is_equals (byte ∷ rest)) refl
   where
-    go : (named : Option Name) → option_named (before_first is_equals (byte ∷ rest)) ≡ named → (has : Bool) → list_any is_equals (byte ∷ rest) ≡ has
+    go : (named : Option OptionName) → option_named (before_first is_equals (byte ∷ rest)) ≡ named → (has : Bool) → list_any is_equals (byte ∷ rest) ≡ has
         → Sees (45 ∷ 45 ∷ byte ∷ rest) (option_kind named (byte ∷ rest))
     go None is has valued = inl (before_first is_equals (byte ∷ rest), (name_and_value (byte ∷ rest)).1, record { rest = refl; long = refl }, is)
     go (Some name) is true valued = rw valued (before_first is_equals (byte ∷ rest), record { rest = refl; long = rw valued refl }, is)

@@ -6,12 +6,12 @@ use Rattle.clap.specs.Walk.{Row, Text, all_of, has_row, with_values, without}
 use Rattle.clap.specs.declared.builder.value_parser.Reading.{Reading}
 use Rattle.clap.specs.declared.parser.matches.ValueSource.TheVariants.{CommandLine}
 use Rattle.omi_line.specs.declared.line.Line.{Line}
-use Rattle.omi_line.specs.Word.{Name, Seed, Break, Count, Layout}
+use Rattle.omi_line.specs.Word.{OptionName, Seed, Break, Count, Layout}
 use Rattle.omi_line.specs.Line.{empty_line, set_value, value_in, with_words}
 use Rattle.omi_line.proofs.Rows.{all_of-with_values, all_of-with_values-other, has_row-all_of, without-none}
 
 -- the id of an option, which is its name
-abbrev pub id_of : Name → Text
+abbrev pub id_of : OptionName → Text
 id_of Seed = codes "seed"
 id_of Break = codes "break"
 id_of Count = codes "count"
@@ -24,53 +24,53 @@ words_id = codes "words"
 -- the rows have the line's words, and of each option its value alone
 pub record Shows (rows : List Row) (line : Line) : Type 0 where
   pub words : unwrap_or (all_of words_id rows) [] ≡ line.words
-  pub values : (name : Name) → all_of (id_of name) rows ≡ option_map (λ value. value ∷ []) (value_in name line)
+  pub values : (name : OptionName) → all_of (id_of name) rows ≡ option_map (λ value. value ∷ []) (value_in name line)
 
 pub shows_empty : Shows [] empty_line
 shows_empty = record { words = refl; values = λ name. none name }
   where
-    none : (name : Name) → None ≡ option_map (λ (value : Text). value ∷ []) (value_in name empty_line)
+    none : (name : OptionName) → None ≡ option_map (λ (value : Text). value ∷ []) (value_in name empty_line)
     none Seed = refl
     none Break = refl
     none Count = refl
     none Layout = refl
 
-words_apart : (name : Name) → bytes_eq words_id (id_of name) ≡ false
+words_apart : (name : OptionName) → bytes_eq words_id (id_of name) ≡ false
 words_apart Seed = refl
 words_apart Break = refl
 words_apart Count = refl
 words_apart Layout = refl
 
-name_apart : (name : Name) → bytes_eq (id_of name) words_id ≡ false
+name_apart : (name : OptionName) → bytes_eq (id_of name) words_id ≡ false
 name_apart Seed = refl
 name_apart Break = refl
 name_apart Count = refl
 name_apart Layout = refl
 
-words_keep : (name : Name) (words : List Text) (line : Line) → value_in name (with_words words line) ≡ value_in name line
+words_keep : (name : OptionName) (words : List Text) (line : Line) → value_in name (with_words words line) ≡ value_in name line
 words_keep Seed words line = refl
 words_keep Break words line = refl
 words_keep Count words line = refl
 words_keep Layout words line = refl
 
-pub value_keeps : (name : Name) (value : Text) (line : Line) → (set_value name value line).words ≡ line.words
+pub value_keeps : (name : OptionName) (value : Text) (line : Line) → (set_value name value line).words ≡ line.words
 value_keeps Seed value line = refl
 value_keeps Break value line = refl
 value_keeps Count value line = refl
 value_keeps Layout value line = refl
 
-value_set : (name : Name) (value : Text) (line : Line) → value_in name (set_value name value line) ≡ Some value
+value_set : (name : OptionName) (value : Text) (line : Line) → value_in name (set_value name value line) ≡ Some value
 value_set Seed value line = refl
 value_set Break value line = refl
 value_set Count value line = refl
 value_set Layout value line = refl
 
 -- another option has another id, and keeps its value
-pub record Apart (name other : Name) : Type 0 where
+pub record Apart (name other : OptionName) : Type 0 where
   pub ids : bytes_eq (id_of name) (id_of other) ≡ false
   pub keeps : (value : Text) (line : Line) → value_in other (set_value name value line) ≡ value_in other line
 
-same_or_apart : (name other : Name) → (name ≡ other) ⊎ Apart name other
+same_or_apart : (name other : OptionName) → (name ≡ other) ⊎ Apart name other
 same_or_apart Seed Seed = inl refl
 same_or_apart Seed Break = inr (record { ids = refl; keeps = λ value line. refl })
 same_or_apart Seed Count = inr (record { ids = refl; keeps = λ value line. refl })
@@ -99,7 +99,7 @@ shows_word how word rows line shown = record {
 }
 
 -- an option has a row where the line has its value
-pub has_row-shown : (name : Name) (rows : List Row) (line : Line) → Shows rows line → has_row (id_of name) rows ≡ is_some (value_in name line)
+pub has_row-shown : (name : OptionName) (rows : List Row) (line : Line) → Shows rows line → has_row (id_of name) rows ≡ is_some (value_in name line)
 has_row-shown name rows line shown = has_row-all_of (id_of name) rows ∙ ap (λ (found : Option (List Text)). is_some found) (shown.values name) ∙ go (value_in name line)
   where
     go : (value : Option Text) → is_some (option_map (λ (text : Text). text ∷ []) value) ≡ is_some value
@@ -107,7 +107,7 @@ has_row-shown name rows line shown = has_row-all_of (id_of name) rows ∙ ap (λ
     go (Some value) = refl
 
 -- the value of one more option
-pub shows_value : (how : Reading) (name : Name) (value : Text) (rows : List Row) (line : Line) → value_in name line ≡ None → Shows rows line
+pub shows_value : (how : Reading) (name : OptionName) (value : Text) (rows : List Row) (line : Line) → value_in name line ≡ None → Shows rows line
     → Shows (with_values (id_of name) how CommandLine (value ∷ []) (without (id_of name) rows)) (set_value name value line)
 shows_value how name value rows line none shown =
     let row : has_row (id_of name) rows ≡ false = has_row-shown name rows line shown ∙ ap (λ (v : Option Text). is_some v) none in
@@ -117,7 +117,7 @@ shows_value how name value rows line none shown =
       words = ap (λ (found : Option (List Text)). unwrap_or found []) (all_of-with_values-other (id_of name) words_id how (value ∷ []) rows (name_apart name))
           ∙ shown.words ∙ sym (value_keeps name value line);
       values = λ other. elim (same_or_apart name other) [
-        | inl same ↦ subst (λ (n : Name). all_of (id_of n) (with_values (id_of name) how CommandLine (value ∷ []) rows) ≡ option_map (λ (v : Text). v ∷ []) (value_in n (set_value name value line))) same
+        | inl same ↦ subst (λ (n : OptionName). all_of (id_of n) (with_values (id_of name) how CommandLine (value ∷ []) rows) ≡ option_map (λ (v : Text). v ∷ []) (value_in n (set_value name value line))) same
             (all_of-with_values (id_of name) how (value ∷ []) rows
             ∙ ap (λ (found : Option (List Text)). Some (unwrap_or found [] ++ value ∷ [])) (shown.values name ∙ ap (option_map (λ (v : Text). v ∷ [])) none)
             ∙ ap (option_map (λ (v : Text). v ∷ [])) (sym (value_set name value line)))

@@ -11,7 +11,7 @@ use Rattle.clap.specs.Walk.{Held, Row, Text, Waiting, Walk, idle, option, positi
 use Rattle.clap.specs.declared.error.kind.ErrorKind.TheVariants as kind
 use borrow.Author.Tests.{both_ways}
 use Rattle.omi_line.specs.declared.line.Line.{Line}
-use Rattle.omi_line.specs.Word.{Name, Kind, Positional, Rest, Given, Named, RefusedWord, begins_with_hyphen, hyphen_kind, is_equals, is_hyphen, word_kind, long_kind, option_kind, option_named}
+use Rattle.omi_line.specs.Word.{OptionName, Kind, Positional, Rest, Given, Named, RefusedWord, begins_with_hyphen, hyphen_kind, is_equals, is_hyphen, word_kind, long_kind, option_kind, option_named}
 use Rattle.omi_line.specs.Line.{set_value, split_from, split_word, value_in, with_value, with_words}
 use Rattle.omi_line.specs.Hyphen.{gives_hyphen, hyphen_word, is_lone_hyphen}
 use Rattle.omi_line.proofs.Sees.{Sees, sees}
@@ -123,18 +123,18 @@ reads_trailing (word ∷ rest) rows pending waiting line none shown =
 -- ---- options
 
 -- an option that the line has already is repeated
-repeated_there : (name : Name) (old : Text) (rows : List Row) (line : Line) → value_in name line ≡ Some old → Shows rows line → repeated name rows ≡ kind.ArgumentConflict ∷ []
+repeated_there : (name : OptionName) (old : Text) (rows : List Row) (line : Line) → value_in name line ≡ Some old → Shows rows line → repeated name rows ≡ kind.ArgumentConflict ∷ []
 repeated_there name old rows line is shown =
     ap (λ (has : Bool). cond has (kind.ArgumentConflict ∷ []) []) (has_row-shown name rows line shown ∙ ap (λ (v : Option Text). is_some v) is)
 
-repeated_not : (name : Name) (rows : List Row) (line : Line) → value_in name line ≡ None → Shows rows line → repeated name rows ≡ []
+repeated_not : (name : OptionName) (rows : List Row) (line : Line) → value_in name line ≡ None → Shows rows line → repeated name rows ≡ []
 repeated_not name rows line is shown =
     ap (λ (has : Bool). cond has (kind.ArgumentConflict ∷ []) []) (has_row-shown name rows line shown ∙ ap (λ (v : Option Text). is_some v) is)
 
-with_value-there : (name : Name) (given old : Text) (line : Line) → value_in name line ≡ Some old → with_value name given line ≡ None
+with_value-there : (name : OptionName) (given old : Text) (line : Line) → value_in name line ≡ Some old → with_value name given line ≡ None
 with_value-there name given old line is = ap (λ (v : Option Text). cond (is_some v) None (Some (set_value name given line))) is
 
-with_value-new : (name : Name) (given : Text) (line : Line) → value_in name line ≡ None → with_value name given line ≡ Some (set_value name given line)
+with_value-new : (name : OptionName) (given : Text) (line : Line) → value_in name line ≡ None → with_value name given line ≡ Some (set_value name given line)
 with_value-new name given line is = ap (λ (v : Option Text). cond (is_some v) None (Some (set_value name given line))) is
 
 -- ---- hyphens
@@ -144,7 +144,7 @@ pub plain_kind : (word : Text) → begins_with_hyphen word ≡ false → word_ki
 plain_kind [] is = refl
 plain_kind (byte ∷ text) is = rw is refl
 
-option_never : (named : Option Name) (text : Text) → option_kind named text ≡ Positional → ⊥
+option_never : (named : Option OptionName) (text : Text) → option_kind named text ≡ Positional → ⊥
 option_never None text is = cc
 option_never (Some name) text is = go (list_any is_equals text) is
   where
@@ -176,7 +176,7 @@ pub record ReadsWords (words : List Text) : Type 0 where
   pub free : (rows : List Row) (pending : Option (Text × List Text)) (waiting : Waiting) (line : Line) → IsFree waiting
       → pending_fault rows pending ≡ [] → Shows (rows_with rows pending) line → gives_hyphen words false ≡ false
       → Reads (fault_from (walk_at rows pending waiting false) words) (rows_from (walk_at rows pending waiting false) words) (split_from words None line)
-  pub waits : (rows : List Row) (name : Name) (line : Line) → Shows rows line → gives_hyphen words true ≡ false
+  pub waits : (rows : List Row) (name : OptionName) (line : Line) → Shows rows line → gives_hyphen words true ≡ false
       → Reads (fault_from (walk_at rows (Some (id_of name, [])) (option (id_of name)) false) words)
       (rows_from (walk_at rows (Some (id_of name, [])) (option (id_of name)) false) words) (split_from words (Some name) line)
 
@@ -184,7 +184,7 @@ abbrev ReadsAt : Walk → Text → List Text → Option Line → Type 0
 ReadsAt w word rest line = Reads (fault_from w (word ∷ rest)) (rows_from w (word ∷ rest)) line
 
 -- an option and its value, where the walk goes on
-module _ (word : Text) (rest : List Text) (next : ReadsWords rest) (name : Name) (given : Text) (rows : List Row) (line : Line) (shown : Shows rows line)
+module _ (word : Text) (rest : List Text) (next : ReadsWords rest) (name : OptionName) (given : Text) (rows : List Row) (line : Line) (shown : Shows rows line)
     (hyphen : gives_hyphen rest false ≡ false) where
   -- the value is attached
   given_reads : (w : Walk) (kinds : Kinds) → Steps line_shape w word (or_else kinds (repeated name rows)) (walk_at (rows_after_value name given rows) None idle false) → kinds ≡ []
@@ -225,7 +225,7 @@ or_left true b is = is
 or_left false b is = refl
 
 -- a word that begins with a hyphen is no value of an option that waits for one
-module _ (word : Text) (rest : List Text) (rows : List Row) (name : Name) (seen : Sees word (word_kind word)) (begins : begins_with_hyphen word ≡ true)
+module _ (word : Text) (rest : List Text) (rows : List Row) (name : OptionName) (seen : Sees word (word_kind word)) (begins : begins_with_hyphen word ≡ true)
     (hyphen : hyphen_word (word_kind word) (is_lone_hyphen word) (gives_hyphen rest) ≡ false) where
   abbrev waiting_walk : Walk
   waiting_walk = walk_at rows (Some (id_of name, [])) (option (id_of name)) false
@@ -287,7 +287,7 @@ reads_word word rest utf8 next = record {
     free_word rows pending waiting line free none shown RefusedWord (inr seen) hyphen =
         refuses (walk_at rows pending waiting false) word rest (short_step rows pending waiting word seen)
 
-    waiting_word : (rows : List Row) (name : Name) (line : Line) → Shows rows line → hyphen_word (word_kind word) (is_lone_hyphen word) (gives_hyphen rest) ≡ false
+    waiting_word : (rows : List Row) (name : OptionName) (line : Line) → Shows rows line → hyphen_word (word_kind word) (is_lone_hyphen word) (gives_hyphen rest) ≡ false
         → (begins : Bool) → begins_with_hyphen word ≡ begins
         → ReadsAt (walk_at rows (Some (id_of name, [])) (option (id_of name)) false) word rest
         (cond (begins_with_hyphen word) None (option_and_then (split_from rest None) (with_value name word line)))

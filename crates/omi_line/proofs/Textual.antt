@@ -10,7 +10,7 @@ use Rattle.std.proofs.lemmas.List.Sums.{prefix_len_stops}
 use Rattle.std.proofs.lemmas.Str.{IsCharBoundary-after_ascii, IsUtf8-drop, IsUtf8-nil}
 use Rattle.clap.specs.Walk.{Text}
 use Rattle.omi_line.specs.declared.line.Line.{Line}
-use Rattle.omi_line.specs.Word.{Name, Seed, Break, Count, Layout, Kind, Positional, Rest, Given, Named, RefusedWord, begins_with_hyphen, is_equals, is_hyphen, word_kind, hyphen_kind, long_kind, option_kind, option_named}
+use Rattle.omi_line.specs.Word.{OptionName, Seed, Break, Count, Layout, Kind, Positional, Rest, Given, Named, RefusedWord, begins_with_hyphen, is_equals, is_hyphen, word_kind, hyphen_kind, long_kind, option_kind, option_named}
 use Rattle.omi_line.specs.Line.{IsText, empty_line, set_value, split_from, split_of, split_word, value_in, with_value, with_words}
 
 -- ---- a value behind `=`
@@ -30,7 +30,7 @@ behind_equals text utf8 =
       | inr past ↦ subst IsUtf8 (sym (drop_all (at + 1) text (omega (arith, past)))) IsUtf8-nil
     ]
 
-option_value : (found : Option Name) (text : Text) (name : Name) (value : Text) → IsUtf8 text → option_kind found text ≡ Given name value → IsUtf8 value
+option_value : (found : Option OptionName) (text : Text) (name : OptionName) (value : Text) → IsUtf8 text → option_kind found text ≡ Given name value → IsUtf8 value
 option_value None text name value utf8 is = absurd (cc)
 option_value (Some option) text name value utf8 is = go (list_any is_equals text) is
   where
@@ -41,7 +41,7 @@ option_value (Some option) text name value utf8 is = go (list_any is_equals text
     go false is = absurd (cc)
 
 -- the value that stands in a word is text where the word is
-value_text : (word : Text) (name : Name) (value : Text) → IsUtf8 word → word_kind word ≡ Given name value → IsUtf8 value
+value_text : (word : Text) (name : OptionName) (value : Text) → IsUtf8 word → word_kind word ≡ Given name value → IsUtf8 value
 value_text [] name value utf8 is = absurd (cc)
 value_text (first ∷ []) name value utf8 is = go (is_hyphen first) is
   where
@@ -76,7 +76,7 @@ words_text words line utf8 text = record {
   layout = text.layout;
 }
 
-set_text : (name : Name) (value : Text) (line : Line) → IsUtf8 value → IsText line → IsText (set_value name value line)
+set_text : (name : OptionName) (value : Text) (line : Line) → IsUtf8 value → IsText line → IsText (set_value name value line)
 set_text Seed value line utf8 text = record { words = text.words; seed = utf8; on = text.on; count = text.count; layout = text.layout }
 set_text Break value line utf8 text = record { words = text.words; seed = text.seed; on = utf8; count = text.count; layout = text.layout }
 set_text Count value line utf8 text = record { words = text.words; seed = text.seed; on = text.on; count = utf8; layout = text.layout }
@@ -85,7 +85,7 @@ set_text Layout value line utf8 text = record { words = text.words; seed = text.
 -- what is made of the words keeps a line's text
 record KeepsText (words : List Text) : Type 0 where
   free : (line out : Line) → IsText line → split_from words None line ≡ Some out → IsText out
-  waits : (name : Name) (line out : Line) → IsText line → split_from words (Some name) line ≡ Some out → IsText out
+  waits : (name : OptionName) (line out : Line) → IsText line → split_from words (Some name) line ≡ Some out → IsText out
 
 keeps_none : KeepsText []
 unfolding split_from
@@ -104,7 +104,7 @@ keeps_word word rest utf8 next = record {
     here : IsUtf8 word
     here = utf8 0 word (omega arith)
 
-    valued : (name : Name) (given : Text) (line out : Line) → IsUtf8 given → IsText line → option_and_then (split_from rest None) (with_value name given line) ≡ Some out → IsText out
+    valued : (name : OptionName) (given : Text) (line out : Line) → IsUtf8 given → IsText line → option_and_then (split_from rest None) (with_value name given line) ≡ Some out → IsText out
     valued name given line out given_utf8 text is = go (is_some (value_in name line)) is
       where
         go : (there : Bool) → option_and_then (split_from rest None) (cond there None (Some (set_value name given line))) ≡ Some out → IsText out
@@ -118,7 +118,7 @@ keeps_word word rest utf8 next = record {
     free_word (Named name) line out kind text is = next.waits name line out text is
     free_word RefusedWord line out kind text is = absurd (cc)
 
-    waiting_word : (name : Name) (line out : Line) → IsText line → (begins : Bool)
+    waiting_word : (name : OptionName) (line out : Line) → IsText line → (begins : Bool)
         → cond begins None (option_and_then (split_from rest None) (with_value name word line)) ≡ Some out → IsText out
     waiting_word name line out text true is = absurd (cc)
     waiting_word name line out text false is = valued name word line out here text is

@@ -2,7 +2,7 @@
 use Rattle.std.specs.Prelude.{ℕ, IfSome, List, [], ◌∷◌, ◌++◌, Option, Some, None, is_some, option_and_then, if◌then◌else◌}
 use Rattle.std.specs.List.{All}
 use Rattle.std.specs.Str.{IsUtf8}
-use Rattle.omi_line.specs.Word.{Name, Kind, Seed, Break, Count, Layout, Positional, Rest, Given, Named, RefusedWord, word_kind, begins_with_hyphen}
+use Rattle.omi_line.specs.Word.{OptionName, Kind, Seed, Break, Count, Layout, Positional, Rest, Given, Named, RefusedWord, word_kind, begins_with_hyphen}
 use Rattle.omi_line.specs.declared.line.Line.{Line}
 
 abbrev pub empty_line : Line
@@ -13,25 +13,25 @@ abbrev pub with_words : List (List ℕ) → Line → Line
 with_words words line = record line { words = line.words ++ words }
 
 -- the value of an option
-abbrev pub value_in : Name → Line → Option (List ℕ)
+abbrev pub value_in : OptionName → Line → Option (List ℕ)
 value_in Seed line = line.seed
 value_in Break line = line.on
 value_in Count line = line.count
 value_in Layout line = line.layout
 
-abbrev pub set_value : Name → List ℕ → Line → Line
+abbrev pub set_value : OptionName → List ℕ → Line → Line
 set_value Seed value line = record line { seed = Some value }
 set_value Break value line = record line { on = Some value }
 set_value Count value line = record line { count = Some value }
 set_value Layout value line = record line { layout = Some value }
 
 -- the line with the value of one more option, where it has none of it yet
-abbrev pub with_value : Name → List ℕ → Line → Option Line
+abbrev pub with_value : OptionName → List ℕ → Line → Option Line
 with_value name value line = if is_some (value_in name line) then None
     else Some (set_value name value line)
 
 -- the word, and then the words after it
-abbrev pub split_word : Kind → List ℕ → List (List ℕ) → (Option Name → Line → Option Line) → Line
+abbrev pub split_word : Kind → List ℕ → List (List ℕ) → (Option OptionName → Line → Option Line) → Line
     → Option Line
 split_word Positional word rest next line = next None (with_words (word ∷ []) line)
 split_word Rest word rest next line = Some (with_words rest line)
@@ -41,7 +41,7 @@ split_word (Named name) word rest next line = next (Some name) line
 split_word RefusedWord word rest next line = None
 
 -- The line that these words make of a line, where an option may wait for its value. A value that is a word of its own doesn't begin with `-`, and after `--` all words are positional.
-unfoldable pub split_from : List (List ℕ) → Option Name → Line → Option Line
+unfoldable pub split_from : List (List ℕ) → Option OptionName → Line → Option Line
 split_from [] None line = Some line
 split_from [] (Some name) line = None
 split_from (word ∷ rest) (Some name) line =

@@ -4,14 +4,14 @@ use Rattle.std.specs.List.{list_any, after_first, before_first}
 use Rattle.std.specs.Str.{bytes_eq}
 
 -- the options
-pub data Name : Type 0 where
-  Seed : Name
-  Break : Name
-  Count : Name
-  Layout : Name
+pub data OptionName : Type 0 where
+  Seed : OptionName
+  Break : OptionName
+  Count : OptionName
+  Layout : OptionName
 
 -- the option of this name
-abbrev pub option_named : List ℕ → Option Name
+abbrev pub option_named : List ℕ → Option OptionName
 option_named text =
     if bytes_eq (codes "seed") text then Some Seed
     else (if bytes_eq (codes "break") text then Some Break
@@ -22,8 +22,8 @@ option_named text =
 pub data Kind : Type 0 where
   Positional : Kind
   Rest : Kind
-  Given : (name : Name) (value : List ℕ) → Kind
-  Named : (name : Name) → Kind
+  Given : (name : OptionName) (value : List ℕ) → Kind
+  Named : (name : OptionName) → Kind
   RefusedWord : Kind
 
 -- the byte is `-`
@@ -35,7 +35,7 @@ abbrev pub is_equals : ℕ → Bool
 is_equals byte = byte == 61
 
 -- an option, with what stands after the first `=` where there is one
-abbrev pub option_kind : Option Name → List ℕ → Kind
+abbrev pub option_kind : Option OptionName → List ℕ → Kind
 option_kind None text = RefusedWord
 option_kind (Some name) text =
     if list_any is_equals text then Given name (after_first is_equals text) else Named name

@@ -3,7 +3,7 @@ use Rattle.std.specs.Prelude.{◌≤◌}
 use Rattle.omi_verbs.specs.declared.limits.TheConstants.{MOST_LAYOUT}
 use Rattle.omi_live.specs.declared.limits.TheConstants.{MOST_BUDGET}
 use Rattle.omi_live_top.specs.Command.{LiveCommand}
-use Rattle.omi_live_top.specs.declared.command.Plan.{Plan}
+use Rattle.omi_live_top.specs.declared.command.LivePlan.{LivePlan}
 use Rattle.omi_live_top.specs.declared.command.Request.{Request}
 
 abbrev pub asked : Request → LiveCommand
@@ -14,6 +14,6 @@ asked request = record {
 }
 
 -- the layout is one of the families, and the budget is not too large
-pub record IsPossible (plan : Plan) : Type 0 where
+pub record IsPossible (plan : LivePlan) : Type 0 where
   pub layout : plan.layout ≤ MOST_LAYOUT
   pub budget : plan.budget ≤ MOST_BUDGET

@@ -7,11 +7,11 @@ use Rattle.omi_line.specs.Number.{number_between}
 use Rattle.omi_line.specs.declared.line.Line.{Line}
 use Rattle.omi_live.specs.declared.limits.TheConstants.{MOST_BUDGET}
 use Rattle.omi_verbs.specs.Options.{break_named, layout_of}
-use Rattle.omi_live_top.specs.declared.command.Plan.{Plan}
+use Rattle.omi_live_top.specs.declared.command.LivePlan.{LivePlan}
 
 -- a run of the threads of a script, and the name of the core that it leaves
 pub record LiveCommand : Type 0 where
-  pub plan : Plan
+  pub plan : LivePlan
   pub script : List ℕ
   pub core : List ℕ
 
@@ -20,16 +20,16 @@ abbrev pub live_break_of : Option (List ℕ) → Option (Option Break)
 live_break_of None = Some None
 live_break_of (Some name) = option_map Some (break_named name)
 
-abbrev pub live_plan_with : ℕ → ℕ → Option Break → Plan
+abbrev pub live_plan_with : ℕ → ℕ → Option Break → LivePlan
 live_plan_with layout budget on = record { layout = layout; budget = budget; on = on }
 
 -- the run that a line asks for, with BUDGET 0 to 50,000, where no part of it is refused
-abbrev pub live_plan_of : List ℕ → Line → Option Plan
+abbrev pub live_plan_of : List ℕ → Line → Option LivePlan
 live_plan_of budget line =
     option_and_then (λ layout. option_and_then (λ n. option_map (live_plan_with layout n)
     (live_break_of line.on)) (number_between budget 0 MOST_BUDGET)) (layout_of line.layout)
 
-abbrev pub live_command_with : List ℕ → List ℕ → Plan → LiveCommand
+abbrev pub live_command_with : List ℕ → List ℕ → LivePlan → LiveCommand
 live_command_with script core plan = record { plan = plan; script = script; core = core }
 
 -- `BUDGET SCRIPT CORE`, without a seed and without a count

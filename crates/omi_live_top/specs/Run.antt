@@ -13,7 +13,7 @@ use Rattle.omi_corefile.specs.Spelling.{core_bytes}
 use Rattle.omi_live.specs.Live.{IsLive}
 use Rattle.omi_verbs.specs.Cores.{IsReachedCore, thread_ids}
 use Rattle.omi_live_top.specs.Lines.{live_text}
-use Rattle.omi_live_top.specs.declared.command.Plan.{Plan}
+use Rattle.omi_live_top.specs.declared.command.LivePlan.{LivePlan}
 
 -- each state that these words show has the report of this state
 abbrev pub HaveReportOf : List ℕ → List ℕ → State → Type 0
@@ -23,7 +23,7 @@ HaveReportOf w words s = (t : State) (ids : List ℕ) (v u : View) → Shows w (
 -- There is an order of all steps of the threads, each thread's own in their order, that leads to the words of this core, in the layout of
 -- the plan's family. The words show the state that the events reach in this order; they are the printed ones. Each state that the words
 -- show has the report of this state, and this is what is shown of the core
-pub record IsLiveRun (p : Program) (plan : Plan) (core text : List ℕ) : Type 0 where
+pub record IsLiveRun (p : Program) (plan : LivePlan) (core text : List ℕ) : Type 0 where
   pub layout : Layout
   pub family : IsFamily plan.layout p.threads layout.table
   pub words : List ℕ

@@ -13,7 +13,7 @@ use omi_verbs::{Names, break_named, layout_of, text_of};
 
 /// What a run of threads is to be.
 #[derive(Clone, Copy)]
-pub struct Plan {
+pub struct LivePlan {
     /// The family of its layout.
     pub layout: u8,
     /// The most steps of each thread.
@@ -25,7 +25,7 @@ pub struct Plan {
 /// What a command line asks for.
 #[derive(Clone, Copy)]
 pub struct Request<'a> {
-    pub plan: Plan,
+    pub plan: LivePlan,
     pub names: Names<'a>,
 }
 
@@ -41,12 +41,12 @@ fn break_of(line: &Line) -> Option<Option<Break>>
 }
 
 /// The run that a line asks for, with this budget.
-fn plan_of(budget: &Text, line: &Line) -> Option<Plan>
+fn plan_of(budget: &Text, line: &Line) -> Option<LivePlan>
     requires { IsText line.now }
     ensures plan { result ≡ live_plan_of budget.now line.now }
     ensures possible { IfSome result IsPossible }
 {
-    Some(Plan {
+    Some(LivePlan {
         layout: layout_of(line)?,
         budget: number(budget, 0, MOST_BUDGET)?,
         on: break_of(line)?,

@@ -4,7 +4,7 @@ ghost use Rattle.std.specs.Prelude.{IfOk, string_bytes};
 ghost use Rattle.omi_live_top.specs.Asked.{IsPossible};
 ghost use Rattle.omi_live_top.specs.Run.{IsLiveRun};
 
-use crate::command::Plan;
+use crate::command::LivePlan;
 use crate::lines::text_of;
 use omi_layout::Layout;
 use omi_live::live;
@@ -21,7 +21,7 @@ pub fn run_of<R: Threads + Sync, G: Gate>(
     rt: &R,
     alloc: Global,
     p: &Program,
-    plan: Plan,
+    plan: LivePlan,
     gate: &G,
 ) -> Result<(Vec<u8>, String), OutOfMemory>
     requires { IsPossible plan }

@@ -1,4 +1,4 @@
--- How values stand in words. A record stands as its address, and none as 0.
+-- How values stand in words.
 use Rattle.std.specs.Prelude.{ℕ, ◌+◌, ◌*◌, ◌/◌, ◌%◌, Bool, true, false}
 use Rattle.omi_numbers.specs.declared.words.TheConstants.{FIRST_NATIVE, WAIT_PLACE}
 

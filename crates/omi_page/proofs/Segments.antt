@@ -4,7 +4,7 @@ use Rattle.std.specs.Int.{w64}
 use Rattle.std.proofs.lemmas.Bool.{cases_lt, lt-ltb, le-ltb}
 use Rattle.std.proofs.lemmas.List.{drop-drop, length-drop, map_push}
 use Rattle.omi_corefile.specs.declared.segment.Segment.{Segment}
-use Rattle.omi_corefile.specs.Refusals.{Refusal, ReadStep, ◌>>=◌, short, number_at, row_at, words_at, start_at, word_count_at, segment_at, Left, left_after}
+use Rattle.omi_corefile.specs.Refusals.{ReadRefusal, ReadStep, ◌>>=◌, short, number_at, row_at, words_at, start_at, word_count_at, segment_at, Left, left_after}
 use Rattle.omi_corefile.proofs.Numbers.{bind_ok, bind_again, ok_is}
 use Rattle.omi_corefile.proofs.Readings.{bind_failed}
 use Rattle.omi_corefile.proofs.Rows.{with_front, goes_on, row_fails}
@@ -102,14 +102,14 @@ segment_short len left bytes at start count within short_of e =
     ∙ bind_failed (words_at len count (drop (at + 16) bytes)) (λ words. Ok (record { start = start; words = words.0 }, words.1)) (short len) (words_short len bytes (at + 16) count within short_of)
 
 -- a fault of the bounds is one of the segment
-failed_one : {A B : Type 0} (read : ReadStep ℕ) (f : ℕ × List ℕ → A) (g : ℕ × List ℕ → ReadStep B) (r : Refusal) → (read >>= λ c. Ok (f c)) ≡ Err r → (read >>= g) ≡ Err r
+failed_one : {A B : Type 0} (read : ReadStep ℕ) (f : ℕ × List ℕ → A) (g : ℕ × List ℕ → ReadStep B) (r : ReadRefusal) → (read >>= λ c. Ok (f c)) ≡ Err r → (read >>= g) ≡ Err r
 failed_one (Ok c) f g r e = absurd cc
-failed_one (Err d) f g r e = let same : d ≡ r = cc in ap (λ (x : Refusal). Err x) same
+failed_one (Err d) f g r e = let same : d ≡ r = cc in ap (λ (x : ReadRefusal). Err x) same
 
-failed_two : {A B : Type 0} (read : ReadStep ℕ) (next : ℕ × List ℕ → ReadStep ℕ) (f : ℕ × List ℕ → ℕ × List ℕ → A) (g : ℕ × List ℕ → ℕ × List ℕ → ReadStep B) (r : Refusal)
+failed_two : {A B : Type 0} (read : ReadStep ℕ) (next : ℕ × List ℕ → ReadStep ℕ) (f : ℕ × List ℕ → ℕ × List ℕ → A) (g : ℕ × List ℕ → ℕ × List ℕ → ReadStep B) (r : ReadRefusal)
     → (read >>= λ s. next s >>= λ c. Ok (f s c)) ≡ Err r → (read >>= λ s. next s >>= g s) ≡ Err r
 failed_two (Ok s) next f g r e = failed_one (next s) (f s) (g s) r e
-failed_two (Err d) next f g r e = let same : d ≡ r = cc in ap (λ (x : Refusal). Err x) same
+failed_two (Err d) next f g r e = let same : d ≡ r = cc in ap (λ (x : ReadRefusal). Err x) same
 
 pub segment_fault : (error : PageError) (len : ℕ) (left : Left) (bytes : List ℕ) → Fails error (bounds_at len left bytes) → Fails error (segment_at len left bytes)
 unfolding segment_at

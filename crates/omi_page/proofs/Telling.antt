@@ -6,7 +6,7 @@ use Rattle.std.specs.Option.{option_or, option_map, is_some}
 use Rattle.std.proofs.lemmas.Bool.{cases_lt, lt-ltb, le-ltb, le-leb, eq-eqb, ne_eqb}
 use Rattle.std.proofs.lemmas.Bool.Decides.{nat_tests}
 use Rattle.omi_outside.specs.Outside.{Told as FileTold}
-use Rattle.omi_corefile.specs.Refusals.{Refusal, Parts, reading}
+use Rattle.omi_corefile.specs.Refusals.{ReadRefusal, Parts, reading}
 use Rattle.omi_word.specs.Words.{Words}
 use Rattle.omi_calls.specs.Told.{Symbols, aligned_word_at, number_of}
 use Rattle.omi_word.specs.SymbolTable.{symbol_in}
@@ -84,7 +84,7 @@ same_words a b e = ap (λ o. unwrapped o) e
     unwrapped (Some w) = w
     unwrapped None = a
 
-by_reading : (bytes : List ℕ) (words : Words) (read : Result Parts Refusal) → reading bytes ≡ read → (told_by_reading read).words ≡ Some words → Tells (Some (Some bytes)) words
+by_reading : (bytes : List ℕ) (words : Words) (read : Result Parts ReadRefusal) → reading bytes ≡ read → (told_by_reading read).words ≡ Some words → Tells (Some (Some bytes)) words
 by_reading bytes words (Ok parts) is e = record {
   bytes = bytes;
   parts = parts;
@@ -183,7 +183,7 @@ pub record TellsSymbols (told : FileTold) (symbols : Symbols) : Type 0 where
   pub told_words : (told_by_file told).words ≡ Some words
   pub symbols_are : symbol_in (aligned_word_at words) ≡ symbols
 
-symbols_by : (bytes : List ℕ) (symbols : Symbols) (read : Result Parts Refusal) → reading bytes ≡ read → (told_by_reading read).symbols ≡ Some symbols → TellsSymbols (Some (Some bytes)) symbols
+symbols_by : (bytes : List ℕ) (symbols : Symbols) (read : Result Parts ReadRefusal) → reading bytes ≡ read → (told_by_reading read).symbols ≡ Some symbols → TellsSymbols (Some (Some bytes)) symbols
 symbols_by bytes symbols (Ok parts) is e = record {
   words = words_of_segments parts.segments;
   told_words = ap (λ r. (told_by_reading r).words) is;

@@ -4,7 +4,7 @@ use Rattle.std.proofs.lemmas.Bool.{eq-eqb, ne_eqb}
 use Rattle.std.proofs.lemmas.List.{length-drop}
 use Rattle.omi_corefile.specs.declared.segment.Segment.{Segment}
 use Rattle.omi_corefile.specs.declared.fault.CoreFault.TheVariants.{Trailing}
-use Rattle.omi_corefile.specs.Refusals.{Refusal, ◌>>=◌, place_in_file, contexts_at, segments_at, Header, header_at, Parts, parts_at, reading}
+use Rattle.omi_corefile.specs.Refusals.{ReadRefusal, ◌>>=◌, place_in_file, contexts_at, segments_at, Header, header_at, Parts, parts_at, reading}
 use Rattle.omi_corefile.proofs.Numbers.{bind_again}
 use Rattle.omi_corefile.proofs.Readings.{bind_failed}
 use Rattle.omi_corefile.proofs.FileLaws.{after_header, after_contexts, after_segments, ended}
@@ -13,7 +13,7 @@ use Rattle.omi_page.specs.declared.fault.PageError.TheVariants.{Fault, NoFile, F
 use Rattle.omi_page.specs.Outcomes.{Fails}
 
 -- what failed fails what follows it
-bind_fails : {A B : Type 0} (error : PageError) (read : Result A Refusal) (f : A → Result B Refusal) → Fails error read → Fails error (read >>= f)
+bind_fails : {A B : Type 0} (error : PageError) (read : Result A ReadRefusal) (f : A → Result B ReadRefusal) → Fails error read → Fails error (read >>= f)
 bind_fails (Fault at why) read f e = bind_failed read f (at, why) e
 bind_fails NoFile read f e = e
 bind_fails Failed read f e = tt

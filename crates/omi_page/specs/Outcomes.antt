@@ -2,19 +2,19 @@
 -- answer.
 use Rattle.std.specs.Prelude.{◌≡◌, ℕ, List, Option, Some, Result, Ok, Err}
 use Rattle.omi_outside.specs.Outside.{Told, content_len}
-use Rattle.omi_corefile.specs.Refusals.{Refusal, CoreRefused}
+use Rattle.omi_corefile.specs.Refusals.{ReadRefusal, CoreRefused}
 use Rattle.omi_page.specs.declared.fault.PageError.{PageError}
 use Rattle.omi_page.specs.declared.fault.PageError.TheVariants.{Fault, NoFile, Failed, OutOfMemory}
 
 -- a refusal of a file that is there: reading gives this fault, or what may stand in place of any answer
-abbrev pub Fails : {Y : Type 0} → PageError → Result Y Refusal → Type 0
+abbrev pub Fails : {Y : Type 0} → PageError → Result Y ReadRefusal → Type 0
 Fails (Fault at why) read = read ≡ Err (at, why)
 Fails NoFile read = ⊥
 Fails Failed read = Unit {0}
 Fails OutOfMemory read = Unit {0}
 
 -- what was answered, seen by `view`, is what reading gives
-abbrev pub Gives : {X Y : Type 0} → (X → Y) → Result X PageError → Result Y Refusal → Type 0
+abbrev pub Gives : {X Y : Type 0} → (X → Y) → Result X PageError → Result Y ReadRefusal → Type 0
 Gives view (Ok x) read = read ≡ Ok (view x)
 Gives view (Err e) read = Fails e read
 

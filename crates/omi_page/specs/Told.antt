@@ -1,7 +1,7 @@
 -- What a core file tells as a target: the order, the words and the symbols of the core that its bytes are.
 use Rattle.std.specs.Prelude.{Some, None, Result, Ok, Err}
 use Rattle.omi_outside.specs.Outside.{Told as FileTold}
-use Rattle.omi_corefile.specs.Refusals.{Refusal, Parts, reading}
+use Rattle.omi_corefile.specs.Refusals.{ReadRefusal, Parts, reading}
 use Rattle.omi_calls.specs.Told.{Told, aligned_word_at}
 use Rattle.omi_calls.specs.CoreWords.{words_of_segments}
 use Rattle.omi_word.specs.SymbolTable.{symbol_in}
@@ -12,7 +12,7 @@ abbrev pub told_nothing : Told
 told_nothing = record { order = None; words = None; symbols = None; sizes = usual_sizes }
 
 -- what was read of a file
-abbrev pub told_by_reading : Result Parts Refusal → Told
+abbrev pub told_by_reading : Result Parts ReadRefusal → Told
 told_by_reading (Ok parts) = record {
   order = Some parts.order;
   words = Some (words_of_segments parts.segments);

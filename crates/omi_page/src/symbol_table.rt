@@ -10,7 +10,9 @@ ghost use Rattle.omi_word.specs.SymbolTable.{words_from, symbol_in};
 use crate::Pages;
 use omi_calls::{CallbackFailed, Callbacks, Got};
 use omi_outside::Files;
-use omi_word::{COUNT_PLACE, FIRST_PLACE, MOST_SYMBOLS, SYMBOL_BYTES, found_with};
+use omi_word::{
+    FIRST_SYMBOL_ADDRESS, MOST_SYMBOLS, SYMBOL_BYTES, SYMBOL_COUNT_ADDRESS, found_with,
+};
 
 /// Five words, where each of them is there.
 fn all_of(
@@ -73,7 +75,7 @@ impl<'a, F: Files> Pages<'a, F> {
             (IsErr result) }
         ensures stays { StaysBorrowed self.old self.new }
     {
-        let Some(count) = self.word(COUNT_PLACE)? else {
+        let Some(count) = self.word(SYMBOL_COUNT_ADDRESS)? else {
             return Ok(None);
         };
         if count > MOST_SYMBOLS {
@@ -83,7 +85,7 @@ impl<'a, F: Files> Pages<'a, F> {
         let mut left = count;
         while left > 0 {
             left -= 1;
-            let Some(words) = self.five_words(FIRST_PLACE + SYMBOL_BYTES * left)? else {
+            let Some(words) = self.five_words(FIRST_SYMBOL_ADDRESS + SYMBOL_BYTES * left)? else {
                 return Ok(None);
             };
             found = found_with(&words, name, found);

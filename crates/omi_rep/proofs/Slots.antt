@@ -11,17 +11,17 @@ use Rattle.omi_layout.specs.Place.{slot_address, record_address, index_of, IsSlo
 use Rattle.omi_layout.specs.Valid.{IsValid}
 use Rattle.omi_layout.proofs.Arenas.{index_within, ends, placed}
 use Rattle.omi_layout.proofs.Frame.{addresses_apart}
-use Rattle.omi_rep.specs.Look.{slots_of, slot_at}
+use Rattle.omi_rep.specs.Look.{slot_list, slot_at}
 use Rattle.omi_rep.proofs.Lists.{in_map, from_map, in_joined, from_joined, in_range, from_range, from_found, one_found, Ordered, joined_ordered}
 
 -- each slot is gone through
-pub in_slots : (w : List ℕ) (kind creator slot : ℕ) → IsSlot w kind creator slot → Contains (slots_of w kind) (creator, slot)
+pub in_slots : (w : List ℕ) (kind creator slot : ℕ) → IsSlot w kind creator slot → Contains (slot_list w kind) (creator, slot)
 in_slots w kind creator slot is =
     in_joined (λ (c : ℕ). map (λ (k : ℕ). (c, k)) (range_with_len 0 (per_thread w kind))) (range_with_len 0 (makers w kind)) creator (creator, slot)
     (in_range 0 (makers w kind) creator (omega arith) (omega (arith, is.made_by)))
     (in_map (λ (k : ℕ). (creator, k)) (range_with_len 0 (per_thread w kind)) slot (in_range 0 (per_thread w kind) slot (omega arith) (omega (arith, is.within))))
 
-slot_within : (w : List ℕ) (kind : ℕ) (at : ℕ × ℕ) → Contains (slots_of w kind) at → IsSlot w kind at.0 at.1
+slot_within : (w : List ℕ) (kind : ℕ) (at : ℕ × ℕ) → Contains (slot_list w kind) at → IsSlot w kind at.0 at.1
 slot_within w kind at among =
     let (c, maker, inside) = from_joined (λ (c : ℕ). map (λ (k : ℕ). (c, k)) (range_with_len 0 (per_thread w kind))) (range_with_len 0 (makers w kind)) at among in
     let (k, place, is) = from_map (λ (k : ℕ). (c, k)) (range_with_len 0 (per_thread w kind)) at inside in
@@ -33,13 +33,13 @@ module _ (w : List ℕ) (kind address : ℕ) where
   -- the slot that was found has its record there
   pub slot_is : (at : ℕ × ℕ) → slot_at w kind address ≡ Some at → IsSlot w kind at.0 at.1 × (address ≡ slot_address w kind at.0 at.1)
   slot_is at e =
-      let found = from_found (λ (at : ℕ × ℕ). slot_address w kind at.0 at.1 == address) (slots_of w kind) at e in
+      let found = from_found (λ (at : ℕ × ℕ). slot_address w kind at.0 at.1 == address) (slot_list w kind) at e in
       (slot_within w kind at found.0, sym (eqb-true _ _ found.1))
 
   -- where none was found, there is none
   pub slot_none : (creator slot : ℕ) → slot_at w kind address ≡ None → IsSlot w kind creator slot → address ≡ slot_address w kind creator slot → ⊥
   slot_none creator slot e is there =
-      let (at, found) = one_found (λ (at : ℕ × ℕ). slot_address w kind at.0 at.1 == address) (slots_of w kind) (creator, slot) (in_slots w kind creator slot is) (eq-eqb _ _ (sym there)) in
+      let (at, found) = one_found (λ (at : ℕ × ℕ). slot_address w kind at.0 at.1 == address) (slot_list w kind) (creator, slot) (in_slots w kind creator slot is) (eq-eqb _ _ (sym there)) in
       let clash : None ≡ Some at = sym e ∙ found in
       cc clash
 
@@ -153,5 +153,5 @@ rows_ordered m a (suc n) =
         inl (omega (arith, low.0, one, other))
 
 -- the slots are gone through in order
-pub slots_ordered : (w : List ℕ) (kind : ℕ) → Ordered SlotBefore (slots_of w kind)
+pub slots_ordered : (w : List ℕ) (kind : ℕ) → Ordered SlotBefore (slot_list w kind)
 slots_ordered w kind = rows_ordered (per_thread w kind) 0 (makers w kind)

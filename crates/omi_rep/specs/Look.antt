@@ -43,23 +43,23 @@ abbrev pub life_of : ℕ → Field
 life_of kind = if kind == threads then ThreadLife else (if kind == regions then RegionLife else TaskLife)
 
 -- the slots of a kind, in the order of creator and slot
-abbrev pub slots_of : List ℕ → ℕ → List (ℕ × ℕ)
-slots_of w kind =
+abbrev pub slot_list : List ℕ → ℕ → List (ℕ × ℕ)
+slot_list w kind =
     flat_map (λ creator. map (λ slot. (creator, slot)) (range_with_len 0 (per_thread w kind)))
     (range_with_len 0 (makers w kind))
 
 -- the slot of a kind whose record begins at an address
 abbrev pub slot_at : List ℕ → ℕ → ℕ → Option (ℕ × ℕ)
 slot_at w kind address =
-    find (λ at. slot_address w kind at.0 at.1 == address) (slots_of w kind)
+    find (λ at. slot_address w kind at.0 at.1 == address) (slot_list w kind)
 
 -- the life word of a live record: odd and below `LIFE_END`, and 1 for a thread
 abbrev pub is_live : ℕ → ℕ → Bool
 is_live kind life = if kind == threads then life == 1 else life % 2 == 1 && nat_lt life LIFE_END
 
 -- the address of the record of an object
-abbrev pub address_of : List ℕ → ℕ → Id → ℕ
-address_of w kind n = slot_address w kind n.creator n.slot
+abbrev pub id_address : List ℕ → ℕ → Id → ℕ
+id_address w kind n = slot_address w kind n.creator n.slot
 
 -- the address is among these
 abbrev pub was_met : List ℕ → ℕ → Bool
@@ -101,5 +101,5 @@ module _ (w : List ℕ) (words : Words) where
   abbrev pub look_onward : ℕ → List ℕ → ℕ → Field → Look (Option Id)
   look_onward kind met address f =
       and_then (look_optional kind address f 0) (λ next.
-      option_map_or (λ n. if was_met met (address_of w kind n)
-      then Err (Cycle (address_of w kind n)) else Ok (Some n)) next (Ok None))
+      option_map_or (λ n. if was_met met (id_address w kind n)
+      then Err (Cycle (id_address w kind n)) else Ok (Some n)) next (Ok None))

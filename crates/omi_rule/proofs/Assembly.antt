@@ -25,7 +25,7 @@ use Rattle.omi_model.proofs.Slots.{found_live, id_same, none_some, put_other, so
 use Rattle.omi_layout.specs.declared.field.Field.{Field}
 use Rattle.omi_layout.specs.declared.field.Field.TheVariants.{RegionLeft, TaskSlots, ThreadAssign}
 use Rattle.omi_layout.specs.Field.{kind_of, regions, runtime, tasks, threads}
-use Rattle.omi_layout.specs.Memory.{Made, Memory, Rec, replace_at, with_word}
+use Rattle.omi_layout.specs.Memory.{MadeRecords, Memory, Rec, replace_at, with_word}
 use Rattle.omi_layout.specs.Named.{number}
 use Rattle.omi_layout.specs.Valid.{IsValid}
 use Rattle.omi_layout.proofs.Puts.{each_put, record_stays, word_back, word_stays}
@@ -81,7 +81,7 @@ not_less x y f at same = let word : y f at ≡ x f at = ap (λ (r : Rec). r f at
 -- what relates the word before a store to the word after it
 word_goes : (R : ℕ → ℕ → Type 0) → ((x : ℕ) → R x x) → (m : Memory) (c q s f k v d p t g h : ℕ) → R (m c q s f k) v → R (m d p t g h) (with_word m c q s f k v d p t g h)
 word_goes R same m c q s f k v d p t g h here =
-    each_put (λ i (made : Made). R (m i p t g h) (made p t g h)) m c _
+    each_put (λ i (made : MadeRecords). R (m i p t g h) (made p t g h)) m c _
     (each_put (λ i (slots : ℕ → Rec). R (m c i t g h) (slots t g h)) (m c) q _
     (each_put (λ i (r : Rec). R (m c q i g h) (r g h)) (m c q) s _
     (each_put (λ i (words : ℕ → ℕ). R (m c q s i h) (words h)) (m c q s) f _

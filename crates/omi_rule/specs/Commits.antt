@@ -1,7 +1,7 @@
 -- At which word a step commits its event, and at which words a thread may wait.
 use Rattle.std.specs.Prelude.{◌≡◌, ◌⊎◌, ℕ, ◌+◌, List, slice_get, Some}
 use Rattle.omi_numbers.specs.declared.holders.TheConstants.{FREE_CLAIM}
-use Rattle.omi_numbers.specs.Holders.{claimed_word}
+use Rattle.omi_numbers.specs.Holders.{claimed_word, holder_word}
 use Rattle.omi_word.specs.declared.op.Op.{Op}
 use Rattle.omi_word.specs.declared.op.Op.TheVariants as op
 use Rattle.omi_word.specs.Memory.{address_of}
@@ -63,7 +63,7 @@ CommitsAt w s i (event.Join region) o = StoresAt o (of_thread w i ThreadCurrent)
 CommitsAt w s i (event.Set icv value) o = SetsAt w s i icv o
 CommitsAt w s i (event.SetTool x) o = OfCurrent s i (λ k t. StoresAt o (of_task w k TaskTool))
 CommitsAt w s i (event.Lock k) o =
-    o ≡ op.Cas (word_address w 0 0 (number RuntimeLocks) k) 0 (i + 1)
+    o ≡ op.Cas (word_address w 0 0 (number RuntimeLocks) k) 0 (holder_word i)
 CommitsAt w s i (event.Unlock k) o = o ≡ op.Store (word_address w 0 0 (number RuntimeLocks) k) 0
 CommitsAt w s i (event.Seen j) o = OfOwnRow s i (λ x. o ≡ op.Load (of_row_slot w x j))
 CommitsAt w s i (event.Defer task) o =

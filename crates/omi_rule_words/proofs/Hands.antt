@@ -6,7 +6,7 @@ use Rattle.omi_model.specs.declared.id.Tid.{Tid}
 use Rattle.omi_model.specs.declared.region.Region.{Region}
 use Rattle.omi_model.specs.declared.task.Task.{Task}
 use Rattle.omi_model.specs.State.{State}
-use Rattle.omi_layout.specs.Memory.{Made, Rec, replace_at}
+use Rattle.omi_layout.specs.Memory.{MadeRecords, Rec, replace_at}
 use Rattle.omi_rule_words.specs.Owes.{Owed}
 use Rattle.omi_rule_words.specs.Objects.{KeepsRegion}
 use Rattle.omi_rule_words.specs.Words.{KeepsMade, KeepsTask}
@@ -33,7 +33,7 @@ module _ (w : List ℕ) (s : State) (owes : ℕ → Owed) (hands : ℕ → Optio
   task_rehanded : (k : Tid) (r : Rec) (t : Task) → KeepsTask w s owes k r t → KeepsTask w s other k r t
   task_rehanded k r t o = record { environment = o.environment; place = o.place; counts = record { children = o.counts.children }; slots = o.slots }
 
-  pub made_rehanded : (i : ℕ) (made : Made) → KeepsMade w s owes i made → KeepsMade w s other i made
+  pub made_rehanded : (i : ℕ) (made : MadeRecords) → KeepsMade w s owes i made → KeepsMade w s other i made
   made_rehanded i made o = record {
     thread = o.thread;
     assign = record { waiting = λ k waits. let was = o.assign.waiting k waits in record { word_is = was.word_is; once = was.once }; none = o.assign.none };

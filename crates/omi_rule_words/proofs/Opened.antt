@@ -19,7 +19,7 @@ use Rattle.omi_model.proofs.OpeningObjects.{each_first_task}
 use Rattle.omi_layout.specs.declared.field.Field.{Field}
 use Rattle.omi_layout.specs.declared.field.Field.TheVariants.{RegionLife, TaskLife, RegionTeam}
 use Rattle.omi_layout.specs.Field.{runtime, threads, regions, tasks}
-use Rattle.omi_layout.specs.Memory.{Rec, Made, Memory, memory_of}
+use Rattle.omi_layout.specs.Memory.{Rec, MadeRecords, Memory, memory_of}
 use Rattle.omi_layout.specs.Named.{number}
 use Rattle.omi_layout.specs.OpeningWords.{AreOpening, OpensMade, OpensThread, OpensRegion, OpensTask}
 use Rattle.omi_layout.specs.Place.{slot_address}
@@ -189,7 +189,7 @@ module _ (p : Program) (w words : List ℕ) (v : IsValid w) (suits : Suits p w) 
     slots = λ implicit place within. inl (o.slots place);
   }
 
-  region_slot_kept : (i slot : ℕ) (made : Made) → OpensMade p w i made → KeepsRegionSlot w s owes i slot (made regions slot)
+  region_slot_kept : (i slot : ℕ) (made : MadeRecords) → OpensMade p w i made → KeepsRegionSlot w s owes i slot (made regions slot)
   region_slot_kept i slot made o = record {
     life = life_kept (opening_region p) (made regions slot) RegionLife (has_region_slot slot (owes i).region) i slot
         (ap (λ (o : Owed). has_region_slot slot o.region) (none i))
@@ -202,7 +202,7 @@ module _ (p : Program) (w words : List ℕ) (v : IsValid w) (suits : Suits p w) 
         (subst (λ j. KeepsRegion w s owes n (made regions j) (opening_region p)) (sym place) (region_kept n (made regions 0) (o.region creator)));
   }
 
-  task_slot_kept : (i slot : ℕ) (made : Made) → OpensMade p w i made → KeepsTaskSlot w s owes i slot (made tasks slot)
+  task_slot_kept : (i slot : ℕ) (made : MadeRecords) → OpensMade p w i made → KeepsTaskSlot w s owes i slot (made tasks slot)
   task_slot_kept i slot made o = record {
     life = life_kept (opening_task p) (made tasks slot) TaskLife (has_slot slot (owes i).tasks) i slot
         (ap (λ (o : Owed). has_slot slot o.tasks) (none i))

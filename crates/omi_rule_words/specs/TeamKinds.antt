@@ -13,7 +13,7 @@ use Rattle.omi_model.specs.Teams.{forked, joined, master_of, member_task, new_re
 use Rattle.omi_layout.specs.declared.field.Field.TheVariants.{ThreadCurrent, RegionFunction, RegionEnclosing, RegionEncountering, RegionSize, RegionLevels, RegionActive, RegionTeam, RegionReleased, RegionArrived, RegionPending, RegionLeft, TaskChildren, TaskReferences, TaskSlots}
 use Rattle.omi_numbers.specs.Addresses.{entry_address}
 use Rattle.omi_layout.specs.Field.{threads, regions, tasks}
-use Rattle.omi_layout.specs.Memory.{Rec, Made, Memory, replace_at, with_word}
+use Rattle.omi_layout.specs.Memory.{Rec, MadeRecords, Memory, replace_at, with_word}
 use Rattle.omi_layout.specs.Named.{number}
 use Rattle.omi_layout.specs.Table.{per_thread, width}
 use Rattle.omi_layout.specs.Valid.{IsValid}
@@ -58,7 +58,7 @@ pub record MemberIsFilled (w : List ℕ) (r : Rec) (task : Task) : Type 0 where
   pub slots : (place : ℕ) → place < width w (number TaskSlots) → Has r TaskSlots place 0
 
 -- all records of a fork: task k, which is t, in region r, encounters a parallel construct of this function and gets this team
-pub record ForkIsFilled (p : Program) (w : List ℕ) (made : Made) (region : Rid) (team : List (Tid × ℕ))
+pub record ForkIsFilled (p : Program) (w : List ℕ) (made : MadeRecords) (region : Rid) (team : List (Tid × ℕ))
     (f : ℕ) (k : Tid) (t : Task) (r : Region) : Type 0 where
   pub region_record : RegionIsFilled w (made regions region.0.slot) (new_region k t r team f)
   pub members : (j : ℕ) (m : Tid × ℕ) → slice_get team j ≡ Some m

@@ -12,7 +12,7 @@ use Rattle.omi_model.specs.State.{State, region_of, task_of}
 use Rattle.omi_model.specs.Visible.{IsVisibleTask}
 use Rattle.omi_layout.specs.declared.field.Field.TheVariants.{RegionLife, TaskLife}
 use Rattle.omi_layout.specs.Field.{runtime, threads, regions, tasks}
-use Rattle.omi_layout.specs.Memory.{Rec, Made, Memory}
+use Rattle.omi_layout.specs.Memory.{Rec, MadeRecords, Memory}
 use Rattle.omi_layout.specs.Table.{per_thread}
 use Rattle.omi_rule_words.specs.Owes.{Owed}
 use Rattle.omi_rule_words.specs.Counts.{has_slot, has_region_slot, generating_of}
@@ -81,7 +81,7 @@ pub record KeepsTaskSlot (w : List ℕ) (s : State) (owes : ℕ → Owed) (i slo
   pub live : (t : Task) → (s.tasks i slot).live ≡ Some t
       → KeepsTask w s owes (task_in i slot (s.tasks i slot)) r t
 
-pub record KeepsMade (w : List ℕ) (s : State) (owes : ℕ → Owed) (i : ℕ) (made : Made) : Type 0 where
+pub record KeepsMade (w : List ℕ) (s : State) (owes : ℕ → Owed) (i : ℕ) (made : MadeRecords) : Type 0 where
   pub thread : KeepsThread w i (made threads 0) (s.threads i)
   pub assign : KeepsAssign w s owes i (made threads 0)
   pub regions : (slot : ℕ) → slot < per_thread w regions

@@ -18,7 +18,7 @@ use Rattle.omi_script.specs.declared.limits.TheConstants.{MAX_CHUNK, MAX_DEVICE,
 use Rattle.omi_script.specs.declared.line.HeadLine.{HeadLine}
 use Rattle.omi_script.specs.declared.parser.ParserState.{ParserState}
 use Rattle.omi_script.specs.declared.statement.Sched.{Sched}
-use Rattle.omi_script.specs.declared.line.Line.TheVariants as line
+use Rattle.omi_script.specs.declared.line.SourceLine.TheVariants as line
 use Rattle.omi_script.specs.declared.line.HeadLine.TheVariants.{Threads, NumThreads, Dynamic, MaxActive, Schedule, Device, Debug, Procs}
 use Rattle.omi_script.proofs.Conjunctions.{and_right}
 use Rattle.omi_script.proofs.RangeLemmas.{EnvTests, env_tests}

@@ -17,11 +17,11 @@ use Rattle.omi_script.specs.Reach.{Reach, is_allowed, names_rightly, reaches}
 use Rattle.omi_script.specs.declared.function.Func.{Func}
 use Rattle.omi_script.specs.declared.head.Head.{Head}
 use Rattle.omi_script.specs.declared.limits.TheConstants.{MAX_STATEMENTS}
-use Rattle.omi_script.specs.declared.line.Line.{Line}
+use Rattle.omi_script.specs.declared.line.SourceLine.{SourceLine}
 use Rattle.omi_script.specs.declared.name.Name.{Name}
 use Rattle.omi_script.specs.declared.parser.ParserState.{ParserState}
 use Rattle.omi_script.specs.declared.statement.Stmt.{Stmt}
-use Rattle.omi_script.specs.declared.line.Line.TheVariants as line
+use Rattle.omi_script.specs.declared.line.SourceLine.TheVariants as line
 use Rattle.omi_script.proofs.Conjunctions.{and_left, and_right}
 use Rattle.omi_script.proofs.StateLemmas.{length-reaches}
 use Rattle.omi_script.proofs.NamingLemmas.{IsBelow, named_above, rightly_no_task, rightly_no_nest, rightly_not_deep}
@@ -55,7 +55,7 @@ named_first closed more k named distinct l =
     (ap is_plain name ∙ plain_name (text_of (f.0).name) f.2, ap (λ w. position (is_called w) closed) name ∙ position_of closed k f.0 distinct f.1)
 
 -- a line that says a statement which may stand there leads after it
-says_leads : (state : ParserState) (ws : List (List ℕ)) (bytes : List ℕ) (l : Line) (s : Stmt) → IsLineOf ws bytes → line_of ws ≡ Some l
+says_leads : (state : ParserState) (ws : List (List ℕ)) (bytes : List ℕ) (l : SourceLine) (s : Stmt) → IsLineOf ws bytes → line_of ws ≡ Some l
     → may_stand state l ≡ true → has_bad_number l ≡ false → has_unknown_name state l ≡ false → is_repeated state l ≡ false → statement_of_line state l ≡ Some s
     → is_over_limit state l ≡ (nat_le MAX_STATEMENTS (statements_above state) || says_such is_too_deep state l) → after_line state l ≡ after_statement state (statement_of_line state l)
     → statements_above state < MAX_STATEMENTS → names_rightly (reaches [] state.closed) s ≡ true → LineLeads state bytes (after_statement state (Some s))
@@ -95,7 +95,7 @@ statement_leads head closed more name done s named distinct allowed room = by_na
         let found = named_first closed more f named distinct (omega arith) in
         let again = over_again s f is in
         let Plain : Option ℕ → Type 0 = λ o. IfSome o (λ g. is_plain (name_at (closed ++ more) g) ≡ true) in
-        let l : Line = line.Construct (name_at (closed ++ more) f) (Some again.0) in
+        let l : SourceLine = line.Construct (name_at (closed ++ more) f) (Some again.0) in
         let says : line_of (statement_words (closed ++ more) s) ≡ Some (line.Construct (name_at (closed ++ more) f) (Some again.0)) =
         said (closed ++ more) s (and_left (is_in_range s) (names_rightly (reaches [] closed) s) allowed)
         ∙ ap (λ o. Some (option_map_or (λ g. line.Construct (name_at (closed ++ more) g) (construct_of s)) o (line.StandAlone (Some s)))) is

@@ -9,14 +9,14 @@ use Rattle.omi_script.specs.Lines.{words}
 use Rattle.omi_script.specs.ParserState.{parser_after, after_line, line_in, may_stand}
 use Rattle.omi_script.specs.Verdict.{Accepts, judge, refused_or}
 use Rattle.omi_script.specs.declared.fault.Why.{Why}
-use Rattle.omi_script.specs.declared.line.Line.{Line}
+use Rattle.omi_script.specs.declared.line.SourceLine.{SourceLine}
 use Rattle.omi_script.specs.declared.parser.ParserState.{ParserState}
 use Rattle.omi_script.specs.declared.fault.Why.TheVariants.{NotText, UnknownWord, BadNumber, UnknownName, Repeated, BarrierInTask, BarrierNested, OverLimit, NoMain, Unclosed}
 use Rattle.omi_script.proofs.CanonicalLines.{is_printed, IsLineOf, text_from_printed}
 use Rattle.omi_script.proofs.Conjunctions.{and_true}
 
 -- what a line says has no fault there
-pub record IsFaultless (state : ParserState) (s : Line) : Type 0 where
+pub record IsFaultless (state : ParserState) (s : SourceLine) : Type 0 where
   pub stands : may_stand state s ≡ true
   pub number : has_bad_number s ≡ false
   pub name : has_unknown_name state s ≡ false
@@ -38,12 +38,12 @@ not_found : (has : Why → Bool) (w : Why) (ws : List Why) → has w ≡ false �
 not_found has w ws h k = ap (λ b. cond b (Some w) (find has ws)) h ∙ k
 
 -- a line that says what has no fault has none
-pub line_leads : (state : ParserState) (ws : List (List ℕ)) (line : List ℕ) (s : Line) → IsLineOf ws line → line_of ws ≡ Some s → IsFaultless state s → LineLeads state line (after_line state s)
+pub line_leads : (state : ParserState) (ws : List (List ℕ)) (line : List ℕ) (s : SourceLine) → IsLineOf ws line → line_of ws ≡ Some s → IsFaultless state s → LineLeads state line (after_line state s)
 line_leads state ws line s l e f =
     let has : Why → Bool = has_fault state line in
     let read : line_of (words line) ≡ Some s = ap line_of l.words ∙ e in
     let at : line_in state line ≡ Some s = ap (option_and_then (λ x. if may_stand state x then Some x else None)) read ∙ ap (λ b. if b then Some s else None) f.stands in
-    let said : (test : Line → Bool) → test s ≡ false → if_said test state line ≡ false = λ test h. ap (λ o. option_map_or test o false) at ∙ h in
+    let said : (test : SourceLine → Bool) → test s ≡ false → if_said test state line ≡ false = λ test h. ap (λ o. option_map_or test o false) at ∙ h in
     let ws9 : List Why = NoMain ∷ Unclosed ∷ [] in
     let ws8 : List Why = OverLimit ∷ ws9 in
     let ws7 : List Why = BarrierNested ∷ ws8 in

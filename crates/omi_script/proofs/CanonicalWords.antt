@@ -6,7 +6,7 @@ use Rattle.std.specs.List.{list_all}
 use Rattle.std.specs.Option.{option_map, option_map_or}
 use Rattle.std.proofs.lemmas.Bool.{le-leb}
 use Rattle.std.proofs.lemmas.Bool.Decides.{nat_tests}
-use Rattle.omi_script.specs.declared.line.Line.TheVariants as line
+use Rattle.omi_script.specs.declared.line.SourceLine.TheVariants as line
 use Rattle.omi_script.specs.declared.statement.Construct.TheVariants as construct
 use Rattle.omi_script.specs.declared.statement.Stmt.TheVariants.{Parallel, Task, Critical, Call, Only, Repeat, SetNumThreads, SetDynamic, SetMaxActive, SetSchedule, SetDevice, Tool}
 use Rattle.omi_script.specs.Bodies.{name_at, named_by}
@@ -18,7 +18,7 @@ use Rattle.omi_script.specs.Numbers.{number_of}
 use Rattle.omi_script.specs.Ranges.{is_in_range}
 use Rattle.omi_script.specs.declared.function.Func.{Func}
 use Rattle.omi_script.specs.declared.limits.TheConstants.{MAX_CHUNK, MAX_DEVICE, MAX_LEVELS, MAX_LOCK, MAX_MEMBER, MAX_NAME, MAX_REPEATS, MAX_SIZE}
-use Rattle.omi_script.specs.declared.line.Line.{Line}
+use Rattle.omi_script.specs.declared.line.SourceLine.{SourceLine}
 use Rattle.omi_script.specs.declared.statement.Construct.{Construct}
 use Rattle.omi_script.specs.declared.statement.Stmt.{Stmt}
 use Rattle.omi_script.proofs.Conjunctions.{and_left, and_right, and_true}
@@ -36,7 +36,7 @@ construct_of (Repeat n f) = Some (construct.Repeat n)
 construct_of _ = None
 
 -- the line of a statement: its construct over the name of its function, or the statement alone
-abbrev pub line_of_statement : List Func → Stmt → Line
+abbrev pub line_of_statement : List Func → Stmt → SourceLine
 line_of_statement funcs s = option_map_or (λ f. line.Construct (name_at funcs f) (construct_of s)) (named_by s) (line.StandAlone (Some s))
 
 -- a statement that names a function is its construct over that function

@@ -15,6 +15,7 @@ pub mod SoundLines
 pub mod SoundVerdicts
 pub mod SoundPrograms
 pub mod VerdictLemmas
+pub mod OneProgram
 -- The parser answers what the definition says.
 pub mod ReachLemmas
 pub mod ParserLemmas

@@ -5,7 +5,7 @@ use Rattle.std.specs.Prelude.{bytes_eq, codes, nat_le, is_some}
 use Rattle.std.specs.List.{slice_split}
 use Rattle.std.specs.Option.{option_map}
 use Rattle.omi_script.specs.declared.line.HeadLine.TheVariants.{Threads, NumThreads, Dynamic, MaxActive, Schedule, Device, Debug, Procs}
-use Rattle.omi_script.specs.declared.line.Line.TheVariants as line
+use Rattle.omi_script.specs.declared.line.SourceLine.TheVariants as line
 use Rattle.omi_script.specs.declared.statement.Construct.TheVariants as construct
 use Rattle.omi_script.specs.declared.statement.Stmt.TheVariants.{Taskwait, Taskyield, Barrier, SetNumThreads, SetDynamic, SetMaxActive, SetSchedule, SetDevice, Tool, Work}
 use Rattle.omi_script.specs.Bodies.{named_by}
@@ -20,7 +20,7 @@ use Rattle.omi_script.specs.StatementLines.{bare_line, call_line, critical_line,
 use Rattle.omi_script.specs.declared.head.Head.{Head}
 use Rattle.omi_script.specs.declared.limits.TheConstants.{MAX_CHUNK, MAX_DEVICE, MAX_LEVELS, MAX_LOCK, MAX_MEMBER, MAX_PROCS, MAX_REPEATS, MAX_SIZE, MAX_THREADS}
 use Rattle.omi_script.specs.declared.line.HeadLine.{HeadLine}
-use Rattle.omi_script.specs.declared.line.Line.{Line}
+use Rattle.omi_script.specs.declared.line.SourceLine.{SourceLine}
 use Rattle.omi_script.specs.declared.statement.Construct.{Construct}
 use Rattle.omi_script.specs.declared.statement.Stmt.{Stmt}
 use Rattle.omi_script.proofs.Conjunctions.{and_true}
@@ -72,7 +72,7 @@ abbrev pub is_construct_in_range : Construct → Bool
 is_construct_in_range c = is_in_range (over c 0)
 
 -- a line whose numbers are in their ranges
-abbrev pub is_line_in_range : Line → Bool
+abbrev pub is_line_in_range : SourceLine → Bool
 is_line_in_range line.Blank = true
 is_line_in_range (line.Head h) = is_head_in_range h
 is_line_in_range (line.Function name) = true
@@ -80,10 +80,10 @@ is_line_in_range (line.Construct name c) = passes is_construct_in_range c
 is_line_in_range (line.StandAlone s) = passes is_alone_in_range s
 is_line_in_range line.End = true
 
-abbrev pub is_good : Option Line → Bool
+abbrev pub is_good : Option SourceLine → Bool
 is_good o = passes is_line_in_range o
 
-chosen : (b : Bool) (x y : Option Line) → is_good x ≡ true → is_good y ≡ true → is_good (if b then x else y) ≡ true
+chosen : (b : Bool) (x y : Option SourceLine) → is_good x ≡ true → is_good y ≡ true → is_good (if b then x else y) ≡ true
 chosen true x y h k = h
 chosen false x y h k = k
 

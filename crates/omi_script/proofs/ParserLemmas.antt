@@ -11,14 +11,14 @@ use Rattle.omi_script.specs.ParserState.{parser_after, after_line, line_in, may_
 use Rattle.omi_script.specs.SaidFaults.{has_said_fault}
 use Rattle.omi_script.specs.declared.fault.LineError.{LineError}
 use Rattle.omi_script.specs.declared.fault.Why.{Why}
-use Rattle.omi_script.specs.declared.line.Line.{Line}
+use Rattle.omi_script.specs.declared.line.SourceLine.{SourceLine}
 use Rattle.omi_script.specs.declared.parser.Parser.{Parser}
 use Rattle.omi_script.specs.declared.parser.ParserState.{ParserState}
 use Rattle.omi_script.specs.declared.fault.LineError.TheVariants.{Fault, OutOfMemory}
 use Rattle.omi_script.specs.declared.fault.Why.TheVariants.{NotText, UnknownWord, BadNumber, UnknownName, Repeated, BarrierInTask, BarrierNested, OverLimit}
 
 -- the least fault of a line whose bytes are text, by what it says in its state
-abbrev least_said : ParserState → Option Line → Option Why
+abbrev least_said : ParserState → Option SourceLine → Option Why
 least_said state o =
     cond (not (is_some o)) (Some UnknownWord)
     (cond (option_map_or has_bad_number o false) (Some BadNumber)
@@ -48,7 +48,7 @@ unknown_alone has other next to (Err (Fault why)) e f h = e ∙ sym f ∙ h
 unknown_alone has other next to (Err OutOfMemory) e f h = tt
 
 -- the answer at a line of text, from that at what it says
-pub line_answer : (state : ParserState) (bytes : List ℕ) (s : Line) (r : Result Parser LineError) → list_all is_text bytes ≡ true → line_of (words bytes) ≡ Some s → AnswersSaid state s r → Answers (has_fault state bytes) (parser_after state bytes) r
+pub line_answer : (state : ParserState) (bytes : List ℕ) (s : SourceLine) (r : Result Parser LineError) → list_all is_text bytes ≡ true → line_of (words bytes) ≡ Some s → AnswersSaid state s r → Answers (has_fault state bytes) (parser_after state bytes) r
 line_answer state bytes s r text says h = by_test (may_stand state s) refl
   where
     at : line_in state bytes ≡ (if may_stand state s then Some s else None)

@@ -15,12 +15,12 @@ use Rattle.omi_script.specs.Ranges.{is_in_range}
 use Rattle.omi_script.specs.Reach.{Reach, is_allowed, names_rightly, reaches}
 use Rattle.omi_script.specs.declared.function.Func.{Func}
 use Rattle.omi_script.specs.declared.limits.TheConstants.{MAX_FUNCTIONS, MAX_NAME, MAX_STATEMENTS}
-use Rattle.omi_script.specs.declared.line.Line.{Line}
+use Rattle.omi_script.specs.declared.line.SourceLine.{SourceLine}
 use Rattle.omi_script.specs.declared.parser.ParserState.{ParserState}
 use Rattle.omi_script.specs.declared.statement.Construct.{Construct}
 use Rattle.omi_script.specs.declared.statement.Stmt.{Stmt}
 use Rattle.omi_script.proofs.Conjunctions.{and_left, and_right, and_true}
-use Rattle.omi_script.specs.declared.line.Line.TheVariants as line
+use Rattle.omi_script.specs.declared.line.SourceLine.TheVariants as line
 use Rattle.omi_script.proofs.RangeLemmas.{passes}
 use Rattle.omi_script.proofs.LineRanges.{is_line_in_range, is_construct_in_range, is_alone_in_range, range_over, named_over}
 use Rattle.omi_script.proofs.StateLemmas.{length-reaches}
@@ -86,7 +86,7 @@ function_sound state name s is named new few =
     }
 
 -- after a statement's line
-statement_line_sound : (state : ParserState) (l : Line) (t : Stmt) → IsSoundState state → is_some state.opened ≡ true → statement_of_line state l ≡ Some t → is_in_range t ≡ true → IsBelow (length state.closed) (named_by t)
+statement_line_sound : (state : ParserState) (l : SourceLine) (t : Stmt) → IsSoundState state → is_some state.opened ≡ true → statement_of_line state l ≡ Some t → is_in_range t ≡ true → IsBelow (length state.closed) (named_by t)
     → says_such is_task_with_barrier state l ≡ false → says_such nests_barrier state l ≡ false → (nat_le MAX_STATEMENTS (statements_above state) || says_such is_too_deep state l) ≡ false → IsSoundState (after_statement state (statement_of_line state l))
 statement_line_sound state l t sound opened at range named task nested over_limit =
     let above : List Reach = reaches [] state.closed in
@@ -127,7 +127,7 @@ alone_sound state s sound good opened said task nested over_limit =
     statement_line_sound state (line.StandAlone s) t.0 sound opened t.1 (and_left (is_in_range t.0) (not (is_some (named_by t.0))) tests) (subst Below (sym none) tt) task nested over_limit
 
 -- after what a line says
-pub said_sound : (state : ParserState) (l : Line) → IsSoundState state → is_line_in_range l ≡ true → may_stand state l ≡ true → has_bad_number l ≡ false → has_unknown_name state l ≡ false → is_repeated state l ≡ false
+pub said_sound : (state : ParserState) (l : SourceLine) → IsSoundState state → is_line_in_range l ≡ true → may_stand state l ≡ true → has_bad_number l ≡ false → has_unknown_name state l ≡ false → is_repeated state l ≡ false
     → says_such is_task_with_barrier state l ≡ false → says_such nests_barrier state l ≡ false → is_over_limit state l ≡ false → IsSoundState (after_line state l)
 said_sound state line.Blank sound good stands number name repeated task nested over_limit = sound
 said_sound state (line.Head h) sound good stands number name repeated task nested over_limit = head_sound state h good sound

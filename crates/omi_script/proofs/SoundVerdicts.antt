@@ -9,7 +9,7 @@ use Rattle.omi_script.specs.ParserState.{parser_after, after_line, first_state, 
 use Rattle.omi_script.specs.Verdict.{Accepts, Refuses, Verdict, judge, refused_or, verdict}
 use Rattle.omi_script.specs.declared.fault.Why.{Why}
 use Rattle.omi_script.specs.declared.limits.TheConstants.{MAX_BYTES}
-use Rattle.omi_script.specs.declared.line.Line.{Line}
+use Rattle.omi_script.specs.declared.line.SourceLine.{SourceLine}
 use Rattle.omi_script.specs.declared.parser.ParserState.{ParserState}
 use Rattle.omi_script.specs.declared.fault.Why.TheVariants.{NotText, UnknownWord, BadNumber, UnknownName, Repeated, BarrierInTask, BarrierNested, OverLimit, NoMain, Unclosed}
 use Rattle.omi_script.proofs.LineRanges.{is_good, is_line_in_range, line_good}
@@ -17,7 +17,7 @@ use Rattle.omi_script.proofs.StateLemmas.{step}
 use Rattle.omi_script.proofs.SoundStates.{IsSoundState}
 use Rattle.omi_script.proofs.SoundLines.{some_of, yes, said_sound}
 
-at_state : (state : ParserState) (o : Option Line) (l : Line) → is_good o ≡ true → option_and_then (λ x. if may_stand state x then Some x else None) o ≡ Some l → (is_line_in_range l ≡ true) × (may_stand state l ≡ true)
+at_state : (state : ParserState) (o : Option SourceLine) (l : SourceLine) → is_good o ≡ true → option_and_then (λ x. if may_stand state x then Some x else None) o ≡ Some l → (is_line_in_range l ≡ true) × (may_stand state l ≡ true)
 at_state state None l good e = absurd (cc)
 at_state state (Some x) l good e = by_test (may_stand state x) refl
   where
@@ -47,7 +47,7 @@ after_sound state bytes sound e =
     let f7 = step has BarrierNested from8 f6.1 in
     let f8 = step has OverLimit (NoMain ∷ Unclosed ∷ []) f7.1 in
     let s = some_of (line_in state bytes) (yes (is_some (line_in state bytes)) f2.0) in
-    let said : (test : Line → Bool) → option_map_or test (line_in state bytes) false ≡ false → test s.0 ≡ false = λ test h. sym (ap (λ o. option_map_or test o false) s.1) ∙ h in
+    let said : (test : SourceLine → Bool) → option_map_or test (line_in state bytes) false ≡ false → test s.0 ≡ false = λ test h. sym (ap (λ o. option_map_or test o false) s.1) ∙ h in
     let good = at_state state (line_of (words bytes)) s.0 (line_good (words bytes)) s.1 in
     let to : parser_after state bytes ≡ after_line state s.0 = ap (λ o. option_map_or (after_line state) o state) s.1 in
     subst IsSoundState (sym to)

@@ -10,27 +10,27 @@ use Rattle.omi_script.specs.ParserState.{line_in, is_called, statement_of_line, 
 use Rattle.omi_script.specs.declared.fault.Why.{Why}
 use Rattle.omi_script.specs.declared.fault.Why.TheVariants.{NotText, UnknownWord, BadNumber, UnknownName, Repeated, BarrierInTask, BarrierNested, OverLimit, NoMain, Unclosed}
 use Rattle.omi_script.specs.declared.limits.TheConstants.{MAX_FUNCTIONS, MAX_STATEMENTS, MAX_DEPTH}
-use Rattle.omi_script.specs.declared.line.Line.{Line}
-use Rattle.omi_script.specs.declared.line.Line.TheVariants.{Head, Function, Construct, StandAlone}
+use Rattle.omi_script.specs.declared.line.SourceLine.{SourceLine}
+use Rattle.omi_script.specs.declared.line.SourceLine.TheVariants.{Head, Function, Construct, StandAlone}
 use Rattle.omi_script.specs.declared.parser.ParserState.{ParserState}
 use Rattle.omi_script.specs.declared.statement.Stmt.{Stmt}
 use Rattle.omi_script.specs.declared.statement.Stmt.TheVariants.{Parallel, Task, Critical, Only}
 
 -- a number is not in its range, or is none
-abbrev pub has_bad_number : Line → Bool
+abbrev pub has_bad_number : SourceLine → Bool
 has_bad_number (Head h) = not (has_number h)
 has_bad_number (Construct name c) = not (is_some c)
 has_bad_number (StandAlone s) = not (is_some s)
 has_bad_number _ = false
 
 -- a function's name has not the form of one, or a statement names no closed function
-abbrev pub has_unknown_name : ParserState → Line → Bool
+abbrev pub has_unknown_name : ParserState → SourceLine → Bool
 has_unknown_name state (Function name) = not (is_name_text name)
 has_unknown_name state (Construct name c) = not (is_some (position (is_called name) state.closed))
 has_unknown_name state _ = false
 
 -- a head line of the kind, or a function of the name, stands above
-abbrev pub is_repeated : ParserState → Line → Bool
+abbrev pub is_repeated : ParserState → SourceLine → Bool
 is_repeated state (Head h) = stands_above state.head h
 is_repeated state (Function name) = list_any (is_called name) state.closed
 is_repeated state _ = false
@@ -52,24 +52,24 @@ is_too_deep above (Parallel f num) = nat_le MAX_DEPTH (reach_at above f).depth
 is_too_deep above _ = false
 
 -- the line says a statement of which this holds
-abbrev pub says_such : (List Reach → Stmt → Bool) → ParserState → Line → Bool
+abbrev pub says_such : (List Reach → Stmt → Bool) → ParserState → SourceLine → Bool
 says_such test state line =
     option_map_or (test (reaches [] state.closed)) (statement_of_line state line) false
 
 -- a statement more than a script may have, or a region that is nested too deep
-abbrev pub is_statement_over_limit : ParserState → Line → Bool
+abbrev pub is_statement_over_limit : ParserState → SourceLine → Bool
 is_statement_over_limit state line =
     nat_le MAX_STATEMENTS (statements_above state) || says_such is_too_deep state line
 
 -- a function more than a script may have, or such a statement
-abbrev pub is_over_limit : ParserState → Line → Bool
+abbrev pub is_over_limit : ParserState → SourceLine → Bool
 is_over_limit state (Function name) = nat_le MAX_FUNCTIONS (length state.closed)
 is_over_limit state (Construct name c) = is_statement_over_limit state (Construct name c)
 is_over_limit state (StandAlone s) = is_statement_over_limit state (StandAlone s)
 is_over_limit state _ = false
 
 -- a fact of what the line says in a state, false where that is nothing
-abbrev pub if_said : (Line → Bool) → ParserState → List ℕ → Bool
+abbrev pub if_said : (SourceLine → Bool) → ParserState → List ℕ → Bool
 if_said test state bytes = option_map_or test (line_in state bytes) false
 
 -- the line has this fault. NoMain and Unclosed are faults of the text's end

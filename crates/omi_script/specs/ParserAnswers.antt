@@ -10,7 +10,7 @@ use Rattle.omi_script.specs.declared.program.Program.{Program}
 use Rattle.omi_script.specs.declared.fault.LineError.{LineError}
 use Rattle.omi_script.specs.declared.fault.LineError.TheVariants.{Fault, OutOfMemory}
 use Rattle.omi_script.specs.declared.fault.Why.{Why}
-use Rattle.omi_script.specs.declared.line.Line.{Line}
+use Rattle.omi_script.specs.declared.line.SourceLine.{SourceLine}
 use Rattle.omi_script.specs.declared.parser.Parser.{Parser}
 use Rattle.omi_script.specs.declared.parser.ParserState.{ParserState}
 use Rattle.omi_script.specs.declared.statement.Stmt.{Stmt}
@@ -23,7 +23,7 @@ Answers has next (Err (Fault why)) = least has ≡ Some why
 Answers has next (Err OutOfMemory) = Unit {0}
 
 -- the answer at a line of text that says this
-abbrev pub AnswersSaid : ParserState → Line → Result Parser LineError → Type 0
+abbrev pub AnswersSaid : ParserState → SourceLine → Result Parser LineError → Type 0
 AnswersSaid state line = Answers (has_said_fault state line) (after_line state line)
 
 -- the answer at a line that says this statement of the open function

@@ -8,8 +8,8 @@ use Rattle.omi_script.specs.HeadLines.{head_after}
 use Rattle.omi_script.specs.Line.{line_of}
 use Rattle.omi_script.specs.declared.function.Func.{Func}
 use Rattle.omi_script.specs.declared.head.Head.{Head}
-use Rattle.omi_script.specs.declared.line.Line.{Line}
-use Rattle.omi_script.specs.declared.line.Line.TheVariants as line
+use Rattle.omi_script.specs.declared.line.SourceLine.{SourceLine}
+use Rattle.omi_script.specs.declared.line.SourceLine.TheVariants as line
 use Rattle.omi_script.specs.declared.parser.ParserState.{ParserState}
 use Rattle.omi_script.specs.declared.statement.Stmt.{Stmt}
 
@@ -33,7 +33,7 @@ first_state = record { head = no_head; closed = []; opened = None }
 
 -- such a line may stand there: a head line before the first function, a function outside of one,
 -- its statements and its end inside
-abbrev pub may_stand : ParserState → Line → Bool
+abbrev pub may_stand : ParserState → SourceLine → Bool
 may_stand state line.Blank = true
 may_stand state (line.Head h) = not (is_some state.opened) && length state.closed == 0
 may_stand state (line.Function name) = not (is_some state.opened)
@@ -42,7 +42,7 @@ may_stand state (line.StandAlone s) = is_some state.opened
 may_stand state line.End = is_some state.opened
 
 -- what a line says in a state. None where it has none of the shapes that are allowed there
-abbrev pub line_in : ParserState → List ℕ → Option Line
+abbrev pub line_in : ParserState → List ℕ → Option SourceLine
 line_in state bytes =
     option_and_then (λ l. if may_stand state l then Some l else None) (line_of (words bytes))
 
@@ -52,7 +52,7 @@ is_called name f = bytes_eq (text_of f.name) name
 
 -- the statement of a line. None where it is none, a number is not in its range, or no closed
 -- function has the name
-abbrev pub statement_of_line : ParserState → Line → Option Stmt
+abbrev pub statement_of_line : ParserState → SourceLine → Option Stmt
 statement_of_line state (line.Construct name c) =
     option_and_then (λ d. option_map (over d) (position (is_called name) state.closed)) c
 statement_of_line state (line.StandAlone s) = s
@@ -73,7 +73,7 @@ after_statement state s =
     record state { opened = option_and_then (λ f. option_map (with_statement f) s) state.opened }
 
 -- the state after a line that says this
-abbrev pub after_line : ParserState → Line → ParserState
+abbrev pub after_line : ParserState → SourceLine → ParserState
 after_line state line.Blank = state
 after_line state (line.Head h) = record state { head = head_after state.head h }
 after_line state (line.Function name) =

@@ -6,12 +6,12 @@ use Rattle.omi_script.specs.Reach.{Reach}
 use Rattle.omi_script.specs.declared.fault.Why.{Why}
 use Rattle.omi_script.specs.declared.fault.Why.TheVariants.{NotText, UnknownWord, BadNumber, UnknownName, Repeated, BarrierInTask, BarrierNested, OverLimit, NoMain, Unclosed}
 use Rattle.omi_script.specs.declared.limits.TheConstants.{MAX_STATEMENTS}
-use Rattle.omi_script.specs.declared.line.Line.{Line}
+use Rattle.omi_script.specs.declared.line.SourceLine.{SourceLine}
 use Rattle.omi_script.specs.declared.parser.ParserState.{ParserState}
 use Rattle.omi_script.specs.declared.statement.Stmt.{Stmt}
 
 -- a line that says this has this fault
-abbrev pub has_said_fault : ParserState → Line → Why → Bool
+abbrev pub has_said_fault : ParserState → SourceLine → Why → Bool
 has_said_fault state line NotText = false
 has_said_fault state line UnknownWord = not (may_stand state line)
 has_said_fault state line BadNumber = has_bad_number line

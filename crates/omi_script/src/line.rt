@@ -1,6 +1,6 @@
 //! What a line says, by its words alone.
 ghost use Rattle.std.specs.Prelude.{◌≡◌, ◌<◌, length, option_map, IfOk};
-ghost use Rattle.omi_script.specs.declared.line.Line.TheVariants.{Head};
+ghost use Rattle.omi_script.specs.declared.line.SourceLine.TheVariants.{Head};
 ghost use Rattle.omi_script.specs.Lines.{words};
 ghost use Rattle.omi_script.specs.Line.{begins_comment, function_line, closing_line, line_by, line_of};
 
@@ -34,7 +34,7 @@ pub enum HeadLine {
 
 /// What a line says by its words alone.
 #[derive(Drop)]
-pub enum Line<'a> {
+pub enum SourceLine<'a> {
     /// No words, or a comment.
     Blank,
     Head(HeadLine),
@@ -49,32 +49,32 @@ pub enum Line<'a> {
 }
 
 /// `func NAME`
-fn function<'a>(words: &mut Words<'a>) -> Option<Line<'a>>
+fn function<'a>(words: &mut Words<'a>) -> Option<SourceLine<'a>>
     ensures { result ≡ function_line words.old }
 {
     let name = words.next()?;
     match words.next() {
-        None => Some(Line::Function(Word::new(name))),
+        None => Some(SourceLine::Function(Word::new(name))),
         Some(_) => None,
     }
 }
 
 /// `end`
-fn end<'a>(words: &mut Words<'a>) -> Option<Line<'a>>
+fn end<'a>(words: &mut Words<'a>) -> Option<SourceLine<'a>>
     ensures { result ≡ closing_line words.old }
 {
     match words.next() {
-        None => Some(Line::End),
+        None => Some(SourceLine::End),
         Some(_) => None,
     }
 }
 
 /// A head line as a line.
-fn head<'a>(line: Option<HeadLine>) -> Option<Line<'a>>
+fn head<'a>(line: Option<HeadLine>) -> Option<SourceLine<'a>>
     ensures { result ≡ option_map Head line }
 {
     match line {
-        Some(line) => Some(Line::Head(line)),
+        Some(line) => Some(SourceLine::Head(line)),
         None => None,
     }
 }
@@ -85,7 +85,7 @@ fn line_by<'a>(
     alloc: Global,
     first: &[u8],
     words: &mut Words<'a>,
-) -> Result<Option<Line<'a>>, OutOfMemory>
+) -> Result<Option<SourceLine<'a>>, OutOfMemory>
     ensures { IfOk result (λ line. line ≡ line_by first.now words.old) }
 {
     if first == b"threads".as_slice() {
@@ -109,12 +109,12 @@ fn begins_comment(first: &[u8]) -> bool
 }
 
 /// What a line says. None where it has no shape.
-pub fn line_of<'a>(alloc: Global, bytes: &'a [u8]) -> Result<Option<Line<'a>>, OutOfMemory>
+pub fn line_of<'a>(alloc: Global, bytes: &'a [u8]) -> Result<Option<SourceLine<'a>>, OutOfMemory>
     ensures { IfOk result (λ line. line ≡ line_of (words bytes.now)) }
 {
     let mut words = Words::new(bytes);
     match words.next() {
         Some(first) if !begins_comment(first) => line_by(alloc, first, &mut words),
-        _ => Ok(Some(Line::Blank)),
+        _ => Ok(Some(SourceLine::Blank)),
     }
 }

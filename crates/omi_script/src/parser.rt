@@ -6,7 +6,7 @@ use crate::closed::Closed;
 use crate::fault::LineError;
 use crate::head::Head;
 use crate::limits::MAX_FUNCTIONS;
-use crate::line::{HeadLine, Line, line_of};
+use crate::line::{HeadLine, SourceLine, line_of};
 use crate::pieces::are_text;
 use crate::statement::Construct;
 use crate::statement_faults::statement_fault;
@@ -39,7 +39,7 @@ impl Parser {
     ghost use Rattle.omi_script.specs.ParserState.{first_state, parser_after, is_called};
     ghost use Rattle.omi_script.specs.LineFaults.{has_fault, has_end_fault, least};
     ghost use Rattle.omi_script.specs.ParserAnswers.{Answers, AnswersSaid, AnswersStatement, MayEnd, EndAnswers};
-    ghost use Rattle.omi_script.specs.declared.line.Line.TheVariants as says;
+    ghost use Rattle.omi_script.specs.declared.line.SourceLine.TheVariants as says;
 
     /// The state before the first line.
     pub fn first(alloc: Global) -> Parser
@@ -178,16 +178,16 @@ impl Parser {
     }
 
     /// Reads a line that says this.
-    fn line(self, alloc: Global, line: Line) -> Result<Parser, LineError>
+    fn line(self, alloc: Global, line: SourceLine) -> Result<Parser, LineError>
         ensures { AnswersSaid self.state line.entry result }
     {
         match line {
-            Line::Blank => Ok(self),
-            Line::Head(line) => self.head(line),
-            Line::Function(name) => self.function(alloc, name.bytes()),
-            Line::Construct(name, construct) => self.construct(name.bytes(), construct),
-            Line::StandAlone(statement) => self.stand_alone(statement),
-            Line::End => self.end(),
+            SourceLine::Blank => Ok(self),
+            SourceLine::Head(line) => self.head(line),
+            SourceLine::Function(name) => self.function(alloc, name.bytes()),
+            SourceLine::Construct(name, construct) => self.construct(name.bytes(), construct),
+            SourceLine::StandAlone(statement) => self.stand_alone(statement),
+            SourceLine::End => self.end(),
         }
     }
 

@@ -5,48 +5,48 @@ ghost use Rattle.omi_script.specs.StatementLines.{parallel_line, task_construct,
 use crate::Stmt;
 use crate::head_lines::schedule;
 use crate::limits::{MAX_DEVICE, MAX_LEVELS, MAX_LOCK, MAX_MEMBER, MAX_REPEATS, MAX_SIZE};
-use crate::line::Line;
+use crate::line::SourceLine;
 use crate::numbers::{number, number_u8, number_u16};
 use crate::pieces::{Word, Words};
 use crate::statement::Construct;
 use omi_numbers::kind_number;
 
 /// `parallel F` or `parallel F num N`
-fn parallel<'a>(words: &mut Words<'a>) -> Option<Line<'a>>
+fn parallel<'a>(words: &mut Words<'a>) -> Option<SourceLine<'a>>
     ensures { result ≡ parallel_line words.old }
 {
     let f = words.next()?;
     let Some(word) = words.next() else {
-        return Some(Line::Construct(Word::new(f), Some(Construct::Parallel { num: None })));
+        return Some(SourceLine::Construct(Word::new(f), Some(Construct::Parallel { num: None })));
     };
     let n = words.next()?;
     match words.next() {
         None if word == b"num".as_slice() => {
             let construct = number_u8(n, 1, MAX_SIZE).map(|n| Construct::Parallel { num: Some(n) });
-            Some(Line::Construct(Word::new(f), construct))
+            Some(SourceLine::Construct(Word::new(f), construct))
         }
         _ => None,
     }
 }
 
 /// A task over a function, with what stands behind `if` and behind `final`.
-fn task_of(f: &[u8], deferred: Option<u8>, last: Option<u8>) -> Line<'_>
+fn task_of(f: &[u8], deferred: Option<u8>, last: Option<u8>) -> SourceLine<'_>
     ensures { result ≡ task_construct f.now deferred last }
 {
     match (deferred, last) {
-        (Some(deferred), Some(last)) => Line::Construct(
+        (Some(deferred), Some(last)) => SourceLine::Construct(
             Word::new(f),
             Some(Construct::Task {
                 undeferred: deferred == 0,
                 is_final: last == 1,
             }),
         ),
-        _ => Line::Construct(Word::new(f), None),
+        _ => SourceLine::Construct(Word::new(f), None),
     }
 }
 
 /// `task F if B` or `task F final B`
-fn task_with_one<'a>(f: &'a [u8], word: &[u8], b: &[u8]) -> Option<Line<'a>>
+fn task_with_one<'a>(f: &'a [u8], word: &[u8], b: &[u8]) -> Option<SourceLine<'a>>
     ensures { result ≡ task_construct_line (f.now ∷ word.now ∷ b.now ∷ []) }
 {
     if word == b"if".as_slice() {
@@ -65,7 +65,7 @@ fn task_with_both<'a>(
     b: &[u8],
     other: &[u8],
     c: &[u8],
-) -> Option<Line<'a>>
+) -> Option<SourceLine<'a>>
     ensures { result ≡ task_construct_line (f.now ∷ word.now ∷ b.now ∷ other.now ∷ c.now ∷ []) }
 {
     if word == b"if".as_slice() && other == b"final".as_slice() {
@@ -76,7 +76,7 @@ fn task_with_both<'a>(
 }
 
 /// `task F`, then `if B` or nothing, then `final B` or nothing
-fn task<'a>(words: &mut Words<'a>) -> Option<Line<'a>>
+fn task<'a>(words: &mut Words<'a>) -> Option<SourceLine<'a>>
     ensures { result ≡ task_construct_line words.old }
 {
     let f = words.next()?;
@@ -95,17 +95,17 @@ fn task<'a>(words: &mut Words<'a>) -> Option<Line<'a>>
 }
 
 /// A statement of one word.
-fn bare<'a>(statement: Stmt, words: &mut Words<'a>) -> Option<Line<'a>>
+fn bare<'a>(statement: Stmt, words: &mut Words<'a>) -> Option<SourceLine<'a>>
     ensures { result ≡ bare_line statement words.old }
 {
     match words.next() {
-        None => Some(Line::StandAlone(Some(statement))),
+        None => Some(SourceLine::StandAlone(Some(statement))),
         Some(_) => None,
     }
 }
 
 /// `critical K F`
-fn critical<'a>(words: &mut Words<'a>) -> Option<Line<'a>>
+fn critical<'a>(words: &mut Words<'a>) -> Option<SourceLine<'a>>
     ensures { result ≡ critical_line words.old }
 {
     let k = words.next()?;
@@ -113,25 +113,25 @@ fn critical<'a>(words: &mut Words<'a>) -> Option<Line<'a>>
     match words.next() {
         None => {
             let construct = number_u8(k, 0, MAX_LOCK).map(|k| Construct::Critical { k });
-            Some(Line::Construct(Word::new(f), construct))
+            Some(SourceLine::Construct(Word::new(f), construct))
         }
         Some(_) => None,
     }
 }
 
 /// `call F`
-fn call<'a>(words: &mut Words<'a>) -> Option<Line<'a>>
+fn call<'a>(words: &mut Words<'a>) -> Option<SourceLine<'a>>
     ensures { result ≡ call_line words.old }
 {
     let f = words.next()?;
     match words.next() {
-        None => Some(Line::Construct(Word::new(f), Some(Construct::Call))),
+        None => Some(SourceLine::Construct(Word::new(f), Some(Construct::Call))),
         Some(_) => None,
     }
 }
 
 /// `only M F`
-fn only<'a>(words: &mut Words<'a>) -> Option<Line<'a>>
+fn only<'a>(words: &mut Words<'a>) -> Option<SourceLine<'a>>
     ensures { result ≡ only_line words.old }
 {
     let m = words.next()?;
@@ -139,14 +139,14 @@ fn only<'a>(words: &mut Words<'a>) -> Option<Line<'a>>
     match words.next() {
         None => {
             let construct = number_u8(m, 0, MAX_MEMBER).map(|m| Construct::Only { m });
-            Some(Line::Construct(Word::new(f), construct))
+            Some(SourceLine::Construct(Word::new(f), construct))
         }
         Some(_) => None,
     }
 }
 
 /// `repeat N F`
-fn repeat<'a>(words: &mut Words<'a>) -> Option<Line<'a>>
+fn repeat<'a>(words: &mut Words<'a>) -> Option<SourceLine<'a>>
     ensures { result ≡ repeat_line words.old }
 {
     let n = words.next()?;
@@ -154,47 +154,47 @@ fn repeat<'a>(words: &mut Words<'a>) -> Option<Line<'a>>
     match words.next() {
         None => {
             let construct = number_u16(n, 0, MAX_REPEATS).map(|n| Construct::Repeat { n });
-            Some(Line::Construct(Word::new(f), construct))
+            Some(SourceLine::Construct(Word::new(f), construct))
         }
         Some(_) => None,
     }
 }
 
 /// `set_num_threads N`
-fn set_num_threads<'a>(words: &mut Words<'a>) -> Option<Line<'a>>
+fn set_num_threads<'a>(words: &mut Words<'a>) -> Option<SourceLine<'a>>
     ensures { result ≡ set_num_threads_line words.old }
 {
     let n = words.next()?;
     match words.next() {
-        None => Some(Line::StandAlone(number_u8(n, 1, MAX_SIZE).map(Stmt::SetNumThreads))),
+        None => Some(SourceLine::StandAlone(number_u8(n, 1, MAX_SIZE).map(Stmt::SetNumThreads))),
         Some(_) => None,
     }
 }
 
 /// `set_dynamic B`
-fn set_dynamic<'a>(words: &mut Words<'a>) -> Option<Line<'a>>
+fn set_dynamic<'a>(words: &mut Words<'a>) -> Option<SourceLine<'a>>
     ensures { result ≡ set_dynamic_line words.old }
 {
     let b = words.next()?;
     match words.next() {
-        None => Some(Line::StandAlone(number_u8(b, 0, 1).map(|n| Stmt::SetDynamic(n == 1)))),
+        None => Some(SourceLine::StandAlone(number_u8(b, 0, 1).map(|n| Stmt::SetDynamic(n == 1)))),
         Some(_) => None,
     }
 }
 
 /// `set_max_active_levels N`
-fn set_max_active<'a>(words: &mut Words<'a>) -> Option<Line<'a>>
+fn set_max_active<'a>(words: &mut Words<'a>) -> Option<SourceLine<'a>>
     ensures { result ≡ set_max_active_line words.old }
 {
     let n = words.next()?;
     match words.next() {
-        None => Some(Line::StandAlone(number_u8(n, 0, MAX_LEVELS).map(Stmt::SetMaxActive))),
+        None => Some(SourceLine::StandAlone(number_u8(n, 0, MAX_LEVELS).map(Stmt::SetMaxActive))),
         Some(_) => None,
     }
 }
 
 /// `set_schedule KIND CHUNK`
-fn set_schedule<'a>(words: &mut Words<'a>) -> Option<Line<'a>>
+fn set_schedule<'a>(words: &mut Words<'a>) -> Option<SourceLine<'a>>
     ensures { result ≡ set_schedule_line words.old }
 {
     let kind = words.next()?;
@@ -202,36 +202,36 @@ fn set_schedule<'a>(words: &mut Words<'a>) -> Option<Line<'a>>
     match words.next() {
         None => {
             let kind = kind_number(kind)?;
-            Some(Line::StandAlone(schedule(kind, chunk).map(Stmt::SetSchedule)))
+            Some(SourceLine::StandAlone(schedule(kind, chunk).map(Stmt::SetSchedule)))
         }
         Some(_) => None,
     }
 }
 
 /// `set_default_device N`
-fn set_device<'a>(words: &mut Words<'a>) -> Option<Line<'a>>
+fn set_device<'a>(words: &mut Words<'a>) -> Option<SourceLine<'a>>
     ensures { result ≡ set_device_line words.old }
 {
     let n = words.next()?;
     match words.next() {
-        None => Some(Line::StandAlone(number_u8(n, 0, MAX_DEVICE).map(Stmt::SetDevice))),
+        None => Some(SourceLine::StandAlone(number_u8(n, 0, MAX_DEVICE).map(Stmt::SetDevice))),
         Some(_) => None,
     }
 }
 
 /// `tool X`
-fn tool<'a>(words: &mut Words<'a>) -> Option<Line<'a>>
+fn tool<'a>(words: &mut Words<'a>) -> Option<SourceLine<'a>>
     ensures { result ≡ tool_line words.old }
 {
     let x = words.next()?;
     match words.next() {
-        None => Some(Line::StandAlone(number(x, 0, u64::MAX).map(Stmt::Tool))),
+        None => Some(SourceLine::StandAlone(number(x, 0, u64::MAX).map(Stmt::Tool))),
         Some(_) => None,
     }
 }
 
 /// A statement that sets an internal control variable or a task's word, by its first word.
-fn set<'a>(first: &[u8], words: &mut Words<'a>) -> Option<Line<'a>>
+fn set<'a>(first: &[u8], words: &mut Words<'a>) -> Option<SourceLine<'a>>
     ensures { result ≡ set_line first.now words.old }
 {
     if first == b"set_num_threads".as_slice() {
@@ -252,7 +252,7 @@ fn set<'a>(first: &[u8], words: &mut Words<'a>) -> Option<Line<'a>>
 }
 
 /// A statement, by its first word and those behind it. None where it has no shape.
-pub fn statement<'a>(first: &[u8], words: &mut Words<'a>) -> Option<Line<'a>>
+pub fn statement<'a>(first: &[u8], words: &mut Words<'a>) -> Option<SourceLine<'a>>
     ensures { result ≡ statement_line first.now words.old }
 {
     if first == b"parallel".as_slice() {

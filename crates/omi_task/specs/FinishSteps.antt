@@ -49,13 +49,13 @@ abbrev pub wait_by : Opened → Option Wait
 wait_by (opened.Task v saved) = v
 wait_by o = None
 
-abbrev pub wait_of : List Frame → Option Wait
-wait_of [] = None
-wait_of (f ∷ fs) = wait_by f.opened
+abbrev pub wait_in : List Frame → Option Wait
+wait_in [] = None
+wait_in (f ∷ fs) = wait_by f.opened
 
 -- the task has finished, and the one below is current again
 abbrev pub past_finish : Actor → Actor
-past_finish a = to_finish (finish.LoadGenerating (wait_of a.stack) a.context.task) (closed a)
+past_finish a = to_finish (finish.LoadGenerating (wait_in a.stack) a.context.task) (closed a)
 
 -- an explicit task above, by the life word of its record and the word that names its generating task
 abbrev pub ancestor_at : Place → ℕ → ℕ → Ancestor

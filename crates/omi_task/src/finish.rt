@@ -6,7 +6,7 @@ ghost use Rattle.omi_pc.specs.Fits.{Fits};
 ghost use Rattle.omi_pc.specs.declared.counter.Counter.TheVariants as counter;
 ghost use Rattle.omi_step_words.specs.Moving.{to_finish};
 ghost use Rattle.omi_step_words.specs.Placed.{IsPlaced};
-ghost use Rattle.omi_task.specs.FinishSteps.{behind_finish, behind_references, finish_moved, finish_next, finish_outcome, past_finish, wait_of};
+ghost use Rattle.omi_task.specs.FinishSteps.{behind_finish, behind_references, finish_moved, finish_next, finish_outcome, past_finish, wait_in};
 
 use omi_layout::{Field, Layout};
 use omi_model::{Event, Tid};
@@ -62,7 +62,7 @@ pub fn finish_next(p: &Program, l: &Layout, a: &Actor, c: FinishCounter) -> Op
 
 /// Where the task waits from which the current one was scheduled, none for a task that started at once.
 fn wait_of(a: &Actor) -> Option<Wait>
-    ensures { result ≡ wait_of a.now.stack }
+    ensures { result ≡ wait_in a.now.stack }
 {
     match a.stack.top()?.opened {
         Opened::Task { wait, .. } => wait,

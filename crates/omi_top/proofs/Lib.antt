@@ -1,9 +1,4 @@
 pub mod EventCounts
-pub mod Played
-pub mod OneEnd
-pub mod OneOpening
-pub mod OneFamily
-pub mod OneProgram
 pub mod OneRun
 pub mod Running
 pub mod Stopping

@@ -29,11 +29,11 @@ use Rattle.omi_top.specs.Determined.{IsOneRun, MakesAreDetermined, RunsAreDeterm
 use Rattle.omi_top.specs.Lines.{run_text}
 use Rattle.omi_top.specs.Make.{IsMade, made_line, make_plan}
 use Rattle.omi_top.specs.Run.{IsRun, thread_schedule}
-use Rattle.omi_top.proofs.OneEnd.{no_later, one_end}
-use Rattle.omi_top.proofs.OneFamily.{one_family}
-use Rattle.omi_top.proofs.OneOpening.{one_opening}
-use Rattle.omi_top.proofs.OneProgram.{one_program}
-use Rattle.omi_top.proofs.Played.{are_left, are_played, front_of_threads, front_played, left_by, played}
+use Rattle.omi_core.proofs.OneEnd.{no_later, one_end}
+use Rattle.omi_layout.proofs.OneFamily.{one_family}
+use Rattle.omi_layout.proofs.OneOpening.{one_opening}
+use Rattle.omi_script.proofs.OneProgram.{one_program}
+use Rattle.omi_core.proofs.Played.{are_left, are_played, front_of_threads, front_played, left_by, played}
 
 -- the events of steps and of further ones
 events_more : (n : ℕ) (xs ys : List (ℕ × Entry)) → events_behind n (xs ++ ys) ≡ events_behind n xs ++ events_behind (n + length xs) ys

@@ -7,7 +7,7 @@ use Rattle.omi_layout.specs.declared.field.Field.TheVariants.{TaskRegion}
 use Rattle.omi_layout.specs.Field.{regions, tasks}
 use Rattle.omi_layout.specs.Table.{records}
 use Rattle.omi_model.specs.declared.id.Id.{Id}
-use Rattle.omi_rep.specs.Look.{Look, and_then, mapped, optional, address_of, look_object}
+use Rattle.omi_rep.specs.Look.{Look, and_then, mapped, optional, id_address, look_object}
 use Rattle.omi_rep.specs.LookView.{look_current, look_enclosing, look_regions}
 use Rattle.omi_session.specs.Opened.{Opened}
 use Rattle.omi_walk.specs.declared.fault.WalkFault.{WalkFault}
@@ -16,7 +16,7 @@ use Rattle.omi_walk.specs.Gives.{Gives, Looks}
 module _ (w : List ℕ) (memory : Words) where
   -- the region of a task
   abbrev pub region_at : Id → Look Id
-  region_at k = look_object w memory regions (address_of w tasks k) TaskRegion 0
+  region_at k = look_object w memory regions (id_address w tasks k) TaskRegion 0
 
   -- a region, and those which enclose it
   abbrev pub regions_at : Id → Look (List Id)

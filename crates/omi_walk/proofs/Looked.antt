@@ -14,7 +14,7 @@ use Rattle.omi_layout.specs.declared.field.Field.{Field}
 use Rattle.omi_layout.specs.Named.{number}
 use Rattle.omi_rep.specs.declared.fault.LookFault.{LookFault}
 use Rattle.omi_rep.specs.declared.fault.LookFault.TheVariants as look
-use Rattle.omi_rep.specs.Look.{Look, address_of, look_word, look_object, look_optional, slot_at, life_of, is_live}
+use Rattle.omi_rep.specs.Look.{Look, id_address, look_word, look_object, look_optional, slot_at, life_of, is_live}
 use Rattle.omi_session.specs.declared.rc.Rc.{Rc}
 use Rattle.omi_session.specs.declared.rc.Rc.TheVariants.{Unavailable, BadInput, Error, NoMem, CallbackError}
 use Rattle.omi_session.specs.Handles.{name_of}
@@ -69,10 +69,10 @@ value_gives {A} found result answer l is looked = go result answer l is looked
 
 module _ {C F : Type 0} (told : C → Told) (s : Opened C F) (kind : Kind) (pair : ℕ × ℕ) (n : Id) (st : Stands told s kind pair n) where
   -- the record of the object is the one that its name has
-  pub stands_at : st.object.addr ≡ address_of s.layout (record_kind kind) n
+  pub stands_at : st.object.addr ≡ id_address s.layout (record_kind kind) n
   stands_at =
       named_address s.layout st.object n st.met.name
-      ∙ ap (λ k. address_of s.layout (record_kind k) n) st.met.of_kind
+      ∙ ap (λ k. id_address s.layout (record_kind k) n) st.met.of_kind
 
   module _ (memory : Words) (t : Tells (told s.table.calls) memory) where
     -- the object of the handle is found
@@ -90,26 +90,26 @@ module _ {C F : Type 0} (told : C → Told) (s : Opened C F) (kind : Kind) (pair
     -- an inquiry for a word of its record
     pub word_looked : (f : Field) (at : ℕ)
         → IsLook {A = ℕ} {B = ℕ} (λ x y. x ≡ y) (answer_on memory (then_reads (object_of s.layout kind (get s.handles.held pair)) (λ o. word_of s.layout o.addr f at)))
-        (look_word s.layout memory (address_of s.layout (record_kind kind) n) f at)
+        (look_word s.layout memory (id_address s.layout (record_kind kind) n) f at)
     word_looked f at =
-        subst (λ (a : Result ℕ Rc). IsLook {A = ℕ} {B = ℕ} (λ x y. x ≡ y) a (look_word s.layout memory (address_of s.layout (record_kind kind) n) f at)) (sym (after_object (λ o. word_of s.layout o.addr f at)))
+        subst (λ (a : Result ℕ Rc). IsLook {A = ℕ} {B = ℕ} (λ x y. x ≡ y) a (look_word s.layout memory (id_address s.layout (record_kind kind) n) f at)) (sym (after_object (λ o. word_of s.layout o.addr f at)))
         (subst (λ a. IsLook {A = ℕ} {B = ℕ} (λ x y. x ≡ y) (answer_on memory (word_of s.layout st.object.addr f at)) (look_word s.layout memory a f at)) stands_at
         (word_is_looked s.layout memory st.object.addr f at))
 
     -- an inquiry for the object to which a word of its record points
     pub object_looked : (target : Kind) (f : Field) (at : ℕ)
         → IsLook (IsOf s.layout) (answer_on memory (then_reads (object_of s.layout kind (get s.handles.held pair)) (λ o. follow s.layout target o.addr f at)))
-        (look_object s.layout memory (record_kind target) (address_of s.layout (record_kind kind) n) f at)
+        (look_object s.layout memory (record_kind target) (id_address s.layout (record_kind kind) n) f at)
     object_looked target f at =
-        subst (λ (a : Result Held Rc). IsLook (IsOf s.layout) a (look_object s.layout memory (record_kind target) (address_of s.layout (record_kind kind) n) f at)) (sym (after_object (λ o. follow s.layout target o.addr f at)))
+        subst (λ (a : Result Held Rc). IsLook (IsOf s.layout) a (look_object s.layout memory (record_kind target) (id_address s.layout (record_kind kind) n) f at)) (sym (after_object (λ o. follow s.layout target o.addr f at)))
         (subst (λ a. IsLook (IsOf s.layout) (answer_on memory (follow s.layout target st.object.addr f at)) (look_object s.layout memory (record_kind target) a f at)) stands_at
         (object_is_looked s.layout memory target st.object.addr f at))
 
     pub optional_looked : (target : Kind) (f : Field)
         → IsOptional s.layout (answer_on memory (then_reads (object_of s.layout kind (get s.handles.held pair)) (λ o. follow_some s.layout target o.addr f)))
-        (look_optional s.layout memory (record_kind target) (address_of s.layout (record_kind kind) n) f 0)
+        (look_optional s.layout memory (record_kind target) (id_address s.layout (record_kind kind) n) f 0)
     optional_looked target f =
-        subst (λ (a : Result Held Rc). IsOptional s.layout a (look_optional s.layout memory (record_kind target) (address_of s.layout (record_kind kind) n) f 0)) (sym (after_object (λ o. follow_some s.layout target o.addr f)))
+        subst (λ (a : Result Held Rc). IsOptional s.layout a (look_optional s.layout memory (record_kind target) (id_address s.layout (record_kind kind) n) f 0)) (sym (after_object (λ o. follow_some s.layout target o.addr f)))
         (subst (λ a. IsOptional s.layout (answer_on memory (follow_some s.layout target st.object.addr f)) (look_optional s.layout memory (record_kind target) a f 0)) stands_at
         (optional_is_looked s.layout memory target st.object.addr f))
 

@@ -16,7 +16,7 @@ use Rattle.omi_layout.specs.Named.{number}
 use Rattle.omi_layout.specs.Table.{thread_count}
 use Rattle.omi_model.specs.declared.id.Id.{Id}
 use Rattle.omi_rep.specs.declared.fault.LookFault.TheVariants.{Damaged}
-use Rattle.omi_rep.specs.Look.{Look, address_of, and_then, look_word, look_object, slot_at, is_live, life_of}
+use Rattle.omi_rep.specs.Look.{Look, id_address, and_then, look_word, look_object, slot_at, is_live, life_of}
 use Rattle.omi_rep.specs.LookView.{look_within}
 use Rattle.omi_session.specs.declared.rc.Rc.{Rc}
 use Rattle.omi_session.specs.declared.rc.Rc.TheVariants.{Unavailable, BadInput, Error}
@@ -121,7 +121,7 @@ within_bound w memory address f least most x is = go (look_word w memory address
 module _ {C F : Type 0} (told : C → Told) (s : Opened C F) (n : Id) (size count most : ℕ) (bound : most ≡ thread_count s.layout) (same : size ≤ most → count ≡ size) (has : HasSize told s n size) where
   count_is : (memory : Words) → Tells (told s.table.calls) memory → count ≡ size
   unfolding Looks
-  count_is memory t = same (let low = within_bound s.layout memory (address_of s.layout regions n) RegionSize 1 (thread_count s.layout) size (has memory t) in omega (arith, low, bound))
+  count_is memory t = same (let low = within_bound s.layout memory (id_address s.layout regions n) RegionSize 1 (thread_count s.layout) size (has memory t) in omega (arith, low, bound))
 
   pub has_count : HasSize told s n count
   unfolding Looks
@@ -156,21 +156,21 @@ module _ {C F : Type 0} (told : C → Told) (s : Opened C F) (pair : ℕ × ℕ)
       (ap (λ a. look_within s.layout memory a RegionSize 1 (thread_count s.layout)) (stands_at told s Region pair n st) ∙ has memory t))
       ∙ ap (λ (b : Bool). answer_on memory (cond b (follow s.layout Task st.object.addr RegionTeam num) (Answer (Err BadInput)))) (let yes : nat_lt num size ≡ true = grind (arith, nat_tests) in yes)
 
-  pub member_looked : IsLook (IsOf s.layout) (answer_on memory (member s.layout (get s.handles.held pair) num)) (look_object s.layout memory tasks (address_of s.layout regions n) RegionTeam num)
+  pub member_looked : IsLook (IsOf s.layout) (answer_on memory (member s.layout (get s.handles.held pair) num)) (look_object s.layout memory tasks (id_address s.layout regions n) RegionTeam num)
   member_looked =
-      subst (λ (a : Result Held Rc). IsLook (IsOf s.layout) a (look_object s.layout memory tasks (address_of s.layout regions n) RegionTeam num)) (sym member_answers)
+      subst (λ (a : Result Held Rc). IsLook (IsOf s.layout) a (look_object s.layout memory tasks (id_address s.layout regions n) RegionTeam num)) (sym member_answers)
       (subst (λ a. IsLook (IsOf s.layout) (answer_on memory (follow s.layout Task st.object.addr RegionTeam num)) (look_object s.layout memory tasks a RegionTeam num)) (stands_at told s Region pair n st)
       (object_is_looked s.layout memory Task st.object.addr RegionTeam num))
 
   -- and the thread the one to which this task's word points
-  pub member_thread_looked : (k : Id) → look_object s.layout memory tasks (address_of s.layout regions n) RegionTeam num ≡ Ok k
-      → IsLook (IsOf s.layout) (answer_on memory (thread_of_member s.layout (get s.handles.held pair) num)) (look_object s.layout memory threads (address_of s.layout tasks k) TaskThread 0)
+  pub member_thread_looked : (k : Id) → look_object s.layout memory tasks (id_address s.layout regions n) RegionTeam num ≡ Ok k
+      → IsLook (IsOf s.layout) (answer_on memory (thread_of_member s.layout (get s.handles.held pair) num)) (look_object s.layout memory threads (id_address s.layout tasks k) TaskThread 0)
   unfolding thread_of_member
   member_thread_looked k is =
       let found = named_ok s.layout _ _ k member_looked is in
       let of_kind : found.0.kind ≡ Task = follow_kind s.layout memory Task st.object.addr RegionTeam num found.0 (sym member_answers ∙ found.1) in
-      let there : found.0.addr ≡ address_of s.layout tasks k = named_address s.layout found.0 k found.2 ∙ ap (λ kind. address_of s.layout (record_kind kind) k) of_kind in
-      subst (λ (a : Result Held Rc). IsLook (IsOf s.layout) a (look_object s.layout memory threads (address_of s.layout tasks k) TaskThread 0))
+      let there : found.0.addr ≡ id_address s.layout tasks k = named_address s.layout found.0 k found.2 ∙ ap (λ kind. id_address s.layout (record_kind kind) k) of_kind in
+      subst (λ (a : Result Held Rc). IsLook (IsOf s.layout) a (look_object s.layout memory threads (id_address s.layout tasks k) TaskThread 0))
       (sym (then_answered memory (member s.layout (get s.handles.held pair) num) (λ task. follow s.layout Thread task.addr TaskThread 0) found.0 found.1))
       (subst (λ a. IsLook (IsOf s.layout) (answer_on memory (follow s.layout Thread found.0.addr TaskThread 0)) (look_object s.layout memory threads a TaskThread 0)) there
       (object_is_looked s.layout memory Thread found.0.addr TaskThread 0))

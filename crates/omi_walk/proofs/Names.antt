@@ -8,18 +8,18 @@ use Rattle.omi_handle.specs.Ledger.{pair_cmp}
 use Rattle.omi_handle.proofs.HeldLemmas.{pair_cmp_total, pair_cmp_antisymmetric, tied, one_of_both}
 use Rattle.omi_model.specs.declared.id.Id.{Id}
 use Rattle.omi_layout.specs.Place.{slot_address}
-use Rattle.omi_rep.specs.Look.{slot_at, address_of}
+use Rattle.omi_rep.specs.Look.{slot_at, id_address}
 use Rattle.omi_session.specs.Handles.{name_of}
 use Rattle.omi_session.specs.Named.{record_kind}
 use Rattle.omi_rep.proofs.Slots.{slot_is}
 
 -- the record of an object is the one that its name has
-pub named_address : (w : List ℕ) (h : Held) (n : Id) → name_of w h ≡ Some n → h.addr ≡ address_of w (record_kind h.kind) n
+pub named_address : (w : List ℕ) (h : Held) (n : Id) → name_of w h ≡ Some n → h.addr ≡ id_address w (record_kind h.kind) n
 named_address w h n is = go (slot_at w (record_kind h.kind) h.addr) refl is
   where
     go : (o : Option (ℕ × ℕ)) → slot_at w (record_kind h.kind) h.addr ≡ o
         → option_map (λ (at : ℕ × ℕ). record { creator = at.0; slot = at.1; generation = h.life / 2 }) o ≡ Some n
-        → h.addr ≡ address_of w (record_kind h.kind) n
+        → h.addr ≡ id_address w (record_kind h.kind) n
     go None e is = absurd (cc)
     go (Some at) e is =
         let there = slot_is w (record_kind h.kind) h.addr at e in

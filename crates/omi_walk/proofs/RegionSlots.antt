@@ -9,7 +9,7 @@ use Rattle.omi_word.specs.Words.{Words}
 use Rattle.omi_layout.specs.Field.{regions}
 use Rattle.omi_layout.specs.Table.{per_thread, makers}
 use Rattle.omi_model.specs.declared.id.Id.{Id}
-use Rattle.omi_rep.specs.Look.{slots_of}
+use Rattle.omi_rep.specs.Look.{slot_list}
 use Rattle.omi_rep.specs.LookView.{met_in}
 use Rattle.omi_walk.specs.declared.met.Met.{Met}
 use Rattle.omi_walk.specs.Index.{slot_key, key_of, HasFirst}
@@ -117,5 +117,5 @@ module _ (w : List ℕ) (memory : Words) where
         ∙ sym (filter_map-append (in_slot index) (own_slots w x) (flat_map (own_slots w) creators))
 
     -- those that were met in the slots of a layout are those that the index has in them
-    pub met_in_slots : per_thread w regions ≤ 65536 → filter_map (met_in w memory (map (λ m. m.name) met)) (slots_of w regions) ≡ filter_map (in_slot index) (slots_of w regions)
+    pub met_in_slots : per_thread w regions ≤ 65536 → filter_map (met_in w memory (map (λ m. m.name) met)) (slot_list w regions) ≡ filter_map (in_slot index) (slot_list w regions)
     met_in_slots few = all_met (range_with_len 0 (makers w regions)) few

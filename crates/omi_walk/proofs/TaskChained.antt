@@ -10,7 +10,7 @@ use Rattle.omi_model.specs.declared.id.Id.{Id}
 use Rattle.omi_model.specs.declared.id.Tid.{Tid}
 use Rattle.omi_model.specs.declared.view.TaskRow.{TaskRow}
 use Rattle.omi_rep.specs.declared.fault.LookFault.TheVariants.{Cycle}
-use Rattle.omi_rep.specs.Look.{Look, and_then, mapped, address_of, was_met}
+use Rattle.omi_rep.specs.Look.{Look, and_then, mapped, id_address, was_met}
 use Rattle.omi_rep.specs.LookView.{look_task, look_chain}
 use Rattle.omi_session.specs.Opened.{Opened, Stays}
 use Rattle.omi_session.specs.Tells.{Tells}
@@ -43,7 +43,7 @@ module _ {C F : Type 0} (told : C → Told) (s : Opened C F) (thread : ℕ) (fir
   module _ (t : Opened C F) (stays : Stays told s t) (rows : List TaskRow) (known : ℕ → Bool) (left : ℕ) (task : Id) (so : TasksSoFar told s thread first rows known (suc left) (Some task)) where
     -- the addresses that were met, this one included
     abbrev pub now_met : List ℕ
-    now_met = address_of s.layout tasks task ∷ so.before
+    now_met = id_address s.layout tasks task ∷ so.before
 
     pub tasks_next : (known_now : ℕ → Bool) (row : TaskRow) (next : Option Id) → ((address : ℕ) → known_now address ≡ was_met now_met address)
         → row.scheduling ≡ option_map (λ n. record { 0 = n }) next
@@ -77,7 +77,7 @@ module _ {C F : Type 0} (told : C → Told) (s : Opened C F) (thread : ℕ) (fir
     tasks_end zero so = λ memory tells. so.rest memory tells ∙ ap Ok (append-nil rows)
     tasks_end (suc left) so = λ memory tells. so.rest memory tells ∙ ap Ok (append-nil rows)
 
-    pub tasks_cycle : (task : Id) (addr : ℕ) → addr ≡ address_of s.layout tasks task → TasksSoFar told s thread first rows known zero (Some task)
+    pub tasks_cycle : (task : Id) (addr : ℕ) → addr ≡ id_address s.layout tasks task → TasksSoFar told s thread first rows known zero (Some task)
         → Looks {A = List TaskRow} told s (Err (fault.Cycle addr)) (λ w memory. look_chain w memory (records w tasks) [] thread first)
     unfolding Looks and_then
     tasks_cycle task addr there so = λ memory tells. so.rest memory tells ∙ ap (λ a. Err (Cycle a)) (sym there)

@@ -8,8 +8,8 @@ use Rattle.omi_layout.specs.declared.field.Field.TheVariants.{TaskImplicit, Task
 use Rattle.omi_layout.specs.Field.{regions, tasks}
 use Rattle.omi_model.specs.declared.id.Id.{Id}
 use Rattle.omi_model.specs.declared.view.TaskRow.{TaskRow}
-use Rattle.omi_rep.specs.Look.{Look, and_then, address_of, look_object, look_optional, look_onward}
-use Rattle.omi_rep.specs.LookView.{look_task, look_nthreads, of_task}
+use Rattle.omi_rep.specs.Look.{Look, and_then, id_address, look_object, look_optional, look_onward}
+use Rattle.omi_rep.specs.LookView.{look_task, look_nthreads, read_task}
 use Rattle.omi_session.specs.Opened.{Opened}
 use Rattle.omi_walk.specs.declared.fault.WalkFault.{WalkFault}
 use Rattle.omi_walk.specs.declared.tasks.Environment.{Environment}
@@ -64,35 +64,35 @@ module _ (w : List ℕ) (memory : Words) (met : List ℕ) (i : ℕ) (k : Id) whe
   look_in_parts =
       and_then (look_relations w memory met k) (λ relations.
       and_then (look_frames w memory k) (λ frames.
-      and_then (of_task w memory k TaskTool) (λ tool.
+      and_then (read_task w memory k TaskTool) (λ tool.
       and_then (look_environment w memory k) (λ environment.
       Ok (row_from i k relations frames tool environment)))))
 
   environment_part : (relations : Relations) (frames : ℕ × ℕ) (tool : ℕ)
       → and_then (look_environment w memory k) (λ environment. Ok (row_from i k relations frames tool environment))
-      ≡ and_then (of_task w memory k TaskDynamic) (λ dynamic. and_then (look_nthreads w memory k) (λ nthreads. and_then (of_task w memory k TaskSchedule) (λ schedule.
-      and_then (of_task w memory k TaskDevice) (λ device. and_then (of_task w memory k TaskFinal) (λ final.
+      ≡ and_then (read_task w memory k TaskDynamic) (λ dynamic. and_then (look_nthreads w memory k) (λ nthreads. and_then (read_task w memory k TaskSchedule) (λ schedule.
+      and_then (read_task w memory k TaskDevice) (λ device. and_then (read_task w memory k TaskFinal) (λ final.
       Ok (row_from i k relations frames tool (record { dyn_var = dynamic; nthreads = nthreads; sched = schedule; device = device; final_task = final })))))))
   environment_part relations frames tool =
-      as_five (of_task w memory k TaskDynamic) (look_nthreads w memory k) (of_task w memory k TaskSchedule) (of_task w memory k TaskDevice) (of_task w memory k TaskFinal)
+      as_five (read_task w memory k TaskDynamic) (look_nthreads w memory k) (read_task w memory k TaskSchedule) (read_task w memory k TaskDevice) (read_task w memory k TaskFinal)
       (λ dynamic nthreads schedule device final. record { dyn_var = dynamic; nthreads = nthreads; sched = schedule; device = device; final_task = final })
       (λ environment. Ok (row_from i k relations frames tool environment))
 
   words_part : (relations : Relations)
-      → and_then (look_frames w memory k) (λ frames. and_then (of_task w memory k TaskTool) (λ tool. and_then (look_environment w memory k) (λ environment. Ok (row_from i k relations frames tool environment))))
-      ≡ and_then (of_task w memory k TaskExit) (λ exit. and_then (of_task w memory k TaskEnter) (λ enter. and_then (of_task w memory k TaskTool) (λ tool.
-      and_then (of_task w memory k TaskDynamic) (λ dynamic. and_then (look_nthreads w memory k) (λ nthreads. and_then (of_task w memory k TaskSchedule) (λ schedule.
-      and_then (of_task w memory k TaskDevice) (λ device. and_then (of_task w memory k TaskFinal) (λ final.
+      → and_then (look_frames w memory k) (λ frames. and_then (read_task w memory k TaskTool) (λ tool. and_then (look_environment w memory k) (λ environment. Ok (row_from i k relations frames tool environment))))
+      ≡ and_then (read_task w memory k TaskExit) (λ exit. and_then (read_task w memory k TaskEnter) (λ enter. and_then (read_task w memory k TaskTool) (λ tool.
+      and_then (read_task w memory k TaskDynamic) (λ dynamic. and_then (look_nthreads w memory k) (λ nthreads. and_then (read_task w memory k TaskSchedule) (λ schedule.
+      and_then (read_task w memory k TaskDevice) (λ device. and_then (read_task w memory k TaskFinal) (λ final.
       Ok (row_from i k relations (exit, enter) tool (record { dyn_var = dynamic; nthreads = nthreads; sched = schedule; device = device; final_task = final }))))))))))
   words_part relations =
-      as_two (of_task w memory k TaskExit) (of_task w memory k TaskEnter) (λ exit enter. (exit, enter))
-      (λ frames. and_then (of_task w memory k TaskTool) (λ tool. and_then (look_environment w memory k) (λ environment. Ok (row_from i k relations frames tool environment))))
-      ∙ λ j. and_then (of_task w memory k TaskExit) (λ exit. and_then (of_task w memory k TaskEnter) (λ enter. and_then (of_task w memory k TaskTool) (λ tool. environment_part relations (exit, enter) tool j)))
+      as_two (read_task w memory k TaskExit) (read_task w memory k TaskEnter) (λ exit enter. (exit, enter))
+      (λ frames. and_then (read_task w memory k TaskTool) (λ tool. and_then (look_environment w memory k) (λ environment. Ok (row_from i k relations frames tool environment))))
+      ∙ λ j. and_then (read_task w memory k TaskExit) (λ exit. and_then (read_task w memory k TaskEnter) (λ enter. and_then (read_task w memory k TaskTool) (λ tool. environment_part relations (exit, enter) tool j)))
 
   pub parts_of_task : look_in_parts ≡ look_task w memory met i k
   parts_of_task =
-      as_five (of_task w memory k TaskImplicit) (look_object w memory regions (address_of w tasks k) TaskRegion 0) (of_task w memory k TaskFunction) (look_optional w memory tasks (address_of w tasks k) TaskGenerating 0)
-      (look_onward w memory tasks met (address_of w tasks k) TaskScheduling)
+      as_five (read_task w memory k TaskImplicit) (look_object w memory regions (id_address w tasks k) TaskRegion 0) (read_task w memory k TaskFunction) (look_optional w memory tasks (id_address w tasks k) TaskGenerating 0)
+      (look_onward w memory tasks met (id_address w tasks k) TaskScheduling)
       (λ implicit region func generating scheduling. record {
         implicit = implicit;
         region = record { 0 = region };
@@ -100,12 +100,12 @@ module _ (w : List ℕ) (memory : Words) (met : List ℕ) (i : ℕ) (k : Id) whe
         generating = option_map (λ g. record { 0 = g }) generating;
         scheduling = option_map (λ h. record { 0 = h }) scheduling;
       })
-      (λ relations. and_then (look_frames w memory k) (λ frames. and_then (of_task w memory k TaskTool) (λ tool. and_then (look_environment w memory k) (λ environment. Ok (row_from i k relations frames tool environment)))))
-      ∙ λ j. and_then (of_task w memory k TaskImplicit) (λ implicit.
-      and_then (look_object w memory regions (address_of w tasks k) TaskRegion 0) (λ region.
-      and_then (of_task w memory k TaskFunction) (λ func.
-      and_then (look_optional w memory tasks (address_of w tasks k) TaskGenerating 0) (λ generating.
-      and_then (look_onward w memory tasks met (address_of w tasks k) TaskScheduling) (λ scheduling.
+      (λ relations. and_then (look_frames w memory k) (λ frames. and_then (read_task w memory k TaskTool) (λ tool. and_then (look_environment w memory k) (λ environment. Ok (row_from i k relations frames tool environment)))))
+      ∙ λ j. and_then (read_task w memory k TaskImplicit) (λ implicit.
+      and_then (look_object w memory regions (id_address w tasks k) TaskRegion 0) (λ region.
+      and_then (read_task w memory k TaskFunction) (λ func.
+      and_then (look_optional w memory tasks (id_address w tasks k) TaskGenerating 0) (λ generating.
+      and_then (look_onward w memory tasks met (id_address w tasks k) TaskScheduling) (λ scheduling.
       words_part (record {
         implicit = implicit;
         region = record { 0 = region };

@@ -29,8 +29,8 @@ use Rattle.omi_model.specs.declared.id.Id.{Id}
 use Rattle.omi_layout.specs.Named.{number}
 use Rattle.omi_rep.specs.declared.fault.LookFault.{LookFault}
 use Rattle.omi_rep.specs.declared.fault.LookFault.TheVariants.{Damaged, Cycle}
-use Rattle.omi_rep.specs.Look.{Look, and_then, address_of, look_word, look_optional, optional, slot_at, is_live}
-use Rattle.omi_rep.specs.LookView.{look_for, look_state, look_current, of_thread, of_task, of_runtime}
+use Rattle.omi_rep.specs.Look.{Look, and_then, id_address, look_word, look_optional, optional, slot_at, is_live}
+use Rattle.omi_rep.specs.LookView.{look_for, look_state, look_current, read_thread, read_task, read_runtime}
 use Rattle.omi_rep.specs.Records.{runtime_address, thread_address}
 use Rattle.omi_session.specs.declared.rc.Rc.{Rc}
 use Rattle.omi_session.specs.declared.rc.Rc.TheVariants.{Unavailable, NeedsStateTracking, NoMem, CallbackError}
@@ -82,7 +82,7 @@ from_range w a (suc n) few = (omega (arith, few), from_range w (a + 1) n (omega 
 
 module _ (w : List ℕ) (memory : Words) (native : ℕ) where
   -- the word that a look gives stands there
-  stands_word : (i x : ℕ) → of_thread w memory i ThreadLife ≡ Ok x → memory (place_of w (thread_address w i) ThreadLife 0) ≡ Some x
+  stands_word : (i x : ℕ) → read_thread w memory i ThreadLife ≡ Ok x → memory (place_of w (thread_address w i) ThreadLife 0) ≡ Some x
   stands_word i x is = go (memory (place_of w (thread_address w i) ThreadLife 0)) is
     where
       go : (o : Option ℕ) → ok_or o (Damaged (thread_address w i) (number ThreadLife)) ≡ Ok x → o ≡ Some x
@@ -113,22 +113,22 @@ module _ (w : List ℕ) (memory : Words) (native : ℕ) where
     by_id there (Err rc) (Err fault) same = same
 
     -- by the life word
-    by_life : (a : Result ℕ Rc) (l : Look ℕ) → l ≡ of_thread w memory i ThreadLife → IsLook {A = ℕ} {B = ℕ} (λ x y. x ≡ y) a l
+    by_life : (a : Result ℕ Rc) (l : Look ℕ) → l ≡ read_thread w memory i ThreadLife → IsLook {A = ℕ} {B = ℕ} (λ x y. x ≡ y) a l
         → IsFound w memory (answer_on memory (after (answer_on memory (after a has_begun)) taken))
-        (and_then l (λ life. cond (life == 1) (and_then (of_thread w memory i ThreadNative) (λ id. cond (id == native) (Ok (Some i)) (look_for w memory native more))) (look_for w memory native more)))
+        (and_then l (λ life. cond (life == 1) (and_then (read_thread w memory i ThreadNative) (λ id. cond (id == native) (Ok (Some i)) (look_for w memory native more))) (look_for w memory native more)))
     unfolding and_then has_begun taken
     by_life (Ok x) (Ok y) is same =
         subst (λ z. IsFound w memory (answer_on memory (after (answer_on memory (has_begun x)) taken))
-        (cond (z == 1) (and_then (of_thread w memory i ThreadNative) (λ id. cond (id == native) (Ok (Some i)) (look_for w memory native more))) (look_for w memory native more))) same
+        (cond (z == 1) (and_then (read_thread w memory i ThreadNative) (λ id. cond (id == native) (Ok (Some i)) (look_for w memory native more))) (look_for w memory native more))) same
         (test (x == 1) refl)
       where
         test : (b : Bool) → x == 1 ≡ b → IsFound w memory (answer_on memory (after (answer_on memory (cond b (then_reads (word_of w (thread_address w i) ThreadNative 0) same_id) (Answer (Ok false)))) taken))
-            (cond b (and_then (of_thread w memory i ThreadNative) (λ id. cond (id == native) (Ok (Some i)) (look_for w memory native more))) (look_for w memory native more))
+            (cond b (and_then (read_thread w memory i ThreadNative) (λ id. cond (id == native) (Ok (Some i)) (look_for w memory native more))) (look_for w memory native more))
         test true e =
             let one : y ≡ 1 = sym same ∙ eqb-true x 1 e in
-            subst (λ (r : Result Bool Rc). IsFound w memory (answer_on memory (after r taken)) (and_then (of_thread w memory i ThreadNative) (λ id. cond (id == native) (Ok (Some i)) (look_for w memory native more))))
+            subst (λ (r : Result Bool Rc). IsFound w memory (answer_on memory (after r taken)) (and_then (read_thread w memory i ThreadNative) (λ id. cond (id == native) (Ok (Some i)) (look_for w memory native more))))
             (sym (answer_then memory (word_of w (thread_address w i) ThreadNative 0) same_id))
-            (by_id (stands_word i 1 (sym is ∙ ap Ok one)) (answer_on memory (word_of w (thread_address w i) ThreadNative 0)) (of_thread w memory i ThreadNative) (word_is_looked w memory (thread_address w i) ThreadNative 0))
+            (by_id (stands_word i 1 (sym is ∙ ap Ok one)) (answer_on memory (word_of w (thread_address w i) ThreadNative 0)) (read_thread w memory i ThreadNative) (word_is_looked w memory (thread_address w i) ThreadNative 0))
         test false e = rest
     by_life (Ok x) (Err fault) is same = absurd same
     by_life (Err rc) (Ok y) is same = absurd same
@@ -140,7 +140,7 @@ module _ (w : List ℕ) (memory : Words) (native : ℕ) where
         subst (λ (r : Result Held Rc). IsFound w memory r (look_for w memory native (i ∷ more)))
         (sym (answer_then memory (has_id w native i) taken
         ∙ ap (λ (r : Result Bool Rc). answer_on memory (after r taken)) (answer_then memory (word_of w (thread_address w i) ThreadLife 0) has_begun)))
-        (by_life (answer_on memory (word_of w (thread_address w i) ThreadLife 0)) (of_thread w memory i ThreadLife) refl (word_is_looked w memory (thread_address w i) ThreadLife 0))
+        (by_life (answer_on memory (word_of w (thread_address w i) ThreadLife 0)) (read_thread w memory i ThreadLife) refl (word_is_looked w memory (thread_address w i) ThreadLife 0))
 
   pub first_found : (is : List ℕ) → AreThreads w is → IsFound w memory (answer_on memory (first_with w native is)) (look_for w memory native is)
   unfolding first_with
@@ -244,12 +244,12 @@ absent_thread w memory new found rc answer l made looked = go rc made
 
 module _ {C F : Type 0} (told : C → Told) (s : Opened C F) (t : ThreadHandle) (n : Id) (st : Stands told s Thread (thread_pair t) n) where
   -- it is where the thread of this number has it
-  pub thread_at : address_of s.layout threads n ≡ thread_address s.layout n.creator
+  pub thread_at : id_address s.layout threads n ≡ thread_address s.layout n.creator
   thread_at = go (slot_at s.layout (record_kind st.object.kind) st.object.addr) refl st.met.name
     where
       go : (o : Option (ℕ × ℕ)) → slot_at s.layout (record_kind st.object.kind) st.object.addr ≡ o
           → option_map (λ (at : ℕ × ℕ). record { creator = at.0; slot = at.1; generation = st.object.life / 2 }) o ≡ Some n
-          → address_of s.layout threads n ≡ thread_address s.layout n.creator
+          → id_address s.layout threads n ≡ thread_address s.layout n.creator
       go None e is = absurd (cc)
       go (Some at) e is =
           let there = slot_is s.layout (record_kind st.object.kind) st.object.addr at e in
@@ -266,7 +266,7 @@ module _ {C F : Type 0} (told : C → Told) (s : Opened C F) (t : ThreadHandle) 
         subst (λ (a : Result (ℕ × ℕ) Rc). IsMaybe NeedsStateTracking a (look_state s.layout memory n.creator))
         (sym (after_object told s Thread (thread_pair t) n st memory tells (λ thread. then_reads (word_of s.layout (runtime_address s.layout) RuntimeDebug 0) (kept thread.addr))
         ∙ answer_then memory (word_of s.layout (runtime_address s.layout) RuntimeDebug 0) (kept st.object.addr)))
-        (by_debug (answer_on memory (word_of s.layout (runtime_address s.layout) RuntimeDebug 0)) (of_runtime s.layout memory RuntimeDebug) (word_is_looked s.layout memory (runtime_address s.layout) RuntimeDebug 0))
+        (by_debug (answer_on memory (word_of s.layout (runtime_address s.layout) RuntimeDebug 0)) (read_runtime s.layout memory RuntimeDebug) (word_is_looked s.layout memory (runtime_address s.layout) RuntimeDebug 0))
       where
         parted : ℕ → Reads (ℕ × ℕ)
         parted word = Answer (Ok (word % 65536, word / 65536))
@@ -282,22 +282,22 @@ module _ {C F : Type 0} (told : C → Told) (s : Opened C F) (t : ThreadHandle) 
         by_word (Err rc) (Err fault) same = same
 
         here : IsMaybe NeedsStateTracking (answer_on memory (then_reads (word_of s.layout st.object.addr ThreadState 0) parted))
-            (and_then (of_thread s.layout memory n.creator ThreadState) (λ word. Ok (Some (word % 65536, word / 65536))))
+            (and_then (read_thread s.layout memory n.creator ThreadState) (λ word. Ok (Some (word % 65536, word / 65536))))
         here =
-            subst (λ (a : Result (ℕ × ℕ) Rc). IsMaybe NeedsStateTracking a (and_then (of_thread s.layout memory n.creator ThreadState) (λ word. Ok (Some (word % 65536, word / 65536)))))
+            subst (λ (a : Result (ℕ × ℕ) Rc). IsMaybe NeedsStateTracking a (and_then (read_thread s.layout memory n.creator ThreadState) (λ word. Ok (Some (word % 65536, word / 65536)))))
             (sym (answer_then memory (word_of s.layout st.object.addr ThreadState 0) parted))
-            (by_word (answer_on memory (word_of s.layout st.object.addr ThreadState 0)) (of_thread s.layout memory n.creator ThreadState)
+            (by_word (answer_on memory (word_of s.layout st.object.addr ThreadState 0)) (read_thread s.layout memory n.creator ThreadState)
             (subst (λ a. IsLook {A = ℕ} {B = ℕ} (λ x y. x ≡ y) (answer_on memory (word_of s.layout st.object.addr ThreadState 0)) (look_word s.layout memory a ThreadState 0)) (stands_at told s Thread (thread_pair t) n st ∙ thread_at)
             (word_is_looked s.layout memory st.object.addr ThreadState 0)))
 
         by_debug : (a : Result ℕ Rc) (l : Look ℕ) → IsLook {A = ℕ} {B = ℕ} (λ x y. x ≡ y) a l
             → IsMaybe NeedsStateTracking (answer_on memory (after a (kept st.object.addr)))
-            (and_then l (λ debug. cond (debug == 0) (Ok None) (and_then (of_thread s.layout memory n.creator ThreadState) (λ word. Ok (Some (word % 65536, word / 65536))))))
+            (and_then l (λ debug. cond (debug == 0) (Ok None) (and_then (read_thread s.layout memory n.creator ThreadState) (λ word. Ok (Some (word % 65536, word / 65536))))))
         by_debug (Ok x) (Ok y) same =
-            subst (λ z. IsMaybe NeedsStateTracking (answer_on memory (kept st.object.addr x)) (cond (z == 0) (Ok None) (and_then (of_thread s.layout memory n.creator ThreadState) (λ word. Ok (Some (word % 65536, word / 65536)))))) same (test (x == 0))
+            subst (λ z. IsMaybe NeedsStateTracking (answer_on memory (kept st.object.addr x)) (cond (z == 0) (Ok None) (and_then (read_thread s.layout memory n.creator ThreadState) (λ word. Ok (Some (word % 65536, word / 65536)))))) same (test (x == 0))
           where
             test : (b : Bool) → IsMaybe NeedsStateTracking (answer_on memory (cond b (Answer (Err NeedsStateTracking)) (then_reads (word_of s.layout st.object.addr ThreadState 0) parted)))
-                (cond b (Ok None) (and_then (of_thread s.layout memory n.creator ThreadState) (λ word. Ok (Some (word % 65536, word / 65536)))))
+                (cond b (Ok None) (and_then (read_thread s.layout memory n.creator ThreadState) (λ word. Ok (Some (word % 65536, word / 65536)))))
             test true = refl
             test false = here
         by_debug (Ok x) (Err fault) same = absurd same
@@ -306,10 +306,10 @@ module _ {C F : Type 0} (told : C → Told) (s : Opened C F) (t : ThreadHandle) 
 
     -- its number in the team of its current task
     pub number_looked : (icv : ℕ) (v : Variable) (current : Option Id) → variable_in (scope_of (scoped.Thread t)) icv ≡ Ok v → v.source ≡ MemberNumber → look_current s.layout memory n.creator ≡ Ok current
-        → IsMaybe Unavailable (answer_on memory (icv_from_scope s.layout (get s.handles.held) (scoped.Thread t) icv)) (optional (λ k. of_task s.layout memory k TaskNumber) current)
+        → IsMaybe Unavailable (answer_on memory (icv_from_scope s.layout (get s.handles.held) (scoped.Thread t) icv)) (optional (λ k. read_task s.layout memory k TaskNumber) current)
     unfolding member_number and_then
     number_looked icv v current is source now =
-        subst (λ (a : Result ℕ Rc). IsMaybe Unavailable a (optional (λ k. of_task s.layout memory k TaskNumber) current))
+        subst (λ (a : Result ℕ Rc). IsMaybe Unavailable a (optional (λ k. read_task s.layout memory k TaskNumber) current))
         (sym (variable_answers s.layout memory (get s.handles.held) (scoped.Thread t) icv st.object.addr v (record_answers told s Thread (thread_pair t) n st memory tells) is
         ∙ ap (λ source. answer_on memory (number_in s.layout source st.object.addr)) source
         ∙ answer_then memory (follow_some s.layout Task st.object.addr ThreadCurrent) word))
@@ -328,11 +328,11 @@ module _ {C F : Type 0} (told : C → Told) (s : Opened C F) (t : ThreadHandle) 
         value (Err rc) (Err fault) same = same
 
         go : (a : Result Held Rc) → a ≡ answer_on memory (follow_some s.layout Task st.object.addr ThreadCurrent) → (current : Option Id) → IsOptional s.layout a (Ok current)
-            → IsMaybe Unavailable (answer_on memory (after a word)) (optional (λ k. of_task s.layout memory k TaskNumber) current)
+            → IsMaybe Unavailable (answer_on memory (after a word)) (optional (λ k. read_task s.layout memory k TaskNumber) current)
         go (Ok h) from (Some k) named =
             let of_kind : h.kind ≡ Task = some_kind s.layout memory Task st.object.addr ThreadCurrent h (sym from) in
-            let there : h.addr ≡ address_of s.layout tasks k = named_address s.layout h k named ∙ ap (λ kind. address_of s.layout (record_kind kind) k) of_kind in
-            value (answer_on memory (word_of s.layout h.addr TaskNumber 0)) (of_task s.layout memory k TaskNumber)
+            let there : h.addr ≡ id_address s.layout tasks k = named_address s.layout h k named ∙ ap (λ kind. id_address s.layout (record_kind kind) k) of_kind in
+            value (answer_on memory (word_of s.layout h.addr TaskNumber 0)) (read_task s.layout memory k TaskNumber)
             (subst (λ a. IsLook {A = ℕ} {B = ℕ} (λ x y. x ≡ y) (answer_on memory (word_of s.layout h.addr TaskNumber 0)) (look_word s.layout memory a TaskNumber 0)) there (word_is_looked s.layout memory h.addr TaskNumber 0))
         go (Ok h) from None named = absurd named
         go (Err rc) from (Some k) named = absurd named
@@ -369,7 +369,7 @@ module _ {C F : Type 0} (told : C → Told) (old mid new : Opened C F) (native :
 
 -- the current task of a thread, by its number
 pub current_looks : {C F : Type 0} (told : C → Told) (s : Opened C F) (t : ThreadHandle) (n : Id) (r : Result (Option Id) WalkFault) → Stands told s Thread (thread_pair t) n
-    → Looks told s r (λ w memory. look_optional w memory tasks (address_of w threads n) ThreadCurrent 0) → Looks told s r (λ w memory. look_current w memory n.creator)
+    → Looks told s r (λ w memory. look_optional w memory tasks (id_address w threads n) ThreadCurrent 0) → Looks told s r (λ w memory. look_current w memory n.creator)
 unfolding Looks
 current_looks told s t n r st there = λ memory tells.
     subst (λ a. Gives r (look_optional s.layout memory tasks a ThreadCurrent 0)) (thread_at told s t n st) (there memory tells)

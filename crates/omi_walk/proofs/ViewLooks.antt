@@ -14,7 +14,7 @@ use Rattle.omi_model.specs.declared.view.RegionRow.{RegionRow}
 use Rattle.omi_model.specs.declared.view.TaskRow.{TaskRow}
 use Rattle.omi_model.specs.declared.view.ThreadRow.{ThreadRow}
 use Rattle.omi_model.specs.declared.view.View.{View}
-use Rattle.omi_rep.specs.Look.{Look, and_then, mapped, each, slots_of}
+use Rattle.omi_rep.specs.Look.{Look, and_then, mapped, each, slot_list}
 use Rattle.omi_rep.specs.LookView.{look_head, look_thread, look_regions, look_region, look_tasks, look_view, met_in, found_threads}
 use Rattle.omi_session.specs.Opened.{Opened, Stays}
 use Rattle.omi_walk.specs.declared.fault.WalkFault.{WalkFault}
@@ -47,7 +47,7 @@ behind_regions head rows region_rows w memory =
 
 -- the rows of the regions of these names
 abbrev pub rows_of : List Id → List ℕ → Words → Look (List RegionRow)
-rows_of names w memory = each (look_region w memory) (filter_map (met_in w memory names) (slots_of w regions))
+rows_of names w memory = each (look_region w memory) (filter_map (met_in w memory names) (slot_list w regions))
 
 abbrev pub behind_met : HeadRow → List ThreadRow → List (List Id) → List ℕ → Words → Look View
 behind_met head rows met w memory = and_then (rows_of (flat_map (λ ids. ids) met) w memory) (λ region_rows. behind_regions head rows region_rows w memory)

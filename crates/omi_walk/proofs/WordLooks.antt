@@ -27,7 +27,7 @@ use Rattle.omi_layout.specs.declared.field.Field.TheVariants.{RegionSize, TaskEx
 use Rattle.omi_layout.specs.Field.{regions, tasks}
 use Rattle.omi_layout.specs.Table.{thread_count}
 use Rattle.omi_model.specs.declared.id.Id.{Id}
-use Rattle.omi_rep.specs.Look.{Look, and_then, address_of, look_word}
+use Rattle.omi_rep.specs.Look.{Look, and_then, id_address, look_word}
 use Rattle.omi_rep.specs.LookView.{look_within}
 use Rattle.omi_rep.specs.Records.{runtime_address}
 use Rattle.omi_session.specs.declared.rc.Rc.{Rc}
@@ -70,20 +70,20 @@ module _ {C F : Type 0} (told : C → Told) (s : Opened C F) (kind : Kind) (pair
 
   variable_looked : (of : Scoped) (icv : ℕ) (f : Field) (v : Variable) → record_of s.layout (get s.handles.held) of ≡ record_of_handle s.layout kind (get s.handles.held pair)
       → variable_in (scope_of of) icv ≡ Ok v → v.source ≡ Word f
-      → IsLook {A = ℕ} {B = ℕ} (λ x y. x ≡ y) (answer_on memory (icv_from_scope s.layout (get s.handles.held) of icv)) (look_word s.layout memory (address_of s.layout (record_kind kind) n) f 0)
+      → IsLook {A = ℕ} {B = ℕ} (λ x y. x ≡ y) (answer_on memory (icv_from_scope s.layout (get s.handles.held) of icv)) (look_word s.layout memory (id_address s.layout (record_kind kind) n) f 0)
   variable_looked of icv f v of_handle is source =
-      subst (λ (a : Result ℕ Rc). IsLook {A = ℕ} {B = ℕ} (λ x y. x ≡ y) a (look_word s.layout memory (address_of s.layout (record_kind kind) n) f 0))
+      subst (λ (a : Result ℕ Rc). IsLook {A = ℕ} {B = ℕ} (λ x y. x ≡ y) a (look_word s.layout memory (id_address s.layout (record_kind kind) n) f 0))
       (sym (variable_answers s.layout memory (get s.handles.held) of icv st.object.addr v (ap (answer_on memory) of_handle ∙ record_answers) is ∙ ap (λ source. answer_on memory (number_in s.layout source st.object.addr)) source))
       (subst (λ a. IsLook {A = ℕ} {B = ℕ} (λ x y. x ≡ y) (answer_on memory (word_of s.layout st.object.addr f 0)) (look_word s.layout memory a f 0)) (stands_at told s kind pair n st)
       (word_is_looked s.layout memory st.object.addr f 0))
 
 module _ {C F : Type 0} (told : C → Told) (s : Opened C F) (n : Id) (memory : Words) (t : Tells (told s.table.calls) memory) where
   pub task_variable_looked : (k : TaskHandle) (icv : ℕ) (f : Field) (v : Variable) → Stands told s Task (task_pair k) n → variable_in (scope_of (scoped.Task k)) icv ≡ Ok v → v.source ≡ Word f
-      → IsLook {A = ℕ} {B = ℕ} (λ x y. x ≡ y) (answer_on memory (icv_from_scope s.layout (get s.handles.held) (scoped.Task k) icv)) (look_word s.layout memory (address_of s.layout tasks n) f 0)
+      → IsLook {A = ℕ} {B = ℕ} (λ x y. x ≡ y) (answer_on memory (icv_from_scope s.layout (get s.handles.held) (scoped.Task k) icv)) (look_word s.layout memory (id_address s.layout tasks n) f 0)
   task_variable_looked k icv f v st is source = variable_looked told s Task (task_pair k) n st memory t (scoped.Task k) icv f v refl is source
 
   pub region_variable_looked : (r : RegionHandle) (icv : ℕ) (f : Field) (v : Variable) → Stands told s Region (region_pair r) n → variable_in (scope_of (scoped.Parallel r)) icv ≡ Ok v → v.source ≡ Word f
-      → IsLook {A = ℕ} {B = ℕ} (λ x y. x ≡ y) (answer_on memory (icv_from_scope s.layout (get s.handles.held) (scoped.Parallel r) icv)) (look_word s.layout memory (address_of s.layout regions n) f 0)
+      → IsLook {A = ℕ} {B = ℕ} (λ x y. x ≡ y) (answer_on memory (icv_from_scope s.layout (get s.handles.held) (scoped.Parallel r) icv)) (look_word s.layout memory (id_address s.layout regions n) f 0)
   region_variable_looked r icv f v st is source = variable_looked told s Region (region_pair r) n st memory t (scoped.Parallel r) icv f v refl is source
 
   pub region_size_looked : (r : RegionHandle) (icv : ℕ) (v : Variable) → Stands told s Region (region_pair r) n → variable_in (scope_of (scoped.Parallel r)) icv ≡ Ok v → v.source ≡ TeamSize
@@ -96,10 +96,10 @@ module _ {C F : Type 0} (told : C → Told) (s : Opened C F) (n : Id) (memory : 
       (size_looked s.layout memory st.object.addr))
 
   pub tool_looked : (k : TaskHandle) → Stands told s Task (task_pair k) n
-      → IsLook {A = ℕ} {B = ℕ} (λ x y. x ≡ y) (answer_on memory (tool_data s.layout (get s.handles.held) (scoped.Task k))) (look_word s.layout memory (address_of s.layout tasks n) TaskTool 0)
+      → IsLook {A = ℕ} {B = ℕ} (λ x y. x ≡ y) (answer_on memory (tool_data s.layout (get s.handles.held) (scoped.Task k))) (look_word s.layout memory (id_address s.layout tasks n) TaskTool 0)
   unfolding tool_data
   tool_looked k st =
-      subst (λ (a : Result ℕ Rc). IsLook {A = ℕ} {B = ℕ} (λ x y. x ≡ y) a (look_word s.layout memory (address_of s.layout tasks n) TaskTool 0))
+      subst (λ (a : Result ℕ Rc). IsLook {A = ℕ} {B = ℕ} (λ x y. x ≡ y) a (look_word s.layout memory (id_address s.layout tasks n) TaskTool 0))
       (sym (then_answered memory (record_of s.layout (get s.handles.held) (scoped.Task k)) (tool_word s.layout (scoped.Task k)) st.object.addr (record_answers told s Task (task_pair k) n st memory t)))
       (subst (λ a. IsLook {A = ℕ} {B = ℕ} (λ x y. x ≡ y) (answer_on memory (word_of s.layout st.object.addr TaskTool 0)) (look_word s.layout memory a TaskTool 0)) (stands_at told s Task (task_pair k) n st)
       (word_is_looked s.layout memory st.object.addr TaskTool 0))

@@ -5,16 +5,16 @@ use Rattle.omi_layout.specs.Field.{regions}
 use Rattle.omi_word.specs.Words.{Words}
 use Rattle.omi_layout.specs.Table.{thread_count}
 use Rattle.omi_model.specs.declared.id.Id.{Id}
-use Rattle.omi_rep.specs.Look.{Look, and_then, address_of}
-use Rattle.omi_rep.specs.LookView.{look_within, of_task}
+use Rattle.omi_rep.specs.Look.{Look, and_then, id_address}
+use Rattle.omi_rep.specs.LookView.{look_within, read_task}
 
 module _ (w : List ℕ) (memory : Words) where
   -- the number of members of a region
   abbrev pub look_size : Id → Look ℕ
-  look_size n = look_within w memory (address_of w regions n) RegionSize 1 (thread_count w)
+  look_size n = look_within w memory (id_address w regions n) RegionSize 1 (thread_count w)
 
   -- the exit frame and the enter frame of a task
   abbrev pub look_frames : Id → Look (ℕ × ℕ)
   look_frames k =
-      and_then (of_task w memory k TaskExit)
-      (λ exit. and_then (of_task w memory k TaskEnter) (λ enter. Ok (exit, enter)))
+      and_then (read_task w memory k TaskExit)
+      (λ exit. and_then (read_task w memory k TaskEnter) (λ enter. Ok (exit, enter)))

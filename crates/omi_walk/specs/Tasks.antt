@@ -6,8 +6,8 @@ use Rattle.omi_layout.specs.Field.{regions, tasks}
 use Rattle.omi_word.specs.Words.{Words}
 use Rattle.omi_model.specs.declared.id.Id.{Id}
 use Rattle.omi_model.specs.declared.view.TaskRow.{TaskRow}
-use Rattle.omi_rep.specs.Look.{Look, and_then, address_of, look_object, look_optional, look_onward}
-use Rattle.omi_rep.specs.LookView.{of_task, look_nthreads}
+use Rattle.omi_rep.specs.Look.{Look, and_then, id_address, look_object, look_optional, look_onward}
+use Rattle.omi_rep.specs.LookView.{read_task, look_nthreads}
 use Rattle.omi_walk.specs.declared.fault.WalkFault.{WalkFault}
 use Rattle.omi_walk.specs.declared.tasks.Environment.{Environment}
 use Rattle.omi_walk.specs.declared.tasks.Link.{Link}
@@ -18,10 +18,10 @@ module _ (w : List ℕ) (memory : Words) where
   -- the relations of a task. `met` are the addresses of the chain so far, this one included
   abbrev pub look_relations : List ℕ → Id → Look Relations
   look_relations met k =
-      let address = address_of w tasks k in
-      and_then (of_task w memory k TaskImplicit) (λ implicit.
+      let address = id_address w tasks k in
+      and_then (read_task w memory k TaskImplicit) (λ implicit.
       and_then (look_object w memory regions address TaskRegion 0) (λ region.
-      and_then (of_task w memory k TaskFunction) (λ func.
+      and_then (read_task w memory k TaskFunction) (λ func.
       and_then (look_optional w memory tasks address TaskGenerating 0) (λ generating.
       and_then (look_onward w memory tasks met address TaskScheduling) (λ scheduling.
       Ok (record {
@@ -35,11 +35,11 @@ module _ (w : List ℕ) (memory : Words) where
   -- the data environment of a task
   abbrev pub look_environment : Id → Look Environment
   look_environment k =
-      and_then (of_task w memory k TaskDynamic) (λ dynamic.
+      and_then (read_task w memory k TaskDynamic) (λ dynamic.
       and_then (look_nthreads w memory k) (λ nthreads.
-      and_then (of_task w memory k TaskSchedule) (λ schedule.
-      and_then (of_task w memory k TaskDevice) (λ device.
-      and_then (of_task w memory k TaskFinal) (λ final.
+      and_then (read_task w memory k TaskSchedule) (λ schedule.
+      and_then (read_task w memory k TaskDevice) (λ device.
+      and_then (read_task w memory k TaskFinal) (λ final.
       Ok (record {
         dyn_var = dynamic;
         nthreads = nthreads;

@@ -9,7 +9,7 @@ ghost use Rattle.omi_layout.specs.declared.field.Field.TheVariants.{RegionEnclos
 ghost use Rattle.omi_layout.specs.Field.{regions, tasks};
 ghost use Rattle.omi_layout.specs.Table.{records};
 ghost use Rattle.omi_outside.specs.Outside.{HasCause};
-ghost use Rattle.omi_rep.specs.Look.{address_of, look_object, look_onward, was_met};
+ghost use Rattle.omi_rep.specs.Look.{id_address, look_object, look_onward, was_met};
 ghost use Rattle.omi_rep.specs.LookView.{look_enclosing};
 ghost use Rattle.omi_walk.specs.Chains.{unmet as the_unmet, names_of};
 ghost use Rattle.omi_walk.specs.Gives.{Looks};
@@ -45,7 +45,7 @@ pub fn innermost<C: Callbacks, F: ToHost>(
     requires many { s.old.handles.made < 2 ^ 60 }
     requires met { IsMet C.told s.old Task task }
     ensures look { Looks C.told s.old (name_met result) (λ w memory.
-        look_object w memory regions (address_of w tasks task.name) TaskRegion 0) }
+        look_object w memory regions (id_address w tasks task.name) TaskRegion 0) }
     ensures met { IfOk result (IsMet C.told s.new Region) }
     ensures leaves { Leaves C.told 2 s.old s.new }
     ensures cause { HasCause (C.faults s.old.table.calls) (C.faults s.new.table.calls)
@@ -68,7 +68,7 @@ fn onward<C: Callbacks, F: ToHost>(
     ensures look { (before : prelude.List ℕ)
         → ((address : ℕ) → contains nat_cmp met.now address ≡ was_met before address)
         → Looks C.told s.old (names_met result) (λ w memory. look_onward w memory regions
-        before (address_of w regions region.name) RegionEnclosing) }
+        before (id_address w regions region.name) RegionEnclosing) }
     ensures met { IfOk result (λ o. IfSome o (IsMet C.told s.new Region)) }
     ensures leaves { Leaves C.told 2 s.old s.new }
     ensures cause { HasCause (C.faults s.old.table.calls) (C.faults s.new.table.calls)

@@ -2,7 +2,7 @@
 
 ghost use Rattle.std.specs.Prelude.{◌≡◌, Err};
 ghost use Rattle.omi_outside.specs.Outside.{HasCause};
-ghost use Rattle.omi_rep.specs.LookView.{of_runtime, look_head};
+ghost use Rattle.omi_rep.specs.LookView.{read_runtime, look_head};
 ghost use Rattle.omi_walk.specs.Gives.{Looks};
 ghost use Rattle.omi_walk.specs.Leaves.{Leaves};
 
@@ -18,7 +18,7 @@ use omi_session::Session;
 /// The version of OpenMP that the target's runtime has.
 fn version_of<C: Callbacks, F: ToHost>(s: &mut Session<C, F>) -> Result<u64, WalkFault>
     ensures look { Looks C.told s.old result
-        (λ w memory. of_runtime w memory Field.RuntimeVersion) }
+        (λ w memory. read_runtime w memory Field.RuntimeVersion) }
     ensures leaves { Leaves C.told 0 s.old s.new }
     ensures cause { HasCause (C.faults s.old.table.calls) (C.faults s.new.table.calls)
         (result ≡ Err WalkFault.Callback) }

@@ -7,7 +7,7 @@ ghost use Rattle.omi_layout.specs.Field.{threads, regions, tasks};
 ghost use Rattle.omi_layout.specs.Table.{thread_count};
 ghost use Rattle.omi_model.specs.declared.id.Id.{Id};
 ghost use Rattle.omi_outside.specs.Outside.{HasCause};
-ghost use Rattle.omi_rep.specs.Look.{address_of, look_object, look_word, and_then, each};
+ghost use Rattle.omi_rep.specs.Look.{id_address, look_object, look_word, and_then, each};
 ghost use Rattle.omi_rep.specs.LookView.{look_member};
 ghost use Rattle.omi_session.specs.Made.{region_pair};
 ghost use Rattle.omi_walk.specs.Gives.{Looks};
@@ -37,7 +37,7 @@ fn task_of<C: Callbacks, F: ToHost>(
     ensures look { (n : Id) (size : _) → Stands C.told s.old Region (region_pair r) n
         → HasSize C.told s.old n size → num < size
         → Looks C.told s.old (name_met result) (λ w memory.
-        look_object w memory tasks (address_of w regions n) Field.RegionTeam num) }
+        look_object w memory tasks (id_address w regions n) Field.RegionTeam num) }
     ensures leaves { Leaves C.told 1 s.old s.new }
     ensures cause { HasCause (C.faults s.old.table.calls) (C.faults s.new.table.calls)
         (result ≡ Err WalkFault.Callback) }
@@ -58,9 +58,9 @@ fn thread_of<C: Callbacks, F: ToHost>(
     ensures look { (n k : Id) (size : _) → Stands C.told s.old Region (region_pair r) n
         → HasSize C.told s.old n size → num < size
         → Looks C.told s.old (Rattle.std.specs.Prelude.Ok k) (λ w memory.
-        look_object w memory tasks (address_of w regions n) Field.RegionTeam num)
+        look_object w memory tasks (id_address w regions n) Field.RegionTeam num)
         → Looks C.told s.old (name_met result) (λ w memory.
-        look_object w memory threads (address_of w tasks k) Field.TaskThread 0) }
+        look_object w memory threads (id_address w tasks k) Field.TaskThread 0) }
     ensures leaves { Leaves C.told 1 s.old s.new }
     ensures cause { HasCause (C.faults s.old.table.calls) (C.faults s.new.table.calls)
         (result ≡ Err WalkFault.Callback) }

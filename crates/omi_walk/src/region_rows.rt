@@ -5,7 +5,7 @@ ghost use Rattle.std.specs.List.{filter_map};
 ghost use Rattle.omi_walk.specs.declared.limits.TheConstants.{HANDLES_WITHIN};
 ghost use Rattle.omi_layout.specs.Field.{regions};
 ghost use Rattle.omi_outside.specs.Outside.{HasCause};
-ghost use Rattle.omi_rep.specs.Look.{each, slots_of};
+ghost use Rattle.omi_rep.specs.Look.{each, slot_list};
 ghost use Rattle.omi_rep.specs.LookView.{look_region, met_in};
 ghost use Rattle.omi_walk.specs.Added.{AddsRows};
 ghost use Rattle.omi_walk.specs.Gives.{Looks};
@@ -79,7 +79,7 @@ pub fn region_rows<C: Callbacks, F: ToHost>(
     requires live { AreLive C.told s.old index.now }
     ensures look { (met : _) → HasFirst index.now met → AreSmall met
         → Looks C.told s.old result (λ w memory. each (look_region w memory)
-        (filter_map (met_in w memory (map (λ m. m.name) met)) (slots_of w regions))) }
+        (filter_map (met_in w memory (map (λ m. m.name) met)) (slot_list w regions))) }
     ensures leaves { Leaves C.told 532480 s.old s.new }
     ensures cause { HasCause (C.faults s.old.table.calls) (C.faults s.new.table.calls)
         (result ≡ Err WalkFault.Callback) }

@@ -5,7 +5,7 @@ ghost use Rattle.omi_handle.specs.declared.handle.Kind.TheVariants.{Region};
 ghost use Rattle.omi_layout.specs.declared.field.Field.TheVariants.{RegionFunction};
 ghost use Rattle.omi_model.specs.declared.id.Id.{Id};
 ghost use Rattle.omi_outside.specs.Outside.{HasCause};
-ghost use Rattle.omi_rep.specs.LookView.{look_region, of_region};
+ghost use Rattle.omi_rep.specs.LookView.{look_region, read_region};
 ghost use Rattle.omi_session.specs.Made.{region_pair};
 ghost use Rattle.omi_walk.specs.Gives.{Looks};
 ghost use Rattle.omi_walk.specs.Leaves.{Leaves};
@@ -31,7 +31,7 @@ fn entry_of<C: Callbacks, F: ToHost>(
     r: RegionHandle,
 ) -> Result<u64, WalkFault>
     ensures look { (n : Id) → Stands C.told s.old Region (region_pair r) n
-        → Looks C.told s.old result (λ w memory. of_region w memory n RegionFunction) }
+        → Looks C.told s.old result (λ w memory. read_region w memory n RegionFunction) }
     ensures leaves { Leaves C.told 0 s.old s.new }
     ensures cause { HasCause (C.faults s.old.table.calls) (C.faults s.new.table.calls)
         (result ≡ Err WalkFault.Callback) }

@@ -8,7 +8,7 @@ ghost use Rattle.omi_model.specs.declared.id.Id.{Id};
 ghost use Rattle.omi_outside.specs.Outside.{HasCause};
 ghost use Rattle.omi_layout.specs.Field.{regions, tasks};
 ghost use Rattle.omi_layout.specs.declared.field.Field.TheVariants.{TaskRegion};
-ghost use Rattle.omi_rep.specs.Look.{address_of, look_object, look_optional};
+ghost use Rattle.omi_rep.specs.Look.{id_address, look_object, look_optional};
 ghost use Rattle.omi_session.specs.Inquiry as inquiry;
 ghost use Rattle.omi_session.specs.Made.{Answered, Makes, as_pair, region_pair, task_pair};
 ghost use Rattle.omi_session.specs.Named.{record_kind};
@@ -115,7 +115,7 @@ pub fn related_of<C: Callbacks, F: ToHost>(
     ensures look { (n : Id) → Stands C.told s.old (kind_from relation) (pair_of relation) n
         → Looks C.told s.old (names_met result) (λ w memory.
         look_optional w memory (record_kind (kind_to relation))
-        (address_of w (record_kind (kind_from relation)) n) (field_of relation) 0) }
+        (id_address w (record_kind (kind_from relation)) n) (field_of relation) 0) }
     ensures met { IfOk result (λ o. IfSome o (IsMet C.told s.new (kind_to relation))) }
     ensures leaves { Leaves C.told 1 s.old s.new }
     ensures cause { HasCause (C.faults s.old.table.calls) (C.faults s.new.table.calls)
@@ -135,7 +135,7 @@ pub fn region_of<C: Callbacks, F: ToHost>(
     requires { s.old.handles.made < 2 ^ 62 }
     ensures look { (n : Id) → Stands C.told s.old Task (task_pair k) n
         → Looks C.told s.old (name_met result) (λ w memory.
-        look_object w memory regions (address_of w tasks n) TaskRegion 0) }
+        look_object w memory regions (id_address w tasks n) TaskRegion 0) }
     ensures met { IfOk result (IsMet C.told s.new Region) }
     ensures leaves { Leaves C.told 1 s.old s.new }
     ensures cause { HasCause (C.faults s.old.table.calls) (C.faults s.new.table.calls)

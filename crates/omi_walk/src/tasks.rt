@@ -9,7 +9,7 @@ ghost use Rattle.omi_handle.specs.declared.handle.Kind.TheVariants.{Task};
 ghost use Rattle.omi_layout.specs.declared.field.Field.TheVariants.{TaskScheduling};
 ghost use Rattle.omi_layout.specs.Field.{tasks};
 ghost use Rattle.omi_outside.specs.Outside.{HasCause};
-ghost use Rattle.omi_rep.specs.Look.{address_of, look_onward, was_met};
+ghost use Rattle.omi_rep.specs.Look.{id_address, look_onward, was_met};
 ghost use Rattle.omi_rep.specs.LookView.{look_task};
 ghost use Rattle.omi_session.specs.Made.{task_pair};
 ghost use Rattle.omi_walk.specs.Gives.{Looks};
@@ -77,7 +77,7 @@ fn next_of<C: Callbacks, F: ToHost>(
     ensures look { (n : Id) (before : prelude.List ℕ) → Stands C.told s.old Task (task_pair k) n
         → ((address : ℕ) → contains nat_cmp met.now address ≡ was_met before address)
         → Looks C.told s.old (names_met result) (λ w memory.
-        look_onward w memory tasks before (address_of w tasks n) TaskScheduling) }
+        look_onward w memory tasks before (id_address w tasks n) TaskScheduling) }
     ensures met { IfOk result (λ o. IfSome o (IsMet C.told s.new Task)) }
     ensures leaves { Leaves C.told 1 s.old s.new }
     ensures cause { HasCause (C.faults s.old.table.calls) (C.faults s.new.table.calls)

@@ -8,7 +8,7 @@ ghost use Rattle.omi_layout.specs.Table.{thread_count};
 ghost use Rattle.omi_model.specs.declared.id.Id.{Id};
 ghost use Rattle.omi_outside.specs.Outside.{HasCause};
 ghost use Rattle.omi_rep.specs.Look.{optional};
-ghost use Rattle.omi_rep.specs.LookView.{look_for, look_state, look_current, look_part, look_thread, of_task};
+ghost use Rattle.omi_rep.specs.LookView.{look_for, look_state, look_current, look_part, look_thread, read_task};
 ghost use Rattle.omi_session.specs.Made.{thread_pair};
 ghost use Rattle.omi_walk.specs.Gives.{Looks};
 ghost use Rattle.omi_walk.specs.Leaves.{Leaves};
@@ -88,7 +88,7 @@ fn number_of<C: Callbacks, F: ToHost>(
     ensures look { (n : Id) (current : Option Id) → Stands C.told s.old Thread (thread_pair t) n
         → Looks C.told s.old (Ok current) (λ w memory. look_current w memory n.creator)
         → Looks C.told s.old result (λ w memory.
-        optional (λ k. of_task w memory k Field.TaskNumber) current) }
+        optional (λ k. read_task w memory k Field.TaskNumber) current) }
     ensures leaves { Leaves C.told 0 s.old s.new }
     ensures cause { HasCause (C.faults s.old.table.calls) (C.faults s.new.table.calls)
         (result ≡ Err WalkFault.Callback) }

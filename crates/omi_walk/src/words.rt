@@ -10,7 +10,7 @@ ghost use Rattle.omi_icv.specs.Table.{variable_in};
 ghost use Rattle.omi_model.specs.declared.id.Id.{Id};
 ghost use Rattle.omi_outside.specs.Outside.{HasCause};
 ghost use Rattle.omi_rep.specs.Look.{and_then};
-ghost use Rattle.omi_rep.specs.LookView.{of_runtime, of_region, of_task};
+ghost use Rattle.omi_rep.specs.LookView.{read_runtime, read_region, read_task};
 ghost use Rattle.omi_session.specs.Made.{region_pair, task_pair};
 ghost use Rattle.omi_walk.specs.Gives.{Looks};
 ghost use Rattle.omi_walk.specs.Leaves.{Leaves};
@@ -37,7 +37,7 @@ pub fn task_variable<C: Callbacks, F: ToHost>(
     ensures look { (n : Id) (f : Field) (v : Variable)
         → variable_in (scope_of (scoped.Task k)) icv ≡ Ok v → v.source ≡ Word f
         → Stands C.told s.old Task (task_pair k) n
-        → Looks C.told s.old result (λ w memory. of_task w memory n f) }
+        → Looks C.told s.old result (λ w memory. read_task w memory n f) }
     ensures leaves { Leaves C.told 0 s.old s.new }
     ensures cause { HasCause (C.faults s.old.table.calls) (C.faults s.new.table.calls)
         (result ≡ Err WalkFault.Callback) }
@@ -55,7 +55,7 @@ pub fn region_variable<C: Callbacks, F: ToHost>(
     ensures look { (n : Id) (f : Field) (v : Variable)
         → variable_in (scope_of (scoped.Parallel r)) icv ≡ Ok v → v.source ≡ Word f
         → Stands C.told s.old Region (region_pair r) n
-        → Looks C.told s.old result (λ w memory. of_region w memory n f) }
+        → Looks C.told s.old result (λ w memory. read_region w memory n f) }
     ensures leaves { Leaves C.told 0 s.old s.new }
     ensures cause { HasCause (C.faults s.old.table.calls) (C.faults s.new.table.calls)
         (result ≡ Err WalkFault.Callback) }
@@ -71,7 +71,7 @@ pub fn space_variable<C: Callbacks, F: ToHost>(
 ) -> Result<u64, WalkFault>
     ensures look { (f : Field) (v : Variable)
         → variable_in (scope_of scoped.Space) icv ≡ Ok v → v.source ≡ Word f
-        → Looks C.told s.old result (λ w memory. of_runtime w memory f) }
+        → Looks C.told s.old result (λ w memory. read_runtime w memory f) }
     ensures leaves { Leaves C.told 0 s.old s.new }
     ensures cause { HasCause (C.faults s.old.table.calls) (C.faults s.new.table.calls)
         (result ≡ Err WalkFault.Callback) }
@@ -101,7 +101,7 @@ pub fn function_of<C: Callbacks, F: ToHost>(
     k: TaskHandle,
 ) -> Result<u64, WalkFault>
     ensures look { (n : Id) → Stands C.told s.old Task (task_pair k) n
-        → Looks C.told s.old result (λ w memory. of_task w memory n Field.TaskFunction) }
+        → Looks C.told s.old result (λ w memory. read_task w memory n Field.TaskFunction) }
     ensures leaves { Leaves C.told 0 s.old s.new }
     ensures cause { HasCause (C.faults s.old.table.calls) (C.faults s.new.table.calls)
         (result ≡ Err WalkFault.Callback) }
@@ -116,7 +116,7 @@ pub fn tool_of<C: Callbacks, F: ToHost>(
     k: TaskHandle,
 ) -> Result<u64, WalkFault>
     ensures look { (n : Id) → Stands C.told s.old Task (task_pair k) n
-        → Looks C.told s.old result (λ w memory. of_task w memory n Field.TaskTool) }
+        → Looks C.told s.old result (λ w memory. read_task w memory n Field.TaskTool) }
     ensures leaves { Leaves C.told 0 s.old s.new }
     ensures cause { HasCause (C.faults s.old.table.calls) (C.faults s.new.table.calls)
         (result ≡ Err WalkFault.Callback) }

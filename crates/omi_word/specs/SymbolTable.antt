@@ -4,7 +4,7 @@ use Rattle.std.specs.List.{flat_map}
 use Rattle.std.specs.Option.{option_map, option_and_then}
 use Rattle.std.specs.Int.{w64, to_le_bytes}
 use Rattle.std.specs.Str.{bytes_eq}
-use Rattle.omi_word.specs.declared.limits.TheConstants.{COUNT_PLACE, FIRST_PLACE, MOST_SYMBOLS, SYMBOL_BYTES}
+use Rattle.omi_word.specs.declared.limits.TheConstants.{SYMBOL_COUNT_ADDRESS, FIRST_SYMBOL_ADDRESS, MOST_SYMBOLS, SYMBOL_BYTES}
 use Rattle.omi_word.specs.Words.{Words}
 
 -- a symbol as it is stored: its name, filled up with zeros to 32 bytes, and its address
@@ -36,8 +36,8 @@ symbols_from words addr (suc n) =
 abbrev pub symbols_in : Words → Option (List Symbol)
 symbols_in words =
     option_and_then
-    (λ count. if nat_le count MOST_SYMBOLS then symbols_from words FIRST_PLACE count else None)
-    (words COUNT_PLACE)
+    (λ count. if nat_le count MOST_SYMBOLS then symbols_from words FIRST_SYMBOL_ADDRESS count else None)
+    (words SYMBOL_COUNT_ADDRESS)
 
 -- the symbol has this name
 abbrev pub is_named : List ℕ → Symbol → Bool

@@ -10,7 +10,8 @@ mod word_memory;
 
 pub use image::Image;
 pub use limits::{
-    COUNT_PLACE, FIRST_ADDRESS, FIRST_PLACE, MEMORY_END, MOST_SYMBOLS, MOST_WORDS, SYMBOL_BYTES,
+    FIRST_ADDRESS, FIRST_SYMBOL_ADDRESS, MEMORY_END, MOST_SYMBOLS, MOST_WORDS, SYMBOL_BYTES,
+    SYMBOL_COUNT_ADDRESS,
 };
 pub use natives::Natives;
 pub use omi_list::OutOfMemory;

@@ -10,10 +10,10 @@ pub const MEMORY_END: u64 = 0x8000_0000_0000;
 pub const MOST_WORDS: u64 = 1_048_576;
 
 /// The byte address of the word that counts the symbols of a memory.
-pub const COUNT_PLACE: u64 = FIRST_ADDRESS;
+pub const SYMBOL_COUNT_ADDRESS: u64 = FIRST_ADDRESS;
 
 /// The byte address of the first symbol, right behind the word that counts them.
-pub const FIRST_PLACE: u64 = 0x10008;
+pub const FIRST_SYMBOL_ADDRESS: u64 = 0x10008;
 
 /// The most symbols of a table.
 pub const MOST_SYMBOLS: u64 = 16;

@@ -3,7 +3,7 @@
 ghost use Rattle.std.specs.Prelude.{◌≡◌, ◌≤◌, length, Some, if◌then◌else◌};
 ghost use Rattle.omi_word.specs.SymbolTable.{words_from, symbol_of, is_named, symbol_in};
 
-use crate::{COUNT_PLACE, FIRST_PLACE, MOST_SYMBOLS, SYMBOL_BYTES, WordMemory};
+use crate::{FIRST_SYMBOL_ADDRESS, MOST_SYMBOLS, SYMBOL_BYTES, SYMBOL_COUNT_ADDRESS, WordMemory};
 
 /// The words of a symbol at a byte address, where each of them is mapped.
 fn five_words<M: WordMemory>(memory: &M, at: u64) -> Option<[u64; 5]>
@@ -58,7 +58,7 @@ pub fn found_with(words: &[u64; 5], name: &str, found: Option<u64>) -> Option<u6
 pub fn look_up<M: WordMemory>(memory: &M, name: &str) -> Option<u64>
     ensures { result ≡ symbol_in (M.words memory.now) name.now }
 {
-    let count = memory.word(COUNT_PLACE)?;
+    let count = memory.word(SYMBOL_COUNT_ADDRESS)?;
     if count > MOST_SYMBOLS {
         return None;
     }
@@ -66,7 +66,7 @@ pub fn look_up<M: WordMemory>(memory: &M, name: &str) -> Option<u64>
     let mut left = count;
     while left > 0 {
         left -= 1;
-        let words = five_words(memory, FIRST_PLACE + SYMBOL_BYTES * left)?;
+        let words = five_words(memory, FIRST_SYMBOL_ADDRESS + SYMBOL_BYTES * left)?;
         found = found_with(&words, name, found);
     }
     found

@@ -20,7 +20,7 @@ use Rattle.omi_model.specs.Views.{IsReported}
 use Rattle.omi_model.specs.Visible.{IsVisibleRegion, IsVisibleTask}
 use Rattle.omi_model.specs.WellFormed.{HasBegun, IsRegionRight, along, Ends}
 use Rattle.omi_rep.specs.Records.{region_address}
-use Rattle.omi_rep.specs.Look.{optional, address_of, look_object}
+use Rattle.omi_rep.specs.Look.{optional, id_address, look_object}
 use Rattle.omi_rep.specs.LookView.{look_innermost, look_enclosing, look_regions}
 use Rattle.omi_rep.specs.Shows.{Shows}
 use Rattle.omi_rep.proofs.Looks.{step}
@@ -140,13 +140,13 @@ module _ (w : List ℕ) (words : Words) (s : State) (valid : IsValid w) (names :
   innermost_looked i has = step _ _ _ _ (current_looked w words s valid names shown i has) (go (s.threads i).current (current_seen w words s valid names shown i has))
     where
       go : (o : Option Tid) → ((k : Tid) → o ≡ Some k → IsVisibleTask s k)
-          → optional (λ (k : Id). look_object w words regions (address_of w tasks k) TaskRegion 0) (option_map (λ (k : Tid). k.0) o)
+          → optional (λ (k : Id). look_object w words regions (id_address w tasks k) TaskRegion 0) (option_map (λ (k : Tid). k.0) o)
           ≡ Ok (option_map (λ (n : Rid). n.0) (option_map (λ (t : Task). t.region) (option_and_then (task_of s) o)))
       go None seen = refl
       go (Some k) seen =
           let task = seen k refl in
           step _ _ task.task.region.0 _
-          (object_looked w words regions (address_of w tasks k.0) TaskRegion 0 task.task.region.0 (shown.records.tasks k task).region (region_live w words s valid names shown task.task.region (task_region k task)))
+          (object_looked w words regions (id_address w tasks k.0) TaskRegion 0 task.task.region.0 (shown.records.tasks k task).region (region_live w words s valid names shown task.task.region (task_region k task)))
           (ap (λ (t : Option Task). Ok (option_map (λ (n : Rid). n.0) (option_map (λ (u : Task). u.region) t))) (sym task.live))
 
   pub regions_looked : (i : ℕ) → HasBegun s i → (ids : List Id) × (look_regions w words i ≡ Ok ids) × AreRegionsOf s i ids

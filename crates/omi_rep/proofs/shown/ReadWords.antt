@@ -19,7 +19,7 @@ use Rattle.omi_model.specs.Visible.{IsVisibleRegion, IsVisibleTask}
 use Rattle.omi_model.specs.WellFormed.{HasBegun}
 use Rattle.omi_rep.specs.declared.fault.LookFault.TheVariants.{Damaged, Cycle}
 use Rattle.omi_rep.specs.Records.{record_at}
-use Rattle.omi_rep.specs.Look.{Look, mapped, each, is_live, life_of, address_of, was_met, live_at, lead, look_word, look_object, look_optional, look_onward}
+use Rattle.omi_rep.specs.Look.{Look, mapped, each, is_live, life_of, id_address, was_met, live_at, lead, look_word, look_object, look_optional, look_onward}
 use Rattle.omi_rep.specs.LookView.{look_within}
 use Rattle.omi_rep.specs.Shows.{Shows}
 use Rattle.omi_rep.proofs.Looks.{step}
@@ -78,52 +78,52 @@ module _ (w : List ℕ) (words : Words) where
 
   -- the live object whose record is in a slot
   pub live_found : IsValid w → (kind : ℕ) → IsKind kind → (n : Id) (life : ℕ) → IsSlot w kind n.creator n.slot
-      → record_at w words (address_of w kind n) (number (life_of kind)) 0 ≡ Some life → is_live kind life ≡ true → life / 2 ≡ n.generation
-      → live_at w words kind (address_of w kind n) ≡ Some n
+      → record_at w words (id_address w kind n) (number (life_of kind)) 0 ≡ Some life → is_live kind life ≡ true → life / 2 ≡ n.generation
+      → live_at w words kind (id_address w kind n) ≡ Some n
   live_found valid kind known n life is word live half =
       ap (option_and_then (λ (at : ℕ × ℕ). option_and_then (λ (x : ℕ). cond (is_live kind x) (Some (record { creator = at.0; slot = at.1; generation = x / 2 })) None)
-      (record_at w words (address_of w kind n) (number (life_of kind)) 0))) (slot_found w valid kind known n.creator n.slot is)
+      (record_at w words (id_address w kind n) (number (life_of kind)) 0))) (slot_found w valid kind known n.creator n.slot is)
       ∙ ap (option_and_then (λ (x : ℕ). cond (is_live kind x) (Some (record { creator = n.creator; slot = n.slot; generation = x / 2 })) None)) word
       ∙ ap (λ (b : Bool). cond b (Some (record { creator = n.creator; slot = n.slot; generation = life / 2 })) None) live
       ∙ ap (λ (g : ℕ). Some (record { creator = n.creator; slot = n.slot; generation = g })) half
 
   module _ (kind : ℕ) (address : ℕ) (f : Field) where
-    lead_looked : (n : Id) → live_at w words kind (address_of w kind n) ≡ Some n → lead w words kind f (address_of w kind n) ≡ Ok n
-    lead_looked n live = ap (λ o. ok_or o (Damaged (address_of w kind n) (number f))) live
+    lead_looked : (n : Id) → live_at w words kind (id_address w kind n) ≡ Some n → lead w words kind f (id_address w kind n) ≡ Ok n
+    lead_looked n live = ap (λ o. ok_or o (Damaged (id_address w kind n) (number f))) live
 
     -- the object to which a word points
-    pub object_looked : (at : ℕ) (n : Id) → record_at w words address (number f) at ≡ Some (address_of w kind n) → live_at w words kind (address_of w kind n) ≡ Some n
+    pub object_looked : (at : ℕ) (n : Id) → record_at w words address (number f) at ≡ Some (id_address w kind n) → live_at w words kind (id_address w kind n) ≡ Some n
         → look_object w words kind address f at ≡ Ok n
-    object_looked at n stands live = step _ _ (address_of w kind n) _ (word_looked address f at _ stands) (lead_looked n live)
+    object_looked at n stands live = step _ _ (id_address w kind n) _ (word_looked address f at _ stands) (lead_looked n live)
 
     -- the same of a word that may name none
-    module _ {N : Type 0} (name : N → Id) (named : Option N) (positive : (n : N) → 0 < address_of w kind (name n))
-        (lives : (n : N) → named ≡ Some n → live_at w words kind (address_of w kind (name n)) ≡ Some (name n))
-        (stands : record_at w words address (number f) 0 ≡ Some (option_map_or (λ n. address_of w kind (name n)) named 0)) where
+    module _ {N : Type 0} (name : N → Id) (named : Option N) (positive : (n : N) → 0 < id_address w kind (name n))
+        (lives : (n : N) → named ≡ Some n → live_at w words kind (id_address w kind (name n)) ≡ Some (name n))
+        (stands : record_at w words address (number f) 0 ≡ Some (option_map_or (λ n. id_address w kind (name n)) named 0)) where
       pub optional_looked : look_optional w words kind address f 0 ≡ Ok (option_map name named)
-      optional_looked = step _ _ (option_map_or (λ n. address_of w kind (name n)) named 0) _ (word_looked address f 0 _ stands) (go named lives)
+      optional_looked = step _ _ (option_map_or (λ n. id_address w kind (name n)) named 0) _ (word_looked address f 0 _ stands) (go named lives)
         where
           none : Look (Option Id)
           none = Ok None
 
-          go : (o : Option N) → ((n : N) → o ≡ Some n → live_at w words kind (address_of w kind (name n)) ≡ Some (name n))
-              → cond (option_map_or (λ n. address_of w kind (name n)) o 0 == 0) (Ok None) (mapped (λ (n : Id). Some n) (lead w words kind f (option_map_or (λ n. address_of w kind (name n)) o 0)))
+          go : (o : Option N) → ((n : N) → o ≡ Some n → live_at w words kind (id_address w kind (name n)) ≡ Some (name n))
+              → cond (option_map_or (λ n. id_address w kind (name n)) o 0 == 0) (Ok None) (mapped (λ (n : Id). Some n) (lead w words kind f (option_map_or (λ n. id_address w kind (name n)) o 0)))
               ≡ Ok (option_map name o)
           go None are = refl
           go (Some n) are =
-              let some : address_of w kind (name n) == 0 ≡ false = (let low = positive n in grind (arith, nat_tests)) in
-              ap (λ (b : Bool). cond b (Ok None) (mapped (λ (m : Id). Some m) (lead w words kind f (address_of w kind (name n))))) some
+              let some : id_address w kind (name n) == 0 ≡ false = (let low = positive n in grind (arith, nat_tests)) in
+              ap (λ (b : Bool). cond b (Ok None) (mapped (λ (m : Id). Some m) (lead w words kind f (id_address w kind (name n))))) some
               ∙ step _ _ (name n) _ (lead_looked (name n) (are n refl)) refl
 
       -- and was not met before
-      pub onward_looked : (met : List ℕ) → ((n : N) → named ≡ Some n → was_met met (address_of w kind (name n)) ≡ false)
+      pub onward_looked : (met : List ℕ) → ((n : N) → named ≡ Some n → was_met met (id_address w kind (name n)) ≡ false)
           → look_onward w words kind met address f ≡ Ok (option_map name named)
       onward_looked met new = step _ _ (option_map name named) _ optional_looked (go named new)
         where
-          go : (o : Option N) → ((n : N) → o ≡ Some n → was_met met (address_of w kind (name n)) ≡ false)
-              → option_map_or (λ (n : Id). cond (was_met met (address_of w kind n)) (Err (Cycle (address_of w kind n))) (Ok (Some n))) (option_map name o) (Ok None) ≡ Ok (option_map name o)
+          go : (o : Option N) → ((n : N) → o ≡ Some n → was_met met (id_address w kind (name n)) ≡ false)
+              → option_map_or (λ (n : Id). cond (was_met met (id_address w kind n)) (Err (Cycle (id_address w kind n))) (Ok (Some n))) (option_map name o) (Ok None) ≡ Ok (option_map name o)
           go None are = refl
-          go (Some n) are = ap (λ (b : Bool). cond b (Err (Cycle (address_of w kind (name n)))) (Ok (Some (name n)))) (are n refl)
+          go (Some n) are = ap (λ (b : Bool). cond b (Err (Cycle (id_address w kind (name n)))) (Ok (Some (name n)))) (are n refl)
 
 -- a life word tells its generation
 half_of : (g : ℕ) → (2 * g + 1) / 2 ≡ g
@@ -135,23 +135,23 @@ thread_name i = record { creator = i; slot = 0; generation = 0 }
 
 module _ (w : List ℕ) (words : Words) (s : State) (valid : IsValid w) (names : AreNames s) (shown : Shows w words s) where
   -- the objects that words lead to
-  pub thread_live : (i : ℕ) → HasBegun s i → live_at w words threads (address_of w threads (thread_name i)) ≡ Some (thread_name i)
+  pub thread_live : (i : ℕ) → HasBegun s i → live_at w words threads (id_address w threads (thread_name i)) ≡ Some (thread_name i)
   thread_live i has =
       let lives = thread_lives w words s valid shown i has in
       live_found w words valid threads kind_2 (thread_name i) 1 (record { made_by = omega (arith, has.known, shown.within.count); within = omega arith }) lives.word lives.live refl
 
-  pub region_live : (n : Rid) → IsVisibleRegion s n → live_at w words regions (address_of w regions n.0) ≡ Some n.0
+  pub region_live : (n : Rid) → IsVisibleRegion s n → live_at w words regions (id_address w regions n.0) ≡ Some n.0
   region_live n seen =
       let lives = region_lives w words s valid shown names n seen in
       live_found w words valid regions kind_3 n.0 (2 * n.0.generation + 1) (region_slot w words valid s shown n seen) lives.word lives.live (half_of n.0.generation)
 
-  pub task_live : (k : Tid) → IsVisibleTask s k → live_at w words tasks (address_of w tasks k.0) ≡ Some k.0
+  pub task_live : (k : Tid) → IsVisibleTask s k → live_at w words tasks (id_address w tasks k.0) ≡ Some k.0
   task_live k seen =
       let lives = task_lives w words s valid shown names k seen in
       live_found w words valid tasks kind_4 k.0 (2 * k.0.generation + 1) (task_slot w words valid s shown k seen) lives.word lives.live (half_of k.0.generation)
 
-  pub region_somewhere : (n : Rid) → 0 < address_of w regions n.0
+  pub region_somewhere : (n : Rid) → 0 < id_address w regions n.0
   region_somewhere n = none_is_null w valid 3 n.0.creator n.0.slot kind_3
 
-  pub task_somewhere : (k : Tid) → 0 < address_of w tasks k.0
+  pub task_somewhere : (k : Tid) → 0 < id_address w tasks k.0
   task_somewhere k = none_is_null w valid 4 k.0.creator k.0.slot kind_4

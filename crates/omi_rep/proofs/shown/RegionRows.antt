@@ -22,7 +22,7 @@ use Rattle.omi_model.specs.Views.{ComesBefore, AreInOrder, IsReported, AreRegion
 use Rattle.omi_model.specs.Visible.{IsVisibleRegion}
 use Rattle.omi_model.specs.WellFormed.{HasBegun, IsMember, IsRegionRight}
 use Rattle.omi_rep.specs.Records.{records_of}
-use Rattle.omi_rep.specs.Look.{each, slots_of, address_of}
+use Rattle.omi_rep.specs.Look.{each, slot_list, id_address}
 use Rattle.omi_rep.specs.LookView.{met_in, look_member, look_region}
 use Rattle.omi_rep.specs.Shows.{Shows, ShowsRegion}
 use Rattle.omi_rep.proofs.Looks.{step}
@@ -72,7 +72,7 @@ module _ (w : List ℕ) (words : Words) (s : State) (valid : IsValid w) (names :
     r = seen.region
 
     abbrev at : ℕ
-    at = address_of w regions n.0
+    at = id_address w regions n.0
 
     told : ShowsRegion w (records_of w words n.0.creator regions n.0.slot) r
     told = shown.records.regions n seen
@@ -90,7 +90,7 @@ module _ (w : List ℕ) (words : Words) (s : State) (valid : IsValid w) (names :
         let begun : HasBegun s task.task.thread = (shown.within.well_formed.tasks m.0 task).begun in
         step _ _ m.0.0 _ (object_looked w words tasks at RegionTeam j m.0.0 (told.team j m is) (task_live w words s valid names shown m.0 task))
         (step _ _ (thread_name task.task.thread) _
-        (object_looked w words threads (address_of w tasks m.0.0) TaskThread 0 (thread_name task.task.thread) (shown.records.tasks m.0 task).thread (thread_live w words s valid names shown task.task.thread begun))
+        (object_looked w words threads (id_address w tasks m.0.0) TaskThread 0 (thread_name task.task.thread) (shown.records.tasks m.0 task).thread (thread_live w words s valid names shown task.task.thread begun))
         (ap (λ (i : ℕ). Ok (member_row (m.0, i))) (member.same task.task task.live)))
 
     region_looked : look_region w words n.0 ≡ Ok (region_row n r)
@@ -114,7 +114,7 @@ module _ (w : List ℕ) (words : Words) (s : State) (valid : IsValid w) (names :
 
     -- those in order
     abbrev ids : List Id
-    ids = filter_map (met_in w words flat) (slots_of w regions)
+    ids = filter_map (met_in w words flat) (slot_list w regions)
 
     -- what is met in a slot is a region of this slot
     met_there : (at : ℕ × ℕ) (n : Id) → met_in w words flat at ≡ Some n → Contains flat n × (n.creator ≡ at.0) × (n.slot ≡ at.1)
@@ -127,7 +127,7 @@ module _ (w : List ℕ) (words : Words) (s : State) (valid : IsValid w) (names :
 
     id_reported : (n : Id) → Contains ids n → IsReported s all (region_name n)
     id_reported n inside =
-        let (at, _, is) = from_given (met_in w words flat) (slots_of w regions) n inside in
+        let (at, _, is) = from_given (met_in w words flat) (slot_list w regions) n inside in
         met_reported s all met are (region_name n) (met_there at n is).0
 
     seen : (n : Rid) → IsReported s all n → IsVisibleRegion s n
@@ -142,14 +142,14 @@ module _ (w : List ℕ) (words : Words) (s : State) (valid : IsValid w) (names :
         let theirs = seen (region_name m) (met_reported s all met are (region_name m) there) in
         let same : region_name m ≡ n = same_region w words valid s s shown shown (region_name m) n theirs (seen n reported) (ap₂ (slot_address w regions) creator slot) in
         let is : met_in w words flat (n.0.creator, n.0.slot) ≡ Some n.0 = found ∙ ap (λ (q : Rid). Some q.0) same in
-        in_given (met_in w words flat) (slots_of w regions) (n.0.creator, n.0.slot) n.0
+        in_given (met_in w words flat) (slot_list w regions) (n.0.creator, n.0.slot) n.0
         (in_slots w regions n.0.creator n.0.slot (region_slot w words valid s shown n (seen n reported))) is
       where
         both : {a b : Bool} → a ≡ true → b ≡ true → a && b ≡ true
         both x y = ap₂ (λ (p q : Bool). p && q) x y
 
     ids_ordered : Ordered NameBefore ids
-    ids_ordered = given_ordered SlotBefore NameBefore (met_in w words flat) (slots_of w regions) keeps (slots_ordered w regions)
+    ids_ordered = given_ordered SlotBefore NameBefore (met_in w words flat) (slot_list w regions) keeps (slots_ordered w regions)
       where
         keeps : (a b : ℕ × ℕ) (m n : Id) → SlotBefore a b → met_in w words flat a ≡ Some m → met_in w words flat b ≡ Some n → NameBefore m n
         keeps a b m n before is was =

@@ -19,7 +19,7 @@ use Rattle.omi_model.specs.Views.{IsChain, AreChains, task_row}
 use Rattle.omi_model.specs.Visible.{IsVisibleTask}
 use Rattle.omi_model.specs.WellFormed.{HasBegun, IsTaskRight, along, Ends}
 use Rattle.omi_rep.specs.Records.{records_of, task_address}
-use Rattle.omi_rep.specs.Look.{address_of, was_met, live_at, look_word}
+use Rattle.omi_rep.specs.Look.{id_address, was_met, live_at, look_word}
 use Rattle.omi_rep.specs.LookView.{look_nthreads, look_task, look_chain, look_tasks}
 use Rattle.omi_rep.specs.Shows.{Shows, ShowsTask}
 use Rattle.omi_rep.proofs.Looks.{step}
@@ -41,7 +41,7 @@ module _ (w : List ℕ) (words : Words) (s : State) (valid : IsValid w) (names :
     t = seen.task
 
     abbrev at : ℕ
-    at = address_of w tasks k.0
+    at = id_address w tasks k.0
 
     told : ShowsTask w (records_of w words k.0.creator tasks k.0.slot) t
     told = shown.records.tasks k seen
@@ -58,7 +58,7 @@ module _ (w : List ℕ) (words : Words) (s : State) (valid : IsValid w) (names :
         element j n is = let e : 0 + j ≡ j = omega arith in ap (look_word w words at TaskNthreads) e ∙ word_looked w words at TaskNthreads j n (told.nthreads j n is)
 
     -- its row, where the task that it was scheduled from was not met
-    task_looked : (i : ℕ) (met : List ℕ) → ((h : Tid) → t.scheduling ≡ Some h → was_met met (address_of w tasks h.0) ≡ false) → look_task w words met i k.0 ≡ Ok (task_row i k t)
+    task_looked : (i : ℕ) (met : List ℕ) → ((h : Tid) → t.scheduling ≡ Some h → was_met met (id_address w tasks h.0) ≡ false) → look_task w words met i k.0 ≡ Ok (task_row i k t)
     task_looked i met new =
         step _ _ _ _ (word_looked w words at TaskImplicit 0 _ told.implicit)
         (step _ _ t.region.0 _ (object_looked w words regions at TaskRegion 0 t.region.0 told.region (region_live w words s valid names shown t.region right.region))
@@ -78,10 +78,10 @@ module _ (w : List ℕ) (words : Words) (s : State) (valid : IsValid w) (names :
         named : (q : Option Tid) → option_map (λ (n : Id). record { 0 = n }) (option_map (λ (q : Tid). q.0) q) ≡ q
         named = given_back (λ (q : Tid). q.0) (λ (n : Id). record { 0 = n }) (λ q. refl)
 
-        somewhere : (q : Tid) → 0 < address_of w tasks q.0
+        somewhere : (q : Tid) → 0 < id_address w tasks q.0
         somewhere = task_somewhere w words s valid names shown
 
-        lives : (q : Tid) → IsVisibleTask s q → live_at w words tasks (address_of w tasks q.0) ≡ Some q.0
+        lives : (q : Tid) → IsVisibleTask s q → live_at w words tasks (id_address w tasks q.0) ≡ Some q.0
         lives = task_live w words s valid names shown
 
     -- the one that it was scheduled from

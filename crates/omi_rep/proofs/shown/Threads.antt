@@ -21,7 +21,7 @@ use Rattle.omi_model.specs.Views.{head_row, thread_part, thread_with, thread_row
 use Rattle.omi_model.specs.Visible.{IsVisibleTask}
 use Rattle.omi_model.specs.WellFormed.{HasBegun}
 use Rattle.omi_rep.specs.Records.{runtime_address, thread_address}
-use Rattle.omi_rep.specs.Look.{Look, and_then, mapped, each, optional, address_of, look_word}
+use Rattle.omi_rep.specs.Look.{Look, and_then, mapped, each, optional, id_address, look_word}
 use Rattle.omi_rep.specs.LookView.{look_head, look_for, look_state, look_current, look_part, look_thread, found_threads}
 use Rattle.omi_rep.specs.Shows.{Shows}
 use Rattle.omi_rep.proofs.Looks.{step}
@@ -179,11 +179,11 @@ module _ (w : List ℕ) (words : Words) (s : State) (valid : IsValid w) (names :
         })) (given_back (λ (q : Tid). q.0) (λ (n : Id). record { 0 = n }) (λ q. refl) (s.threads i).current))))
       where
         number_looked : (o : Option Tid) → ((k : Tid) → o ≡ Some k → IsVisibleTask s k)
-            → optional (λ (k : Id). look_word w words (address_of w tasks k) TaskNumber 0) (option_map (λ (k : Tid). k.0) o) ≡ Ok (option_map (λ (t : Task). t.number) (option_and_then (task_of s) o))
+            → optional (λ (k : Id). look_word w words (id_address w tasks k) TaskNumber 0) (option_map (λ (k : Tid). k.0) o) ≡ Ok (option_map (λ (t : Task). t.number) (option_and_then (task_of s) o))
         number_looked None seen = refl
         number_looked (Some k) seen =
             let is = seen k refl in
-            step _ _ is.task.number _ (word_looked w words (address_of w tasks k.0) TaskNumber 0 _ (shown.records.tasks k is).member)
+            step _ _ is.task.number _ (word_looked w words (id_address w tasks k.0) TaskNumber 0 _ (shown.records.tasks k is).member)
             (ap (λ (t : Option Task). Ok (option_map (λ (u : Task). u.number) t)) (sym is.live))
 
   -- the row of a context, and those of all

@@ -61,7 +61,7 @@ use Rattle.omi_pc.specs.declared.task_counter.FinishCounter.TheVariants as finis
 use Rattle.omi_model.proofs.NamesLive.{names_live}
 use Rattle.omi_rule_words.proofs.ListedNames.{names_stay_live}
 use Rattle.omi_model.specs.LawNames.{AreNamesLive}
-use Rattle.omi_task.specs.FinishSteps.{finish_moved, finish_next, finish_outcome, wait_by, wait_of}
+use Rattle.omi_task.specs.FinishSteps.{finish_moved, finish_next, finish_outcome, wait_by, wait_in}
 use Rattle.omi_task.specs.FinishSteps as FinishSteps
 use Rattle.omi_rule.specs.Rows.{HasEndedUnder}
 use Rattle.omi_rule_words.proofs.Finishes.{finishes_keep}
@@ -139,7 +139,7 @@ module _ (p : Program) (w : List ℕ) (m : Memory) (events : List (ℕ × Event)
 
     finished_is : FinishSteps.past_finish a ≡ back
     finished_is =
-        ap (λ (xs : List Frame). to_finish (finish.LoadGenerating (wait_of xs) a.context.task) (closed_in a xs)) stack
+        ap (λ (xs : List Frame). to_finish (finish.LoadGenerating (wait_in xs) a.context.task) (closed_in a xs)) stack
         ∙ ap (λ (o : Opened). record a { context = context_under a.context o; stack = fs; counter = counter.Finish (finish.LoadGenerating (wait_by o) a.context.task) }) how
 
     explicit : mine.task.implicit ≡ false

@@ -6,7 +6,7 @@ use Rattle.std.proofs.lemmas.Result.{err_from_is_err_and}
 use Rattle.omi_handle.specs.declared.handle.Kind.TheVariants.{Region}
 use Rattle.omi_layout.specs.declared.field.Field.TheVariants.{RegionEnclosing}
 use Rattle.omi_layout.specs.Field.{regions}
-use Rattle.omi_rep.specs.Look.{address_of, look_optional}
+use Rattle.omi_rep.specs.Look.{id_address, look_optional}
 use Rattle.omi_walk.specs.Gives.{Looks}
 use Rattle.omi_walk.specs.Objects.{name_in}
 use Rattle.omi_walk.proofs.Chained.{onward_gives, met_in_address}
@@ -37,7 +37,7 @@ unfolding Looks
 returns-clause-look g c = λ before same memory tells.
     let told = g.C.Callbacks.told in
     let st = lent_stands told c.args.s.now c.hand.new.s Region c.args.region _ c.in_ok-key.ensures.handed c.hand.ensures.stays c.requires.met in
-    let next = looks_before told c.args.s.now c.hand.new.s (Ok (name_in c.in_ok-next.field-0)) (λ w memory. look_optional w memory regions (address_of w regions c.args.region.name) RegionEnclosing 0) c.hand.ensures.stays (c.in_ok-next.ensures.look c.args.region.name st) in
+    let next = looks_before told c.args.s.now c.hand.new.s (Ok (name_in c.in_ok-next.field-0)) (λ w memory. look_optional w memory regions (id_address w regions c.args.region.name) RegionEnclosing 0) c.hand.ensures.stays (c.in_ok-next.ensures.look c.args.region.name st) in
     rw c.unmet.ensures (onward_gives c.args.s.now.layout regions before (contains nat_cmp c.args.met.now) same c.in_ok-next.field-0
     (met_in_address told c.args.s.now c.related_of-next.new.s Region c.in_ok-next.field-0 (stays_then told _ _ _ c.hand.ensures.stays c.related_of-next.ensures.leaves.stays) c.in_ok-next.ensures.met) _ (next memory tells))
 

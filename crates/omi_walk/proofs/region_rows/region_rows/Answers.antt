@@ -5,7 +5,7 @@ use Rattle.omi_layout.proofs.Arenas.{regions_of_valid}
 use Rattle.omi_layout.specs.Field.{regions}
 use Rattle.omi_layout.specs.Table.{thread_count, per_thread}
 use Rattle.omi_model.specs.declared.id.Id.{Id}
-use Rattle.omi_rep.specs.Look.{each, slots_of}
+use Rattle.omi_rep.specs.Look.{each, slot_list}
 use Rattle.omi_rep.specs.LookView.{look_region, met_in}
 use Rattle.omi_walk.specs.Added.{Added}
 use Rattle.omi_walk.specs.Regions.{in_own_slots}
@@ -35,7 +35,7 @@ returns-in_err-add_rows-clause-look g c = λ met first small.
     let stays = c.loop-creator.invariant.leaves.stays in
     rw (p.1, p.2)
     (looks_as told look_region s _ (at_each look_region (flat_map part (range_with_len 0 creator) ++ (part creator ++ _)))
-    (λ w memory. each (look_region w memory) (filter_map (met_in w memory (map (λ m. m.name) met)) (slots_of w regions)))
+    (λ w memory. each (look_region w memory) (filter_map (met_in w memory (map (λ m. m.name) met)) (slot_list w regions)))
     (λ memory. ap (each (look_region s.layout memory))
     (sym (met_in_slots s.layout memory index met first small (omega (arith, c.loop-creator.invariant.few)) ∙ all_by_thread index s.layout (range_with_len 0 (thread_count s.layout))
     ∙ parts_behind part creator (thread_count s.layout) (omega (arith, c.loop-creator.invariant.bound, c.loop-creator-test.true)))))
@@ -73,7 +73,7 @@ returns-clause-look g c = λ met first small.
     let creator = c.loop-creator.creator in
     let all : creator ≡ thread_count s.layout = omega (arith, c.loop-creator.invariant.bound, c.loop-creator-test.false, c.loop-creator.auto.creator-end) in
     looks_as told look_region s (Ok c.loop-creator.rows) (at_each look_region (flat_map part (range_with_len 0 creator)))
-    (λ w memory. each (look_region w memory) (filter_map (met_in w memory (map (λ m. m.name) met)) (slots_of w regions)))
+    (λ w memory. each (look_region w memory) (filter_map (met_in w memory (map (λ m. m.name) met)) (slot_list w regions)))
     (λ memory. ap (each (look_region s.layout memory)) (ap (λ n. flat_map part (range_with_len 0 n)) all
     ∙ sym (met_in_slots s.layout memory index met first small (omega (arith, c.loop-creator.invariant.few)) ∙ all_by_thread index s.layout (range_with_len 0 (thread_count s.layout)))))
     (all_added told look_region s s (flat_map part (range_with_len 0 creator)) [] [] c.loop-creator.rows c.loop-creator.invariant.added (record { table = record { same = refl; order = refl; to_host = refl }; layout = refl }) refl)
