@@ -8,3 +8,4 @@ pub mod Opened
 pub mod Histories
 pub mod ScheduledSteps
 pub mod KeptCounters
+pub mod DeferSlots

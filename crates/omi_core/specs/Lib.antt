@@ -10,3 +10,5 @@ pub mod Kept
 pub mod Schedules
 pub mod Ends
 pub mod ScheduledRuns
+-- The laws
+pub mod DeferLaws

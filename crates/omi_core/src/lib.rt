@@ -2,6 +2,7 @@
 #![tactic(auto)]
 
 mod entry;
+mod laws;
 mod limits;
 mod opening;
 mod run;
@@ -11,6 +12,7 @@ mod stop;
 mod thread_run;
 
 pub use entry::Entry;
+pub use laws::no_run_defers_behind_slots;
 pub use limits::MOST_STEPS;
 pub use omi_list::OutOfMemory;
 pub use opening::opening_image;

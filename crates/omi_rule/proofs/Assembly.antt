@@ -43,7 +43,7 @@ use Rattle.omi_rule_words.specs.Owes.{all_owed, owed}
 use Rattle.omi_rule_words.specs.Words.{KeepsWords}
 use Rattle.omi_rule_words.proofs.Moves.{moves_keep}
 use Rattle.omi_rule_words.proofs.Shown.{found_generations}
-use Rattle.omi_rule.specs.Commits.{CommitsAt, Compares}
+use Rattle.omi_rule.specs.Commits.{CommitsAt, Compares, FindsEmptySlot}
 use Rattle.omi_rule.specs.LeavesOthers.{LeavesOthers}
 use Rattle.omi_rule.specs.Rows.{KeepsBarrierRow}
 use Rattle.omi_rule.specs.Rule.{AreNewMembers, HasEnded, KeepsThread, Rule}
@@ -252,6 +252,11 @@ module _ (p : Program) (w : List ℕ) (m n : Memory) (events later : List (ℕ �
 
 -- ---- steps
 
+-- an event that makes no object defers no task, so it is committed at no slot
+no_slot : (e : Event) (found : ℕ) → (Makes e → ⊥) → FindsEmptySlot e found
+no_slot (event.Defer task) found not = absurd (not tt)
+no_slot e found not = tt
+
 module _ (p : Program) (w : List ℕ) (m : Memory) (events : List (ℕ × Event)) (s : State) (actors : ℕ → Actor) (i : ℕ) (before : Before p w m events s actors i) where
   abbrev rule : Rule p w m events s actors
   rule = before.rule
@@ -282,17 +287,17 @@ module _ (p : Program) (w : List ℕ) (m : Memory) (events : List (ℕ × Event)
       (record { next = s; leads = (refl, waits); comes = (compares, there, refl); rule = quiet_rule (left_in m o x) a words spares own })
 
   -- an event: `u` is the next state
-  pub event_keeps : (o : Op) (x : RecordWord) (after : Actor × Outcome) (e : Event) (u : State) → after.1 ≡ outcome.Event e → Step p s i e u → CommitsAt w s i e o
+  pub event_keeps : (o : Op) (x : RecordWord) (after : Actor × Outcome) (e : Event) (u : State) → after.1 ≡ outcome.Event e → Step p s i e u → CommitsAt w s i e o → FindsEmptySlot e (found_in m x)
       → AreWithin w regions u.regions → AreWithin w tasks u.tasks → AreNewMembers p u → KeepsWords w (left_in m o x) u (all_owed (replace_at actors i after.0))
       → ((j : ℕ) → j ≢ i → Spares m (left_in m o x) s j (actors j)) → KeepsThread p w (left_in m o x) (events ++ (i, e) ∷ []) u i after.0 → KeepsRule p w m events s actors i o x after
-  event_keeps o x (a, out) e u is step commits in_regions in_tasks waiting words spares own =
+  event_keeps o x (a, out) e u is step commits finds in_regions in_tasks waiting words spares own =
       let leaves : LeavesOthers s u i = events_leave_others p events s rule.reached i e u step in
       let reached : Reached p (events ++ (i, e) ∷ []) u = leads_on p (opening p) events s (i, e) u rule.reached step in
       subst (λ (y : Outcome). KeepsRule p w m events s actors i o x (a, y)) (sym is)
       (record {
         next = u;
         leads = step;
-        comes = commits;
+        comes = (commits, finds);
         rule = record {
           reached = reached;
           within = record { well_formed = reached_well_formed p (events ++ (i, e) ∷ []) u reached; count = leaves.count ∙ rule.within.count; regions = in_regions; tasks = in_tasks };
@@ -308,7 +313,7 @@ module _ (p : Program) (w : List ℕ) (m : Memory) (events : List (ℕ × Event)
       → ((j : ℕ) → j ≢ i → Spares m (left_in m o x) s j (actors j)) → KeepsThread p w (left_in m o x) (events ++ (i, e) ∷ []) u i after.0 → KeepsRule p w m events s actors i o x after
   plain_event_keeps o x after e u not is step commits waiting words spares own =
       let none = nothing_new p s i e u not step in
-      event_keeps o x after e u is step commits (within_stays w regions s.regions u.regions none.regions rule.within.regions) (within_stays w tasks s.tasks u.tasks none.tasks rule.within.tasks) waiting words spares own
+      event_keeps o x after e u is step commits (no_slot e (found_in m x) not) (within_stays w regions s.regions u.regions none.regions rule.within.regions) (within_stays w tasks s.tasks u.tasks none.tasks rule.within.tasks) waiting words spares own
 
   -- a load leaves the memory
   pub of_load : (at : ℕ) (x : RecordWord) → left_in m (op.Load at) x ≡ m

@@ -1,5 +1,5 @@
 -- At which word a step commits its event, and at which words a thread may wait.
-use Rattle.std.specs.Prelude.{◌≡◌, ◌⊎◌, ℕ, ◌+◌, List, slice_get, Some}
+use Rattle.std.specs.Prelude.{◌≡◌, ◌⊎◌, ℕ, ◌+◌, List, ◌∷◌, slice_get, Some}
 use Rattle.omi_numbers.specs.declared.holders.TheConstants.{FREE_CLAIM}
 use Rattle.omi_numbers.specs.Holders.{claimed_word, holder_word}
 use Rattle.omi_word.specs.declared.op.Op.{Op}
@@ -8,6 +8,8 @@ use Rattle.omi_word.specs.Memory.{address_of}
 use Rattle.omi_model.specs.declared.event.Event.{Event}
 use Rattle.omi_model.specs.declared.event.Event.TheVariants as event
 use Rattle.omi_model.specs.declared.id.Tid.{Tid}
+use Rattle.omi_model.specs.declared.item.Item.{Item}
+use Rattle.omi_model.specs.declared.item.Item.TheVariants as item
 use Rattle.omi_model.specs.Changes.{OfCurrent, OfCurrentRegion}
 use Rattle.omi_numbers.specs.declared.variables.TheConstants.{DEFAULT_DEVICE_VAR, DYN_VAR, MAX_ACTIVE_LEVELS_VAR, NTHREADS_VAR, RUN_SCHED_VAR}
 use Rattle.omi_model.specs.State.{State}
@@ -44,6 +46,11 @@ OfOwnRow s i P = OfCurrentRegion s i (λ k t r. (x : Tid) × (slice_get r.team t
 abbrev pub of_row_slot : List ℕ → Tid → ℕ → ℕ
 of_row_slot w x j = word_address w x.0.creator x.0.slot (number TaskSlots) j
 
+-- a task is deferred next, in the slot of this number: the first one of the row that was not seen taken
+abbrev pub defers_next : ℕ → List Item → Type 0
+defers_next j (item.Defer seen f final ∷ xs) = j ≡ seen
+defers_next j xs = ⊥
+
 -- Each event is committed by one operation on one word. Those that give records back are committed by no step yet
 abbrev pub CommitsAt : List ℕ → State → ℕ → Event → Op → Type 0
 CommitsAt w s i event.Begin o = StoresAt o (of_thread w i ThreadLife)
@@ -66,8 +73,8 @@ CommitsAt w s i (event.Lock k) o =
     o ≡ op.Cas (word_address w 0 0 (number RuntimeLocks) k) 0 (holder_word i)
 CommitsAt w s i (event.Unlock k) o = o ≡ op.Store (word_address w 0 0 (number RuntimeLocks) k) 0
 CommitsAt w s i (event.Seen j) o = OfOwnRow s i (λ x. o ≡ op.Load (of_row_slot w x j))
-CommitsAt w s i (event.Defer task) o =
-    OfOwnRow s i (λ x. (j : ℕ) × StoresAt o (of_row_slot w x j))
+CommitsAt w s i (event.Defer task) o = (j : ℕ) × OfCurrent s i (λ k t. defers_next j t.list)
+    × OfOwnRow s i (λ x. StoresAt o (of_row_slot w x j))
 CommitsAt w s i (event.StartNow task) o = StoresAt o (of_thread w i ThreadCurrent)
 CommitsAt w s i (event.Start task) o = StoresAt o (of_thread w i ThreadCurrent)
 CommitsAt w s i (event.Finish task) o = StoresAt o (of_thread w i ThreadCurrent)
@@ -90,10 +97,15 @@ Compares (op.Load at) = Unit {0}
 Compares (op.Cas at before new) = Unit {0}
 Compares o = ⊥
 
+-- the slot in which a task is deferred was found empty
+abbrev pub FindsEmptySlot : Event → ℕ → Type 0
+FindsEmptySlot (event.Defer task) found = found ≡ 0
+FindsEmptySlot e found = Unit {0}
+
 -- an outcome comes of an operation that found this word
 abbrev pub ComesOf : List ℕ → State → ℕ → Op → ℕ → Outcome → Type 0
 ComesOf w s i o found outcome.Quiet = Unit {0}
-ComesOf w s i o found (outcome.Event e) = CommitsAt w s i e o
+ComesOf w s i o found (outcome.Event e) = CommitsAt w s i e o × FindsEmptySlot e found
 ComesOf w s i o found (outcome.NotReady address word) =
     Compares o × (address ≡ address_of o) × (word ≡ found)
 ComesOf w s i o found outcome.Ended = IsLoad o

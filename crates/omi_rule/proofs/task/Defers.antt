@@ -42,6 +42,7 @@ use Rattle.omi_step_words.specs.Placed.{HasTask}
 use Rattle.omi_task.specs.MakingSteps.{made_function, makes_final, making_moved, making_next, making_outcome, of_own_slot}
 use Rattle.omi_rule.specs.Ahead.{leaving, task_ahead}
 use Rattle.omi_rule.specs.Chains.{Stands, StandsWith, encounter_of}
+use Rattle.omi_rule.specs.Commits.{defers_next}
 use Rattle.omi_rule.specs.Rows.{Defers, HasFilledTask}
 use Rattle.omi_rule.specs.Rule.{KeepsThread}
 use Rattle.omi_rule.specs.Steps.{RecordWord, StepKeeps}
@@ -54,7 +55,7 @@ use Rattle.omi_rule.proofs.Runs.{stack_runs}
 use Rattle.omi_rule.proofs.task.Events.{making_is, none_new, sees_final, step, words_moved}
 use Rattle.omi_rule.proofs.task.Making.{IsReady, IsTaskNext, bodies_grown, changes, final_as, is_ready, larger, made_as, sees_grown, tasks_within}
 use Rattle.omi_rule.proofs.task.NewTasks.{record_is_filled}
-use Rattle.omi_rule.proofs.task.Within.{context, context_placed, fits, own, own_slots, owes, placed, row, standing, stands, task_few}
+use Rattle.omi_rule.proofs.task.Within.{context, context_placed, fits, list_is, own, own_slots, owes, placed, row, standing, stands, task_few}
 
 -- the word of a slot is none of a task's place
 no_place_word : (g : Field) → IsPlaceField g → number g ≡ number TaskSlots → ⊥
@@ -135,6 +136,12 @@ module _ (p : Program) (w : List ℕ) (m : Memory) (events : List (ℕ × Event)
       ap (take_item p At (event.Defer t)) (making_is p At (actors i).stack (Some place) f false next.final false next.is not_final)
       ∙ ap (λ (b : Bool). if b then Some (item.Defer place f final, rest) else None) few
 
+  -- its place is that of the item that is next
+  defers_here : defers_next place (context p w m events s actors i before C at).task.list
+  defers_here =
+      subst (defers_next place)
+      (sym (list_is p w m events s actors i before C at ∙ making_is p At (actors i).stack (Some place) f false next.final false next.is not_final)) refl
+
   ready : IsReady p w m s (all_owed actors) i (actors i) t Maker Z
   ready = is_ready p w m events s actors i before C at t rest (owes p w m events s actors i before C at) there (Some place) filled
 
@@ -200,8 +207,12 @@ module _ (p : Program) (w : List ℕ) (m : Memory) (events : List (ℕ × Event)
       let slots = own_slots p w m events s actors i before C at in (
         X,
         record { there = record { field = record { from = omega arith; to = omega arith }; record_slot = (context_placed p w m events s actors i before C at).row; within = within }; address = refl },
-        event_keeps p w m events s actors i before O X (goes_to plain.Leave (actors i), outcome.Event (event.Defer t)) (event.Defer t) U refl done
-            (K, o.task, o.region, is_current p s i (actors i) (stands p w m events s actors i before C at), ap (region_of s) o.region_is ∙ o.found, (R, ap (slice_get o.region.team) o.number ∙ o.row, (place, (slot_word w t, refl))))
+        event_keeps p w m events s actors i before O X (goes_to plain.Leave (actors i), outcome.Event (event.Defer t)) (event.Defer t) U refl done (
+          place,
+          (K, o.task, is_current p s i (actors i) (stands p w m events s actors i before C at), defers_here),
+          (K, o.task, o.region, is_current p s i (actors i) (stands p w m events s actors i before C at), ap (region_of s) o.region_is ∙ o.found, (R, ap (slice_get o.region.team) o.number ∙ o.row, (slot_word w t, refl))),
+        )
+            filled.0.0.1
             before.rule.within.regions (tasks_within p w m s (all_owed actors) i (actors i) t Maker Z ready New U refl refl refl)
             (none_new p w m events s actors i before C at (event.Defer t) (item.Defer place f final) rest U taken done (λ g e. cc e))
             (owed_after w N U actors i (goes_to plain.Leave (actors i)) nothing refl words)

@@ -251,7 +251,7 @@ module _ (p : Program) (w : List ℕ) (m : Memory) (events : List (ℕ × Event)
     store_on p w m events s actors i before ThreadCurrent (task_address w t) refl,
     event_keeps p w m events s actors i before (op.Store (of_thread w (actors i).thread ThreadCurrent) (task_address w t)) X (settled p b, outcome.Event (event.StartNow t)) (event.StartNow t) U refl done
         (task_address w t, ap (λ j. op.Store (of_thread w j ThreadCurrent) (task_address w t)) (own p w m events s actors i before C at).thread)
-        before.rule.within.regions (tasks_within p w m s (all_owed actors) i (actors i) t Maker Z ready New U refl refl refl)
+        tt before.rule.within.regions (tasks_within p w m s (all_owed actors) i (actors i) t Maker Z ready New U refl refl refl)
         (none_new p w m events s actors i before C at (event.StartNow t) (made_item undeferred) rest U taken done (no_fork undeferred))
         (owed_after w N U actors i (settled p b) nothing ((settled_is_first p b frame (actors i).stack refl).owes (settled p b).context (settled p b).gathered.team) words)
         (λ j other. spares_threads m s i ThreadCurrent (task_address w t) j (actors j) (λ same. absurd (omega (arith, same))))

@@ -297,7 +297,7 @@ module _ (p : Program) (w : List ℕ) (m : Memory) (events : List (ℕ × Event)
       event_keeps p w m events s actors i before (op.Store (of_thread w (actors i).thread ThreadCurrent) (task_address w First)) X (a, outcome.Event (event.Fork r Members)) (event.Fork r Members) U refl
       (done p w m events s actors i before r at)
       (task_address w First, ap (λ j. op.Store (of_thread w j ThreadCurrent) (task_address w First)) (own p w m events s actors i before C at).thread)
-      regions_within tasks_within waiting (owed_after w N U actors i a (record nothing { assigns = drop 1 Members }) is (words p w m events s actors i before r at))
+      tt regions_within tasks_within waiting (owed_after w N U actors i a (record nothing { assigns = drop 1 Members }) is (words p w m events s actors i before r at))
       (λ j other. spares_threads m s i ThreadCurrent (task_address w First) j (actors j) (λ same. absurd (omega (arith, same))))
       thread
 
