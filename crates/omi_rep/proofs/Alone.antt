@@ -38,7 +38,7 @@ use Rattle.omi_layout.proofs.Numbers.{numbered_field}
 use Rattle.omi_layout.proofs.Stored.{mapped}
 use Rattle.omi_layout.proofs.Tables.{tables_give}
 use Rattle.omi_rep.specs.Records.{records_of, task_address, task_word}
-use Rattle.omi_rep.specs.Shows.{Shows, ShowsGlobals, ShowsLife, ShowsThread, ShowsSlot, ShowsRegion, ShowsTask, RecordsShow, IsWithin, Stands}
+use Rattle.omi_rep.specs.Shows.{Shows, ShowsGlobals, ShowsLife, ShowsThread, ShowsSlot, ShowsRegion, ShowsTask, RecordsShow, IsWithin, LiveAreNamed, Stands}
 
 -- what a run of one thread changes: the state of thread 0, dyn-var and nthreads-var of the initial task, the arrivals at and the releases of the initial region's barriers, and the to-do list
 pub record Values : Type 0 where
@@ -145,6 +145,14 @@ alone_free {A} x c k = go (c == 0 && k == 0)
     go : (b : Bool) → (if b then record { generations = 1; live = Some x } else unused).live ≡ None → (if b then record { generations = 1; live = Some x } else unused).generations ≡ 0
     go true is = absurd (cc)
     go false is = refl
+
+-- the one object has a name
+alone_named : {A : Type 0} (x : A) → LiveAreNamed (first_alone x)
+alone_named {A} x c k y = go (c == 0 && k == 0)
+  where
+    go : (b : Bool) → (if b then record { generations = 1; live = Some x } else unused).live ≡ Some y → (g : ℕ) × (found g (if b then record { generations = 1; live = Some x } else unused) ≡ Some y)
+    go true is = (0, is)
+    go false is = absurd (cc)
 
 pub flags : (b : Bool) → flag b ≡ flag b
 flags true = refl
@@ -344,6 +352,8 @@ module _ (p : Program) (w words : List ℕ) (a : Values) (v : IsValid w) (suits 
     count = suits;
     regions = λ c k e x is. let at = alone_found (region_at p a) x c k e is in record { maker = omega (arith, at.creator, some_threads w v); place = omega (arith, at.place, some_regions w v) };
     tasks = λ c k e x is. let at = alone_found (task_at p a) x c k e is in record { maker = omega (arith, at.creator, some_threads w v); place = omega (arith, at.place, some_tasks w v) };
+    regions_named = alone_named (region_at p a);
+    tasks_named = alone_named (task_at p a);
   }
 
   records_shown : RecordsShow w (records_of w g) s

@@ -86,6 +86,11 @@ abbrev pub AreWithin : {A : Type 0} → List ℕ → ℕ → Slots A → Type 0
 AreWithin {A} w kind slots = (creator slot g : ℕ) (x : A) → found g (slots creator slot) ≡ Some x
     → record { maker : creator < thread_count w; place : slot < per_thread w kind }
 
+-- each live object has a name: it is of a generation that its slot has had
+abbrev pub LiveAreNamed : {A : Type 0} → Slots A → Type 0
+LiveAreNamed {A} slots = (creator slot : ℕ) (x : A) → (slots creator slot).live ≡ Some x
+    → (g : ℕ) × (found g (slots creator slot) ≡ Some x)
+
 -- the life words of all slots of the layout
 abbrev pub ShowsSlots : {A : Type 0} → List ℕ → ℕ → (ℕ → ℕ → Seen) → Field → Slots A → Type 0
 ShowsSlots w kind records life slots = (creator slot : ℕ) → creator < thread_count w
@@ -104,12 +109,14 @@ pub record RecordsShow (w : List ℕ) (m : Records) (s : State) : Type 0 where
   pub tasks : (k : Tid) → (seen : IsVisibleTask s k)
       → ShowsTask w (m k.0.creator tasks k.0.slot) seen.task
 
--- a state lies within a layout: it has as many threads, and all that is live has a record
+-- a state lies within a layout: it has as many threads, and all that is live has a name and a record
 pub record IsWithin (w : List ℕ) (s : State) : Type 0 where
   pub well_formed : IsWellFormed s
   pub count : s.count ≡ thread_count w
   pub regions : AreWithin w regions s.regions
   pub tasks : AreWithin w tasks s.tasks
+  pub regions_named : LiveAreNamed s.regions
+  pub tasks_named : LiveAreNamed s.tasks
 
 -- the memory shows the state in this layout
 pub record Shows (w : List ℕ) (words : Words) (s : State) : Type 0 where

@@ -36,7 +36,7 @@ use Rattle.omi_pc.specs.declared.counter.PlainCounter.TheVariants as plain
 use Rattle.omi_pc.specs.declared.team_counter.BarrierCounter.{BarrierCounter}
 use Rattle.omi_rep.specs.declared.outcome.Outcome.{Outcome}
 use Rattle.omi_rep.specs.declared.outcome.Outcome.TheVariants as outcome
-use Rattle.omi_rep.specs.Shows.{AreWithin}
+use Rattle.omi_rep.specs.Shows.{AreWithin, LiveAreNamed}
 use Rattle.omi_rep.specs.Suits.{Suits}
 use Rattle.omi_rule_words.specs.ExplicitKinds.{IsPlaceField, slot_of}
 use Rattle.omi_rule_words.specs.Owes.{all_owed, owed}
@@ -54,6 +54,7 @@ use Rattle.omi_rule.proofs.NamesStay.{NamesStay, names_same, names_step}
 use Rattle.omi_rule.proofs.OthersStand.{begun_undeferred, others_stand}
 use Rattle.omi_rule.proofs.OwnRow.{own_row}
 use Rattle.omi_rule.proofs.Runs.{stack_runs}
+use Rattle.omi_rule.proofs.Named.{all_named}
 use Rattle.omi_rule.proofs.NothingNew.{Makes, nothing_new, within_stays}
 use Rattle.omi_rule.proofs.RowsStay.{Spares, row_stays}
 
@@ -293,6 +294,7 @@ module _ (p : Program) (w : List ℕ) (m : Memory) (events : List (ℕ × Event)
   event_keeps o x (a, out) e u is step commits finds in_regions in_tasks waiting words spares own =
       let leaves : LeavesOthers s u i = events_leave_others p events s rule.reached i e u step in
       let reached : Reached p (events ++ (i, e) ∷ []) u = leads_on p (opening p) events s (i, e) u rule.reached step in
+      let named : LiveAreNamed u.regions × LiveAreNamed u.tasks = all_named p (events ++ (i, e) ∷ []) u reached in
       subst (λ (y : Outcome). KeepsRule p w m events s actors i o x (a, y)) (sym is)
       (record {
         next = u;
@@ -300,7 +302,14 @@ module _ (p : Program) (w : List ℕ) (m : Memory) (events : List (ℕ × Event)
         comes = (commits, finds);
         rule = record {
           reached = reached;
-          within = record { well_formed = reached_well_formed p (events ++ (i, e) ∷ []) u reached; count = leaves.count ∙ rule.within.count; regions = in_regions; tasks = in_tasks };
+          within = record {
+            well_formed = reached_well_formed p (events ++ (i, e) ∷ []) u reached;
+            count = leaves.count ∙ rule.within.count;
+            regions = in_regions;
+            tasks = in_tasks;
+            regions_named = named.0;
+            tasks_named = named.1;
+          };
           words = words;
           waiting = waiting;
           threads = all_threads p w m (left_in m o x) events (events ++ (i, e) ∷ []) s u actors i rule leaves (names_step p s i e u step) a words (λ y there. Contains-append_left events ((i, e) ∷ []) y there) spares (before.barriers e u step) own;

@@ -5,6 +5,7 @@ pub mod BodyMoves
 pub mod Own
 pub mod NewMembers
 pub mod NothingNew
+pub mod Named
 pub mod NamesStay
 pub mod OwnRow
 pub mod RowsStay

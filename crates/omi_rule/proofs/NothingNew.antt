@@ -1,5 +1,5 @@
 -- Every event but those that make objects leaves the slots: each live object was live, of the same generation.
-use Rattle.std.proofs.Common.{◌≡◌, ◌+◌, ◌<◌, ◌==◌, ℕ, Bool, true, false, List, Option, Some, None, refl, sym, ap, ◌∙◌, if◌then◌else◌}
+use Rattle.std.proofs.Common.{◌≡◌, ◌+◌, ◌<◌, ◌==◌, ℕ, Bool, true, false, List, Option, Some, None, refl, sym, ap, ◌∙◌, eq-eqb, if◌then◌else◌}
 use Rattle.std.specs.Prelude.{⊤}
 use Rattle.omi_script.specs.declared.program.Program.{Program}
 use Rattle.omi_model.specs.declared.event.Event.{Event}
@@ -17,7 +17,8 @@ use Rattle.omi_model.proofs.SlotEffects.{OfSlots, slots_effect}
 use Rattle.omi_model.proofs.Slots.{none_some, on_empty, on_generations}
 use Rattle.omi_model.proofs.Steps.{from_some, list_moves, move_of, moved_on}
 use Rattle.omi_layout.specs.Table.{per_thread, thread_count}
-use Rattle.omi_rep.specs.Shows.{AreWithin}
+use Rattle.omi_rep.specs.Shows.{AreWithin, LiveAreNamed}
+use Rattle.omi_rule_words.proofs.Shown.{found_generations}
 
 -- an event makes objects
 abbrev pub Makes : Event → Type 0
@@ -93,3 +94,13 @@ within_stays {A} w kind x y same all creator slot g v is = go (x creator slot).l
         here : (b : Bool) → (y creator slot).generations == g + 1 ≡ b → (if b then (y creator slot).live else None) ≡ Some v → found g (x creator slot) ≡ Some z
         here true f h = ap (λ (b : Bool). if b then (x creator slot).live else None) (ap (λ n. n == g + 1) (sym (same.generations creator slot)) ∙ f) ∙ e
         here false f h = absurd (none_some refl h)
+
+-- and what had a name has one
+pub named_stays : {A : Type 0} (x y : Slots A) → IsNoneNew x y → LiveAreNamed x → LiveAreNamed y
+named_stays {A} x y same all c k v live = go (x c k).live refl
+  where
+    go : (o : Option A) → (x c k).live ≡ o → (g : ℕ) × (found g (y c k) ≡ Some v)
+    go None e = absurd (none_some (same.empty c k e) live)
+    go (Some z) e =
+        let (g, is) = all c k z e in
+        (g, ap (λ b. if b then (y c k).live else None) (eq-eqb (y c k).generations (g + 1) (same.generations c k ∙ found_generations g (x c k) z is)) ∙ live)

@@ -16,7 +16,7 @@ use Rattle.omi_model.proofs.Slots.{on_other, on_same, same_or_not, some_same}
 use Rattle.omi_model.proofs.Steps.{relisted}
 use Rattle.omi_layout.specs.Field.{tasks}
 use Rattle.omi_rep.specs.Shows.{IsWithin}
-use Rattle.omi_rule.proofs.NothingNew.{none_on, within_stays}
+use Rattle.omi_rule.proofs.NothingNew.{named_stays, none_on, within_stays}
 
 module _ (s : State) (k : Tid) (zs : List Item) where
   abbrev u : State
@@ -148,4 +148,6 @@ module _ (s : State) (k : Tid) (zs : List Item) where
     count = o.count;
     regions = o.regions;
     tasks = within_stays w tasks s.tasks u.tasks (none_on s.tasks k.0 (relisted zs)) o.tasks;
+    regions_named = o.regions_named;
+    tasks_named = named_stays s.tasks u.tasks (none_on s.tasks k.0 (relisted zs)) o.tasks_named;
   }

@@ -1,5 +1,4 @@
 -- Steps of barriers.
-pub mod Named
 pub mod RowsOfBarriers
 pub mod AtCounter
 pub mod AtBarrier

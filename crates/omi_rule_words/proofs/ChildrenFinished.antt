@@ -17,7 +17,7 @@ use Rattle.omi_layout.specs.Table.{per_thread}
 use Rattle.omi_rep.specs.Shows.{IsWithin}
 use Rattle.omi_rule_words.specs.Owes.{Owed}
 use Rattle.omi_rule_words.specs.Counts.{is_some_task, is_unfinished, of_live, one, sum_below, unfinished_children}
-use Rattle.omi_rule_words.specs.ExplicitKinds.{AllChildrenFinished, AreNamed}
+use Rattle.omi_rule_words.specs.ExplicitKinds.{AllChildrenFinished}
 use Rattle.omi_rule_words.specs.Objects.{KeepsCounts}
 use Rattle.omi_rule_words.specs.Words.{KeepsWords}
 use Rattle.omi_rule_words.proofs.OtherCounts.{is_own_id}
@@ -63,9 +63,9 @@ module _ (w : List ℕ) (m : Memory) (s : State) (owes : ℕ → Owed) (k : Tid)
       of_both true none = none
       of_both false none = none
 
-  -- so each child has finished, where each live task has a name
-  pub children_finished : AreNamed s → AreChildrenFinished s k
-  children_finished named c j u there explicit made = let (g, is) = named c j u there in child_finished c j g u is explicit made
+  -- so each child has finished
+  pub children_finished : AreChildrenFinished s k
+  children_finished c j u there explicit made = let (g, is) = within.tasks_named c j u there in child_finished c j g u is explicit made
 
 pub all_children_finished : AllChildrenFinished
-all_children_finished = λ w m s owes k t keeps within named live word. children_finished w m s owes k t keeps within live word named
+all_children_finished = λ w m s owes k t keeps within live word. children_finished w m s owes k t keeps within live word

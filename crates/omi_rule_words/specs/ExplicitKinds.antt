@@ -6,7 +6,6 @@ use Rattle.omi_model.specs.declared.id.Tid.{Tid}
 use Rattle.omi_model.specs.declared.progress.Progress.TheVariants as progress
 use Rattle.omi_model.specs.declared.task.Task.{Task}
 use Rattle.omi_model.specs.LawNames.{AreNamesLive}
-use Rattle.omi_model.specs.Put.{found}
 use Rattle.omi_model.specs.State.{State, task_of}
 use Rattle.omi_model.specs.Tasking.{AreChildrenFinished, deferred, deferred_task, finished, scheduled, started, started_alone, started_now}
 use Rattle.omi_layout.specs.declared.field.Field.{Field}
@@ -147,13 +146,8 @@ FinishesKeep = (w : List ℕ) (m : Memory) (s : State) (owes : ℕ → Owed) (i 
 
 -- ---- children
 
--- each live task has a name
-abbrev pub AreNamed : State → Type 0
-AreNamed s = (c n : ℕ) (u : Task) → (s.tasks c n).live ≡ Some u
-    → (g : ℕ) × (found g (s.tasks c n) ≡ Some u)
-
 -- Where the word of a live task for its unfinished explicit children is 0, each of its children has finished
 abbrev pub AllChildrenFinished : Type 0
 AllChildrenFinished = (w : List ℕ) (m : Memory) (s : State) (owes : ℕ → Owed) (k : Tid) (t : Task)
-    → KeepsWords w m s owes → IsWithin w s → AreNamed s → task_of s k ≡ Some t
+    → KeepsWords w m s owes → IsWithin w s → task_of s k ≡ Some t
     → m k.0.creator tasks k.0.slot (number TaskChildren) 0 ≡ 0 → AreChildrenFinished s k

@@ -42,7 +42,7 @@ use Rattle.omi_rule.proofs.Assembly.{Before}
 use Rattle.omi_rule.proofs.barrier.Arrivals.{all_arrived, before_release}
 use Rattle.omi_rule.proofs.barrier.AtBarrier.{fits_barrier, list_is, row}
 use Rattle.omi_rule.proofs.barrier.AtCounter.{GoesTo, at_counter, here, is_context, keeps_region, load_quiet, load_waits, of_own_region, region_record, region_there, region_word, sees, sees_number, word_of}
-use Rattle.omi_rule.proofs.barrier.Named.{task_named}
+use Rattle.omi_rule.proofs.Named.{task_named}
 
 -- ---- lists
 

@@ -49,7 +49,7 @@ use Rattle.omi_rule.specs.Rows.{HasReleased, KeepsBarrierRow, OfRegion}
 use Rattle.omi_rule.specs.Rule.{Rule}
 use Rattle.omi_rule.proofs.Others.{events_leave_others}
 use Rattle.omi_rule.proofs.RowsStay.{context_of}
-use Rattle.omi_rule.proofs.barrier.Named.{task_named}
+use Rattle.omi_rule.proofs.Named.{task_named}
 
 -- ---- lists between an arrival and its pass
 

@@ -10,7 +10,6 @@ use Rattle.omi_model.specs.declared.item.Item.{Item}
 use Rattle.omi_model.specs.declared.item.Item.TheVariants as item
 use Rattle.omi_model.specs.Changes.{IsCurrent}
 use Rattle.omi_model.specs.Lists.{take_item}
-use Rattle.omi_model.specs.Put.{found}
 use Rattle.omi_model.specs.Reached.{Step}
 use Rattle.omi_model.specs.Rows.{work_state}
 use Rattle.omi_model.specs.Rows as Rows
@@ -47,7 +46,6 @@ use Rattle.omi_rule.proofs.RowsStay.{Spares}
 use Rattle.omi_rule.proofs.barrier.AtCounter.{ahead_is, at_counter, body, context_placed, fits_counter, here, is_context, load_waits, sees, sees_debug, stands, wide}
 use Rattle.omi_rule.proofs.barrier.Events.{IsReadyAt, event_leads_to, relisted_changes, relisted_state, relisted_words, steps}
 use Rattle.omi_rule.proofs.barrier.Constructs.{at_construct}
-use Rattle.omi_rule.proofs.barrier.Named.{task_named}
 use Rattle.omi_rule.proofs.plain.Loads.{native, native_on}
 
 module _ (p : Program) (w : List ℕ) (m : Memory) (events : List (ℕ × Event)) (s : State) (actors : ℕ → Actor) (i : ℕ) (before : Before p w m events s actors i) where
@@ -102,8 +100,7 @@ module _ (p : Program) (w : List ℕ) (m : Memory) (events : List (ℕ × Event)
           a.context.task,
           mine.task,
           current,
-          all_children_finished w m s (all_owed actors) a.context.task mine.task before.rule.words before.rule.within
-              (λ c n u live. let o = task_named p events s before.rule.reached c n u live in (o.name.0.generation, subst (λ x. found o.name.0.generation (s.tasks x n) ≡ Some u) o.creator (subst (λ x. found o.name.0.generation (s.tasks o.name.0.creator x) ≡ Some u) o.slot o.live))) mine.live none,
+          all_children_finished w m s (all_owed actors) a.context.task mine.task before.rule.words before.rule.within mine.live none,
         ) refl refl
 
     abbrev Goes : Actor → Type 0
