@@ -20,7 +20,7 @@ use Rattle.omi_core.specs.declared.stop.End.{End}
 use Rattle.omi_core.specs.declared.stop.End.TheVariants as end
 use Rattle.omi_core.specs.declared.stop.Stop.{Stop}
 use Rattle.omi_core.specs.Ends.{EndsAt, GoesOn, IsBelow, IsEnded, count_of, end_at, end_of_kind, is_done, is_of_kind, met_at, met_by}
-use Rattle.omi_core.specs.RunSteps.{IsStep, event_of, made_of}
+use Rattle.omi_core.specs.RunSteps.{IsStep, RuleHolds, event_of, made_of}
 use Rattle.omi_core.specs.Runs.{IsSameRun, Run}
 use Rattle.omi_core.specs.ScheduledRuns.{Adds, IsRunBy}
 use Rattle.omi_core.specs.Schedules.{IsDrawn, drawn_at, first_draw, next_number, thread_at, threads_by}
@@ -74,6 +74,12 @@ of_kind_on (Some o) met es e few are goes = go (is_of_kind o.0 e.2) (met + 1 == 
     go false c f g h =
         let more : count_of o.0 (es ++ e ∷ []) ≡ count_of o.0 es + 0 = snoc_counts o.0 es e ∙ ap (λ (b : Bool). count_of o.0 es + (if b then 1 else 0)) f in
         (omega (arith, more, few), omega (arith, more, are))
+
+-- ---- the rule
+
+-- it holds of the same run with other room
+pub rule_roomier : (a b : Run) → IsSameRun a b → RuleHolds a → RuleHolds b
+rule_roomier a b same (s, rule) = (s, rw (same.program, same.table, same.words, same.events, same.actors) rule)
 
 -- ---- steps
 

@@ -12,9 +12,11 @@ use Rattle.omi_run_lists.specs.declared.made.Turn.TheVariants as turn
 use Rattle.omi_word.specs.Words.{words_of}
 use Rattle.omi_rep.specs.declared.outcome.Outcome.{Outcome}
 use Rattle.omi_rep.specs.declared.outcome.Outcome.TheVariants as outcome
+use Rattle.omi_layout.specs.Memory.{memory_of}
 use Rattle.omi_rep.specs.Shows.{Shows}
 use Rattle.omi_rule.specs.Steps.{LeadsOn}
 use Rattle.omi_rule.specs.Commits.{ComesOf}
+use Rattle.omi_rule.specs.Rule.{Rule}
 use Rattle.omi_core.specs.declared.entry.Entry.{Entry}
 use Rattle.omi_core.specs.Runs.{Run, actors_in, events_in}
 
@@ -67,3 +69,9 @@ IsRight old i e = (s : State) → Reached old.program (events_in old.events.item
 abbrev pub ShowsState : Run → Type 0
 ShowsState a = (s : State) → Reached a.program (events_in a.events.items) s
     → Shows a.table (words_of a.words) s
+
+-- The rule holds between the steps of a run: its events reach a state, and for this state the words, the to-do lists, the open bodies and
+-- the registers of all threads are as the rule says
+abbrev pub RuleHolds : Run → Type 0
+RuleHolds a = (s : State) × Rule a.program a.table (memory_of a.table a.words)
+    (events_in a.events.items) s (actors_in a.actors)

@@ -5,7 +5,7 @@ ghost use Rattle.omi_core.specs.declared.limits.TheConstants.{MOST_STEPS};
 ghost use Rattle.omi_core.specs.Histories.{HasHistory};
 ghost use Rattle.omi_core.specs.Runs.{IsOpening, IsSameRun, spare_in};
 ghost use Rattle.omi_rep.specs.Suits.{Suits};
-ghost use Rattle.omi_core.specs.RunSteps.{IsRight, IsStep, ShowsState, event_of, seats_of};
+ghost use Rattle.omi_core.specs.RunSteps.{IsRight, IsStep, RuleHolds, ShowsState, event_of, seats_of};
 
 use crate::opening::{opening_actors, opening_image};
 use crate::{Entry, MOST_STEPS, OutOfMemory};
@@ -144,6 +144,13 @@ impl Core {
         &self.made
     }
 
+    /// The rule holds between any two steps. Does nothing.
+    pub fn rule_holds(&self)
+        ensures { RuleHolds self.now }
+    {
+        let _program = &self.program;
+    }
+
     /// The number of threads.
     pub fn threads(&self) -> u8
         ensures threads { result ≡ self.now.program.threads }
@@ -186,6 +193,7 @@ impl Core {
         requires spare { 1 ≤ spare_in self.old }
         ensures entry { IsStep self.old i result self.new }
         ensures right { IsRight self.old i result }
+        ensures rule { RuleHolds self.new }
         ensures spare { spare_in self.old ≤ spare_in self.new + 1 }
     {
         let at = i as usize;

@@ -2,6 +2,7 @@
 
 ghost use Rattle.std.specs.Prelude.{◌≡◌, ◌≤◌, IfSome, OnOk};
 ghost use Rattle.omi_core.specs.Runs.{IsSameRun, spare_in};
+ghost use Rattle.omi_core.specs.RunSteps.{RuleHolds};
 ghost use Rattle.omi_core.specs.ScheduledRuns.{IsRunBy};
 ghost use Rattle.omi_core.specs.Schedules.{IsListed};
 
@@ -38,8 +39,10 @@ impl Core {
     pub fn run(&mut self, how: &Schedule, stop: Stop) -> Result<End, OutOfMemory>
         requires count { IfSome stop.on (λ on. 1 ≤ on.1) }
         requires listed { IsListed how.now self.old.program.threads stop.steps }
-        ensures { IsRunBy self.old how.now stop result self.new }
+        ensures run { IsRunBy self.old how.now stop result self.new }
+        ensures rule { RuleHolds self.new }
     {
+        self.rule_holds();
         let threads = self.threads();
         let mut draw = first_draw(how);
         let mut met = 0;

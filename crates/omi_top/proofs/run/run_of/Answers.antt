@@ -21,7 +21,7 @@ returns c = record {
   family = c.family-layout.ensures.family;
   first = c.in_ok-core.core;
   opens = c.in_ok-core.ensures;
-  run = subst (λ (how : Schedule). IsRunBy c.in_ok-core.core how c.args.plan.stop (Ok c.in_ok-why.why) c.run.new.self) c.schedule.ensures c.in_ok-why.ensures;
+  run = subst (λ (how : Schedule). IsRunBy c.in_ok-core.core how c.args.plan.stop (Ok c.in_ok-why.why) c.run.new.self) c.schedule.ensures c.in_ok-why.ensures.run;
   history = c.made.ensures.history;
   steps = c.len-steps.ensures ∙ ap (λ (made : Steps). length made.items) c.made.ensures.made;
 }

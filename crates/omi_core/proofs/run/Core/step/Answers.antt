@@ -152,6 +152,9 @@ returns-clause-right c = subst (λ (z : Run). IsRight z c.args.i (record { op = 
     (right (record { program = c.self.inside.program; table = c.self.inside.layout.table; words = c.self.inside.image; actors = c.self.inside.actors.items; events = c.self.inside.events; made = c.self.inside.made })
     c.self.invariant.run c.args.i (threads_known c) (some_spare c) (is_kept c) _ (op_is c) (found_is c) (outcome_found c))
 
+pub returns-clause-rule : goal.returns-clause-rule
+returns-clause-rule c = let run = keeps_run c in (run.state, run.rule)
+
 pub returns-clause-spare : goal.returns-clause-spare
 returns-clause-spare c =
     let teams : seats_of c.resume-outcome.result ≤ c.self.inside.program.threads =
