@@ -17,6 +17,7 @@ pub mod Runs
 pub mod Owing
 pub mod worker
 pub mod Generations
+pub mod SlotGenerations
 pub mod KeptObjects
 pub mod plain
 pub mod barrier

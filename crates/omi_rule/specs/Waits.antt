@@ -1,17 +1,19 @@
 -- A thread waits on a word: its place in the state is one that waits, and the word has a value that does not let it go on.
-use Rattle.std.specs.Prelude.{◌≡◌, ◌≢◌, ◌⊎◌, ℕ, ◌+◌, ◌-◌, ◌*◌, ◌<◌, false, List, ◌∷◌, length, slice_index}
+use Rattle.std.specs.Prelude.{◌≡◌, ◌≢◌, ◌⊎◌, ℕ, ◌+◌, ◌-◌, ◌*◌, ◌%◌, ◌<◌, List, ◌∷◌, length, slice_index}
 use Rattle.omi_model.specs.declared.item.Item.{Item}
 use Rattle.omi_model.specs.declared.item.Item.TheVariants as item
 use Rattle.omi_model.specs.Changes.{OfCurrent, OfCurrentRegion}
 use Rattle.omi_model.specs.LawClaims.{IsForking, WaitsForTeam}
 use Rattle.omi_model.specs.State.{State}
+use Rattle.omi_model.specs.Teams.{AreAsksOver}
+use Rattle.omi_numbers.specs.declared.lives.TheConstants.{LIFE_END}
 use Rattle.omi_layout.specs.declared.field.Field.{Field}
 use Rattle.omi_layout.specs.declared.field.Field.TheVariants.{RegionArrived, RegionLeft, RegionLife, RegionPending, RegionReleased, RuntimeLocks, TaskChildren, TaskLife, ThreadAssign}
 use Rattle.omi_layout.specs.Field.{regions, tasks}
 use Rattle.omi_layout.specs.Memory.{word_address}
 use Rattle.omi_layout.specs.Named.{number}
 use Rattle.omi_layout.specs.Table.{per_thread}
-use Rattle.omi_step_words.specs.Words.{is_free, of_place, of_region, of_task, of_thread}
+use Rattle.omi_step_words.specs.Words.{of_place, of_region, of_task, of_thread}
 
 -- ---- places in a list
 
@@ -46,12 +48,17 @@ joins_next xs = ⊥
 
 -- ---- waits
 
--- a record of this kind is searched, and one of the thread's own is in use or has had all its generations
+-- a record of this kind is searched, and one of the thread's own can't be taken: its life word is odd as long as it is in use, and 2^33
+-- where it has had all its generations
 pub record IsRecordTaken (w : List ℕ) (i kind : ℕ) (life : Field) (address word : ℕ) : Type 0 where
   pub slot : ℕ
   pub within : slot < per_thread w kind
   pub address_is : address ≡ of_place w (record { creator = i; slot = slot }) life
-  pub taken : is_free word ≡ false
+  pub taken : (word % 2 ≡ 1) ⊎ (word ≡ LIFE_END)
+
+-- a fork in the making asks no further thread, and chooses its records
+abbrev pub ForksNext : State → ℕ → Type 0
+ForksNext s i = IsForking s i × AreAsksOver s i
 
 -- thread i waits on the word at this address, which has this value
 pub data Waits (w : List ℕ) (s : State) (i address word : ℕ) : Type 0 where
@@ -59,8 +66,8 @@ pub data Waits (w : List ℕ) (s : State) (i address word : ℕ) : Type 0 where
   ForTask : WaitsForTeam s i → address ≡ of_thread w i ThreadAssign → word ≡ 0
       → Waits w s i address word
   -- a fork needs a record for its region, and a record for each member's task; so does an explicit task
-  ForRegion : IsForking s i → IsRecordTaken w i regions RegionLife address word → Waits w s i address word
-  ForTaskRecord : IsForking s i ⊎ OfCurrent s i (λ k t. makes_next t.list)
+  ForRegion : ForksNext s i → IsRecordTaken w i regions RegionLife address word → Waits w s i address word
+  ForTaskRecord : ForksNext s i ⊎ OfCurrent s i (λ k t. makes_next t.list)
       → IsRecordTaken w i tasks TaskLife address word → Waits w s i address word
   -- a critical construct waits for its lock
   ForLock : (k : ℕ) → OfCurrent s i (λ j t. locks_next k t.list)

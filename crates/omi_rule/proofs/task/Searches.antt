@@ -43,7 +43,8 @@ use Rattle.omi_rule.proofs.OwnTask.{is_current}
 use Rattle.omi_rule.proofs.Settling.{in_work_is}
 use Rattle.omi_rule.proofs.task.Loads.{place_goes}
 use Rattle.omi_rule.proofs.task.Within.{context, fits, going, goes_on, list_is, own, owes, placed, row, stands, thread_there}
-use Rattle.omi_rule.proofs.team.Records.{free_slot, next_within}
+use Rattle.omi_rule.proofs.SlotGenerations.{slots_few}
+use Rattle.omi_rule.proofs.team.Records.{free_slot, next_within, taken_slot}
 
 -- the making of a task is next, whatever place it is for
 pub making_is_next : (p : Program) (at : Encounter) (fs : List Frame) (place : Option ℕ) (s : Stmt) → IsAt p fs s → IsTask s → makes_next (making p at fs place)
@@ -108,7 +109,12 @@ module _ (p : Program) (w : List ℕ) (m : Memory) (events : List (ℕ × Event)
           let next : TaskCounter = task.LoadLife place (next_slot w tasks slot) in
           load_waits p w m events s actors i before (of_place w (own_place (actors i) slot) TaskLife) X (to_task next (actors i))
           (Waits.ForTaskRecord (inr makes)
-          (record { slot = slot; within = within; address_is = ap (λ j. of_place w (record { creator = j; slot = slot }) TaskLife) same_thread; taken = taken }))
+          (record {
+            slot = slot;
+            within = within;
+            address_is = ap (λ j. of_place w (record { creator = j; slot = slot }) TaskLife) same_thread;
+            taken = taken_slot (s.tasks i slot) TaskLife (m (actors i).thread tasks slot) (has_slot slot (owed (actors i)).tasks) life ((slots_few p events s before.rule.reached).1 i slot) taken;
+          }))
           (sym (owes p w m events s actors i before C at))
           (goes_on p w m events s actors i before C at m next (actors i).gathered (own p w m events s actors i before C at).fits.variables refl
           (fits p w m events s actors i before C at) (next_within w tasks slot within)

@@ -1,5 +1,6 @@
 -- What the searches and the fills of records have in common: a free slot, what is owed, and what is asked.
-use Rattle.std.proofs.Common.{◌≡◌, ◌+◌, ◌%◌, ◌^◌, ◌==◌, ◌<◌, nat_lt, ℕ, Bool, true, false, List, length, map, Option, Some, None, refl, sym, ap, ◌∙◌, subst, arith, eqb-true, ltb-true, if◌then◌else◌}
+use Rattle.std.proofs.Common.{◌≡◌, ◌⊎◌, inl, inr, ◌+◌, ◌%◌, ◌^◌, ◌==◌, ◌<◌, ◌≤◌, nat_lt, ℕ, Bool, true, false, List, length, map, Option, Some, None, refl, sym, ap, ◌∙◌, subst, arith, eqb-true, ltb-true, if◌then◌else◌}
+use Rattle.std.proofs.lemmas.Bool.Decides.{nat_tests}
 use Rattle.omi_script.specs.declared.program.Program.{Program}
 use Rattle.omi_script.specs.declared.statement.Stmt.{Stmt}
 use Rattle.omi_script.specs.declared.statement.Stmt.TheVariants as stmt
@@ -10,11 +11,13 @@ use Rattle.omi_model.specs.declared.id.Tid.{Tid}
 use Rattle.omi_model.specs.Fresh.{IsFresh}
 use Rattle.omi_model.specs.LawClaims.{IsForking, asks_next}
 use Rattle.omi_model.specs.Put.{Slots}
+use Rattle.omi_model.specs.declared.slot.Slot.{Slot}
 use Rattle.omi_model.specs.State.{State}
 use Rattle.omi_layout.proofs.Arenas.{test_left, test_right}
 use Rattle.omi_layout.specs.declared.field.Field.{Field}
 use Rattle.omi_layout.specs.declared.field.Field.TheVariants.{RegionTeam}
 use Rattle.omi_numbers.specs.Addresses.{exit_frame}
+use Rattle.omi_numbers.specs.declared.lives.TheConstants.{LIFE_END}
 use Rattle.omi_layout.specs.Field.{regions, tasks}
 use Rattle.omi_layout.specs.Memory.{Memory, Rec}
 use Rattle.omi_layout.specs.Named.{number}
@@ -67,6 +70,25 @@ free_slot {A} slots i thread slot life r owing mine keeps free = go (slots i slo
     go None empty false is =
         let e = keeps.free empty is in
         (record { creator = mine; empty = empty; next = omega (arith, e, low); below = omega (arith, e, low) }, is)
+
+-- a life word that is not free is odd, or that of a slot that has had all its generations
+not_free : (word : ℕ) → word % 2 ≡ 0 → is_free word ≡ false → LIFE_END ≤ word
+not_free word even taken = grind (arith, nat_tests)
+
+pub taken_slot : {A : Type 0} (slot : Slot A) (life : Field) (r : Rec) (owing : Bool) → KeepsLife r life slot owing → slot.generations ≤ 2 ^ 32 → is_free (r (number life) 0) ≡ false
+    → (r (number life) 0 % 2 ≡ 1) ⊎ (r (number life) 0 ≡ LIFE_END)
+taken_slot {A} slot life r owing keeps few taken = go slot.live refl owing refl
+  where
+    word : ℕ
+    word = r (number life) 0
+
+    go : (o : Option A) → slot.live ≡ o → (b : Bool) → owing ≡ b → (r (number life) 0 % 2 ≡ 1) ⊎ (r (number life) 0 ≡ LIFE_END)
+    go (Some x) there b is = let e = keeps.live x there in inl (omega (arith, e))
+    go None empty true is = let e = keeps.taken empty is in inl (omega (arith, e))
+    go None empty false is =
+        let e = keeps.free empty is in
+        let high = not_free (r (number life) 0) (omega (arith, e)) taken in
+        inr (omega (arith, e, few, high))
 
 pub next_within : (w : List ℕ) (kind slot : ℕ) → slot < per_thread w kind → next_slot w kind slot < per_thread w kind
 next_within w kind slot within = go (nat_lt (slot + 1) (per_thread w kind)) refl

@@ -26,7 +26,8 @@ use Rattle.omi_rule.specs.Rows.{HasFilled, HasTeam}
 use Rattle.omi_rule.specs.Steps.{KeepsRule, RecordWord, StepKeeps, found_in}
 use Rattle.omi_rule.specs.Waits as Waits
 use Rattle.omi_rule.proofs.Assembly.{Before, load_stays, load_waits}
-use Rattle.omi_rule.proofs.team.Records.{filled_as_before, free_slot, is_forking, next_within, team_goes}
+use Rattle.omi_rule.proofs.SlotGenerations.{slots_few}
+use Rattle.omi_rule.proofs.team.Records.{filled_as_before, free_slot, is_forking, next_within, taken_slot, team_goes}
 use Rattle.omi_rule.proofs.team.Within.{fits, goes_on, own, owes, placed, row}
 
 module _ (p : Program) (w : List ℕ) (m : Memory) (events : List (ℕ × Event)) (s : State) (actors : ℕ → Actor) (i : ℕ) (before : Before p w m events s actors i) where
@@ -74,8 +75,13 @@ module _ (p : Program) (w : List ℕ) (m : Memory) (events : List (ℕ × Event)
             (team_goes s i (actors i) (team.TakeRegion r) (actors i).gathered.team refl (row p w m events s actors i before C at), fresh))
         go false taken =
             load_waits p w m events s actors i before (of_place w (own_place (actors i) slot) RegionLife) X (to_team (team.LoadRegionLife (next_slot w regions slot)) (actors i))
-            (Waits.ForRegion (is_forking p w m events s actors i before C at refl (fits p w m events s actors i before C at).0)
-            (record { slot = slot; within = placed p w m events s actors i before C at; address_is = ap (λ j. of_place w (record { creator = j; slot = slot }) RegionLife) mine; taken = taken }))
+            (Waits.ForRegion (is_forking p w m events s actors i before C at refl (fits p w m events s actors i before C at).0, (row p w m events s actors i before C at).over)
+            (record {
+              slot = slot;
+              within = placed p w m events s actors i before C at;
+              address_is = ap (λ j. of_place w (record { creator = j; slot = slot }) RegionLife) mine;
+              taken = taken_slot (s.regions i slot) RegionLife (m (actors i).thread regions slot) (has_region_slot slot (owed (actors i)).region) life ((slots_few p events s before.rule.reached).0 i slot) taken;
+            }))
             (sym (owes p w m events s actors i before C at))
             (goes_on p w m events s actors i before C at m (team.LoadRegionLife (next_slot w regions slot)) (actors i).gathered (own p w m events s actors i before C at).fits.variables refl
             (fits p w m events s actors i before C at)
@@ -127,8 +133,13 @@ module _ (p : Program) (w : List ℕ) (m : Memory) (events : List (ℕ × Event)
         go false taken =
             let next : TeamCounter = team.LoadTaskLife r member (next_slot w tasks slot) in
             load_waits p w m events s actors i before (of_place w (own_place (actors i) slot) TaskLife) Y (to_team next (actors i))
-            (Waits.ForTaskRecord (inl (is_forking p w m events s actors i before D at refl (fits p w m events s actors i before D at).0.0.0))
-            (record { slot = slot; within = (placed p w m events s actors i before D at).1; address_is = ap (λ j. of_place w (record { creator = j; slot = slot }) TaskLife) same_thread; taken = taken }))
+            (Waits.ForTaskRecord (inl (is_forking p w m events s actors i before D at refl (fits p w m events s actors i before D at).0.0.0, asks.over))
+            (record {
+              slot = slot;
+              within = (placed p w m events s actors i before D at).1;
+              address_is = ap (λ j. of_place w (record { creator = j; slot = slot }) TaskLife) same_thread;
+              taken = taken_slot (s.tasks i slot) TaskLife (m (actors i).thread tasks slot) (has_slot slot (owed (actors i)).tasks) task_life ((slots_few p events s before.rule.reached).1 i slot) taken;
+            }))
             (sym (owes p w m events s actors i before D at))
             (goes_on p w m events s actors i before D at m next (actors i).gathered (own p w m events s actors i before D at).fits.variables refl
             (fits p w m events s actors i before D at)
