@@ -2,7 +2,7 @@
 -- statuses.
 pub mod Outside
 pub mod Status
--- To be believed of real files: the two counts.
+-- To be believed of real files: the counts.
 pub mod Disk
 -- To be believed of the forms in memory alone: what they tell, and which calls fail.
 pub mod Memory

@@ -1,7 +1,7 @@
 // The thin edge over real files. It tells no bytes, and counts each fault. Each call of the system
 // stands in one place.
-ghost use Rattle.std.specs.Prelude.{◌≡◌, ◌≤◌, IfOk, OnOk, IsErr, List, None, length, ℕ};
-ghost use Rattle.omi_outside.specs.Disk.{disk_read_faults, disk_write_faults};
+ghost use Rattle.std.specs.Prelude.{◌≡◌, ◌≤◌, IfOk, OnOk, IsErr, IsErrOf, List, None, length, ℕ};
+ghost use Rattle.omi_outside.specs.Disk.{disk_read_faults, disk_unsynced, disk_write_faults};
 ghost use Rattle.omi_outside.specs.Outside.{HasCause};
 
 use crate::{Failed, Files, Refused};
@@ -18,7 +18,8 @@ struct Opened<F> {
 
 /// Real files. Two of them stay open: the one that `size` found last, from which alone `read_at`
 /// reads, and the one that is written, from its `create` to its last `append`. So while a file is
-/// read or written, its name is looked up once.
+/// read or written, its name is looked up once. What was written is handed to its device by `sync`,
+/// and before another file is written.
 ///
 /// A read of another name than that of `size` is a fault, and so is one past the file's end.
 #[derive(Drop)]
@@ -28,14 +29,16 @@ pub struct DiskFiles<R: fs::Files + AllocGlobal + Drop> {
     written: Option<Opened<R::File>>,
     reads: u64,
     writes: u64,
+    unsynced: u64,
 }
 
 impl<R: fs::Files + AllocGlobal + Drop> DiskFiles<R> {
-    /// No file is open, and both counts are 0.
+    /// No file is open, and all counts are 0.
     pub fn new(rt: R) -> DiskFiles<R>
         ensures told { (name : List ℕ) → ⟦<DiskFiles<R> as Files>⟧.told result name ≡ None }
         ensures reads { disk_read_faults result ≡ 0 }
         ensures writes { disk_write_faults result ≡ 0 }
+        ensures synced { disk_unsynced result ≡ 0 }
     {
         DiskFiles {
             rt,
@@ -43,28 +46,55 @@ impl<R: fs::Files + AllocGlobal + Drop> DiskFiles<R> {
             written: None,
             reads: 0,
             writes: 0,
+            unsynced: 0,
         }
     }
 
     /// Has the system hand the file that was written last to its device, so that a fault which is
-    /// told only then is told. It does nothing where no file was written, and where the file is one
-    /// that can't be handed over, as a pipe.
+    /// told only then is told. It does nothing where nothing was written since, and where the file is
+    /// one that can't be handed over, as a pipe.
     pub fn sync(&mut self) -> Result<(), Failed>
+        ensures synced { OnOk result (disk_unsynced self.new ≡ 0) }
         ensures cause { HasCause (disk_write_faults self.old) (disk_write_faults self.new)
             (IsErr result) }
         ensures no_fault { OnOk result (disk_write_faults self.new ≡ disk_write_faults self.old) }
         ensures reads { disk_read_faults self.new ≡ disk_read_faults self.old }
     {
-        let synced = match &self.written {
-            Some(opened) => opened.file.sync_all(),
-            None => Ok(()),
-        };
-        match synced {
-            Ok(()) => Ok(()),
-            Err(e) if e.kind() == ErrorKind::InvalidInput => Ok(()),
+        if self.unsynced > 0
+            && let Some(opened) = &self.written
+            && let Err(e) = opened.file.sync_all()
+            && e.kind() != ErrorKind::InvalidInput
+        {
+            self.writes = self.writes.saturating_add(1);
+            return Err(Failed);
+        }
+        self.unsynced = 0;
+        Ok(())
+    }
+
+    /// The file to add to: the one that was written last, if this is its name, or else one that is
+    /// opened at its end, and made where it isn't there.
+    fn open_to_append(&mut self, name: &str) -> Result<Opened<R::File>, Refused>
+        ensures cause { HasCause (disk_write_faults self.old) (disk_write_faults self.new)
+            (IsErrOf result Refused.Failed) }
+        ensures reads { disk_read_faults self.new ≡ disk_read_faults self.old }
+    {
+        if let Some(opened) = self.written.take_if(|last| last.name.as_str() == name) {
+            return Ok(opened);
+        }
+        if self.sync().is_err() {
+            return Err(Refused::Failed);
+        }
+        let kept = String::from_str(self.rt.alloc(), name)?;
+        match OpenOptions::new()
+            .append(true)
+            .create(true)
+            .open(&self.rt, name)
+        {
+            Ok(file) => Ok(Opened { name: kept, file }),
             Err(_) => {
                 self.writes = self.writes.saturating_add(1);
-                Err(Failed)
+                Err(Refused::Failed)
             }
         }
     }
@@ -106,39 +136,6 @@ fn read_open<F: Read + Seek>(file: &mut F, at: u64, to: &mut [u8]) -> io::Result
     Ok(count)
 }
 
-/// The file to add to: the one that was written last, if this is its name, or else one that is
-/// opened at its end, and made where it isn't there.
-fn open_to_append<R: fs::Files + AllocGlobal>(
-    rt: &R,
-    last: Option<Opened<R::File>>,
-    name: &str,
-) -> Result<Opened<R::File>, Refused> {
-    if let Some(opened) = last {
-        if opened.name.as_str() == name {
-            return Ok(opened);
-        }
-    }
-    let kept = String::from_str(rt.alloc(), name)?;
-    match OpenOptions::new().append(true).create(true).open(rt, name) {
-        Ok(file) => Ok(Opened { name: kept, file }),
-        Err(_) => Err(Refused::Failed),
-    }
-}
-
-/// Adds bytes to the file of this name, and answers it, still open.
-fn append_to<R: fs::Files + AllocGlobal>(
-    rt: &R,
-    last: Option<Opened<R::File>>,
-    name: &str,
-    bytes: &[u8],
-) -> Result<Opened<R::File>, Refused> {
-    let mut opened = open_to_append(rt, last, name)?;
-    match opened.file.write_all(bytes) {
-        Ok(()) => Ok(opened),
-        Err(_) => Err(Refused::Failed),
-    }
-}
-
 impl<R: fs::Files + AllocGlobal + Drop> Files for DiskFiles<R> {
     ghost told = { λ _ _. None };
 
@@ -174,12 +171,24 @@ impl<R: fs::Files + AllocGlobal + Drop> Files for DiskFiles<R> {
         Err(Failed)
     }
 
-    fn create(&mut self, name: &str) -> Result<(), Refused> {
+    fn create(&mut self, name: &str) -> Result<(), Refused>
+        // What was made isn't handed over yet.
+        ensures unsynced { OnOk result (1 ≤ disk_unsynced self.new) }
+
+        // What each form says.
+        ensures cause { HasCause (disk_write_faults self.old) (disk_write_faults self.new)
+            (IsErrOf result Refused.Failed) }
+        ensures reads { disk_read_faults self.new ≡ disk_read_faults self.old }
+    {
+        if self.sync().is_err() {
+            return Err(Refused::Failed);
+        }
         self.written = None;
         let kept = String::from_str(self.rt.alloc(), name)?;
         match fs::create(&self.rt, name) {
             Ok(file) => {
                 self.written = Some(Opened { name: kept, file });
+                self.unsynced = 1;
                 Ok(())
             }
             Err(_) => {
@@ -189,18 +198,25 @@ impl<R: fs::Files + AllocGlobal + Drop> Files for DiskFiles<R> {
         }
     }
 
-    fn append(&mut self, name: &str, bytes: &[u8]) -> Result<(), Refused> {
-        let last = self.written.take();
-        match append_to(&self.rt, last, name, bytes) {
-            Ok(opened) => {
-                self.written = Some(opened);
-                Ok(())
-            }
-            Err(Refused::Failed) => {
+    fn append(&mut self, name: &str, bytes: &[u8]) -> Result<(), Refused>
+        // What was added isn't handed over yet.
+        ensures unsynced { OnOk result (1 ≤ disk_unsynced self.new) }
+
+        // What each form says.
+        ensures cause { HasCause (disk_write_faults self.old) (disk_write_faults self.new)
+            (IsErrOf result Refused.Failed) }
+        ensures reads { disk_read_faults self.new ≡ disk_read_faults self.old }
+    {
+        let mut opened = self.open_to_append(name)?;
+        let added = opened.file.write_all(bytes);
+        self.written = Some(opened);
+        self.unsynced = self.unsynced.saturating_add(1);
+        match added {
+            Ok(()) => Ok(()),
+            Err(_) => {
                 self.writes = self.writes.saturating_add(1);
                 Err(Refused::Failed)
             }
-            Err(Refused::OutOfMemory) => Err(Refused::OutOfMemory),
         }
     }
 }

@@ -214,10 +214,17 @@ fn writes_that_fail(rt: HostRuntime) -> Result<(), Fail> {
     let bytes = letters(rt.alloc(), 9_000)?;
     // The stand-in takes 1,000 bytes a call, so the eighth is within the second piece.
     let unruly = Unruly::new(rt.clone()?).failing_write(8);
-    let written = write_whole(&mut DiskFiles::new((unruly, rt.alloc())), name, &bytes);
+    let mut files = DiskFiles::new((unruly, rt.alloc()));
+    let written = write_whole(&mut files, name, &bytes);
     let left = holds(&rt, name, bytes.get(..6_096).unwrap_or(b""));
+    // The file stays open, so that what is left can be handed over.
+    let handed = files.sync();
     fs::remove_file(&rt, name)?;
-    expect_equal(&rt, &(written, left), &(Err(Refused::Failed), true));
+    expect_equal(
+        &rt,
+        &(written, left, handed),
+        &(Err(Refused::Failed), true, Ok(())),
+    );
     Ok(())
 }
 
@@ -267,6 +274,36 @@ fn faults_told_at_the_end(rt: HostRuntime) -> Result<(), Fail> {
     let late = (write_whole(&mut files, name, b"x"), files.sync());
     fs::remove_file(&rt, name)?;
     expect_equal(&rt, &(nothing, late), &(Ok(()), (Ok(()), Err(Failed))));
+    Ok(())
+}
+
+/// What was written is handed over before another file is written. A read leaves it for the end.
+#[test]
+fn what_was_written_is_handed_over(rt: HostRuntime) -> Result<(), Fail> {
+    let (path, second) = (fresh(&rt, "first")?, fresh(&rt, "second")?);
+    let (name, other) = (path.as_str(), second.as_str());
+    let unruly = Unruly::new(rt.clone()?).failing_sync(ErrorKind::StorageFull);
+    let mut files = DiskFiles::new((unruly, rt.alloc()));
+    let written = (files.append(name, b"x"), files.append(name, b"y"));
+    let read = (files.size(name), files.sync());
+    let created = (files.create(name), files.append(other, b"z"));
+    let mut files = DiskFiles::new(rt.clone()?);
+    let both = (files.create(other), files.append(name, b"z"), files.sync());
+    let left = (holds(&rt, name, b"xyz"), holds(&rt, other, b""));
+    fs::remove_file(&rt, name)?;
+    fs::remove_file(&rt, other)?;
+    expect_equal(
+        &rt,
+        &(written, read),
+        &((Ok(()), Ok(())), (Ok(Some(2)), Err(Failed))),
+    );
+    let refused = (Err(Refused::Failed), Err(Refused::Failed));
+    expect_equal(&rt, &created, &refused);
+    expect_equal(
+        &rt,
+        &(both, left),
+        &((Ok(()), Ok(()), Ok(())), (true, true)),
+    );
     Ok(())
 }
 

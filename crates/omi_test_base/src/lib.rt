@@ -1,4 +1,5 @@
-//! Tests of omi_list, omi_word, omi_handle and omi_outside: lists, operations on a word, handles, and files and output.
+//! Tests of omi_list, omi_word, omi_handle and omi_outside: lists, operations on a word, handles, and files and output; and stand-ins for
+//! the system, for other crates of tests too.
 #![tactic(auto)]
 
 #[cfg(test)]
@@ -11,7 +12,6 @@ mod handle_tests;
 mod list_tests;
 #[cfg(test)]
 mod outside_tests;
-#[cfg(test)]
-mod stand_in;
+pub mod stand_in;
 #[cfg(test)]
 mod word_tests;
