@@ -1,4 +1,4 @@
-//! Tests of omi_top: whole runs of `stop`, `make`, `show` and `run` through the top call.
+//! Tests of omi_top: whole runs of `stop`, `make`, `show` and `run` through the top call, and what a program does before and behind it.
 #![tactic(auto)]
 
 #[cfg(test)]
@@ -7,6 +7,8 @@ mod layout_tests;
 mod make_tests;
 #[cfg(test)]
 mod order_tests;
+#[cfg(test)]
+mod program_tests;
 #[cfg(test)]
 mod run_tests;
 #[cfg(test)]

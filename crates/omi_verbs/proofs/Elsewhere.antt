@@ -1,12 +1,13 @@
 -- What a refusal of a script, a refused write and a printed text are not, and what a status says of the refusal behind it.
 use Rattle.std.proofs.Common.{◌≡◌, ◌∙◌, inl, inr, ℕ, Bool, true, false, Ok, Err, refl, sym, ap}
-use Rattle.std.specs.Prelude.{Result, IsErrAnd, IsErrOf}
+use Rattle.std.specs.Prelude.{List, Option, Result, IsErrAnd, IsErrOf}
 use Rattle.std.specs.Global.{Vec}
 use Rattle.omi_outside.specs.declared.files.Refused.{Refused as RefusedWrite}
 use Rattle.omi_outside.specs.declared.files.Refused.TheVariants as refused
 use Rattle.omi_outside.specs.declared.status.Status.{Status}
 use Rattle.omi_outside.specs.declared.status.Status.TheVariants as status
-use Rattle.omi_verbs.specs.Refusal.{IsLate, IsReadFault, refusal_of_write, status_of}
+use Rattle.omi_verbs.specs.Refusal.{IsLate, IsReadFault, refusal_line, refusal_of_write, status_of}
+use Rattle.omi_verbs.specs.Said.{IsSaid}
 use Rattle.omi_verbs.specs.Scripts.{IsOfScript}
 use Rattle.omi_verbs.specs.Statuses.{IsOfCore, IsPrinting}
 use Rattle.omi_verbs.specs.declared.refusal.Refusal.{Refusal}
@@ -107,6 +108,11 @@ of_read r is = absurd (cc)
 pub of_write : (r : Refusal) → status_of r ≡ status.WriteFault → IsErrOf (ended r) refusal.WriteFault
 of_write refusal.WriteFault is = refl
 of_write r is = absurd (cc)
+
+-- want of memory has no line
+pub unsaid : (script core : List ℕ) (r : Refusal) (counted : Type 0) (old new : Option (List ℕ)) → IsSaid (refusal_line script core r) counted old new → status_of r ≡ status.OutOfMemory → new ≡ old
+unsaid script core refusal.OutOfMemory counted old new said is = said
+unsaid script core r counted old new said is = absurd (cc)
 
 -- ---- a fault of writing, or want of memory
 

@@ -1,7 +1,7 @@
 //! What a program does before and behind its top call.
 
-ghost use Rattle.std.specs.Prelude.{◌≡◌, ◌≢◌, ◌⊎◌};
-ghost use Rattle.omi_outside.specs.Disk.{disk_write_faults as write_faults};
+ghost use Rattle.std.specs.Prelude.{◌≡◌, ◌≢◌, ◌⊎◌, IfErr, alloc_error};
+ghost use Rattle.omi_outside.specs.Disk.{disk_unsynced as unsynced, disk_write_faults as write_faults};
 ghost use Rattle.omi_outside.specs.Outside.{Rose};
 
 use omi_outside::{DiskFiles, Status};
@@ -11,7 +11,9 @@ use std::fs::Files;
 use std::{env, io};
 
 /// The words behind the program's name. Where one can't be read, as it is no text, they make no command line, and there are none.
-pub fn words_of<R: Env + AllocGlobal>(rt: &R) -> Result<Vec<String>, AllocError> {
+pub fn words_of<R: Env + AllocGlobal>(rt: &R) -> Result<Vec<String>, AllocError>
+    ensures { IfErr result (λ e. e ≡ alloc_error) }
+{
     let mut words = Vec::new(rt.alloc());
     let read = match env::args(rt) {
         Ok(read) => read,
@@ -24,26 +26,20 @@ pub fn words_of<R: Env + AllocGlobal>(rt: &R) -> Result<Vec<String>, AllocError>
     Ok(words)
 }
 
-/// The status of a command that ended with this one. Where it did all that it is for, what it wrote is handed to its device, and a
-/// fault that is told only then is a fault of writing.
+/// The status of a command that ended with this one. What it wrote is handed to its device first, whatever the status is, and a fault
+/// that is told only then is a fault of writing.
 pub fn handed_over<R: Files + AllocGlobal + Drop>(
     status: Status,
     files: &mut DiskFiles<R>,
 ) -> Status
-    ensures other { status ≢ Status.Success → result ≡ status }
-    ensures success { status ≡ Status.Success
-        → (result ≡ Status.Success) ⊎ (result ≡ Status.WriteFault) }
-
-    // No fault goes untold, and none is told that wasn't counted.
-    ensures no_fault { result ≡ Status.Success → write_faults files.new ≡ write_faults files.old }
-    ensures fault { status ≡ Status.Success → result ≡ Status.WriteFault
-        → Rose (write_faults files.old) (write_faults files.new) }
+    // All is handed over, and the status stays; or a fault was counted, and this is the status.
+    ensures handed { ((result ≡ status) × (unsynced files.new ≡ 0))
+        ⊎ ((result ≡ Status.WriteFault) × Rose (write_faults files.old) (write_faults files.new)) }
+    ensures no_fault { result ≢ Status.WriteFault
+        → write_faults files.new ≡ write_faults files.old }
 {
-    if status != Status::Success {
-        return status;
-    }
     match files.sync() {
-        Ok(()) => Status::Success,
+        Ok(()) => status,
         Err(_) => Status::WriteFault,
     }
 }

@@ -20,7 +20,7 @@ pub fn print<K: Sink>(text: &[u8], out: &mut K) -> Status
     ensures status { IsPrinting result }
     ensures not_of_core { IsOfCore result → ⊥ }
     ensures cause { HasCause (K.faults out.old) (K.faults out.new) (result ≡ Status.WriteFault) }
-    ensures wants { K.wants out.old ≤ K.wants out.new }
+    ensures want { HasCause (K.wants out.old) (K.wants out.new) (result ≡ Status.OutOfMemory) }
 {
     match put_whole(out, text) {
         Ok(()) => Status::Success,

@@ -23,7 +23,7 @@ returns-in-Ok g c =
       reads = c.in-Ok.ensures.read.later;
       writes = c.in-Ok.ensures.write.later;
       faults = c.print.ensures.cause.later;
-      wants = c.print.ensures.wants;
+      wants = c.print.ensures.want.later;
     }
 
 pub returns-in-Err : goal.returns-in-Err

@@ -26,7 +26,7 @@ returns-in-Ok g c =
       reads = performed.read.later;
       writes = performed.write.later;
       faults = c.print.ensures.cause.later;
-      wants = c.print.ensures.wants;
+      wants = c.print.ensures.want.later;
     }
 
 pub returns-in-Err : goal.returns-in-Err
