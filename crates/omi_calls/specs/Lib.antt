@@ -3,3 +3,4 @@ pub mod Answers
 pub mod Kept
 pub mod CoreWords
 pub mod Memory
+pub mod CoreCalls

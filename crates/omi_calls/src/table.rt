@@ -10,9 +10,11 @@ ghost use Rattle.omi_calls.specs.Kept.{IsOrderOf, TakesAll, GivesNumbers};
 
 use crate::{Callbacks, Got, Place, Sizes};
 use std::marker::Model;
+use thiserror::Error;
 
 /// A callback failed. The debugger counted the fault.
-#[derive(Clone, Copy, Debug, PartialEq, Eq)]
+#[derive(Clone, Copy, Debug, PartialEq, Eq, Error)]
+#[error("a callback failed")]
 pub struct CallbackFailed;
 
 /// A conversion of the eight bytes of a word, in the target's order, to a number, which is OMPD's

@@ -13,10 +13,12 @@ ghost use Rattle.omi_session.specs.Named.{IsNamed, AreNamed};
 ghost use Rattle.omi_session.specs.Opened.{Stays, StaysWhole};
 ghost use Rattle.omi_rep.specs.Records.{runtime_address};
 ghost use Rattle.omi_session.specs.Reads.{Answers};
+ghost use Rattle.omi_session.specs.declared.limits.TheConstants.{HANDLES_BEFORE};
 ghost use Rattle.omi_session.specs.Inquiry.{word_of};
 
 use crate::asking::word;
 use crate::library::Library;
+use crate::limits::HANDLES_BEFORE;
 use crate::parted::Parted;
 use crate::rc::Rc;
 use omi_calls::{CallbackFailed, Callbacks, Table, ToHost};
@@ -165,6 +167,20 @@ impl<C: Callbacks, F: ToHost> Session<C, F> {
         ensures { result ≡ self.now.handles.made }
     {
         self.handles.made()
+    }
+
+    /// Whether few enough handles were made in this session that each call which makes some, and a walk, may be called. Where there
+    /// were 2^40, NoMem: a session that makes a million a second comes to it in 12 days.
+    pub fn may_make(&self) -> Result<(), Rc>
+        ensures few { OnOk result (self.now.handles.made < HANDLES_BEFORE) }
+        ensures many { IfErr result (λ rc. (rc ≡ Rc.NoMem)
+            × (HANDLES_BEFORE ≤ self.now.handles.made)) }
+    {
+        if self.made() < HANDLES_BEFORE {
+            Ok(())
+        } else {
+            Err(Rc::NoMem)
+        }
     }
 
     /// Ends the session, and hands the library back. Its handles are gone.

@@ -20,7 +20,7 @@ use omi_handle::{RegionHandle, TaskHandle, ThreadHandle};
 use omi_layout::{Field, Layout};
 use omi_model::{Id, Rid, Tid};
 use omi_session::{Rc, Session, initialize};
-use omi_test_targets::{Words, Wrong, few, two_stops};
+use omi_test_targets::{Words, Wrong, two_stops};
 use std::alloc::Global;
 use std::cmp::Ordering;
 use std::test::Fail;
@@ -64,13 +64,13 @@ fn add_team<F: ToHost>(
     members: &mut Vec<Member>,
 ) -> Result<(), Wrong> {
     for num in 0..64 {
-        few(s)?;
+        s.may_make()?;
         let task = match get_task_in_parallel(s, region, num) {
             Ok(task) => task,
             Err(Rc::BadInput) => break,
             Err(rc) => return Err(rc.into()),
         };
-        few(s)?;
+        s.may_make()?;
         let thread = get_thread_in_parallel(s, region, num)?;
         members.push((
             region_id(s, region)?,
@@ -91,7 +91,7 @@ fn teams<F: ToHost>(
 ) -> Result<Vec<Member>, Wrong> {
     let mut members = Vec::new(alloc);
     add_team(s, innermost, &mut members)?;
-    few(s)?;
+    s.may_make()?;
     let mut outer = get_enclosing_parallel_handle(s, innermost);
     for _ in 0..64 {
         let region = match outer {
@@ -100,7 +100,7 @@ fn teams<F: ToHost>(
             Err(rc) => return Err(rc.into()),
         };
         add_team(s, region, &mut members)?;
-        few(s)?;
+        s.may_make()?;
         outer = get_enclosing_parallel_handle(s, region);
         rel_parallel_handle(s, region)?;
     }
@@ -118,9 +118,9 @@ fn named<F: ToHost>(s: &mut Stopped<F>, found: Result<TaskHandle, Rc>) -> Result
 
 /// The task that made a task, and the one that was left for it on its thread.
 fn ancestors<F: ToHost>(s: &mut Stopped<F>, task: TaskHandle) -> Result<[Option<Tid>; 2], Rc> {
-    few(s)?;
+    s.may_make()?;
     let made_by = get_generating_task_handle(s, task);
-    few(s)?;
+    s.may_make()?;
     let left = get_scheduling_task_handle(s, task);
     Ok([named(s, made_by)?, named(s, left)?])
 }
@@ -168,7 +168,7 @@ fn is_forked_by<F: ToHost>(
 ) -> Result<bool, Wrong> {
     let fork = Some(task_in(1));
     let master = ancestors(s, task)?;
-    few(s)?;
+    s.may_make()?;
     let worker = get_task_in_parallel(s, region, 1)?;
     let other = ancestors(s, worker)?;
     Ok(master == [fork, fork] && other == [fork, None])
@@ -176,11 +176,11 @@ fn is_forked_by<F: ToHost>(
 
 /// At the first stop both inner teams are forked: the initial thread is in the second region that it made.
 fn first_stop<F: ToHost>(alloc: Global, s: &mut Stopped<F>) -> Result<(Kept, bool), Wrong> {
-    few(s)?;
+    s.may_make()?;
     let thread = get_thread_handle(s, 0, 1000)?;
-    few(s)?;
+    s.may_make()?;
     let task = get_curr_task_handle(s, thread)?;
-    few(s)?;
+    s.may_make()?;
     let region = get_task_parallel_handle(s, task)?;
     let found = teams(alloc, s, region)?;
     let wanted = [
@@ -202,10 +202,10 @@ fn second_stop<F: ToHost>(s: &mut Stopped<F>, kept: Kept) -> Result<bool, Wrong>
     let (thread, task, region) = kept;
     let stale = get_task_function(s, task);
     rel_task_handle(s, task)?;
-    few(s)?;
+    s.may_make()?;
     let outer = get_curr_parallel_handle(s, thread)?;
     let is_named = region_id(s, outer) == Ok(region_in(1));
-    few(s)?;
+    s.may_make()?;
     let around = get_enclosing_parallel_handle(s, region)?;
     let order = parallel_handle_compare(s, around, outer)?;
     Ok(is_named && stale == Err(Rc::StaleHandle) && order == Ordering::Equal)

@@ -18,7 +18,7 @@ use omi_model::{Id, Rid, Tid};
 use omi_session::Rc;
 use omi_test_rows::{A_TEAM_OF_TWO, AN_EMPTY_RUN};
 use omi_test_targets::{
-    Asked, BIG, ByteOrder, LITTLE, Opened, Stopped, Wrong, after, at_fork, core_at, few, open,
+    Asked, BIG, ByteOrder, LITTLE, Opened, Stopped, Wrong, after, at_fork, core_at, open,
 };
 use std::alloc::Global;
 use std::test::Fail;
@@ -64,26 +64,26 @@ fn task<F: ToHost>(s: &mut Stopped<'_, F>, found: Result<TaskHandle, Rc>) -> Res
 
 /// A handle of the thread with a native id.
 fn thread<F: ToHost>(s: &mut Stopped<'_, F>, native: u64) -> Result<ThreadHandle, Rc> {
-    few(s)?;
+    s.may_make()?;
     get_thread_handle(s, 0, native)
 }
 
 /// The names of a task, of the task that made it and of the task that was left for it.
 fn links<F: ToHost>(s: &mut Stopped<'_, F>, of: TaskHandle) -> Result<[Result<Id, Rc>; 3], Rc> {
-    few(s)?;
+    s.may_make()?;
     let generating = get_generating_task_handle(s, of);
-    few(s)?;
+    s.may_make()?;
     let scheduling = get_scheduling_task_handle(s, of);
     Ok([task(s, Ok(of)), task(s, generating), task(s, scheduling)])
 }
 
 /// The names of a region, of the one around it, and of the one around that.
 fn chain<F: ToHost>(s: &mut Stopped<'_, F>, of: RegionHandle) -> Result<[Result<Id, Rc>; 3], Rc> {
-    few(s)?;
+    s.may_make()?;
     let outer = get_enclosing_parallel_handle(s, of);
     let none = match outer {
         Ok(outer) => {
-            few(s)?;
+            s.may_make()?;
             get_enclosing_parallel_handle(s, outer)
         }
         Err(rc) => Err(rc),
@@ -97,9 +97,9 @@ fn member<F: ToHost>(
     of: RegionHandle,
     num: u32,
 ) -> Result<(Result<u8, Rc>, Result<Id, Rc>), Rc> {
-    few(s)?;
+    s.may_make()?;
     let thread = get_thread_in_parallel(s, of, num);
-    few(s)?;
+    s.may_make()?;
     let found = get_task_in_parallel(s, of, num);
     Ok((number(s, thread), task(s, found)))
 }
@@ -109,16 +109,16 @@ fn current<F: ToHost>(
     s: &mut Stopped<'_, F>,
     of: ThreadHandle,
 ) -> Result<(RegionHandle, TaskHandle), Rc> {
-    few(s)?;
+    s.may_make()?;
     let region = get_curr_parallel_handle(s, of)?;
-    few(s)?;
+    s.may_make()?;
     let task = get_curr_task_handle(s, of)?;
     Ok((region, task))
 }
 
 /// The name of the region of a task.
 fn region_of<F: ToHost>(s: &mut Stopped<'_, F>, of: TaskHandle) -> Result<Id, Rc> {
-    few(s)?;
+    s.may_make()?;
     let found = get_task_parallel_handle(s, of);
     region(s, found)
 }
@@ -132,7 +132,7 @@ fn has_null_ends<F: ToHost>(s: &mut Stopped<'_, F>) -> Result<bool, Rc> {
     let links = links(s, current)?;
     let chain = chain(s, inner)?;
     let other = thread(s, 1001);
-    few(s)?;
+    s.may_make()?;
     let other_kind = get_thread_handle(s, 1, 1000);
     let is_alone = links == [initial, none, none] && chain == [initial, none, none];
     Ok(is_alone && other == Err(Rc::Unavailable) && other_kind == Err(Rc::Unsupported))
@@ -236,7 +236,7 @@ fn is_forked<F: ToHost>(s: &mut Stopped<'_, F>) -> Result<bool, Rc> {
     let (inner, master) = current(s, found)?;
     let chain = chain(s, inner)?;
     let has_master = has_a_master(s, master)?;
-    few(s)?;
+    s.may_make()?;
     let worker = get_task_in_parallel(s, inner, 1)?;
     let links = links(s, worker)?;
     let is_linked = links == [Ok(first(2)), initial, none] && chain == [own, initial, none];

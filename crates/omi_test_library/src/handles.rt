@@ -18,7 +18,7 @@ use omi_layout::Field;
 use omi_session::{Rc, lead};
 use omi_test_rows::A_TEAM_OF_TWO;
 use omi_test_targets::{
-    Asked, LITTLE, Opened, Stopped, Target, Wrong, after, at_fork, core_at, few, library, open,
+    Asked, LITTLE, Opened, Stopped, Target, Wrong, after, at_fork, core_at, library, open,
 };
 use std::alloc::Global;
 use std::cmp::Ordering;
@@ -26,9 +26,9 @@ use std::test::Fail;
 
 /// Handles of thread 0 and of its current task.
 fn both<F: ToHost>(s: &mut Stopped<'_, F>) -> Result<(ThreadHandle, TaskHandle), Rc> {
-    few(s)?;
+    s.may_make()?;
     let thread = get_thread_handle(s, 0, 1000)?;
-    few(s)?;
+    s.may_make()?;
     let task = get_curr_task_handle(s, thread)?;
     Ok((thread, task))
 }
@@ -39,7 +39,7 @@ fn orders_tasks<F: ToHost>(
     task: TaskHandle,
     again: TaskHandle,
 ) -> Result<bool, Rc> {
-    few(s)?;
+    s.may_make()?;
     let made_by = get_generating_task_handle(s, task)?;
     let same = task_handle_compare(s, again, task)?;
     let less = task_handle_compare(s, made_by, task)?;
@@ -68,7 +68,7 @@ fn lets_a_task_go<F: ToHost>(
 /// Both, of the current task of a thread.
 fn is_order_kept<F: ToHost>(s: &mut Stopped<'_, F>) -> Result<bool, Rc> {
     let (thread, task) = both(s)?;
-    few(s)?;
+    s.may_make()?;
     let again = get_curr_task_handle(s, thread)?;
     let orders = orders_tasks(s, task, again)?;
     let lets_go = lets_a_task_go(s, task, again)?;
@@ -109,7 +109,7 @@ fn orders_both<F: ToHost>(
 ) -> Result<bool, Rc> {
     let less = thread_handle_compare(s, thread, other)?;
     let same = thread_handle_compare(s, other, other)?;
-    few(s)?;
+    s.may_make()?;
     let outer = get_enclosing_parallel_handle(s, region)?;
     let greater = parallel_handle_compare(s, region, outer)?;
     Ok((less, same, greater) == (Ordering::Less, Ordering::Equal, Ordering::Greater))
@@ -135,9 +135,9 @@ fn lets_both_go<F: ToHost>(
 /// Both, of the threads of a team of two and of its region.
 fn are_kept_in_order<F: ToHost>(s: &mut Stopped<'_, F>) -> Result<bool, Rc> {
     let (thread, _) = both(s)?;
-    few(s)?;
+    s.may_make()?;
     let other = get_thread_handle(s, 0, 1001)?;
-    few(s)?;
+    s.may_make()?;
     let region = get_curr_parallel_handle(s, thread)?;
     let order = orders_both(s, thread, other, region)?;
     let lets_go = lets_both_go(s, thread, other, region)?;
@@ -173,7 +173,7 @@ const THREAD: u64 = 0x10380;
 
 /// The handle of the first thread, made in this session.
 fn made<F: ToHost>(s: &mut Stopped<'_, F>) -> Result<(u64, u64), Rc> {
-    few(s)?;
+    s.may_make()?;
     if s.layout().threads() < 1 {
         return Err(Rc::BadInput);
     }

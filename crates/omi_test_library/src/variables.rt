@@ -14,7 +14,7 @@ use omi_icv::{
 };
 use omi_session::Rc;
 use omi_test_rows::{A_TEAM_OF_TWO, AN_EMPTY_RUN};
-use omi_test_targets::{Asked, LITTLE, Opened, Stopped, Wrong, after, at_fork, core_at, few, open};
+use omi_test_targets::{Asked, LITTLE, Opened, Stopped, Wrong, after, at_fork, core_at, open};
 use std::alloc::Global;
 use std::test::Fail;
 
@@ -36,24 +36,24 @@ end
 
 /// The thread with a native id.
 fn thread<F: ToHost>(s: &mut Stopped<'_, F>, native: u64) -> Result<Scoped, Rc> {
-    few(s)?;
+    s.may_make()?;
     Ok(Scoped::Thread(get_thread_handle(s, 0, native)?))
 }
 
 /// The region and the current task of thread 0.
 fn current<F: ToHost>(s: &mut Stopped<'_, F>) -> Result<[Scoped; 2], Rc> {
-    few(s)?;
+    s.may_make()?;
     let thread = get_thread_handle(s, 0, 1000)?;
-    few(s)?;
+    s.may_make()?;
     let region = get_curr_parallel_handle(s, thread)?;
-    few(s)?;
+    s.may_make()?;
     let task = get_curr_task_handle(s, thread)?;
     Ok([Scoped::Parallel(region), Scoped::Task(task)])
 }
 
 /// The state of the thread with a native id.
 fn state<F: ToHost>(s: &mut Stopped<'_, F>, native: u64) -> Result<(u32, u64), Rc> {
-    few(s)?;
+    s.may_make()?;
     let thread = get_thread_handle(s, 0, native)?;
     get_state(s, thread)
 }

@@ -9,7 +9,7 @@ use omi_corefile::CoreImage;
 use omi_layout::Field;
 use omi_test_rows::A_TEAM_OF_TWO;
 use omi_test_targets::{
-    Asked, BIG, ByteOrder, LITTLE, Stopped, Words, Wrong, at_fork, core_at, few, library, open,
+    Asked, BIG, ByteOrder, LITTLE, Stopped, Words, Wrong, at_fork, core_at, library, open,
 };
 use omi_text::report_text;
 use omi_walk::{WalkFault, walk};

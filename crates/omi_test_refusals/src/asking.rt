@@ -17,7 +17,7 @@ use omi_icv::{Scoped, get_icv_from_scope, get_state, get_tool_data};
 use omi_session::Rc;
 use omi_test_rows::A_TEAM_OF_TWO;
 use omi_test_targets::{
-    Asked, Change, LITTLE, Opened, Stopped, Words, Wrong, at_fork, few, library, open,
+    Asked, Change, LITTLE, Opened, Stopped, Words, Wrong, at_fork, library, open,
 };
 use std::alloc::Global;
 
@@ -82,11 +82,11 @@ pub type Refusals = [Option<Rc>; COUNT];
 
 /// The handles, made in this session.
 pub fn make_three<F: ToHost>(s: &mut Stopped<'_, F>) -> Result<Three, Rc> {
-    few(s)?;
+    s.may_make()?;
     let thread = get_thread_handle(s, 0, 1000)?;
-    few(s)?;
+    s.may_make()?;
     let region = get_curr_parallel_handle(s, thread)?;
-    few(s)?;
+    s.may_make()?;
     let task = get_curr_task_handle(s, thread)?;
     Ok(Three {
         thread,
@@ -101,7 +101,7 @@ fn refusal_of_finding<F: ToHost>(
     inquiry: Inquiry,
     h: Three,
 ) -> Result<Option<Rc>, Rc> {
-    few(s)?;
+    s.may_make()?;
     Ok(match inquiry {
         Inquiry::ThreadWithId => get_thread_handle(s, 0, 1001).err(),
         Inquiry::ThreadOfMember => get_thread_in_parallel(s, h.region, 1).err(),
@@ -137,7 +137,7 @@ pub fn refusal<F: ToHost>(
     if let Some(refusal) = refusal_of_word(s, inquiry, h) {
         return Ok(refusal);
     }
-    few(s)?;
+    s.may_make()?;
     Ok(match inquiry {
         Inquiry::CurrentTask => get_curr_task_handle(s, h.thread).err(),
         Inquiry::Generating => get_generating_task_handle(s, h.task).err(),

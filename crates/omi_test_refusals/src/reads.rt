@@ -12,7 +12,7 @@ use omi_calls::ToHost;
 use omi_handle::{RegionHandle, TaskHandle, ThreadHandle};
 use omi_layout::Field;
 use omi_session::Rc;
-use omi_test_targets::{Asked, Words, Wrong, few};
+use omi_test_targets::{Asked, Words, Wrong};
 use std::alloc::Global;
 use std::process::Abort;
 use std::test::Fail;
@@ -216,7 +216,7 @@ fn ids_of_another_kind<F: ToHost + Copy>(
     let stale = change(&words, (r.thread, Field::ThreadLife, 0, Some(3)));
     let asked = Asked::never();
     let (mut s, h) = changed(alloc, &words, [stale; 2], GOING_ON + 1, &asked, to_host)?;
-    few(&s.session)?;
+    s.session.may_make()?;
     assert_eq!(rt;
         get_thread_handle(&mut s.session, 1, 1001),
         Err(Rc::Unsupported)

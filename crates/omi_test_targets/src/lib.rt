@@ -5,6 +5,6 @@ mod stopped;
 mod target;
 mod words;
 
-pub use stopped::{Opened, Stopped, Wrong, after, at_fork, core_at, few, library, open, two_stops};
+pub use stopped::{Opened, Stopped, Wrong, after, at_fork, core_at, library, open, two_stops};
 pub use target::{Asked, BIG, ByteOrder, LITTLE, Target};
 pub use words::{Change, Words};

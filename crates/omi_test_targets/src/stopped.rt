@@ -1,10 +1,10 @@
 //! Stopped runs: the core of a script's run, its threads in turn, and a session over it.
 
-ghost use Rattle.std.specs.Prelude.{◌≡◌, ◌≤◌, IfOk, IfSome, OnOk, if◌then◌else◌};
+ghost use Rattle.std.specs.Prelude.{◌≡◌, ◌≤◌, IfOk, IfSome, if◌then◌else◌};
 ghost use Rattle.omi_calls.specs.Kept.{GivesNumbers, TakesAll};
 
 use crate::{Asked, ByteOrder, Target};
-use omi_calls::{Callbacks, MemCalls, Table, ToHost};
+use omi_calls::{MemCalls, Table, ToHost};
 use omi_core::{Break, Core, Schedule, Stop};
 use omi_corefile::{CoreImage, core_of};
 use omi_layout::{Layout, MOST_THREADS};
@@ -206,16 +206,5 @@ pub fn open<'a, F: ToHost>(
     match library.process_initialize(alloc) {
         Ok(session) => Ok(session),
         Err((rc, _)) => Err(Wrong::Refused(rc)),
-    }
-}
-
-/// Whether few handles were made, so that there are pairs for more.
-pub fn few<C: Callbacks, F: ToHost>(s: &Session<C, F>) -> Result<(), Rc>
-    ensures { OnOk result (s.now.handles.made ≤ 100) }
-{
-    if s.made() > 100 {
-        Err(Rc::NoMem)
-    } else {
-        Ok(())
     }
 }

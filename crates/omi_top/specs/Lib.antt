@@ -9,8 +9,7 @@ pub mod Run
 pub mod Lines
 pub mod Make
 pub mod Determined
--- What private functions of the code stand on: a request as a command; what each layer of the top call says alike; what a core tells; and a run that was made
+-- What private functions of the code stand on: a request as a command; what each layer of the top call says alike; and a run that was made
 pub mod Asked
 pub mod Causes
-pub mod CoreCalls
 pub mod Ran

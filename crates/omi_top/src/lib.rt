@@ -2,7 +2,6 @@
 #![tactic(auto)]
 
 mod command;
-mod core_calls;
 mod laws;
 mod limits;
 mod lines;

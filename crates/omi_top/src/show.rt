@@ -10,15 +10,14 @@ ghost use Rattle.omi_outside.specs.Outside.{HasCause, Told};
 ghost use Rattle.omi_session.specs.Opened.{IsFresh};
 ghost use Rattle.omi_top.specs.Answer.{Gives, AreTold, IsAnswered, IsShowAnswer, IsShowRefusal};
 ghost use Rattle.omi_top.specs.Command.{Show};
-ghost use Rattle.omi_top.specs.CoreCalls.{told_of_core};
+ghost use Rattle.omi_calls.specs.CoreCalls.{told_of_core};
 ghost use Rattle.omi_top.specs.Cores.{IsLooked, words_of_core};
 ghost use Rattle.omi_verbs.specs.Refusal.{IsReadFault, status_of};
 ghost use Rattle.omi_outside.specs.declared.status.Status.TheVariants.{Script};
 ghost use Rattle.omi_top.specs.Shown.{IsRefusedCore};
 
-use crate::core_calls::CoreCalls;
 use crate::limits::CORE_FRONT;
-use omi_calls::{Table, ToHost};
+use omi_calls::{CoreCalls, Table, ToHost};
 use omi_corefile::{CoreImage, decode};
 use omi_model::View;
 use omi_outside::Files;

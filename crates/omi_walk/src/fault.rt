@@ -8,18 +8,23 @@ ghost use Rattle.omi_walk.specs.Fault as the;
 use omi_calls::{Callbacks, ToHost};
 use omi_session::{Rc, Session, life_field};
 use std::alloc::{AllocError, AllocFailed};
+use thiserror::Error;
 
 /// Why a walk has no answer.
-#[derive(Clone, Copy, Debug, PartialEq, Eq)]
+#[derive(Clone, Copy, Debug, PartialEq, Eq, Error)]
 pub enum WalkFault {
     /// A word of the record at this byte address isn't mapped or is out of range, by the number of its field. Or the address is
     /// that to which this field of another record points, and no live record is there.
+    #[error("damaged at {addr:#x}, field {field}")]
     Damaged { addr: u64, field: u8 },
     /// A chain of scheduling tasks or of enclosing regions meets this address a second time.
+    #[error("a chain meets the record at {addr:#x} a second time")]
     Cycle { addr: u64 },
     /// A callback failed.
+    #[error("a callback failed")]
     Callback,
     /// Memory ran out.
+    #[error("out of memory")]
     OutOfMemory,
 }
 

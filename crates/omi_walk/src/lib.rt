@@ -23,5 +23,5 @@ mod view;
 mod words;
 
 pub use fault::WalkFault;
-pub use limits::{HANDLES_BEFORE, HANDLES_WITHIN};
+pub use limits::HANDLES_WITHIN;
 pub use view::walk;

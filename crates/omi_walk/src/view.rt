@@ -1,7 +1,7 @@
 //! The whole report of a target by inquiries, in the order of its lines.
 
 ghost use Rattle.std.specs.Prelude.{◌≡◌, ◌≤◌, ◌<◌, Err, length};
-ghost use Rattle.omi_walk.specs.declared.limits.TheConstants.{HANDLES_BEFORE};
+ghost use Rattle.omi_session.specs.declared.limits.TheConstants.{HANDLES_BEFORE};
 ghost use Rattle.omi_outside.specs.Outside.{HasCause};
 ghost use Rattle.omi_rep.specs.LookView.{look_view};
 ghost use Rattle.omi_walk.specs.Gives.{Looks};

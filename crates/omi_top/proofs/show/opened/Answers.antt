@@ -3,9 +3,9 @@ use Rattle.omi_calls.specs.Kept.{Kept}
 use Rattle.omi_calls.specs.Memory.{told_by}
 use Rattle.omi_session.specs.declared.rc.Rc.{Rc}
 use Rattle.omi_session.specs.declared.rc.Rc.TheVariants as code
-use Rattle.omi_top.specs.CoreCalls.{told_of_core}
+use Rattle.omi_calls.specs.CoreCalls.{told_of_core}
 use Rattle.omi_top.specs.Shown.{IsRefusedCore}
-use Rattle.omi_top.specs.declared.core_calls.CoreCalls.{CoreCalls}
+use Rattle.omi_calls.specs.declared.core_calls.CoreCalls.{CoreCalls}
 use Rattle.omi_top.proofs.Opening.{open_refused, refusal_of_code}
 use Rattle.omi_top.proofs.show.opened.Goals as goal
 

@@ -1,6 +1,6 @@
 use Rattle.std.proofs.Common.{inl, inr, Ok, Err, refl, subst}
 use Rattle.omi_layout.specs.Valid.{IsValid}
-use Rattle.omi_top.specs.CoreCalls.{told_of_core}
+use Rattle.omi_calls.specs.CoreCalls.{told_of_core}
 use Rattle.omi_rep.specs.declared.fault.LookFault.TheVariants as look
 use Rattle.omi_walk.specs.Gives.{Looks}
 use Rattle.omi_walk.specs.declared.fault.WalkFault.{WalkFault}

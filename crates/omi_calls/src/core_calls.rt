@@ -3,7 +3,7 @@
 ghost use Rattle.std.specs.Prelude.{◌≡◌, ℕ, false};
 ghost use Rattle.omi_calls.specs.Memory.{is_to_fail};
 
-use omi_calls::{Callbacks, Got, MemCalls, Place, Sizes};
+use crate::{Callbacks, Got, MemCalls, Place, Sizes};
 use omi_corefile::CoreImage;
 use std::alloc::Global;
 
@@ -16,7 +16,7 @@ pub struct CoreCalls {
 
 impl CoreCalls {
     ghost use Rattle.omi_calls.specs.Memory.{told_by};
-    ghost use Rattle.omi_top.specs.CoreCalls.{told_of_core};
+    ghost use Rattle.omi_calls.specs.CoreCalls.{told_of_core};
 
     /// Callbacks over a core.
     pub fn over(alloc: Global, core: CoreImage) -> CoreCalls
@@ -29,7 +29,7 @@ impl CoreCalls {
 }
 
 impl Callbacks for CoreCalls {
-    ghost use Rattle.omi_top.specs.CoreCalls.{told_of_core};
+    ghost use Rattle.omi_calls.specs.CoreCalls.{told_of_core};
 
     ghost told = { told_of_core };
 
