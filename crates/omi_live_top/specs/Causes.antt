@@ -17,6 +17,8 @@ pub record LiveConcluded (command : LiveCommand) (result : Status) (files files_
   pub read_fault : result ≡ status.ReadFault → Rose files.reads files_now.reads
   pub write_fault : result ≡ status.WriteFault
       → Rose files.writes files_now.writes ⊎ Rose out.faults out_now.faults
+  pub out_of_memory : result ≡ status.OutOfMemory
+      → (out_now.told ≡ out.told) ⊎ Rose out.wants out_now.wants
   pub left : (content : Option (List ℕ)) → files.told command.script ≡ Some content
       → IsLiveLeft command content result (files.told command.core) (files_now.told command.core)
       (IsCounted out.faults out_now.faults out.wants out_now.wants) out.told out_now.told

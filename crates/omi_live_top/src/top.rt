@@ -113,7 +113,8 @@ pub fn live_top<R: Threads + Sync, F: Files, K: Sink, G: Gate>(
     gate: &G,
 ) -> Status
     // The causes for which no bytes need be told. No core is read, so none is refused. Where the words
-    // are refused, that line is put whole, or the sink counted why not.
+    // are refused, that line is put whole, or the sink counted why not. Memory ran out before anything was
+    // put, or the sink counted a put for which there was none.
     ensures of_core { IsOfCore result → ⊥ }
     ensures usage { result ≡ Status.Usage → live_command_in words.now ≡ None }
     ensures faulty { live_command_in words.now ≡ None
@@ -126,6 +127,8 @@ pub fn live_top<R: Threads + Sync, F: Files, K: Sink, G: Gate>(
     ensures write_fault { result ≡ Status.WriteFault
         → Rose (F.writes files.old) (F.writes files.new)
         ⊎ Rose (K.faults out.old) (K.faults out.new) }
+    ensures out_of_memory { result ≡ Status.OutOfMemory
+        → (K.told out.new ≡ K.told out.old) ⊎ Rose (K.wants out.old) (K.wants out.new) }
 
     // Where the script's file is told: there is none, or the grammar refuses it, exactly where the
     // status says so.

@@ -11,7 +11,7 @@ use Rattle.omi_script.specs.declared.fault.ScriptFault.{ScriptFault}
 use Rattle.omi_script.specs.declared.program.Program.{Program}
 use Rattle.omi_script.proofs.VerdictLemmas.{not_both}
 use Rattle.omi_corefile.proofs.FileLaws.{core_unique}
-use Rattle.omi_top.specs.Answer.{Answer, Gives, ComesBehind, IsAnswer, IsLeft, IsOutsideStatus, IsReadBackStatus, IsRefused, IsReportOf, IsRunAnswer, IsRunShown, IsShowAnswer, IsShowRefusal, IsStopAnswer, IsStopped}
+use Rattle.omi_top.specs.Answer.{Answer, Gives, ComesBehind, IsAnswer, IsDoneOrFailed, IsLeft, IsOutsideStatus, IsReadBackStatus, IsRefused, IsReportOf, IsRunAnswer, IsRunShown, IsShowAnswer, IsShowRefusal, IsStopAnswer, IsStopped}
 use Rattle.omi_verbs.specs.Statuses.{ComesWhere}
 use Rattle.omi_verbs.specs.Scripts.{HoldsProgram, IsScriptRefusal}
 use Rattle.omi_top.specs.Command.{Run}
@@ -21,7 +21,7 @@ use Rattle.omi_top.specs.declared.plan.Plan.{Plan}
 use Rattle.omi_verbs.specs.declared.refusal.Refusal.{Refusal}
 use Rattle.omi_top.proofs.LeftByShow.{HasReport, looked_shown, not_refused, run_shown, shown_looked}
 use Rattle.omi_top.proofs.ShowVerdicts.{HasFault, Refusing, all_refusing, damaged as damaged_refused, faulty, incompatible as incompatible_refused, kinds, missing, report_not_refused, says_core, says_damaged, says_incompatible, says_missing}
-use Rattle.omi_top.proofs.Statuses.{DidMore, DoesMore, SaysWith, comes_where, one_content}
+use Rattle.omi_top.proofs.Statuses.{DidMore, DoesMore, SaysWith, comes_where, never_refused as nothing_refused, one_content}
 
 -- the script has a fault
 abbrev HasScriptFault : List ℕ → Type 0
@@ -320,6 +320,17 @@ module _ (plan : Plan) (script core : List ℕ) (told : List ℕ → Told) (old 
     put_report s done left =
         let (written, lines, (p, grammar, stopped), shown, said, held, put) = done_at (Some text) (Some bytes) is back s left (left_success (Some text) (Some bytes) is back s left done) in
         (p, written, lines, shown, grammar, stopped, held, said, put)
+
+    -- a program is refused nothing, where what is read back has a report
+    pub runs : (shown : List ℕ) → (s : Status) → (p : Program) → Grammar text p → IsReportOf bytes shown → IsLeft (Run plan script core) told s old new counted out after → IsDoneOrFailed s
+    runs shown s p grammar report_is = nothing_refused (Run plan script core) told old new counted out after none s
+      where
+        never : (r : Refusal) → IsRunRefusal (Some text) (Some bytes) r → ⊥
+        never r (inl (fault, why, same)) = not_both text p fault grammar why
+        never r (inr (program, refuses)) = not_refused (Some bytes) r (shown, report_is) refuses
+
+        none : (written : Option (List ℕ)) (r : Refusal) → IsAnswer (Run plan script core) told (Gives written (Err r)) → ⊥
+        none written r answer = never r (refusals plan script core told (Some text) (Some bytes) is back written r answer)
 
     -- where it is the core that was written, its report is that of the run's state
     module _ (same_core : new ≡ Some (Some bytes)) where

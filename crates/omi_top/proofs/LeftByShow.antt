@@ -18,7 +18,7 @@ use Rattle.omi_model.specs.Views.{IsViewOf}
 use Rattle.omi_model.specs.declared.view.View.{View}
 use Rattle.omi_verbs.specs.declared.refusal.Refusal.{Refusal}
 use Rattle.omi_top.specs.declared.plan.Plan.{Plan}
-use Rattle.omi_top.specs.Answer.{Answer, Gives, IsAnswer, IsReportOf, IsShowAnswer, IsShowRefusal, IsShown, IsStopped, IsLeft, IsRefused}
+use Rattle.omi_top.specs.Answer.{Answer, Gives, IsAnswer, IsDoneOrFailed, IsReportOf, IsShowAnswer, IsShowRefusal, IsShown, IsStopped, IsLeft, IsRefused}
 use Rattle.omi_verbs.specs.Statuses.{ComesWhere, IsFaultStatus}
 use Rattle.omi_top.specs.Command.{Show}
 use Rattle.omi_top.specs.Cores.{IsDamaged, IsIncompatible, IsLooked, ShowsState, Spells, words_of_core}
@@ -27,7 +27,7 @@ use Rattle.omi_verbs.specs.Cores.{IsReachedCore, thread_ids}
 use Rattle.omi_top.proofs.ImageWords.{image_words}
 use Rattle.omi_rep.proofs.shown.ShownViews.{shown_looked as shown_look}
 use Rattle.omi_top.proofs.ShowVerdicts.{HasFault, Refusing, all_refusing, damaged as damaged_refused, faulty, incompatible as incompatible_refused, missing, one_looked, one_view, report_not_refused, says_core, says_damaged, says_incompatible, says_missing}
-use Rattle.omi_top.proofs.Statuses.{DidMore, DoesMore, IsDoneStatus, one_content, comes_where, written_more}
+use Rattle.omi_top.proofs.Statuses.{DidMore, DoesMore, IsDoneStatus, one_content, comes_where, never_refused as nothing_refused, written_more}
 
 -- the core's file has a report
 abbrev pub HasReport : Option (List ℕ) → Type 0
@@ -131,6 +131,11 @@ module _ (core : List ℕ) (told : List ℕ → Told) (old new : Told) (counted 
   -- the layout table is wrong or the look has a fault exactly where the status says so
   pub damaged : (s : Status) (bytes : List ℕ) → told core ≡ Some (Some bytes) → IsLeft (Show core) told s old new counted out after → ComesWhere status.Damaged s (Spells bytes IsDamaged)
   damaged s bytes is = comes (Some bytes) is status.Damaged s (Spells bytes IsDamaged) (λ no. no) (λ no. no) (says_damaged bytes) (damaged_refused bytes)
+
+  -- a core that has a report is refused nothing
+  pub shows : (s : Status) (bytes text : List ℕ) → told core ≡ Some (Some bytes) → IsReportOf bytes text → IsLeft (Show core) told s old new counted out after → IsDoneOrFailed s
+  shows s bytes text is report_is =
+      nothing_refused (Show core) told old new counted out after (λ written r answer. not_refused (Some bytes) r (text, report_is) (refusals core told (Some bytes) is written r answer)) s
 
   -- what success puts
   abbrev Reported : List ℕ → Type 0

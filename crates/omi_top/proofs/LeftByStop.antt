@@ -8,13 +8,13 @@ use Rattle.omi_script.proofs.VerdictLemmas.{not_both}
 use Rattle.omi_script.specs.declared.fault.ScriptFault.{ScriptFault}
 use Rattle.omi_script.specs.declared.program.Program.{Program}
 use Rattle.omi_verbs.specs.declared.refusal.Refusal.{Refusal}
-use Rattle.omi_top.specs.Answer.{Answer, Gives, IsAnswer, IsStopAnswer, IsLeft, IsStopped}
+use Rattle.omi_top.specs.Answer.{Answer, Gives, IsAnswer, IsDoneOrFailed, IsStopAnswer, IsLeft, IsStopped}
 use Rattle.omi_verbs.specs.Scripts.{IsScriptRefusal, HoldsProgram}
 use Rattle.omi_verbs.specs.Statuses.{IsFaultStatus, ComesWhere}
 use Rattle.omi_top.specs.Command.{Stop}
 use Rattle.omi_top.specs.declared.plan.Plan.{Plan}
 use Rattle.omi_verbs.specs.Refusal.{status_of}
-use Rattle.omi_top.proofs.Statuses.{DidMore, DoesMore, IsDoneStatus, one_content, comes_where, written_more}
+use Rattle.omi_top.proofs.Statuses.{DidMore, DoesMore, IsDoneStatus, one_content, comes_where, never_refused, written_more}
 
 -- the text has a fault
 abbrev HasFault : List ℕ → Type 0
@@ -85,6 +85,13 @@ module _ (plan : Plan) (script core : List ℕ) (told : List ℕ → Told) (old 
 
       none : HasFault bytes → HoldsProgram (Some bytes) → ⊥
       none (fault, why) (p, grammar) = not_both bytes p fault grammar why
+
+  -- a program is refused nothing
+  pub stops : (s : Status) (bytes : List ℕ) → told script ≡ Some (Some bytes) → (p : Program) → Grammar bytes p → IsLeft (Stop plan script core) told s old new counted out after → IsDoneOrFailed s
+  stops s bytes is p grammar = never_refused (Stop plan script core) told old new counted out after none s
+    where
+      none : (written : Option (List ℕ)) (r : Refusal) → IsAnswer (Stop plan script core) told (Gives written (Err r)) → ⊥
+      none written r answer = let (fault, why, same) = refusals plan script core told (Some bytes) is written r answer in not_both bytes p fault grammar why
 
   -- what success leaves
   pub success : (s : Status) (bytes : List ℕ) → told script ≡ Some (Some bytes) → s ≡ status.Success → IsLeft (Stop plan script core) told s old new counted out after

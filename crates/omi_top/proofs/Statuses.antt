@@ -5,7 +5,7 @@ use Rattle.omi_outside.specs.Outside.{Told}
 use Rattle.omi_outside.specs.declared.status.Status.{Status}
 use Rattle.omi_outside.specs.declared.status.Status.TheVariants as status
 use Rattle.omi_verbs.specs.declared.refusal.Refusal.{Refusal}
-use Rattle.omi_top.specs.Answer.{Answer, Gives, IsAnswer, IsLeft, IsPartlyDone, IsToWrite}
+use Rattle.omi_top.specs.Answer.{Answer, Gives, IsAnswer, IsDoneOrFailed, IsLeft, IsPartlyDone, IsToWrite}
 use Rattle.omi_verbs.specs.Statuses.{IsFaultStatus, ComesWhere}
 use Rattle.omi_top.specs.Command.{Command}
 use Rattle.omi_verbs.specs.Refusal.{status_of}
@@ -60,6 +60,19 @@ module _ (command : Command) (told : List ℕ → Told) (old new : Told) (counte
   kind status.Damaged (r, is, core, answer, held, said) = inr (inl (r, is, core, answer))
   kind status.Incompatible (r, is, core, answer, held, said) = inr (inl (r, is, core, answer))
   kind status.OutOfMemory left = inl tt
+
+  -- a command of which no answer is a refusal ends well, or the outside fails
+  pub never_refused : ((core : Option (List ℕ)) (r : Refusal) → IsAnswer command told (Gives core (Err r)) → ⊥) → (s : Status) → IsLeft command told s old new counted out after → IsDoneOrFailed s
+  never_refused none status.Success left = tt
+  never_refused none status.ReadFault left = tt
+  never_refused none status.WriteFault left = tt
+  never_refused none status.OutOfMemory left = tt
+  never_refused none status.Usage (r, is, core, answer, held, said) = absurd (none core r answer)
+  never_refused none status.NoFile (r, is, core, answer, held, said) = absurd (none core r answer)
+  never_refused none status.Script (r, is, core, answer, held, said) = absurd (none core r answer)
+  never_refused none status.Core (r, is, core, answer, held, said) = absurd (none core r answer)
+  never_refused none status.Damaged (r, is, core, answer, held, said) = absurd (none core r answer)
+  never_refused none status.Incompatible (r, is, core, answer, held, said) = absurd (none core r answer)
 
   -- The status of a refusal comes exactly where a fact holds, where R is what the command's refusals say and M what its other
   -- answers say: a refusal with this status says the fact, and where the fact holds, each refusal has this status and there is no other answer.

@@ -238,6 +238,11 @@ IsOutsideStatus status.WriteFault = ⊤
 IsOutsideStatus status.OutOfMemory = ⊤
 IsOutsideStatus other = ⊥
 
+-- all is done, or a file or the output failed or memory ran out: nothing is refused
+abbrev pub IsDoneOrFailed : Status → Type 0
+IsDoneOrFailed status.Success = ⊤
+IsDoneOrFailed other = IsOutsideStatus other
+
 -- a status comes exactly where a fact holds of what is read back, but for a fault of reading or of writing and for want of memory
 abbrev pub ComesBehind : Status → Status → Type 0 → Type 0
 ComesBehind status result fact = (result ≡ status → fact)

@@ -39,6 +39,8 @@ pub record Concluded (command : Command) (result : Status) (files files_now dest
   pub read_fault : result ≡ status.ReadFault → Rose files.reads files_now.reads
   pub write_fault : result ≡ status.WriteFault
       → Rose dest.writes dest_now.writes ⊎ Rose out.faults out_now.faults
+  pub out_of_memory : result ≡ status.OutOfMemory
+      → (out_now.told ≡ out.told) ⊎ Rose out.wants out_now.wants
   pub left : AreTold command files.told
       → IsLeft command files.told result (dest.told (written_name command))
       (dest_now.told (written_name command))

@@ -1,9 +1,12 @@
 //! The command `run`.
 
-ghost use Rattle.std.specs.Prelude.{◌≢◌};
+ghost use Rattle.std.specs.Prelude.{◌≡◌, ◌≢◌, IfErr, IsErrAnd, IsErrOf};
+ghost use Rattle.omi_outside.specs.Outside.{HasCause};
+ghost use Rattle.omi_top.specs.Answer.{AreTold, IsAnswered, IsUnwritten};
 ghost use Rattle.omi_top.specs.Asked.{IsPossible};
 ghost use Rattle.omi_top.specs.Command.{Run};
-ghost use Rattle.omi_top.specs.Causes.{Performed};
+ghost use Rattle.omi_top.specs.Causes.{Stays};
+ghost use Rattle.omi_verbs.specs.Refusal.{IsReadFault, status_of};
 ghost use Rattle.omi_verbs.specs.Seen.{files_seen};
 
 use crate::plan::Plan;
@@ -23,12 +26,25 @@ pub fn run_and_show<F: Files, W: Files>(
     dest: &mut W,
 ) -> Result<Vec<u8>, Refusal>
     requires { IsPossible plan }
-    ensures performed { Performed (Run plan script.now core.now) result
+    // The run's core and lines, and the report of what is read back.
+    ensures answer { let command = Run plan script.now core.now in
+        AreTold command (F.told files.old)
+        → IsAnswered command (F.told files.old) result (W.told dest.old core.now)
+        (W.told dest.new core.now) }
+    ensures usage { result ≢ Err Refusal.Usage }
+
+    // The causes of a fault, and what stays.
+    ensures read { HasCause (F.reads files.old) (F.reads files.new)
+        (IsErrAnd result IsReadFault) }
+    ensures write { HasCause (W.writes dest.old) (W.writes dest.new)
+        (IsErrOf result Refusal.WriteFault) }
+    ensures unwritten { IfErr result (λ r. IsUnwritten (Run plan script.now core.now) (status_of r)
+        → W.told dest.new ≡ W.told dest.old) }
+    ensures stays { Stays (Run plan script.now core.now)
         (files_seen (F.told files.old) (F.reads files.old) (F.writes files.old))
         (files_seen (F.told files.new) (F.reads files.new) (F.writes files.new))
         (files_seen (W.told dest.old) (W.reads dest.old) (W.writes dest.old))
         (files_seen (W.told dest.new) (W.reads dest.new) (W.writes dest.new)) }
-    ensures usage { result ≢ Err Refusal.Usage }
 {
     let mut text = stop(alloc, plan, script, core, files, dest)?;
     let report = show(alloc, core, files)?;

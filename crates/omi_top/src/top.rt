@@ -14,7 +14,7 @@ ghost use Rattle.omi_top.specs.Asked.{asked, IsBounded};
 ghost use Rattle.omi_top.specs.Causes.{Concluded, Performed};
 ghost use Rattle.omi_verbs.specs.Seen.{files_seen, output_seen};
 ghost use Rattle.omi_verbs.specs.Refusal.{HasRoom, status_of};
-ghost use Rattle.omi_top.specs.Answer.{AreTold, IsStopped, IsLeft, IsUnwritten, ComesBehind, IsReadBackStatus, IsReportOf, IsRunShown, IsShown, IsWritingStatus};
+ghost use Rattle.omi_top.specs.Answer.{AreTold, IsStopped, IsLeft, IsUnwritten, ComesBehind, IsDoneOrFailed, IsReadBackStatus, IsReportOf, IsRunShown, IsShown, IsWritingStatus};
 ghost use Rattle.omi_verbs.specs.Said.{IsSaid, IsCounted};
 ghost use Rattle.omi_verbs.specs.Statuses.{ComesWhere, IsOfCore};
 ghost use Rattle.omi_verbs.specs.Scripts.{HoldsProgram};
@@ -138,7 +138,8 @@ pub fn run_top<F: Files, W: Files, K: Sink>(
     out: &mut K,
 ) -> Status
     // The causes for which no bytes need be told. Where the words are refused, that line is put
-    // whole, or the sink counted why not.
+    // whole, or the sink counted why not. Memory ran out before anything was put, or the sink counted
+    // a put for which there was none.
     ensures of_core { IsOfCore result → ReadsCore (command_in words.now) }
     ensures usage { result ≡ Status.Usage → command_in words.now ≡ Faulty }
     ensures faulty { command_in words.now ≡ Faulty
@@ -151,6 +152,8 @@ pub fn run_top<F: Files, W: Files, K: Sink>(
     ensures write_fault { result ≡ Status.WriteFault
         → Rose (W.writes dest.old) (W.writes dest.new)
         ⊎ Rose (K.faults out.old) (K.faults out.new) }
+    ensures out_of_memory { result ≡ Status.OutOfMemory
+        → (K.told out.new ≡ K.told out.old) ⊎ Rose (K.wants out.old) (K.wants out.new) }
 
     // Where the script's file is told: there is none, or the grammar refuses it, exactly where the
     // status says so.
@@ -172,6 +175,12 @@ pub fn run_top<F: Files, W: Files, K: Sink>(
         × IsStopped p plan written text
         × (W.told dest.new core ≡ holding (W.told dest.old core) written)
         × (K.told out.new ≡ put_on (K.told out.old) text) }
+
+    // A program is refused nothing: all is done, unless a file or the output fails or memory runs out.
+    ensures stops { (plan : Plan) (script core bytes : List ℕ)
+        → command_in words.now ≡ Stop plan script core
+        → F.told files.old script ≡ Some (Some bytes) → (p : Program) → Grammar bytes p
+        → IsDoneOrFailed result }
 
     // With success of `make` the script holds its text, which is a program, and what is put is the
     // line on a run of this program. It is refused nothing, and ends otherwise only where a write
@@ -208,6 +217,11 @@ pub fn run_top<F: Files, W: Files, K: Sink>(
         → (image : CoreImage) × (v : View) × Core bytes image × IsLooked image (Ok v)
         × (K.told out.new ≡ put_on (K.told out.old) (report_of v))
         × ((s : State) → ShowsState image s → IsViewOf s image.contexts v) }
+
+    // A core that has a report is refused nothing.
+    ensures shows { (core bytes text : List ℕ)
+        → command_in words.now ≡ Show core → F.told files.old core ≡ Some (Some bytes)
+        → IsReportOf bytes text → IsDoneOrFailed result }
 
     // Of a core whose words show a state, `show` puts the report of this state. So it does of the
     // core that a run left, whose events reach the state.
@@ -269,6 +283,12 @@ pub fn run_top<F: Files, W: Files, K: Sink>(
         × IsStopped p plan written lines
         × (W.told dest.new core ≡ holding (W.told dest.old core) written)
         × IsReportOf bytes shown × (K.told out.new ≡ put_on (K.told out.old) (lines ++ shown)) }
+
+    // A program is refused nothing, where what is read back has a report.
+    ensures runs { (plan : Plan) (script core text bytes shown : List ℕ)
+        → command_in words.now ≡ Run plan script core
+        → F.told files.old script ≡ Some (Some text) → F.told files.old core ≡ Some (Some bytes)
+        → (p : Program) → Grammar text p → IsReportOf bytes shown → IsDoneOrFailed result }
 
     // Where the bytes under CORE in `files` are those that `dest` holds under CORE at the end, what
     // is put is the events and the end of a run, and the report of the state that the events reach.

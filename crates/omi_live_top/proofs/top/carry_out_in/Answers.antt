@@ -1,6 +1,6 @@
 use Rattle.std.proofs.Common.{inl, inr, refl}
 use Rattle.omi_outside.specs.declared.status.Status.TheVariants as status
-use Rattle.omi_verbs.proofs.Elsewhere.{never_printing, of_read, of_write}
+use Rattle.omi_verbs.proofs.Elsewhere.{never_printing, of_read, of_write, unsaid}
 use Rattle.omi_live_top.specs.Asked.{asked}
 use Rattle.omi_live_top.proofs.Left.{ok_left, err_left}
 use Rattle.omi_live_top.proofs.Performing.{printing_writes, run_not_of_core, run_not_usage}
@@ -14,6 +14,7 @@ returns-in-Ok g c =
       usage = never_printing c.print.result status.Usage printed refl;
       read_fault = λ is. absurd (never_printing c.print.result status.ReadFault printed refl is);
       write_fault = λ is. inr (c.print.ensures.cause.failed is);
+      out_of_memory = λ is. inr (c.print.ensures.want.failed is);
       left =
           λ content told.
           ok_left (asked c.args.request) _ _ _ (g.K.Sink.told c.args.out.now) (g.K.Sink.told c.print.new.out) content c.in-Ok.text c.print.result
@@ -34,6 +35,7 @@ returns-in-Err g c =
       usage = run_not_usage c.in-Err.refusal c.in-Err.ensures.kind;
       read_fault = λ is. c.in-Err.ensures.read.failed (of_read c.in-Err.refusal is);
       write_fault = λ is. inl (c.in-Err.ensures.write.failed (of_write c.in-Err.refusal is));
+      out_of_memory = λ is. inl (unsaid _ _ c.in-Err.refusal _ (g.K.Sink.told c.args.out.now) (g.K.Sink.told c.refuse.new.out) c.refuse.ensures.line is);
       left =
           λ content told.
           err_left (asked c.args.request) _ _ _ (g.K.Sink.told c.args.out.now) (g.K.Sink.told c.refuse.new.out) content c.in-Err.refusal

@@ -9,84 +9,114 @@ use Rattle.omi_top.proofs.run_and_show.run_and_show.Goals as goal
 
 -- ---- the core is written, and then its report is refused
 
-pub returns-in_err-report-clause-performed : goal.returns-in_err-report-clause-performed
-returns-in_err-report-clause-performed g c =
+pub returns-in_err-report-clause-answer : goal.returns-in_err-report-clause-answer
+returns-in_err-report-clause-answer g c =
     let p = err_from_is_err_and c.from_residual-in_err-report.result c.from_residual-in_err-report.ensures.1 in
     let before : Told = g.W.Files.told c.args.dest.now c.args.core.now in
     let stopped = c.in_ok-text.ensures.performed in
-    let told_on = c.in_ok-text.ensures.performed.stays.files_told in
+    rw (p.1, p.2)
+    (λ ((text, told), (content, back)).
+    let shown : IsAnswered (Show c.args.core.now) (g.F.Files.told c.args.files.now) (Err c.in_err-report.field-0.0) before before =
+    subst (λ (t : List ℕ → Told). AreTold (Show c.args.core.now) t → IsAnswered (Show c.args.core.now) t (Err c.in_err-report.field-0.0) before before) stopped.stays.files_told
+    (c.in_err-report.ensures.answer before) (content, back) in
+    show_failed c.args.plan c.args.script.now c.args.core.now (g.F.Files.told c.args.files.now) content back c.in_ok-text.text before (g.W.Files.told c.stop.new.dest c.args.core.now)
+    c.in_err-report.field-0.0 before before (stopped.answer (text, told)) shown)
+
+pub returns-in_err-report-clause-read : goal.returns-in_err-report-clause-read
+returns-in_err-report-clause-read g c =
+    let p = err_from_is_err_and c.from_residual-in_err-report.result c.from_residual-in_err-report.ensures.1 in
+    let stopped = c.in_ok-text.ensures.performed in
     rw (p.1, p.2)
     (record {
-      answer =
-          λ ((text, told), (content, back)).
-          let shown : IsAnswered (Show c.args.core.now) (g.F.Files.told c.args.files.now) (Err c.in_err-report.field-0.0) before before =
-          subst (λ (t : List ℕ → Told). AreTold (Show c.args.core.now) t → IsAnswered (Show c.args.core.now) t (Err c.in_err-report.field-0.0) before before) told_on
-          (c.in_err-report.ensures.answer before) (content, back) in
-          show_failed c.args.plan c.args.script.now c.args.core.now (g.F.Files.told c.args.files.now) content back c.in_ok-text.text before (g.W.Files.told c.stop.new.dest c.args.core.now)
-          c.in_err-report.field-0.0 before before (stopped.answer (text, told)) shown;
-      read =
-          record {
-            later = omega (arith, stopped.read.later, c.in_err-report.ensures.read.later);
-            failed = λ is. rose_later _ _ _ stopped.read.later (c.in_err-report.ensures.read.failed is);
-          };
-      write = record { later = stopped.write.later; failed = λ is. absurd (c.in_err-report.ensures.write is) };
-      unwritten = λ is. absurd (shows_last c.args.plan c.args.script.now c.args.core.now c.in_err-report.field-0.0 c.in_err-report.ensures.usage c.in_err-report.ensures.script is);
-      stays =
-          record {
-            files_told = c.in_err-report.ensures.files_told ∙ told_on;
-            files_writes = c.in_err-report.ensures.files_writes ∙ stopped.stays.files_writes;
-            dest_reads = stopped.stays.dest_reads;
-            others = stopped.stays.others;
-          };
+      later = omega (arith, stopped.read.later, c.in_err-report.ensures.read.later);
+      failed = λ is. rose_later _ _ _ stopped.read.later (c.in_err-report.ensures.read.failed is);
     })
+
+pub returns-in_err-report-clause-write : goal.returns-in_err-report-clause-write
+returns-in_err-report-clause-write g c =
+    let p = err_from_is_err_and c.from_residual-in_err-report.result c.from_residual-in_err-report.ensures.1 in
+    rw (p.1, p.2)
+    (record { later = c.in_ok-text.ensures.performed.write.later; failed = λ is. absurd (c.in_err-report.ensures.write is) })
+
+pub returns-in_err-report-clause-unwritten : goal.returns-in_err-report-clause-unwritten
+returns-in_err-report-clause-unwritten g c =
+    let p = err_from_is_err_and c.from_residual-in_err-report.result c.from_residual-in_err-report.ensures.1 in
+    rw (p.1, p.2)
+    (λ is. absurd (shows_last c.args.plan c.args.script.now c.args.core.now c.in_err-report.field-0.0 c.in_err-report.ensures.usage c.in_err-report.ensures.script is))
+
+pub returns-in_err-report-clause-stays : goal.returns-in_err-report-clause-stays
+returns-in_err-report-clause-stays g c =
+    let stays = c.in_ok-text.ensures.performed.stays in
+    record {
+      files_told = c.in_err-report.ensures.files_told ∙ stays.files_told;
+      files_writes = c.in_err-report.ensures.files_writes ∙ stays.files_writes;
+      dest_reads = stays.dest_reads;
+      others = stays.others;
+    }
 
 -- ---- or memory runs out
 
-pub returns-in_err-extend_from_slice-clause-performed : goal.returns-in_err-extend_from_slice-clause-performed
-returns-in_err-extend_from_slice-clause-performed g c =
+pub returns-in_err-extend_from_slice-clause-answer : goal.returns-in_err-extend_from_slice-clause-answer
+returns-in_err-extend_from_slice-clause-answer g c =
     let p = err_from_is_err_and c.from_residual-in_err-extend_from_slice.result c.from_residual-in_err-extend_from_slice.ensures.1 in
-    let stopped = c.in_ok-text.ensures.performed in
     rw (p.1, p.2)
-    (record {
-      answer =
-          λ ((text, told), (content, back)).
-          no_memory c.args.plan c.args.script.now c.args.core.now (g.F.Files.told c.args.files.now) content back c.in_ok-text.text (g.W.Files.told c.args.dest.now c.args.core.now)
-          (g.W.Files.told c.stop.new.dest c.args.core.now) (stopped.answer (text, told));
-      read = record { later = omega (arith, stopped.read.later, c.in_ok-report.ensures.read.later); failed = λ is. absurd is };
-      write = record { later = stopped.write.later; failed = λ is. absurd (cc) };
-      unwritten = λ is. absurd is;
-      stays =
-          record {
-            files_told = c.in_ok-report.ensures.files_told ∙ stopped.stays.files_told;
-            files_writes = c.in_ok-report.ensures.files_writes ∙ stopped.stays.files_writes;
-            dest_reads = stopped.stays.dest_reads;
-            others = stopped.stays.others;
-          };
-    })
+    (λ ((text, told), (content, back)).
+    no_memory c.args.plan c.args.script.now c.args.core.now (g.F.Files.told c.args.files.now) content back c.in_ok-text.text (g.W.Files.told c.args.dest.now c.args.core.now)
+    (g.W.Files.told c.stop.new.dest c.args.core.now) (c.in_ok-text.ensures.performed.answer (text, told)))
+
+pub returns-in_err-extend_from_slice-clause-read : goal.returns-in_err-extend_from_slice-clause-read
+returns-in_err-extend_from_slice-clause-read g c =
+    let p = err_from_is_err_and c.from_residual-in_err-extend_from_slice.result c.from_residual-in_err-extend_from_slice.ensures.1 in
+    rw (p.1, p.2)
+    (record { later = omega (arith, c.in_ok-text.ensures.performed.read.later, c.in_ok-report.ensures.read.later); failed = λ is. absurd is })
+
+pub returns-in_err-extend_from_slice-clause-write : goal.returns-in_err-extend_from_slice-clause-write
+returns-in_err-extend_from_slice-clause-write g c =
+    let p = err_from_is_err_and c.from_residual-in_err-extend_from_slice.result c.from_residual-in_err-extend_from_slice.ensures.1 in
+    rw (p.1, p.2)
+    (record { later = c.in_ok-text.ensures.performed.write.later; failed = λ is. absurd (cc) })
+
+pub returns-in_err-extend_from_slice-clause-unwritten : goal.returns-in_err-extend_from_slice-clause-unwritten
+returns-in_err-extend_from_slice-clause-unwritten g c =
+    let p = err_from_is_err_and c.from_residual-in_err-extend_from_slice.result c.from_residual-in_err-extend_from_slice.ensures.1 in
+    rw (p.1, p.2) (λ is. absurd is)
+
+pub returns-in_err-extend_from_slice-clause-stays : goal.returns-in_err-extend_from_slice-clause-stays
+returns-in_err-extend_from_slice-clause-stays g c =
+    let stays = c.in_ok-text.ensures.performed.stays in
+    record {
+      files_told = c.in_ok-report.ensures.files_told ∙ stays.files_told;
+      files_writes = c.in_ok-report.ensures.files_writes ∙ stays.files_writes;
+      dest_reads = stays.dest_reads;
+      others = stays.others;
+    }
 
 -- ---- or it stands behind the lines of the run
 
-pub returns-clause-performed : goal.returns-clause-performed
-returns-clause-performed g c =
+pub returns-clause-answer : goal.returns-clause-answer
+returns-clause-answer g c =
     let before : Told = g.W.Files.told c.args.dest.now c.args.core.now in
     let stopped = c.in_ok-text.ensures.performed in
+    λ ((text, told), (content, back)).
+    let shown : IsAnswered (Show c.args.core.now) (g.F.Files.told c.args.files.now) (Ok c.in_ok-report.report) before before =
+    subst (λ (t : List ℕ → Told). AreTold (Show c.args.core.now) t → IsAnswered (Show c.args.core.now) t (Ok c.in_ok-report.report) before before) stopped.stays.files_told
+    (c.in_ok-report.ensures.answer before) (content, back) in
+    shown_behind c.args.plan c.args.script.now c.args.core.now (g.F.Files.told c.args.files.now) content back c.in_ok-text.text before (g.W.Files.told c.stop.new.dest c.args.core.now)
+    c.in_ok-report.report c.extend_from_slice.new.self before before
+    (c.in_ok-extend_from_slice.ensures.items ∙ ap (λ (xs : List ℕ). c.in_ok-text.text.items ++ xs) c.deref.ensures.value) (stopped.answer (text, told)) shown
+
+pub returns-clause-read : goal.returns-clause-read
+returns-clause-read g c = record { later = omega (arith, c.in_ok-text.ensures.performed.read.later, c.in_ok-report.ensures.read.later); failed = λ is. absurd is }
+
+pub returns-clause-write : goal.returns-clause-write
+returns-clause-write g c = record { later = c.in_ok-text.ensures.performed.write.later; failed = λ is. absurd (cc) }
+
+pub returns-clause-stays : goal.returns-clause-stays
+returns-clause-stays g c =
+    let stays = c.in_ok-text.ensures.performed.stays in
     record {
-      answer =
-          λ ((text, told), (content, back)).
-          let shown : IsAnswered (Show c.args.core.now) (g.F.Files.told c.args.files.now) (Ok c.in_ok-report.report) before before =
-          subst (λ (t : List ℕ → Told). AreTold (Show c.args.core.now) t → IsAnswered (Show c.args.core.now) t (Ok c.in_ok-report.report) before before) stopped.stays.files_told
-          (c.in_ok-report.ensures.answer before) (content, back) in
-          shown_behind c.args.plan c.args.script.now c.args.core.now (g.F.Files.told c.args.files.now) content back c.in_ok-text.text before (g.W.Files.told c.stop.new.dest c.args.core.now)
-          c.in_ok-report.report c.extend_from_slice.new.self before before
-          (c.in_ok-extend_from_slice.ensures.items ∙ ap (λ (xs : List ℕ). c.in_ok-text.text.items ++ xs) c.deref.ensures.value) (stopped.answer (text, told)) shown;
-      read = record { later = omega (arith, stopped.read.later, c.in_ok-report.ensures.read.later); failed = λ is. absurd is };
-      write = record { later = stopped.write.later; failed = λ is. absurd (cc) };
-      unwritten = tt;
-      stays =
-          record {
-            files_told = c.in_ok-report.ensures.files_told ∙ stopped.stays.files_told;
-            files_writes = c.in_ok-report.ensures.files_writes ∙ stopped.stays.files_writes;
-            dest_reads = stopped.stays.dest_reads;
-            others = stopped.stays.others;
-          };
+      files_told = c.in_ok-report.ensures.files_told ∙ stays.files_told;
+      files_writes = c.in_ok-report.ensures.files_writes ∙ stays.files_writes;
+      dest_reads = stays.dest_reads;
+      others = stays.others;
     }

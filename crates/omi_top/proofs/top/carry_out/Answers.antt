@@ -10,6 +10,7 @@ returns-in-Faulty-clause-concluded g c =
       usage = λ is. refl;
       read_fault = λ is. absurd (cc);
       write_fault = λ is. absurd (cc);
+      out_of_memory = λ is. absurd (cc);
       left = λ told. (refusal.Usage, refl, None, refl, refl, c.refuse_words.ensures.line);
       unwritten = λ is. refl;
       stays = record { files_told = refl; files_writes = refl; dest_reads = refl; others = λ other not. refl };

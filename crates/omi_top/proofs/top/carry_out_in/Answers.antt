@@ -3,7 +3,7 @@ use Rattle.omi_outside.specs.declared.status.Status.TheVariants as status
 use Rattle.omi_verbs.specs.Refusal.{refusal_line}
 use Rattle.omi_verbs.specs.Said.{IsCounted, IsSaid}
 use Rattle.omi_top.specs.Asked.{asked}
-use Rattle.omi_verbs.proofs.Elsewhere.{never_printing, of_read, of_usage, of_write}
+use Rattle.omi_verbs.proofs.Elsewhere.{never_printing, of_read, of_usage, of_write, unsaid}
 use Rattle.omi_top.proofs.Causes.{printing_writes}
 use Rattle.omi_top.proofs.Left.{ok_left, err_left}
 use Rattle.omi_top.proofs.top.carry_out_in.Goals as goal
@@ -17,6 +17,7 @@ returns-in-Ok g c =
       usage = λ is. absurd (never_printing c.print.result status.Usage printed refl is);
       read_fault = λ is. absurd (never_printing c.print.result status.ReadFault printed refl is);
       write_fault = λ is. inr (c.print.ensures.cause.failed is);
+      out_of_memory = λ is. inr (c.print.ensures.want.failed is);
       left =
           λ told.
           ok_left (asked c.args.request) (g.F.Files.told c.args.files.now) _ _ _ (g.K.Sink.told c.args.out.now) (g.K.Sink.told c.print.new.out) c.in-Ok.text c.print.result
@@ -39,6 +40,7 @@ returns-in-Err g c =
       usage = λ is. c.in-Err.ensures.usage (of_usage c.in-Err.refusal is);
       read_fault = λ is. performed.read.failed (of_read c.in-Err.refusal is);
       write_fault = λ is. inl (performed.write.failed (of_write c.in-Err.refusal is));
+      out_of_memory = λ is. inl (unsaid _ _ c.in-Err.refusal _ (g.K.Sink.told c.args.out.now) (g.K.Sink.told c.refuse.new.out) c.refuse.ensures.line is);
       left =
           λ told.
           err_left (asked c.args.request) (g.F.Files.told c.args.files.now) _ _ _ (g.K.Sink.told c.args.out.now) (g.K.Sink.told c.refuse.new.out) c.in-Err.refusal

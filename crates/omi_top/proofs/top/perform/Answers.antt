@@ -39,7 +39,9 @@ returns-in-Show-clause-performed g c =
     })
 
 pub returns-in-Run-clause-performed : goal.returns-in-Run-clause-performed
-returns-in-Run-clause-performed g c = rw c.in-Run.is c.run_and_show.ensures.performed
+returns-in-Run-clause-performed g c =
+    let run = c.run_and_show.ensures in
+    rw c.in-Run.is (record { answer = run.answer; read = run.read; write = run.write; unwritten = run.unwritten; stays = run.stays })
 
 pub returns-in-Faulty-clause-performed : goal.returns-in-Faulty-clause-performed
 returns-in-Faulty-clause-performed g c =

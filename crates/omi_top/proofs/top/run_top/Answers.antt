@@ -6,10 +6,10 @@ use Rattle.omi_top.specs.Answer.{AreTold, IsLeft, IsUnwritten}
 use Rattle.omi_verbs.specs.Said.{IsCounted}
 use Rattle.omi_top.specs.Command.{Command, Stop, Make, Show, Run, Faulty, ReadsCore, Writes, command_by, command_in, written_name}
 use Rattle.omi_top.proofs.Left.{left_by}
-use Rattle.omi_top.proofs.LeftByShow.{no_file as no_core, core_refused, incompatible, damaged, report_put, shown, shown_again, shown_reached}
-use Rattle.omi_top.proofs.LeftByRun.{core_refused as run_core_refused, damaged as run_damaged, incompatible as run_incompatible, no_file as run_no_file, put_report, script_refused as run_script_refused, shown as run_shown, wrote}
+use Rattle.omi_top.proofs.LeftByShow.{no_file as no_core, core_refused, incompatible, damaged, report_put, shown, shows, shown_again, shown_reached}
+use Rattle.omi_top.proofs.LeftByRun.{core_refused as run_core_refused, damaged as run_damaged, incompatible as run_incompatible, no_file as run_no_file, put_report, runs, script_refused as run_script_refused, shown as run_shown, wrote}
 use Rattle.omi_top.proofs.LeftByMake.{success as made, writing}
-use Rattle.omi_top.proofs.LeftByStop.{no_file, script_refused, success}
+use Rattle.omi_top.proofs.LeftByStop.{no_file, script_refused, stops, success}
 use Rattle.omi_top.proofs.top.run_top.Given as given
 use Rattle.omi_top.proofs.top.run_top.Goals as goal
 use Rattle.omi_top.proofs.top.run_top.Goals.{Joined-line}
@@ -41,6 +41,9 @@ returns-in-Ok-clause-script g c = λ plan name core bytes command told. script_r
 pub returns-in-Ok-clause-success : goal.returns-in-Ok-clause-success
 returns-in-Ok-clause-success g c = λ plan name core bytes command told done. success plan name core (g.F.Files.told c.args.files.now) _ _ _ _ _ _ bytes told done (left_of g c (Stop plan name core) (asked_is g c ∙ command) (Some bytes, told))
 
+pub returns-in-Ok-clause-stops : goal.returns-in-Ok-clause-stops
+returns-in-Ok-clause-stops g c = λ plan name core bytes command told p grammar. stops plan name core (g.F.Files.told c.args.files.now) _ _ _ _ _ _ bytes told p grammar (left_of g c (Stop plan name core) (asked_is g c ∙ command) (Some bytes, told))
+
 pub returns-in-Ok-clause-made : goal.returns-in-Ok-clause-made
 returns-in-Ok-clause-made g c = λ n name command done. made n name (g.F.Files.told c.args.files.now) _ _ _ _ _ _ done (left_of g c (Make n name) (asked_is g c ∙ command) tt)
 
@@ -61,6 +64,9 @@ returns-in-Ok-clause-damaged g c = λ core bytes command told. damaged core (g.F
 
 pub returns-in-Ok-clause-report : goal.returns-in-Ok-clause-report
 returns-in-Ok-clause-report g c = λ core bytes command told done. report_put core (g.F.Files.told c.args.files.now) _ _ _ _ _ _ bytes told done (left_of g c (Show core) (asked_is g c ∙ command) (Some bytes, told))
+
+pub returns-in-Ok-clause-shows : goal.returns-in-Ok-clause-shows
+returns-in-Ok-clause-shows g c = λ core bytes text command told report_is. shows core (g.F.Files.told c.args.files.now) _ _ _ _ _ _ bytes text told report_is (left_of g c (Show core) (asked_is g c ∙ command) (Some bytes, told))
 
 pub returns-in-Ok-clause-shown : goal.returns-in-Ok-clause-shown
 returns-in-Ok-clause-shown g c = λ core bytes command told image spelled s shows. shown core (g.F.Files.told c.args.files.now) _ _ _ _ _ bytes told image spelled s shows _ (left_of g c (Show core) (asked_is g c ∙ command) (Some bytes, told))
@@ -91,6 +97,9 @@ returns-in-Ok-clause-run_written g c = λ plan script core bytes content command
 
 pub returns-in-Ok-clause-run_report : goal.returns-in-Ok-clause-run_report
 returns-in-Ok-clause-run_report g c = λ plan script core text bytes command told back done. put_report plan script core (g.F.Files.told c.args.files.now) _ _ _ _ _ text bytes told back _ done (left_of g c (Run plan script core) (asked_is g c ∙ command) ((Some text, told), (Some bytes, back)))
+
+pub returns-in-Ok-clause-runs : goal.returns-in-Ok-clause-runs
+returns-in-Ok-clause-runs g c = λ plan script core text bytes shown command told back p grammar report_is. runs plan script core (g.F.Files.told c.args.files.now) _ _ _ _ _ text bytes told back shown _ p grammar report_is (left_of g c (Run plan script core) (asked_is g c ∙ command) ((Some text, told), (Some bytes, back)))
 
 pub returns-in-Ok-clause-run_shown : goal.returns-in-Ok-clause-run_shown
 returns-in-Ok-clause-run_shown g c = λ plan script core text bytes command told back same. run_shown plan script core (g.F.Files.told c.args.files.now) _ _ _ _ _ text bytes told back same _ (left_of g c (Run plan script core) (asked_is g c ∙ command) ((Some text, told), (Some bytes, back)))
