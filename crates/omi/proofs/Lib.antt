@@ -1,0 +1,2 @@
+mod NoTargets
+mod FrontsOfCores

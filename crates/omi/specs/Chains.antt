@@ -1,0 +1,66 @@
+-- What a step along a chain of regions or tasks answers, by what the inquiry for the next object does.
+use Rattle.std.specs.Prelude.{◌≡◌, ◌==◌, ℕ, ◌+◌, ◌≤◌, Bool, true, false, Option, Some, None, Result, Ok, Err}
+use Rattle.std.specs.FinMap.{get}
+use Rattle.std.specs.Option.{option_map}
+use Rattle.std.specs.Ordering.{nat_cmp}
+use Rattle.std.specs.BTreeSet.{contains}
+use Rattle.omi_calls.specs.Told.{Told}
+use Rattle.omi_handle.specs.Ledger.{Ledger}
+use Rattle.omi_handle.specs.declared.handle.Held.{Held}
+use Rattle.omi_handle.specs.declared.handle.Kind.{Kind}
+use Rattle.omi_session.specs.Made.{AddsHandle}
+use Rattle.omi_session.specs.Reads.{Reads, answer_on}
+use Rattle.omi_session.specs.Tells.{Tells}
+use Rattle.omi_session.specs.declared.rc.Rc.{Rc}
+use Rattle.omi_session.specs.declared.rc.Rc.TheVariants.{Unavailable, NoMem, CallbackError}
+use Rattle.omi_word.specs.Words.{Words}
+use Rattle.omi.specs.declared.chain.Chain.{Chain}
+use Rattle.omi.specs.declared.chain.ChainError.{ChainError}
+use Rattle.omi.specs.declared.chain.ChainError.TheVariants.{Cycle, Refused}
+
+-- the chain came by the record at this address
+abbrev pub came_by : Chain → ℕ → Bool
+came_by chain address = contains nat_cmp chain.records address
+
+-- this is the address of the object's record
+abbrev pub is_record_of : Option Held → ℕ → Bool
+is_record_of None address = false
+is_record_of (Some h) address = h.addr == address
+
+-- a step, by its handle's pair of key and serial
+abbrev pub as_step : {H : Type 0} → (H → ℕ × ℕ) → Result (Option H) ChainError
+    → Result (Option (ℕ × ℕ)) ChainError
+as_step pair (Ok next) = Ok (option_map pair next)
+as_step pair (Err e) = Err e
+
+-- A step's answer where an inquiry for the next object answers this: the object, by whose record the chain did not come; that there is
+-- none; or its refusal. A Cycle names the record by which it came before
+abbrev pub IsStepTo : (ℕ → Bool) → Ledger → Result (Option (ℕ × ℕ)) ChainError → Result Held Rc
+    → Type 0
+IsStepTo before new (Ok (Some pair)) answer =
+    record { object : Held; answers : answer ≡ Ok object; found : get new.held pair ≡ Some object; unmet : before object.addr ≡ false }
+IsStepTo before new (Ok None) answer = answer ≡ Err Unavailable
+IsStepTo before new (Err (Cycle addr)) answer =
+    record { object : Held; answers : answer ≡ Ok object; is : object.addr ≡ addr; met : before addr ≡ true }
+IsStepTo before new (Err (Refused NoMem)) answer = Unit {0}
+IsStepTo before new (Err (Refused CallbackError)) answer = Unit {0}
+IsStepTo before new (Err (Refused Unavailable)) answer = ⊥
+IsStepTo before new (Err (Refused rc)) answer = answer ≡ Err rc
+
+-- the same of reads, where the callbacks tell their words
+abbrev pub Steps : Told → (ℕ → Bool) → Ledger → Result (Option (ℕ × ℕ)) ChainError → Reads Held
+    → Type 0
+Steps told before new result reads = (memory : Words) → Tells told memory
+    → IsStepTo before new result (answer_on memory reads)
+
+-- a step makes a handle of this kind, or leaves those that are held
+abbrev pub MakesStep : Kind → Ledger → Ledger → Result (Option (ℕ × ℕ)) ChainError → Type 0
+MakesStep kind old new (Ok (Some pair)) =
+    record { object : Held; kind : object.kind ≡ kind; adds : AddsHandle old new pair object }
+MakesStep kind old new other =
+    record { held : new.held ≡ old.held; made : new.made ≤ old.made + 1 }
+
+-- a callback failed
+abbrev pub IsCallbackError : {A : Type 0} → Result A ChainError → Type 0
+IsCallbackError (Err (Refused CallbackError)) = Unit {0}
+IsCallbackError other = ⊥
