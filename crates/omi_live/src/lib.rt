@@ -4,8 +4,10 @@
 mod known;
 mod limits;
 mod rule;
+mod start_gate;
 mod threads;
 mod worker;
 
 pub use limits::MOST_BUDGET;
+pub use start_gate::{MOST_TURNS, StartGate};
 pub use threads::{LiveEnd, live};

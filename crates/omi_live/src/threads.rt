@@ -245,6 +245,7 @@ pub fn live<R: Threads + Sync, G: Gate>(
         on,
     };
     let (table, mut seat) = Table::of_words(alloc, &opening, &given)?;
+    gate.open(p.threads, budget);
     let workers = workers_at(alloc, p, l, budget, &table.shared, &mut seat)?;
     let all = all_worked(rt, p, l, &table.shared, budget, on, gate, workers)?;
     let runs = all_joined(alloc, &table.shared, &mut seat, all)?;

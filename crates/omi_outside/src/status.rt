@@ -19,9 +19,10 @@ pub enum Status {
     Script,
     /// The grammar of core files refuses the core.
     Core,
-    /// The words of the core hold no whole record where one is to be.
+    /// The layout table in the core's words is wrong, or a word that the report needs is not there, leads to no live record, or comes
+    /// back to a record.
     Damaged,
-    /// The core is of another version, or of another layout.
+    /// The core's words have no layout table of version 1.
     Incompatible,
     /// Memory ran out.
     OutOfMemory,

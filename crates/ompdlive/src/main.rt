@@ -1,8 +1,9 @@
 // The program: `live_top` over real files and standard output.
 #![tactic(auto)]
 
+use omi_live::StartGate;
 use omi_live_top::live_top;
-use omi_outside::{DiskFiles, FreeGate, Status, StdSink, hold_standard};
+use omi_outside::{DiskFiles, Status, StdSink, hold_standard};
 use omi_verbs::{handed_over, words_of};
 use std::process::ExitCode;
 
@@ -14,6 +15,13 @@ fn main(rt: HostRuntime) -> ExitCode {
     };
     let mut files = DiskFiles::new(&rt);
     let mut out = StdSink::new(&rt);
-    let status = live_top(&rt, rt.alloc(), &words, &mut files, &mut out, &FreeGate);
+    let status = live_top(
+        &rt,
+        rt.alloc(),
+        &words,
+        &mut files,
+        &mut out,
+        &StartGate::new(),
+    );
     ExitCode::from(handed_over(status, &mut files).code())
 }
