@@ -22,7 +22,7 @@ fn current_region<C: Callbacks, F: ToHost>(
     s: &mut Session<C, F>,
     t: ThreadHandle,
 ) -> Result<Held, Rc>
-    ensures answer { Answers (C.told s.old.table.calls) result
+    ensures answer { Answers C.told C.asked s.old s.new result
         (inquiry.current_region s.old.layout (get s.old.handles.held (t.key, t.serial))) }
     ensures named { IfOk result (IsOfKind s.old.layout Region) }
     ensures memory { result ≢ Err Rc.NoMem }
@@ -36,7 +36,7 @@ fn current_region<C: Callbacks, F: ToHost>(
 
 /// The region of a task.
 fn region_of_task<C: Callbacks, F: ToHost>(s: &mut Session<C, F>, k: TaskHandle) -> Result<Held, Rc>
-    ensures answer { Answers (C.told s.old.table.calls) result
+    ensures answer { Answers C.told C.asked s.old s.new result
         (inquiry.region_of_task s.old.layout (get s.old.handles.held (k.key, k.serial))) }
     ensures named { IfOk result (IsOfKind s.old.layout Region) }
     ensures memory { result ≢ Err Rc.NoMem }
@@ -54,7 +54,7 @@ pub fn get_curr_parallel_handle<C: Callbacks, F: ToHost>(
     t: ThreadHandle,
 ) -> Result<RegionHandle, Rc>
     requires { s.old.handles.made < 2 ^ 64 - 1 }
-    ensures answer { Answered (C.told s.old.table.calls) s.new.handles (as_pair region_pair result)
+    ensures answer { Answered C.told C.asked s.old s.new (as_pair region_pair result)
         (inquiry.current_region s.old.layout (get s.old.handles.held (t.key, t.serial))) }
     ensures shown { OfThread (C.told s.old.table.calls) s.old.layout
         (get s.old.handles.held (thread_pair t)) (λ state thread. GivesRegion s.old.layout
@@ -76,7 +76,7 @@ pub fn get_enclosing_parallel_handle<C: Callbacks, F: ToHost>(
     r: RegionHandle,
 ) -> Result<RegionHandle, Rc>
     requires { s.old.handles.made < 2 ^ 64 - 1 }
-    ensures answer { Answered (C.told s.old.table.calls) s.new.handles (as_pair region_pair result)
+    ensures answer { Answered C.told C.asked s.old s.new (as_pair region_pair result)
         (inquiry.enclosing_region s.old.layout (get s.old.handles.held (r.key, r.serial))) }
     ensures shown { OfRegion (C.told s.old.table.calls) s.old.layout
         (get s.old.handles.held (region_pair r)) (λ region. GivesRegion s.old.layout
@@ -98,7 +98,7 @@ pub fn get_task_parallel_handle<C: Callbacks, F: ToHost>(
     k: TaskHandle,
 ) -> Result<RegionHandle, Rc>
     requires { s.old.handles.made < 2 ^ 64 - 1 }
-    ensures answer { Answered (C.told s.old.table.calls) s.new.handles (as_pair region_pair result)
+    ensures answer { Answered C.told C.asked s.old s.new (as_pair region_pair result)
         (inquiry.region_of_task s.old.layout (get s.old.handles.held (k.key, k.serial))) }
     ensures shown { OfTask (C.told s.old.table.calls) s.old.layout
         (get s.old.handles.held (task_pair k)) (λ task. GivesRegion s.old.layout

@@ -22,7 +22,7 @@ use omi_session::{Rc, Session, follow, hand_thread, live_handle, member, unchang
 /// Whether the thread of a number has begun and has a native id.
 fn has_id<C: Callbacks, F: ToHost>(s: &mut Session<C, F>, native: u64, i: u8) -> Result<bool, Rc>
     requires { i < thread_count s.old.layout }
-    ensures answer { Answers (C.told s.old.table.calls) result
+    ensures answer { Answers C.told C.asked s.old s.new result
         (inquiry.has_id s.old.layout native i) }
     ensures memory { result ≢ Err Rc.NoMem }
     ensures same { StaysWhole C.told s.old s.new }
@@ -53,7 +53,7 @@ fn begun(layout: &Layout, i: u8) -> Held
 
 /// The first thread that has begun and has a native id.
 fn first_with<C: Callbacks, F: ToHost>(s: &mut Session<C, F>, native: u64) -> Result<Held, Rc>
-    ensures answer { Answers (C.told s.old.table.calls) result (inquiry.first_with s.old.layout
+    ensures answer { Answers C.told C.asked s.old s.new result (inquiry.first_with s.old.layout
         native (range_with_len 0 (thread_count s.old.layout))) }
     ensures named { IfOk result (IsOfKind s.old.layout Thread) }
     ensures memory { result ≢ Err Rc.NoMem }
@@ -75,7 +75,7 @@ fn thread_with<C: Callbacks, F: ToHost>(
     kind: u32,
     native: u64,
 ) -> Result<Held, Rc>
-    ensures answer { Answers (C.told s.old.table.calls) result
+    ensures answer { Answers C.told C.asked s.old s.new result
         (inquiry.thread_with s.old.layout kind native) }
     ensures named { IfOk result (IsOfKind s.old.layout Thread) }
     ensures memory { result ≢ Err Rc.NoMem }
@@ -96,7 +96,7 @@ fn thread_of_member<C: Callbacks, F: ToHost>(
     r: RegionHandle,
     num: u32,
 ) -> Result<Held, Rc>
-    ensures answer { Answers (C.told s.old.table.calls) result
+    ensures answer { Answers C.told C.asked s.old s.new result
         (inquiry.thread_of_member s.old.layout (get s.old.handles.held (r.key, r.serial)) num) }
     ensures named { IfOk result (IsOfKind s.old.layout Thread) }
     ensures memory { result ≢ Err Rc.NoMem }
@@ -115,7 +115,7 @@ pub fn get_thread_handle<C: Callbacks, F: ToHost>(
     native: u64,
 ) -> Result<ThreadHandle, Rc>
     requires { s.old.handles.made < 2 ^ 64 - 1 }
-    ensures answer { Answered (C.told s.old.table.calls) s.new.handles (as_pair thread_pair result)
+    ensures answer { Answered C.told C.asked s.old s.new (as_pair thread_pair result)
         (inquiry.thread_with s.old.layout kind native) }
     ensures shown { OfState (C.told s.old.table.calls) s.old.layout (λ state.
         GivesThread s.old.layout s.new.handles (as_pair thread_pair result)
@@ -137,7 +137,7 @@ pub fn get_thread_in_parallel<C: Callbacks, F: ToHost>(
     num: u32,
 ) -> Result<ThreadHandle, Rc>
     requires { s.old.handles.made < 2 ^ 64 - 1 }
-    ensures answer { Answered (C.told s.old.table.calls) s.new.handles (as_pair thread_pair result)
+    ensures answer { Answered C.told C.asked s.old s.new (as_pair thread_pair result)
         (inquiry.thread_of_member s.old.layout (get s.old.handles.held (r.key, r.serial)) num) }
     ensures shown { OfRegion (C.told s.old.table.calls) s.old.layout
         (get s.old.handles.held (region_pair r)) (λ region. GivesThread s.old.layout
@@ -158,7 +158,7 @@ pub fn get_thread_id<C: Callbacks, F: ToHost>(
     kind: u32,
     t: ThreadHandle,
 ) -> Result<u64, Rc>
-    ensures answer { Answers (C.told s.old.table.calls) result
+    ensures answer { Answers C.told C.asked s.old s.new result
         (inquiry.native_id s.old.layout kind (get s.old.handles.held (t.key, t.serial))) }
     ensures shown { OfThread (C.told s.old.table.calls) s.old.layout
         (get s.old.handles.held (thread_pair t))

@@ -22,7 +22,7 @@ pub fn get_curr_task_handle<C: Callbacks, F: ToHost>(
     t: ThreadHandle,
 ) -> Result<TaskHandle, Rc>
     requires { s.old.handles.made < 2 ^ 64 - 1 }
-    ensures answer { Answered (C.told s.old.table.calls) s.new.handles (as_pair task_pair result)
+    ensures answer { Answered C.told C.asked s.old s.new (as_pair task_pair result)
         (part.current_task s.old.layout (get s.old.handles.held (t.key, t.serial))) }
     ensures shown { OfThread (C.told s.old.table.calls) s.old.layout
         (get s.old.handles.held (thread_pair t)) (λ state thread. GivesTask s.old.layout
@@ -44,7 +44,7 @@ pub fn get_generating_task_handle<C: Callbacks, F: ToHost>(
     k: TaskHandle,
 ) -> Result<TaskHandle, Rc>
     requires { s.old.handles.made < 2 ^ 64 - 1 }
-    ensures answer { Answered (C.told s.old.table.calls) s.new.handles (as_pair task_pair result)
+    ensures answer { Answered C.told C.asked s.old s.new (as_pair task_pair result)
         (inquiry.generating_task s.old.layout (get s.old.handles.held (k.key, k.serial))) }
     ensures shown { OfTask (C.told s.old.table.calls) s.old.layout
         (get s.old.handles.held (task_pair k)) (λ task. GivesTask s.old.layout
@@ -67,7 +67,7 @@ pub fn get_scheduling_task_handle<C: Callbacks, F: ToHost>(
     k: TaskHandle,
 ) -> Result<TaskHandle, Rc>
     requires { s.old.handles.made < 2 ^ 64 - 1 }
-    ensures answer { Answered (C.told s.old.table.calls) s.new.handles (as_pair task_pair result)
+    ensures answer { Answered C.told C.asked s.old s.new (as_pair task_pair result)
         (inquiry.scheduling_task s.old.layout (get s.old.handles.held (k.key, k.serial))) }
     ensures shown { OfTask (C.told s.old.table.calls) s.old.layout
         (get s.old.handles.held (task_pair k)) (λ task. GivesTask s.old.layout
@@ -90,7 +90,7 @@ pub fn get_task_in_parallel<C: Callbacks, F: ToHost>(
     num: u32,
 ) -> Result<TaskHandle, Rc>
     requires { s.old.handles.made < 2 ^ 64 - 1 }
-    ensures answer { Answered (C.told s.old.table.calls) s.new.handles (as_pair task_pair result)
+    ensures answer { Answered C.told C.asked s.old s.new (as_pair task_pair result)
         (part.member s.old.layout (get s.old.handles.held (r.key, r.serial)) num) }
     ensures shown { OfRegion (C.told s.old.table.calls) s.old.layout
         (get s.old.handles.held (region_pair r)) (λ region. GivesTask s.old.layout

@@ -39,7 +39,7 @@ pub fn get_task_function<C: Callbacks, F: ToHost>(
     s: &mut Session<C, F>,
     k: TaskHandle,
 ) -> Result<u64, Rc>
-    ensures answer { Answers (C.told s.old.table.calls) result
+    ensures answer { Answers C.told C.asked s.old s.new result
         (inquiry.function s.old.layout (get s.old.handles.held (k.key, k.serial))) }
     ensures shown { OfTask (C.told s.old.table.calls) s.old.layout
         (get s.old.handles.held (task_pair k)) (λ task. IsGiven result (function_of_task task)) }
@@ -57,7 +57,7 @@ pub fn get_task_frame<C: Callbacks, F: ToHost>(
     s: &mut Session<C, F>,
     k: TaskHandle,
 ) -> Result<Frames, Rc>
-    ensures answer { Answers (C.told s.old.table.calls) result
+    ensures answer { Answers C.told C.asked s.old s.new result
         (inquiry.frames s.old.layout (get s.old.handles.held (k.key, k.serial))) }
     ensures shown { OfTask (C.told s.old.table.calls) s.old.layout
         (get s.old.handles.held (task_pair k)) (λ task. IsGiven result (frames_of_task task)) }

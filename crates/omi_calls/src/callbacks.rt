@@ -1,6 +1,6 @@
 //! The callbacks that a debugger hands in, by OpenMP 5.0, chapter 5.
 
-ghost use Rattle.std.specs.Prelude.{◌≡◌, ℕ, Some};
+ghost use Rattle.std.specs.Prelude.{◌≡◌, ◌≤◌, ◌+◌, ℕ, Some};
 ghost use Rattle.omi_outside.specs.Outside.{HasCause};
 ghost use Rattle.omi_word.specs.Words.{Words};
 ghost use Rattle.omi_calls.specs.Told.{Told, Symbols, aligned_word_at, number_of};
@@ -44,13 +44,16 @@ pub struct Sizes {
 ///
 /// An implementation may tell the order of the bytes of a word, the words and the symbols, or
 /// leave each of them untold; the clauses on what a call answers of them then say nothing. No call
-/// changes what is told.
+/// changes what is told, and each read and look-up counts as one at most.
 pub trait Callbacks {
     /// What is told of the target.
     ghost told: { Self → Told };
 
     /// How many calls have failed.
     ghost faults: { Self → ℕ };
+
+    /// How many reads and look-ups were asked for. It stays 0 where they aren't counted.
+    ghost asked: { Self → ℕ };
 
     /// Reads the word at a byte address, and leaves its bytes in the target's order. Where words
     /// are told, NotMapped comes exactly where the address is unaligned or no word stands there.
@@ -61,6 +64,7 @@ pub trait Callbacks {
             → (told self.old).order ≡ Some order → result ≡ Got.Bytes
             → aligned_word_at words addr ≡ Some (number_of order to.new) }
         ensures same { told self.new ≡ told self.old }
+        ensures asked { asked self.new ≤ asked self.old + 1 }
         ensures cause { HasCause (faults self.old) (faults self.new) (result ≡ Got.Failed) };
 
     /// Looks up the byte address of a symbol. Where words are told, the answer is by the symbol
@@ -71,6 +75,7 @@ pub trait Callbacks {
         ensures table { (words : Words) → (told self.old).words ≡ Some words
             → SaysPlace result (symbol_in (aligned_word_at words) name.now) }
         ensures same { told self.new ≡ told self.old }
+        ensures asked { asked self.new ≤ asked self.old + 1 }
         ensures cause { HasCause (faults self.old) (faults self.new) (result ≡ Place.Failed) };
 
     /// The sizes of the target's basic types.

@@ -1,6 +1,6 @@
 //! Callbacks over a core in memory, with a list of the calls that are to fail.
 
-ghost use Rattle.std.specs.Prelude.{◌≡◌, ◌↔◌, ◌≤◌, ℕ, ◌==◌, Some, IsTrue, if◌then◌else◌};
+ghost use Rattle.std.specs.Prelude.{◌≡◌, ◌↔◌, ◌≤◌, ◌+◌, ℕ, ◌==◌, Some, IsTrue, if◌then◌else◌};
 ghost use Rattle.std.specs.List.{list_any};
 ghost use Rattle.omi_outside.specs.Outside.{HasCause, Rose};
 ghost use Rattle.omi_word.specs.Words.{Words};
@@ -78,6 +78,8 @@ impl Callbacks for MemCalls {
 
     ghost faults = { faults_counted };
 
+    ghost asked = { calls_made };
+
     fn read_memory(&mut self, addr: u64, to: &mut [u8; 8]) -> Got
         ensures mapped { (words : Words) → (told_of self.old).words ≡ Some words
             → SaysMapped result (aligned_word_at words addr) }
@@ -87,6 +89,7 @@ impl Callbacks for MemCalls {
         ensures same { told_of self.new ≡ told_of self.old }
         ensures cause { HasCause (faults_counted self.old) (faults_counted self.new)
             (result ≡ Got.Failed) }
+        ensures asked { calls_made self.new ≤ calls_made self.old + 1 }
         ensures made { calls_made self.new ≡ next_count (calls_made self.old) }
         ensures fails { (result ≡ Got.Failed)
             ↔ IsTrue (is_to_fail self.old (calls_made self.new)) }
@@ -116,6 +119,7 @@ impl Callbacks for MemCalls {
         ensures same { told_of self.new ≡ told_of self.old }
         ensures cause { HasCause (faults_counted self.old) (faults_counted self.new)
             (result ≡ Place.Failed) }
+        ensures asked { calls_made self.new ≤ calls_made self.old + 1 }
         ensures made { calls_made self.new ≡ next_count (calls_made self.old) }
         ensures fails { (result ≡ Place.Failed)
             ↔ IsTrue (is_to_fail self.old (calls_made self.new)) }

@@ -1,6 +1,6 @@
 //! The table of callbacks, with the conversion of the target's bytes to a number.
 
-ghost use Rattle.std.specs.Prelude.{◌≡◌, ℕ, ◌↔◌, List, Some, IsErr, IfOk, IsSome};
+ghost use Rattle.std.specs.Prelude.{◌≡◌, ◌≤◌, ◌+◌, ℕ, ◌↔◌, List, Some, IsErr, IfOk, IsSome};
 ghost use Rattle.omi_outside.specs.Outside.{HasCause};
 ghost use Rattle.omi_word.specs.Words.{Words};
 ghost use Rattle.omi_calls.specs.Told.{Symbols, aligned_word_at, number_of};
@@ -101,6 +101,7 @@ impl<C: Callbacks, F: ToHost> Table<C, F> {
         ensures same { C.told self.new.calls ≡ C.told self.old.calls }
         ensures order { self.new.order ≡ self.old.order }
         ensures to_host { self.new.to_host ≡ self.old.to_host }
+        ensures asked { C.asked self.new.calls ≤ C.asked self.old.calls + 1 }
         ensures cause { HasCause (C.faults self.old.calls) (C.faults self.new.calls)
             (IsErr result) }
     {
@@ -122,6 +123,7 @@ impl<C: Callbacks, F: ToHost> Table<C, F> {
         ensures same { C.told self.new.calls ≡ C.told self.old.calls }
         ensures order { self.new.order ≡ self.old.order }
         ensures to_host { self.new.to_host ≡ self.old.to_host }
+        ensures asked { C.asked self.new.calls ≤ C.asked self.old.calls + 1 }
         ensures cause { HasCause (C.faults self.old.calls) (C.faults self.new.calls)
             (result ≡ Place.Failed) }
     {

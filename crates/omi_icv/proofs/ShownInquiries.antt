@@ -18,7 +18,7 @@ use Rattle.omi_session.specs.declared.rc.Rc.{Rc}
 use Rattle.omi_session.specs.declared.rc.Rc.TheVariants.{NeedsStateTracking}
 use Rattle.omi_session.specs.Inquiry.{object_of, word_of}
 use Rattle.omi_session.specs.Made.{thread_pair, region_pair, task_pair}
-use Rattle.omi_session.specs.Reads.{Reads, Answer, answer_on, after, then_reads, Answers}
+use Rattle.omi_session.specs.Reads.{Reads, Answer, answer_on, after, then_reads, IsAnswer}
 use Rattle.omi_session.specs.Shown.{ShowsTold, HoldsThread, HoldsRegion, HoldsTask, IsGiven, held_thread, held_region, held_task}
 use Rattle.omi_session.proofs.Asked.{answer_then}
 use Rattle.omi_session.proofs.ShownParts.{then_answered, word_told}
@@ -36,7 +36,7 @@ use Rattle.omi_icv.specs.StateValues.{Content, as_number, as_text, value_in, val
 use Rattle.omi_icv.specs.StateWords.{state, tool_data}
 use Rattle.omi_icv.specs.Subjects.{Subject, OfScoped}
 use Rattle.omi_icv.specs.Table.{variable_in}
-use Rattle.omi_icv.specs.Written.{IsWritten, Written}
+use Rattle.omi_icv.specs.Written.{IsWritten, IsWrittenOf}
 use Rattle.omi_icv.proofs.Shown.{Agrees, text_read, switch_text}
 use Rattle.omi_icv.proofs.ShownVariables.{space_agrees, thread_agrees, region_agrees, task_agrees}
 
@@ -67,7 +67,7 @@ module _ (w : List ℕ) (memory : Words) (held : Handles) (of : Scoped) (icv add
 module _ (told : Told) (w : List ℕ) where
   -- what a call gives whose reads answer as the state does
   written_given : {A : Type 0} (s : State) (shown : ShowsTold told w s) (result : Result A Rc) (reads : Reads A) (answer : Result A Rc)
-      → Written told result reads → answer_on shown.memory reads ≡ answer → IsWritten result answer
+      → IsWrittenOf told result reads → answer_on shown.memory reads ≡ answer → IsWritten result answer
   written_given s shown result reads answer written is = subst (IsWritten result) is (written shown.memory shown.tells)
 
   -- the variables of the address space
@@ -83,7 +83,7 @@ module _ (told : Told) (w : List ℕ) where
       ∙ ap (λ text. Ok (named_value (name_of DEBUG_VAR) text ∷ named_value (name_of NUM_PROCS_VAR) (decimal s.environment.procs) ∷ named_value (name_of MAX_ACTIVE_LEVELS_VAR) (decimal s.max_active) ∷ []))
       (switch_text s.environment.debug)
 
-  pub display_given : (s : State) (shown : ShowsTold told w s) (result : Result (List (List ℕ)) Rc) → Written told result (display w) → IsWritten result (Ok (display_of s))
+  pub display_given : (s : State) (shown : ShowsTold told w s) (result : Result (List (List ℕ)) Rc) → IsWrittenOf told result (display w) → IsWritten result (Ok (display_of s))
   display_given s shown result written = written_given s shown result (display w) _ written (display_told s shown)
 
 module _ (told : Told) (w : List ℕ) (held : Handles) where
@@ -144,7 +144,7 @@ module _ (told : Told) (w : List ℕ) (held : Handles) where
   of_scoped (Task k) P Q holds then = λ s shown h. then s _ shown (holds s shown h)
 
   -- a variable as a number
-  pub number_given : (of : Scoped) (icv : ℕ) (result : Result ℕ Rc) → Answers told result (icv_from_scope w held of icv)
+  pub number_given : (of : Scoped) (icv : ℕ) (result : Result ℕ Rc) → IsAnswer told result (icv_from_scope w held of icv)
       → OfScoped told w held of (λ s subject. IsGiven result (number_of s subject icv))
   unfolding ReadsContent
   number_given of icv result answers = of_scoped of _ _ (content_read of icv) (λ s subject shown read.
@@ -152,7 +152,7 @@ module _ (told : Told) (w : List ℕ) (held : Handles) where
       given_value told w s shown result (icv_from_scope w held of icv) _ answers (number_read w shown.memory held of icv address _ there agrees))
 
   -- and as a text
-  pub text_given : (of : Scoped) (icv : ℕ) (result : Result (List ℕ) Rc) → Written told result (icv_string_from_scope w held of icv)
+  pub text_given : (of : Scoped) (icv : ℕ) (result : Result (List ℕ) Rc) → IsWrittenOf told result (icv_string_from_scope w held of icv)
       → OfScoped told w held of (λ s subject. IsWritten result (text_of s subject icv))
   unfolding ReadsContent
   text_given of icv result written = of_scoped of _ _ (content_read of icv) (λ s subject shown read.
@@ -160,7 +160,7 @@ module _ (told : Told) (w : List ℕ) (held : Handles) where
       written_given told w s shown result (icv_string_from_scope w held of icv) _ written (string_read w shown.memory held of icv address _ there agrees))
 
   -- the tool word
-  pub tool_given : (of : Scoped) (result : Result ℕ Rc) → Answers told result (tool_data w held of)
+  pub tool_given : (of : Scoped) (result : Result ℕ Rc) → IsAnswer told result (tool_data w held of)
       → OfScoped told w held of (λ s subject. IsGiven result (tool_of subject))
   unfolding tool_data
   tool_given Space result answers = λ s shown.

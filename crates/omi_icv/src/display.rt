@@ -26,7 +26,7 @@ pub struct SpaceWords {
 
 /// The words, in the order in which they are displayed.
 fn space_words<C: Callbacks, F: ToHost>(s: &mut Session<C, F>) -> Result<SpaceWords, Rc>
-    ensures answer { Answers (C.told s.old.table.calls) result
+    ensures answer { Answers C.told C.asked s.old s.new result
         (inquiry.space_words s.old.layout) }
     ensures memory { result ≢ Err Rc.NoMem }
     ensures same { StaysWhole C.told s.old s.new }
@@ -60,7 +60,7 @@ pub fn get_display_control_vars<C: Callbacks, F: ToHost>(
     s: &mut Session<C, F>,
     alloc: Global,
 ) -> Result<Vec<String>, Rc>
-    ensures answer { Written (C.told s.old.table.calls)
+    ensures answer { Written C.told C.asked s.old s.new
         (as_bytes (λ texts. map string_bytes texts.items) result)
         (inquiry.display s.old.layout) }
     ensures shown { OfState (C.told s.old.table.calls) s.old.layout (λ state.

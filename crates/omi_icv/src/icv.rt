@@ -23,7 +23,7 @@ pub fn get_icv_from_scope<C: Callbacks, F: ToHost>(
     of: Scoped,
     icv: u32,
 ) -> Result<u64, Rc>
-    ensures answer { Answers (C.told s.old.table.calls) result
+    ensures answer { Answers C.told C.asked s.old s.new result
         (inquiry.icv_from_scope s.old.layout (get s.old.handles.held) of icv) }
     ensures shown { OfScoped (C.told s.old.table.calls) s.old.layout (get s.old.handles.held) of
         (λ state subject. IsGiven result (number_of state subject icv)) }

@@ -32,7 +32,7 @@ pub fn icv_value<C: Callbacks, F: ToHost>(
     of: Scoped,
     icv: u32,
 ) -> Result<Value, Rc>
-    ensures answer { Answers (C.told s.old.table.calls) result
+    ensures answer { Answers C.told C.asked s.old s.new result
         (inquiry.icv_value s.old.layout (get s.old.handles.held) of icv) }
     ensures memory { result ≢ Err Rc.NoMem }
     ensures same { StaysWhole C.told s.old s.new }
@@ -56,7 +56,7 @@ pub fn get_icv_string_from_scope<C: Callbacks, F: ToHost>(
     of: Scoped,
     icv: u32,
 ) -> Result<String, Rc>
-    ensures answer { Written (C.told s.old.table.calls) (as_bytes string_bytes result)
+    ensures answer { Written C.told C.asked s.old s.new (as_bytes string_bytes result)
         (inquiry.icv_string_from_scope s.old.layout (get s.old.handles.held) of icv) }
     ensures shown { OfScoped (C.told s.old.table.calls) s.old.layout (get s.old.handles.held) of
         (λ state subject. IsWritten (as_bytes string_bytes result) (text_of state subject icv)) }

@@ -13,7 +13,7 @@ use omi_session::{Rc, Session, word};
 
 /// The word of a field of the runtime's record.
 pub fn runtime_word<C: Callbacks, F: ToHost>(s: &mut Session<C, F>, field: Field) -> Result<u64, Rc>
-    ensures answer { Answers (C.told s.old.table.calls) result
+    ensures answer { Answers C.told C.asked s.old s.new result
         (word_of s.old.layout (runtime_address s.old.layout) field 0) }
     ensures memory { result ≢ Err Rc.NoMem }
     ensures same { StaysWhole C.told s.old s.new }

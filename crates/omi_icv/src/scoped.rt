@@ -62,7 +62,7 @@ fn record_of_handle<C: Callbacks, F: ToHost>(
     key: u64,
     serial: u64,
 ) -> Result<u64, Rc>
-    ensures answer { Answers (C.told s.old.table.calls) result
+    ensures answer { Answers C.told C.asked s.old s.new result
         (inquiry.record_of_handle s.old.layout kind (get s.old.handles.held (key, serial))) }
     ensures low { IfOk result (λ address. address ≤ LAST_END) }
     ensures memory { result ≢ Err Rc.NoMem }
@@ -77,7 +77,7 @@ fn record_of_handle<C: Callbacks, F: ToHost>(
 /// The byte address of the record of what is asked about: the runtime's of the address space, for which no word is read, and else that of
 /// the live object of the handle.
 pub fn record_of<C: Callbacks, F: ToHost>(s: &mut Session<C, F>, of: Scoped) -> Result<u64, Rc>
-    ensures answer { Answers (C.told s.old.table.calls) result
+    ensures answer { Answers C.told C.asked s.old s.new result
         (inquiry.record_of s.old.layout (get s.old.handles.held) of) }
     ensures low { IfOk result (λ address. address ≤ LAST_END) }
     ensures memory { result ≢ Err Rc.NoMem }

@@ -22,7 +22,7 @@ pub fn get_state<C: Callbacks, F: ToHost>(
     s: &mut Session<C, F>,
     t: ThreadHandle,
 ) -> Result<(u32, u64), Rc>
-    ensures answer { Answers (C.told s.old.table.calls) result
+    ensures answer { Answers C.told C.asked s.old s.new result
         (inquiry.state s.old.layout (get s.old.handles.held (thread_pair t))) }
     ensures shown { OfThread (C.told s.old.table.calls) s.old.layout
         (get s.old.handles.held (thread_pair t))

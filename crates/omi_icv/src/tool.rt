@@ -17,7 +17,7 @@ use omi_session::{Rc, Session, word};
 
 /// The word that a tool left with a task. Unsupported of all else.
 pub fn get_tool_data<C: Callbacks, F: ToHost>(s: &mut Session<C, F>, of: Scoped) -> Result<u64, Rc>
-    ensures answer { Answers (C.told s.old.table.calls) result
+    ensures answer { Answers C.told C.asked s.old s.new result
         (inquiry.tool_data s.old.layout (get s.old.handles.held) of) }
     ensures shown { OfScoped (C.told s.old.table.calls) s.old.layout (get s.old.handles.held) of
         (λ state subject. IsGiven result (tool_of subject)) }

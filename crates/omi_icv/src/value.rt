@@ -21,7 +21,7 @@ use omi_session::{Rc, Session, follow_some, team_size, word};
 /// The number of elements of nthreads-var of the task whose record has this byte address. An Error where it isn't from 1 to `MAX_SIZES`.
 fn list_length<C: Callbacks, F: ToHost>(s: &mut Session<C, F>, address: u64) -> Result<u64, Rc>
     requires { address ≤ LAST_END }
-    ensures answer { Answers (C.told s.old.table.calls) result
+    ensures answer { Answers C.told C.asked s.old s.new result
         (inquiry.list_length s.old.layout address) }
     ensures few { IfOk result (λ count. count ≤ MAX_SIZES) }
     ensures memory { result ≢ Err Rc.NoMem }
@@ -43,7 +43,7 @@ fn list_length<C: Callbacks, F: ToHost>(s: &mut Session<C, F>, address: u64) -> 
 /// The only element of nthreads-var of a task. Incomplete, with the first one, where there are more.
 fn only_element<C: Callbacks, F: ToHost>(s: &mut Session<C, F>, address: u64) -> Result<u64, Rc>
     requires { address ≤ LAST_END }
-    ensures answer { Answers (C.told s.old.table.calls) result
+    ensures answer { Answers C.told C.asked s.old s.new result
         (inquiry.only_element s.old.layout address) }
     ensures memory { result ≢ Err Rc.NoMem }
     ensures same { StaysWhole C.told s.old s.new }
@@ -62,7 +62,7 @@ fn only_element<C: Callbacks, F: ToHost>(s: &mut Session<C, F>, address: u64) ->
 /// The elements of nthreads-var of a task.
 fn elements<C: Callbacks, F: ToHost>(s: &mut Session<C, F>, address: u64) -> Result<Numbers, Rc>
     requires { address ≤ LAST_END }
-    ensures answer { Answers (C.told s.old.table.calls) result
+    ensures answer { Answers C.told C.asked s.old s.new result
         (inquiry.elements s.old.layout address) }
     ensures memory { result ≢ Err Rc.NoMem }
     ensures same { StaysWhole C.told s.old s.new }
@@ -81,7 +81,7 @@ fn first_elements<C: Callbacks, F: ToHost>(
 ) -> Result<Numbers, Rc>
     requires low { address ≤ LAST_END }
     requires few { count ≤ MAX_SIZES }
-    ensures answer { Answers (C.told s.old.table.calls) result
+    ensures answer { Answers C.told C.asked s.old s.new result
         (inquiry.first_elements s.old.layout address count) }
     ensures memory { result ≢ Err Rc.NoMem }
     ensures same { StaysWhole C.told s.old s.new }
@@ -99,7 +99,7 @@ fn first_elements<C: Callbacks, F: ToHost>(
 /// The number in its team of the current task of the thread whose record has this byte address. Unavailable where it has no task.
 fn member_number<C: Callbacks, F: ToHost>(s: &mut Session<C, F>, address: u64) -> Result<u64, Rc>
     requires { address ≤ LAST_END }
-    ensures answer { Answers (C.told s.old.table.calls) result
+    ensures answer { Answers C.told C.asked s.old s.new result
         (inquiry.member_number s.old.layout address) }
     ensures memory { result ≢ Err Rc.NoMem }
     ensures same { StaysWhole C.told s.old s.new }
@@ -117,7 +117,7 @@ pub fn number<C: Callbacks, F: ToHost>(
     address: u64,
 ) -> Result<u64, Rc>
     requires { address ≤ LAST_END }
-    ensures answer { Answers (C.told s.old.table.calls) result
+    ensures answer { Answers C.told C.asked s.old s.new result
         (inquiry.number_in s.old.layout source address) }
     ensures memory { result ≢ Err Rc.NoMem }
     ensures same { StaysWhole C.told s.old s.new }
@@ -139,7 +139,7 @@ fn number_alone<C: Callbacks, F: ToHost>(
     address: u64,
 ) -> Result<Numbers, Rc>
     requires { address ≤ LAST_END }
-    ensures answer { Answers (C.told s.old.table.calls) result
+    ensures answer { Answers C.told C.asked s.old s.new result
         (inquiry.alone (inquiry.number_in s.old.layout source address)) }
     ensures memory { result ≢ Err Rc.NoMem }
     ensures same { StaysWhole C.told s.old s.new }
@@ -157,7 +157,7 @@ pub fn numbers<C: Callbacks, F: ToHost>(
     address: u64,
 ) -> Result<Numbers, Rc>
     requires { address ≤ LAST_END }
-    ensures answer { Answers (C.told s.old.table.calls) result
+    ensures answer { Answers C.told C.asked s.old s.new result
         (inquiry.numbers_in s.old.layout source address) }
     ensures memory { result ≢ Err Rc.NoMem }
     ensures same { StaysWhole C.told s.old s.new }

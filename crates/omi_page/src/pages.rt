@@ -1,6 +1,6 @@
 //! A core file that is read on demand.
 
-ghost use Rattle.std.specs.Prelude.{◌≡◌, ◌≤◌, List, ℕ, Some, None, IfOk, IsOk, IfErr, Err, vec_len, []};
+ghost use Rattle.std.specs.Prelude.{◌≡◌, ◌≤◌, ◌+◌, List, ℕ, Some, None, IfOk, IsOk, IfErr, Err, vec_len, []};
 ghost use Rattle.omi_outside.specs.Outside.{HasCause};
 ghost use Rattle.omi_corefile.specs.Spelling.{Core};
 ghost use Rattle.omi_corefile.specs.Refusals.{CoreRefused};
@@ -28,7 +28,7 @@ use omi_word::Natives;
 use std::alloc::Global;
 
 /// A core file that is read on demand. It borrows the files and the name, and tells what the core tells that the file's bytes are.
-/// At most `MOST_PAGES` pages of `PAGE_BYTES` bytes are kept.
+/// At most `MOST_PAGES` pages of `PAGE_BYTES` bytes are kept. Reads and look-ups are counted together.
 #[derive(Drop)]
 pub struct Pages<'a, F: Files> {
     alloc: Global,
@@ -39,6 +39,7 @@ pub struct Pages<'a, F: Files> {
     spans: SpanList,
     kept: Kept,
     buffer: Vec<u8>,
+    asked: u64,
     ghost room: { vec_len buffer ≡ PAGE_BYTES },
     ghost length: { IsLength (F.told files.now name.now) len },
     ghost ends: { EndWithin len spans },
@@ -48,7 +49,7 @@ pub struct Pages<'a, F: Files> {
 }
 
 impl<'a, F: Files> Pages<'a, F> {
-    ghost use Rattle.omi_page.specs.Borrowed.{contexts_of, files_of, name_of, told_of, faults_counted};
+    ghost use Rattle.omi_page.specs.Borrowed.{contexts_of, files_of, name_of, told_of, faults_counted, calls_made, StaysBorrowed};
 
     /// Opens a core file. It reads the header, the contexts, and each segment's start address and number of words, and no word.
     pub fn over(alloc: Global, files: &'a mut F, name: &'a str) -> Result<Pages<'a, F>, PageError>
@@ -89,6 +90,7 @@ impl<'a, F: Files> Pages<'a, F> {
         ensures same_reference { (files_of result).ghost_name ≡ files.entry.ghost_name }
         ensures same_name { name_of result ≡ name.now }
         ensures same { (files_of result).now ≡ files.old }
+        ensures asked { calls_made result ≡ 0 }
     {
         let Opened {
             alloc,
@@ -111,6 +113,7 @@ impl<'a, F: Files> Pages<'a, F> {
             spans,
             kept,
             buffer,
+            asked: 0,
         }
     }
 
@@ -128,27 +131,14 @@ impl<'a, F: Files> Pages<'a, F> {
             spans,
             kept,
             buffer,
+            asked: _,
         } = self;
         drop((contexts, spans, kept, buffer));
         files
     }
 
-    /// The native ids of the core's threads, which rise.
-    pub fn contexts(&self) -> &Natives
-        ensures { result.now ≡ contexts_of self.now }
-    {
-        &self.contexts
-    }
-}
-
-impl<'a, F: Files> Callbacks for Pages<'a, F> {
-    ghost use Rattle.omi_page.specs.Borrowed.{told_of, faults_counted, StaysBorrowed};
-
-    ghost told = { told_of };
-
-    ghost faults = { faults_counted };
-
-    fn read_memory(&mut self, addr: u64, to: &mut [u8; 8]) -> Got
+    /// Reads a word, which isn't counted as a call.
+    pub(crate) fn read_word(&mut self, addr: u64, to: &mut [u8; 8]) -> Got
         ensures mapped { (words : Words) → (told_of self.old).words ≡ Some words
             → SaysMapped result (aligned_word_at words addr) }
         ensures bytes { (words : Words) (order : ℕ) → (told_of self.old).words ≡ Some words
@@ -157,6 +147,7 @@ impl<'a, F: Files> Callbacks for Pages<'a, F> {
         ensures same { told_of self.new ≡ told_of self.old }
         ensures cause { HasCause (faults_counted self.old) (faults_counted self.new)
             (result ≡ Got.Failed) }
+        ensures asked { calls_made self.new ≡ calls_made self.old }
         ensures stays { StaysBorrowed self.old self.new }
     {
         if addr % 8 != 0 || !stands(&self.spans, addr) {
@@ -184,6 +175,39 @@ impl<'a, F: Files> Callbacks for Pages<'a, F> {
         Got::Bytes
     }
 
+    /// The native ids of the core's threads, which rise.
+    pub fn contexts(&self) -> &Natives
+        ensures { result.now ≡ contexts_of self.now }
+    {
+        &self.contexts
+    }
+}
+
+impl<'a, F: Files> Callbacks for Pages<'a, F> {
+    ghost use Rattle.omi_page.specs.Borrowed.{told_of, faults_counted, calls_made, StaysBorrowed};
+
+    ghost told = { told_of };
+
+    ghost faults = { faults_counted };
+
+    ghost asked = { calls_made };
+
+    fn read_memory(&mut self, addr: u64, to: &mut [u8; 8]) -> Got
+        ensures mapped { (words : Words) → (told_of self.old).words ≡ Some words
+            → SaysMapped result (aligned_word_at words addr) }
+        ensures bytes { (words : Words) (order : ℕ) → (told_of self.old).words ≡ Some words
+            → (told_of self.old).order ≡ Some order → result ≡ Got.Bytes
+            → aligned_word_at words addr ≡ Some (number_of order to.new) }
+        ensures same { told_of self.new ≡ told_of self.old }
+        ensures cause { HasCause (faults_counted self.old) (faults_counted self.new)
+            (result ≡ Got.Failed) }
+        ensures asked { calls_made self.new ≤ calls_made self.old + 1 }
+        ensures stays { StaysBorrowed self.old self.new }
+    {
+        self.asked = self.asked.saturating_add(1);
+        self.read_word(addr, to)
+    }
+
     fn symbol_addr_lookup(&mut self, name: &str) -> Place
         ensures symbol { (symbols : Symbols) → (told_of self.old).symbols ≡ Some symbols
             → SaysPlace result (symbols name.now) }
@@ -192,8 +216,10 @@ impl<'a, F: Files> Callbacks for Pages<'a, F> {
         ensures same { told_of self.new ≡ told_of self.old }
         ensures cause { HasCause (faults_counted self.old) (faults_counted self.new)
             (result ≡ Place.Failed) }
+        ensures asked { calls_made self.new ≤ calls_made self.old + 1 }
         ensures stays { StaysBorrowed self.old self.new }
     {
+        self.asked = self.asked.saturating_add(1);
         match self.symbol(name) {
             Ok(Some(addr)) => Place::At(addr),
             Ok(None) => Place::NoSuch,

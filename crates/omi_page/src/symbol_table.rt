@@ -8,7 +8,7 @@ ghost use Rattle.omi_calls.specs.Told.{aligned_word_at};
 ghost use Rattle.omi_word.specs.SymbolTable.{words_from, symbol_in};
 
 use crate::Pages;
-use omi_calls::{CallbackFailed, Callbacks, Got};
+use omi_calls::{CallbackFailed, Got};
 use omi_outside::Files;
 use omi_word::{
     FIRST_SYMBOL_ADDRESS, MOST_SYMBOLS, SYMBOL_BYTES, SYMBOL_COUNT_ADDRESS, found_with,
@@ -28,7 +28,7 @@ fn all_of(
 }
 
 impl<'a, F: Files> Pages<'a, F> {
-    ghost use Rattle.omi_page.specs.Borrowed.{told_of, faults_counted, StaysBorrowed};
+    ghost use Rattle.omi_page.specs.Borrowed.{told_of, faults_counted, calls_made, StaysBorrowed};
 
     /// The word at a byte address. None where the address is unaligned or no word stands there.
     fn word(&mut self, addr: u64) -> Result<Option<u64>, CallbackFailed>
@@ -37,10 +37,11 @@ impl<'a, F: Files> Pages<'a, F> {
         ensures same { told_of self.new ≡ told_of self.old }
         ensures cause { HasCause (faults_counted self.old) (faults_counted self.new)
             (IsErr result) }
+        ensures asked { calls_made self.new ≡ calls_made self.old }
         ensures stays { StaysBorrowed self.old self.new }
     {
         let mut bytes = [0; 8];
-        match self.read_memory(addr, &mut bytes) {
+        match self.read_word(addr, &mut bytes) {
             Got::Bytes => Ok(Some(u64::from_le_bytes(bytes))),
             Got::NotMapped => Ok(None),
             Got::Failed => Err(CallbackFailed),
@@ -55,6 +56,7 @@ impl<'a, F: Files> Pages<'a, F> {
         ensures same { told_of self.new ≡ told_of self.old }
         ensures cause { HasCause (faults_counted self.old) (faults_counted self.new)
             (IsErr result) }
+        ensures asked { calls_made self.new ≡ calls_made self.old }
         ensures stays { StaysBorrowed self.old self.new }
     {
         let first = self.word(at)?;
@@ -73,6 +75,7 @@ impl<'a, F: Files> Pages<'a, F> {
         ensures same { told_of self.new ≡ told_of self.old }
         ensures cause { HasCause (faults_counted self.old) (faults_counted self.new)
             (IsErr result) }
+        ensures asked { calls_made self.new ≡ calls_made self.old }
         ensures stays { StaysBorrowed self.old self.new }
     {
         let Some(count) = self.word(SYMBOL_COUNT_ADDRESS)? else {

@@ -21,11 +21,11 @@ use Rattle.omi_rep.specs.Records.{record_at, region_word, task_word, thread_addr
 use Rattle.omi_session.specs.declared.rc.Rc.{Rc}
 use Rattle.omi_session.specs.declared.rc.Rc.TheVariants.{Unavailable, BadInput, Error, NoMem}
 use Rattle.omi_session.specs.Inquiry.{word_of, object_of, follow, follow_some, current_task, team_size, member}
-use Rattle.omi_session.specs.Reads.{Reads, Answer, answer_on, Answers}
+use Rattle.omi_session.specs.Reads.{Reads, Answer, answer_on, IsAnswer}
 use Rattle.omi_session.specs.Made.{IsMade, IsHanded}
 use Rattle.omi_session.specs.Answers.{task_of_thread, task_of_member}
 use Rattle.omi_session.specs.Shown.{ShowsTold, HoldsThread, HoldsRegion, HoldsTask, IsGiven, held_thread, held_region, held_task, as_held}
-use Rattle.omi_session.proofs.Handed.{handed_answered}
+use Rattle.omi_session.proofs.Handed.{handed_is}
 use Rattle.omi_rep.proofs.LiveObjects.{thread_lives, region_lives, task_lives}
 use Rattle.omi_session.proofs.ShownParts.{then_answered, word_told, object_told, follow_told, optional_told}
 
@@ -48,13 +48,13 @@ element_of_all P (y ∷ ys) (suc i) x all is = element_of_all P ys i x (λ j z w
 module _ (told : Told) (w : List ℕ) (s : State) (shown : ShowsTold told w s) where
   -- a call that hands out what its reads find gives the object that the state names
   pub given_handle : (old new : Ledger) (found : Result Held Rc) (result : Result (ℕ × ℕ) Rc) (reads : Reads Held) (answer : Result Held Rc)
-      → found ≢ Err NoMem → Answers told found reads → IsHanded old new found result → answer_on shown.memory reads ≡ answer → IsMade new result answer
+      → found ≢ Err NoMem → IsAnswer told found reads → IsHanded old new found result → answer_on shown.memory reads ≡ answer → IsMade new result answer
   given_handle old new found result reads answer free answers handed is =
-      subst (IsMade new result) is (handed_answered told old new found result reads free answers handed shown.memory shown.tells)
+      subst (IsMade new result) is (handed_is told old new found result reads free answers handed shown.memory shown.tells)
 
   -- and a value is the state's
   pub given_value : {A : Type 0} (result : Result A Rc) (reads : Reads A) (answer : Result A Rc)
-      → Answers told result reads → answer_on shown.memory reads ≡ answer → IsGiven result answer
+      → IsAnswer told result reads → answer_on shown.memory reads ≡ answer → IsGiven result answer
   given_value result reads answer answers is = λ ne. answers shown.memory shown.tells ne ∙ is
 
   -- the objects of handles

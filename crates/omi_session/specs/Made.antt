@@ -12,7 +12,8 @@ use Rattle.omi_handle.specs.Ledger.{Ledger}
 use Rattle.omi_session.specs.declared.rc.Rc.{Rc}
 use Rattle.omi_session.specs.declared.rc.Rc.TheVariants.{NoMem, CallbackError}
 use Rattle.omi_session.specs.Tells.{Tells}
-use Rattle.omi_session.specs.Reads.{Reads, answer_on}
+use Rattle.omi_session.specs.Opened.{Opened}
+use Rattle.omi_session.specs.Reads.{Reads, ReadsAtMost, answer_on}
 
 -- the pair of key and serial of a handle
 abbrev pub thread_pair : ThreadHandle → ℕ × ℕ
@@ -57,10 +58,16 @@ IsMade new (Err NoMem) answer = IsOk answer
 IsMade new (Err CallbackError) answer = Unit {0}
 IsMade new (Err rc) answer = answer ≡ Err rc
 
--- where the callbacks tell their words, the handle stands for the object that these reads answer on them
-abbrev pub Answered : Told → Ledger → Result (ℕ × ℕ) Rc → Reads Held → Type 0
-Answered told new result reads = (memory : Words) → Tells told memory
+-- the handle stands for the object that these reads answer on the words that are told
+abbrev pub IsMadeOf : Told → Ledger → Result (ℕ × ℕ) Rc → Reads Held → Type 0
+IsMadeOf told new result reads = (memory : Words) → Tells told memory
     → IsMade new result (answer_on memory reads)
+
+-- a call of a session makes a handle of the object that these reads answer, and asks for no other words
+pub record Answered {C F : Type 0} (told : C → Told) (asked : C → ℕ) (old new : Opened C F)
+    (result : Result (ℕ × ℕ) Rc) (reads : Reads Held) : Type 0 where
+  pub is : IsMadeOf (told old.table.calls) new.handles result reads
+  pub most : ReadsAtMost told asked old new reads
 
 -- what becomes of an object that was found, or of the refusal
 abbrev pub IsHanded : Ledger → Ledger → Result Held Rc → Result (ℕ × ℕ) Rc → Type 0

@@ -1,5 +1,6 @@
 -- When a session opens over the words of a target, and why it doesn't.
-use Rattle.std.specs.Prelude.{◌≡◌, ◌≢◌, ◌⊎◌, ℕ, ◌<◌, List, None, IsSome}
+use Rattle.std.specs.Prelude.{◌≡◌, ◌≢◌, ◌⊎◌, ℕ, ◌+◌, ◌<◌, ◌≤◌, List, None, IsSome}
+use Rattle.omi_calls.specs.Kept.{Kept}
 use Rattle.omi_layout.specs.declared.fault.LayoutFault.{LayoutFault}
 use Rattle.omi_layout.specs.declared.fault.LayoutFault.TheVariants.{Version, Overlap, OutOfRecord, BadArena}
 use Rattle.omi_layout.specs.declared.reading.LayoutError.{LayoutError}
@@ -65,3 +66,7 @@ abbrev pub StopsAt : Words → ℕ → Rc → Type 0
 StopsAt memory address (Error addr field) = IsHole memory address addr × (field ≡ 0)
 StopsAt memory address CallbackError = Unit {0}
 StopsAt memory address _ = ⊥
+
+-- a call that opens asks for one symbol, and for the words of the table, at most
+abbrev pub OpensWithin : {C F : Type 0} → (C → ℕ) → Kept C F → Kept C F → Type 0
+OpensWithin asked old new = asked new.calls ≤ asked old.calls + (1 + TABLE_WORDS)

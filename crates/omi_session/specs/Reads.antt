@@ -1,39 +1,57 @@
 -- An inquiry by the words that it reads: each read names an address, and what follows depends on the word found there, or on that none
 -- is mapped there. So one definition says what is answered, which words are read, and which refusal decides.
-use Rattle.std.specs.Prelude.{◌≡◌, ◌≢◌, ℕ, List, [], ◌∷◌, Option, Result, Ok, Err}
+use Rattle.std.specs.Prelude.{◌≡◌, ◌≢◌, ℕ, ◌+◌, ◌≤◌, List, [], ◌∷◌, length, Option, Result, Ok, Err}
 use Rattle.omi_word.specs.Words.{Words}
 use Rattle.omi_calls.specs.Told.{Told}
 use Rattle.omi_session.specs.declared.rc.Rc.{Rc}
 use Rattle.omi_session.specs.declared.rc.Rc.TheVariants.{CallbackError}
+use Rattle.omi_session.specs.Opened.{Opened}
 use Rattle.omi_session.specs.Tells.{Tells}
 
-pub data Reads (A : Type 0) : Type 0 where
+-- reads that are refused for an E
+pub data ReadsOr (E A : Type 0) : Type 0 where
   -- nothing more is read
-  Answer : Result A Rc → Reads A
+  Answer : Result A E → ReadsOr E A
   -- the word at this address is read
-  Read : ℕ → (Option ℕ → Reads A) → Reads A
+  Read : ℕ → (Option ℕ → ReadsOr E A) → ReadsOr E A
+
+-- the reads of an inquiry, which is refused by a return code
+abbrev pub Reads : Type 0 → Type 0
+Reads A = ReadsOr Rc A
 
 -- the answer over a memory
-abbrev pub answer_on : {A : Type 0} → Words → Reads A → Result A Rc
+abbrev pub answer_on : {E A : Type 0} → Words → ReadsOr E A → Result A E
 answer_on memory (Answer result) = result
 answer_on memory (Read addr more) = answer_on memory (more (memory addr))
 
 -- the addresses that are read over a memory, in their order
-abbrev pub addresses_on : {A : Type 0} → Words → Reads A → List ℕ
+abbrev pub addresses_on : {E A : Type 0} → Words → ReadsOr E A → List ℕ
 addresses_on memory (Answer result) = []
 addresses_on memory (Read addr more) = addr ∷ addresses_on memory (more (memory addr))
 
 -- reads after an answer: a refusal ends them
-abbrev pub after : {A B : Type 0} → Result A Rc → (A → Reads B) → Reads B
+abbrev pub after : {E A B : Type 0} → Result A E → (A → ReadsOr E B) → ReadsOr E B
 after (Ok x) more = more x
-after (Err rc) more = Answer (Err rc)
+after (Err e) more = Answer (Err e)
 
 -- reads, and then others by what those answered
-unfoldable pub then_reads : {A B : Type 0} → Reads A → (A → Reads B) → Reads B
+unfoldable pub then_reads : {E A B : Type 0} → ReadsOr E A → (A → ReadsOr E B) → ReadsOr E B
 then_reads (Answer result) more = after result more
 then_reads (Read addr next) more = Read addr (λ word. then_reads (next word) more)
 
--- where the callbacks tell their words, a call's result is the answer of these reads on them, unless a callback failed
-abbrev pub Answers : {A : Type 0} → Told → Result A Rc → Reads A → Type 0
-Answers told result reads = (memory : Words) → Tells told memory → result ≢ Err CallbackError
+-- a result is the answer of these reads on the words that are told, unless a callback failed
+abbrev pub IsAnswer : {A : Type 0} → Told → Result A Rc → Reads A → Type 0
+IsAnswer told result reads = (memory : Words) → Tells told memory → result ≢ Err CallbackError
     → result ≡ answer_on memory reads
+
+-- a call asked for no more words than these reads do on the words that are told
+abbrev pub ReadsAtMost : {E A C F : Type 0} → (C → Told) → (C → ℕ) → Opened C F → Opened C F
+    → ReadsOr E A → Type 0
+ReadsAtMost told asked old new reads = (memory : Words) → Tells (told old.table.calls) memory
+    → asked new.table.calls ≤ asked old.table.calls + length (addresses_on memory reads)
+
+-- a call of a session answers these reads, and asks for no other words
+pub record Answers {A C F : Type 0} (told : C → Told) (asked : C → ℕ) (old new : Opened C F)
+    (result : Result A Rc) (reads : Reads A) : Type 0 where
+  pub is : IsAnswer (told old.table.calls) result reads
+  pub most : ReadsAtMost told asked old new reads

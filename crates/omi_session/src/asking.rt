@@ -61,7 +61,7 @@ pub fn word<C: Callbacks, F: ToHost>(
 ) -> Result<u64, Rc>
     requires low { address ≤ LAST_END }
     requires few { at ≤ 64 }
-    ensures answer { Answers (C.told s.old.table.calls) result
+    ensures answer { Answers C.told C.asked s.old s.new result
         (inquiry.word_of s.old.layout address field at) }
     ensures memory { result ≢ Err Rc.NoMem }
     ensures same { StaysWhole C.told s.old s.new }
@@ -87,7 +87,7 @@ pub fn object<C: Callbacks, F: ToHost>(
     key: u64,
     serial: u64,
 ) -> Result<Held, Rc>
-    ensures answer { Answers (C.told s.old.table.calls) result
+    ensures answer { Answers C.told C.asked s.old s.new result
         (inquiry.object_of s.old.layout kind (get s.old.handles.held (key, serial))) }
     ensures named { IfOk result (IsOfKind s.old.layout kind) }
     ensures memory { result ≢ Err Rc.NoMem }
@@ -102,7 +102,7 @@ pub fn object<C: Callbacks, F: ToHost>(
 /// What a handle stands for, where its record still has the life word that the handle keeps. A StaleHandle where it has another.
 pub fn unchanged<C: Callbacks, F: ToHost>(s: &mut Session<C, F>, held: Held) -> Result<Held, Rc>
     requires { held.addr ≤ LAST_END }
-    ensures answer { Answers (C.told s.old.table.calls) result
+    ensures answer { Answers C.told C.asked s.old s.new result
         (inquiry.unchanged s.old.layout held) }
     ensures is { IfOk result (λ h. h ≡ held) }
     ensures memory { result ≢ Err Rc.NoMem }
@@ -143,7 +143,7 @@ pub fn lead<C: Callbacks, F: ToHost>(
     field: Field,
     pointer: u64,
 ) -> Result<Held, Rc>
-    ensures answer { Answers (C.told s.old.table.calls) result
+    ensures answer { Answers C.told C.asked s.old s.new result
         (inquiry.lead s.old.layout kind field pointer) }
     ensures named { IfOk result (IsOfKind s.old.layout kind) }
     ensures memory { result ≢ Err Rc.NoMem }
@@ -182,7 +182,7 @@ pub fn follow<C: Callbacks, F: ToHost>(
 ) -> Result<Held, Rc>
     requires low { address ≤ LAST_END }
     requires few { at ≤ 64 }
-    ensures answer { Answers (C.told s.old.table.calls) result
+    ensures answer { Answers C.told C.asked s.old s.new result
         (inquiry.follow s.old.layout kind address field at) }
     ensures named { IfOk result (IsOfKind s.old.layout kind) }
     ensures memory { result ≢ Err Rc.NoMem }
@@ -202,7 +202,7 @@ pub fn follow_some<C: Callbacks, F: ToHost>(
     field: Field,
 ) -> Result<Held, Rc>
     requires { address ≤ LAST_END }
-    ensures answer { Answers (C.told s.old.table.calls) result
+    ensures answer { Answers C.told C.asked s.old s.new result
         (inquiry.follow_some s.old.layout kind address field) }
     ensures named { IfOk result (IsOfKind s.old.layout kind) }
     ensures memory { result ≢ Err Rc.NoMem }
@@ -226,7 +226,7 @@ pub fn related<C: Callbacks, F: ToHost>(
     other: Kind,
     field: Field,
 ) -> Result<Held, Rc>
-    ensures answer { Answers (C.told s.old.table.calls) result (inquiry.related
+    ensures answer { Answers C.told C.asked s.old s.new result (inquiry.related
         s.old.layout kind (get s.old.handles.held pair) other field) }
     ensures named { IfOk result (IsOfKind s.old.layout other) }
     ensures memory { result ≢ Err Rc.NoMem }

@@ -23,7 +23,7 @@ pub fn current_task<C: Callbacks, F: ToHost>(
     s: &mut Session<C, F>,
     t: ThreadHandle,
 ) -> Result<Held, Rc>
-    ensures answer { Answers (C.told s.old.table.calls) result
+    ensures answer { Answers C.told C.asked s.old s.new result
         (inquiry.current_task s.old.layout (get s.old.handles.held (t.key, t.serial))) }
     ensures named { IfOk result (IsOfKind s.old.layout Task) }
     ensures memory { result ≢ Err Rc.NoMem }
@@ -38,7 +38,7 @@ pub fn current_task<C: Callbacks, F: ToHost>(
 /// The number of members of the region at a byte address. An Error where it isn't from 1 to the number of threads.
 pub fn team_size<C: Callbacks, F: ToHost>(s: &mut Session<C, F>, address: u64) -> Result<u64, Rc>
     requires { address ≤ LAST_END }
-    ensures answer { Answers (C.told s.old.table.calls) result
+    ensures answer { Answers C.told C.asked s.old s.new result
         (inquiry.team_size s.old.layout address) }
     ensures few { IfOk result (λ size. size ≤ 64) }
     ensures memory { result ≢ Err Rc.NoMem }
@@ -64,7 +64,7 @@ pub fn member<C: Callbacks, F: ToHost>(
     r: RegionHandle,
     num: u32,
 ) -> Result<Held, Rc>
-    ensures answer { Answers (C.told s.old.table.calls) result
+    ensures answer { Answers C.told C.asked s.old s.new result
         (inquiry.member s.old.layout (get s.old.handles.held (r.key, r.serial)) num) }
     ensures named { IfOk result (IsOfKind s.old.layout Task) }
     ensures memory { result ≢ Err Rc.NoMem }

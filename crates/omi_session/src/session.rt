@@ -89,6 +89,7 @@ impl<C: Callbacks, F: ToHost> Session<C, F> {
         ensures mapped { (words : Words) → (C.told self.old.table.calls).words ≡ Some words
             → IfOk result (λ word. IsSome word ↔ IsSome (aligned_word_at words addr)) }
         ensures same { StaysWhole C.told self.old self.new }
+        ensures asked { C.asked self.new.table.calls ≤ C.asked self.old.table.calls + 1 }
         ensures cause { HasCause (C.faults self.old.table.calls) (C.faults self.new.table.calls)
             (IsErr result) }
     {
@@ -211,7 +212,7 @@ impl<C: Callbacks, F: ToHost> Session<C, F> {
 
     /// The version of OpenMP that the target's runtime has, as year and month. An Error where its word isn't mapped.
     pub fn get_omp_version(&mut self) -> Result<u64, Rc>
-        ensures answer { Answers (C.told self.old.table.calls) result
+        ensures answer { Answers C.told C.asked self.old self.new result
             (word_of self.old.layout (runtime_address self.old.layout) Field.RuntimeVersion 0) }
         ensures memory { result ≢ Err Rc.NoMem }
         ensures same { StaysWhole C.told self.old self.new }

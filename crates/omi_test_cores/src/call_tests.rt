@@ -25,6 +25,8 @@ impl Callbacks for OneBigWord {
 
     ghost faults = { λ _. 0 };
 
+    ghost asked = { λ _. 0 };
+
     fn read_memory(&mut self, addr: u64, to: &mut [u8; 8]) -> Got {
         if addr == 0x10000 {
             *to = [1, 2, 3, 4, 5, 6, 7, 8];

@@ -31,5 +31,6 @@ module _ {C F : Type 0} (told : C → Told) (s given : Opened C F) (kind : Kind)
       layout = layout;
     });
     held = removed ∙ ap (λ held. remove held pair) leaves.held ∙ ap (λ held. remove held pair) adds.added ∙ restored s.handles.held pair m.held adds.unheld;
+    later = omega (arith, made, leaves.later, adds.counted);
     made = omega (arith, few, made, leaves.made, adds.counted);
   }

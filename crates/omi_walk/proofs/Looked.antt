@@ -20,7 +20,7 @@ use Rattle.omi_session.specs.declared.rc.Rc.TheVariants.{Unavailable, BadInput, 
 use Rattle.omi_session.specs.Handles.{name_of}
 use Rattle.omi_session.specs.Inquiry.{object, object_of, live_handle, unchanged, place_of, word_of, lead, follow, follow_some}
 use Rattle.omi_session.specs.Looked.{IsLook, IsOf, IsOptional, IsFault}
-use Rattle.omi_session.specs.Made.{IsMade, Answered, Makes}
+use Rattle.omi_session.specs.Made.{IsMade, IsMadeOf, Makes}
 use Rattle.omi_session.specs.Named.{record_kind, IsNamed}
 use Rattle.omi_session.specs.Opened.{Opened, Stays}
 use Rattle.omi_session.specs.Reads.{Reads, Answer, Read, answer_on, after, then_reads}
@@ -262,12 +262,13 @@ module _ {C F : Type 0} (told : C → Told) (old mid new : Opened C F) (kind : K
       layout = layout ∙ stays.layout;
     };
     held = removed ∙ ap (λ held. remove held pair) makes.adds.added ∙ restored old.handles.held pair makes.object makes.adds.unheld;
+    later = omega (arith, made, makes.adds.counted);
     made = omega (arith, made, makes.adds.counted);
   }
 
   -- and it lives
   pub found_met : (m : Met) (reads : Reads Held) → get mid.handles.held pair ≡ Some m.held → m.held.kind ≡ kind → IsNamed mid.layout m.held → name_of mid.layout m.held ≡ Some m.name
-      → Answered (told old.table.calls) mid.handles (Ok pair) reads
+      → IsMadeOf (told old.table.calls) mid.handles (Ok pair) reads
       → ((memory : Words) (o : Held) → answer_on memory reads ≡ Ok o → answer_on memory (unchanged old.layout o) ≡ Ok o)
       → IsMet told new kind m
   found_met m reads there of_kind place name answered lives = record {

@@ -121,6 +121,7 @@ module _ {C F : Type 0} (told : C → Told) where
   leaves_then m n most a b c few first second = record {
     stays = stays_then a b c first.stays second.stays;
     held = second.held ∙ first.held;
+    later = omega (arith, first.later, second.later);
     made = omega (arith, few, first.made, second.made);
   }
 

@@ -37,7 +37,7 @@ use Rattle.omi_session.specs.declared.rc.Rc.TheVariants.{Unavailable, NeedsState
 use Rattle.omi_session.specs.Handles.{name_of}
 use Rattle.omi_session.specs.Inquiry.{place_of, word_of, follow_some, unchanged}
 use Rattle.omi_session.specs.Looked.{IsLook, IsFault, IsOptional}
-use Rattle.omi_session.specs.Made.{IsMade, Answered, thread_pair}
+use Rattle.omi_session.specs.Made.{IsMade, IsMadeOf, thread_pair}
 use Rattle.omi_session.specs.Named.{record_kind, IsNamed}
 use Rattle.omi_session.specs.Opened.{Opened, Stays}
 use Rattle.omi_session.specs.Reads.{Reads, Answer, answer_on, after, then_reads}
@@ -343,7 +343,7 @@ module _ {C F : Type 0} (told : C → Told) (s : Opened C F) (t : ThreadHandle) 
 module _ {C F : Type 0} (told : C → Told) (old mid new : Opened C F) (native : ℕ) (pair : ℕ × ℕ) (valid : IsValid old.layout)
     (stays : Stays told old mid) (layout : new.layout ≡ mid.layout) (table : new.table ≡ mid.table) where
   pub thread_lives : (m : Met) → get mid.handles.held pair ≡ Some m.held → m.held.kind ≡ Thread → IsNamed mid.layout m.held → name_of mid.layout m.held ≡ Some m.name
-      → Answered (told old.table.calls) mid.handles (Ok pair) (thread_with old.layout 0 native) → IsMet told new Thread m
+      → IsMadeOf (told old.table.calls) mid.handles (Ok pair) (thread_with old.layout 0 native) → IsMet told new Thread m
   thread_lives m there of_kind place name answered = record {
     of_kind = of_kind;
     place = subst (λ w. IsNamed w m.held) (sym layout) place;

@@ -36,7 +36,7 @@ use Rattle.omi_session.specs.Looked.{IsLook}
 use Rattle.omi_session.specs.Made.{region_pair, task_pair}
 use Rattle.omi_session.specs.Named.{record_kind}
 use Rattle.omi_session.specs.Opened.{Opened}
-use Rattle.omi_session.specs.Reads.{Reads, Answer, answer_on, after, Answers, then_reads}
+use Rattle.omi_session.specs.Reads.{Reads, Answer, answer_on, after, IsAnswer, then_reads}
 use Rattle.omi_session.specs.Tells.{Tells}
 use Rattle.omi_session.proofs.Asked.{answer_then}
 use Rattle.omi_session.proofs.LookedLaws.{word_is_looked}
@@ -148,7 +148,7 @@ space_variable_looked s memory icv f v is source =
 
 -- what an inquiry answers gives the look that it is
 pub value_looks : {A C F : Type 0} (told : C → Told) (s : Opened C F) (found : Option Held) (result : Result A Rc) (r : Result A WalkFault) (reads : Reads A) (look : List ℕ → Words → Look A)
-    → r ≡ walked found result → Answers (told s.table.calls) result reads
+    → r ≡ walked found result → IsAnswer (told s.table.calls) result reads
     → ((memory : Words) → Tells (told s.table.calls) memory → IsLook {A = A} {B = A} (λ x y. x ≡ y) (answer_on memory reads) (look s.layout memory)) → Looks told s r look
 unfolding Looks
 value_looks told s found result r reads look is answers looked = λ memory t.

@@ -1,6 +1,7 @@
 -- What a walk makes of the refusal of an inquiry.
 use Rattle.std.specs.Prelude.{Option, Some, None, Result, Ok, Err}
 use Rattle.omi_handle.specs.declared.handle.Held.{Held}
+use Rattle.omi_layout.specs.declared.field.Field.TheVariants.{RegionSize}
 use Rattle.omi_layout.specs.Named.{number}
 use Rattle.omi_rep.specs.Look.{life_of}
 use Rattle.omi_session.specs.declared.rc.Rc.{Rc}
@@ -25,6 +26,16 @@ fault_of found Unsupported = stale found
 fault_of found NeedsStateTracking = stale found
 fault_of found Incompatible = stale found
 fault_of found (Incomplete first) = stale found
+
+-- the same of an inquiry for a member of a region, whose number was below the region's size: one that isn't below the size any more is a
+-- damaged size
+abbrev pub damaged_size : Option Held → WalkFault
+damaged_size (Some region) = Damaged region.addr (number RegionSize)
+damaged_size None = Damaged 0 0
+
+abbrev pub member_fault : Option Held → Rc → WalkFault
+member_fault found BadInput = damaged_size found
+member_fault found rc = fault_of found rc
 
 -- the answer of an inquiry, to a walk
 abbrev pub walked : {A : Type 0} → Option Held → Result A Rc → Result A WalkFault

@@ -6,6 +6,7 @@ ghost use Rattle.omi_walk.specs.declared.fault.WalkFault.TheVariants.{OutOfMemor
 ghost use Rattle.omi_walk.specs.Fault as the;
 
 use omi_calls::{Callbacks, ToHost};
+use omi_layout::Field;
 use omi_session::{Rc, Session, life_field};
 use std::alloc::{AllocError, AllocFailed};
 use thiserror::Error;
@@ -70,6 +71,34 @@ pub(crate) fn fault_of<C: Callbacks, F: ToHost>(
         Rc::CallbackError => WalkFault::Callback,
         Rc::NoMem => WalkFault::OutOfMemory,
         _ => stale(s, pair),
+    }
+}
+
+/// The fault of a region whose size is another one than before.
+fn damaged_size<C: Callbacks, F: ToHost>(s: &Session<C, F>, pair: (u64, u64)) -> WalkFault
+    ensures { result ≡ the.damaged_size (get s.now.handles.held pair) }
+{
+    match s.find(pair.0, pair.1) {
+        Some(region) => WalkFault::Damaged {
+            addr: region.addr,
+            field: Field::RegionSize.number(),
+        },
+        None => WalkFault::Damaged { addr: 0, field: 0 },
+    }
+}
+
+/// What the refusal of an inquiry for a member of a region is to a walk, where the member's number was below the region's size. Where it
+/// isn't below the size that is read again, this size is damaged.
+pub(crate) fn member_fault<C: Callbacks, F: ToHost>(
+    s: &Session<C, F>,
+    pair: (u64, u64),
+    rc: Rc,
+) -> WalkFault
+    ensures { result ≡ the.member_fault (get s.now.handles.held pair) rc }
+{
+    match rc {
+        Rc::BadInput => damaged_size(s, pair),
+        _ => fault_of(s, pair, rc),
     }
 }
 

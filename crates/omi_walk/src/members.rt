@@ -12,11 +12,11 @@ ghost use Rattle.omi_rep.specs.LookView.{look_member};
 ghost use Rattle.omi_session.specs.Made.{region_pair};
 ghost use Rattle.omi_walk.specs.Gives.{Looks};
 ghost use Rattle.omi_walk.specs.Leaves.{Leaves};
-ghost use Rattle.omi_walk.specs.Members.{HasSize};
+ghost use Rattle.omi_walk.specs.Members.{HasSize, size_refused};
 ghost use Rattle.omi_walk.specs.Objects.{IsMet, Stands, name_met};
 
 use crate::WalkFault;
-use crate::fault::fault_of;
+use crate::fault::member_fault;
 use crate::met::{Met, let_go};
 use omi_ask::get_thread_in_parallel;
 use omi_asktask::get_task_in_parallel;
@@ -27,7 +27,7 @@ use omi_model::{MemberRow, MemberRows, Tid};
 use omi_session::Session;
 use std::alloc::Global;
 
-/// The implicit task of a member of a region.
+/// The implicit task of a member of a region. Where the size that is read again has no such member, it is damaged.
 fn task_of<C: Callbacks, F: ToHost>(
     s: &mut Session<C, F>,
     r: RegionHandle,
@@ -38,17 +38,20 @@ fn task_of<C: Callbacks, F: ToHost>(
         → HasSize C.told s.old n size → num < size
         → Looks C.told s.old (name_met result) (λ w memory.
         look_object w memory tasks (id_address w regions n) Field.RegionTeam num) }
+    ensures past { (n : Id) (size : _) → Stands C.told s.old Region (region_pair r) n
+        → HasSize C.told s.old n size → size ≤ num
+        → Looks C.told s.old (name_met result) (λ w memory. size_refused w n) }
     ensures leaves { Leaves C.told 1 s.old s.new }
     ensures cause { HasCause (C.faults s.old.table.calls) (C.faults s.new.table.calls)
         (result ≡ Err WalkFault.Callback) }
 {
     match get_task_in_parallel(s, r, num) {
         Ok(found) => Ok(let_go(s, Kind::Task, (found.key, found.serial))),
-        Err(rc) => Err(fault_of(s, (r.key, r.serial), rc)),
+        Err(rc) => Err(member_fault(s, (r.key, r.serial), rc)),
     }
 }
 
-/// The thread of a member of a region.
+/// The thread of a member of a region. Where the size that is read again has no such member, it is damaged.
 fn thread_of<C: Callbacks, F: ToHost>(
     s: &mut Session<C, F>,
     r: RegionHandle,
@@ -61,13 +64,16 @@ fn thread_of<C: Callbacks, F: ToHost>(
         look_object w memory tasks (id_address w regions n) Field.RegionTeam num)
         → Looks C.told s.old (name_met result) (λ w memory.
         look_object w memory threads (id_address w tasks k) Field.TaskThread 0) }
+    ensures past { (n : Id) (size : _) → Stands C.told s.old Region (region_pair r) n
+        → HasSize C.told s.old n size → size ≤ num
+        → Looks C.told s.old (name_met result) (λ w memory. size_refused w n) }
     ensures leaves { Leaves C.told 1 s.old s.new }
     ensures cause { HasCause (C.faults s.old.table.calls) (C.faults s.new.table.calls)
         (result ≡ Err WalkFault.Callback) }
 {
     match get_thread_in_parallel(s, r, num) {
         Ok(found) => Ok(let_go(s, Kind::Thread, (found.key, found.serial))),
-        Err(rc) => Err(fault_of(s, (r.key, r.serial), rc)),
+        Err(rc) => Err(member_fault(s, (r.key, r.serial), rc)),
     }
 }
 

@@ -90,7 +90,7 @@ fn made<C: Callbacks, F: ToHost>(
     relation: Relation,
 ) -> Result<(u64, u64), Rc>
     requires { s.old.handles.made < 2 ^ 64 - 1 }
-    ensures answer { Answered (C.told s.old.table.calls) s.new.handles result (inquiry.related
+    ensures answer { Answered C.told C.asked s.old s.new result (inquiry.related
         s.old.layout (kind_from relation) (get s.old.handles.held (pair_of relation))
         (kind_to relation) (field_of relation)) }
     ensures handles { Makes (kind_to relation) s.old.handles s.new.handles result }

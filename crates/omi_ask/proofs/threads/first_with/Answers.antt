@@ -7,6 +7,7 @@ use Rattle.omi_handle.specs.declared.handle.Held.{Held}
 use Rattle.omi_layout.specs.Table.{thread_count}
 use Rattle.omi_session.specs.declared.rc.Rc.{Rc}
 use Rattle.omi_session.specs.declared.rc.Rc.TheVariants.{Unavailable}
+use Rattle.omi_session.specs.Opened.{Opened}
 use Rattle.omi_session.specs.Reads.{Answer, Answers, then_reads}
 use Rattle.omi_session.proofs.Told.{stays_then}
 use Rattle.omi_session.proofs.Asked.{asked_then, asked_refused, asked_true, asked_false, asked_answer}
@@ -18,36 +19,36 @@ next_range : (i n : ℕ) → i < n → range_with_len i (n - i) ≡ i ∷ range_
 next_range i n below = let one : n - i ≡ suc (n - (i + 1)) = omega (arith, below) in ap (range_with_len i) one
 
 -- what the next thread and those after it answer is what the threads that are left answer
-more : (told : Told) (w : List ℕ) (native i n : ℕ) (result : Result Held Rc) → i < n
-    → Answers told result (then_reads (has_id w native i) (λ is. cond is (Answer (Ok (begun w i))) (first_with w native (range_with_len (i + 1) (n - (i + 1))))))
-    → Answers told result (first_with w native (range_with_len i (n - i)))
+more : {C F : Type 0} (told : C → Told) (asked : C → ℕ) (s last : Opened C F) (w : List ℕ) (native i n : ℕ) (result : Result Held Rc) → i < n
+    → Answers told asked s last result (then_reads (has_id w native i) (λ is. cond is (Answer (Ok (begun w i))) (first_with w native (range_with_len (i + 1) (n - (i + 1))))))
+    → Answers told asked s last result (first_with w native (range_with_len i (n - i)))
 unfolding first_with
-more told w native i n result below h = subst (λ list. Answers told result (first_with w native list)) (sym (next_range i n below)) h
+more told asked s last w native i n result below h = subst (λ list. Answers told asked s last result (first_with w native list)) (sym (next_range i n below)) h
 
 pub loop-i-init : goal.loop-i-init
 loop-i-init g c = record {
   same = record { table = record { same = refl; order = refl; to_host = refl }; layout = refl; handles = refl };
   later = omega arith;
   bound = c.threads-i-end.ensures ∙ ap thread_count c.layout.ensures;
-  rest = λ result h.
+  rest = λ last result h.
       let all : thread_count c.args.s.now.layout - 0 ≡ thread_count c.args.s.now.layout = omega arith in
-      subst (λ n. Answers (g.C.Callbacks.told c.args.s.now.table.calls) result (first_with c.args.s.now.layout c.args.native (range_with_len 0 n))) all h;
+      subst (λ n. Answers g.C.Callbacks.told g.C.Callbacks.asked c.args.s.now last result (first_with c.args.s.now.layout c.args.native (range_with_len 0 n))) all h;
 }
 
 pub returns-in_err-has_id-clause-answer : goal.returns-in_err-has_id-clause-answer
 returns-in_err-has_id-clause-answer g c =
     let p = err_from_is_err_and c.from_residual.result c.from_residual.ensures.1 in
-    rw (p.1, p.2) (c.loop-i.invariant.rest (Err c.in_err-has_id.field-0.0)
-    (more (g.C.Callbacks.told c.loop-i.s.table.calls) c.args.s.now.layout c.args.native c.loop-i.i (thread_count c.args.s.now.layout) (Err c.in_err-has_id.field-0.0) (omega (arith, c.loop-i.invariant.bound, c.loop-i-test.true))
-    (asked_refused _ _ _ _ (subst (λ w. Answers (g.C.Callbacks.told c.loop-i.s.table.calls) (Err c.in_err-has_id.field-0.0) (has_id w c.args.native c.loop-i.i)) c.loop-i.invariant.same.layout c.in_err-has_id.ensures.answer))))
+    rw (p.1, p.2) (c.loop-i.invariant.rest _ (Err c.in_err-has_id.field-0.0)
+    (more g.C.Callbacks.told g.C.Callbacks.asked c.loop-i.s _ c.args.s.now.layout c.args.native c.loop-i.i (thread_count c.args.s.now.layout) (Err c.in_err-has_id.field-0.0) (omega (arith, c.loop-i.invariant.bound, c.loop-i-test.true))
+    (asked_refused _ _ _ _ _ _ _ (subst (λ w. Answers g.C.Callbacks.told g.C.Callbacks.asked c.loop-i.s c.has_id.new.s (Err c.in_err-has_id.field-0.0) (has_id w c.args.native c.loop-i.i)) c.loop-i.invariant.same.layout c.in_err-has_id.ensures.answer))))
 
 pub returns-then-branch-clause-answer : goal.returns-then-branch-clause-answer
 returns-then-branch-clause-answer g c =
-    c.loop-i.invariant.rest (Ok c.begun.result)
-    (more (g.C.Callbacks.told c.loop-i.s.table.calls) c.args.s.now.layout c.args.native c.loop-i.i (thread_count c.args.s.now.layout) (Ok c.begun.result) (omega (arith, c.loop-i.invariant.bound, c.loop-i-test.true))
-    (asked_then _ (g.C.Callbacks.told c.has_id.new.s.table.calls) _ _ c.in_ok-has_id.field-0 _ c.has_id.ensures.same.table.same
-    (subst (λ w. Answers (g.C.Callbacks.told c.loop-i.s.table.calls) (Ok c.in_ok-has_id.field-0) (has_id w c.args.native c.loop-i.i)) c.loop-i.invariant.same.layout c.in_ok-has_id.ensures.answer)
-    (asked_true _ _ _ _ _ c.if-branch.true (asked_answer _ _ _
+    c.loop-i.invariant.rest _ (Ok c.begun.result)
+    (more g.C.Callbacks.told g.C.Callbacks.asked c.loop-i.s _ c.args.s.now.layout c.args.native c.loop-i.i (thread_count c.args.s.now.layout) (Ok c.begun.result) (omega (arith, c.loop-i.invariant.bound, c.loop-i-test.true))
+    (asked_then _ _ _ c.has_id.new.s _ _ _ c.in_ok-has_id.field-0 _ c.has_id.ensures.same.table.same
+    (subst (λ w. Answers g.C.Callbacks.told g.C.Callbacks.asked c.loop-i.s c.has_id.new.s (Ok c.in_ok-has_id.field-0) (has_id w c.args.native c.loop-i.i)) c.loop-i.invariant.same.layout c.in_ok-has_id.ensures.answer)
+    (asked_true _ _ _ _ _ _ _ _ c.if-branch.true (asked_answer _ _ _ _ _
     (ap Ok (c.begun.ensures.value ∙ ap (λ w. begun w c.loop-i.i) (c.layout-then-branch.ensures ∙ c.has_id.ensures.same.layout ∙ c.loop-i.invariant.same.layout)))))))
 
 pub loop-i-preserved : goal.loop-i-preserved
@@ -55,16 +56,16 @@ loop-i-preserved g c = record {
   same = stays_then _ _ _ _ c.loop-i.invariant.same c.has_id.ensures.same;
   later = omega (arith, c.loop-i.invariant.later, c.has_id.ensures.cause.later);
   bound = c.loop-i.invariant.bound;
-  rest = λ result h. c.loop-i.invariant.rest result
-      (more (g.C.Callbacks.told c.loop-i.s.table.calls) c.args.s.now.layout c.args.native c.loop-i.i (thread_count c.args.s.now.layout) result (omega (arith, c.loop-i.invariant.bound, c.loop-i-test.true))
-      (asked_then _ (g.C.Callbacks.told c.has_id.new.s.table.calls) _ _ c.in_ok-has_id.field-0 _ c.has_id.ensures.same.table.same
-      (subst (λ w. Answers (g.C.Callbacks.told c.loop-i.s.table.calls) (Ok c.in_ok-has_id.field-0) (has_id w c.args.native c.loop-i.i)) c.loop-i.invariant.same.layout c.in_ok-has_id.ensures.answer)
-      (asked_false _ _ _ _ _ c.if-branch.false h)));
+  rest = λ last result h. c.loop-i.invariant.rest last result
+      (more g.C.Callbacks.told g.C.Callbacks.asked c.loop-i.s _ c.args.s.now.layout c.args.native c.loop-i.i (thread_count c.args.s.now.layout) result (omega (arith, c.loop-i.invariant.bound, c.loop-i-test.true))
+      (asked_then _ _ _ c.has_id.new.s _ _ _ c.in_ok-has_id.field-0 _ c.has_id.ensures.same.table.same
+      (subst (λ w. Answers g.C.Callbacks.told g.C.Callbacks.asked c.loop-i.s c.has_id.new.s (Ok c.in_ok-has_id.field-0) (has_id w c.args.native c.loop-i.i)) c.loop-i.invariant.same.layout c.in_ok-has_id.ensures.answer)
+      (asked_false _ _ _ _ _ _ _ _ c.if-branch.false h)));
 }
 
 pub returns-clause-answer : goal.returns-clause-answer
 unfolding first_with
 returns-clause-answer g c =
     let none : thread_count c.args.s.now.layout - c.loop-i.i ≡ 0 = omega (arith, c.loop-i.invariant.bound, c.loop-i-test.false) in
-    c.loop-i.invariant.rest (Err Unavailable)
-    (subst (λ n. Answers (g.C.Callbacks.told c.loop-i.s.table.calls) (Err Unavailable) (first_with c.args.s.now.layout c.args.native (range_with_len c.loop-i.i n))) (sym none) (asked_answer _ _ _ refl))
+    c.loop-i.invariant.rest _ (Err Unavailable)
+    (subst (λ n. Answers g.C.Callbacks.told g.C.Callbacks.asked c.loop-i.s c.loop-i.s (Err Unavailable) (first_with c.args.s.now.layout c.args.native (range_with_len c.loop-i.i n))) (sym none) (asked_answer _ _ _ _ _ refl))

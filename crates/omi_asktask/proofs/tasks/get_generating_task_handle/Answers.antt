@@ -10,5 +10,5 @@ unfolding generating_task
 returns-clause-shown g c = λ s shown x.
     given_handle (g.C.Callbacks.told c.args.s.now.table.calls) c.args.s.now.layout s shown c.related-found.new.s.handles c.hand_task.new.s.handles
     c.related-found.result (as_pair task_pair c.hand_task.result) (generating_task c.args.s.now.layout (get c.args.s.now.handles.held (task_pair c.args.k))) _
-    c.related-found.ensures.memory c.related-found.ensures.answer c.hand_task.ensures.handed
+    c.related-found.ensures.memory c.related-found.ensures.answer.is c.hand_task.ensures.handed
     (generating_told (g.C.Callbacks.told c.args.s.now.table.calls) c.args.s.now.layout s shown _ x)

@@ -14,31 +14,31 @@ unfolding display
 returns-in_err-words-clause-answer g c =
     let p = err_from_is_err_and c.from_residual.result c.from_residual.ensures.1 in
     let free = λ (e : c.in_err-words.field-0.0 ≡ NoMem). c.in_err-words.ensures.memory (ap Err e) in
-    rw (p.1, p.2) (written_refused (g.C.Callbacks.told c.args.s.now.table.calls) c.in_err-words.field-0.0 (display c.args.s.now.layout) free
-    (asked_refused (g.C.Callbacks.told c.args.s.now.table.calls) (space_words c.args.s.now.layout) (λ words. Answer (Ok (display_texts words))) c.in_err-words.field-0.0 c.in_err-words.ensures.answer))
+    rw (p.1, p.2) (written_refused _ _ _ _ c.in_err-words.field-0.0 (display c.args.s.now.layout) free
+    (asked_refused _ _ _ _ (space_words c.args.s.now.layout) (λ words. Answer (Ok (display_texts words))) c.in_err-words.field-0.0 c.in_err-words.ensures.answer))
 
 pub returns-in-Ok-clause-answer : goal.returns-in-Ok-clause-answer
 unfolding display
 returns-in-Ok-clause-answer g c =
-    written_text (g.C.Callbacks.told c.args.s.now.table.calls) (map string_bytes c.in-Ok.texts.items) (display c.args.s.now.layout)
-    (asked_then _ (g.C.Callbacks.told c.space_words.new.s.table.calls) _ _ c.in_ok-words.words _ c.space_words.ensures.same.table.same c.in_ok-words.ensures.answer
-    (asked_answer _ _ _ (ap Ok c.in-Ok.ensures)))
+    written_text _ _ _ _ (map string_bytes c.in-Ok.texts.items) (display c.args.s.now.layout)
+    (asked_then _ _ _ c.space_words.new.s _ _ _ c.in_ok-words.words _ c.space_words.ensures.same.table.same c.in_ok-words.ensures.answer
+    (asked_answer _ _ _ _ _ (ap Ok c.in-Ok.ensures)))
 
 pub returns-in-Err-clause-answer : goal.returns-in-Err-clause-answer
 unfolding display
 returns-in-Err-clause-answer g c =
-    written_full (g.C.Callbacks.told c.args.s.now.table.calls) (display_texts c.in_ok-words.words) (display c.args.s.now.layout)
-    (asked_then _ (g.C.Callbacks.told c.space_words.new.s.table.calls) _ _ c.in_ok-words.words _ c.space_words.ensures.same.table.same c.in_ok-words.ensures.answer
-    (asked_answer _ _ _ refl))
+    written_full _ _ _ _ (display_texts c.in_ok-words.words) (display c.args.s.now.layout)
+    (asked_then _ _ _ c.space_words.new.s _ _ _ c.in_ok-words.words _ c.space_words.ensures.same.table.same c.in_ok-words.ensures.answer
+    (asked_answer _ _ _ _ _ refl))
 
 pub returns-in_err-words-clause-shown : goal.returns-in_err-words-clause-shown
 returns-in_err-words-clause-shown g c = λ s shown.
-    display_given (g.C.Callbacks.told c.args.s.now.table.calls) c.args.s.now.layout s shown _ (returns-in_err-words-clause-answer g c)
+    display_given (g.C.Callbacks.told c.args.s.now.table.calls) c.args.s.now.layout s shown _ (returns-in_err-words-clause-answer g c).is
 
 pub returns-in-Ok-clause-shown : goal.returns-in-Ok-clause-shown
 returns-in-Ok-clause-shown g c = λ s shown.
-    display_given (g.C.Callbacks.told c.args.s.now.table.calls) c.args.s.now.layout s shown (Ok (map string_bytes c.in-Ok.texts.items)) (returns-in-Ok-clause-answer g c)
+    display_given (g.C.Callbacks.told c.args.s.now.table.calls) c.args.s.now.layout s shown (Ok (map string_bytes c.in-Ok.texts.items)) (returns-in-Ok-clause-answer g c).is
 
 pub returns-in-Err-clause-shown : goal.returns-in-Err-clause-shown
 returns-in-Err-clause-shown g c = λ s shown.
-    display_given (g.C.Callbacks.told c.args.s.now.table.calls) c.args.s.now.layout s shown (Err NoMem) (returns-in-Err-clause-answer g c)
+    display_given (g.C.Callbacks.told c.args.s.now.table.calls) c.args.s.now.layout s shown (Err NoMem) (returns-in-Err-clause-answer g c).is

@@ -16,32 +16,32 @@ unfolding icv_string_from_scope
 returns-in_err-value-clause-answer g c =
     let p = err_from_is_err_and c.from_residual.result c.from_residual.ensures.1 in
     let free = λ (e : c.in_err-value.field-0.0 ≡ NoMem). c.in_err-value.ensures.memory (ap Err e) in
-    rw (p.1, p.2) (written_refused (g.C.Callbacks.told c.args.s.now.table.calls) c.in_err-value.field-0.0 (icv_string_from_scope c.args.s.now.layout (get c.args.s.now.handles.held) c.args.of c.args.icv) free
-    (asked_refused (g.C.Callbacks.told c.args.s.now.table.calls) (icv_value c.args.s.now.layout (get c.args.s.now.handles.held) c.args.of c.args.icv) (λ value. Answer (Ok (value_text value.spelling value.numbers))) c.in_err-value.field-0.0 c.in_err-value.ensures.answer))
+    rw (p.1, p.2) (written_refused _ _ _ _ c.in_err-value.field-0.0 (icv_string_from_scope c.args.s.now.layout (get c.args.s.now.handles.held) c.args.of c.args.icv) free
+    (asked_refused _ _ _ _ (icv_value c.args.s.now.layout (get c.args.s.now.handles.held) c.args.of c.args.icv) (λ value. Answer (Ok (value_text value.spelling value.numbers))) c.in_err-value.field-0.0 c.in_err-value.ensures.answer))
 
 pub returns-in-Ok-clause-answer : goal.returns-in-Ok-clause-answer
 unfolding icv_string_from_scope
 returns-in-Ok-clause-answer g c =
     let text : string_bytes c.in-Ok.text ≡ value_text c.in_ok-value.value.spelling c.in_ok-value.value.numbers = c.in-Ok.ensures ∙ ap (value_text c.in_ok-value.value.spelling) c.as_slice.ensures in
-    written_text (g.C.Callbacks.told c.args.s.now.table.calls) (string_bytes c.in-Ok.text) (icv_string_from_scope c.args.s.now.layout (get c.args.s.now.handles.held) c.args.of c.args.icv)
-    (asked_then _ (g.C.Callbacks.told c.icv_value.new.s.table.calls) _ _ c.in_ok-value.value _ c.icv_value.ensures.same.table.same c.in_ok-value.ensures.answer
-    (asked_answer _ _ _ (ap Ok text)))
+    written_text _ _ _ _ (string_bytes c.in-Ok.text) (icv_string_from_scope c.args.s.now.layout (get c.args.s.now.handles.held) c.args.of c.args.icv)
+    (asked_then _ _ _ c.icv_value.new.s _ _ _ c.in_ok-value.value _ c.icv_value.ensures.same.table.same c.in_ok-value.ensures.answer
+    (asked_answer _ _ _ _ _ (ap Ok text)))
 
 pub returns-in-Err-clause-answer : goal.returns-in-Err-clause-answer
 unfolding icv_string_from_scope
 returns-in-Err-clause-answer g c =
-    written_full (g.C.Callbacks.told c.args.s.now.table.calls) (value_text c.in_ok-value.value.spelling c.in_ok-value.value.numbers) (icv_string_from_scope c.args.s.now.layout (get c.args.s.now.handles.held) c.args.of c.args.icv)
-    (asked_then _ (g.C.Callbacks.told c.icv_value.new.s.table.calls) _ _ c.in_ok-value.value _ c.icv_value.ensures.same.table.same c.in_ok-value.ensures.answer
-    (asked_answer _ _ _ refl))
+    written_full _ _ _ _ (value_text c.in_ok-value.value.spelling c.in_ok-value.value.numbers) (icv_string_from_scope c.args.s.now.layout (get c.args.s.now.handles.held) c.args.of c.args.icv)
+    (asked_then _ _ _ c.icv_value.new.s _ _ _ c.in_ok-value.value _ c.icv_value.ensures.same.table.same c.in_ok-value.ensures.answer
+    (asked_answer _ _ _ _ _ refl))
 
 pub returns-in_err-value-clause-shown : goal.returns-in_err-value-clause-shown
 returns-in_err-value-clause-shown g c =
-    text_given (g.C.Callbacks.told c.args.s.now.table.calls) c.args.s.now.layout (get c.args.s.now.handles.held) c.args.of c.args.icv _ (returns-in_err-value-clause-answer g c)
+    text_given (g.C.Callbacks.told c.args.s.now.table.calls) c.args.s.now.layout (get c.args.s.now.handles.held) c.args.of c.args.icv _ (returns-in_err-value-clause-answer g c).is
 
 pub returns-in-Ok-clause-shown : goal.returns-in-Ok-clause-shown
 returns-in-Ok-clause-shown g c =
-    text_given (g.C.Callbacks.told c.args.s.now.table.calls) c.args.s.now.layout (get c.args.s.now.handles.held) c.args.of c.args.icv (Ok (string_bytes c.in-Ok.text)) (returns-in-Ok-clause-answer g c)
+    text_given (g.C.Callbacks.told c.args.s.now.table.calls) c.args.s.now.layout (get c.args.s.now.handles.held) c.args.of c.args.icv (Ok (string_bytes c.in-Ok.text)) (returns-in-Ok-clause-answer g c).is
 
 pub returns-in-Err-clause-shown : goal.returns-in-Err-clause-shown
 returns-in-Err-clause-shown g c =
-    text_given (g.C.Callbacks.told c.args.s.now.table.calls) c.args.s.now.layout (get c.args.s.now.handles.held) c.args.of c.args.icv (Err NoMem) (returns-in-Err-clause-answer g c)
+    text_given (g.C.Callbacks.told c.args.s.now.table.calls) c.args.s.now.layout (get c.args.s.now.handles.held) c.args.of c.args.icv (Err NoMem) (returns-in-Err-clause-answer g c).is

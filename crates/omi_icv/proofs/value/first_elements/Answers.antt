@@ -17,15 +17,15 @@ loop-at-init g c = record {
   same = record { table = record { same = refl; order = refl; to_host = refl }; layout = refl; handles = refl };
   later = omega arith;
   many = grind (arith, common_steps, c.new-numbers.ensures);
-  read = asked_answer _ _ _ (ap Ok c.new-numbers.ensures);
+  read = asked_answer _ _ _ _ _ (ap Ok c.new-numbers.ensures);
 }
 
 pub returns-in_err-element-clause-answer : goal.returns-in_err-element-clause-answer
 returns-in_err-element-clause-answer g c =
     let p = err_from_is_err_and c.from_residual.result c.from_residual.ensures.1 in
-    rw (p.1, p.2) (refused_there (g.C.Callbacks.told c.args.s.now.table.calls) c.args.s.now.layout c.args.address (g.C.Callbacks.told c.loop-at.s.table.calls) c.loop-at.at c.args.count c.loop-at.numbers c.in_err-element.field-0.0
+    rw (p.1, p.2) (refused_there _ _ c.args.s.now c.loop-at.s _ c.args.s.now.layout c.args.address c.loop-at.at c.args.count c.loop-at.numbers c.in_err-element.field-0.0
     c.loop-at.invariant.same.table.same (omega (arith, c.loop-at-test.true)) c.loop-at.invariant.read
-    (subst (λ w. Answers (g.C.Callbacks.told c.loop-at.s.table.calls) (Err c.in_err-element.field-0.0) (word_of w c.args.address TaskNthreads c.loop-at.at)) c.loop-at.invariant.same.layout c.in_err-element.ensures.answer))
+    (subst (λ w. Answers g.C.Callbacks.told g.C.Callbacks.asked c.loop-at.s c.word.new.s (Err c.in_err-element.field-0.0) (word_of w c.args.address TaskNthreads c.loop-at.at)) c.loop-at.invariant.same.layout c.in_err-element.ensures.answer))
 
 pub loop-at-preserved : goal.loop-at-preserved
 loop-at-preserved g c = record {
@@ -33,8 +33,8 @@ loop-at-preserved g c = record {
   later = omega (arith, c.loop-at.invariant.later, c.word.ensures.cause.later);
   many = grind (arith, common_steps, c.push.ensures, c.loop-at.invariant.many);
   read =
-      let element = subst (λ w. Answers (g.C.Callbacks.told c.loop-at.s.table.calls) (Ok c.in_ok-element.element) (word_of w c.args.address TaskNthreads c.loop-at.at)) c.loop-at.invariant.same.layout c.in_ok-element.ensures.answer in
-      let more = one_more (g.C.Callbacks.told c.args.s.now.table.calls) c.args.s.now.layout c.args.address (g.C.Callbacks.told c.loop-at.s.table.calls) c.loop-at.at c.loop-at.numbers c.in_ok-element.element
-      c.loop-at.invariant.same.table.same c.loop-at.invariant.read element in
-      subst (λ ns. Answers (g.C.Callbacks.told c.args.s.now.table.calls) (Ok ns) (first_elements c.args.s.now.layout c.args.address (c.loop-at.at + 1))) (sym c.push.ensures) more;
+      let element = subst (λ w. Answers g.C.Callbacks.told g.C.Callbacks.asked c.loop-at.s c.word.new.s (Ok c.in_ok-element.element) (word_of w c.args.address TaskNthreads c.loop-at.at)) c.loop-at.invariant.same.layout c.in_ok-element.ensures.answer in
+      let more = one_more _ _ c.args.s.now c.loop-at.s _ c.args.s.now.layout c.args.address c.loop-at.at c.loop-at.numbers c.in_ok-element.element
+      c.loop-at.invariant.same.table.same c.word.ensures.same.table.same c.loop-at.invariant.read element in
+      subst (λ ns. Answers g.C.Callbacks.told g.C.Callbacks.asked c.args.s.now c.word.new.s (Ok ns) (first_elements c.args.s.now.layout c.args.address (c.loop-at.at + 1))) (sym c.push.ensures) more;
 }

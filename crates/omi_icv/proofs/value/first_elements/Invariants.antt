@@ -11,5 +11,5 @@ invariant-loop-at g l = record {
   same : StaysWhole g.C.Callbacks.told l.initial.s l.s;
   later : g.C.Callbacks.faults l.initial.s.table.calls ≤ g.C.Callbacks.faults l.s.table.calls;
   many : length l.numbers ≡ l.at;
-  read : Answers (g.C.Callbacks.told l.initial.s.table.calls) (Ok l.numbers) (first_elements l.initial.s.layout l.address l.at);
+  read : Answers g.C.Callbacks.told g.C.Callbacks.asked l.initial.s l.s (Ok l.numbers) (first_elements l.initial.s.layout l.address l.at);
 }

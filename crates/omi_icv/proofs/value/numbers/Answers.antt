@@ -14,7 +14,7 @@ alone_unless w address MemberNumber other = refl
 
 pub returns-in_default : goal.returns-in_default
 returns-in_default g c = record {
-  answer = subst (Answers (g.C.Callbacks.told c.args.s.now.table.calls) c.number_alone.result) (alone_unless c.args.s.now.layout c.args.address c.args.source c.in_default.not-Elements) c.number_alone.ensures.answer;
+  answer = subst (Answers g.C.Callbacks.told g.C.Callbacks.asked c.args.s.now c.number_alone.new.s c.number_alone.result) (alone_unless c.args.s.now.layout c.args.address c.args.source c.in_default.not-Elements) c.number_alone.ensures.answer;
   memory = c.number_alone.ensures.memory;
   same = c.number_alone.ensures.same;
   cause = c.number_alone.ensures.cause;

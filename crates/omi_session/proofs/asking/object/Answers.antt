@@ -1,13 +1,13 @@
 use Rattle.std.proofs.Common.{refl}
 use Rattle.omi_session.specs.Inquiry.{object_of}
-use Rattle.omi_session.proofs.Asked.{asked_then, refused_then}
+use Rattle.omi_session.proofs.Asked.{asked_then, refused_then, asked_answer}
 use Rattle.omi_session.proofs.asking.object.Goals as goal
 
 pub returns-in_err-held-clause-answer : goal.returns-in_err-held-clause-answer
 unfolding object_of
-returns-in_err-held-clause-answer g c = refused_then _ _ _ _ _ (λ memory t ne. c.in_err-held.ensures.value) c.from_residual.ensures.1
+returns-in_err-held-clause-answer g c = refused_then _ _ _ _ _ _ _ _ (asked_answer _ _ _ _ _ c.in_err-held.ensures.value) c.from_residual.ensures.1
 
 pub returns-clause-answer : goal.returns-clause-answer
 unfolding object_of
 returns-clause-answer g c =
-    asked_then _ (g.C.Callbacks.told c.args.s.now.table.calls) _ _ c.in_ok-held.held _ refl (λ memory t ne. c.in_ok-held.ensures.value) c.unchanged.ensures.answer
+    asked_then _ _ _ c.args.s.now _ _ _ c.in_ok-held.held _ refl (asked_answer _ _ _ _ _ c.in_ok-held.ensures.value) c.unchanged.ensures.answer

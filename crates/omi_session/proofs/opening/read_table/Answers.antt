@@ -39,6 +39,7 @@ loop-at-preserved g c = record {
   words = grind (arith, common_steps, c.loop-at.invariant.words);
   same = keeps_then _ _ _ _ c.loop-at.invariant.same (record { same = c.word.ensures.same; order = c.word.ensures.order; to_host = c.word.ensures.to_host });
   later = omega (arith, c.loop-at.invariant.later, c.word.ensures.cause.later);
+  asked = omega (arith, c.loop-at.invariant.asked, c.word.ensures.asked);
   read = λ memory t. next_read memory c.args.address c.loop-at.at c.in-Some.word c.loop-at.words c.loop-at.invariant.words (omega arith) (c.loop-at.invariant.read memory t)
       (sym c.in-Some.is ∙ as_told _ (g.C.Callbacks.told c.loop-at.table.calls) memory c.loop-at.invariant.same.same t (λ m. c.in-Ok.found ≡ m (table_address c.args.address c.loop-at.at)) c.in-Ok.ensures.word);
 }

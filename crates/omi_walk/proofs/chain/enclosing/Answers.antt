@@ -17,7 +17,7 @@ pub loop-init : goal.loop-init
 loop-init g c =
     let count = c.region_count-end.ensures.value ∙ ap (λ w. records w regions) (c.layout.ensures) in
     record {
-      leaves = record { stays = record { table = record { same = refl; order = refl; to_host = refl }; layout = refl }; held = refl; made = omega arith };
+      leaves = record { stays = record { table = record { same = refl; order = refl; to_host = refl }; layout = refl }; held = refl; later = omega arith; made = omega arith };
       later = omega arith;
       bound = count;
       few = c.region_count-end.ensures.few;

@@ -9,7 +9,7 @@ use Rattle.omi_walk.proofs.members.members.Goals as goal
 
 pub loop-num-init : goal.loop-num-init
 loop-num-init g c = record {
-  leaves = record { stays = record { table = record { same = refl; order = refl; to_host = refl }; layout = refl }; held = refl; made = omega arith };
+  leaves = record { stays = record { table = record { same = refl; order = refl; to_host = refl }; layout = refl }; held = refl; later = omega arith; made = omega arith };
   later = omega arith;
   bound = refl;
   rest = λ n st has.

@@ -18,12 +18,12 @@ pub returns-in_ok-list_of-in-Ok-clause-look : goal.returns-in_ok-list_of-in-Ok-c
 unfolding Looks
 returns-in_ok-list_of-in-Ok-clause-look g c = λ n st memory t.
     rw (c.in_ok-list_of-in-Ok.ensures ∙ c.as_slice.ensures) (value_gives (get c.args.s.now.handles.held (task_pair c.args.k)) (numbers_of (Ok c.in-Ok.value)) _ _
-    (λ ne. ap numbers_of (c.in-Ok.ensures.answer memory t (λ e. cc)))
+    (λ ne. ap numbers_of (c.in-Ok.ensures.answer.is memory t (λ e. cc)))
     (nthreads_looked g.C.Callbacks.told c.args.s.now n memory t c.args.k 2 _ st refl refl))
 
 pub returns-in-Err-clause-look : goal.returns-in-Err-clause-look
 unfolding Looks
 returns-in-Err-clause-look g c = λ n st memory t.
     rw c.fault_of.ensures (value_gives (get c.icv_value.new.s.handles.held (task_pair c.args.k)) (numbers_of (Err c.in-Err.rc)) _ _
-    (λ ne. ap numbers_of (c.in-Err.ensures.answer memory t (λ e. ne (ap numbers_of e))))
+    (λ ne. ap numbers_of (c.in-Err.ensures.answer.is memory t (λ e. ne (ap numbers_of e))))
     (nthreads_looked g.C.Callbacks.told c.args.s.now n memory t c.args.k 2 _ st refl refl))

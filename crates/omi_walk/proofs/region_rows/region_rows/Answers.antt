@@ -16,7 +16,7 @@ use Rattle.omi_walk.proofs.region_rows.region_rows.Goals as goal
 
 pub loop-creator-init : goal.loop-creator-init
 loop-creator-init g c = record {
-  leaves = record { stays = record { table = record { same = refl; order = refl; to_host = refl }; layout = refl }; held = refl; made = omega arith };
+  leaves = record { stays = record { table = record { same = refl; order = refl; to_host = refl }; layout = refl }; held = refl; later = omega arith; made = omega arith };
   later = omega arith;
   bound = c.threads-creator-end.ensures ∙ ap thread_count c.layout.ensures;
   few = subst (λ w. per_thread w regions ≤ 64) c.layout.ensures (regions_of_valid c.layout.result.now.table c.layout.result.now.valid);

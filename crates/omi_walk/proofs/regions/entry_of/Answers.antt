@@ -20,7 +20,7 @@ returns-clause-look g c = λ n st.
     let told = g.C.Callbacks.told in
     let w = c.args.s.now.layout in
     let same : c.in-Some.held ≡ st.object = (let both : Some c.in-Some.held ≡ Some st.object = sym c.in-Some.is ∙ c.find.ensures.value ∙ st.is in cc) in
-    value_looks told c.args.s.now _ c.word-answer.result _ (word_of w c.in-Some.held.addr RegionFunction 0) _ c.walked.ensures c.word-answer.ensures.answer
+    value_looks told c.args.s.now _ c.word-answer.result _ (word_of w c.in-Some.held.addr RegionFunction 0) _ c.walked.ensures c.word-answer.ensures.answer.is
     (λ memory t. subst (λ a. IsLook {A = ℕ} {B = ℕ} (λ x y. x ≡ y) (answer_on memory (word_of w c.in-Some.held.addr RegionFunction 0)) (look_word w memory a RegionFunction 0))
     (ap (λ (h : Held). h.addr) same ∙ stands_at told c.args.s.now Region (region_pair c.args.r) n st)
     (word_is_looked w memory c.in-Some.held.addr RegionFunction 0))

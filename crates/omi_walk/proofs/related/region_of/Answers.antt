@@ -19,7 +19,7 @@ unfolding region_of_task Looks
 returns-in-Ok-clause-look g c = λ n st memory t.
     found_gives c.args.s.now.layout c.get_task_parallel_handle.new.s.handles _ c.let_go.result.held c.let_go.result.name _ _
     c.let_go.ensures.object (ap (λ w. name_of w c.let_go.result.held) (sym c.get_task_parallel_handle.ensures.stays.layout) ∙ c.let_go.ensures.name)
-    (c.in-Ok.ensures.answer memory t)
+    (c.in-Ok.ensures.answer.is memory t)
     (object_looked (g.C.Callbacks.told) c.args.s.now Task (task_pair c.args.k) n st memory t Region TaskRegion 0)
 
 pub returns-in-Ok-clause-met : goal.returns-in-Ok-clause-met
@@ -27,7 +27,7 @@ unfolding region_of_task
 returns-in-Ok-clause-met g c =
     found_met g.C.Callbacks.told c.args.s.now c.get_task_parallel_handle.new.s c.let_go.new.s Region _ c.in-Ok.ensures.handles c.get_task_parallel_handle.ensures.stays
     c.let_go.ensures.layout c.let_go.ensures.table c.let_go.result (region_of_task c.args.s.now.layout (get c.args.s.now.handles.held (task_pair c.args.k)))
-    c.let_go.ensures.object c.let_go.ensures.kind c.let_go.ensures.place c.let_go.ensures.name c.in-Ok.ensures.answer
+    c.let_go.ensures.object c.let_go.ensures.kind c.let_go.ensures.place c.let_go.ensures.name c.in-Ok.ensures.answer.is
     (λ memory o is. lives c.args.s.now.layout (get c.args.s.now.handles.held (task_pair c.args.k)) memory o is)
   where
     lives : (w : List ℕ) (found : Option Held) (memory : Words) (o : Held) → answer_on memory (region_of_task w found) ≡ Ok o → answer_on memory (unchanged w o) ≡ Ok o
@@ -42,5 +42,5 @@ pub returns-in-Err-clause-look : goal.returns-in-Err-clause-look
 unfolding region_of_task Looks
 returns-in-Err-clause-look g c = λ n st memory t.
     rw c.fault_of.ensures (refused_object c.args.s.now.layout c.get_task_parallel_handle.new.s.handles (get c.get_task_parallel_handle.new.s.handles.held (task_pair c.args.k)) c.in-Err.rc _ _
-    (c.in-Err.ensures.answer memory t)
+    (c.in-Err.ensures.answer.is memory t)
     (object_looked (g.C.Callbacks.told) c.args.s.now Task (task_pair c.args.k) n st memory t Region TaskRegion 0))

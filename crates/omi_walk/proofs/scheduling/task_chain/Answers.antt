@@ -16,7 +16,7 @@ pub loop-init : goal.loop-init
 loop-init g c =
     let count = c.task_count-end.ensures.value ∙ ap (λ w. records w tasks) (c.layout.ensures) in
     record {
-      leaves = record { stays = record { table = record { same = refl; order = refl; to_host = refl }; layout = refl }; held = refl; made = omega arith };
+      leaves = record { stays = record { table = record { same = refl; order = refl; to_host = refl }; layout = refl }; held = refl; later = omega arith; made = omega arith };
       later = omega arith;
       bound = count;
       few = c.task_count-end.ensures.few;

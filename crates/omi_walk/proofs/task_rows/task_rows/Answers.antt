@@ -10,7 +10,7 @@ use Rattle.omi_walk.proofs.task_rows.task_rows.Goals as goal
 
 pub loop-at-init : goal.loop-at-init
 loop-at-init g c = record {
-  leaves = record { stays = record { table = record { same = refl; order = refl; to_host = refl }; layout = refl }; held = refl; made = omega arith };
+  leaves = record { stays = record { table = record { same = refl; order = refl; to_host = refl }; layout = refl }; held = refl; later = omega arith; made = omega arith };
   later = omega arith;
   bound = c.len-at-end.ensures;
   chains = [];

@@ -9,7 +9,7 @@ use Rattle.omi_walk.proofs.thread_rows.thread_rows.Goals as goal
 
 pub loop-native-init : goal.loop-native-init
 loop-native-init g c = record {
-  leaves = record { stays = record { table = record { same = refl; order = refl; to_host = refl }; layout = refl }; held = refl; made = omega arith };
+  leaves = record { stays = record { table = record { same = refl; order = refl; to_host = refl }; layout = refl }; held = refl; later = omega arith; made = omega arith };
   later = omega arith;
   so = rw c.new-rows.ensures (each_begins g.C.Callbacks.told c.args.s.now (λ w memory native. look_thread w memory native) c.as_slice-native-items.result.now);
   found = λ w memory. rw (c.new-rows.ensures, c.new-found.ensures) refl;

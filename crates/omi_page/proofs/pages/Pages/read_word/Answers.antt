@@ -3,8 +3,8 @@ use Rattle.omi_page.specs.Spans.{eight_at}
 use Rattle.omi_page.specs.Paging.{IsPage}
 use Rattle.omi_page.proofs.Answering.{not_err, lent_whole}
 use Rattle.omi_page.proofs.Telling.{unaligned, not_mapped, mapped, in_page}
-use Rattle.omi_page.proofs.pages.PagesCallbacks.read_memory.Goals.{then-addr-ne0-via-then-addr-ne0, then-addr-ne0-via-else-addr-ne0+then-not-stands}
-use Rattle.omi_page.proofs.pages.PagesCallbacks.read_memory.Goals as goal
+use Rattle.omi_page.proofs.pages.Pages.read_word.Goals.{then-addr-ne0-via-then-addr-ne0, then-addr-ne0-via-else-addr-ne0+then-not-stands}
+use Rattle.omi_page.proofs.pages.Pages.read_word.Goals as goal
 
 pub returns-then-addr-ne0-clause-mapped : goal.returns-then-addr-ne0-clause-mapped
 returns-then-addr-ne0-clause-mapped g c = λ words told.
