@@ -16,3 +16,4 @@ pub mod ShowVerdicts
 pub mod LeftByShow
 pub mod RunAnswers
 pub mod LeftByRun
+pub mod Promised

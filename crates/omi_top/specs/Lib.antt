@@ -1,5 +1,6 @@
--- The definitions to believe, in reading order: what a run of `stop` is to be, what a command line asks for, what its answer is, what a
--- core is to `show`, what a run is, and that there is at most one.
+-- The definitions to believe, in reading order: the promise of the whole; what a run of `stop` is to be, what a command line asks for, what
+-- its answer is, what a core is to `show`, what a run is, and that there is at most one.
+pub mod Promise
 pub mod Plan
 pub mod Command
 pub mod Answer

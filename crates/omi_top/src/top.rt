@@ -15,6 +15,7 @@ ghost use Rattle.omi_top.specs.Causes.{Concluded, Performed};
 ghost use Rattle.omi_verbs.specs.Seen.{files_seen, output_seen};
 ghost use Rattle.omi_verbs.specs.Refusal.{HasRoom, status_of};
 ghost use Rattle.omi_top.specs.Answer.{AreTold, IsStopped, IsLeft, IsUnwritten, ComesBehind, IsDoneOrFailed, IsReadBackStatus, IsReportOf, IsRunShown, IsShown, IsWritingStatus};
+ghost use Rattle.omi_top.specs.Promise.{IsPromised};
 ghost use Rattle.omi_verbs.specs.Said.{IsSaid, IsCounted};
 ghost use Rattle.omi_verbs.specs.Statuses.{ComesWhere, IsOfCore};
 ghost use Rattle.omi_verbs.specs.Scripts.{HoldsProgram};
@@ -290,8 +291,17 @@ pub fn run_top<F: Files, W: Files, K: Sink>(
         → F.told files.old script ≡ Some (Some text) → F.told files.old core ≡ Some (Some bytes)
         → (p : Program) → Grammar text p → IsReportOf bytes shown → IsDoneOrFailed result }
 
-    // Where the bytes under CORE in `files` are those that `dest` holds under CORE at the end, what
-    // is put is the events and the end of a run, and the report of the state that the events reach.
+    // The promise of the whole, alone. Where the bytes under CORE in `files` are those that `dest`
+    // holds under CORE at the end, what is put is the events of a run, each legal, and the report of
+    // the state that they reach.
+    ensures promise { (plan : Plan) (script core text bytes : List ℕ)
+        → command_in words.now ≡ Run plan script core
+        → F.told files.old script ≡ Some (Some text) → F.told files.old core ≡ Some (Some bytes)
+        → W.told dest.new core ≡ Some (Some bytes) → result ≡ Status.Success
+        → (put : List ℕ) × IsPromised text plan put
+        × (K.told out.new ≡ put_on (K.told out.old) put) }
+
+    // It with all that other clauses say of this run; no other status is a refusal of CORE then.
     ensures run_shown { (plan : Plan) (script core text bytes : List ℕ)
         → command_in words.now ≡ Run plan script core
         → F.told files.old script ≡ Some (Some text) → F.told files.old core ≡ Some (Some bytes)

@@ -10,6 +10,7 @@ use Rattle.omi_top.proofs.LeftByShow.{no_file as no_core, core_refused, incompat
 use Rattle.omi_top.proofs.LeftByRun.{core_refused as run_core_refused, damaged as run_damaged, incompatible as run_incompatible, no_file as run_no_file, put_report, runs, script_refused as run_script_refused, shown as run_shown, wrote}
 use Rattle.omi_top.proofs.LeftByMake.{success as made, writing}
 use Rattle.omi_top.proofs.LeftByStop.{no_file, script_refused, stops, success}
+use Rattle.omi_top.proofs.Promised.{promised}
 use Rattle.omi_top.proofs.top.run_top.Given as given
 use Rattle.omi_top.proofs.top.run_top.Goals as goal
 use Rattle.omi_top.proofs.top.run_top.Goals.{Joined-line}
@@ -103,6 +104,11 @@ returns-in-Ok-clause-runs g c = λ plan script core text bytes shown command tol
 
 pub returns-in-Ok-clause-run_shown : goal.returns-in-Ok-clause-run_shown
 returns-in-Ok-clause-run_shown g c = λ plan script core text bytes command told back same. run_shown plan script core (g.F.Files.told c.args.files.now) _ _ _ _ _ text bytes told back same _ (left_of g c (Run plan script core) (asked_is g c ∙ command) ((Some text, told), (Some bytes, back)))
+
+pub returns-in-Ok-clause-promise : goal.returns-in-Ok-clause-promise
+returns-in-Ok-clause-promise g c = λ plan script core text bytes command told back same done.
+    let shown = run_shown plan script core (g.F.Files.told c.args.files.now) _ _ _ _ _ text bytes told back same _ (left_of g c (Run plan script core) (asked_is g c ∙ command) ((Some text, told), (Some bytes, back))) in
+    promised text plan bytes c.carry_out.result (g.K.Sink.told c.args.out.now) (g.K.Sink.told c.carry_out.new.out) done shown
 
 -- ---- the causes, of the words' command
 
