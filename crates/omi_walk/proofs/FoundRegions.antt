@@ -23,10 +23,10 @@ module _ (w : List ℕ) (memory : Words) where
   regions_at r = look_enclosing w memory (records w regions) [] (Some r)
 
   -- the regions of a thread by its current task
-  regions_by : Look (Option Id) → Look (List Id)
+  unfoldable pub regions_by : Look (Option Id) → Look (List Id)
   regions_by l = and_then (and_then l (λ current. optional region_at current)) (λ innermost. look_enclosing w memory (records w regions) [] innermost)
 
-  by_task : (k : Id) → regions_by (Ok (Some k)) ≡ and_then (region_at k) regions_at
+  pub by_task : (k : Id) → regions_by (Ok (Some k)) ≡ and_then (region_at k) regions_at
   unfolding and_then regions_by
   by_task k = go (region_at k)
     where

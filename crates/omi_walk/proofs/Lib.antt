@@ -1,6 +1,11 @@
 pub mod Names
 pub mod Looked
 pub mod Steps
+pub mod Goes
+pub mod AskedObjects
+pub mod EachAsked
+pub mod ChainAsked
+pub mod SlotsAsked
 pub mod MemberLooks
 pub mod WordLooks
 pub mod ThreadLooks
@@ -16,3 +21,10 @@ pub mod FoundLooks
 pub mod AddedRows
 pub mod RegionSlots
 pub mod ViewLooks
+pub mod AskedLooks
+pub mod AskedWords
+pub mod AskedRows
+pub mod AskedTasks
+pub mod AskedChains
+pub mod AskedThreads
+pub mod AskedView

@@ -135,7 +135,7 @@ module _ {C F : Type 0} (told : C → Told) (s : Opened C F) (n : Id) (size coun
   for_size r look there memory t = subst (λ k. Gives r (look s.layout memory k)) (count_is memory t) (there memory t)
 
 -- what a look gives is what is answered
-looked_ok : {A : Type 0} (a : Result A Rc) (l : Look A) (x : A) → IsLook {A = A} {B = A} (λ x y. x ≡ y) a l → l ≡ Ok x → a ≡ Ok x
+pub looked_ok : {A : Type 0} (a : Result A Rc) (l : Look A) (x : A) → IsLook {A = A} {B = A} (λ x y. x ≡ y) a l → l ≡ Ok x → a ≡ Ok x
 looked_ok (Ok y) (Ok z) x same is = ap Ok (let second : z ≡ x = cc in same ∙ second)
 looked_ok (Ok y) (Err fault) x same is = absurd same
 looked_ok (Err rc) (Ok z) x same is = absurd same

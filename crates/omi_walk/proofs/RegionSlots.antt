@@ -69,7 +69,7 @@ module _ (index : BTreeMap ℕ Met) where
 -- ---- what was met in a slot
 
 -- two slots have one key exactly where they are one
-same_key : (a b c d : ℕ) → b < 65536 → d < 65536 → (a == c && b == d) ≡ (slot_key a b == slot_key c d)
+pub same_key : (a b c d : ℕ) → b < 65536 → d < 65536 → (a == c && b == d) ≡ (slot_key a b == slot_key c d)
 same_key a b c d low small = go (a == c) (b == d) (slot_key a b == slot_key c d) refl refl refl
   where
     go : (x y z : Bool) → a == c ≡ x → b == d ≡ y → slot_key a b == slot_key c d ≡ z → (x && y) ≡ z

@@ -28,7 +28,7 @@ pub record TasksSoFar {C F : Type 0} (told : C → Told) (s : Opened C F) (threa
       ≡ mapped (λ more. rows ++ more) (look_chain s.layout memory left before thread current)
 
 -- the name of a scheduling task is that of the row
-named_back : (o : Option Id) → option_map (λ (n : Tid). n.0) (option_map (λ (n : Id). record { 0 = n }) o) ≡ o
+pub named_back : (o : Option Id) → option_map (λ (n : Tid). n.0) (option_map (λ (n : Id). record { 0 = n }) o) ≡ o
 named_back None = refl
 named_back (Some n) = refl
 

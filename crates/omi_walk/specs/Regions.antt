@@ -39,7 +39,10 @@ Indexes told s t threads (Err fault) =
 abbrev pub AreLive : {C F : Type 0} → (C → Told) → Opened C F → BTreeMap ℕ Met → Type 0
 AreLive told s index = (key : ℕ) → IfSome (get nat_cmp index key) (IsMet told s Region)
 
--- the region that an index has in a slot
+-- the region that an index has in a slot, and its name
+abbrev pub met_in_slot : BTreeMap ℕ Met → ℕ × ℕ → Option Met
+met_in_slot index at = get nat_cmp index (slot_key at.0 at.1)
+
 abbrev pub in_slot : BTreeMap ℕ Met → ℕ × ℕ → Option Id
 in_slot index at = name_in (get nat_cmp index (slot_key at.0 at.1))
 

@@ -1,10 +1,15 @@
 -- How an object leads to another one that may be missing: from a handle, by a field of its object.
-use Rattle.std.specs.Prelude.{ℕ}
+use Rattle.std.specs.Prelude.{ℕ, List, Option}
 use Rattle.omi_handle.specs.declared.handle.Kind.{Kind}
 use Rattle.omi_handle.specs.declared.handle.Kind.TheVariants as kind
+use Rattle.omi_handle.specs.declared.handle.Held.{Held}
 use Rattle.omi_layout.specs.declared.field.Field.{Field}
 use Rattle.omi_layout.specs.declared.field.Field.TheVariants.{ThreadCurrent, TaskGenerating, TaskScheduling, RegionEnclosing}
+use Rattle.omi_ask.specs.Regions.{enclosing_region}
+use Rattle.omi_asktask.specs.Tasks.{generating_task, scheduling_task}
+use Rattle.omi_session.specs.Inquiry.{current_task}
 use Rattle.omi_session.specs.Made.{thread_pair, region_pair, task_pair}
+use Rattle.omi_session.specs.Reads.{Reads}
 use Rattle.omi_walk.specs.declared.related.Relation.{Relation}
 use Rattle.omi_walk.specs.declared.related.Relation.TheVariants.{Current, Generating, Scheduling, Enclosing}
 
@@ -33,3 +38,10 @@ field_of (Current t) = ThreadCurrent
 field_of (Generating k) = TaskGenerating
 field_of (Scheduling k) = TaskScheduling
 field_of (Enclosing r) = RegionEnclosing
+
+-- the inquiry for this object
+abbrev pub inquiry_of : List ℕ → Relation → Option Held → Reads Held
+inquiry_of w (Current t) found = current_task w found
+inquiry_of w (Generating k) found = generating_task w found
+inquiry_of w (Scheduling k) found = scheduling_task w found
+inquiry_of w (Enclosing r) found = enclosing_region w found

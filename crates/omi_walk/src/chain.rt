@@ -15,6 +15,8 @@ ghost use Rattle.omi_walk.specs.Chains.{unmet as the_unmet, names_of};
 ghost use Rattle.omi_walk.specs.Gives.{Looks};
 ghost use Rattle.omi_walk.specs.Leaves.{Leaves};
 ghost use Rattle.omi_walk.specs.Objects.{IsMet, name_met, names_met};
+ghost use Rattle.omi_walk.specs.Walks.{Walks};
+ghost use Rattle.omi_walk.specs.AskRegions.{ask_region_of, ask_outward, ask_outwards};
 
 use crate::WalkFault;
 use crate::met::{Met, hand};
@@ -46,6 +48,8 @@ pub fn innermost<C: Callbacks, F: ToHost>(
     requires met { IsMet C.told s.old Task task }
     ensures look { Looks C.told s.old (name_met result) (λ w memory.
         look_object w memory regions (id_address w tasks task.name) TaskRegion 0) }
+    ensures reads { Walks C.told C.asked s.old s.new result
+        (ask_region_of s.old.layout (Some task.held)) }
     ensures met { IfOk result (IsMet C.told s.new Region) }
     ensures leaves { Leaves C.told 2 s.old s.new }
     ensures cause { HasCause (C.faults s.old.table.calls) (C.faults s.new.table.calls)
@@ -69,6 +73,8 @@ fn onward<C: Callbacks, F: ToHost>(
         → ((address : ℕ) → contains nat_cmp met.now address ≡ was_met before address)
         → Looks C.told s.old (names_met result) (λ w memory. look_onward w memory regions
         before (id_address w regions region.name) RegionEnclosing) }
+    ensures reads { Walks C.told C.asked s.old s.new result
+        (ask_outward s.old.layout (contains nat_cmp met.now) (Some region.held)) }
     ensures met { IfOk result (λ o. IfSome o (IsMet C.told s.new Region)) }
     ensures leaves { Leaves C.told 2 s.old s.new }
     ensures cause { HasCause (C.faults s.old.table.calls) (C.faults s.new.table.calls)
@@ -99,6 +105,8 @@ pub fn enclosing<C: Callbacks, F: ToHost>(
     requires met { IsMet C.told s.old Region first }
     ensures look { Looks C.told s.old (names_of result) (λ w memory.
         look_enclosing w memory (records w regions) [] (Some first.name)) }
+    ensures reads { Walks C.told C.asked s.old s.new result
+        (ask_outwards s.old.layout first) }
     ensures met { IfOk result (λ chain. All (IsMet C.told s.new Region) chain) }
     ensures leaves { Leaves C.told 8192 s.old s.new }
     ensures cause { HasCause (C.faults s.old.table.calls) (C.faults s.new.table.calls)

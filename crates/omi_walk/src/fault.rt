@@ -6,6 +6,7 @@ ghost use Rattle.omi_walk.specs.declared.fault.WalkFault.TheVariants.{OutOfMemor
 ghost use Rattle.omi_walk.specs.Fault as the;
 
 use omi_calls::{Callbacks, ToHost};
+use omi_handle::Held;
 use omi_layout::Field;
 use omi_session::{Rc, Session, life_field};
 use std::alloc::{AllocError, AllocFailed};
@@ -45,16 +46,28 @@ impl<T: Drop> From<AllocFailed<T>> for WalkFault {
     }
 }
 
-/// The fault of a handle whose record's life word is no longer the one that the handle keeps.
-fn stale<C: Callbacks, F: ToHost>(s: &Session<C, F>, pair: (u64, u64)) -> WalkFault
-    ensures { result ≡ the.stale (get s.now.handles.held pair) }
+/// The fault of an object whose record's life word is no longer the one that its handle keeps.
+fn stale(found: Option<Held>) -> WalkFault
+    ensures { result ≡ the.stale found }
 {
-    match s.find(pair.0, pair.1) {
+    match found {
         Some(held) => WalkFault::Damaged {
             addr: held.addr,
             field: life_field(held.kind).number(),
         },
         None => WalkFault::Damaged { addr: 0, field: 0 },
+    }
+}
+
+/// What the refusal of an inquiry about what is held is to a walk.
+fn fault_from(found: Option<Held>, rc: Rc) -> WalkFault
+    ensures { result ≡ the.fault_of found rc }
+{
+    match rc {
+        Rc::Error { addr, field } => WalkFault::Damaged { addr, field },
+        Rc::CallbackError => WalkFault::Callback,
+        Rc::NoMem => WalkFault::OutOfMemory,
+        _ => stale(found),
     }
 }
 
@@ -66,12 +79,7 @@ pub(crate) fn fault_of<C: Callbacks, F: ToHost>(
 ) -> WalkFault
     ensures { result ≡ the.fault_of (get s.now.handles.held pair) rc }
 {
-    match rc {
-        Rc::Error { addr, field } => WalkFault::Damaged { addr, field },
-        Rc::CallbackError => WalkFault::Callback,
-        Rc::NoMem => WalkFault::OutOfMemory,
-        _ => stale(s, pair),
-    }
+    fault_from(s.find(pair.0, pair.1), rc)
 }
 
 /// The fault of a region whose size is another one than before.
@@ -102,6 +110,19 @@ pub(crate) fn member_fault<C: Callbacks, F: ToHost>(
     }
 }
 
+/// What the answer of an inquiry about what is held is to a walk.
+pub(crate) fn walked_from<T: Drop>(
+    found: Option<Held>,
+    answer: Result<T, Rc>,
+) -> Result<T, WalkFault>
+    ensures { result ≡ the.walked found answer }
+{
+    match answer {
+        Ok(x) => Ok(x),
+        Err(rc) => Err(fault_from(found, rc)),
+    }
+}
+
 /// What the answer of an inquiry on a handle is to a walk.
 pub(crate) fn walked<T: Drop, C: Callbacks, F: ToHost>(
     s: &Session<C, F>,
@@ -110,9 +131,16 @@ pub(crate) fn walked<T: Drop, C: Callbacks, F: ToHost>(
 ) -> Result<T, WalkFault>
     ensures { result ≡ the.walked (get s.now.handles.held pair) answer }
 {
-    match answer {
-        Ok(x) => Ok(x),
-        Err(rc) => Err(fault_of(s, pair, rc)),
+    walked_from(s.find(pair.0, pair.1), answer)
+}
+
+/// What the refusal of an inquiry about what is held is to a walk, where there may be no such object.
+pub(crate) fn absent_from<T: Drop>(found: Option<Held>, rc: Rc) -> Result<Option<T>, WalkFault>
+    ensures { result ≡ the.absent found rc }
+{
+    match rc {
+        Rc::Unavailable => Ok(None),
+        _ => Err(fault_from(found, rc)),
     }
 }
 
@@ -124,10 +152,7 @@ pub(crate) fn absent<T: Drop, C: Callbacks, F: ToHost>(
 ) -> Result<Option<T>, WalkFault>
     ensures { result ≡ the.absent (get s.now.handles.held pair) rc }
 {
-    match rc {
-        Rc::Unavailable => Ok(None),
-        _ => Err(fault_of(s, pair, rc)),
-    }
+    absent_from(s.find(pair.0, pair.1), rc)
 }
 
 /// The same of an inquiry for a state, where the target may keep none.

@@ -5,9 +5,11 @@ ghost use Rattle.omi_outside.specs.Outside.{HasCause};
 ghost use Rattle.omi_rep.specs.LookView.{read_runtime, look_head};
 ghost use Rattle.omi_walk.specs.Gives.{Looks};
 ghost use Rattle.omi_walk.specs.Leaves.{Leaves};
+ghost use Rattle.omi_walk.specs.Walks.{Walks};
+ghost use Rattle.omi_walk.specs.AskWords.{ask_version, ask_head};
 
 use crate::WalkFault;
-use crate::fault::walked;
+use crate::fault::walked_from;
 use crate::words::space_variable;
 use omi_calls::{Callbacks, ToHost};
 use omi_layout::Field;
@@ -19,18 +21,20 @@ use omi_session::Session;
 fn version_of<C: Callbacks, F: ToHost>(s: &mut Session<C, F>) -> Result<u64, WalkFault>
     ensures look { Looks C.told s.old result
         (λ w memory. read_runtime w memory Field.RuntimeVersion) }
+    ensures reads { Walks C.told C.asked s.old s.new result (ask_version s.old.layout) }
     ensures leaves { Leaves C.told 0 s.old s.new }
     ensures cause { HasCause (C.faults s.old.table.calls) (C.faults s.new.table.calls)
         (result ≡ Err WalkFault.Callback) }
 {
     let answer = s.get_omp_version();
-    walked(s, (0, 0), answer)
+    walked_from(None, answer)
 }
 
 /// What the header of a report says: the version of OpenMP, the number of threads of the layout, and the control variables of the
 /// address space.
 pub fn head<C: Callbacks, F: ToHost>(s: &mut Session<C, F>) -> Result<HeadRow, WalkFault>
     ensures look { Looks C.told s.old result (λ w memory. look_head w memory) }
+    ensures reads { Walks C.told C.asked s.old s.new result (ask_head s.old.layout) }
     ensures leaves { Leaves C.told 0 s.old s.new }
     ensures cause { HasCause (C.faults s.old.table.calls) (C.faults s.new.table.calls)
         (result ≡ Err WalkFault.Callback) }

@@ -6,6 +6,7 @@ mod fault;
 mod found;
 mod head;
 mod index;
+mod laws;
 mod limits;
 mod members;
 mod met;
@@ -23,5 +24,6 @@ mod view;
 mod words;
 
 pub use fault::WalkFault;
+pub use laws::walk_looks;
 pub use limits::HANDLES_WITHIN;
 pub use view::walk;

@@ -14,6 +14,10 @@ ghost use Rattle.omi_walk.specs.Gives.{Looks};
 ghost use Rattle.omi_walk.specs.Leaves.{Leaves};
 ghost use Rattle.omi_walk.specs.Members.{HasSize, size_refused};
 ghost use Rattle.omi_walk.specs.Objects.{IsMet, Stands, name_met};
+ghost use Rattle.std.specs.FinMap.{get};
+ghost use Rattle.omi_walk.specs.Walks.{Walks};
+ghost use Rattle.omi_walk.specs.Asking.{ask_each};
+ghost use Rattle.omi_walk.specs.AskRegions.{ask_member_task, ask_member_thread, ask_member};
 
 use crate::WalkFault;
 use crate::fault::member_fault;
@@ -41,6 +45,8 @@ fn task_of<C: Callbacks, F: ToHost>(
     ensures past { (n : Id) (size : _) → Stands C.told s.old Region (region_pair r) n
         → HasSize C.told s.old n size → size ≤ num
         → Looks C.told s.old (name_met result) (λ w memory. size_refused w n) }
+    ensures reads { Walks C.told C.asked s.old s.new result
+        (ask_member_task s.old.layout num (get s.old.handles.held (region_pair r))) }
     ensures leaves { Leaves C.told 1 s.old s.new }
     ensures cause { HasCause (C.faults s.old.table.calls) (C.faults s.new.table.calls)
         (result ≡ Err WalkFault.Callback) }
@@ -67,6 +73,8 @@ fn thread_of<C: Callbacks, F: ToHost>(
     ensures past { (n : Id) (size : _) → Stands C.told s.old Region (region_pair r) n
         → HasSize C.told s.old n size → size ≤ num
         → Looks C.told s.old (name_met result) (λ w memory. size_refused w n) }
+    ensures reads { Walks C.told C.asked s.old s.new result
+        (ask_member_thread s.old.layout num (get s.old.handles.held (region_pair r))) }
     ensures leaves { Leaves C.told 1 s.old s.new }
     ensures cause { HasCause (C.faults s.old.table.calls) (C.faults s.new.table.calls)
         (result ≡ Err WalkFault.Callback) }
@@ -87,6 +95,8 @@ fn member<C: Callbacks, F: ToHost>(
     ensures look { (n : Id) (size : _) → Stands C.told s.old Region (region_pair r) n
         → HasSize C.told s.old n size → num < size
         → Looks C.told s.old result (λ w memory. look_member w memory n num) }
+    ensures reads { Walks C.told C.asked s.old s.new result
+        (ask_member s.old.layout (get s.old.handles.held (region_pair r)) num) }
     ensures leaves { Leaves C.told 2 s.old s.new }
     ensures cause { HasCause (C.faults s.old.table.calls) (C.faults s.new.table.calls)
         (result ≡ Err WalkFault.Callback) }
@@ -112,6 +122,9 @@ pub fn members<C: Callbacks, F: ToHost>(
         → HasSize C.told s.old n size
         → Looks C.told s.old result (λ w memory.
         each (look_member w memory n) (range_with_len 0 size)) }
+    ensures reads { Walks C.told C.asked s.old s.new result (ask_each
+        (ask_member s.old.layout (get s.old.handles.held (region_pair r)))
+        (range_with_len 0 size)) }
     ensures leaves { Leaves C.told 128 s.old s.new }
     ensures cause { HasCause (C.faults s.old.table.calls) (C.faults s.new.table.calls)
         (result ≡ Err WalkFault.Callback) }

@@ -9,6 +9,9 @@ ghost use Rattle.omi_session.specs.Made.{task_pair};
 ghost use Rattle.omi_walk.specs.Gives.{Looks};
 ghost use Rattle.omi_walk.specs.Leaves.{Leaves};
 ghost use Rattle.omi_walk.specs.Objects.{Stands};
+ghost use Rattle.std.specs.FinMap.{get};
+ghost use Rattle.omi_walk.specs.Walks.{Walks};
+ghost use Rattle.omi_walk.specs.AskWords.{ask_nthreads};
 
 use crate::WalkFault;
 use crate::fault::fault_of;
@@ -40,6 +43,8 @@ pub fn nthreads_of<C: Callbacks, F: ToHost>(
 ) -> Result<NumList, WalkFault>
     ensures look { (n : Id) → Stands C.told s.old Task (task_pair k) n
         → Looks C.told s.old result (λ w memory. look_nthreads w memory n) }
+    ensures reads { Walks C.told C.asked s.old s.new result
+        (ask_nthreads s.old.layout (get s.old.handles.held (task_pair k))) }
     ensures leaves { Leaves C.told 0 s.old s.new }
     ensures cause { HasCause (C.faults s.old.table.calls) (C.faults s.new.table.calls)
         (result ≡ Err WalkFault.Callback) }

@@ -11,7 +11,10 @@ ghost use Rattle.omi_walk.specs.Added.{AddsRows};
 ghost use Rattle.omi_walk.specs.Gives.{Looks};
 ghost use Rattle.omi_walk.specs.Index.{HasFirst, AreSmall};
 ghost use Rattle.omi_walk.specs.Leaves.{Leaves};
-ghost use Rattle.omi_walk.specs.Regions.{AreLive, in_slot, in_own_slots};
+ghost use Rattle.omi_walk.specs.Regions.{AreLive, in_slot, in_own_slots, own_slots, met_in_slot};
+ghost use Rattle.omi_walk.specs.Walks.{Walks, WalksRows};
+ghost use Rattle.omi_walk.specs.Asking.{ask_each};
+ghost use Rattle.omi_walk.specs.AskRegions.{ask_region, ask_rows};
 
 use crate::WalkFault;
 use crate::index::slot_key;
@@ -35,6 +38,9 @@ fn add_row<C: Callbacks, F: ToHost>(
     requires live { AreLive C.told s.old index.now }
     ensures look { AddsRows C.told s.old result rows.old rows.new (λ w memory.
         each (look_region w memory) (filter_map (in_slot index.now) (slot ∷ []))) }
+    ensures reads { WalksRows C.told C.asked s.old s.new result rows.old rows.new
+        (ask_each (ask_region s.old.layout)
+        (filter_map (met_in_slot index.now) (slot ∷ []))) }
     ensures leaves { Leaves C.told 130 s.old s.new }
     ensures cause { HasCause (C.faults s.old.table.calls) (C.faults s.new.table.calls)
         (result ≡ Err WalkFault.Callback) }
@@ -59,6 +65,9 @@ fn add_rows<C: Callbacks, F: ToHost>(
     requires live { AreLive C.told s.old index.now }
     ensures look { AddsRows C.told s.old result rows.old rows.new (λ w memory.
         each (look_region w memory) (in_own_slots index.now w creator)) }
+    ensures reads { WalksRows C.told C.asked s.old s.new result rows.old rows.new
+        (ask_each (ask_region s.old.layout)
+        (filter_map (met_in_slot index.now) (own_slots s.old.layout creator))) }
     ensures leaves { Leaves C.told 8320 s.old s.new }
     ensures cause { HasCause (C.faults s.old.table.calls) (C.faults s.new.table.calls)
         (result ≡ Err WalkFault.Callback) }
@@ -80,6 +89,8 @@ pub fn region_rows<C: Callbacks, F: ToHost>(
     ensures look { (met : _) → HasFirst index.now met → AreSmall met
         → Looks C.told s.old result (λ w memory. each (look_region w memory)
         (filter_map (met_in w memory (map (λ m. m.name) met)) (slot_list w regions))) }
+    ensures reads { (met : _) → HasFirst index.now met → AreSmall met
+        → Walks C.told C.asked s.old s.new result (ask_rows s.old.layout met) }
     ensures leaves { Leaves C.told 532480 s.old s.new }
     ensures cause { HasCause (C.faults s.old.table.calls) (C.faults s.new.table.calls)
         (result ≡ Err WalkFault.Callback) }

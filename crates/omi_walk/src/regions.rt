@@ -10,6 +10,10 @@ ghost use Rattle.omi_session.specs.Made.{region_pair};
 ghost use Rattle.omi_walk.specs.Gives.{Looks};
 ghost use Rattle.omi_walk.specs.Leaves.{Leaves};
 ghost use Rattle.omi_walk.specs.Objects.{IsMet, Stands};
+ghost use Rattle.std.specs.FinMap.{get};
+ghost use Rattle.omi_walk.specs.Walks.{Walks};
+ghost use Rattle.omi_walk.specs.AskWords.{ask_entry};
+ghost use Rattle.omi_walk.specs.AskRegions.{ask_row, ask_region};
 
 use crate::WalkFault;
 use crate::fault::{fault_of, walked};
@@ -32,6 +36,8 @@ fn entry_of<C: Callbacks, F: ToHost>(
 ) -> Result<u64, WalkFault>
     ensures look { (n : Id) → Stands C.told s.old Region (region_pair r) n
         → Looks C.told s.old result (λ w memory. read_region w memory n RegionFunction) }
+    ensures reads { Walks C.told C.asked s.old s.new result
+        (ask_entry s.old.layout (get s.old.handles.held (region_pair r))) }
     ensures leaves { Leaves C.told 0 s.old s.new }
     ensures cause { HasCause (C.faults s.old.table.calls) (C.faults s.new.table.calls)
         (result ≡ Err WalkFault.Callback) }
@@ -61,6 +67,8 @@ fn row_of<C: Callbacks, F: ToHost>(
     requires { s.old.handles.made < 2 ^ 59 }
     ensures look { Stands C.told s.old Region (region_pair r) region
         → Looks C.told s.old result (λ w memory. look_region w memory region) }
+    ensures reads { Walks C.told C.asked s.old s.new result
+        (ask_row s.old.layout region (get s.old.handles.held (region_pair r))) }
     ensures leaves { Leaves C.told 129 s.old s.new }
     ensures cause { HasCause (C.faults s.old.table.calls) (C.faults s.new.table.calls)
         (result ≡ Err WalkFault.Callback) }
@@ -93,6 +101,7 @@ pub fn region_row<C: Callbacks, F: ToHost>(
     requires many { s.old.handles.made < 2 ^ 58 }
     requires met { IsMet C.told s.old Region region }
     ensures look { Looks C.told s.old result (λ w memory. look_region w memory region.name) }
+    ensures reads { Walks C.told C.asked s.old s.new result (ask_region s.old.layout region) }
     ensures leaves { Leaves C.told 130 s.old s.new }
     ensures cause { HasCause (C.faults s.old.table.calls) (C.faults s.new.table.calls)
         (result ≡ Err WalkFault.Callback) }

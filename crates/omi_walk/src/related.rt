@@ -15,8 +15,11 @@ ghost use Rattle.omi_session.specs.Named.{record_kind};
 ghost use Rattle.omi_session.specs.Opened.{Stays};
 ghost use Rattle.omi_walk.specs.Gives.{Looks};
 ghost use Rattle.omi_walk.specs.Leaves.{Leaves};
-ghost use Rattle.omi_walk.specs.Relations.{pair_of, kind_from, kind_to, field_of};
+ghost use Rattle.omi_walk.specs.Relations.{pair_of, kind_from, kind_to, field_of, inquiry_of};
 ghost use Rattle.omi_walk.specs.Objects.{IsMet, Stands, name_met, names_met};
+ghost use Rattle.omi_walk.specs.Walks.{Walks};
+ghost use Rattle.omi_walk.specs.Asking.{ask_maybe};
+ghost use Rattle.omi_walk.specs.AskRegions.{ask_region_of};
 
 use crate::WalkFault;
 use crate::fault::{absent, fault_of};
@@ -116,6 +119,9 @@ pub fn related_of<C: Callbacks, F: ToHost>(
         → Looks C.told s.old (names_met result) (λ w memory.
         look_optional w memory (record_kind (kind_to relation))
         (id_address w (record_kind (kind_from relation)) n) (field_of relation) 0) }
+    ensures reads { Walks C.told C.asked s.old s.new result (ask_maybe s.old.layout
+        (get s.old.handles.held (pair_of relation))
+        (inquiry_of s.old.layout relation (get s.old.handles.held (pair_of relation)))) }
     ensures met { IfOk result (λ o. IfSome o (IsMet C.told s.new (kind_to relation))) }
     ensures leaves { Leaves C.told 1 s.old s.new }
     ensures cause { HasCause (C.faults s.old.table.calls) (C.faults s.new.table.calls)
@@ -136,6 +142,8 @@ pub fn region_of<C: Callbacks, F: ToHost>(
     ensures look { (n : Id) → Stands C.told s.old Task (task_pair k) n
         → Looks C.told s.old (name_met result) (λ w memory.
         look_object w memory regions (id_address w tasks n) TaskRegion 0) }
+    ensures reads { Walks C.told C.asked s.old s.new result
+        (ask_region_of s.old.layout (get s.old.handles.held (task_pair k))) }
     ensures met { IfOk result (IsMet C.told s.new Region) }
     ensures leaves { Leaves C.told 1 s.old s.new }
     ensures cause { HasCause (C.faults s.old.table.calls) (C.faults s.new.table.calls)

@@ -9,6 +9,8 @@ ghost use Rattle.omi_rep.specs.LookView.{look_chain};
 ghost use Rattle.omi_walk.specs.Added.{AddsRows};
 ghost use Rattle.omi_walk.specs.Leaves.{Leaves};
 ghost use Rattle.omi_walk.specs.Objects.{IsMet, name_in};
+ghost use Rattle.omi_walk.specs.Walks.{WalksRows};
+ghost use Rattle.omi_walk.specs.AskTasks.{ask_rows_from};
 
 use crate::WalkFault;
 use crate::met::Met;
@@ -41,6 +43,8 @@ pub fn task_chain<C: Callbacks, F: ToHost>(
     requires met { IfSome first (IsMet C.told s.old Task) }
     ensures look { AddsRows C.told s.old result rows.old rows.new (λ w memory.
         look_chain w memory (records w tasks) [] thread (name_in first)) }
+    ensures reads { WalksRows C.told C.asked s.old s.new result rows.old rows.new
+        (ask_rows_from s.old.layout thread first) }
     ensures leaves { Leaves C.told 1310720 s.old s.new }
     ensures cause { HasCause (C.faults s.old.table.calls) (C.faults s.new.table.calls)
         (result ≡ Err WalkFault.Callback) }

@@ -9,6 +9,8 @@ ghost use Rattle.omi_rep.specs.LookView.{look_tasks};
 ghost use Rattle.omi_walk.specs.FoundThreads.{IsFound};
 ghost use Rattle.omi_walk.specs.Gives.{Looks};
 ghost use Rattle.omi_walk.specs.Leaves.{Leaves};
+ghost use Rattle.omi_walk.specs.Walks.{Walks};
+ghost use Rattle.omi_walk.specs.AskTasks.{ask_all_tasks};
 
 use crate::WalkFault;
 use crate::found::Found;
@@ -31,6 +33,8 @@ pub fn task_rows<C: Callbacks, F: ToHost>(
     ensures look { Looks C.told s.old result (λ w memory.
         mapped (λ rows. flat_map (λ r. r) rows)
         (each (look_tasks w memory) (map (λ f. f.thread) found.now))) }
+    ensures reads { Walks C.told C.asked s.old s.new result
+        (ask_all_tasks s.old.layout found.now) }
     ensures leaves { Leaves C.told 83886080 s.old s.new }
     ensures cause { HasCause (C.faults s.old.table.calls) (C.faults s.new.table.calls)
         (result ≡ Err WalkFault.Callback) }

@@ -16,6 +16,9 @@ ghost use Rattle.omi_walk.specs.Gives.{Looks};
 ghost use Rattle.omi_walk.specs.Leaves.{Leaves};
 ghost use Rattle.omi_walk.specs.Objects.{IsMet, Stands, name_in, names_met};
 ghost use Rattle.omi_walk.specs.Tasks.{look_relations, look_environment, relations_seen, row_of};
+ghost use Rattle.std.specs.FinMap.{get};
+ghost use Rattle.omi_walk.specs.Walks.{Walks};
+ghost use Rattle.omi_walk.specs.AskTasks.{ask_next, ask_relations, ask_environment, ask_link, ask_task};
 
 use crate::WalkFault;
 use crate::chain::unmet;
@@ -78,6 +81,8 @@ fn next_of<C: Callbacks, F: ToHost>(
         → ((address : ℕ) → contains nat_cmp met.now address ≡ was_met before address)
         → Looks C.told s.old (names_met result) (λ w memory.
         look_onward w memory tasks before (id_address w tasks n) TaskScheduling) }
+    ensures reads { Walks C.told C.asked s.old s.new result (ask_next s.old.layout
+        (contains nat_cmp met.now) (get s.old.handles.held (task_pair k))) }
     ensures met { IfOk result (λ o. IfSome o (IsMet C.told s.new Task)) }
     ensures leaves { Leaves C.told 1 s.old s.new }
     ensures cause { HasCause (C.faults s.old.table.calls) (C.faults s.new.table.calls)
@@ -98,6 +103,8 @@ fn relations_of<C: Callbacks, F: ToHost>(
         → ((address : ℕ) → contains nat_cmp met.now address ≡ was_met before address)
         → Looks C.told s.old (relations_seen result)
         (λ w memory. look_relations w memory before n) }
+    ensures reads { Walks C.told C.asked s.old s.new result (ask_relations s.old.layout
+        (contains nat_cmp met.now) (get s.old.handles.held (task_pair k))) }
     ensures next { IfOk result (λ seen. seen.relations.scheduling
         ≡ option_map (λ n. record { 0 = n }) (name_in seen.next)) }
     ensures met { IfOk result (λ seen. IfSome seen.next (IsMet C.told s.new Task)) }
@@ -130,6 +137,8 @@ fn environment_of<C: Callbacks, F: ToHost>(
 ) -> Result<Environment, WalkFault>
     ensures look { (n : Id) → Stands C.told s.old Task (task_pair k) n
         → Looks C.told s.old result (λ w memory. look_environment w memory n) }
+    ensures reads { Walks C.told C.asked s.old s.new result
+        (ask_environment s.old.layout (get s.old.handles.held (task_pair k))) }
     ensures leaves { Leaves C.told 0 s.old s.new }
     ensures cause { HasCause (C.faults s.old.table.calls) (C.faults s.new.table.calls)
         (result ≡ Err WalkFault.Callback) }
@@ -162,6 +171,8 @@ fn link_of<C: Callbacks, F: ToHost>(
         → ((address : ℕ) → contains nat_cmp met.now address ≡ was_met before address)
         → Looks C.told s.old (row_of result)
         (λ w memory. look_task w memory before thread task) }
+    ensures reads { Walks C.told C.asked s.old s.new result (ask_link s.old.layout
+        (contains nat_cmp met.now) thread task (get s.old.handles.held (task_pair k))) }
     ensures next { IfOk result (λ link. link.row.scheduling
         ≡ option_map (λ n. record { 0 = n }) (name_in link.next)) }
     ensures met { IfOk result (λ link. IfSome link.next (IsMet C.told s.new Task)) }
@@ -209,6 +220,8 @@ pub fn task_row<C: Callbacks, F: ToHost>(
         → ((address : ℕ) → contains nat_cmp met.now address ≡ was_met before address)
         → Looks C.told s.old (row_of result)
         (λ w memory. look_task w memory before thread task.name) }
+    ensures reads { Walks C.told C.asked s.old s.new result
+        (ask_task s.old.layout (contains nat_cmp met.now) thread task) }
     ensures next { IfOk result (λ link. link.row.scheduling
         ≡ option_map (λ n. record { 0 = n }) (name_in link.next)) }
     ensures met { IfOk result (λ link. IfSome link.next (IsMet C.told s.new Task)) }

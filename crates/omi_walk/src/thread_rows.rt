@@ -10,6 +10,8 @@ ghost use Rattle.omi_walk.specs.FoundThreads.{IsFound};
 ghost use Rattle.omi_walk.specs.Gives.{Looks};
 ghost use Rattle.omi_walk.specs.Leaves.{Leaves};
 ghost use Rattle.omi_walk.specs.SeenThreads.{rows_seen, found_in};
+ghost use Rattle.omi_walk.specs.Walks.{Walks};
+ghost use Rattle.omi_walk.specs.AskThreads.{ask_threads};
 
 use crate::WalkFault;
 use crate::found::Found;
@@ -51,6 +53,8 @@ pub fn thread_rows<C: Callbacks, F: ToHost>(
     requires few { length contexts.now ≤ 64 }
     ensures look { Looks C.told s.old (rows_seen result)
         (λ w memory. each (look_thread w memory) contexts.now) }
+    ensures reads { Walks C.told C.asked s.old s.new result
+        (ask_threads s.old.layout contexts.now) }
     ensures found { (w : _) (memory : _) → IfOk result (λ seen.
         map (λ f. f.thread) seen.found ≡ found_threads w memory seen.rows) }
     ensures each { IfOk result (λ seen. All (IsFound C.told s.new) seen.found) }

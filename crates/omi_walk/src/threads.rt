@@ -14,9 +14,12 @@ ghost use Rattle.omi_walk.specs.Gives.{Looks};
 ghost use Rattle.omi_walk.specs.Leaves.{Leaves};
 ghost use Rattle.omi_walk.specs.Objects.{IsMet, Stands, name_in};
 ghost use Rattle.omi_walk.specs.Threads.{number_met, part_seen, row_seen};
+ghost use Rattle.std.specs.FinMap.{get};
+ghost use Rattle.omi_walk.specs.Walks.{Walks};
+ghost use Rattle.omi_walk.specs.AskThreads.{ask_thread_with, ask_state, ask_number, ask_part, ask_thread};
 
 use crate::WalkFault;
-use crate::fault::{absent, untracked};
+use crate::fault::{absent, absent_from, untracked};
 use crate::met::{Met, hand, let_go, task_name};
 use crate::related::{Relation, related_of};
 use omi_ask::get_thread_handle;
@@ -50,6 +53,8 @@ fn thread_with<C: Callbacks, F: ToHost>(
     requires { s.old.handles.made < 2 ^ 62 }
     ensures look { Looks C.told s.old (number_met result) (λ w memory.
         look_for w memory native (range_with_len 0 (thread_count w))) }
+    ensures reads { Walks C.told C.asked s.old s.new result
+        (ask_thread_with s.old.layout native) }
     ensures met { IfOk result (λ o. IfSome o (IsMet C.told s.new Thread)) }
     ensures leaves { Leaves C.told 1 s.old s.new }
     ensures cause { HasCause (C.faults s.old.table.calls) (C.faults s.new.table.calls)
@@ -59,7 +64,7 @@ fn thread_with<C: Callbacks, F: ToHost>(
     let _layout = s.layout();
     match get_thread_handle(s, 0, native) {
         Ok(found) => Ok(Some(let_go(s, Kind::Thread, (found.key, found.serial)))),
-        Err(rc) => absent(s, (0, 0), rc),
+        Err(rc) => absent_from(None, rc),
     }
 }
 
@@ -70,6 +75,8 @@ fn state_of<C: Callbacks, F: ToHost>(
 ) -> Result<Option<(u32, u64)>, WalkFault>
     ensures look { (n : Id) → Stands C.told s.old Thread (thread_pair t) n
         → Looks C.told s.old result (λ w memory. look_state w memory n.creator) }
+    ensures reads { Walks C.told C.asked s.old s.new result
+        (ask_state s.old.layout (get s.old.handles.held (thread_pair t))) }
     ensures leaves { Leaves C.told 0 s.old s.new }
     ensures cause { HasCause (C.faults s.old.table.calls) (C.faults s.new.table.calls)
         (result ≡ Err WalkFault.Callback) }
@@ -89,6 +96,8 @@ fn number_of<C: Callbacks, F: ToHost>(
         → Looks C.told s.old (Ok current) (λ w memory. look_current w memory n.creator)
         → Looks C.told s.old result (λ w memory.
         optional (λ k. read_task w memory k Field.TaskNumber) current) }
+    ensures reads { Walks C.told C.asked s.old s.new result
+        (ask_number s.old.layout (get s.old.handles.held (thread_pair t))) }
     ensures leaves { Leaves C.told 0 s.old s.new }
     ensures cause { HasCause (C.faults s.old.table.calls) (C.faults s.new.table.calls)
         (result ≡ Err WalkFault.Callback) }
@@ -108,6 +117,8 @@ fn part_of<C: Callbacks, F: ToHost>(
     requires { s.old.handles.made < 2 ^ 61 }
     ensures look { (n : Id) → Stands C.told s.old Thread (thread_pair t) n → n.creator ≡ thread
         → Looks C.told s.old (part_seen result) (λ w memory. look_part w memory thread) }
+    ensures reads { Walks C.told C.asked s.old s.new result
+        (ask_part s.old.layout thread (get s.old.handles.held (thread_pair t))) }
     ensures current { (n : Id) → Stands C.told s.old Thread (thread_pair t) n → n.creator ≡ thread
         → IfOk result (λ seen. Looks C.told s.old (Ok (name_in seen.current))
         (λ w memory. look_current w memory thread)) }
@@ -140,6 +151,7 @@ pub fn thread_row<C: Callbacks, F: ToHost>(
     requires { s.old.handles.made < 2 ^ 60 }
     ensures look { Looks C.told s.old (row_seen result)
         (λ w memory. look_thread w memory native) }
+    ensures reads { Walks C.told C.asked s.old s.new result (ask_thread s.old.layout native) }
     ensures current { IfOk result (λ seen. IfSome seen.row.found (λ part.
         Looks C.told s.old (Ok (name_in seen.current))
         (λ w memory. look_current w memory part.thread))) }

@@ -6,6 +6,8 @@ ghost use Rattle.omi_outside.specs.Outside.{HasCause};
 ghost use Rattle.omi_rep.specs.LookView.{look_view};
 ghost use Rattle.omi_walk.specs.Gives.{Looks};
 ghost use Rattle.omi_walk.specs.Leaves.{Leaves};
+ghost use Rattle.omi_walk.specs.Walks.{Walks};
+ghost use Rattle.omi_walk.specs.AskView.{ask_view};
 
 use crate::WalkFault;
 use crate::head::head;
@@ -29,6 +31,8 @@ pub fn walk<C: Callbacks, F: ToHost>(
     requires many { s.old.handles.made < HANDLES_BEFORE }
     requires few { length contexts.now ≤ 64 }
     ensures look { Looks C.told s.old result (λ w memory. look_view w memory contexts.now) }
+    ensures reads { Walks C.told C.asked s.old s.new result
+        (ask_view s.old.layout contexts.now) }
     ensures leaves { Leaves C.told 4294967295 s.old s.new }
     ensures cause { HasCause (C.faults s.old.table.calls) (C.faults s.new.table.calls)
         (result ≡ Err WalkFault.Callback) }

@@ -17,9 +17,13 @@ ghost use Rattle.omi_walk.specs.Leaves.{Leaves};
 ghost use Rattle.omi_walk.specs.Members.{HasSize};
 ghost use Rattle.omi_walk.specs.Objects.{Stands};
 ghost use Rattle.omi_walk.specs.Parts.{look_size, look_frames};
+ghost use Rattle.std.specs.FinMap.{get};
+ghost use Rattle.omi_numbers.specs.declared.variables.TheConstants.{TEAM_SIZE_VAR};
+ghost use Rattle.omi_walk.specs.Walks.{Walks};
+ghost use Rattle.omi_walk.specs.AskWords.{ask_space, ask_region_variable, ask_task_variable, ask_function, ask_frames, ask_tool};
 
 use crate::WalkFault;
-use crate::fault::{fault_of, walked};
+use crate::fault::{fault_of, walked, walked_from};
 use omi_asktask::{get_task_frame, get_task_function};
 use omi_calls::{Callbacks, ToHost};
 use omi_handle::{RegionHandle, TaskHandle};
@@ -38,6 +42,8 @@ pub fn task_variable<C: Callbacks, F: ToHost>(
         → variable_in (scope_of (scoped.Task k)) icv ≡ Ok v → v.source ≡ Word f
         → Stands C.told s.old Task (task_pair k) n
         → Looks C.told s.old result (λ w memory. read_task w memory n f) }
+    ensures reads { Walks C.told C.asked s.old s.new result
+        (ask_task_variable s.old.layout icv (get s.old.handles.held (task_pair k))) }
     ensures leaves { Leaves C.told 0 s.old s.new }
     ensures cause { HasCause (C.faults s.old.table.calls) (C.faults s.new.table.calls)
         (result ≡ Err WalkFault.Callback) }
@@ -56,6 +62,8 @@ pub fn region_variable<C: Callbacks, F: ToHost>(
         → variable_in (scope_of (scoped.Parallel r)) icv ≡ Ok v → v.source ≡ Word f
         → Stands C.told s.old Region (region_pair r) n
         → Looks C.told s.old result (λ w memory. read_region w memory n f) }
+    ensures reads { Walks C.told C.asked s.old s.new result
+        (ask_region_variable s.old.layout icv (get s.old.handles.held (region_pair r))) }
     ensures leaves { Leaves C.told 0 s.old s.new }
     ensures cause { HasCause (C.faults s.old.table.calls) (C.faults s.new.table.calls)
         (result ≡ Err WalkFault.Callback) }
@@ -72,12 +80,13 @@ pub fn space_variable<C: Callbacks, F: ToHost>(
     ensures look { (f : Field) (v : Variable)
         → variable_in (scope_of scoped.Space) icv ≡ Ok v → v.source ≡ Word f
         → Looks C.told s.old result (λ w memory. read_runtime w memory f) }
+    ensures reads { Walks C.told C.asked s.old s.new result (ask_space s.old.layout icv) }
     ensures leaves { Leaves C.told 0 s.old s.new }
     ensures cause { HasCause (C.faults s.old.table.calls) (C.faults s.new.table.calls)
         (result ≡ Err WalkFault.Callback) }
 {
     let answer = get_icv_from_scope(s, Scoped::Space, icv);
-    walked(s, (0, 0), answer)
+    walked_from(None, answer)
 }
 
 /// The number of members of a region.
@@ -87,6 +96,8 @@ pub fn size_of<C: Callbacks, F: ToHost>(
 ) -> Result<u64, WalkFault>
     ensures look { (n : Id) → Stands C.told s.old Region (region_pair r) n
         → Looks C.told s.old result (λ w memory. look_size w memory n) }
+    ensures reads { Walks C.told C.asked s.old s.new result (ask_region_variable s.old.layout
+        TEAM_SIZE_VAR (get s.old.handles.held (region_pair r))) }
     ensures leaves { Leaves C.told 0 s.old s.new }
     ensures cause { HasCause (C.faults s.old.table.calls) (C.faults s.new.table.calls)
         (result ≡ Err WalkFault.Callback) }
@@ -102,6 +113,8 @@ pub fn function_of<C: Callbacks, F: ToHost>(
 ) -> Result<u64, WalkFault>
     ensures look { (n : Id) → Stands C.told s.old Task (task_pair k) n
         → Looks C.told s.old result (λ w memory. read_task w memory n Field.TaskFunction) }
+    ensures reads { Walks C.told C.asked s.old s.new result
+        (ask_function s.old.layout (get s.old.handles.held (task_pair k))) }
     ensures leaves { Leaves C.told 0 s.old s.new }
     ensures cause { HasCause (C.faults s.old.table.calls) (C.faults s.new.table.calls)
         (result ≡ Err WalkFault.Callback) }
@@ -117,6 +130,8 @@ pub fn tool_of<C: Callbacks, F: ToHost>(
 ) -> Result<u64, WalkFault>
     ensures look { (n : Id) → Stands C.told s.old Task (task_pair k) n
         → Looks C.told s.old result (λ w memory. read_task w memory n Field.TaskTool) }
+    ensures reads { Walks C.told C.asked s.old s.new result
+        (ask_tool s.old.layout (get s.old.handles.held (task_pair k))) }
     ensures leaves { Leaves C.told 0 s.old s.new }
     ensures cause { HasCause (C.faults s.old.table.calls) (C.faults s.new.table.calls)
         (result ≡ Err WalkFault.Callback) }
@@ -132,6 +147,8 @@ pub fn frames_of<C: Callbacks, F: ToHost>(
 ) -> Result<(u64, u64), WalkFault>
     ensures look { (n : Id) → Stands C.told s.old Task (task_pair k) n
         → Looks C.told s.old result (λ w memory. look_frames w memory n) }
+    ensures reads { Walks C.told C.asked s.old s.new result
+        (ask_frames s.old.layout (get s.old.handles.held (task_pair k))) }
     ensures leaves { Leaves C.told 0 s.old s.new }
     ensures cause { HasCause (C.faults s.old.table.calls) (C.faults s.new.table.calls)
         (result ≡ Err WalkFault.Callback) }

@@ -1,5 +1,5 @@
-use Rattle.std.proofs.Common.{◌≡◌, ◌∷◌, [], ℕ, ◌-◌, ◌+◌, suc, refl, ap, subst, ◌∙◌, arith}
-use Rattle.std.specs.Prelude.{IfSome}
+use Rattle.std.proofs.Common.{◌≡◌, ◌∷◌, [], ℕ, ◌-◌, ◌+◌, suc, refl, ap, subst, ◌∙◌, arith, Bool, Option, Some, None}
+use Rattle.std.specs.Prelude.{IfSome, Ok, Err}
 use Rattle.std.specs.Ordering.{nat_cmp}
 use Rattle.std.specs.BTreeSet.{contains}
 use Rattle.std.proofs.lemmas.List.Elements.{All-append, All-weaker, All-nil}
@@ -11,7 +11,21 @@ use Rattle.omi_rep.specs.Look.{was_met}
 use Rattle.omi_walk.specs.Objects.{IsMet}
 use Rattle.omi_walk.proofs.Chained.{ChainSoFar, chain_begins, chain_next, chain_stops, chain_ends, chain_cycles, met_more, met_in_address, now_met, one_met, goes_on}
 use Rattle.omi_walk.proofs.Steps.{leaves_then, look_unsaid, met_after}
+use Rattle.omi_calls.specs.Told.{Told}
+use Rattle.omi_session.specs.Opened.{Opened}
+use Rattle.omi_walk.specs.declared.met.Met.{Met}
+use Rattle.omi_walk.specs.Walks.{Walks}
+use Rattle.omi_walk.specs.AskRegions.{ask_outward, ask_enclosed}
+use Rattle.omi_walk.proofs.ChainAsked.{ChainGoes, also_met, chain_begin, chain_end, chain_cycle}
+use Rattle.omi_walk.proofs.ChainAsked as asked_chain
+use Rattle.omi_walk.proofs.Goes.{goes_unsaid, walks_ok, walks_err}
 use Rattle.omi_walk.proofs.chain.enclosing.Goals as goal
+
+-- the next region was asked for
+walked_enclosed : {C F : Type 0} (told : C → Told) (asked : C → ℕ) (s t : Opened C F) (known : ℕ → Bool) (r : Met) (next : Option Met) → Walks told asked s t (Ok next) (ask_outward s.layout known (Some r.held))
+    → Walks told asked s t (Ok (r, next)) (ask_enclosed s.layout known r)
+unfolding ask_enclosed
+walked_enclosed told asked s t known r next walks = walks_ok told asked s t (λ next. (r, next)) next (r, next) (ask_outward s.layout known (Some r.held)) refl walks
 
 pub loop-init : goal.loop-init
 loop-init g c =
@@ -26,6 +40,9 @@ loop-init g c =
       so =
           let all : c.region_count-end.result - 0 ≡ records c.args.s.now.layout regions = omega (arith, count) in
           rw (c.new-chain.ensures, all) (chain_begins g.C.Callbacks.told c.args.s.now c.args.first.name c.args.first (contains nat_cmp c.new-met.result) refl (λ address. rw c.new-met.ensures.empty refl));
+      goes =
+          chain_begin g.C.Callbacks.told g.C.Callbacks.asked c.args.s.now ask_enclosed (records c.args.s.now.layout regions) (Some c.args.first) c.new-chain.result (contains nat_cmp c.new-met.result) (c.region_count-end.result - 0) c.new-chain.ensures
+          (λ address. rw c.new-met.ensures.empty refl) (omega (arith, count));
     }
 
 pub returns-in_default-clause-look : goal.returns-in_default-clause-look
@@ -78,6 +95,15 @@ loop-preserved g c = record {
       let same = λ (address : ℕ). met_more c.loop.met c.insert.new.self region.held.addr so.before so.same c.in_ok-insert.ensures.updates address ∙ ap (λ a. was_met (a ∷ so.before) address) there in
       rw c.in_ok-push.ensures.added (chain_next told c.args.s.now c.args.first.name c.loop.s c.loop.invariant.leaves.stays c.loop.chain (contains nat_cmp c.loop.met) _ region so
       (contains nat_cmp c.insert.new.self) c.in_ok-current.current same (c.in_ok-current.ensures.look seen same));
+  goes =
+      let told = g.C.Callbacks.told in
+      let asked = g.C.Callbacks.asked in
+      let s = c.args.s.now in
+      let region = c.in-Some.region in
+      let so = goes_on (λ left o. ChainGoes g.C.Callbacks.told g.C.Callbacks.asked s ask_enclosed (records s.layout regions) (Some c.args.first) c.loop.s c.loop.chain left (contains nat_cmp c.loop.met) o) _ (suc (c.region_count-end.result - (c.loop.counter + 1))) _ region c.in-Some.is (omega (arith, c.loop-test.true)) c.loop.invariant.goes in
+      rw c.in_ok-push.ensures.added (asked_chain.chain_next told asked s ask_enclosed (records s.layout regions) (Some c.args.first) c.loop.s c.onward.new.s c.loop.chain (contains nat_cmp c.loop.met) (contains nat_cmp c.insert.new.self) _ region
+      (also_met c.loop.met c.insert.new.self region.held.addr c.in_ok-insert.ensures.updates) so _ region c.in_ok-current.current c.onward.ensures.leaves
+      (walked_enclosed g.C.Callbacks.told g.C.Callbacks.asked c.loop.s c.onward.new.s (contains nat_cmp c.insert.new.self) region c.in_ok-current.current c.in_ok-current.ensures.reads));
 }
 
 pub returns-in-None-clause-look : goal.returns-in-None-clause-look
@@ -93,3 +119,62 @@ returns-clause-look g c =
     let so = goes_on (ChainSoFar told c.args.s.now c.args.first.name c.loop.chain (contains nat_cmp c.loop.met)) _ 0 _ region c.in-Some-current.is (omega (arith, c.loop-test.false)) c.loop.invariant.so in
     chain_cycles told c.args.s.now c.args.first.name c.loop.chain (contains nat_cmp c.loop.met) region
     (met_in_address told c.args.s.now c.loop.s Region c.loop.current c.loop.invariant.leaves.stays c.loop.invariant.current region c.in-Some-current.is) so
+
+-- reads: what was asked
+
+pub returns-in_default-clause-reads : goal.returns-in_default-clause-reads
+returns-in_default-clause-reads g c =
+    let told = g.C.Callbacks.told in
+    let asked = g.C.Callbacks.asked in
+    let s = c.args.s.now in
+    chain_end told asked s ask_enclosed (records s.layout regions) (Some c.args.first) c.loop.s c.loop.chain (contains nat_cmp c.loop.met) (c.region_count-end.result - c.loop.counter)
+    (subst (λ o. ChainGoes g.C.Callbacks.told g.C.Callbacks.asked s ask_enclosed (records s.layout regions) (Some c.args.first) c.loop.s c.loop.chain (c.region_count-end.result - c.loop.counter) (contains nat_cmp c.loop.met) o) c.in_default.is c.loop.invariant.goes)
+
+pub returns-in_err-insert-clause-reads : goal.returns-in_err-insert-clause-reads
+returns-in_err-insert-clause-reads g c =
+    let told = g.C.Callbacks.told in
+    let asked = g.C.Callbacks.asked in
+    goes_unsaid told asked c.args.s.now c.loop.s _ _ _ c.loop.invariant.goes c.from_residual.ensures.1
+
+pub returns-in_err-current-clause-reads : goal.returns-in_err-current-clause-reads
+unfolding ask_enclosed
+returns-in_err-current-clause-reads g c =
+    let told = g.C.Callbacks.told in
+    let asked = g.C.Callbacks.asked in
+    let s = c.args.s.now in
+    let region = c.in-Some.region in
+    let so = goes_on (λ left o. ChainGoes g.C.Callbacks.told g.C.Callbacks.asked s ask_enclosed (records s.layout regions) (Some c.args.first) c.loop.s c.loop.chain left (contains nat_cmp c.loop.met) o) _ (suc (c.region_count-end.result - (c.loop.counter + 1))) _ region c.in-Some.is (omega (arith, c.loop-test.true)) c.loop.invariant.goes in
+    let same = also_met c.loop.met c.insert.new.self region.held.addr c.in_ok-insert.ensures.updates in
+    asked_chain.chain_stop told asked s ask_enclosed (records s.layout regions) (Some c.args.first) c.loop.s c.onward.new.s c.loop.chain (contains nat_cmp c.loop.met) (contains nat_cmp c.insert.new.self) _ region same so c.in_err-current.field-0.0 _
+    (walks_err told asked c.loop.s c.onward.new.s (λ next. (region, next)) c.in_err-current.field-0.0 (ask_outward c.loop.s.layout (contains nat_cmp c.insert.new.self) (Some region.held)) c.in_err-current.ensures.reads)
+    c.from_residual-in_err-current.ensures.1
+
+pub returns-in_err-push-clause-reads : goal.returns-in_err-push-clause-reads
+returns-in_err-push-clause-reads g c =
+    let told = g.C.Callbacks.told in
+    let asked = g.C.Callbacks.asked in
+    let s = c.args.s.now in
+    let region = c.in-Some.region in
+    let so = goes_on (λ left o. ChainGoes g.C.Callbacks.told g.C.Callbacks.asked s ask_enclosed (records s.layout regions) (Some c.args.first) c.loop.s c.loop.chain left (contains nat_cmp c.loop.met) o) _ (suc (c.region_count-end.result - (c.loop.counter + 1))) _ region c.in-Some.is (omega (arith, c.loop-test.true)) c.loop.invariant.goes in
+    let same = also_met c.loop.met c.insert.new.self region.held.addr c.in_ok-insert.ensures.updates in
+    goes_unsaid told asked s c.onward.new.s _ _ _
+    (asked_chain.chain_next told asked s ask_enclosed (records s.layout regions) (Some c.args.first) c.loop.s c.onward.new.s c.loop.chain (contains nat_cmp c.loop.met) (contains nat_cmp c.insert.new.self) _ region same so _ region c.in_ok-current.current c.onward.ensures.leaves
+    (walked_enclosed told asked c.loop.s c.onward.new.s (contains nat_cmp c.insert.new.self) region c.in_ok-current.current c.in_ok-current.ensures.reads))
+    c.from_residual-in_err-push.ensures.1
+
+pub returns-in-None-clause-reads : goal.returns-in-None-clause-reads
+returns-in-None-clause-reads g c =
+    let told = g.C.Callbacks.told in
+    let asked = g.C.Callbacks.asked in
+    let s = c.args.s.now in
+    chain_end told asked s ask_enclosed (records s.layout regions) (Some c.args.first) c.loop.s c.loop.chain (contains nat_cmp c.loop.met) (c.region_count-end.result - c.loop.counter)
+    (subst (λ o. ChainGoes g.C.Callbacks.told g.C.Callbacks.asked s ask_enclosed (records s.layout regions) (Some c.args.first) c.loop.s c.loop.chain (c.region_count-end.result - c.loop.counter) (contains nat_cmp c.loop.met) o) c.in-None.is c.loop.invariant.goes)
+
+pub returns-clause-reads : goal.returns-clause-reads
+returns-clause-reads g c =
+    let told = g.C.Callbacks.told in
+    let asked = g.C.Callbacks.asked in
+    let s = c.args.s.now in
+    let region = c.in-Some-current.region in
+    chain_cycle told asked s ask_enclosed (records s.layout regions) (Some c.args.first) c.loop.s c.loop.chain (contains nat_cmp c.loop.met) region
+    (goes_on (λ left o. ChainGoes g.C.Callbacks.told g.C.Callbacks.asked s ask_enclosed (records s.layout regions) (Some c.args.first) c.loop.s c.loop.chain left (contains nat_cmp c.loop.met) o) _ 0 _ region c.in-Some-current.is (omega (arith, c.loop-test.false)) c.loop.invariant.goes)

@@ -1,4 +1,4 @@
-use Rattle.std.proofs.Common.{◌≡◌, ◌≤◌, ◌*◌, ◌-◌}
+use Rattle.std.proofs.Common.{◌≡◌, ◌≤◌, ◌*◌, ◌-◌, Some}
 use Rattle.std.specs.Prelude.{IfSome, All}
 use Rattle.std.specs.Ordering.{nat_cmp}
 use Rattle.std.specs.BTreeSet.{contains}
@@ -8,6 +8,8 @@ use Rattle.omi_layout.specs.Table.{records}
 use Rattle.omi_walk.specs.Leaves.{Leaves}
 use Rattle.omi_walk.specs.Objects.{IsMet}
 use Rattle.omi_walk.proofs.Chained.{ChainSoFar}
+use Rattle.omi_walk.specs.AskRegions.{ask_enclosed}
+use Rattle.omi_walk.proofs.ChainAsked.{ChainGoes}
 use Rattle.omi_walk.proofs.chain.enclosing.Given as goal
 
 abbrev pub invariant-loop : goal.invariant-loop
@@ -19,4 +21,5 @@ invariant-loop g l = record {
   current : IfSome l.current (IsMet g.C.Callbacks.told l.s Region);
   chain : All (IsMet g.C.Callbacks.told l.s Region) l.chain;
   so : ChainSoFar g.C.Callbacks.told l.initial.s l.fn.first.name l.chain (contains nat_cmp l.met) (l.end - l.counter) l.current;
+  goes : ChainGoes g.C.Callbacks.told g.C.Callbacks.asked l.initial.s ask_enclosed (records l.initial.s.layout regions) (Some l.fn.first) l.s l.chain (l.end - l.counter) (contains nat_cmp l.met) l.current;
 }

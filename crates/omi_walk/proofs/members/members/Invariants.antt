@@ -8,6 +8,8 @@ use Rattle.omi_walk.specs.Leaves.{Leaves}
 use Rattle.omi_walk.specs.Members.{HasSize}
 use Rattle.omi_walk.specs.Objects.{Stands}
 use Rattle.omi_walk.proofs.Steps.{EachSoFar}
+use Rattle.omi_walk.proofs.EachAsked.{EachGoes}
+use Rattle.omi_walk.specs.AskRegions.{ask_member}
 use Rattle.omi_walk.proofs.members.members.Given as goal
 
 abbrev pub invariant-loop-num : goal.invariant-loop-num
@@ -17,4 +19,5 @@ invariant-loop-num g l = record {
   bound : l.num-end ≡ l.size;
   rest : (n : Id) → Stands g.C.Callbacks.told l.initial.s Region (region_pair l.r) n → HasSize g.C.Callbacks.told l.initial.s n l.size
       → EachSoFar g.C.Callbacks.told l.initial.s l.s (λ w memory num. look_member w memory n num) (range_with_len 0 l.size) l.rows (range_with_len l.num (l.size - l.num));
+  goes : EachGoes g.C.Callbacks.told g.C.Callbacks.asked l.initial.s (region_pair l.r) (λ w k num. ask_member w k num) (range_with_len 0 l.size) l.s l.rows (range_with_len l.num (l.size - l.num));
 }

@@ -7,6 +7,14 @@ use Rattle.omi_walk.specs.Gives.{Looks}
 use Rattle.omi_walk.proofs.Looked.{value_gives}
 use Rattle.omi_walk.proofs.NumberLooks.{numbers_of, nthreads_looked}
 use Rattle.omi_walk.proofs.Steps.{look_unsaid}
+use Rattle.omi_handle.specs.Ledger.{Ledger}
+use Rattle.omi_icv.specs.declared.icv_text.Value.{Value}
+use Rattle.omi_icv.specs.Icvs.{icv_value}
+use Rattle.omi_icv.specs.declared.scoped.Scoped.TheVariants as scoped
+use Rattle.omi_walk.specs.Fault.{walked, fault_of}
+use Rattle.omi_walk.specs.AskWords.{ask_nthreads}
+use Rattle.omi_walk.proofs.Goes.{of_answers, walks_ok, walks_err, walks_unsaid}
+use Rattle.omi_numbers.specs.declared.variables.TheConstants.{NTHREADS_VAR}
 use Rattle.omi_walk.proofs.numbers.nthreads_of.Goals as goal
 
 pub returns-in_err-list_of-in-Ok-clause-look : goal.returns-in_err-list_of-in-Ok-clause-look
@@ -27,3 +35,37 @@ returns-in-Err-clause-look g c = λ n st memory t.
     rw c.fault_of.ensures (value_gives (get c.icv_value.new.s.handles.held (task_pair c.args.k)) (numbers_of (Err c.in-Err.rc)) _ _
     (λ ne. ap numbers_of (c.in-Err.ensures.answer.is memory t (λ e. ne (ap numbers_of e))))
     (nthreads_looked g.C.Callbacks.told c.args.s.now n memory t c.args.k 2 _ st refl refl))
+
+-- reads: what was asked
+
+pub returns-in_err-list_of-in-Ok-clause-reads : goal.returns-in_err-list_of-in-Ok-clause-reads
+unfolding ask_nthreads icv_value
+returns-in_err-list_of-in-Ok-clause-reads g c =
+    let told = g.C.Callbacks.told in
+    let asked = g.C.Callbacks.asked in
+    let s = c.args.s.now in
+    let pair = task_pair c.args.k in
+    walks_unsaid told asked s _ (λ (v : Value). v.numbers) (Ok c.in-Ok.value) _ _
+    (of_answers told asked s _ (Ok c.in-Ok.value) (Ok c.in-Ok.value) (walked (get s.handles.held pair)) (icv_value s.layout (get s.handles.held) (scoped.Task c.args.k) NTHREADS_VAR) refl refl c.in-Ok.ensures.answer)
+    c.from_residual.ensures.1
+
+pub returns-in_ok-list_of-in-Ok-clause-reads : goal.returns-in_ok-list_of-in-Ok-clause-reads
+unfolding ask_nthreads icv_value
+returns-in_ok-list_of-in-Ok-clause-reads g c =
+    let told = g.C.Callbacks.told in
+    let asked = g.C.Callbacks.asked in
+    let s = c.args.s.now in
+    let pair = task_pair c.args.k in
+    walks_ok told asked s _ (λ (v : Value). v.numbers) c.in-Ok.value _ _ (c.in_ok-list_of-in-Ok.ensures ∙ c.as_slice.ensures)
+    (of_answers told asked s _ (Ok c.in-Ok.value) (Ok c.in-Ok.value) (walked (get s.handles.held pair)) (icv_value s.layout (get s.handles.held) (scoped.Task c.args.k) NTHREADS_VAR) refl refl c.in-Ok.ensures.answer)
+
+pub returns-in-Err-clause-reads : goal.returns-in-Err-clause-reads
+unfolding ask_nthreads icv_value
+returns-in-Err-clause-reads g c =
+    let told = g.C.Callbacks.told in
+    let asked = g.C.Callbacks.asked in
+    let s = c.args.s.now in
+    let pair = task_pair c.args.k in
+    walks_err told asked s _ (λ (v : Value). v.numbers) c.fault_of.result _
+    (of_answers told asked s _ (Err c.in-Err.rc) (Err c.fault_of.result) (walked (get s.handles.held pair)) (icv_value s.layout (get s.handles.held) (scoped.Task c.args.k) NTHREADS_VAR) refl
+    (ap Err (c.fault_of.ensures ∙ ap (λ (l : Ledger). fault_of (get l.held pair) c.in-Err.rc) c.icv_value.ensures.same.handles)) c.in-Err.ensures.answer)

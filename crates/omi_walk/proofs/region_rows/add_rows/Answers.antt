@@ -1,5 +1,5 @@
-use Rattle.std.proofs.Common.{◌≡◌, ◌≤◌, ◌++◌, List, refl, sym, ap, subst, ◌∙◌, arith}
-use Rattle.std.specs.List.{flat_map, range_with_len}
+use Rattle.std.proofs.Common.{ℕ, ◌≡◌, ◌≤◌, ◌++◌, List, refl, sym, ap, subst, ◌∙◌, arith, ◌∷◌, [], append_assoc, append-nil, ◌-◌, map}
+use Rattle.std.specs.List.{flat_map, range_with_len, filter_map}
 use Rattle.std.proofs.lemmas.Result.{err_from_is_err_and}
 use Rattle.omi_layout.proofs.Arenas.{regions_of_valid}
 use Rattle.omi_layout.specs.Field.{regions}
@@ -8,10 +8,16 @@ use Rattle.omi_model.specs.declared.id.Id.{Id}
 use Rattle.omi_rep.specs.Look.{each}
 use Rattle.omi_rep.specs.LookView.{look_region}
 use Rattle.omi_walk.specs.Added.{Added}
-use Rattle.omi_walk.specs.Regions.{in_own_slots}
+use Rattle.omi_walk.specs.Regions.{in_own_slots, met_in_slot, own_slots}
 use Rattle.omi_walk.proofs.AddedRows.{at_each, looks_as, added_none, added_as, added_then, added_stops}
 use Rattle.omi_walk.proofs.RegionSlots.{in_one, own_by_slot, parts_more, parts_behind}
-use Rattle.omi_walk.proofs.Steps.{leaves_then}
+use Rattle.omi_walk.proofs.Steps.{leaves_then, next_range, no_more}
+use Rattle.std.specs.Prelude.{Err}
+use Rattle.omi_walk.specs.declared.met.Met.{Met}
+use Rattle.omi_model.specs.declared.view.RegionRow.{RegionRow}
+use Rattle.omi_walk.specs.AskRegions.{ask_region}
+use Rattle.omi_walk.proofs.SlotsAsked.{slot_next}
+use Rattle.omi_walk.proofs.EachAsked.{EachGoes, asks_begin, asks_part, part_stop, asks_end}
 use Rattle.omi_walk.proofs.region_rows.add_rows.Goals as goal
 
 pub loop-slot-init : goal.loop-slot-init
@@ -21,6 +27,13 @@ loop-slot-init g c = record {
   bound = c.regions_per_thread-slot-end.ensures ∙ ap (λ w. per_thread w regions) c.layout.ensures;
   few = subst (λ w. per_thread w regions ≤ 64) c.layout.ensures (regions_of_valid c.layout.result.now.table c.layout.result.now.valid);
   added = added_none g.C.Callbacks.told look_region c.args.s.now c.args.rows.now;
+  walked = [];
+  walked_is = sym (append-nil c.args.rows.now);
+  goes =
+      let n = per_thread c.args.s.now.layout regions in
+      let none : n - 0 ≡ n = omega arith in
+      subst (λ k. EachGoes g.C.Callbacks.told g.C.Callbacks.asked c.args.s.now (0, 0) (λ w k m. ask_region w m) (filter_map (met_in_slot c.args.index.now) (own_slots c.args.s.now.layout c.args.creator)) c.args.s.now [] (filter_map (met_in_slot c.args.index.now) (map (λ slot. (c.args.creator, slot)) (range_with_len 0 k)))) (sym none)
+      (asks_begin g.C.Callbacks.told g.C.Callbacks.asked c.args.s.now (0, 0) (λ w k m. ask_region w m) (filter_map (met_in_slot c.args.index.now) (own_slots c.args.s.now.layout c.args.creator)));
 }
 
 pub returns-in_err-add_row-clause-look : goal.returns-in_err-add_row-clause-look
@@ -52,6 +65,18 @@ loop-slot-preserved g c = record {
       subst (λ (xs : List Id). Added told c.args.s.now c.args.rows.now c.add_row.new.rows (at_each look_region xs)) (sym (parts_more part slot))
       (added_then told look_region c.args.s.now c.loop-slot.s (flat_map part (range_with_len 0 slot)) (part slot) c.args.rows.now c.loop-slot.rows
       c.loop-slot.invariant.added c.loop-slot.invariant.leaves.stays c.add_row.new.rows c.in_ok-add_row.ensures.look);
+  walked = c.loop-slot.invariant.walked ++ c.in_ok-add_row.ensures.reads.rows;
+  walked_is =
+      c.in_ok-add_row.ensures.reads.is ∙ ap (λ rows. rows ++ c.in_ok-add_row.ensures.reads.rows) c.loop-slot.invariant.walked_is
+      ∙ append_assoc c.args.rows.now c.loop-slot.invariant.walked c.in_ok-add_row.ensures.reads.rows;
+  goes =
+      asks_part g.C.Callbacks.told g.C.Callbacks.asked c.args.s.now (0, 0) (λ w k m. ask_region w m) (filter_map (met_in_slot c.args.index.now) (own_slots c.args.s.now.layout c.args.creator)) c.loop-slot.s c.add_row.new.s c.loop-slot.invariant.walked _
+      (filter_map (met_in_slot c.args.index.now) ((c.args.creator, c.loop-slot.slot) ∷ [])) _ c.in_ok-add_row.ensures.reads.rows
+      (subst (λ left. EachGoes g.C.Callbacks.told g.C.Callbacks.asked c.args.s.now (0, 0) (λ w k m. ask_region w m) (filter_map (met_in_slot c.args.index.now) (own_slots c.args.s.now.layout c.args.creator)) c.loop-slot.s c.loop-slot.invariant.walked left)
+      (ap (λ slots. filter_map (met_in_slot c.args.index.now) (map (λ slot. (c.args.creator, slot)) slots))
+      (next_range c.loop-slot.slot (per_thread c.args.s.now.layout regions) (omega (arith, c.loop-slot.invariant.bound, c.loop-slot-test.true)))
+      ∙ slot_next c.args.index.now c.args.creator c.loop-slot.slot _) c.loop-slot.invariant.goes)
+      c.add_row.ensures.leaves c.in_ok-add_row.ensures.reads.walks;
 }
 
 pub returns-clause-look : goal.returns-clause-look
@@ -65,3 +90,31 @@ returns-clause-look g c =
     added_as told look_region s c.args.rows.now c.loop-slot.rows (at_each look_region (flat_map part (range_with_len 0 c.loop-slot.slot))) (λ w memory. each (look_region w memory) (in_own_slots index w creator))
     (λ memory. ap (each (look_region s.layout memory)) (ap (λ n. flat_map part (range_with_len 0 n)) all ∙ sym (own_by_slot index s.layout creator)))
     c.loop-slot.invariant.added
+
+-- reads: what was asked
+
+pub returns-in_err-add_row-clause-reads : goal.returns-in_err-add_row-clause-reads
+returns-in_err-add_row-clause-reads g c =
+    let told = g.C.Callbacks.told in
+    let asked = g.C.Callbacks.asked in
+    let p = err_from_is_err_and c.from_residual.result c.from_residual.ensures.1 in
+    let s = c.args.s.now in
+    rw (p.1, p.2) (part_stop told asked s (0, 0) (λ w k m. ask_region w m) (filter_map (met_in_slot c.args.index.now) (own_slots c.args.s.now.layout c.args.creator)) c.loop-slot.s c.add_row.new.s c.loop-slot.invariant.walked
+    (filter_map (met_in_slot c.args.index.now) ((c.args.creator, c.loop-slot.slot) ∷ [])) _ c.in_err-add_row.field-0.0 (Err c.in_err-add_row.field-0.0)
+    (subst (λ left. EachGoes told asked s (0, 0) (λ w k m. ask_region w m) (filter_map (met_in_slot c.args.index.now) (own_slots c.args.s.now.layout c.args.creator)) c.loop-slot.s c.loop-slot.invariant.walked left)
+    (ap (λ slots. filter_map (met_in_slot c.args.index.now) (map (λ slot. (c.args.creator, slot)) slots))
+    (next_range c.loop-slot.slot (per_thread s.layout regions) (omega (arith, c.loop-slot.invariant.bound, c.loop-slot-test.true)))
+    ∙ slot_next c.args.index.now c.args.creator c.loop-slot.slot _) c.loop-slot.invariant.goes) c.in_err-add_row.ensures.reads refl)
+
+pub returns-clause-reads : goal.returns-clause-reads
+returns-clause-reads g c =
+    let told = g.C.Callbacks.told in
+    let asked = g.C.Callbacks.asked in
+    let s = c.args.s.now in
+    record {
+      rows = c.loop-slot.invariant.walked;
+      is = c.loop-slot.invariant.walked_is;
+      walks = asks_end told asked s (0, 0) (λ w k m. ask_region w m) (filter_map (met_in_slot c.args.index.now) (own_slots c.args.s.now.layout c.args.creator)) c.loop-slot.s c.loop-slot.invariant.walked
+          (subst (λ (slots : List ℕ). EachGoes told asked s (0, 0) (λ w k m. ask_region w m) (filter_map (met_in_slot c.args.index.now) (own_slots c.args.s.now.layout c.args.creator)) c.loop-slot.s c.loop-slot.invariant.walked (filter_map (met_in_slot c.args.index.now) (map (λ slot. (c.args.creator, slot)) slots)))
+          (no_more c.loop-slot.slot (per_thread s.layout regions) (omega (arith, c.loop-slot.invariant.bound, c.loop-slot-test.false))) c.loop-slot.invariant.goes);
+    }

@@ -1,5 +1,5 @@
-use Rattle.std.proofs.Common.{◌≡◌, ◌≤◌, ◌*◌}
-use Rattle.std.specs.List.{flat_map, range_with_len}
+use Rattle.std.proofs.Common.{◌≡◌, ◌≤◌, ◌*◌, ◌++◌, ◌-◌, List, map}
+use Rattle.std.specs.List.{flat_map, range_with_len, filter_map}
 use Rattle.omi_layout.specs.Field.{regions}
 use Rattle.omi_layout.specs.Table.{per_thread}
 use Rattle.omi_rep.specs.LookView.{look_region}
@@ -7,6 +7,10 @@ use Rattle.omi_walk.specs.Added.{Added}
 use Rattle.omi_walk.specs.Leaves.{Leaves}
 use Rattle.omi_walk.proofs.AddedRows.{at_each}
 use Rattle.omi_walk.proofs.RegionSlots.{in_one}
+use Rattle.omi_model.specs.declared.view.RegionRow.{RegionRow}
+use Rattle.omi_walk.specs.Regions.{met_in_slot, own_slots}
+use Rattle.omi_walk.specs.AskRegions.{ask_region}
+use Rattle.omi_walk.proofs.EachAsked.{EachGoes}
 use Rattle.omi_walk.proofs.region_rows.add_rows.Given as goal
 
 abbrev pub invariant-loop-slot : goal.invariant-loop-slot
@@ -16,4 +20,8 @@ invariant-loop-slot g l = record {
   bound : l.slot-end ≡ per_thread l.initial.s.layout regions;
   few : per_thread l.initial.s.layout regions ≤ 64;
   added : Added g.C.Callbacks.told l.initial.s l.initial.rows l.rows (at_each look_region (flat_map (in_one l.index l.creator) (range_with_len 0 l.slot)));
+  walked : List RegionRow;
+  walked_is : l.rows ≡ l.initial.rows ++ walked;
+  goes : EachGoes g.C.Callbacks.told g.C.Callbacks.asked l.initial.s (0, 0) (λ w k m. ask_region w m) (filter_map (met_in_slot l.index) (own_slots l.initial.s.layout l.creator)) l.s walked
+      (filter_map (met_in_slot l.index) (map (λ slot. (l.creator, slot)) (range_with_len l.slot (per_thread l.initial.s.layout regions - l.slot))));
 }

@@ -1,12 +1,16 @@
-use Rattle.std.proofs.Common.{◌≡◌, ◌≤◌, ◌*◌, []}
-use Rattle.std.specs.List.{flat_map, range_with_len}
+use Rattle.std.proofs.Common.{◌≡◌, ◌≤◌, ◌*◌, [], ◌-◌, List}
+use Rattle.std.specs.List.{flat_map, range_with_len, filter_map}
 use Rattle.omi_layout.specs.Field.{regions}
 use Rattle.omi_layout.specs.Table.{thread_count, per_thread}
 use Rattle.omi_rep.specs.LookView.{look_region}
 use Rattle.omi_walk.specs.Added.{Added}
 use Rattle.omi_walk.specs.Leaves.{Leaves}
-use Rattle.omi_walk.specs.Regions.{in_own_slots}
+use Rattle.omi_walk.specs.Regions.{in_own_slots, met_in_slot, own_slots}
 use Rattle.omi_walk.proofs.AddedRows.{at_each}
+use Rattle.omi_model.specs.declared.view.RegionRow.{RegionRow}
+use Rattle.omi_walk.specs.AskRegions.{ask_region}
+use Rattle.omi_rep.specs.Look.{slot_list}
+use Rattle.omi_walk.proofs.EachAsked.{EachGoes}
 use Rattle.omi_walk.proofs.region_rows.region_rows.Given as goal
 
 abbrev pub invariant-loop-creator : goal.invariant-loop-creator
@@ -15,5 +19,8 @@ invariant-loop-creator g l = record {
   later : g.C.Callbacks.faults l.initial.s.table.calls ≤ g.C.Callbacks.faults l.s.table.calls;
   bound : l.creator-end ≡ thread_count l.initial.s.layout;
   few : per_thread l.initial.s.layout regions ≤ 64;
+  threads : thread_count l.initial.s.layout ≤ 64;
   added : Added g.C.Callbacks.told l.initial.s [] l.rows (at_each look_region (flat_map (in_own_slots l.index l.initial.s.layout) (range_with_len 0 l.creator)));
+  goes : EachGoes g.C.Callbacks.told g.C.Callbacks.asked l.initial.s (0, 0) (λ w k m. ask_region w m) (filter_map (met_in_slot l.index) (slot_list l.initial.s.layout regions)) l.s l.rows
+      (filter_map (met_in_slot l.index) (flat_map (own_slots l.initial.s.layout) (range_with_len l.creator (thread_count l.initial.s.layout - l.creator))));
 }

@@ -1,5 +1,5 @@
-use Rattle.std.proofs.Common.{◌<◌, ◌++◌, ◌∷◌, [], ℕ, List, map, refl, ap, subst, ◌∙◌, arith}
-use Rattle.std.proofs.lemmas.List.{map-append, flat_map_more}
+use Rattle.std.proofs.Common.{◌<◌, ◌++◌, ◌∷◌, [], ℕ, List, map, refl, ap, subst, ◌∙◌, arith, sym}
+use Rattle.std.proofs.lemmas.List.{map-append, flat_map_more, drop_all}
 use Rattle.std.proofs.lemmas.List.Elements.{All-append, All-nil, All-weaker}
 use Rattle.std.proofs.lemmas.Result.{err_from_is_err_and}
 use Rattle.omi_handle.specs.declared.handle.Kind.TheVariants.{Region}
@@ -10,6 +10,14 @@ use Rattle.omi_walk.specs.Objects.{IsMet}
 use Rattle.omi_walk.proofs.FoundLooks.{found_after}
 use Rattle.omi_walk.proofs.FoundTasks.{next_thread, no_thread, found_at}
 use Rattle.omi_walk.proofs.Steps.{EachSoFar, each_begins, each_next, each_stops, each_ends, leaves_then, look_unsaid, met_after}
+use Rattle.std.specs.Prelude.{Ok, Err}
+use Rattle.omi_walk.specs.declared.found.Found.{Found}
+use Rattle.omi_walk.specs.declared.fault.WalkFault.TheVariants.{OutOfMemory}
+use Rattle.omi_walk.specs.Index.{HasFirst, AreSmall}
+use Rattle.omi_walk.specs.AskRegions.{ask_regions}
+use Rattle.omi_walk.proofs.SlotsAsked.{next_found}
+use Rattle.omi_walk.proofs.EachAsked.{EachGoes, asks_begin, asks_next, asks_stop, asks_end}
+use Rattle.omi_walk.proofs.Goes.{goes_unsaid}
 use Rattle.omi_walk.proofs.regions_met.regions_met.Goals as goal
 
 pub loop-at-init : goal.loop-at-init
@@ -24,6 +32,9 @@ loop-at-init g c = record {
   small = All-nil _;
   live = All-nil _;
   so = each_begins g.C.Callbacks.told c.args.s.now look_regions (map (λ f. f.thread) c.args.found.now);
+  all = [];
+  flat = refl;
+  goes = asks_begin g.C.Callbacks.told g.C.Callbacks.asked c.args.s.now (0, 0) (λ w k f. ask_regions w f) c.args.found.now;
 }
 
 pub regions_of-requires-clause-found : goal.regions_of-requires-clause-found
@@ -74,6 +85,14 @@ loop-at-preserved g c = record {
       (next_thread c.args.found.now c.loop-at.at f c.get.ensures) c.loop-at.invariant.so in
       each_next told c.args.s.now look_regions all c.loop-at.s c.loop-at.invariant.chains c.regions_of.new.s f.thread _ (map (λ m. m.name) c.in_ok-chain.chain) so
       c.in_ok-chain.ensures.look c.regions_of.ensures.leaves.stays;
+  all = c.loop-at.invariant.all ++ c.in_ok-chain.chain ∷ [];
+  flat =
+      sym (flat_map_more (λ (chain : List Met). chain) [] c.loop-at.invariant.all c.in_ok-chain.chain)
+      ∙ ap (λ met. met ++ c.in_ok-chain.chain) c.loop-at.invariant.flat;
+  goes =
+      asks_next g.C.Callbacks.told g.C.Callbacks.asked c.args.s.now (0, 0) (λ w k f. ask_regions w f) c.args.found.now c.loop-at.s c.regions_of.new.s c.loop-at.invariant.all _ c.get.result.now _ c.in_ok-chain.chain
+      (subst (λ left. EachGoes g.C.Callbacks.told g.C.Callbacks.asked c.args.s.now (0, 0) (λ w k f. ask_regions w f) c.args.found.now c.loop-at.s c.loop-at.invariant.all left)
+      (next_found c.args.found.now c.loop-at.at c.get.result.now c.get.ensures) c.loop-at.invariant.goes) c.regions_of.ensures.leaves c.in_ok-chain.ensures.reads;
 }
 
 pub returns-clause-look : goal.returns-clause-look
@@ -90,4 +109,43 @@ returns-clause-look g c =
       first = c.loop-at.invariant.first;
       small = c.loop-at.invariant.small;
       live = c.loop-at.invariant.live;
+    }
+
+-- reads: what was asked
+
+pub returns-in_err-chain-clause-reads : goal.returns-in_err-chain-clause-reads
+returns-in_err-chain-clause-reads g c =
+    let told = g.C.Callbacks.told in
+    let asked = g.C.Callbacks.asked in
+    let p = err_from_is_err_and c.from_residual.result c.from_residual.ensures.1 in
+    let s = c.args.s.now in
+    let f = c.get.result.now in
+    let so = subst (λ left. EachGoes g.C.Callbacks.told g.C.Callbacks.asked s (0, 0) (λ w k f. ask_regions w f) c.args.found.now c.loop-at.s c.loop-at.invariant.all left)
+    (next_found c.args.found.now c.loop-at.at f c.get.ensures) c.loop-at.invariant.goes in
+    rw (p.1, p.2) (asks_stop told asked s (0, 0) (λ w k f. ask_regions w f) c.args.found.now c.loop-at.s c.regions_of.new.s c.loop-at.invariant.all f _ c.in_err-chain.field-0.0 (Err c.in_err-chain.field-0.0) so c.in_err-chain.ensures.reads refl)
+
+pub returns-in_err-index_all-clause-reads : goal.returns-in_err-index_all-clause-reads
+returns-in_err-index_all-clause-reads g c =
+    let told = g.C.Callbacks.told in
+    let asked = g.C.Callbacks.asked in
+    let p = err_from_is_err_and c.from_residual-in_err-index_all.result c.from_residual-in_err-index_all.ensures.1 in
+    let s = c.args.s.now in
+    let f = c.get.result.now in
+    let so = subst (λ left. EachGoes g.C.Callbacks.told g.C.Callbacks.asked s (0, 0) (λ w k f. ask_regions w f) c.args.found.now c.loop-at.s c.loop-at.invariant.all left)
+    (next_found c.args.found.now c.loop-at.at f c.get.ensures) c.loop-at.invariant.goes in
+    rw (p.1, p.2, c.in_err-index_all.ensures.memory) (goes_unsaid told asked s c.regions_of.new.s _ _ (Err OutOfMemory)
+    (asks_next told asked s (0, 0) (λ w k f. ask_regions w f) c.args.found.now c.loop-at.s c.regions_of.new.s c.loop-at.invariant.all _ f _ c.in_ok-chain.chain so c.regions_of.ensures.leaves c.in_ok-chain.ensures.reads) refl)
+
+pub returns-clause-reads : goal.returns-clause-reads
+returns-clause-reads g c =
+    let told = g.C.Callbacks.told in
+    let asked = g.C.Callbacks.asked in
+    let s = c.args.s.now in
+    record {
+      met = c.loop-at.invariant.all;
+      walks = asks_end told asked s (0, 0) (λ w k f. ask_regions w f) c.args.found.now c.loop-at.s c.loop-at.invariant.all
+          (subst (λ (left : List Found). EachGoes g.C.Callbacks.told g.C.Callbacks.asked s (0, 0) (λ w k f. ask_regions w f) c.args.found.now c.loop-at.s c.loop-at.invariant.all left)
+          (drop_all c.loop-at.at c.args.found.now (omega (arith, c.loop-at.invariant.bound, c.loop-at-test.false))) c.loop-at.invariant.goes);
+      first = subst (HasFirst c.loop-at.index) (sym c.loop-at.invariant.flat) c.loop-at.invariant.first;
+      small = subst AreSmall (sym c.loop-at.invariant.flat) c.loop-at.invariant.small;
     }

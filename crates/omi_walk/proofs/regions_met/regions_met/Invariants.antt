@@ -8,6 +8,8 @@ use Rattle.omi_walk.specs.Index.{HasFirst, AreSmall}
 use Rattle.omi_walk.specs.Leaves.{Leaves}
 use Rattle.omi_walk.specs.Objects.{IsMet}
 use Rattle.omi_walk.proofs.Steps.{EachSoFar}
+use Rattle.omi_walk.specs.AskRegions.{ask_regions}
+use Rattle.omi_walk.proofs.EachAsked.{EachGoes}
 use Rattle.omi_walk.proofs.regions_met.regions_met.Given as goal
 
 abbrev pub invariant-loop-at : goal.invariant-loop-at
@@ -22,4 +24,7 @@ invariant-loop-at g l = record {
   small : AreSmall met;
   live : All (IsMet g.C.Callbacks.told l.s Region) met;
   so : EachSoFar g.C.Callbacks.told l.initial.s l.s look_regions (map (λ f. f.thread) l.found) chains (map (λ f. f.thread) (drop l.at l.found));
+  all : List (List Met);
+  flat : flat_map (λ chain. chain) all ≡ met;
+  goes : EachGoes g.C.Callbacks.told g.C.Callbacks.asked l.initial.s (0, 0) (λ w k f. ask_regions w f) l.found l.s all (drop l.at l.found);
 }

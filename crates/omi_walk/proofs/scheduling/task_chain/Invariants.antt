@@ -9,6 +9,8 @@ use Rattle.omi_model.specs.declared.view.TaskRow.{TaskRow}
 use Rattle.omi_walk.specs.Leaves.{Leaves}
 use Rattle.omi_walk.specs.Objects.{IsMet, name_in}
 use Rattle.omi_walk.proofs.TaskChained.{TasksSoFar}
+use Rattle.omi_walk.specs.AskTasks.{ask_chained}
+use Rattle.omi_walk.proofs.ChainAsked.{ChainGoes}
 use Rattle.omi_walk.proofs.scheduling.task_chain.Given as goal
 
 abbrev pub invariant-loop : goal.invariant-loop
@@ -21,4 +23,5 @@ invariant-loop g l = record {
   added : List TaskRow;
   is : l.rows ≡ l.initial.rows ++ added;
   so : TasksSoFar g.C.Callbacks.told l.initial.s l.thread (name_in l.fn.first) added (contains nat_cmp l.met) (l.end - l.counter) (name_in l.current);
+  goes : ChainGoes g.C.Callbacks.told g.C.Callbacks.asked l.initial.s (λ w. ask_chained w l.thread) (records l.initial.s.layout tasks) l.fn.first l.s added (l.end - l.counter) (contains nat_cmp l.met) l.current;
 }

@@ -4,6 +4,8 @@ use Rattle.omi_model.specs.declared.view.TaskRow.{TaskRow}
 use Rattle.omi_rep.specs.LookView.{look_tasks}
 use Rattle.omi_walk.specs.Leaves.{Leaves}
 use Rattle.omi_walk.proofs.Steps.{EachSoFar}
+use Rattle.omi_walk.specs.AskTasks.{ask_tasks}
+use Rattle.omi_walk.proofs.EachAsked.{EachGoes}
 use Rattle.omi_walk.proofs.task_rows.task_rows.Given as goal
 
 abbrev pub invariant-loop-at : goal.invariant-loop-at
@@ -14,4 +16,7 @@ invariant-loop-at g l = record {
   chains : List (List TaskRow);
   is : l.rows ≡ flat_map (λ r. r) chains;
   so : EachSoFar g.C.Callbacks.told l.initial.s l.s look_tasks (map (λ f. f.thread) l.found) chains (map (λ f. f.thread) (drop l.at l.found));
+  walked : List (List TaskRow);
+  walked_is : l.rows ≡ flat_map (λ r. r) walked;
+  goes : EachGoes g.C.Callbacks.told g.C.Callbacks.asked l.initial.s (0, 0) (λ w k f. ask_tasks w f) l.found l.s walked (drop l.at l.found);
 }

@@ -5,6 +5,11 @@ use Rattle.omi_session.specs.Made.{task_pair}
 use Rattle.omi_asktask.specs.TaskWords.{function}
 use Rattle.omi_walk.proofs.Looked.{word_looked}
 use Rattle.omi_walk.proofs.WordLooks.{value_looks}
+use Rattle.std.proofs.Common.{refl, ap, ◌∙◌}
+use Rattle.omi_handle.specs.Ledger.{Ledger}
+use Rattle.omi_walk.specs.Fault.{walked}
+use Rattle.omi_walk.proofs.Goes.{of_answers}
+use Rattle.omi_walk.specs.AskWords.{ask_function}
 use Rattle.omi_walk.proofs.words.function_of.Goals as goal
 
 pub returns-clause-look : goal.returns-clause-look
@@ -12,3 +17,15 @@ unfolding function
 returns-clause-look g c = λ n st.
     value_looks g.C.Callbacks.told c.args.s.now _ c.get_task_function-answer.result _ (function c.args.s.now.layout (get c.args.s.now.handles.held (task_pair c.args.k))) _ c.walked.ensures c.get_task_function-answer.ensures.answer.is
     (λ memory t. word_looked g.C.Callbacks.told c.args.s.now Task (task_pair c.args.k) n st memory t TaskFunction 0)
+
+-- reads: what was asked
+
+pub returns-clause-reads : goal.returns-clause-reads
+unfolding ask_function
+returns-clause-reads g c =
+    let told = g.C.Callbacks.told in
+    let asked = g.C.Callbacks.asked in
+    let s = c.args.s.now in
+    let pair = task_pair c.args.k in
+    of_answers told asked s _ c.get_task_function-answer.result _ (walked (get s.handles.held pair)) (function s.layout (get s.handles.held pair))
+    refl (c.walked.ensures ∙ ap (λ (l : Ledger). walked (get l.held pair) c.get_task_function-answer.result) c.get_task_function-answer.ensures.same.handles) c.get_task_function-answer.ensures.answer
