@@ -11,6 +11,7 @@ ghost use Rattle.omi_handle.specs.declared.handle.Kind.{Kind};
 ghost use Rattle.omi_handle.specs.declared.handle.Kind.TheVariants.{Region, Task};
 ghost use Rattle.omi_outside.specs.Outside.{HasCause};
 ghost use Rattle.omi_session.specs.Made.{IsMade, Makes, as_pair, region_pair, task_pair};
+ghost use Rattle.omi_session.specs.Reads.{ReadsAtMost};
 ghost use Rattle.omi_session.specs.declared.rc.Rc.{Rc};
 ghost use Rattle.omi_session.specs.Opened.{Stays};
 ghost use Rattle.omi.specs.Chains.{IsCallbackError, IsStepTo, MakesStep, Steps, as_step, came_by, is_record_of};
@@ -144,6 +145,8 @@ impl Chain {
         ensures answer { Steps (C.told s.old.table.calls) (came_by self.new) s.new.handles
             (as_step region_pair result)
             (enclosing_region s.old.layout (get s.old.handles.held (region_pair r))) }
+        ensures reads { ReadsAtMost C.told C.asked s.old s.new
+            (enclosing_region s.old.layout (get s.old.handles.held (region_pair r))) }
         ensures records { OnOk result ((address : ℕ) → came_by self.new address
             ≡ (came_by self.old address
             || is_record_of (get s.old.handles.held (region_pair r)) address)) }
@@ -168,6 +171,8 @@ impl Chain {
         ensures answer { Steps (C.told s.old.table.calls) (came_by self.new) s.new.handles
             (as_step task_pair result)
             (scheduling_task s.old.layout (get s.old.handles.held (task_pair k))) }
+        ensures reads { ReadsAtMost C.told C.asked s.old s.new
+            (scheduling_task s.old.layout (get s.old.handles.held (task_pair k))) }
         ensures records { OnOk result ((address : ℕ) → came_by self.new address
             ≡ (came_by self.old address
             || is_record_of (get s.old.handles.held (task_pair k)) address)) }
@@ -191,6 +196,8 @@ impl Chain {
         requires { s.old.handles.made < 2 ^ 64 - 1 }
         ensures answer { Steps (C.told s.old.table.calls) (came_by self.new) s.new.handles
             (as_step task_pair result)
+            (generating_task s.old.layout (get s.old.handles.held (task_pair k))) }
+        ensures reads { ReadsAtMost C.told C.asked s.old s.new
             (generating_task s.old.layout (get s.old.handles.held (task_pair k))) }
         ensures records { OnOk result ((address : ℕ) → came_by self.new address
             ≡ (came_by self.old address
