@@ -1,5 +1,5 @@
 -- An operation of a thread on the table is allowed, whatever its kind.
-use Rattle.std.proofs.Common.{◌≡◌, ◌<◌, ◌≤◌, ◌+◌, ◌==◌, ◌-◌, ◌/◌, ℕ, Bool, true, false, List, [], ◌∷◌, length, refl, sym, ap, ◌∙◌, subst, arith, Option, if◌then◌else◌}
+use Rattle.std.proofs.Common.{◌≡◌, ◌<◌, ◌==◌, ℕ, Bool, true, false, [], ◌∷◌, refl, sym, ap, subst, arith, Option, if◌then◌else◌}
 use mathlib.Core.Path.{fun_ext}
 use prog.Atomic.{either}
 use Rattle.atomic_table.specs.Seated.{TableId}

@@ -1,5 +1,5 @@
 -- The seat of a thread that ended is taken in.
-use Rattle.std.proofs.Common.{◌≡◌, ◌+◌, ◌++◌, ⊎_elim, ℕ, List, [], ◌∷◌, length, map, slice_get, Option, Some, refl, sym, ap, ◌∙◌, subst, arith}
+use Rattle.std.proofs.Common.{◌≡◌, ◌+◌, ◌++◌, ⊎_elim, ℕ, List, [], ◌∷◌, length, slice_get, Option, Some, sym, ap, ◌∙◌, subst}
 use Rattle.std.proofs.lemmas.List.{length-append, length-map}
 use Rattle.atomic_table.specs.Seated.{TableId}
 use Rattle.omi_script.specs.declared.program.Program.{Program}
@@ -12,13 +12,13 @@ use Rattle.omi_core.specs.declared.thread_run.ThreadRun.{ThreadRun}
 use Rattle.omi_core.specs.declared.thread_run.Until.{Until}
 use Rattle.omi_core.specs.RunSteps.{made_of}
 use Rattle.omi_live.specs.declared.known.Part.{Part}
-use Rattle.omi_live.specs.declared.threads.Ended.{Ended}
+use Rattle.omi_live.specs.declared.threads.Runner.{Runner}
 use Rattle.omi_live.specs.Joined.{AreRunsKnown, HasEnded, IsRunKnown}
 use Rattle.omi_live.specs.Running.{steps_known}
 use Rattle.omi_live.specs.Work.{HasWorked}
 use Rattle.omi_live.proofs.Lists.{get_front, get_last, get_more}
 
-module _ (p : Program) (l : Layout) (id : TableId) (budget : ℕ) (on : Option Break) (parts : List Part) (runs : List ThreadRun) (e : Ended) (run : ThreadRun) (so_far : AreRunsKnown p l budget on parts runs) (h : HasEnded p l id budget on (length runs) e)
+module _ (p : Program) (l : Layout) (id : TableId) (budget : ℕ) (on : Option Break) (parts : List Part) (runs : List ThreadRun) (e : Runner) (run : ThreadRun) (so_far : AreRunsKnown p l budget on parts runs) (h : HasEnded p l id budget on (length runs) e)
     (made : run.made ≡ e.worker.made) (events : run.events ≡ e.worker.events) (actor : run.actor ≡ e.worker.actor) (until : run.until ≡ e.until) (steps : run.steps ≡ length e.worker.made.items) where
   this_run : IsRunKnown p l budget on (length runs) h.part run
   this_run = record {

@@ -1,5 +1,7 @@
 pub mod StopsLast
+pub mod Accesses
 pub mod Count
+pub mod Claims
 pub mod Stepped
 pub mod Looked
 pub mod Seats

@@ -1,5 +1,5 @@
 -- Seats are made and taken in, and a table is opened, under the rule.
-use Rattle.std.proofs.Common.{◌≡◌, ◌≢◌, ◌⊎◌, inl, inr, ◌<◌, ◌≤◌, ◌==◌, ◌+◌, ◌++◌, ℕ, zero, suc, Bool, true, false, List, [], ◌∷◌, length, slice_set, slice_get, slice_index_or, zero-add, Option, Some, None, refl, sym, ap, ◌∙◌, subst, arith, ⊎_elim, eq-eqb, eqb-true, if◌then◌else◌}
+use Rattle.std.proofs.Common.{◌≡◌, ◌≢◌, ◌⊎◌, inl, inr, ◌<◌, ◌≤◌, ◌==◌, ◌+◌, ◌++◌, ℕ, zero, suc, Bool, true, false, List, [], ◌∷◌, length, slice_set, slice_get, slice_index_or, zero-add, Option, Some, refl, sym, ap, ◌∙◌, subst, arith, ⊎_elim, eq-eqb, eqb-true, if◌then◌else◌}
 use mathlib.Core.Option.{some, some-injective, some-ne-none}
 use lib.ListN.{get_elem?}
 use Rattle.std.proofs.lemmas.Bool.{false≢true}
@@ -9,7 +9,6 @@ use Rattle.atomic_table.proofs.Lists.{at_set, set_else}
 use Rattle.omi_script.specs.declared.program.Program.{Program}
 use Rattle.omi_layout.specs.declared.layout.Layout.{Layout}
 use Rattle.omi_layout.specs.OpeningWords.{AreOpening}
-use Rattle.omi_layout.specs.Valid.{IsValid}
 use Rattle.omi_pc.specs.declared.actor.Actor.{Actor}
 use Rattle.omi_pc.specs.Opening.{opening_actor, waiting_actor}
 use Rattle.omi_rep.specs.Suits.{Suits}
@@ -23,7 +22,7 @@ use Rattle.omi_core.proofs.Opened.{opened_run}
 use Rattle.omi_live.specs.declared.limits.TheConstants.{MOST_BUDGET}
 use Rattle.omi_live.specs.declared.known.Part.{Part}
 use Rattle.omi_live.specs.Plays.{first_alone, untouched, untouched_below, without_first}
-use Rattle.omi_live.specs.Running.{AreKnown, IsPart, Keeps}
+use Rattle.omi_live.specs.Running.{IsPart, Keeps}
 use Rattle.omi_live.proofs.Stepped.{one_alone}
 
 -- ---- places in lists
@@ -71,25 +70,25 @@ module _ (p : Program) (l : Layout) (on : Option Break) (s : State (Unit {0}) (L
   one_seat : (h.known.seat first.thread ≡ id)
   one_seat = (h.known.parts id 0 (first ∷ rest) first at refl).0
 
-  split_parts : (j k : ℕ) (known : List Part) (z : Part) → get_elem? (slice_set s.views id rest ++ (first ∷ []) ∷ []) j ≡ some known → slice_get known k ≡ Some z → (seat_now z.thread ≡ j) × IsPart p l h.keeps.run.entries h.run.actors h.stop z
+  split_parts : (j k : ℕ) (known : List Part) (z : Part) → get_elem? (slice_set s.views id rest ++ (first ∷ []) ∷ []) j ≡ some known → slice_get known k ≡ Some z → (seat_now z.thread ≡ j) × IsPart p l h.keeps.run.entries h.accesses h.run.actors h.stop z
   split_parts j k known z got there = ⊎_elim (λ old. ⊎_elim here elsewhere (at_set s.views id j rest known old)) new (at_end (slice_set s.views id rest) (first ∷ []) known j got)
     where
-      here : (j ≡ id) × (rest ≡ known) → (seat_now z.thread ≡ j) × IsPart p l h.keeps.run.entries h.run.actors h.stop z
+      here : (j ≡ id) × (rest ≡ known) → (seat_now z.thread ≡ j) × IsPart p l h.keeps.run.entries h.accesses h.run.actors h.stop z
       here (at_id, is) =
           let in_rest = subst (λ (ks : List Part). slice_get ks k ≡ Some z) (sym is) there in
           let before = h.known.parts id (suc k) (first ∷ rest) z at in_rest in
           (of_other z.thread (apart k z in_rest) ∙ before.0 ∙ sym at_id, before.1)
 
-      elsewhere : (j ≢ id) × (get_elem? s.views j ≡ some known) → (seat_now z.thread ≡ j) × IsPart p l h.keeps.run.entries h.run.actors h.stop z
+      elsewhere : (j ≢ id) × (get_elem? s.views j ≡ some known) → (seat_now z.thread ≡ j) × IsPart p l h.keeps.run.entries h.accesses h.run.actors h.stop z
       elsewhere (not, old) =
           let before = h.known.parts j k known z old there in
           (of_other z.thread (λ same. not (sym before.0 ∙ ap h.known.seat same ∙ one_seat)) ∙ before.0, before.1)
 
-      new : (j ≡ length (slice_set s.views id rest)) × (first ∷ [] ≡ known) → (seat_now z.thread ≡ j) × IsPart p l h.keeps.run.entries h.run.actors h.stop z
+      new : (j ≡ length (slice_set s.views id rest)) × (first ∷ [] ≡ known) → (seat_now z.thread ≡ j) × IsPart p l h.keeps.run.entries h.accesses h.run.actors h.stop z
       new (last, is) =
           let alone : first ≡ z = one_alone first z known k is there in (
             ap (λ (q : Part). seat_now q.thread) (sym alone) ∙ of_first ∙ sym (length-set s.views id rest) ∙ sym last,
-            subst (IsPart p l h.keeps.run.entries h.run.actors h.stop) alone (h.known.parts id 0 (first ∷ rest) first at refl).1,
+            subst (IsPart p l h.keeps.run.entries h.accesses h.run.actors h.stop) alone (h.known.parts id 0 (first ∷ rest) first at refl).1,
           )
 
   keeps_split : Keeps p l on record { words = s.words; homes = s.homes; views = slice_set s.views id rest ++ (first ∷ []) ∷ [] }
@@ -101,7 +100,11 @@ module _ (p : Program) (l : Layout) (on : Option Break) (s : State (Unit {0}) (L
     stop = h.stop;
     words = h.words;
     few = h.few;
-    stop_word = h.stop_word;
+    raised = h.raised;
+    first = h.first;
+    opens = h.opens;
+    accesses = h.accesses;
+    made = h.made;
     known = record { seat = seat_now; parts = split_parts };
   }
 
@@ -133,29 +136,29 @@ module _ (p : Program) (l : Layout) (on : Option Break) (s : State (Unit {0}) (L
   before : get_elem? s.views other ≡ some w
   before = sym (set_else s.views id other (v ++ w) apart) ∙ at_other
 
-  join_parts : (j k : ℕ) (known : List Part) (z : Part) → get_elem? (slice_set (slice_set s.views id (v ++ w)) other []) j ≡ some known → slice_get known k ≡ Some z → (seat_joined z.thread ≡ j) × IsPart p l h.keeps.run.entries h.run.actors h.stop z
+  join_parts : (j k : ℕ) (known : List Part) (z : Part) → get_elem? (slice_set (slice_set s.views id (v ++ w)) other []) j ≡ some known → slice_get known k ≡ Some z → (seat_joined z.thread ≡ j) × IsPart p l h.keeps.run.entries h.accesses h.run.actors h.stop z
   join_parts j k known z got there = ⊎_elim spent (λ old. ⊎_elim here (elsewhere old.0) (at_set s.views id j (v ++ w) known old.1)) (at_set (slice_set s.views id (v ++ w)) other j [] known got)
     where
-      spent : (j ≡ other) × ([] ≡ known) → (seat_joined z.thread ≡ j) × IsPart p l h.keeps.run.entries h.run.actors h.stop z
+      spent : (j ≡ other) × ([] ≡ known) → (seat_joined z.thread ≡ j) × IsPart p l h.keeps.run.entries h.accesses h.run.actors h.stop z
       spent (at_j, is) = absurd (no_part k z (subst (λ (ks : List Part). slice_get ks k ≡ Some z) (sym is) there))
         where
           no_part : (k : ℕ) (z : Part) → slice_get [] k ≡ Some z → ⊥
           no_part k z is = grind (arith, is)
 
-      here : (j ≡ id) × (v ++ w ≡ known) → (seat_joined z.thread ≡ j) × IsPart p l h.keeps.run.entries h.run.actors h.stop z
+      here : (j ≡ id) × (v ++ w ≡ known) → (seat_joined z.thread ≡ j) × IsPart p l h.keeps.run.entries h.accesses h.run.actors h.stop z
       here (at_id, is) = ⊎_elim own others (there_in_front v w k z (subst (λ (ks : List Part). slice_get ks k ≡ Some z) (sym is) there))
         where
-          own : (i : ℕ) × (slice_get v i ≡ Some z) → (seat_joined z.thread ≡ j) × IsPart p l h.keeps.run.entries h.run.actors h.stop z
+          own : (i : ℕ) × (slice_get v i ≡ Some z) → (seat_joined z.thread ≡ j) × IsPart p l h.keeps.run.entries h.accesses h.run.actors h.stop z
           own (i, in_v) =
               let was = h.known.parts id i v z at in_v in
               (left z.thread (λ same. apart (sym same ∙ was.0)) ∙ was.0 ∙ sym at_id, was.1)
 
-          others : (i : ℕ) × (slice_get w i ≡ Some z) → (seat_joined z.thread ≡ j) × IsPart p l h.keeps.run.entries h.run.actors h.stop z
+          others : (i : ℕ) × (slice_get w i ≡ Some z) → (seat_joined z.thread ≡ j) × IsPart p l h.keeps.run.entries h.accesses h.run.actors h.stop z
           others (i, in_w) =
               let was = h.known.parts other i w z before in_w in
               (taken z.thread was.0 ∙ sym at_id, was.1)
 
-      elsewhere : j ≢ other → (j ≢ id) × (get_elem? s.views j ≡ some known) → (seat_joined z.thread ≡ j) × IsPart p l h.keeps.run.entries h.run.actors h.stop z
+      elsewhere : j ≢ other → (j ≢ id) × (get_elem? s.views j ≡ some known) → (seat_joined z.thread ≡ j) × IsPart p l h.keeps.run.entries h.accesses h.run.actors h.stop z
       elsewhere not_other (not, old) =
           let was = h.known.parts j k known z old there in
           (left z.thread (λ same. not_other (sym was.0 ∙ same)) ∙ was.0, was.1)
@@ -169,7 +172,11 @@ module _ (p : Program) (l : Layout) (on : Option Break) (s : State (Unit {0}) (L
     stop = h.stop;
     words = h.words;
     few = h.few;
-    stop_word = h.stop_word;
+    raised = h.raised;
+    first = h.first;
+    opens = h.opens;
+    accesses = h.accesses;
+    made = h.made;
     known = record { seat = seat_joined; parts = join_parts };
   }
 
@@ -225,7 +232,7 @@ module _ (p : Program) (l : Layout) (words : List ℕ) (suits : Suits p l.table)
   no_step : (i : ℕ) → steps_of i first_kept.run.entries ≡ []
   no_step i = ap (steps_of i) no_entry
 
-  untouched_part : (i : ℕ) → i < p.threads → IsPart p l first_kept.run.entries first_run.actors 0 (untouched p l i)
+  untouched_part : (i : ℕ) → i < p.threads → IsPart p l first_kept.run.entries [] first_run.actors 0 (untouched p l i)
   untouched_part i below = record {
     program = refl;
     layout = refl;
@@ -233,12 +240,13 @@ module _ (p : Program) (l : Layout) (words : List ℕ) (suits : Suits p l.table)
     steps = no_step i;
     actor = (are_opening p).each i below;
     told = λ told. absurd (false≢true told);
+    did = refl;
   }
 
-  first_parts : (j k : ℕ) (known : List Part) (z : Part) → get_elem? (untouched_below p l p.threads ∷ []) j ≡ some known → slice_get known k ≡ Some z → (0 ≡ j) × IsPart p l first_kept.run.entries first_run.actors 0 z
+  first_parts : (j k : ℕ) (known : List Part) (z : Part) → get_elem? (untouched_below p l p.threads ∷ []) j ≡ some known → slice_get known k ≡ Some z → (0 ≡ j) × IsPart p l first_kept.run.entries [] first_run.actors 0 z
   first_parts zero k known z got there =
       let one = part_there p l p.threads k z (subst (λ (ks : List Part). slice_get ks k ≡ Some z) (sym (some-injective (untouched_below p l p.threads) known got)) there) in
-      (refl, subst (IsPart p l first_kept.run.entries first_run.actors 0) one.0 (untouched_part z.thread one.1))
+      (refl, subst (IsPart p l first_kept.run.entries [] first_run.actors 0) one.0 (untouched_part z.thread one.1))
   first_parts (suc j) k known z got there = absurd (some-ne-none known (sym got))
 
   pub opening_keeps : (on : Option Break) → Keeps p l on (opening (words ++ 0 ∷ []) [] (untouched_below p l p.threads))
@@ -250,6 +258,10 @@ module _ (p : Program) (l : Layout) (words : List ℕ) (suits : Suits p l.table)
     stop = 0;
     words = refl;
     few = λ i. subst (λ (es : List Entry). length es ≤ MOST_BUDGET) (sym (no_step i)) (omega arith);
-    stop_word = inl refl;
+    raised = inl refl;
+    first = words;
+    opens = opens;
+    accesses = [];
+    made = record { among = sym no_entry; lead = refl; threads = λ i past. refl };
     known = record { seat = λ i. 0; parts = first_parts };
   }

@@ -1,5 +1,5 @@
 -- A thread at work makes one more step.
-use Rattle.std.proofs.Common.{◌≡◌, ◌<◌, ◌≤◌, ◌+◌, ◌*◌, ◌++◌, ℕ, List, [], ◌∷◌, length, map, refl, sym, ap, ◌∙◌, subst, arith, zero-add}
+use Rattle.std.proofs.Common.{◌≡◌, ◌+◌, ◌++◌, ℕ, List, [], ◌∷◌, length, map, sym, ap, ◌∙◌, zero-add}
 use Rattle.std.proofs.lemmas.List.{length-map, map-append}
 use Rattle.atomic_table.specs.Seated.{TableId}
 use Rattle.omi_script.specs.declared.program.Program.{Program}
@@ -11,7 +11,7 @@ use Rattle.omi_pc.specs.Opening.{opening_actor}
 use Rattle.omi_rep.specs.declared.outcome.Outcome.{Outcome}
 use Rattle.omi_actor.specs.Steps.{next_of, resumed_at}
 use Rattle.omi_core.specs.declared.entry.Entry.{Entry}
-use Rattle.omi_core.specs.RunSteps.{event_of, made_of, turn_of}
+use Rattle.omi_core.specs.RunSteps.{event_of, made_of}
 use Rattle.omi_core.specs.Steps.{events_behind}
 use Rattle.omi_core.proofs.History.{events_one_more}
 use Rattle.omi_live.specs.declared.known.Part.{Part}
@@ -19,7 +19,7 @@ use Rattle.omi_live.specs.declared.worker.Worker.{Worker}
 use Rattle.omi_core.specs.Found.{actor_after, entry_at}
 use Rattle.omi_live.specs.Plays.{finds}
 use Rattle.omi_live.specs.Running.{actor_known, steps_known}
-use Rattle.omi_live.specs.Work.{HasFound, IsAtWork, own_steps}
+use Rattle.omi_live.specs.Work.{IsAtWork, own_steps}
 use Rattle.omi_core.proofs.Found.{as_many, behind_one_more, entries_one_more}
 
 -- the step that finds a word

@@ -1,5 +1,5 @@
 -- The threads of a run, before they begin and behind their ends.
-use Rattle.std.specs.Prelude.{◌≡◌, ◌<◌, ◌+◌, ℕ, List, [], ◌∷◌, length, map, Option, Some, slice_get}
+use Rattle.std.specs.Prelude.{◌≡◌, ◌+◌, ℕ, List, [], length, map, Option, Some, slice_get}
 use Rattle.atomic_table.specs.Seated.{TableId}
 use Rattle.omi_script.specs.declared.program.Program.{Program}
 use Rattle.omi_layout.specs.declared.layout.Layout.{Layout}
@@ -8,7 +8,7 @@ use Rattle.omi_core.specs.declared.thread_run.ThreadRun.{ThreadRun}
 use Rattle.omi_core.specs.RunSteps.{made_of}
 use Rattle.omi_core.specs.Steps.{events_behind}
 use Rattle.omi_live.specs.declared.known.Part.{Part}
-use Rattle.omi_live.specs.declared.threads.Ended.{Ended}
+use Rattle.omi_live.specs.declared.threads.Runner.{Runner}
 use Rattle.omi_live.specs.declared.worker.Worker.{Worker}
 use Rattle.omi_live.specs.Plays.{untouched}
 use Rattle.omi_live.specs.Running.{actor_known, steps_known}
@@ -17,28 +17,28 @@ use Rattle.omi_live.specs.Work.{HasRoom, HasWorked, IsAtWork, own_steps}
 -- a thread before its first step, with room for its budget
 pub record IsToBegin (p : Program) (l : Layout) (id : TableId) (budget : ℕ) (worker : Worker) : Type 0 where
   pub work : IsAtWork p l id (untouched p l worker.thread) worker
-  pub room : HasRoom p budget worker
+  pub room : HasRoom budget (untouched p l worker.thread) worker
 
 -- the workers of so many threads, the last one first
-abbrev pub AreToBegin : Program → Layout → TableId → ℕ → ℕ → List Worker → Type 0
-AreToBegin p l id budget threads workers = (i : ℕ) (worker : Worker) → slice_get workers i ≡ Some worker
-    → IsToBegin p l id budget worker × (worker.thread + i + 1 ≡ threads)
+abbrev pub AreToBegin : Program → Layout → TableId → ℕ → ℕ → List Runner → Type 0
+AreToBegin p l id budget threads runners = (i : ℕ) (r : Runner) → slice_get runners i ≡ Some r
+    → IsToBegin p l id budget r.worker × (r.worker.thread + i + 1 ≡ threads)
 
 -- workers whose seats are at a table, and hold no slot
-abbrev pub AreSeatedAt : TableId → List Ended → Type 0
-AreSeatedAt id all = (i : ℕ) (e : Ended) → slice_get all i ≡ Some e
+abbrev pub AreSeatedAt : TableId → List Runner → Type 0
+AreSeatedAt id all = (i : ℕ) (e : Runner) → slice_get all i ≡ Some e
     → (e.worker.seat.table_id ≡ id) × (e.worker.seat.me.1 ≡ [])
 
 -- a thread that made no further step
 pub record HasEnded (p : Program) (l : Layout) (id : TableId) (budget : ℕ) (on : Option Break)
-    (thread : ℕ) (e : Ended) : Type 0 where
+    (thread : ℕ) (e : Runner) : Type 0 where
   pub part : Part
   pub own : part.thread ≡ thread
   pub work : IsAtWork p l id part e.worker
   pub worked : HasWorked budget on part e.until
 
-abbrev pub HaveEnded : Program → Layout → TableId → ℕ → Option Break → ℕ → List Ended → Type 0
-HaveEnded p l id budget on threads all = (i thread : ℕ) (e : Ended) → slice_get all i ≡ Some e
+abbrev pub HaveEnded : Program → Layout → TableId → ℕ → Option Break → ℕ → List Runner → Type 0
+HaveEnded p l id budget on threads all = (i thread : ℕ) (e : Runner) → slice_get all i ≡ Some e
     → thread + i + 1 ≡ threads → HasEnded p l id budget on thread e
 
 -- what is kept of it, where its part is known

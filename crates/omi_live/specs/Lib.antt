@@ -1,6 +1,9 @@
--- The definitions to believe, in reading order: why a thread stops, and what a run of threads is.
+-- The definitions to believe, in reading order: why a thread stops, what threads do at the table of words, and what a run of threads is.
 pub mod Stops
+pub mod Accesses
 pub mod Live
+-- The room that steps need
+pub mod Claims
 -- The rule of the table of words, and what an operation on it tells a seat
 pub mod Running
 pub mod Plays

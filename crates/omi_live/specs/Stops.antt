@@ -1,7 +1,5 @@
 -- The steps at which the threads of a run are to stop, and why a thread made no further one.
-use Rattle.std.specs.Prelude.{◌≡◌, ◌<◌, ◌≤◌, ◌||◌, ◌&&◌, ℕ, Bool, true, false, List, [], ◌∷◌, length, Option, Some, None}
-use Rattle.omi_model.specs.declared.event.Event.{Event}
-use Rattle.omi_model.specs.declared.event.Event.TheVariants as event
+use Rattle.std.specs.Prelude.{◌≡◌, ◌<◌, ◌||◌, ℕ, Bool, true, false, List, [], ◌∷◌, length, Option, Some}
 use Rattle.omi_rep.specs.declared.outcome.Outcome.{Outcome}
 use Rattle.omi_rep.specs.declared.outcome.Outcome.TheVariants as outcome
 use Rattle.omi_core.specs.declared.entry.Entry.{Entry}

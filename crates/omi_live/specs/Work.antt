@@ -1,5 +1,5 @@
 -- A thread at work: what its seat knows is what it made and keeps.
-use Rattle.std.specs.Prelude.{◌≡◌, ◌<◌, ◌≤◌, ℕ, ◌+◌, ◌*◌, Bool, true, List, [], ◌∷◌, length, map, Option}
+use Rattle.std.specs.Prelude.{◌≡◌, ◌<◌, ◌≤◌, ℕ, ◌+◌, ◌++◌, Bool, true, List, [], ◌∷◌, length, map, Option}
 use Rattle.atomic_table.specs.Seated.{TableId}
 use Rattle.omi_word.specs.declared.op.Op.{Op}
 use Rattle.omi_script.specs.declared.program.Program.{Program}
@@ -18,9 +18,11 @@ use Rattle.omi_live.specs.declared.limits.TheConstants.{MOST_BUDGET}
 use Rattle.omi_live.specs.declared.rule.Given.{Given}
 use Rattle.omi_live.specs.declared.worker.Worker.{Worker}
 use Rattle.omi_core.specs.Found.{entry_at}
-use Rattle.omi_live.specs.Plays.{CanStep, Seated, finds, heard}
-use Rattle.omi_live.specs.Running.{actor_known, steps_known}
+use Rattle.omi_live.specs.Plays.{CanStep, Seated, finds, looks}
+use Rattle.omi_live.specs.Running.{actor_known, steps_known, claims_known}
 use Rattle.omi_live.specs.Stops.{IsUntil, WentOn}
+use Rattle.omi_run_lists.specs.StepRoom.{room_for_steps}
+use Rattle.omi_live.specs.Accesses.{last_look, with_looks}
 
 -- the steps of one thread, as a list of steps by threads
 abbrev pub own_steps : ℕ → List Entry → List (ℕ × Entry)
@@ -48,7 +50,7 @@ pub record IsAble (id : TableId) (op : Op) (me : Seated) (x : Part) : Type 0 whe
 pub record HasFound (x : Part) (n : ℕ) (me : Seated) : Type 0 where
   pub knows : me ≡ (finds n x ∷ [], [])
   pub seats : seats_of (entry_at x.program x.layout.table (actor_known x) n).outcome
-      ≤ x.program.threads
+      ≤ claims_known x + 1
 
 -- ---- the thread
 
@@ -64,11 +66,17 @@ pub record IsAtWork (p : Program) (l : Layout) (id : TableId) (x : Part) (worker
   pub made : worker.made.items ≡ map (made_of x.thread) (steps_known x)
   pub events : worker.events.items ≡ events_behind 0 (own_steps x.thread (steps_known x))
 
+-- it has room for so many more steps, whatever they commit
+pub record HasRoom (steps : ℕ) (x : Part) (worker : Worker) : Type 0 where
+  pub made : steps ≤ worker.made.spare
+  pub events : steps ≤ room_for_steps worker.events (claims_known x)
+
 -- it may make its next step
 pub record IsReady (p : Program) (l : Layout) (id : TableId) (x : Part) (worker : Worker) : Type 0 where
   pub work : IsAtWork p l id x worker
   pub able : CanStep x.program x.layout.table (actor_known x)
   pub few : length x.found < MOST_BUDGET
+  pub room : HasRoom 1 x worker
 
 -- it is as it was, but for what its seat knows
 pub record IsSameBut (old new : Worker) : Type 0 where
@@ -80,20 +88,17 @@ pub record IsSameBut (old new : Worker) : Type 0 where
 
 -- its seat looked at the stop word, which was raised or was not: it was where the thread was told so before
 pub record HasLooked (x : Part) (raised : Bool) (worker : Worker) : Type 0 where
-  pub knows : worker.seat.me ≡ (heard raised x ∷ [], [])
+  pub knows : worker.seat.me ≡ (looks raised x ∷ [], [])
   pub told : x.told ≡ true → raised ≡ true
   pub able : CanStep x.program x.layout.table (actor_known x)
 
--- it has room for so many more steps, each with an event and a team of all threads
-pub record HasRoom (p : Program) (steps : ℕ) (worker : Worker) : Type 0 where
-  pub made : steps ≤ worker.made.spare
-  pub events : steps ≤ worker.events.spare
-  pub seats : steps * p.threads ≤ worker.events.seats
-
--- one more step found some word, and this came of it
-abbrev pub HasStepped : Program → Layout → TableId → Part → Worker → Outcome → Type 0
-HasStepped p l id x worker out = (n : ℕ) × IsAtWork p l id (finds n x) worker
-    × (out ≡ (entry_at x.program x.layout.table (actor_known x) n).outcome)
+-- one more step found some word, this came of it, and it took the room of one step at most
+pub record HasStepped (p : Program) (l : Layout) (id : TableId) (x : Part) (old new : Worker)
+    (out : Outcome) : Type 0 where
+  pub found : ℕ
+  pub work : IsAtWork p l id (finds found x) new
+  pub came : out ≡ (entry_at x.program x.layout.table (actor_known x) found).outcome
+  pub room : (m : ℕ) → HasRoom (m + 1) x old → HasRoom m (finds found x) new
 
 -- ---- its end
 
@@ -103,3 +108,4 @@ pub record HasWorked (budget : ℕ) (on : Option Break) (x : Part) (why : Until)
   pub most : length (steps_known x) ≤ budget
   pub went_on : WentOn on (steps_known x)
   pub stopped : why ≡ until.Stopped → x.told ≡ true
+  pub did : x.accesses ≡ with_looks on (steps_known x) ++ last_look why

@@ -8,23 +8,30 @@ use std::thread::yield_now;
 /// A thread other than the initial one has offered itself to teams behind its second step, so before this one.
 const OFFERED: u64 = 3;
 
-/// The most turns that a thread waits. Between two of them it lets another thread run, where there is one that can.
+/// So many turns a thread waits at most. Between two of them it lets another thread run, where there is one that can.
 pub const MOST_TURNS: u64 = 4_000;
 
 /// How often a thread looks in one turn.
 const LOOKS: u64 = 20_000;
 
+/// Behind so many steps a thread lets another one run. So a thread that waits for others leaves them a processor before its budget ends.
+const STEPS_IN_A_ROW: u64 = 100;
+
 /// Holds thread 0 before its first step, and each other thread behind its offer to teams, until all of them have offered themselves. Once
-/// a thread has waited `MOST_TURNS` turns, no thread waits any more. Where the budget has no third step, none waits at all.
+/// a thread has waited all its turns, no thread waits any more. Where the budget has no third step, none waits at all. Now and then a
+/// thread lets another one run.
 #[derive(Drop)]
 pub struct StartGate {
+    turns: u64,
     awaited: AtomicU64,
     offered: AtomicU64,
 }
 
 impl StartGate {
-    pub fn new() -> StartGate {
+    /// A gate at which each thread waits for at most so many turns.
+    pub fn of(turns: u64) -> StartGate {
         StartGate {
+            turns,
             awaited: AtomicU64::new(0),
             offered: AtomicU64::new(0),
         }
@@ -43,7 +50,7 @@ impl StartGate {
 
     /// Waits until all that are awaited have offered themselves, or lets everyone pass where the turns are over.
     fn wait(&self) {
-        for _turn in 0..MOST_TURNS {
+        for _turn in 0..self.turns {
             if self.is_open() {
                 return;
             }
@@ -62,6 +69,9 @@ impl Gate for StartGate {
     }
 
     fn pass(&self, thread: u8, step: u64) {
+        if step % STEPS_IN_A_ROW == 0 {
+            yield_now();
+        }
         if thread == 0 && step == 1 {
             self.wait();
         }

@@ -21,7 +21,7 @@ use crate::rule::{First, Given, Running, Together};
 use crate::worker::{Words, Worker};
 use atomic_table::{Closed, Seat, Table};
 use omi_core::{Break, OutOfMemory, RunList, ThreadRun, Until, opening_image};
-use omi_layout::Layout;
+use omi_layout::{Layout, MOST_THREADS};
 use omi_list::List;
 use omi_outside::Gate;
 use omi_pc::Actor;
@@ -40,9 +40,9 @@ pub struct LiveEnd {
     pub runs: RunList,
 }
 
-/// A thread that made no further step.
+/// A thread of the run, and why it made no further step: behind its work, and Budget before.
 #[derive(Drop)]
-pub(crate) struct Ended {
+pub(crate) struct Runner {
     pub(crate) worker: Worker,
     pub(crate) until: Until,
 }
@@ -59,7 +59,8 @@ fn words_of(alloc: Global, image: &Image) -> Result<Vec<u64>, OutOfMemory>
     Ok(words)
 }
 
-/// The worker of a thread at a seat, before its first step. Takes the room of its budget.
+/// The worker of a thread at a seat, before its first step. Takes the room of its budget: a step needs a seat at most, since each thread of
+/// a team but the first was got by a step of its own.
 fn worker_at(
     alloc: Global,
     p: &Program,
@@ -78,7 +79,7 @@ fn worker_at(
     let mut made = MadeList::new(alloc);
     made.reserve(budget as usize)?;
     let mut events = EventList::new(alloc);
-    events.reserve(budget as usize, budget as usize * p.threads as usize)?;
+    events.reserve(budget as usize, budget as usize)?;
     Ok(Worker {
         seat,
         thread,
@@ -96,7 +97,7 @@ fn workers_at(
     budget: u64,
     words: &Words,
     seat: &mut Seat<(), List<Part>>,
-) -> Result<Vec<Worker>, OutOfMemory>
+) -> Result<Vec<Runner>, OutOfMemory>
     requires count { 0 < words.now.table_id.words }
     requires seated { seat.old.table_id ≡ words.now.table_id }
     requires first { seat.old.me ≡ (all_untouched p.now l.now, []) }
@@ -111,13 +112,16 @@ fn workers_at(
     for made in 0..p.threads {
         let own = words.split_seat::<First>(seat);
         let worker = worker_at(alloc, p, p.threads - 1 - made, budget, own)?;
-        workers.push(worker)?;
+        workers.push(Runner {
+            worker,
+            until: Until::Budget,
+        })?;
     }
     Ok(workers)
 }
 
 /// What a worker made, whose seat is taken in by another one.
-fn joined(words: &Words, seat: &mut Seat<(), List<Part>>, ended: Ended) -> ThreadRun
+fn joined(words: &Words, seat: &mut Seat<(), List<Part>>, ended: Runner) -> ThreadRun
     requires count { 0 < words.now.table_id.words }
     requires seated { seat.old.table_id ≡ words.now.table_id }
     requires theirs { ended.worker.seat.table_id ≡ words.now.table_id }
@@ -131,7 +135,7 @@ fn joined(words: &Words, seat: &mut Seat<(), List<Part>>, ended: Ended) -> Threa
     ensures until { result.until ≡ ended.until }
     ensures count { result.steps ≡ length ended.worker.made.items }
 {
-    let Ended { worker, until } = ended;
+    let Runner { worker, until } = ended;
     let (own, made, events, actor) = worker.parts();
     words.join_seat::<Together>(seat, own);
     ThreadRun {
@@ -148,7 +152,7 @@ fn all_joined(
     alloc: Global,
     words: &Words,
     seat: &mut Seat<(), List<Part>>,
-    mut all: Vec<Ended>,
+    mut all: Vec<Runner>,
 ) -> Result<RunList, OutOfMemory>
     requires count { 0 < words.now.table_id.words }
     requires seated { seat.old.table_id ≡ words.now.table_id }
@@ -168,26 +172,24 @@ fn all_joined(
     Ok(runs)
 }
 
-/// The words of a table that no thread shares any more, but for the last one.
-fn image_of(alloc: Global, closed: &Closed<(), Global>) -> Result<Image, OutOfMemory>
+/// The words of a table that no thread shares any more, but for the last one, in place of those of an image.
+fn image_of(mut image: Image, closed: &Closed<(), Global>) -> Image
     requires full { IsFull closed.now.words }
-    requires some { 0 < slots_len closed.now.words }
-    requires limit { slots_len closed.now.words ≤ MOST_WORDS + 1 }
+    requires long { length image + 1 ≡ slots_len closed.now.words }
     ensures { (words : List ℕ) (stop : ℕ) → slots_items closed.now.words ≡ words ++ stop ∷ []
-        → IfOk result (λ image. image ≡ words) }
+        → result ≡ words }
 {
-    let count = closed.words.len() - 1;
-    let mut image = Image::zeroed(alloc, count)?;
+    let count = image.len();
     for at in 0..count {
         image.apply(Op::Store {
             at: FIRST_ADDRESS + 8 * at as u64,
             new: closed.word(at),
         });
     }
-    Ok(image)
+    image
 }
 
-/// Lets each worker work, in a thread of its own where one can be made.
+/// Lets each worker work, in a thread of its own where one can be made. Takes no memory.
 fn all_worked<R: Threads + Sync, G: Gate>(
     rt: &R,
     p: &Program,
@@ -196,34 +198,33 @@ fn all_worked<R: Threads + Sync, G: Gate>(
     budget: u64,
     on: Option<Break>,
     gate: &G,
-    workers: Vec<Worker>,
-) -> Result<Vec<Ended>, OutOfMemory>
+    workers: &mut Vec<Runner>,
+)
     requires suits { Suits p.now l.now.table }
     requires table { IsTableFor p.now l.now on words.now.key words.now.table_id }
     requires budget { budget ≤ MOST_BUDGET }
-    requires begin { AreToBegin p.now l.now words.now.table_id budget (vec_len workers)
-        workers.items }
-    ensures threads { IfOk result (λ all. vec_len all ≡ vec_len workers) }
-    ensures ended { IfOk result (λ all.
-        HaveEnded p.now l.now words.now.table_id budget on (vec_len workers) all.items) }
+    requires begin { AreToBegin p.now l.now words.now.table_id budget (vec_len workers.old)
+        workers.old.items }
+    ensures threads { vec_len workers.new ≡ vec_len workers.old }
+    ensures ended { HaveEnded p.now l.now words.now.table_id budget on (vec_len workers.old)
+        workers.new.items }
 {
-    let work = |mut worker: Worker| -> Ended
+    let work = |_at: usize, runner: &mut Runner|
         requires { Suits p.now l.now.table
             × IsTableFor p.now l.now on words.now.key words.now.table_id
             × (budget ≤ MOST_BUDGET)
-            × IsToBegin p.now l.now words.now.table_id budget worker }
-        ensures { HasEnded p.entry.now l.entry.now words.entry.now.table_id budget on worker.thread result }
+            × IsToBegin p.now l.now words.now.table_id budget runner.now.worker }
+        ensures { HasEnded p.entry.now l.entry.now words.entry.now.table_id budget on
+            runner.entry.now.worker.thread runner.exit.now }
     {
-        let until = worker.work(p, l, words, budget, on, gate);
-        Ended { worker, until }
+        runner.until = runner.worker.work(p, l, words, budget, on, gate);
     };
-    let all = thread::map_vec(rt, workers, &work)?;
-    Ok(all)
+    thread::for_each_mut(rt, workers, MOST_THREADS as usize, &work);
 }
 
 /// Runs a program in a layout that suits it, each thread as work of its own over one table of words, for at most `budget` steps of each
 /// thread. Where an event of the kind `on` was committed, all threads are told to stop. `gate` is passed before each step. Where no thread
-/// can be made, the threads work one after another.
+/// can be made, the threads work one after another. All room but for the list that is answered is taken before the first step.
 pub fn live<R: Threads + Sync, G: Gate>(
     rt: &R,
     alloc: Global,
@@ -245,15 +246,13 @@ pub fn live<R: Threads + Sync, G: Gate>(
         on,
     };
     let (table, mut seat) = Table::of_words(alloc, &opening, &given)?;
+    drop(opening);
+    let mut workers = workers_at(alloc, p, l, budget, &table.shared, &mut seat)?;
     gate.open(p.threads, budget);
-    let workers = workers_at(alloc, p, l, budget, &table.shared, &mut seat)?;
-    let all = all_worked(rt, p, l, &table.shared, budget, on, gate, workers)?;
-    let runs = all_joined(alloc, &table.shared, &mut seat, all)?;
+    all_worked(rt, p, l, &table.shared, budget, on, gate, &mut workers);
+    let runs = all_joined(alloc, &table.shared, &mut seat, workers)?;
     let closed = table.close_with(seat);
-    let image = image_of(alloc, &closed);
+    let image = image_of(first, &closed);
     closed.free();
-    Ok(LiveEnd {
-        image: image?,
-        runs,
-    })
+    Ok(LiveEnd { image, runs })
 }

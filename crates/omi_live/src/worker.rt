@@ -5,7 +5,7 @@ ghost use Rattle.omi_rep.specs.Suits.{Suits};
 ghost use Rattle.omi_layout.specs.Place.{image_words};
 ghost use Rattle.omi_live.specs.declared.known.Part.{Part};
 ghost use Rattle.omi_live.specs.declared.limits.TheConstants.{MOST_BUDGET};
-ghost use Rattle.omi_live.specs.Plays.{heard, untouched};
+ghost use Rattle.omi_live.specs.Plays.{raises, untouched};
 ghost use Rattle.omi_live.specs.Running.{steps_known};
 ghost use Rattle.omi_live.specs.Stops.{ends_at, some_stop, stops_at};
 ghost use Rattle.omi_live.specs.Work.{HasFound, HasLooked, HasRoom, HasStepped, HasWorked, IsAble, IsAtWork, IsReady, IsSameBut, IsTableFor};
@@ -107,11 +107,9 @@ impl Worker {
         requires suits { Suits p.now l.now.table }
         requires count { words.now.table_id.words ≡ image_words l.now.table + 1 }
         requires ready { (x : Part) × IsReady p.now l.now words.now.table_id x self.old }
-        requires room { HasRoom p.now 1 self.old }
         ensures thread { self.new.thread ≡ self.old.thread }
         ensures stepped { (x : Part) → IsAtWork p.now l.now words.now.table_id x self.old
-            → HasStepped p.now l.now words.now.table_id x self.new result }
-        ensures room { (n : ℕ) → HasRoom p.now (n + 1) self.old → HasRoom p.now n self.new }
+            → HasStepped p.now l.now words.now.table_id x self.old self.new result }
     {
         let op = next(p, l, &self.actor);
         let old = apply(words, &mut self.seat, op);
@@ -147,7 +145,7 @@ impl Worker {
         requires stops { (x : Part) × (self.old.seat.me ≡ (x ∷ [], []))
             × (some_stop words.now.key.on (steps_known x) ≡ true) }
         ensures told { (x : Part) → self.old.seat.me ≡ (x ∷ [], [])
-            → self.new.seat.me ≡ (heard true x ∷ [], []) }
+            → self.new.seat.me ≡ (raises x ∷ [], []) }
         ensures same { IsSameBut self.old self.new }
     {
         words.store::<Raises>(&mut self.seat, l.image_words(), 1);
@@ -168,7 +166,7 @@ impl Worker {
         requires budget { budget ≤ MOST_BUDGET }
         requires start { IsAtWork p.now l.now words.now.table_id
             (untouched p.now l.now self.old.thread) self.old }
-        requires room { HasRoom p.now budget self.old }
+        requires room { HasRoom budget (untouched p.now l.now self.old.thread) self.old }
         ensures thread { self.new.thread ≡ self.old.thread }
         ensures worked { (x : Part) × IsAtWork p.now l.now words.now.table_id x self.new
             × HasWorked budget on x result }

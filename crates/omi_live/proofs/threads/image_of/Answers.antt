@@ -1,7 +1,6 @@
-use Rattle.std.proofs.Common.{◌≡◌, ◌+◌, ◌-◌, ◌<◌, ◌≤◌, ◌*◌, ℕ, List, length, slice_index, slice_set, refl, sym, ap, ◌∙◌, subst, arith}
+use Rattle.std.proofs.Common.{◌≡◌, ℕ, List, length, slice_index, slice_set, sym, ap, ◌∙◌, arith}
 use Rattle.std.proofs.lemmas.List.{length-set}
-use Rattle.std.specs.Mem.Slots.{slots_counts, slots_items, slots_len}
-use Rattle.omi_word.specs.Memory.{place_of}
+use Rattle.std.specs.Mem.Slots.{slots_counts, slots_items}
 use Rattle.omi_word.proofs.Addresses.{place-address}
 use Rattle.omi_live.proofs.Lists.{copied, front_is, word_is}
 use Rattle.omi_live.proofs.threads.image_of.Goals as goal
@@ -27,4 +26,5 @@ returns c words stop is =
     let count = c.len-count.ensures in
     let long = now.long in
     let counts = (slots_counts c.args.closed.now.words).0 in
-    front_is c.loop-at.image words (slots_items c.args.closed.now.words) stop is (long ∙ ap (λ n. n - 1) counts) (λ k below. now.same k (omega (arith, below, end, count, long)))
+    let whole = c.requires.long in
+    front_is c.loop-at.image words (slots_items c.args.closed.now.words) stop is (omega (arith, long, whole, counts)) (λ k below. now.same k (omega (arith, below, end, count, long)))

@@ -1,4 +1,4 @@
-use Rattle.std.proofs.Common.{◌≡◌, ◌++◌, ◌<◌, [], sym, ap, ◌∙◌, subst}
+use Rattle.std.proofs.Common.{ap, ◌∙◌}
 use Rattle.omi_live.proofs.Seats.{join_allowed}
 use Rattle.omi_live.proofs.threads.joined.Goals as goal
 

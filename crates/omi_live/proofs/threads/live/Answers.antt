@@ -1,11 +1,8 @@
-use Rattle.std.proofs.Common.{◌≡◌, ◌+◌, ◌-◌, ◌<◌, ◌++◌, ℕ, List, [], ◌∷◌, length, slice_get, vec_len, Option, Some, refl, sym, ap, ◌∙◌, subst, arith}
+use Rattle.std.proofs.Common.{◌+◌, ◌-◌, ℕ, List, [], vec_len, sym, ap, ◌∙◌, subst, arith}
 use Rattle.atomic_table.specs.Table.{opening}
 use Rattle.omi_script.specs.declared.program.Program.{Program}
 use Rattle.omi_layout.specs.declared.layout.Layout.{Layout}
-use Rattle.omi_core.specs.declared.stop.Break.{Break}
-use Rattle.omi_live.specs.declared.known.Part.{Part}
 use Rattle.omi_live.specs.declared.rule.Given.{Given}
-use Rattle.omi_live.specs.declared.threads.Ended.{Ended}
 use Rattle.omi_live.specs.Joined.{HaveEnded}
 use Rattle.omi_live.specs.Plays.{Seated, all_untouched}
 use Rattle.omi_live.specs.Running.{Keeps}
@@ -27,10 +24,10 @@ all_worked-requires-clause-begin g c κs held i worker got =
 
 pub all_joined-requires-clause-theirs : goal.all_joined-requires-clause-theirs
 all_joined-requires-clause-theirs g c i e got =
-    let within = get_within c.in_ok-all.all.items e i got in
-    let long = c.in_ok-all.all.ok.0 in
-    let threads = c.in_ok-all.ensures.threads in
-    let ended = c.in_ok-all.ensures.ended i (vec_len c.in_ok-workers.workers - (i + 1)) e got (omega (arith, within, long, threads)) in
+    let within = get_within c.all_worked.new.workers.items e i got in
+    let long = c.all_worked.new.workers.ok.0 in
+    let threads = c.all_worked.ensures.threads in
+    let ended = c.all_worked.ensures.ended i (vec_len c.in_ok-workers.workers - (i + 1)) e got (omega (arith, within, long, threads)) in
     (ended.work.table, ap (λ (m : Seated). m.1) ended.work.knows)
 
 pub returns : goal.returns
@@ -42,8 +39,8 @@ returns g c =
     let h : Keeps c.args.p.now c.args.l.now c.args.on s =
     subst (λ (z : Program × Layout). Keeps z.0 z.1 c.args.on s) (λ k. (c.of.ensures k, c.of-2.ensures k))
     (subst (λ (z : Given). Keeps z.program.value z.layout.value z.on s) key seen.0) in
-    let all = c.in_ok-all.ensures.threads in
-    let ended : HaveEnded c.args.p.now c.args.l.now c.in_ok-table.table.shared.table_id c.args.budget c.args.on (vec_len c.in_ok-all.all) c.in_ok-all.all.items = λ i thread e got at. c.in_ok-all.ensures.ended i thread e got (at ∙ all) in
+    let all = c.all_worked.ensures.threads in
+    let ended : HaveEnded c.args.p.now c.args.l.now c.in_ok-table.table.shared.table_id c.args.budget c.args.on (vec_len c.all_worked.new.workers) c.all_worked.new.workers.items = λ i thread e got at. c.all_worked.ensures.ended i thread e got (at ∙ all) in
     let known = c.in_ok-runs.ensures.known c.args.p.now c.args.l.now c.args.budget c.args.on ended in
     is_live c.args.p.now c.args.l.now c.args.budget c.args.on s h c.all_joined.new.seat.id c.all_joined.new.seat.me.0 seen.1 c.in_ok-runs.runs known
-    (c.in_ok-runs.ensures.threads ∙ all ∙ c.in_ok-workers.ensures.threads) c.in_ok-image.field-0 (c.in_ok-image.ensures h.run.words h.stop (sym values.2.2 ∙ h.words))
+    (c.in_ok-runs.ensures.threads ∙ all ∙ c.in_ok-workers.ensures.threads) c.image_of-image.result (c.image_of-image.ensures h.run.words h.stop (sym values.2.2 ∙ h.words))

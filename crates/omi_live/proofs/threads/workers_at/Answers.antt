@@ -1,13 +1,14 @@
-use Rattle.std.proofs.Common.{◌≡◌, ◌+◌, ◌-◌, ◌<◌, ◌≤◌, ◌++◌, ℕ, suc, List, [], ◌∷◌, length, slice_get, vec_len, Some, refl, sym, ap, ◌∙◌, subst, arith, ⊎_elim}
+use Rattle.std.proofs.Common.{◌≡◌, ◌+◌, ◌-◌, suc, List, [], ◌∷◌, length, slice_get, Some, sym, ap, ◌∙◌, subst, arith, ⊎_elim}
 use Rattle.std.proofs.lemmas.List.{length-append}
 use Rattle.atomic_table.specs.Table.{Splits}
 use Rattle.omi_live.specs.declared.known.Part.{Part}
 use Rattle.omi_live.specs.Plays.{Seated, first_alone, untouched, untouched_below, without_first}
 use Rattle.omi_live.specs.Running.{Keeps}
-use Rattle.omi_live.specs.declared.worker.Worker.{Worker}
 use Rattle.omi_live.specs.Joined.{IsToBegin}
 use Rattle.omi_live.proofs.Lists.{get_more}
 use Rattle.omi_live.proofs.Seats.{split_allowed}
+use Rattle.omi_live.specs.declared.threads.Runner.{Runner}
+use Rattle.omi_core.specs.declared.thread_run.Until.TheVariants as until
 use Rattle.omi_live.proofs.threads.workers_at.Goals as goal
 
 pub split_seat-own-requires : goal.split_seat-own-requires
@@ -31,22 +32,23 @@ loop-made-preserved c =
     let knows : c.loop-made.seat.me ≡ (untouched_below c.args.p.now c.args.l.now (suc (c.args.p.now.threads - (c.loop-made.made + 1))), []) = now.knows ∙ ap (λ n. (untouched_below c.args.p.now c.args.l.now n, [])) left in
     let split = c.split_seat-own.ensures in
     let count : length c.loop-made.workers.items ≡ c.loop-made.made = sym c.loop-made.workers.ok.0 ∙ now.count in
+    let one : Runner = record { worker = c.in_ok-worker.worker; until = until.Budget } in
     let own : c.split_seat-own.result.me ≡ (untouched c.args.p.now c.args.l.now (c.args.p.now.threads - (c.loop-made.made + 1)) ∷ [], []) = split.4 ∙ ap (λ (m : Seated). (first_alone m.0, [])) knows in
     record {
       seated = split.0 ∙ now.seated;
       knows = split.2 ∙ ap (λ (m : Seated). (without_first m.0, m.1)) knows;
-      count = c.push.new.self.ok.0 ∙ ap (λ (ws : List Worker). length ws) c.in_ok-push.ensures.items ∙ length-append c.loop-made.workers.items (c.in_ok-worker.worker ∷ []) ∙ ap (λ n. n + 1) count;
-      begin = λ i worker got. ⊎_elim (now.begin i worker)
+      count = c.push.new.self.ok.0 ∙ ap (λ (rs : List Runner). length rs) c.in_ok-push.ensures.items ∙ length-append c.loop-made.workers.items (one ∷ []) ∙ ap (λ n. n + 1) count;
+      begin = λ i r got. ⊎_elim (now.begin i r)
           (λ last.
-          let worker_is = last.1 in
+          let r_is = last.1 in
           let at = last.0 in
           let thread = c.in_ok-worker.ensures.thread in (
-            subst (IsToBegin c.args.p.now c.args.l.now c.args.words.now.table_id c.args.budget) worker_is
+            subst (λ (x : Runner). IsToBegin c.args.p.now c.args.l.now c.args.words.now.table_id c.args.budget x.worker) r_is
                 (subst (λ id. IsToBegin c.args.p.now c.args.l.now id c.args.budget c.in_ok-worker.worker) (split.3 ∙ now.seated)
                 (c.in_ok-worker.ensures.begin c.args.l.now (own ∙ ap (λ n. (untouched c.args.p.now c.args.l.now n ∷ [], [])) (omega (arith, below))))),
-            subst (λ (x : Worker). x.thread + i + 1 ≡ c.args.p.now.threads) worker_is (omega (arith, thread, at, count, below)),
+            subst (λ (x : Runner). x.worker.thread + i + 1 ≡ c.args.p.now.threads) r_is (omega (arith, thread, at, count, below)),
           ))
-          (get_more c.loop-made.workers.items c.in_ok-worker.worker worker i (subst (λ (ws : List Worker). slice_get ws i ≡ Some worker) c.in_ok-push.ensures.items got));
+          (get_more c.loop-made.workers.items one r i (subst (λ (rs : List Runner). slice_get rs i ≡ Some r) c.in_ok-push.ensures.items got));
     }
 
 pub returns-clause-rest : goal.returns-clause-rest

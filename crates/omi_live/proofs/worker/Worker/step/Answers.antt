@@ -1,20 +1,16 @@
-use Rattle.std.proofs.Common.{◌≡◌, ◌+◌, ◌*◌, ◌≤◌, ◌<◌, ◌++◌, ℕ, List, [], ◌∷◌, length, refl, sym, ap, ◌∙◌, subst, arith, Fits, w64}
-use Rattle.omi_word.specs.declared.op.Op.{Op}
+use Rattle.std.proofs.Common.{◌≡◌, ◌+◌, ◌≤◌, ◌++◌, [], ◌∷◌, sym, ap, ◌∙◌, subst, arith}
 use Rattle.omi_run_lists.specs.declared.made.Made.{Made}
-use Rattle.omi_run_lists.specs.declared.made.Turn.{Turn}
-use Rattle.omi_model.specs.declared.event.Event.{Event}
 use Rattle.omi_layout.specs.declared.layout.Layout.{Layout}
 use Rattle.omi_layout.specs.Place.{image_words}
 use Rattle.omi_pc.specs.declared.actor.Actor.{Actor}
-use Rattle.omi_script.specs.declared.program.Program.{Program}
 use Rattle.omi_rep.specs.declared.outcome.Outcome.{Outcome}
-use Rattle.omi_core.specs.RunSteps.{event_of, made_of, seats_of, turn_of}
-use Rattle.omi_live.specs.declared.known.Part.{Part}
-use Rattle.omi_live.specs.declared.limits.TheConstants.{MOST_BUDGET}
+use Rattle.omi_core.specs.RunSteps.{event_of, seats_of, turn_of}
+use Rattle.omi_live.proofs.Working.{actor_one_more, count_is, entry_known, events_more, made_more, next_is, outcome_is, resumed_is, steps_one_more}
+use Rattle.omi_live.specs.Running.{claims_known, steps_known}
+use Rattle.omi_live.specs.Claims.{claims_at, claims_from}
 use Rattle.omi_live.specs.Plays.{finds}
-use Rattle.omi_live.specs.Running.{actor_known, steps_known}
-use Rattle.omi_live.specs.Work.{HasFound, HasRoom, IsAble, IsAtWork, IsReady}
-use Rattle.omi_live.proofs.Working.{actor_one_more, count_is, entry_known, events_more, made_more, next_is, outcome_is, resumed_is}
+use Rattle.omi_live.proofs.Claims.{claims_more, room_less}
+use Rattle.omi_run_lists.specs.StepRoom.{room_for_steps}
 use Rattle.omi_live.proofs.worker.Worker.step.Goals as goal
 
 pub apply-old-requires-clause-able : goal.apply-old-requires-clause-able
@@ -38,23 +34,29 @@ overflow_add-step c =
     let few = ready.1.few in
     omega (arith, count, few)
 
+pub push_reserved-requires : goal.push_reserved-requires
+push_reserved-requires c = c.requires.ready.1.room.made
+
+pub list_event-requires-clause-spare : goal.list_event-requires-clause-spare
+list_event-requires-clause-spare c = let room = c.requires.ready.1.room.events in omega (arith, room)
+
 pub list_event-requires-clause-seats : goal.list_event-requires-clause-seats
 list_event-requires-clause-seats c =
     let ready = c.requires.ready in
     let work = ready.1.work in
     let found = c.apply-old.ensures.found ready.0 work.knows in
-    let few : seats_of c.resume-outcome.result ≤ ready.0.program.threads = subst (λ (o : Outcome). seats_of o ≤ ready.0.program.threads) (sym (outcome_is c.args.p.now c.args.l.now c.args.words.now.table_id ready.0 c.args.self.now work c.apply-old.result c.resume-outcome.result c.resume-outcome.ensures.outcome)) found.seats in
-    let threads = ap (λ (q : Program). q.threads) work.program in
-    let room = c.requires.room.seats in
-    omega (arith, few, threads, room)
+    let few : seats_of c.resume-outcome.result ≤ claims_known ready.0 + 1 = subst (λ (o : Outcome). seats_of o ≤ claims_known ready.0 + 1) (sym (outcome_is c.args.p.now c.args.l.now c.args.words.now.table_id ready.0 c.args.self.now work c.apply-old.result c.resume-outcome.result c.resume-outcome.ensures.outcome)) found.seats in
+    let room = ready.1.room.events in
+    omega (arith, few, room)
 
 pub returns-clause-stepped : goal.returns-clause-stepped
 returns-clause-stepped c x work =
     let found = c.apply-old.ensures.found x work.knows in
     let out = outcome_is c.args.p.now c.args.l.now c.args.words.now.table_id x c.args.self.now work c.apply-old.result c.resume-outcome.result c.resume-outcome.ensures.outcome in
-    let count = c.len.ensures ∙ count_is c.args.p.now c.args.l.now c.args.words.now.table_id x c.args.self.now work in (
-      c.apply-old.result,
-      record {
+    let count = c.len.ensures ∙ count_is c.args.p.now c.args.l.now c.args.words.now.table_id x c.args.self.now work in
+    record {
+      found = c.apply-old.result;
+      work = record {
         program = work.program;
         layout = work.layout;
         thread = work.thread;
@@ -74,29 +76,21 @@ returns-clause-stepped c x work =
             c.list_event.ensures.items
             ∙ (λ k. c.args.self.now.events.items ++ event_of (count k + 1) (work.thread k) (out k))
             ∙ events_more x c.apply-old.result c.args.self.now.events.items work.events;
-      },
-      out,
-    )
+      };
+      came = out;
+      room = λ m room.
+          let fits : seats_of c.resume-outcome.result ≤ claims_known x + 1 = subst (λ (o : Outcome). seats_of o ≤ claims_known x + 1) (sym out) found.seats in
+          let made = room.made in
+          let fewer = c.push_reserved.ensures.spare in
+          let claims : claims_at (claims_known x) c.resume-outcome.result ≡ claims_known (finds c.apply-old.result x) =
+          ap (claims_at (claims_known x)) out ∙ sym (claims_more 0 (steps_known x) (entry_known x c.apply-old.result)) ∙ ap (claims_from 0) (sym (steps_one_more x c.apply-old.result)) in
+          record {
+            made = omega (arith, made, fewer);
+            events = subst (λ n. m ≤ room_for_steps c.list_event.new.events n) claims
+                (room_less m c.args.self.now.events.spare c.args.self.now.events.seats (claims_known x) c.list_event.new.events.spare c.list_event.new.events.seats c.resume-outcome.result
+                fits c.list_event.ensures.spare c.list_event.ensures.seats room.events);
+          };
+    }
   where
     op_is : c.next-op.result ≡ (entry_known x c.apply-old.result).op
     op_is = c.next-op.ensures ∙ next_is c.args.p.now c.args.l.now c.args.words.now.table_id x c.args.self.now work
-
-pub returns-clause-room : goal.returns-clause-room
-returns-clause-room c n room =
-    let ready = c.requires.ready in
-    let work = ready.1.work in
-    let found = c.apply-old.ensures.found ready.0 work.knows in
-    let few : seats_of c.resume-outcome.result ≤ ready.0.program.threads = subst (λ (o : Outcome). seats_of o ≤ ready.0.program.threads) (sym (outcome_is c.args.p.now c.args.l.now c.args.words.now.table_id ready.0 c.args.self.now work c.apply-old.result c.resume-outcome.result c.resume-outcome.ensures.outcome)) found.seats in
-    let threads = ap (λ (q : Program). q.threads) work.program in
-    let made = room.made in
-    let events = room.events in
-    let seats = room.seats in
-    let fewer = c.push_reserved.ensures.spare in
-    let spare = c.list_event.ensures.spare in
-    let left = c.list_event.ensures.seats in
-    let times : (n + 1) * c.args.p.now.threads ≡ n * c.args.p.now.threads + c.args.p.now.threads = omega arith in
-    record {
-      made = omega (arith, made, fewer);
-      events = omega (arith, events, spare);
-      seats = omega (arith, seats, left, few, threads, times);
-    }

@@ -1,9 +1,8 @@
-use Rattle.std.proofs.Common.{◌≡◌, ◌+◌, ◌<◌, ◌==◌, ℕ, List, [], ◌∷◌, sym, ap, ◌∙◌, subst, arith}
+use Rattle.std.proofs.Common.{◌≡◌, sym, ap, ◌∙◌, subst, arith}
 use mathlib.Core.Option.{none}
 use Rattle.atomic_table.specs.Table.{Allows, step}
 use Rattle.omi_layout.specs.declared.layout.Layout.{Layout}
 use Rattle.omi_layout.specs.Place.{image_words}
-use Rattle.omi_live.specs.declared.known.Part.{Part}
 use Rattle.omi_live.specs.Plays.{Seated, raised}
 use Rattle.omi_live.specs.Running.{Keeps}
 use Rattle.omi_live.proofs.Looked.{raise_allowed}

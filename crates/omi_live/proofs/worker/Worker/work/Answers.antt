@@ -1,13 +1,15 @@
-use Rattle.std.proofs.Common.{◌≡◌, ◌+◌, ◌-◌, ◌*◌, ◌≤◌, ◌<◌, ◌||◌, ℕ, Bool, true, false, List, [], ◌∷◌, length, refl, sym, ap, ◌∙◌, subst, arith, inl, inr}
+use Rattle.std.proofs.Common.{◌≡◌, ◌+◌, ◌-◌, ◌||◌, ◌++◌, Bool, true, false, List, [], ◌∷◌, length, refl, sym, ap, ◌∙◌, subst, arith}
+use Rattle.std.proofs.lemmas.List.{append-nil}
 use Rattle.omi_core.specs.declared.stop.Break.{Break}
 use Rattle.std.specs.Prelude.{Option}
-use Rattle.omi_core.specs.declared.thread_run.Until.TheVariants as until
-use Rattle.omi_live.specs.Plays.{heard}
+use Rattle.omi_live.specs.declared.known.Access.{Access}
+use Rattle.omi_live.specs.declared.known.Access.TheVariants as access
+use Rattle.omi_live.specs.Accesses.{with_looks}
+use Rattle.omi_live.specs.Plays.{looks}
 use Rattle.omi_live.specs.Running.{steps_known}
 use Rattle.omi_live.specs.Stops.{ends_at, some_stop}
 use Rattle.omi_live.specs.declared.worker.Worker.{Worker}
-use Rattle.omi_live.specs.Work.{HasRoom}
-use Rattle.omi_live.proofs.Going.{Behind, behind_done, behind_goes, behind_step, behind_stops, behind_told, less_room, room_behind, stepped_on, IsWorking, looked_work, may_not_ended, may_went, not_begun, not_told, same_room}
+use Rattle.omi_live.proofs.Going.{behind_done, behind_goes, behind_stops, behind_told, less_room, stepped_on, IsWorking, looked_work, may_not_ended, may_went, not_begun, same_room}
 use Rattle.omi_live.proofs.Working.{steps_found}
 use Rattle.omi_live.proofs.worker.Worker.work.Goals.{then-stops_at, else-stops_at}
 use Rattle.omi_live.proofs.worker.Worker.work.Goals as goal
@@ -21,13 +23,16 @@ returns-then-is_told-clause-worked g c =
     let looked = c.is_told.ensures.looked now.part now.work.knows in
     let below = c.loop-step-test.true in
     let count : length (steps_known now.part) ≡ c.loop-step.step = steps_found now.part ∙ now.count in (
-      heard c.is_told.result now.part,
+      looks c.is_told.result now.part,
       looked_work c.args.p.now c.args.l.now c.args.words.now.table_id now.part c.is_told.result c.loop-step.self c.is_told.new.self now.work looked c.is_told.ensures.same,
       record {
         reason = (may_not_ended c.args.on now.part now.goes, omega (arith, count, below));
         most = omega (arith, count, below);
         went_on = may_went c.args.on now.part now.goes;
         stopped = λ is. ap (λ (b : Bool). now.part.told || b) c.if-is_told.true ∙ was now.part.told;
+        did =
+            ap (λ (ys : List Access). ys ++ access.Look c.is_told.result ∷ []) now.did
+            ∙ ap (λ (b : Bool). with_looks c.args.on (steps_known now.part) ++ access.Look b ∷ []) c.if-is_told.true;
       },
     )
   where
@@ -42,25 +47,20 @@ step-outcome-requires-clause-ready g c =
     let below = c.loop-step-test.true in
     let most = c.requires.budget in
     let count = now.count in (
-      heard c.is_told.result now.part,
+      looks c.is_told.result now.part,
       record {
         work = looked_work c.args.p.now c.args.l.now c.args.words.now.table_id now.part c.is_told.result c.loop-step.self c.is_told.new.self now.work looked c.is_told.ensures.same;
         able = looked.able;
         few = omega (arith, count, below, most);
+        room = same_room 1 now.part (looks c.is_told.result now.part) c.loop-step.self c.is_told.new.self refl c.is_told.ensures.same (less_room 1 (c.args.budget - c.loop-step.step) now.part c.loop-step.self (omega (arith, below)) now.room);
       },
     )
-
-pub step-outcome-requires-clause-room : goal.step-outcome-requires-clause-room
-step-outcome-requires-clause-room g c =
-    let now = c.loop-step.invariant in
-    let below = c.loop-step-test.true in
-    same_room c.args.p.now 1 c.loop-step.self c.is_told.new.self c.is_told.ensures.same (less_room c.args.p.now 1 (c.args.budget - c.loop-step.step) c.loop-step.self (omega (arith, below)) now.room)
 
 pub returns-then-ends_at-clause-worked : goal.returns-then-ends_at-clause-worked
 returns-then-ends_at-clause-worked g c =
     let now = c.loop-step.invariant in
     let b = stepped_on c.args.p.now c.args.l.now c.args.words.now.table_id c.args.on c.args.budget c.loop-step.step c.args.self.now.thread c.loop-step.self c.is_told.new.self c.step-outcome.new.self c.is_told.result c.step-outcome.result
-    now (c.is_told.ensures.looked now.part now.work.knows) c.is_told.ensures.same c.if-is_told.false c.step-outcome.ensures.stepped c.step-outcome.ensures.thread in (
+    now (c.is_told.ensures.looked now.part now.work.knows) c.is_told.ensures.same c.if-is_told.false c.loop-step-test.true c.step-outcome.ensures.stepped c.step-outcome.ensures.thread in (
       b.part,
       b.work,
       behind_done c.args.p.now c.args.l.now c.args.words.now.table_id c.args.on c.args.budget c.loop-step.step c.args.self.now.thread c.step-outcome.new.self c.step-outcome.result c.loop-step-test.true (sym c.ends_at.ensures ∙ c.if-ends_at.true) b,
@@ -70,36 +70,34 @@ pub tell-requires-clause-seated : goal.tell-requires-clause-seated
 tell-requires-clause-seated g c =
     let now = c.loop-step.invariant in
     let b = stepped_on c.args.p.now c.args.l.now c.args.words.now.table_id c.args.on c.args.budget c.loop-step.step c.args.self.now.thread c.loop-step.self c.is_told.new.self c.step-outcome.new.self c.is_told.result c.step-outcome.result
-    now (c.is_told.ensures.looked now.part now.work.knows) c.is_told.ensures.same c.if-is_told.false c.step-outcome.ensures.stepped c.step-outcome.ensures.thread in
+    now (c.is_told.ensures.looked now.part now.work.knows) c.is_told.ensures.same c.if-is_told.false c.loop-step-test.true c.step-outcome.ensures.stepped c.step-outcome.ensures.thread in
     b.work.table
 
 pub tell-requires-clause-stops : goal.tell-requires-clause-stops
 tell-requires-clause-stops g c =
     let now = c.loop-step.invariant in
     let b = stepped_on c.args.p.now c.args.l.now c.args.words.now.table_id c.args.on c.args.budget c.loop-step.step c.args.self.now.thread c.loop-step.self c.is_told.new.self c.step-outcome.new.self c.is_told.result c.step-outcome.result
-    now (c.is_told.ensures.looked now.part now.work.knows) c.is_told.ensures.same c.if-is_told.false c.step-outcome.ensures.stepped c.step-outcome.ensures.thread in (
+    now (c.is_told.ensures.looked now.part now.work.knows) c.is_told.ensures.same c.if-is_told.false c.loop-step-test.true c.step-outcome.ensures.stepped c.step-outcome.ensures.thread in (
       b.part,
       b.work.knows,
       ap (λ (on : Option Break). some_stop on (steps_known b.part)) c.requires.table.stops
-          ∙ behind_stops c.args.p.now c.args.l.now c.args.words.now.table_id c.args.on c.loop-step.step c.args.self.now.thread c.step-outcome.new.self c.step-outcome.result (sym c.stops_at.ensures ∙ c.if-stops_at.true) b,
+          ∙ behind_stops c.args.p.now c.args.l.now c.args.words.now.table_id c.args.on c.args.budget c.loop-step.step c.args.self.now.thread c.step-outcome.new.self c.step-outcome.result (sym c.stops_at.ensures ∙ c.if-stops_at.true) b,
     )
 
 pub loop-step-preserved : goal.loop-step-preserved
 loop-step-preserved g c =
     let now = c.loop-step.invariant in
     let b = stepped_on c.args.p.now c.args.l.now c.args.words.now.table_id c.args.on c.args.budget c.loop-step.step c.args.self.now.thread c.loop-step.self c.is_told.new.self c.step-outcome.new.self c.is_told.result c.step-outcome.result
-    now (c.is_told.ensures.looked now.part now.work.knows) c.is_told.ensures.same c.if-is_told.false c.step-outcome.ensures.stepped c.step-outcome.ensures.thread in
-    let room = room_behind c.args.p.now c.args.l.now c.args.words.now.table_id c.args.on c.args.budget c.loop-step.step c.args.self.now.thread c.loop-step.self c.is_told.new.self c.step-outcome.new.self
-    now c.is_told.ensures.same c.loop-step-test.true c.step-outcome.ensures.room in
+    now (c.is_told.ensures.looked now.part now.work.knows) c.is_told.ensures.same c.if-is_told.false c.loop-step-test.true c.step-outcome.ensures.stepped c.step-outcome.ensures.thread in
     let not_done : ends_at c.step-outcome.result ≡ false = sym c.ends_at.ensures ∙ c.if-ends_at.false in
     elim c.if-stops_at.branch [
       | then-stops_at w ↦
           subst (λ (worker : Worker). IsWorking c.args.p.now c.args.l.now c.args.words.now.table_id c.args.on c.args.budget (c.loop-step.step + 1) c.args.self.now.thread worker) (sym w.self-is)
-          (behind_told c.args.p.now c.args.l.now c.args.words.now.table_id c.args.on c.args.budget c.loop-step.step c.args.self.now.thread c.step-outcome.new.self w.tell.new.self c.step-outcome.result not_done b
-          (w.tell.ensures.told b.part b.work.knows) w.tell.ensures.same room)
+          (behind_told c.args.p.now c.args.l.now c.args.words.now.table_id c.args.on c.args.budget c.loop-step.step c.args.self.now.thread c.step-outcome.new.self w.tell.new.self c.step-outcome.result not_done (sym c.stops_at.ensures ∙ w.if-stops_at.true) b
+          (w.tell.ensures.told b.part b.work.knows) w.tell.ensures.same)
       | else-stops_at w ↦
           subst (λ (worker : Worker). IsWorking c.args.p.now c.args.l.now c.args.words.now.table_id c.args.on c.args.budget (c.loop-step.step + 1) c.args.self.now.thread worker) (sym w.self-is)
-          (behind_goes c.args.p.now c.args.l.now c.args.words.now.table_id c.args.on c.args.budget c.loop-step.step c.args.self.now.thread c.step-outcome.new.self c.step-outcome.result not_done (sym c.stops_at.ensures ∙ w.if-stops_at.false) b room)
+          (behind_goes c.args.p.now c.args.l.now c.args.words.now.table_id c.args.on c.args.budget c.loop-step.step c.args.self.now.thread c.step-outcome.new.self c.step-outcome.result not_done (sym c.stops_at.ensures ∙ w.if-stops_at.false) b)
     ]
 
 pub returns-clause-worked : goal.returns-clause-worked
@@ -115,5 +113,6 @@ returns-clause-worked g c =
         most = omega (arith, count, end, most);
         went_on = may_went c.args.on now.part now.goes;
         stopped = λ is. absurd (grind (arith, is));
+        did = now.did ∙ sym (append-nil (with_looks c.args.on (steps_known now.part)));
       },
     )

@@ -1,7 +1,7 @@
-use Rattle.std.proofs.Common.{◌≡◌, sym, ◌∙◌}
+use Rattle.std.proofs.Common.{sym, ◌∙◌}
 use Rattle.omi_live.proofs.threads.fn.all_worked.work.Goals as goal
 
 pub returns : goal.returns
 returns g c =
-    let worked = c.work-until.ensures.worked in
-    record { part = worked.0; own = sym worked.1.thread ∙ c.work-until.ensures.thread; work = worked.1; worked = worked.2 }
+    let worked = c.work-runner.ensures.worked in
+    record { part = worked.0; own = sym worked.1.thread ∙ c.work-runner.ensures.thread; work = worked.1; worked = worked.2 }
