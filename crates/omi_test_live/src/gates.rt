@@ -1,5 +1,6 @@
 //! Gates that hold threads until others come, each for a bounded number of turns.
 
+use omi_live::StartGate;
 use omi_outside::Gate;
 use std::sync::atomic::AtomicU64;
 use std::sync::atomic::Ordering::SeqCst;
@@ -27,6 +28,8 @@ fn waits(came: &AtomicU64, wanted: u64, late: &AtomicU64) -> bool {
 #[derive(Drop)]
 pub struct Meeting {
     threads: u64,
+    told_threads: AtomicU64,
+    told_budget: AtomicU64,
     passes: AtomicU64,
     came: AtomicU64,
     met: AtomicU64,
@@ -37,6 +40,8 @@ impl Meeting {
     pub fn of(threads: u64) -> Meeting {
         Meeting {
             threads,
+            told_threads: AtomicU64::new(0),
+            told_budget: AtomicU64::new(0),
             passes: AtomicU64::new(0),
             came: AtomicU64::new(0),
             met: AtomicU64::new(0),
@@ -49,6 +54,14 @@ impl Meeting {
         self.met.load(SeqCst)
     }
 
+    /// The number of threads and the budget that it was told before it was passed.
+    pub fn opened(&self) -> (u64, u64) {
+        (
+            self.told_threads.load(SeqCst),
+            self.told_budget.load(SeqCst),
+        )
+    }
+
     /// How often it was passed.
     pub fn passes(&self) -> u64 {
         self.passes.load(SeqCst)
@@ -56,6 +69,13 @@ impl Meeting {
 }
 
 impl Gate for Meeting {
+    fn open(&self, threads: u8, budget: u64) {
+        if self.passes.load(SeqCst) == 0 {
+            self.told_threads.store(u64::from(threads), SeqCst);
+            self.told_budget.store(budget, SeqCst);
+        }
+    }
+
     fn pass(&self, _thread: u8, step: u64) {
         self.passes.fetch_add(1, SeqCst);
         if step == 2 {
@@ -118,6 +138,45 @@ impl Gate for Leading {
         }
         if thread == self.leader && step == 2 {
             self.led.store(1, SeqCst);
+        }
+    }
+}
+
+/// The gate at which all wait until each has offered itself, which also sees how many others were there when thread 0 went on.
+#[derive(Drop)]
+pub struct Starting {
+    gate: StartGate,
+    came: AtomicU64,
+    seen: AtomicU64,
+}
+
+impl Starting {
+    pub fn new() -> Starting {
+        Starting {
+            gate: StartGate::of(MOST_TURNS),
+            came: AtomicU64::new(0),
+            seen: AtomicU64::new(0),
+        }
+    }
+
+    /// How many threads stood behind their second step when thread 0 made its first one.
+    pub fn seen(&self) -> u64 {
+        self.seen.load(SeqCst)
+    }
+}
+
+impl Gate for Starting {
+    fn open(&self, threads: u8, budget: u64) {
+        self.gate.open(threads, budget);
+    }
+
+    fn pass(&self, thread: u8, step: u64) {
+        if thread != 0 && step == 3 {
+            self.came.fetch_add(1, SeqCst);
+        }
+        self.gate.pass(thread, step);
+        if thread == 0 && step == 1 {
+            self.seen.store(self.came.load(SeqCst), SeqCst);
         }
     }
 }

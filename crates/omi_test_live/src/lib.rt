@@ -2,8 +2,12 @@
 #![tactic(auto)]
 
 #[cfg(test)]
+mod calls;
+#[cfg(test)]
 mod gates;
 #[cfg(test)]
 mod live_tests;
+#[cfg(test)]
+mod team_tests;
 #[cfg(test)]
 mod top_tests;

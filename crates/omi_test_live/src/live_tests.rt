@@ -3,10 +3,10 @@
 ghost use Rattle.std.specs.Prelude.{◌≤◌};
 ghost use Rattle.omi_live.specs.declared.limits.TheConstants.{MOST_BUDGET};
 
-use crate::gates::{Leading, Meeting};
+use crate::gates::{Leading, Meeting, Starting};
 use omi_core::{Break, Until};
 use omi_layout::{Layout, MOST_THREADS};
-use omi_live::{LiveEnd, live};
+use omi_live::{LiveEnd, StartGate, live};
 use omi_outside::{FreeGate, Gate};
 use omi_rep::suits;
 use omi_script::parse;
@@ -102,6 +102,7 @@ fn threads_run_beside_each_other(rt: HostRuntime) -> Result<(), Fail> {
         let end = run(&rt, rt.alloc(), script, 5, None, &gate);
         assert!(rt; end.is_some(), "{threads} threads");
         let end = end.unwrap();
+        assert_eq!(rt; gate.opened(), (threads, 5));
         assert_eq!(rt; gate.met(), threads);
         assert_eq!(rt; gate.passes(), passes, "{threads} threads");
         assert_eq!(rt; end.runs.len() as u64, threads);
@@ -150,5 +151,38 @@ fn a_break_is_seen_by_others(rt: HostRuntime) -> Result<(), Fail> {
             );
         }
     }
+    Ok(())
+}
+
+/// Thread 0 makes no step before all others have offered themselves. Where the budget has no third step, it doesn't wait.
+#[test]
+fn work_begins_once_all_have_offered(rt: HostRuntime) -> Result<(), Fail> {
+    for (script, threads) in [(A_TEAM_OF_TWO, 2), (A_TASK, 4), (A_TEAM_OF_SIXTEEN, 16)] {
+        let gate = Starting::new();
+        let end = run(&rt, rt.alloc(), script, 5, None, &gate);
+        assert!(rt; end.is_some(), "{threads} threads");
+        assert_eq!(rt; gate.seen(), threads - 1, "{threads} threads");
+        for thread in end.unwrap().runs.as_slice() {
+            assert_eq!(rt; thread.steps, 5, "{threads} threads");
+        }
+        let end = run(&rt, rt.alloc(), script, 2, None, &Starting::new());
+        assert!(rt; end.is_some(), "{threads} threads");
+        for thread in end.unwrap().runs.as_slice() {
+            assert_eq!(rt; thread.steps, 2, "{threads} threads");
+        }
+    }
+    Ok(())
+}
+
+/// Who waits in vain goes on after so many turns, and then nobody waits any more.
+#[test]
+fn no_thread_waits_for_ever(rt: HostRuntime) -> Result<(), Fail> {
+    let gate = StartGate::of(3);
+    gate.open(4, 10);
+    gate.pass(0, 1);
+    gate.pass(2, 3);
+    let end = run(&rt, rt.alloc(), A_TEAM_OF_TWO, 5, None, &StartGate::of(0));
+    assert!(rt; end.is_some());
+    assert_eq!(rt; end.unwrap().runs.len(), 2);
     Ok(())
 }

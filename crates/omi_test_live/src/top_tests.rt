@@ -1,14 +1,12 @@
 //! Runs of threads through the top call, and each of its refusals.
 
+use crate::calls::{Done, call, call_past, inspect};
 use crate::gates::{Leading, Meeting};
-use omi_live_top::live_top;
-use omi_outside::{Call, FreeGate, Gate, MemFiles, MemSink, Status};
+use omi_outside::{Call, Status};
 use omi_test_rows::{A_FULL_ROW, A_TEAM_OF_TWO};
-use omi_top::run_top;
-use std::alloc::{AllocError, Global};
+use std::alloc::Global;
 use std::process::Abort;
 use std::test::Fail;
-use std::thread::Threads;
 
 /// The report of a team's opening.
 const OPENING: &str = "ompd 201811 threads 2 debug enabled
@@ -20,92 +18,6 @@ member 0 thread 0 task k0.0.0
 task k0.0.0 thread 0 kind implicit region r0.0.0 function 0x400010 generating none scheduling none exit 0x7f00000fffc0 enter 0x0 tool 0
 icv dyn-var=0 nthreads-var=2 run-sched-var=static,0 default-device-var=0 final-task-var=0 implicit-task-var=1
 ";
-
-/// The words of a line, which are separated by blanks.
-fn words_of(alloc: Global, line: &str) -> Result<Vec<String>, AllocError> {
-    let mut words = Vec::new(alloc);
-    for word in line.split(' ') {
-        words.push(String::from_str(alloc, word)?)?;
-    }
-    Ok(words)
-}
-
-/// What a call left.
-#[derive(Drop)]
-struct Done {
-    status: Status,
-    files: MemFiles,
-    out: MemSink,
-}
-
-impl Done {
-    /// The core, as bytes. None where there is none.
-    fn core(&self) -> Option<&[u8]> {
-        self.files.bytes("c")
-    }
-
-    /// Whether a file holds just these bytes.
-    fn holds(&self, name: &str, wanted: &[u8]) -> bool {
-        match self.files.bytes(name) {
-            Some(held) => held == wanted,
-            None => false,
-        }
-    }
-
-    /// What was printed.
-    fn printed(&self, alloc: Global) -> Result<String, Fail> {
-        Ok(String::from_utf8(self.out.bytes().to_vec(alloc)?).map_err(|_| "no text")?)
-    }
-}
-
-/// Runs a line over a script, with one call of the files that is to fail, or none.
-fn call<R: Threads + Sync>(
-    rt: &R,
-    alloc: Global,
-    line: &str,
-    script: &str,
-    failing: Option<Call>,
-    puts: Vec<u64>,
-) -> Result<Done, AllocError> {
-    call_past(rt, alloc, line, script, failing, puts, &FreeGate)
-}
-
-/// The same, with the gate that is passed before each step.
-fn call_past<R: Threads + Sync, G: Gate>(
-    rt: &R,
-    alloc: Global,
-    line: &str,
-    script: &str,
-    failing: Option<Call>,
-    puts: Vec<u64>,
-    gate: &G,
-) -> Result<Done, AllocError> {
-    let mut calls = Vec::new(alloc);
-    if let Some(kind) = failing {
-        calls.push((kind, 1))?;
-    }
-    let mut files = MemFiles::new(alloc, calls);
-    files.put("s", script.as_bytes())?;
-    files.put("c", b"before")?;
-    files.put("other", b"stays")?;
-    let mut out = MemSink::new(alloc, puts);
-    let words = words_of(alloc, line)?;
-    let status = live_top(rt, alloc, &words, &mut files, &mut out, gate);
-    Ok(Done { status, files, out })
-}
-
-/// What `ompdi` prints for a line over these files.
-fn inspect(alloc: Global, line: &str, files: &mut MemFiles) -> Result<Done, AllocError> {
-    let mut dest = MemFiles::new(alloc, Vec::new(alloc));
-    let mut out = MemSink::new(alloc, Vec::new(alloc));
-    let words = words_of(alloc, line)?;
-    let status = run_top(alloc, &words, files, &mut dest, &mut out);
-    Ok(Done {
-        status,
-        files: dest,
-        out,
-    })
-}
 
 /// Without steps the core is that of the opening.
 #[test]
@@ -187,6 +99,7 @@ fn threads_run_beside_each_other(rt: HostRuntime) -> Result<(), Fail> {
     let puts = Vec::new(alloc);
     let done = call_past(&rt, alloc, "5 s c", A_TEAM_OF_TWO, None, puts, &gate)?;
     assert_eq!(&rt; done.status, Status::Success);
+    assert_eq!(&rt; gate.opened(), (2, 5));
     assert_eq!(&rt; gate.met(), 2);
     assert_eq!(&rt; gate.passes(), 10);
     let printed = done.printed(alloc)?;

@@ -1,7 +1,7 @@
 // The program: `live_top` over real files and standard output.
 #![tactic(auto)]
 
-use omi_live::StartGate;
+use omi_live::{MOST_TURNS, StartGate};
 use omi_live_top::live_top;
 use omi_outside::{DiskFiles, Status, StdSink, hold_standard};
 use omi_verbs::{handed_over, words_of};
@@ -21,7 +21,7 @@ fn main(rt: HostRuntime) -> ExitCode {
         &words,
         &mut files,
         &mut out,
-        &StartGate::new(),
+        &StartGate::of(MOST_TURNS),
     );
     ExitCode::from(handed_over(status, &mut files).code())
 }

@@ -1,0 +1,122 @@
+//! Runs of threads that form teams, cut anywhere and at each kind of break.
+
+use crate::calls::{call_past, inspect};
+use omi_live::StartGate;
+use omi_outside::Status;
+use omi_test_rows::A_TEAM_OF_TWO;
+use std::test::Fail;
+
+/// A team of as many threads as a program can have.
+const A_TEAM_OF_SIXTEEN: &str =
+    "threads 16\nfunc f\nwork\nend\nfunc main\nparallel f num 16\nend\n";
+
+/// Two threads that come to one lock, and then to a barrier.
+const A_LOCK_AND_A_BARRIER: &str = "threads 2
+func add
+  work
+end
+func member
+  critical 0 add
+  barrier
+  critical 0 add
+end
+func main
+  parallel member num 2
+end
+";
+
+/// Four threads that make tasks and wait for them.
+const TASKS: &str = "threads 4
+func leaf
+  work
+end
+func member
+  task leaf
+  task leaf
+  taskwait
+end
+func main
+  parallel member num 4
+end
+";
+
+/// So many turns a thread waits at most until all others have offered themselves.
+const TURNS: u64 = 4_000_000;
+
+/// Once all have offered themselves, a team of all threads is forked.
+#[test]
+fn all_threads_form_a_team(rt: HostRuntime) -> Result<(), Fail> {
+    let alloc = rt.alloc();
+    let line = "5000 s c --break parallel_begin";
+    for (script, fork) in [
+        (A_TEAM_OF_TWO, " t0 fork r0.1.0 size 2 team k0.1.0@0 "),
+        (TASKS, " t0 fork r0.1.0 size 4 team k0.1.0@0 "),
+        (A_TEAM_OF_SIXTEEN, " t0 fork r0.1.0 size 16 team k0.1.0@0 "),
+    ] {
+        let gate = StartGate::of(TURNS);
+        let mut done = call_past(&rt, alloc, line, script, None, Vec::new(alloc), &gate)?;
+        assert_eq!(&rt; done.status, Status::Success);
+        let printed = done.printed(alloc)?;
+        assert!(&rt; printed.contains(fork), "{fork}");
+        let shown = inspect(alloc, "show c", &mut done.files)?;
+        assert_eq!(&rt; shown.status, Status::Success);
+    }
+    Ok(())
+}
+
+/// Cut by the budget, in the middle of a fork, at a lock or at a barrier, a run leaves a core that is shown.
+#[test]
+fn cut_runs_are_shown(rt: HostRuntime) -> Result<(), Fail> {
+    let alloc = rt.alloc();
+    for script in [A_LOCK_AND_A_BARRIER, TASKS] {
+        for budget in [0, 3, 40, 80, 120, 160, 200, 240, 280, 320, 360, 400] {
+            let line = format!(in alloc; "{budget} s c")?;
+            let gate = StartGate::of(TURNS);
+            let mut done = call_past(&rt, alloc, &line, script, None, Vec::new(alloc), &gate)?;
+            assert_eq!(&rt; done.status, Status::Success, "{budget} steps");
+            let end = format!(in alloc; "end budget {budget}\n")?;
+            let printed = done.printed(alloc)?;
+            assert!(&rt; printed.ends_with(end.as_str()), "{budget} steps");
+            let shown = inspect(alloc, "show c", &mut done.files)?;
+            assert_eq!(&rt; shown.status, Status::Success, "{budget} steps");
+        }
+    }
+    Ok(())
+}
+
+/// Whether the first event of a kind is the last line of a thread, if it has one.
+fn ends_with_first(lines: &str, kind: &str) -> bool {
+    match lines.split_once(kind) {
+        Some((_, rest)) => !rest.trim_end().contains('\n'),
+        None => true,
+    }
+}
+
+/// At each kind of break, its event is the last of its thread, and the core is shown. Where a thread that begins is a break, others may
+/// not offer themselves, and who waits for them does so in vain.
+#[test]
+fn each_kind_of_break_stops(rt: HostRuntime) -> Result<(), Fail> {
+    let alloc = rt.alloc();
+    for (name, kind) in [
+        ("thread_begin", " begin"),
+        ("parallel_begin", " fork "),
+        ("task_begin", " start"),
+        ("task_end", " finish "),
+        ("parallel_end", " join "),
+    ] {
+        let line = format!(in alloc; "5000 s c --break {name}")?;
+        let gate = StartGate::of(100);
+        let mut done = call_past(&rt, alloc, &line, TASKS, None, Vec::new(alloc), &gate)?;
+        assert_eq!(&rt; done.status, Status::Success, "{name}");
+        let printed = done.printed(alloc)?;
+        let events = printed
+            .strip_suffix("end budget 5000\n")
+            .ok_or("no end line")?;
+        for lines in events.split("thread ") {
+            assert!(&rt; ends_with_first(lines, kind), "{name}");
+        }
+        let shown = inspect(alloc, "show c", &mut done.files)?;
+        assert_eq!(&rt; shown.status, Status::Success, "{name}");
+    }
+    Ok(())
+}
