@@ -1,5 +1,5 @@
 #!/usr/bin/env python3
-"""Follows the promise of omi_top/specs/Promise.antt through all definitions that it rests on.
+"""Follows the clause `promise` of `run_top` through all definitions that it rests on, by their names in the files.
 
 docs/promise.py          compares what it reaches with the tables of docs/PROMISE.md, and fails where they differ
 docs/promise.py list     prints a row for each file that it reaches: its lines that are reached, and the names
@@ -11,7 +11,9 @@ import sys
 
 TOP = os.path.dirname(os.path.dirname(os.path.abspath(__file__))) + "/crates"
 PAGE = os.path.dirname(os.path.abspath(__file__)) + "/PROMISE.md"
-START = ("omi_top/specs/Promise.antt", "IsPromised")
+TOP_CALL = "omi_top/src/top.rt"
+CLAUSE = re.compile(r"^    ensures promise \{(.*?)\}$", re.M | re.S)
+GHOST = re.compile(r"^ghost use ([\w.]+)\.\{(.*)\};$", re.M)
 
 HEAD = re.compile(r"^(?:  )?(?:(?:abbrev|unfoldable) pub|pub (?:record|data)|(?:record|data) pub) +([^\s:({]+)")
 IMPORT = re.compile(r"^use ([\w.]+?)(?:\.\{(.*)\})?(?: as (\w+))?$")
@@ -151,9 +153,21 @@ def place(module, name):
     return path, spec(path).owner(name)
 
 
+def clause():
+    """The places of the names in the clause."""
+    with open(f"{TOP}/{TOP_CALL}", encoding="utf-8") as file:
+        text = file.read()
+    words = {it.split(".")[0] for it in WORD.findall(CLAUSE.search(text)[1])}
+    for module, names in GHOST.findall(text):
+        for name in names.split(","):
+            if name.strip() in words:
+                yield place(module, name.strip())
+
+
 def reached():
     """All definitions under the promise, by file."""
-    found, open_ = {START}, [START]
+    found = {it for it in clause() if it}
+    open_ = list(found)
     while open_:
         path, name = open_.pop()
         for at in source(path).under(name) if path.endswith(".rt") else spec(path).under(path, name):
