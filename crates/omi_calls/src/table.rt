@@ -136,4 +136,16 @@ impl<C: Callbacks, F: ToHost> Table<C, F> {
     {
         self.calls.sizeof_type()
     }
+
+    /// Hands the callbacks back.
+    pub fn into_calls(self) -> C
+        ensures { result ≡ self.calls }
+    {
+        let Table {
+            calls,
+            order: _,
+            to_host: _,
+        } = self;
+        calls
+    }
 }

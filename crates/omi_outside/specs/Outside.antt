@@ -1,11 +1,15 @@
 -- What the outside tells of its bytes, what a call changes of that, and when a call may fail.
-use Rattle.std.specs.Prelude.{◌≡◌, ◌⊎◌, ℕ, ◌+◌, ◌-◌, ◌^◌, ◌*◌, ◌<◌, ◌≤◌, min, List, ◌++◌, length, take, Option, Some, None}
+use Rattle.std.specs.Prelude.{◌≡◌, ◌⊎◌, ℕ, ◌+◌, ◌-◌, ◌^◌, ◌*◌, ◌<◌, ◌≤◌, min, List, ◌++◌, length, slice_index, take, Option, Some, None}
 use Rattle.omi_outside.specs.declared.limits.TheConstants.{PIECE}
 
 -- Files. What is told of one name: nothing (None), that there is no such file (Some None), or its
 -- bytes.
 abbrev pub Told : Type 0
 Told = Option (Option (List ℕ))
+
+-- Each number is a byte.
+abbrev pub AreBytes : List ℕ → Type 0
+AreBytes bytes = (k : ℕ) → slice_index bytes k < 256
 
 -- The length of a file, 0 where there is none.
 abbrev pub content_len : Option (List ℕ) → ℕ

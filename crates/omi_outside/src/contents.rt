@@ -1,19 +1,29 @@
 // What files and sinks in memory hold, and what a call of theirs makes of it.
 ghost use Rattle.std.specs.Prelude.{◌≡◌, ◌≢◌, ◌+◌, ◌++◌, ◌<◌, ◌≤◌, List, ℕ, length, take, drop, IfErr, IsErr, OnOk, OnErr, Some, None};
 ghost use Rattle.std.specs.Option.{option_map};
-ghost use Rattle.omi_outside.specs.Outside.{content_len, extended, HasCause};
+ghost use Rattle.omi_outside.specs.Outside.{AreBytes, content_len, extended, HasCause};
 ghost use Rattle.omi_outside.specs.Memory.{content_of, told_by};
 
 use crate::{OutOfMemory, Refused};
 use std::alloc::Global;
 use std::collections::BTreeMap;
 
+/// How many bytes these are.
+fn byte_count(bytes: &[u8]) -> u64
+    ensures count { result ≡ length bytes.now }
+    ensures are_bytes { AreBytes bytes.now }
+{
+    bytes.len() as u64
+}
+
 /// The length of a file.
 pub fn size_of_file(held: &BTreeMap<String, Vec<u8>>, name: &str) -> Option<u64>
-    ensures { result ≡ option_map length (content_of held.now name.now) }
+    ensures length { result ≡ option_map length (content_of held.now name.now) }
+    ensures are_bytes { (bytes : List ℕ) → content_of held.now name.now ≡ Some bytes
+        → AreBytes bytes }
 {
     match held.get(name) {
-        Some(bytes) => Some(bytes.len() as u64),
+        Some(bytes) => Some(byte_count(bytes.as_slice())),
         None => None,
     }
 }

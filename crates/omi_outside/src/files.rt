@@ -1,7 +1,7 @@
 // Named files, and what each call of them changes.
 ghost use Rattle.std.specs.Prelude.{◌≡◌, ◌≢◌, ◌+◌, ◌<◌, ◌≤◌, List, ℕ, length, take, drop, IfOk, OnOk, OnErr, IsErr, IsErrOf, Option, Some, []};
 ghost use Rattle.std.specs.Option.{option_map};
-ghost use Rattle.omi_outside.specs.Outside.{Told, content_len, holding, extended, HasCause};
+ghost use Rattle.omi_outside.specs.Outside.{AreBytes, Told, content_len, holding, extended, HasCause};
 ghost use Rattle.omi_outside.specs.declared.files.Refused.TheVariants.{OutOfMemory};
 
 use std::alloc::{AllocError, AllocFailed};
@@ -51,6 +51,8 @@ pub trait Files {
     fn size(&mut self, name: &str) -> Result<Option<u64>, Refused>
         ensures length { (content : Option (List ℕ)) → told self.old name.now ≡ Some content
             → IfOk result (λ size. size ≡ option_map length content) }
+        ensures are_bytes { (bytes : List ℕ) → told self.old name.now ≡ Some (Some bytes)
+            → OnOk result (AreBytes bytes) }
 
         // No bytes change. A fault is counted as one of reading.
         ensures same { told self.new ≡ told self.old }

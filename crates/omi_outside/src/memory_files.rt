@@ -2,7 +2,7 @@
 ghost use Rattle.std.specs.Prelude.{◌≡◌, ◌≢◌, ◌+◌, ◌<◌, ◌≤◌, List, ℕ, ◌↔◌, length, take, drop, IsTrue, IfOk, OnOk, OnErr, IsErr, IsErrOf, [], Option, Some, None};
 ghost use Rattle.std.specs.List.{Contains};
 ghost use Rattle.std.specs.Option.{option_map};
-ghost use Rattle.omi_outside.specs.Outside.{content_len, holding, extended, HasCause};
+ghost use Rattle.omi_outside.specs.Outside.{AreBytes, content_len, holding, extended, HasCause};
 ghost use Rattle.omi_outside.specs.Failing.{calls_made, failing_calls, IsCalled, IsNotCalled, IsToFail};
 ghost use Rattle.omi_outside.specs.Memory.{told_of, read_faults, write_faults};
 ghost use Rattle.omi_outside.specs.declared.memory_files.Call.{Call};
@@ -127,6 +127,8 @@ impl Files for MemFiles {
         // What each form says.
         ensures length { (content : Option (List ℕ)) → told_of self.old name.now ≡ Some content
             → IfOk result (λ size. size ≡ option_map length content) }
+        ensures are_bytes { (bytes : List ℕ) → told_of self.old name.now ≡ Some (Some bytes)
+            → OnOk result (AreBytes bytes) }
         ensures same { told_of self.new ≡ told_of self.old }
         ensures cause { HasCause (read_faults self.old) (read_faults self.new)
             (IsErrOf result Refused.Failed) }

@@ -1,0 +1,5 @@
+use Rattle.std.proofs.Common.{arith}
+use Rattle.omi_outside.proofs.contents.byte_count.Goals as goal
+
+pub returns-clause-are_bytes : goal.returns-clause-are_bytes
+returns-clause-are_bytes c = λ k. omega (arith, c.type_inv.bytes k)
