@@ -1,11 +1,12 @@
 -- What is known of a file once it was opened, or refused.
-use Rattle.std.proofs.Common.{◌≡◌, ℕ, List, [], Contains, Ok, sym, ap, ◌∙◌, arith}
+use Rattle.std.proofs.Common.{◌≡◌, ◌⊎◌, inl, inr, ℕ, List, [], Contains, Ok, sym, ap, ◌∙◌, arith}
 use Rattle.omi_outside.specs.Outside.{Told as FileTold}
 use Rattle.omi_corefile.specs.declared.core_image.CoreImage.{CoreImage}
 use Rattle.omi_corefile.specs.Spelling.{Core}
-use Rattle.omi_corefile.specs.Refusals.{Parts, reading}
+use Rattle.omi_corefile.specs.Outcomes.{IsCore, IsRefused}
+use Rattle.omi_corefile.specs.Refusals.{AreBytes, Parts, reading}
 use Rattle.omi_corefile.proofs.Numbers.{ok_is}
-use Rattle.omi_corefile.proofs.FileLaws.{parts_of, reading_again}
+use Rattle.omi_corefile.proofs.FileLaws.{parts_of, reading_again, some_answer}
 use Rattle.omi_calls.specs.Memory.{told_by}
 use Rattle.omi_page.specs.declared.fault.PageError.{PageError}
 use Rattle.omi_page.specs.declared.fault.PageError.TheVariants.{Fault, NoFile, Failed, OutOfMemory}
@@ -15,6 +16,14 @@ use Rattle.omi_page.specs.Told.{told_by_reading, told_by_file}
 -- a core is read as what it holds
 pub read_core : (bytes : List ℕ) (c : CoreImage) → Core bytes c → reading bytes ≡ Ok (parts_of c)
 read_core bytes c is = ap reading is ∙ reading_again c
+
+-- a file of bytes that is read is a core
+pub file_is_core : (bytes : List ℕ) (p : Parts) → AreBytes bytes → reading bytes ≡ Ok p → IsCore bytes
+file_is_core bytes p are read = by_answer (some_answer bytes are)
+  where
+    by_answer : IsCore bytes ⊎ IsRefused bytes → IsCore bytes
+    by_answer (inl core) = core
+    by_answer (inr (at, why, refused)) = let both = sym read ∙ refused in absurd cc
 
 -- a core has no fault
 pub core_opens : (error : PageError) (bytes : List ℕ) (c : CoreImage) (P : Type 0) → Fails error (reading bytes) → Core bytes c

@@ -89,6 +89,16 @@ contexts_took len least (suc count) bytes x e =
     let so_many : 8 + 8 * count ≡ 8 * suc count = omega arith in
     subst (λ (y : List ℕ × List ℕ). Took (8 * suc count) bytes y.1) {x = made} (ok_is made x b.2) (subst (λ n. Took n bytes b.0.1) so_many both)
 
+-- so many native ids are read
+pub contexts_count : (len least count : ℕ) (bytes : List ℕ) (x : List ℕ × List ℕ) → row_at (id_at len) (λ least id. id + 1) count least bytes ≡ Ok x → length x.0 ≡ count
+unfolding row_at
+contexts_count len least zero bytes x e = sym (ap (λ (y : List ℕ × List ℕ). length y.0) (ok_is ([], bytes) x e))
+contexts_count len least (suc count) bytes x e =
+    let a = bind_ok (id_at len least bytes) (λ first. row_at (id_at len) (λ least id. id + 1) count (first.0 + 1) first.1 >>= λ others. Ok (first.0 ∷ others.0, others.1)) x e in
+    let b = bind_ok (row_at (id_at len) (λ least id. id + 1) count (a.0.0 + 1) a.0.1) (λ others. Ok (a.0.0 ∷ others.0, others.1)) x a.2 in
+    let made : List ℕ × List ℕ = (a.0.0 ∷ b.0.0, b.0.1) in
+    subst (λ (y : List ℕ × List ℕ). length y.0 ≡ suc count) {x = made} (ok_is made x b.2) (ap suc (contexts_count len (a.0.0 + 1) count a.0.1 b.0 b.1))
+
 -- what is known of the bounds of a segment that were read
 pub record TookBounds (left : Left) (bytes : List ℕ) (start count : ℕ) (rest : List ℕ) : Type 0 where
   pub took : Took 16 bytes rest

@@ -195,3 +195,14 @@ pub tells_symbols : (told : FileTold) (symbols : Symbols) → (told_by_file told
 tells_symbols (Some (Some bytes)) symbols e = symbols_by bytes symbols (reading bytes) refl e
 tells_symbols (Some None) symbols e = absurd cc
 tells_symbols None symbols e = absurd cc
+
+-- an order that is told is 0
+order_by : (bytes : List ℕ) (order : ℕ) (read : Result Parts ReadRefusal) → reading bytes ≡ read → (told_by_reading read).order ≡ Some order
+    → ((parts : Parts) → reading bytes ≡ Ok parts → parts.order ≡ 0) → order ≡ 0
+order_by bytes order (Ok parts) is e none = let same : parts.order ≡ order = cc in sym same ∙ none parts is
+order_by bytes order (Err refusal) is e none = absurd cc
+
+pub no_other_order : (told : FileTold) (contexts : List ℕ) (spans : List Span) (order : ℕ) → ArePartsOf told contexts spans → (told_by_file told).order ≡ Some order → order ≡ 0
+no_other_order (Some (Some bytes)) contexts spans order parts e = order_by bytes order (reading bytes) refl e (λ p read. (parts bytes p refl read).0)
+no_other_order (Some None) contexts spans order parts e = absurd cc
+no_other_order None contexts spans order parts e = absurd cc

@@ -9,5 +9,6 @@ pub mod Outcomes
 pub mod Told
 pub mod Paging
 pub mod Borrowed
+pub mod Lending
 -- Words of which each may be missing.
 pub mod AllWords

@@ -3,6 +3,7 @@
 
 mod fault;
 mod keeping;
+mod lent;
 mod limits;
 mod loading;
 mod opened;
@@ -13,6 +14,7 @@ mod span;
 mod symbol_table;
 
 pub use fault::PageError;
+pub use lent::{LentPages, Loan};
 pub use limits::{MOST_PAGES, PAGE_BYTES};
 pub use opened::{Opened, open};
 pub use pages::Pages;

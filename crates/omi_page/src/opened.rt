@@ -1,12 +1,14 @@
 //! A core file that was opened: what stands in it beside its words, and room for pages.
 
-ghost use Rattle.std.specs.Prelude.{◌≡◌, ◌≤◌, List, ℕ, Some, None, IfOk, IsOk, IfErr, IsErrOf, Err, vec_len, []};
+ghost use Rattle.std.specs.Prelude.{◌≡◌, ◌≤◌, List, ℕ, Some, None, IfOk, OnOk, IsOk, IfErr, IsErrOf, Err, length, vec_len, []};
 ghost use Rattle.omi_outside.specs.Outside.{HasCause};
+ghost use Rattle.omi_corefile.specs.Outcomes.{IsCore};
 ghost use Rattle.omi_corefile.specs.Spelling.{Core};
 ghost use Rattle.omi_corefile.specs.Refusals.{CoreRefused};
 ghost use Rattle.omi_corefile.specs.declared.core_image.CoreImage.{CoreImage};
 ghost use Rattle.omi_corefile.specs.declared.fault.CoreFault.{CoreFault};
-ghost use Rattle.omi_page.specs.declared.limits.TheConstants.{PAGE_BYTES};
+ghost use Rattle.omi_corefile.specs.declared.limits.TheConstants.{MOST_CONTEXTS};
+ghost use Rattle.omi_page.specs.declared.limits.TheConstants.{MOST_PAGES, PAGE_BYTES};
 ghost use Rattle.omi_page.specs.Outcomes.{Holds, IsFaultOf, UnlessFree};
 ghost use Rattle.omi_page.specs.Paging.{IsOpened};
 
@@ -16,6 +18,7 @@ use crate::{MOST_PAGES, PAGE_BYTES, PageError};
 use lru::LruCache;
 use omi_list::OutOfMemory;
 use omi_outside::Files;
+use omi_word::Natives;
 use std::alloc::Global;
 use std::num::NonZeroUsize;
 
@@ -28,11 +31,23 @@ pub struct Opened {
     pub buffer: Vec<u8>,
     pub ghost room: { vec_len buffer ≡ PAGE_BYTES },
     pub ghost none: { kept.entries ≡ [] },
+    pub ghost places: { kept.cap ≡ MOST_PAGES },
+}
+
+impl Opened {
+    /// The native ids of the core's threads, which rise.
+    pub fn contexts(&self) -> &Natives
+        ensures contexts { result.now ≡ self.now.contents.contexts }
+        ensures few { length result.now ≤ MOST_CONTEXTS }
+    {
+        &self.contents.contexts
+    }
 }
 
 /// Room for the pages that are kept.
 fn no_pages(alloc: Global) -> Result<Kept, OutOfMemory>
-    ensures { IfOk result (λ kept. kept.entries ≡ []) }
+    ensures none { IfOk result (λ kept. kept.entries ≡ []) }
+    ensures places { IfOk result (λ kept. kept.cap ≡ MOST_PAGES) }
 {
     let most = NonZeroUsize::new(MOST_PAGES).unwrap();
     LruCache::sparse(alloc, most)
@@ -53,6 +68,8 @@ pub fn open<F: Files>(alloc: Global, files: &mut F, name: &str) -> Result<Opened
         → UnlessFree result (result ≡ Err (PageError.Fault at why)) }
     ensures missing { F.told files.old name.now ≡ Some None
         → UnlessFree result (result ≡ Err PageError.NoFile) }
+    ensures core { (bytes : List ℕ) → Holds (F.told files.old name.now) bytes
+        → OnOk result (IsCore bytes) }
     ensures opened { IfOk result (λ opened. IsOpened (F.told files.new name.now) opened.contents) }
 
     // No bytes change. A fault is counted as one of reading.

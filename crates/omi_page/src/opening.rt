@@ -1,8 +1,8 @@
 //! Reading what stands in a core file beside its words: the header, the contexts, and the bounds of each segment.
 
-ghost use Rattle.std.specs.Prelude.{◌≡◌, ◌+◌, ◌*◌, ◌%◌, ◌≤◌, ◌<◌, List, ℕ, length, drop, IfOk, IsErrOf, Some, None, Err};
+ghost use Rattle.std.specs.Prelude.{◌≡◌, ◌+◌, ◌*◌, ◌%◌, ◌≤◌, ◌<◌, List, ℕ, length, drop, IfOk, OnOk, IsErrOf, Some, None, Err};
 ghost use Rattle.omi_word.specs.declared.limits.TheConstants.{MEMORY_END};
-ghost use Rattle.omi_outside.specs.Outside.{HasCause};
+ghost use Rattle.omi_outside.specs.Outside.{AreBytes, HasCause};
 ghost use Rattle.omi_corefile.specs.Refusals.{header_at, contexts_at, segment_at, segments_at, reading};
 ghost use Rattle.omi_corefile.specs.declared.fault.CoreFault.{CoreFault};
 ghost use Rattle.omi_corefile.specs.Outcomes.{Gives as ReadGives};
@@ -67,6 +67,7 @@ pub fn read_contexts<F: Files>(
         → Gives (λ ids. (ids, drop (HEADER_BYTES + 8 * count) bytes)) result
         (contexts_at len count (drop HEADER_BYTES bytes)) }
     ensures long { IfOk result (λ _. HEADER_BYTES + 8 * count ≤ len) }
+    ensures few { IfOk result (λ ids. length ids ≤ MOST_CONTEXTS) }
 
     // No bytes change. A fault is counted as one of reading.
     ensures same { F.told files.new ≡ F.told files.old }
@@ -180,6 +181,8 @@ fn len_of<F: Files>(files: &mut F, name: &str) -> Result<u64, PageError>
     ensures missing { IsErrOf result PageError.NoFile → (bytes : List ℕ)
         → ¬ Holds (F.told files.old name.now) bytes }
     ensures no_fault { (at : ℕ) (why : CoreFault) → ¬ IsErrOf result (PageError.Fault at why) }
+    ensures are_bytes { (bytes : List ℕ) → Holds (F.told files.old name.now) bytes
+        → OnOk result (AreBytes bytes) }
 
     // No bytes change. A fault is counted as one of reading.
     ensures same { F.told files.new ≡ F.told files.old }
@@ -200,6 +203,7 @@ pub struct Contents {
     pub order: u8,
     pub contexts: Natives,
     pub spans: SpanList,
+    pub ghost few: { length contexts ≤ MOST_CONTEXTS },
 }
 
 /// What stands in a core file beside its words. No word is read.
@@ -220,6 +224,8 @@ pub fn read_contents<F: Files>(
     ensures len { IfOk result (λ x. IsLength (F.told files.old name.now) x.len) }
     ensures ends { IfOk result (λ x. EndWithin x.len x.spans) }
     ensures order { IfOk result (λ x. x.order ≡ 0) }
+    ensures are_bytes { (bytes : List ℕ) → Holds (F.told files.old name.now) bytes
+        → OnOk result (AreBytes bytes) }
 
     // No bytes change. A fault is counted as one of reading.
     ensures same { F.told files.new ≡ F.told files.old }

@@ -1,6 +1,6 @@
 //! A core file that is read on demand.
 
-ghost use Rattle.std.specs.Prelude.{◌≡◌, ◌≤◌, ◌+◌, List, ℕ, Some, None, IfOk, IsOk, IfErr, Err, vec_len, []};
+ghost use Rattle.std.specs.Prelude.{◌≡◌, ◌≤◌, ◌+◌, List, ℕ, Some, None, IfOk, IsOk, IfErr, Err, length, vec_len, []};
 ghost use Rattle.omi_outside.specs.Outside.{HasCause};
 ghost use Rattle.omi_corefile.specs.Spelling.{Core};
 ghost use Rattle.omi_corefile.specs.Refusals.{CoreRefused};
@@ -11,7 +11,7 @@ ghost use Rattle.omi_calls.specs.Told.{Symbols, aligned_word_at, number_of};
 ghost use Rattle.omi_calls.specs.Answers.{SaysMapped, SaysPlace};
 ghost use Rattle.omi_word.specs.SymbolTable.{symbol_in};
 ghost use Rattle.omi_calls.specs.Memory.{told_by};
-ghost use Rattle.omi_page.specs.declared.limits.TheConstants.{PAGE_BYTES};
+ghost use Rattle.omi_page.specs.declared.limits.TheConstants.{MOST_PAGES, PAGE_BYTES};
 ghost use Rattle.omi_page.specs.Outcomes.{IsLength, Holds, IsFaultOf, UnlessFree};
 ghost use Rattle.omi_page.specs.Bounds.{EndWithin};
 ghost use Rattle.omi_page.specs.Paging.{AreLong, ArePages, ArePartsOf, IsOpened};
@@ -28,7 +28,7 @@ use omi_word::Natives;
 use std::alloc::Global;
 
 /// A core file that is read on demand. It borrows the files and the name, and tells what the core tells that the file's bytes are.
-/// At most `MOST_PAGES` pages of `PAGE_BYTES` bytes are kept. Reads and look-ups are counted together.
+/// At most `MOST_PAGES` pages of `PAGE_BYTES` bytes are kept, by the type. Reads and look-ups are counted together.
 #[derive(Drop)]
 pub struct Pages<'a, F: Files> {
     alloc: Global,
@@ -41,6 +41,8 @@ pub struct Pages<'a, F: Files> {
     buffer: Vec<u8>,
     asked: u64,
     ghost room: { vec_len buffer ≡ PAGE_BYTES },
+    ghost places: { kept.cap ≡ MOST_PAGES },
+    ghost few: { length kept.entries ≤ MOST_PAGES },
     ghost length: { IsLength (F.told files.now name.now) len },
     ghost ends: { EndWithin len spans },
     ghost long: { AreLong kept.entries },

@@ -1,6 +1,6 @@
 use Rattle.std.proofs.Common.{sym, ap, ◌∙◌}
 use Rattle.std.proofs.lemmas.Result.{err_from_is_err_and}
-use Rattle.omi_page.proofs.OpenedFiles.{core_opens, fault_of, read_core, same_parts}
+use Rattle.omi_page.proofs.OpenedFiles.{core_opens, fault_of, file_is_core, read_core, same_parts}
 use Rattle.omi_page.proofs.opened.open.Goals as goal
 
 pub returns-in_err-contents-clause-accepts : goal.returns-in_err-contents-clause-accepts
@@ -16,6 +16,9 @@ returns-in_err-contents-clause-fault g c = λ bytes holds.
 pub returns-clause-contexts : goal.returns-clause-contexts
 returns-clause-contexts g c = λ bytes core holds is.
     ap (λ p. p.contexts) (same_parts bytes _ _ (c.in_ok-contents.ensures.read bytes holds) (read_core bytes core is))
+
+pub returns-clause-core : goal.returns-clause-core
+returns-clause-core g c = λ bytes holds. file_is_core bytes _ (c.in_ok-contents.ensures.are_bytes bytes holds) (c.in_ok-contents.ensures.read bytes holds)
 
 pub returns-clause-opened : goal.returns-clause-opened
 returns-clause-opened g c =

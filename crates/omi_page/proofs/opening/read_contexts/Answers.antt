@@ -2,7 +2,7 @@ use Rattle.std.proofs.Common.{Some, ◌+◌, ◌*◌, arith, length-take}
 use Rattle.std.proofs.lemmas.Result.{err_from_is_err_and}
 use Rattle.omi_corefile.specs.Refusals.{contexts_at}
 use Rattle.omi_page.proofs.FrontsOfFiles.{front_value, front_fault, local_contexts}
-use Rattle.omi_page.proofs.Taking.{contexts_took}
+use Rattle.omi_page.proofs.Taking.{contexts_count, contexts_took}
 use Rattle.omi_page.proofs.opening.read_contexts.Goals as goal
 
 pub returns-in_err-ids-clause-read : goal.returns-in_err-ids-clause-read
@@ -21,3 +21,6 @@ returns-clause-read g c = λ bytes told.
 pub returns-clause-long : goal.returns-clause-long
 returns-clause-long g c = let took = contexts_took (16 + c.in_ok-read.read) 0 c.args.count _ _ c.in_ok-ids.ensures in
     omega (arith, took.long, c.in_ok-read.ensures.count, length-take c.in_ok-read.read c.front.new.to)
+
+pub returns-clause-few : goal.returns-clause-few
+returns-clause-few g c = let same = contexts_count (16 + c.in_ok-read.read) 0 c.args.count _ _ c.in_ok-ids.ensures in omega (arith, same, c.requires.few)

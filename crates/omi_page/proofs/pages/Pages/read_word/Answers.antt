@@ -1,4 +1,4 @@
-use Rattle.std.proofs.Common.{◌≡◌, ◌/◌, ◌%◌, length, inl, inr, sym, ap, ◌∙◌, subst}
+use Rattle.std.proofs.Common.{◌≡◌, ◌/◌, ◌%◌, length, inl, inr, sym, ap, ◌∙◌, subst, arith}
 use Rattle.omi_page.specs.Spans.{eight_at}
 use Rattle.omi_page.specs.Paging.{IsPage}
 use Rattle.omi_page.proofs.Answering.{not_err, lent_whole}
@@ -18,6 +18,8 @@ invariant_of-self-in-Some-1 g c = record {
   room = c.args.self.now.room;
   length = c.args.self.now.length;
   ends = c.args.self.now.ends;
+  places = c.kept_word.ensures.places ∙ c.args.self.now.places;
+  few = omega (arith, c.kept_word.ensures.few, c.kept_word.ensures.places, c.args.self.now.places);
   long = λ page items kept. c.args.self.now.long page items (c.kept_word.ensures.others page items kept);
   pages = λ bytes holds page items kept. c.args.self.now.pages bytes holds page items (c.kept_word.ensures.others page items kept);
   parts = c.args.self.now.parts;
@@ -40,6 +42,8 @@ invariant_of-self-then-is_err g c =
       room = c.args.self.now.room;
       length = λ content told. c.args.self.now.length content (before ∙ told);
       ends = c.args.self.now.ends;
+      places = c.kept_word.ensures.places ∙ c.args.self.now.places;
+      few = omega (arith, c.kept_word.ensures.few, c.kept_word.ensures.places, c.args.self.now.places);
       long = λ page items kept. c.args.self.now.long page items (c.kept_word.ensures.others page items kept);
       pages = λ bytes holds page items kept. c.args.self.now.pages bytes (before ∙ holds) page items (c.kept_word.ensures.others page items kept);
       parts = λ bytes parts holds. c.args.self.now.parts bytes parts (before ∙ holds);
@@ -54,11 +58,13 @@ invariant_of-self-2 g c =
       room = c.args.self.now.room;
       length = λ content told. c.args.self.now.length content (before ∙ told);
       ends = c.args.self.now.ends;
-      long = λ page items kept. elim (c.keep.ensures page items kept) [
+      places = c.keep.ensures.places ∙ c.kept_word.ensures.places ∙ c.args.self.now.places;
+      few = omega (arith, c.keep.ensures.few, c.keep.ensures.places, c.kept_word.ensures.places, c.args.self.now.places);
+      long = λ page items kept. elim (c.keep.ensures.pages page items kept) [
         | inl was ↦ c.args.self.now.long page items (c.kept_word.ensures.others page items was)
         | inr put ↦ ap length (put.1 ∙ whole) ∙ sym room ∙ c.args.self.now.room
       ];
-      pages = λ bytes holds page items kept. elim (c.keep.ensures page items kept) [
+      pages = λ bytes holds page items kept. elim (c.keep.ensures.pages page items kept) [
         | inl was ↦ c.args.self.now.pages bytes (before ∙ holds) page items (c.kept_word.ensures.others page items was)
         | inr put ↦
             subst (λ k. IsPage bytes c.args.self.now.spans k items.items) (sym put.0)

@@ -2,7 +2,7 @@ use Rattle.std.proofs.Common.{Contains, ap, ◌∙◌, arith, length, nat_eq, su
 use Rattle.lru.proofs.CallerLemmas.{Contains-promoted}
 use Rattle.omi_page.specs.Spans.{eight_at}
 use Rattle.omi_page.proofs.KeptPages.{looked_up}
-use Rattle.omi_page.proofs.keeping.kept_word.Goals as goal
+use Rattle.omi_page.proofs.keeping.used_word.Goals as goal
 
 pub returns-in_err-items-clause-others : goal.returns-in_err-items-clause-others
 returns-in_err-items-clause-others c = λ other items contained.
@@ -24,3 +24,9 @@ returns-clause-word c = (
 pub returns-clause-others : goal.returns-clause-others
 returns-clause-others c = λ other items contained.
     Contains-promoted (nat_eq c.args.page) c.args.kept.now.entries (other, items) (subst (λ k. Contains k.entries (other, items)) c.get.follows.holds-at-none contained)
+
+pub returns-in_err-items-clause-places : goal.returns-in_err-items-clause-places
+returns-in_err-items-clause-places c = ap (λ k. k.cap) c.get.follows.holds-at-none
+
+pub returns-clause-places : goal.returns-clause-places
+returns-clause-places c = ap (λ k. k.cap) c.get.follows.holds-at-none
