@@ -1,6 +1,6 @@
 -- A session over the words of a core: what they tell, why there is none, and what a walk in it answers.
-use Rattle.std.proofs.Common.{◌≡◌, inl, ℕ, List, Ok, Err, refl, sym, ◌∙◌, ap, subst}
-use Rattle.std.specs.Prelude.{Result}
+use Rattle.std.proofs.Common.{◌≡◌, inl, inr, ℕ, List, Ok, Err, refl, sym, ◌∙◌, ap, subst}
+use Rattle.std.specs.Prelude.{Result, IfErr, IsErrAnd}
 use Rattle.omi_calls.specs.CoreWords.{words_of_segments as segment_words}
 use Rattle.omi_calls.specs.Memory.{told_by, usual_sizes}
 use Rattle.omi_calls.specs.Told.{Told}
@@ -14,14 +14,14 @@ use Rattle.omi_layout.specs.declared.reading.LayoutError.TheVariants as error
 use Rattle.omi_model.specs.declared.view.View.{View}
 use Rattle.omi_rep.specs.LookView.{look_view}
 use Rattle.omi_rep.specs.declared.fault.LookFault.TheVariants as look
-use Rattle.omi_session.specs.Opening.{Refuses, cause_code}
+use Rattle.omi_session.specs.Opening.{IsCause, IsRefusal, Refuses, cause_code}
 use Rattle.omi_session.specs.Tells.{Tells}
 use Rattle.omi_session.specs.declared.rc.Rc.{Rc}
 use Rattle.omi_session.specs.declared.rc.Rc.TheVariants as code
 use Rattle.omi_top.specs.Cores.{IsLooked, words_of_core}
-use Rattle.omi_top.specs.Shown.{refusal_of_layout, IsRefusedCore}
+use Rattle.omi_top.specs.Shown.{ComesOfWords, IsRefusedCore, IsUnopened, IsViewed, handed_on, refusal_of_code, refusal_of_layout}
+use Rattle.omi_verbs.specs.Refusal.{IsReadFault}
 use Rattle.omi_verbs.specs.declared.refusal.Refusal.{Refusal}
-use Rattle.omi_verbs.specs.declared.refusal.Refusal.TheVariants as refusal
 use Rattle.omi_walk.specs.Gives.{Gives}
 use Rattle.omi_walk.specs.declared.fault.WalkFault.{WalkFault}
 use Rattle.omi_walk.specs.declared.fault.WalkFault.TheVariants as walk
@@ -32,11 +32,7 @@ tells_core core told is =
     subst (λ (t : Told). Tells t (words_of_core core)) (sym is)
     (record { order = core.order; order_told = refl; words = segment_words core.segments; words_told = refl; is = refl })
 
--- what a code of a refused opening is handed on as
-abbrev pub refusal_of_code : Rc → Refusal
-refusal_of_code code.Incompatible = refusal.Incompatible
-refusal_of_code (code.Error addr field) = refusal.Damaged addr field
-refusal_of_code other = refusal.OutOfMemory
+-- ---- a session that doesn't open
 
 code_refusal : (e : LayoutError) → refusal_of_code (cause_code e) ≡ refusal_of_layout e
 code_refusal error.NoSymbol = refl
@@ -46,11 +42,34 @@ code_refusal (error.Refused addr (Overlap f g)) = refl
 code_refusal (error.Refused addr (OutOfRecord f)) = refl
 code_refusal (error.Refused addr (BadArena p)) = refl
 
-pub open_refused : (core : CoreImage) (told : Told) (rc : Rc) → told ≡ told_by core → ((memory : Words) → Tells told memory → told.sizes ≡ usual_sizes → Refuses memory rc) → (rc ≡ code.CallbackError → ⊥)
-    → IsRefusedCore core (refusal_of_code rc)
-open_refused core told rc is words known =
-    let cause = words (words_of_core core) (tells_core core told is) (ap (λ (t : Told). t.sizes) is) known in
-    inl (cause.error, cause.gives_none, ap refusal_of_code cause.is ∙ code_refusal cause.error)
+-- the words give no layout, or a callback failed
+pub open_refused : (core : CoreImage) (told : Told) (rc : Rc) → told ≡ told_by core → ((memory : Words) → Tells told memory → told.sizes ≡ usual_sizes → Refuses memory rc)
+    → IsUnopened core (refusal_of_code rc)
+open_refused core told rc is words = go rc (words (words_of_core core) (tells_core core told is) (ap (λ (t : Told). t.sizes) is))
+  where
+    by_cause : (r : Rc) → IsCause (words_of_core core) r → IsRefusedCore core (refusal_of_code r)
+    by_cause r cause = inl (cause.error, cause.gives_none, ap refusal_of_code cause.is ∙ code_refusal cause.error)
+
+    go : (r : Rc) → Refuses (words_of_core core) r → IsUnopened core (refusal_of_code r)
+    go code.Incompatible refuses = inl (by_cause code.Incompatible (refuses (λ failed. cc failed)))
+    go (code.Error addr field) refuses = inl (by_cause (code.Error addr field) (refuses (λ failed. cc failed)))
+    go r refuses = inr refl
+
+-- a core over which there is no session has no view
+pub unopened_viewed : (core : CoreImage) (r : Refusal) → IsUnopened core r → IsViewed core (Err r)
+unopened_viewed core r (inl refused) = inl refused
+unopened_viewed core r (inr failed) = inr (inl failed)
+
+pub code_of_words : (rc : Rc) → ComesOfWords (refusal_of_code rc)
+code_of_words code.Incompatible = tt
+code_of_words (code.Error addr field) = tt
+code_of_words rc = inl refl
+
+pub read_failed : (rc : Rc) → IsRefusal rc → IsReadFault (refusal_of_code rc) → rc ≡ code.CallbackError
+read_failed code.CallbackError refused read = refl
+read_failed code.Incompatible refused read = absurd read
+read_failed (code.Error addr field) refused read = absurd read
+read_failed rc refused read = absurd refused
 
 -- what a walk over the words of a core answers, where no callback fails and there is memory
 abbrev pub Walked : CoreImage → Result View WalkFault → Type 0
@@ -70,3 +89,25 @@ walked core told w contexts result is same valid layout looks = go result (subst
     go (Err (walk.Cycle addr)) gives = record { w = w; valid = valid; layout = layout; is = gives }
     go (Err walk.Callback) gives = tt
     go (Err walk.OutOfMemory) gives = tt
+
+-- the answer of a walk is a view of the core's words, or says why there is none
+pub walk_viewed : (core : CoreImage) (result : Result View WalkFault) → Walked core result → IsViewed core (handed_on result)
+walk_viewed core (Ok v) looked = looked
+walk_viewed core (Err (walk.Damaged addr field)) looked = inl (inr (look.Damaged addr field, looked, refl))
+walk_viewed core (Err (walk.Cycle addr)) looked = inl (inr (look.Cycle addr, looked, refl))
+walk_viewed core (Err walk.Callback) looked = inr (inl refl)
+walk_viewed core (Err walk.OutOfMemory) looked = inr (inr refl)
+
+pub walk_of_words : (result : Result View WalkFault) → IfErr (handed_on result) ComesOfWords
+walk_of_words (Ok v) = tt
+walk_of_words (Err (walk.Damaged addr field)) = tt
+walk_of_words (Err (walk.Cycle addr)) = tt
+walk_of_words (Err walk.Callback) = inl refl
+walk_of_words (Err walk.OutOfMemory) = inr refl
+
+pub walk_failed : (result : Result View WalkFault) → IsErrAnd (handed_on result) IsReadFault → (let failed : Result View WalkFault = Err walk.Callback in result ≡ failed)
+walk_failed (Ok v) read = absurd read
+walk_failed (Err (walk.Damaged addr field)) read = absurd read
+walk_failed (Err (walk.Cycle addr)) read = absurd read
+walk_failed (Err walk.Callback) read = refl
+walk_failed (Err walk.OutOfMemory) read = absurd read

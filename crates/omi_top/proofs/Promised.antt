@@ -1,5 +1,5 @@
 -- What `run` puts where it reads back the core that it left, as the promise alone.
-use Rattle.std.proofs.Common.{◌≡◌, ◌∙◌, ℕ, List, Option, ap, subst}
+use Rattle.std.proofs.Common.{◌≡◌, ℕ, List, Option, ap, subst}
 use Rattle.std.specs.Prelude.{◌++◌}
 use Rattle.omi_outside.specs.Outside.{put_on}
 use Rattle.omi_outside.specs.declared.status.Status.{Status}
