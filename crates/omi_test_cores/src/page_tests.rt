@@ -1,6 +1,6 @@
 //! Words and symbols, against those of the core in memory, and how much of the file is read.
 
-ghost use Rattle.std.specs.Prelude.{◌≡◌, ◌⊎◌, Ok, Err};
+ghost use Rattle.std.specs.Prelude.{◌≡◌, ◌≤◌, ◌⊎◌, Ok, Err};
 ghost use Rattle.omi_outside.specs.Outside.{HasCause};
 
 use crate::cores::{SEGMENTS, three_segments};
@@ -9,7 +9,7 @@ use omi_calls::{Callbacks, Got, MemCalls, Place};
 use omi_corefile::decode;
 use omi_outside::{Call, Files, MemFiles};
 use omi_page::{PageError, Pages, open};
-use std::alloc::Global;
+use std::alloc::{AllocError, Global};
 use std::test::Fail;
 
 /// Whether two targets answer the same of each eighth address from one to another, and of one that is unaligned.
@@ -177,28 +177,92 @@ fn no_file(rt: HostRuntime) {
     assert!(rt; is_not_opened(rt.alloc(), 2, PageError::NoFile));
 }
 
-/// How many bytes are read where a word of each of so many pages is read, and then one of the first page.
-fn read_of_pages(alloc: Global, bytes: &[u8], pages_read: u64) -> u64 {
+/// A core of so many pages.
+fn pages_of(alloc: Global, pages: u64) -> Result<Vec<u8>, AllocError>
+    requires { pages ≤ 64 }
+{
+    let mut bytes = Vec::from_slice(alloc, b"OMPDCOR1\x01\x00\x00\x00\x01\x00\x00\x00")?;
+    bytes.extend_from_slice(&0x10000u64.to_le_bytes())?;
+    bytes.extend_from_slice(&(512 * pages).to_le_bytes())?;
+    bytes.resize(32 + 4096 * pages as usize, 0)?;
+    Ok(bytes)
+}
+
+/// How many bytes are read where a word of each of these pages is read, one after the other.
+fn read_of_pages(alloc: Global, bytes: &[u8], pages_read: &[u64]) -> u64 {
     let Ok(mut files) = Sparing::with(alloc, bytes, 4096, &[]) else {
         return 0;
     };
     if let Ok(mut pages) = Pages::over(alloc, &mut files, "c") {
         let mut word = [0u8; 8];
-        for page in 0..pages_read {
+        for page in pages_read {
             pages.read_memory(page.wrapping_mul(4096).wrapping_add(0x10000), &mut word);
         }
-        pages.read_memory(0x10000, &mut word);
     }
     files.given
 }
 
+/// Sixteen pages are kept, and of seventeen the one that was read longest ago is let go: the first one where the others were read behind it, and the
+/// second one where the first was read again.
 #[test]
 fn sixteen_pages_are_kept(rt: HostRuntime) -> Result<(), Fail> {
-    let mut bytes = Vec::from_slice(rt.alloc(), b"OMPDCOR1\x01\x00\x00\x00\x01\x00\x00\x00")?;
-    bytes.extend_from_slice(&0x10000u64.to_le_bytes())?;
-    bytes.extend_from_slice(&8704u64.to_le_bytes())?;
-    bytes.resize(69664, 0)?;
-    assert_eq!(rt; read_of_pages(rt.alloc(), &bytes, 16), 65568);
-    assert_eq!(rt; read_of_pages(rt.alloc(), &bytes, 17), 73760);
+    let bytes = pages_of(rt.alloc(), 17)?;
+    let sixteen = [0, 1, 2, 3, 4, 5, 6, 7, 8, 9, 10, 11, 12, 13, 14, 15, 0];
+    assert_eq!(rt; read_of_pages(rt.alloc(), &bytes, &sixteen), 65568);
+    let all = [0, 1, 2, 3, 4, 5, 6, 7, 8, 9, 10, 11, 12, 13, 14, 15, 16, 0];
+    assert_eq!(rt; read_of_pages(rt.alloc(), &bytes, &all), 73760);
+    let first_again = [
+        0, 1, 2, 3, 4, 5, 6, 7, 8, 9, 10, 11, 12, 13, 14, 15, 0, 16, 0,
+    ];
+    assert_eq!(rt; read_of_pages(rt.alloc(), &bytes, &first_again), 69664);
+    let second_gone = [
+        0, 1, 2, 3, 4, 5, 6, 7, 8, 9, 10, 11, 12, 13, 14, 15, 0, 16, 1,
+    ];
+    assert_eq!(rt; read_of_pages(rt.alloc(), &bytes, &second_gone), 73760);
+    Ok(())
+}
+
+/// A core of so many segments, each of one word, in a page of its own: the word is its address.
+fn segments_of(alloc: Global, segments: u8) -> Result<Vec<u8>, AllocError> {
+    let mut bytes = Vec::from_slice(alloc, b"OMPDCOR1\x01\x00\x00\x00")?;
+    bytes.extend_from_slice(&(segments as u32).to_le_bytes())?;
+    for k in 0..segments {
+        let start = 0x10000 + 8192 * k as u64;
+        bytes.extend_from_slice(&start.to_le_bytes())?;
+        bytes.extend_from_slice(&1u64.to_le_bytes())?;
+        bytes.extend_from_slice(&start.to_le_bytes())?;
+    }
+    Ok(bytes)
+}
+
+/// Whether the word of each segment is read, and none behind it.
+fn has_each_segment(alloc: Global, bytes: &[u8], segments: u8) -> bool {
+    let Ok(mut files) = Sparing::with(alloc, bytes, 4096, &[]) else {
+        return false;
+    };
+    let Ok(mut pages) = Pages::over(alloc, &mut files, "c") else {
+        return false;
+    };
+    let mut same = true;
+    for k in 0..segments {
+        let start = 0x10000 + 8192 * k as u64;
+        let mut word = [0u8; 8];
+        same = same && pages.read_memory(start, &mut word) == Got::Bytes;
+        same = same && u64::from_le_bytes(word) == start;
+        same = same && pages.read_memory(start + 8, &mut word) == Got::NotMapped;
+    }
+    same
+}
+
+/// The most segments that a core has, and some below.
+#[test]
+fn each_of_many_segments(rt: HostRuntime) -> Result<(), Fail> {
+    for segments in [1, 8, 9, 63, 64] {
+        let bytes = segments_of(rt.alloc(), segments)?;
+        assert!(rt;
+            has_each_segment(rt.alloc(), &bytes, segments),
+            "{segments}"
+        );
+    }
     Ok(())
 }
