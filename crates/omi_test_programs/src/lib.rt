@@ -2,11 +2,15 @@
 #![tactic(auto)]
 
 #[cfg(test)]
+mod counted;
+#[cfg(test)]
 mod layout_tests;
 #[cfg(test)]
 mod make_tests;
 #[cfg(test)]
 mod order_tests;
+#[cfg(test)]
+mod paged_tests;
 #[cfg(test)]
 mod program_tests;
 #[cfg(test)]
