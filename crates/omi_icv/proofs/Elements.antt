@@ -19,8 +19,8 @@ module _ {C F : Type 0} (told : C → Told) (asked : C → ℕ) (s t u : Opened 
   one_more at before element same then first next =
       let one : suc at ≡ at + 1 = omega arith in
       subst (λ n. Answers told asked s u (Ok (before ++ element ∷ [])) (first_elements w address n)) one
-      (asked_then told asked s t u _ _ before _ same first
-      (asked_then told asked t u u _ _ element _ then next (asked_answer _ _ _ _ _ refl)))
+      (asked_then t _ before same first
+      (asked_then u _ element then next (asked_answer refl)))
 
   -- a refusal ends them
   refused_from : (rc : Rc) (at more : ℕ) → Answers told asked s u (Err rc) (first_elements w address at) → Answers told asked s u (Err rc) (first_elements w address (more + at))
@@ -29,13 +29,13 @@ module _ {C F : Type 0} (told : C → Told) (asked : C → ℕ) (s t u : Opened 
   refused_from rc at (suc more) first =
       let one : suc (more + at) ≡ suc more + at = omega arith in
       subst (λ n. Answers told asked s u (Err rc) (first_elements w address n)) one
-      (asked_refused told asked s u (first_elements w address (more + at)) _ rc (refused_from rc at more first))
+      (asked_refused _ (refused_from rc at more first))
 
   pub refused_there : (at count : ℕ) (before : List ℕ) (rc : Rc) → told t.table.calls ≡ told s.table.calls → at < count
       → Answers told asked s t (Ok before) (first_elements w address at) → Answers told asked t u (Err rc) (word_of w address TaskNthreads at)
       → Answers told asked s u (Err rc) (first_elements w address count)
   unfolding first_elements
   refused_there at count before rc same below first next =
-      let read : Answers told asked s u (Err rc) (first_elements w address (suc at)) = asked_then told asked s t u _ _ before _ same first (asked_refused told asked t u _ _ rc next) in
+      let read : Answers told asked s u (Err rc) (first_elements w address (suc at)) = asked_then t _ before same first (asked_refused _ next) in
       let rest : (count - suc at) + suc at ≡ count = omega (arith, below) in
       subst (λ n. Answers told asked s u (Err rc) (first_elements w address n)) rest (refused_from rc (suc at) (count - suc at) read)

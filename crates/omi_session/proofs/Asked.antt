@@ -54,57 +54,59 @@ module _ {C F : Type 0} (told : C → Told) (asked : C → ℕ) (s t : Opened C 
       let count = count_then memory reads more ∙ ap (λ r. length (addresses_on memory reads) + length (addresses_on memory (after r more))) (is memory tells) in
       omega (arith, first memory tells, second, count)
 
+module _ {C F : Type 0} {told : C → Told} {asked : C → ℕ} {s t : Opened C F} where
+  -- the first part was refused
+  pub asked_refused : {A B : Type 0} {reads : Reads A} {rc : Rc} (more : A → Reads B)
+      → Answers told asked s t (Err rc) reads → Answers told asked s t (Err rc) (then_reads reads more)
+  asked_refused {reads = reads} {rc = rc} more first = record {
+    is = λ memory tells ne.
+        let known : Err rc ≡ answer_on memory reads = first.is memory tells (λ e. ne (let same : rc ≡ CallbackError = cc in ap Err same)) in
+        ap (λ r. answer_on memory (after r more)) known ∙ sym (answer_then memory reads more);
+    most = most_first told asked s t reads more first.most;
+  }
+
+  -- the first part was refused, and the call with it
+  pub refused_then : {A B : Type 0} {reads : Reads A} {rc : Rc} {result : Result B Rc} (more : A → Reads B)
+      → Answers told asked s t (Err rc) reads → IsErrAnd result (λ why. why ≡ rc) → Answers told asked s t result (then_reads reads more)
+  refused_then {result = result} more first is =
+      let p = err_from_is_err_and result is in
+      rw (p.1, p.2) (asked_refused more first)
+
+  -- one of two ways to go on was taken
+  pub asked_true : {A : Type 0} {b : Bool} {taken : Reads A} {result : Result A Rc} (other : Reads A) → b ≡ true → Answers told asked s t result taken
+      → Answers told asked s t result (cond b taken other)
+  asked_true {taken = taken} {result = result} other is h = subst (λ test. Answers told asked s t result (cond test taken other)) (sym is) h
+
+  pub asked_false : {A : Type 0} {b : Bool} {other : Reads A} {result : Result A Rc} (taken : Reads A) → b ≡ false → Answers told asked s t result other
+      → Answers told asked s t result (cond b taken other)
+  asked_false {other = other} {result = result} taken is h = subst (λ test. Answers told asked s t result (cond test taken other)) (sym is) h
+
+  -- one read was made, which failed or answered
+  pub asked_once : {A : Type 0} {result : Result A Rc} {addr : ℕ} {more : Option ℕ → Reads A}
+      → IsAnswer (told s.table.calls) result (Read addr more) → asked t.table.calls ≤ asked s.table.calls + 1 → Answers told asked s t result (Read addr more)
+  asked_once is one = record { is = is; most = λ memory tells. omega (arith, one) }
+
+module _ {C F : Type 0} {told : C → Told} {asked : C → ℕ} {s u : Opened C F} (t : Opened C F) where
   -- the first part answered this, and the rest what follows it
-  pub asked_then : {A B : Type 0} (u : Opened C F) (reads : Reads A) (more : A → Reads B) (x : A) (result : Result B Rc) → told t.table.calls ≡ told s.table.calls
+  pub asked_then : {A B : Type 0} {reads : Reads A} {result : Result B Rc} (more : A → Reads B) (x : A) → told t.table.calls ≡ told s.table.calls
       → Answers told asked s t (Ok x) reads → Answers told asked t u result (more x) → Answers told asked s u result (then_reads reads more)
-  asked_then u reads more x result same first rest = record {
+  asked_then {reads = reads} more x same first rest = record {
     is = λ memory tells ne.
         rest.is memory (still_tells (told s.table.calls) (told t.table.calls) memory same tells) ne
         ∙ ap (λ r. answer_on memory (after r more)) (first.is memory tells (λ e. (cc)))
         ∙ sym (answer_then memory reads more);
-    most = most_then u reads more x same (λ memory tells. sym (first.is memory tells (λ e. (cc)))) first.most rest.most;
+    most = most_then told asked s t u reads more x same (λ memory tells. sym (first.is memory tells (λ e. (cc)))) first.most rest.most;
   }
-
-  -- the first part was refused
-  pub asked_refused : {A B : Type 0} (reads : Reads A) (more : A → Reads B) (rc : Rc)
-      → Answers told asked s t (Err rc) reads → Answers told asked s t (Err rc) (then_reads reads more)
-  asked_refused reads more rc first = record {
-    is = λ memory tells ne.
-        let known : Err rc ≡ answer_on memory reads = first.is memory tells (λ e. ne (let same : rc ≡ CallbackError = cc in ap Err same)) in
-        ap (λ r. answer_on memory (after r more)) known ∙ sym (answer_then memory reads more);
-    most = most_first reads more first.most;
-  }
-
-  -- the first part was refused, and the call with it
-  pub refused_then : {A B : Type 0} (reads : Reads A) (more : A → Reads B) (rc : Rc) (result : Result B Rc)
-      → Answers told asked s t (Err rc) reads → IsErrAnd result (λ why. why ≡ rc) → Answers told asked s t result (then_reads reads more)
-  refused_then reads more rc result first is =
-      let p = err_from_is_err_and result is in
-      rw (p.1, p.2) (asked_refused reads more rc first)
 
   -- the first part answered this, and left the layout, so the rest is asked in the same
-  pub asked_on : {A B : Type 0} (u : Opened C F) (reads : Reads A) (more : List ℕ → A → Reads B) (x : A) (result : Result B Rc) → told t.table.calls ≡ told s.table.calls → t.layout ≡ s.layout
+  pub asked_on : {A B : Type 0} {reads : Reads A} {result : Result B Rc} (more : List ℕ → A → Reads B) (x : A) → told t.table.calls ≡ told s.table.calls → t.layout ≡ s.layout
       → Answers told asked s t (Ok x) reads → Answers told asked t u result (more t.layout x) → Answers told asked s u result (then_reads reads (more s.layout))
-  asked_on u reads more x result same layout first rest =
-      asked_then u reads (more s.layout) x result same first (subst (λ l. Answers told asked t u result (more l x)) layout rest)
-
-  -- one of two ways to go on was taken
-  pub asked_true : {A : Type 0} (b : Bool) (taken other : Reads A) (result : Result A Rc) → b ≡ true → Answers told asked s t result taken
-      → Answers told asked s t result (cond b taken other)
-  asked_true b taken other result is h = subst (λ test. Answers told asked s t result (cond test taken other)) (sym is) h
-
-  pub asked_false : {A : Type 0} (b : Bool) (taken other : Reads A) (result : Result A Rc) → b ≡ false → Answers told asked s t result other
-      → Answers told asked s t result (cond b taken other)
-  asked_false b taken other result is h = subst (λ test. Answers told asked s t result (cond test taken other)) (sym is) h
-
-  -- one read was made, which failed or answered
-  pub asked_once : {A : Type 0} (result : Result A Rc) (addr : ℕ) (more : Option ℕ → Reads A)
-      → IsAnswer (told s.table.calls) result (Read addr more) → asked t.table.calls ≤ asked s.table.calls + 1 → Answers told asked s t result (Read addr more)
-  asked_once result addr more is one = record { is = is; most = λ memory tells. omega (arith, one) }
+  asked_on {result = result} more x same layout first rest =
+      asked_then (more s.layout) x same first (subst (λ l. Answers told asked t u result (more l x)) layout rest)
 
 -- nothing more was read
-pub asked_answer : {A C F : Type 0} (told : C → Told) (asked : C → ℕ) (s : Opened C F) (result answer : Result A Rc) → result ≡ answer → Answers told asked s s result (Answer answer)
-asked_answer told asked s result answer is = record { is = λ memory tells ne. is; most = λ memory tells. omega arith }
+pub asked_answer : {A C F : Type 0} {told : C → Told} {asked : C → ℕ} {s : Opened C F} {result answer : Result A Rc} → result ≡ answer → Answers told asked s s result (Answer answer)
+asked_answer is = record { is = λ memory tells ne. is; most = λ memory tells. omega arith }
 
 module _ (w : List ℕ) (memory : Words) where
   -- the word that was found is the field's

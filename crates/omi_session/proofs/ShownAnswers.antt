@@ -17,6 +17,7 @@ use Rattle.omi_model.specs.declared.id.Tid.{Tid}
 use Rattle.omi_model.specs.State.{State}
 use Rattle.omi_model.specs.Visible.{IsVisibleRegion, IsVisibleTask}
 use Rattle.omi_model.specs.WellFormed.{IsMember}
+use Rattle.omi_rep.specs.Codes.{region_told}
 use Rattle.omi_rep.specs.Records.{record_at, region_word, task_word, thread_address, region_address, task_address}
 use Rattle.omi_session.specs.declared.rc.Rc.{Rc}
 use Rattle.omi_session.specs.declared.rc.Rc.TheVariants.{Unavailable, BadInput, Error, NoMem}
@@ -26,6 +27,7 @@ use Rattle.omi_session.specs.Made.{IsMade, IsHanded}
 use Rattle.omi_session.specs.Answers.{task_of_thread, task_of_member}
 use Rattle.omi_session.specs.Shown.{ShowsTold, HoldsThread, HoldsRegion, HoldsTask, IsGiven, held_thread, held_region, held_task, as_held}
 use Rattle.omi_session.proofs.Handed.{handed_is}
+use Rattle.omi_rep.proofs.Codes.{member_code}
 use Rattle.omi_rep.proofs.LiveObjects.{thread_lives, region_lives, task_lives}
 use Rattle.omi_session.proofs.ShownParts.{then_answered, word_told, object_told, follow_told, optional_told}
 
@@ -88,13 +90,13 @@ module _ (told : Told) (w : List ℕ) (s : State) (shown : ShowsTold told w s) w
   pub task_region : (k : Tid) (seen : IsVisibleTask s k) → answer_on shown.memory (follow w kind.Region (task_address w k) TaskRegion 0) ≡ Ok (held_region w seen.task.region)
   task_region k seen =
       follow_told w shown.memory kind.Region (2 * seen.task.region.0.generation + 1) (task_address w k) TaskRegion 0 (region_address w seen.task.region)
-      (shown.shows.records.tasks k seen).region
+      (shown.shows.records.tasks k seen TaskRegion 0 _ refl refl)
       (region_lives w shown.memory s shown.valid shown.shows shown.names seen.task.region (shown.shows.within.well_formed.tasks k seen).region)
 
   pub task_thread : (k : Tid) (seen : IsVisibleTask s k) → answer_on shown.memory (follow w kind.Thread (task_address w k) TaskThread 0) ≡ Ok (held_thread w seen.task.thread)
   task_thread k seen =
       follow_told w shown.memory kind.Thread 1 (task_address w k) TaskThread 0 (thread_address w seen.task.thread)
-      (shown.shows.records.tasks k seen).thread
+      (shown.shows.records.tasks k seen TaskThread 0 _ refl refl)
       (thread_lives w shown.memory s shown.valid shown.shows seen.task.thread (shown.shows.within.well_formed.tasks k seen).begun)
 
   -- the current task of a thread
@@ -104,7 +106,7 @@ module _ (told : Told) (w : List ℕ) (s : State) (shown : ShowsTold told w s) w
       then_answered shown.memory (object_of w kind.Thread found) _ (held_thread w t.thread) (thread_object found t)
       ∙ some_task (thread_address w t.thread) ThreadCurrent (s.threads t.thread).current
       (λ k is. shown.shows.within.well_formed.currents t.thread k t.begun.known is)
-      (shown.shows.records.threads t.thread t.begun.known t.begun.begun).current
+      (shown.shows.records.threads t.thread t.begun.known t.begun.begun ThreadCurrent 0 _ refl refl)
 
   -- the number of members of a visible region
   pub size_told : (n : Rid) (seen : IsVisibleRegion s n) → answer_on shown.memory (team_size w (region_address w n)) ≡ Ok (length seen.region.team)
@@ -113,7 +115,7 @@ module _ (told : Told) (w : List ℕ) (s : State) (shown : ShowsTold told w s) w
       let right = shown.shows.within.well_formed.regions n seen in
       let test : nat_le 1 (length seen.region.team) && nat_le (length seen.region.team) (thread_count w) ≡ true = grind (arith, nat_tests, right.some, right.few, shown.shows.within.count) in
       then_answered shown.memory (word_of w (region_address w n) RegionSize 0) _ (length seen.region.team)
-      (word_told w shown.memory (region_address w n) RegionSize 0 (length seen.region.team) (shown.shows.records.regions n seen).size)
+      (word_told w shown.memory (region_address w n) RegionSize 0 (length seen.region.team) (shown.shows.records.regions n seen RegionSize 0 _ refl refl))
       ∙ ap (λ (b : Bool). cond b (Ok (length seen.region.team)) (Err (Error (region_address w n) (number RegionSize)))) test
 
   -- a member of a visible region
@@ -133,7 +135,7 @@ module _ (told : Told) (w : List ℕ) (s : State) (shown : ShowsTold told w s) w
           → answer_on shown.memory (follow w kind.Task (region_address w r.name) RegionTeam num) ≡ Ok (held_task w m.0)
       there m is =
           follow_told w shown.memory kind.Task (2 * m.0.0.generation + 1) (region_address w r.name) RegionTeam num (task_address w m.0)
-          ((shown.shows.records.regions r.name r.seen).team num m is)
+          (shown.shows.records.regions r.name r.seen RegionTeam num _ refl (member_code w (region_told r.seen.region) num m is))
           (task_lives w shown.memory s shown.valid shown.shows shown.names m.0 (known_member r.name r.seen num m is).visible)
 
       go : (b : Bool) → nat_lt num (length r.seen.region.team) ≡ b

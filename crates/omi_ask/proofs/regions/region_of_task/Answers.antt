@@ -7,10 +7,10 @@ use Rattle.omi_ask.proofs.regions.region_of_task.Goals as goal
 
 pub returns-in_err-task-clause-answer : goal.returns-in_err-task-clause-answer
 unfolding region_of_task
-returns-in_err-task-clause-answer g c = refused_then _ _ _ _ _ _ _ _ c.in_err-task.ensures.answer c.from_residual.ensures.1
+returns-in_err-task-clause-answer g c = refused_then _ c.in_err-task.ensures.answer c.from_residual.ensures.1
 
 pub returns-clause-answer : goal.returns-clause-answer
 unfolding region_of_task
 returns-clause-answer g c =
-    asked_on _ _ _ _ _ _ (λ w task. follow w Region task.addr TaskRegion 0) c.in_ok-task.task _ c.object.ensures.same.table.same c.object.ensures.same.layout
+    asked_on _ (λ w task. follow w Region task.addr TaskRegion 0) c.in_ok-task.task c.object.ensures.same.table.same c.object.ensures.same.layout
     c.in_ok-task.ensures.answer c.follow.ensures.answer

@@ -7,10 +7,10 @@ use Rattle.omi_ask.proofs.threads.thread_of_member.Goals as goal
 
 pub returns-in_err-task-clause-answer : goal.returns-in_err-task-clause-answer
 unfolding thread_of_member
-returns-in_err-task-clause-answer g c = refused_then _ _ _ _ _ _ _ _ c.in_err-task.ensures.answer c.from_residual.ensures.1
+returns-in_err-task-clause-answer g c = refused_then _ c.in_err-task.ensures.answer c.from_residual.ensures.1
 
 pub returns-clause-answer : goal.returns-clause-answer
 unfolding thread_of_member
 returns-clause-answer g c =
-    asked_on _ _ _ _ _ _ (λ w task. follow w Thread task.addr TaskThread 0) c.in_ok-task.task _ c.member.ensures.same.table.same c.member.ensures.same.layout
+    asked_on _ (λ w task. follow w Thread task.addr TaskThread 0) c.in_ok-task.task c.member.ensures.same.table.same c.member.ensures.same.layout
     c.in_ok-task.ensures.answer c.follow.ensures.answer

@@ -8,12 +8,12 @@ use Rattle.omi_asktask.proofs.words.get_task_function.Goals as goal
 
 pub returns-in_err-task-clause-answer : goal.returns-in_err-task-clause-answer
 unfolding function
-returns-in_err-task-clause-answer g c = refused_then _ _ _ _ _ _ _ _ c.in_err-task.ensures.answer c.from_residual.ensures.1
+returns-in_err-task-clause-answer g c = refused_then _ c.in_err-task.ensures.answer c.from_residual.ensures.1
 
 pub returns-clause-answer : goal.returns-clause-answer
 unfolding function
 returns-clause-answer g c =
-    asked_on _ _ _ _ _ _ (λ w task. word_of w task.addr TaskFunction 0) c.in_ok-task.task _ c.object.ensures.same.table.same c.object.ensures.same.layout
+    asked_on _ (λ w task. word_of w task.addr TaskFunction 0) c.in_ok-task.task c.object.ensures.same.table.same c.object.ensures.same.layout
     c.in_ok-task.ensures.answer c.word.ensures.answer
 
 pub returns-in_err-task-clause-shown : goal.returns-in_err-task-clause-shown

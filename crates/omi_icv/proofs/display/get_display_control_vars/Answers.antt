@@ -15,21 +15,21 @@ returns-in_err-words-clause-answer g c =
     let p = err_from_is_err_and c.from_residual.result c.from_residual.ensures.1 in
     let free = λ (e : c.in_err-words.field-0.0 ≡ NoMem). c.in_err-words.ensures.memory (ap Err e) in
     rw (p.1, p.2) (written_refused _ _ _ _ c.in_err-words.field-0.0 (display c.args.s.now.layout) free
-    (asked_refused _ _ _ _ (space_words c.args.s.now.layout) (λ words. Answer (Ok (display_texts words))) c.in_err-words.field-0.0 c.in_err-words.ensures.answer))
+    (asked_refused (λ words. Answer (Ok (display_texts words))) c.in_err-words.ensures.answer))
 
 pub returns-in-Ok-clause-answer : goal.returns-in-Ok-clause-answer
 unfolding display
 returns-in-Ok-clause-answer g c =
     written_text _ _ _ _ (map string_bytes c.in-Ok.texts.items) (display c.args.s.now.layout)
-    (asked_then _ _ _ c.space_words.new.s _ _ _ c.in_ok-words.words _ c.space_words.ensures.same.table.same c.in_ok-words.ensures.answer
-    (asked_answer _ _ _ _ _ (ap Ok c.in-Ok.ensures)))
+    (asked_then c.space_words.new.s _ c.in_ok-words.words c.space_words.ensures.same.table.same c.in_ok-words.ensures.answer
+    (asked_answer (ap Ok c.in-Ok.ensures)))
 
 pub returns-in-Err-clause-answer : goal.returns-in-Err-clause-answer
 unfolding display
 returns-in-Err-clause-answer g c =
     written_full _ _ _ _ (display_texts c.in_ok-words.words) (display c.args.s.now.layout)
-    (asked_then _ _ _ c.space_words.new.s _ _ _ c.in_ok-words.words _ c.space_words.ensures.same.table.same c.in_ok-words.ensures.answer
-    (asked_answer _ _ _ _ _ refl))
+    (asked_then c.space_words.new.s _ c.in_ok-words.words c.space_words.ensures.same.table.same c.in_ok-words.ensures.answer
+    (asked_answer refl))
 
 pub returns-in_err-words-clause-shown : goal.returns-in_err-words-clause-shown
 returns-in_err-words-clause-shown g c = λ s shown.

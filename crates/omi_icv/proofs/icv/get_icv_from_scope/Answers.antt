@@ -10,21 +10,21 @@ use Rattle.omi_icv.proofs.icv.get_icv_from_scope.Goals as goal
 
 pub returns-in_err-address-clause-answer : goal.returns-in_err-address-clause-answer
 unfolding icv_from_scope
-returns-in_err-address-clause-answer g c = refused_then _ _ _ _ _ _ _ _ c.in_err-address.ensures.answer c.from_residual.ensures.1
+returns-in_err-address-clause-answer g c = refused_then _ c.in_err-address.ensures.answer c.from_residual.ensures.1
 
 pub returns-in_err-variable-clause-answer : goal.returns-in_err-variable-clause-answer
 unfolding icv_from_scope
 returns-in_err-variable-clause-answer g c =
     let unknown = c.in_err-variable.ensures ∙ ap (λ o. variable_in o c.args.icv) c.scope.ensures in
-    asked_then _ _ _ c.record_of.new.s _ _ _ c.in_ok-address.address _ c.record_of.ensures.same.table.same c.in_ok-address.ensures.answer
-    (refused_then _ _ _ _ _ _ _ _ (asked_answer _ _ _ _ _ unknown) c.from_residual-in_err-variable.ensures.1)
+    asked_then c.record_of.new.s _ c.in_ok-address.address c.record_of.ensures.same.table.same c.in_ok-address.ensures.answer
+    (refused_then _ (asked_answer unknown) c.from_residual-in_err-variable.ensures.1)
 
 pub returns-clause-answer : goal.returns-clause-answer
 unfolding icv_from_scope
 returns-clause-answer g c =
     let known = c.in_ok-variable.ensures ∙ ap (λ o. variable_in o c.args.icv) c.scope.ensures in
-    asked_then _ _ _ c.record_of.new.s _ _ _ c.in_ok-address.address _ c.record_of.ensures.same.table.same c.in_ok-address.ensures.answer
-    (asked_then _ _ _ c.record_of.new.s _ _ _ c.in_ok-variable.variable _ refl (asked_answer _ _ _ _ _ known)
+    asked_then c.record_of.new.s _ c.in_ok-address.address c.record_of.ensures.same.table.same c.in_ok-address.ensures.answer
+    (asked_then c.record_of.new.s _ c.in_ok-variable.variable refl (asked_answer known)
     (subst (λ w. Answers g.C.Callbacks.told g.C.Callbacks.asked c.record_of.new.s c.number.new.s c.number.result (number_in w c.in_ok-variable.variable.source c.in_ok-address.address)) c.record_of.ensures.same.layout c.number.ensures.answer))
 
 pub returns-in_err-address-clause-shown : goal.returns-in_err-address-clause-shown

@@ -17,22 +17,22 @@ returns-in_err-value-clause-answer g c =
     let p = err_from_is_err_and c.from_residual.result c.from_residual.ensures.1 in
     let free = λ (e : c.in_err-value.field-0.0 ≡ NoMem). c.in_err-value.ensures.memory (ap Err e) in
     rw (p.1, p.2) (written_refused _ _ _ _ c.in_err-value.field-0.0 (icv_string_from_scope c.args.s.now.layout (get c.args.s.now.handles.held) c.args.of c.args.icv) free
-    (asked_refused _ _ _ _ (icv_value c.args.s.now.layout (get c.args.s.now.handles.held) c.args.of c.args.icv) (λ value. Answer (Ok (value_text value.spelling value.numbers))) c.in_err-value.field-0.0 c.in_err-value.ensures.answer))
+    (asked_refused (λ value. Answer (Ok (value_text value.spelling value.numbers))) c.in_err-value.ensures.answer))
 
 pub returns-in-Ok-clause-answer : goal.returns-in-Ok-clause-answer
 unfolding icv_string_from_scope
 returns-in-Ok-clause-answer g c =
     let text : string_bytes c.in-Ok.text ≡ value_text c.in_ok-value.value.spelling c.in_ok-value.value.numbers = c.in-Ok.ensures ∙ ap (value_text c.in_ok-value.value.spelling) c.as_slice.ensures in
     written_text _ _ _ _ (string_bytes c.in-Ok.text) (icv_string_from_scope c.args.s.now.layout (get c.args.s.now.handles.held) c.args.of c.args.icv)
-    (asked_then _ _ _ c.icv_value.new.s _ _ _ c.in_ok-value.value _ c.icv_value.ensures.same.table.same c.in_ok-value.ensures.answer
-    (asked_answer _ _ _ _ _ (ap Ok text)))
+    (asked_then c.icv_value.new.s _ c.in_ok-value.value c.icv_value.ensures.same.table.same c.in_ok-value.ensures.answer
+    (asked_answer (ap Ok text)))
 
 pub returns-in-Err-clause-answer : goal.returns-in-Err-clause-answer
 unfolding icv_string_from_scope
 returns-in-Err-clause-answer g c =
     written_full _ _ _ _ (value_text c.in_ok-value.value.spelling c.in_ok-value.value.numbers) (icv_string_from_scope c.args.s.now.layout (get c.args.s.now.handles.held) c.args.of c.args.icv)
-    (asked_then _ _ _ c.icv_value.new.s _ _ _ c.in_ok-value.value _ c.icv_value.ensures.same.table.same c.in_ok-value.ensures.answer
-    (asked_answer _ _ _ _ _ refl))
+    (asked_then c.icv_value.new.s _ c.in_ok-value.value c.icv_value.ensures.same.table.same c.in_ok-value.ensures.answer
+    (asked_answer refl))
 
 pub returns-in_err-value-clause-shown : goal.returns-in_err-value-clause-shown
 returns-in_err-value-clause-shown g c =

@@ -5,10 +5,10 @@ use Rattle.omi_icv.proofs.scoped.record_of_handle.Goals as goal
 
 pub returns-in_err-held-clause-answer : goal.returns-in_err-held-clause-answer
 unfolding record_of_handle
-returns-in_err-held-clause-answer g c = refused_then _ _ _ _ _ _ _ _ c.in_err-held.ensures.answer c.from_residual.ensures.1
+returns-in_err-held-clause-answer g c = refused_then _ c.in_err-held.ensures.answer c.from_residual.ensures.1
 
 pub returns-clause-answer : goal.returns-clause-answer
 unfolding record_of_handle
 returns-clause-answer g c =
-    asked_then _ _ _ c.object.new.s _ _ _ c.in_ok-held.held _ c.object.ensures.same.table.same c.in_ok-held.ensures.answer
-    (asked_answer _ _ _ _ _ refl)
+    asked_then c.object.new.s _ c.in_ok-held.held c.object.ensures.same.table.same c.in_ok-held.ensures.answer
+    (asked_answer refl)

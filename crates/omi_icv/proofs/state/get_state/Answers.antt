@@ -14,23 +14,23 @@ use Rattle.omi_icv.proofs.state.get_state.Goals as goal
 
 pub returns-in_err-thread-clause-answer : goal.returns-in_err-thread-clause-answer
 unfolding state
-returns-in_err-thread-clause-answer g c = refused_then _ _ _ _ _ _ _ _ c.in_err-thread.ensures.answer c.from_residual.ensures.1
+returns-in_err-thread-clause-answer g c = refused_then _ c.in_err-thread.ensures.answer c.from_residual.ensures.1
 
 pub returns-in_err-debug-clause-answer : goal.returns-in_err-debug-clause-answer
 unfolding state
 returns-in_err-debug-clause-answer g c =
     let debug = subst (λ w. Answers g.C.Callbacks.told g.C.Callbacks.asked c.object.new.s c.runtime_word.new.s (Err c.in_err-debug.field-0.0) (word_of w (runtime_address w) RuntimeDebug 0)) c.object.ensures.same.layout c.in_err-debug.ensures.answer in
-    asked_then _ _ _ c.object.new.s _ _ _ c.in_ok-thread.thread _ c.object.ensures.same.table.same c.in_ok-thread.ensures.answer
-    (refused_then _ _ _ _ _ _ _ _ debug c.from_residual-in_err-debug.ensures.1)
+    asked_then c.object.new.s _ c.in_ok-thread.thread c.object.ensures.same.table.same c.in_ok-thread.ensures.answer
+    (refused_then _ debug c.from_residual-in_err-debug.ensures.1)
 
 pub returns-then-debug-eq0-clause-answer : goal.returns-then-debug-eq0-clause-answer
 unfolding state
 returns-then-debug-eq0-clause-answer g c =
     let debug = subst (λ w. Answers g.C.Callbacks.told g.C.Callbacks.asked c.object.new.s c.runtime_word.new.s (Ok c.in_ok-debug.debug) (word_of w (runtime_address w) RuntimeDebug 0)) c.object.ensures.same.layout c.in_ok-debug.ensures.answer in
     let off : c.in_ok-debug.debug == 0 ≡ true = grind (arith, nat_tests, c.if-debug-eq0.true) in
-    asked_then _ _ _ c.object.new.s _ _ _ c.in_ok-thread.thread _ c.object.ensures.same.table.same c.in_ok-thread.ensures.answer
-    (asked_then _ _ _ c.runtime_word.new.s _ _ _ c.in_ok-debug.debug _ c.runtime_word.ensures.same.table.same debug
-    (asked_true _ _ _ _ _ _ _ _ off (asked_answer _ _ _ _ _ refl)))
+    asked_then c.object.new.s _ c.in_ok-thread.thread c.object.ensures.same.table.same c.in_ok-thread.ensures.answer
+    (asked_then c.runtime_word.new.s _ c.in_ok-debug.debug c.runtime_word.ensures.same.table.same debug
+    (asked_true _ off (asked_answer refl)))
 
 pub returns-in_err-state-clause-answer : goal.returns-in_err-state-clause-answer
 unfolding state
@@ -38,9 +38,9 @@ returns-in_err-state-clause-answer g c =
     let debug = subst (λ w. Answers g.C.Callbacks.told g.C.Callbacks.asked c.object.new.s c.runtime_word.new.s (Ok c.in_ok-debug.debug) (word_of w (runtime_address w) RuntimeDebug 0)) c.object.ensures.same.layout c.in_ok-debug.ensures.answer in
     let kept = subst (λ w. Answers g.C.Callbacks.told g.C.Callbacks.asked c.runtime_word.new.s c.word.new.s (Err c.in_err-state.field-0.0) (word_of w c.in_ok-thread.thread.addr ThreadState 0)) (c.runtime_word.ensures.same.layout ∙ c.object.ensures.same.layout) c.in_err-state.ensures.answer in
     let on : c.in_ok-debug.debug == 0 ≡ false = grind (arith, nat_tests, c.if-debug-eq0.false) in
-    asked_then _ _ _ c.object.new.s _ _ _ c.in_ok-thread.thread _ c.object.ensures.same.table.same c.in_ok-thread.ensures.answer
-    (asked_then _ _ _ c.runtime_word.new.s _ _ _ c.in_ok-debug.debug _ c.runtime_word.ensures.same.table.same debug
-    (asked_false _ _ _ _ _ _ _ _ on (refused_then _ _ _ _ _ _ _ _ kept c.from_residual-in_err-state.ensures.1)))
+    asked_then c.object.new.s _ c.in_ok-thread.thread c.object.ensures.same.table.same c.in_ok-thread.ensures.answer
+    (asked_then c.runtime_word.new.s _ c.in_ok-debug.debug c.runtime_word.ensures.same.table.same debug
+    (asked_false _ on (refused_then _ kept c.from_residual-in_err-state.ensures.1)))
 
 pub returns-clause-answer : goal.returns-clause-answer
 unfolding state
@@ -48,11 +48,11 @@ returns-clause-answer g c =
     let debug = subst (λ w. Answers g.C.Callbacks.told g.C.Callbacks.asked c.object.new.s c.runtime_word.new.s (Ok c.in_ok-debug.debug) (word_of w (runtime_address w) RuntimeDebug 0)) c.object.ensures.same.layout c.in_ok-debug.ensures.answer in
     let kept = subst (λ w. Answers g.C.Callbacks.told g.C.Callbacks.asked c.runtime_word.new.s c.word.new.s (Ok c.in_ok-state.state) (word_of w c.in_ok-thread.thread.addr ThreadState 0)) (c.runtime_word.ensures.same.layout ∙ c.object.ensures.same.layout) c.in_ok-state.ensures.answer in
     let on : c.in_ok-debug.debug == 0 ≡ false = grind (arith, nat_tests, c.if-debug-eq0.false) in
-    asked_then _ _ _ c.object.new.s _ _ _ c.in_ok-thread.thread _ c.object.ensures.same.table.same c.in_ok-thread.ensures.answer
-    (asked_then _ _ _ c.runtime_word.new.s _ _ _ c.in_ok-debug.debug _ c.runtime_word.ensures.same.table.same debug
-    (asked_false _ _ _ _ _ _ _ _ on
-    (asked_then _ _ _ c.word.new.s _ _ _ c.in_ok-state.state _ c.word.ensures.same.table.same kept
-    (asked_answer _ _ _ _ _ (λ i. Ok (c.state_of.ensures i, c.wait_of.ensures i))))))
+    asked_then c.object.new.s _ c.in_ok-thread.thread c.object.ensures.same.table.same c.in_ok-thread.ensures.answer
+    (asked_then c.runtime_word.new.s _ c.in_ok-debug.debug c.runtime_word.ensures.same.table.same debug
+    (asked_false _ on
+    (asked_then c.word.new.s _ c.in_ok-state.state c.word.ensures.same.table.same kept
+    (asked_answer (λ i. Ok (c.state_of.ensures i, c.wait_of.ensures i))))))
 
 pub returns-in_err-thread-clause-shown : goal.returns-in_err-thread-clause-shown
 returns-in_err-thread-clause-shown g c = λ s shown t.

@@ -15,7 +15,7 @@ use Rattle.omi_icv.proofs.tool.get_tool_data.Goals as goal
 
 pub returns-in_err-address-clause-answer : goal.returns-in_err-address-clause-answer
 unfolding tool_data
-returns-in_err-address-clause-answer g c = refused_then _ _ _ _ _ _ _ _ c.in_err-address.ensures.answer c.from_residual.ensures.1
+returns-in_err-address-clause-answer g c = refused_then _ c.in_err-address.ensures.answer c.from_residual.ensures.1
 
 pub returns-in_err-address-clause-shown : goal.returns-in_err-address-clause-shown
 returns-in_err-address-clause-shown g c =
@@ -25,7 +25,7 @@ pub returns-in-Task-clause-answer : goal.returns-in-Task-clause-answer
 unfolding tool_data
 returns-in-Task-clause-answer g c =
     let tool = subst (λ w. Answers g.C.Callbacks.told g.C.Callbacks.asked c.record_of.new.s c.word.new.s c.word.result (word_of w c.in_ok-address.address TaskTool 0)) c.record_of.ensures.same.layout c.word.ensures.answer in
-    asked_then _ _ _ c.record_of.new.s _ _ _ c.in_ok-address.address _ c.record_of.ensures.same.table.same c.in_ok-address.ensures.answer
+    asked_then c.record_of.new.s _ c.in_ok-address.address c.record_of.ensures.same.table.same c.in_ok-address.ensures.answer
     (subst (λ of. Answers g.C.Callbacks.told g.C.Callbacks.asked c.record_of.new.s c.word.new.s c.word.result (tool_word c.args.s.now.layout of c.in_ok-address.address)) (sym c.in-Task.is) tool)
 
 pub returns-in-Task-clause-shown : goal.returns-in-Task-clause-shown
@@ -43,8 +43,8 @@ pub returns-in_default : goal.returns-in_default
 unfolding tool_data
 returns-in_default g c =
     let refused : Answers g.C.Callbacks.told g.C.Callbacks.asked c.args.s.now c.record_of.new.s (Err Unsupported) (tool_data c.args.s.now.layout (get c.args.s.now.handles.held) c.args.of) =
-    asked_then _ _ _ c.record_of.new.s _ _ _ c.in_ok-address.address _ c.record_of.ensures.same.table.same c.in_ok-address.ensures.answer
-    (subst (Answers g.C.Callbacks.told g.C.Callbacks.asked c.record_of.new.s c.record_of.new.s (Err Unsupported)) (none_unless c.args.s.now.layout c.in_ok-address.address c.args.of c.in_default.not-Task) (asked_answer _ _ _ _ _ refl)) in
+    asked_then c.record_of.new.s _ c.in_ok-address.address c.record_of.ensures.same.table.same c.in_ok-address.ensures.answer
+    (subst (Answers g.C.Callbacks.told g.C.Callbacks.asked c.record_of.new.s c.record_of.new.s (Err Unsupported)) (none_unless c.args.s.now.layout c.in_ok-address.address c.args.of c.in_default.not-Task) (asked_answer refl)) in
     record {
       answer = refused;
       shown = tool_given (g.C.Callbacks.told c.args.s.now.table.calls) c.args.s.now.layout (get c.args.s.now.handles.held) c.args.of _ refused.is;

@@ -17,7 +17,7 @@ loop-at-init g c = record {
   same = record { table = record { same = refl; order = refl; to_host = refl }; layout = refl; handles = refl };
   later = omega arith;
   many = grind (arith, common_steps, c.new-numbers.ensures);
-  read = asked_answer _ _ _ _ _ (ap Ok c.new-numbers.ensures);
+  read = asked_answer (ap Ok c.new-numbers.ensures);
 }
 
 pub returns-in_err-element-clause-answer : goal.returns-in_err-element-clause-answer

@@ -6,10 +6,10 @@ use Rattle.omi_icv.proofs.value.member_number.Goals as goal
 
 pub returns-in_err-task-clause-answer : goal.returns-in_err-task-clause-answer
 unfolding member_number
-returns-in_err-task-clause-answer g c = refused_then _ _ _ _ _ _ _ _ c.in_err-task.ensures.answer c.from_residual.ensures.1
+returns-in_err-task-clause-answer g c = refused_then _ c.in_err-task.ensures.answer c.from_residual.ensures.1
 
 pub returns-clause-answer : goal.returns-clause-answer
 unfolding member_number
 returns-clause-answer g c =
-    asked_on _ _ _ _ _ _ (λ w task. word_of w task.addr TaskNumber 0) c.in_ok-task.task _ c.follow_some.ensures.same.table.same c.follow_some.ensures.same.layout
+    asked_on _ (λ w task. word_of w task.addr TaskNumber 0) c.in_ok-task.task c.follow_some.ensures.same.table.same c.follow_some.ensures.same.layout
     c.in_ok-task.ensures.answer c.word.ensures.answer

@@ -6,10 +6,10 @@ use Rattle.omi_icv.proofs.value.number_alone.Goals as goal
 
 pub returns-in_err-number-clause-answer : goal.returns-in_err-number-clause-answer
 unfolding alone
-returns-in_err-number-clause-answer g c = refused_then _ _ _ _ _ _ _ _ c.in_err-number.ensures.answer c.from_residual.ensures.1
+returns-in_err-number-clause-answer g c = refused_then _ c.in_err-number.ensures.answer c.from_residual.ensures.1
 
 pub returns-clause-answer : goal.returns-clause-answer
 unfolding alone
 returns-clause-answer g c =
-    asked_then _ _ _ c.number.new.s _ _ _ c.in_ok-number.number _ c.number.ensures.same.table.same c.in_ok-number.ensures.answer
-    (asked_answer _ _ _ _ _ (ap Ok c.one.ensures))
+    asked_then c.number.new.s _ c.in_ok-number.number c.number.ensures.same.table.same c.in_ok-number.ensures.answer
+    (asked_answer (ap Ok c.one.ensures))

@@ -8,7 +8,7 @@ use Rattle.omi_session.proofs.asking.word.Goals as goal
 
 pub returns-clause-answer : goal.returns-clause-answer
 unfolding word_of
-returns-clause-answer g c = asked_once _ _ _ _ _ _ _ (λ memory t ne.
+returns-clause-answer g c = asked_once (λ memory t ne.
     let front = c.from.ensures ∙ c.offset.ensures ∙ (λ i. offset (c.layout.ensures i) (c.number-number.ensures.value i)) in
     let is : c.ok_or.result ≡ ok_or c.in-Ok.found (Error c.args.address c.number-number.result) = grind arith in
     is ∙ ap (λ n. ok_or c.in-Ok.found (Error c.args.address n)) c.number-number.ensures.value
@@ -17,4 +17,4 @@ returns-clause-answer g c = asked_once _ _ _ _ _ _ _ (λ memory t ne.
 
 pub returns-in_default-clause-answer : goal.returns-in_default-clause-answer
 unfolding word_of
-returns-in_default-clause-answer g c = asked_once _ _ _ _ _ _ _ (λ memory t ne. absurd (ne refl)) c.peek.ensures.asked
+returns-in_default-clause-answer g c = asked_once (λ memory t ne. absurd (ne refl)) c.peek.ensures.asked
