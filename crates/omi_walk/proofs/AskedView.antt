@@ -1,7 +1,7 @@
 -- The walk is the plain look at the words.
 use Rattle.std.proofs.Common.{◌≡◌, ◌==◌, ◌&&◌, ℕ, Bool, true, false, cond, List, [], ◌∷◌, ◌++◌, Option, Some, None, map, find, refl, sym, ap, subst, ◌∙◌}
 use Rattle.std.specs.List.{flat_map, filter_map, cons_option}
-use Rattle.std.specs.Prelude.{Ok, Err}
+use Rattle.std.specs.Prelude.{Result, Ok, Err}
 use Rattle.omi_word.specs.Words.{Words}
 use Rattle.omi_handle.specs.declared.handle.Kind.TheVariants.{Region}
 use Rattle.omi_layout.specs.Field.{regions}
@@ -18,7 +18,9 @@ use Rattle.omi_walk.specs.AskWords.{ask_head}
 use Rattle.omi_walk.specs.AskThreads.{ask_threads}
 use Rattle.omi_walk.specs.AskRegions.{first_in, ask_row, ask_region, ask_regions, ask_rows}
 use Rattle.omi_walk.specs.AskTasks.{ask_tasks, ask_all_tasks}
+use Rattle.omi_walk.specs.AskLooked.{as_walked, WalkIsLooked}
 use Rattle.omi_walk.specs.AskView.{ask_view}
+use Rattle.omi_walk.specs.declared.fault.WalkFault.{WalkFault}
 use Rattle.omi_walk.proofs.AskedLooks.{Alike, Same, AllAlike, IsObject, MaybeObject, alike_then, alike_on, alike_with, alike_each}
 use Rattle.omi_walk.proofs.AskedChains.{FoundIs, alike_regions, alike_tasks}
 use Rattle.omi_walk.proofs.AskedRows.{all_same, alike_row}
@@ -93,3 +95,13 @@ module _ (w : List ℕ) (memory : Words) where
       (λ f i both. subst (λ i. Alike Same (answer_on memory (ask_tasks w f)) (look_tasks w memory i)) both.1 (alike_tasks w memory f both.0)) seen.found (found_threads w memory rows) pairing)
       (λ chains others e f same. ap (flat_map (λ (rows : List TaskRow). rows)) (all_same chains others same)))
       (λ tasks chains e f flat. λ j. record { head = head; threads = is.rows_are j; regions = all_same regions those same j; tasks = flat j })))))
+
+-- an answer that is alike is the look's
+as_looked : {A : Type 0} (a : Result A WalkFault) (l : Look A) → Alike Same a l → a ≡ as_walked l
+as_looked (Ok x) (Ok y) same = ap Ok same
+as_looked (Ok x) (Err fault) same = absurd same
+as_looked (Err why) (Ok y) same = absurd same
+as_looked (Err why) (Err fault) same = ap Err same
+
+pub looked_view : WalkIsLooked
+looked_view w memory contexts valid = as_looked _ _ (alike_view w memory valid contexts)

@@ -32,25 +32,11 @@ found_few found o current most few =
     let one = count_in o current in
     omega (arith, both, one, few)
 
--- and it is the one that its row has
-number_in : (o : Option ThreadPart) (current : Option Met) → map (λ f. f.thread) (found_in o current) ≡ cons_option (option_map (λ part. part.thread) o) []
-number_in None current = refl
-number_in (Some part) current = refl
-
-pub found_more : (w : List ℕ) (memory : Words) (rows : List ThreadRow) (found : List Found) (row : ThreadRow) (current : Option Met)
-    → map (λ f. f.thread) found ≡ found_threads w memory rows → map (λ f. f.thread) (found ++ found_in row.found current) ≡ found_threads w memory (rows ++ row ∷ [])
-found_more w memory rows found row current is =
-    map-append (λ (f : Found). f.thread) found (found_in row.found current)
-    ∙ ap (λ xs. xs ++ map (λ (f : Found). f.thread) (found_in row.found current)) is
-    ∙ ap (λ xs. found_threads w memory rows ++ xs) (number_in row.found current)
-    ∙ sym (filter_map-append (λ (row : ThreadRow). option_map (λ part. part.thread) row.found) rows (row ∷ []))
-
 module _ {C F : Type 0} (told : C → Told) (s t : Opened C F) (stays : Stays told s t) where
   -- what was found is found in a later session
   pub found_after : (f : Found) → IsFound told s f → IsFound told t f
   found_after f is = record {
     met = go f.current is.met;
-    look = looks_after told s t _ _ stays is.look;
   }
     where
       go : (o : Option Met) → IfSome o (IsMet told s Task) → IfSome o (IsMet told t Task)
@@ -60,19 +46,14 @@ module _ {C F : Type 0} (told : C → Told) (s t : Opened C F) (stays : Stays to
   pub all_after : (found : List Found) → All (IsFound told s) found → All (IsFound told t) found
   all_after found all = All-weaker (IsFound told s) (IsFound told t) found_after found all
 
-  found_one : (o : Option ThreadPart) (current : Option Met) → IfSome o (λ part. Looks told s (Ok (name_in current)) (λ w memory. look_current w memory part.thread))
-      → IfSome current (IsMet told t Task) → All (IsFound told t) (found_in o current)
-  found_one None current look met = All-nil (IsFound told t)
-  found_one (Some part) current look met =
-      All-cons (IsFound told t) (record { thread = part.thread; current = current }) []
-      (record { met = met; look = looks_after told s t (Ok (name_in current)) (λ w memory. look_current w memory part.thread) stays look }) (All-nil (IsFound told t))
+  found_one : (o : Option ThreadPart) (current : Option Met) → IfSome current (IsMet told t Task) → All (IsFound told t) (found_in o current)
+  found_one None current met = All-nil (IsFound told t)
+  found_one (Some part) current met = All-cons (IsFound told t) (record { thread = part.thread; current = current }) [] (record { met = met }) (All-nil (IsFound told t))
 
   -- so are they all, with the thread of one row more
-  pub found_all : (found : List Found) (o : Option ThreadPart) (current : Option Met) → All (IsFound told s) found
-      → IfSome o (λ part. Looks told s (Ok (name_in current)) (λ w memory. look_current w memory part.thread)) → IfSome current (IsMet told t Task)
+  pub found_all : (found : List Found) (o : Option ThreadPart) (current : Option Met) → All (IsFound told s) found → IfSome current (IsMet told t Task)
       → All (IsFound told t) (found ++ found_in o current)
-  found_all found o current all look met =
-      All-append (IsFound told t) found (found_in o current) (all_after found all) (found_one o current look met)
+  found_all found o current all met = All-append (IsFound told t) found (found_in o current) (all_after found all) (found_one o current met)
 
 -- the elements that are left begin with the next
 pub next_left : (xs : List ℕ) (i : ℕ) → i < length xs → drop i xs ≡ get_or xs i 0 ∷ drop (i + 1) xs

@@ -43,17 +43,3 @@ module _ {C F : Type 0} (told : C → Told) (s : Opened C F) where
   pub current_after : (t : Opened C F) (o : Option Met) → Stays told s t → IfSome o (IsMet told s Task) → IfSome o (IsMet told t Task)
   current_after t None stays met = met
   current_after t (Some m) stays met = met_after told s t Task m stays met
-
-  -- the look at the chains gives their rows
-  pub rows_end : (t : Opened C F) (all : List ℕ) (chains : List (List TaskRow)) → EachSoFar told s t look_tasks all chains []
-      → Looks told s (Ok (flat_map (λ r. r) chains)) (λ w memory. mapped (λ rows. flat_map (λ r. r) rows) (each (look_tasks w memory) all))
-  rows_end t all chains so =
-      look_then told s s chains (Ok (flat_map (λ r. r) chains)) (λ w memory. each (look_tasks w memory) all) (λ w memory rows. Ok (flat_map (λ r. r) rows))
-      (each_ends told s look_tasks all t chains so) stays_here (look_is told s (flat_map (λ r. r) chains))
-
--- a look at the chain from the current task of a thread is a look at its tasks
-pub tasks_looked : {C F : Type 0} (told : C → Told) (s t : Opened C F) (f : Found) (r : Result (List TaskRow) WalkFault) → IsFound told s f → Stays told s t
-    → Looks told t r (λ w memory. look_chain w memory (records w tasks) [] f.thread (name_in f.current)) → Looks told t r (λ w memory. look_tasks w memory f.thread)
-tasks_looked told s t f r is stays rest =
-    look_then told t t (name_in f.current) r (λ w memory. look_current w memory f.thread) (λ w memory. look_chain w memory (records w tasks) [] f.thread)
-    (looks_after told s t (Ok (name_in f.current)) (λ w memory. look_current w memory f.thread) stays is.look) (stays_here told t) rest

@@ -20,7 +20,6 @@ pub mod FoundTasks
 pub mod FoundLooks
 pub mod AddedRows
 pub mod RegionSlots
-pub mod ViewLooks
 pub mod AskedLooks
 pub mod AskedWords
 pub mod AskedRows
@@ -28,3 +27,4 @@ pub mod AskedTasks
 pub mod AskedChains
 pub mod AskedThreads
 pub mod AskedView
+pub mod ViewLooks

@@ -46,8 +46,6 @@ pub fn innermost<C: Callbacks, F: ToHost>(
 ) -> Result<Met, WalkFault>
     requires many { s.old.handles.made < 2 ^ 60 }
     requires met { IsMet C.told s.old Task task }
-    ensures look { Looks C.told s.old (name_met result) (λ w memory.
-        look_object w memory regions (id_address w tasks task.name) TaskRegion 0) }
     ensures reads { Walks C.told C.asked s.old s.new result
         (ask_region_of s.old.layout (Some task.held)) }
     ensures met { IfOk result (IsMet C.told s.new Region) }
@@ -69,10 +67,6 @@ fn onward<C: Callbacks, F: ToHost>(
 ) -> Result<Option<Met>, WalkFault>
     requires many { s.old.handles.made < 2 ^ 60 }
     requires met { IsMet C.told s.old Region region }
-    ensures look { (before : prelude.List ℕ)
-        → ((address : ℕ) → contains nat_cmp met.now address ≡ was_met before address)
-        → Looks C.told s.old (names_met result) (λ w memory. look_onward w memory regions
-        before (id_address w regions region.name) RegionEnclosing) }
     ensures reads { Walks C.told C.asked s.old s.new result
         (ask_outward s.old.layout (contains nat_cmp met.now) (Some region.held)) }
     ensures met { IfOk result (λ o. IfSome o (IsMet C.told s.new Region)) }
@@ -103,8 +97,6 @@ pub fn enclosing<C: Callbacks, F: ToHost>(
 ) -> Result<List<Met>, WalkFault>
     requires many { s.old.handles.made < 2 ^ 59 }
     requires met { IsMet C.told s.old Region first }
-    ensures look { Looks C.told s.old (names_of result) (λ w memory.
-        look_enclosing w memory (records w regions) [] (Some first.name)) }
     ensures reads { Walks C.told C.asked s.old s.new result
         (ask_outwards s.old.layout first) }
     ensures met { IfOk result (λ chain. All (IsMet C.told s.new Region) chain) }

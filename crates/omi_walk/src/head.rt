@@ -19,8 +19,6 @@ use omi_session::Session;
 
 /// The version of OpenMP that the target's runtime has.
 fn version_of<C: Callbacks, F: ToHost>(s: &mut Session<C, F>) -> Result<u64, WalkFault>
-    ensures look { Looks C.told s.old result
-        (λ w memory. read_runtime w memory Field.RuntimeVersion) }
     ensures reads { Walks C.told C.asked s.old s.new result (ask_version s.old.layout) }
     ensures leaves { Leaves C.told 0 s.old s.new }
     ensures cause { HasCause (C.faults s.old.table.calls) (C.faults s.new.table.calls)
@@ -33,7 +31,6 @@ fn version_of<C: Callbacks, F: ToHost>(s: &mut Session<C, F>) -> Result<u64, Wal
 /// What the header of a report says: the version of OpenMP, the number of threads of the layout, and the control variables of the
 /// address space.
 pub fn head<C: Callbacks, F: ToHost>(s: &mut Session<C, F>) -> Result<HeadRow, WalkFault>
-    ensures look { Looks C.told s.old result (λ w memory. look_head w memory) }
     ensures reads { Walks C.told C.asked s.old s.new result (ask_head s.old.layout) }
     ensures leaves { Leaves C.told 0 s.old s.new }
     ensures cause { HasCause (C.faults s.old.table.calls) (C.faults s.new.table.calls)

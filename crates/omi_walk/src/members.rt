@@ -38,13 +38,6 @@ fn task_of<C: Callbacks, F: ToHost>(
     num: u32,
 ) -> Result<Met, WalkFault>
     requires { s.old.handles.made < 2 ^ 62 }
-    ensures look { (n : Id) (size : _) → Stands C.told s.old Region (region_pair r) n
-        → HasSize C.told s.old n size → num < size
-        → Looks C.told s.old (name_met result) (λ w memory.
-        look_object w memory tasks (id_address w regions n) Field.RegionTeam num) }
-    ensures past { (n : Id) (size : _) → Stands C.told s.old Region (region_pair r) n
-        → HasSize C.told s.old n size → size ≤ num
-        → Looks C.told s.old (name_met result) (λ w memory. size_refused w n) }
     ensures reads { Walks C.told C.asked s.old s.new result
         (ask_member_task s.old.layout num (get s.old.handles.held (region_pair r))) }
     ensures leaves { Leaves C.told 1 s.old s.new }
@@ -64,15 +57,6 @@ fn thread_of<C: Callbacks, F: ToHost>(
     num: u32,
 ) -> Result<Met, WalkFault>
     requires { s.old.handles.made < 2 ^ 62 }
-    ensures look { (n k : Id) (size : _) → Stands C.told s.old Region (region_pair r) n
-        → HasSize C.told s.old n size → num < size
-        → Looks C.told s.old (Rattle.std.specs.Prelude.Ok k) (λ w memory.
-        look_object w memory tasks (id_address w regions n) Field.RegionTeam num)
-        → Looks C.told s.old (name_met result) (λ w memory.
-        look_object w memory threads (id_address w tasks k) Field.TaskThread 0) }
-    ensures past { (n : Id) (size : _) → Stands C.told s.old Region (region_pair r) n
-        → HasSize C.told s.old n size → size ≤ num
-        → Looks C.told s.old (name_met result) (λ w memory. size_refused w n) }
     ensures reads { Walks C.told C.asked s.old s.new result
         (ask_member_thread s.old.layout num (get s.old.handles.held (region_pair r))) }
     ensures leaves { Leaves C.told 1 s.old s.new }
@@ -92,9 +76,6 @@ fn member<C: Callbacks, F: ToHost>(
     num: u32,
 ) -> Result<MemberRow, WalkFault>
     requires { s.old.handles.made < 2 ^ 61 }
-    ensures look { (n : Id) (size : _) → Stands C.told s.old Region (region_pair r) n
-        → HasSize C.told s.old n size → num < size
-        → Looks C.told s.old result (λ w memory. look_member w memory n num) }
     ensures reads { Walks C.told C.asked s.old s.new result
         (ask_member s.old.layout (get s.old.handles.held (region_pair r)) num) }
     ensures leaves { Leaves C.told 2 s.old s.new }
@@ -118,10 +99,6 @@ pub fn members<C: Callbacks, F: ToHost>(
 ) -> Result<MemberRows, WalkFault>
     requires many { s.old.handles.made < 2 ^ 60 }
     requires few { size ≤ 64 }
-    ensures look { (n : Id) → Stands C.told s.old Region (region_pair r) n
-        → HasSize C.told s.old n size
-        → Looks C.told s.old result (λ w memory.
-        each (look_member w memory n) (range_with_len 0 size)) }
     ensures reads { Walks C.told C.asked s.old s.new result (ask_each
         (ask_member s.old.layout (get s.old.handles.held (region_pair r)))
         (range_with_len 0 size)) }

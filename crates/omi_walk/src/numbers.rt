@@ -41,8 +41,6 @@ pub fn nthreads_of<C: Callbacks, F: ToHost>(
     alloc: Global,
     k: TaskHandle,
 ) -> Result<NumList, WalkFault>
-    ensures look { (n : Id) → Stands C.told s.old Task (task_pair k) n
-        → Looks C.told s.old result (λ w memory. look_nthreads w memory n) }
     ensures reads { Walks C.told C.asked s.old s.new result
         (ask_nthreads s.old.layout (get s.old.handles.held (task_pair k))) }
     ensures leaves { Leaves C.told 0 s.old s.new }

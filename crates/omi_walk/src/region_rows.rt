@@ -36,8 +36,6 @@ fn add_row<C: Callbacks, F: ToHost>(
 ) -> Result<(), WalkFault>
     requires many { s.old.handles.made < 2 ^ 58 }
     requires live { AreLive C.told s.old index.now }
-    ensures look { AddsRows C.told s.old result rows.old rows.new (λ w memory.
-        each (look_region w memory) (filter_map (in_slot index.now) (slot ∷ []))) }
     ensures reads { WalksRows C.told C.asked s.old s.new result rows.old rows.new
         (ask_each (ask_region s.old.layout)
         (filter_map (met_in_slot index.now) (slot ∷ []))) }
@@ -63,8 +61,6 @@ fn add_rows<C: Callbacks, F: ToHost>(
 ) -> Result<(), WalkFault>
     requires many { s.old.handles.made < HANDLES_WITHIN }
     requires live { AreLive C.told s.old index.now }
-    ensures look { AddsRows C.told s.old result rows.old rows.new (λ w memory.
-        each (look_region w memory) (in_own_slots index.now w creator)) }
     ensures reads { WalksRows C.told C.asked s.old s.new result rows.old rows.new
         (ask_each (ask_region s.old.layout)
         (filter_map (met_in_slot index.now) (own_slots s.old.layout creator))) }
@@ -86,9 +82,6 @@ pub fn region_rows<C: Callbacks, F: ToHost>(
 ) -> Result<RegionRows, WalkFault>
     requires many { s.old.handles.made < 2 ^ 56 }
     requires live { AreLive C.told s.old index.now }
-    ensures look { (met : _) → HasFirst index.now met → AreSmall met
-        → Looks C.told s.old result (λ w memory. each (look_region w memory)
-        (filter_map (met_in w memory (map (λ m. m.name) met)) (slot_list w regions))) }
     ensures reads { (met : _) → HasFirst index.now met → AreSmall met
         → Walks C.told C.asked s.old s.new result (ask_rows s.old.layout met) }
     ensures leaves { Leaves C.told 532480 s.old s.new }

@@ -34,8 +34,6 @@ fn entry_of<C: Callbacks, F: ToHost>(
     s: &mut Session<C, F>,
     r: RegionHandle,
 ) -> Result<u64, WalkFault>
-    ensures look { (n : Id) → Stands C.told s.old Region (region_pair r) n
-        → Looks C.told s.old result (λ w memory. read_region w memory n RegionFunction) }
     ensures reads { Walks C.told C.asked s.old s.new result
         (ask_entry s.old.layout (get s.old.handles.held (region_pair r))) }
     ensures leaves { Leaves C.told 0 s.old s.new }
@@ -65,8 +63,6 @@ fn row_of<C: Callbacks, F: ToHost>(
     region: Id,
 ) -> Result<RegionRow, WalkFault>
     requires { s.old.handles.made < 2 ^ 59 }
-    ensures look { Stands C.told s.old Region (region_pair r) region
-        → Looks C.told s.old result (λ w memory. look_region w memory region) }
     ensures reads { Walks C.told C.asked s.old s.new result
         (ask_row s.old.layout region (get s.old.handles.held (region_pair r))) }
     ensures leaves { Leaves C.told 129 s.old s.new }
@@ -100,7 +96,6 @@ pub fn region_row<C: Callbacks, F: ToHost>(
 ) -> Result<RegionRow, WalkFault>
     requires many { s.old.handles.made < 2 ^ 58 }
     requires met { IsMet C.told s.old Region region }
-    ensures look { Looks C.told s.old result (λ w memory. look_region w memory region.name) }
     ensures reads { Walks C.told C.asked s.old s.new result (ask_region s.old.layout region) }
     ensures leaves { Leaves C.told 130 s.old s.new }
     ensures cause { HasCause (C.faults s.old.table.calls) (C.faults s.new.table.calls)

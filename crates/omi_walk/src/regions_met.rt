@@ -10,7 +10,7 @@ ghost use Rattle.omi_walk.specs.FoundThreads.{IsFound};
 ghost use Rattle.omi_walk.specs.Gives.{Looks};
 ghost use Rattle.omi_walk.specs.Leaves.{Leaves};
 ghost use Rattle.omi_walk.specs.Objects.{IsMet};
-ghost use Rattle.omi_walk.specs.Regions.{Indexes};
+ghost use Rattle.omi_walk.specs.Regions.{AreLive};
 ghost use Rattle.omi_walk.specs.Walks.{Walks, WalksIndex};
 ghost use Rattle.omi_walk.specs.Asking.{ask_each};
 ghost use Rattle.omi_walk.specs.AskRegions.{ask_regions};
@@ -34,8 +34,6 @@ fn regions_of<C: Callbacks, F: ToHost>(
 ) -> Result<List<Met>, WalkFault>
     requires many { s.old.handles.made < 2 ^ 58 }
     requires found { IsFound C.told s.old found }
-    ensures look { Looks C.told s.old (names_of result)
-        (λ w memory. look_regions w memory found.thread) }
     ensures reads { Walks C.told C.asked s.old s.new result (ask_regions s.old.layout found) }
     ensures met { IfOk result (λ chain. All (IsMet C.told s.new Region) chain) }
     ensures leaves { Leaves C.told 8194 s.old s.new }
@@ -58,7 +56,7 @@ pub fn regions_met<C: Callbacks, F: ToHost>(
     requires many { s.old.handles.made < HANDLES_WITHIN }
     requires few { length found.now ≤ 64 }
     requires found { All (IsFound C.told s.old) found.now }
-    ensures look { Indexes C.told s.old s.new (map (λ f. f.thread) found.now) result }
+    ensures live { IfOk result (λ index. AreLive C.told s.new index) }
     ensures reads { WalksIndex C.told C.asked s.old s.new result
         (ask_each (ask_regions s.old.layout) found.now) }
     ensures leaves { Leaves C.told 524416 s.old s.new }

@@ -115,10 +115,6 @@ pub fn related_of<C: Callbacks, F: ToHost>(
     relation: Relation,
 ) -> Result<Option<Met>, WalkFault>
     requires { s.old.handles.made < 2 ^ 62 }
-    ensures look { (n : Id) → Stands C.told s.old (kind_from relation) (pair_of relation) n
-        → Looks C.told s.old (names_met result) (λ w memory.
-        look_optional w memory (record_kind (kind_to relation))
-        (id_address w (record_kind (kind_from relation)) n) (field_of relation) 0) }
     ensures reads { Walks C.told C.asked s.old s.new result (ask_maybe s.old.layout
         (get s.old.handles.held (pair_of relation))
         (inquiry_of s.old.layout relation (get s.old.handles.held (pair_of relation)))) }
@@ -139,9 +135,6 @@ pub fn region_of<C: Callbacks, F: ToHost>(
     k: TaskHandle,
 ) -> Result<Met, WalkFault>
     requires { s.old.handles.made < 2 ^ 62 }
-    ensures look { (n : Id) → Stands C.told s.old Task (task_pair k) n
-        → Looks C.told s.old (name_met result) (λ w memory.
-        look_object w memory regions (id_address w tasks n) TaskRegion 0) }
     ensures reads { Walks C.told C.asked s.old s.new result
         (ask_region_of s.old.layout (get s.old.handles.held (task_pair k))) }
     ensures met { IfOk result (IsMet C.told s.new Region) }

@@ -41,8 +41,6 @@ pub fn task_chain<C: Callbacks, F: ToHost>(
 ) -> Result<(), WalkFault>
     requires many { s.old.handles.made < 2 ^ 58 }
     requires met { IfSome first (IsMet C.told s.old Task) }
-    ensures look { AddsRows C.told s.old result rows.old rows.new (λ w memory.
-        look_chain w memory (records w tasks) [] thread (name_in first)) }
     ensures reads { WalksRows C.told C.asked s.old s.new result rows.old rows.new
         (ask_rows_from s.old.layout thread first) }
     ensures leaves { Leaves C.told 1310720 s.old s.new }

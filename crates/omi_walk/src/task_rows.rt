@@ -30,9 +30,6 @@ pub fn task_rows<C: Callbacks, F: ToHost>(
     requires many { s.old.handles.made < HANDLES_WITHIN }
     requires few { length found.now ≤ 64 }
     requires found { All (IsFound C.told s.old) found.now }
-    ensures look { Looks C.told s.old result (λ w memory.
-        mapped (λ rows. flat_map (λ r. r) rows)
-        (each (look_tasks w memory) (map (λ f. f.thread) found.now))) }
     ensures reads { Walks C.told C.asked s.old s.new result
         (ask_all_tasks s.old.layout found.now) }
     ensures leaves { Leaves C.told 83886080 s.old s.new }

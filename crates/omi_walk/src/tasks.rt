@@ -77,10 +77,6 @@ fn next_of<C: Callbacks, F: ToHost>(
     met: &BTreeSet<u64>,
 ) -> Result<Option<Met>, WalkFault>
     requires { s.old.handles.made < 2 ^ 62 }
-    ensures look { (n : Id) (before : prelude.List ℕ) → Stands C.told s.old Task (task_pair k) n
-        → ((address : ℕ) → contains nat_cmp met.now address ≡ was_met before address)
-        → Looks C.told s.old (names_met result) (λ w memory.
-        look_onward w memory tasks before (id_address w tasks n) TaskScheduling) }
     ensures reads { Walks C.told C.asked s.old s.new result (ask_next s.old.layout
         (contains nat_cmp met.now) (get s.old.handles.held (task_pair k))) }
     ensures met { IfOk result (λ o. IfSome o (IsMet C.told s.new Task)) }
@@ -99,14 +95,8 @@ fn relations_of<C: Callbacks, F: ToHost>(
     met: &BTreeSet<u64>,
 ) -> Result<SeenRelations, WalkFault>
     requires { s.old.handles.made < 2 ^ 61 }
-    ensures look { (n : Id) (before : prelude.List ℕ) → Stands C.told s.old Task (task_pair k) n
-        → ((address : ℕ) → contains nat_cmp met.now address ≡ was_met before address)
-        → Looks C.told s.old (relations_seen result)
-        (λ w memory. look_relations w memory before n) }
     ensures reads { Walks C.told C.asked s.old s.new result (ask_relations s.old.layout
         (contains nat_cmp met.now) (get s.old.handles.held (task_pair k))) }
-    ensures next { IfOk result (λ seen. seen.relations.scheduling
-        ≡ option_map (λ n. record { 0 = n }) (name_in seen.next)) }
     ensures met { IfOk result (λ seen. IfSome seen.next (IsMet C.told s.new Task)) }
     ensures leaves { Leaves C.told 3 s.old s.new }
     ensures cause { HasCause (C.faults s.old.table.calls) (C.faults s.new.table.calls)
@@ -135,8 +125,6 @@ fn environment_of<C: Callbacks, F: ToHost>(
     alloc: Global,
     k: TaskHandle,
 ) -> Result<Environment, WalkFault>
-    ensures look { (n : Id) → Stands C.told s.old Task (task_pair k) n
-        → Looks C.told s.old result (λ w memory. look_environment w memory n) }
     ensures reads { Walks C.told C.asked s.old s.new result
         (ask_environment s.old.layout (get s.old.handles.held (task_pair k))) }
     ensures leaves { Leaves C.told 0 s.old s.new }
@@ -167,14 +155,8 @@ fn link_of<C: Callbacks, F: ToHost>(
     met: &BTreeSet<u64>,
 ) -> Result<Link, WalkFault>
     requires { s.old.handles.made < 2 ^ 60 }
-    ensures look { (before : prelude.List ℕ) → Stands C.told s.old Task (task_pair k) task
-        → ((address : ℕ) → contains nat_cmp met.now address ≡ was_met before address)
-        → Looks C.told s.old (row_of result)
-        (λ w memory. look_task w memory before thread task) }
     ensures reads { Walks C.told C.asked s.old s.new result (ask_link s.old.layout
         (contains nat_cmp met.now) thread task (get s.old.handles.held (task_pair k))) }
-    ensures next { IfOk result (λ link. link.row.scheduling
-        ≡ option_map (λ n. record { 0 = n }) (name_in link.next)) }
     ensures met { IfOk result (λ link. IfSome link.next (IsMet C.told s.new Task)) }
     ensures leaves { Leaves C.told 3 s.old s.new }
     ensures cause { HasCause (C.faults s.old.table.calls) (C.faults s.new.table.calls)
@@ -216,14 +198,8 @@ pub fn task_row<C: Callbacks, F: ToHost>(
 ) -> Result<Link, WalkFault>
     requires many { s.old.handles.made < 2 ^ 59 }
     requires met { IsMet C.told s.old Task task }
-    ensures look { (before : prelude.List ℕ)
-        → ((address : ℕ) → contains nat_cmp met.now address ≡ was_met before address)
-        → Looks C.told s.old (row_of result)
-        (λ w memory. look_task w memory before thread task.name) }
     ensures reads { Walks C.told C.asked s.old s.new result
         (ask_task s.old.layout (contains nat_cmp met.now) thread task) }
-    ensures next { IfOk result (λ link. link.row.scheduling
-        ≡ option_map (λ n. record { 0 = n }) (name_in link.next)) }
     ensures met { IfOk result (λ link. IfSome link.next (IsMet C.told s.new Task)) }
     ensures leaves { Leaves C.told 4 s.old s.new }
     ensures cause { HasCause (C.faults s.old.table.calls) (C.faults s.new.table.calls)

@@ -51,12 +51,8 @@ pub fn thread_rows<C: Callbacks, F: ToHost>(
 ) -> Result<SeenThreads, WalkFault>
     requires many { s.old.handles.made < HANDLES_WITHIN }
     requires few { length contexts.now ≤ 64 }
-    ensures look { Looks C.told s.old (rows_seen result)
-        (λ w memory. each (look_thread w memory) contexts.now) }
     ensures reads { Walks C.told C.asked s.old s.new result
         (ask_threads s.old.layout contexts.now) }
-    ensures found { (w : _) (memory : _) → IfOk result (λ seen.
-        map (λ f. f.thread) seen.found ≡ found_threads w memory seen.rows) }
     ensures each { IfOk result (λ seen. All (IsFound C.told s.new) seen.found) }
     ensures few { IfOk result (λ seen. length seen.found ≤ 64) }
     ensures leaves { Leaves C.told 192 s.old s.new }

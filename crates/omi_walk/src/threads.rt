@@ -51,8 +51,6 @@ fn thread_with<C: Callbacks, F: ToHost>(
     native: u64,
 ) -> Result<Option<Met>, WalkFault>
     requires { s.old.handles.made < 2 ^ 62 }
-    ensures look { Looks C.told s.old (number_met result) (λ w memory.
-        look_for w memory native (range_with_len 0 (thread_count w))) }
     ensures reads { Walks C.told C.asked s.old s.new result
         (ask_thread_with s.old.layout native) }
     ensures met { IfOk result (λ o. IfSome o (IsMet C.told s.new Thread)) }
@@ -73,8 +71,6 @@ fn state_of<C: Callbacks, F: ToHost>(
     s: &mut Session<C, F>,
     t: ThreadHandle,
 ) -> Result<Option<(u32, u64)>, WalkFault>
-    ensures look { (n : Id) → Stands C.told s.old Thread (thread_pair t) n
-        → Looks C.told s.old result (λ w memory. look_state w memory n.creator) }
     ensures reads { Walks C.told C.asked s.old s.new result
         (ask_state s.old.layout (get s.old.handles.held (thread_pair t))) }
     ensures leaves { Leaves C.told 0 s.old s.new }
@@ -92,10 +88,6 @@ fn number_of<C: Callbacks, F: ToHost>(
     s: &mut Session<C, F>,
     t: ThreadHandle,
 ) -> Result<Option<u64>, WalkFault>
-    ensures look { (n : Id) (current : Option Id) → Stands C.told s.old Thread (thread_pair t) n
-        → Looks C.told s.old (Ok current) (λ w memory. look_current w memory n.creator)
-        → Looks C.told s.old result (λ w memory.
-        optional (λ k. read_task w memory k Field.TaskNumber) current) }
     ensures reads { Walks C.told C.asked s.old s.new result
         (ask_number s.old.layout (get s.old.handles.held (thread_pair t))) }
     ensures leaves { Leaves C.told 0 s.old s.new }
@@ -115,15 +107,9 @@ fn part_of<C: Callbacks, F: ToHost>(
     thread: u8,
 ) -> Result<SeenPart, WalkFault>
     requires { s.old.handles.made < 2 ^ 61 }
-    ensures look { (n : Id) → Stands C.told s.old Thread (thread_pair t) n → n.creator ≡ thread
-        → Looks C.told s.old (part_seen result) (λ w memory. look_part w memory thread) }
     ensures reads { Walks C.told C.asked s.old s.new result
         (ask_part s.old.layout thread (get s.old.handles.held (thread_pair t))) }
-    ensures current { (n : Id) → Stands C.told s.old Thread (thread_pair t) n → n.creator ≡ thread
-        → IfOk result (λ seen. Looks C.told s.old (Ok (name_in seen.current))
-        (λ w memory. look_current w memory thread)) }
     ensures met { IfOk result (λ seen. IfSome seen.current (IsMet C.told s.new Task)) }
-    ensures thread { IfOk result (λ seen. seen.part.thread ≡ thread) }
     ensures leaves { Leaves C.told 1 s.old s.new }
     ensures cause { HasCause (C.faults s.old.table.calls) (C.faults s.new.table.calls)
         (result ≡ Err WalkFault.Callback) }
@@ -149,12 +135,7 @@ pub fn thread_row<C: Callbacks, F: ToHost>(
     native: u64,
 ) -> Result<SeenThread, WalkFault>
     requires { s.old.handles.made < 2 ^ 60 }
-    ensures look { Looks C.told s.old (row_seen result)
-        (λ w memory. look_thread w memory native) }
     ensures reads { Walks C.told C.asked s.old s.new result (ask_thread s.old.layout native) }
-    ensures current { IfOk result (λ seen. IfSome seen.row.found (λ part.
-        Looks C.told s.old (Ok (name_in seen.current))
-        (λ w memory. look_current w memory part.thread))) }
     ensures met { IfOk result (λ seen. IfSome seen.current (IsMet C.told s.new Task)) }
     ensures leaves { Leaves C.told 3 s.old s.new }
     ensures cause { HasCause (C.faults s.old.table.calls) (C.faults s.new.table.calls)

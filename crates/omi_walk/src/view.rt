@@ -37,6 +37,8 @@ pub fn walk<C: Callbacks, F: ToHost>(
     ensures cause { HasCause (C.faults s.old.table.calls) (C.faults s.new.table.calls)
         (result ≡ Err WalkFault.Callback) }
 {
+    // the proof takes from the layout's type that it is valid
+    let _layout = s.layout();
     let head = head(s)?;
     let SeenThreads { rows, found } = thread_rows(s, alloc, contexts)?;
     let index = regions_met(s, alloc, &found)?;

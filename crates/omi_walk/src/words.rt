@@ -38,10 +38,6 @@ pub fn task_variable<C: Callbacks, F: ToHost>(
     k: TaskHandle,
     icv: u32,
 ) -> Result<u64, WalkFault>
-    ensures look { (n : Id) (f : Field) (v : Variable)
-        → variable_in (scope_of (scoped.Task k)) icv ≡ Ok v → v.source ≡ Word f
-        → Stands C.told s.old Task (task_pair k) n
-        → Looks C.told s.old result (λ w memory. read_task w memory n f) }
     ensures reads { Walks C.told C.asked s.old s.new result
         (ask_task_variable s.old.layout icv (get s.old.handles.held (task_pair k))) }
     ensures leaves { Leaves C.told 0 s.old s.new }
@@ -58,10 +54,6 @@ pub fn region_variable<C: Callbacks, F: ToHost>(
     r: RegionHandle,
     icv: u32,
 ) -> Result<u64, WalkFault>
-    ensures look { (n : Id) (f : Field) (v : Variable)
-        → variable_in (scope_of (scoped.Parallel r)) icv ≡ Ok v → v.source ≡ Word f
-        → Stands C.told s.old Region (region_pair r) n
-        → Looks C.told s.old result (λ w memory. read_region w memory n f) }
     ensures reads { Walks C.told C.asked s.old s.new result
         (ask_region_variable s.old.layout icv (get s.old.handles.held (region_pair r))) }
     ensures leaves { Leaves C.told 0 s.old s.new }
@@ -77,9 +69,6 @@ pub fn space_variable<C: Callbacks, F: ToHost>(
     s: &mut Session<C, F>,
     icv: u32,
 ) -> Result<u64, WalkFault>
-    ensures look { (f : Field) (v : Variable)
-        → variable_in (scope_of scoped.Space) icv ≡ Ok v → v.source ≡ Word f
-        → Looks C.told s.old result (λ w memory. read_runtime w memory f) }
     ensures reads { Walks C.told C.asked s.old s.new result (ask_space s.old.layout icv) }
     ensures leaves { Leaves C.told 0 s.old s.new }
     ensures cause { HasCause (C.faults s.old.table.calls) (C.faults s.new.table.calls)
@@ -94,8 +83,6 @@ pub fn size_of<C: Callbacks, F: ToHost>(
     s: &mut Session<C, F>,
     r: RegionHandle,
 ) -> Result<u64, WalkFault>
-    ensures look { (n : Id) → Stands C.told s.old Region (region_pair r) n
-        → Looks C.told s.old result (λ w memory. look_size w memory n) }
     ensures reads { Walks C.told C.asked s.old s.new result (ask_region_variable s.old.layout
         TEAM_SIZE_VAR (get s.old.handles.held (region_pair r))) }
     ensures leaves { Leaves C.told 0 s.old s.new }
@@ -111,8 +98,6 @@ pub fn function_of<C: Callbacks, F: ToHost>(
     s: &mut Session<C, F>,
     k: TaskHandle,
 ) -> Result<u64, WalkFault>
-    ensures look { (n : Id) → Stands C.told s.old Task (task_pair k) n
-        → Looks C.told s.old result (λ w memory. read_task w memory n Field.TaskFunction) }
     ensures reads { Walks C.told C.asked s.old s.new result
         (ask_function s.old.layout (get s.old.handles.held (task_pair k))) }
     ensures leaves { Leaves C.told 0 s.old s.new }
@@ -128,8 +113,6 @@ pub fn tool_of<C: Callbacks, F: ToHost>(
     s: &mut Session<C, F>,
     k: TaskHandle,
 ) -> Result<u64, WalkFault>
-    ensures look { (n : Id) → Stands C.told s.old Task (task_pair k) n
-        → Looks C.told s.old result (λ w memory. read_task w memory n Field.TaskTool) }
     ensures reads { Walks C.told C.asked s.old s.new result
         (ask_tool s.old.layout (get s.old.handles.held (task_pair k))) }
     ensures leaves { Leaves C.told 0 s.old s.new }
@@ -145,8 +128,6 @@ pub fn frames_of<C: Callbacks, F: ToHost>(
     s: &mut Session<C, F>,
     k: TaskHandle,
 ) -> Result<(u64, u64), WalkFault>
-    ensures look { (n : Id) → Stands C.told s.old Task (task_pair k) n
-        → Looks C.told s.old result (λ w memory. look_frames w memory n) }
     ensures reads { Walks C.told C.asked s.old s.new result
         (ask_frames s.old.layout (get s.old.handles.held (task_pair k))) }
     ensures leaves { Leaves C.told 0 s.old s.new }

@@ -37,41 +37,10 @@ loop-init g c =
       few = c.region_count-end.ensures.few;
       current = c.requires.met;
       chain = rw c.new-chain.ensures (All-nil (IsMet g.C.Callbacks.told c.args.s.now Region));
-      so =
-          let all : c.region_count-end.result - 0 ≡ records c.args.s.now.layout regions = omega (arith, count) in
-          rw (c.new-chain.ensures, all) (chain_begins g.C.Callbacks.told c.args.s.now c.args.first.name c.args.first (contains nat_cmp c.new-met.result) refl (λ address. rw c.new-met.ensures.empty refl));
       goes =
           chain_begin g.C.Callbacks.told g.C.Callbacks.asked c.args.s.now ask_enclosed (records c.args.s.now.layout regions) (Some c.args.first) c.new-chain.result (contains nat_cmp c.new-met.result) (c.region_count-end.result - 0) c.new-chain.ensures
           (λ address. rw c.new-met.ensures.empty refl) (omega (arith, count));
     }
-
-pub returns-in_default-clause-look : goal.returns-in_default-clause-look
-returns-in_default-clause-look g c =
-    let told = g.C.Callbacks.told in
-    chain_ends told c.args.s.now c.args.first.name c.loop.chain (contains nat_cmp c.loop.met) (c.region_count-end.result - c.loop.counter)
-    (subst (λ o. ChainSoFar told c.args.s.now c.args.first.name c.loop.chain (contains nat_cmp c.loop.met) (c.region_count-end.result - c.loop.counter) o) c.in_default.is c.loop.invariant.so)
-
-pub returns-in_err-insert-clause-look : goal.returns-in_err-insert-clause-look
-returns-in_err-insert-clause-look g c =
-    let p = err_from_is_err_and c.from_residual.result c.from_residual.ensures.1 in
-    rw (p.1, p.2) (look_unsaid g.C.Callbacks.told c.args.s.now _)
-
-pub returns-in_err-current-clause-look : goal.returns-in_err-current-clause-look
-returns-in_err-current-clause-look g c =
-    let p = err_from_is_err_and c.from_residual-in_err-current.result c.from_residual-in_err-current.ensures.1 in
-    let told = g.C.Callbacks.told in
-    let region = c.in-Some.region in
-    let so = goes_on (ChainSoFar told c.args.s.now c.args.first.name c.loop.chain (contains nat_cmp c.loop.met)) _ (suc (c.region_count-end.result - (c.loop.counter + 1))) _ region c.in-Some.is (omega (arith, c.loop-test.true)) c.loop.invariant.so in
-    let there = met_in_address told c.args.s.now c.loop.s Region c.loop.current c.loop.invariant.leaves.stays c.loop.invariant.current region c.in-Some.is in
-    let seen = now_met told c.args.s.now c.args.first.name c.loop.s c.loop.invariant.leaves.stays c.loop.chain (contains nat_cmp c.loop.met) (c.region_count-end.result - (c.loop.counter + 1)) region so in
-    let same = λ (address : ℕ). met_more c.loop.met c.insert.new.self region.held.addr so.before so.same c.in_ok-insert.ensures.updates address ∙ ap (λ a. was_met (a ∷ so.before) address) there in
-    rw (p.1, p.2) (chain_stops told c.args.s.now c.args.first.name c.loop.s c.loop.invariant.leaves.stays c.loop.chain (contains nat_cmp c.loop.met) _ region so c.in_err-current.field-0.0
-    (c.in_err-current.ensures.look seen same))
-
-pub returns-in_err-push-clause-look : goal.returns-in_err-push-clause-look
-returns-in_err-push-clause-look g c =
-    let p = err_from_is_err_and c.from_residual-in_err-push.result c.from_residual-in_err-push.ensures.1 in
-    rw (p.1, p.2) (look_unsaid g.C.Callbacks.told c.args.s.now _)
 
 pub loop-preserved : goal.loop-preserved
 loop-preserved g c = record {
@@ -86,15 +55,6 @@ loop-preserved g c = record {
       rw c.in_ok-push.ensures.added (All-append (IsMet told c.onward.new.s Region) c.loop.chain (c.in-Some.region ∷ [])
       (All-weaker (IsMet told c.loop.s Region) (IsMet told c.onward.new.s Region) (λ m. met_after told c.loop.s c.onward.new.s Region m c.onward.ensures.leaves.stays) c.loop.chain c.loop.invariant.chain)
       (one_met (IsMet told c.onward.new.s Region) c.in-Some.region (met_after told c.loop.s c.onward.new.s Region c.in-Some.region c.onward.ensures.leaves.stays met)));
-  so =
-      let told = g.C.Callbacks.told in
-      let region = c.in-Some.region in
-      let so = goes_on (ChainSoFar told c.args.s.now c.args.first.name c.loop.chain (contains nat_cmp c.loop.met)) _ (suc (c.region_count-end.result - (c.loop.counter + 1))) _ region c.in-Some.is (omega (arith, c.loop-test.true)) c.loop.invariant.so in
-      let there = met_in_address told c.args.s.now c.loop.s Region c.loop.current c.loop.invariant.leaves.stays c.loop.invariant.current region c.in-Some.is in
-      let seen = now_met told c.args.s.now c.args.first.name c.loop.s c.loop.invariant.leaves.stays c.loop.chain (contains nat_cmp c.loop.met) (c.region_count-end.result - (c.loop.counter + 1)) region so in
-      let same = λ (address : ℕ). met_more c.loop.met c.insert.new.self region.held.addr so.before so.same c.in_ok-insert.ensures.updates address ∙ ap (λ a. was_met (a ∷ so.before) address) there in
-      rw c.in_ok-push.ensures.added (chain_next told c.args.s.now c.args.first.name c.loop.s c.loop.invariant.leaves.stays c.loop.chain (contains nat_cmp c.loop.met) _ region so
-      (contains nat_cmp c.insert.new.self) c.in_ok-current.current same (c.in_ok-current.ensures.look seen same));
   goes =
       let told = g.C.Callbacks.told in
       let asked = g.C.Callbacks.asked in
@@ -105,20 +65,6 @@ loop-preserved g c = record {
       (also_met c.loop.met c.insert.new.self region.held.addr c.in_ok-insert.ensures.updates) so _ region c.in_ok-current.current c.onward.ensures.leaves
       (walked_enclosed g.C.Callbacks.told g.C.Callbacks.asked c.loop.s c.onward.new.s (contains nat_cmp c.insert.new.self) region c.in_ok-current.current c.in_ok-current.ensures.reads));
 }
-
-pub returns-in-None-clause-look : goal.returns-in-None-clause-look
-returns-in-None-clause-look g c =
-    let told = g.C.Callbacks.told in
-    chain_ends told c.args.s.now c.args.first.name c.loop.chain (contains nat_cmp c.loop.met) (c.region_count-end.result - c.loop.counter)
-    (subst (λ o. ChainSoFar told c.args.s.now c.args.first.name c.loop.chain (contains nat_cmp c.loop.met) (c.region_count-end.result - c.loop.counter) o) c.in-None.is c.loop.invariant.so)
-
-pub returns-clause-look : goal.returns-clause-look
-returns-clause-look g c =
-    let told = g.C.Callbacks.told in
-    let region = c.in-Some-current.region in
-    let so = goes_on (ChainSoFar told c.args.s.now c.args.first.name c.loop.chain (contains nat_cmp c.loop.met)) _ 0 _ region c.in-Some-current.is (omega (arith, c.loop-test.false)) c.loop.invariant.so in
-    chain_cycles told c.args.s.now c.args.first.name c.loop.chain (contains nat_cmp c.loop.met) region
-    (met_in_address told c.args.s.now c.loop.s Region c.loop.current c.loop.invariant.leaves.stays c.loop.invariant.current region c.in-Some-current.is) so
 
 -- reads: what was asked
 

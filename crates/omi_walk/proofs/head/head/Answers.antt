@@ -17,47 +17,6 @@ counted : {C F : Type 0} (told : C → Told) (s : Opened C F) (row : ℕ → Hea
 unfolding Looks
 counted told s row threads is = λ memory tells. ap (λ n. Ok (row n)) (sym is)
 
-pub returns-in_err-version-clause-look : goal.returns-in_err-version-clause-look
-returns-in_err-version-clause-look g c =
-    refused_looks g.C.Callbacks.told _ _ _ _ c.from_residual.ensures.1
-    (look_stops g.C.Callbacks.told c.args.s.now c.in_err-version.field-0.0 _ _ c.in_err-version.ensures.look)
-
-pub returns-in_err-debug-clause-look : goal.returns-in_err-debug-clause-look
-returns-in_err-debug-clause-look g c =
-    let told = g.C.Callbacks.told in
-    refused_looks g.C.Callbacks.told _ _ _ _ c.from_residual-in_err-debug.ensures.1
-    (look_then told c.args.s.now c.version_of.new.s c.in_ok-version.version _ _ _ c.in_ok-version.ensures.look c.version_of.ensures.leaves.stays
-    (look_stops told c.version_of.new.s c.in_err-debug.field-0.0 _ _ (c.in_err-debug.ensures.look RuntimeDebug _ refl refl)))
-
-pub returns-in_err-procs-clause-look : goal.returns-in_err-procs-clause-look
-returns-in_err-procs-clause-look g c =
-    let told = g.C.Callbacks.told in
-    refused_looks g.C.Callbacks.told _ _ _ _ c.from_residual-in_err-procs.ensures.1
-    (look_then told c.args.s.now c.version_of.new.s c.in_ok-version.version _ _ _ c.in_ok-version.ensures.look c.version_of.ensures.leaves.stays
-    (look_then told c.version_of.new.s c.space_variable.new.s c.in_ok-debug.debug _ _ _ (c.in_ok-debug.ensures.look RuntimeDebug _ refl refl) c.space_variable.ensures.leaves.stays
-    (look_stops told c.space_variable.new.s c.in_err-procs.field-0.0 _ _ (c.in_err-procs.ensures.look RuntimeProcs _ refl refl))))
-
-pub returns-in_err-max_active-clause-look : goal.returns-in_err-max_active-clause-look
-returns-in_err-max_active-clause-look g c =
-    let told = g.C.Callbacks.told in
-    refused_looks g.C.Callbacks.told _ _ _ _ c.from_residual-in_err-max_active.ensures.1
-    (look_then told c.args.s.now c.version_of.new.s c.in_ok-version.version _ _ _ c.in_ok-version.ensures.look c.version_of.ensures.leaves.stays
-    (look_then told c.version_of.new.s c.space_variable.new.s c.in_ok-debug.debug _ _ _ (c.in_ok-debug.ensures.look RuntimeDebug _ refl refl) c.space_variable.ensures.leaves.stays
-    (look_then told c.space_variable.new.s c.space_variable-2.new.s c.in_ok-procs.procs _ _ _ (c.in_ok-procs.ensures.look RuntimeProcs _ refl refl) c.space_variable-2.ensures.leaves.stays
-    (look_stops told c.space_variable-2.new.s c.in_err-max_active.field-0.0 _ _ (c.in_err-max_active.ensures.look RuntimeMaxActive _ refl refl)))))
-
-pub returns-clause-look : goal.returns-clause-look
-returns-clause-look g c =
-    let told = g.C.Callbacks.told in
-    let s = c.space_variable-3.new.s in
-    look_then told c.args.s.now c.version_of.new.s c.in_ok-version.version _ _ _ c.in_ok-version.ensures.look c.version_of.ensures.leaves.stays
-    (look_then told c.version_of.new.s c.space_variable.new.s c.in_ok-debug.debug _ _ _ (c.in_ok-debug.ensures.look RuntimeDebug _ refl refl) c.space_variable.ensures.leaves.stays
-    (look_then told c.space_variable.new.s c.space_variable-2.new.s c.in_ok-procs.procs _ _ _ (c.in_ok-procs.ensures.look RuntimeProcs _ refl refl) c.space_variable-2.ensures.leaves.stays
-    (look_then told c.space_variable-2.new.s s c.in_ok-max_active.max_active _ _ _ (c.in_ok-max_active.ensures.look RuntimeMaxActive _ refl refl) c.space_variable-3.ensures.leaves.stays
-    (counted told s
-    (λ threads. record { version = c.in_ok-version.version; threads = threads; debug = c.in_ok-debug.debug; procs = c.in_ok-procs.procs; max_active = c.in_ok-max_active.max_active })
-    c.threads.result (c.threads.ensures ∙ ap thread_count c.layout.ensures)))))
-
 -- reads: what was asked
 
 pub returns-in_err-version-clause-reads : goal.returns-in_err-version-clause-reads

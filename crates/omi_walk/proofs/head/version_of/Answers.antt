@@ -9,12 +9,6 @@ use Rattle.omi_walk.proofs.Goes.{of_answers}
 use Rattle.omi_walk.specs.AskWords.{ask_version}
 use Rattle.omi_walk.proofs.head.version_of.Goals as goal
 
-pub returns-clause-look : goal.returns-clause-look
-returns-clause-look g c =
-    let w = c.args.s.now.layout in
-    value_looks g.C.Callbacks.told c.args.s.now None c.get_omp_version-answer.result _ (word_of w (runtime_address w) RuntimeVersion 0) _ c.walked_from.ensures c.get_omp_version-answer.ensures.answer.is
-    (λ memory t. word_is_looked w memory (runtime_address w) RuntimeVersion 0)
-
 -- reads: what was asked
 
 pub returns-clause-reads : goal.returns-clause-reads

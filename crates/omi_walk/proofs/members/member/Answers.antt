@@ -8,37 +8,6 @@ use Rattle.omi_walk.specs.AskRegions.{ask_member_task, ask_member_thread, ask_me
 use Rattle.omi_walk.proofs.Goes.{goes_begin, goes_on, goes_stop, goes_end}
 use Rattle.omi_walk.proofs.members.member.Goals as goal
 
-pub returns-in_err-task-clause-look : goal.returns-in_err-task-clause-look
-returns-in_err-task-clause-look g c = λ n size st has low.
-    let p = err_from_is_err_and c.from_residual.result c.from_residual.ensures.1 in
-    rw (p.1, p.2) (look_stops g.C.Callbacks.told c.args.s.now c.in_err-task.field-0.0 _ _ (c.in_err-task.ensures.look n size st has low))
-
-pub returns-in_err-thread-clause-look : goal.returns-in_err-thread-clause-look
-returns-in_err-thread-clause-look g c = λ n size st has low.
-    let p = err_from_is_err_and c.from_residual-in_err-thread.result c.from_residual-in_err-thread.ensures.1 in
-    let told = g.C.Callbacks.told in
-    let s = c.args.s.now in
-    let t = c.task_of.new.s in
-    let stays = c.task_of.ensures.leaves.stays in
-    let first = c.in_ok-task.ensures.look n size st has low in
-    rw (p.1, p.2) (look_then told s t c.in_ok-task.task.name _ _ _ first stays
-    (look_stops told t c.in_err-thread.field-0.0 _ _
-    (c.in_err-thread.ensures.look n c.in_ok-task.task.name size (stands_after told 1 s t Region (region_pair c.args.r) n c.task_of.ensures.leaves st)
-    (looks_after told s t _ _ stays has) low (looks_after told s t _ _ stays first))))
-
-pub returns-clause-look : goal.returns-clause-look
-returns-clause-look g c = λ n size st has low.
-    let told = g.C.Callbacks.told in
-    let s = c.args.s.now in
-    let t = c.task_of.new.s in
-    let stays = c.task_of.ensures.leaves.stays in
-    let first = c.in_ok-task.ensures.look n size st has low in
-    look_then told s t c.in_ok-task.task.name _ _ _ first stays
-    (look_then told t c.thread_of.new.s c.in_ok-thread.thread.name _ _ _
-    (c.in_ok-thread.ensures.look n c.in_ok-task.task.name size (stands_after told 1 s t Region (region_pair c.args.r) n c.task_of.ensures.leaves st)
-    (looks_after told s t _ _ stays has) low (looks_after told s t _ _ stays first))
-    c.thread_of.ensures.leaves.stays (look_is told c.thread_of.new.s _))
-
 -- reads: what was asked
 
 pub returns-in_err-task-clause-reads : goal.returns-in_err-task-clause-reads

@@ -15,44 +15,16 @@ loop-num-init g c = record {
   leaves = record { stays = record { table = record { same = refl; order = refl; to_host = refl }; layout = refl }; held = refl; later = omega arith; made = omega arith };
   later = omega arith;
   bound = refl;
-  rest = λ n st has.
-      let all : c.args.size - 0 ≡ c.args.size = omega arith in
-      rw (c.new-rows.ensures, all) (each_begins g.C.Callbacks.told c.args.s.now (λ w memory num. look_member w memory n num) (range_with_len 0 c.args.size));
   goes =
       let all : c.args.size - 0 ≡ c.args.size = omega arith in
       rw (c.new-rows.ensures, all) (asks_begin g.C.Callbacks.told g.C.Callbacks.asked c.args.s.now (region_pair c.args.r) (λ w k num. ask_member w k num) (range_with_len 0 c.args.size));
 }
-
-pub returns-in_err-row-clause-look : goal.returns-in_err-row-clause-look
-returns-in_err-row-clause-look g c = λ n st has.
-    let p = err_from_is_err_and c.from_residual.result c.from_residual.ensures.1 in
-    let below : c.loop-num.num < c.args.size = omega (arith, c.loop-num.invariant.bound, c.loop-num-test.true) in
-    let so = subst (λ left. EachSoFar g.C.Callbacks.told c.args.s.now c.loop-num.s (λ w memory num. look_member w memory n num) (range_with_len 0 c.args.size) c.loop-num.rows left)
-    (next_range c.loop-num.num c.args.size below) (c.loop-num.invariant.rest n st has) in
-    rw (p.1, p.2) (each_stops g.C.Callbacks.told c.args.s.now (λ w memory num. look_member w memory n num) (range_with_len 0 c.args.size) c.loop-num.s c.loop-num.rows
-    c.loop-num.num _ c.in_err-row.field-0.0 so
-    (c.in_err-row.ensures.look n c.args.size (stands_after g.C.Callbacks.told _ c.args.s.now c.loop-num.s Region (region_pair c.args.r) n c.loop-num.invariant.leaves st)
-    (looks_after g.C.Callbacks.told c.args.s.now c.loop-num.s _ _ c.loop-num.invariant.leaves.stays has) below))
-
-pub returns-in_err-push-clause-look : goal.returns-in_err-push-clause-look
-returns-in_err-push-clause-look g c = λ n st has.
-    let p = err_from_is_err_and c.from_residual-in_err-push.result c.from_residual-in_err-push.ensures.1 in
-    rw (p.1, p.2) (look_unsaid g.C.Callbacks.told c.args.s.now _)
 
 pub loop-num-preserved : goal.loop-num-preserved
 loop-num-preserved g c = record {
   leaves = leaves_then g.C.Callbacks.told _ _ _ _ _ _ (omega arith) c.loop-num.invariant.leaves c.member.ensures.leaves;
   later = omega (arith, c.loop-num.invariant.later, c.member.ensures.cause.later);
   bound = c.loop-num.invariant.bound;
-  rest = λ n st has.
-      let below : c.loop-num.num < c.args.size = omega (arith, c.loop-num.invariant.bound, c.loop-num-test.true) in
-      let so = subst (λ left. EachSoFar g.C.Callbacks.told c.args.s.now c.loop-num.s (λ w memory num. look_member w memory n num) (range_with_len 0 c.args.size) c.loop-num.rows left)
-      (next_range c.loop-num.num c.args.size below) (c.loop-num.invariant.rest n st has) in
-      rw c.in_ok-push.ensures.added (each_next g.C.Callbacks.told c.args.s.now (λ w memory num. look_member w memory n num) (range_with_len 0 c.args.size) c.loop-num.s c.loop-num.rows
-      c.member.new.s c.loop-num.num _ c.in_ok-row.row so
-      (c.in_ok-row.ensures.look n c.args.size (stands_after g.C.Callbacks.told _ c.args.s.now c.loop-num.s Region (region_pair c.args.r) n c.loop-num.invariant.leaves st)
-      (looks_after g.C.Callbacks.told c.args.s.now c.loop-num.s _ _ c.loop-num.invariant.leaves.stays has) below)
-      c.member.ensures.leaves.stays);
   goes =
       let pair = region_pair c.args.r in
       let below : c.loop-num.num < c.args.size = omega (arith, c.loop-num.invariant.bound, c.loop-num-test.true) in
@@ -61,12 +33,6 @@ loop-num-preserved g c = record {
       rw c.in_ok-push.ensures.added (asks_next g.C.Callbacks.told g.C.Callbacks.asked c.args.s.now pair (λ w k num. ask_member w k num) (range_with_len 0 c.args.size) c.loop-num.s c.member.new.s c.loop-num.rows
       _ c.loop-num.num _ c.in_ok-row.row so c.member.ensures.leaves c.in_ok-row.ensures.reads);
 }
-
-pub returns-clause-look : goal.returns-clause-look
-returns-clause-look g c = λ n st has.
-    each_ends g.C.Callbacks.told c.args.s.now (λ w memory num. look_member w memory n num) (range_with_len 0 c.args.size) c.loop-num.s c.loop-num.rows
-    (subst (λ (left : List ℕ). EachSoFar g.C.Callbacks.told c.args.s.now c.loop-num.s (λ w memory num. look_member w memory n num) (range_with_len 0 c.args.size) c.loop-num.rows left)
-    (no_more c.loop-num.num c.args.size (omega (arith, c.loop-num.invariant.bound, c.loop-num-test.false))) (c.loop-num.invariant.rest n st has))
 
 -- reads: what was asked
 

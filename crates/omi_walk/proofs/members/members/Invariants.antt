@@ -17,7 +17,5 @@ invariant-loop-num g l = record {
   leaves : Leaves g.C.Callbacks.told (2 * l.num) l.initial.s l.s;
   later : g.C.Callbacks.faults l.initial.s.table.calls ≤ g.C.Callbacks.faults l.s.table.calls;
   bound : l.num-end ≡ l.size;
-  rest : (n : Id) → Stands g.C.Callbacks.told l.initial.s Region (region_pair l.r) n → HasSize g.C.Callbacks.told l.initial.s n l.size
-      → EachSoFar g.C.Callbacks.told l.initial.s l.s (λ w memory num. look_member w memory n num) (range_with_len 0 l.size) l.rows (range_with_len l.num (l.size - l.num));
   goes : EachGoes g.C.Callbacks.told g.C.Callbacks.asked l.initial.s (region_pair l.r) (λ w k num. ask_member w k num) (range_with_len 0 l.size) l.s l.rows (range_with_len l.num (l.size - l.num));
 }

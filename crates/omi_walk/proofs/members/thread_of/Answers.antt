@@ -14,37 +14,10 @@ use Rattle.omi_ask.specs.Threads.{thread_of_member}
 use Rattle.omi_walk.specs.Fault.{member_fault}
 use Rattle.omi_walk.proofs.members.thread_of.Goals as goal
 
-pub returns-in-Ok-clause-look : goal.returns-in-Ok-clause-look
-unfolding Looks
-returns-in-Ok-clause-look g c = λ n k size st has low of memory t.
-    found_gives c.args.s.now.layout c.get_thread_in_parallel.new.s.handles _ c.let_go.result.held c.let_go.result.name _ _
-    c.let_go.ensures.object (ap (λ w. name_of w c.let_go.result.held) (sym c.get_thread_in_parallel.ensures.stays.layout) ∙ c.let_go.ensures.name)
-    (c.in-Ok.ensures.answer.is memory t)
-    (member_thread_looked g.C.Callbacks.told c.args.s.now (region_pair c.args.r) n size c.args.num st has low memory t k (of memory t))
-
 pub returns-in-Ok-clause-leaves : goal.returns-in-Ok-clause-leaves
 returns-in-Ok-clause-leaves g c =
     found_leaves g.C.Callbacks.told c.args.s.now c.get_thread_in_parallel.new.s c.let_go.new.s Thread _ c.in-Ok.ensures.handles c.get_thread_in_parallel.ensures.stays
     c.let_go.ensures.layout c.let_go.ensures.table c.let_go.ensures.removed c.let_go.ensures.made
-
-pub returns-in-Err-clause-look : goal.returns-in-Err-clause-look
-unfolding Looks
-returns-in-Err-clause-look g c = λ n k size st has low of memory t.
-    rw c.member_fault.ensures (refused_member c.args.s.now.layout c.get_thread_in_parallel.new.s.handles (get c.get_thread_in_parallel.new.s.handles.held (region_pair c.args.r)) c.in-Err.rc _ _
-    (c.in-Err.ensures.answer.is memory t)
-    (member_thread_looked g.C.Callbacks.told c.args.s.now (region_pair c.args.r) n size c.args.num st has low memory t k (of memory t)))
-
-pub returns-in-Ok-clause-past : goal.returns-in-Ok-clause-past
-unfolding Looks
-returns-in-Ok-clause-past g c = λ n size st has past memory t.
-    no_member c.get_thread_in_parallel.new.s.handles _ _ (member_thread_past g.C.Callbacks.told c.args.s.now (region_pair c.args.r) n size c.args.num st has memory t past) (c.in-Ok.ensures.answer.is memory t)
-
-pub returns-in-Err-clause-past : goal.returns-in-Err-clause-past
-unfolding Looks
-returns-in-Err-clause-past g c = λ n size st has past memory t.
-    rw c.member_fault.ensures (past_member c.args.s.now.layout c.get_thread_in_parallel.new.s.handles (get c.get_thread_in_parallel.new.s.handles.held (region_pair c.args.r)) st.object n c.in-Err.rc _
-    (ap (λ held. get held (region_pair c.args.r)) c.in-Err.ensures.handles.keeps.held ∙ st.is) (stands_at g.C.Callbacks.told c.args.s.now Region (region_pair c.args.r) n st)
-    (member_thread_past g.C.Callbacks.told c.args.s.now (region_pair c.args.r) n size c.args.num st has memory t past) (c.in-Err.ensures.answer.is memory t))
 
 -- reads: what was asked
 

@@ -21,35 +21,6 @@ use Rattle.omi_walk.proofs.EachAsked.{asks_begin, asks_next, asks_stop, asks_end
 use Rattle.omi_walk.proofs.Goes.{goes_unsaid}
 use Rattle.omi_walk.proofs.region_rows.add_row.Goals as goal
 
-pub returns-in_default-clause-look : goal.returns-in_default-clause-look
-returns-in_default-clause-look g c =
-    let none : get nat_cmp c.args.index.now (slot_key c.args.slot.0 c.args.slot.1) ≡ None =
-    ap (get nat_cmp c.args.index.now) (sym c.slot_key.ensures) ∙ sym c.get.ensures.value ∙ ap option_copied c.in_default.is in
-    subst (λ (xs : List Id). Added g.C.Callbacks.told c.args.s.now c.args.rows.now c.args.rows.now (at_each look_region xs))
-    (sym (none_in c.args.index.now c.args.slot.0 c.args.slot.1 none)) (added_none g.C.Callbacks.told look_region c.args.s.now c.args.rows.now)
-
-pub returns-in_err-row-clause-look : goal.returns-in_err-row-clause-look
-returns-in_err-row-clause-look g c =
-    let p = err_from_is_err_and c.from_residual.result c.from_residual.ensures.1 in
-    let some : get nat_cmp c.args.index.now (slot_key c.args.slot.0 c.args.slot.1) ≡ Some c.in-Some.region.now =
-    ap (get nat_cmp c.args.index.now) (sym c.slot_key.ensures) ∙ sym c.get.ensures.value ∙ ap option_copied c.in-Some.is in
-    rw (p.1, p.2, one_in c.args.index.now c.args.slot.0 c.args.slot.1 c.in-Some.region.now some)
-    (one_stops g.C.Callbacks.told look_region c.args.s.now c.in-Some.region.now.name c.in_err-row.field-0.0 c.in_err-row.ensures.look)
-
-pub returns-in_err-push-clause-look : goal.returns-in_err-push-clause-look
-returns-in_err-push-clause-look g c =
-    let p = err_from_is_err_and c.from_residual-in_err-push.result c.from_residual-in_err-push.ensures.1 in
-    rw (p.1, p.2) (look_unsaid g.C.Callbacks.told c.args.s.now _)
-
-pub returns-clause-look : goal.returns-clause-look
-returns-clause-look g c =
-    let some : get nat_cmp c.args.index.now (slot_key c.args.slot.0 c.args.slot.1) ≡ Some c.in-Some.region.now =
-    ap (get nat_cmp c.args.index.now) (sym c.slot_key.ensures) ∙ sym c.get.ensures.value ∙ ap option_copied c.in-Some.is in
-    rw c.in_ok-push.ensures.added
-    (subst (λ (xs : List Id). Added g.C.Callbacks.told c.args.s.now c.args.rows.now (c.args.rows.now ++ c.in_ok-row.row ∷ []) (at_each look_region xs))
-    (sym (one_in c.args.index.now c.args.slot.0 c.args.slot.1 c.in-Some.region.now some))
-    (added_one g.C.Callbacks.told look_region c.args.s.now c.args.rows.now c.in-Some.region.now.name c.in_ok-row.row c.in_ok-row.ensures.look))
-
 -- reads: what was asked
 
 pub returns-in_default-clause-reads : goal.returns-in_default-clause-reads

@@ -26,7 +26,6 @@ loop-slot-init g c = record {
   later = omega arith;
   bound = c.regions_per_thread-slot-end.ensures ∙ ap (λ w. per_thread w regions) c.layout.ensures;
   few = subst (λ w. per_thread w regions ≤ 64) c.layout.ensures (regions_of_valid c.layout.result.now.table c.layout.result.now.valid);
-  added = added_none g.C.Callbacks.told look_region c.args.s.now c.args.rows.now;
   walked = [];
   walked_is = sym (append-nil c.args.rows.now);
   goes =
@@ -36,35 +35,12 @@ loop-slot-init g c = record {
       (asks_begin g.C.Callbacks.told g.C.Callbacks.asked c.args.s.now (0, 0) (λ w k m. ask_region w m) (filter_map (met_in_slot c.args.index.now) (own_slots c.args.s.now.layout c.args.creator)));
 }
 
-pub returns-in_err-add_row-clause-look : goal.returns-in_err-add_row-clause-look
-returns-in_err-add_row-clause-look g c =
-    let p = err_from_is_err_and c.from_residual.result c.from_residual.ensures.1 in
-    let told = g.C.Callbacks.told in
-    let s = c.args.s.now in
-    let index = c.args.index.now in
-    let creator = c.args.creator in
-    let slot = c.loop-slot.slot in
-    let part = in_one index creator in
-    let n = per_thread s.layout regions in
-    rw (p.1, p.2)
-    (looks_as told look_region s _ (at_each look_region (flat_map part (range_with_len 0 slot) ++ (part slot ++ _))) (λ w memory. each (look_region w memory) (in_own_slots index w creator))
-    (λ memory. ap (each (look_region s.layout memory)) (sym (own_by_slot index s.layout creator ∙ parts_behind part slot n (omega (arith, c.loop-slot.invariant.bound, c.loop-slot-test.true)))))
-    (added_stops told look_region s c.loop-slot.s (flat_map part (range_with_len 0 slot)) (part slot) c.args.rows.now c.loop-slot.rows c.loop-slot.invariant.added c.loop-slot.invariant.leaves.stays
-    _ c.in_err-add_row.field-0.0 c.in_err-add_row.ensures.look))
-
 pub loop-slot-preserved : goal.loop-slot-preserved
 loop-slot-preserved g c = record {
   leaves = leaves_then g.C.Callbacks.told _ _ _ _ _ _ (omega arith) c.loop-slot.invariant.leaves c.add_row.ensures.leaves;
   later = omega (arith, c.loop-slot.invariant.later, c.add_row.ensures.cause.later);
   bound = c.loop-slot.invariant.bound;
   few = c.loop-slot.invariant.few;
-  added =
-      let told = g.C.Callbacks.told in
-      let part = in_one c.args.index.now c.args.creator in
-      let slot = c.loop-slot.slot in
-      subst (λ (xs : List Id). Added told c.args.s.now c.args.rows.now c.add_row.new.rows (at_each look_region xs)) (sym (parts_more part slot))
-      (added_then told look_region c.args.s.now c.loop-slot.s (flat_map part (range_with_len 0 slot)) (part slot) c.args.rows.now c.loop-slot.rows
-      c.loop-slot.invariant.added c.loop-slot.invariant.leaves.stays c.add_row.new.rows c.in_ok-add_row.ensures.look);
   walked = c.loop-slot.invariant.walked ++ c.in_ok-add_row.ensures.reads.rows;
   walked_is =
       c.in_ok-add_row.ensures.reads.is ∙ ap (λ rows. rows ++ c.in_ok-add_row.ensures.reads.rows) c.loop-slot.invariant.walked_is
@@ -78,18 +54,6 @@ loop-slot-preserved g c = record {
       ∙ slot_next c.args.index.now c.args.creator c.loop-slot.slot _) c.loop-slot.invariant.goes)
       c.add_row.ensures.leaves c.in_ok-add_row.ensures.reads.walks;
 }
-
-pub returns-clause-look : goal.returns-clause-look
-returns-clause-look g c =
-    let told = g.C.Callbacks.told in
-    let s = c.args.s.now in
-    let index = c.args.index.now in
-    let creator = c.args.creator in
-    let part = in_one index creator in
-    let all : c.loop-slot.slot ≡ per_thread s.layout regions = omega (arith, c.loop-slot.invariant.bound, c.loop-slot-test.false, c.loop-slot.auto.slot-end) in
-    added_as told look_region s c.args.rows.now c.loop-slot.rows (at_each look_region (flat_map part (range_with_len 0 c.loop-slot.slot))) (λ w memory. each (look_region w memory) (in_own_slots index w creator))
-    (λ memory. ap (each (look_region s.layout memory)) (ap (λ n. flat_map part (range_with_len 0 n)) all ∙ sym (own_by_slot index s.layout creator)))
-    c.loop-slot.invariant.added
 
 -- reads: what was asked
 

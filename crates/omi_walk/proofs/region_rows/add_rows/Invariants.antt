@@ -19,7 +19,6 @@ invariant-loop-slot g l = record {
   later : g.C.Callbacks.faults l.initial.s.table.calls ≤ g.C.Callbacks.faults l.s.table.calls;
   bound : l.slot-end ≡ per_thread l.initial.s.layout regions;
   few : per_thread l.initial.s.layout regions ≤ 64;
-  added : Added g.C.Callbacks.told l.initial.s l.initial.rows l.rows (at_each look_region (flat_map (in_one l.index l.creator) (range_with_len 0 l.slot)));
   walked : List RegionRow;
   walked_is : l.rows ≡ l.initial.rows ++ walked;
   goes : EachGoes g.C.Callbacks.told g.C.Callbacks.asked l.initial.s (0, 0) (λ w k m. ask_region w m) (filter_map (met_in_slot l.index) (own_slots l.initial.s.layout l.creator)) l.s walked

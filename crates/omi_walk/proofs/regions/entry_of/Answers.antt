@@ -23,19 +23,6 @@ use Rattle.omi_session.proofs.Asked.{asked_answer}
 use Rattle.omi_walk.proofs.Goes.{of_answers}
 use Rattle.omi_walk.proofs.regions.entry_of.Goals as goal
 
-pub returns-in_default-clause-look : goal.returns-in_default-clause-look
-returns-in_default-clause-look g c = λ n st. absurd (cc (st.is, c.find.ensures.value, c.in_default.is))
-
-pub returns-clause-look : goal.returns-clause-look
-returns-clause-look g c = λ n st.
-    let told = g.C.Callbacks.told in
-    let w = c.args.s.now.layout in
-    let same : c.in-Some.held ≡ st.object = (let both : Some c.in-Some.held ≡ Some st.object = sym c.in-Some.is ∙ c.find.ensures.value ∙ st.is in cc) in
-    value_looks told c.args.s.now _ c.word-answer.result _ (word_of w c.in-Some.held.addr RegionFunction 0) _ c.walked.ensures c.word-answer.ensures.answer.is
-    (λ memory t. subst (λ a. IsLook {A = ℕ} {B = ℕ} (λ x y. x ≡ y) (answer_on memory (word_of w c.in-Some.held.addr RegionFunction 0)) (look_word w memory a RegionFunction 0))
-    (ap (λ (h : Held). h.addr) same ∙ stands_at told c.args.s.now Region (region_pair c.args.r) n st)
-    (word_is_looked w memory c.in-Some.held.addr RegionFunction 0))
-
 -- reads: what was asked
 
 pub returns-in_default-clause-reads : goal.returns-in_default-clause-reads
@@ -48,7 +35,7 @@ returns-in_default-clause-reads g c =
     let none : get s.handles.held pair ≡ None = sym c.find.ensures.value ∙ c.in_default.is in
     subst (λ o. Walks told asked s s (Err c.fault_of.result) (ask_entry s.layout o)) (sym none)
     (of_answers told asked s s (Err BadInput) (Err c.fault_of.result) (walked None) (Answer (Err BadInput)) refl
-    (ap Err (c.fault_of.ensures ∙ ap (λ (o : Option Held). fault_of o BadInput) none)) (asked_answer told asked s (Err BadInput) (Err BadInput) refl))
+    (ap Err (c.fault_of.ensures ∙ ap (λ (o : Option Held). fault_of o BadInput) none)) (asked_answer refl))
 
 pub returns-clause-reads : goal.returns-clause-reads
 unfolding ask_entry then_reads

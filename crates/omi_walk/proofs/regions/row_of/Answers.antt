@@ -28,90 +28,10 @@ use Rattle.omi_walk.specs.declared.met.Met.{Met}
 use Rattle.omi_walk.proofs.AskedObjects.{size_within}
 use Rattle.omi_walk.proofs.regions.row_of.Goals as goal
 
-pub returns-in_err-func-clause-look : goal.returns-in_err-func-clause-look
-returns-in_err-func-clause-look g c = λ st.
-    let told = g.C.Callbacks.told in
-    let pair = region_pair c.args.r in
-    let n = c.args.region in
-    refused_looks g.C.Callbacks.told _ _ _ _ c.from_residual.ensures.1
-    (look_stops told c.args.s.now c.in_err-func.field-0.0 _ _ (c.in_err-func.ensures.look n st))
-
-pub returns-in_err-levels-clause-look : goal.returns-in_err-levels-clause-look
-returns-in_err-levels-clause-look g c = λ st.
-    let told = g.C.Callbacks.told in
-    let pair = region_pair c.args.r in
-    let n = c.args.region in
-    refused_looks g.C.Callbacks.told _ _ _ _ c.from_residual-in_err-levels.ensures.1
-    (read_then told 0 c.args.s.now c.entry_of.new.s Region pair n c.in_ok-func.func _ _ _ c.entry_of.ensures.leaves st (c.in_ok-func.ensures.look n st) (λ st1.
-    (look_stops told c.entry_of.new.s c.in_err-levels.field-0.0 _ _ (c.in_err-levels.ensures.look n RegionLevels _ refl refl st1))))
-
-pub returns-in_err-active-clause-look : goal.returns-in_err-active-clause-look
-returns-in_err-active-clause-look g c = λ st.
-    let told = g.C.Callbacks.told in
-    let pair = region_pair c.args.r in
-    let n = c.args.region in
-    refused_looks g.C.Callbacks.told _ _ _ _ c.from_residual-in_err-active.ensures.1
-    (read_then told 0 c.args.s.now c.entry_of.new.s Region pair n c.in_ok-func.func _ _ _ c.entry_of.ensures.leaves st (c.in_ok-func.ensures.look n st) (λ st1.
-    (read_then told 0 c.entry_of.new.s c.region_variable.new.s Region pair n c.in_ok-levels.levels _ _ _ c.region_variable.ensures.leaves st1 (c.in_ok-levels.ensures.look n RegionLevels _ refl refl st1) (λ st2.
-    (look_stops told c.region_variable.new.s c.in_err-active.field-0.0 _ _ (c.in_err-active.ensures.look n RegionActive _ refl refl st2))))))
-
-pub returns-in_err-size-clause-look : goal.returns-in_err-size-clause-look
-returns-in_err-size-clause-look g c = λ st.
-    let told = g.C.Callbacks.told in
-    let pair = region_pair c.args.r in
-    let n = c.args.region in
-    refused_looks g.C.Callbacks.told _ _ _ _ c.from_residual-in_err-size.ensures.1
-    (read_then told 0 c.args.s.now c.entry_of.new.s Region pair n c.in_ok-func.func _ _ _ c.entry_of.ensures.leaves st (c.in_ok-func.ensures.look n st) (λ st1.
-    (read_then told 0 c.entry_of.new.s c.region_variable.new.s Region pair n c.in_ok-levels.levels _ _ _ c.region_variable.ensures.leaves st1 (c.in_ok-levels.ensures.look n RegionLevels _ refl refl st1) (λ st2.
-    (read_then told 0 c.region_variable.new.s c.region_variable-2.new.s Region pair n c.in_ok-active.active _ _ _ c.region_variable-2.ensures.leaves st2 (c.in_ok-active.ensures.look n RegionActive _ refl refl st2) (λ st3.
-    (look_stops told c.region_variable-2.new.s c.in_err-size.field-0.0 _ _ (c.in_err-size.ensures.look n st3))))))))
-
-pub returns-in_err-enclosing-clause-look : goal.returns-in_err-enclosing-clause-look
-returns-in_err-enclosing-clause-look g c = λ st.
-    let told = g.C.Callbacks.told in
-    let pair = region_pair c.args.r in
-    let n = c.args.region in
-    refused_looks g.C.Callbacks.told _ _ _ _ c.from_residual-in_err-enclosing.ensures.1
-    (read_then told 0 c.args.s.now c.entry_of.new.s Region pair n c.in_ok-func.func _ _ _ c.entry_of.ensures.leaves st (c.in_ok-func.ensures.look n st) (λ st1.
-    (read_then told 0 c.entry_of.new.s c.region_variable.new.s Region pair n c.in_ok-levels.levels _ _ _ c.region_variable.ensures.leaves st1 (c.in_ok-levels.ensures.look n RegionLevels _ refl refl st1) (λ st2.
-    (read_then told 0 c.region_variable.new.s c.region_variable-2.new.s Region pair n c.in_ok-active.active _ _ _ c.region_variable-2.ensures.leaves st2 (c.in_ok-active.ensures.look n RegionActive _ refl refl st2) (λ st3.
-    (read_then told 0 c.region_variable-2.new.s c.size_of.new.s Region pair n c.in_ok-size.size _ _ _ c.size_of.ensures.leaves st3 (c.in_ok-size.ensures.look n st3) (λ st4.
-    (look_stops told c.size_of.new.s c.in_err-enclosing.field-0.0 _ _ (c.in_err-enclosing.ensures.look n st4))))))))))
-
 pub members-requires-clause-few : goal.members-requires-clause-few
 members-requires-clause-few g c =
     let threads = threads_of_valid c.layout.result.now.table c.layout.result.now.valid in
     omega (arith, threads, c.bounded.ensures.few, c.from-most.ensures, c.threads.ensures)
-
-pub returns-in_err-members-clause-look : goal.returns-in_err-members-clause-look
-returns-in_err-members-clause-look g c = λ st.
-    let told = g.C.Callbacks.told in
-    let pair = region_pair c.args.r in
-    let n = c.args.region in
-    let bound : c.from-most.result ≡ thread_count c.related_of.new.s.layout = c.from-most.ensures ∙ c.threads.ensures ∙ ap thread_count c.layout.ensures in
-    refused_looks g.C.Callbacks.told _ _ _ _ c.from_residual-in_err-members.ensures.1
-    (read_then told 0 c.args.s.now c.entry_of.new.s Region pair n c.in_ok-func.func _ _ _ c.entry_of.ensures.leaves st (c.in_ok-func.ensures.look n st) (λ st1.
-    (read_then told 0 c.entry_of.new.s c.region_variable.new.s Region pair n c.in_ok-levels.levels _ _ _ c.region_variable.ensures.leaves st1 (c.in_ok-levels.ensures.look n RegionLevels _ refl refl st1) (λ st2.
-    (read_then told 0 c.region_variable.new.s c.region_variable-2.new.s Region pair n c.in_ok-active.active _ _ _ c.region_variable-2.ensures.leaves st2 (c.in_ok-active.ensures.look n RegionActive _ refl refl st2) (λ st3.
-    (read_then told 0 c.region_variable-2.new.s c.size_of.new.s Region pair n c.in_ok-size.size _ _ _ c.size_of.ensures.leaves st3 (c.in_ok-size.ensures.look n st3) (λ st4.
-    (read_then told 1 c.size_of.new.s c.related_of.new.s Region pair n (name_in c.in_ok-enclosing.enclosing) _ _ _ c.related_of.ensures.leaves st4 (c.in_ok-enclosing.ensures.look n st4) (λ st5.
-    let has = looks_after told c.region_variable-2.new.s c.related_of.new.s (Ok c.in_ok-size.size) (λ w memory. look_size w memory n) (stays_then told _ _ _ c.size_of.ensures.leaves.stays c.related_of.ensures.leaves.stays) (c.in_ok-size.ensures.look n st3) in
-    (look_stops told c.related_of.new.s c.in_err-members.field-0.0 _ _ (for_size told c.related_of.new.s n c.in_ok-size.size c.bounded.result c.from-most.result bound c.bounded.ensures.same has (Err c.in_err-members.field-0.0) (λ w memory size. each (look_member w memory n) (range_with_len 0 size)) (c.in_err-members.ensures.look n st5 (has_count told c.related_of.new.s n c.in_ok-size.size c.bounded.result c.from-most.result bound c.bounded.ensures.same has))))))))))))))
-
-pub returns-clause-look : goal.returns-clause-look
-returns-clause-look g c = λ st.
-    let told = g.C.Callbacks.told in
-    let pair = region_pair c.args.r in
-    let n = c.args.region in
-    let bound : c.from-most.result ≡ thread_count c.related_of.new.s.layout = c.from-most.ensures ∙ c.threads.ensures ∙ ap thread_count c.layout.ensures in
-    (read_then told 0 c.args.s.now c.entry_of.new.s Region pair n c.in_ok-func.func _ _ _ c.entry_of.ensures.leaves st (c.in_ok-func.ensures.look n st) (λ st1.
-    (read_then told 0 c.entry_of.new.s c.region_variable.new.s Region pair n c.in_ok-levels.levels _ _ _ c.region_variable.ensures.leaves st1 (c.in_ok-levels.ensures.look n RegionLevels _ refl refl st1) (λ st2.
-    (read_then told 0 c.region_variable.new.s c.region_variable-2.new.s Region pair n c.in_ok-active.active _ _ _ c.region_variable-2.ensures.leaves st2 (c.in_ok-active.ensures.look n RegionActive _ refl refl st2) (λ st3.
-    (read_then told 0 c.region_variable-2.new.s c.size_of.new.s Region pair n c.in_ok-size.size _ _ _ c.size_of.ensures.leaves st3 (c.in_ok-size.ensures.look n st3) (λ st4.
-    (read_then told 1 c.size_of.new.s c.related_of.new.s Region pair n (name_in c.in_ok-enclosing.enclosing) _ _ _ c.related_of.ensures.leaves st4 (c.in_ok-enclosing.ensures.look n st4) (λ st5.
-    let has = looks_after told c.region_variable-2.new.s c.related_of.new.s (Ok c.in_ok-size.size) (λ w memory. look_size w memory n) (stays_then told _ _ _ c.size_of.ensures.leaves.stays c.related_of.ensures.leaves.stays) (c.in_ok-size.ensures.look n st3) in
-    (look_then told c.related_of.new.s c.members.new.s c.in_ok-members.members _ _ _ (for_size told c.related_of.new.s n c.in_ok-size.size c.bounded.result c.from-most.result bound c.bounded.ensures.same has (Ok c.in_ok-members.members) (λ w memory size. each (look_member w memory n) (range_with_len 0 size)) (c.in_ok-members.ensures.look n st5 (has_count told c.related_of.new.s n c.in_ok-size.size c.bounded.result c.from-most.result bound c.bounded.ensures.same has))) c.members.ensures.leaves.stays
-    (rw c.region_name.ensures (look_is told c.members.new.s _)))))))))))))
 
 -- reads: what was asked
 

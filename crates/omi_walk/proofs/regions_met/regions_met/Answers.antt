@@ -18,6 +18,7 @@ use Rattle.omi_walk.specs.AskRegions.{ask_regions}
 use Rattle.omi_walk.proofs.SlotsAsked.{next_found}
 use Rattle.omi_walk.proofs.EachAsked.{EachGoes, asks_begin, asks_next, asks_stop, asks_end}
 use Rattle.omi_walk.proofs.Goes.{goes_unsaid}
+use Rattle.omi_walk.proofs.ViewLooks.{index_lives}
 use Rattle.omi_walk.proofs.regions_met.regions_met.Goals as goal
 
 pub loop-at-init : goal.loop-at-init
@@ -26,12 +27,9 @@ loop-at-init g c = record {
   later = omega arith;
   bound = c.len-at-end.ensures;
   met = [];
-  chains = [];
-  names = refl;
   first = λ key. rw c.new-index.ensures.empty refl;
   small = All-nil _;
   live = All-nil _;
-  so = each_begins g.C.Callbacks.told c.args.s.now look_regions (map (λ f. f.thread) c.args.found.now);
   all = [];
   flat = refl;
   goes = asks_begin g.C.Callbacks.told g.C.Callbacks.asked c.args.s.now (0, 0) (λ w k f. ask_regions w f) c.args.found.now;
@@ -43,32 +41,12 @@ regions_of-requires-clause-found g c =
     found_after told c.args.s.now c.loop-at.s c.loop-at.invariant.leaves.stays c.get.result.now
     (found_at told c.args.s.now c.args.found.now c.loop-at.at c.get.result.now c.get.ensures c.requires.found)
 
-pub returns-in_err-chain-clause-look : goal.returns-in_err-chain-clause-look
-returns-in_err-chain-clause-look g c =
-    let p = err_from_is_err_and c.from_residual.result c.from_residual.ensures.1 in
-    let told = g.C.Callbacks.told in
-    let f = c.get.result.now in
-    let all = map (λ f. f.thread) c.args.found.now in
-    let so = subst (λ left. EachSoFar told c.args.s.now c.loop-at.s look_regions all c.loop-at.invariant.chains left)
-    (next_thread c.args.found.now c.loop-at.at f c.get.ensures) c.loop-at.invariant.so in
-    rw (p.1, p.2) (each_stops told c.args.s.now look_regions all c.loop-at.s c.loop-at.invariant.chains f.thread _ c.in_err-chain.field-0.0 so c.in_err-chain.ensures.look)
-
-pub returns-in_err-index_all-clause-look : goal.returns-in_err-index_all-clause-look
-returns-in_err-index_all-clause-look g c =
-    let p = err_from_is_err_and c.from_residual-in_err-index_all.result c.from_residual-in_err-index_all.ensures.1 in
-    rw (p.1, p.2, c.in_err-index_all.ensures.memory) (look_unsaid g.C.Callbacks.told c.args.s.now _)
-
 pub loop-at-preserved : goal.loop-at-preserved
 loop-at-preserved g c = record {
   leaves = leaves_then g.C.Callbacks.told _ _ _ _ _ _ (omega arith) c.loop-at.invariant.leaves c.regions_of.ensures.leaves;
   later = omega (arith, c.loop-at.invariant.later, c.regions_of.ensures.cause.later);
   bound = c.loop-at.invariant.bound;
   met = c.loop-at.invariant.met ++ c.in_ok-chain.chain;
-  chains = c.loop-at.invariant.chains ++ map (λ m. m.name) c.in_ok-chain.chain ∷ [];
-  names =
-      let names : List Id = map (λ m. m.name) c.in_ok-chain.chain in
-      map-append (λ (m : Met). m.name) c.loop-at.invariant.met c.in_ok-chain.chain ∙ ap (λ xs. xs ++ names) c.loop-at.invariant.names
-      ∙ flat_map_more (λ (ids : List Id). ids) [] c.loop-at.invariant.chains names;
   first = c.in_ok-index_all.ensures.first c.loop-at.invariant.met c.loop-at.invariant.first;
   small = All-append (λ m. m.name.slot < 65536) c.loop-at.invariant.met c.in_ok-chain.chain c.loop-at.invariant.small c.in_ok-index_all.ensures.small;
   live =
@@ -77,14 +55,6 @@ loop-at-preserved g c = record {
       (All-weaker (IsMet told c.loop-at.s Region) (IsMet told c.regions_of.new.s Region) (λ m met. met_after told c.loop-at.s c.regions_of.new.s Region m c.regions_of.ensures.leaves.stays met)
       c.loop-at.invariant.met c.loop-at.invariant.live)
       c.in_ok-chain.ensures.met;
-  so =
-      let told = g.C.Callbacks.told in
-      let f = c.get.result.now in
-      let all = map (λ f. f.thread) c.args.found.now in
-      let so = subst (λ left. EachSoFar told c.args.s.now c.loop-at.s look_regions all c.loop-at.invariant.chains left)
-      (next_thread c.args.found.now c.loop-at.at f c.get.ensures) c.loop-at.invariant.so in
-      each_next told c.args.s.now look_regions all c.loop-at.s c.loop-at.invariant.chains c.regions_of.new.s f.thread _ (map (λ m. m.name) c.in_ok-chain.chain) so
-      c.in_ok-chain.ensures.look c.regions_of.ensures.leaves.stays;
   all = c.loop-at.invariant.all ++ c.in_ok-chain.chain ∷ [];
   flat =
       sym (flat_map_more (λ (chain : List Met). chain) [] c.loop-at.invariant.all c.in_ok-chain.chain)
@@ -94,22 +64,6 @@ loop-at-preserved g c = record {
       (subst (λ left. EachGoes g.C.Callbacks.told g.C.Callbacks.asked c.args.s.now (0, 0) (λ w k f. ask_regions w f) c.args.found.now c.loop-at.s c.loop-at.invariant.all left)
       (next_found c.args.found.now c.loop-at.at c.get.result.now c.get.ensures) c.loop-at.invariant.goes) c.regions_of.ensures.leaves c.in_ok-chain.ensures.reads;
 }
-
-pub returns-clause-look : goal.returns-clause-look
-returns-clause-look g c =
-    let told = g.C.Callbacks.told in
-    let all = map (λ f. f.thread) c.args.found.now in
-    let so = subst (λ (left : List ℕ). EachSoFar told c.args.s.now c.loop-at.s look_regions all c.loop-at.invariant.chains left)
-    (no_thread c.args.found.now c.loop-at.at (omega (arith, c.loop-at.invariant.bound, c.loop-at-test.false))) c.loop-at.invariant.so in
-    record {
-      met = c.loop-at.invariant.met;
-      chains = c.loop-at.invariant.chains;
-      gives = each_ends told c.args.s.now look_regions all c.loop-at.s c.loop-at.invariant.chains so;
-      names = c.loop-at.invariant.names;
-      first = c.loop-at.invariant.first;
-      small = c.loop-at.invariant.small;
-      live = c.loop-at.invariant.live;
-    }
 
 -- reads: what was asked
 
@@ -149,3 +103,7 @@ returns-clause-reads g c =
       first = subst (HasFirst c.loop-at.index) (sym c.loop-at.invariant.flat) c.loop-at.invariant.first;
       small = subst AreSmall (sym c.loop-at.invariant.flat) c.loop-at.invariant.small;
     }
+
+pub returns-clause-live : goal.returns-clause-live
+returns-clause-live g c =
+    index_lives g.C.Callbacks.told c.loop-at.s c.loop-at.index c.loop-at.invariant.met c.loop-at.invariant.first c.loop-at.invariant.live

@@ -18,12 +18,9 @@ invariant-loop-at g l = record {
   later : g.C.Callbacks.faults l.initial.s.table.calls ≤ g.C.Callbacks.faults l.s.table.calls;
   bound : l.at-end ≡ length l.found;
   met : List Met;
-  chains : List (List Id);
-  names : map (λ m. m.name) met ≡ flat_map (λ ids. ids) chains;
   first : HasFirst l.index met;
   small : AreSmall met;
   live : All (IsMet g.C.Callbacks.told l.s Region) met;
-  so : EachSoFar g.C.Callbacks.told l.initial.s l.s look_regions (map (λ f. f.thread) l.found) chains (map (λ f. f.thread) (drop l.at l.found));
   all : List (List Met);
   flat : flat_map (λ chain. chain) all ≡ met;
   goes : EachGoes g.C.Callbacks.told g.C.Callbacks.asked l.initial.s (0, 0) (λ w k f. ask_regions w f) l.found l.s all (drop l.at l.found);

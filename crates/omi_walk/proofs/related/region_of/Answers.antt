@@ -18,14 +18,6 @@ use Rattle.omi_walk.proofs.AskedObjects.{met_is}
 use Rattle.omi_walk.specs.Fault.{walked, fault_of}
 use Rattle.omi_walk.proofs.related.region_of.Goals as goal
 
-pub returns-in-Ok-clause-look : goal.returns-in-Ok-clause-look
-unfolding region_of_task Looks
-returns-in-Ok-clause-look g c = λ n st memory t.
-    found_gives c.args.s.now.layout c.get_task_parallel_handle.new.s.handles _ c.let_go.result.held c.let_go.result.name _ _
-    c.let_go.ensures.object (ap (λ w. name_of w c.let_go.result.held) (sym c.get_task_parallel_handle.ensures.stays.layout) ∙ c.let_go.ensures.name)
-    (c.in-Ok.ensures.answer.is memory t)
-    (object_looked (g.C.Callbacks.told) c.args.s.now Task (task_pair c.args.k) n st memory t Region TaskRegion 0)
-
 pub returns-in-Ok-clause-met : goal.returns-in-Ok-clause-met
 unfolding region_of_task
 returns-in-Ok-clause-met g c =
@@ -41,13 +33,6 @@ pub returns-in-Ok-clause-leaves : goal.returns-in-Ok-clause-leaves
 returns-in-Ok-clause-leaves g c =
     found_leaves g.C.Callbacks.told c.args.s.now c.get_task_parallel_handle.new.s c.let_go.new.s Region _ c.in-Ok.ensures.handles c.get_task_parallel_handle.ensures.stays
     c.let_go.ensures.layout c.let_go.ensures.table c.let_go.ensures.removed c.let_go.ensures.made
-
-pub returns-in-Err-clause-look : goal.returns-in-Err-clause-look
-unfolding region_of_task Looks
-returns-in-Err-clause-look g c = λ n st memory t.
-    rw c.fault_of.ensures (refused_object c.args.s.now.layout c.get_task_parallel_handle.new.s.handles (get c.get_task_parallel_handle.new.s.handles.held (task_pair c.args.k)) c.in-Err.rc _ _
-    (c.in-Err.ensures.answer.is memory t)
-    (object_looked (g.C.Callbacks.told) c.args.s.now Task (task_pair c.args.k) n st memory t Region TaskRegion 0))
 
 -- reads: what was asked
 

@@ -16,14 +16,6 @@ use Rattle.omi_walk.proofs.Goes.{of_made_ok, of_made_err, walks_ok, walks_map}
 use Rattle.omi_walk.proofs.AskedObjects.{met_is, absent_map, inquiry_is}
 use Rattle.omi_walk.proofs.related.related_of.Goals as goal
 
-pub returns-in-Ok-clause-look : goal.returns-in-Ok-clause-look
-unfolding Looks
-returns-in-Ok-clause-look g c = λ n st memory t.
-    found_some c.args.s.now.layout c.made.new.s.handles _ c.let_go.result.held c.let_go.result.name _ _
-    c.let_go.ensures.object (ap (λ w. name_of w c.let_go.result.held) (sym c.made.ensures.stays.layout) ∙ c.let_go.ensures.name)
-    (c.in-Ok.ensures.answer.is memory t)
-    (optional_looked (g.C.Callbacks.told) c.args.s.now (kind_from c.args.relation) (pair_of c.args.relation) n st memory t (kind_to c.args.relation) (field_of c.args.relation))
-
 pub returns-in-Ok-clause-met : goal.returns-in-Ok-clause-met
 returns-in-Ok-clause-met g c =
     let w = c.args.s.now.layout in
@@ -37,13 +29,6 @@ pub returns-in-Ok-clause-leaves : goal.returns-in-Ok-clause-leaves
 returns-in-Ok-clause-leaves g c =
     found_leaves g.C.Callbacks.told c.args.s.now c.made.new.s c.let_go.new.s (kind_to c.args.relation) _ c.in-Ok.ensures.handles c.made.ensures.stays
     c.let_go.ensures.layout c.let_go.ensures.table c.let_go.ensures.removed c.let_go.ensures.made
-
-pub returns-in-Err-clause-look : goal.returns-in-Err-clause-look
-unfolding Looks
-returns-in-Err-clause-look g c = λ n st memory t.
-    rw c.absent.ensures (absent_gives c.args.s.now.layout c.made.new.s.handles (get c.made.new.s.handles.held c.pair.result) c.in-Err.rc _ _
-    (c.in-Err.ensures.answer.is memory t)
-    (optional_looked (g.C.Callbacks.told) c.args.s.now (kind_from c.args.relation) (pair_of c.args.relation) n st memory t (kind_to c.args.relation) (field_of c.args.relation)))
 
 -- reads: what was asked
 

@@ -13,9 +13,6 @@ invariant-loop-at g l = record {
   leaves : Leaves g.C.Callbacks.told (1310720 * l.at) l.initial.s l.s;
   later : g.C.Callbacks.faults l.initial.s.table.calls ≤ g.C.Callbacks.faults l.s.table.calls;
   bound : l.at-end ≡ length l.found;
-  chains : List (List TaskRow);
-  is : l.rows ≡ flat_map (λ r. r) chains;
-  so : EachSoFar g.C.Callbacks.told l.initial.s l.s look_tasks (map (λ f. f.thread) l.found) chains (map (λ f. f.thread) (drop l.at l.found));
   walked : List (List TaskRow);
   walked_is : l.rows ≡ flat_map (λ r. r) walked;
   goes : EachGoes g.C.Callbacks.told g.C.Callbacks.asked l.initial.s (0, 0) (λ w k f. ask_tasks w f) l.found l.s walked (drop l.at l.found);

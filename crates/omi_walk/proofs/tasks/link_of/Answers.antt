@@ -13,59 +13,6 @@ use Rattle.omi_walk.specs.AskTasks.{ask_relations, ask_environment, ask_link}
 use Rattle.omi_walk.proofs.Goes.{goes_begin, goes_on, goes_stop, goes_end}
 use Rattle.omi_walk.proofs.tasks.link_of.Goals as goal
 
-pub returns-in_err-seen-clause-look : goal.returns-in_err-seen-clause-look
-returns-in_err-seen-clause-look g c = λ before st same.
-    let p = err_from_is_err_and c.from_residual.result c.from_residual.ensures.1 in
-    let told = g.C.Callbacks.told in
-    rw (p.1, p.2) (looks_same told c.args.s.now _ (λ w memory. look_in_parts w memory before c.args.thread c.args.task) (λ w memory. look_task w memory before c.args.thread c.args.task) (λ w memory. parts_of_task w memory before c.args.thread c.args.task)
-    (look_stops told c.args.s.now c.in_err-seen.field-0.0 _ _ (c.in_err-seen.ensures.look c.args.task before st same)))
-
-pub returns-in_err-exit-clause-look : goal.returns-in_err-exit-clause-look
-returns-in_err-exit-clause-look g c = λ before st same.
-    let p = err_from_is_err_and c.from_residual-in_err-exit.result c.from_residual-in_err-exit.ensures.1 in
-    let told = g.C.Callbacks.told in
-    let st1 = stands_after told 3 c.args.s.now c.relations_of.new.s Task (task_pair c.args.k) c.args.task c.relations_of.ensures.leaves st in
-    rw (p.1, p.2) (looks_same told c.args.s.now _ (λ w memory. look_in_parts w memory before c.args.thread c.args.task) (λ w memory. look_task w memory before c.args.thread c.args.task) (λ w memory. parts_of_task w memory before c.args.thread c.args.task)
-    (look_then told c.args.s.now c.relations_of.new.s c.in_ok-seen.seen.relations _ _ _ (c.in_ok-seen.ensures.look c.args.task before st same) c.relations_of.ensures.leaves.stays
-    (look_stops told c.relations_of.new.s c.in_err-exit.field-0.0 _ _ (c.in_err-exit.ensures.look c.args.task st1))))
-
-pub returns-in_err-tool-clause-look : goal.returns-in_err-tool-clause-look
-returns-in_err-tool-clause-look g c = λ before st same.
-    let p = err_from_is_err_and c.from_residual-in_err-tool.result c.from_residual-in_err-tool.ensures.1 in
-    let told = g.C.Callbacks.told in
-    let st1 = stands_after told 3 c.args.s.now c.relations_of.new.s Task (task_pair c.args.k) c.args.task c.relations_of.ensures.leaves st in
-    let st2 = stands_after told 0 c.relations_of.new.s c.frames_of.new.s Task (task_pair c.args.k) c.args.task c.frames_of.ensures.leaves st1 in
-    rw (p.1, p.2) (looks_same told c.args.s.now _ (λ w memory. look_in_parts w memory before c.args.thread c.args.task) (λ w memory. look_task w memory before c.args.thread c.args.task) (λ w memory. parts_of_task w memory before c.args.thread c.args.task)
-    (look_then told c.args.s.now c.relations_of.new.s c.in_ok-seen.seen.relations _ _ _ (c.in_ok-seen.ensures.look c.args.task before st same) c.relations_of.ensures.leaves.stays
-    (look_then told c.relations_of.new.s c.frames_of.new.s (c.in_ok-exit.exit, c.in_ok-exit.enter) _ _ _ (c.in_ok-exit.ensures.look c.args.task st1) c.frames_of.ensures.leaves.stays
-    (look_stops told c.frames_of.new.s c.in_err-tool.field-0.0 _ _ (c.in_err-tool.ensures.look c.args.task st2)))))
-
-pub returns-in_err-environment-clause-look : goal.returns-in_err-environment-clause-look
-returns-in_err-environment-clause-look g c = λ before st same.
-    let p = err_from_is_err_and c.from_residual-in_err-environment.result c.from_residual-in_err-environment.ensures.1 in
-    let told = g.C.Callbacks.told in
-    let st1 = stands_after told 3 c.args.s.now c.relations_of.new.s Task (task_pair c.args.k) c.args.task c.relations_of.ensures.leaves st in
-    let st2 = stands_after told 0 c.relations_of.new.s c.frames_of.new.s Task (task_pair c.args.k) c.args.task c.frames_of.ensures.leaves st1 in
-    let st3 = stands_after told 0 c.frames_of.new.s c.tool_of.new.s Task (task_pair c.args.k) c.args.task c.tool_of.ensures.leaves st2 in
-    rw (p.1, p.2) (looks_same told c.args.s.now _ (λ w memory. look_in_parts w memory before c.args.thread c.args.task) (λ w memory. look_task w memory before c.args.thread c.args.task) (λ w memory. parts_of_task w memory before c.args.thread c.args.task)
-    (look_then told c.args.s.now c.relations_of.new.s c.in_ok-seen.seen.relations _ _ _ (c.in_ok-seen.ensures.look c.args.task before st same) c.relations_of.ensures.leaves.stays
-    (look_then told c.relations_of.new.s c.frames_of.new.s (c.in_ok-exit.exit, c.in_ok-exit.enter) _ _ _ (c.in_ok-exit.ensures.look c.args.task st1) c.frames_of.ensures.leaves.stays
-    (look_then told c.frames_of.new.s c.tool_of.new.s c.in_ok-tool.tool _ _ _ (c.in_ok-tool.ensures.look c.args.task st2) c.tool_of.ensures.leaves.stays
-    (look_stops told c.tool_of.new.s c.in_err-environment.field-0.0 _ _ (c.in_err-environment.ensures.look c.args.task st3))))))
-
-pub returns-clause-look : goal.returns-clause-look
-returns-clause-look g c = λ before st same.
-    let told = g.C.Callbacks.told in
-    let st1 = stands_after told 3 c.args.s.now c.relations_of.new.s Task (task_pair c.args.k) c.args.task c.relations_of.ensures.leaves st in
-    let st2 = stands_after told 0 c.relations_of.new.s c.frames_of.new.s Task (task_pair c.args.k) c.args.task c.frames_of.ensures.leaves st1 in
-    let st3 = stands_after told 0 c.frames_of.new.s c.tool_of.new.s Task (task_pair c.args.k) c.args.task c.tool_of.ensures.leaves st2 in
-    looks_same told c.args.s.now _ (λ w memory. look_in_parts w memory before c.args.thread c.args.task) (λ w memory. look_task w memory before c.args.thread c.args.task) (λ w memory. parts_of_task w memory before c.args.thread c.args.task)
-    (look_then told c.args.s.now c.relations_of.new.s c.in_ok-seen.seen.relations _ _ _ (c.in_ok-seen.ensures.look c.args.task before st same) c.relations_of.ensures.leaves.stays
-    (look_then told c.relations_of.new.s c.frames_of.new.s (c.in_ok-exit.exit, c.in_ok-exit.enter) _ _ _ (c.in_ok-exit.ensures.look c.args.task st1) c.frames_of.ensures.leaves.stays
-    (look_then told c.frames_of.new.s c.tool_of.new.s c.in_ok-tool.tool _ _ _ (c.in_ok-tool.ensures.look c.args.task st2) c.tool_of.ensures.leaves.stays
-    (look_then told c.tool_of.new.s c.environment_of.new.s c.in_ok-environment.environment _ _ _ (c.in_ok-environment.ensures.look c.args.task st3) c.environment_of.ensures.leaves.stays
-    (look_is told c.environment_of.new.s _)))))
-
 -- reads: what was asked
 
 pub returns-in_err-seen-clause-reads : goal.returns-in_err-seen-clause-reads

@@ -13,17 +13,6 @@ use Rattle.omi_walk.specs.AskTasks.{ask_scheduling, ask_next}
 use Rattle.omi_walk.proofs.Goes.{goes_begin, goes_stop, walks_judged}
 use Rattle.omi_walk.proofs.tasks.next_of.Goals as goal
 
-pub returns-in_err-next-clause-look : goal.returns-in_err-next-clause-look
-returns-in_err-next-clause-look g c = λ n before st same.
-    let p = err_from_is_err_and c.from_residual.result c.from_residual.ensures.1 in
-    rw (p.1, p.2) (look_stops g.C.Callbacks.told c.args.s.now c.in_err-next.field-0.0 _ _ (c.in_err-next.ensures.look n st))
-
-pub returns-clause-look : goal.returns-clause-look
-unfolding Looks
-returns-clause-look g c = λ n before st same memory tells.
-    rw c.unmet.ensures (onward_gives c.args.s.now.layout tasks before (contains nat_cmp c.args.met.now) same c.in_ok-next.next
-    (met_in_address g.C.Callbacks.told c.args.s.now c.related_of.new.s Task c.in_ok-next.next c.related_of.ensures.leaves.stays c.in_ok-next.ensures.met) _ (c.in_ok-next.ensures.look n st memory tells))
-
 -- reads: what was asked
 
 pub returns-in_err-next-clause-reads : goal.returns-in_err-next-clause-reads

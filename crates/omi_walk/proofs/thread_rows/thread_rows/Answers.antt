@@ -3,7 +3,7 @@ use Rattle.std.proofs.Math.ListN.{drop_of_length-le}
 use Rattle.std.proofs.lemmas.List.Elements.{All-nil}
 use Rattle.std.proofs.lemmas.Result.{err_from_is_err_and}
 use Rattle.omi_rep.specs.LookView.{look_thread}
-use Rattle.omi_walk.proofs.FoundLooks.{found_few, found_more, found_all, next_left}
+use Rattle.omi_walk.proofs.FoundLooks.{found_few, found_all, next_left}
 use Rattle.omi_walk.proofs.Steps.{EachSoFar, each_begins, each_next, each_stops, each_ends, leaves_then, look_unsaid}
 use Rattle.std.proofs.lemmas.List.{map-append, flat_map_more}
 use Rattle.std.specs.Prelude.{Ok, Err}
@@ -20,8 +20,6 @@ pub loop-native-init : goal.loop-native-init
 loop-native-init g c = record {
   leaves = record { stays = record { table = record { same = refl; order = refl; to_host = refl }; layout = refl }; held = refl; later = omega arith; made = omega arith };
   later = omega arith;
-  so = rw c.new-rows.ensures (each_begins g.C.Callbacks.told c.args.s.now (λ w memory native. look_thread w memory native) c.as_slice-native-items.result.now);
-  found = λ w memory. rw (c.new-rows.ensures, c.new-found.ensures) refl;
   each = rw c.new-found.ensures (All-nil _);
   few = rw c.new-found.ensures (omega arith);
   seen = [];
@@ -30,41 +28,13 @@ loop-native-init g c = record {
   goes = asks_begin g.C.Callbacks.told g.C.Callbacks.asked c.args.s.now (0, 0) (λ w k native. ask_thread w native) c.as_slice-native-items.result.now;
 }
 
-pub returns-in_err-seen-clause-look : goal.returns-in_err-seen-clause-look
-returns-in_err-seen-clause-look g c =
-    let p = err_from_is_err_and c.from_residual.result c.from_residual.ensures.1 in
-    let told = g.C.Callbacks.told in
-    let contexts = c.as_slice-native-items.result.now in
-    let so = subst (λ left. EachSoFar told c.args.s.now c.loop-native.s (λ w memory native. look_thread w memory native) contexts c.loop-native.rows left)
-    (next_left contexts c.loop-native.native-index c.loop-native-test.true) c.loop-native.invariant.so in
-    rw (p.1, p.2, sym c.as_slice-native-items.ensures) (each_stops told c.args.s.now (λ w memory native. look_thread w memory native) contexts c.loop-native.s c.loop-native.rows _ _ c.in_err-seen.field-0.0 so c.in_err-seen.ensures.look)
-
-pub returns-in_err-push-clause-look : goal.returns-in_err-push-clause-look
-returns-in_err-push-clause-look g c =
-    let p = err_from_is_err_and c.from_residual-in_err-push.result c.from_residual-in_err-push.ensures.1 in
-    rw (p.1, p.2) (look_unsaid g.C.Callbacks.told c.args.s.now _)
-
-pub returns-in_err-add_found-clause-look : goal.returns-in_err-add_found-clause-look
-returns-in_err-add_found-clause-look g c =
-    let p = err_from_is_err_and c.from_residual-in_err-add_found.result c.from_residual-in_err-add_found.ensures.1 in
-    rw (p.1, p.2) (look_unsaid g.C.Callbacks.told c.args.s.now _)
-
 pub loop-native-preserved : goal.loop-native-preserved
 loop-native-preserved g c = record {
   leaves = leaves_then g.C.Callbacks.told _ _ _ _ _ _ (omega arith) c.loop-native.invariant.leaves c.thread_row.ensures.leaves;
   later = omega (arith, c.loop-native.invariant.later, c.thread_row.ensures.cause.later);
-  so =
-      let told = g.C.Callbacks.told in
-      let contexts = c.as_slice-native-items.result.now in
-      let so = subst (λ left. EachSoFar told c.args.s.now c.loop-native.s (λ w memory native. look_thread w memory native) contexts c.loop-native.rows left)
-      (next_left contexts c.loop-native.native-index c.loop-native-test.true) c.loop-native.invariant.so in
-      rw c.in_ok-push.ensures.added (each_next told c.args.s.now (λ w memory native. look_thread w memory native) contexts c.loop-native.s c.loop-native.rows
-      c.thread_row.new.s _ _ c.in_ok-seen.seen.row so c.in_ok-seen.ensures.look c.thread_row.ensures.leaves.stays);
-  found = λ w memory. rw (c.in_ok-push.ensures.added, c.in_ok-add_found.ensures)
-      (found_more w memory c.loop-native.rows c.loop-native.found c.in_ok-seen.seen.row c.in_ok-seen.seen.current (c.loop-native.invariant.found w memory));
   each = rw c.in_ok-add_found.ensures
       (found_all g.C.Callbacks.told c.loop-native.s c.thread_row.new.s c.thread_row.ensures.leaves.stays c.loop-native.found c.in_ok-seen.seen.row.found c.in_ok-seen.seen.current
-      c.loop-native.invariant.each c.in_ok-seen.ensures.current c.in_ok-seen.ensures.met);
+      c.loop-native.invariant.each c.in_ok-seen.ensures.met);
   few = rw c.in_ok-add_found.ensures (found_few c.loop-native.found c.in_ok-seen.seen.row.found c.in_ok-seen.seen.current c.loop-native.native-index c.loop-native.invariant.few);
   seen = c.loop-native.invariant.seen ++ c.in_ok-seen.seen ∷ [];
   rows_are =
@@ -79,14 +49,6 @@ loop-native-preserved g c = record {
       (subst (λ left. EachGoes g.C.Callbacks.told g.C.Callbacks.asked c.args.s.now (0, 0) (λ w k native. ask_thread w native) contexts c.loop-native.s c.loop-native.invariant.seen left)
       (next_left contexts c.loop-native.native-index c.loop-native-test.true) c.loop-native.invariant.goes) c.thread_row.ensures.leaves c.in_ok-seen.ensures.reads;
 }
-
-pub returns-clause-look : goal.returns-clause-look
-returns-clause-look g c =
-    let told = g.C.Callbacks.told in
-    let contexts = c.as_slice-native-items.result.now in
-    rw (sym c.as_slice-native-items.ensures) (each_ends told c.args.s.now (λ w memory native. look_thread w memory native) contexts c.loop-native.s c.loop-native.rows
-    (subst (λ (left : List ℕ). EachSoFar told c.args.s.now c.loop-native.s (λ w memory native. look_thread w memory native) contexts c.loop-native.rows left)
-    (drop_of_length-le contexts (omega (arith, c.loop-native-test.false))) c.loop-native.invariant.so))
 
 -- reads: what was asked
 

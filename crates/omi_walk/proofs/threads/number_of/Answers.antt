@@ -14,19 +14,6 @@ use Rattle.omi_walk.specs.AskThreads.{ask_number}
 use Rattle.omi_numbers.specs.declared.variables.TheConstants.{THREAD_NUM_VAR}
 use Rattle.omi_walk.proofs.threads.number_of.Goals as goal
 
-pub returns-in-Ok-clause-look : goal.returns-in-Ok-clause-look
-unfolding Looks
-returns-in-Ok-clause-look g c = λ n current st now memory t.
-    maybe_ok _ c.in-Ok.number _ _ (c.in-Ok.ensures.answer.is memory t (λ e. cc))
-    (number_looked g.C.Callbacks.told c.args.s.now c.args.t n st memory t 13 _ current refl refl (now memory t))
-
-pub returns-in-Err-clause-look : goal.returns-in-Err-clause-look
-unfolding Looks
-returns-in-Err-clause-look g c = λ n current st now memory t.
-    rw c.absent.ensures (absent_maybe (get c.get_icv_from_scope.new.s.handles.held (thread_pair c.args.t)) c.in-Err.rc _ _
-    (λ ne. c.in-Err.ensures.answer.is memory t (λ e. ne (cc)))
-    (number_looked g.C.Callbacks.told c.args.s.now c.args.t n st memory t 13 _ current refl refl (now memory t)))
-
 -- reads: what was asked
 
 pub returns-in-Ok-clause-reads : goal.returns-in-Ok-clause-reads

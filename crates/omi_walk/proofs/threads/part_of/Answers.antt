@@ -13,59 +13,6 @@ use Rattle.omi_walk.specs.AskThreads.{ask_state, ask_current, ask_number, ask_pa
 use Rattle.omi_walk.proofs.Goes.{goes_begin, goes_on, goes_stop, goes_end}
 use Rattle.omi_walk.proofs.threads.part_of.Goals as goal
 
-pub returns-in_err-state-clause-look : goal.returns-in_err-state-clause-look
-returns-in_err-state-clause-look g c = λ n st is.
-    let p = err_from_is_err_and c.from_residual.result c.from_residual.ensures.1 in
-    let first = subst (λ i. Looks g.C.Callbacks.told c.args.s.now (Err c.in_err-state.field-0.0) (λ w memory. look_state w memory i)) is (c.in_err-state.ensures.look n st) in
-    rw (p.1, p.2) (look_stops g.C.Callbacks.told c.args.s.now c.in_err-state.field-0.0 _ _ first)
-
-pub returns-in_err-current-clause-look : goal.returns-in_err-current-clause-look
-returns-in_err-current-clause-look g c = λ n st is.
-    let p = err_from_is_err_and c.from_residual-in_err-current.result c.from_residual-in_err-current.ensures.1 in
-    let told = g.C.Callbacks.told in
-    let st1 = stands_after told 0 c.args.s.now c.state_of.new.s Thread (thread_pair c.args.t) n c.state_of.ensures.leaves st in
-    let first = subst (λ i. Looks told c.args.s.now (Ok c.in_ok-state.state) (λ w memory. look_state w memory i)) is (c.in_ok-state.ensures.look n st) in
-    let second = subst (λ i. Looks told c.state_of.new.s (Err c.in_err-current.field-0.0) (λ w memory. look_current w memory i)) is
-    (current_looks told c.state_of.new.s c.args.t n _ st1 (c.in_err-current.ensures.look n st1)) in
-    rw (p.1, p.2) (look_then told c.args.s.now c.state_of.new.s c.in_ok-state.state _ _ _ first c.state_of.ensures.leaves.stays
-    (look_stops told c.state_of.new.s c.in_err-current.field-0.0 _ _ second))
-
-pub returns-in_err-number-clause-look : goal.returns-in_err-number-clause-look
-returns-in_err-number-clause-look g c = λ n st is.
-    let p = err_from_is_err_and c.from_residual-in_err-number.result c.from_residual-in_err-number.ensures.1 in
-    let told = g.C.Callbacks.told in
-    let st1 = stands_after told 0 c.args.s.now c.state_of.new.s Thread (thread_pair c.args.t) n c.state_of.ensures.leaves st in
-    let st2 = stands_after told 1 c.state_of.new.s c.related_of.new.s Thread (thread_pair c.args.t) n c.related_of.ensures.leaves st1 in
-    let first = subst (λ i. Looks told c.args.s.now (Ok c.in_ok-state.state) (λ w memory. look_state w memory i)) is (c.in_ok-state.ensures.look n st) in
-    let now = current_looks told c.state_of.new.s c.args.t n (Ok (name_in c.in_ok-current.current)) st1 (c.in_ok-current.ensures.look n st1) in
-    let second = subst (λ i. Looks told c.state_of.new.s (Ok (name_in c.in_ok-current.current)) (λ w memory. look_current w memory i)) is now in
-    rw (p.1, p.2) (look_then told c.args.s.now c.state_of.new.s c.in_ok-state.state _ _ _ first c.state_of.ensures.leaves.stays
-    (look_then told c.state_of.new.s c.related_of.new.s (name_in c.in_ok-current.current) _ _ _ second c.related_of.ensures.leaves.stays
-    (look_stops told c.related_of.new.s c.in_err-number.field-0.0 _ _
-    (c.in_err-number.ensures.look n (name_in c.in_ok-current.current) st2 (looks_after told c.state_of.new.s c.related_of.new.s _ _ c.related_of.ensures.leaves.stays now)))))
-
-pub returns-clause-look : goal.returns-clause-look
-returns-clause-look g c = λ n st is.
-    let told = g.C.Callbacks.told in
-    let st1 = stands_after told 0 c.args.s.now c.state_of.new.s Thread (thread_pair c.args.t) n c.state_of.ensures.leaves st in
-    let st2 = stands_after told 1 c.state_of.new.s c.related_of.new.s Thread (thread_pair c.args.t) n c.related_of.ensures.leaves st1 in
-    let first = subst (λ i. Looks told c.args.s.now (Ok c.in_ok-state.state) (λ w memory. look_state w memory i)) is (c.in_ok-state.ensures.look n st) in
-    let now = current_looks told c.state_of.new.s c.args.t n (Ok (name_in c.in_ok-current.current)) st1 (c.in_ok-current.ensures.look n st1) in
-    let second = subst (λ i. Looks told c.state_of.new.s (Ok (name_in c.in_ok-current.current)) (λ w memory. look_current w memory i)) is now in
-    look_then told c.args.s.now c.state_of.new.s c.in_ok-state.state _ _ _ first c.state_of.ensures.leaves.stays
-    (look_then told c.state_of.new.s c.related_of.new.s (name_in c.in_ok-current.current) _ _ _ second c.related_of.ensures.leaves.stays
-    (look_then told c.related_of.new.s c.number_of.new.s c.in_ok-number.number _ _ _
-    (c.in_ok-number.ensures.look n (name_in c.in_ok-current.current) st2 (looks_after told c.state_of.new.s c.related_of.new.s _ _ c.related_of.ensures.leaves.stays now))
-    c.number_of.ensures.leaves.stays (rw c.task_name.ensures (look_is told c.number_of.new.s _))))
-
-pub returns-clause-current : goal.returns-clause-current
-returns-clause-current g c = λ n st is.
-    let told = g.C.Callbacks.told in
-    let st1 = stands_after told 0 c.args.s.now c.state_of.new.s Thread (thread_pair c.args.t) n c.state_of.ensures.leaves st in
-    let now = current_looks told c.state_of.new.s c.args.t n (Ok (name_in c.in_ok-current.current)) st1 (c.in_ok-current.ensures.look n st1) in
-    let second = subst (λ i. Looks told c.state_of.new.s (Ok (name_in c.in_ok-current.current)) (λ w memory. look_current w memory i)) is now in
-    looks_before told c.args.s.now c.state_of.new.s _ _ c.state_of.ensures.leaves.stays second
-
 -- reads: what was asked
 
 pub returns-in_err-state-clause-reads : goal.returns-in_err-state-clause-reads

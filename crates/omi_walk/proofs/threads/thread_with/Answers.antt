@@ -16,15 +16,6 @@ use Rattle.omi_walk.proofs.Goes.{of_made_ok, of_made_err, walks_ok, walks_map}
 use Rattle.omi_walk.proofs.AskedObjects.{met_is, absent_map}
 use Rattle.omi_walk.proofs.threads.thread_with.Goals as goal
 
-pub returns-in-Ok-clause-look : goal.returns-in-Ok-clause-look
-unfolding Looks
-returns-in-Ok-clause-look g c = λ memory t.
-    (found_thread c.args.s.now.layout memory c.get_thread_handle.new.s.handles _ c.let_go.result.held c.let_go.result.name _ _
-    (subst (λ w. IsValid w) c.layout-layout.ensures c.layout-layout.result.now.valid)
-    c.let_go.ensures.object (ap (λ w. name_of w c.let_go.result.held) (sym c.get_thread_handle.ensures.stays.layout) ∙ c.let_go.ensures.name)
-    (c.in-Ok.ensures.answer.is memory t)
-    (thread_found c.args.s.now.layout memory c.args.native)).0
-
 pub returns-in-Ok-clause-met : goal.returns-in-Ok-clause-met
 returns-in-Ok-clause-met g c =
     thread_lives g.C.Callbacks.told c.args.s.now c.get_thread_handle.new.s c.let_go.new.s c.args.native _ (subst (λ w. IsValid w) c.layout-layout.ensures c.layout-layout.result.now.valid)
@@ -35,13 +26,6 @@ pub returns-in-Ok-clause-leaves : goal.returns-in-Ok-clause-leaves
 returns-in-Ok-clause-leaves g c =
     found_leaves g.C.Callbacks.told c.args.s.now c.get_thread_handle.new.s c.let_go.new.s Thread _ c.in-Ok.ensures.handles c.get_thread_handle.ensures.stays
     c.let_go.ensures.layout c.let_go.ensures.table c.let_go.ensures.removed c.let_go.ensures.made
-
-pub returns-in-Err-clause-look : goal.returns-in-Err-clause-look
-unfolding Looks
-returns-in-Err-clause-look g c = λ memory t.
-    rw c.absent_from.ensures (absent_thread c.args.s.now.layout memory c.get_thread_handle.new.s.handles None c.in-Err.rc _ _
-    (c.in-Err.ensures.answer.is memory t)
-    (thread_found c.args.s.now.layout memory c.args.native))
 
 -- reads: what was asked
 

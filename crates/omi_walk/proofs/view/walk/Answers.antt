@@ -1,7 +1,8 @@
-use Rattle.std.proofs.Common.{ℕ, map, refl}
+use Rattle.std.proofs.Common.{ℕ, map, refl, subst}
 use Rattle.omi_walk.proofs.FoundLooks.{all_after}
-use Rattle.omi_walk.proofs.Steps.{stays_then, refused_looks}
-use Rattle.omi_walk.proofs.ViewLooks.{index_lives, head_stops, head_then, rows_stop, rows_then, met_stops, until_met, regions_stop, regions_then, tasks_stop, tasks_end}
+use Rattle.omi_walk.proofs.Steps.{stays_then}
+use Rattle.omi_layout.specs.Valid.{IsValid}
+use Rattle.omi_walk.proofs.ViewLooks.{looks_of_reads}
 use Rattle.std.specs.List.{flat_map}
 use Rattle.omi_walk.specs.Asking.{ask_each}
 use Rattle.omi_walk.specs.AskWords.{ask_head}
@@ -12,44 +13,8 @@ use Rattle.omi_walk.specs.AskView.{ask_view}
 use Rattle.omi_walk.proofs.Goes.{goes_begin, goes_on, goes_stop, goes_end}
 use Rattle.omi_walk.proofs.view.walk.Goals as goal
 
-pub returns-in_err-head-clause-look : goal.returns-in_err-head-clause-look
-returns-in_err-head-clause-look g c =
-    refused_looks g.C.Callbacks.told _ _ _ _ c.from_residual.ensures.1
-    (head_stops g.C.Callbacks.told c.args.contexts.now c.args.s.now c.in_err-head.field-0.0 c.in_err-head.ensures.look)
-
-pub returns-in_err-rows-clause-look : goal.returns-in_err-rows-clause-look
-returns-in_err-rows-clause-look g c =
-    let told = g.C.Callbacks.told in
-    refused_looks g.C.Callbacks.told _ _ _ _ c.from_residual-in_err-rows.ensures.1
-    (head_then told c.args.contexts.now c.args.s.now c.head.new.s _ c.in_ok-head.head c.in_ok-head.ensures.look c.head.ensures.leaves.stays
-    (rows_stop told c.args.contexts.now c.head.new.s c.in_ok-head.head c.in_err-rows.field-0.0 c.in_err-rows.ensures.look))
-
-pub returns-in_err-index-clause-look : goal.returns-in_err-index-clause-look
-returns-in_err-index-clause-look g c =
-    let told = g.C.Callbacks.told in
-    let seen = c.in_ok-rows.field-0 in
-    let threads = map (λ f. f.thread) seen.found in
-    refused_looks g.C.Callbacks.told _ _ _ _ c.from_residual-in_err-index.ensures.1
-    (head_then told c.args.contexts.now c.args.s.now c.head.new.s _ c.in_ok-head.head c.in_ok-head.ensures.look c.head.ensures.leaves.stays
-    (rows_then told c.args.contexts.now c.head.new.s c.thread_rows.new.s _ c.in_ok-head.head seen.rows c.in_ok-rows.ensures.look c.thread_rows.ensures.leaves.stays
-    (met_stops told c.args.contexts.now c.thread_rows.new.s c.in_ok-head.head seen.rows threads c.in_ok-rows.ensures.found c.in_err-index.field-0.0 c.in_err-index.ensures.look)))
-
 pub region_rows-requires-clause-live : goal.region_rows-requires-clause-live
-region_rows-requires-clause-live g c =
-    let indexed = c.in_ok-index.ensures.look in
-    index_lives g.C.Callbacks.told c.regions_met.new.s c.in_ok-index.index indexed.met indexed.first indexed.live
-
-pub returns-in_err-regions-clause-look : goal.returns-in_err-regions-clause-look
-returns-in_err-regions-clause-look g c =
-    let told = g.C.Callbacks.told in
-    let seen = c.in_ok-rows.field-0 in
-    let threads = map (λ f. f.thread) seen.found in
-    let indexed = c.in_ok-index.ensures.look in
-    refused_looks g.C.Callbacks.told _ _ _ _ c.from_residual-in_err-regions.ensures.1
-    (until_met told c.args.contexts.now c.args.s.now c.head.new.s c.thread_rows.new.s c.regions_met.new.s _ c.in_ok-head.head seen.rows threads indexed.chains c.in_ok-head.ensures.look c.head.ensures.leaves.stays
-    c.in_ok-rows.ensures.look c.thread_rows.ensures.leaves.stays c.in_ok-rows.ensures.found indexed.gives c.regions_met.ensures.leaves.stays
-    (regions_stop told c.args.contexts.now c.regions_met.new.s c.in_ok-head.head seen.rows threads c.in_ok-rows.ensures.found (map (λ m. m.name) indexed.met) indexed.chains indexed.names c.in_err-regions.field-0.0
-    (c.in_err-regions.ensures.look indexed.met indexed.first indexed.small)))
+region_rows-requires-clause-live g c = c.in_ok-index.ensures.live
 
 pub task_rows-requires-clause-found : goal.task_rows-requires-clause-found
 task_rows-requires-clause-found g c =
@@ -57,31 +22,6 @@ task_rows-requires-clause-found g c =
     all_after told c.thread_rows.new.s c.region_rows.new.s
     (stays_then told c.thread_rows.new.s c.regions_met.new.s c.region_rows.new.s c.regions_met.ensures.leaves.stays c.region_rows.ensures.leaves.stays)
     c.in_ok-rows.field-0.found c.in_ok-rows.ensures.each
-
-pub returns-in_err-tasks-clause-look : goal.returns-in_err-tasks-clause-look
-returns-in_err-tasks-clause-look g c =
-    let told = g.C.Callbacks.told in
-    let seen = c.in_ok-rows.field-0 in
-    let threads = map (λ f. f.thread) seen.found in
-    let indexed = c.in_ok-index.ensures.look in
-    refused_looks g.C.Callbacks.told _ _ _ _ c.from_residual-in_err-tasks.ensures.1
-    (until_met told c.args.contexts.now c.args.s.now c.head.new.s c.thread_rows.new.s c.regions_met.new.s _ c.in_ok-head.head seen.rows threads indexed.chains c.in_ok-head.ensures.look c.head.ensures.leaves.stays
-    c.in_ok-rows.ensures.look c.thread_rows.ensures.leaves.stays c.in_ok-rows.ensures.found indexed.gives c.regions_met.ensures.leaves.stays
-    (regions_then told c.args.contexts.now c.regions_met.new.s c.in_ok-head.head seen.rows threads c.in_ok-rows.ensures.found (map (λ m. m.name) indexed.met) indexed.chains indexed.names c.region_rows.new.s _ c.in_ok-regions.regions
-    (c.in_ok-regions.ensures.look indexed.met indexed.first indexed.small) c.region_rows.ensures.leaves.stays
-    (tasks_stop told c.args.contexts.now c.region_rows.new.s c.in_ok-head.head seen.rows threads c.in_ok-rows.ensures.found c.in_ok-regions.regions c.in_err-tasks.field-0.0 c.in_err-tasks.ensures.look)))
-
-pub returns-clause-look : goal.returns-clause-look
-returns-clause-look g c =
-    let told = g.C.Callbacks.told in
-    let seen = c.in_ok-rows.field-0 in
-    let threads = map (λ f. f.thread) seen.found in
-    let indexed = c.in_ok-index.ensures.look in
-    until_met told c.args.contexts.now c.args.s.now c.head.new.s c.thread_rows.new.s c.regions_met.new.s _ c.in_ok-head.head seen.rows threads indexed.chains c.in_ok-head.ensures.look c.head.ensures.leaves.stays
-    c.in_ok-rows.ensures.look c.thread_rows.ensures.leaves.stays c.in_ok-rows.ensures.found indexed.gives c.regions_met.ensures.leaves.stays
-    (regions_then told c.args.contexts.now c.regions_met.new.s c.in_ok-head.head seen.rows threads c.in_ok-rows.ensures.found (map (λ m. m.name) indexed.met) indexed.chains indexed.names c.region_rows.new.s _ c.in_ok-regions.regions
-    (c.in_ok-regions.ensures.look indexed.met indexed.first indexed.small) c.region_rows.ensures.leaves.stays
-    (tasks_end told c.args.contexts.now c.region_rows.new.s c.in_ok-head.head seen.rows threads c.in_ok-rows.ensures.found c.in_ok-regions.regions c.in_ok-tasks.tasks c.in_ok-tasks.ensures.look))
 
 -- reads: what was asked
 
@@ -165,3 +105,35 @@ returns-clause-reads g c =
     let so4 = goes_on told asked s c.regions_met.new.s c.region_rows.new.s pair all (λ w k. ask_rows w (flat_map (λ chain. chain) c.in_ok-index.ensures.reads.met)) _ so3 _ c.in_ok-regions.regions c.region_rows.ensures.leaves (c.in_ok-regions.ensures.reads (flat_map (λ chain. chain) c.in_ok-index.ensures.reads.met) c.in_ok-index.ensures.reads.first c.in_ok-index.ensures.reads.small) in
     let so5 = goes_on told asked s c.region_rows.new.s c.task_rows.new.s pair all (λ w k. ask_all_tasks w c.in_ok-rows.field-0.found) _ so4 _ c.in_ok-tasks.tasks c.task_rows.ensures.leaves c.in_ok-tasks.ensures.reads in
     goes_end told asked s c.task_rows.new.s all _ _ refl so5
+
+-- look: the answer of these reads is that of the look
+
+pub returns-in_err-head-clause-look : goal.returns-in_err-head-clause-look
+returns-in_err-head-clause-look g c =
+    looks_of_reads g.C.Callbacks.told g.C.Callbacks.asked c.args.s.now _ c.args.contexts.now _
+    (subst (λ w. IsValid w) c.layout-layout.ensures c.layout-layout.result.now.valid) (returns-in_err-head-clause-reads g c)
+
+pub returns-in_err-rows-clause-look : goal.returns-in_err-rows-clause-look
+returns-in_err-rows-clause-look g c =
+    looks_of_reads g.C.Callbacks.told g.C.Callbacks.asked c.args.s.now _ c.args.contexts.now _
+    (subst (λ w. IsValid w) c.layout-layout.ensures c.layout-layout.result.now.valid) (returns-in_err-rows-clause-reads g c)
+
+pub returns-in_err-index-clause-look : goal.returns-in_err-index-clause-look
+returns-in_err-index-clause-look g c =
+    looks_of_reads g.C.Callbacks.told g.C.Callbacks.asked c.args.s.now _ c.args.contexts.now _
+    (subst (λ w. IsValid w) c.layout-layout.ensures c.layout-layout.result.now.valid) (returns-in_err-index-clause-reads g c)
+
+pub returns-in_err-regions-clause-look : goal.returns-in_err-regions-clause-look
+returns-in_err-regions-clause-look g c =
+    looks_of_reads g.C.Callbacks.told g.C.Callbacks.asked c.args.s.now _ c.args.contexts.now _
+    (subst (λ w. IsValid w) c.layout-layout.ensures c.layout-layout.result.now.valid) (returns-in_err-regions-clause-reads g c)
+
+pub returns-in_err-tasks-clause-look : goal.returns-in_err-tasks-clause-look
+returns-in_err-tasks-clause-look g c =
+    looks_of_reads g.C.Callbacks.told g.C.Callbacks.asked c.args.s.now _ c.args.contexts.now _
+    (subst (λ w. IsValid w) c.layout-layout.ensures c.layout-layout.result.now.valid) (returns-in_err-tasks-clause-reads g c)
+
+pub returns-clause-look : goal.returns-clause-look
+returns-clause-look g c =
+    looks_of_reads g.C.Callbacks.told g.C.Callbacks.asked c.args.s.now _ c.args.contexts.now _
+    (subst (λ w. IsValid w) c.layout-layout.ensures c.layout-layout.result.now.valid) (returns-clause-reads g c)

@@ -13,20 +13,6 @@ use Rattle.omi_walk.specs.AskWords.{ask_frames}
 use Rattle.omi_walk.proofs.Goes.{of_answers, walks_ok, walks_err}
 use Rattle.omi_walk.proofs.words.frames_of.Goals as goal
 
-pub returns-in-Ok-clause-look : goal.returns-in-Ok-clause-look
-unfolding Looks
-returns-in-Ok-clause-look g c = λ n st memory t.
-    value_gives (get c.args.s.now.handles.held (task_pair c.args.k)) (as_places (Ok c.in-Ok.frames)) _ _
-    (λ ne. ap as_places (c.in-Ok.ensures.answer.is memory t (λ e. cc)))
-    (frames_looked g.C.Callbacks.told c.args.s.now n memory t c.args.k st)
-
-pub returns-in-Err-clause-look : goal.returns-in-Err-clause-look
-unfolding Looks
-returns-in-Err-clause-look g c = λ n st memory t.
-    rw c.fault_of.ensures (value_gives _ (as_places (Err c.in-Err.rc)) _ _
-    (λ ne. ap as_places (c.in-Err.ensures.answer.is memory t (λ e. ne (ap as_places e))))
-    (frames_looked g.C.Callbacks.told c.args.s.now n memory t c.args.k st))
-
 -- reads: what was asked
 
 pub returns-in-Ok-clause-reads : goal.returns-in-Ok-clause-reads

@@ -12,12 +12,6 @@ use Rattle.omi_walk.proofs.Goes.{of_answers}
 use Rattle.omi_walk.specs.AskWords.{ask_function}
 use Rattle.omi_walk.proofs.words.function_of.Goals as goal
 
-pub returns-clause-look : goal.returns-clause-look
-unfolding function
-returns-clause-look g c = λ n st.
-    value_looks g.C.Callbacks.told c.args.s.now _ c.get_task_function-answer.result _ (function c.args.s.now.layout (get c.args.s.now.handles.held (task_pair c.args.k))) _ c.walked.ensures c.get_task_function-answer.ensures.answer.is
-    (λ memory t. word_looked g.C.Callbacks.told c.args.s.now Task (task_pair c.args.k) n st memory t TaskFunction 0)
-
 -- reads: what was asked
 
 pub returns-clause-reads : goal.returns-clause-reads

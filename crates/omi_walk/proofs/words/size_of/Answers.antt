@@ -11,11 +11,6 @@ use Rattle.omi_walk.specs.AskWords.{ask_region_variable}
 use Rattle.omi_numbers.specs.declared.variables.TheConstants.{TEAM_SIZE_VAR}
 use Rattle.omi_walk.proofs.words.size_of.Goals as goal
 
-pub returns-clause-look : goal.returns-clause-look
-returns-clause-look g c = λ n st.
-    value_looks g.C.Callbacks.told c.args.s.now _ c.get_icv_from_scope-answer.result _ (icv_from_scope c.args.s.now.layout (get c.args.s.now.handles.held) (scoped.Parallel c.args.r) 12) _ c.walked.ensures c.get_icv_from_scope-answer.ensures.answer.is
-    (λ memory t. region_size_looked g.C.Callbacks.told c.args.s.now n memory t c.args.r 12 _ st refl refl)
-
 -- reads: what was asked
 
 pub returns-clause-reads : goal.returns-clause-reads

@@ -8,11 +8,6 @@ use Rattle.omi_walk.proofs.Goes.{of_answers}
 use Rattle.omi_walk.specs.AskWords.{ask_space}
 use Rattle.omi_walk.proofs.words.space_variable.Goals as goal
 
-pub returns-clause-look : goal.returns-clause-look
-returns-clause-look g c = λ f v is source.
-    value_looks g.C.Callbacks.told c.args.s.now None c.get_icv_from_scope-answer.result _ (icv_from_scope c.args.s.now.layout (get c.args.s.now.handles.held) scoped.Space c.args.icv) _ c.walked_from.ensures c.get_icv_from_scope-answer.ensures.answer.is
-    (λ memory t. space_variable_looked c.args.s.now memory c.args.icv f v is source)
-
 -- reads: what was asked
 
 pub returns-clause-reads : goal.returns-clause-reads

@@ -10,11 +10,6 @@ use Rattle.omi_walk.proofs.Goes.{of_answers}
 use Rattle.omi_walk.specs.AskWords.{ask_task_variable}
 use Rattle.omi_walk.proofs.words.task_variable.Goals as goal
 
-pub returns-clause-look : goal.returns-clause-look
-returns-clause-look g c = λ n f v is source st.
-    value_looks g.C.Callbacks.told c.args.s.now _ c.get_icv_from_scope-answer.result _ (icv_from_scope c.args.s.now.layout (get c.args.s.now.handles.held) (scoped.Task c.args.k) c.args.icv) _ c.walked.ensures c.get_icv_from_scope-answer.ensures.answer.is
-    (λ memory t. task_variable_looked g.C.Callbacks.told c.args.s.now n memory t c.args.k c.args.icv f v st is source)
-
 -- reads: what was asked
 
 pub returns-clause-reads : goal.returns-clause-reads

@@ -10,11 +10,6 @@ use Rattle.omi_walk.proofs.Goes.{of_answers}
 use Rattle.omi_walk.specs.AskWords.{ask_tool}
 use Rattle.omi_walk.proofs.words.tool_of.Goals as goal
 
-pub returns-clause-look : goal.returns-clause-look
-returns-clause-look g c = λ n st.
-    value_looks g.C.Callbacks.told c.args.s.now _ c.get_tool_data-answer.result _ (tool_data c.args.s.now.layout (get c.args.s.now.handles.held) (scoped.Task c.args.k)) _ c.walked.ensures c.get_tool_data-answer.ensures.answer.is
-    (λ memory t. tool_looked g.C.Callbacks.told c.args.s.now n memory t c.args.k st)
-
 -- reads: what was asked
 
 pub returns-clause-reads : goal.returns-clause-reads
