@@ -31,7 +31,7 @@ module _ (told : Told) (w : List ℕ) (s : State) (shown : ShowsTold told w s) (
   enclosing_told r =
       then_answered shown.memory (object_of w kind.Region found) _ (held_region w r.name) (region_object told w s shown found r)
       ∙ some_region told w s shown (region_address w r.name) RegionEnclosing r.seen.region.enclosing
-      (shown.shows.within.well_formed.regions r.name r.seen).enclosing (shown.shows.records.regions r.name r.seen).enclosing
+      (shown.shows.within.well_formed.regions r.name r.seen).enclosing (shown.shows.records.regions r.name r.seen RegionEnclosing 0 _ refl refl)
 
   -- the region of a thread's current task, where it has one
   pub current_region_told : (t : HoldsThread w s found) → answer_on shown.memory (current_region w found) ≡ as_held (held_region w) (answer.region_of_thread s t.thread)

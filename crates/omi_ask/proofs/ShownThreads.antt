@@ -81,14 +81,14 @@ module _ (told : Told) (w : List ℕ) (s : State) (shown : ShowsTold told w s) w
   unfolding has_id
   has_id_told native i known =
       then_answered shown.memory (word_of w (thread_address w i) ThreadLife 0) _ (flag (s.threads i).begun)
-      (word_told w shown.memory (thread_address w i) ThreadLife 0 _ (shown.shows.records.lives i known).life)
+      (word_told w shown.memory (thread_address w i) ThreadLife 0 _ (shown.shows.records.lives i known ThreadLife 0 _ refl refl))
       ∙ go (s.threads i).begun
     where
       go : (b : Bool) → answer_on shown.memory (cond (flag b == 1) (then_reads (word_of w (thread_address w i) ThreadNative 0) (λ id. Answer (Ok (id == native)))) (Answer (Ok false)))
           ≡ Ok (b && 1000 + i == native)
       go true =
           then_answered shown.memory (word_of w (thread_address w i) ThreadNative 0) (λ id. Answer (Ok (id == native))) (1000 + i)
-          (word_told w shown.memory (thread_address w i) ThreadNative 0 _ (shown.shows.records.lives i known).native)
+          (word_told w shown.memory (thread_address w i) ThreadNative 0 _ (shown.shows.records.lives i known ThreadNative 0 _ refl refl))
       go false = refl
 
   -- the first thread from one on that has begun and has the id
@@ -139,7 +139,7 @@ module _ (told : Told) (w : List ℕ) (s : State) (shown : ShowsTold told w s) w
       go true =
           then_answered shown.memory (unchanged w (held_thread w t.thread)) _ (held_thread w t.thread)
           (unchanged_told w shown.memory kind.Thread 1 (thread_address w t.thread) (thread_lives w shown.memory s shown.valid shown.shows t.thread t.begun))
-          ∙ word_told w shown.memory (thread_address w t.thread) ThreadNative 0 _ (shown.shows.records.lives t.thread t.begun.known).native
+          ∙ word_told w shown.memory (thread_address w t.thread) ThreadNative 0 _ (shown.shows.records.lives t.thread t.begun.known ThreadNative 0 _ refl refl)
       go false = refl
 
   -- the thread of a member of a region

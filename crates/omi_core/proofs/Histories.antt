@@ -41,7 +41,7 @@ module _ (a : Run) (k : KeepsRun a) where
   pub counted : Counts a.table a.words k.state
   counted n seen =
       let kept = region_kept a.program a.table (memory_of a.table a.words) (events_in a.events.items) k.state (actors_in a.actors) k.rule n seen.region seen.live in
-      (stands n seen RegionArrived _ refl kept.arrived, stands n seen RegionReleased _ refl kept.released)
+      (stands n seen RegionArrived _ refl (kept.codes RegionArrived 0 _ refl), stands n seen RegionReleased _ refl (kept.codes RegionReleased 0 _ refl))
 
   pub history : HasHistory a
   history = (k.entries, k.state, record { made_by = k.made_by; follow = λ i. (k.behind i).follow; tables = k.tables; reached = k.rule.reached; shows = shows_state a k k.state k.rule.reached; counts = counted })

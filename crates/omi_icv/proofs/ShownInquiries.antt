@@ -77,9 +77,9 @@ module _ (told : Told) (w : List ℕ) where
       let globals = shown.shows.records.globals in
       answer_then shown.memory (space_words w) _
       ∙ ap (λ r. answer_on shown.memory (after r (λ words. Answer (Ok (display_texts words)))))
-      (then_answered shown.memory (word_of w (runtime_address w) RuntimeDebug 0) _ (flag s.environment.debug) (word_told w shown.memory (runtime_address w) RuntimeDebug 0 _ globals.debug)
-      ∙ then_answered shown.memory (word_of w (runtime_address w) RuntimeProcs 0) _ s.environment.procs (word_told w shown.memory (runtime_address w) RuntimeProcs 0 _ globals.procs)
-      ∙ then_answered shown.memory (word_of w (runtime_address w) RuntimeMaxActive 0) _ s.max_active (word_told w shown.memory (runtime_address w) RuntimeMaxActive 0 _ globals.max_active))
+      (then_answered shown.memory (word_of w (runtime_address w) RuntimeDebug 0) _ (flag s.environment.debug) (word_told w shown.memory (runtime_address w) RuntimeDebug 0 _ (globals RuntimeDebug 0 _ refl refl))
+      ∙ then_answered shown.memory (word_of w (runtime_address w) RuntimeProcs 0) _ s.environment.procs (word_told w shown.memory (runtime_address w) RuntimeProcs 0 _ (globals RuntimeProcs 0 _ refl refl))
+      ∙ then_answered shown.memory (word_of w (runtime_address w) RuntimeMaxActive 0) _ s.max_active (word_told w shown.memory (runtime_address w) RuntimeMaxActive 0 _ (globals RuntimeMaxActive 0 _ refl refl)))
       ∙ ap (λ text. Ok (named_value (name_of DEBUG_VAR) text ∷ named_value (name_of NUM_PROCS_VAR) (decimal s.environment.procs) ∷ named_value (name_of MAX_ACTIVE_LEVELS_VAR) (decimal s.max_active) ∷ []))
       (switch_text s.environment.debug)
 
@@ -112,7 +112,7 @@ module _ (told : Told) (w : List ℕ) (held : Handles) where
     unfolding state
     state_told found h =
         then_answered shown.memory (object_of w kind.Thread found) _ (held_thread w h.thread) (thread_object told w s shown found h)
-        ∙ then_answered shown.memory (word_of w (runtime_address w) RuntimeDebug 0) _ (flag s.environment.debug) (word_told w shown.memory (runtime_address w) RuntimeDebug 0 _ shown.shows.records.globals.debug)
+        ∙ then_answered shown.memory (word_of w (runtime_address w) RuntimeDebug 0) _ (flag s.environment.debug) (word_told w shown.memory (runtime_address w) RuntimeDebug 0 _ (shown.shows.records.globals RuntimeDebug 0 _ refl refl))
         ∙ go s.environment.debug
       where
         go : (b : Bool) → answer_on {A = ℕ × ℕ} shown.memory (cond (flag b == 0) (Answer (Err NeedsStateTracking))
@@ -120,7 +120,7 @@ module _ (told : Told) (w : List ℕ) (held : Handles) where
             ≡ cond b (Ok ((s.threads h.thread).state, (s.threads h.thread).wait)) (Err NeedsStateTracking)
         go true =
             then_answered shown.memory (word_of w (thread_address w h.thread) ThreadState 0) _ (state_word (s.threads h.thread).state (s.threads h.thread).wait)
-            (word_told w shown.memory (thread_address w h.thread) ThreadState 0 _ (shown.shows.records.threads h.thread h.begun.known h.begun.begun).state)
+            (word_told w shown.memory (thread_address w h.thread) ThreadState 0 _ (shown.shows.records.threads h.thread h.begun.known h.begun.begun ThreadState 0 _ refl refl))
             ∙ ap Ok (state_of_word (s.threads h.thread).state (s.threads h.thread).wait (small_state _ (shown.shows.within.well_formed.states h.thread h.begun.known)))
         go false = refl
 
@@ -174,4 +174,4 @@ module _ (told : Told) (w : List ℕ) (held : Handles) where
   tool_given (Task k) result answers = λ s shown h.
       given_value told w s shown result (tool_data w held (Task k)) _ answers
       (then_answered shown.memory (record_of w held (Task k)) _ (task_address w h.name) (task_record s shown (held (task_pair k)) h)
-      ∙ word_told w shown.memory (task_address w h.name) TaskTool 0 _ (shown.shows.records.tasks h.name h.seen).tool)
+      ∙ word_told w shown.memory (task_address w h.name) TaskTool 0 _ (shown.shows.records.tasks h.name h.seen TaskTool 0 _ refl refl))

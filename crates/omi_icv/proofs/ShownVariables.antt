@@ -4,7 +4,7 @@ use Rattle.std.specs.Prelude.{Result, Ok, Err}
 use Rattle.std.specs.Option.{option_map, option_and_then, ok_or}
 use Rattle.omi_calls.specs.Told.{Told}
 use Rattle.omi_handle.specs.declared.handle.Kind.TheVariants as kind
-use Rattle.omi_layout.specs.declared.field.Field.TheVariants.{RuntimeProcs, RuntimeDebug, RuntimeMaxActive, ThreadCurrent, RegionLevels, RegionActive, TaskImplicit, TaskNumber, TaskDynamic, TaskSchedule, TaskDevice, TaskFinal}
+use Rattle.omi_layout.specs.declared.field.Field.TheVariants.{RuntimeProcs, RuntimeDebug, RuntimeMaxActive, ThreadCurrent, RegionLevels, RegionActive, TaskImplicit, TaskNthreads, TaskNthreadsLength, TaskNumber, TaskDynamic, TaskSchedule, TaskDevice, TaskFinal}
 use Rattle.omi_model.specs.declared.id.Rid.{Rid}
 use Rattle.omi_model.specs.declared.id.Tid.{Tid}
 use Rattle.omi_model.specs.declared.task.Task.{Task}
@@ -50,9 +50,9 @@ module _ (w : List ℕ) (s : State) (told : Told) (shown : ShowsTold told w s) w
       let none = unsupported_agrees w shown.memory address in
       by_number (λ icv. Agrees w shown.memory address (variable_in AddressSpace icv) (value_in (space_values s) icv))
       none none none none none none
-      (word_agrees w shown.memory address AddressSpace RuntimeMaxActive Decimal s.max_active _ globals.max_active refl)
-      (word_agrees w shown.memory address AddressSpace RuntimeDebug Switch (flag s.environment.debug) _ globals.debug (switch_text s.environment.debug))
-      (word_agrees w shown.memory address AddressSpace RuntimeProcs Decimal s.environment.procs _ globals.procs refl)
+      (word_agrees w shown.memory address AddressSpace RuntimeMaxActive Decimal s.max_active _ (globals RuntimeMaxActive 0 _ refl refl) refl)
+      (word_agrees w shown.memory address AddressSpace RuntimeDebug Switch (flag s.environment.debug) _ (globals RuntimeDebug 0 _ refl refl) (switch_text s.environment.debug))
+      (word_agrees w shown.memory address AddressSpace RuntimeProcs Decimal s.environment.procs _ (globals RuntimeProcs 0 _ refl refl) refl)
       none none none none
       (λ n a b c d e f g h i j k l m. neither address AddressSpace (space_values s) n (no_row n a b c d e f g h i j k l m) (rw (g, h, i) refl))
 
@@ -63,8 +63,8 @@ module _ (w : List ℕ) (s : State) (told : Told) (shown : ShowsTold told w s) w
       let none = unsupported_agrees w shown.memory address in
       by_number (λ icv. Agrees w shown.memory address (variable_in Parallel icv) (value_in (region_values seen.region) icv))
       none none none none none none none none none
-      (word_agrees w shown.memory address Parallel RegionLevels Decimal seen.region.levels _ records.levels refl)
-      (word_agrees w shown.memory address Parallel RegionActive Decimal seen.region.active _ records.active refl)
+      (word_agrees w shown.memory address Parallel RegionLevels Decimal seen.region.levels _ (records RegionLevels 0 _ refl refl) refl)
+      (word_agrees w shown.memory address Parallel RegionActive Decimal seen.region.active _ (records RegionActive 0 _ refl refl) refl)
       (number_agrees w shown.memory address (record { scope = Parallel; source = TeamSize; spelling = Decimal }) (length seen.region.team) _ refl (size_told told w s shown name seen) refl)
       none
       (λ n a b c d e f g h i j k l m. neither address Parallel (region_values seen.region) n (no_row n a b c d e f g h i j k l m) (rw (j, k, l) refl))
@@ -77,19 +77,19 @@ module _ (w : List ℕ) (s : State) (told : Told) (shown : ShowsTold told w s) w
       let address = task_address w name in
       let none = unsupported_agrees w shown.memory address in
       by_number (λ icv. Agrees w shown.memory address (variable_in TaskScope icv) (value_in (task_values t) icv))
-      (word_agrees w shown.memory address TaskScope TaskDynamic Decimal (flag t.variables.dynamic) _ records.dynamic refl)
-      (elements_agree w shown.memory address t.variables.nthreads right.some right.few records.nthreads_length records.nthreads TaskScope)
-      (word_agrees w shown.memory address TaskScope TaskSchedule Schedule (t.variables.schedule.chunk * 8 + t.variables.schedule.kind) _ records.schedule (schedule_spelled t.variables.schedule right.kind_from right.kind_to))
-      (word_agrees w shown.memory address TaskScope TaskDevice Decimal t.variables.device _ records.device refl)
-      (word_agrees w shown.memory address TaskScope TaskFinal Decimal (flag t.is_final) _ records.final refl)
-      (word_agrees w shown.memory address TaskScope TaskImplicit Decimal (flag t.implicit) _ records.implicit refl)
+      (word_agrees w shown.memory address TaskScope TaskDynamic Decimal (flag t.variables.dynamic) _ (records TaskDynamic 0 _ refl refl) refl)
+      (elements_agree w shown.memory address t.variables.nthreads right.some right.few (records TaskNthreadsLength 0 _ refl refl) (λ j n is. records TaskNthreads j n refl is) TaskScope)
+      (word_agrees w shown.memory address TaskScope TaskSchedule Schedule (t.variables.schedule.chunk * 8 + t.variables.schedule.kind) _ (records TaskSchedule 0 _ refl refl) (schedule_spelled t.variables.schedule right.kind_from right.kind_to))
+      (word_agrees w shown.memory address TaskScope TaskDevice Decimal t.variables.device _ (records TaskDevice 0 _ refl refl) refl)
+      (word_agrees w shown.memory address TaskScope TaskFinal Decimal (flag t.is_final) _ (records TaskFinal 0 _ refl refl) refl)
+      (word_agrees w shown.memory address TaskScope TaskImplicit Decimal (flag t.implicit) _ (records TaskImplicit 0 _ refl refl) refl)
       none none none none none none none
       (λ n a b c d e f g h i j k l m. neither address TaskScope (task_values t) n (no_row n a b c d e f g h i j k l m) (rw (a, b, c, d, e, f) refl))
 
   -- the number of a thread's current task
   leads : (i : ℕ) → HasBegun s i → answer_on shown.memory (follow_some w kind.Task (thread_address w i) ThreadCurrent) ≡ as_held (held_task w) (ok_or (s.threads i).current Unavailable)
   leads i begun = some_task told w s shown (thread_address w i) ThreadCurrent (s.threads i).current (λ k is. shown.shows.within.well_formed.currents i k begun.known is)
-      (shown.shows.records.threads i begun.known begun.begun).current
+      (shown.shows.records.threads i begun.known begun.begun ThreadCurrent 0 _ refl refl)
 
   member_told : (i : ℕ) → HasBegun s i → answer_on shown.memory (member_number w (thread_address w i)) ≡ ok_or (option_map (λ t. t.number) (current_task s i)) Unavailable
   unfolding member_number
@@ -103,7 +103,7 @@ module _ (w : List ℕ) (s : State) (told : Told) (shown : ShowsTold told w s) w
       go (Some k) e =
           let seen = shown.shows.within.well_formed.currents i k begun.known e in
           then_answered shown.memory (follow_some w kind.Task (thread_address w i) ThreadCurrent) _ (held_task w k) (leads i begun ∙ ap (λ o. as_held (held_task w) (ok_or o Unavailable)) e)
-          ∙ word_told w shown.memory (task_address w k) TaskNumber 0 seen.task.number (shown.shows.records.tasks k seen).member
+          ∙ word_told w shown.memory (task_address w k) TaskNumber 0 seen.task.number (shown.shows.records.tasks k seen TaskNumber 0 _ refl refl)
           ∙ sym (ap (λ o. ok_or (option_map (λ (t : Task). t.number) (option_and_then (task_of s) o)) Unavailable) e
           ∙ ap (λ o. ok_or (option_map (λ (t : Task). t.number) o) Unavailable) seen.live)
 

@@ -1,8 +1,9 @@
+pub mod Codes
+pub mod OpenedCodes
 pub mod Same
 pub mod SameRows
 pub mod SameReport
 pub mod Looks
-pub mod Alone
 pub mod Opened
 pub mod Lists
 pub mod Slots

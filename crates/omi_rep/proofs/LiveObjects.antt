@@ -3,6 +3,7 @@ use Rattle.std.proofs.Common.{◌≡◌, ◌==◌, ℕ, ◌+◌, ◌*◌, ◌%�
 use Rattle.std.specs.Prelude.{is_some}
 use Rattle.std.proofs.lemmas.Bool.Decides.{nat_tests}
 use Rattle.omi_word.specs.Words.{Words}
+use Rattle.omi_layout.specs.declared.field.Field.TheVariants.{ThreadLife}
 use Rattle.omi_layout.specs.Field.{threads, regions, tasks}
 use Rattle.omi_layout.specs.Named.{number}
 use Rattle.omi_layout.specs.Valid.{IsValid}
@@ -36,7 +37,7 @@ module _ (w : List ℕ) (memory : Words) (s : State) (valid : IsValid w) (shows 
   pub thread_lives : (i : ℕ) → HasBegun s i → Lives w memory threads (thread_address w i) 1
   thread_lives i is = record {
     place = slot_begins w threads i 0 (record { made_by = omega (arith, is.known, shows.within.count); within = omega arith });
-    word = (shows.records.lives i is.known).life ∙ ap (λ (b : Bool). Some (flag b)) is.begun;
+    word = shows.records.lives i is.known ThreadLife 0 _ refl refl ∙ ap (λ (b : Bool). Some (flag b)) is.begun;
     live = refl;
   }
 

@@ -84,20 +84,20 @@ module _ (w : List ℕ) (words : Words) (v : IsValid w) (s t : State) (a : Shows
 
   debug : s.environment.debug ≡ t.environment.debug
   debug = same_flag s.environment.debug t.environment.debug
-      (one_word (records_of w words 0 runtime 0) RuntimeDebug 0 _ _ a.records.globals.debug b.records.globals.debug)
+      (one_word (records_of w words 0 runtime 0) RuntimeDebug 0 _ _ (a.records.globals RuntimeDebug 0 _ refl refl) (b.records.globals RuntimeDebug 0 _ refl refl))
 
   same_head : head_row s ≡ head_row t
   same_head =
       let globals = a.records.globals in
       let others = b.records.globals in
-      let procs = one_word (records_of w words 0 runtime 0) RuntimeProcs 0 _ _ globals.procs others.procs in
-      let max_active = one_word (records_of w words 0 runtime 0) RuntimeMaxActive 0 _ _ globals.max_active others.max_active in
+      let procs = one_word (records_of w words 0 runtime 0) RuntimeProcs 0 _ _ (globals RuntimeProcs 0 _ refl refl) (others RuntimeProcs 0 _ refl refl) in
+      let max_active = one_word (records_of w words 0 runtime 0) RuntimeMaxActive 0 _ _ (globals RuntimeMaxActive 0 _ refl refl) (others RuntimeMaxActive 0 _ refl refl) in
       λ p. record { version = OPENMP_VERSION; threads = count p; debug = flag (debug p); procs = procs p; max_active = max_active p }
 
   same_begun : (i : ℕ) → i < s.count → (s.threads i).begun ≡ (t.threads i).begun
   same_begun i known =
       same_flag (s.threads i).begun (t.threads i).begun
-      (one_word (records_of w words i threads 0) ThreadLife 0 _ _ (a.records.lives i known).life (b.records.lives i (subst (λ n. i < n) count known)).life)
+      (one_word (records_of w words i threads 0) ThreadLife 0 _ _ (a.records.lives i known ThreadLife 0 _ refl refl) (b.records.lives i (subst (λ n. i < n) count known) ThreadLife 0 _ refl refl))
 
   begun_too : (i : ℕ) → HasBegun s i → HasBegun t i
   begun_too i is = record { known = subst (λ n. i < n) count is.known; begun = sym (same_begun i is.known) ∙ is.begun }
@@ -108,7 +108,7 @@ module _ (w : List ℕ) (words : Words) (v : IsValid w) (s t : State) (a : Shows
       let too = begun_too i is in
       same_tasks w words v s t a b (s.threads i).current (t.threads i).current
       (λ k e. a.within.well_formed.currents i k is.known e) (λ k e. b.within.well_formed.currents i k too.known e)
-      (one_word (records_of w words i threads 0) ThreadCurrent 0 _ _ (a.records.threads i is.known is.begun).current (b.records.threads i too.known too.begun).current)
+      (one_word (records_of w words i threads 0) ThreadCurrent 0 _ _ (a.records.threads i is.known is.begun ThreadCurrent 0 _ refl refl) (b.records.threads i too.known too.begun ThreadCurrent 0 _ refl refl))
 
   -- a task that both states show
   record Shared (k : Tid) : Type 0 where
@@ -149,7 +149,7 @@ module _ (w : List ℕ) (words : Words) (v : IsValid w) (s t : State) (a : Shows
       let too = begun_too i is in
       let mine = a.records.threads i is.known is.begun in
       let theirs = b.records.threads i too.known too.begun in
-      let words_same = one_word (records_of w words i threads 0) ThreadState 0 _ _ mine.state theirs.state in
+      let words_same = one_word (records_of w words i threads 0) ThreadState 0 _ _ (mine ThreadState 0 _ refl refl) (theirs ThreadState 0 _ refl refl) in
       let both = told_state (s.threads i).state (t.threads i).state (s.threads i).wait (t.threads i).wait
       (small_state _ (a.within.well_formed.states i is.known)) (small_state _ (b.within.well_formed.states i too.known)) words_same in
       let current = same_current i is in

@@ -1,5 +1,5 @@
 -- The rows of an object that two states have in common are the same in both.
-use Rattle.std.proofs.Common.{◌≡◌, ℕ, zero, suc, ◌<◌, List, [], ◌∷◌, length, map, Option, Some, refl, sym, subst, ◌∙◌, arith}
+use Rattle.std.proofs.Common.{◌≡◌, ℕ, zero, suc, ◌<◌, true, List, [], ◌∷◌, length, map, Option, Some, refl, sym, subst, ◌∙◌, arith}
 use Rattle.std.specs.Prelude.{slice_get, All}
 use Rattle.omi_model.specs.declared.id.Rid.{Rid}
 use Rattle.omi_model.specs.declared.id.Tid.{Tid}
@@ -7,13 +7,17 @@ use Rattle.omi_model.specs.State.{State, task_of}
 use Rattle.omi_model.specs.Views.{region_row, task_row}
 use Rattle.omi_model.specs.Visible.{IsVisibleRegion, IsVisibleTask}
 use Rattle.omi_model.specs.WellFormed.{IsRegionRight, IsTaskRight, IsMember}
+use Rattle.omi_layout.specs.declared.field.Field.{Field}
 use Rattle.omi_layout.specs.declared.field.Field.TheVariants.{RegionFunction, RegionEnclosing, RegionSize, RegionLevels, RegionActive, RegionTeam, TaskImplicit, TaskRegion, TaskThread, TaskNumber, TaskGenerating, TaskScheduling, TaskFunction, TaskExit, TaskEnter, TaskDynamic, TaskNthreadsLength, TaskSchedule, TaskDevice, TaskFinal, TaskTool, TaskNthreads}
 use Rattle.omi_layout.specs.Field.{regions, tasks}
 use Rattle.omi_layout.specs.Named.{number}
 use Rattle.omi_layout.specs.Valid.{IsValid}
 use Rattle.omi_word.specs.Words.{Words}
 use Rattle.omi_rep.specs.Records.{Seen, records_of, task_address}
-use Rattle.omi_rep.specs.Shows.{Shows, ShowsRegion, ShowsTask}
+use Rattle.omi_rep.specs.Codes.{region_code, region_told, task_code, task_told}
+use Rattle.omi_rep.specs.Codes.{shown as visible}
+use Rattle.omi_rep.specs.Shows.{Shows}
+use Rattle.omi_rep.proofs.Codes.{member_code}
 use Rattle.omi_rep.proofs.Same.{one_word, same_region, same_task, same_regions, same_tasks, same_thread}
 
 -- two lists of one length whose elements are told by the same words
@@ -42,11 +46,9 @@ module _ (w : List ℕ) (words : Words) (v : IsValid w) (s t : State) (a : Shows
     abbrev record_seen : Seen
     record_seen = records_of w words k.0.creator tasks k.0.slot
 
-    one : ShowsTask w record_seen x.task
-    one = a.records.tasks k x
-
-    other : ShowsTask w record_seen y.task
-    other = b.records.tasks k y
+    -- one word is the code of both
+    alike : (f : Field) (u v : ℕ) → visible f ≡ true → task_code w (task_told x.task) f 0 ≡ Some u → task_code w (task_told y.task) f 0 ≡ Some v → u ≡ v
+    alike f u v is one other = one_word record_seen f 0 u v (a.records.tasks k x f 0 u is one) (b.records.tasks k y f 0 v is other)
 
     right : IsTaskRight s x.task
     right = a.within.well_formed.tasks k x
@@ -59,36 +61,36 @@ module _ (w : List ℕ) (words : Words) (v : IsValid w) (s t : State) (a : Shows
         same_thread w v x.task.thread y.task.thread
         (record { made_by = subst (λ n. x.task.thread < n) a.within.count right.begun.known; within = omega arith })
         (record { made_by = subst (λ n. y.task.thread < n) b.within.count right_too.begun.known; within = omega arith })
-        (one_word record_seen TaskThread 0 _ _ one.thread other.thread)
+        (alike TaskThread _ _ refl refl refl)
 
     pub same_region_of : x.task.region ≡ y.task.region
-    same_region_of = same_region w words v s t a b x.task.region y.task.region right.region right_too.region (one_word record_seen TaskRegion 0 _ _ one.region other.region)
+    same_region_of = same_region w words v s t a b x.task.region y.task.region right.region right_too.region (alike TaskRegion _ _ refl refl refl)
 
     pub same_scheduling : x.task.scheduling ≡ y.task.scheduling
-    same_scheduling = same_tasks w words v s t a b x.task.scheduling y.task.scheduling right.scheduling right_too.scheduling (one_word record_seen TaskScheduling 0 _ _ one.scheduling other.scheduling)
+    same_scheduling = same_tasks w words v s t a b x.task.scheduling y.task.scheduling right.scheduling right_too.scheduling (alike TaskScheduling _ _ refl refl refl)
 
     same_generating : x.task.generating ≡ y.task.generating
-    same_generating = same_tasks w words v s t a b x.task.generating y.task.generating right.generating right_too.generating (one_word record_seen TaskGenerating 0 _ _ one.generating other.generating)
+    same_generating = same_tasks w words v s t a b x.task.generating y.task.generating right.generating right_too.generating (alike TaskGenerating _ _ refl refl refl)
 
     pub same_number : x.task.number ≡ y.task.number
-    same_number = one_word record_seen TaskNumber 0 _ _ one.member other.member
+    same_number = alike TaskNumber _ _ refl refl refl
 
     same_nthreads : x.task.variables.nthreads ≡ y.task.variables.nthreads
     same_nthreads =
         same_list (λ j. record_seen (number TaskNthreads) j) (λ n. n) x.task.variables.nthreads y.task.variables.nthreads
-        (one_word record_seen TaskNthreadsLength 0 _ _ one.nthreads_length other.nthreads_length) one.nthreads other.nthreads (λ j n m _ _ e. e)
+        (alike TaskNthreadsLength _ _ refl refl refl) (λ j n is. a.records.tasks k x TaskNthreads j n refl is) (λ j n is. b.records.tasks k y TaskNthreads j n refl is) (λ j n m _ _ e. e)
 
     pub same_task_row : (i : ℕ) → task_row i k x.task ≡ task_row i k y.task
     same_task_row i =
-        let implicit = one_word record_seen TaskImplicit 0 _ _ one.implicit other.implicit in
-        let function = one_word record_seen TaskFunction 0 _ _ one.function other.function in
-        let exit = one_word record_seen TaskExit 0 _ _ one.exit other.exit in
-        let enter = one_word record_seen TaskEnter 0 _ _ one.enter other.enter in
-        let tool = one_word record_seen TaskTool 0 _ _ one.tool other.tool in
-        let dynamic = one_word record_seen TaskDynamic 0 _ _ one.dynamic other.dynamic in
-        let schedule = one_word record_seen TaskSchedule 0 _ _ one.schedule other.schedule in
-        let device = one_word record_seen TaskDevice 0 _ _ one.device other.device in
-        let final = one_word record_seen TaskFinal 0 _ _ one.final other.final in
+        let implicit = alike TaskImplicit _ _ refl refl refl in
+        let function = alike TaskFunction _ _ refl refl refl in
+        let exit = alike TaskExit _ _ refl refl refl in
+        let enter = alike TaskEnter _ _ refl refl refl in
+        let tool = alike TaskTool _ _ refl refl refl in
+        let dynamic = alike TaskDynamic _ _ refl refl refl in
+        let schedule = alike TaskSchedule _ _ refl refl refl in
+        let device = alike TaskDevice _ _ refl refl refl in
+        let final = alike TaskFinal _ _ refl refl refl in
         λ p. record {
           task = k;
           thread = i;
@@ -112,11 +114,8 @@ module _ (w : List ℕ) (words : Words) (v : IsValid w) (s t : State) (a : Shows
     abbrev region_seen : Seen
     region_seen = records_of w words n.0.creator regions n.0.slot
 
-    shown : ShowsRegion w region_seen x.region
-    shown = a.records.regions n x
-
-    shown_too : ShowsRegion w region_seen y.region
-    shown_too = b.records.regions n y
+    region_alike : (f : Field) (u v : ℕ) → visible f ≡ true → region_code w (region_told x.region) f 0 ≡ Some u → region_code w (region_told y.region) f 0 ≡ Some v → u ≡ v
+    region_alike f u v is one other = one_word region_seen f 0 u v (a.records.regions n x f 0 u is one) (b.records.regions n y f 0 v is other)
 
     fine : IsRegionRight s x.region
     fine = a.within.well_formed.regions n x
@@ -125,10 +124,10 @@ module _ (w : List ℕ) (words : Words) (v : IsValid w) (s t : State) (a : Shows
     fine_too = b.within.well_formed.regions n y
 
     pub same_enclosing : x.region.enclosing ≡ y.region.enclosing
-    same_enclosing = same_regions w words v s t a b x.region.enclosing y.region.enclosing fine.enclosing fine_too.enclosing (one_word region_seen RegionEnclosing 0 _ _ shown.enclosing shown_too.enclosing)
+    same_enclosing = same_regions w words v s t a b x.region.enclosing y.region.enclosing fine.enclosing fine_too.enclosing (region_alike RegionEnclosing _ _ refl refl refl)
 
     same_size : length x.region.team ≡ length y.region.team
-    same_size = one_word region_seen RegionSize 0 _ _ shown.size shown_too.size
+    same_size = region_alike RegionSize _ _ refl refl refl
 
     same_member : (j : ℕ) (m q : Tid × ℕ) → slice_get x.region.team j ≡ Some m → slice_get y.region.team j ≡ Some q → task_address w m.0 ≡ task_address w q.0 → m ≡ q
     same_member j m q is was e =
@@ -141,13 +140,14 @@ module _ (w : List ℕ) (words : Words) (v : IsValid w) (s t : State) (a : Shows
         λ p. (tasks p, threads p)
 
     same_team : x.region.team ≡ y.region.team
-    same_team = same_list (λ j. region_seen (number RegionTeam) j) (λ m. task_address w m.0) x.region.team y.region.team same_size shown.team shown_too.team same_member
+    same_team = same_list (λ j. region_seen (number RegionTeam) j) (λ m. task_address w m.0) x.region.team y.region.team same_size
+        (λ j m is. a.records.regions n x RegionTeam j _ refl (member_code w (region_told x.region) j m is)) (λ j m is. b.records.regions n y RegionTeam j _ refl (member_code w (region_told y.region) j m is)) same_member
 
     pub same_region_row : region_row n x.region ≡ region_row n y.region
     same_region_row =
-        let function = one_word region_seen RegionFunction 0 _ _ shown.function shown_too.function in
-        let levels = one_word region_seen RegionLevels 0 _ _ shown.levels shown_too.levels in
-        let active = one_word region_seen RegionActive 0 _ _ shown.active shown_too.active in
+        let function = region_alike RegionFunction _ _ refl refl refl in
+        let levels = region_alike RegionLevels _ _ refl refl refl in
+        let active = region_alike RegionActive _ _ refl refl refl in
         λ p. record {
           region = n;
           func = function p;

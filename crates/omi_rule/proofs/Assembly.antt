@@ -38,7 +38,8 @@ use Rattle.omi_rep.specs.declared.outcome.Outcome.{Outcome}
 use Rattle.omi_rep.specs.declared.outcome.Outcome.TheVariants as outcome
 use Rattle.omi_rep.specs.Shows.{AreWithin, LiveAreNamed}
 use Rattle.omi_rep.specs.Suits.{Suits}
-use Rattle.omi_rule_words.specs.ExplicitKinds.{IsPlaceField, slot_of}
+use Rattle.omi_rep.specs.Codes.{is_place}
+use Rattle.omi_rule_words.specs.ExplicitKinds.{slot_of}
 use Rattle.omi_rule_words.specs.Owes.{all_owed, owed}
 use Rattle.omi_rule_words.specs.Words.{KeepsWords}
 use Rattle.omi_rule_words.proofs.Moves.{moves_keep}
@@ -169,7 +170,7 @@ SparesSlots t f v j = (number f ≢ number TaskSlots) ⊎ ((t.thread ≢ j) ⊎ 
 
 -- and the hand of thread j: it is in no word of a place, or in no deferred task, or the task is not in that hand
 abbrev pub SparesHand : State → Tid → Task → Field → ℕ → Actor → Type 0
-SparesHand s k t f j a = (g : Field) → IsPlaceField g → number g ≡ number f → t.progress ≡ Deferred → j < s.count → (owed a).hand ≡ Some k → ⊥
+SparesHand s k t f j a = (g : Field) → is_place g ≡ true → number g ≡ number f → t.progress ≡ Deferred → j < s.count → (owed a).hand ≡ Some k → ⊥
 
 pub spares_task : (m : Memory) (s : State) (k : Tid) (t : Task) (f : Field) (at v j : ℕ) (a : Actor) → task_of s k ≡ Some t → SparesSlots t f v j → SparesHand s k t f j a → Spares m (with_word m k.0.creator tasks k.0.slot (number f) at v) s j a
 spares_task m s k t f at v j a live slots hand = record {

@@ -1,6 +1,5 @@
 -- What the rule says of the record of a live object, by the object's name.
-use Rattle.std.proofs.Common.{◌≡◌, ◌<◌, ℕ, true, List, Some, sym, subst, arith}
-use Rattle.std.specs.Prelude.{MatchBool}
+use Rattle.std.proofs.Common.{◌≡◌, ◌<◌, ℕ, List, Some, sym, subst, arith}
 use Rattle.omi_script.specs.declared.program.Program.{Program}
 use Rattle.omi_model.specs.declared.event.Event.{Event}
 use Rattle.omi_model.specs.declared.id.Rid.{Rid}
@@ -8,9 +7,6 @@ use Rattle.omi_model.specs.declared.id.Tid.{Tid}
 use Rattle.omi_model.specs.declared.region.Region.{Region}
 use Rattle.omi_model.specs.declared.task.Task.{Task}
 use Rattle.omi_model.specs.State.{State, region_of, task_of}
-use Rattle.omi_model.specs.Visible.{HasStarted, IsVisibleRegion, IsVisibleTask}
-use Rattle.omi_model.proofs.NamesLive.{names_live}
-use Rattle.omi_model.proofs.ReachedWellFormed.{visible_region}
 use Rattle.omi_model.proofs.Slots.{found_live}
 use Rattle.omi_layout.specs.declared.field.Field.TheVariants.{RegionLife, TaskLife}
 use Rattle.omi_layout.specs.Field.{regions, tasks}
@@ -69,12 +65,3 @@ module _ (p : Program) (w : List ℕ) (m : Memory) (events : List (ℕ × Event)
       let life = ((rule.words.made n.0.creator (region_maker n r live)).regions n.0.slot (region_there n r live).within).life.live r (found_live n.0.generation (s.regions n.0.creator n.0.slot) r live) in
       let made = found_generations n.0.generation (s.regions n.0.creator n.0.slot) r live in
       omega (arith, life, made)
-
-  -- a live region is visible, and so is an implicit task
-  pub region_seen : (n : Rid) (r : Region) → region_of s n ≡ Some r → IsVisibleRegion s n
-  region_seen n r live = visible_region p events s rule.reached n r live
-
-  pub member_seen : (k : Tid) (t : Task) → task_of s k ≡ Some t → t.implicit ≡ true → IsVisibleTask s k
-  member_seen k t live implicit =
-      let (r, found) = ((names_live p events s rule.reached).tasks k t live).region in
-      record { task = t; live = live; shown = subst (λ b. MatchBool b (IsVisibleRegion s t.region) (HasStarted t.progress)) (sym implicit) (region_seen t.region r found) }

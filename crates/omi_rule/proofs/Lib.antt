@@ -33,6 +33,5 @@ pub mod StepsKept
 pub mod join
 pub mod look
 pub mod CountsFew
-pub mod PlaceFields
 pub mod RelistedState
 pub mod finish

@@ -40,7 +40,8 @@ use Rattle.omi_pc.specs.declared.frame.Wait.{Wait}
 use Rattle.omi_pc.specs.declared.frame.Wait.TheVariants as wait
 use Rattle.omi_pc.specs.declared.place.Place.{Place}
 use Rattle.omi_pc.specs.Fits.{Fits, FitsCounter, FitsTeam}
-use Rattle.omi_rule_words.specs.ExplicitKinds.{IsPlaceField, IsRow, OfEnter, OfExit, OfNumber, OfScheduling, OfThread, slot_of}
+use Rattle.omi_rep.specs.Codes.{is_place}
+use Rattle.omi_rule_words.specs.ExplicitKinds.{IsRow, slot_of}
 use Rattle.omi_rule_words.specs.Owes.{Owed, by_task, by_team, owed, owed_at}
 use Rattle.omi_rule_words.specs.Threads.{WaitsFor}
 use Rattle.omi_rule_words.specs.Words.{IsInTheMaking, KeepsMaking}
@@ -64,7 +65,7 @@ pub record Spares (m n : Memory) (s : State) (j : ℕ) (a : Actor) : Type 0 wher
   pub assign_same : (t : Place) → a.counter ≡ counter.Worker (worker.ClearAssign t) → n j threads 0 (number ThreadAssign) 0 ≡ m j threads 0 (number ThreadAssign) 0
   pub left_kept : (slot : ℕ) → m j regions slot (number RegionLeft) 0 ≤ n j regions slot (number RegionLeft) 0
   pub slots_kept : (row : Tid) (t : Task) (place : ℕ) → task_of s row ≡ Some t → t.implicit ≡ true → t.thread ≡ j → slot_of m row place ≡ 0 → slot_of n row place ≡ 0
-  pub hand_same : (k : Tid) (t : Task) (f : Field) (at : ℕ) → j < s.count → (owed a).hand ≡ Some k → task_of s k ≡ Some t → t.progress ≡ progress.Deferred → IsPlaceField f
+  pub hand_same : (k : Tid) (t : Task) (f : Field) (at : ℕ) → j < s.count → (owed a).hand ≡ Some k → task_of s k ≡ Some t → t.progress ≡ progress.Deferred → is_place f ≡ true
       → n k.0.creator tasks k.0.slot (number f) at ≡ m k.0.creator tasks k.0.slot (number f) at
 
 -- a thread that has a task has its context
@@ -90,13 +91,13 @@ of_member P (m ∷ ms) (suc n) zero all below within = All-head P m.0 (take n (t
 of_member P (m ∷ ms) (suc n) (suc j) all below within = of_member P ms n j (All-tail P m.0 (take n (tasks_of ms)) all) (omega (arith, below)) (omega (arith, within))
 
 -- the words of a start are of a task's place
-start_field : (w : List ℕ) (a : Actor) (l : ℕ) → IsPlaceField (start_plan w a l).field
-start_field w a zero = OfThread
-start_field w a (suc zero) = OfNumber
-start_field w a (suc (suc zero)) = OfScheduling
-start_field w a (suc (suc (suc zero))) = OfExit
-start_field w a (suc (suc (suc (suc zero)))) = OfEnter
-start_field w a (suc (suc (suc (suc (suc l))))) = OfEnter
+start_field : (w : List ℕ) (a : Actor) (l : ℕ) → is_place (start_plan w a l).field ≡ true
+start_field w a zero = refl
+start_field w a (suc zero) = refl
+start_field w a (suc (suc zero)) = refl
+start_field w a (suc (suc (suc zero))) = refl
+start_field w a (suc (suc (suc (suc zero)))) = refl
+start_field w a (suc (suc (suc (suc (suc l))))) = refl
 
 -- what has finished stays so
 finished_stays : (x y : Progress) → stage_of x ≤ stage_of y → x ≡ progress.Finished → y ≡ progress.Finished

@@ -1,5 +1,5 @@
 -- At which word a step commits its event, and at which words a thread may wait.
-use Rattle.std.specs.Prelude.{◌≡◌, ◌⊎◌, ℕ, ◌+◌, List, ◌∷◌, slice_get, Some}
+use Rattle.std.specs.Prelude.{◌≡◌, ◌⊎◌, ℕ, List, ◌∷◌, slice_get, Some}
 use Rattle.omi_numbers.specs.declared.holders.TheConstants.{FREE_CLAIM}
 use Rattle.omi_numbers.specs.Holders.{claimed_word, holder_word}
 use Rattle.omi_word.specs.declared.op.Op.{Op}

@@ -108,7 +108,7 @@ module _ (p : Program) (w : List ℕ) (m : Memory) (events : List (ℕ × Event)
     no_wait zero first (r, there, is) less =
         let o = here p w m events s actors i before (counter.Barrier (barrier.LoadReleased b)) at tt in
         let one : o.region ≡ r = some_same o.found there in
-        let stands = (keeps_region p w m events s actors i before (counter.Barrier (barrier.LoadReleased b)) at tt).released in
+        let stands = (keeps_region p w m events s actors i before (counter.Barrier (barrier.LoadReleased b)) at tt).codes RegionReleased 0 _ refl in
         let all : o.region.released ≡ a.context.arrivals = ap (λ (x : Region). x.released) one ∙ is in
         omega (arith, stands, all, less)
     no_wait (suc n) first released less = omega (arith, first)

@@ -1,6 +1,6 @@
 -- Slots whose objects go on as what they are: what is found, seen, counted and waited for in one state is so in the other.
-use Rattle.std.proofs.Common.{◌≡◌, ◌==◌, ◌+◌, ℕ, Bool, true, false, List, Option, Some, None, refl, sym, ap, subst, ◌∙◌, arith, if◌then◌else◌}
-use Rattle.std.specs.Prelude.{All, IsSome, MatchBool}
+use Rattle.std.proofs.Common.{◌≡◌, ◌==◌, ◌+◌, ℕ, Bool, true, false, Option, Some, None, refl, sym, ap, subst, ◌∙◌, arith, if◌then◌else◌}
+use Rattle.std.specs.Prelude.{IsSome}
 use Rattle.std.specs.Option.{option_and_then, option_map}
 use Rattle.std.proofs.lemmas.List.Elements.{All-weaker}
 use Rattle.omi_model.specs.declared.id.Id.{Id}
@@ -12,7 +12,6 @@ use Rattle.omi_model.specs.declared.slot.Slot.{Slot}
 use Rattle.omi_model.specs.declared.task.Task.{Task}
 use Rattle.omi_model.specs.Put.{Slots, changed, found, named, on}
 use Rattle.omi_model.specs.State.{State, region_of, task_of}
-use Rattle.omi_model.specs.Visible.{HasStarted, IsVisibleRegion, IsVisibleTask}
 use Rattle.omi_model.proofs.Slots.{each_slot}
 use Rattle.omi_layout.specs.declared.field.Field.{Field}
 use Rattle.omi_layout.specs.Memory.{Rec}
@@ -190,33 +189,6 @@ module _ (a b : State) (regions_alike : SlotsAlike IsSameRegion a.regions b.regi
   region_after n r is =
       let (q, live, same) = live_before IsSameRegion (region_of b n) (region_of a n) r (region_found b a regions_back tasks_back n) is in
       (q, live, region_back q r same)
-
-  pub region_seen : (n : Rid) → IsVisibleRegion a n → IsVisibleRegion b n
-  region_seen n seen =
-      let (q, live, same) = region_after n seen.region seen.live in
-      record {
-        region = q;
-        live = live;
-        team = subst (λ (team : List (Tid × ℕ)). All (λ x. IsSome (task_of b x.0)) team) (sym same.team)
-            (All-weaker (λ (x : Tid × ℕ). IsSome (task_of a x.0)) (λ (x : Tid × ℕ). IsSome (task_of b x.0)) (λ x. some_task a b regions_alike tasks_alike x.0) seen.region.team seen.team);
-      }
-
-  pub task_seen : (k : Tid) → IsVisibleTask a k → IsVisibleTask b k
-  task_seen k seen =
-      let (u, live, same) = task_after k seen.task seen.live in
-      record {
-        task = u;
-        live = live;
-        shown =
-            subst (λ (i : Bool). MatchBool i (IsVisibleRegion b u.region) (HasStarted u.progress)) (sym same.implicit)
-            (subst (λ (n : Rid). MatchBool seen.task.implicit (IsVisibleRegion b n) (HasStarted u.progress)) (sym same.region)
-            (subst (λ (p : Progress). MatchBool seen.task.implicit (IsVisibleRegion b seen.task.region) (HasStarted p)) (sym same.progress)
-            (go seen.task.implicit seen.shown)));
-      }
-    where
-      go : (i : Bool) → MatchBool i (IsVisibleRegion a seen.task.region) (HasStarted seen.task.progress) → MatchBool i (IsVisibleRegion b seen.task.region) (HasStarted seen.task.progress)
-      go true shown = region_seen seen.task.region shown
-      go false shown = shown
 
   pub waits_after : (i : ℕ) (k : Tid) → WaitsFor a i k → WaitsFor b i k
   waits_after i k waits =

@@ -13,12 +13,14 @@ use Rattle.omi_layout.specs.Memory.{Rec, Memory, replace_at, with_word}
 use Rattle.omi_layout.specs.Named.{number}
 use Rattle.omi_layout.proofs.Puts.{each_put, put_same, put_other, record_read, record_stays, word_read}
 use Rattle.omi_rep.specs.Records.{task_address}
+use Rattle.omi_rep.specs.Codes.{thread_told}
 use Rattle.omi_rule_words.specs.Owes.{Owed}
 use Rattle.omi_rule_words.specs.Counts.{assign_owed, assigns_in, has_region_slot, has_slot, is_task, one, sum_of_owed}
 use Rattle.omi_rule_words.specs.Threads.{IsAssignedOnce, KeepsAssign, KeepsRuntime, KeepsThread, WaitsFor}
 use Rattle.omi_rule_words.specs.Objects.{KeepsDeferred, KeepsLife}
 use Rattle.omi_rule_words.specs.Words.{AreApart, IsInTheMaking, KeepsMade, KeepsRegionSlot, KeepsTaskSlot, KeepsWords}
 use Rattle.omi_rule_words.specs.Kinds.{AssignClearsKeep, AssignStoresKeep}
+use Rattle.omi_rule_words.proofs.StoredCodes.{assign_stored}
 use Rattle.omi_rule_words.proofs.OtherOwes.{OwesAlike, owes_alike, deferred_owed, objects_owed, region_owed, task_owed}
 use Rattle.omi_rule_words.proofs.Sums.{sum_changed, sum_same}
 
@@ -53,7 +55,7 @@ module _ (w : List ℕ) (m : Memory) (s : State) (owes : ℕ → Owed) (i to wor
           subst (λ c. KeepsThread w c (after c threads 0) (s.threads c)) is
           (subst (λ (r : Rec). KeepsThread w to r (s.threads to)) (sym (record_read m to threads 0 (number ThreadAssign) 0 word))
           (let before : KeepsThread w to (m to threads 0) (s.threads to) = subst (λ c. KeepsThread w c (m c threads 0) (s.threads c)) (sym is) o in
-          record { life = before.life; native = before.native; current = before.current; state = before.state; claim = before.claim }))
+          assign_stored w to (m to threads 0) (thread_told (s.threads to)) before word))
       go false e = subst (λ (r : Rec). KeepsThread w j r (s.threads j)) (sym (record_stays m to threads 0 (number ThreadAssign) 0 word j threads 0 (λ same _ _. grind (arith, nat_tests)))) o
 
   pub assign_changed : ((j : ℕ) → j < s.count → KeepsAssign w s other j (after j threads 0)) → KeepsWords w after s other

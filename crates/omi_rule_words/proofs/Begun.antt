@@ -1,9 +1,8 @@
 -- Slots in which objects begin, whose records stand filled.
 use Rattle.std.proofs.Common.{◌≡◌, ◌==◌, ◌+◌, ◌&&◌, ◌<◌, ℕ, Bool, true, false, inl, inr, List, Option, Some, None, refl, sym, ap, subst, ◌∙◌, arith, if◌then◌else◌}
-use Rattle.std.specs.Prelude.{◌⊎◌, IsSome, sum}
+use Rattle.std.specs.Prelude.{◌⊎◌, IsSome}
 use Rattle.std.proofs.lemmas.Bool.Decides.{nat_tests}
 use Rattle.omi_model.specs.declared.id.Id.{Id}
-use Rattle.omi_model.specs.declared.progress.Progress.TheVariants as progress
 use Rattle.omi_model.specs.declared.region.Region.{Region}
 use Rattle.omi_model.specs.declared.slot.Slot.{Slot}
 use Rattle.omi_model.specs.declared.task.Task.{Task}
@@ -16,7 +15,7 @@ use Rattle.omi_layout.specs.Named.{number}
 use Rattle.omi_layout.specs.Table.{width}
 use Rattle.omi_rule_words.specs.Counts.{ended_members, one}
 use Rattle.omi_rule_words.specs.Threads.{Has}
-use Rattle.omi_rule_words.specs.Objects.{KeepsEnvironment, KeepsPlace, KeepsLife}
+use Rattle.omi_rule_words.specs.Objects.{HasPlace, KeepsEnvironment, KeepsPlace, KeepsLife}
 use Rattle.omi_rule_words.specs.Words.{IsInTheMaking}
 use Rattle.omi_rule_words.specs.TeamKinds.{RegionIsFilled}
 
@@ -86,15 +85,13 @@ making_same i was now n same is = record { maker = is.maker; free = ap (λ x. x.
 pub record NewRegion (w : List ℕ) (r : Rec) (taken : Bool) (x : Region) : Type 0 where
   pub taken_is : taken ≡ true
   pub filled : RegionIsFilled w r x
-  pub arrivals : sum x.arrivals ≡ 0
-  pub released : x.released ≡ 0
   pub ended : ended_members x ≡ 0
 
 -- a record that was taken is filled for this task, which is new and of this kind. It has a place on a thread unless it is deferred
 pub record NewTask (w : List ℕ) (r : Rec) (taken : Bool) (Kind : Task → Type 0) (t : Task) : Type 0 where
   pub taken_is : taken ≡ true
   pub environment : KeepsEnvironment w r t
-  pub place : (t.implicit ≡ false → t.progress ≡ progress.Deferred → ⊥) → KeepsPlace w r t
+  pub place : HasPlace t → KeepsPlace w r t
   pub children : Has r TaskChildren 0 0
   pub slots : t.implicit ≡ true → (place : ℕ) → place < width w (number TaskSlots) → Has r TaskSlots place 0
   pub kind : Kind t

@@ -12,10 +12,12 @@ use Rattle.omi_layout.specs.declared.field.Field.TheVariants.{ThreadCurrent}
 use Rattle.omi_layout.specs.Field.{threads}
 use Rattle.omi_layout.specs.Memory.{Memory, with_word}
 use Rattle.omi_layout.specs.Named.{number}
+use Rattle.omi_rep.specs.Codes.{thread_told}
 use Rattle.omi_rep.specs.Records.{task_word}
 use Rattle.omi_rule_words.specs.Owes.{Owed}
 use Rattle.omi_rule_words.specs.Words.{KeepsWords}
 use Rattle.omi_rule_words.proofs.Renewed.{Becomes, SlotBecomes}
+use Rattle.omi_rule_words.proofs.StoredCodes.{current_code_stored}
 use Rattle.omi_rule_words.proofs.ThreadStores.{thread_stores_keep}
 
 -- all slots, where the object of a name is changed
@@ -46,6 +48,5 @@ on_becomes {A} R same slots k f here =
 pub current_stored : (w : List ℕ) (m : Memory) (s : State) (owes : ℕ → Owed) (i : ℕ) (k : Option Tid) → KeepsWords w m s owes → i < s.count
     → KeepsWords w (with_word m i threads 0 (number ThreadCurrent) 0 (task_word w k)) (with_current s i k) owes
 current_stored w m s owes i k keeps known =
-    let o = (keeps.made i known).thread in
     thread_stores_keep w m s owes i (record (s.threads i) { current = k }) ThreadCurrent (task_word w k) keeps (λ e. absurd (omega (arith, e)))
-    (record { life = o.life; native = o.native; current = refl; state = o.state; claim = o.claim })
+    (current_code_stored w i (m i threads 0) (thread_told (s.threads i)) (keeps.made i known).thread k)

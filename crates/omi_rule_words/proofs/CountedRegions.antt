@@ -12,15 +12,7 @@ pub region_counted : (w : List ℕ) (s u : State) (owes other : ℕ → Owed) (n
     → unfinished_in w u n + sum_of_owed u other (pending_owed n) ≡ unfinished_in w s n + sum_of_owed s owes (pending_owed n)
     → sum_of_owed u other (left_owed n) ≡ sum_of_owed s owes (left_owed n) → KeepsRegion w s owes n r x → KeepsRegion w u other n r x
 region_counted w s u owes other n r x pending left o = record {
-  function = o.function;
-  enclosing = o.enclosing;
-  encountering = o.encountering;
-  size = o.size;
-  levels = o.levels;
-  active = o.active;
-  team = o.team;
-  released = o.released;
-  arrived = o.arrived;
+  codes = o.codes;
   pending = let was = o.pending in omega (arith, was, pending);
   left = let was = o.left in omega (arith, was, left);
 }

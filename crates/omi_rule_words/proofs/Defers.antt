@@ -2,6 +2,7 @@
 use Rattle.std.proofs.Common.{◌≡◌, ◌≢◌, ◌==◌, ◌+◌, ◌<◌, ℕ, Bool, true, false, inl, inr, List, Option, Some, None, refl, sym, ap, subst, ◌∙◌, arith, ne_eqb, if◌then◌else◌}
 use mathlib.Core.Path.{fun_ext}
 use Rattle.std.specs.Prelude.{◌⊎◌}
+use Rattle.omi_numbers.specs.Addresses.{exit_below}
 use Rattle.omi_script.specs.declared.program.Program.{Program}
 use Rattle.omi_model.specs.declared.id.Tid.{Tid}
 use Rattle.omi_model.specs.declared.progress.Progress.TheVariants as progress
@@ -34,6 +35,7 @@ use Rattle.omi_rule_words.proofs.MadeTasks.{IsFilledAs, IsMade, empty, made_coun
 use Rattle.omi_rule_words.proofs.OtherCounts.{is_own_id, owed_put}
 use Rattle.omi_rule_words.proofs.SlotStores.{slot_stored}
 use Rattle.omi_rule_words.proofs.Starts.{other_name}
+use Rattle.omi_rule_words.proofs.StoredCodes.{environment_placed}
 use Rattle.omi_rule_words.proofs.Sums.{slots_none_within, sum_none_within}
 
 module _ (w : List ℕ) (m : Memory) (s : State) (owes : ℕ → Owed) (i : ℕ) (task : Tid) (new : Task) (k : Tid) (t : Task) (hand : Option Tid)
@@ -148,7 +150,7 @@ starts_now_keep = λ p w m s owes i task f final k t keeps within names v known 
         (made_in_hand w m s owes i task new k t None keeps names known owes_new
         (record { explicit = refl; region = refl; generating = refl; goes = refl; unmet = λ is. absurd (cc) })
         (record {
-          environment = let e = filled.environment in record { implicit = e.implicit; region = e.region; generating = e.generating; function = e.function; dynamic = e.dynamic; nthreads_length = e.nthreads_length; schedule = e.schedule; device = e.device; final = e.final; tool = e.tool; nthreads = e.nthreads };
+          environment = environment_placed w (m i tasks task.0.slot) (deferred_task p k t f final 0) i t.number (Some k) (exit_below t.exit) 0 filled.environment;
           place = λ _. place;
           children = filled.children;
         })

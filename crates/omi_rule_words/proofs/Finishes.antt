@@ -1,6 +1,6 @@
 -- An explicit task finishes: its thread owes the lowerings from then on.
-use Rattle.std.proofs.Common.{◌≡◌, ◌&&◌, ◌+◌, ◌<◌, Bool, ℕ, not, false, true, inl, List, Option, Some, refl, sym, ap, subst, ◌∙◌, arith}
-use Rattle.std.specs.Prelude.{IsSome, MatchBool}
+use Rattle.std.proofs.Common.{◌≡◌, ◌&&◌, ◌+◌, ◌<◌, Bool, ℕ, not, false, true, List, Option, Some, refl, sym, ap, subst, ◌∙◌, arith}
+use Rattle.std.specs.Prelude.{IsSome}
 use Rattle.std.specs.Option.{option_and_then, option_map}
 use Rattle.std.proofs.lemmas.List.Elements.{All-nil}
 use Rattle.omi_model.specs.declared.id.Id.{Id}
@@ -13,7 +13,6 @@ use Rattle.omi_model.specs.Changes.{on_task}
 use Rattle.omi_model.specs.LawNames.{AreNamesLive}
 use Rattle.omi_model.specs.State.{State, region_of, task_of}
 use Rattle.omi_model.specs.Tasking.{finished}
-use Rattle.omi_model.specs.Visible.{HasStarted, IsVisibleRegion, IsVisibleTask}
 use Rattle.omi_model.proofs.Slots.{on_same, some_same}
 use Rattle.omi_layout.specs.declared.field.Field.TheVariants.{ThreadCurrent}
 use Rattle.omi_layout.specs.Field.{tasks, threads}
@@ -59,15 +58,6 @@ module _ (w : List ℕ) (m : Memory) (s : State) (owes : ℕ → Owed) (i : ℕ)
   undeferred u is deferred =
       let was : u.progress ≡ progress.Begun = ap (λ (x : Task). x.progress) (some_same is running.live) ∙ running.progress in
       absurd (cc)
-
-  seen : IsVisibleTask s k
-  seen = record {
-    task = t;
-    live = running.live;
-    shown =
-        subst (λ b. MatchBool b (IsVisibleRegion s t.region) (HasStarted t.progress)) (sym running.explicit)
-        (subst (λ (x : Progress). HasStarted x) (sym running.progress) tt);
-  }
 
   -- it was unfinished, and is not
   was_unfinished : is_unfinished t ≡ true
@@ -129,9 +119,8 @@ module _ (w : List ℕ) (m : Memory) (s : State) (owes : ℕ → Owed) (i : ℕ)
       let now : children_owed s q p ≡ 0 + one (is_some_task q t.generating) = ap (λ (o : Option Task). 0 + one (is_some_task q (option_and_then (λ (x : Task). x.generating) o))) running.live in
       omega (arith, change, was, none, owes_more, before, now))
       (λ c j _ _ row _ _ place _ d _. undeferred d.task d.live d.progress)
-      (λ o. let e = o.environment (inl seen) in
-      record { implicit = e.implicit; region = e.region; generating = e.generating; function = e.function; dynamic = e.dynamic; nthreads_length = e.nthreads_length; schedule = e.schedule; device = e.device; final = e.final; tool = e.tool; nthreads = e.nthreads })
-      (λ o. let e = o.place seen in record { thread = e.thread; member = e.member; scheduling = e.scheduling; exit = e.exit; enter = e.enter })
+      (λ o. o.environment)
+      (λ o. o.place (λ _ deferred. let begun = running.progress in absurd (cc)))
       objects refl
       (λ q _. sym (ap (start_owed q) owed))
       (λ j q below _ is same.

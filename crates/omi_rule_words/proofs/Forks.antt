@@ -52,7 +52,7 @@ address_some w v k none =
     let some : FIRST_ADDRESS ≤ place w tasks = leb-true FIRST_ADDRESS (place w tasks) above in
     omega (arith, none, some)
 
-no_arrivals : (n : ℕ) → sum (replicate n 0) ≡ 0
+pub no_arrivals : (n : ℕ) → sum (replicate n 0) ≡ 0
 no_arrivals zero = refl
 no_arrivals (suc n) = no_arrivals n
 
@@ -135,8 +135,6 @@ module _ (p : Program) (w : List ℕ) (m : Memory) (s : State) (owes : ℕ → O
         new = record {
           taken_is = ap (λ (o : Owed). has_region_slot region.0.slot o.region) owed ∙ eq-eqb region.0.slot region.0.slot refl;
           filled = filled.region_record;
-          arrivals = no_arrivals (length team);
-          released = refl;
           ended = none_ended (length team);
         };
       }
@@ -166,8 +164,8 @@ module _ (p : Program) (w : List ℕ) (m : Memory) (s : State) (owes : ℕ → O
         live = ap (λ (z : Slot Task). z.live) now;
         new = record {
           taken_is = ap (λ (o : Owed). has_slot x.0.0.slot o.tasks) owed ∙ has_member_slot team j x is;
-          environment = (filled.members j x is).environment;
-          place = λ _. (filled.members j x is).place;
+          environment = λ g at word _ told. (filled.members j x is).codes g at word told;
+          place = λ _ g at word _ told. (filled.members j x is).codes g at word told;
           children = (filled.members j x is).children;
           slots = λ _. (filled.members j x is).slots;
           kind = record { implicit = refl; undeferred = going j };

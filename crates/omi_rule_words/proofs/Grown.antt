@@ -1,21 +1,18 @@
 -- A state in which objects begin, whose records stand filled, and that counts as before with what threads owe: what is kept of words but for
 -- assign words, records in the making and hands. Nothing names new objects yet.
 use Rattle.std.proofs.Common.{◌≡◌, ◌==◌, ◌+◌, ◌&&◌, ◌<◌, ◌-◌, ℕ, Bool, true, false, inl, inr, List, Option, Some, None, refl, sym, ap, subst, ◌∙◌, arith, eq-eqb, if◌then◌else◌}
-use Rattle.std.specs.Prelude.{◌⊎◌, All, IsSome, MatchBool, get_or}
+use Rattle.std.specs.Prelude.{◌⊎◌, All, IsSome}
 use Rattle.std.specs.Option.{option_and_then}
 use Rattle.std.proofs.lemmas.Bool.Decides.{nat_tests}
-use Rattle.std.proofs.lemmas.Option.{slice_get-get_or}
 use Rattle.omi_rep.specs.Records.{slot_word}
 use Rattle.omi_model.specs.declared.id.Rid.{Rid}
 use Rattle.omi_model.specs.declared.id.Tid.{Tid}
-use Rattle.omi_model.specs.declared.progress.Progress.TheVariants as progress
 use Rattle.omi_model.specs.declared.region.Region.{Region}
 use Rattle.omi_model.specs.declared.slot.Slot.{Slot}
 use Rattle.omi_model.specs.declared.task.Task.{Task}
 use Rattle.omi_model.specs.LawNames.{AreNamesLive}
 use Rattle.omi_model.specs.Put.{Slots}
 use Rattle.omi_model.specs.State.{State, region_of, task_of}
-use Rattle.omi_model.specs.Visible.{HasStarted, IsVisibleRegion, IsVisibleTask}
 use Rattle.omi_model.proofs.Slots.{some_same}
 use Rattle.omi_layout.specs.declared.field.Field.TheVariants.{RegionLife, TaskLife, TaskSlots}
 use Rattle.omi_layout.specs.Field.{threads, regions, tasks}
@@ -29,7 +26,6 @@ use Rattle.omi_rule_words.specs.Words.{HasFinished, KeepsMaking, KeepsRegionSlot
 use Rattle.omi_rule_words.proofs.CountedRegions.{region_counted}
 use Rattle.omi_rule_words.proofs.Begun.{Grows, IsNew, NewRegion, NewTask, begun_life, found_stays, found_was, none_found, one_none, some_found, some_stays}
 use Rattle.omi_rule_words.proofs.OtherOwes.{OwesAlike}
-use Rattle.omi_rule_words.proofs.PlaceStores.{unseen}
 use Rattle.omi_rule_words.proofs.Sums.{slots_none_within, sum_none_within, sum_same, sum_same_within}
 
 -- a thread owes what it owed, or less on raises
@@ -76,25 +72,6 @@ module _ (w : List ℕ) (m : Memory) (s : State) (rs : Slots Region) (ts : Slots
 
   pub waits_after : (i : ℕ) (k : Tid) → WaitsFor s i k → WaitsFor after i k
   waits_after i k x = record { task = x.task; live = task_after k x.task x.live; progress = x.progress; thread = x.thread }
-
-  -- every live region is visible
-  region_seen : (n : Rid) (x : Region) → region_of s n ≡ Some x → IsVisibleRegion s n
-  region_seen n x live = record {
-    region = x;
-    live = live;
-    team = λ j d within. let member = (names.regions n x live).team j (get_or x.team j d) (slice_get-get_or x.team j d within) in some_found (task_of s (get_or x.team j d).0) member.task member.live;
-  }
-
-  task_seen : (k : Tid) (t : Task) → (s.tasks k.0.creator k.0.slot).live ≡ Some t → IsVisibleTask after k → IsVisibleTask s k
-  task_seen k t there seen = go (task_before k seen.task seen.live)
-    where
-      shown : (t : Task) → task_of s k ≡ Some t → (b : Bool) → MatchBool b (IsVisibleRegion after t.region) (HasStarted t.progress) → MatchBool b (IsVisibleRegion s t.region) (HasStarted t.progress)
-      shown t live true _ = let (x, is) = (names.tasks k t live).region in region_seen t.region x is
-      shown t live false started = started
-
-      go : (task_of s k ≡ Some seen.task) ⊎ IsNew (NewAt k.0.creator k.0.slot) k.0.generation (s.tasks k.0.creator k.0.slot) seen.task → IsVisibleTask s k
-      go (inl live) = record { task = seen.task; live = live; shown = shown seen.task live seen.task.implicit seen.shown }
-      go (inr new) = let none = new.empty in absurd (cc)
 
   -- ---- what is counted
 
@@ -227,17 +204,13 @@ module _ (w : List ℕ) (m : Memory) (s : State) (rs : Slots Region) (ts : Slots
         go place (inl none) = inl none
         go place (inr (k, x, is)) = inr (k, record { task = x.task; live = task_after k x.task x.live; progress = x.progress; region = x.region; place_is = x.place_is; maker = x.maker }, is)
 
-    task_kept : (k : Tid) (r : Rec) (t : Task) → (s.tasks k.0.creator k.0.slot).live ≡ Some t → KeepsTask w s owes k r t → KeepsTask w after other k r t
-    task_kept k r t there o = record {
-      environment = λ seen. o.environment (go seen);
-      place = λ seen. o.place (task_seen k t there seen);
+    task_kept : (k : Tid) (r : Rec) (t : Task) → KeepsTask w s owes k r t → KeepsTask w after other k r t
+    task_kept k r t o = record {
+      environment = o.environment;
+      place = o.place;
       counts = counts_kept k r o.counts;
       slots = λ implicit. slots_kept r t (o.slots implicit);
     }
-      where
-        go : IsVisibleTask after k ⊎ (t.progress ≡ progress.Deferred) → IsVisibleTask s k ⊎ (t.progress ≡ progress.Deferred)
-        go (inl seen) = inl (task_seen k t there seen)
-        go (inr deferred) = inr deferred
 
     objects_kept : (j : ℕ) → All (λ q. WaitsFor after q.1 q.0) (other j).assigns → OwesOnLive s (owes j) → OwesOnLive after (other j)
     objects_kept j assigns x = record {
@@ -258,15 +231,7 @@ module _ (w : List ℕ) (m : Memory) (s : State) (rs : Slots Region) (ts : Slots
     region_begun n r taken x empty new =
         let o = new.filled in
         record {
-          function = o.function;
-          enclosing = o.enclosing;
-          encountering = o.encountering;
-          size = o.size;
-          levels = o.levels;
-          active = o.active;
-          team = o.team;
-          released = o.released ∙ sym new.released;
-          arrived = o.arrived ∙ sym new.arrivals;
+          codes = o.codes;
           pending =
               let word = o.pending in
               let none = no_tasks n empty in
@@ -281,10 +246,10 @@ module _ (w : List ℕ) (m : Memory) (s : State) (rs : Slots Region) (ts : Slots
               omega (arith, word, owed, nobody, ended);
         }
 
-    task_begun : (k : Tid) (r : Rec) (taken : Bool) (t : Task) → (s.tasks k.0.creator k.0.slot).live ≡ None → task_of after k ≡ Some t → NewTask w r taken Kind t → KeepsTask w after other k r t
-    task_begun k r taken t empty live new = record {
-      environment = λ _. new.environment;
-      place = λ seen. new.place (λ explicit deferred. unseen after k t (record { live = live; explicit = explicit; progress = deferred }) seen);
+    task_begun : (k : Tid) (r : Rec) (taken : Bool) (t : Task) → (s.tasks k.0.creator k.0.slot).live ≡ None → NewTask w r taken Kind t → KeepsTask w after other k r t
+    task_begun k r taken t empty new = record {
+      environment = new.environment;
+      place = new.place;
       counts = record {
         children =
             let word = new.children in
@@ -325,20 +290,17 @@ module _ (w : List ℕ) (m : Memory) (s : State) (rs : Slots Region) (ts : Slots
               (subst (λ b. KeepsLife (m c tasks k) TaskLife (s.tasks c k) b) (sym stays.fact) o.life);
           live = λ t is.
               let there : (s.tasks c k).live ≡ Some t = sym (ap (λ (y : Slot Task). y.live) stays.same) ∙ is in
-              subst (λ (y : Slot Task). KeepsTask w after other (task_in c k y) (m c tasks k) t) (sym stays.same) (task_kept (task_in c k (s.tasks c k)) (m c tasks k) t there (o.live t there));
+              subst (λ (y : Slot Task). KeepsTask w after other (task_in c k y) (m c tasks k) t) (sym stays.same) (task_kept (task_in c k (s.tasks c k)) (m c tasks k) t (o.live t there));
         }
         go (inr begins) = record {
           life = begun_life (m c tasks k) TaskLife (s.tasks c k) (ts c k) (NewAt c k) (has_slot k (owes c).tasks) (has_slot k (other c).tasks) begins begins.new.taken_is o.life;
-          live = λ t is.
-              let more = begins.generations in
-              let test : (ts c k).generations == (ts c k).generations - 1 + 1 ≡ true = eq-eqb _ _ (omega (arith, more)) in
-              task_begun (task_in c k (ts c k)) (m c tasks k) (has_slot k (owes c).tasks) t begins.empty (ap (λ b. if b then (ts c k).live else None) test ∙ is) (subst (NewAt c k) (some_same begins.live is) begins.new);
+          live = λ t is. task_begun (task_in c k (ts c k)) (m c tasks k) (has_slot k (owes c).tasks) t begins.empty (subst (NewAt c k) (some_same begins.live is) begins.new);
         }
 
     pub grown : ((j : ℕ) → j < s.count → KeepsMaking after j (other j)) → ((j : ℕ) → j < s.count → All (λ q. WaitsFor after q.1 q.0) (other j).assigns)
         → ((j : ℕ) → j < s.count → KeepsAssign w after other j (m j threads 0)) → KeepsDeferred w (λ c. m c tasks) after other → KeepsWords w m after other
     grown making assigns assigned deferred = record {
-      runtime_record = let o = keeps.runtime_record in record { version = o.version; threads = o.threads; procs = o.procs; debug = o.debug; max_active = o.max_active; locks = o.locks };
+      runtime_record = keeps.runtime_record;
       made = λ j known.
           let o = keeps.made j known in
           record {

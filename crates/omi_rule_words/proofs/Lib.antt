@@ -29,7 +29,7 @@ pub mod OtherCounts
 pub mod PendingWords
 pub mod TaskWords
 pub mod EachPlace
-pub mod TaskFields
+pub mod StoredCodes
 pub mod PlaceStores
 pub mod Codes
 pub mod SlotSums

@@ -7,7 +7,7 @@ use Rattle.omi_model.specs.declared.task.Task.{Task}
 use Rattle.omi_model.specs.Changes.{on_task, on_thread}
 use Rattle.omi_model.specs.Put.{on}
 use Rattle.omi_model.specs.State.{State}
-use Rattle.omi_layout.specs.Field.{runtime, tasks}
+use Rattle.omi_layout.specs.Field.{tasks}
 use Rattle.omi_layout.specs.Memory.{Memory, Rec}
 use Rattle.omi_layout.specs.Table.{per_thread}
 use Rattle.omi_rule_words.specs.Owes.{Owed}
@@ -15,7 +15,7 @@ use Rattle.omi_rule_words.specs.Words.{KeepsTask, KeepsWords, task_in}
 use Rattle.omi_rule_words.specs.Kinds.{ListMovesKeep}
 use Rattle.omi_rule_words.specs.TaskKinds.{IsSameTask}
 use Rattle.omi_rule_words.proofs.Alike.{IsSameRegion, live_before, on_alike, same_region, same_task, slots_same}
-use Rattle.omi_rule_words.proofs.OtherStates.{other_states, runtime_kept, task_rewritten}
+use Rattle.omi_rule_words.proofs.OtherStates.{other_states, task_rewritten}
 use Rattle.omi_rule_words.proofs.ThreadStores.{thread_changes_keep}
 
 -- a task with another list
@@ -26,15 +26,14 @@ Relisted t u = u ≡ record t { list = u.list }
 relisted_kept : (w : List ℕ) (s : State) (owes : ℕ → Owed) (k : Tid) (r : Rec) (t : Task) (list : List Item) → KeepsTask w s owes k r t → KeepsTask w s owes k r (record t { list = list })
 relisted_kept w s owes k r t list =
     task_rewritten w s owes k r r t (record t { list = list }) (record { implicit = refl; region = refl; thread = refl; generating = refl; progress = refl; place = refl }) refl (λ _. refl)
-    (λ e. record { implicit = e.implicit; region = e.region; generating = e.generating; function = e.function; dynamic = e.dynamic; nthreads_length = e.nthreads_length; schedule = e.schedule; device = e.device; final = e.final; tool = e.tool; nthreads = e.nthreads })
-    (λ e. record { thread = e.thread; member = e.member; scheduling = e.scheduling; exit = e.exit; enter = e.enter })
+    (λ e. e) (λ e. e)
 
 task_list_keeps : (w : List ℕ) (m : Memory) (s : State) (owes : ℕ → Owed) (k : Tid) (list : List Item) → KeepsWords w m s owes → KeepsWords w m (on_task s k (λ t. record t { list = list })) owes
 task_list_keeps w m s owes k list keeps =
     other_states w s (on_task s k g) owes refl (slots_same IsSameRegion same_region s.regions)
     (on_alike IsSameTask same_task s.tasks k.0 g (λ t _. record { implicit = refl; region = refl; thread = refl; generating = refl; progress = refl; place = refl })) m m keeps
     (λ i. refl) (λ i j. refl) (λ i j. refl) (λ i j place. refl)
-    (runtime_kept w (m 0 runtime 0) s s.threads s.regions (on s.tasks k.0 g) keeps.runtime_record)
+    keeps.runtime_record
     (λ i known. (keeps.made i known).thread)
     (λ i j known within. ((keeps.made i known).regions j within).live)
     (λ i j known within u is.
@@ -55,5 +54,4 @@ list_moves_keep = λ w m s owes i list keeps known. go w m s owes i list keeps k
         → KeepsWords w m (option_map_or (λ k. on_task s k (λ t. record t { list = list })) o (on_thread s i (λ h. record h { list = list }))) owes
     go w m s owes i list keeps known (Some k) = task_list_keeps w m s owes k list keeps
     go w m s owes i list keeps known None =
-        let o = (keeps.made i known).thread in
-        thread_changes_keep w m s owes i (record (s.threads i) { list = list }) keeps (record { life = o.life; native = o.native; current = o.current; state = o.state; claim = o.claim })
+        thread_changes_keep w m s owes i (record (s.threads i) { list = list }) keeps (keeps.made i known).thread

@@ -19,7 +19,7 @@ use Rattle.omi_layout.proofs.Puts.{each_put}
 use Rattle.omi_rule_words.specs.Owes.{Owed, nothing}
 use Rattle.omi_rule_words.specs.Counts.{assign_owed, assigns_in, children_owed, has_region_slot, has_slot, is_finished, is_region, is_some_task, is_unfinished, of_live, one, pending_owed, sum_below, sum_of_owed, sum_of_slots, unfinished_children, unfinished_in}
 use Rattle.omi_rule_words.specs.Threads.{Has, KeepsAssign, WaitsFor}
-use Rattle.omi_rule_words.specs.Objects.{KeepsDeferred, KeepsEnvironment, KeepsPlace}
+use Rattle.omi_rule_words.specs.Objects.{HasPlace, KeepsDeferred, KeepsEnvironment, KeepsPlace}
 use Rattle.omi_rule_words.specs.Words.{IsInTheMaking, KeepsMaking, KeepsWords}
 use Rattle.omi_rule_words.specs.ExplicitKinds.{OwesNew}
 use Rattle.omi_rule_words.proofs.Begun.{Begins, Grows, NewRegion, NewTask, making_same}
@@ -38,7 +38,7 @@ pub record IsMade (k : Tid) (t new : Task) : Type 0 where
 -- and the record that stands filled for it
 pub record IsFilledAs (w : List ℕ) (r : ℕ → ℕ → ℕ) (new : Task) : Type 0 where
   pub environment : KeepsEnvironment w r new
-  pub place : (new.implicit ≡ false → new.progress ≡ progress.Deferred → ⊥) → KeepsPlace w r new
+  pub place : HasPlace new → KeepsPlace w r new
   pub children : Has r TaskChildren 0 0
 
 module _ (w : List ℕ) (m : Memory) (s : State) (owes : ℕ → Owed) (i : ℕ) (task : Tid) (new : Task) (k : Tid) (t : Task) (hand : Option Tid)

@@ -1,36 +1,30 @@
 -- The opening words of a program keep the rule on words.
-use Rattle.std.proofs.Common.{◌≡◌, inl, ◌==◌, ◌<◌, ℕ, zero, suc, ◌&&◌, Bool, true, false, List, [], Some, None, refl, sym, ap, subst, ◌∙◌, arith, if◌then◌else◌}
-use Rattle.std.specs.Prelude.{slice_get}
+use Rattle.std.proofs.Common.{◌≡◌, inl, ◌==◌, ◌<◌, ℕ, ◌&&◌, Bool, true, false, List, [], Some, None, refl, sym, ap, subst, arith, if◌then◌else◌}
 use Rattle.std.proofs.lemmas.Bool.Decides.{nat_tests}
 use Rattle.std.proofs.lemmas.List.Elements.{All-from_recursion}
-use Rattle.std.proofs.lemmas.Option.{get_or_from_slice_get}
 use Rattle.omi_script.specs.declared.program.Program.{Program}
 use Rattle.omi_model.specs.declared.id.Rid.{Rid}
 use Rattle.omi_model.specs.declared.id.Tid.{Tid}
 use Rattle.omi_model.specs.declared.progress.Progress.TheVariants as progress
 use Rattle.omi_model.specs.declared.region.Region.{Region}
 use Rattle.omi_model.specs.declared.task.Task.{Task}
-use Rattle.omi_model.specs.declared.thread.Thread.{Thread}
-use Rattle.omi_numbers.specs.Words.{flag, state_word}
-use Rattle.omi_model.specs.Opening.{initial_task, initial_thread, opening, opening_region, opening_task, waiting_worker}
+use Rattle.omi_model.specs.Opening.{opening, opening_region, opening_task}
 use Rattle.omi_model.specs.Put.{first_alone, unused}
 use Rattle.omi_model.specs.State.{State}
 use Rattle.omi_model.proofs.OpeningObjects.{each_first_task}
 use Rattle.omi_layout.specs.declared.field.Field.{Field}
-use Rattle.omi_layout.specs.declared.field.Field.TheVariants.{RegionLife, TaskLife, RegionTeam}
+use Rattle.omi_layout.specs.declared.field.Field.TheVariants.{RegionLife, TaskLife}
 use Rattle.omi_layout.specs.Field.{runtime, threads, regions, tasks}
 use Rattle.omi_layout.specs.Memory.{Rec, MadeRecords, Memory, memory_of}
 use Rattle.omi_layout.specs.Named.{number}
 use Rattle.omi_layout.specs.OpeningWords.{AreOpening, OpensMade, OpensThread, OpensRegion, OpensTask}
-use Rattle.omi_layout.specs.Place.{slot_address}
 use Rattle.omi_layout.specs.Valid.{IsValid}
 use Rattle.omi_pc.specs.Opening.{opening_actor}
-use Rattle.omi_rep.specs.Records.{task_address, task_word}
 use Rattle.omi_rep.specs.Suits.{Suits}
-use Rattle.omi_rep.proofs.Alone.{flags}
+use Rattle.omi_rep.proofs.OpenedCodes.{region_opened, runtime_opened, task_opened, thread_opened}
 use Rattle.omi_rule_words.specs.Owes.{Owed, all_owed, nothing}
 use Rattle.omi_rule_words.specs.Counts.{of_live, one, has_slot, has_region_slot, is_region, is_some_task, is_unfinished, pending_owed, left_owed, children_owed}
-use Rattle.omi_rule_words.specs.Threads.{Has, KeepsRuntime, KeepsThread, KeepsAssign, WaitsFor, claim_word}
+use Rattle.omi_rule_words.specs.Threads.{KeepsAssign, WaitsFor}
 use Rattle.omi_rule_words.specs.Objects.{KeepsLife, KeepsRegion, KeepsCounts, KeepsDeferred}
 use Rattle.omi_rule_words.specs.Words.{KeepsTask, KeepsRegionSlot, KeepsTaskSlot, KeepsMaking, OwesOnLive, KeepsMade, KeepsWords, IsInTheMaking, region_in, task_in}
 use Rattle.omi_rule_words.specs.Opens.{OpeningKeepsWords}
@@ -81,46 +75,6 @@ module _ (p : Program) (w words : List ℕ) (v : IsValid w) (suits : Suits p w) 
   none : (i : ℕ) → owes i ≡ nothing
   none = opening_owes p
 
-  runtime_kept : KeepsRuntime w (m 0 runtime 0) s
-  runtime_kept =
-      let o = opens.runtime_record in
-      record {
-        version = o.version;
-        threads = o.threads;
-        procs = o.procs;
-        debug = o.debug ∙ flags p.env.debug;
-        max_active = o.max_active;
-        locks = λ k within. o.locks k;
-      }
-
-  thread_kept : (i : ℕ) (r : Rec) → OpensThread w i r → KeepsThread w i r (s.threads i)
-  thread_kept i r o = record {
-    life = o.life ∙ life (i == 0);
-    native = o.native;
-    current = o.current ∙ current (i == 0);
-    state = o.state ∙ state (i == 0);
-    claim = o.claim ∙ claim (i == 0);
-  }
-    where
-      thread : Bool → Thread
-      thread b = if b then initial_thread else waiting_worker
-
-      life : (b : Bool) → (if b then 1 else 0) ≡ flag (if b then initial_thread else waiting_worker).begun
-      life true = refl
-      life false = refl
-
-      current : (b : Bool) → (if b then slot_address w tasks 0 0 else 0) ≡ task_word w (if b then initial_thread else waiting_worker).current
-      current true = refl
-      current false = refl
-
-      state : (b : Bool) → (if b then 0 else 0x100) ≡ state_word (if b then initial_thread else waiting_worker).state (if b then initial_thread else waiting_worker).wait
-      state true = refl
-      state false = refl
-
-      claim : (b : Bool) → 0 ≡ claim_word (if b then initial_thread else waiting_worker).claim
-      claim true = refl
-      claim false = refl
-
   -- no task waits for a thread
   none_waits : (i : ℕ) (k : Tid) → WaitsFor s i k → ⊥
   none_waits i k waits =
@@ -134,15 +88,7 @@ module _ (p : Program) (w words : List ℕ) (v : IsValid w) (suits : Suits p w) 
 
   region_kept : (n : Rid) (r : Rec) → OpensRegion p w r → KeepsRegion w s owes n r (opening_region p)
   region_kept n r o = record {
-    function = o.function;
-    enclosing = o.enclosing;
-    encountering = o.encountering;
-    size = o.size;
-    levels = o.levels;
-    active = o.active;
-    team = team;
-    released = o.released;
-    arrived = o.arrived;
+    codes = region_opened p w r o;
     pending =
         let unfinished = slots_none w s (λ c k t. one (is_unfinished t && is_region n t.region)) (none_counted p (λ t. one (is_unfinished t && is_region n t.region)) refl) in
         let owed = owed_none s owes (pending_owed n) none refl in
@@ -153,12 +99,6 @@ module _ (p : Program) (w words : List ℕ) (v : IsValid w) (suits : Suits p w) 
         let is = o.left in
         omega (arith, owed, is);
   }
-    where
-      team : (j : ℕ) (x : Tid × ℕ) → slice_get (opening_region p).team j ≡ Some x → Has r RegionTeam j (task_address w x.0)
-      team zero x is =
-          let same : (initial_task, 0) ≡ x = cc in
-          subst (λ (q : Tid × ℕ). Has r RegionTeam 0 (task_address w q.0)) same o.member
-      team (suc j) x is = absurd (cc)
 
   counts_kept : (k : Tid) (r : Rec) → OpensTask p w r → KeepsCounts w s owes k r
   counts_kept k r o = record {
@@ -171,20 +111,8 @@ module _ (p : Program) (w words : List ℕ) (v : IsValid w) (suits : Suits p w) 
 
   task_kept : (k : Tid) (r : Rec) → OpensTask p w r → KeepsTask w s owes k r (opening_task p)
   task_kept k r o = record {
-    environment = λ seen. record {
-      implicit = o.implicit;
-      region = o.region;
-      generating = o.generating;
-      function = o.function;
-      dynamic = o.dynamic ∙ flags p.env.dynamic;
-      nthreads_length = o.nthreads_length;
-      schedule = o.schedule;
-      device = o.device;
-      final = o.final;
-      tool = o.tool;
-      nthreads = λ j n is. o.nthreads j ∙ get_or_from_slice_get p.env.nthreads j n 0 is;
-    };
-    place = λ seen. record { thread = o.thread; member = o.member; scheduling = o.scheduling; exit = o.exit; enter = o.enter };
+    environment = λ f at word _ told. task_opened p w r o f at word told;
+    place = λ _ f at word _ told. task_opened p w r o f at word told;
     counts = counts_kept k r o;
     slots = λ implicit place within. inl (o.slots place);
   }
@@ -236,7 +164,7 @@ module _ (p : Program) (w words : List ℕ) (v : IsValid w) (suits : Suits p w) 
       let threads_are = suits.threads in
       let o = opens.made i (omega (arith, within, threads_are)) in
       record {
-        thread = thread_kept i (m i threads 0) o.thread;
+        thread = thread_opened p w i (m i threads 0) o.thread;
         assign = assign_kept i (m i threads 0) o.thread;
         regions = λ slot there. region_slot_kept i slot (m i) o;
         tasks = λ slot there. task_slot_kept i slot (m i) o;
@@ -251,7 +179,7 @@ module _ (p : Program) (w words : List ℕ) (v : IsValid w) (suits : Suits p w) 
   }
 
   words_kept : KeepsWords w m s owes
-  words_kept = record { runtime_record = runtime_kept; made = made_kept; deferred = deferred_kept }
+  words_kept = record { runtime_record = runtime_opened p w (m 0 runtime 0) opens.runtime_record; made = made_kept; deferred = deferred_kept }
 
 pub opening_kept : OpeningKeepsWords
 opening_kept = λ p w words v suits opens. words_kept p w words v suits opens

@@ -11,13 +11,14 @@ use Rattle.omi_model.specs.declared.task.Task.{Task}
 use Rattle.omi_model.specs.Put.{Slots, found, named}
 use Rattle.omi_model.specs.State.{State}
 use Rattle.omi_model.proofs.Slots.{id_same}
-use Rattle.omi_layout.specs.declared.field.Field.TheVariants.{RegionArrived, RegionLeft, RegionLife, RegionPending, RegionReleased, TaskChildren, TaskLife, TaskSlots}
+use Rattle.omi_layout.specs.declared.field.Field.TheVariants.{RegionLeft, RegionLife, RegionPending, TaskChildren, TaskLife, TaskSlots}
 use Rattle.omi_layout.specs.declared.field.Field.{Field}
 use Rattle.omi_layout.specs.Field.{runtime, threads, regions, tasks}
 use Rattle.omi_layout.specs.Memory.{Memory, Rec, replace_at}
 use Rattle.omi_layout.specs.Named.{number}
 use Rattle.omi_layout.specs.Table.{per_thread}
 use Rattle.omi_layout.proofs.Puts.{each_put, put_other, put_same}
+use Rattle.omi_rep.specs.Codes.{region_told, task_told}
 use Rattle.omi_rule_words.specs.Owes.{Owed}
 use Rattle.omi_rule_words.specs.Counts.{children_owed, has_region_slot, has_slot, is_id, left_owed, pending_owed, start_owed, sum_of_owed, unfinished_in}
 use Rattle.omi_rule_words.specs.Threads.{Has, KeepsAssign, KeepsRuntime, KeepsThread}
@@ -26,9 +27,8 @@ use Rattle.omi_rule_words.specs.Words.{AreApart, IsInTheMaking, KeepsMade, Keeps
 use Rattle.omi_rule_words.proofs.Fills.{life_same}
 use Rattle.omi_rule_words.proofs.OtherOwes.{assign_owed_same}
 use Rattle.omi_rule_words.proofs.OtherStates.{slots_as_before}
-use Rattle.omi_rule_words.proofs.RegionStores.{region_rewritten}
 use Rattle.omi_rule_words.proofs.Sums.{sum_changed, sum_same}
-use Rattle.omi_rule_words.proofs.TaskFields.{environment_same, is_environment, is_place, place_same, told_apart}
+use Rattle.omi_rule_words.proofs.StoredCodes.{region_apart, task_apart}
 
 -- ---- names
 
@@ -96,13 +96,15 @@ module _ (w : List ℕ) (m n : Memory) (s : State) (owes : ℕ → Owed) (i : �
       → (a (number RegionPending) 0 ≡ unfinished_in w s q + sum_of_owed s owes (pending_owed q) → b (number RegionPending) 0 ≡ unfinished_in w s q + sum_of_owed s other (pending_owed q))
       → KeepsRegion w s owes q a x → KeepsRegion w s other q b x
   region_counted q a b x same pending o =
-      region_rewritten w s owes other q a b x x.arrivals x.released (λ g at _ _ ne _. same g at ne)
-      (same RegionReleased 0 (λ is. omega (arith, is)) ∙ o.released) (same RegionArrived 0 (λ is. omega (arith, is)) ∙ o.arrived) (pending o.pending)
-      (let was = o.left in
-      let word = same RegionLeft 0 (λ is. omega (arith, is)) in
-      let owed = owed_put_same s owes i p (left_owed q) (ap (λ x. left_owed q (record (owes i) { left = x })) alike_own.left) in
-      omega (arith, was, word, owed))
-      o
+      record {
+        codes = λ g at word told. same g at (region_apart w (region_told x) g at word told).0 ∙ o.codes g at word told;
+        pending = pending o.pending;
+        left =
+            let was = o.left in
+            let word = same RegionLeft 0 (λ is. omega (arith, is)) in
+            let owed = owed_put_same s owes i p (left_owed q) (ap (λ x. left_owed q (record (owes i) { left = x })) alike_own.left) in
+            omega (arith, was, word, owed);
+      }
 
   -- the counts of a task on which the same is owed
   pub counts_same : (k : Tid) (a b : Rec) → b (number TaskChildren) 0 ≡ a (number TaskChildren) 0
@@ -119,8 +121,8 @@ module _ (w : List ℕ) (m n : Memory) (s : State) (owes : ℕ → Owed) (i : �
   pub task_counted : (k : Tid) (a b : Rec) (t : Task) → ((g : Field) (at : ℕ) → number g ≢ number TaskChildren → b (number g) at ≡ a (number g) at)
       → (KeepsCounts w s owes k a → KeepsCounts w s other k b) → KeepsTask w s owes k a t → KeepsTask w s other k b t
   task_counted k a b t same counts o = record {
-    environment = λ seen. environment_same w a b t (λ g at holds. same g at (told_apart is_environment (number g) (number TaskChildren) holds refl)) (o.environment seen);
-    place = λ seen. place_same w a b t (λ g at holds. same g at (told_apart is_place (number g) (number TaskChildren) holds refl)) (o.place seen);
+    environment = λ g at word none told. same g at (task_apart w (task_told t) g at word told).0 ∙ o.environment g at word none told;
+    place = λ has g at word is told. same g at (task_apart w (task_told t) g at word told).0 ∙ o.place has g at word is told;
     counts = counts o.counts;
     slots = λ implicit at within. slot at (o.slots implicit at within);
   }

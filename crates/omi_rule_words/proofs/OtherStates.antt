@@ -5,13 +5,9 @@ use Rattle.std.specs.Option.{option_and_then}
 use Rattle.omi_rep.specs.Records.{slot_word}
 use Rattle.omi_model.specs.declared.id.Rid.{Rid}
 use Rattle.omi_model.specs.declared.id.Tid.{Tid}
-use Rattle.omi_model.specs.declared.progress.Progress.TheVariants as progress
 use Rattle.omi_model.specs.declared.region.Region.{Region}
 use Rattle.omi_model.specs.declared.task.Task.{Task}
-use Rattle.omi_model.specs.declared.thread.Thread.{Thread}
-use Rattle.omi_model.specs.Put.{Slots}
 use Rattle.omi_model.specs.State.{State}
-use Rattle.omi_model.specs.Visible.{IsVisibleTask}
 use Rattle.omi_layout.specs.declared.field.Field.TheVariants.{RegionLife, TaskChildren, TaskLife, TaskSlots, ThreadAssign}
 use Rattle.omi_layout.specs.Field.{runtime, threads, regions, tasks}
 use Rattle.omi_layout.specs.Memory.{Rec, Memory}
@@ -24,7 +20,7 @@ use Rattle.omi_rule_words.specs.Objects.{IsDeferredIn, KeepsCounts, KeepsDeferre
 use Rattle.omi_rule_words.specs.Words.{KeepsMade, KeepsTask, KeepsWords, region_in, task_in}
 use Rattle.omi_rule_words.specs.TaskKinds.{IsSameTask}
 use Rattle.omi_rule_words.proofs.CountedRegions.{region_counted}
-use Rattle.omi_rule_words.proofs.Alike.{IsSameRegion, SlotsAlike, deferred_in_after, generating_same, life_alike, live_counted, making_after, objects_after, parts_same, region_back, slots_back, task_after, task_back, task_before, task_seen, waits_after}
+use Rattle.omi_rule_words.proofs.Alike.{IsSameRegion, SlotsAlike, deferred_in_after, generating_same, life_alike, live_counted, making_after, objects_after, parts_same, region_back, slots_back, task_after, task_back, task_before, waits_after}
 use Rattle.omi_rule_words.proofs.Sums.{sum_same}
 
 -- a slot word stands in as many slots as before, where the words of all slots are as before
@@ -100,15 +96,11 @@ module _ (w : List ℕ) (s u : State) (owes : ℕ → Owed) (count : u.count ≡
 
   task_kept : (k : Tid) (r : Rec) (t : Task) → KeepsTask w s owes k r t → KeepsTask w u owes k r t
   task_kept k r t o = record {
-    environment = λ seen. o.environment (go seen);
-    place = λ seen. o.place (task_seen u s regions_back tasks_back k seen);
+    environment = o.environment;
+    place = o.place;
     counts = counts_kept k r o.counts;
     slots = λ implicit. slots_kept r t (o.slots implicit);
   }
-    where
-      go : IsVisibleTask u k ⊎ (t.progress ≡ progress.Deferred) → IsVisibleTask s k ⊎ (t.progress ≡ progress.Deferred)
-      go (inl seen) = inl (task_seen u s regions_back tasks_back k seen)
-      go (inr deferred) = inr deferred
 
   assign_kept : (i : ℕ) (r q : Rec) → q (number ThreadAssign) 0 ≡ r (number ThreadAssign) 0 → KeepsAssign w s owes i r → KeepsAssign w u owes i q
   assign_kept i r q same o = record {
@@ -175,27 +167,19 @@ module _ (w : List ℕ) (s u : State) (owes : ℕ → Owed) (count : u.count ≡
               objects = objects_after s u regions_alike tasks_alike (owes i) o.objects;
             }
 
--- the runtime record, where threads, regions and tasks are others
-pub runtime_kept : (w : List ℕ) (r : Rec) (s : State) (hs : ℕ → Thread) (rs : Slots Region) (ts : Slots Task) → KeepsRuntime w r s → KeepsRuntime w r (record s { threads = hs; regions = rs; tasks = ts })
-runtime_kept w r s hs rs ts o = record { version = o.version; threads = o.threads; procs = o.procs; debug = o.debug; max_active = o.max_active; locks = o.locks }
-
 -- a task that is another, and whose record has other words than its counts and slots
 pub task_rewritten : (w : List ℕ) (s : State) (owes : ℕ → Owed) (k : Tid) (r q : Rec) (t u : Task) → IsSameTask t u
     → q (number TaskChildren) 0 ≡ r (number TaskChildren) 0 → ((place : ℕ) → q (number TaskSlots) place ≡ r (number TaskSlots) place)
     → (KeepsEnvironment w r t → KeepsEnvironment w q u) → (KeepsPlace w r t → KeepsPlace w q u) → KeepsTask w s owes k r t → KeepsTask w s owes k q u
 task_rewritten w s owes k r q t u same children slots environment place o = record {
-  environment = λ seen. environment (o.environment (go seen));
-  place = λ seen. place (o.place seen);
+  environment = environment o.environment;
+  place = λ has. place (o.place (λ explicit deferred. has (same.implicit ∙ explicit) (same.progress ∙ deferred)));
   counts = record {
     children = children ∙ o.counts.children;
   };
   slots = λ implicit at within. slot at (o.slots (sym same.implicit ∙ implicit) at within);
 }
   where
-    go : IsVisibleTask s k ⊎ (u.progress ≡ progress.Deferred) → IsVisibleTask s k ⊎ (t.progress ≡ progress.Deferred)
-    go (inl seen) = inl seen
-    go (inr deferred) = inr (sym same.progress ∙ deferred)
-
     slot : (at : ℕ) → Has r TaskSlots at 0 ⊎ ((j : Tid) × IsDeferredIn s t at j × Has r TaskSlots at (slot_word w j))
         → Has q TaskSlots at 0 ⊎ ((j : Tid) × IsDeferredIn s u at j × Has q TaskSlots at (slot_word w j))
     slot at (inl none) = inl (slots at ∙ none)

@@ -1,5 +1,5 @@
 -- Stores into the record of a live region that goes on as what it is: arrivals and releases.
-use Rattle.std.proofs.Common.{◌≡◌, ◌≢◌, ◌+◌, ◌<◌, ℕ, List, length, Some, refl, sym, ap, subst, ◌∙◌, arith}
+use Rattle.std.proofs.Common.{◌≡◌, ◌≢◌, ◌+◌, ◌<◌, ℕ, zero, suc, List, length, Some, refl, sym, ap, subst, ◌∙◌, arith}
 use Rattle.std.specs.Prelude.{slice_index, slice_set, sum}
 use Rattle.std.proofs.lemmas.List.Sums.{sum_by-set}
 use Rattle.omi_model.specs.declared.limits.TheConstants.{MOST_EVENTS}
@@ -9,46 +9,27 @@ use Rattle.omi_model.specs.declared.slot.Slot.{Slot}
 use Rattle.omi_model.specs.declared.task.Task.{Task}
 use Rattle.omi_model.specs.Barriers.{arrived, released}
 use Rattle.omi_model.specs.Changes.{on_region}
-use Rattle.omi_model.specs.Put.{changed, on}
+use Rattle.omi_model.specs.Put.{changed}
 use Rattle.omi_model.specs.State.{State, region_of}
 use Rattle.omi_model.proofs.Slots.{each_slot, found_live}
 use Rattle.omi_layout.specs.declared.field.Field.{Field}
-use Rattle.omi_layout.specs.declared.field.Field.TheVariants.{RegionActive, RegionArrived, RegionEnclosing, RegionEncountering, RegionFunction, RegionLeft, RegionLevels, RegionLife, RegionPending, RegionReleased, RegionSize, RegionTeam, TaskLife, TaskSlots, ThreadAssign}
+use Rattle.omi_layout.specs.declared.field.Field.TheVariants.{RegionArrived, RegionLeft, RegionLife, RegionPending, RegionReleased, TaskLife, TaskSlots, ThreadAssign}
 use Rattle.omi_layout.specs.Field.{runtime, threads, regions, tasks}
 use Rattle.omi_layout.specs.Memory.{Memory, Rec, with_word}
 use Rattle.omi_layout.specs.Named.{number}
 use Rattle.omi_layout.specs.Table.{per_thread}
 use Rattle.omi_layout.proofs.Puts.{record_stays, word_read, word_stays}
+use Rattle.omi_rep.specs.Codes.{HasCodes, region_code, region_told}
+use Rattle.omi_rep.proofs.Codes.{same_word}
 use Rattle.omi_rule_words.specs.Owes.{Owed}
-use Rattle.omi_rule_words.specs.Counts.{ended_members, left_owed, pending_owed, sum_of_owed, unfinished_in}
-use Rattle.omi_rule_words.specs.Threads.{Has, KeepsRuntime, KeepsThread}
+use Rattle.omi_rule_words.specs.Threads.{KeepsRuntime, KeepsThread}
 use Rattle.omi_rule_words.specs.Objects.{KeepsRegion}
 use Rattle.omi_rule_words.specs.Words.{KeepsTask, KeepsWords, region_in, task_in}
 use Rattle.omi_rule_words.specs.TaskKinds.{IsSameTask}
 use Rattle.omi_rule_words.specs.BarrierKinds.{ArrivesKeep, ReleasesKeep, one_more, with_region_word, word_of_region}
 use Rattle.omi_rule_words.proofs.Alike.{IsSameRegion, on_alike, same_region, same_task, slots_same}
-use Rattle.omi_rule_words.proofs.OtherStates.{other_states, runtime_kept}
+use Rattle.omi_rule_words.proofs.OtherStates.{other_states}
 use Rattle.omi_rule_words.proofs.TaskStores.{changed_live}
-
--- a region that has other arrivals or releases, and whose record has other words for what is counted
-pub region_rewritten : (w : List ℕ) (s : State) (owes other : ℕ → Owed) (q : Rid) (a b : Rec) (x : Region) (arrivals : List ℕ) (released : ℕ)
-    → ((g : Field) (p : ℕ) → number g ≢ number RegionReleased → number g ≢ number RegionArrived → number g ≢ number RegionPending → number g ≢ number RegionLeft → b (number g) p ≡ a (number g) p)
-    → Has b RegionReleased 0 released → Has b RegionArrived 0 (sum arrivals) → Has b RegionPending 0 (unfinished_in w s q + sum_of_owed s other (pending_owed q))
-    → b (number RegionLeft) 0 + sum_of_owed s other (left_owed q) ≡ ended_members x
-    → KeepsRegion w s owes q a x → KeepsRegion w s other q b (record x { arrivals = arrivals; released = released })
-region_rewritten w s owes other q a b x arrivals released same released_is arrived pending left o = record {
-  function = same RegionFunction 0 (λ is. omega (arith, is)) (λ is. omega (arith, is)) (λ is. omega (arith, is)) (λ is. omega (arith, is)) ∙ o.function;
-  enclosing = same RegionEnclosing 0 (λ is. omega (arith, is)) (λ is. omega (arith, is)) (λ is. omega (arith, is)) (λ is. omega (arith, is)) ∙ o.enclosing;
-  encountering = same RegionEncountering 0 (λ is. omega (arith, is)) (λ is. omega (arith, is)) (λ is. omega (arith, is)) (λ is. omega (arith, is)) ∙ o.encountering;
-  size = same RegionSize 0 (λ is. omega (arith, is)) (λ is. omega (arith, is)) (λ is. omega (arith, is)) (λ is. omega (arith, is)) ∙ o.size;
-  levels = same RegionLevels 0 (λ is. omega (arith, is)) (λ is. omega (arith, is)) (λ is. omega (arith, is)) (λ is. omega (arith, is)) ∙ o.levels;
-  active = same RegionActive 0 (λ is. omega (arith, is)) (λ is. omega (arith, is)) (λ is. omega (arith, is)) (λ is. omega (arith, is)) ∙ o.active;
-  team = λ j y is. same RegionTeam j (λ is. omega (arith, is)) (λ is. omega (arith, is)) (λ is. omega (arith, is)) (λ is. omega (arith, is)) ∙ o.team j y is;
-  released = released_is;
-  arrived = arrived;
-  pending = pending;
-  left = left;
-}
 
 module _ (w : List ℕ) (m : Memory) (s : State) (owes : ℕ → Owed) (name : Rid) (r : Region) (f : Field) (at word : ℕ) (keeps : KeepsWords w m s owes) (live : region_of s name ≡ Some r) where
   abbrev creator : ℕ
@@ -78,7 +59,7 @@ module _ (w : List ℕ) (m : Memory) (s : State) (owes : ℕ → Owed) (name : R
       (λ i j. word_stays m creator regions place (number f) at word i regions j (number RegionLife) 0 (λ _ _ _ is _. field (sym is)))
       (λ i j. ap (λ (x : Rec). x (number TaskLife) 0) (stays i tasks j (λ kind. absurd (omega (arith, kind)))))
       (λ i j p. ap (λ (x : Rec). x (number TaskSlots) p) (stays i tasks j (λ kind. absurd (omega (arith, kind)))))
-      (subst (λ (x : Rec). KeepsRuntime w x (on_region s name g)) (sym (stays 0 runtime 0 (λ kind. absurd (omega (arith, kind))))) (runtime_kept w (m 0 runtime 0) s s.threads (on s.regions name.0 g) s.tasks keeps.runtime_record))
+      (subst (λ (x : Rec). KeepsRuntime w x (on_region s name g)) (sym (stays 0 runtime 0 (λ kind. absurd (omega (arith, kind))))) keeps.runtime_record)
       (λ i known. subst (λ (x : Rec). KeepsThread w i x (s.threads i)) (sym (stays i threads 0 (λ kind. absurd (omega (arith, kind))))) (keeps.made i known).thread)
       (λ i j known within. each_slot s.regions name.0 (λ c slot (y : Slot Region). c < s.count → slot < per_thread w regions → (v : Region) → y.live ≡ Some v → KeepsRegion w s owes (region_in c slot (s.regions c slot)) (n c regions slot) v)
       (changed name.0.generation g (s.regions creator place)) here beside i j known within)
@@ -103,10 +84,11 @@ arrives_keep = λ w m s owes t r keeps live member small. kept w m s owes t r ke
     kept w m s owes t r keeps live member small =
         region_stored w m s owes t.region r RegionArrived 0 word keeps live (λ x. record x { arrivals = slice_set x.arrivals t.number (slice_index x.arrivals t.number + 1) })
         (record { team = refl; joined = refl }) (λ same. omega (arith, same))
-        (λ within q o. region_rewritten w s owes owes q (m t.region.0.creator regions t.region.0.slot) (with_region_word m t.region RegionArrived word t.region.0.creator regions t.region.0.slot) r
-        (slice_set r.arrivals t.number (slice_index r.arrivals t.number + 1)) r.released (λ g p _ ne _ _. other g p ne)
-        (other RegionReleased 0 (λ same. omega (arith, same)) ∙ o.released) (arrived_word o.arrived) (other RegionPending 0 (λ same. omega (arith, same)) ∙ o.pending)
-        (let was = o.left in let same = other RegionLeft 0 (λ same. omega (arith, same)) in omega (arith, was, same)) o)
+        (λ within q o. record {
+          codes = codes o;
+          pending = other RegionPending 0 (λ same. omega (arith, same)) ∙ o.pending;
+          left = let was = o.left in let same = other RegionLeft 0 (λ same. omega (arith, same)) in omega (arith, was, same);
+        })
       where
         word : ℕ
         word = one_more (word_of_region m t.region RegionArrived)
@@ -121,6 +103,12 @@ arrives_keep = λ w m s owes t r keeps live member small. kept w m s owes t r ke
             = sum_by-set (λ x. x) r.arrivals t.number (slice_index r.arrivals t.number + 1) 0 member in
             omega (arith, was, stored, one_more_arrived, small)
 
+        codes : {q : Rid} → KeepsRegion w s owes q (m t.region.0.creator regions t.region.0.slot) r
+            → HasCodes (region_code w (region_told (record r { arrivals = slice_set r.arrivals t.number (slice_index r.arrivals t.number + 1) }))) (with_region_word m t.region RegionArrived word t.region.0.creator regions t.region.0.slot)
+        codes o RegionArrived zero x is = arrived_word (o.codes RegionArrived 0 _ refl) ∙ same_word _ _ is
+        codes o RegionArrived (suc p) x is = absurd (cc)
+        codes o g p x is = other g p (λ same. absurd (omega (arith, same))) ∙ o.codes g p x is
+
 pub releases_keep : ReleasesKeep
 releases_keep = λ w m s owes t r keeps live. kept w m s owes t r keeps live
   where
@@ -129,10 +117,17 @@ releases_keep = λ w m s owes t r keeps live. kept w m s owes t r keeps live
     kept w m s owes t r keeps live =
         region_stored w m s owes t.region r RegionReleased 0 (r.released + 1) keeps live (λ x. record x { released = x.released + 1 })
         (record { team = refl; joined = refl }) (λ same. omega (arith, same))
-        (λ within q o. region_rewritten w s owes owes q (m t.region.0.creator regions t.region.0.slot) (with_region_word m t.region RegionReleased (r.released + 1) t.region.0.creator regions t.region.0.slot) r
-        r.arrivals (r.released + 1) (λ g p ne _ _ _. other g p ne)
-        (word_read m t.region.0.creator regions t.region.0.slot (number RegionReleased) 0 (r.released + 1)) (other RegionArrived 0 (λ same. omega (arith, same)) ∙ o.arrived) (other RegionPending 0 (λ same. omega (arith, same)) ∙ o.pending)
-        (let was = o.left in let same = other RegionLeft 0 (λ same. omega (arith, same)) in omega (arith, was, same)) o)
+        (λ within q o. record {
+          codes = codes o;
+          pending = other RegionPending 0 (λ same. omega (arith, same)) ∙ o.pending;
+          left = let was = o.left in let same = other RegionLeft 0 (λ same. omega (arith, same)) in omega (arith, was, same);
+        })
       where
         other : (g : Field) (p : ℕ) → number g ≢ number RegionReleased → with_region_word m t.region RegionReleased (r.released + 1) t.region.0.creator regions t.region.0.slot (number g) p ≡ m t.region.0.creator regions t.region.0.slot (number g) p
         other = others_stay w m s owes t.region r RegionReleased 0 (r.released + 1) keeps live
+
+        codes : {q : Rid} → KeepsRegion w s owes q (m t.region.0.creator regions t.region.0.slot) r
+            → HasCodes (region_code w (region_told (record r { released = r.released + 1 }))) (with_region_word m t.region RegionReleased (r.released + 1) t.region.0.creator regions t.region.0.slot)
+        codes o RegionReleased zero x is = word_read m t.region.0.creator regions t.region.0.slot (number RegionReleased) 0 (r.released + 1) ∙ same_word _ _ is
+        codes o RegionReleased (suc p) x is = absurd (cc)
+        codes o g p x is = other g p (λ same. absurd (omega (arith, same))) ∙ o.codes g p x is

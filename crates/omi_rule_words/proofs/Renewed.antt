@@ -1,8 +1,8 @@
 -- A state whose tasks go on and whose members end or are joined, and threads that owe other assign words, met tasks and departures: all that is
 -- kept of words but for these.
-use Rattle.std.proofs.Common.{◌≡◌, ◌≢◌, ◌==◌, ◌+◌, ◌&&◌, ◌<◌, ◌-◌, ℕ, Bool, true, false, inl, inr, List, length, Option, Some, None, not, refl, sym, ap, ap₂, subst, ◌∙◌, arith, if◌then◌else◌}
+use Rattle.std.proofs.Common.{◌≡◌, ◌≢◌, ◌==◌, ◌+◌, ◌&&◌, ◌<◌, ◌-◌, ℕ, Bool, true, false, inl, inr, List, Option, Some, None, not, refl, sym, ap, ap₂, subst, ◌∙◌, arith, if◌then◌else◌}
 use mathlib.Core.Path.{fun_ext}
-use Rattle.std.specs.Prelude.{◌⊎◌, All, IsSome, MatchBool, slice_get, sum}
+use Rattle.std.specs.Prelude.{◌⊎◌, All, IsSome}
 use Rattle.std.specs.Option.{option_and_then}
 use Rattle.std.proofs.lemmas.List.Elements.{All-weaker}
 use Rattle.omi_model.specs.declared.id.Id.{Id}
@@ -16,20 +16,20 @@ use Rattle.omi_model.specs.declared.slot.Slot.{Slot}
 use Rattle.omi_model.specs.declared.task.Task.{Task}
 use Rattle.omi_model.specs.Put.{Slots, found}
 use Rattle.omi_model.specs.State.{State, region_of, task_of}
-use Rattle.omi_model.specs.Visible.{HasStarted, IsVisibleRegion, IsVisibleTask}
 use Rattle.omi_layout.specs.declared.field.Field.{Field}
-use Rattle.omi_layout.specs.declared.field.Field.TheVariants.{RegionLeft, RegionLife, RegionFunction, RegionEnclosing, RegionEncountering, RegionSize, RegionLevels, RegionActive, RegionTeam, RegionReleased, RegionArrived, RegionPending, TaskLife, TaskSlots}
+use Rattle.omi_layout.specs.declared.field.Field.TheVariants.{RegionLeft, RegionLife, RegionPending, TaskLife, TaskSlots}
 use Rattle.omi_layout.specs.Field.{runtime, threads, regions, tasks}
 use Rattle.omi_layout.specs.Memory.{Rec, Memory}
 use Rattle.omi_layout.specs.Named.{number}
 use Rattle.omi_layout.specs.Table.{per_thread, width}
-use Rattle.omi_numbers.specs.Addresses.{entry_address}
-use Rattle.omi_rep.specs.Records.{region_word, task_word, slot_word}
+use Rattle.omi_rep.specs.Codes.{region_code, region_told}
+use Rattle.omi_rep.specs.Records.{slot_word}
 use Rattle.omi_rule_words.specs.Owes.{Owed}
 use Rattle.omi_rule_words.specs.Counts.{children_owed, ended_members, generating_of, has_region_slot, has_slot, is_finished, is_region, is_some_region, is_some_task, is_unfinished, left_owed, of_live, one, pending_owed, start_owed, sum_below, sum_of_owed, sum_of_slots, unfinished_children, unfinished_in}
 use Rattle.omi_rule_words.specs.Threads.{Has, KeepsAssign, KeepsRuntime, KeepsThread, WaitsFor}
 use Rattle.omi_rule_words.specs.Objects.{IsDeferredIn, KeepsCounts, KeepsDeferred, KeepsEnvironment, KeepsLife, KeepsPlace, KeepsRegion, KeepsSlots, slots_with}
 use Rattle.omi_rule_words.specs.Words.{AreApart, HasFinished, IsInTheMaking, KeepsMaking, KeepsRegionSlot, KeepsTask, KeepsTaskSlot, KeepsWords, OwesOnLive, region_in, task_in}
+use Rattle.omi_rule_words.proofs.StoredCodes.{region_apart}
 use Rattle.omi_rule_words.proofs.Sums.{sum_same}
 
 -- ---- slots whose objects become others
@@ -229,30 +229,6 @@ module _ (w : List ℕ) (m n : Memory) (s : State) (rs : Slots Region) (ts : Slo
   generating_same k =
       found_part TaskRenews (λ t. t.generating) (λ t u r. ap (λ (x : Task). x.generating) r.is) k.0.generation (s.tasks k.0.creator k.0.slot) (ts k.0.creator k.0.slot) (task_slots k.0.creator k.0.slot)
 
-  region_seen : (r : Rid) → IsVisibleRegion after r → IsVisibleRegion s r
-  region_seen r seen =
-      let (x, live, related) = found_before RegionRenews r.0.generation (s.regions r.0.creator r.0.slot) (rs r.0.creator r.0.slot) (region_slots r.0.creator r.0.slot) seen.region seen.live in
-      record {
-        region = x;
-        live = live;
-        team = All-weaker (λ (q : Tid × ℕ). IsSome (task_of after q.0)) (λ (q : Tid × ℕ). IsSome (task_of s q.0)) (λ q. some_task_before q.0) x.team
-            (subst (λ (y : Region). All (λ q. IsSome (task_of after q.0)) y.team) related.is seen.team);
-      }
-
-  task_seen : (k : Tid) → IsVisibleTask after k → IsVisibleTask s k
-  task_seen k seen =
-      let (t, live, related) = task_before k seen.task seen.live in
-      record {
-        task = t;
-        live = live;
-        shown = go t related t.implicit refl
-            (subst (λ (u : Task). MatchBool u.implicit (IsVisibleRegion after u.region) (HasStarted u.progress)) related.is seen.shown);
-      }
-    where
-      go : (t : Task) {u : Task} (r : TaskRenews t u) (b : Bool) → t.implicit ≡ b → MatchBool b (IsVisibleRegion after t.region) (HasStarted r.progress) → MatchBool b (IsVisibleRegion s t.region) (HasStarted t.progress)
-      go t {u} r true e shown = region_seen t.region shown
-      go t {u} r false e shown = subst HasStarted (sym (progress_is t u r) ∙ explicit_same t u r e) shown
-
   finished_after : (k : Tid) → HasFinished s k → HasFinished after k
   finished_after k x =
       let (u, live, related) = task_after k x.task x.live in
@@ -282,15 +258,7 @@ module _ (w : List ℕ) (m n : Memory) (s : State) (rs : Slots Region) (ts : Slo
     region_kept : (c k : ℕ) (x y : Region) → (s.regions c k).live ≡ Some x → (rs c k).live ≡ Some y → RegionRenews x y
         → KeepsRegion w s owes (region_in c k (s.regions c k)) (m c regions k) x → KeepsRegion w after other (region_in c k (s.regions c k)) (n c regions k) y
     region_kept c k x y was now r o = record {
-      function = stays RegionFunction 0 (λ e. absurd (omega (arith, e))) ∙ (o.function ∙ sym (ap (λ (z : Region). entry_address z.function) r.is));
-      enclosing = stays RegionEnclosing 0 (λ e. absurd (omega (arith, e))) ∙ (o.enclosing ∙ sym (ap (λ (z : Region). region_word w z.enclosing) r.is));
-      encountering = stays RegionEncountering 0 (λ e. absurd (omega (arith, e))) ∙ (o.encountering ∙ sym (ap (λ (z : Region). task_word w z.encountering) r.is));
-      size = stays RegionSize 0 (λ e. absurd (omega (arith, e))) ∙ (o.size ∙ sym (ap (λ (z : Region). length z.team) r.is));
-      levels = stays RegionLevels 0 (λ e. absurd (omega (arith, e))) ∙ (o.levels ∙ sym (ap (λ (z : Region). z.levels) r.is));
-      active = stays RegionActive 0 (λ e. absurd (omega (arith, e))) ∙ (o.active ∙ sym (ap (λ (z : Region). z.active) r.is));
-      team = λ j q is. stays RegionTeam j (λ e. absurd (omega (arith, e))) ∙ o.team j q (sym (ap (λ (z : Region). slice_get z.team j) r.is) ∙ is);
-      released = stays RegionReleased 0 (λ e. absurd (omega (arith, e))) ∙ (o.released ∙ sym (ap (λ (z : Region). z.released) r.is));
-      arrived = stays RegionArrived 0 (λ e. absurd (omega (arith, e))) ∙ (o.arrived ∙ sym (ap (λ (z : Region). sum z.arrivals) r.is));
+      codes = λ f at word told. words c k (number f) at (region_apart w (region_told y) f at word told).1 ∙ o.codes f at word (subst (λ (z : Region). region_code w (region_told z) f at ≡ Some word) r.is told);
       pending =
           let word = stays RegionPending 0 (λ e. absurd (omega (arith, e))) in
           let was = o.pending in
@@ -366,17 +334,12 @@ module _ (w : List ℕ) (m n : Memory) (s : State) (rs : Slots Region) (ts : Slo
 
   task_kept : (k : Tid) (r : Rec) (t u : Task) → TaskRenews t u → KeepsTask w s owes k r t → KeepsTask w after other k r u
   task_kept k r t u related o = record {
-    environment = λ seen. subst (λ (x : Task). KeepsEnvironment w r x) (sym related.is)
-        (let e = o.environment (go seen) in record { implicit = e.implicit; region = e.region; generating = e.generating; function = e.function; dynamic = e.dynamic; nthreads_length = e.nthreads_length; schedule = e.schedule; device = e.device; final = e.final; tool = e.tool; nthreads = e.nthreads });
-    place = λ seen. subst (λ (x : Task). KeepsPlace w r x) (sym related.is)
-        (let e = o.place (task_seen k seen) in record { thread = e.thread; member = e.member; scheduling = e.scheduling; exit = e.exit; enter = e.enter });
+    environment = subst (λ (x : Task). KeepsEnvironment w r x) (sym related.is) o.environment;
+    place = λ has. subst (λ (x : Task). KeepsPlace w r x) (sym related.is)
+        (o.place (λ explicit deferred. has (ap (λ (x : Task). x.implicit) related.is ∙ explicit) (deferred_after t u related deferred)));
     counts = counts_kept k r o.counts;
     slots = λ implicit. slots_kept r t u related (o.slots (sym (ap (λ (z : Task). z.implicit) related.is) ∙ implicit));
   }
-    where
-      go : IsVisibleTask after k ⊎ (u.progress ≡ progress.Deferred) → IsVisibleTask s k ⊎ (t.progress ≡ progress.Deferred)
-      go (inl seen) = inl (task_seen k seen)
-      go (inr deferred) = inr (deferred_before t u related deferred)
 
   task_slot_kept : (c k : ℕ) (r : Rec) → KeepsTaskSlot w s owes c k r → KeepsTaskSlot w after other c k r
   task_slot_kept c k r o = record {
@@ -442,8 +405,7 @@ module _ (w : List ℕ) (m n : Memory) (s : State) (rs : Slots Region) (ts : Slo
       → ((j : ℕ) → j < s.count → KeepsAssign w after other j (m j threads 0))
       → KeepsWords w n after other
   renewed same_runtime same_threads same_tasks words left_is left assigns assigned = record {
-    runtime_record = subst (λ (r : Rec). KeepsRuntime w r after) (sym same_runtime)
-        (let o = keeps.runtime_record in record { version = o.version; threads = o.threads; procs = o.procs; debug = o.debug; max_active = o.max_active; locks = o.locks });
+    runtime_record = subst (λ (r : Rec). KeepsRuntime w r after) (sym same_runtime) keeps.runtime_record;
     made = λ j known.
         let o = keeps.made j known in
         record {

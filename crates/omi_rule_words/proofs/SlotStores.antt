@@ -2,6 +2,7 @@
 use Rattle.std.proofs.Common.{◌≡◌, ◌≢◌, ◌==◌, ◌+◌, ◌<◌, ℕ, true, inl, inr, List, Option, Some, refl, sym, ap, subst, ◌∙◌, arith, ne_eqb}
 use Rattle.std.specs.Prelude.{◌⊎◌}
 use Rattle.std.proofs.lemmas.Bool.{cases_eq}
+use Rattle.omi_rep.specs.Codes.{task_told}
 use Rattle.omi_rep.specs.Records.{slot_word}
 use Rattle.omi_model.specs.declared.id.Tid.{Tid}
 use Rattle.omi_model.specs.declared.progress.Progress.TheVariants as progress
@@ -29,7 +30,7 @@ use Rattle.omi_rule_words.proofs.Fills.{life_same}
 use Rattle.omi_rule_words.proofs.Hands.{made_rehanded, one_hand}
 use Rattle.omi_rule_words.proofs.OtherCounts.{owed_put}
 use Rattle.omi_rule_words.proofs.SlotSums.{slots_changed}
-use Rattle.omi_rule_words.proofs.TaskFields.{environment_same, is_environment, is_place, place_same, told_apart}
+use Rattle.omi_rule_words.proofs.StoredCodes.{task_apart}
 
 module _ (w : List ℕ) (m : Memory) (s : State) (owes : ℕ → Owed) (i : ℕ) (hand : Option Tid) (row : Tid) (u : Task) (place word : ℕ) (keeps : KeepsWords w m s owes)
     (known : i < s.count) (maker : row.0.creator < s.count) (slot_below : row.0.slot < per_thread w tasks) (live : task_of s row ≡ Some u) (implicit : u.implicit ≡ true) (inside : place < width w (number TaskSlots))
@@ -53,10 +54,8 @@ module _ (w : List ℕ) (m : Memory) (s : State) (owes : ℕ → Owed) (i : ℕ)
   row_kept : KeepsTask w s owes (task_in row.0.creator row.0.slot (s.tasks row.0.creator row.0.slot)) (m row.0.creator tasks row.0.slot) u
       → KeepsTask w s owes (task_in row.0.creator row.0.slot (s.tasks row.0.creator row.0.slot)) (after row.0.creator tasks row.0.slot) u
   row_kept o = record {
-    environment = λ seen. environment_same w (m row.0.creator tasks row.0.slot) (after row.0.creator tasks row.0.slot) u
-        (λ g at holds. other_word (number g) (told_apart is_environment (number g) (number TaskSlots) holds refl) row.0.creator row.0.slot at) (o.environment seen);
-    place = λ seen. place_same w (m row.0.creator tasks row.0.slot) (after row.0.creator tasks row.0.slot) u
-        (λ g at holds. other_word (number g) (told_apart is_place (number g) (number TaskSlots) holds refl) row.0.creator row.0.slot at) (o.place seen);
+    environment = λ g at x none told. other_word (number g) (task_apart w (task_told u) g at x told).1 row.0.creator row.0.slot at ∙ o.environment g at x none told;
+    place = λ has g at x is told. other_word (number g) (task_apart w (task_told u) g at x told).1 row.0.creator row.0.slot at ∙ o.place has g at x is told;
     counts = record { children = other_word (number TaskChildren) (λ is. omega (arith, is)) row.0.creator row.0.slot 0 ∙ o.counts.children };
     slots = λ _ at below. slot at (cases_eq at place) (o.slots implicit at below);
   }

@@ -1,7 +1,8 @@
 -- A deferred task in the hand starts.
-use Rattle.std.proofs.Common.{◌≡◌, ◌≢◌, ◌&&◌, ◌+◌, ◌<◌, ◌≤◌, Bool, ℕ, not, false, true, inr, List, Some, refl, sym, ap, subst, ◌∙◌, arith}
+use Rattle.std.proofs.Common.{◌≡◌, ◌≢◌, ◌&&◌, ◌+◌, ◌<◌, ◌≤◌, Bool, ℕ, not, false, true, List, Some, refl, sym, ap, subst, ◌∙◌, arith}
 use Rattle.std.proofs.lemmas.Bool.Decides.{nat_tests}
 use Rattle.std.proofs.lemmas.List.Elements.{All-nil}
+use Rattle.omi_numbers.specs.Addresses.{exit_below}
 use Rattle.omi_model.specs.declared.id.Id.{Id}
 use Rattle.omi_model.specs.declared.id.Tid.{Tid}
 use Rattle.omi_model.specs.declared.item.Item.{Item}
@@ -26,6 +27,7 @@ use Rattle.omi_rule_words.specs.Words.{KeepsTask, KeepsWords}
 use Rattle.omi_rule_words.specs.ExplicitKinds.{IsReady, StartsAloneKeep, StartsKeep}
 use Rattle.omi_rule_words.proofs.Changed.{current_stored}
 use Rattle.omi_rule_words.proofs.OtherCounts.{is_own_id, owed_put_same}
+use Rattle.omi_rule_words.proofs.StoredCodes.{environment_placed}
 use Rattle.omi_rule_words.proofs.SlotSums.{slot_counted}
 use Rattle.omi_rule_words.proofs.Sums.{part_below, parts_below}
 use Rattle.omi_rule_words.proofs.TaskMoves.{GoesTo, TeamsAlike, task_moved, tasks_counted}
@@ -95,9 +97,7 @@ module _ (w : List ℕ) (m : Memory) (s : State) (owes : ℕ → Owed) (i : ℕ)
   unfinished_same = sym (ap (λ (p : Progress). not new.implicit && not (is_finished p)) ready.1.progress)
 
   environment : KeepsTask w s owes task (m task.0.creator tasks task.0.slot) new → KeepsEnvironment w (m task.0.creator tasks task.0.slot) (g new)
-  environment o =
-      let e = o.environment (inr ready.1.progress) in
-      record { implicit = e.implicit; region = e.region; generating = e.generating; function = e.function; dynamic = e.dynamic; nthreads_length = e.nthreads_length; schedule = e.schedule; device = e.device; final = e.final; tool = e.tool; nthreads = e.nthreads }
+  environment o = environment_placed w (m task.0.creator tasks task.0.slot) new i t.number (Some k) (exit_below t.exit) 0 o.environment
 
   pub task_starts : KeepsWords w (with_word m i threads 0 (number ThreadCurrent) 0 (task_address w task)) (with_current (on_task s task g) i (Some task)) (replace_at owes i nothing)
   task_starts =
@@ -113,7 +113,7 @@ module _ (w : List ℕ) (m : Memory) (s : State) (owes : ℕ → Owed) (i : ℕ)
       let owed_same = owed_put_same s owes i nothing (children_owed s q) (sym (ap (children_owed s q) owed)) in
       omega (arith, same, owed_same))
       unslotted environment
-      (λ _. let e = ready.2 in record { thread = e.thread; member = e.member; scheduling = e.scheduling; exit = e.exit; enter = e.enter })
+      (λ _. ready.2)
       (record { pending = λ q is. absurd (cc); left = λ q is. absurd (cc); raised = λ q is. absurd (cc); lowered = λ q is. absurd (cc); assigns = All-nil (λ (q : Tid × ℕ). WaitsFor after q.1 q.0) })
       refl
       (λ q ne. sym (ap (start_owed q) owed ∙ ap one (other_name q task ne)))

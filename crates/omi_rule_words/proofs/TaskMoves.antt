@@ -1,6 +1,6 @@
 -- An explicit task goes on, as it starts or finishes, and its thread owes otherwise: what has to be shown so that all is kept.
-use Rattle.std.proofs.Common.{◌≡◌, ◌≢◌, ◌==◌, ◌+◌, ◌<◌, ℕ, Bool, true, false, inl, inr, List, Option, Some, None, refl, sym, ap, subst, ◌∙◌, arith, eq-eqb, if◌then◌else◌}
-use Rattle.std.specs.Prelude.{◌⊎◌, All, IsSome, MatchBool}
+use Rattle.std.proofs.Common.{◌≡◌, ◌≢◌, ◌==◌, ◌+◌, ◌<◌, ℕ, true, false, inl, inr, List, Option, Some, None, refl, sym, ap, subst, ◌∙◌, arith, eq-eqb, if◌then◌else◌}
+use Rattle.std.specs.Prelude.{◌⊎◌, All, IsSome}
 use Rattle.std.specs.Option.{option_and_then, option_map}
 use Rattle.std.proofs.lemmas.List.Elements.{All-weaker}
 use Rattle.omi_rep.specs.Records.{slot_word}
@@ -14,7 +14,6 @@ use Rattle.omi_model.specs.declared.task.Task.{Task}
 use Rattle.omi_model.specs.Changes.{on_task}
 use Rattle.omi_model.specs.Put.{changed, named}
 use Rattle.omi_model.specs.State.{State, task_of}
-use Rattle.omi_model.specs.Visible.{HasStarted, IsVisibleRegion, IsVisibleTask}
 use Rattle.omi_model.proofs.Slots.{each_slot, found_live, on_empty, on_generations, on_other, on_same, same_or_not, some_same}
 use Rattle.omi_layout.specs.declared.field.Field.TheVariants.{RegionLife, TaskLife, TaskSlots}
 use Rattle.omi_layout.specs.Field.{regions, tasks, threads}
@@ -139,20 +138,6 @@ module _ (w : List ℕ) (s : State) (k : Tid) (t : Task) (g : Task → Task) (li
     progress = x.progress;
   }
 
-  region_seen : (n : Rid) → IsVisibleRegion after n → IsVisibleRegion s n
-  region_seen n seen = record {
-    region = seen.region;
-    live = seen.live;
-    team = All-weaker (λ (q : Tid × ℕ). IsSome (task_of after q.0)) (λ (q : Tid × ℕ). IsSome (task_of s q.0)) (λ q. some_before q.0) seen.region.team seen.team;
-  }
-
-  task_seen : (q : Tid) → (q.0 ≡ k.0 → ⊥) → IsVisibleTask after q → IsVisibleTask s q
-  task_seen q ne seen = record { task = seen.task; live = stays_before q seen.task seen.live ne; shown = go seen.task.implicit seen.shown }
-    where
-      go : (b : Bool) → MatchBool b (IsVisibleRegion after seen.task.region) (HasStarted seen.task.progress) → MatchBool b (IsVisibleRegion s seen.task.region) (HasStarted seen.task.progress)
-      go true shown = region_seen seen.task.region shown
-      go false shown = shown
-
   -- ---- what is counted
 
   abbrev counted_at : (ℕ → ℕ → Task → ℕ) → State → ℕ → ℕ → ℕ
@@ -240,22 +225,18 @@ module _ (w : List ℕ) (s : State) (k : Tid) (t : Task) (g : Task → Task) (li
 
     task_kept : (c j : ℕ) → c < s.count → j < per_thread w tasks → (x : Task) → (s.tasks c j).live ≡ Some x → (q : Tid) → (q.0 ≡ k.0 → ⊥) → KeepsTask w s owes q (m c tasks j) x → KeepsTask w after other q (m c tasks j) x
     task_kept c j maker within x is q ne o = record {
-      environment = λ seen. o.environment (go seen);
-      place = λ seen. o.place (task_seen q ne seen);
+      environment = o.environment;
+      place = o.place;
       counts = counts_kept q (m c tasks j) o.counts;
       slots = λ implicit. slots_kept c j maker within x is implicit (o.slots implicit);
     }
-      where
-        go : IsVisibleTask after q ⊎ (x.progress ≡ progress.Deferred) → IsVisibleTask s q ⊎ (x.progress ≡ progress.Deferred)
-        go (inl seen) = inl (task_seen q ne seen)
-        go (inr deferred) = inr deferred
 
     -- the record of the task itself has its codes
     module _ (environment : KeepsTask w s owes k (m k.0.creator tasks k.0.slot) t → KeepsEnvironment w (m k.0.creator tasks k.0.slot) (g t))
         (place : KeepsTask w s owes k (m k.0.creator tasks k.0.slot) t → KeepsPlace w (m k.0.creator tasks k.0.slot) (g t)) where
       own_kept : KeepsTask w s owes k (m k.0.creator tasks k.0.slot) t → KeepsTask w after other k (m k.0.creator tasks k.0.slot) (g t)
       own_kept o = record {
-        environment = λ _. environment o;
+        environment = environment o;
         place = λ _. place o;
         counts = counts_kept k (m k.0.creator tasks k.0.slot) o.counts;
         slots = λ implicit. let explicit = goes.implicit ∙ goes.explicit in absurd (cc);
@@ -332,7 +313,7 @@ module _ (w : List ℕ) (s : State) (k : Tid) (t : Task) (g : Task → Task) (li
           → ((j : ℕ) (q : Tid) → j < s.count → j ≢ i → (owes j).hand ≡ Some q → q.0 ≡ k.0 → ⊥)
           → KeepsWords w m after (replace_at owes i p)
       task_moved objects empty hands_same unheld = record {
-        runtime_record = let o = keeps.runtime_record in record { version = o.version; threads = o.threads; procs = o.procs; debug = o.debug; max_active = o.max_active; locks = o.locks };
+        runtime_record = keeps.runtime_record;
         made = λ j below.
             let o = keeps.made j below in
             record {

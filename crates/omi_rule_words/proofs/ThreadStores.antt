@@ -6,7 +6,7 @@ use Rattle.omi_model.specs.State.{State}
 use Rattle.omi_layout.specs.declared.field.Field.{Field}
 use Rattle.omi_layout.specs.declared.field.Field.TheVariants.{RegionLife, TaskLife, TaskSlots, ThreadAssign}
 use Rattle.omi_layout.specs.Field.{runtime, threads, regions, tasks}
-use Rattle.omi_layout.specs.Memory.{Rec, Memory, replace_at, with_word, with_word_in}
+use Rattle.omi_layout.specs.Memory.{Rec, Memory, with_word, with_word_in}
 use Rattle.omi_layout.specs.Named.{number}
 use Rattle.omi_layout.proofs.Puts.{record_read, record_stays, word_stays}
 use Rattle.omi_rule_words.specs.Owes.{Owed}
@@ -16,7 +16,7 @@ use Rattle.omi_rule_words.specs.Words.{KeepsTask, KeepsWords, region_in, task_in
 use Rattle.omi_rule_words.specs.Kinds.{ThreadChangesKeep, ThreadStoresKeep, with_thread}
 use Rattle.omi_rule_words.specs.TaskKinds.{IsSameTask}
 use Rattle.omi_rule_words.proofs.Alike.{IsSameRegion, same_region, same_task, slots_same}
-use Rattle.omi_rule_words.proofs.OtherStates.{other_states, runtime_kept}
+use Rattle.omi_rule_words.proofs.OtherStates.{other_states}
 
 pub thread_stores_keep : ThreadStoresKeep
 thread_stores_keep = λ w m s owes i h f word keeps other is. kept w m s owes i h f word keeps other is
@@ -29,7 +29,7 @@ thread_stores_keep = λ w m s owes i h f word keeps other is. kept w m s owes i 
         (λ j k. ap (λ (r : Rec). r (number RegionLife) 0) (stays j regions k (λ kind. absurd (omega (arith, kind)))))
         (λ j k. ap (λ (r : Rec). r (number TaskLife) 0) (stays j tasks k (λ kind. absurd (omega (arith, kind)))))
         (λ j k place. ap (λ (r : Rec). r (number TaskSlots) place) (stays j tasks k (λ kind. absurd (omega (arith, kind)))))
-        (subst (λ (r : Rec). KeepsRuntime w r (with_thread s i h)) (sym (stays 0 runtime 0 (λ kind. absurd (omega (arith, kind))))) (runtime_kept w (m 0 runtime 0) s (replace_at s.threads i h) s.regions s.tasks keeps.runtime_record))
+        (subst (λ (r : Rec). KeepsRuntime w r (with_thread s i h)) (sym (stays 0 runtime 0 (λ kind. absurd (omega (arith, kind))))) keeps.runtime_record)
         (λ j known. go j known (j == i) refl)
         (λ j k known within x there. subst (λ (r : Rec). KeepsRegion w s owes (region_in j k (s.regions j k)) r x) (sym (stays j regions k (λ kind. absurd (omega (arith, kind))))) (((keeps.made j known).regions k within).live x there))
         (λ j k known within t there. subst (λ (r : Rec). KeepsTask w s owes (task_in j k (s.tasks j k)) r t) (sym (stays j tasks k (λ kind. absurd (omega (arith, kind))))) (((keeps.made j known).tasks k within).live t there))
@@ -57,7 +57,7 @@ thread_changes_keep = λ w m s owes i h keeps is. kept w m s owes i h keeps is
     kept w m s owes i h keeps is =
         other_states w s (with_thread s i h) owes refl (slots_same IsSameRegion same_region s.regions) (slots_same IsSameTask same_task s.tasks) m m keeps
         (λ j. refl) (λ j k. refl) (λ j k. refl) (λ j k place. refl)
-        (runtime_kept w (m 0 runtime 0) s (replace_at s.threads i h) s.regions s.tasks keeps.runtime_record)
+        keeps.runtime_record
         (λ j known. go j known (j == i) refl)
         (λ j k known within. ((keeps.made j known).regions k within).live)
         (λ j k known within. ((keeps.made j known).tasks k within).live)

@@ -9,13 +9,14 @@ use Rattle.omi_model.specs.LawNames.{AreNamesLive}
 use Rattle.omi_model.specs.State.{State, task_of}
 use Rattle.omi_model.specs.Tasking.{AreChildrenFinished, deferred, deferred_task, finished, scheduled, started, started_alone, started_now}
 use Rattle.omi_layout.specs.declared.field.Field.{Field}
-use Rattle.omi_layout.specs.declared.field.Field.TheVariants.{TaskChildren, TaskEnter, TaskExit, TaskNumber, TaskScheduling, TaskSlots, TaskThread, ThreadCurrent}
+use Rattle.omi_layout.specs.declared.field.Field.TheVariants.{TaskChildren, TaskSlots, ThreadCurrent}
 use Rattle.omi_layout.specs.Field.{tasks, threads}
 use Rattle.omi_layout.specs.Memory.{Memory, Rec, replace_at, with_word}
 use Rattle.omi_layout.specs.Named.{number}
 use Rattle.omi_layout.specs.Place.{IsSlot}
 use Rattle.omi_layout.specs.Table.{width}
 use Rattle.omi_layout.specs.Valid.{IsValid}
+use Rattle.omi_rep.specs.Codes.{is_place}
 use Rattle.omi_rep.specs.Records.{task_address, task_word, slot_word}
 use Rattle.omi_rep.specs.Shows.{IsWithin}
 use Rattle.omi_rule_words.specs.Owes.{Owed, nothing}
@@ -92,18 +93,10 @@ SlotTakesKeep = (w : List ℕ) (m : Memory) (s : State) (owes : ℕ → Owed) (i
     → IsDeferredIn s u place k → slot_of m row place ≡ slot_word w k
     → KeepsWords w (with_slot m row place 0) s (replace_at owes i (record nothing { hand = Some k }))
 
--- the fields of a task's place on a thread
-pub data IsPlaceField : Field → Type 0 where
-  OfThread : IsPlaceField TaskThread
-  OfNumber : IsPlaceField TaskNumber
-  OfScheduling : IsPlaceField TaskScheduling
-  OfExit : IsPlaceField TaskExit
-  OfEnter : IsPlaceField TaskEnter
-
 -- A word of the place of a deferred task is stored: nothing is said of it until the task starts
 abbrev pub PlaceStoresKeep : Type 0
 PlaceStoresKeep = (w : List ℕ) (m : Memory) (s : State) (owes : ℕ → Owed) (k : Tid) (t : Task) (f : Field)
-    (at word : ℕ) → KeepsWords w m s owes → IsDeferred s k t → IsPlaceField f
+    (at word : ℕ) → KeepsWords w m s owes → IsDeferred s k t → is_place f ≡ true
     → KeepsWords w (with_word m k.0.creator tasks k.0.slot (number f) at word) s owes
 
 -- A deferred task in the hand starts: its place stands in its record, which is stored as the thread's current one. In a wait the

@@ -1,21 +1,19 @@
 -- What the words of live regions and tasks are between any two steps, seen or not: the codes of the state, but for what threads owe.
-use Rattle.std.specs.Prelude.{◌≡◌, ◌⊎◌, ℕ, ◌+◌, ◌*◌, ◌<◌, ◌==◌, Bool, true, false, List, length, slice_get, sum, Some, None, if◌then◌else◌}
+use Rattle.std.specs.Prelude.{◌≡◌, ◌⊎◌, ℕ, ◌+◌, ◌*◌, ◌<◌, ◌==◌, Bool, true, false, List, Some, None, if◌then◌else◌}
 use Rattle.omi_model.specs.declared.id.Rid.{Rid}
 use Rattle.omi_model.specs.declared.id.Tid.{Tid}
 use Rattle.omi_model.specs.declared.progress.Progress.TheVariants as progress
 use Rattle.omi_model.specs.declared.region.Region.{Region}
 use Rattle.omi_model.specs.declared.slot.Slot.{Slot}
 use Rattle.omi_model.specs.declared.task.Task.{Task}
-use Rattle.omi_numbers.specs.Words.{flag}
-use Rattle.omi_numbers.specs.Addresses.{entry_address}
-use Rattle.omi_script.specs.Schedules.{schedule_word}
 use Rattle.omi_model.specs.State.{State, task_of}
 use Rattle.omi_layout.specs.declared.field.Field.{Field}
-use Rattle.omi_layout.specs.declared.field.Field.TheVariants.{RegionFunction, RegionEnclosing, RegionEncountering, RegionSize, RegionLevels, RegionActive, RegionReleased, RegionArrived, RegionPending, RegionLeft, RegionTeam, TaskImplicit, TaskRegion, TaskThread, TaskNumber, TaskGenerating, TaskScheduling, TaskFunction, TaskExit, TaskEnter, TaskDynamic, TaskNthreadsLength, TaskSchedule, TaskDevice, TaskFinal, TaskTool, TaskChildren, TaskNthreads, TaskSlots}
+use Rattle.omi_layout.specs.declared.field.Field.TheVariants.{RegionPending, RegionLeft, TaskChildren, TaskSlots}
 use Rattle.omi_layout.specs.Memory.{Rec}
 use Rattle.omi_layout.specs.Named.{number}
 use Rattle.omi_layout.specs.Table.{width}
-use Rattle.omi_rep.specs.Records.{thread_address, region_address, task_address, region_word, task_word, slot_word}
+use Rattle.omi_rep.specs.Codes.{HasCodes, is_place, region_code, region_told, task_code, task_told}
+use Rattle.omi_rep.specs.Records.{slot_word}
 use Rattle.omi_rule_words.specs.Owes.{Owed}
 use Rattle.omi_rule_words.specs.Counts.{sum_below, sum_of_owed, sum_of_slots, one, unfinished_in, unfinished_children, ended_members, pending_owed, left_owed, children_owed, start_owed}
 use Rattle.omi_rule_words.specs.Threads.{Has}
@@ -30,46 +28,29 @@ pub record KeepsLife {A : Type 0} (r : Rec) (life : Field) (slot : Slot A) (owed
 
 -- ---- regions
 
--- the record of a live region
+-- the record of a live region: each code of the region, and what is counted of its tasks and members
 pub record KeepsRegion (w : List ℕ) (s : State) (owes : ℕ → Owed) (n : Rid) (r : Rec) (region : Region)
     : Type 0 where
-  pub function : Has r RegionFunction 0 (entry_address region.function)
-  pub enclosing : Has r RegionEnclosing 0 (region_word w region.enclosing)
-  pub encountering : Has r RegionEncountering 0 (task_word w region.encountering)
-  pub size : Has r RegionSize 0 (length region.team)
-  pub levels : Has r RegionLevels 0 region.levels
-  pub active : Has r RegionActive 0 region.active
-  pub team : (j : ℕ) (m : Tid × ℕ) → slice_get region.team j ≡ Some m
-      → Has r RegionTeam j (task_address w m.0)
-  pub released : Has r RegionReleased 0 region.released
-  pub arrived : Has r RegionArrived 0 (sum region.arrivals)
+  pub codes : HasCodes (region_code w (region_told region)) r
   pub pending : Has r RegionPending 0
       (unfinished_in w s n + sum_of_owed s owes (pending_owed n))
   pub left : r (number RegionLeft) 0 + sum_of_owed s owes (left_owed n) ≡ ended_members region
 
 -- ---- tasks
 
--- what every task has from its making on, but for its place on a thread
-pub record KeepsEnvironment (w : List ℕ) (r : Rec) (t : Task) : Type 0 where
-  pub implicit : Has r TaskImplicit 0 (flag t.implicit)
-  pub region : Has r TaskRegion 0 (region_address w t.region)
-  pub generating : Has r TaskGenerating 0 (task_word w t.generating)
-  pub function : Has r TaskFunction 0 (entry_address t.function)
-  pub dynamic : Has r TaskDynamic 0 (flag t.variables.dynamic)
-  pub nthreads_length : Has r TaskNthreadsLength 0 (length t.variables.nthreads)
-  pub schedule : Has r TaskSchedule 0 (schedule_word t.variables.schedule)
-  pub device : Has r TaskDevice 0 t.variables.device
-  pub final : Has r TaskFinal 0 (flag t.is_final)
-  pub tool : Has r TaskTool 0 t.tool
-  pub nthreads : (j n : ℕ) → slice_get t.variables.nthreads j ≡ Some n → Has r TaskNthreads j n
+-- each code that every task has from its making on, which is each but for its place on a thread
+abbrev pub KeepsEnvironment : List ℕ → Rec → Task → Type 0
+KeepsEnvironment w r t = (f : Field) (at word : ℕ) → is_place f ≡ false
+    → task_code w (task_told t) f at ≡ Some word → Has r f at word
 
--- and the place, once it has one
-pub record KeepsPlace (w : List ℕ) (r : Rec) (t : Task) : Type 0 where
-  pub thread : Has r TaskThread 0 (thread_address w t.thread)
-  pub member : Has r TaskNumber 0 t.number
-  pub scheduling : Has r TaskScheduling 0 (task_word w t.scheduling)
-  pub exit : Has r TaskExit 0 t.exit
-  pub enter : Has r TaskEnter 0 t.enter
+-- and those of the place
+abbrev pub KeepsPlace : List ℕ → Rec → Task → Type 0
+KeepsPlace w r t = (f : Field) (at word : ℕ) → is_place f ≡ true
+    → task_code w (task_told t) f at ≡ Some word → Has r f at word
+
+-- a task has a place where it is implicit, or was not deferred, or has started since
+abbrev pub HasPlace : Task → Type 0
+HasPlace t = t.implicit ≡ false → t.progress ≡ progress.Deferred → ⊥
 
 -- the count of a live task. As long as records are not given back, the word for references counts nothing
 pub record KeepsCounts (w : List ℕ) (s : State) (owes : ℕ → Owed) (k : Tid) (r : Rec) : Type 0 where

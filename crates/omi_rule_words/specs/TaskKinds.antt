@@ -9,9 +9,9 @@ use Rattle.omi_layout.specs.declared.field.Field.TheVariants.{TaskLife, TaskChil
 use Rattle.omi_layout.specs.Field.{runtime, tasks}
 use Rattle.omi_layout.specs.Memory.{Memory, with_word, with_word_in}
 use Rattle.omi_layout.specs.Named.{number}
+use Rattle.omi_rep.specs.Codes.{HasCodes, task_code, task_told}
 use Rattle.omi_rule_words.specs.Owes.{Owed}
 use Rattle.omi_rule_words.specs.Threads.{KeepsRuntime}
-use Rattle.omi_rule_words.specs.Objects.{KeepsEnvironment, KeepsPlace}
 use Rattle.omi_rule_words.specs.Words.{KeepsWords}
 
 -- ---- tasks
@@ -38,8 +38,8 @@ abbrev pub TaskStoresKeep : Type 0
 TaskStoresKeep = (w : List ℕ) (m : Memory) (s : State) (owes : ℕ → Owed) (k : Tid) (t : Task)
     (g : Task → Task) (f : Field) (at word : ℕ) → KeepsWords w m s owes
     → task_of s k ≡ Some t → IsSameTask t (g t) → IsOfTask f
-    → KeepsEnvironment w (with_word_in (m k.0.creator tasks k.0.slot) (number f) at word) (g t)
-    → KeepsPlace w (with_word_in (m k.0.creator tasks k.0.slot) (number f) at word) (g t)
+    → HasCodes (task_code w (task_told (g t)))
+    (with_word_in (m k.0.creator tasks k.0.slot) (number f) at word)
     → KeepsWords w (with_word m k.0.creator tasks k.0.slot (number f) at word) (on_task s k g) owes
 
 -- ---- the runtime record

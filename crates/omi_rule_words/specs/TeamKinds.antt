@@ -1,5 +1,5 @@
 -- Kinds of steps of teams: what the stores that begin, end and join implicit tasks keep of the words, whatever thread makes them.
-use Rattle.std.specs.Prelude.{◌≡◌, ◌≢◌, ℕ, ◌+◌, ◌<◌, true, false, List, length, drop, slice_get, All, Some, None}
+use Rattle.std.specs.Prelude.{◌≡◌, ◌≢◌, ℕ, ◌+◌, ◌<◌, true, false, List, drop, slice_get, All, Some, None}
 use Rattle.omi_script.specs.declared.program.Program.{Program}
 use Rattle.omi_model.specs.declared.id.Rid.{Rid}
 use Rattle.omi_model.specs.declared.id.Tid.{Tid}
@@ -10,18 +10,17 @@ use Rattle.omi_model.specs.Columns.{tasks_of}
 use Rattle.omi_model.specs.LawNames.{AreNamesLive}
 use Rattle.omi_model.specs.State.{State, region_of, task_of}
 use Rattle.omi_model.specs.Teams.{forked, joined, master_of, member_task, new_region, task_begun, task_ended}
-use Rattle.omi_layout.specs.declared.field.Field.TheVariants.{ThreadCurrent, RegionFunction, RegionEnclosing, RegionEncountering, RegionSize, RegionLevels, RegionActive, RegionTeam, RegionReleased, RegionArrived, RegionPending, RegionLeft, TaskChildren, TaskReferences, TaskSlots}
-use Rattle.omi_numbers.specs.Addresses.{entry_address}
+use Rattle.omi_layout.specs.declared.field.Field.TheVariants.{ThreadCurrent, RegionPending, RegionLeft, TaskChildren, TaskReferences, TaskSlots}
 use Rattle.omi_layout.specs.Field.{threads, regions, tasks}
 use Rattle.omi_layout.specs.Memory.{Rec, MadeRecords, Memory, replace_at, with_word}
 use Rattle.omi_layout.specs.Named.{number}
 use Rattle.omi_layout.specs.Table.{per_thread, width}
 use Rattle.omi_layout.specs.Valid.{IsValid}
-use Rattle.omi_rep.specs.Records.{task_address, region_word, task_word}
+use Rattle.omi_rep.specs.Codes.{HasCodes, region_code, region_told, task_code, task_told}
+use Rattle.omi_rep.specs.Records.{task_address, task_word}
 use Rattle.omi_rule_words.specs.Owes.{Owed, nothing}
 use Rattle.omi_rule_words.specs.Counts.{ended_members}
 use Rattle.omi_rule_words.specs.Threads.{Has, WaitsFor}
-use Rattle.omi_rule_words.specs.Objects.{KeepsEnvironment, KeepsPlace}
 use Rattle.omi_rule_words.specs.Words.{KeepsWords}
 
 -- A thread has read the task in its assign word and cleared it, and begins this task: it stores the task's record as its current
@@ -34,25 +33,15 @@ BeginsKeep = (w : List ℕ) (m : Memory) (s : State) (owes : ℕ → Owed) (i : 
     → KeepsWords w (with_word m i threads 0 (number ThreadCurrent) 0 (task_address w k))
     (task_begun s i k) (replace_at owes i nothing)
 
--- A record in the making stands filled for a region that is new: its words are the codes of the region, and it counts nothing
+-- A record in the making stands filled for a region that is new: it has each code of the region, and counts nothing
 pub record RegionIsFilled (w : List ℕ) (r : Rec) (region : Region) : Type 0 where
-  pub function : Has r RegionFunction 0 (entry_address region.function)
-  pub enclosing : Has r RegionEnclosing 0 (region_word w region.enclosing)
-  pub encountering : Has r RegionEncountering 0 (task_word w region.encountering)
-  pub size : Has r RegionSize 0 (length region.team)
-  pub levels : Has r RegionLevels 0 region.levels
-  pub active : Has r RegionActive 0 region.active
-  pub team : (j : ℕ) (m : Tid × ℕ) → slice_get region.team j ≡ Some m
-      → Has r RegionTeam j (task_address w m.0)
-  pub released : Has r RegionReleased 0 0
-  pub arrived : Has r RegionArrived 0 0
+  pub codes : HasCodes (region_code w (region_told region)) r
   pub pending : Has r RegionPending 0 0
   pub left : Has r RegionLeft 0 0
 
 -- and for a member's task that is new: it counts nothing, and its slots for deferred tasks are empty
 pub record MemberIsFilled (w : List ℕ) (r : Rec) (task : Task) : Type 0 where
-  pub environment : KeepsEnvironment w r task
-  pub place : KeepsPlace w r task
+  pub codes : HasCodes (task_code w (task_told task)) r
   pub children : Has r TaskChildren 0 0
   pub references : Has r TaskReferences 0 0
   pub slots : (place : ℕ) → place < width w (number TaskSlots) → Has r TaskSlots place 0

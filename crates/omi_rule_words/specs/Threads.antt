@@ -1,37 +1,18 @@
 -- What the words of the runtime record and of threads are between any two steps.
-use Rattle.std.specs.Prelude.{◌≡◌, ◌⊎◌, ℕ, ◌+◌, ◌<◌, ◌==◌, List, Option, Some, None}
-use Rattle.omi_numbers.specs.declared.holders.TheConstants.{FREE_CLAIM}
-use Rattle.omi_numbers.specs.Holders.{claimed_word, holder_word}
-use Rattle.omi_numbers.specs.declared.words.TheConstants.{OPENMP_VERSION}
-use Rattle.omi_model.specs.declared.claim.Claim.{Claim}
-use Rattle.omi_model.specs.declared.claim.Claim.TheVariants as claim
+use Rattle.std.specs.Prelude.{◌≡◌, ◌⊎◌, ℕ, ◌+◌, ◌==◌, List, Some}
 use Rattle.omi_model.specs.declared.id.Tid.{Tid}
 use Rattle.omi_model.specs.declared.progress.Progress.TheVariants as progress
 use Rattle.omi_model.specs.declared.task.Task.{Task}
 use Rattle.omi_model.specs.declared.thread.Thread.{Thread}
-use Rattle.omi_numbers.specs.Words.{flag, state_word, native_id}
 use Rattle.omi_model.specs.State.{State, task_of}
 use Rattle.omi_layout.specs.declared.field.Field.{Field}
-use Rattle.omi_layout.specs.declared.field.Field.TheVariants.{RuntimeVersion, RuntimeThreads, RuntimeProcs, RuntimeDebug, RuntimeMaxActive, RuntimeLocks, ThreadLife, ThreadNative, ThreadCurrent, ThreadState, ThreadClaim, ThreadAssign}
+use Rattle.omi_layout.specs.declared.field.Field.TheVariants.{ThreadAssign}
 use Rattle.omi_layout.specs.Memory.{Rec}
 use Rattle.omi_layout.specs.Named.{number}
-use Rattle.omi_layout.specs.Table.{width}
-use Rattle.omi_rep.specs.Records.{task_address, task_word}
+use Rattle.omi_rep.specs.Codes.{HasCodes, runtime_code, runtime_told, thread_code, thread_told}
+use Rattle.omi_rep.specs.Records.{task_address}
 use Rattle.omi_rule_words.specs.Owes.{Owed}
 use Rattle.omi_rule_words.specs.Counts.{sum_of_owed, one, assign_owed}
-
--- ---- codes
-
--- who may use a thread
-abbrev pub claim_word : Claim → ℕ
-claim_word claim.Own = 0
-claim_word claim.Free = FREE_CLAIM
-claim_word (claim.By i) = claimed_word i
-
--- who holds a lock: none as 0, and thread i as i + 1
-abbrev pub lock_word : Option ℕ → ℕ
-lock_word None = 0
-lock_word (Some i) = holder_word i
 
 -- this word stands in a field of a record, at a place of the field
 abbrev pub Has : Rec → Field → ℕ → ℕ → Type 0
@@ -39,21 +20,12 @@ Has r f at word = r (number f) at ≡ word
 
 -- ---- the runtime record, and threads
 
-pub record KeepsRuntime (w : List ℕ) (r : Rec) (s : State) : Type 0 where
-  pub version : Has r RuntimeVersion 0 OPENMP_VERSION
-  pub threads : Has r RuntimeThreads 0 s.count
-  pub procs : Has r RuntimeProcs 0 s.environment.procs
-  pub debug : Has r RuntimeDebug 0 (flag s.environment.debug)
-  pub max_active : Has r RuntimeMaxActive 0 s.max_active
-  pub locks : (k : ℕ) → k < width w (number RuntimeLocks) → Has r RuntimeLocks k (lock_word (s.locks k))
+-- the record has each code of the state, and of a thread: of one that has not begun too
+abbrev pub KeepsRuntime : List ℕ → Rec → State → Type 0
+KeepsRuntime w r s = HasCodes (runtime_code w (runtime_told s)) r
 
--- the current task and the state also of a thread that has not begun
-pub record KeepsThread (w : List ℕ) (i : ℕ) (r : Rec) (h : Thread) : Type 0 where
-  pub life : Has r ThreadLife 0 (flag h.begun)
-  pub native : Has r ThreadNative 0 (native_id i)
-  pub current : Has r ThreadCurrent 0 (task_word w h.current)
-  pub state : Has r ThreadState 0 (state_word h.state h.wait)
-  pub claim : Has r ThreadClaim 0 (claim_word h.claim)
+abbrev pub KeepsThread : List ℕ → ℕ → Rec → Thread → Type 0
+KeepsThread w i r h = HasCodes (thread_code w i (thread_told h)) r
 
 -- a task waits for a thread
 pub record WaitsFor (s : State) (i : ℕ) (k : Tid) : Type 0 where

@@ -1,5 +1,5 @@
 -- What holds of the words between any two steps of any threads: they are the codes of the state, but for what threads owe.
-use Rattle.std.specs.Prelude.{◌≡◌, ◌⊎◌, ℕ, ◌<◌, true, false, List, [], ◌∷◌, All, IsSome, ◌-◌, Some, None}
+use Rattle.std.specs.Prelude.{◌≡◌, ℕ, ◌<◌, true, false, List, [], ◌∷◌, All, IsSome, ◌-◌, Some, None}
 use Rattle.std.specs.Option.{option_and_then}
 use Rattle.omi_model.specs.declared.id.Id.{Id}
 use Rattle.omi_model.specs.declared.id.Rid.{Rid}
@@ -9,7 +9,6 @@ use Rattle.omi_model.specs.declared.region.Region.{Region}
 use Rattle.omi_model.specs.declared.slot.Slot.{Slot}
 use Rattle.omi_model.specs.declared.task.Task.{Task}
 use Rattle.omi_model.specs.State.{State, region_of, task_of}
-use Rattle.omi_model.specs.Visible.{IsVisibleTask}
 use Rattle.omi_layout.specs.declared.field.Field.TheVariants.{RegionLife, TaskLife}
 use Rattle.omi_layout.specs.Field.{runtime, threads, regions, tasks}
 use Rattle.omi_layout.specs.Memory.{Rec, MadeRecords, Memory}
@@ -17,7 +16,7 @@ use Rattle.omi_layout.specs.Table.{per_thread}
 use Rattle.omi_rule_words.specs.Owes.{Owed}
 use Rattle.omi_rule_words.specs.Counts.{has_slot, has_region_slot, generating_of}
 use Rattle.omi_rule_words.specs.Threads.{KeepsRuntime, KeepsThread, WaitsFor, KeepsAssign}
-use Rattle.omi_rule_words.specs.Objects.{KeepsLife, KeepsRegion, KeepsEnvironment, KeepsPlace, KeepsCounts, KeepsSlots, KeepsDeferred}
+use Rattle.omi_rule_words.specs.Objects.{KeepsLife, KeepsRegion, HasPlace, KeepsEnvironment, KeepsPlace, KeepsCounts, KeepsSlots, KeepsDeferred}
 
 -- ---- records in the making
 
@@ -71,8 +70,8 @@ pub record KeepsRegionSlot (w : List ℕ) (s : State) (owes : ℕ → Owed) (i s
       → KeepsRegion w s owes (region_in i slot (s.regions i slot)) r x
 
 pub record KeepsTask (w : List ℕ) (s : State) (owes : ℕ → Owed) (k : Tid) (r : Rec) (t : Task) : Type 0 where
-  pub environment : IsVisibleTask s k ⊎ (t.progress ≡ progress.Deferred) → KeepsEnvironment w r t
-  pub place : IsVisibleTask s k → KeepsPlace w r t
+  pub environment : KeepsEnvironment w r t
+  pub place : HasPlace t → KeepsPlace w r t
   pub counts : KeepsCounts w s owes k r
   pub slots : t.implicit ≡ true → KeepsSlots w s r t
 

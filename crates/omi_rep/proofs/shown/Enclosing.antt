@@ -115,7 +115,7 @@ module _ (w : List ℕ) (words : Words) (s : State) (valid : IsValid w) (names :
         n ∷ ids,
         step _ _ _ _
             (onward_looked w words regions (region_address w n) RegionEnclosing (λ (r : Rid). r.0) seen.region.enclosing (region_somewhere w words s valid names shown)
-            (λ r is. region_live w words s valid names shown r ((right n seen).enclosing r is)) (shown.records.regions n seen).enclosing (map (region_address w) (n ∷ before)) new)
+            (λ r is. region_live w words s valid names shown r ((right n seen).enclosing r is)) (shown.records.regions n seen RegionEnclosing 0 _ refl refl) (map (region_address w) (n ∷ before)) new)
             (step _ _ (map (λ (r : Rid). r.0) ids) _ are refl),
         (refl, subst (λ (o : Option Rid). IsTrail (enclosing_of s) o ids) (sym (enclosed n seen)) trail),
       )
@@ -146,7 +146,7 @@ module _ (w : List ℕ) (words : Words) (s : State) (valid : IsValid w) (names :
       go (Some k) seen =
           let task = seen k refl in
           step _ _ task.task.region.0 _
-          (object_looked w words regions (id_address w tasks k.0) TaskRegion 0 task.task.region.0 (shown.records.tasks k task).region (region_live w words s valid names shown task.task.region (task_region k task)))
+          (object_looked w words regions (id_address w tasks k.0) TaskRegion 0 task.task.region.0 (shown.records.tasks k task TaskRegion 0 _ refl refl) (region_live w words s valid names shown task.task.region (task_region k task)))
           (ap (λ (t : Option Task). Ok (option_map (λ (n : Rid). n.0) (option_map (λ (u : Task). u.region) t))) (sym task.live))
 
   pub regions_looked : (i : ℕ) → HasBegun s i → (ids : List Id) × (look_regions w words i ≡ Ok ids) × AreRegionsOf s i ids

@@ -21,10 +21,13 @@ use Rattle.omi_model.specs.State.{State, region_of}
 use Rattle.omi_model.specs.Views.{ComesBefore, AreInOrder, IsReported, AreRegions, region_row}
 use Rattle.omi_model.specs.Visible.{IsVisibleRegion}
 use Rattle.omi_model.specs.WellFormed.{HasBegun, IsMember, IsRegionRight}
+use Rattle.omi_rep.specs.Codes.{region_code, region_told}
+use Rattle.omi_rep.specs.Codes.{shown as visible}
 use Rattle.omi_rep.specs.Records.{records_of}
 use Rattle.omi_rep.specs.Look.{each, slot_list, id_address}
 use Rattle.omi_rep.specs.LookView.{met_in, look_member, look_region}
-use Rattle.omi_rep.specs.Shows.{Shows, ShowsRegion}
+use Rattle.omi_rep.specs.Shows.{CodesStand, Shows}
+use Rattle.omi_rep.proofs.Codes.{member_code}
 use Rattle.omi_rep.proofs.Looks.{step}
 use Rattle.omi_rep.proofs.Same.{same_region, region_slot}
 use Rattle.omi_rep.specs.ShownLooks.{AreNames}
@@ -74,7 +77,7 @@ module _ (w : List ℕ) (words : Words) (s : State) (valid : IsValid w) (names :
     abbrev at : ℕ
     at = id_address w regions n.0
 
-    told : ShowsRegion w (records_of w words n.0.creator regions n.0.slot) r
+    told : CodesStand visible (region_code w (region_told r)) (records_of w words n.0.creator regions n.0.slot)
     told = shown.records.regions n seen
 
     right : IsRegionRight s r
@@ -88,19 +91,19 @@ module _ (w : List ℕ) (words : Words) (s : State) (valid : IsValid w) (names :
         let member = All-contains (λ (q : Tid × ℕ). IsMember s q.0 q.1) r.team m right.members (among r.team j m is) in
         let task = member.visible in
         let begun : HasBegun s task.task.thread = (shown.within.well_formed.tasks m.0 task).begun in
-        step _ _ m.0.0 _ (object_looked w words tasks at RegionTeam j m.0.0 (told.team j m is) (task_live w words s valid names shown m.0 task))
+        step _ _ m.0.0 _ (object_looked w words tasks at RegionTeam j m.0.0 (told RegionTeam j _ refl (member_code w (region_told r) j m is)) (task_live w words s valid names shown m.0 task))
         (step _ _ (thread_name task.task.thread) _
-        (object_looked w words threads (id_address w tasks m.0.0) TaskThread 0 (thread_name task.task.thread) (shown.records.tasks m.0 task).thread (thread_live w words s valid names shown task.task.thread begun))
+        (object_looked w words threads (id_address w tasks m.0.0) TaskThread 0 (thread_name task.task.thread) (shown.records.tasks m.0 task TaskThread 0 _ refl refl) (thread_live w words s valid names shown task.task.thread begun))
         (ap (λ (i : ℕ). Ok (member_row (m.0, i))) (member.same task.task task.live)))
 
     region_looked : look_region w words n.0 ≡ Ok (region_row n r)
     region_looked =
-        step _ _ _ _ (word_looked w words at RegionFunction 0 _ told.function)
-        (step _ _ _ _ (word_looked w words at RegionLevels 0 _ told.levels)
-        (step _ _ _ _ (word_looked w words at RegionActive 0 _ told.active)
-        (step _ _ (length r.team) _ (within_looked w words at RegionSize 1 (thread_count w) (length r.team) told.size right.some (subst (λ (c : ℕ). length r.team ≤ c) shown.within.count right.few))
+        step _ _ _ _ (word_looked w words at RegionFunction 0 _ (told RegionFunction 0 _ refl refl))
+        (step _ _ _ _ (word_looked w words at RegionLevels 0 _ (told RegionLevels 0 _ refl refl))
+        (step _ _ _ _ (word_looked w words at RegionActive 0 _ (told RegionActive 0 _ refl refl))
+        (step _ _ (length r.team) _ (within_looked w words at RegionSize 1 (thread_count w) (length r.team) (told RegionSize 0 _ refl refl) right.some (subst (λ (c : ℕ). length r.team ≤ c) shown.within.count right.few))
         (step _ _ (option_map (λ (q : Rid). q.0) r.enclosing) _
-        (optional_looked w words regions at RegionEnclosing (λ (q : Rid). q.0) r.enclosing (region_somewhere w words s valid names shown) (λ q is. region_live w words s valid names shown q (right.enclosing q is)) told.enclosing)
+        (optional_looked w words regions at RegionEnclosing (λ (q : Rid). q.0) r.enclosing (region_somewhere w words s valid names shown) (λ q is. region_live w words s valid names shown q (right.enclosing q is)) (told RegionEnclosing 0 _ refl refl))
         (step _ _ (map member_row r.team) _ (places_looked (look_member w words n.0) member_row 0 r.team element)
         (ap (λ (q : Option Rid). Ok (record (region_row n r) { enclosing = q })) (given_back (λ (q : Rid). q.0) (λ (q : Id). record { 0 = q }) (λ q. refl) r.enclosing)))))))
       where

@@ -18,10 +18,12 @@ use Rattle.omi_model.specs.State.{State, scheduling_of}
 use Rattle.omi_model.specs.Views.{IsChain, AreChains, task_row}
 use Rattle.omi_model.specs.Visible.{IsVisibleTask}
 use Rattle.omi_model.specs.WellFormed.{HasBegun, IsTaskRight, along, Ends}
+use Rattle.omi_rep.specs.Codes.{task_code, task_told}
+use Rattle.omi_rep.specs.Codes.{shown as visible}
 use Rattle.omi_rep.specs.Records.{records_of, task_address}
 use Rattle.omi_rep.specs.Look.{id_address, was_met, live_at, look_word}
 use Rattle.omi_rep.specs.LookView.{look_nthreads, look_task, look_chain, look_tasks}
-use Rattle.omi_rep.specs.Shows.{Shows, ShowsTask}
+use Rattle.omi_rep.specs.Shows.{CodesStand, Shows}
 use Rattle.omi_rep.proofs.Looks.{step}
 use Rattle.omi_rep.proofs.Same.{same_task, task_slot}
 use Rattle.omi_rep.specs.ShownLooks.{AreNames}
@@ -43,7 +45,7 @@ module _ (w : List ℕ) (words : Words) (s : State) (valid : IsValid w) (names :
     abbrev at : ℕ
     at = id_address w tasks k.0
 
-    told : ShowsTask w (records_of w words k.0.creator tasks k.0.slot) t
+    told : CodesStand visible (task_code w (task_told t)) (records_of w words k.0.creator tasks k.0.slot)
     told = shown.records.tasks k seen
 
     right : IsTaskRight s t
@@ -51,28 +53,28 @@ module _ (w : List ℕ) (words : Words) (s : State) (valid : IsValid w) (names :
 
     nthreads_looked : look_nthreads w words k.0 ≡ Ok t.variables.nthreads
     nthreads_looked =
-        step _ _ (length t.variables.nthreads) _ (within_looked w words at TaskNthreadsLength 1 4 _ told.nthreads_length right.variables.some right.variables.few)
+        step _ _ (length t.variables.nthreads) _ (within_looked w words at TaskNthreadsLength 1 4 _ (told TaskNthreadsLength 0 _ refl refl) right.variables.some right.variables.few)
         (places_looked (look_word w words at TaskNthreads) (λ (n : ℕ). n) 0 t.variables.nthreads element ∙ ap Ok (map_same t.variables.nthreads))
       where
         element : (j n : ℕ) → slice_get t.variables.nthreads j ≡ Some n → look_word w words at TaskNthreads (0 + j) ≡ Ok n
-        element j n is = let e : 0 + j ≡ j = omega arith in ap (look_word w words at TaskNthreads) e ∙ word_looked w words at TaskNthreads j n (told.nthreads j n is)
+        element j n is = let e : 0 + j ≡ j = omega arith in ap (look_word w words at TaskNthreads) e ∙ word_looked w words at TaskNthreads j n (told TaskNthreads j n refl is)
 
     -- its row, where the task that it was scheduled from was not met
     task_looked : (i : ℕ) (met : List ℕ) → ((h : Tid) → t.scheduling ≡ Some h → was_met met (id_address w tasks h.0) ≡ false) → look_task w words met i k.0 ≡ Ok (task_row i k t)
     task_looked i met new =
-        step _ _ _ _ (word_looked w words at TaskImplicit 0 _ told.implicit)
-        (step _ _ t.region.0 _ (object_looked w words regions at TaskRegion 0 t.region.0 told.region (region_live w words s valid names shown t.region right.region))
-        (step _ _ _ _ (word_looked w words at TaskFunction 0 _ told.function)
-        (step _ _ _ _ (optional_looked w words tasks at TaskGenerating (λ (q : Tid). q.0) t.generating somewhere (λ g is. lives g (right.generating g is)) told.generating)
-        (step _ _ _ _ (onward_looked w words tasks at TaskScheduling (λ (q : Tid). q.0) t.scheduling somewhere (λ h is. lives h (right.scheduling h is)) told.scheduling met new)
-        (step _ _ _ _ (word_looked w words at TaskExit 0 _ told.exit)
-        (step _ _ _ _ (word_looked w words at TaskEnter 0 _ told.enter)
-        (step _ _ _ _ (word_looked w words at TaskTool 0 _ told.tool)
-        (step _ _ _ _ (word_looked w words at TaskDynamic 0 _ told.dynamic)
+        step _ _ _ _ (word_looked w words at TaskImplicit 0 _ (told TaskImplicit 0 _ refl refl))
+        (step _ _ t.region.0 _ (object_looked w words regions at TaskRegion 0 t.region.0 (told TaskRegion 0 _ refl refl) (region_live w words s valid names shown t.region right.region))
+        (step _ _ _ _ (word_looked w words at TaskFunction 0 _ (told TaskFunction 0 _ refl refl))
+        (step _ _ _ _ (optional_looked w words tasks at TaskGenerating (λ (q : Tid). q.0) t.generating somewhere (λ g is. lives g (right.generating g is)) (told TaskGenerating 0 _ refl refl))
+        (step _ _ _ _ (onward_looked w words tasks at TaskScheduling (λ (q : Tid). q.0) t.scheduling somewhere (λ h is. lives h (right.scheduling h is)) (told TaskScheduling 0 _ refl refl) met new)
+        (step _ _ _ _ (word_looked w words at TaskExit 0 _ (told TaskExit 0 _ refl refl))
+        (step _ _ _ _ (word_looked w words at TaskEnter 0 _ (told TaskEnter 0 _ refl refl))
+        (step _ _ _ _ (word_looked w words at TaskTool 0 _ (told TaskTool 0 _ refl refl))
+        (step _ _ _ _ (word_looked w words at TaskDynamic 0 _ (told TaskDynamic 0 _ refl refl))
         (step _ _ _ _ nthreads_looked
-        (step _ _ _ _ (word_looked w words at TaskSchedule 0 _ told.schedule)
-        (step _ _ _ _ (word_looked w words at TaskDevice 0 _ told.device)
-        (step _ _ _ _ (word_looked w words at TaskFinal 0 _ told.final)
+        (step _ _ _ _ (word_looked w words at TaskSchedule 0 _ (told TaskSchedule 0 _ refl refl))
+        (step _ _ _ _ (word_looked w words at TaskDevice 0 _ (told TaskDevice 0 _ refl refl))
+        (step _ _ _ _ (word_looked w words at TaskFinal 0 _ (told TaskFinal 0 _ refl refl))
         (ap₂ (λ (g h : Option Tid). Ok (record (task_row i k t) { generating = g; scheduling = h })) (named t.generating) (named t.scheduling))))))))))))))
       where
         named : (q : Option Tid) → option_map (λ (n : Id). record { 0 = n }) (option_map (λ (q : Tid). q.0) q) ≡ q

@@ -79,10 +79,10 @@ module _ (w : List ℕ) (words : Words) (s : State) (valid : IsValid w) (names :
   pub head_looked : look_head w words ≡ Ok (head_row s)
   head_looked =
       let globals = shown.records.globals in
-      step _ _ _ _ (word_looked w words (runtime_address w) RuntimeVersion 0 _ globals.version)
-      (step _ _ _ _ (word_looked w words (runtime_address w) RuntimeDebug 0 _ globals.debug)
-      (step _ _ _ _ (word_looked w words (runtime_address w) RuntimeProcs 0 _ globals.procs)
-      (step _ _ _ _ (word_looked w words (runtime_address w) RuntimeMaxActive 0 _ globals.max_active)
+      step _ _ _ _ (word_looked w words (runtime_address w) RuntimeVersion 0 _ (globals RuntimeVersion 0 _ refl refl))
+      (step _ _ _ _ (word_looked w words (runtime_address w) RuntimeDebug 0 _ (globals RuntimeDebug 0 _ refl refl))
+      (step _ _ _ _ (word_looked w words (runtime_address w) RuntimeProcs 0 _ (globals RuntimeProcs 0 _ refl refl))
+      (step _ _ _ _ (word_looked w words (runtime_address w) RuntimeMaxActive 0 _ (globals RuntimeMaxActive 0 _ refl refl))
       (ap (λ (n : ℕ). Ok (record {
         version = OPENMP_VERSION;
         threads = n;
@@ -96,10 +96,10 @@ module _ (w : List ℕ) (words : Words) (s : State) (valid : IsValid w) (names :
   tried native i more b = cond (flag b == 1) (and_then (look_word w words (thread_address w i) ThreadNative 0) (λ id. cond (id == native) (Ok (Some i)) more)) more
 
   for_tried : (native i : ℕ) (is : List ℕ) → i < s.count → look_for w words native (i ∷ is) ≡ tried native i (look_for w words native is) (s.threads i).begun
-  for_tried native i is known = step _ _ (flag (s.threads i).begun) _ (word_looked w words (thread_address w i) ThreadLife 0 _ (shown.records.lives i known).life) refl
+  for_tried native i is known = step _ _ (flag (s.threads i).begun) _ (word_looked w words (thread_address w i) ThreadLife 0 _ (shown.records.lives i known ThreadLife 0 _ refl refl)) refl
 
   named_tried : (native i : ℕ) (more : Look (Option ℕ)) → i < s.count → tried native i more true ≡ cond (native_id i == native) (Ok (Some i)) more
-  named_tried native i more known = step _ _ (native_id i) _ (word_looked w words (thread_address w i) ThreadNative 0 _ (shown.records.lives i known).native) refl
+  named_tried native i more known = step _ _ (native_id i) _ (word_looked w words (thread_address w i) ThreadNative 0 _ (shown.records.lives i known ThreadNative 0 _ refl refl)) refl
 
   passed : (native i : ℕ) (more : Look (Option ℕ)) → i < s.count → (HasBegun s i → native_id i ≡ native → ⊥) → (b : Bool) → (s.threads i).begun ≡ b → tried native i more b ≡ more
   passed native i more known other true e =
@@ -146,7 +146,7 @@ module _ (w : List ℕ) (words : Words) (s : State) (valid : IsValid w) (names :
   -- ---- a thread that has begun
   module _ (i : ℕ) (has : HasBegun s i) where
     state_looked : look_state w words i ≡ Ok (thread_part s i).state
-    state_looked = step _ _ (flag s.environment.debug) _ (word_looked w words (runtime_address w) RuntimeDebug 0 _ shown.records.globals.debug) (go s.environment.debug)
+    state_looked = step _ _ (flag s.environment.debug) _ (word_looked w words (runtime_address w) RuntimeDebug 0 _ (shown.records.globals RuntimeDebug 0 _ refl refl)) (go s.environment.debug)
       where
         small : (s.threads i).state < WAIT_PLACE
         small = small_state (s.threads i).state (shown.within.well_formed.states i has.known)
@@ -154,7 +154,7 @@ module _ (w : List ℕ) (words : Words) (s : State) (valid : IsValid w) (names :
         go : (b : Bool) → cond {A = Look (Option (ℕ × ℕ))} (flag b == 0) (Ok None) (mapped {B = Option (ℕ × ℕ)} (λ (word : ℕ). Some (word % WAIT_PLACE, word / WAIT_PLACE)) (look_word w words (thread_address w i) ThreadState 0))
             ≡ Ok (cond {A = Option (ℕ × ℕ)} b (Some ((s.threads i).state, (s.threads i).wait)) None)
         go true =
-            step _ _ (state_word (s.threads i).state (s.threads i).wait) _ (word_looked w words (thread_address w i) ThreadState 0 _ (shown.records.threads i has.known has.begun).state)
+            step _ _ (state_word (s.threads i).state (s.threads i).wait) _ (word_looked w words (thread_address w i) ThreadState 0 _ (shown.records.threads i has.known has.begun ThreadState 0 _ refl refl))
             (ap₂ {C = Look (Option (ℕ × ℕ))} (λ (x y : ℕ). Ok (Some (x, y))) (state_part (s.threads i).state (s.threads i).wait small) (wait_part (s.threads i).state (s.threads i).wait small))
         go false = refl
 
@@ -164,7 +164,7 @@ module _ (w : List ℕ) (words : Words) (s : State) (valid : IsValid w) (names :
     pub current_looked : look_current w words i ≡ Ok (option_map (λ k. k.0) (s.threads i).current)
     current_looked =
         optional_looked w words tasks (thread_address w i) ThreadCurrent (λ (k : Tid). k.0) (s.threads i).current (task_somewhere w words s valid names shown)
-        (λ k is. task_live w words s valid names shown k (current_seen k is)) (shown.records.threads i has.known has.begun).current
+        (λ k is. task_live w words s valid names shown k (current_seen k is)) (shown.records.threads i has.known has.begun ThreadCurrent 0 _ refl refl)
 
     part_looked : look_part w words i ≡ Ok (thread_part s i)
     part_looked =
@@ -183,7 +183,7 @@ module _ (w : List ℕ) (words : Words) (s : State) (valid : IsValid w) (names :
         number_looked None seen = refl
         number_looked (Some k) seen =
             let is = seen k refl in
-            step _ _ is.task.number _ (word_looked w words (id_address w tasks k.0) TaskNumber 0 _ (shown.records.tasks k is).member)
+            step _ _ is.task.number _ (word_looked w words (id_address w tasks k.0) TaskNumber 0 _ (shown.records.tasks k is TaskNumber 0 _ refl refl))
             (ap (λ (t : Option Task). Ok (option_map (λ (u : Task). u.number) t)) (sym is.live))
 
   -- the row of a context, and those of all

@@ -141,7 +141,7 @@ module _ (p : Program) (w : List ℕ) (m : Memory) (events : List (ℕ × Event)
         let more = one_more (barrier.LoadArrived b) at b member first is in
         let enough : a.context.size * a.context.arrivals ≤ arrived_word = ltb-false arrived_word (a.context.size * a.context.arrivals) missing in
         let whole : a.context.size * (o.region.released + 1) ≤ sum o.region.arrivals =
-        subst (λ n. a.context.size * n ≤ sum o.region.arrivals) more (subst (λ n. a.context.size * a.context.arrivals ≤ n) (keeps_region p w m events s actors i before (counter.Barrier (barrier.LoadArrived b)) at tt).arrived enough) in
+        subst (λ n. a.context.size * n ≤ sum o.region.arrivals) more (subst (λ n. a.context.size * a.context.arrivals ≤ n) ((keeps_region p w m events s actors i before (counter.Barrier (barrier.LoadArrived b)) at tt).codes RegionArrived 0 _ refl) enough) in
         load_quiet p w m events s actors i before (counter.Barrier (barrier.LoadArrived b)) at tt (of_current w a RegionArrived) on_arrived (counter.Barrier (barrier.LoadPending b))
         (record {
           fits = (member, first);
@@ -202,7 +202,7 @@ module _ (p : Program) (w : List ℕ) (m : Memory) (events : List (ℕ × Event)
     by_number less zero first (r, there, is) =
         let o = here p w m events s actors i before (counter.Barrier (barrier.LoadReleased b)) at tt in
         let one : o.region ≡ r = some_same o.found there in
-        let word = (keeps_region p w m events s actors i before (counter.Barrier (barrier.LoadReleased b)) at tt).released in
+        let word = (keeps_region p w m events s actors i before (counter.Barrier (barrier.LoadReleased b)) at tt).codes RegionReleased 0 _ refl in
         let all : o.region.released ≡ a.context.arrivals = ap (λ (x : Region). x.released) one ∙ is in
         absurd (omega (arith, word, all, less))
     by_number less (suc n) later o_row =

@@ -89,7 +89,7 @@ module _ (p : Program) (w : List ℕ) (m : Memory) (events : List (ℕ × Event)
   step : is_closed a word ≡ false → Step p s i event.Pass next
   step free =
       let reached : a.context.arrivals ≤ word = ltb-false word a.context.arrivals free in
-      let is = (keeps_region p w m events s actors i before (counter.Barrier c) at tt).released in
+      let is = (keeps_region p w m events s actors i before (counter.Barrier c) at tt).codes RegionReleased 0 _ refl in
       let may : slice_index own.region.arrivals own.task.number ≤ own.region.released =
       subst (λ j. slice_index own.region.arrivals j ≤ own.region.released) (sym own.number) (subst (λ k. k ≤ own.region.released) (sym own.arrivals) (subst (λ k. a.context.arrivals ≤ k) is reached)) in
       steps p w m events s actors i before (counter.Barrier c) at tt event.Pass item.Pass behind next takes_pass (a.context.task, own.task, own.region, current, region_there p w m events s actors i before (counter.Barrier c) at tt, may) refl refl

@@ -21,6 +21,8 @@ use Rattle.omi_layout.specs.Named.{number}
 use Rattle.omi_pc.specs.declared.actor.Actor.{Actor}
 use Rattle.omi_pc.specs.declared.counter.Counter.{Counter}
 use Rattle.omi_rep.specs.declared.outcome.Outcome.TheVariants as outcome
+use Rattle.omi_rep.specs.Codes.{thread_told}
+use Rattle.omi_rule_words.proofs.StoredCodes.{state_stored}
 use Rattle.omi_rule_words.specs.Owes.{all_owed, nothing, owed_at}
 use Rattle.omi_rule_words.specs.Words.{KeepsWords}
 use Rattle.omi_rule_words.proofs.ThreadStores.{thread_stores_keep}
@@ -58,9 +60,8 @@ module _ (p : Program) (w : List ℕ) (m : Memory) (events : List (ℕ × Event)
 
   words : KeepsWords w (with_word m i threads 0 (number ThreadState) 0 word) next (all_owed actors)
   words =
-      let o = (before.rule.words.made i before.known).thread in
       thread_stores_keep w m listed (all_owed actors) i (record (s.threads i) { state = state; wait = 0 }) ThreadState word (relisted_words p w m events s actors i before standing at of_member behind)
-      (λ same. omega (arith, same)) (record { life = o.life; native = o.native; current = o.current; state = refl; claim = o.claim })
+      (λ same. omega (arith, same)) (state_stored w i (m i threads 0) (thread_told (s.threads i)) (before.rule.words.made i before.known).thread state 0)
 
   changes : ChangesTask s next i a.context.task
   changes =

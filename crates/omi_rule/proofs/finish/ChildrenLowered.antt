@@ -20,6 +20,7 @@ use Rattle.omi_pc.specs.declared.place.Place.{Place}
 use Rattle.omi_pc.specs.declared.task_counter.FinishCounter.TheVariants as finish
 use Rattle.omi_pc.specs.Fits.{HasFinished}
 use Rattle.omi_rep.specs.declared.outcome.Outcome.TheVariants as outcome
+use Rattle.omi_rule_words.proofs.StoredCodes.{place_apart}
 use Rattle.omi_rule_words.specs.CountKinds.{one_less, with_task_word, word_of_task}
 use Rattle.omi_rule_words.specs.Owes.{Owed, all_owed, nothing, owed}
 use Rattle.omi_rule_words.specs.Words.{KeepsWords}
@@ -33,7 +34,6 @@ use Rattle.omi_rule.proofs.Assembly.{Before, quiet_keeps, spares_task}
 use Rattle.omi_rule.proofs.CountsFew.{children_few}
 use Rattle.omi_rule.proofs.KeptObjects.{task_kept}
 use Rattle.omi_rule.proofs.Owing.{owed_after}
-use Rattle.omi_rule.proofs.PlaceFields.{places_first}
 use Rattle.omi_rule.proofs.barrier.AtCounter.{StandsAt, ahead_is, at_counter, fits_counter, owes_now, placed_counter, row_is, thread_with, wide}
 
 module _ (p : Program) (w : List ℕ) (m : Memory) (events : List (ℕ × Event)) (s : State) (actors : ℕ → Actor) (i : ℕ) (before : Before p w m events s actors i) (v : Option Wait) (t : Tid) (place : Place) (at : (actors i).counter ≡ counter.Finish (finish.SubtractChildren v t place)) where
@@ -87,7 +87,7 @@ module _ (p : Program) (w : List ℕ) (m : Memory) (events : List (ℕ × Event)
   lowered : KeepsRule p w m events s actors i (op.Sub (of_place w (place_of g.0) TaskChildren) 1) (on_children (place_of g.0)) (at_counter to a, outcome.Quiet)
   lowered =
       quiet_keeps p w m events s actors i before (op.Sub (of_place w (place_of g.0) TaskChildren) 1) (on_children (place_of g.0)) (at_counter to a, outcome.Quiet) refl words
-      (λ j other. spares_task m s g maker.0 TaskChildren 0 (one_less (word_of_task m g TaskChildren)) j (actors j) maker.1 (inl (λ same. omega (arith, same))) (λ f of field deferred known is. let less = places_first f of in absurd (omega (arith, less, field))))
+      (λ j other. spares_task m s g maker.0 TaskChildren 0 (one_less (word_of_task m g TaskChildren)) j (actors j) maker.1 (inl (λ same. omega (arith, same))) (λ f of field deferred known is. place_apart f TaskChildren of refl field))
       (thread_with p w m events s actors i before standing at tt n to stands_at)
 
   pub subtract_children_keeps : StepKeeps p w m events s actors i (finish_next w (actors i) (finish.SubtractChildren v t place)) (λ old. (finish_moved p w (actors i) (finish.SubtractChildren v t place) old, finish_outcome (actors i) (finish.SubtractChildren v t place)))

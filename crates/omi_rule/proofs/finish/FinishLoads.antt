@@ -1,11 +1,9 @@
 -- The thread of an explicit task that has finished loads the task that made it.
-use Rattle.std.proofs.Common.{◌≡◌, ◌<◌, ℕ, List, Option, inl, refl, sym, ap, ◌∙◌, subst, arith}
-use Rattle.std.specs.Prelude.{MatchBool}
+use Rattle.std.proofs.Common.{◌≡◌, ◌<◌, ℕ, List, Option, refl, sym, ap, ◌∙◌, subst, arith}
 use Rattle.omi_script.specs.declared.program.Program.{Program}
 use Rattle.omi_model.specs.declared.event.Event.{Event}
 use Rattle.omi_model.specs.declared.id.Tid.{Tid}
 use Rattle.omi_model.specs.State.{State}
-use Rattle.omi_model.specs.Visible.{HasStarted, IsVisibleRegion, IsVisibleTask}
 use Rattle.omi_model.proofs.NamesLive.{names_live}
 use Rattle.omi_layout.specs.declared.field.Field.TheVariants.{TaskGenerating}
 use Rattle.omi_layout.specs.Field.{tasks}
@@ -52,13 +50,6 @@ module _ (p : Program) (w : List ℕ) (m : Memory) (events : List (ℕ × Event)
   fits : IsBack p a v × (t.0.creator < p.threads)
   fits = fits_counter p w m events s actors i before standing at tt
 
-  seen : IsVisibleTask s t
-  seen = record {
-    task = ended.task;
-    live = ended.live;
-    shown = subst (λ b. MatchBool b (IsVisibleRegion s ended.task.region) (HasStarted ended.task.progress)) (sym ended.explicit) (subst HasStarted (sym ended.progress) tt);
-  }
-
   -- the generating task is live
   maker_there : HasTask w ended.generating
   maker_there =
@@ -67,7 +58,7 @@ module _ (p : Program) (w : List ℕ) (m : Memory) (events : List (ℕ × Event)
 
   read_back : task_place w word ≡ place_of ended.generating.0
   read_back =
-      ap (task_place w) ((task_kept p w m events s actors before.rule t ended.task ended.live).environment (inl seen)).generating
+      ap (task_place w) ((task_kept p w m events s actors before.rule t ended.task ended.live).environment TaskGenerating 0 _ refl refl)
       ∙ ap (λ (o : Option Tid). task_place w (task_word w o)) ended.made_by
       ∙ places_back w tasks ended.generating.0.creator ended.generating.0.slot before.valid (record { from = omega arith; to = omega arith }) maker_there
 

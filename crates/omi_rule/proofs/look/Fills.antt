@@ -5,6 +5,7 @@ use Rattle.omi_model.specs.declared.event.Event.{Event}
 use Rattle.omi_model.specs.declared.id.Tid.{Tid}
 use Rattle.omi_model.specs.declared.task.Task.{Task}
 use Rattle.omi_model.specs.State.{State}
+use Rattle.omi_layout.specs.declared.field.Field.TheVariants.{TaskSlots}
 use Rattle.omi_layout.specs.Field.{kind_of, tasks}
 use Rattle.omi_layout.specs.Memory.{Memory, replace_at, with_word}
 use Rattle.omi_layout.specs.Named.{number}
@@ -20,7 +21,8 @@ use Rattle.omi_pc.specs.declared.limits.TheConstants.{START_WORDS}
 use Rattle.omi_pc.specs.declared.task_counter.LookCounter.TheVariants as look
 use Rattle.omi_pc.specs.Fits.{HasLoaded}
 use Rattle.omi_rep.specs.declared.outcome.Outcome.TheVariants as outcome
-use Rattle.omi_rule_words.specs.ExplicitKinds.{IsPlaceField}
+use Rattle.omi_rep.specs.Codes.{is_place}
+use Rattle.omi_rule_words.proofs.StoredCodes.{place_apart}
 use Rattle.omi_rule_words.specs.Owes.{Owed, all_owed, nothing, owed}
 use Rattle.omi_rule_words.specs.Words.{KeepsWords}
 use Rattle.omi_rule_words.proofs.Moves.{moves_keep}
@@ -35,7 +37,6 @@ use Rattle.omi_rule.specs.Rows.{HasPlaced, IsFilled}
 use Rattle.omi_rule.specs.Rule.{KeepsThread}
 use Rattle.omi_rule.specs.Steps.{KeepsRule, RecordWord, StepKeeps, left_in}
 use Rattle.omi_rule.proofs.Assembly.{Before, quiet_keeps, spares_task}
-use Rattle.omi_rule.proofs.PlaceFields.{places_first}
 use Rattle.omi_rule.proofs.RowsStay.{Spares}
 use Rattle.omi_rule.proofs.barrier.AtCounter.{StandsAt, ahead_is, at_counter, fits_counter, owes_now, placed_counter, row_is, thread_with, wide}
 use Rattle.omi_rule.proofs.look.InHand.{hand_at, one_hand}
@@ -43,16 +44,16 @@ use Rattle.omi_rule.proofs.team.Plans.{fill_next}
 
 -- a word of a place on a thread
 record IsPlaceWord (x : Planned) : Type 0 where
-  field : IsPlaceField x.field
+  field : is_place x.field ≡ true
   first : x.at ≡ 0
   kind : kind_of (number x.field) ≡ tasks
 
 place_word : (w : List ℕ) (a : Actor) (word : ℕ) → word < START_WORDS → IsPlaceWord (start_plan w a word)
-place_word w a zero below = record { field = IsPlaceField.OfThread; first = refl; kind = refl }
-place_word w a (suc zero) below = record { field = IsPlaceField.OfNumber; first = refl; kind = refl }
-place_word w a (suc (suc zero)) below = record { field = IsPlaceField.OfScheduling; first = refl; kind = refl }
-place_word w a (suc (suc (suc zero))) below = record { field = IsPlaceField.OfExit; first = refl; kind = refl }
-place_word w a (suc (suc (suc (suc zero)))) below = record { field = IsPlaceField.OfEnter; first = refl; kind = refl }
+place_word w a zero below = record { field = refl; first = refl; kind = refl }
+place_word w a (suc zero) below = record { field = refl; first = refl; kind = refl }
+place_word w a (suc (suc zero)) below = record { field = refl; first = refl; kind = refl }
+place_word w a (suc (suc (suc zero))) below = record { field = refl; first = refl; kind = refl }
+place_word w a (suc (suc (suc (suc zero)))) below = record { field = refl; first = refl; kind = refl }
 place_word w a (suc (suc (suc (suc (suc k))))) below = absurd (omega (arith, below))
 
 -- their fields rise
@@ -120,8 +121,7 @@ module _ (p : Program) (w : List ℕ) (m : Memory) (events : List (ℕ × Event)
 
   spares : (j : ℕ) → j ≢ i → Spares m after_store s j (actors j)
   spares j other =
-      let low = places_first Word.field is_word.field in
-      spares_task m s t hand.0.task Word.field Word.at Word.value j (actors j) hand.0.is.live (inl (λ same. omega (arith, low, same)))
+      spares_task m s t hand.0.task Word.field Word.at Word.value j (actors j) hand.0.is.live (inl (place_apart Word.field TaskSlots is_word.field refl))
       (λ g of same deferred known its. one_hand p w m events s actors before.rule i j before.known known other t hand.0.task hand.0.is (ap (λ (o : Owed). o.hand) owes) its)
 
   abbrev Goes : Counter → Type 0

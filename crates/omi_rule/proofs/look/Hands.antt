@@ -1,5 +1,5 @@
 -- A task that was taken from a slot is in the thread's hand, which loads its function and its final flag.
-use Rattle.std.proofs.Common.{◌≡◌, ◌==◌, ◌<◌, inr, ℕ, Bool, true, false, List, length, Some, refl, sym, ap, ◌∙◌, subst, arith}
+use Rattle.std.proofs.Common.{◌≡◌, ◌==◌, ◌<◌, ℕ, Bool, true, false, List, length, Some, refl, sym, ap, ◌∙◌, subst, arith}
 use Rattle.std.specs.Prelude.{not}
 use Rattle.omi_script.specs.declared.program.Program.{Program}
 use Rattle.omi_script.proofs.RuleLemmas.{Rules-from_accepted}
@@ -49,7 +49,7 @@ module _ (p : Program) (w : List ℕ) (m : Memory) (events : List (ℕ × Event)
 
   -- the words of a deferred task are its codes
   environment : (v : Wait) (t : Tid) (known : Task → Type 0) (o : IsInHand s a v t known) → KeepsEnvironment w (m t.0.creator tasks t.0.slot) o.task
-  environment v t known o = (task_kept p w m events s actors before.rule t o.task o.is.live).environment (inr o.is.progress)
+  environment v t known o = (task_kept p w m events s actors before.rule t o.task o.is.live).environment
 
   -- ---- the function
 
@@ -96,7 +96,7 @@ module _ (p : Program) (w : List ℕ) (m : Memory) (events : List (ℕ × Event)
         let below = less in
         let known = runs.known in
         let few = (Rules-from_accepted p).functions in
-        ap function_at (environment v t (λ u. Unit {0}) hand).function ∙ functions_back hand.task.function (omega (arith, below, known, few))
+        ap function_at (environment v t (λ u. Unit {0}) hand TaskFunction 0 _ refl refl) ∙ functions_back hand.task.function (omega (arith, below, known, few))
 
     goes : GoesTo p w m events s actors i before standing at tt (counter.Look (look.LoadFinal v n code t (function_at word)))
     goes = record {
@@ -135,7 +135,7 @@ module _ (p : Program) (w : List ℕ) (m : Memory) (events : List (ℕ × Event)
     read_flag false = refl
 
     is_final : known_hand.task.is_final ≡ not (final_word == 0)
-    is_final = sym (read_flag known_hand.task.is_final) ∙ ap (λ x. not (x == 0)) (sym (environment v t (λ u. u.function ≡ f) known_hand).final)
+    is_final = sym (read_flag known_hand.task.is_final) ∙ ap (λ x. not (x == 0)) (sym (environment v t (λ u. u.function ≡ f) known_hand TaskFinal 0 _ refl refl))
 
     filling_goes : GoesTo p w m events s actors i before final_at at tt (counter.Look (look.Fill v n code t f (not (final_word == 0)) 0))
     filling_goes = record {

@@ -27,6 +27,8 @@ use Rattle.omi_step_words.specs.Placed.{HasTask, HasTaskPlace}
 use Rattle.omi_step_words.specs.Words.{of_member, task_place}
 use Rattle.omi_step_words.proofs.ReadBack.{places_back}
 use Rattle.omi_task.specs.LookSteps.{look_moved, look_next, look_outcome, member_at}
+use Rattle.omi_rep.specs.Codes.{region_told}
+use Rattle.omi_rep.proofs.Codes.{member_code}
 use Rattle.omi_rule.specs.Chains.{KeepsContext}
 use Rattle.omi_rule.specs.Rows.{place_of}
 use Rattle.omi_rule.specs.Steps.{RecordWord, StepKeeps}
@@ -71,7 +73,7 @@ module _ (p : Program) (w : List ℕ) (m : Memory) (events : List (ℕ × Event)
 
   read_back : task_place w row_word ≡ place_of member.0.0
   read_back =
-      ap (task_place w) ((keeps_region p w m events s actors i before standing at tt).team (member_at n) member member_there)
+      ap (task_place w) ((keeps_region p w m events s actors i before standing at tt).codes RegionTeam (member_at n) _ (member_code w (region_told (here p w m events s actors i before standing at tt).region) (member_at n) member member_there))
       ∙ places_back w tasks member.0.0.creator member.0.0.slot before.valid (record { from = omega arith; to = omega arith }) has_task
 
   maker : member.0.0.creator < p.threads

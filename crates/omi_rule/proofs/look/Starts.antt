@@ -1,5 +1,5 @@
 -- A task in the hand starts: it is scheduled from the current one, which waits under its body.
-use Rattle.std.proofs.Common.{◌≡◌, ◌+◌, inl, ℕ, Bool, false, List, [], ◌∷◌, ◌++◌, Option, Some, refl, sym, ap, ◌∙◌, arith}
+use Rattle.std.proofs.Common.{◌≡◌, ◌+◌, inl, ℕ, zero, Bool, false, List, [], ◌∷◌, ◌++◌, Option, Some, refl, sym, ap, ◌∙◌, arith}
 use Rattle.std.specs.Option.{option_and_then, option_map}
 use Rattle.omi_numbers.specs.Addresses.{exit_below, exit_frame}
 use Rattle.omi_word.specs.declared.op.Op.TheVariants as op
@@ -28,7 +28,7 @@ use Rattle.omi_model.proofs.Slots.{on_other, on_same, put_same, some_same}
 use Rattle.omi_model.proofs.StaysKept.{stays_step}
 use Rattle.omi_model.proofs.Steps.{at_current, current_moved, relisted}
 use Rattle.omi_model.proofs.members.ClosingItems.{lists_right}
-use Rattle.omi_layout.specs.declared.field.Field.TheVariants.{ThreadCurrent}
+use Rattle.omi_layout.specs.declared.field.Field.TheVariants.{TaskEnter, TaskExit, TaskNumber, TaskScheduling, TaskThread, ThreadCurrent}
 use Rattle.omi_layout.specs.Field.{tasks, threads}
 use Rattle.omi_layout.specs.Memory.{Memory, with_word}
 use Rattle.omi_layout.specs.Named.{number}
@@ -53,6 +53,7 @@ use Rattle.omi_pc.proofs.Moved.{body_opens}
 use Rattle.omi_rep.specs.declared.outcome.Outcome.TheVariants as outcome
 use Rattle.omi_rep.specs.Records.{task_address, thread_address}
 use Rattle.omi_rule_words.specs.ExplicitKinds.{IsDeferred, IsReady}
+use Rattle.omi_rep.proofs.Codes.{same_word}
 use Rattle.omi_rule_words.specs.Objects.{KeepsPlace}
 use Rattle.omi_rule_words.specs.Owes.{all_owed, nothing, owed}
 use Rattle.omi_rule_words.specs.Words.{KeepsWords}
@@ -140,13 +141,12 @@ module _ (p : Program) (w : List ℕ) (m : Memory) (events : List (ℕ × Event)
   exit_is = let is = mine.exit in omega (arith, is)
 
   placed_here : KeepsPlace w (m t.0.creator tasks t.0.slot) (scheduled i K T U)
-  placed_here = record {
-    thread = hand.1 0 (omega arith) ∙ ap (thread_address w) (own p w m events s actors i before standing at tt).thread;
-    member = hand.1 1 (omega arith) ∙ sym mine.number;
-    scheduling = hand.1 2 (omega arith);
-    exit = hand.1 3 (omega arith) ∙ ap (λ j. exit_frame j (a.context.depth + 1)) (own p w m events s actors i before standing at tt).thread ∙ sym exit_is;
-    enter = hand.1 4 (omega arith);
-  }
+  placed_here TaskThread zero x _ told = hand.1 0 (omega arith) ∙ ap (thread_address w) (own p w m events s actors i before standing at tt).thread ∙ same_word _ _ told
+  placed_here TaskNumber zero x _ told = hand.1 1 (omega arith) ∙ sym mine.number ∙ same_word _ _ told
+  placed_here TaskScheduling zero x _ told = hand.1 2 (omega arith) ∙ same_word _ _ told
+  placed_here TaskExit zero x _ told = hand.1 3 (omega arith) ∙ ap (λ j. exit_frame j (a.context.depth + 1)) (own p w m events s actors i before standing at tt).thread ∙ sym exit_is ∙ same_word _ _ told
+  placed_here TaskEnter zero x _ told = hand.1 4 (omega arith) ∙ same_word _ _ told
+  placed_here f at x place told = absurd (cc)
 
   ready : IsReady w m listed (all_owed actors) i t U K T
   ready = (owes_now p w m events s actors i before standing at tt, deferred, placed_here)

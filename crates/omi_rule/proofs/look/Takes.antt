@@ -23,6 +23,7 @@ use Rattle.omi_pc.specs.declared.place.Place.{Place}
 use Rattle.omi_pc.specs.declared.task_counter.LookCounter.TheVariants as look
 use Rattle.omi_pc.specs.Fits.{LooksAt}
 use Rattle.omi_rep.specs.declared.outcome.Outcome.TheVariants as outcome
+use Rattle.omi_rule_words.proofs.StoredCodes.{place_apart}
 use Rattle.omi_rule_words.specs.ExplicitKinds.{with_slot}
 use Rattle.omi_rule_words.specs.Objects.{IsDeferredIn}
 use Rattle.omi_rule_words.specs.Owes.{all_owed, nothing}
@@ -39,7 +40,6 @@ use Rattle.omi_rule.specs.Steps.{KeepsRule, RecordWord, StepKeeps, left_in}
 use Rattle.omi_rule.proofs.Assembly.{Before, quiet_keeps, spares_task}
 use Rattle.omi_rule.proofs.KeptObjects.{task_there}
 use Rattle.omi_rule.proofs.Owing.{owed_after}
-use Rattle.omi_rule.proofs.PlaceFields.{places_first}
 use Rattle.omi_rule.proofs.RowsStay.{Spares}
 use Rattle.omi_rule.proofs.barrier.AtCounter.{StandsAt, ahead_is, at_counter, fits_counter, here, owes_now, placed_counter, row_is, same_quiet, sees, thread_with}
 use Rattle.omi_rule.proofs.look.InHand.{hand_at}
@@ -137,7 +137,7 @@ module _ (p : Program) (w : List ℕ) (m : Memory) (events : List (ℕ × Event)
         quiet_keeps p w m events s actors i before (op.Cas (of_slot w row n) code 0) on_slot (at_counter to a, outcome.Quiet) refl
         (subst (λ (h : Memory). KeepsWords w h s (all_owed (replace_at actors i (at_counter to a)))) (sym left_is) words)
         (λ j other. subst (λ (h : Memory). Spares m h s j (actors j)) (sym left_is)
-        (spares_task m s o.name o.task TaskSlots (n % OWN_SLOTS) 0 j (actors j) o.live (inr (inr refl)) (λ g of field _ _ _. let less = places_first g of in absurd (omega (arith, less, field)))))
+        (spares_task m s o.name o.task TaskSlots (n % OWN_SLOTS) 0 j (actors j) o.live (inr (inr refl)) (λ g of field _ _ _. place_apart g TaskSlots of refl field)))
         (subst (λ (h : Memory). KeepsThread p w h events s i (at_counter to a)) (sym left_is) (thread_with p w m events s actors i before standing at tt taken to stands_at))
 
   by_exchange : (d : Bool) → found == code ≡ d → KeepsRule p w m events s actors i (op.Cas (of_slot w row n) code 0) on_slot (if d then to_look (look.LoadFunction v n code k) a else looking_on v n row a, outcome.Quiet)

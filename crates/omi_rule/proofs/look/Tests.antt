@@ -1,19 +1,13 @@
 -- Where only children of the current task may start, a task that is found in a slot is tested: the thread loads the task that made it.
-use Rattle.std.proofs.Common.{◌≡◌, ◌≢◌, ◌+◌, ◌==◌, ◌<◌, ◌%◌, ◌^◌, nat_lt, inl, inr, ◌⊎◌, ℕ, Bool, true, false, List, Option, Some, None, refl, sym, ap, ◌∙◌, subst, arith, eqb-true, ltb-true, if◌then◌else◌}
+use Rattle.std.proofs.Common.{◌≡◌, ◌≢◌, ◌+◌, ◌==◌, ◌<◌, ◌%◌, ◌^◌, nat_lt, ℕ, Bool, true, false, List, Option, Some, None, refl, sym, ap, ◌∙◌, arith, eqb-true, ltb-true, if◌then◌else◌}
 use Rattle.std.proofs.lemmas.Nat.{mod_below}
-use Rattle.std.specs.Prelude.{MatchBool}
 use Rattle.omi_word.specs.declared.op.Op.TheVariants as op
 use Rattle.omi_script.specs.declared.program.Program.{Program}
 use Rattle.omi_model.specs.declared.event.Event.{Event}
 use Rattle.omi_model.specs.declared.id.Tid.{Tid}
-use Rattle.omi_model.specs.declared.progress.Progress.{Progress}
-use Rattle.omi_model.specs.declared.progress.Progress.TheVariants as progress
 use Rattle.omi_model.specs.declared.task.Task.{Task}
 use Rattle.omi_model.specs.State.{State, task_of}
-use Rattle.omi_model.specs.Visible.{HasStarted, IsVisibleRegion, IsVisibleTask}
-use Rattle.omi_model.proofs.MembersKnown.{members_known}
 use Rattle.omi_model.proofs.NamesLive.{names_live}
-use Rattle.omi_model.proofs.Slots.{false_true}
 use Rattle.omi_layout.specs.declared.field.Field.TheVariants.{TaskGenerating}
 use Rattle.omi_layout.specs.Field.{tasks}
 use Rattle.omi_layout.specs.Memory.{Memory}
@@ -45,7 +39,7 @@ use Rattle.omi_rule.specs.Rows.{HasTested, IsRowOf, OfRegion, WasMade, place_of}
 use Rattle.omi_rule.specs.Rule.{Rule}
 use Rattle.omi_rule.specs.Steps.{KeepsRule, RecordWord, StepKeeps}
 use Rattle.omi_rule.proofs.Assembly.{Before, same_name}
-use Rattle.omi_rule.proofs.KeptObjects.{member_seen, task_kept, task_there}
+use Rattle.omi_rule.proofs.KeptObjects.{task_kept, task_there}
 use Rattle.omi_rule.proofs.barrier.AtCounter.{GoesTo, ahead_is, fits_counter, here, load_quiet, placed_counter, row_is, sees, wide}
 use Rattle.omi_rule.proofs.look.LooksOn.{goes_next}
 
@@ -58,29 +52,12 @@ coded_there w valid code = go (slot_by w tasks (code % 2 ^ 24)) (mod_below (code
     go x below false made = record { made_by = some_threads w valid; within = some_tasks w valid }
 
 module _ (p : Program) (w : List ℕ) (m : Memory) (events : List (ℕ × Event)) (s : State) (actors : ℕ → Actor) (rule : Rule p w m events s actors) where
-  -- a live task is visible or deferred, or waits to begin as a member's
-  pub seen_or_deferred : (k : Tid) (t : Task) → task_of s k ≡ Some t → IsVisibleTask s k ⊎ (t.progress ≡ progress.Deferred)
-  seen_or_deferred k t live = by t.implicit refl
-    where
-      started : t.implicit ≡ false → HasStarted t.progress → IsVisibleTask s k
-      started ex is = record { task = t; live = live; shown = subst (λ b. MatchBool b (IsVisibleRegion s t.region) (HasStarted t.progress)) (sym ex) is }
-
-      by_progress : t.implicit ≡ false → (q : Progress) → t.progress ≡ q → IsVisibleTask s k ⊎ (t.progress ≡ progress.Deferred)
-      by_progress ex progress.Deferred e = inr e
-      by_progress ex progress.NotBegun e = absurd (false_true (sym ex ∙ (((members_known p events s rule.reached).encountered k t live).waiting e).0))
-      by_progress ex progress.Begun e = inl (started ex (subst HasStarted (sym e) tt))
-      by_progress ex progress.Finished e = inl (started ex (subst HasStarted (sym e) tt))
-
-      by : (b : Bool) → t.implicit ≡ b → IsVisibleTask s k ⊎ (t.progress ≡ progress.Deferred)
-      by true im = inl (member_seen p w m events s actors rule k t live im)
-      by false ex = by_progress ex t.progress refl
-
   -- the word of a live task tells the task that made it
   pub maker_told : (valid : IsValid w) (k g : Tid) (t u : Task) → task_of s k ≡ Some t → task_of s g ≡ Some u → m k.0.creator tasks k.0.slot (number TaskGenerating) 0 ≡ task_address w g → t.generating ≡ Some g
   maker_told valid k g t u live there word = by t.generating refl
     where
       stands : m k.0.creator tasks k.0.slot (number TaskGenerating) 0 ≡ task_word w t.generating
-      stands = ((task_kept p w m events s actors rule k t live).environment (seen_or_deferred k t live)).generating
+      stands = (task_kept p w m events s actors rule k t live).environment TaskGenerating 0 _ refl refl
 
       by : (o : Option Tid) → t.generating ≡ o → t.generating ≡ Some g
       by None e = absurd (address_some w valid g (sym word ∙ stands ∙ ap (task_word w) e))

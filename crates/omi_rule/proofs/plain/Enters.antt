@@ -25,6 +25,7 @@ use Rattle.omi_model.proofs.members.ListOrder.{barriers_ordered}
 use Rattle.omi_model.proofs.SchedulingChains.{leads_on}
 use Rattle.omi_model.proofs.Steps.{at_current, relisted}
 use Rattle.omi_layout.specs.declared.field.Field.TheVariants.{TaskEnter}
+use Rattle.omi_layout.specs.Field.{tasks}
 use Rattle.omi_layout.specs.Memory.{Memory}
 use Rattle.omi_pc.specs.declared.actor.Actor.{Actor}
 use Rattle.omi_pc.specs.declared.context.Context.{Context}
@@ -50,8 +51,8 @@ use Rattle.omi_rule.proofs.Settling.{in_work_is}
 use Rattle.omi_rule.proofs.plain.Firsts.{IsFirst, plain_first}
 use Rattle.omi_rule.proofs.plain.OwnEvents.{GoesOn, at_debug, fits_counter, steps}
 use Rattle.omi_rule.proofs.plain.Loads.{goes_to_row, on_ground, sees, takes_head}
-use Rattle.omi_rule.proofs.plain.Leaves.{enter_environment, enter_of_task, enter_place}
-use Rattle.omi_rule.proofs.plain.TaskWords.{has_environment, has_place, middle, middle_current, now_current, own_task, task_event, task_on, task_word_at, twice}
+use Rattle.omi_rule.proofs.plain.Leaves.{enter_of_task, enter_stored}
+use Rattle.omi_rule.proofs.plain.TaskWords.{has_codes, middle, middle_current, now_current, own_task, task_event, task_on, task_word_at, twice}
 
 -- ---- what is ahead behind the enter
 
@@ -256,8 +257,7 @@ module _ (p : Program) (w : List ℕ) (m : Memory) (events : List (ℕ × Event)
         task_event p w m events s actors i before plain.Enter at_counter (zs x) TaskEnter word shown refl enter_of_task
             (λ v. record { implicit = refl; region = refl; thread = refl; number = refl; scheduling = refl; exit = refl; final = refl; progress = refl })
             (λ v. refl) (record { implicit = refl; region = refl; thread = refl; generating = refl; progress = refl; place = refl })
-            (enter_environment w _ t word (enter_frame t.exit) (zs x) (has_environment p w m events s actors i before plain.Enter at_counter))
-            (enter_place w _ t word (enter_frame t.exit) (zs x) word_is (has_place p w m events s actors i before plain.Enter at_counter))
+            (enter_stored w (m (actors i).context.task.0.creator tasks (actors i).context.task.0.slot) t word (enter_frame t.exit) (zs x) word_is (has_codes p w m events s actors i before plain.Enter at_counter))
             (past_enter p a) (outcome.Event event.Enter) event.Enter item.Enter refl (λ q. q) (λ n e. absurd (cc e)) (takes x is enters)
             (k, t, now_current p w m events s actors i before plain.Enter at_counter, tt) refl
             (at_current z i k (relisted (zs x) t) (Settings.entered z) (middle_current p w m events s actors i before plain.Enter at_counter (zs x)))

@@ -1,5 +1,5 @@
 -- The plain steps by which a task leaves the runtime, and sets the tool word.
-use Rattle.std.proofs.Common.{◌≡◌, ℕ, List, [], ◌∷◌, ◌++◌, Option, Some, refl, sym, ap, ◌∙◌, subst, arith, eq-eqb}
+use Rattle.std.proofs.Common.{◌≡◌, ℕ, zero, suc, List, [], ◌∷◌, ◌++◌, Option, Some, refl, sym, ap, ◌∙◌, subst, arith, eq-eqb}
 use Rattle.omi_script.specs.declared.program.Program.{Program}
 use Rattle.omi_script.specs.declared.statement.Stmt.{Stmt}
 use Rattle.omi_script.specs.declared.statement.Stmt.TheVariants as stmt
@@ -14,6 +14,7 @@ use Rattle.omi_model.specs.Settings as Settings
 use Rattle.omi_model.specs.State.{State}
 use Rattle.omi_model.proofs.Steps.{at_current, relisted}
 use Rattle.omi_layout.specs.declared.field.Field.TheVariants.{TaskEnter, TaskTool}
+use Rattle.omi_layout.specs.Field.{tasks}
 use Rattle.omi_layout.specs.Memory.{Memory, Rec, with_word_in}
 use Rattle.omi_layout.specs.Named.{number}
 use Rattle.omi_pc.specs.declared.actor.Actor.{Actor}
@@ -29,7 +30,8 @@ use Rattle.omi_plain.specs.PlainSteps.{past_leave, left_behind, plain_moved, pla
 use Rattle.omi_plain.specs.Statements.{tool_in}
 use Rattle.omi_plain.proofs.StayPlaced.{steps_stay_placed}
 use Rattle.omi_rep.specs.declared.outcome.Outcome.TheVariants as outcome
-use Rattle.omi_rule_words.specs.Objects.{KeepsEnvironment, KeepsPlace}
+use Rattle.omi_rep.specs.Codes.{HasCodes, task_code, task_told}
+use Rattle.omi_rep.proofs.Codes.{same_word}
 use Rattle.omi_rule_words.specs.TaskKinds.{IsOfTask}
 use Rattle.omi_step_words.specs.Placed.{IsPlaced}
 use Rattle.omi_rule.specs.Ahead.{ahead, behind_leave}
@@ -39,7 +41,7 @@ use Rattle.omi_rule.proofs.Settling.{in_work_is}
 use Rattle.omi_rule.proofs.plain.Firsts.{IsFirst, plain_first, settled_first}
 use Rattle.omi_rule.proofs.plain.OwnEvents.{GoesOn, body, fits_counter}
 use Rattle.omi_rule.proofs.plain.Loads.{goes_on, on_ground, sees, settled_goes, takes_head, was_first}
-use Rattle.omi_rule.proofs.plain.TaskWords.{has_environment, has_place, middle, middle_current, now_current, own_task, task_event, task_on, task_word_at}
+use Rattle.omi_rule.proofs.plain.TaskWords.{has_codes, middle, middle_current, now_current, own_task, task_event, task_on, task_word_at}
 
 pub enter_of_task : IsOfTask TaskEnter
 enter_of_task = record { life = λ e. absurd (omega (arith, e)); children = λ e. absurd (omega (arith, e)); references = λ e. absurd (omega (arith, e)); slots = λ e. absurd (omega (arith, e)) }
@@ -50,42 +52,18 @@ tool_of_task = record { life = λ e. absurd (omega (arith, e)); children = λ e.
 -- ---- the record
 
 -- an enter frame is stored
-pub enter_environment : (w : List ℕ) (r : Rec) (t : Task) (word enter : ℕ) (zs : List Item) → KeepsEnvironment w r t → KeepsEnvironment w (with_word_in r (number TaskEnter) 0 word) (record t { list = zs; enter = enter })
-enter_environment w r t word enter zs o = record {
-  implicit = o.implicit;
-  region = o.region;
-  generating = o.generating;
-  function = o.function;
-  dynamic = o.dynamic;
-  nthreads_length = o.nthreads_length;
-  schedule = o.schedule;
-  device = o.device;
-  final = o.final;
-  tool = o.tool;
-  nthreads = o.nthreads;
-}
-
-pub enter_place : (w : List ℕ) (r : Rec) (t : Task) (word enter : ℕ) (zs : List Item) → word ≡ enter → KeepsPlace w r t → KeepsPlace w (with_word_in r (number TaskEnter) 0 word) (record t { list = zs; enter = enter })
-enter_place w r t word enter zs is o = record { thread = o.thread; member = o.member; scheduling = o.scheduling; exit = o.exit; enter = is }
+pub enter_stored : (w : List ℕ) (r : Rec) (t : Task) (word enter : ℕ) (zs : List Item) → word ≡ enter → HasCodes (task_code w (task_told t)) r
+    → HasCodes (task_code w (task_told (record t { list = zs; enter = enter }))) (with_word_in r (number TaskEnter) 0 word)
+enter_stored w r t word enter zs is o TaskEnter zero x told = is ∙ same_word _ _ told
+enter_stored w r t word enter zs is o TaskEnter (suc at) x told = absurd (cc)
+enter_stored w r t word enter zs is o f at x told = o f at x told
 
 -- a tool word is stored
-tool_environment : (w : List ℕ) (r : Rec) (t : Task) (word : ℕ) (zs : List Item) → KeepsEnvironment w r t → KeepsEnvironment w (with_word_in r (number TaskTool) 0 word) (record t { list = zs; tool = word })
-tool_environment w r t word zs o = record {
-  implicit = o.implicit;
-  region = o.region;
-  generating = o.generating;
-  function = o.function;
-  dynamic = o.dynamic;
-  nthreads_length = o.nthreads_length;
-  schedule = o.schedule;
-  device = o.device;
-  final = o.final;
-  tool = refl;
-  nthreads = o.nthreads;
-}
-
-tool_place : (w : List ℕ) (r : Rec) (t : Task) (word : ℕ) (zs : List Item) → KeepsPlace w r t → KeepsPlace w (with_word_in r (number TaskTool) 0 word) (record t { list = zs; tool = word })
-tool_place w r t word zs o = record { thread = o.thread; member = o.member; scheduling = o.scheduling; exit = o.exit; enter = o.enter }
+tool_stored : (w : List ℕ) (r : Rec) (t : Task) (word : ℕ) (zs : List Item) → HasCodes (task_code w (task_told t)) r
+    → HasCodes (task_code w (task_told (record t { list = zs; tool = word }))) (with_word_in r (number TaskTool) 0 word)
+tool_stored w r t word zs o TaskTool zero x told = same_word _ _ told
+tool_stored w r t word zs o TaskTool (suc at) x told = absurd (cc)
+tool_stored w r t word zs o f at x told = o f at x told
 
 module _ (p : Program) (w : List ℕ) (m : Memory) (events : List (ℕ × Event)) (s : State) (actors : ℕ → Actor) (i : ℕ) (before : Before p w m events s actors i) where
   abbrev a : Actor
@@ -142,8 +120,7 @@ module _ (p : Program) (w : List ℕ) (m : Memory) (events : List (ℕ × Event)
           task_event p w m events s actors i before plain.Leave at_counter zs TaskEnter 0 (λ u. record u { enter = 0 }) refl enter_of_task
               (λ v. record { implicit = refl; region = refl; thread = refl; number = refl; scheduling = refl; exit = refl; final = refl; progress = refl })
               (λ v. refl) (record { implicit = refl; region = refl; thread = refl; generating = refl; progress = refl; place = refl })
-              (enter_environment w _ t 0 0 zs (has_environment p w m events s actors i before plain.Leave at_counter))
-              (enter_place w _ t 0 0 zs refl (has_place p w m events s actors i before plain.Leave at_counter))
+              (enter_stored w (m (actors i).context.task.0.creator tasks (actors i).context.task.0.slot) t 0 0 zs refl (has_codes p w m events s actors i before plain.Leave at_counter))
               (past_leave p a) (outcome.Event event.Leave) event.Leave item.Leave refl (λ q. q) (λ n e. absurd (cc e))
               (ap (take_item p at event.Leave) (in_work_is p a.stack x (λ y. item.Leave ∷ behind_leave p y (ahead p at a.stack)) is))
               (a.context.task, t, now_current p w m events s actors i before plain.Leave at_counter, tt) refl
@@ -170,8 +147,7 @@ module _ (p : Program) (w : List ℕ) (m : Memory) (events : List (ℕ × Event)
         task_event p w m events s actors i before plain.Tool at_counter zs TaskTool word (λ u. record u { tool = word }) refl tool_of_task
             (λ v. record { implicit = refl; region = refl; thread = refl; number = refl; scheduling = refl; exit = refl; final = refl; progress = refl })
             (λ v. refl) (record { implicit = refl; region = refl; thread = refl; generating = refl; progress = refl; place = refl })
-            (tool_environment w _ t word zs (has_environment p w m events s actors i before plain.Tool at_counter))
-            (tool_place w _ t word zs (has_place p w m events s actors i before plain.Tool at_counter))
+            (tool_stored w (m (actors i).context.task.0.creator tasks (actors i).context.task.0.slot) t word zs (has_codes p w m events s actors i before plain.Tool at_counter))
             (settled p a) (outcome.Event (event.SetTool word)) (event.SetTool word) (item.SetTool x) refl (λ q. q) (λ n e. absurd (cc e))
             (ap (take_item p at (event.SetTool word)) (in_work_is p a.stack (stmt.Tool x) (λ y. item.Do y ∷ ahead p at a.stack) is)
             ∙ takes_head p at (event.SetTool word) (item.Do (stmt.Tool x)) zs (item.SetTool x) zs refl (eq-eqb word x word_is))

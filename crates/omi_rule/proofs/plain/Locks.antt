@@ -1,5 +1,5 @@
 -- The plain steps on locks: one is taken where no thread holds it, and given back by the thread that does.
-use Rattle.std.proofs.Common.{◌≡◌, ◌<◌, ◌≤◌, ◌+◌, ◌==◌, ℕ, zero, suc, ◌⊎◌, inl, inr, Bool, true, false, List, [], ◌∷◌, ◌++◌, Option, Some, None, refl, sym, ap, ◌∙◌, subst, arith, eq-eqb, eqb-true, if◌then◌else◌}
+use Rattle.std.proofs.Common.{◌≡◌, ◌≤◌, ◌+◌, ◌==◌, ℕ, zero, suc, ◌⊎◌, inl, inr, Bool, true, false, List, [], ◌∷◌, ◌++◌, Option, Some, None, refl, sym, ap, ◌∙◌, subst, arith, eq-eqb, eqb-true, nat_lt, ltb-true, if◌then◌else◌}
 use Rattle.std.proofs.lemmas.Bool.{false≢true}
 use Rattle.omi_word.specs.declared.op.Op.{Op}
 use Rattle.omi_word.specs.declared.op.Op.TheVariants as op
@@ -53,7 +53,9 @@ use Rattle.omi_rep.specs.declared.outcome.Outcome.{Outcome}
 use Rattle.omi_rep.specs.declared.outcome.Outcome.TheVariants as outcome
 use Rattle.omi_rule_words.specs.Owes.{all_owed}
 use Rattle.omi_rule_words.specs.TaskKinds.{with_runtime}
-use Rattle.omi_rule_words.specs.Threads.{KeepsRuntime, lock_word}
+use Rattle.omi_rep.specs.Codes.{lock_word, runtime_told}
+use Rattle.omi_rep.proofs.Codes.{lock_code, same_word}
+use Rattle.omi_rule_words.specs.Threads.{KeepsRuntime}
 use Rattle.omi_rule_words.specs.Words.{KeepsWords}
 use Rattle.omi_rule_words.proofs.RuntimeStores.{runtime_stores_keep}
 use Rattle.omi_rule.specs.Ahead as Ahead
@@ -79,18 +81,14 @@ use Rattle.omi_rule.proofs.plain.TaskWords.{middle, middle_words, now_current, o
 -- the word of a lock is that of its holder
 lock_kept : (w : List ℕ) (r : Rec) (s : State) (l word : ℕ) (holder : Option ℕ) → word ≡ lock_word holder → KeepsRuntime w r s
     → KeepsRuntime w (with_word_in r (number RuntimeLocks) l word) (with_runtime s s.max_active (put s.locks l holder))
-lock_kept w r s l word holder is o = record {
-  version = o.version;
-  threads = o.threads;
-  procs = o.procs;
-  debug = o.debug;
-  max_active = o.max_active;
-  locks = λ j within. go j within (j == l);
-}
+lock_kept w r s l word holder is o RuntimeLocks j x told = go (nat_lt j (width w (number RuntimeLocks))) refl (j == l) told
   where
-    go : (j : ℕ) → j < width w (number RuntimeLocks) → (b : Bool) → (if b then word else r (number RuntimeLocks) j) ≡ lock_word (if b then holder else s.locks j)
-    go j within true = is
-    go j within false = o.locks j within
+    go : (low : Bool) → nat_lt j (width w (number RuntimeLocks)) ≡ low → (b : Bool) → (if low then Some (lock_word (if b then holder else s.locks j)) else None) ≡ Some x
+        → (if b then word else r (number RuntimeLocks) j) ≡ x
+    go true within true some = is ∙ same_word _ _ some
+    go true within false some = o RuntimeLocks j _ (lock_code w (runtime_told s) j (ltb-true j (width w (number RuntimeLocks)) within)) ∙ same_word _ _ some
+    go false past b none = absurd (cc)
+lock_kept w r s l word holder is o f at x told = o f at x told
 
 -- nobody holds a lock whose word is 0
 nobody : (o : Option ℕ) → lock_word o ≡ 0 → o ≡ None
@@ -263,7 +261,7 @@ module _ (p : Program) (w : List ℕ) (m : Memory) (events : List (ℕ × Event)
     holder_is : found ≡ lock_word (s.locks taken)
     holder_is =
         let there = lock_there p w m events s actors i before plain.Lock at_counter critical in
-        before.rule.words.runtime_record.locks taken there.within
+        before.rule.words.runtime_record RuntimeLocks taken _ (lock_code w (runtime_told s) taken there.within)
 
     -- nobody holds it
     lock_taken : found ≡ 0 → KeepsRule p w m events s actors i exchange at_lock (back_to_work p a, outcome.Event (event.Lock taken))

@@ -35,6 +35,7 @@ use Rattle.omi_model.proofs.Slots.{id_same, some_same}
 use Rattle.omi_model.proofs.StaysKept.{stay}
 use Rattle.omi_model.proofs.Steps.{relisted}
 use Rattle.omi_layout.specs.declared.field.Field.TheVariants.{ThreadState}
+use Rattle.omi_layout.specs.Field.{threads}
 use Rattle.omi_layout.specs.Memory.{Memory}
 use Rattle.omi_layout.proofs.Puts.{put_same}
 use Rattle.omi_pc.specs.declared.actor.Actor.{Actor}
@@ -48,6 +49,8 @@ use Rattle.omi_pc.proofs.Unmoved.{worked_differs}
 use Rattle.omi_plain.specs.PlainSteps.{is_initial, plain_moved, plain_next, plain_outcome, actor_work_state}
 use Rattle.omi_plain.proofs.StayPlaced.{steps_stay_placed}
 use Rattle.omi_rep.specs.declared.outcome.Outcome.TheVariants as outcome
+use Rattle.omi_rep.specs.Codes.{thread_told}
+use Rattle.omi_rule_words.proofs.StoredCodes.{state_stored}
 use Rattle.omi_rule_words.specs.Kinds.{with_thread}
 use Rattle.omi_rule_words.specs.Owes.{all_owed}
 use Rattle.omi_rule_words.proofs.ThreadStores.{thread_stores_keep}
@@ -128,7 +131,6 @@ module _ (p : Program) (w : List ℕ) (m : Memory) (events : List (ℕ × Event)
       let u : State = with_thread z i h in
       let e : Event = event.State state wait in
       let y : Item = item.State state wait in
-      let t = (before.rule.words.made i before.known).thread in
       let taken : take_item p at e (plain_ahead p at (actors i).stack c) ≡ Some (y, zs) =
       ap (take_item p at e) list ∙ takes_head p at e y zs y zs refl (ap (λ (b : Bool). b && (wait == wait)) (eq-eqb state state refl) ∙ eq-eqb wait wait refl) in (
         state_at,
@@ -136,7 +138,7 @@ module _ (p : Program) (w : List ℕ) (m : Memory) (events : List (ℕ × Event)
         own_event p w m events s actors i before c at_counter (shows state wait) state_at b (outcome.Event e) e y zs u refl (λ q. q) (λ n q. absurd (cc q)) taken
             (steps p w m events s actors i before c at_counter e y zs u taken tt refl refl) (state_word state wait, ap (λ j. op.Store (of_thread w j ThreadState) (state_word state wait)) own.thread)
             (thread_stores_keep w m z (all_owed actors) i h ThreadState (state_word state wait) (middle_words p w m events s actors i before c at_counter zs) (λ q. absurd (omega (arith, q)))
-            (record { life = t.life; native = t.native; current = t.current; state = refl; claim = t.claim }))
+            (state_stored w i (m i threads 0) (thread_told (s.threads i)) (before.rule.words.made i before.known).thread state wait))
             (λ j other. spares_threads m s i ThreadState (state_word state wait) j (actors j) (λ q. absurd (omega (arith, q))))
             (own_changes p s i (actors i) stand (relisted zs) u (λ v live. relisted_alike zs v) refl (ap (λ (x : Thread). x.current) (put_same s.threads i h)) refl refl)
             (relisted_ahead p s i (actors i) stand zs u refl (λ xs. xs ≡ zs) refl) goes ended,

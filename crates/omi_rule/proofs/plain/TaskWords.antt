@@ -1,5 +1,5 @@
 -- An event of a thread at a plain counter that stores a word of its current task: the frames, the variables and the tool word.
-use Rattle.std.proofs.Common.{◌≡◌, ◌<◌, ℕ, inl, List, [], ◌∷◌, ◌++◌, Option, Some, refl, sym, ap, ◌∙◌, subst, arith}
+use Rattle.std.proofs.Common.{◌≡◌, ◌<◌, ℕ, List, [], ◌∷◌, ◌++◌, Option, Some, refl, sym, ap, ◌∙◌, subst, arith}
 use Rattle.std.proofs.lemmas.Bool.Decides.{nat_tests}
 use Rattle.std.specs.Option.{option_map}
 use Rattle.omi_word.specs.declared.op.Op.TheVariants as op
@@ -16,7 +16,6 @@ use Rattle.omi_model.specs.Lists.{stays, take_item}
 use Rattle.omi_model.specs.Put.{on}
 use Rattle.omi_model.specs.Rules.{Rule, effect}
 use Rattle.omi_model.specs.State.{State, task_of}
-use Rattle.omi_model.specs.Visible.{IsVisibleTask}
 use Rattle.omi_model.proofs.Slots.{found_live, id_same, on_other, on_same, some_same}
 use Rattle.omi_model.proofs.Steps.{current_moved, relisted}
 use Rattle.omi_layout.specs.declared.field.Field.{Field}
@@ -32,7 +31,9 @@ use Rattle.omi_pc.specs.declared.counter.Counter.TheVariants as counter
 use Rattle.omi_pc.specs.declared.counter.PlainCounter.{PlainCounter}
 use Rattle.omi_rep.specs.declared.outcome.Outcome.{Outcome}
 use Rattle.omi_rep.specs.declared.outcome.Outcome.TheVariants as outcome
-use Rattle.omi_rule_words.specs.Objects.{KeepsEnvironment, KeepsPlace}
+use Rattle.omi_rep.specs.Codes.{HasCodes, task_code, task_told}
+use Rattle.omi_rule_words.proofs.StoredCodes.{all_codes}
+use Rattle.omi_rule.proofs.OthersStand.{begun_undeferred}
 use Rattle.omi_rule_words.specs.Owes.{all_owed}
 use Rattle.omi_rule_words.specs.TaskKinds.{IsOfTask, IsSameTask}
 use Rattle.omi_rule_words.specs.Words.{KeepsTask, KeepsWords, task_in}
@@ -100,16 +101,8 @@ module _ (p : Program) (w : List ℕ) (m : Memory) (events : List (ℕ × Event)
       ((before.rule.words.made k.0.creator known_maker).tasks k.0.slot own_place.place).live own_task.task
       (found_live k.0.generation (s.tasks k.0.creator k.0.slot) own_task.task own_task.live)
 
-  seen : IsVisibleTask s (task_in k.0.creator k.0.slot (s.tasks k.0.creator k.0.slot))
-  seen =
-      subst (λ (q : Tid). IsVisibleTask s q) (sym own_name)
-      (before.rule.within.well_formed.currents i k before.known (here p w m events s actors i before c at_counter).current)
-
-  pub has_environment : KeepsEnvironment w (m k.0.creator tasks k.0.slot) own_task.task
-  has_environment = own_words.environment (inl seen)
-
-  pub has_place : KeepsPlace w (m k.0.creator tasks k.0.slot) own_task.task
-  has_place = own_words.place seen
+  pub has_codes : HasCodes (task_code w (task_told own_task.task)) (m k.0.creator tasks k.0.slot)
+  has_codes = all_codes w (m k.0.creator tasks k.0.slot) own_task.task own_words.environment (own_words.place (λ _ deferred. begun_undeferred own_task.task own_task.begun deferred))
 
   -- ---- the list moves on
 
@@ -144,20 +137,19 @@ module _ (p : Program) (w : List ℕ) (m : Memory) (events : List (ℕ × Event)
 
   pub task_event : (zs : List Item) (f : Field) (word : ℕ) (g : Task → Task) → kind_of (number f) ≡ tasks → IsOfTask f → ((v : Task) → IsAlike v (g (relisted zs v))) → ((v : Task) → (g v).list ≡ v.list)
       → IsSameTask (relisted zs own_task.task) (g (relisted zs own_task.task))
-      → KeepsEnvironment w (with_word_in (m k.0.creator tasks k.0.slot) (number f) 0 word) (g (relisted zs own_task.task))
-      → KeepsPlace w (with_word_in (m k.0.creator tasks k.0.slot) (number f) 0 word) (g (relisted zs own_task.task))
+      → HasCodes (task_code w (task_told (g (relisted zs own_task.task)))) (with_word_in (m k.0.creator tasks k.0.slot) (number f) 0 word)
       → (b : Actor) (out : Outcome) (e : Event) (y : Item) → out ≡ outcome.Event e → (Makes e → ⊥) → ((n : ℕ) → y ≡ item.Fork n → ⊥)
       → take_item p at e (plain_ahead p at (actors i).stack c) ≡ Some (y, zs) → Rule s i e y → stays at e y zs ≡ zs → effect p (middle zs) i e y ≡ Some (on_task (middle zs) k g)
       → CommitsAt w s i e (op.Store (of_task w k f) word) → GoesOn p w i at (actors i) b zs → HasEnded (events ++ (i, e) ∷ []) i b.counter
       → KeepsRule p w m events s actors i (op.Store (of_task w k f) word) (task_word_at f) (b, out)
-  task_event zs f word g kind of alike list same environment place b out e y is not none taken rule stay done commits goes ended =
+  task_event zs f word g kind of alike list same codes b out e y is not none taken rule stay done commits goes ended =
       let u : State = on_task (middle zs) k g in
       let stored : left_in m (op.Store (of_task w k f) word) (task_word_at f) ≡ with_word m k.0.creator tasks k.0.slot (number f) 0 word =
       ap (λ q. with_word m k.0.creator q k.0.slot (number f) 0 word) kind in
       own_event p w m events s actors i before c at_counter (op.Store (of_task w k f) word) (task_word_at f) b out e y zs u is not none taken
       (steps p w m events s actors i before c at_counter e y zs u taken rule stay done) commits
       (subst (λ (n : Memory). KeepsWords w n u (all_owed actors)) (sym stored)
-      (task_stores_keep w m (middle zs) (all_owed actors) k (relisted zs own_task.task) g f 0 word (middle_words zs) (middle_current zs).live same of environment place))
+      (task_stores_keep w m (middle zs) (all_owed actors) k (relisted zs own_task.task) g f 0 word (middle_words zs) (middle_current zs).live same of codes))
       (λ j other. subst (λ (n : Memory). Spares m n s j (actors j)) (sym stored) (spares_begun m s k own_task.task f 0 word i j (actors j) own_task.live own_task.begun own_task.thread other))
       (changes_task zs g alike)
       (λ t live. ap (λ (x : Task). x.list) (some_same live (twice zs g own_task.task own_task.live)) ∙ list (relisted zs own_task.task)) goes ended

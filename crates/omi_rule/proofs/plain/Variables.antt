@@ -21,8 +21,8 @@ use Rattle.omi_script.specs.Schedules.{schedule_word}
 use Rattle.omi_model.specs.Settings.{with_head, with_set, with_task_variable, with_variable, with_variable_of}
 use Rattle.omi_model.specs.State.{State, task_of}
 use Rattle.omi_layout.specs.declared.field.Field.{Field}
-use Rattle.omi_layout.specs.declared.field.Field.TheVariants.{RuntimeMaxActive, TaskDevice, TaskDynamic, TaskNthreads, TaskSchedule}
-use Rattle.omi_layout.specs.Field.{kind_of, tasks}
+use Rattle.omi_layout.specs.declared.field.Field.TheVariants.{RuntimeMaxActive, TaskDevice, TaskDynamic, TaskNthreads, TaskNthreadsLength, TaskSchedule}
+use Rattle.omi_layout.specs.Field.{kind_of, runtime, tasks}
 use Rattle.omi_layout.specs.Memory.{Memory, Rec, with_word_in}
 use Rattle.omi_layout.specs.Named.{number}
 use Rattle.omi_layout.proofs.Numbers.{numbered_field}
@@ -36,8 +36,10 @@ use Rattle.omi_plain.specs.PlainSteps.{plain_moved, plain_next, plain_outcome, s
 use Rattle.omi_plain.specs.Statements.{set_address, set_word}
 use Rattle.omi_plain.proofs.StayPlaced.{steps_stay_placed}
 use Rattle.omi_rep.specs.declared.outcome.Outcome.TheVariants as outcome
-use Rattle.omi_rule_words.specs.Objects.{KeepsEnvironment, KeepsPlace}
-use Rattle.omi_rule_words.specs.TaskKinds.{IsOfTask}
+use Rattle.omi_rep.specs.Codes.{HasCodes, task_code, task_told}
+use Rattle.omi_rep.proofs.Codes.{same_word}
+use Rattle.omi_rule_words.specs.TaskKinds.{IsOfTask, with_runtime}
+use Rattle.omi_rule_words.specs.Threads.{KeepsRuntime}
 use Rattle.omi_step_words.specs.Words.{of_runtime, of_task}
 use Rattle.omi_rule.specs.Ahead.{ahead, plain_ahead}
 use Rattle.omi_rule.specs.Commits.{IsVariableField}
@@ -48,7 +50,7 @@ use Rattle.omi_rule.proofs.plain.Firsts.{IsFirst, settled_first}
 use Rattle.omi_rule.proofs.plain.OwnEvents.{GoesOn, fits_counter}
 use Rattle.omi_rule.proofs.plain.Loads.{sees, settled_goes, takes_head, was_first}
 use Rattle.omi_rule.proofs.plain.Locks.{runtime_event}
-use Rattle.omi_rule.proofs.plain.TaskWords.{has_environment, has_place, middle, middle_current, middle_words, now_current, own_task, task_event, task_on, task_word_at}
+use Rattle.omi_rule.proofs.plain.TaskWords.{has_codes, middle, middle_current, middle_words, now_current, own_task, task_event, task_on, task_word_at}
 
 -- ---- the record
 
@@ -73,66 +75,30 @@ head_kept r n (x ∷ xs) all (suc j) d e = ap (λ (b : Bool). if b then n else r
 abbrev with_variables : Task → List Item → Variables → Task
 with_variables t zs v = record t { list = zs; variables = v }
 
-module _ (w : List ℕ) (r : Rec) (t : Task) (zs : List Item) (o : KeepsEnvironment w r t) where
-  dynamic_kept : (b : Bool) → KeepsEnvironment w (with_word_in r (number TaskDynamic) 0 (flag b)) (with_variables t zs (record t.variables { dynamic = not (flag b == 0) }))
-  dynamic_kept b = record {
-    implicit = o.implicit;
-    region = o.region;
-    generating = o.generating;
-    function = o.function;
-    dynamic = flag_back b;
-    nthreads_length = o.nthreads_length;
-    schedule = o.schedule;
-    device = o.device;
-    final = o.final;
-    tool = o.tool;
-    nthreads = o.nthreads;
-  }
+module _ (w : List ℕ) (r : Rec) (t : Task) (zs : List Item) (o : HasCodes (task_code w (task_told t)) r) where
+  -- the record in which the first word of a field is another has the codes of a task with these variables
+  abbrev Stored : Field → ℕ → Variables → Type 0
+  Stored f x v = HasCodes (task_code w (task_told (with_variables t zs v))) (with_word_in r (number f) 0 x)
 
-  schedule_kept : (x : ℕ) → KeepsEnvironment w (with_word_in r (number TaskSchedule) 0 x) (with_variables t zs (record t.variables { schedule = record { kind = x % 8; chunk = x / 8 } }))
-  schedule_kept x = record {
-    implicit = o.implicit;
-    region = o.region;
-    generating = o.generating;
-    function = o.function;
-    dynamic = o.dynamic;
-    nthreads_length = o.nthreads_length;
-    schedule = schedule_back x;
-    device = o.device;
-    final = o.final;
-    tool = o.tool;
-    nthreads = o.nthreads;
-  }
+  dynamic_kept : (b : Bool) → Stored TaskDynamic (flag b) (record t.variables { dynamic = not (flag b == 0) })
+  dynamic_kept b TaskDynamic zero word is = flag_back b ∙ same_word _ _ is
+  dynamic_kept b TaskDynamic (suc at) word is = absurd (cc)
+  dynamic_kept b f at word is = o f at word is
 
-  device_kept : (x : ℕ) → KeepsEnvironment w (with_word_in r (number TaskDevice) 0 x) (with_variables t zs (record t.variables { device = x }))
-  device_kept x = record {
-    implicit = o.implicit;
-    region = o.region;
-    generating = o.generating;
-    function = o.function;
-    dynamic = o.dynamic;
-    nthreads_length = o.nthreads_length;
-    schedule = o.schedule;
-    device = refl;
-    final = o.final;
-    tool = o.tool;
-    nthreads = o.nthreads;
-  }
+  schedule_kept : (x : ℕ) → Stored TaskSchedule x (record t.variables { schedule = record { kind = x % 8; chunk = x / 8 } })
+  schedule_kept x TaskSchedule zero word is = schedule_back x ∙ same_word _ _ is
+  schedule_kept x TaskSchedule (suc at) word is = absurd (cc)
+  schedule_kept x f at word is = o f at word is
 
-  nthreads_kept : (x : ℕ) → KeepsEnvironment w (with_word_in r (number TaskNthreads) 0 x) (with_variables t zs (record t.variables { nthreads = with_head x t.variables.nthreads }))
-  nthreads_kept x = record {
-    implicit = o.implicit;
-    region = o.region;
-    generating = o.generating;
-    function = o.function;
-    dynamic = o.dynamic;
-    nthreads_length = o.nthreads_length ∙ sym (head_length x t.variables.nthreads);
-    schedule = o.schedule;
-    device = o.device;
-    final = o.final;
-    tool = o.tool;
-    nthreads = head_kept (r (number TaskNthreads)) x t.variables.nthreads o.nthreads;
-  }
+  device_kept : (x : ℕ) → Stored TaskDevice x (record t.variables { device = x })
+  device_kept x TaskDevice zero word is = same_word _ _ is
+  device_kept x TaskDevice (suc at) word is = absurd (cc)
+  device_kept x f at word is = o f at word is
+
+  nthreads_kept : (x : ℕ) → Stored TaskNthreads x (record t.variables { nthreads = with_head x t.variables.nthreads })
+  nthreads_kept x TaskNthreadsLength zero word is = o TaskNthreadsLength 0 _ refl ∙ sym (head_length x t.variables.nthreads) ∙ same_word _ _ is
+  nthreads_kept x TaskNthreads at word is = head_kept (r (number TaskNthreads)) x t.variables.nthreads (o TaskNthreads) at word is
+  nthreads_kept x f at word is = o f at word is
 
 module _ (p : Program) (w : List ℕ) (m : Memory) (events : List (ℕ × Event)) (s : State) (actors : ℕ → Actor) (i : ℕ) (before : Before p w m events s actors i) (at_counter : (actors i).counter ≡ counter.Plain plain.Set) where
   abbrev a : Actor
@@ -178,20 +144,25 @@ module _ (p : Program) (w : List ℕ) (m : Memory) (events : List (ℕ × Event)
 
   variable_event : (x : Stmt) (f : Field) (icv value : ℕ) (v : Variables) → IsAt p a.stack x → opened p at (item.Do x) rest ≡ (item.Set icv value, rest) → kind_of (number f) ≡ tasks → IsOfTask f
       → with_variable icv value t.variables ≡ Some v → with_set z i icv value ≡ with_task_variable z i icv value
-      → KeepsEnvironment w (with_word_in own_record (number f) 0 value) (with_variables t rest v) → KeepsPlace w (with_word_in own_record (number f) 0 value) (with_variables t rest v) → IsVariableField icv f
+      → HasCodes (task_code w (task_told (with_variables t rest v))) (with_word_in own_record (number f) 0 value) → IsVariableField icv f
       → StepKeeps p w m events s actors i (op.Store (of_task w k f) value) (λ old. (settled p a, outcome.Event (event.Set icv value)))
-  variable_event x f icv value v is row kind of set is_task environment place field = (
+  variable_event x f icv value v is row kind of set is_task codes field = (
     task_word_at p w m events s actors i before plain.Set at_counter f,
     task_on p w m events s actors i before plain.Set at_counter f value kind,
     task_event p w m events s actors i before plain.Set at_counter rest f value (λ u. record u { variables = v }) kind of
         (λ q. record { implicit = refl; region = refl; thread = refl; number = refl; scheduling = refl; exit = refl; final = refl; progress = refl })
-        (λ q. refl) (record { implicit = refl; region = refl; thread = refl; generating = refl; progress = refl; place = refl }) environment place
+        (λ q. refl) (record { implicit = refl; region = refl; thread = refl; generating = refl; progress = refl; place = refl }) codes
         (settled p a) (outcome.Event (event.Set icv value)) (event.Set icv value) (item.Set icv value) refl (λ q. q) (λ n e. absurd (cc e))
         (set_takes x icv value is row) (k, t, now_current p w m events s actors i before plain.Set at_counter, tt) refl (is_task ∙ set_effect icv value v set)
         (inr (f, field, (k, t, now_current p w m events s actors i before plain.Set at_counter, (value, refl)))) goes (first.ended (events ++ (i, event.Set icv value) ∷ []) i),
   )
 
   -- the variable of the whole program
+  max_active_stored : (n : ℕ) → KeepsRuntime w (m 0 runtime 0) z → KeepsRuntime w (with_word_in (m 0 runtime 0) (number RuntimeMaxActive) 0 n) (with_runtime z n z.locks)
+  max_active_stored n o RuntimeMaxActive zero word told = same_word _ _ told
+  max_active_stored n o RuntimeMaxActive (suc at) word told = absurd (cc)
+  max_active_stored n o f at word told = o f at word told
+
   max_active_event : (n : ℕ) → IsAt p a.stack (stmt.SetMaxActive n)
       → StepKeeps p w m events s actors i (op.Store (of_runtime w RuntimeMaxActive) n) (λ old. (settled p a, outcome.Event (event.Set MAX_ACTIVE_LEVELS_VAR n)))
   max_active_event n is =
@@ -199,35 +170,32 @@ module _ (p : Program) (w : List ℕ) (m : Memory) (events : List (ℕ × Event)
         record { creator = 0; slot = 0; field = RuntimeMaxActive; place = 0 },
         record { there = record { field = numbered_field RuntimeMaxActive; record_slot = record { made_by = omega arith; within = omega arith }; within = omega arith }; address = refl },
         runtime_event p w m events s actors i before plain.Set at_counter rest (op.Store (of_runtime w RuntimeMaxActive) n) RuntimeMaxActive 0 n n z.locks refl
-            (record { version = o.version; threads = o.threads; procs = o.procs; debug = o.debug; max_active = refl; locks = o.locks })
+            (max_active_stored n o)
             (settled p a) (outcome.Event (event.Set MAX_ACTIVE_LEVELS_VAR n)) (event.Set MAX_ACTIVE_LEVELS_VAR n) (item.Set MAX_ACTIVE_LEVELS_VAR n) refl (λ q. q) (λ q e. absurd (cc e))
             (set_takes (stmt.SetMaxActive n) MAX_ACTIVE_LEVELS_VAR n is refl) (k, t, now_current p w m events s actors i before plain.Set at_counter, tt) refl refl
             (inl (refl, (n, refl))) goes (first.ended (events ++ (i, event.Set MAX_ACTIVE_LEVELS_VAR n) ∷ []) i),
       )
 
-  environment : KeepsEnvironment w own_record t
-  environment = has_environment p w m events s actors i before plain.Set at_counter
-
-  place : KeepsPlace w own_record t
-  place = has_place p w m events s actors i before plain.Set at_counter
+  codes : HasCodes (task_code w (task_told t)) own_record
+  codes = has_codes p w m events s actors i before plain.Set at_counter
 
   sets_by : (x : Stmt) → IsAt p a.stack x → Sets x → StepKeeps p w m events s actors i (op.Store (set_address w a (Some x)) (set_word (Some x))) (λ old. (settled p a, set_outcome (Some x)))
   sets_by (stmt.SetNumThreads n) is sets =
       variable_event (stmt.SetNumThreads n) TaskNthreads NTHREADS_VAR n _ is refl refl
       (record { life = λ e. absurd (omega (arith, e)); children = λ e. absurd (omega (arith, e)); references = λ e. absurd (omega (arith, e)); slots = λ e. absurd (omega (arith, e)) })
-      refl refl (nthreads_kept w own_record t rest environment n) (record { thread = place.thread; member = place.member; scheduling = place.scheduling; exit = place.exit; enter = place.enter }) refl
+      refl refl (nthreads_kept w own_record t rest codes n) refl
   sets_by (stmt.SetDynamic b) is sets =
       variable_event (stmt.SetDynamic b) TaskDynamic DYN_VAR (flag b) _ is refl refl
       (record { life = λ e. absurd (omega (arith, e)); children = λ e. absurd (omega (arith, e)); references = λ e. absurd (omega (arith, e)); slots = λ e. absurd (omega (arith, e)) })
-      refl refl (dynamic_kept w own_record t rest environment b) (record { thread = place.thread; member = place.member; scheduling = place.scheduling; exit = place.exit; enter = place.enter }) refl
+      refl refl (dynamic_kept w own_record t rest codes b) refl
   sets_by (stmt.SetSchedule x) is sets =
       variable_event (stmt.SetSchedule x) TaskSchedule RUN_SCHED_VAR (schedule_word x) _ is refl refl
       (record { life = λ e. absurd (omega (arith, e)); children = λ e. absurd (omega (arith, e)); references = λ e. absurd (omega (arith, e)); slots = λ e. absurd (omega (arith, e)) })
-      refl refl (schedule_kept w own_record t rest environment (schedule_word x)) (record { thread = place.thread; member = place.member; scheduling = place.scheduling; exit = place.exit; enter = place.enter }) refl
+      refl refl (schedule_kept w own_record t rest codes (schedule_word x)) refl
   sets_by (stmt.SetDevice d) is sets =
       variable_event (stmt.SetDevice d) TaskDevice DEFAULT_DEVICE_VAR d _ is refl refl
       (record { life = λ e. absurd (omega (arith, e)); children = λ e. absurd (omega (arith, e)); references = λ e. absurd (omega (arith, e)); slots = λ e. absurd (omega (arith, e)) })
-      refl refl (device_kept w own_record t rest environment d) (record { thread = place.thread; member = place.member; scheduling = place.scheduling; exit = place.exit; enter = place.enter }) refl
+      refl refl (device_kept w own_record t rest codes d) refl
   sets_by (stmt.SetMaxActive n) is sets = max_active_event n is
   sets_by _ is sets = absurd sets
 

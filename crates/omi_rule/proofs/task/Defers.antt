@@ -21,11 +21,9 @@ use Rattle.omi_model.specs.Tasking.{deferred, deferred_task}
 use Rattle.omi_model.proofs.Slots.{some_same}
 use Rattle.omi_model.proofs.StaysKept.{stays_step}
 use Rattle.omi_model.proofs.Steps.{at_current, relisted}
-use Rattle.omi_layout.specs.declared.field.Field.{Field}
 use Rattle.omi_layout.specs.declared.field.Field.TheVariants.{TaskSlots}
 use Rattle.omi_layout.specs.Field.{tasks}
 use Rattle.omi_layout.specs.Memory.{Memory, replace_at}
-use Rattle.omi_layout.specs.Named.{number}
 use Rattle.omi_pc.specs.declared.actor.Actor.{Actor}
 use Rattle.omi_pc.specs.declared.counter.Counter.TheVariants as counter
 use Rattle.omi_pc.specs.declared.counter.PlainCounter.TheVariants as plain
@@ -35,7 +33,8 @@ use Rattle.omi_numbers.specs.declared.limits.TheConstants.{OWN_SLOTS}
 use Rattle.omi_pc.specs.declared.limits.TheConstants.{TASK_WORDS}
 use Rattle.omi_pc.specs.Settle.{goes_to}
 use Rattle.omi_rep.specs.declared.outcome.Outcome.TheVariants as outcome
-use Rattle.omi_rule_words.specs.ExplicitKinds.{IsPlaceField, IsRow, OfEnter, OfExit, OfNumber, OfScheduling, OfThread, with_slot}
+use Rattle.omi_rule_words.proofs.StoredCodes.{place_apart}
+use Rattle.omi_rule_words.specs.ExplicitKinds.{IsRow, with_slot}
 use Rattle.omi_rule_words.specs.Owes.{all_owed, nothing}
 use Rattle.omi_rule_words.specs.Words.{KeepsWords}
 use Rattle.omi_step_words.specs.Placed.{HasTask}
@@ -56,14 +55,6 @@ use Rattle.omi_rule.proofs.task.Events.{making_is, none_new, sees_final, step, w
 use Rattle.omi_rule.proofs.task.Making.{IsReady, IsTaskNext, bodies_grown, changes, final_as, is_ready, larger, made_as, sees_grown, tasks_within}
 use Rattle.omi_rule.proofs.task.NewTasks.{record_is_filled}
 use Rattle.omi_rule.proofs.task.Within.{context, context_placed, fits, list_is, own, own_slots, owes, placed, row, standing, stands, task_few}
-
--- the word of a slot is none of a task's place
-no_place_word : (g : Field) → IsPlaceField g → number g ≡ number TaskSlots → ⊥
-no_place_word _ OfThread same = absurd (omega (arith, same))
-no_place_word _ OfNumber same = absurd (omega (arith, same))
-no_place_word _ OfScheduling same = absurd (omega (arith, same))
-no_place_word _ OfExit same = absurd (omega (arith, same))
-no_place_word _ OfEnter same = absurd (omega (arith, same))
 
 module _ (p : Program) (w : List ℕ) (m : Memory) (events : List (ℕ × Event)) (s : State) (actors : ℕ → Actor) (i : ℕ) (before : Before p w m events s actors i) (place : ℕ) (t : Tid) (at : (actors i).counter ≡ counter.Task (task.Defer place t)) where
   abbrev C : TaskCounter
@@ -216,6 +207,6 @@ module _ (p : Program) (w : List ℕ) (m : Memory) (events : List (ℕ × Event)
             before.rule.within.regions (tasks_within p w m s (all_owed actors) i (actors i) t Maker Z ready New U refl refl refl)
             (none_new p w m events s actors i before C at (event.Defer t) (item.Defer place f final) rest U taken done (λ g e. cc e))
             (owed_after w N U actors i (goes_to plain.Leave (actors i)) nothing refl words)
-            (λ j other. spares_task m s R slots.task TaskSlots place (slot_word w t) j (actors j) slots.live (inr (inl (λ same. other (sym same ∙ slots.thread)))) (λ g of same deferred known is. no_place_word g of same))
+            (λ j other. spares_task m s R slots.task TaskSlots place (slot_word w t) j (actors j) slots.live (inr (inl (λ same. other (sym same ∙ slots.thread)))) (λ g of same deferred known is. place_apart g TaskSlots of refl same))
             thread_now,
       )

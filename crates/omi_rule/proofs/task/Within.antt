@@ -1,5 +1,5 @@
 -- A step of a thread within a `task` construct: no event, the same bodies open, and the same ahead of the task.
-use Rattle.std.proofs.Common.{◌≡◌, ◌<◌, ◌≤◌, inl, ℕ, List, ◌∷◌, length, sym, ap, ◌∙◌, subst, arith}
+use Rattle.std.proofs.Common.{◌≡◌, ◌<◌, ◌≤◌, ℕ, List, ◌∷◌, length, sym, ap, ◌∙◌, subst, arith}
 use Rattle.omi_script.specs.declared.program.Program.{Program}
 use Rattle.omi_model.specs.declared.encounter.Encounter.{Encounter}
 use Rattle.omi_model.specs.declared.event.Event.{Event}
@@ -79,9 +79,7 @@ module _ (p : Program) (w : List ℕ) (m : Memory) (events : List (ℕ × Event)
   -- the environment in the record of the current task
   pub task_record : KeepsEnvironment w (m (actors i).context.task.0.creator tasks (actors i).context.task.0.slot) context.task
   task_record =
-      let k = (actors i).context.task in
-      let seen : IsVisibleTask s k = (reached_well_formed p events s before.rule.reached).currents i k before.known stands.current in
-      (task_kept p w m events s actors before.rule k context.task context.live).environment (inl seen)
+      (task_kept p w m events s actors before.rule (actors i).context.task context.task context.live).environment
 
   -- the thread is one of the layout
   pub thread_there : (actors i).thread < thread_count w

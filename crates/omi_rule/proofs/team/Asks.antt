@@ -41,8 +41,9 @@ use Rattle.omi_pc.specs.declared.team_counter.TeamCounter.TheVariants as team
 use Rattle.omi_pc.specs.Fits.{FitsTeam, IsAtParallel, IsParallel}
 use Rattle.omi_pc.specs.OpenBodies.{IsAt}
 use Rattle.omi_rep.specs.declared.outcome.Outcome.TheVariants as outcome
+use Rattle.omi_rep.specs.Codes.{claim_word, thread_told}
+use Rattle.omi_rule_words.proofs.StoredCodes.{claim_stored}
 use Rattle.omi_rule_words.specs.Owes.{all_owed, owed}
-use Rattle.omi_rule_words.specs.Threads.{claim_word}
 use Rattle.omi_rule_words.specs.Words.{KeepsWords}
 use Rattle.omi_rule_words.proofs.ThreadStores.{thread_changes_keep, thread_stores_keep}
 use Rattle.omi_step_words.specs.Members.{joined_by}
@@ -123,7 +124,7 @@ module _ (p : Program) (w : List ℕ) (m : Memory) (events : List (ℕ × Event)
   asks = row p w m events s actors i before C at
 
   found_is : found_in m X ≡ claim_word (s.threads V).claim
-  found_is = (before.rule.words.made V known).thread.claim
+  found_is = (before.rule.words.made V known).thread ThreadClaim 0 _ refl
 
   may : (got : Bool) → found_in m X == 1 ≡ got → MayAsk s i V got
   may got is = record {
@@ -202,8 +203,7 @@ module _ (p : Program) (w : List ℕ) (m : Memory) (events : List (ℕ × Event)
 
   asks_listed : (got : Bool) → KeepsWords w m (record z { threads = put s.threads i (listed got) }) (all_owed actors)
   asks_listed got =
-      let o = (before.rule.words.made i before.known).thread in
-      thread_changes_keep w m z (all_owed actors) i (listed got) (words_moved p w m events s actors i before C at list) (record { life = o.life; native = o.native; current = o.current; state = o.state; claim = o.claim })
+      thread_changes_keep w m z (all_owed actors) i (listed got) (words_moved p w m events s actors i before C at list) (before.rule.words.made i before.known).thread
 
   pub ask_keeps : StepKeeps p w m events s actors i (team_next p w (actors i) C) (λ old. (team_moved p w (actors i) C old, team_outcome p w (actors i) C old))
   ask_keeps = (
@@ -221,13 +221,12 @@ module _ (p : Program) (w : List ℕ) (m : Memory) (events : List (ℕ × Event)
           let left : left_in m (op.Cas (of_thread w V ThreadClaim) 1 (2 + (actors i).thread)) X ≡ with_word m V threads 0 (number ThreadClaim) 0 (2 + i) =
           ap (λ (b : Bool). with_word m V threads 0 (number ThreadClaim) 0 (if b then 2 + (actors i).thread else found_in m X)) e ∙ ap (λ j. with_word m V threads 0 (number ThreadClaim) 0 (2 + j)) mine in
           let listed_words : KeepsWords w m (record z { threads = put s.threads i (listed true) }) (all_owed actors) = asks_listed true in
-          let o = (listed_words.made V known).thread in
           let u : State = asked z i V true in
           finish true u e (steps true e) refl refl refl refl
           (put_other (put s.threads i (listed true)) V i (record (put s.threads i (listed true) V) { claim = claim.By i }) (λ same. other (sym same)) ∙ put_same s.threads i (listed true))
           (subst (λ (n : Memory). KeepsWords w n u (all_owed actors)) (sym left)
           (thread_stores_keep w m (record z { threads = put s.threads i (listed true) }) (all_owed actors) V (record (put s.threads i (listed true) V) { claim = claim.By i }) ThreadClaim (2 + i) listed_words (λ same. absurd (omega (arith, same)))
-          (record { life = o.life; native = o.native; current = o.current; state = o.state; claim = refl })))
+          (claim_stored w V (m V threads 0) (thread_told (put s.threads i (listed true) V)) (listed_words.made V known).thread (claim.By i))))
           (λ j ne. subst (λ (n : Memory). Spares m n s j (actors j)) (sym left) (spares_threads m s V ThreadClaim (2 + i) j (actors j) (λ same. absurd (omega (arith, same)))))
       go false e =
           let left : left_in m (op.Cas (of_thread w V ThreadClaim) 1 (2 + (actors i).thread)) X ≡ m =

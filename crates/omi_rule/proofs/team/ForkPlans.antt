@@ -1,5 +1,5 @@
 -- The records that were filled for a fork are those of the region and of the members' tasks that it makes.
-use Rattle.std.proofs.Common.{◌≡◌, ◌+◌, ◌-◌, ◌^◌, ◌==◌, ◌<◌, ◌≤◌, nat_lt, ℕ, zero, suc, Bool, true, false, List, [], ◌∷◌, length, slice_get, Some, refl, sym, ap, ◌∙◌, arith, eqb-true, if◌then◌else◌}
+use Rattle.std.proofs.Common.{◌≡◌, ◌+◌, ◌^◌, ◌==◌, ◌<◌, ◌≤◌, nat_lt, ℕ, zero, suc, Bool, true, false, List, [], ◌∷◌, length, slice_get, Some, refl, sym, ap, ◌∙◌, arith, eqb-true, if◌then◌else◌}
 use Rattle.std.proofs.lemmas.Option.{slice_get_within}
 use Rattle.omi_script.specs.declared.program.Program.{Program}
 use Rattle.omi_model.specs.declared.id.Rid.{Rid}
@@ -8,12 +8,15 @@ use Rattle.omi_model.specs.declared.region.Region.{Region}
 use Rattle.omi_model.specs.declared.task.Task.{Task}
 use Rattle.omi_numbers.specs.Addresses.{exit_frame, entry_address, exit_below}
 use Rattle.omi_model.specs.Teams.{member_task, new_region, shortened}
-use Rattle.omi_layout.specs.declared.field.Field.TheVariants.{RegionTeam, TaskNthreads, TaskSlots}
+use Rattle.omi_layout.specs.declared.field.Field.TheVariants.{RegionActive, RegionArrived, RegionEnclosing, RegionEncountering, RegionFunction, RegionLevels, RegionReleased, RegionSize, RegionTeam, TaskDevice, TaskDynamic, TaskEnter, TaskExit, TaskFinal, TaskFunction, TaskGenerating, TaskImplicit, TaskNthreads, TaskNthreadsLength, TaskNumber, TaskRegion, TaskSchedule, TaskScheduling, TaskSlots, TaskThread, TaskTool}
 use Rattle.omi_layout.specs.Memory.{Rec}
 use Rattle.omi_layout.specs.Named.{number}
 use Rattle.omi_layout.specs.Table.{width}
 use Rattle.omi_pc.specs.declared.actor.Actor.{Actor}
 use Rattle.omi_pc.specs.declared.limits.TheConstants.{REGION_WORDS, TASK_WORDS}
+use Rattle.omi_rep.specs.Codes.{HasCodes, region_code, region_told, task_code, task_told}
+use Rattle.omi_rep.proofs.Codes.{member_of_code, same_word}
+use Rattle.omi_rule_words.proofs.Forks.{no_arrivals}
 use Rattle.omi_rep.specs.Records.{region_address, task_address, thread_address}
 use Rattle.omi_rule_words.specs.Threads.{Has}
 use Rattle.omi_rule_words.specs.TeamKinds.{MemberIsFilled, RegionIsFilled}
@@ -37,19 +40,7 @@ module _ (p : Program) (w : List ℕ) (a : Actor) (n : Rid) (f : ℕ) (t : Task)
   pub region_filled : (q : Rec) → r.levels ≡ a.gathered.levels → r.active ≡ a.gathered.active → r.levels < 2 ^ 63 → r.active < 2 ^ 63
       → ((j : ℕ) → j < length a.gathered.team → q (number RegionTeam) j ≡ task_address w (member_of a.gathered.team j).0)
       → IsFilled q (region_plan w (TeamParts.planned_region p a)) REGION_WORDS → RegionIsFilled w q (new_region a.context.task t r a.gathered.team f)
-  region_filled q levels active low few team o = record {
-    function = o 0 (omega arith) ∙ ap entry_address function;
-    enclosing = o 1 (omega arith) ∙ ap (region_address w) (sym region_is);
-    encountering = o 2 (omega arith);
-    size = o 3 (omega arith);
-    levels = o 4 (omega arith) ∙ ap (λ k. plus k 1) (sym levels) ∙ small r.levels 1 low (omega arith);
-    active = o 5 (omega arith) ∙ ap (λ k. plus k (if nat_lt 1 (length a.gathered.team) then 1 else 0)) (sym active) ∙ small r.active _ few (one (nat_lt 1 (length a.gathered.team)));
-    team = λ j m at. team j (slice_get_within a.gathered.team j m at) ∙ ap (λ (y : Tid × ℕ). task_address w y.0) (member_is a.gathered.team j m at);
-    released = o 6 (omega arith);
-    arrived = o 7 (omega arith);
-    pending = o 8 (omega arith);
-    left = o 9 (omega arith);
-  }
+  region_filled q levels active low few team o = record { codes = codes; pending = o 8 (omega arith); left = o 9 (omega arith) }
     where
       small : (k by : ℕ) → k < 2 ^ 63 → by ≤ 1 → plus k by ≡ k + by
       small k by less step = omega (arith, less, step)
@@ -58,33 +49,25 @@ module _ (p : Program) (w : List ℕ) (a : Actor) (n : Rid) (f : ℕ) (t : Task)
       one true = omega arith
       one false = omega arith
 
+      codes : HasCodes (region_code w (region_told (new_region a.context.task t r a.gathered.team f))) q
+      codes RegionFunction zero x told = o 0 (omega arith) ∙ ap entry_address function ∙ same_word _ _ told
+      codes RegionEnclosing zero x told = o 1 (omega arith) ∙ ap (region_address w) (sym region_is) ∙ same_word _ _ told
+      codes RegionEncountering zero x told = o 2 (omega arith) ∙ same_word _ _ told
+      codes RegionSize zero x told = o 3 (omega arith) ∙ same_word _ _ told
+      codes RegionLevels zero x told = o 4 (omega arith) ∙ ap (λ k. plus k 1) (sym levels) ∙ small r.levels 1 low (omega arith) ∙ same_word _ _ told
+      codes RegionActive zero x told =
+          o 5 (omega arith) ∙ ap (λ k. plus k (if nat_lt 1 (length a.gathered.team) then 1 else 0)) (sym active) ∙ small r.active _ few (one (nat_lt 1 (length a.gathered.team)))
+          ∙ same_word _ _ told
+      codes RegionReleased zero x told = o 6 (omega arith) ∙ same_word _ _ told
+      codes RegionArrived zero x told = o 7 (omega arith) ∙ sym (no_arrivals (length a.gathered.team)) ∙ same_word _ _ told
+      codes RegionTeam j x told =
+          let m = member_of_code w (region_told (new_region a.context.task t r a.gathered.team f)) j x told in
+          team j (slice_get_within a.gathered.team j m.member m.is) ∙ ap (λ (y : Tid × ℕ). task_address w y.0) (member_is a.gathered.team j m.member m.is) ∙ m.code
+      codes g at x told = absurd (cc)
+
   pub member_filled : (q : Rec) (j : ℕ) (m : Tid × ℕ) → member_of a.gathered.team j ≡ m → (j ≡ 0 → t.exit ≡ exit_frame m.1 a.context.depth) → Inherits (inherited_words a.gathered.variables) t.variables → length t.variables.nthreads ≤ 4
       → IsFilled q (task_plan w (new_member p a n j)) TASK_WORDS → MemberIsFilled w q (member_task p n a.context.task t r f j m.1)
-  member_filled q j m at exit inherits few o = record {
-    environment = record {
-      implicit = o 0 (omega arith);
-      region = o 1 (omega arith);
-      generating = o 4 (omega arith);
-      function = o 6 (omega arith) ∙ ap entry_address function;
-      dynamic = o 9 (omega arith) ∙ inherits.dynamic;
-      nthreads_length = o 10 (omega arith) ∙ inherits.size;
-      schedule = o 11 (omega arith) ∙ inherits.schedule;
-      device = o 12 (omega arith) ∙ inherits.device;
-      final = o 13 (omega arith);
-      tool = o 14 (omega arith);
-      nthreads = elements;
-    };
-    place = record {
-      thread = o 2 (omega arith) ∙ ap (λ (y : Tid × ℕ). thread_address w y.1) at;
-      member = o 3 (omega arith);
-      scheduling = o 5 (omega arith);
-      exit = o 7 (omega arith) ∙ ap (λ (y : Tid × ℕ). exit_frame y.1 (TeamParts.member_depth a j)) at ∙ go (j == 0) refl;
-      enter = o 8 (omega arith);
-    };
-    children = o 15 (omega arith);
-    references = o 16 (omega arith);
-    slots = slots;
-  }
+  member_filled q j m at exit inherits few o = record { codes = codes; children = o 15 (omega arith); references = o 16 (omega arith); slots = slots }
     where
       elements : (k x : ℕ) → slice_get (shortened t.variables.nthreads) k ≡ Some x → Has q TaskNthreads k x
       elements zero x there = o 17 (omega arith) ∙ inherits.elements 0 x there
@@ -106,3 +89,22 @@ module _ (p : Program) (w : List ℕ) (a : Actor) (n : Rid) (f : ℕ) (t : Task)
       go : (b : Bool) → j == 0 ≡ b → exit_frame m.1 (if b then a.context.depth + 1 else 1) ≡ (if b then exit_below t.exit else exit_frame m.1 1)
       go true e = let is = exit (eqb-true j 0 e) in omega (arith, is)
       go false e = refl
+
+      codes : HasCodes (task_code w (task_told (member_task p n a.context.task t r f j m.1))) q
+      codes TaskImplicit zero x told = o 0 (omega arith) ∙ same_word _ _ told
+      codes TaskRegion zero x told = o 1 (omega arith) ∙ same_word _ _ told
+      codes TaskThread zero x told = o 2 (omega arith) ∙ ap (λ (y : Tid × ℕ). thread_address w y.1) at ∙ same_word _ _ told
+      codes TaskNumber zero x told = o 3 (omega arith) ∙ same_word _ _ told
+      codes TaskGenerating zero x told = o 4 (omega arith) ∙ same_word _ _ told
+      codes TaskScheduling zero x told = o 5 (omega arith) ∙ same_word _ _ told
+      codes TaskFunction zero x told = o 6 (omega arith) ∙ ap entry_address function ∙ same_word _ _ told
+      codes TaskExit zero x told = o 7 (omega arith) ∙ ap (λ (y : Tid × ℕ). exit_frame y.1 (TeamParts.member_depth a j)) at ∙ go (j == 0) refl ∙ same_word _ _ told
+      codes TaskEnter zero x told = o 8 (omega arith) ∙ same_word _ _ told
+      codes TaskDynamic zero x told = o 9 (omega arith) ∙ inherits.dynamic ∙ same_word _ _ told
+      codes TaskNthreadsLength zero x told = o 10 (omega arith) ∙ inherits.size ∙ same_word _ _ told
+      codes TaskSchedule zero x told = o 11 (omega arith) ∙ inherits.schedule ∙ same_word _ _ told
+      codes TaskDevice zero x told = o 12 (omega arith) ∙ inherits.device ∙ same_word _ _ told
+      codes TaskFinal zero x told = o 13 (omega arith) ∙ same_word _ _ told
+      codes TaskTool zero x told = o 14 (omega arith) ∙ same_word _ _ told
+      codes TaskNthreads k x told = elements k x told
+      codes g k x told = absurd (cc)

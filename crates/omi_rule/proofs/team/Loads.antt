@@ -10,7 +10,7 @@ use Rattle.omi_model.specs.declared.region.Region.{Region}
 use Rattle.omi_model.specs.declared.task.Task.{Task}
 use Rattle.omi_model.specs.State.{State}
 use Rattle.omi_model.proofs.Slots.{some_same}
-use Rattle.omi_layout.specs.declared.field.Field.TheVariants.{RegionActive, RegionLevels}
+use Rattle.omi_layout.specs.declared.field.Field.TheVariants.{RegionActive, RegionLevels, TaskDevice, TaskDynamic, TaskNthreads, TaskNthreadsLength, TaskSchedule}
 use Rattle.omi_layout.specs.Field.{kind_of, tasks}
 use Rattle.omi_layout.specs.Memory.{IsRecordWord, Memory, Rec}
 use Rattle.omi_layout.specs.Named.{number}
@@ -44,7 +44,7 @@ module _ (p : Program) (w : List ℕ) (m : Memory) (events : List (ℕ × Event)
       let n = (actors i).context.region in
       let x : RecordWord = record { creator = n.0.creator; slot = n.0.slot; field = RegionLevels; place = 0 } in
       let o = context p w m events s actors i before team.LoadLevels at in
-      let word : found_in m x ≡ o.region.levels = (region_record p w m events s actors i before team.LoadLevels at).levels in (
+      let word : found_in m x ≡ o.region.levels = (region_record p w m events s actors i before team.LoadLevels at).codes RegionLevels 0 _ refl in (
         x,
         record { there = record { field = record { from = omega arith; to = omega arith }; record_slot = region_slot p w m events s actors i before team.LoadLevels at; within = omega arith }; address = refl },
         load_stays p w m events s actors i before (of_region w n RegionLevels) x (going team.LoadActive (record g { levels = found_in m x }) a) (sym (owes p w m events s actors i before team.LoadLevels at))
@@ -60,7 +60,7 @@ module _ (p : Program) (w : List ℕ) (m : Memory) (events : List (ℕ × Event)
       let o = context p w m events s actors i before team.LoadActive at in
       let (r, found, levels) = row p w m events s actors i before team.LoadActive at in
       let same : o.region ≡ r = some_same o.found found in
-      let word : found_in m x ≡ o.region.active = (region_record p w m events s actors i before team.LoadActive at).active in
+      let word : found_in m x ≡ o.region.active = (region_record p w m events s actors i before team.LoadActive at).codes RegionActive 0 _ refl in
       let fits_now = fits p w m events s actors i before team.LoadActive at in (
         x,
         record { there = record { field = record { from = omega arith; to = omega arith }; record_slot = region_slot p w m events s actors i before team.LoadActive at; within = omega arith }; address = refl },
@@ -97,14 +97,14 @@ variable_word w k (suc (suc (suc (suc (suc (suc (suc (suc n)))))))) below o = ab
 
 -- they are the codes of it
 pub variable_is : (w : List ℕ) (r : Rec) (t : Task) (word : ℕ) → word < VARIABLE_WORDS → KeepsEnvironment w r t → IsVariable t.variables word (r (number (variable_at word).0) (variable_at word).1)
-variable_is w r t zero below o = o.dynamic
-variable_is w r t (suc zero) below o = o.nthreads_length
-variable_is w r t (suc (suc zero)) below o = o.schedule
-variable_is w r t (suc (suc (suc zero))) below o = o.device
-variable_is w r t (suc (suc (suc (suc zero)))) below o = λ n there. o.nthreads 0 n there
-variable_is w r t (suc (suc (suc (suc (suc zero))))) below o = λ n there. o.nthreads 1 n there
-variable_is w r t (suc (suc (suc (suc (suc (suc zero)))))) below o = λ n there. o.nthreads 2 n there
-variable_is w r t (suc (suc (suc (suc (suc (suc (suc zero))))))) below o = λ n there. o.nthreads 3 n there
+variable_is w r t zero below o = o TaskDynamic 0 _ refl refl
+variable_is w r t (suc zero) below o = o TaskNthreadsLength 0 _ refl refl
+variable_is w r t (suc (suc zero)) below o = o TaskSchedule 0 _ refl refl
+variable_is w r t (suc (suc (suc zero))) below o = o TaskDevice 0 _ refl refl
+variable_is w r t (suc (suc (suc (suc zero)))) below o = λ n there. o TaskNthreads 0 n refl there
+variable_is w r t (suc (suc (suc (suc (suc zero))))) below o = λ n there. o TaskNthreads 1 n refl there
+variable_is w r t (suc (suc (suc (suc (suc (suc zero)))))) below o = λ n there. o TaskNthreads 2 n refl there
+variable_is w r t (suc (suc (suc (suc (suc (suc (suc zero))))))) below o = λ n there. o TaskNthreads 3 n refl there
 variable_is w r t (suc (suc (suc (suc (suc (suc (suc (suc n)))))))) below o = absurd (omega (arith, below))
 
 -- one word more of it is gathered

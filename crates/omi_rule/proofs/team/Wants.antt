@@ -108,7 +108,7 @@ module _ (p : Program) (w : List ℕ) (m : Memory) (events : List (ℕ × Event)
   knows = row p w m events s actors i before C at
 
   found_is : found_in m X ≡ s.max_active
-  found_is = before.rule.words.runtime_record.max_active
+  found_is = before.rule.words.runtime_record RuntimeMaxActive 0 _ refl
 
   loaded : (first_nthreads (actors i) ≡ get_or (context p w m events s actors i before C at).task.variables.nthreads 0 0) × (1 ≤ first_nthreads (actors i))
   loaded =
@@ -191,8 +191,7 @@ module _ (p : Program) (w : List ℕ) (m : Memory) (events : List (ℕ × Event)
 
       words : KeepsWords w m u (all_owed actors)
       words =
-          let o = (before.rule.words.made i before.known).thread in
-          thread_changes_keep w m z (all_owed actors) i wanted_now (words_moved p w m events s actors i before C at list) (record { life = o.life; native = o.native; current = o.current; state = o.state; claim = o.claim })
+          thread_changes_keep w m z (all_owed actors) i wanted_now (words_moved p w m events s actors i before C at list) (before.rule.words.made i before.known).thread
 
       changes : ChangesTask s u i (actors i).context.task
       changes =

@@ -29,6 +29,8 @@ use Rattle.omi_pc.specs.declared.team_counter.WorkerCounter.{WorkerCounter}
 use Rattle.omi_pc.specs.declared.team_counter.WorkerCounter.TheVariants as worker
 use Rattle.omi_pc.specs.Fits.{FitsCounter, FitsWorker, IsAlone}
 use Rattle.omi_rep.specs.declared.outcome.Outcome.TheVariants as outcome
+use Rattle.omi_rep.specs.Codes.{thread_told}
+use Rattle.omi_rule_words.proofs.StoredCodes.{claim_stored, life_stored, state_stored}
 use Rattle.omi_rule_words.specs.Owes.{all_owed, by_worker, owed_at}
 use Rattle.omi_rule_words.specs.Threads as Threads
 use Rattle.omi_rule_words.specs.Words.{KeepsWords}
@@ -148,7 +150,7 @@ module _ (p : Program) (w : List ℕ) (m : Memory) (events : List (ℕ × Event)
         thread_word i ThreadLife,
         store_on p w m events s actors i before ThreadLife 1 refl,
         worker_event worker.Begin at alone event.Begin item.Begin (item.Offer ∷ item.Serve ∷ []) (λ h. record h { begun = true }) ThreadLife 1 worker.Offer refl refl (row_is worker.Begin at) (λ z. refl) (λ none. none) (λ h is. absurd (cc is)) (λ h. refl) (λ h. refl)
-            (λ r h is. record { life = refl; native = is.native; current = is.current; state = is.state; claim = is.claim }) (λ same. absurd (omega (arith, same))) refl
+            (λ r h is. life_stored w i r (thread_told h) is true) (λ same. absurd (omega (arith, same))) refl
             alone tt (λ q is. refl) (λ r q. tt) refl (thread_word i ThreadLife) refl (1, ap (λ x. op.Store x 1) (own_thread p w m events s actors i before ThreadLife)),
       )
 
@@ -162,7 +164,7 @@ module _ (p : Program) (w : List ℕ) (m : Memory) (events : List (ℕ × Event)
         worker_event worker.Offer at alone event.Offer item.Offer (item.Serve ∷ []) (λ h. record h { claim = claim.Free }) ThreadClaim 1 worker.LoadAssign refl refl
             (record { idle = none; held = λ free. let (waits, nobody) = (claims_kept p events s before.rule.reached i).free free in absurd (cc (sym list ∙ waits.ahead)) })
             (λ z. refl) (λ none. none) (λ h is. absurd (cc is)) (λ h. refl) (λ h. refl)
-            (λ r h is. record { life = is.life; native = is.native; current = is.current; state = is.state; claim = refl }) (λ same. absurd (omega (arith, same))) refl
+            (λ r h is. claim_stored w i r (thread_told h) is claim.Free) (λ same. absurd (omega (arith, same))) refl
             alone tt (λ q is. refl) (λ r q. tt) refl (thread_word i ThreadClaim) refl (1, ap (λ x. op.Store x 1) (own_thread p w m events s actors i before ThreadClaim)),
       )
 
@@ -172,6 +174,6 @@ module _ (p : Program) (w : List ℕ) (m : Memory) (events : List (ℕ × Event)
         thread_word i ThreadState,
         store_on p w m events s actors i before ThreadState (state_word IDLE 0) refl,
         worker_event worker.IdleState at alone (event.State IDLE 0) (item.State IDLE 0) (item.Offer ∷ item.Serve ∷ []) (λ h. record h { state = IDLE; wait = 0 }) ThreadState (state_word IDLE 0) worker.Offer refl refl tt (λ z. refl) (λ none. none) (λ h is. absurd (cc is)) (λ h. refl) (λ h. refl)
-            (λ r h is. record { life = is.life; native = is.native; current = is.current; state = refl; claim = is.claim }) (λ same. absurd (omega (arith, same))) refl
+            (λ r h is. state_stored w i r (thread_told h) is IDLE 0) (λ same. absurd (omega (arith, same))) refl
             alone tt (λ q is. refl) (λ r q. tt) refl (thread_word i ThreadState) refl (state_word IDLE 0, ap (λ x. op.Store x (state_word IDLE 0)) (own_thread p w m events s actors i before ThreadState)),
       )

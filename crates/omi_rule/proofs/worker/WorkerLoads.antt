@@ -52,7 +52,7 @@ use Rattle.omi_rule.specs.Waits.{ForTask}
 use Rattle.omi_rule.proofs.OwnWords.{load_on, own_thread, store_on, thread_word}
 use Rattle.omi_rule.proofs.Assembly.{Before, load_stays, load_waits, quiet_keeps, spares_own}
 use Rattle.omi_rule.proofs.Generations.{generations_below}
-use Rattle.omi_rule.proofs.KeptObjects.{member_seen, region_kept, region_life, region_there, task_kept, task_life, task_there}
+use Rattle.omi_rule.proofs.KeptObjects.{region_kept, region_life, region_there, task_kept, task_life, task_there}
 use Rattle.omi_rule.proofs.Owing.{owed_after}
 use Rattle.omi_rule.proofs.worker.WorkerEvents.{alone_after, fits_worker, owes_now, row_is, stands_alone, worker_list}
 
@@ -227,8 +227,8 @@ module _ (p : Program) (w : List ℕ) (m : Memory) (events : List (ℕ × Event)
       let o : WaitsFor s i k = row_is p w m events s actors i before (worker.LoadFunction k) at in
       let fit = fits_worker p w m events s actors i before (worker.LoadFunction k) at in
       let known : o.task.function < length p.funcs = (before.rule.waiting k o.task o.live o.progress).function in
-      let kept = (task_kept p w m events s actors before.rule k o.task o.live).environment (inl (member_seen p w m events s actors before.rule k o.task o.live (implicit_is k o))) in
-      let same : function_at (m k.0.creator tasks k.0.slot (number TaskFunction) 0) ≡ o.task.function = ap function_at kept.function ∙ functions_back o.task.function (few_functions o.task.function known) in (
+      let kept = (task_kept p w m events s actors before.rule k o.task o.live).environment in
+      let same : function_at (m k.0.creator tasks k.0.slot (number TaskFunction) 0) ≡ o.task.function = ap function_at (kept TaskFunction 0 _ refl refl) ∙ functions_back o.task.function (few_functions o.task.function known) in (
         task_word k.0 TaskFunction,
         task_on k o.task TaskFunction o.live (record { from = omega arith; to = omega arith }) refl (omega arith),
         subst (λ f. KeepsRule p w m events s actors i (op.Load (of_task w k TaskFunction)) (task_word k.0 TaskFunction) (to_worker (worker.LoadRegion k f) (actors i), outcome.Quiet)) (sym same)
@@ -245,9 +245,9 @@ module _ (p : Program) (w : List ℕ) (m : Memory) (events : List (ℕ × Event)
           let fit = fits_worker p w m events s actors i before (worker.LoadRegion k f) at in
           let (r, found) = ((names_live p events s before.rule.reached).tasks k o.task o.live).region in
           let there : IsSlot w regions o.task.region.0.creator o.task.region.0.slot = region_there p w m events s actors before.rule o.task.region r found in
-          let kept = (task_kept p w m events s actors before.rule k o.task o.live).environment (inl (member_seen p w m events s actors before.rule k o.task o.live (implicit_is k o))) in
+          let kept = (task_kept p w m events s actors before.rule k o.task o.live).environment in
           let same : region_place w (m k.0.creator tasks k.0.slot (number TaskRegion) 0) ≡ place_of o.task.region.0 =
-          ap (region_place w) kept.region ∙ places_back w regions o.task.region.0.creator o.task.region.0.slot before.valid (record { from = omega arith; to = omega arith }) there in (
+          ap (region_place w) (kept TaskRegion 0 _ refl refl) ∙ places_back w regions o.task.region.0.creator o.task.region.0.slot before.valid (record { from = omega arith; to = omega arith }) there in (
             task_word k.0 TaskRegion,
             task_on k o.task TaskRegion o.live (record { from = omega arith; to = omega arith }) refl (omega arith),
             subst (λ (q : Place). KeepsRule p w m events s actors i (op.Load (of_task w k TaskRegion)) (task_word k.0 TaskRegion) (to_worker (worker.LoadRegionLife k f q) (actors i), outcome.Quiet)) (sym same)
@@ -288,7 +288,7 @@ module _ (p : Program) (w : List ℕ) (m : Memory) (events : List (ℕ × Event)
           let fit = fits_worker p w m events s actors i before (worker.LoadSize k f q) at in
           let (r, found') = ((names_live p events s before.rule.reached).tasks k o.task o.live).region in
           let found : region_of s q ≡ Some r = subst (λ (z : Rid). region_of s z ≡ Some r) same_region found' in
-          let same : m q.0.creator regions q.0.slot (number RegionSize) 0 ≡ length r.team = (region_kept p w m events s actors before.rule q r found).size in
+          let same : m q.0.creator regions q.0.slot (number RegionSize) 0 ≡ length r.team = (region_kept p w m events s actors before.rule q r found).codes RegionSize 0 _ refl in
           let few : length r.team ≤ p.threads = subst (λ c. length r.team ≤ c) (before.rule.within.count ∙ sym before.suits.threads) ((are_manned p events s before.rule.reached).regions q r found) in (
             task_word q.0 RegionSize,
             region_on q r RegionSize found (record { from = omega arith; to = omega arith }) refl (omega arith),
@@ -306,14 +306,14 @@ module _ (p : Program) (w : List ℕ) (m : Memory) (events : List (ℕ × Event)
       go ((o, (is, same_region)), (r, found, sized)) =
           let fit = fits_worker p w m events s actors i before (worker.LoadNumber k f q size) at in
           let known = members_known p events s before.rule.reached in
-          let kept = (task_kept p w m events s actors before.rule k o.task o.live).place (member_seen p w m events s actors before.rule k o.task o.live (implicit_is k o)) in
+          let kept = (task_kept p w m events s actors before.rule k o.task o.live).place (λ explicit _. let implicit = implicit_is k o in cc (sym implicit, explicit)) in
           let (x, live, member) = known.tasks k o.task o.live (implicit_is k o) in
           let one : x ≡ r = some_same live (subst (λ (z : Rid). region_of s z ≡ Some r) (sym same_region) found) in
           let inside : o.task.number < size = subst (λ n. o.task.number < n) (ap (λ (z : Region). length z.team) one ∙ sized) (slice_get_within x.team o.task.number (k, o.task.thread) member) in
           let other : o.task.number ≢ 0 = λ zero. (((known.encountered k o.task o.live).waiting o.progress).1) zero in (
             task_word k.0 TaskNumber,
             task_on k o.task TaskNumber o.live (record { from = omega arith; to = omega arith }) refl (omega arith),
-            subst (λ n. KeepsRule p w m events s actors i (op.Load (of_task w k TaskNumber)) (task_word k.0 TaskNumber) (to_worker (worker.ImplicitBegin k f q size n) (actors i), outcome.Quiet)) (sym kept.member)
+            subst (λ n. KeepsRule p w m events s actors i (op.Load (of_task w k TaskNumber)) (task_word k.0 TaskNumber) (to_worker (worker.ImplicitBegin k f q size n) (actors i), outcome.Quiet)) (sym (kept TaskNumber 0 _ refl refl))
                 (goes_on (worker.LoadNumber k f q size) at fit.0.0.0.0 (of_task w k TaskNumber) (task_word k.0 TaskNumber) (worker.ImplicitBegin k f q size o.task.number) (fit, inside, other)
                 (task_there p w m events s actors before.rule k o.task o.live, region_there p w m events s actors before.rule q r found) refl ((o, (is, same_region, refl)), (r, found, sized)) refl),
           )
