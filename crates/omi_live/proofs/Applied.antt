@@ -10,24 +10,25 @@ use Rattle.omi_script.specs.declared.program.Program.{Program}
 use Rattle.omi_layout.specs.declared.layout.Layout.{Layout}
 use Rattle.omi_core.specs.declared.stop.Break.{Break}
 use Rattle.omi_live.specs.declared.known.Part.{Part}
-use Rattle.omi_live.specs.Plays.{Seated, stepped}
+use Rattle.omi_seat.specs.Seats.{Seated}
+use Rattle.omi_live.specs.Plays.{stepped}
 use Rattle.omi_live.specs.Running.{Keeps}
 use Rattle.omi_live.specs.Work.{HasFound, IsAble}
-use Rattle.omi_live.proofs.Stepped.{step_allowed}
+use Rattle.omi_live.proofs.Operated.{step_allowed}
 
 -- the word is one of the table
-pub inside : (id : TableId) (o : Op) (me : Seated) (x : Part) → IsAble id o me x → (place : ℕ) → place ≡ place_of (address_of o) → place < id.words
+pub inside : (id : TableId) (o : Op) (me : Seated Part) (x : Part) → IsAble id o me x → (place : ℕ) → place ≡ place_of (address_of o) → place < id.words
 inside id o me x is place at =
     let below = is.able.inside in
     let here : place_of (address_of o) < id.words = subst (λ (q : Op). place_of (address_of q) < id.words) (sym is.is_next) (let count = is.count in omega (arith, below, count)) in
     subst (λ n. n < id.words) (sym at) here
 
-pub allowed : (p : Program) (l : Layout) (on : Option Break) (slots seat : ℕ) (st : Step (Unit {0})) (id : TableId) (o : Op) (me : Seated) (x : Part) → IsAble id o me x
+pub allowed : (p : Program) (l : Layout) (on : Option Break) (slots seat : ℕ) (st : Step (Unit {0})) (id : TableId) (o : Op) (me : Seated Part) (x : Part) → IsAble id o me x
     → (place : ℕ) → place ≡ place_of (address_of o) → (f : ℕ → ℕ) → ((n : ℕ) → left_of o n ≡ f n) → Allows (Keeps p l on) slots seat me place f (stepped st me)
 allowed p l on slots seat st id o me x is place at f same =
     subst (λ (g : ℕ → ℕ). Allows (Keeps p l on) slots seat me place g (stepped st me)) (fun_ext same)
     (subst (λ k. Allows (Keeps p l on) slots seat me k (left_of o) (stepped st me)) (sym at)
-    (subst (λ (m : Seated). Allows (Keeps p l on) slots seat m (place_of (address_of o)) (left_of o) (stepped st m)) (sym is.knows)
+    (subst (λ (m : Seated Part). Allows (Keeps p l on) slots seat m (place_of (address_of o)) (left_of o) (stepped st m)) (sym is.knows)
     (step_allowed p l on slots seat x st is.few o is.is_next)))
 
 -- a compare and exchange
@@ -39,7 +40,7 @@ exchanged n old new = go (n == old)
     go false = refl
 
 -- what the thread has learnt
-pub has_found : (st : Step (Unit {0})) (me : Seated) (n : ℕ) (after : Seated) → stepped st me n after → (x : Part) → me ≡ (x ∷ [], []) → HasFound x n after
+pub has_found : (st : Step (Unit {0})) (me : Seated Part) (n : ℕ) (after : Seated Part) → stepped st me n after → (x : Part) → me ≡ (x ∷ [], []) → HasFound x n after
 has_found st me n after told x is =
-    let here = told x (ap (λ (m : Seated). m.0) is) in
+    let here = told x (ap (λ (m : Seated Part). m.0) is) in
     record { knows = here.0; seats = here.1 }

@@ -15,15 +15,15 @@ use Rattle.omi_live.specs.declared.known.Access.{Access}
 use Rattle.omi_live.specs.declared.known.Access.TheVariants as access
 use Rattle.omi_live.specs.declared.known.Part.{Part}
 use Rattle.omi_live.specs.declared.worker.Worker.{Worker}
-use Rattle.omi_live.specs.Plays.{finds, looks, raises, untouched}
+use Rattle.omi_live.specs.Plays.{first_part, looks, makes, raises}
 use Rattle.omi_live.specs.Accesses.{with_looks}
-use Rattle.omi_live.specs.Running.{steps_known, claims_known}
+use Rattle.omi_seat.specs.Known.{claims_known, entry_known, steps_known}
+use Rattle.omi_seat.proofs.Learnt.{steps_found, steps_one_more}
 use Rattle.omi_live.specs.Stops.{GoesOn, WentOn, ends_at, is_ended, some_stop, stops_at}
 use Rattle.omi_live.specs.Work.{HasRoom, HasStepped, HasWorked, HasLooked, IsAtWork, IsSameBut}
 use Rattle.omi_live.proofs.Accesses.{done_is_no_stop, with_raise, without_raise}
 use Rattle.omi_live.proofs.StopsLast.{stops_last}
 use Rattle.omi_run_lists.specs.StepRoom.{room_for_steps}
-use Rattle.omi_live.proofs.Working.{entry_known, steps_found, steps_one_more}
 
 -- ---- steps
 
@@ -56,27 +56,27 @@ ended_by (f ∷ g ∷ es) e = ended_by (g ∷ es) e
 
 -- the thread goes on, or it committed an event at which the run is to stop, and will be told so
 abbrev pub MayGoOn : Option Break → Part → Type 0
-MayGoOn on x = GoesOn on (steps_known x) ⊎ ((x.told ≡ true) × (is_ended (steps_known x) ≡ false) × WentOn on (steps_known x))
+MayGoOn on x = GoesOn on (steps_known x.known) ⊎ ((x.told ≡ true) × (is_ended (steps_known x.known) ≡ false) × WentOn on (steps_known x.known))
 
 pub record IsWorking (p : Program) (l : Layout) (id : TableId) (on : Option Break) (budget made thread : ℕ) (worker : Worker) : Type 0 where
   pub part : Part
   pub work : IsAtWork p l id part worker
   pub own : worker.thread ≡ thread
-  pub count : length part.found ≡ made
+  pub count : length part.known.found ≡ made
   pub room : HasRoom (budget - made) part worker
   pub goes : MayGoOn on part
-  pub did : part.accesses ≡ with_looks on (steps_known part)
+  pub did : part.accesses ≡ with_looks on (steps_known part.known)
 
-pub may_not_ended : (on : Option Break) (x : Part) → MayGoOn on x → is_ended (steps_known x) ≡ false
-may_not_ended on x (inl goes) = not_ended on (steps_known x) goes
+pub may_not_ended : (on : Option Break) (x : Part) → MayGoOn on x → is_ended (steps_known x.known) ≡ false
+may_not_ended on x (inl goes) = not_ended on (steps_known x.known) goes
 may_not_ended on x (inr was) = was.1
 
-pub may_went : (on : Option Break) (x : Part) → MayGoOn on x → WentOn on (steps_known x)
-may_went on x (inl goes) = went on (steps_known x) goes
+pub may_went : (on : Option Break) (x : Part) → MayGoOn on x → WentOn on (steps_known x.known)
+may_went on x (inl goes) = went on (steps_known x.known) goes
 may_went on x (inr was) = was.2
 
 -- a thread that looked and was not told goes on
-pub not_told : (on : Option Break) (x : Part) (raised : Bool) → MayGoOn on x → (x.told ≡ true → raised ≡ true) → raised ≡ false → GoesOn on (steps_known x)
+pub not_told : (on : Option Break) (x : Part) (raised : Bool) → MayGoOn on x → (x.told ≡ true → raised ≡ true) → raised ≡ false → GoesOn on (steps_known x.known)
 not_told on x raised (inl goes) told not = goes
 not_told on x raised (inr was) told not = absurd (false≢true (sym not ∙ told was.0))
 
@@ -96,7 +96,7 @@ looked_work p l id x raised old new work looked same = record {
   events = ap (λ (m : Events). m.items) same.events ∙ work.events;
 }
 
-pub same_room : (n : ℕ) (x y : Part) (old new : Worker) → claims_known x ≡ claims_known y → IsSameBut old new → HasRoom n x old → HasRoom n y new
+pub same_room : (n : ℕ) (x y : Part) (old new : Worker) → claims_known x.known ≡ claims_known y.known → IsSameBut old new → HasRoom n x old → HasRoom n y new
 same_room n x y old new claims same room = record {
   made = subst (λ (m : Steps). n ≤ m.spare) (sym same.made) room.made;
   events = subst (λ (z : Events × ℕ). n ≤ room_for_steps z.0 z.1) (λ k. (sym same.events k, claims k)) room.events;
@@ -115,32 +115,32 @@ pub record Behind (p : Program) (l : Layout) (id : TableId) (on : Option Break) 
   pub part : Part
   pub work : IsAtWork p l id part worker
   pub own : worker.thread ≡ thread
-  pub count : length part.found ≡ made + 1
+  pub count : length part.known.found ≡ made + 1
   pub before : List Entry
   pub goes : GoesOn on before
   pub last : Entry
   pub out_is : out ≡ last.outcome
-  pub steps : steps_known part ≡ before ++ last ∷ []
+  pub steps : steps_known part.known ≡ before ++ last ∷ []
   pub past : List Access
   pub so_far : past ≡ with_looks on before
   pub room : HasRoom (budget - (made + 1)) part worker
   pub did : part.accesses ≡ (past ++ access.Look false ∷ []) ++ access.Step last ∷ []
 
 pub behind_step : (p : Program) (l : Layout) (id : TableId) (on : Option Break) (budget made thread : ℕ) (x : Part) (raised : Bool) (old new : Worker) (out : Outcome)
-    → length x.found ≡ made → GoesOn on (steps_known x) → x.accesses ≡ with_looks on (steps_known x) → raised ≡ false → made < budget → HasRoom (budget - made) (looks raised x) old → HasStepped p l id (looks raised x) old new out → new.thread ≡ thread → Behind p l id on budget made thread new out
+    → length x.known.found ≡ made → GoesOn on (steps_known x.known) → x.accesses ≡ with_looks on (steps_known x.known) → raised ≡ false → made < budget → HasRoom (budget - made) (looks raised x) old → HasStepped p l id (looks raised x) old new out → new.thread ≡ thread → Behind p l id on budget made thread new out
 behind_step p l id on budget made thread x raised old new out count goes so_far not below room stepped own = record {
-  part = finds stepped.found (looks raised x);
+  part = makes stepped.found (looks raised x);
   work = stepped.work;
   own = own;
-  count = length-append x.found (stepped.found ∷ []) ∙ ap (λ n. n + 1) count;
-  before = steps_known x;
+  count = length-append x.known.found (stepped.found ∷ []) ∙ ap (λ n. n + 1) count;
+  before = steps_known x.known;
   goes = goes;
-  last = entry_known x stepped.found;
+  last = entry_known x.known stepped.found;
   out_is = stepped.came;
-  steps = steps_one_more x stepped.found;
+  steps = steps_one_more x.known stepped.found;
   past = x.accesses;
   so_far = so_far;
-  did = ap (λ (b : Bool). (x.accesses ++ access.Look b ∷ []) ++ access.Step (entry_known x stepped.found) ∷ []) not;
+  did = ap (λ (b : Bool). (x.accesses ++ access.Look b ∷ []) ++ access.Step (entry_known x.known stepped.found) ∷ []) not;
   room = stepped.room (budget - (made + 1)) (subst (λ n. HasRoom n (looks raised x) old) (omega (arith, below)) room);
 }
 
@@ -148,7 +148,7 @@ behind_step p l id on budget made thread x raised old new out count goes so_far 
 pub behind_done : (p : Program) (l : Layout) (id : TableId) (on : Option Break) (budget made thread : ℕ) (worker : Worker) (out : Outcome) → made < budget → ends_at out ≡ true → (b : Behind p l id on budget made thread worker out)
     → HasWorked budget on b.part until.Ended
 behind_done p l id on budget made thread worker out below done b =
-    let count : length (steps_known b.part) ≡ made + 1 = steps_found b.part ∙ b.count in
+    let count : length (steps_known b.part.known) ≡ made + 1 = steps_found b.part.known ∙ b.count in
     record {
       reason = ap is_ended b.steps ∙ ended_by b.before b.last ∙ ap ends_at (sym b.out_is) ∙ done;
       most = omega (arith, count, below);
@@ -158,13 +158,13 @@ behind_done p l id on budget made thread worker out below done b =
           b.did
           ∙ without_raise on b.before b.last b.past b.so_far (done_is_no_stop on b.last.outcome (ap ends_at (sym b.out_is) ∙ done))
           ∙ ap (with_looks on) (sym b.steps)
-          ∙ sym (append-nil (with_looks on (steps_known b.part)));
+          ∙ sym (append-nil (with_looks on (steps_known b.part.known)));
     }
 
-pub behind_not_ended : (p : Program) (l : Layout) (id : TableId) (on : Option Break) (budget made thread : ℕ) (worker : Worker) (out : Outcome) → ends_at out ≡ false → (b : Behind p l id on budget made thread worker out) → is_ended (steps_known b.part) ≡ false
+pub behind_not_ended : (p : Program) (l : Layout) (id : TableId) (on : Option Break) (budget made thread : ℕ) (worker : Worker) (out : Outcome) → ends_at out ≡ false → (b : Behind p l id on budget made thread worker out) → is_ended (steps_known b.part.known) ≡ false
 behind_not_ended p l id on budget made thread worker out not b = ap is_ended b.steps ∙ ended_by b.before b.last ∙ ap ends_at (sym b.out_is) ∙ not
 
-pub behind_stops : (p : Program) (l : Layout) (id : TableId) (on : Option Break) (budget made thread : ℕ) (worker : Worker) (out : Outcome) → stops_at on out ≡ true → (b : Behind p l id on budget made thread worker out) → some_stop on (steps_known b.part) ≡ true
+pub behind_stops : (p : Program) (l : Layout) (id : TableId) (on : Option Break) (budget made thread : ℕ) (worker : Worker) (out : Outcome) → stops_at on out ≡ true → (b : Behind p l id on budget made thread worker out) → some_stop on (steps_known b.part.known) ≡ true
 behind_stops p l id on budget made thread worker out stops b = ap (some_stop on) b.steps ∙ stops_last on b.before b.last (ap (stops_at on) (sym b.out_is) ∙ stops)
 
 -- it is told so
@@ -207,13 +207,13 @@ behind_goes p l id on budget made thread worker out not no_stop b = record {
 }
 
 -- what a worker has before its first step
-pub not_begun : (p : Program) (l : Layout) (id : TableId) (on : Option Break) (budget : ℕ) (worker : Worker) → IsAtWork p l id (untouched p l worker.thread) worker → HasRoom budget (untouched p l worker.thread) worker → IsWorking p l id on budget 0 worker.thread worker
+pub not_begun : (p : Program) (l : Layout) (id : TableId) (on : Option Break) (budget : ℕ) (worker : Worker) → IsAtWork p l id (first_part p l worker.thread) worker → HasRoom budget (first_part p l worker.thread) worker → IsWorking p l id on budget 0 worker.thread worker
 not_begun p l id on budget worker work room = record {
-  part = untouched p l worker.thread;
+  part = first_part p l worker.thread;
   work = work;
   own = refl;
   count = refl;
-  room = less_room (budget - 0) budget (untouched p l worker.thread) worker (omega arith) room;
+  room = less_room (budget - 0) budget (first_part p l worker.thread) worker (omega arith) room;
   goes = inl tt;
   did = refl;
 }

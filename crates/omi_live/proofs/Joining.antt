@@ -14,7 +14,8 @@ use Rattle.omi_core.specs.RunSteps.{made_of}
 use Rattle.omi_live.specs.declared.known.Part.{Part}
 use Rattle.omi_live.specs.declared.threads.Runner.{Runner}
 use Rattle.omi_live.specs.Joined.{AreRunsKnown, HasEnded, IsRunKnown}
-use Rattle.omi_live.specs.Running.{steps_known}
+use Rattle.omi_seat.specs.Known.{steps_known}
+use Rattle.omi_live.specs.Running.{thread_of}
 use Rattle.omi_live.specs.Work.{HasWorked}
 use Rattle.omi_live.proofs.Lists.{get_front, get_last, get_more}
 
@@ -25,7 +26,7 @@ module _ (p : Program) (l : Layout) (id : TableId) (budget : ℕ) (on : Option B
     own = h.own;
     program = h.work.program;
     layout = h.work.layout;
-    steps = steps ∙ ap (λ (ms : List Made). length ms) h.work.made ∙ length-map (steps_known h.part) (made_of h.part.thread);
+    steps = steps ∙ ap (λ (ms : List Made). length ms) h.work.made ∙ length-map (steps_known h.part.known) (made_of (thread_of h.part));
     made = ap (λ (m : Steps). m.items) made ∙ h.work.made;
     events = ap (λ (m : Events). m.items) events ∙ h.work.events;
     actor = actor ∙ h.work.actor;

@@ -1,8 +1,6 @@
 pub mod StopsLast
 pub mod Accesses
-pub mod Count
-pub mod Claims
-pub mod Stepped
+pub mod Operated
 pub mod Looked
 pub mod Seats
 pub mod Applied
@@ -11,3 +9,6 @@ pub mod Going
 pub mod Lists
 pub mod Joining
 pub mod Ending
+pub mod RunLines
+pub mod Performing
+pub mod Left

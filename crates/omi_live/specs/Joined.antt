@@ -10,14 +10,15 @@ use Rattle.omi_core.specs.Steps.{events_behind}
 use Rattle.omi_live.specs.declared.known.Part.{Part}
 use Rattle.omi_live.specs.declared.threads.Runner.{Runner}
 use Rattle.omi_live.specs.declared.worker.Worker.{Worker}
-use Rattle.omi_live.specs.Plays.{untouched}
-use Rattle.omi_live.specs.Running.{actor_known, steps_known}
-use Rattle.omi_live.specs.Work.{HasRoom, HasWorked, IsAtWork, own_steps}
+use Rattle.omi_seat.specs.Known.{actor_known, own_steps, steps_known}
+use Rattle.omi_live.specs.Plays.{first_part}
+use Rattle.omi_live.specs.Running.{thread_of}
+use Rattle.omi_live.specs.Work.{HasRoom, HasWorked, IsAtWork}
 
 -- a thread before its first step, with room for its budget
 pub record IsToBegin (p : Program) (l : Layout) (id : TableId) (budget : ℕ) (worker : Worker) : Type 0 where
-  pub work : IsAtWork p l id (untouched p l worker.thread) worker
-  pub room : HasRoom budget (untouched p l worker.thread) worker
+  pub work : IsAtWork p l id (first_part p l worker.thread) worker
+  pub room : HasRoom budget (first_part p l worker.thread) worker
 
 -- the workers of so many threads, the last one first
 abbrev pub AreToBegin : Program → Layout → TableId → ℕ → ℕ → List Runner → Type 0
@@ -33,7 +34,7 @@ AreSeatedAt id all = (i : ℕ) (e : Runner) → slice_get all i ≡ Some e
 pub record HasEnded (p : Program) (l : Layout) (id : TableId) (budget : ℕ) (on : Option Break)
     (thread : ℕ) (e : Runner) : Type 0 where
   pub part : Part
-  pub own : part.thread ≡ thread
+  pub own : thread_of part ≡ thread
   pub work : IsAtWork p l id part e.worker
   pub worked : HasWorked budget on part e.until
 
@@ -44,13 +45,13 @@ HaveEnded p l id budget on threads all = (i thread : ℕ) (e : Runner) → slice
 -- what is kept of it, where its part is known
 pub record IsRunKnown (p : Program) (l : Layout) (budget : ℕ) (on : Option Break) (thread : ℕ)
     (x : Part) (r : ThreadRun) : Type 0 where
-  pub own : x.thread ≡ thread
-  pub program : x.program ≡ p
-  pub layout : x.layout ≡ l
-  pub steps : r.steps ≡ length (steps_known x)
-  pub made : r.made.items ≡ map (made_of x.thread) (steps_known x)
-  pub events : r.events.items ≡ events_behind 0 (own_steps x.thread (steps_known x))
-  pub actor : r.actor ≡ actor_known x
+  pub own : thread_of x ≡ thread
+  pub program : x.known.program ≡ p
+  pub layout : x.known.layout ≡ l
+  pub steps : r.steps ≡ length (steps_known x.known)
+  pub made : r.made.items ≡ map (made_of (thread_of x)) (steps_known x.known)
+  pub events : r.events.items ≡ events_behind 0 (own_steps (thread_of x) (steps_known x.known))
+  pub actor : r.actor ≡ actor_known x.known
   pub worked : HasWorked budget on x r.until
 
 -- the runs of the first threads, whose parts one seat knows

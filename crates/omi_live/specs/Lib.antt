@@ -2,11 +2,17 @@
 pub mod Stops
 pub mod Accesses
 pub mod Live
--- The room that steps need
-pub mod Claims
+-- What a command line asks for, what is printed of a run of threads, such a run by a plan, and what a call answers and leaves
+pub mod Command
+pub mod Lines
+pub mod Run
+pub mod Answer
 -- The rule of the table of words, and what an operation on it tells a seat
 pub mod Running
 pub mod Plays
 -- A thread at work, and the threads before and behind their work
 pub mod Work
 pub mod Joined
+-- What private functions of the top call stand on: a request as a command, and what its layers say alike
+pub mod Asked
+pub mod Causes

@@ -20,10 +20,10 @@ use Rattle.omi_core.specs.Runs.{actors_in, events_in}
 use Rattle.omi_core.specs.RunSteps.{made_of}
 use Rattle.omi_core.specs.Steps.{AreStepsOf, events_behind, steps_of}
 use Rattle.omi_core.specs.Found.{MakeNext, actor_behind, found_by}
+use Rattle.omi_seat.specs.Known.{own_steps}
 use Rattle.omi_live.specs.declared.known.Access.{Access}
 use Rattle.omi_live.specs.Stops.{IsUntil, WentOn, some_stop}
 use Rattle.omi_live.specs.Accesses.{AreAccesses, accesses_of, last_look, with_looks}
-use Rattle.omi_live.specs.Work.{own_steps}
 
 -- what a thread keeps of its steps, numbered by themselves, and why it made no further one: each step is the one that the thread
 -- makes next, and an event at which the run is to stop, and `done`, are the last of them. It looked at the stop word before each step, and

@@ -1,9 +1,8 @@
 //! What a seat at the table of words knows: a part for each thread that it stands for. No value of a part is made.
 
 use omi_core::Entry;
-use omi_layout::Layout;
 use omi_list::List;
-use omi_script::Program;
+use omi_seat::Known;
 
 /// What a thread does at the table of words.
 pub enum Access {
@@ -15,15 +14,9 @@ pub enum Access {
     Raise,
 }
 
-/// What is known of a thread of a program in a layout: the words that its steps found, in order, whether it was told to stop, and its
-/// accesses to the table, in order.
+/// What is known of a thread: what its steps found, whether it was told to stop, and its accesses to the table, in order.
 pub struct Part {
-    pub program: Program,
-    pub layout: Layout,
-    pub thread: u8,
-    pub found: List<u64>,
+    pub known: Known,
     pub told: bool,
     pub accesses: List<Access>,
 }
-
-pub(crate) type Known = List<Part>;

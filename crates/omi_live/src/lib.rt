@@ -1,13 +1,17 @@
-//! Running threads: each thread of a program is work of its own over one table of words.
+//! Running threads: each thread of a program is work of its own over one table of words. All that the program `ompdlive` does.
 #![tactic(auto)]
 
+mod command;
 mod known;
-mod limits;
+mod lines;
 mod rule;
+mod run;
 mod start_gate;
 mod threads;
+mod top;
 mod worker;
 
-pub use limits::MOST_BUDGET;
+pub use omi_seat::MOST_BUDGET;
 pub use start_gate::{MOST_TURNS, StartGate};
 pub use threads::{LiveEnd, live};
+pub use top::live_top;

@@ -1,7 +1,7 @@
 //! The rule of the table of words, and what an operation on it tells.
 
-use crate::known::{Known, Part};
-use atomic_table::{Join, Play, Split, TableRule};
+use crate::known::Part;
+use atomic_table::{Play, TableRule};
 use omi_core::Break;
 use omi_layout::Layout;
 use omi_list::List;
@@ -21,11 +21,11 @@ pub struct Running;
 
 impl TableRule<(), List<Part>, Given> for Running {
     ghost use Rattle.omi_live.specs.Running.{Keeps};
-    ghost use Rattle.omi_live.specs.Plays.{all_untouched};
+    ghost use Rattle.omi_live.specs.Plays.{first_parts};
 
     ghost holds = { λ key. Keeps key.program.value key.layout.value key.on };
 
-    ghost first = { λ key. all_untouched key.program.value key.layout.value };
+    ghost first = { λ key. first_parts key.program.value key.layout.value };
 }
 
 /// A look at the stop word.
@@ -53,26 +53,4 @@ impl Play<(), List<Part>> for Raises {
     ghost use Rattle.omi_live.specs.Plays.{raised};
 
     ghost then = { raised };
-}
-
-/// A seat that stands for several threads gives the first one a seat of its own.
-pub struct First;
-
-impl Split<List<Part>> for First {
-    ghost use Rattle.omi_live.specs.Plays.{first_alone, without_first};
-
-    ghost left = { without_first };
-
-    ghost right = { first_alone };
-}
-
-/// A seat takes in what another one knows.
-pub struct Together;
-
-impl Join<List<Part>> for Together {
-    ghost use Rattle.std.specs.Prelude.{◌++◌, []};
-
-    ghost both = { λ a b. a ++ b };
-
-    ghost spent = { [] };
 }

@@ -10,14 +10,14 @@ ghost use Rattle.omi_script.specs.declared.program.Program.{Program};
 ghost use Rattle.omi_core.specs.declared.stop.Break.{Break};
 ghost use Rattle.omi_word.specs.declared.limits.TheConstants.{MOST_WORDS};
 ghost use Rattle.omi_live.specs.declared.known.Part.{Part};
-ghost use Rattle.omi_live.specs.declared.limits.TheConstants.{MOST_BUDGET};
+ghost use Rattle.omi_seat.specs.declared.limits.TheConstants.{MOST_BUDGET};
 ghost use Rattle.omi_live.specs.Joined.{AreRunsKnown, AreSeatedAt, AreToBegin, HasEnded, HaveEnded, IsRunKnown, IsToBegin};
 ghost use Rattle.omi_live.specs.Live.{IsLive};
-ghost use Rattle.omi_live.specs.Plays.{all_untouched, untouched};
+ghost use Rattle.omi_live.specs.Plays.{first_part, first_parts};
 ghost use Rattle.omi_live.specs.Work.{HasRoom, HasWorked, IsAtWork, IsTableFor};
 
 use crate::known::Part;
-use crate::rule::{First, Given, Running, Together};
+use crate::rule::{Given, Running};
 use crate::worker::{Words, Worker};
 use atomic_table::{Closed, Seat, Table};
 use omi_core::{Break, OutOfMemory, RunList, ThreadRun, Until, opening_image};
@@ -27,6 +27,7 @@ use omi_outside::Gate;
 use omi_pc::Actor;
 use omi_run_lists::{EventList, MadeList};
 use omi_script::Program;
+use omi_seat::{First, Together};
 use omi_word::{FIRST_ADDRESS, Image, Op};
 use std::alloc::Global;
 use std::snapshot::Snapshot;
@@ -72,7 +73,7 @@ fn worker_at(
     requires budget { budget ≤ MOST_BUDGET }
     ensures thread { IfOk result (λ worker. worker.thread ≡ thread) }
     ensures seat { IfOk result (λ worker. worker.seat ≡ seat) }
-    ensures begin { (l : Layout) → seat.me ≡ (untouched p.now l thread ∷ [], [])
+    ensures begin { (l : Layout) → seat.me ≡ (first_part p.now l thread ∷ [], [])
         → IfOk result (λ worker. IsToBegin p.now l seat.table_id budget worker) }
 {
     let actor = Actor::opening(alloc, p, thread)?;
@@ -100,7 +101,7 @@ fn workers_at(
 ) -> Result<Vec<Runner>, OutOfMemory>
     requires count { 0 < words.now.table_id.words }
     requires seated { seat.old.table_id ≡ words.now.table_id }
-    requires first { seat.old.me ≡ (all_untouched p.now l.now, []) }
+    requires first { seat.old.me ≡ (first_parts p.now l.now, []) }
     requires budget { budget ≤ MOST_BUDGET }
     ensures seated { seat.new.table_id ≡ words.now.table_id }
     ensures rest { IfOk result (λ workers. seat.new.me ≡ ([], [])) }

@@ -4,9 +4,9 @@ ghost use Rattle.std.specs.Prelude.{◌≡◌, ◌+◌, ◌≤◌, ℕ, true, fa
 ghost use Rattle.omi_rep.specs.Suits.{Suits};
 ghost use Rattle.omi_layout.specs.Place.{image_words};
 ghost use Rattle.omi_live.specs.declared.known.Part.{Part};
-ghost use Rattle.omi_live.specs.declared.limits.TheConstants.{MOST_BUDGET};
-ghost use Rattle.omi_live.specs.Plays.{raises, untouched};
-ghost use Rattle.omi_live.specs.Running.{steps_known};
+ghost use Rattle.omi_seat.specs.declared.limits.TheConstants.{MOST_BUDGET};
+ghost use Rattle.omi_live.specs.Plays.{first_part, raises};
+ghost use Rattle.omi_seat.specs.Known.{steps_known};
 ghost use Rattle.omi_live.specs.Stops.{ends_at, some_stop, stops_at};
 ghost use Rattle.omi_live.specs.Work.{HasFound, HasLooked, HasRoom, HasStepped, HasWorked, IsAble, IsAtWork, IsReady, IsSameBut, IsTableFor};
 
@@ -143,7 +143,7 @@ impl Worker {
         requires count { words.now.table_id.words ≡ image_words l.now.table + 1 }
         requires seated { self.old.seat.table_id ≡ words.now.table_id }
         requires stops { (x : Part) × (self.old.seat.me ≡ (x ∷ [], []))
-            × (some_stop words.now.key.on (steps_known x) ≡ true) }
+            × (some_stop words.now.key.on (steps_known x.known) ≡ true) }
         ensures told { (x : Part) → self.old.seat.me ≡ (x ∷ [], [])
             → self.new.seat.me ≡ (raises x ∷ [], []) }
         ensures same { IsSameBut self.old self.new }
@@ -165,8 +165,8 @@ impl Worker {
         requires table { IsTableFor p.now l.now on words.now.key words.now.table_id }
         requires budget { budget ≤ MOST_BUDGET }
         requires start { IsAtWork p.now l.now words.now.table_id
-            (untouched p.now l.now self.old.thread) self.old }
-        requires room { HasRoom budget (untouched p.now l.now self.old.thread) self.old }
+            (first_part p.now l.now self.old.thread) self.old }
+        requires room { HasRoom budget (first_part p.now l.now self.old.thread) self.old }
         ensures thread { self.new.thread ≡ self.old.thread }
         ensures worked { (x : Part) × IsAtWork p.now l.now words.now.table_id x self.new
             × HasWorked budget on x result }

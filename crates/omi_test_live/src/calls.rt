@@ -1,6 +1,6 @@
 //! Calls of the two top calls over files in memory, and what they leave.
 
-use omi_live_top::live_top;
+use omi_live::live_top;
 use omi_outside::{Call, FreeGate, Gate, MemFiles, MemSink, Status};
 use omi_top::run_top;
 use std::alloc::{AllocError, Global};

@@ -1,7 +1,7 @@
 //! Worked runs of threads.
 
 ghost use Rattle.std.specs.Prelude.{◌≤◌};
-ghost use Rattle.omi_live.specs.declared.limits.TheConstants.{MOST_BUDGET};
+ghost use Rattle.omi_seat.specs.declared.limits.TheConstants.{MOST_BUDGET};
 
 use crate::gates::{Leading, Meeting, Starting};
 use omi_core::{Break, Until};

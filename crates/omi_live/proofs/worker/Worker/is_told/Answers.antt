@@ -3,7 +3,9 @@ use mathlib.Core.Option.{none}
 use Rattle.atomic_table.specs.Table.{Allows, step}
 use Rattle.omi_layout.specs.declared.layout.Layout.{Layout}
 use Rattle.omi_layout.specs.Place.{image_words}
-use Rattle.omi_live.specs.Plays.{Seated, looked}
+use Rattle.omi_seat.specs.Seats.{Seated}
+use Rattle.omi_live.specs.declared.known.Part.{Part}
+use Rattle.omi_live.specs.Plays.{looked}
 use Rattle.omi_live.specs.Running.{Keeps}
 use Rattle.omi_live.proofs.Looked.{look_allowed}
 use Rattle.omi_live.proofs.worker.Worker.is_told.Goals as goal
@@ -18,11 +20,11 @@ load-requires c =
       c.requires.seated,
       omega (arith, count, is),
       subst (λ n. Allows (Keeps key.program.value key.layout.value key.on) c.args.words.now.table_id.slots c.args.self.now.seat.id c.args.self.now.seat.me n (λ found. found) (looked (step 0 0 0 0 none) c.args.self.now.seat.me)) (sym at)
-          (subst (λ (m : Seated). Allows (Keeps key.program.value key.layout.value key.on) c.args.words.now.table_id.slots c.args.self.now.seat.id m (image_words key.layout.value.table) (λ found. found) (looked (step 0 0 0 0 none) m)) (sym alone.1)
+          (subst (λ (m : Seated Part). Allows (Keeps key.program.value key.layout.value key.on) c.args.words.now.table_id.slots c.args.self.now.seat.id m (image_words key.layout.value.table) (λ found. found) (looked (step 0 0 0 0 none) m)) (sym alone.1)
           (look_allowed key.program.value key.layout.value key.on c.args.words.now.table_id.slots c.args.self.now.seat.id alone.0 (step 0 0 0 0 none))),
     )
 
 pub returns-clause-looked : goal.returns-clause-looked
 returns-clause-looked c x is =
-    let here = c.load.ensures.2 x (ap (λ (m : Seated). m.0) is) in
+    let here = c.load.ensures.2 x (ap (λ (m : Seated Part). m.0) is) in
     record { knows = here.0; told = λ told. ap (λ n. n == 1) (here.2 told); able = here.3 }

@@ -5,11 +5,11 @@ use Rattle.omi_layout.specs.Place.{image_words}
 use Rattle.omi_pc.specs.declared.actor.Actor.{Actor}
 use Rattle.omi_rep.specs.declared.outcome.Outcome.{Outcome}
 use Rattle.omi_core.specs.RunSteps.{event_of, seats_of, turn_of}
-use Rattle.omi_live.proofs.Working.{actor_one_more, count_is, entry_known, events_more, made_more, next_is, outcome_is, resumed_is, steps_one_more}
-use Rattle.omi_live.specs.Running.{claims_known, steps_known}
-use Rattle.omi_live.specs.Claims.{claims_at, claims_from}
-use Rattle.omi_live.specs.Plays.{finds}
-use Rattle.omi_live.proofs.Claims.{claims_more, room_less}
+use Rattle.omi_seat.specs.Claims.{claims_at, claims_from}
+use Rattle.omi_seat.specs.Known.{claims_known, entry_known, finds, steps_known}
+use Rattle.omi_seat.proofs.Claims.{claims_more, room_less}
+use Rattle.omi_seat.proofs.Learnt.{actor_one_more, events_more, made_more, steps_one_more}
+use Rattle.omi_live.proofs.Working.{count_is, next_is, outcome_is, resumed_is}
 use Rattle.omi_run_lists.specs.StepRoom.{room_for_steps}
 use Rattle.omi_live.proofs.worker.Worker.step.Goals as goal
 
@@ -45,7 +45,7 @@ list_event-requires-clause-seats c =
     let ready = c.requires.ready in
     let work = ready.1.work in
     let found = c.apply-old.ensures.found ready.0 work.knows in
-    let few : seats_of c.resume-outcome.result ≤ claims_known ready.0 + 1 = subst (λ (o : Outcome). seats_of o ≤ claims_known ready.0 + 1) (sym (outcome_is c.args.p.now c.args.l.now c.args.words.now.table_id ready.0 c.args.self.now work c.apply-old.result c.resume-outcome.result c.resume-outcome.ensures.outcome)) found.seats in
+    let few : seats_of c.resume-outcome.result ≤ claims_known ready.0.known + 1 = subst (λ (o : Outcome). seats_of o ≤ claims_known ready.0.known + 1) (sym (outcome_is c.args.p.now c.args.l.now c.args.words.now.table_id ready.0 c.args.self.now work c.apply-old.result c.resume-outcome.result c.resume-outcome.ensures.outcome)) found.seats in
     let room = ready.1.room.events in
     omega (arith, few, room)
 
@@ -66,31 +66,31 @@ returns-clause-stepped c x work =
         actor =
             c.resume-outcome.ensures.moved
             ∙ ap (λ (z : Actor × Outcome). z.0) (resumed_is c.args.p.now c.args.l.now c.args.words.now.table_id x c.args.self.now work c.apply-old.result)
-            ∙ sym (actor_one_more x c.apply-old.result);
+            ∙ sym (actor_one_more x.known c.apply-old.result);
         made =
             c.push_reserved.ensures.added
             ∙ ap (λ (m : Made). c.args.self.now.made.items ++ m ∷ [])
             (λ k. record { op = op_is k; old = c.apply-old.result; thread = work.thread k; turn = (c.turn_of.ensures ∙ ap turn_of out) k })
-            ∙ made_more x c.apply-old.result c.args.self.now.made.items work.made;
+            ∙ made_more x.known c.apply-old.result c.args.self.now.made.items work.made;
         events =
             c.list_event.ensures.items
             ∙ (λ k. c.args.self.now.events.items ++ event_of (count k + 1) (work.thread k) (out k))
-            ∙ events_more x c.apply-old.result c.args.self.now.events.items work.events;
+            ∙ events_more x.known c.apply-old.result c.args.self.now.events.items work.events;
       };
       came = out;
       room = λ m room.
-          let fits : seats_of c.resume-outcome.result ≤ claims_known x + 1 = subst (λ (o : Outcome). seats_of o ≤ claims_known x + 1) (sym out) found.seats in
+          let fits : seats_of c.resume-outcome.result ≤ claims_known x.known + 1 = subst (λ (o : Outcome). seats_of o ≤ claims_known x.known + 1) (sym out) found.seats in
           let made = room.made in
           let fewer = c.push_reserved.ensures.spare in
-          let claims : claims_at (claims_known x) c.resume-outcome.result ≡ claims_known (finds c.apply-old.result x) =
-          ap (claims_at (claims_known x)) out ∙ sym (claims_more 0 (steps_known x) (entry_known x c.apply-old.result)) ∙ ap (claims_from 0) (sym (steps_one_more x c.apply-old.result)) in
+          let claims : claims_at (claims_known x.known) c.resume-outcome.result ≡ claims_known (finds c.apply-old.result x.known) =
+          ap (claims_at (claims_known x.known)) out ∙ sym (claims_more 0 (steps_known x.known) (entry_known x.known c.apply-old.result)) ∙ ap (claims_from 0) (sym (steps_one_more x.known c.apply-old.result)) in
           record {
             made = omega (arith, made, fewer);
             events = subst (λ n. m ≤ room_for_steps c.list_event.new.events n) claims
-                (room_less m c.args.self.now.events.spare c.args.self.now.events.seats (claims_known x) c.list_event.new.events.spare c.list_event.new.events.seats c.resume-outcome.result
+                (room_less m c.args.self.now.events.spare c.args.self.now.events.seats (claims_known x.known) c.list_event.new.events.spare c.list_event.new.events.seats c.resume-outcome.result
                 fits c.list_event.ensures.spare c.list_event.ensures.seats room.events);
           };
     }
   where
-    op_is : c.next-op.result ≡ (entry_known x c.apply-old.result).op
+    op_is : c.next-op.result ≡ (entry_known x.known c.apply-old.result).op
     op_is = c.next-op.ensures ∙ next_is c.args.p.now c.args.l.now c.args.words.now.table_id x c.args.self.now work

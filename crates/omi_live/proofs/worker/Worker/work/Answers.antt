@@ -6,11 +6,11 @@ use Rattle.omi_live.specs.declared.known.Access.{Access}
 use Rattle.omi_live.specs.declared.known.Access.TheVariants as access
 use Rattle.omi_live.specs.Accesses.{with_looks}
 use Rattle.omi_live.specs.Plays.{looks}
-use Rattle.omi_live.specs.Running.{steps_known}
+use Rattle.omi_seat.specs.Known.{steps_known}
 use Rattle.omi_live.specs.Stops.{ends_at, some_stop}
 use Rattle.omi_live.specs.declared.worker.Worker.{Worker}
 use Rattle.omi_live.proofs.Going.{behind_done, behind_goes, behind_stops, behind_told, less_room, stepped_on, IsWorking, looked_work, may_not_ended, may_went, not_begun, same_room}
-use Rattle.omi_live.proofs.Working.{steps_found}
+use Rattle.omi_seat.proofs.Learnt.{steps_found}
 use Rattle.omi_live.proofs.worker.Worker.work.Goals.{then-stops_at, else-stops_at}
 use Rattle.omi_live.proofs.worker.Worker.work.Goals as goal
 
@@ -22,7 +22,7 @@ returns-then-is_told-clause-worked g c =
     let now = c.loop-step.invariant in
     let looked = c.is_told.ensures.looked now.part now.work.knows in
     let below = c.loop-step-test.true in
-    let count : length (steps_known now.part) ≡ c.loop-step.step = steps_found now.part ∙ now.count in (
+    let count : length (steps_known now.part.known) ≡ c.loop-step.step = steps_found now.part.known ∙ now.count in (
       looks c.is_told.result now.part,
       looked_work c.args.p.now c.args.l.now c.args.words.now.table_id now.part c.is_told.result c.loop-step.self c.is_told.new.self now.work looked c.is_told.ensures.same,
       record {
@@ -32,7 +32,7 @@ returns-then-is_told-clause-worked g c =
         stopped = λ is. ap (λ (b : Bool). now.part.told || b) c.if-is_told.true ∙ was now.part.told;
         did =
             ap (λ (ys : List Access). ys ++ access.Look c.is_told.result ∷ []) now.did
-            ∙ ap (λ (b : Bool). with_looks c.args.on (steps_known now.part) ++ access.Look b ∷ []) c.if-is_told.true;
+            ∙ ap (λ (b : Bool). with_looks c.args.on (steps_known now.part.known) ++ access.Look b ∷ []) c.if-is_told.true;
       },
     )
   where
@@ -80,7 +80,7 @@ tell-requires-clause-stops g c =
     now (c.is_told.ensures.looked now.part now.work.knows) c.is_told.ensures.same c.if-is_told.false c.loop-step-test.true c.step-outcome.ensures.stepped c.step-outcome.ensures.thread in (
       b.part,
       b.work.knows,
-      ap (λ (on : Option Break). some_stop on (steps_known b.part)) c.requires.table.stops
+      ap (λ (on : Option Break). some_stop on (steps_known b.part.known)) c.requires.table.stops
           ∙ behind_stops c.args.p.now c.args.l.now c.args.words.now.table_id c.args.on c.args.budget c.loop-step.step c.args.self.now.thread c.step-outcome.new.self c.step-outcome.result (sym c.stops_at.ensures ∙ c.if-stops_at.true) b,
     )
 
@@ -105,7 +105,7 @@ returns-clause-worked g c =
     let now = c.loop-step.invariant in
     let end = c.loop-step-test.false in
     let most = c.loop-step.auto.step-end in
-    let count : length (steps_known now.part) ≡ c.loop-step.step = steps_found now.part ∙ now.count in (
+    let count : length (steps_known now.part.known) ≡ c.loop-step.step = steps_found now.part.known ∙ now.count in (
       now.part,
       now.work,
       record {
@@ -113,6 +113,6 @@ returns-clause-worked g c =
         most = omega (arith, count, end, most);
         went_on = may_went c.args.on now.part now.goes;
         stopped = λ is. absurd (grind (arith, is));
-        did = now.did ∙ sym (append-nil (with_looks c.args.on (steps_known now.part)));
+        did = now.did ∙ sym (append-nil (with_looks c.args.on (steps_known now.part.known)));
       },
     )

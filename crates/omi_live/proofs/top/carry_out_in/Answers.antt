@@ -1,0 +1,49 @@
+use Rattle.std.proofs.Common.{inl, inr, refl}
+use Rattle.omi_outside.specs.declared.status.Status.TheVariants as status
+use Rattle.omi_verbs.proofs.Elsewhere.{never_printing, of_read, of_write, unsaid}
+use Rattle.omi_live.specs.Asked.{asked}
+use Rattle.omi_live.proofs.Left.{ok_left, err_left}
+use Rattle.omi_live.proofs.Performing.{printing_writes, run_not_of_core, run_not_usage}
+use Rattle.omi_live.proofs.top.carry_out_in.Goals as goal
+
+pub returns-in-Ok : goal.returns-in-Ok
+returns-in-Ok g c =
+    let printed = c.print.ensures.status in
+    record {
+      of_core = c.print.ensures.not_of_core;
+      usage = never_printing c.print.result status.Usage printed refl;
+      read_fault = λ is. absurd (never_printing c.print.result status.ReadFault printed refl is);
+      write_fault = λ is. inr (c.print.ensures.cause.failed is);
+      out_of_memory = λ is. inr (c.print.ensures.want.failed is);
+      left =
+          λ content told.
+          ok_left (asked c.args.request) _ _ _ (g.K.Sink.told c.args.out.now) (g.K.Sink.told c.print.new.out) content c.in-Ok.text c.print.result
+          (c.in-Ok.ensures.answer content told) printed (λ done. rw (← c.deref.ensures.value) (c.print.ensures.success done)) (rw (← c.deref.ensures.value) c.print.ensures.cut);
+      unwritten = λ is. absurd (printing_writes c.print.result printed is);
+      others = c.in-Ok.ensures.others;
+      reads = c.in-Ok.ensures.read.later;
+      writes = c.in-Ok.ensures.write.later;
+      faults = c.print.ensures.cause.later;
+      wants = c.print.ensures.want.later;
+    }
+
+pub returns-in-Err : goal.returns-in-Err
+returns-in-Err g c =
+    rw c.refuse.ensures.status
+    (record {
+      of_core = run_not_of_core c.in-Err.refusal c.in-Err.ensures.kind;
+      usage = run_not_usage c.in-Err.refusal c.in-Err.ensures.kind;
+      read_fault = λ is. c.in-Err.ensures.read.failed (of_read c.in-Err.refusal is);
+      write_fault = λ is. inl (c.in-Err.ensures.write.failed (of_write c.in-Err.refusal is));
+      out_of_memory = λ is. inl (unsaid _ _ c.in-Err.refusal _ (g.K.Sink.told c.args.out.now) (g.K.Sink.told c.refuse.new.out) c.refuse.ensures.line is);
+      left =
+          λ content told.
+          err_left (asked c.args.request) _ _ _ (g.K.Sink.told c.args.out.now) (g.K.Sink.told c.refuse.new.out) content c.in-Err.refusal
+          (c.in-Err.ensures.answer content told) c.refuse.ensures.line;
+      unwritten = c.in-Err.ensures.unwritten;
+      others = c.in-Err.ensures.others;
+      reads = c.in-Err.ensures.read.later;
+      writes = c.in-Err.ensures.write.later;
+      faults = c.refuse.ensures.faults;
+      wants = c.refuse.ensures.wants;
+    })

@@ -1,3 +1,0 @@
-pub mod RunLines
-pub mod Performing
-pub mod Left

@@ -1,0 +1,7 @@
+-- In reading order: what is known of a thread by its steps, and the claims among these.
+pub mod Claims
+pub mod Known
+-- Seats, each of which stands for threads
+pub mod Seats
+-- The run behind the words of a table, and the next step of a thread of it
+pub mod Behind
