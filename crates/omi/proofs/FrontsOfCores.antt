@@ -29,11 +29,13 @@ front_core bytes c is = go (nat_le (length bytes) CORE_FRONT) refl
     go true e = sym (take_all CORE_FRONT bytes (leb-true (length bytes) CORE_FRONT e)) ∙ is
     go false e =
         let long : CORE_FRONT < length bytes = leb-false (length bytes) CORE_FRONT e in
-        let front : length (take CORE_FRONT bytes) ≡ CORE_FRONT = length-take-le CORE_FRONT bytes (omega arith) in
+        let front : length (take CORE_FRONT bytes) ≡ CORE_FRONT =
+        length-take-le CORE_FRONT bytes (omega arith) in
         let short = core_short (take CORE_FRONT bytes) c is in
         absurd (omega (arith, front, short))
 
-front_opened : {F : Type 0} (bytes : List ℕ) (o : OpenCore F) → IsOpenedFrom (take CORE_FRONT bytes) o → IsOpenedFrom bytes o
+front_opened : {F : Type 0} (bytes : List ℕ) (o : OpenCore F) → IsOpenedFrom (take CORE_FRONT bytes) o
+    → IsOpenedFrom bytes o
 front_opened bytes o is = record {
   core = is.core;
   spelled = front_core bytes is.core is.spelled;
@@ -51,12 +53,16 @@ front_refused bytes (error.NoTarget rc) (core, spelled, is) = (core, front_core 
 front_refused bytes error.OutOfMemory is = is
 
 -- what a file that holds these bytes is opened as, by what its front is
-module _ {F : Type 0} (content : Option (List ℕ)) (bytes front : List ℕ) (same : content ≡ Some bytes) (is : front ≡ take CORE_FRONT bytes) where
-  pub file_opened : (r : Result (OpenCore F) OpenError) → IfOk r (IsOpenedFrom front) → IfOk r (IsOpened content)
-  file_opened (Ok o) opened = (bytes, same, front_opened bytes o (subst (λ (xs : List ℕ). IsOpenedFrom xs o) is opened))
+module _ {F : Type 0} (content : Option (List ℕ)) (bytes front : List ℕ) (same : content ≡ Some bytes)
+    (is : front ≡ take CORE_FRONT bytes) where
+  pub file_opened : (r : Result (OpenCore F) OpenError) → IfOk r (IsOpenedFrom front)
+      → IfOk r (IsOpened content)
+  file_opened (Ok o) opened =
+      (bytes, same, front_opened bytes o (subst (λ (xs : List ℕ). IsOpenedFrom xs o) is opened))
   file_opened (Err e) opened = opened
 
-  pub file_refused : (r : Result (OpenCore F) OpenError) → IfErr r (IsNoCore front) → IfErr r (IsNotOpened content)
+  pub file_refused : (r : Result (OpenCore F) OpenError) → IfErr r (IsNoCore front)
+      → IfErr r (IsNotOpened content)
   file_refused (Ok o) refused = refused
   file_refused (Err e) refused = go e (subst (λ (xs : List ℕ). IsNoCore xs e) is refused)
     where

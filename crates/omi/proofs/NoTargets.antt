@@ -27,7 +27,8 @@ no_target core told rc is words known =
     words (words_of_core core) (tells_core core told is) (ap (λ (t : Told). t.sizes) is) known
 
 -- the core is the one that the bytes spell
-pub no_core : (bytes : List ℕ) (core : CoreImage) (e : OpenError) → Core bytes core → IsNoTarget core e → IsNoCore bytes e
+pub no_core : (bytes : List ℕ) (core : CoreImage) (e : OpenError) → Core bytes core → IsNoTarget core e
+    → IsNoCore bytes e
 no_core bytes core error.NoFile spelled is = absurd is
 no_core bytes core error.NotRead spelled is = absurd is
 no_core bytes core (error.NoCore at why) spelled is = absurd is

@@ -16,31 +16,39 @@ use Rattle.omi_asktask.specs.Tasks.{generating_task, scheduling_task}
 use Rattle.omi_asktask.specs.TaskWords.{function, frames}
 use Rattle.omi_asktask.specs.FramesOf.{frames_of_task}
 
-module _ (told : Told) (w : List ℕ) (s : State) (shown : ShowsTold told w s) (found : Option Held) (t : HoldsTask w s found) where
+module _ (told : Told) (w : List ℕ) (s : State) (shown : ShowsTold told w s) (found : Option Held)
+    (t : HoldsTask w s found) where
   pub generating_told : answer_on shown.memory (generating_task w found) ≡ as_held (held_task w) (answer.generating_task t.seen.task)
   unfolding generating_task
   generating_told =
-      then_answered shown.memory (object_of w Task found) _ (held_task w t.name) (task_object told w s shown found t)
+      then_answered shown.memory (object_of w Task found) _ (held_task w t.name)
+      (task_object told w s shown found t)
       ∙ some_task told w s shown (task_address w t.name) TaskGenerating t.seen.task.generating
-      (shown.shows.within.well_formed.tasks t.name t.seen).generating (shown.shows.records.tasks t.name t.seen TaskGenerating 0 _ refl refl)
+      (shown.shows.within.well_formed.tasks t.name t.seen).generating
+      (shown.shows.records.tasks t.name t.seen TaskGenerating 0 _ refl refl)
 
   pub scheduling_told : answer_on shown.memory (scheduling_task w found) ≡ as_held (held_task w) (answer.scheduling_task t.seen.task)
   unfolding scheduling_task
   scheduling_told =
-      then_answered shown.memory (object_of w Task found) _ (held_task w t.name) (task_object told w s shown found t)
+      then_answered shown.memory (object_of w Task found) _ (held_task w t.name)
+      (task_object told w s shown found t)
       ∙ some_task told w s shown (task_address w t.name) TaskScheduling t.seen.task.scheduling
-      (shown.shows.within.well_formed.tasks t.name t.seen).scheduling (shown.shows.records.tasks t.name t.seen TaskScheduling 0 _ refl refl)
+      (shown.shows.within.well_formed.tasks t.name t.seen).scheduling
+      (shown.shows.records.tasks t.name t.seen TaskScheduling 0 _ refl refl)
 
   pub function_told : answer_on shown.memory (function w found) ≡ answer.function_of_task t.seen.task
   unfolding function
   function_told =
-      then_answered shown.memory (object_of w Task found) _ (held_task w t.name) (task_object told w s shown found t)
-      ∙ word_told w shown.memory (task_address w t.name) TaskFunction 0 _ (shown.shows.records.tasks t.name t.seen TaskFunction 0 _ refl refl)
+      then_answered shown.memory (object_of w Task found) _ (held_task w t.name)
+      (task_object told w s shown found t)
+      ∙ word_told w shown.memory (task_address w t.name) TaskFunction 0 _
+      (shown.shows.records.tasks t.name t.seen TaskFunction 0 _ refl refl)
 
   pub frames_told : answer_on shown.memory (frames w found) ≡ frames_of_task t.seen.task
   unfolding frames
   frames_told =
-      then_answered shown.memory (object_of w Task found) _ (held_task w t.name) (task_object told w s shown found t)
+      then_answered shown.memory (object_of w Task found) _ (held_task w t.name)
+      (task_object told w s shown found t)
       ∙ then_answered shown.memory (word_of w (task_address w t.name) TaskExit 0) _ t.seen.task.exit
       (word_told w shown.memory (task_address w t.name) TaskExit 0 t.seen.task.exit (shown.shows.records.tasks t.name t.seen TaskExit 0 _ refl refl))
       ∙ then_answered shown.memory (word_of w (task_address w t.name) TaskEnter 0) _ t.seen.task.enter

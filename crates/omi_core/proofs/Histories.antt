@@ -27,11 +27,14 @@ module _ (a : Run) (k : KeepsRun a) where
   wide f = grind (arith, nat_tests, some_threads a.table k.valid)
 
   -- the first word of a field of a region's record stands in the words
-  stands : (n : Rid) (seen : IsVisibleRegion k.state n) (f : Field) (x : ℕ) → kind_of (number f) ≡ regions → memory_of a.table a.words n.0.creator (kind_of (number f)) n.0.slot (number f) 0 ≡ x
+  stands : (n : Rid) (seen : IsVisibleRegion k.state n) (f : Field) (x : ℕ) → kind_of (number f) ≡ regions
+      → memory_of a.table a.words n.0.creator (kind_of (number f)) n.0.slot (number f) 0 ≡ x
       → Stands (records_of a.table (words_of a.words) n.0.creator (kind_of (number f)) n.0.slot) f 0 x
   unfolding word_address
   stands n seen f x kind is =
-      let there = region_there a.program a.table (memory_of a.table a.words) (events_in a.events.items) k.state (actors_in a.actors) k.rule n seen.region seen.live in
+      let there =
+      region_there a.program a.table (memory_of a.table a.words) (events_in a.events.items) k.state
+      (actors_in a.actors) k.rule n seen.region seen.live in
       let count = k.count in
       mapped a.table k.valid a.words n.0.creator n.0.slot (number f) 0 (omega (arith, count))
       (record { field = numbered_field f; record_slot = subst (λ q. IsSlot a.table q n.0.creator n.0.slot) (sym kind) there; within = wide (number f) })
@@ -40,8 +43,11 @@ module _ (a : Run) (k : KeepsRun a) where
   -- the words count the arrivals and releases of the state
   pub counted : Counts a.table a.words k.state
   counted n seen =
-      let kept = region_kept a.program a.table (memory_of a.table a.words) (events_in a.events.items) k.state (actors_in a.actors) k.rule n seen.region seen.live in
+      let kept =
+      region_kept a.program a.table (memory_of a.table a.words) (events_in a.events.items) k.state
+      (actors_in a.actors) k.rule n seen.region seen.live in
       (stands n seen RegionArrived _ refl (kept.codes RegionArrived 0 _ refl), stands n seen RegionReleased _ refl (kept.codes RegionReleased 0 _ refl))
 
   pub history : HasHistory a
-  history = (k.entries, k.state, record { made_by = k.made_by; follow = λ i. (k.behind i).follow; tables = k.tables; reached = k.rule.reached; shows = shows_state a k k.state k.rule.reached; counts = counted })
+  history =
+      (k.entries, k.state, record { made_by = k.made_by; follow = λ i. (k.behind i).follow; tables = k.tables; reached = k.rule.reached; shows = shows_state a k k.state k.rule.reached; counts = counted })

@@ -50,13 +50,18 @@ commits_behind n (x ∷ xs) =
 
 -- ---- one step more
 
-pub events_one_more : (n : ℕ) (xs : List (ℕ × Entry)) (i : ℕ) (e : Entry) → events_behind n (xs ++ (i, e) ∷ []) ≡ events_behind n xs ++ event_of (n + length xs + 1) i e.outcome
-events_one_more n [] i e = append-nil (event_of (n + 1) i e.outcome) ∙ ap (λ k. event_of k i e.outcome) (omega arith)
+pub events_one_more : (n : ℕ) (xs : List (ℕ × Entry)) (i : ℕ) (e : Entry)
+    → events_behind n (xs ++ (i, e) ∷ []) ≡ events_behind n xs ++ event_of (n + length xs + 1) i e.outcome
+events_one_more n [] i e =
+    append-nil (event_of (n + 1) i e.outcome) ∙ ap (λ k. event_of k i e.outcome) (omega arith)
 events_one_more n (x ∷ xs) i e =
-    ap (λ ys. event_of (n + 1) x.0 x.1.outcome ++ ys) (events_one_more (n + 1) xs i e ∙ ap (λ k. events_behind (n + 1) xs ++ event_of k i e.outcome) (omega arith))
-    ∙ sym (append_assoc (event_of (n + 1) x.0 x.1.outcome) (events_behind (n + 1) xs) (event_of (n + length (x ∷ xs) + 1) i e.outcome))
+    ap (λ ys. event_of (n + 1) x.0 x.1.outcome ++ ys)
+    (events_one_more (n + 1) xs i e ∙ ap (λ k. events_behind (n + 1) xs ++ event_of k i e.outcome) (omega arith))
+    ∙ sym
+    (append_assoc (event_of (n + 1) x.0 x.1.outcome) (events_behind (n + 1) xs) (event_of (n + length (x ∷ xs) + 1) i e.outcome))
 
-pub made_one_more : (xs : List (ℕ × Entry)) (i : ℕ) (e : Entry) → made_of_steps (xs ++ (i, e) ∷ []) ≡ made_of_steps xs ++ made_of i e ∷ []
+pub made_one_more : (xs : List (ℕ × Entry)) (i : ℕ) (e : Entry)
+    → made_of_steps (xs ++ (i, e) ∷ []) ≡ made_of_steps xs ++ made_of i e ∷ []
 made_one_more [] i e = refl
 made_one_more (x ∷ xs) i e = ap (λ (ys : List Made). made_of x.0 x.1 ∷ ys) (made_one_more xs i e)
 
@@ -66,7 +71,8 @@ made_length (x ∷ xs) = ap suc (made_length xs)
 
 pub steps_one_more : (p : Program) (w words : List ℕ) (past : List (ℕ × Event)) (s : State) (watches : Watches) (xs : List (ℕ × Entry)) (last : List ℕ) (t : State) (later : Watches) (i : ℕ) (e : Entry) (next : State) (watch : Watch)
     → Steps p w words past s watches xs last t later → IsStepFrom p w last (past ++ commits_of xs) t i e next → IsWatched p w last t i e (later i) watch
-    → Steps p w words past s watches (xs ++ (i, e) ∷ []) (words_after last e.op) next (replace_at later i watch)
+    → Steps p w words past s watches (xs ++ (i, e) ∷ []) (words_after last e.op) next
+    (replace_at later i watch)
 steps_one_more p w words past s watches [] last t later i e next watch (same, is, kept) step seen = (
   next,
   watch,
@@ -79,13 +85,15 @@ steps_one_more p w words past s watches (x ∷ xs) last t later i e next watch (
   h,
   one,
   first,
-  steps_one_more p w (words_after words x.1.op) (past ++ committed x.0 x.1.outcome) n (replace_at watches x.0 h) xs last t later i e next watch rest
+  steps_one_more p w (words_after words x.1.op) (past ++ committed x.0 x.1.outcome) n
+      (replace_at watches x.0 h) xs last t later i e next watch rest
       (subst (λ es. IsStepFrom p w last es t i e next) (sym (append_assoc past (committed x.0 x.1.outcome) (commits_of xs))) step) seen,
 )
 
 -- ---- the steps of one thread
 
-pub own_one_more : (j : ℕ) (xs : List (ℕ × Entry)) (e : Entry) → steps_of j (xs ++ (j, e) ∷ []) ≡ steps_of j xs ++ e ∷ []
+pub own_one_more : (j : ℕ) (xs : List (ℕ × Entry)) (e : Entry)
+    → steps_of j (xs ++ (j, e) ∷ []) ≡ steps_of j xs ++ e ∷ []
 own_one_more j [] e = by (j == j) refl
   where
     by : (b : Bool) → j == j ≡ b → (if b then e ∷ [] else []) ≡ e ∷ []
@@ -98,7 +106,8 @@ own_one_more j (x ∷ xs) e = by (own_one_more j xs e) (x.0 == j)
     by rest true = ap (λ (ys : List Entry). x.1 ∷ ys) rest
     by rest false = rest
 
-pub other_one_more : (j i : ℕ) (xs : List (ℕ × Entry)) (e : Entry) → i ≢ j → steps_of j (xs ++ (i, e) ∷ []) ≡ steps_of j xs
+pub other_one_more : (j i : ℕ) (xs : List (ℕ × Entry)) (e : Entry) → i ≢ j
+    → steps_of j (xs ++ (i, e) ∷ []) ≡ steps_of j xs
 other_one_more j i [] e other = by (i == j) refl
   where
     by : (b : Bool) → i == j ≡ b → (if b then e ∷ [] else []) ≡ []
@@ -112,10 +121,16 @@ other_one_more j i (x ∷ xs) e other = by (other_one_more j i xs e other) (x.0 
     by rest false = rest
 
 -- a worker makes its next step
-pub goes_under_way : (p : Program) (w : List ℕ) (a : Actor) (es : List Entry) (e : Entry) → IsUnderWay es a.counter → e.outcome ≡ (resumed_at p w a a.counter e.old).1 → IsUnderWay (es ++ e ∷ []) (resumed_at p w a a.counter e.old).0.counter
+pub goes_under_way : (p : Program) (w : List ℕ) (a : Actor) (es : List Entry) (e : Entry)
+    → IsUnderWay es a.counter → e.outcome ≡ (resumed_at p w a a.counter e.old).1
+    → IsUnderWay (es ++ e ∷ []) (resumed_at p w a a.counter e.old).0.counter
 goes_under_way p w a [] e at out =
-    subst (λ (c : Counter). e.outcome ≡ (resumed_at p w a c e.old).1 → StartsAsWorker (e ∷ []) × ((resumed_at p w a c e.old).0.counter ≡ counter.Worker worker.Offer)) (sym at) (λ is. (is, refl)) out
-goes_under_way p w a (f ∷ []) e (first, at) out = subst (λ (c : Counter). e.outcome ≡ (resumed_at p w a c e.old).1 → StartsAsWorker (f ∷ e ∷ [])) (sym at) (λ is. (first, is)) out
+    subst
+    (λ (c : Counter). e.outcome ≡ (resumed_at p w a c e.old).1 → StartsAsWorker (e ∷ []) × ((resumed_at p w a c e.old).0.counter ≡ counter.Worker worker.Offer))
+    (sym at) (λ is. (is, refl)) out
+goes_under_way p w a (f ∷ []) e (first, at) out =
+    subst (λ (c : Counter). e.outcome ≡ (resumed_at p w a c e.old).1 → StartsAsWorker (f ∷ e ∷ [])) (sym at)
+    (λ is. (first, is)) out
 goes_under_way p w a (f ∷ g ∷ es) e starts out = starts
 
 pub starts_right : (es : List Entry) (c : Counter) → IsUnderWay es c → StartsAsWorker es

@@ -96,16 +96,24 @@ either false x y one other = other
 
 -- ---- the families
 
-kept_worker : (p : Program) (w : List ℕ) (a : Actor) (c : WorkerCounter) (old : ℕ) → IsKept a.counter → IsKept (worker_moved p w a c old).counter
-kept_worker p w a worker.LoadAssign old kept_now = either (old == 0) a (to_worker (worker.ClearAssign (task_place w old)) a) kept_now tt
-kept_worker p w a (worker.ImplicitBegin t f r size n) old kept_now = kept_working p (begun_worker f (member_context t r size n) a) kept_now
+kept_worker : (p : Program) (w : List ℕ) (a : Actor) (c : WorkerCounter) (old : ℕ) → IsKept a.counter
+    → IsKept (worker_moved p w a c old).counter
+kept_worker p w a worker.LoadAssign old kept_now =
+    either (old == 0) a (to_worker (worker.ClearAssign (task_place w old)) a) kept_now tt
+kept_worker p w a (worker.ImplicitBegin t f r size n) old kept_now =
+    kept_working p (begun_worker f (member_context t r size n) a) kept_now
 kept_worker p w a c old kept_now = tt
 
-kept_assigning : (p : Program) (member : ℕ) (a : Actor) → IsKept a.counter → IsKept (assigning_from p member a).counter
-kept_assigning p member a kept_now = either (nat_lt member (team_size a)) (to_team (team.Assign member) a) (back_to_work p a) tt (kept_working p a kept_now)
+kept_assigning : (p : Program) (member : ℕ) (a : Actor) → IsKept a.counter
+    → IsKept (assigning_from p member a).counter
+kept_assigning p member a kept_now =
+    either (nat_lt member (team_size a)) (to_team (team.Assign member) a) (back_to_work p a) tt
+    (kept_working p a kept_now)
 
-kept_team : (p : Program) (w : List ℕ) (a : Actor) (c : TeamCounter) (old : ℕ) → IsKept a.counter → IsKept (team_moved p w a c old).counter
-kept_team p w a (team.Fork r) old kept_now = kept_assigning p 1 (begun_master (region_function p a) (master_context a r) a) kept_now
+kept_team : (p : Program) (w : List ℕ) (a : Actor) (c : TeamCounter) (old : ℕ) → IsKept a.counter
+    → IsKept (team_moved p w a c old).counter
+kept_team p w a (team.Fork r) old kept_now =
+    kept_assigning p 1 (begun_master (region_function p a) (master_context a r) a) kept_now
 kept_team p w a (team.Assign member) old kept_now = kept_assigning p (member + 1) a kept_now
 kept_team p w a c old kept_now = tt
 
@@ -126,16 +134,22 @@ kept_passed p Implicit a kept_now = go a.stack
     go [] = kept_now
     go (f ∷ fs) = kept_member_end f.opened a.counter kept_now
 
-kept_barrier : (p : Program) (a : Actor) (c : BarrierCounter) (old : ℕ) → IsKept a.counter → IsKept (barrier_moved p a c old).counter
+kept_barrier : (p : Program) (a : Actor) (c : BarrierCounter) (old : ℕ) → IsKept a.counter
+    → IsKept (barrier_moved p a c old).counter
 kept_barrier p a (barrier.State b) old kept_now = tt
 kept_barrier p a (barrier.Arrive b) old kept_now = tt
-kept_barrier p a (barrier.LoadArrived b) old kept_now = either (some_missing a old) (looking b a) (to_barrier (barrier.LoadPending b) a) tt tt
-kept_barrier p a (barrier.LoadPending b) old kept_now = either (old == 0) (to_barrier (barrier.Release b) a) (looking b a) tt tt
+kept_barrier p a (barrier.LoadArrived b) old kept_now =
+    either (some_missing a old) (looking b a) (to_barrier (barrier.LoadPending b) a) tt tt
+kept_barrier p a (barrier.LoadPending b) old kept_now =
+    either (old == 0) (to_barrier (barrier.Release b) a) (looking b a) tt tt
 kept_barrier p a (barrier.Release b) old kept_now = tt
-kept_barrier p a (barrier.LoadReleased b) old kept_now = either (is_closed a old) (looking b a) (passed p b a) tt (kept_passed p b a kept_now)
+kept_barrier p a (barrier.LoadReleased b) old kept_now =
+    either (is_closed a old) (looking b a) (passed p b a) tt (kept_passed p b a kept_now)
 
-kept_join : (p : Program) (w : List ℕ) (a : Actor) (c : JoinCounter) (old : ℕ) → IsJoinKept c → IsKept a.counter → IsKept (join_moved p w a c old).counter
-kept_join p w a join.LoadLeft old kept kept_now = either (some_inside a old) a (to_join join.Join a) kept_now tt
+kept_join : (p : Program) (w : List ℕ) (a : Actor) (c : JoinCounter) (old : ℕ) → IsJoinKept c
+    → IsKept a.counter → IsKept (join_moved p w a c old).counter
+kept_join p w a join.LoadLeft old kept kept_now =
+    either (some_inside a old) a (to_join join.Join a) kept_now tt
 kept_join p w a join.Join old kept kept_now = kept_working p (closed a) (kept_closed a kept_now)
 kept_join p w a (join.LoadMember r size member) old kept kept_now = absurd kept
 kept_join p w a (join.LoadLife r size member t) old kept kept_now = absurd kept
@@ -161,18 +175,29 @@ kept_body p (wait.Barrier b) a kept_now = kept_working p a kept_now
 kept_body p wait.Taskwait a kept_now = kept_working p a kept_now
 kept_body p wait.Taskyield a kept_now = kept_settled p a kept_now
 
-kept_look : (p : Program) (w : List ℕ) (a : Actor) (c : LookCounter) (old : ℕ) → IsKept a.counter → IsKept (look_moved p w a c old).counter
-kept_look p w a (look.LoadSlot v n row) old kept_now = either (old == 0) (looking_on v n row a) (to_look (behind_code v n row old) a) (kept_next_look a v (n + 1) row) tt
-kept_look p w a (look.LoadGenerating v n row code) old kept_now = either (old == task_address w a.context.task) (to_look (look.Take v n row code) a) (looking_on v n row a) tt (kept_next_look a v (n + 1) row)
-kept_look p w a (look.Take v n row code) old kept_now = either (old == code) (to_look (look.LoadFunction v n code (coded_task w code)) a) (looking_on v n row a) tt (kept_next_look a v (n + 1) row)
-kept_look p w a (look.Start v n code t f final) old kept_now = kept_body p v (begun_explicit f (Some v) (task_context a t final) a) kept_now
-kept_look p w a look.LoadChildren old kept_now = either (old == 0) (back_to_work p a) (to_look (look.LoadRow wait.Taskwait 0) a) (kept_working p a kept_now) tt
+kept_look : (p : Program) (w : List ℕ) (a : Actor) (c : LookCounter) (old : ℕ) → IsKept a.counter
+    → IsKept (look_moved p w a c old).counter
+kept_look p w a (look.LoadSlot v n row) old kept_now =
+    either (old == 0) (looking_on v n row a) (to_look (behind_code v n row old) a)
+    (kept_next_look a v (n + 1) row) tt
+kept_look p w a (look.LoadGenerating v n row code) old kept_now =
+    either (old == task_address w a.context.task) (to_look (look.Take v n row code) a)
+    (looking_on v n row a) tt (kept_next_look a v (n + 1) row)
+kept_look p w a (look.Take v n row code) old kept_now =
+    either (old == code) (to_look (look.LoadFunction v n code (coded_task w code)) a)
+    (looking_on v n row a) tt (kept_next_look a v (n + 1) row)
+kept_look p w a (look.Start v n code t f final) old kept_now =
+    kept_body p v (begun_explicit f (Some v) (task_context a t final) a) kept_now
+kept_look p w a look.LoadChildren old kept_now =
+    either (old == 0) (back_to_work p a) (to_look (look.LoadRow wait.Taskwait 0) a)
+    (kept_working p a kept_now) tt
 kept_look p w a c old kept_now = tt
 
 kept_slot : (place old : ℕ) → IsTaskKept (behind_slot place old)
 kept_slot place old = go (old == 0) (nat_lt (place + 1) OWN_SLOTS)
   where
-    go : (b c : Bool) → IsTaskKept (if b then task.LoadVariable (Some place) 0 else (if c then task.LoadSlot (place + 1) else task.LoadVariable None 0))
+    go : (b c : Bool)
+        → IsTaskKept (if b then task.LoadVariable (Some place) 0 else (if c then task.LoadSlot (place + 1) else task.LoadVariable None 0))
     go true c = tt
     go false true = tt
     go false false = tt
@@ -184,10 +209,12 @@ kept_variable place word = go (nat_lt (word + 1) VARIABLE_WORDS)
     go true = tt
     go false = tt
 
-kept_life : (w : List ℕ) (a : Actor) (place : Option ℕ) (slot old : ℕ) → IsTaskKept (behind_life w a place slot old)
+kept_life : (w : List ℕ) (a : Actor) (place : Option ℕ) (slot old : ℕ)
+    → IsTaskKept (behind_life w a place slot old)
 kept_life w a place slot old = go (is_free old)
   where
-    go : (b : Bool) → IsTaskKept (if b then task.Take place (record { 0 = object_in (own_place a slot) old }) else task.LoadLife place (next_slot w tasks slot))
+    go : (b : Bool)
+        → IsTaskKept (if b then task.Take place (record { 0 = object_in (own_place a slot) old }) else task.LoadLife place (next_slot w tasks slot))
     go true = tt
     go false = tt
 
@@ -202,7 +229,8 @@ kept_raises : (place : Option ℕ) (t : Tid) → IsTaskKept (behind_raises place
 kept_raises None t = tt
 kept_raises (Some place) t = tt
 
-kept_making : (p : Program) (w : List ℕ) (a : Actor) (c : TaskCounter) (old : ℕ) → IsTaskKept c → IsKept a.counter → IsKept (making_moved p w a c old).counter
+kept_making : (p : Program) (w : List ℕ) (a : Actor) (c : TaskCounter) (old : ℕ) → IsTaskKept c
+    → IsKept a.counter → IsKept (making_moved p w a c old).counter
 kept_making p w a (task.LoadSlot place) old kept kept_now = kept_slot place old
 kept_making p w a (task.LoadVariable place word) old kept kept_now = kept_variable place word
 kept_making p w a (task.LoadLife place slot) old kept kept_now = kept_life w a place slot old
@@ -212,7 +240,8 @@ kept_making p w a (task.AddPending place t) old kept kept_now = tt
 kept_making p w a (task.AddChildren place t) old kept kept_now = kept_raises place t
 kept_making p w a (task.AddReferences place t) old kept kept_now = absurd kept
 kept_making p w a (task.Defer place t) old kept kept_now = tt
-kept_making p w a (task.StartNow t) old kept kept_now = kept_settled p (begun_explicit (made_function p a) None (task_context a t (makes_final p a)) a) kept_now
+kept_making p w a (task.StartNow t) old kept kept_now =
+    kept_settled p (begun_explicit (made_function p a) None (task_context a t (makes_final p a)) a) kept_now
 
 kept_behind_finish : (p : Program) (v : Option Wait) → IsKept (behind_finish p v)
 kept_behind_finish p None = tt
@@ -220,7 +249,8 @@ kept_behind_finish p (Some wait.Taskyield) = tt
 kept_behind_finish p (Some wait.Taskwait) = tt
 kept_behind_finish p (Some (wait.Barrier b)) = tt
 
-kept_finish : (p : Program) (w : List ℕ) (a : Actor) (c : FinishCounter) (old : ℕ) → IsFinishKept c → IsKept (finish_moved p w a c old).counter
+kept_finish : (p : Program) (w : List ℕ) (a : Actor) (c : FinishCounter) (old : ℕ) → IsFinishKept c
+    → IsKept (finish_moved p w a c old).counter
 kept_finish p w a finish.Finish old kept = tt
 kept_finish p w a (finish.LoadGenerating v t) old kept = tt
 kept_finish p w a (finish.SubtractChildren v t generating) old kept = tt
@@ -249,12 +279,14 @@ kept_enter debug final (Some stmt.Barrier) = tt
 kept_enter debug final (Some (stmt.Critical k f)) = tt
 kept_enter debug final (Some s) = tt
 
-kept_left : (p : Program) (s : Option Stmt) (a : Actor) → IsKept a.counter → IsKept (left_behind p s a).counter
+kept_left : (p : Program) (s : Option Stmt) (a : Actor) → IsKept a.counter
+    → IsKept (left_behind p s a).counter
 kept_left p None a kept_now = kept_settled p a kept_now
 kept_left p (Some (stmt.Critical k f)) a kept_now = tt
 kept_left p (Some s) a kept_now = kept_settled p a kept_now
 
-kept_plain : (p : Program) (a : Actor) (c : PlainCounter) (old : ℕ) → IsKept a.counter → IsKept (plain_moved p a c old).counter
+kept_plain : (p : Program) (a : Actor) (c : PlainCounter) (old : ℕ) → IsKept a.counter
+    → IsKept (plain_moved p a c old).counter
 kept_plain p a plain.Work old kept_now = kept_settled p a kept_now
 kept_plain p a plain.Call old kept_now = kept_settled p a kept_now
 kept_plain p a plain.Skip old kept_now = kept_settled p a kept_now
@@ -265,14 +297,16 @@ kept_plain p a plain.Enter old kept_now = kept_enter p.env.debug a.context.is_fi
 kept_plain p a plain.Leave old kept_now = kept_left p (in_work p a) a kept_now
 kept_plain p a plain.WorkState old kept_now = kept_worked p a kept_now
 kept_plain p a plain.LockState old kept_now = tt
-kept_plain p a plain.Lock old kept_now = either (old == 0) (back_to_work p a) a (kept_working p a kept_now) kept_now
+kept_plain p a plain.Lock old kept_now =
+    either (old == 0) (back_to_work p a) a (kept_working p a kept_now) kept_now
 kept_plain p a plain.Unlock old kept_now = kept_settled p a kept_now
 kept_plain p a plain.Done old kept_now = tt
 kept_plain p a plain.Ended old kept_now = kept_now
 
 -- ---- each step
 
-pub kept_step : (p : Program) (w : List ℕ) (a : Actor) (c : Counter) (old : ℕ) → IsKept c → IsKept a.counter → IsKept (resumed_at p w a c old).0.counter
+pub kept_step : (p : Program) (w : List ℕ) (a : Actor) (c : Counter) (old : ℕ) → IsKept c → IsKept a.counter
+    → IsKept (resumed_at p w a c old).0.counter
 kept_step p w a (counter.Worker c) old kept kept_now = kept_worker p w a c old kept_now
 kept_step p w a (counter.Team c) old kept kept_now = kept_team p w a c old kept_now
 kept_step p w a (counter.Barrier c) old kept kept_now = kept_barrier p a c old kept_now
@@ -284,14 +318,16 @@ kept_step p w a (counter.Plain c) old kept kept_now = kept_plain p a c old kept_
 
 -- before the first step
 pub opening_kept : (p : Program) (actors : List Actor) → AreOpeningActors p actors → AreKept p actors
-opening_kept p actors opens i thread = subst (λ (b : Actor). IsKept b.counter) (sym (opens.each i thread)) (at i)
+opening_kept p actors opens i thread =
+    subst (λ (b : Actor). IsKept b.counter) (sym (opens.each i thread)) (at i)
   where
     at : (j : ℕ) → IsKept (opening_actor p j).counter
     at zero = kept_settled p (record (waiting_actor 0) { stack = at_start p.main Main ∷ [] }) tt
     at (suc j) = tt
 
 -- and behind a step
-pub step_kept : (a b : Run) (i old : ℕ) → i < a.program.threads → length a.actors ≡ a.program.threads → AreKept a.program a.actors → b.program ≡ a.program
+pub step_kept : (a b : Run) (i old : ℕ) → i < a.program.threads → length a.actors ≡ a.program.threads
+    → AreKept a.program a.actors → b.program ≡ a.program
     → b.actors ≡ slice_set a.actors i (resumed_at a.program a.table (actors_in a.actors i) (actors_in a.actors i).counter old).0 → AreKept b.program b.actors
 step_kept a b i old thread count all program actors j known = go (j == i) refl
   where
@@ -303,8 +339,12 @@ step_kept a b i old thread count all program actors j known = go (j == i) refl
 
     go : (t : Bool) → j == i ≡ t → IsKept (actors_in b.actors j).counter
     go true same =
-        let here : actors_in b.actors j ≡ moved = ap (λ (xs : ℕ → Actor). xs j) now ∙ ap (λ (t : Bool). if t then moved else actors_in a.actors j) same in
-        subst (λ (x : Actor). IsKept x.counter) (sym here) (kept_step a.program a.table (actors_in a.actors i) (actors_in a.actors i).counter old (all i thread) (all i thread))
+        let here : actors_in b.actors j ≡ moved =
+        ap (λ (xs : ℕ → Actor). xs j) now ∙ ap (λ (t : Bool). if t then moved else actors_in a.actors j) same in
+        subst (λ (x : Actor). IsKept x.counter) (sym here)
+        (kept_step a.program a.table (actors_in a.actors i) (actors_in a.actors i).counter old (all i thread) (all i thread))
     go false other =
-        let there : actors_in b.actors j ≡ actors_in a.actors j = ap (λ (xs : ℕ → Actor). xs j) now ∙ ap (λ (t : Bool). if t then moved else actors_in a.actors j) other in
-        subst (λ (x : Actor). IsKept x.counter) (sym there) (all j (subst (λ (q : Program). j < q.threads) program known))
+        let there : actors_in b.actors j ≡ actors_in a.actors j =
+        ap (λ (xs : ℕ → Actor). xs j) now ∙ ap (λ (t : Bool). if t then moved else actors_in a.actors j) other in
+        subst (λ (x : Actor). IsKept x.counter) (sym there)
+        (all j (subst (λ (q : Program). j < q.threads) program known))

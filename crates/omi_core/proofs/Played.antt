@@ -61,7 +61,8 @@ abbrev rest_of : List Entry → List Entry
 rest_of [] = []
 rest_of (e ∷ es) = es
 
-module _ (p : Program) (w : List ℕ) (actors : ℕ → Actor) (i : ℕ) (e : Entry) (xs : List (ℕ × Entry)) (goes : Goes p w actors ((i, e) ∷ xs)) where
+module _ (p : Program) (w : List ℕ) (actors : ℕ → Actor) (i : ℕ) (e : Entry) (xs : List (ℕ × Entry))
+    (goes : Goes p w actors ((i, e) ∷ xs)) where
   parts : e ∷ steps_of i xs ≡ entry_at p w (actors i) e.old ∷ entries_from p w (actor_after p w (actors i) e.old) (found_by (steps_of i xs))
   parts = subst (λ es. es ≡ entries_from p w (actors i) (found_by es)) (own_first i e xs) (goes i)
 
@@ -71,10 +72,16 @@ module _ (p : Program) (w : List ℕ) (actors : ℕ → Actor) (i : ℕ) (e : En
   rest_goes : Goes p w (replace_at actors i (actor_after p w (actors i) e.old)) xs
   rest_goes j = go (j == i) refl
     where
-      go : (b : Bool) → j == i ≡ b → steps_of j xs ≡ entries_from p w (if b then actor_after p w (actors i) e.old else actors j) (found_by (steps_of j xs))
+      go : (b : Bool) → j == i ≡ b
+          → steps_of j xs ≡ entries_from p w (if b then actor_after p w (actors i) e.old else actors j) (found_by (steps_of j xs))
       go true is =
-          subst (λ k. steps_of k xs ≡ entries_from p w (actor_after p w (actors i) e.old) (found_by (steps_of k xs))) (sym (eqb-true j i is)) (ap rest_of parts)
-      go false is = subst (λ es. es ≡ entries_from p w (actors j) (found_by es)) (other_first i j e xs (λ same. let yes : j == i ≡ true = eq-eqb j i (sym same) in cc (is, yes))) (goes j)
+          subst
+          (λ k. steps_of k xs ≡ entries_from p w (actor_after p w (actors i) e.old) (found_by (steps_of k xs)))
+          (sym (eqb-true j i is)) (ap rest_of parts)
+      go false is =
+          subst (λ es. es ≡ entries_from p w (actors j) (found_by es))
+          (other_first i j e xs (λ same. let yes : j == i ≡ true = eq-eqb j i (sym same) in cc (is, yes)))
+          (goes j)
 
 -- ---- all steps
 
@@ -84,31 +91,39 @@ are_played p w words past s watches [] last t later actors steps goes = refl
 are_played p w words past s watches ((i, e) ∷ xs) last t later actors (next, watch, one, seen, rest) goes =
     let is = first_goes p w actors i e xs goes in
     let op : e.op ≡ next_of p w (actors i) = ap (λ (x : Entry). x.op) is in
-    let old : e.old ≡ word_at words (address_of (next_of p w (actors i))) = one.found ∙ ap (λ (o : Op). word_at words (address_of o)) op in
+    let old : e.old ≡ word_at words (address_of (next_of p w (actors i))) =
+    one.found ∙ ap (λ (o : Op). word_at words (address_of o)) op in
     let behind = are_played p w (words_after words e.op) (past ++ committed i e.outcome) next (replace_at watches i watch) xs last t later
     (replace_at actors i (actor_after p w (actors i) e.old)) rest (rest_goes p w actors i e xs goes) in
     ap (λ (x : Entry). (i, x) ∷ xs) (is ∙ ap (entry_at p w (actors i)) old)
     ∙ ap (λ ys. (i, next_entry p w words (actors i)) ∷ ys)
     (behind
-    ∙ ap (λ (o : Op). played p w (words_after words o) (replace_at actors i (actor_after p w (actors i) e.old)) (threads_of_steps xs)) op
+    ∙ ap
+    (λ (o : Op). played p w (words_after words o) (replace_at actors i (actor_after p w (actors i) e.old)) (threads_of_steps xs)) op
     ∙ ap (λ n. played p w (words_after words (next_of p w (actors i))) (replace_at actors i (actor_after p w (actors i) n)) (threads_of_steps xs)) old)
 
 pub are_left : (p : Program) (w words : List ℕ) (past : List (ℕ × Event)) (s : State) (watches : Watches) (xs : List (ℕ × Entry)) (last : List ℕ) (t : State) (later : Watches)
     → Steps p w words past s watches xs last t later → last ≡ left_by words xs
 are_left p w words past s watches [] last t later steps = steps.0
 are_left p w words past s watches ((i, e) ∷ xs) last t later (next, watch, one, seen, rest) =
-    are_left p w (words_after words e.op) (past ++ committed i e.outcome) next (replace_at watches i watch) xs last t later rest
+    are_left p w (words_after words e.op) (past ++ committed i e.outcome) next
+    (replace_at watches i watch) xs last t later rest
 
 -- ---- fewer threads make a front of the steps
 
-pub front_played : (p : Program) (w words : List ℕ) (actors : ℕ → Actor) (is js : List ℕ) → (zs : List (ℕ × Entry)) × (played p w words actors (is ++ js) ≡ played p w words actors is ++ zs)
+pub front_played : (p : Program) (w words : List ℕ) (actors : ℕ → Actor) (is js : List ℕ)
+    → (zs : List (ℕ × Entry)) × (played p w words actors (is ++ js) ≡ played p w words actors is ++ zs)
 front_played p w words actors [] js = (played p w words actors js, refl)
 front_played p w words actors (i ∷ is) js =
-    let (zs, same) = front_played p w (words_after words (next_of p w (actors i))) (replace_at actors i (actor_after p w (actors i) (word_at words (address_of (next_of p w (actors i)))))) is js in
+    let (zs, same) =
+    front_played p w (words_after words (next_of p w (actors i)))
+    (replace_at actors i (actor_after p w (actors i) (word_at words (address_of (next_of p w (actors i)))))) is js in
     (zs, ap (λ ys. (i, next_entry p w words (actors i)) ∷ ys) same)
 
-pub front_of_threads : (how : Schedule) (threads n m : ℕ) → (js : List ℕ) × (threads_by how threads (n + m) ≡ threads_by how threads n ++ js)
-front_of_threads how threads n zero = let all : n + 0 ≡ n = omega arith in ([], ap (threads_by how threads) all ∙ sym (append-nil (threads_by how threads n)))
+pub front_of_threads : (how : Schedule) (threads n m : ℕ)
+    → (js : List ℕ) × (threads_by how threads (n + m) ≡ threads_by how threads n ++ js)
+front_of_threads how threads n zero =
+    let all : n + 0 ≡ n = omega arith in ([], ap (threads_by how threads) all ∙ sym (append-nil (threads_by how threads n)))
 front_of_threads how threads n (suc m) =
     let (js, same) = front_of_threads how threads n m in
     let next : n + suc m ≡ suc (n + m) = omega arith in (

@@ -31,15 +31,18 @@ snoc_length : (ms : List Made) (m : Made) → suc (length ms) ≡ length (ms ++ 
 snoc_length [] m = refl
 snoc_length (x ∷ xs) m = ap suc (snoc_length xs m)
 
-snoc_threads : (ms : List Made) (m : Made) → map (λ (x : Made). x.thread) (ms ++ m ∷ []) ≡ map (λ (x : Made). x.thread) ms ++ m.thread ∷ []
+snoc_threads : (ms : List Made) (m : Made)
+    → map (λ (x : Made). x.thread) (ms ++ m ∷ []) ≡ map (λ (x : Made). x.thread) ms ++ m.thread ∷ []
 snoc_threads [] m = refl
 snoc_threads (x ∷ xs) m = ap (λ ns. x.thread ∷ ns) (snoc_threads xs m)
 
-snoc_all : (P : ℕ × ℕ × Event → Type 0) (es : List (ℕ × ℕ × Event)) (e : ℕ × ℕ × Event) → AllByRecursion P es → P e → AllByRecursion P (es ++ e ∷ [])
+snoc_all : (P : ℕ × ℕ × Event → Type 0) (es : List (ℕ × ℕ × Event)) (e : ℕ × ℕ × Event) → AllByRecursion P es
+    → P e → AllByRecursion P (es ++ e ∷ [])
 snoc_all P [] e all here = (here, tt)
 snoc_all P (x ∷ xs) e (one, rest) here = (one, snoc_all P xs e rest here)
 
-snoc_counts : (k : Break) (es : List (ℕ × ℕ × Event)) (e : ℕ × ℕ × Event) → count_of k (es ++ e ∷ []) ≡ count_of k es + (if is_of_kind k e.2 then 1 else 0)
+snoc_counts : (k : Break) (es : List (ℕ × ℕ × Event)) (e : ℕ × ℕ × Event)
+    → count_of k (es ++ e ∷ []) ≡ count_of k es + (if is_of_kind k e.2 then 1 else 0)
 snoc_counts k es e =
     let f : ℕ × ℕ × Event → ℕ = λ x. if is_of_kind k x.2 then 1 else 0 in
     let both = sum_by-append f es (e ∷ []) in
@@ -60,26 +63,32 @@ abbrev GoesOnBehind : Option (Break × ℕ) → ℕ → List (ℕ × ℕ × Even
 GoesOnBehind on met es e =
     IfSome on (λ o. count_of o.0 (es ++ e ∷ []) < o.1) × IfSome on (λ o. count_of o.0 (es ++ e ∷ []) ≡ met_by on met e.2)
 
-of_kind_on : (on : Option (Break × ℕ)) (met : ℕ) (es : List (ℕ × ℕ × Event)) (e : ℕ × ℕ × Event) → IfSome on (λ o. count_of o.0 es < o.1) → IfSome on (λ o. count_of o.0 es ≡ met) → end_of_kind on met e.2 ≡ None → GoesOnBehind on met es e
+of_kind_on : (on : Option (Break × ℕ)) (met : ℕ) (es : List (ℕ × ℕ × Event)) (e : ℕ × ℕ × Event)
+    → IfSome on (λ o. count_of o.0 es < o.1) → IfSome on (λ o. count_of o.0 es ≡ met)
+    → end_of_kind on met e.2 ≡ None → GoesOnBehind on met es e
 of_kind_on None met es e few are goes = (tt, tt)
 of_kind_on (Some o) met es e few are goes = go (is_of_kind o.0 e.2) (met + 1 == o.1) refl refl goes
   where
-    go : (b c : Bool) → is_of_kind o.0 e.2 ≡ b → met + 1 == o.1 ≡ c → ◌≡◌ {A = Option End} (if b && c then Some end.Break else None) None
+    go : (b c : Bool) → is_of_kind o.0 e.2 ≡ b → met + 1 == o.1 ≡ c
+        → ◌≡◌ {A = Option End} (if b && c then Some end.Break else None) None
         → (count_of o.0 (es ++ e ∷ []) < o.1) × (count_of o.0 (es ++ e ∷ []) ≡ (if b then met + 1 else met))
     go true true f g h = absurd (none_some h refl)
     go true false f g h =
-        let more : count_of o.0 (es ++ e ∷ []) ≡ count_of o.0 es + 1 = snoc_counts o.0 es e ∙ ap (λ (b : Bool). count_of o.0 es + (if b then 1 else 0)) f in
+        let more : count_of o.0 (es ++ e ∷ []) ≡ count_of o.0 es + 1 =
+        snoc_counts o.0 es e ∙ ap (λ (b : Bool). count_of o.0 es + (if b then 1 else 0)) f in
         let apart : met + 1 ≢ o.1 = grind (arith, nat_tests) in
         (omega (arith, more, few, are, apart), omega (arith, more, are))
     go false c f g h =
-        let more : count_of o.0 (es ++ e ∷ []) ≡ count_of o.0 es + 0 = snoc_counts o.0 es e ∙ ap (λ (b : Bool). count_of o.0 es + (if b then 1 else 0)) f in
+        let more : count_of o.0 (es ++ e ∷ []) ≡ count_of o.0 es + 0 =
+        snoc_counts o.0 es e ∙ ap (λ (b : Bool). count_of o.0 es + (if b then 1 else 0)) f in
         (omega (arith, more, few), omega (arith, more, are))
 
 -- ---- the rule
 
 -- it holds of the same run with other room
 pub rule_roomier : (a b : Run) → IsSameRun a b → RuleHolds a → RuleHolds b
-rule_roomier a b same (s, rule) = (s, rw (same.program, same.table, same.words, same.events, same.actors) rule)
+rule_roomier a b same (s, rule) =
+    (s, rw (same.program, same.table, same.words, same.events, same.actors) rule)
 
 -- ---- steps
 
@@ -145,14 +154,18 @@ module _ (old : Run) (how : Schedule) (stop : Stop) where
 
   -- ---- one step more
 
-  threads_more : (ms : List Made) (m : Made) (threads : ℕ) → map (λ (x : Made). x.thread) ms ≡ threads_by how threads (length ms) → m.thread ≡ thread_at how threads (length ms) → map (λ (x : Made). x.thread) (ms ++ m ∷ []) ≡ threads_by how threads (length (ms ++ m ∷ []))
+  threads_more : (ms : List Made) (m : Made) (threads : ℕ)
+      → map (λ (x : Made). x.thread) ms ≡ threads_by how threads (length ms)
+      → m.thread ≡ thread_at how threads (length ms)
+      → map (λ (x : Made). x.thread) (ms ++ m ∷ []) ≡ threads_by how threads (length (ms ++ m ∷ []))
   threads_more ms m threads all here =
       snoc_threads ms m
       ∙ ap (λ ns. ns ++ m.thread ∷ []) all
       ∙ ap (λ j. threads_by how threads (length ms) ++ j ∷ []) here
       ∙ ap (threads_by how threads) (snoc_length ms m)
 
-  adds_one : (a b : Run) (i : ℕ) (e : Entry) (added : Adds old how stop a) → length added.made < stop.steps → IsStep a i e b → i ≡ thread_at how old.program.threads (length added.made) → Adds old how stop b
+  adds_one : (a b : Run) (i : ℕ) (e : Entry) (added : Adds old how stop a) → length added.made < stop.steps
+      → IsStep a i e b → i ≡ thread_at how old.program.threads (length added.made) → Adds old how stop b
   adds_one a b i e added below step thread = record {
     program = step.program ∙ added.program;
     table = step.table ∙ added.table;
@@ -168,13 +181,20 @@ module _ (old : Run) (how : Schedule) (stop : Stop) where
   abbrev GoesOnWith : ℕ → Outcome → List (ℕ × ℕ × Event) → Type 0
   GoesOnWith met o es = GoesOn stop es × IfSome stop.on (λ on. count_of on.0 es ≡ met_at stop.on met o)
 
-  goes_on_with : (o : Outcome) (step i met : ℕ) (es : List (ℕ × ℕ × Event)) → GoesOn stop es → IfSome stop.on (λ on. count_of on.0 es ≡ met) → end_at stop.on met o ≡ None → GoesOnWith met o (es ++ event_of step i o)
-  goes_on_with outcome.Quiet step i met es goes are none = subst (GoesOnWith met outcome.Quiet) (sym (append-nil es)) (goes, are)
-  goes_on_with (outcome.NotReady address word) step i met es goes are none = subst (GoesOnWith met (outcome.NotReady address word)) (sym (append-nil es)) (goes, are)
-  goes_on_with outcome.Ended step i met es goes are none = subst (GoesOnWith met outcome.Ended) (sym (append-nil es)) (goes, are)
+  goes_on_with : (o : Outcome) (step i met : ℕ) (es : List (ℕ × ℕ × Event)) → GoesOn stop es
+      → IfSome stop.on (λ on. count_of on.0 es ≡ met) → end_at stop.on met o ≡ None
+      → GoesOnWith met o (es ++ event_of step i o)
+  goes_on_with outcome.Quiet step i met es goes are none =
+      subst (GoesOnWith met outcome.Quiet) (sym (append-nil es)) (goes, are)
+  goes_on_with (outcome.NotReady address word) step i met es goes are none =
+      subst (GoesOnWith met (outcome.NotReady address word)) (sym (append-nil es)) (goes, are)
+  goes_on_with outcome.Ended step i met es goes are none =
+      subst (GoesOnWith met outcome.Ended) (sym (append-nil es)) (goes, are)
   goes_on_with (outcome.Event x) step i met es goes are none = go (is_done x) refl none
     where
-      go : (b : Bool) → is_done x ≡ b → ◌≡◌ {A = Option End} (if b then Some end.Done else end_of_kind stop.on met x) None → GoesOnWith met (outcome.Event x) (es ++ (step, i, x) ∷ [])
+      go : (b : Bool) → is_done x ≡ b
+          → ◌≡◌ {A = Option End} (if b then Some end.Done else end_of_kind stop.on met x) None
+          → GoesOnWith met (outcome.Event x) (es ++ (step, i, x) ∷ [])
       go true f h = absurd (none_some h refl)
       go false f h =
           let behind = of_kind_on stop.on met es (step, i, x) goes.too_few are h in
@@ -182,13 +202,17 @@ module _ (old : Run) (how : Schedule) (stop : Stop) where
 
   next_drawn : (h : Schedule) (n draw : ℕ) → IsDrawn h n draw → IsDrawn h (n + 1) (next_number draw)
   next_drawn schedule.RoundRobin n draw drawn = tt
-  next_drawn (schedule.Seed seed) n draw drawn = let one_more : suc n ≡ n + 1 = omega arith in ap next_number drawn ∙ ap (drawn_at seed) one_more
+  next_drawn (schedule.Seed seed) n draw drawn =
+      let one_more : suc n ≡ n + 1 = omega arith in ap next_number drawn ∙ ap (drawn_at seed) one_more
   next_drawn (schedule.List list) n draw drawn = tt
 
-  pub one_more : (n met draw : ℕ) (a b : Run) (i : ℕ) (e : Entry) → SoFar n met draw a → n < stop.steps → IsStep a i e b → i ≡ thread_at how old.program.threads n → end_at stop.on met e.outcome ≡ None → SoFar (n + 1) (met_at stop.on met e.outcome) (next_number draw) b
+  pub one_more : (n met draw : ℕ) (a b : Run) (i : ℕ) (e : Entry) → SoFar n met draw a → n < stop.steps
+      → IsStep a i e b → i ≡ thread_at how old.program.threads n → end_at stop.on met e.outcome ≡ None
+      → SoFar (n + 1) (met_at stop.on met e.outcome) (next_number draw) b
   unfolding adds_one
   one_more n met draw a b i e so below step thread none =
-      let behind = goes_on_with e.outcome (length a.made.items + 1) i met so.added.events so.goes_on so.met_are none in
+      let behind =
+      goes_on_with e.outcome (length a.made.items + 1) i met so.added.events so.goes_on so.met_are none in
       record {
         added = adds_one a b i e so.added (subst (λ k. k < stop.steps) (sym so.count) below) step (thread ∙ ap (thread_at how old.program.threads) (sym so.count));
         count = sym (snoc_length so.added.made (made_of i e)) ∙ ap suc so.count ∙ (let one : suc n ≡ n + 1 = omega arith in one);
@@ -199,7 +223,9 @@ module _ (old : Run) (how : Schedule) (stop : Stop) where
 
   -- ---- ends
 
-  ends_with : (o : Outcome) (steps step i met : ℕ) (es : List (ℕ × ℕ × Event)) (why : End) → GoesOn stop es → IfSome stop.on (λ on. count_of on.0 es ≡ met) → end_at stop.on met o ≡ Some why → IsEnded stop steps step (es ++ event_of step i o) why
+  ends_with : (o : Outcome) (steps step i met : ℕ) (es : List (ℕ × ℕ × Event)) (why : End) → GoesOn stop es
+      → IfSome stop.on (λ on. count_of on.0 es ≡ met) → end_at stop.on met o ≡ Some why
+      → IsEnded stop steps step (es ++ event_of step i o) why
   ends_with outcome.Quiet steps step i met es why goes are is = absurd (none_some refl is)
   ends_with (outcome.NotReady address word) steps step i met es why goes are is = absurd (none_some refl is)
   ends_with outcome.Ended steps step i met es why goes are is = absurd (none_some refl is)
@@ -208,40 +234,57 @@ module _ (old : Run) (how : Schedule) (stop : Stop) where
       at : EndsAt stop step (es ++ (step, i, x) ∷ [])
       at = record { before = es; goes_on = goes; thread = i; last = x; are = refl }
 
-      of_kind : (on : Option (Break × ℕ)) → stop.on ≡ on → IfSome on (λ o. count_of o.0 es ≡ met) → end_of_kind on met x ≡ Some why → IsEnded stop steps step (es ++ (step, i, x) ∷ []) why
+      of_kind : (on : Option (Break × ℕ)) → stop.on ≡ on → IfSome on (λ o. count_of o.0 es ≡ met)
+          → end_of_kind on met x ≡ Some why → IsEnded stop steps step (es ++ (step, i, x) ∷ []) why
       of_kind None f are h = absurd (none_some refl h)
       of_kind (Some o) f are h = by (is_of_kind o.0 x) (met + 1 == o.1) refl refl h
         where
-          by : (b c : Bool) → is_of_kind o.0 x ≡ b → met + 1 == o.1 ≡ c → ◌≡◌ {A = Option End} (if b && c then Some end.Break else None) (Some why) → IsEnded stop steps step (es ++ (step, i, x) ∷ []) why
+          by : (b c : Bool) → is_of_kind o.0 x ≡ b → met + 1 == o.1 ≡ c
+              → ◌≡◌ {A = Option End} (if b && c then Some end.Break else None) (Some why)
+              → IsEnded stop steps step (es ++ (step, i, x) ∷ []) why
           by true true g q h =
-              let more : count_of o.0 (es ++ (step, i, x) ∷ []) ≡ count_of o.0 es + 1 = snoc_counts o.0 es (step, i, x) ∙ ap (λ (b : Bool). count_of o.0 es + (if b then 1 else 0)) g in
+              let more : count_of o.0 (es ++ (step, i, x) ∷ []) ≡ count_of o.0 es + 1 =
+              snoc_counts o.0 es (step, i, x) ∙ ap (λ (b : Bool). count_of o.0 es + (if b then 1 else 0)) g in
               let last : count_of o.0 (es ++ (step, i, x) ∷ []) ≡ o.1 = grind (arith, nat_tests) in
               subst (IsEnded stop steps step (es ++ (step, i, x) ∷ [])) (some_same refl h)
               (at, subst (λ (on : Option (Break × ℕ)). MatchOption on ⊥ (λ o. (is_of_kind o.0 x ≡ true) × (count_of o.0 (es ++ (step, i, x) ∷ []) ≡ o.1))) (sym f) (g, last))
           by true false g q h = absurd (none_some refl h)
           by false c g q h = absurd (none_some refl h)
 
-      go : (b : Bool) → is_done x ≡ b → ◌≡◌ {A = Option End} (if b then Some end.Done else end_of_kind stop.on met x) (Some why) → IsEnded stop steps step (es ++ (step, i, x) ∷ []) why
-      go true f h = subst (IsEnded stop steps step (es ++ (step, i, x) ∷ [])) (some_same refl h) (at, done_is x f)
+      go : (b : Bool) → is_done x ≡ b
+          → ◌≡◌ {A = Option End} (if b then Some end.Done else end_of_kind stop.on met x) (Some why)
+          → IsEnded stop steps step (es ++ (step, i, x) ∷ []) why
+      go true f h =
+          subst (IsEnded stop steps step (es ++ (step, i, x) ∷ [])) (some_same refl h) (at, done_is x f)
       go false f h = of_kind stop.on refl are h
 
-  pub ended : (n met draw : ℕ) (a b : Run) (i : ℕ) (e : Entry) (why : End) → SoFar n met draw a → n < stop.steps → IsStep a i e b → i ≡ thread_at how old.program.threads n → end_at stop.on met e.outcome ≡ Some why → IsRunBy old how stop (Ok why) b
+  pub ended : (n met draw : ℕ) (a b : Run) (i : ℕ) (e : Entry) (why : End) → SoFar n met draw a
+      → n < stop.steps → IsStep a i e b → i ≡ thread_at how old.program.threads n
+      → end_at stop.on met e.outcome ≡ Some why → IsRunBy old how stop (Ok why) b
   unfolding adds_one
   ended n met draw a b i e why so below step thread is =
-      let number : length a.made.items + 1 ≡ length b.made.items = (let one : length a.made.items + 1 ≡ suc (length a.made.items) = omega arith in one) ∙ snoc_length a.made.items (made_of i e) ∙ ap length (sym step.made) in
-      let added = adds_one a b i e so.added (subst (λ k. k < stop.steps) (sym so.count) below) step (thread ∙ ap (thread_at how old.program.threads) (sym so.count)) in
+      let number : length a.made.items + 1 ≡ length b.made.items =
+      (let one : length a.made.items + 1 ≡ suc (length a.made.items) = omega arith in one)
+      ∙ snoc_length a.made.items (made_of i e)
+      ∙ ap length (sym step.made) in
+      let added =
+      adds_one a b i e so.added (subst (λ k. k < stop.steps) (sym so.count) below) step
+      (thread ∙ ap (thread_at how old.program.threads) (sym so.count)) in
       (added, subst (λ k. IsEnded stop (length added.made) k added.events why) number (ends_with e.outcome (length added.made) (length a.made.items + 1) i met so.added.events why so.goes_on so.met_are is))
 
-  pub all_made : (n met draw : ℕ) (a : Run) → SoFar n met draw a → n ≡ stop.steps → IsRunBy old how stop (Ok end.Steps) a
+  pub all_made : (n met draw : ℕ) (a : Run) → SoFar n met draw a → n ≡ stop.steps
+      → IsRunBy old how stop (Ok end.Steps) a
   all_made n met draw a so all = (so.added, (so.goes_on, so.count ∙ all))
 
-  pub refused : (n met draw : ℕ) (a : Run) (why : AllocError) → SoFar n met draw a → IsRunBy old how stop (Err why) a
+  pub refused : (n met draw : ℕ) (a : Run) (why : AllocError) → SoFar n met draw a
+      → IsRunBy old how stop (Err why) a
   refused n met draw a why so = (so.added, so.goes_on)
 
   -- there are fewer of the kind than the number
   pub fewer : (n met draw : ℕ) (a : Run) → SoFar n met draw a → IsBelow stop.on met
   fewer n met draw a so = go stop.on so.goes_on.too_few so.met_are
     where
-      go : (on : Option (Break × ℕ)) → IfSome on (λ o. count_of o.0 so.added.events < o.1) → IfSome on (λ o. count_of o.0 so.added.events ≡ met) → IsBelow on met
+      go : (on : Option (Break × ℕ)) → IfSome on (λ o. count_of o.0 so.added.events < o.1)
+          → IfSome on (λ o. count_of o.0 so.added.events ≡ met) → IsBelow on met
       go None few are = tt
       go (Some o) few are = subst (λ k. k < o.1) are few

@@ -57,13 +57,15 @@ use Rattle.omi_core.proofs.Reaching.{reached_one}
 -- ---- lists
 
 -- one actor of a list is another
-pub actors_set : (xs : List Actor) (i : ℕ) (b : Actor) → i < length xs → actors_in (slice_set xs i b) ≡ replace_at (actors_in xs) i b
+pub actors_set : (xs : List Actor) (i : ℕ) (b : Actor) → i < length xs
+    → actors_in (slice_set xs i b) ≡ replace_at (actors_in xs) i b
 actors_set xs i b within = fun_ext (λ j. go j (j == i) refl)
   where
     go : (j : ℕ) (t : Bool) → j == i ≡ t → actors_in (slice_set xs i b) j ≡ (if t then b else actors_in xs j)
     go j true e =
         let same : j ≡ i = eqb-true j i e in
-        subst (λ k. actors_in (slice_set xs i b) k ≡ b) (sym same) (get_or-set_same xs i b (waiting_actor i) within)
+        subst (λ k. actors_in (slice_set xs i b) k ≡ b) (sym same)
+        (get_or-set_same xs i b (waiting_actor i) within)
     go j false e = get_or-set_other xs i j b (waiting_actor j) (λ same. grind (arith, nat_tests))
 
 -- a thread of the list has its actor, whatever stands for the others
@@ -72,7 +74,8 @@ actor_is [] i d within = absurd (omega (arith, within))
 actor_is (x ∷ xs) zero d within = refl
 actor_is (x ∷ xs) (suc i) d within = ap-default xs i d (waiting_actor (suc i)) (omega (arith, within))
   where
-    ap-default : (xs : List Actor) (i : ℕ) (d e : Actor) → i < length xs → slice_index_or xs i d ≡ slice_index_or xs i e
+    ap-default : (xs : List Actor) (i : ℕ) (d e : Actor) → i < length xs
+        → slice_index_or xs i d ≡ slice_index_or xs i e
     ap-default [] i d e within = absurd (omega (arith, within))
     ap-default (x ∷ xs) zero d e within = refl
     ap-default (x ∷ xs) (suc i) d e within = ap-default xs i d e (omega (arith, within))
@@ -80,11 +83,18 @@ actor_is (x ∷ xs) (suc i) d within = ap-default xs i d (waiting_actor (suc i))
 -- ---- the same run
 
 -- a run keeps what it keeps where its lists have the same elements and other room
-pub other_room : (a : Run) → KeepsCore a → (es : Events) (made : Steps) → es.items ≡ a.events.items → made.items ≡ a.made.items → KeepsCore (record { program = a.program; table = a.table; words = a.words; actors = a.actors; events = es; made = made })
+pub other_room : (a : Run) → KeepsCore a → (es : Events) (made : Steps) → es.items ≡ a.events.items
+    → made.items ≡ a.made.items
+    → KeepsCore (record { program = a.program; table = a.table; words = a.words; actors = a.actors; events = es; made = made })
 other_room a k es made events steps =
     let run = k.run in
-    let rule : Rule a.program a.table (memory_of a.table a.words) (events_in es.items) run.state (actors_in a.actors) = subst (λ ys. Rule a.program a.table (memory_of a.table a.words) (events_in ys) run.state (actors_in a.actors)) (sym events) run.rule in
-    let few : length es.items ≤ length made.items = subst (λ ys. length ys ≤ length made.items) (sym events) (subst (λ (ys : List Made). length a.events.items ≤ length ys) (sym steps) run.few) in
+    let rule : Rule a.program a.table (memory_of a.table a.words) (events_in es.items) run.state (actors_in a.actors) =
+    subst
+    (λ ys. Rule a.program a.table (memory_of a.table a.words) (events_in ys) run.state (actors_in a.actors))
+    (sym events) run.rule in
+    let few : length es.items ≤ length made.items =
+    subst (λ ys. length ys ≤ length made.items) (sym events)
+    (subst (λ (ys : List Made). length a.events.items ≤ length ys) (sym steps) run.few) in
     record {
       run = record {
         state = run.state;
@@ -104,7 +114,8 @@ other_room a k es made events steps =
       goes_on = k.goes_on;
     }
 
-pub same_entries : (a : Run) (k : KeepsCore a) (es : Events) (made : Steps) (events : es.items ≡ a.events.items) (steps : made.items ≡ a.made.items) → (other_room a k es made events steps).run.entries ≡ k.run.entries
+pub same_entries : (a : Run) (k : KeepsCore a) (es : Events) (made : Steps) (events : es.items ≡ a.events.items) (steps : made.items ≡ a.made.items)
+    → (other_room a k es made events steps).run.entries ≡ k.run.entries
 unfolding other_room
 same_entries a k es made events steps = refl
 
@@ -112,7 +123,8 @@ same_entries a k es made events steps = refl
 
 pub shows_state : (a : Run) → KeepsRun a → ShowsState a
 shows_state a k = λ s reached.
-    let same : k.state ≡ s = reached_one a.program (events_in a.events.items) k.state s k.rule.reached reached in
+    let same : k.state ≡ s =
+    reached_one a.program (events_in a.events.items) k.state s k.rule.reached reached in
     subst (λ (z : State). Shows a.table (words_of a.words) z) same
     (kept_words_show a.table a.words k.state (all_owed (actors_in a.actors)) k.valid k.count k.tables k.rule.within k.rule.words)
 
@@ -132,7 +144,8 @@ one_event step i (outcome.NotReady address word) = omega arith
 one_event step i outcome.Ended = omega arith
 
 -- no more events than steps
-pub few_events : (es ys more : List (ℕ × ℕ × Event)) (ms later : List Made) (x : Made) → more ≡ es ++ ys → length ys ≤ 1 → later ≡ ms ++ x ∷ [] → length es ≤ length ms → length more ≤ length later
+pub few_events : (es ys more : List (ℕ × ℕ × Event)) (ms later : List Made) (x : Made) → more ≡ es ++ ys
+    → length ys ≤ 1 → later ≡ ms ++ x ∷ [] → length es ≤ length ms → length more ≤ length later
 few_events es ys more ms later x events one made few =
     let a : length more ≡ length es + length ys = ap length events ∙ length-append es ys in
     let b : length later ≡ length ms + 1 = ap length made ∙ length-append ms (x ∷ []) in
@@ -159,12 +172,15 @@ module _ (a : Run) (k : KeepsRun a) (i : ℕ) (thread : i < a.program.threads) w
 
     pub few : length (events_in a.events.items) + 1 < MOST_EVENTS
     few =
-        let same : length (events_in a.events.items) ≡ length a.events.items = length-map a.events.items (λ (e : ℕ × ℕ × Event). (e.1, e.2)) in
+        let same : length (events_in a.events.items) ≡ length a.events.items =
+        length-map a.events.items (λ (e : ℕ × ℕ × Event). (e.1, e.2)) in
         let steps = k.few in
         grind (arith, spare, same, steps)
 
     pub keeps : StepKeeps a.program a.table (memory_of a.table a.words) (events_in a.events.items) k.state (actors_in a.actors) i op behind
-    keeps = steps_keep a.program a.table (memory_of a.table a.words) (events_in a.events.items) k.state (actors_in a.actors) i k.valid k.suits k.rule known few kept
+    keeps =
+        steps_keep a.program a.table (memory_of a.table a.words) (events_in a.events.items) k.state
+        (actors_in a.actors) i k.valid k.suits k.rule known few kept
 
     abbrev x : RecordWord
     x = keeps.0
@@ -179,21 +195,28 @@ module _ (a : Run) (k : KeepsRun a) (i : ℕ) (thread : i < a.program.threads) w
     inside = on.inside
 
     pub rule_after : KeepsRule a.program a.table (memory_of a.table a.words) (events_in a.events.items) k.state (actors_in a.actors) i op x (behind (word_at a.words (address_of op)))
-    rule_after = subst (λ old. KeepsRule a.program a.table (memory_of a.table a.words) (events_in a.events.items) k.state (actors_in a.actors) i op x (behind old)) (sym on.finds) keeps.2
+    rule_after =
+        subst
+        (λ old. KeepsRule a.program a.table (memory_of a.table a.words) (events_in a.events.items) k.state (actors_in a.actors) i op x (behind old))
+        (sym on.finds) keeps.2
 
     -- a team has at most all threads
     pub few_seats : seats_of (behind (word_at a.words (address_of op))).1 ≤ a.program.threads
     few_seats = go (behind (word_at a.words (address_of op))).1 rule_after.leads
       where
-        go : (o : Outcome) → LeadsOn a.program a.table (events_in a.events.items) k.state i o rule_after.next → seats_of o ≤ a.program.threads
+        go : (o : Outcome) → LeadsOn a.program a.table (events_in a.events.items) k.state i o rule_after.next
+            → seats_of o ≤ a.program.threads
         go outcome.Quiet leads = omega arith
         go (outcome.NotReady address word) leads = omega arith
         go outcome.Ended leads = omega arith
         go (outcome.Event e) leads = by e leads
           where
-            by : (e : Event) → Step a.program k.state i e rule_after.next → length (team_in e) ≤ a.program.threads
+            by : (e : Event) → Step a.program k.state i e rule_after.next
+                → length (team_in e) ≤ a.program.threads
             by (event.Fork region team) step =
-                let asked = teams_asked a.program (events_in a.events.items) k.state k.rule.reached i region team step.legal in
+                let asked =
+                teams_asked a.program
+                (events_in a.events.items) k.state k.rule.reached i region team step.legal in
                 subst (λ n. length team ≤ n) (k.rule.within.count ∙ sym k.suits.threads) asked.few
             by event.Begin step = omega arith
             by event.Offer step = omega arith
@@ -227,14 +250,18 @@ module _ (a : Run) (k : KeepsRun a) (i : ℕ) (thread : i < a.program.threads) w
             by event.Ret step = omega arith
             by event.Done step = omega arith
 
-    pub seats_for : (o : Outcome) → o ≡ (behind (word_at a.words (address_of op))).1 → seats_of o ≤ a.events.seats
+    pub seats_for : (o : Outcome) → o ≡ (behind (word_at a.words (address_of op))).1
+        → seats_of o ≤ a.events.seats
     seats_for o is =
-        let most : seats_of o ≤ a.program.threads = subst (λ (x : Outcome). seats_of x ≤ a.program.threads) (sym is) few_seats in
+        let most : seats_of o ≤ a.program.threads =
+        subst (λ (x : Outcome). seats_of x ≤ a.program.threads) (sym is) few_seats in
         let there : a.program.threads ≤ a.events.seats = seats_there a (omega (arith, thread)) spare in
         omega (arith, most, there)
 
     -- the step, as one of a list
-    pub from : (e : Entry) → e.op ≡ op → e.old ≡ word_at a.words (address_of op) → e.outcome ≡ (behind (word_at a.words (address_of op))).1 → IsStepFrom a.program a.table a.words (events_in a.events.items) k.state i e rule_after.next
+    pub from : (e : Entry) → e.op ≡ op → e.old ≡ word_at a.words (address_of op)
+        → e.outcome ≡ (behind (word_at a.words (address_of op))).1
+        → IsStepFrom a.program a.table a.words (events_in a.events.items) k.state i e rule_after.next
     from e op_is old_is out_is = record {
       thread = thread;
       inside = subst (λ (o : Op). IsWordOf a.words (address_of o)) (sym op_is) inside;
@@ -247,9 +274,11 @@ module _ (a : Run) (k : KeepsRun a) (i : ℕ) (thread : i < a.program.threads) w
     }
 
     -- whatever state the events reach
-    pub right : (e : Entry) → e.op ≡ op → e.old ≡ word_at a.words (address_of op) → e.outcome ≡ (behind (word_at a.words (address_of op))).1 → IsRight a i e
+    pub right : (e : Entry) → e.op ≡ op → e.old ≡ word_at a.words (address_of op)
+        → e.outcome ≡ (behind (word_at a.words (address_of op))).1 → IsRight a i e
     right e op_is old_is out_is = λ s reached.
-        let same : k.state ≡ s = reached_one a.program (events_in a.events.items) k.state s k.rule.reached reached in
+        let same : k.state ≡ s =
+        reached_one a.program (events_in a.events.items) k.state s k.rule.reached reached in
         let step = from e op_is old_is out_is in (
           (rule_after.next, subst (λ (z : State). LeadsOn a.program a.table (events_in a.events.items) z i e.outcome rule_after.next) same step.leads),
           subst (λ (z : State). ComesOf a.table z i e.op e.old e.outcome) same step.comes,
@@ -258,7 +287,9 @@ module _ (a : Run) (k : KeepsRun a) (i : ℕ) (thread : i < a.program.threads) w
     -- ---- the watch
 
     watching : StepKeepsWatch a.program a.table (memory_of a.table a.words) k.state i op behind (k.made_by.steps.watches i)
-    watching = watch_kept a.program a.table (memory_of a.table a.words) (events_in a.events.items) k.state (actors_in a.actors) i k.valid k.suits k.rule known few kept (k.made_by.steps.watches i) (k.watched i)
+    watching =
+        watch_kept a.program a.table (memory_of a.table a.words) (events_in a.events.items) k.state
+        (actors_in a.actors) i k.valid k.suits k.rule known few kept (k.made_by.steps.watches i) (k.watched i)
 
     abbrev y : RecordWord
     y = watching.0
@@ -270,12 +301,15 @@ module _ (a : Run) (k : KeepsRun a) (i : ℕ) (thread : i < a.program.threads) w
 
     -- by the word that was found
     keeps_watch : (out : Outcome) (old : ℕ) → old ≡ word_at a.words (address_of op) → out ≡ (behind old).1
-        → MeetsDemands a.program a.table (memory_of a.table a.words) k.state i y op out (k.made_by.steps.watches i)
-        × IsGiven a.program (behind old).0 (watched a.table k.state i y op old out (k.made_by.steps.watches i))
+        → MeetsDemands a.program a.table (memory_of a.table a.words) k.state i y op out
+        (k.made_by.steps.watches i)
+        × IsGiven a.program (behind old).0
+        (watched a.table k.state i y op old out (k.made_by.steps.watches i))
     keeps_watch out old old_is out_is =
         let found : found_in (memory_of a.table a.words) y ≡ old = sym (old_is ∙ on_watched.finds) in
         let meets : MeetsDemands a.program a.table (memory_of a.table a.words) k.state i y op (behind old).1 (k.made_by.steps.watches i) =
-        subst (λ n. MeetsDemands a.program a.table (memory_of a.table a.words) k.state i y op (behind n).1 (k.made_by.steps.watches i)) found watching.2.meets in
+        subst
+        (λ n. MeetsDemands a.program a.table (memory_of a.table a.words) k.state i y op (behind n).1 (k.made_by.steps.watches i)) found watching.2.meets in
         let given : IsGiven a.program (behind old).0 (watched a.table k.state i y op old (behind old).1 (k.made_by.steps.watches i)) =
         subst (λ n. IsGiven a.program (behind n).0 (watched a.table k.state i y op n (behind n).1 (k.made_by.steps.watches i))) found watching.2.given in (
           subst (λ (o : Outcome). MeetsDemands a.program a.table (memory_of a.table a.words) k.state i y op o (k.made_by.steps.watches i)) (sym out_is) meets,
@@ -285,7 +319,8 @@ module _ (a : Run) (k : KeepsRun a) (i : ℕ) (thread : i < a.program.threads) w
     abbrev watch_of : Entry → Watch
     watch_of e = watched a.table k.state i y e.op e.old e.outcome (k.made_by.steps.watches i)
 
-    module _ (e : Entry) (op_is : e.op ≡ op) (old_is : e.old ≡ word_at a.words (address_of op)) (out_is : e.outcome ≡ (behind (word_at a.words (address_of op))).1) where
+    module _ (e : Entry) (op_is : e.op ≡ op) (old_is : e.old ≡ word_at a.words (address_of op))
+        (out_is : e.outcome ≡ (behind (word_at a.words (address_of op))).1) where
       outcome_is : e.outcome ≡ (behind e.old).1
       outcome_is = out_is ∙ ap (λ n. (behind n).1) (sym old_is)
 
@@ -318,11 +353,16 @@ module _ (a : Run) (k : KeepsRun a) (i : ℕ) (thread : i < a.program.threads) w
       actors_behind = slice_set a.actors i (behind (word_at a.words (address_of op))).0
 
       actors_now : actors_in (slice_set a.actors i (behind (word_at a.words (address_of op))).0) ≡ replace_at (actors_in a.actors) i (behind (word_at a.words (address_of op))).0
-      actors_now = actors_set a.actors i (behind (word_at a.words (address_of op))).0 (subst (λ n. i < n) (sym k.actors) thread)
+      actors_now =
+          actors_set a.actors i (behind (word_at a.words (address_of op))).0
+          (subst (λ n. i < n) (sym k.actors) thread)
 
-      now : (es : Events) → es.items ≡ a.events.items ++ event_of (length a.made.items + 1) i e.outcome → Rule a.program a.table (memory_of a.table (words_after a.words e.op)) (events_in es.items) rule_after.next (actors_in actors_behind)
+      now : (es : Events) → es.items ≡ a.events.items ++ event_of (length a.made.items + 1) i e.outcome
+          → Rule a.program a.table (memory_of a.table (words_after a.words e.op)) (events_in es.items) rule_after.next (actors_in actors_behind)
       now es events =
-          subst (λ ws. Rule a.program a.table (memory_of a.table ws) (events_in es.items) rule_after.next (actors_in actors_behind)) (sym now_words)
+          subst
+          (λ ws. Rule a.program a.table (memory_of a.table ws) (events_in es.items) rule_after.next (actors_in actors_behind))
+          (sym now_words)
           (subst (λ (m : Memory). Rule a.program a.table m (events_in es.items) rule_after.next (actors_in actors_behind)) (sym on.leaves)
           (subst (λ fs. Rule a.program a.table (left_in (memory_of a.table a.words) op x) fs rule_after.next (actors_in actors_behind))
           (sym (ap events_in events ∙ events_append a.events.items (event_of (length a.made.items + 1) i e.outcome) ∙ ap (λ ys. events_in a.events.items ++ ys) (event_committed (length a.made.items + 1) i e.outcome)
@@ -330,46 +370,69 @@ module _ (a : Run) (k : KeepsRun a) (i : ℕ) (thread : i < a.program.threads) w
           (subst (λ (xs : ℕ → Actor). Rule a.program a.table (left_in (memory_of a.table a.words) op x) (events_in a.events.items ++ committed i (behind (word_at a.words (address_of op))).1) rule_after.next xs)
           (sym actors_now) rule_after.rule)))
 
-      under_way : (j : ℕ) → 0 < j → IsUnderWay (steps_of j (k.entries ++ (i, e) ∷ [])) (actors_in actors_behind j).counter
-      under_way j worker = subst (λ (xs : ℕ → Actor). IsUnderWay (steps_of j (k.entries ++ (i, e) ∷ [])) (xs j).counter) (sym actors_now) (go (j == i) refl)
+      under_way : (j : ℕ) → 0 < j
+          → IsUnderWay (steps_of j (k.entries ++ (i, e) ∷ [])) (actors_in actors_behind j).counter
+      under_way j worker =
+          subst (λ (xs : ℕ → Actor). IsUnderWay (steps_of j (k.entries ++ (i, e) ∷ [])) (xs j).counter)
+          (sym actors_now) (go (j == i) refl)
         where
-          go : (t : Bool) → j == i ≡ t → IsUnderWay (steps_of j (k.entries ++ (i, e) ∷ [])) (if t then (behind (word_at a.words (address_of op))).0 else actors_in a.actors j).counter
+          go : (t : Bool) → j == i ≡ t
+              → IsUnderWay (steps_of j (k.entries ++ (i, e) ∷ [])) (if t then (behind (word_at a.words (address_of op))).0 else actors_in a.actors j).counter
           go true is =
               let same : j ≡ i = eqb-true j i is in
-              subst (λ z. IsUnderWay (steps_of z (k.entries ++ (i, e) ∷ [])) (behind (word_at a.words (address_of op))).0.counter) (sym same)
+              subst
+              (λ z. IsUnderWay (steps_of z (k.entries ++ (i, e) ∷ [])) (behind (word_at a.words (address_of op))).0.counter)
+              (sym same)
               (subst (λ es. IsUnderWay es (behind (word_at a.words (address_of op))).0.counter) (sym (own_one_more i k.entries e))
               (subst (λ n. IsUnderWay (steps_of i k.entries ++ e ∷ []) (behind n).0.counter) old_is
               (goes_under_way a.program a.table (actors_in a.actors i) (steps_of i k.entries) e (k.workers i (subst (λ z. 0 < z) same worker)) outcome_is)))
           go false is =
-              subst (λ es. IsUnderWay es (actors_in a.actors j).counter) (sym (other_one_more j i k.entries e (λ same. let yes : j == i ≡ true = eq-eqb j i (sym same) in cc (is, yes))))
+              subst (λ es. IsUnderWay es (actors_in a.actors j).counter)
+              (sym (other_one_more j i k.entries e (λ same. let yes : j == i ≡ true = eq-eqb j i (sym same) in cc (is, yes))))
               (k.workers j worker)
 
       -- the thread is behind one step more
-      each_behind : (j : ℕ) → IsBehind a.program a.table j (steps_of j (k.entries ++ (i, e) ∷ [])) (actors_in actors_behind j)
-      each_behind j = subst (λ (xs : ℕ → Actor). IsBehind a.program a.table j (steps_of j (k.entries ++ (i, e) ∷ [])) (xs j)) (sym actors_now) (go (j == i) refl)
+      each_behind : (j : ℕ)
+          → IsBehind a.program a.table j (steps_of j (k.entries ++ (i, e) ∷ [])) (actors_in actors_behind j)
+      each_behind j =
+          subst
+          (λ (xs : ℕ → Actor). IsBehind a.program a.table j (steps_of j (k.entries ++ (i, e) ∷ [])) (xs j))
+          (sym actors_now) (go (j == i) refl)
         where
-          go : (t : Bool) → j == i ≡ t → IsBehind a.program a.table j (steps_of j (k.entries ++ (i, e) ∷ [])) (if t then (behind (word_at a.words (address_of op))).0 else actors_in a.actors j)
+          go : (t : Bool) → j == i ≡ t
+              → IsBehind a.program a.table j (steps_of j (k.entries ++ (i, e) ∷ [])) (if t then (behind (word_at a.words (address_of op))).0 else actors_in a.actors j)
           go true is =
               let same : j ≡ i = eqb-true j i is in
-              subst (λ z. IsBehind a.program a.table z (steps_of z (k.entries ++ (i, e) ∷ [])) (behind (word_at a.words (address_of op))).0) (sym same)
+              subst
+              (λ z. IsBehind a.program a.table z (steps_of z (k.entries ++ (i, e) ∷ [])) (behind (word_at a.words (address_of op))).0)
+              (sym same)
               (subst (λ es. IsBehind a.program a.table i es (behind (word_at a.words (address_of op))).0) (sym (own_one_more i k.entries e))
               (subst (λ n. IsBehind a.program a.table i (steps_of i k.entries ++ e ∷ []) (behind n).0) old_is
               (behind_step a.program a.table i (steps_of i k.entries) (actors_in a.actors i) e (k.behind i) op_is outcome_is)))
           go false is =
-              subst (λ es. IsBehind a.program a.table j es (actors_in a.actors j)) (sym (other_one_more j i k.entries e (λ same. let yes : j == i ≡ true = eq-eqb j i (sym same) in cc (is, yes))))
+              subst (λ es. IsBehind a.program a.table j es (actors_in a.actors j))
+              (sym (other_one_more j i k.entries e (λ same. let yes : j == i ≡ true = eq-eqb j i (sym same) in cc (is, yes))))
               (k.behind j)
 
       -- each thread's actor gives its watch
-      all_watched : (j : ℕ) → IsGiven a.program (actors_in actors_behind j) (replace_at k.made_by.steps.watches i (watch_of e) j)
-      all_watched j = subst (λ (xs : ℕ → Actor). IsGiven a.program (xs j) (replace_at k.made_by.steps.watches i (watch_of e) j)) (sym actors_now) (go (j == i))
+      all_watched : (j : ℕ)
+          → IsGiven a.program (actors_in actors_behind j) (replace_at k.made_by.steps.watches i (watch_of e) j)
+      all_watched j =
+          subst
+          (λ (xs : ℕ → Actor). IsGiven a.program (xs j) (replace_at k.made_by.steps.watches i (watch_of e) j))
+          (sym actors_now) (go (j == i))
         where
-          go : (t : Bool) → IsGiven a.program (if t then (behind (word_at a.words (address_of op))).0 else actors_in a.actors j) (if t then watch_of e else k.made_by.steps.watches j)
+          go : (t : Bool)
+              → IsGiven a.program (if t then (behind (word_at a.words (address_of op))).0 else actors_in a.actors j) (if t then watch_of e else k.made_by.steps.watches j)
           go true = given_behind
           go false = k.watched j
 
       -- the run with these lists
-      pub keeps_behind : (es : Events) (made : Steps) → es.items ≡ a.events.items ++ event_of (length a.made.items + 1) i e.outcome → made.items ≡ a.made.items ++ made_of i e ∷ []
-          → KeepsRun (record { program = a.program; table = a.table; words = words_after a.words e.op; actors = actors_behind; events = es; made = made })
+      pub keeps_behind : (es : Events) (made : Steps)
+          → es.items ≡ a.events.items ++ event_of (length a.made.items + 1) i e.outcome
+          → made.items ≡ a.made.items ++ made_of i e ∷ []
+          → KeepsRun
+          (record { program = a.program; table = a.table; words = words_after a.words e.op; actors = actors_behind; events = es; made = made })
       keeps_behind es made events one = record {
         state = rule_after.next;
         valid = k.valid;
@@ -385,14 +448,17 @@ module _ (a : Run) (k : KeepsRun a) (i : ℕ) (thread : i < a.program.threads) w
             first = k.made_by.steps.first;
             opens = k.made_by.steps.opens;
             watches = replace_at k.made_by.steps.watches i (watch_of e);
-            steps = steps_one_more a.program a.table k.made_by.steps.first [] _ opening_watches k.entries a.words k.state k.made_by.steps.watches i e rule_after.next (watch_of e) k.made_by.steps.steps
+            steps =
+                steps_one_more a.program a.table k.made_by.steps.first [] _ opening_watches k.entries a.words k.state k.made_by.steps.watches i e rule_after.next
+                (watch_of e) k.made_by.steps.steps
                 (subst (λ es. IsStepFrom a.program a.table a.words es k.state i e rule_after.next) (ap events_in k.made_by.events ∙ commits_behind 0 k.entries) (from e op_is old_is out_is)) step_watched;
             workers = λ j worker. starts_right (steps_of j (k.entries ++ (i, e) ∷ [])) (actors_in actors_behind j).counter (under_way j worker);
           };
           events =
               events
               ∙ ap (λ ys. ys ++ event_of (length a.made.items + 1) i e.outcome) k.made_by.events
-              ∙ ap (λ n. events_behind 0 k.entries ++ event_of (n + 1) i e.outcome) (ap length k.made_by.made ∙ made_length k.entries ∙ sym (zero-add (length k.entries)))
+              ∙ ap (λ n. events_behind 0 k.entries ++ event_of (n + 1) i e.outcome)
+              (ap length k.made_by.made ∙ made_length k.entries ∙ sym (zero-add (length k.entries)))
               ∙ sym (events_one_more 0 k.entries i e);
           made = one ∙ ap (λ (ys : List Made). ys ++ made_of i e ∷ []) k.made_by.made ∙ sym (made_one_more k.entries i e);
         };
@@ -401,16 +467,20 @@ module _ (a : Run) (k : KeepsRun a) (i : ℕ) (thread : i < a.program.threads) w
         watched = all_watched;
       }
 
-      pub entries_behind : (es : Events) (made : Steps) (events : es.items ≡ a.events.items ++ event_of (length a.made.items + 1) i e.outcome) (one : made.items ≡ a.made.items ++ made_of i e ∷ []) → (keeps_behind es made events one).entries ≡ k.entries ++ (i, e) ∷ []
+      pub entries_behind : (es : Events) (made : Steps) (events : es.items ≡ a.events.items ++ event_of (length a.made.items + 1) i e.outcome) (one : made.items ≡ a.made.items ++ made_of i e ∷ [])
+          → (keeps_behind es made events one).entries ≡ k.entries ++ (i, e) ∷ []
       unfolding keeps_behind
       entries_behind es made events one = refl
 
     -- the run afterwards
-    pub run_after : (b : Run) (e : Entry) → e.op ≡ op → e.old ≡ word_at a.words (address_of op) → e.outcome ≡ (behind (word_at a.words (address_of op))).1
+    pub run_after : (b : Run) (e : Entry) → e.op ≡ op → e.old ≡ word_at a.words (address_of op)
+        → e.outcome ≡ (behind (word_at a.words (address_of op))).1
         → b.program ≡ a.program → b.table ≡ a.table → b.words ≡ words_after a.words e.op → b.actors ≡ slice_set a.actors i (behind (word_at a.words (address_of op))).0
         → b.made.items ≡ a.made.items ++ made_of i e ∷ [] → b.events.items ≡ a.events.items ++ event_of (length a.made.items + 1) i e.outcome → KeepsRun b
     run_after b e op_is old_is out_is program table words actors made events =
-        subst (λ (q : Program). KeepsRun (record { program = q; table = b.table; words = b.words; actors = b.actors; events = b.events; made = b.made })) (sym program)
+        subst
+        (λ (q : Program). KeepsRun (record { program = q; table = b.table; words = b.words; actors = b.actors; events = b.events; made = b.made }))
+        (sym program)
         (subst (λ t. KeepsRun (record { program = a.program; table = t; words = b.words; actors = b.actors; events = b.events; made = b.made })) (sym table)
         (subst (λ ws. KeepsRun (record { program = a.program; table = a.table; words = ws; actors = b.actors; events = b.events; made = b.made })) (sym words)
         (subst (λ (xs : List Actor). KeepsRun (record { program = a.program; table = a.table; words = words_after a.words e.op; actors = xs; events = b.events; made = b.made })) (sym actors)
@@ -424,8 +494,12 @@ less_div x y n some few =
     let one_more = add-div_right y some in
     omega (arith, most, one_more)
 
-pub spare_after : (a b : Run) → b.program ≡ a.program → 0 < a.program.threads → b.made.spare + 1 ≡ a.made.spare → a.events.spare ≤ b.events.spare + 1 → a.events.seats ≤ b.events.seats + a.program.threads → length b.made.items ≡ length a.made.items + 1 → 1 ≤ spare_in a → spare_in a ≤ spare_in b + 1
+pub spare_after : (a b : Run) → b.program ≡ a.program → 0 < a.program.threads
+    → b.made.spare + 1 ≡ a.made.spare → a.events.spare ≤ b.events.spare + 1
+    → a.events.seats ≤ b.events.seats + a.program.threads → length b.made.items ≡ length a.made.items + 1
+    → 1 ≤ spare_in a → spare_in a ≤ spare_in b + 1
 spare_after a b program some made events seats steps spare =
     let room : a.events.seats / a.program.threads ≤ b.events.seats / b.program.threads + 1 =
-    subst (λ (q : Program). a.events.seats / a.program.threads ≤ b.events.seats / q.threads + 1) (sym program) (less_div a.events.seats b.events.seats a.program.threads some seats) in
+    subst (λ (q : Program). a.events.seats / a.program.threads ≤ b.events.seats / q.threads + 1) (sym program)
+    (less_div a.events.seats b.events.seats a.program.threads some seats) in
     grind (arith, made, events, room, steps, spare)

@@ -18,14 +18,20 @@ pub record Bounds (order : ℕ) (contexts : List ℕ) (segments : List Segment) 
   pub segments_rise : IsTrue (rise_apart_from FIRST_ADDRESS segments)
   pub few_words : total_words segments ≤ MOST_SEGMENT_WORDS
 
-pub bounds_of : (order : ℕ) (contexts : List ℕ) (segments : List Segment) → IsTrue (within_limits order contexts segments) → Bounds order contexts segments
+pub bounds_of : (order : ℕ) (contexts : List ℕ) (segments : List Segment)
+    → IsTrue (within_limits order contexts segments) → Bounds order contexts segments
 bounds_of order contexts segments h =
     let whole = and_parts (eqb order 0 && are_contexts contexts) (are_segments segments) h in
     let front = and_parts (eqb order 0) (are_contexts contexts) whole.0 in
-    let contexts_are = and_parts (leb (length contexts) MOST_CONTEXTS && rises_from 0 contexts) (are_words contexts) front.1 in
-    let contexts_front = and_parts (leb (length contexts) MOST_CONTEXTS) (rises_from 0 contexts) contexts_are.0 in
-    let segments_are = and_parts (leb (length segments) MOST_SEGMENTS && rise_apart_from FIRST_ADDRESS segments) (leb (total_words segments) MOST_SEGMENT_WORDS) whole.1 in
-    let segments_front = and_parts (leb (length segments) MOST_SEGMENTS) (rise_apart_from FIRST_ADDRESS segments) segments_are.0 in
+    let contexts_are =
+    and_parts (leb (length contexts) MOST_CONTEXTS && rises_from 0 contexts) (are_words contexts) front.1 in
+    let contexts_front =
+    and_parts (leb (length contexts) MOST_CONTEXTS) (rises_from 0 contexts) contexts_are.0 in
+    let segments_are =
+    and_parts (leb (length segments) MOST_SEGMENTS && rise_apart_from FIRST_ADDRESS segments)
+    (leb (total_words segments) MOST_SEGMENT_WORDS) whole.1 in
+    let segments_front =
+    and_parts (leb (length segments) MOST_SEGMENTS) (rise_apart_from FIRST_ADDRESS segments) segments_are.0 in
     record {
       order_is = eqb-true order 0 front.0;
       few_contexts = leb-true (length contexts) MOST_CONTEXTS contexts_front.0;

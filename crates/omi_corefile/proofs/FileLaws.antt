@@ -32,28 +32,53 @@ pub record TakesHeader (bytes : List ℕ) (counts : Header) (rest : List ℕ) : 
   pub few_contexts : counts.contexts ≤ MOST_CONTEXTS
   pub few_segments : counts.segments ≤ MOST_SEGMENTS
 
-pub header_taken : (len : ℕ) (bytes : List ℕ) (x : Header × List ℕ) → AreBytes bytes → header_at len bytes ≡ Ok x → TakesHeader bytes x.0 x.1
+pub header_taken : (len : ℕ) (bytes : List ℕ) (x : Header × List ℕ) → AreBytes bytes
+    → header_at len bytes ≡ Ok x → TakesHeader bytes x.0 x.1
 unfolding header_at
 header_taken len bytes x are e =
-    let a = bind_ok (magic_at len bytes) (λ magic. version_at len magic >>= λ version. order_at len version.1 >>= λ order. context_count_at len order.1 >>= λ contexts. segment_count_at len contexts.1 >>= λ segments. Ok (record { order = order.0; contexts = contexts.0; segments = segments.0 }, segments.1)) x e in
-    let b = bind_ok (version_at len a.0) (λ version. order_at len version.1 >>= λ order. context_count_at len order.1 >>= λ contexts. segment_count_at len contexts.1 >>= λ segments. Ok (record { order = order.0; contexts = contexts.0; segments = segments.0 }, segments.1)) x a.2 in
-    let c = bind_ok (order_at len b.0.1) (λ order. context_count_at len order.1 >>= λ contexts. segment_count_at len contexts.1 >>= λ segments. Ok (record { order = order.0; contexts = contexts.0; segments = segments.0 }, segments.1)) x b.2 in
-    let d = bind_ok (context_count_at len c.0.1) (λ contexts. segment_count_at len contexts.1 >>= λ segments. Ok (record { order = c.0.0; contexts = contexts.0; segments = segments.0 }, segments.1)) x c.2 in
-    let f = bind_ok (segment_count_at len d.0.1) (λ segments. Ok (record { order = c.0.0; contexts = d.0.0; segments = segments.0 }, segments.1)) x d.2 in
+    let a =
+    bind_ok (magic_at len bytes)
+    (λ magic. version_at len magic >>= λ version. order_at len version.1 >>= λ order. context_count_at len order.1 >>= λ contexts. segment_count_at len contexts.1 >>= λ segments. Ok (record { order = order.0; contexts = contexts.0; segments = segments.0 }, segments.1)) x e in
+    let b =
+    bind_ok (version_at len a.0)
+    (λ version. order_at len version.1 >>= λ order. context_count_at len order.1 >>= λ contexts. segment_count_at len contexts.1 >>= λ segments. Ok (record { order = order.0; contexts = contexts.0; segments = segments.0 }, segments.1)) x a.2 in
+    let c =
+    bind_ok (order_at len b.0.1)
+    (λ order. context_count_at len order.1 >>= λ contexts. segment_count_at len contexts.1 >>= λ segments. Ok (record { order = order.0; contexts = contexts.0; segments = segments.0 }, segments.1)) x b.2 in
+    let d =
+    bind_ok (context_count_at len c.0.1)
+    (λ contexts. segment_count_at len contexts.1 >>= λ segments. Ok (record { order = c.0.0; contexts = contexts.0; segments = segments.0 }, segments.1)) x c.2 in
+    let f =
+    bind_ok (segment_count_at len d.0.1)
+    (λ segments. Ok (record { order = c.0.0; contexts = d.0.0; segments = segments.0 }, segments.1)) x d.2 in
     let magic_is = magic_taken len bytes a.0 are a.1 in
-    let version_judged = judged_taken (λ v. eqb v 1) (λ v at. Version v) (place_in_file len a.0) (byte_at len a.0) b.0 b.1 in
+    let version_judged =
+    judged_taken (λ v. eqb v 1) (λ v at. Version v) (place_in_file len a.0) (byte_at len a.0) b.0 b.1 in
     let version_is = byte_taken len a.0 b.0 magic_is.rest_are_bytes version_judged.0 in
-    let order_judged = judged_taken (λ v. eqb v 0) (λ v at. Order v) (place_in_file len b.0.1) (byte_at len b.0.1) c.0 c.1 in
+    let order_judged =
+    judged_taken (λ v. eqb v 0) (λ v at. Order v) (place_in_file len b.0.1) (byte_at len b.0.1) c.0 c.1 in
     let order_was = byte_taken len b.0.1 c.0 version_is.rest_are_bytes order_judged.0 in
-    let contexts_judged = judged_taken (λ n. leb n MOST_CONTEXTS) (λ n at. BadContext at) (place_in_file len c.0.1) (number_at w16 len c.0.1) d.0 d.1 in
-    let contexts_are = number_taken w16 (2 ^ 16) width16 len c.0.1 d.0 order_was.rest_are_bytes contexts_judged.0 in
-    let segments_judged = judged_taken (λ n. leb n MOST_SEGMENTS) (λ n at. SegmentOrder at) (place_in_file len d.0.1) (number_at w32 len d.0.1) f.0 f.1 in
-    let segments_are = number_taken w32 (2 ^ 32) width32 len d.0.1 f.0 contexts_are.0.rest_are_bytes segments_judged.0 in
-    let one_version : Takes a.0 (1 ∷ []) b.0.1 = subst (λ (v : ℕ). Takes a.0 (v ∷ []) b.0.1) (eqb-true b.0.0 1 version_judged.1) version_is in
+    let contexts_judged =
+    judged_taken (λ n. leb n MOST_CONTEXTS) (λ n at. BadContext at) (place_in_file len c.0.1)
+    (number_at w16 len c.0.1) d.0 d.1 in
+    let contexts_are =
+    number_taken w16 (2 ^ 16) width16 len c.0.1 d.0 order_was.rest_are_bytes contexts_judged.0 in
+    let segments_judged =
+    judged_taken (λ n. leb n MOST_SEGMENTS) (λ n at. SegmentOrder at) (place_in_file len d.0.1)
+    (number_at w32 len d.0.1) f.0 f.1 in
+    let segments_are =
+    number_taken w32 (2 ^ 32) width32 len d.0.1 f.0 contexts_are.0.rest_are_bytes segments_judged.0 in
+    let one_version : Takes a.0 (1 ∷ []) b.0.1 =
+    subst (λ (v : ℕ). Takes a.0 (v ∷ []) b.0.1) (eqb-true b.0.0 1 version_judged.1) version_is in
     let upto_version = Takes-then bytes (codes "OMPDCOR1") a.0 (1 ∷ []) b.0.1 magic_is one_version in
-    let upto_order = Takes-then bytes (codes "OMPDCOR1" ++ 1 ∷ []) b.0.1 (c.0.0 ∷ []) c.0.1 upto_version order_was in
-    let upto_contexts = Takes-then bytes (codes "OMPDCOR1" ++ 1 ∷ c.0.0 ∷ []) c.0.1 (to_le_bytes w16 d.0.0) d.0.1 upto_order contexts_are.0 in
-    let whole = Takes-then bytes (codes "OMPDCOR1" ++ 1 ∷ c.0.0 ∷ to_le_bytes w16 d.0.0) d.0.1 (to_le_bytes w32 f.0.0) f.0.1 upto_contexts segments_are.0 in
+    let upto_order =
+    Takes-then bytes (codes "OMPDCOR1" ++ 1 ∷ []) b.0.1 (c.0.0 ∷ []) c.0.1 upto_version order_was in
+    let upto_contexts =
+    Takes-then bytes (codes "OMPDCOR1" ++ 1 ∷ c.0.0 ∷ []) c.0.1
+    (to_le_bytes w16 d.0.0) d.0.1 upto_order contexts_are.0 in
+    let whole =
+    Takes-then bytes (codes "OMPDCOR1" ++ 1 ∷ c.0.0 ∷ to_le_bytes w16 d.0.0) d.0.1
+    (to_le_bytes w32 f.0.0) f.0.1 upto_contexts segments_are.0 in
     let made : Header × List ℕ = (record { order = c.0.0; contexts = d.0.0; segments = f.0.0 }, f.0.1) in
     subst (λ (y : Header × List ℕ). TakesHeader bytes y.0 y.1) {x = made} (ok_is made x f.2) (record {
       taken = whole;
@@ -67,21 +92,47 @@ magic_short : (len : ℕ) (bytes : List ℕ) → length bytes < 8 → magic_at l
 unfolding magic_at
 magic_short len bytes below = let too_short = lt-ltb (length bytes) 8 below in rw too_short refl
 
-pub Reads-header : (len contexts segments : ℕ) → contexts ≤ MOST_CONTEXTS → segments ≤ MOST_SEGMENTS → Reads len (header_at len) (header 0 contexts segments) (record { order = 0; contexts = contexts; segments = segments })
+pub Reads-header : (len contexts segments : ℕ) → contexts ≤ MOST_CONTEXTS → segments ≤ MOST_SEGMENTS
+    → Reads len (header_at len) (header 0 contexts segments) (record { order = 0; contexts = contexts; segments = segments })
 unfolding header_at
 Reads-header len contexts segments few_contexts few_segments =
     let made : ℕ → ℕ → ℕ → Header = λ o c s. record { order = o; contexts = c; segments = s } in
     let name : List ℕ = codes "OMPDCOR1" in
-    let version_is = Reads-judged len (λ v. eqb v 1) (λ v at. Version v) (place_in_file len) (byte_at len) (1 ∷ []) 1 (Reads-byte len 1) refl in
-    let order_is = Reads-judged len (λ b. eqb b 0) (λ b at. Order b) (place_in_file len) (byte_at len) (0 ∷ []) 0 (Reads-byte len 0) refl in
-    let contexts_are = Reads-judged len (λ n. leb n MOST_CONTEXTS) (λ n at. BadContext at) (place_in_file len) (number_at w16 len) (to_le_bytes w16 contexts) contexts (Reads-number w16 (2 ^ 16) width16 len contexts (omega arith)) (le-leb contexts MOST_CONTEXTS few_contexts) in
-    let segments_are = Reads-judged len (λ n. leb n MOST_SEGMENTS) (λ n at. SegmentOrder at) (place_in_file len) (number_at w32 len) (to_le_bytes w32 segments) segments (Reads-number w32 (2 ^ 32) width32 len segments (omega arith)) (le-leb segments MOST_SEGMENTS few_segments) in
-    let from_segments = Reads-map len (segment_count_at len) (made 0 contexts) (to_le_bytes w32 segments) segments segments_are in
-    let from_contexts = Reads-then len (context_count_at len) (λ (c : ℕ) bytes. segment_count_at len bytes >>= λ s. Ok (made 0 c s.0, s.1)) (to_le_bytes w16 contexts) (to_le_bytes w32 segments) contexts (made 0 contexts segments) contexts_are from_segments in
-    let from_order = Reads-then len (order_at len) (λ (o : ℕ) bytes. context_count_at len bytes >>= λ c. segment_count_at len c.1 >>= λ s. Ok (made o c.0 s.0, s.1)) (0 ∷ []) (to_le_bytes w16 contexts ++ to_le_bytes w32 segments) 0 (made 0 contexts segments) order_is from_contexts in
-    let after_name : List ℕ → ReadStep Header = λ bytes. version_at len bytes >>= λ v. order_at len v.1 >>= λ o. context_count_at len o.1 >>= λ c. segment_count_at len c.1 >>= λ s. Ok (made o.0 c.0 s.0, s.1) in
+    let version_is =
+    Reads-judged len (λ v. eqb v 1) (λ v at. Version v) (place_in_file len) (byte_at len) (1 ∷ []) 1
+    (Reads-byte len 1) refl in
+    let order_is =
+    Reads-judged len (λ b. eqb b 0) (λ b at. Order b) (place_in_file len) (byte_at len) (0 ∷ []) 0
+    (Reads-byte len 0) refl in
+    let contexts_are =
+    Reads-judged len (λ n. leb n MOST_CONTEXTS) (λ n at. BadContext at) (place_in_file len)
+    (number_at w16 len) (to_le_bytes w16 contexts) contexts
+    (Reads-number w16 (2 ^ 16) width16 len contexts (omega arith))
+    (le-leb contexts MOST_CONTEXTS few_contexts) in
+    let segments_are =
+    Reads-judged len (λ n. leb n MOST_SEGMENTS) (λ n at. SegmentOrder at) (place_in_file len)
+    (number_at w32 len) (to_le_bytes w32 segments) segments
+    (Reads-number w32 (2 ^ 32) width32 len segments (omega arith))
+    (le-leb segments MOST_SEGMENTS few_segments) in
+    let from_segments =
+    Reads-map len (segment_count_at len) (made 0 contexts) (to_le_bytes w32 segments) segments segments_are in
+    let from_contexts =
+    Reads-then len (context_count_at len)
+    (λ (c : ℕ) bytes. segment_count_at len bytes >>= λ s. Ok (made 0 c s.0, s.1)) (to_le_bytes w16 contexts)
+    (to_le_bytes w32 segments) contexts (made 0 contexts segments) contexts_are from_segments in
+    let from_order =
+    Reads-then len (order_at len)
+    (λ (o : ℕ) bytes. context_count_at len bytes >>= λ c. segment_count_at len c.1 >>= λ s. Ok (made o c.0 s.0, s.1))
+    (0 ∷ []) (to_le_bytes w16 contexts ++ to_le_bytes w32 segments) 0
+    (made 0 contexts segments) order_is from_contexts in
+    let after_name : List ℕ → ReadStep Header =
+    λ bytes. version_at len bytes >>= λ v. order_at len v.1 >>= λ o. context_count_at len o.1 >>= λ c. segment_count_at len c.1 >>= λ s. Ok (made o.0 c.0 s.0, s.1) in
     let text : List ℕ = 1 ∷ 0 ∷ to_le_bytes w16 contexts ++ to_le_bytes w32 segments in
-    let from_version : Reads len after_name text (made 0 contexts segments) = Reads-then len (version_at len) (λ (v : ℕ) bytes. order_at len bytes >>= λ o. context_count_at len o.1 >>= λ c. segment_count_at len c.1 >>= λ s. Ok (made o.0 c.0 s.0, s.1)) (1 ∷ []) (0 ∷ to_le_bytes w16 contexts ++ to_le_bytes w32 segments) 1 (made 0 contexts segments) version_is from_order in
+    let from_version : Reads len after_name text (made 0 contexts segments) =
+    Reads-then len (version_at len)
+    (λ (v : ℕ) bytes. order_at len bytes >>= λ o. context_count_at len o.1 >>= λ c. segment_count_at len c.1 >>= λ s. Ok (made o.0 c.0 s.0, s.1))
+    (1 ∷ []) (0 ∷ to_le_bytes w16 contexts ++ to_le_bytes w32 segments) 1
+    (made 0 contexts segments) version_is from_order in
     record {
       whole = λ rest. bind_again (magic_at len (name ++ (text ++ rest))) after_name (text ++ rest) (magic_again len (text ++ rest)) ∙ from_version.whole rest;
       cut = λ n below. elim (cases_lt n 8) [
@@ -89,8 +140,12 @@ Reads-header len contexts segments few_contexts few_segments =
         | inr past ↦
             let m : ℕ = n - 8 in
             let split : n ≡ 8 + m = omega arith in
-            let fronts : take n (name ++ text) ≡ name ++ take m text = ap (λ (k : ℕ). take k (name ++ text)) split ∙ take-append-add name text m in
-            ap (header_at len) fronts ∙ bind_again (magic_at len (name ++ take m text)) after_name (take m text) (magic_again len (take m text)) ∙ from_version.cut m (omega (arith, below))
+            let fronts : take n (name ++ text) ≡ name ++ take m text =
+            ap (λ (k : ℕ). take k (name ++ text)) split ∙ take-append-add name text m in
+            ap (header_at len) fronts
+            ∙ bind_again (magic_at len (name ++ take m text)) after_name (take m text)
+            (magic_again len (take m text))
+            ∙ from_version.cut m (omega (arith, below))
       ];
     }
 
@@ -98,15 +153,18 @@ Reads-header len contexts segments few_contexts few_segments =
 
 -- what follows a header
 abbrev pub after_header : ℕ → Header × List ℕ → ReadStep Parts
-after_header len counts = contexts_at len counts.0.contexts counts.1 >>= λ contexts. segments_at len counts.0.segments contexts.1 >>= λ segments. Ok (record { order = counts.0.order; contexts = contexts.0; segments = segments.0 }, segments.1)
+after_header len counts =
+    contexts_at len counts.0.contexts counts.1 >>= λ contexts. segments_at len counts.0.segments contexts.1 >>= λ segments. Ok (record { order = counts.0.order; contexts = contexts.0; segments = segments.0 }, segments.1)
 
 -- what follows the contexts
 abbrev pub after_contexts : ℕ → Header → List ℕ × List ℕ → ReadStep Parts
-after_contexts len counts contexts = segments_at len counts.segments contexts.1 >>= λ segments. Ok (record { order = counts.order; contexts = contexts.0; segments = segments.0 }, segments.1)
+after_contexts len counts contexts =
+    segments_at len counts.segments contexts.1 >>= λ segments. Ok (record { order = counts.order; contexts = contexts.0; segments = segments.0 }, segments.1)
 
 -- what follows the segments
 abbrev pub after_segments : Header → List ℕ → List Segment × List ℕ → ReadStep Parts
-after_segments counts contexts segments = Ok (record { order = counts.order; contexts = contexts; segments = segments.0 }, segments.1)
+after_segments counts contexts segments =
+    Ok (record { order = counts.order; contexts = contexts; segments = segments.0 }, segments.1)
 
 -- nothing follows the last segment
 abbrev pub ended : ℕ → Parts × List ℕ → Result Parts ReadRefusal
@@ -114,20 +172,31 @@ ended len parts = cond (eqb (length parts.1) 0) (Ok parts.0) (Err (trailing len 
 
 -- these parts keep the limits, and are spelled so
 abbrev pub IsFile : List ℕ → Parts → Type 0
-IsFile bytes p = IsTrue (within_limits p.order p.contexts p.segments) × (bytes ≡ spelling_of p.order p.contexts p.segments)
+IsFile bytes p =
+    IsTrue (within_limits p.order p.contexts p.segments) × (bytes ≡ spelling_of p.order p.contexts p.segments)
 
 -- the parts keep the limits, and their spelling was taken
 abbrev TakesParts : List ℕ → Parts × List ℕ → Type 0
-TakesParts bytes x = IsTrue (within_limits x.0.order x.0.contexts x.0.segments) × Takes bytes (spelling_of x.0.order x.0.contexts x.0.segments) x.1
+TakesParts bytes x =
+    IsTrue (within_limits x.0.order x.0.contexts x.0.segments) × Takes bytes (spelling_of x.0.order x.0.contexts x.0.segments) x.1
 
-within : (order : ℕ) (contexts : List ℕ) (segments : List Segment) → Bounds order contexts segments → IsTrue (within_limits order contexts segments)
+within : (order : ℕ) (contexts : List ℕ) (segments : List Segment) → Bounds order contexts segments
+    → IsTrue (within_limits order contexts segments)
 within order contexts segments b =
-    let contexts_are = and_from (leb (length contexts) MOST_CONTEXTS && rises_from 0 contexts) (are_words contexts) (and_from (leb (length contexts) MOST_CONTEXTS) (rises_from 0 contexts) (le-leb (length contexts) MOST_CONTEXTS b.few_contexts) b.contexts_rise) b.contexts_are_words in
-    let segments_are = and_from (leb (length segments) MOST_SEGMENTS && rise_apart_from FIRST_ADDRESS segments) (leb (total_words segments) MOST_SEGMENT_WORDS) (and_from (leb (length segments) MOST_SEGMENTS) (rise_apart_from FIRST_ADDRESS segments) (le-leb (length segments) MOST_SEGMENTS b.few_segments) b.segments_rise) (le-leb (total_words segments) MOST_SEGMENT_WORDS b.few_words) in
+    let contexts_are =
+    and_from (leb (length contexts) MOST_CONTEXTS && rises_from 0 contexts) (are_words contexts)
+    (and_from (leb (length contexts) MOST_CONTEXTS) (rises_from 0 contexts) (le-leb (length contexts) MOST_CONTEXTS b.few_contexts) b.contexts_rise) b.contexts_are_words in
+    let segments_are =
+    and_from (leb (length segments) MOST_SEGMENTS && rise_apart_from FIRST_ADDRESS segments)
+    (leb (total_words segments) MOST_SEGMENT_WORDS)
+    (and_from (leb (length segments) MOST_SEGMENTS) (rise_apart_from FIRST_ADDRESS segments) (le-leb (length segments) MOST_SEGMENTS b.few_segments) b.segments_rise)
+    (le-leb (total_words segments) MOST_SEGMENT_WORDS b.few_words) in
     let order_is : eqb order 0 ≡ true = ap (λ (n : ℕ). eqb n 0) b.order_is in
-    and_from (eqb order 0 && are_contexts contexts) (are_segments segments) (and_from (eqb order 0) (are_contexts contexts) order_is contexts_are) segments_are
+    and_from (eqb order 0 && are_contexts contexts) (are_segments segments)
+    (and_from (eqb order 0) (are_contexts contexts) order_is contexts_are) segments_are
 
-parts_taken : (len : ℕ) (bytes : List ℕ) (x : Parts × List ℕ) → AreBytes bytes → parts_at len bytes ≡ Ok x → TakesParts bytes x
+parts_taken : (len : ℕ) (bytes : List ℕ) (x : Parts × List ℕ) → AreBytes bytes → parts_at len bytes ≡ Ok x
+    → TakesParts bytes x
 unfolding parts_at
 parts_taken len bytes x are e =
     let a = bind_ok (header_at len bytes) (after_header len) x e in
@@ -139,8 +208,14 @@ parts_taken len bytes x are e =
     let header_bytes : List ℕ = header a.0.0.order a.0.0.contexts a.0.0.segments in
     let front = Takes-then bytes header_bytes a.0.1 (numbers b.0.0) b.0.1 header_is.taken contexts_are.0 in
     let text : List ℕ = (header_bytes ++ numbers b.0.0) ++ flat_map segment_bytes c.0.0 in
-    let whole : Takes bytes text c.0.1 = Takes-then bytes (header_bytes ++ numbers b.0.0) b.0.1 (flat_map segment_bytes c.0.0) c.0.1 front segments_are.0 in
-    let counted : text ≡ spelling_of a.0.0.order b.0.0 c.0.0 = ap (λ (n : ℕ). (header a.0.0.order n a.0.0.segments ++ numbers b.0.0) ++ flat_map segment_bytes c.0.0) (sym contexts_are.1) ∙ ap (λ (n : ℕ). (header a.0.0.order (length b.0.0) n ++ numbers b.0.0) ++ flat_map segment_bytes c.0.0) (sym segments_are.1) in
+    let whole : Takes bytes text c.0.1 =
+    Takes-then bytes (header_bytes ++ numbers b.0.0) b.0.1
+    (flat_map segment_bytes c.0.0) c.0.1 front segments_are.0 in
+    let counted : text ≡ spelling_of a.0.0.order b.0.0 c.0.0 =
+    ap (λ (n : ℕ). (header a.0.0.order n a.0.0.segments ++ numbers b.0.0) ++ flat_map segment_bytes c.0.0)
+    (sym contexts_are.1)
+    ∙ ap (λ (n : ℕ). (header a.0.0.order (length b.0.0) n ++ numbers b.0.0) ++ flat_map segment_bytes c.0.0)
+    (sym segments_are.1) in
     let keeps = within a.0.0.order b.0.0 c.0.0 (record {
       order_is = header_is.order_is;
       few_contexts = omega (arith, contexts_are.1, header_is.few_contexts);
@@ -151,7 +226,8 @@ parts_taken len bytes x are e =
       few_words = segments_are.3;
     }) in
     let made : Parts × List ℕ = (record { order = a.0.0.order; contexts = b.0.0; segments = c.0.0 }, c.0.1) in
-    subst (TakesParts bytes) {x = made} (ok_is made x c.2) (keeps, subst (λ (t : List ℕ). Takes bytes t c.0.1) counted whole)
+    subst (TakesParts bytes) {x = made} (ok_is made x c.2)
+    (keeps, subst (λ (t : List ℕ). Takes bytes t c.0.1) counted whole)
 
 pub reading_taken : (bytes : List ℕ) (p : Parts) → AreBytes bytes → reading bytes ≡ Ok p → IsFile bytes p
 unfolding reading
@@ -162,19 +238,32 @@ reading_taken bytes p are e =
     let file = parts_taken len bytes a.0 are a.1 in
     let nothing : a.0.1 ≡ [] = nil_from_length a.0.1 (eqb-true (length a.0.1) 0 no_more.0) in
     let text : List ℕ = spelling_of a.0.0.order a.0.0.contexts a.0.0.segments in
-    let spelled : bytes ≡ text = file.1.parts ∙ ap (λ (rest : List ℕ). text ++ rest) nothing ∙ append-nil text in
+    let spelled : bytes ≡ text =
+    file.1.parts ∙ ap (λ (rest : List ℕ). text ++ rest) nothing ∙ append-nil text in
     subst (IsFile bytes) no_more.1 (file.0, spelled)
 
-Reads-parts_at_zero : (len : ℕ) (contexts : List ℕ) (segments : List Segment) → Bounds 0 contexts segments → Reads len (parts_at len) (spelling_of 0 contexts segments) (record { order = 0; contexts = contexts; segments = segments })
+Reads-parts_at_zero : (len : ℕ) (contexts : List ℕ) (segments : List Segment) → Bounds 0 contexts segments
+    → Reads len (parts_at len) (spelling_of 0 contexts segments) (record { order = 0; contexts = contexts; segments = segments })
 unfolding parts_at
 Reads-parts_at_zero len contexts segments b =
-    let made : ℕ → List ℕ → List Segment → Parts = λ o c s. record { order = o; contexts = c; segments = s } in
+    let made : ℕ → List ℕ → List Segment → Parts =
+    λ o c s. record { order = o; contexts = c; segments = s } in
     let counts : Header = record { order = 0; contexts = length contexts; segments = length segments } in
     let parts : Parts = made 0 contexts segments in
     let segments_are = Reads-segments len segments b.segments_rise b.few_words in
-    let from_segments = Reads-map len (segments_at len (length segments)) (made 0 contexts) (flat_map segment_bytes segments) segments segments_are in
-    let from_contexts = Reads-then len (contexts_at len (length contexts)) (λ (c : List ℕ) bytes. segments_at len (length segments) bytes >>= λ s. Ok (made 0 c s.0, s.1)) (numbers contexts) (flat_map segment_bytes segments) contexts parts (Reads-contexts len contexts b.contexts_rise b.contexts_are_words) from_segments in
-    Reads-then len (header_at len) (λ (h : Header) bytes. contexts_at len h.contexts bytes >>= λ c. segments_at len h.segments c.1 >>= λ s. Ok (made h.order c.0 s.0, s.1)) (header 0 (length contexts) (length segments)) (numbers contexts ++ flat_map segment_bytes segments) counts parts (Reads-header len (length contexts) (length segments) b.few_contexts b.few_segments) from_contexts
+    let from_segments =
+    Reads-map len (segments_at len (length segments)) (made 0 contexts)
+    (flat_map segment_bytes segments) segments segments_are in
+    let from_contexts =
+    Reads-then len (contexts_at len (length contexts))
+    (λ (c : List ℕ) bytes. segments_at len (length segments) bytes >>= λ s. Ok (made 0 c s.0, s.1))
+    (numbers contexts) (flat_map segment_bytes segments) contexts parts
+    (Reads-contexts len contexts b.contexts_rise b.contexts_are_words) from_segments in
+    Reads-then len (header_at len)
+    (λ (h : Header) bytes. contexts_at len h.contexts bytes >>= λ c. segments_at len h.segments c.1 >>= λ s. Ok (made h.order c.0 s.0, s.1))
+    (header 0 (length contexts) (length segments))
+    (numbers contexts ++ flat_map segment_bytes segments) counts parts
+    (Reads-header len (length contexts) (length segments) b.few_contexts b.few_segments) from_contexts
 
 -- what a core holds, without its limits
 abbrev pub parts_of : CoreImage → Parts
@@ -183,34 +272,44 @@ parts_of c = record { order = c.order; contexts = c.contexts; segments = c.segme
 pub Reads-core : (len : ℕ) (c : CoreImage) → Reads len (parts_at len) (spelling c) (parts_of c)
 Reads-core len c =
     let b = bounds c in
-    let at_zero : Bounds 0 c.contexts c.segments = subst (λ (n : ℕ). Bounds n c.contexts c.segments) b.order_is b in
-    subst (λ (n : ℕ). Reads len (parts_at len) (spelling_of n c.contexts c.segments) (record { order = n; contexts = c.contexts; segments = c.segments })) (sym b.order_is) (Reads-parts_at_zero len c.contexts c.segments at_zero)
+    let at_zero : Bounds 0 c.contexts c.segments =
+    subst (λ (n : ℕ). Bounds n c.contexts c.segments) b.order_is b in
+    subst
+    (λ (n : ℕ). Reads len (parts_at len) (spelling_of n c.contexts c.segments) (record { order = n; contexts = c.contexts; segments = c.segments }))
+    (sym b.order_is) (Reads-parts_at_zero len c.contexts c.segments at_zero)
 
 pub reading_again : (c : CoreImage) → reading (spelling c) ≡ Ok (parts_of c)
 unfolding reading
 reading_again c =
     let text : List ℕ = spelling c in
     let len : ℕ = length text in
-    bind_again (parts_at len text) (ended len) (parts_of c, []) (ap (parts_at len) (sym (append-nil text)) ∙ (Reads-core len c).whole [])
+    bind_again (parts_at len text) (ended len) (parts_of c, [])
+    (ap (parts_at len) (sym (append-nil text)) ∙ (Reads-core len c).whole [])
 
 -- a file that ends inside a core
-pub cut_short : (c : CoreImage) (n : ℕ) → n < length (spelling c) → CoreRefused (take n (spelling c)) n (Short n)
+pub cut_short : (c : CoreImage) (n : ℕ) → n < length (spelling c)
+    → CoreRefused (take n (spelling c)) n (Short n)
 unfolding reading
 cut_short c n below =
     let bytes : List ℕ = take n (spelling c) in
     let so_long : length bytes ≡ n = length-take-le n (spelling c) (omega (arith, below)) in
-    let failed : reading bytes ≡ Err (length bytes, Short (length bytes)) = bind_failed (parts_at (length bytes) bytes) (ended (length bytes)) (short (length bytes)) ((Reads-core (length bytes) c).cut n below) in
+    let failed : reading bytes ≡ Err (length bytes, Short (length bytes)) =
+    bind_failed (parts_at (length bytes) bytes) (ended (length bytes)) (short (length bytes))
+    ((Reads-core (length bytes) c).cut n below) in
     subst (λ (k : ℕ). reading bytes ≡ Err (k, Short k)) so_long failed
 
 -- bytes after a core
-pub too_many : (c : CoreImage) (more : List ℕ) → 0 < length more → CoreRefused (spelling c ++ more) (length (spelling c)) (Trailing (length (spelling c)))
+pub too_many : (c : CoreImage) (more : List ℕ) → 0 < length more
+    → CoreRefused (spelling c ++ more) (length (spelling c)) (Trailing (length (spelling c)))
 unfolding reading
 too_many c more some =
     let text : List ℕ = spelling c in
     let len : ℕ = length (text ++ more) in
     let left : eqb (length more) 0 ≡ false = ne_eqb (length more) 0 (λ none. omega (arith, some, none)) in
     let at : place_in_file len more ≡ length text = omega (arith, length-append text more) in
-    let failed : reading (text ++ more) ≡ Err (trailing len more) = bind_again (parts_at len (text ++ more)) (ended len) (parts_of c, more) ((Reads-core len c).whole more) ∙ rw left refl in
+    let failed : reading (text ++ more) ≡ Err (trailing len more) =
+    bind_again (parts_at len (text ++ more)) (ended len) (parts_of c, more) ((Reads-core len c).whole more)
+    ∙ rw left refl in
     subst (λ (k : ℕ). reading (text ++ more) ≡ Err (k, Trailing k)) at failed
 
 -- ---- cores
@@ -219,10 +318,13 @@ too_many c more some =
 abbrev pub core_with : (p : Parts) → IsTrue (within_limits p.order p.contexts p.segments) → CoreImage
 core_with p keeps = record { order = p.order; contexts = p.contexts; segments = p.segments; limits = keeps }
 
-pub core_is : (c : CoreImage) (p : Parts) (keeps : IsTrue (within_limits p.order p.contexts p.segments)) → parts_of c ≡ p → c ≡ core_with p keeps
+pub core_is : (c : CoreImage) (p : Parts) (keeps : IsTrue (within_limits p.order p.contexts p.segments))
+    → parts_of c ≡ p → c ≡ core_with p keeps
 core_is c p keeps e =
-    let Same : Parts → Type 0 = λ q. (k : IsTrue (within_limits q.order q.contexts q.segments)) → c ≡ core_with q k in
-    let here : Same (parts_of c) = λ k. ap (core_with (parts_of c)) (Bool-set (within_limits c.order c.contexts c.segments) true c.limits k) in
+    let Same : Parts → Type 0 =
+    λ q. (k : IsTrue (within_limits q.order q.contexts q.segments)) → c ≡ core_with q k in
+    let here : Same (parts_of c) =
+    λ k. ap (core_with (parts_of c)) (Bool-set (within_limits c.order c.contexts c.segments) true c.limits k) in
     subst Same e here keeps
 
 pub core_unique : (bytes : List ℕ) (c d : CoreImage) → Core bytes c → Core bytes d → c ≡ d
@@ -233,7 +335,8 @@ core_unique bytes c d is_c is_d =
 
 -- ---- one answer
 
-answer_of : (bytes : List ℕ) (read : Result Parts ReadRefusal) → AreBytes bytes → reading bytes ≡ read → IsCore bytes ⊎ IsRefused bytes
+answer_of : (bytes : List ℕ) (read : Result Parts ReadRefusal) → AreBytes bytes → reading bytes ≡ read
+    → IsCore bytes ⊎ IsRefused bytes
 answer_of bytes (Ok p) are e =
     let file = reading_taken bytes p are e in
     inl (core_with p file.0, file.1)
@@ -251,10 +354,12 @@ core_not_refused bytes core refused =
 -- a core is not answered by a fault
 pub error_at_core : (e : CoreError) (bytes : List ℕ) (c : CoreImage) (P : Type 0) → Fails e (reading bytes) → Core bytes c → (let answer : Result CoreImage CoreError = Err e in UnlessMemory answer P)
 error_at_core OutOfMemory bytes c P failed is_core = tt
-error_at_core (Fault at why) bytes c P failed is_core = absurd (core_not_refused bytes (c, is_core) (at, why, failed))
+error_at_core (Fault at why) bytes c P failed is_core =
+    absurd (core_not_refused bytes (c, is_core) (at, why, failed))
 
 -- a file that was read as these parts is no other core
-pub core_read : (bytes : List ℕ) (c : CoreImage) (p : Parts) (keeps : IsTrue (within_limits p.order p.contexts p.segments)) → Core bytes c → reading bytes ≡ Ok p → core_with p keeps ≡ c
+pub core_read : (bytes : List ℕ) (c : CoreImage) (p : Parts) (keeps : IsTrue (within_limits p.order p.contexts p.segments))
+    → Core bytes c → reading bytes ≡ Ok p → core_with p keeps ≡ c
 core_read bytes c p keeps is_core e =
     let read_c : reading bytes ≡ Ok (parts_of c) = ap reading is_core ∙ reading_again c in
     sym (core_is c p keeps (ok_is (parts_of c) p (sym read_c ∙ e)))

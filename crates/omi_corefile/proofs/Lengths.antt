@@ -12,24 +12,34 @@ pub length-numbers : (ns : List ℕ) → length (numbers ns) ≡ 8 * length ns
 length-numbers [] = refl
 length-numbers (n ∷ ns) = omega (arith, length-append (eight_bytes n) (numbers ns), length-numbers ns)
 
-pub length-segments : (ss : List Segment) → length (flat_map segment_bytes ss) ≡ 16 * length ss + 8 * total_words ss
+pub length-segments : (ss : List Segment)
+    → length (flat_map segment_bytes ss) ≡ 16 * length ss + 8 * total_words ss
 length-segments [] = refl
-length-segments (s ∷ ss) = omega (arith, length-append (segment_bytes s) (flat_map segment_bytes ss), length-numbers s.words, length-segments ss, sum_by-cons (λ (t : Segment). length t.words) s ss)
+length-segments (s ∷ ss) =
+    omega
+    (arith, length-append (segment_bytes s) (flat_map segment_bytes ss), length-numbers s.words, length-segments ss, sum_by-cons (λ (t : Segment). length t.words) s ss)
 
-pub length-spelling_of : (order : ℕ) (contexts : List ℕ) (segments : List Segment) → length (spelling_of order contexts segments) ≡ 16 + 8 * length contexts + 16 * length segments + 8 * total_words segments
-length-spelling_of order contexts segments = omega (arith, length-append (numbers contexts) (flat_map segment_bytes segments), length-numbers contexts, length-segments segments)
+pub length-spelling_of : (order : ℕ) (contexts : List ℕ) (segments : List Segment)
+    → length (spelling_of order contexts segments) ≡ 16 + 8 * length contexts + 16 * length segments + 8 * total_words segments
+length-spelling_of order contexts segments =
+    omega
+    (arith, length-append (numbers contexts) (flat_map segment_bytes segments), length-numbers contexts, length-segments segments)
 
 -- one field after another, put at the end
 pub three_fields : (out a b c : List ℕ) → ((out ++ a) ++ b) ++ c ≡ out ++ ((a ++ b) ++ c)
 three_fields out a b c = simp append_assoc
 
 -- an image that has a word gives one segment
-pub one_segment : (contexts words : List ℕ) → 0 < length words → spelling_of 0 contexts (segments_of words) ≡ core_bytes contexts words
+pub one_segment : (contexts words : List ℕ) → 0 < length words
+    → spelling_of 0 contexts (segments_of words) ≡ core_bytes contexts words
 one_segment contexts [] some = absurd (omega (arith, some))
 one_segment contexts (w ∷ ws) some =
     let front = header 0 (length contexts) 1 ++ numbers contexts in
-    ap (λ (x : List ℕ). front ++ x) (append-nil (eight_bytes FIRST_ADDRESS ++ eight_bytes (length (w ∷ ws)) ++ numbers (w ∷ ws))) ∙ simp append_assoc
+    ap (λ (x : List ℕ). front ++ x)
+    (append-nil (eight_bytes FIRST_ADDRESS ++ eight_bytes (length (w ∷ ws)) ++ numbers (w ∷ ws)))
+    ∙ simp append_assoc
 
-pub segments_of_some : (words : List ℕ) → 0 < length words → segments_of words ≡ record { start = FIRST_ADDRESS; words = words } ∷ []
+pub segments_of_some : (words : List ℕ) → 0 < length words
+    → segments_of words ≡ record { start = FIRST_ADDRESS; words = words } ∷ []
 segments_of_some [] some = absurd (omega (arith, some))
 segments_of_some (w ∷ ws) some = refl

@@ -14,21 +14,25 @@ use Rattle.omi_corefile.specs.Refusals.{ReadRefusal, ReadStep, ◌>>=◌, AreByt
 -- ---- steps
 
 -- a step that did not fail had a value
-pub bind_ok : {A B : Type 0} (read : Result A ReadRefusal) (f : A → Result B ReadRefusal) (y : B) → (read >>= f) ≡ Ok y → (x : A) × (read ≡ Ok x) × (f x ≡ Ok y)
+pub bind_ok : {A B : Type 0} (read : Result A ReadRefusal) (f : A → Result B ReadRefusal) (y : B)
+    → (read >>= f) ≡ Ok y → (x : A) × (read ≡ Ok x) × (f x ≡ Ok y)
 bind_ok (Ok x) f y e = (x, refl, e)
 bind_ok (Err d) f y e = absurd cc
 
 -- a step that had a value goes on with it
-pub bind_again : {A B : Type 0} (read : Result A ReadRefusal) (f : A → Result B ReadRefusal) (x : A) → read ≡ Ok x → (read >>= f) ≡ f x
+pub bind_again : {A B : Type 0} (read : Result A ReadRefusal) (f : A → Result B ReadRefusal) (x : A)
+    → read ≡ Ok x → (read >>= f) ≡ f x
 bind_again read f x e = rw e refl
 
 -- a test that did not fail
-pub passed : {A : Type 0} (b : Bool) (r : ReadRefusal) (x y : A) → cond b (Ok x) (Err r) ≡ Ok y → (b ≡ true) × (x ≡ y)
+pub passed : {A : Type 0} (b : Bool) (r : ReadRefusal) (x y : A) → cond b (Ok x) (Err r) ≡ Ok y
+    → (b ≡ true) × (x ≡ y)
 passed true r x y e = (refl, cc)
 passed false r x y e = absurd cc
 
 -- a test for a fault that did not show it
-pub not_failed : {A : Type 0} (b : Bool) (r : ReadRefusal) (read : Result A ReadRefusal) (y : A) → cond b (Err r) read ≡ Ok y → (b ≡ false) × (read ≡ Ok y)
+pub not_failed : {A : Type 0} (b : Bool) (r : ReadRefusal) (read : Result A ReadRefusal) (y : A)
+    → cond b (Err r) read ≡ Ok y → (b ≡ false) × (read ≡ Ok y)
 not_failed true r read y e = absurd cc
 not_failed false r read y e = (refl, e)
 
@@ -63,7 +67,8 @@ Takes-drop n bytes are = record { parts = sym (take-append-drop n bytes); rest_a
 -- the numbers below `limit` are those of this width
 pub record HasWidth (w : Width) (limit : ℕ) : Type 0 where
   pub len : (n : ℕ) → length (to_le_bytes w n) ≡ byte_len w
-  pub written : (bytes : List ℕ) → length bytes ≡ byte_len w → AreBytes bytes → to_le_bytes w (from_le_bytes w bytes) ≡ bytes
+  pub written : (bytes : List ℕ) → length bytes ≡ byte_len w → AreBytes bytes
+      → to_le_bytes w (from_le_bytes w bytes) ≡ bytes
   pub read : (n : ℕ) → n < limit → from_le_bytes w (to_le_bytes w n) ≡ n
   pub below : (bytes : List ℕ) → AreBytes bytes → from_le_bytes w bytes < limit
 
@@ -91,25 +96,33 @@ width64 = record {
   below = λ bytes are. omega (arith, are 0, are 1, are 2, are 3, are 4, are 5, are 6, are 7);
 }
 
-pub number_taken : (w : Width) (limit : ℕ) (width : HasWidth w limit) (len : ℕ) (bytes : List ℕ) (x : ℕ × List ℕ) → AreBytes bytes → number_at w len bytes ≡ Ok x → Takes bytes (to_le_bytes w x.0) x.1 × (x.0 < limit)
+pub number_taken : (w : Width) (limit : ℕ) (width : HasWidth w limit) (len : ℕ) (bytes : List ℕ) (x : ℕ × List ℕ)
+    → AreBytes bytes → number_at w len bytes ≡ Ok x → Takes bytes (to_le_bytes w x.0) x.1 × (x.0 < limit)
 number_taken w limit width len bytes x are e =
     let front : List ℕ = take (byte_len w) bytes in
     let got : ℕ × List ℕ = (from_le_bytes w front, drop (byte_len w) bytes) in
     let went = not_failed (ltb (length bytes) (byte_len w)) (short len) (Ok got) x e in
     let long : byte_len w ≤ length bytes = ltb-false _ _ went.0 in
     let front_are : AreBytes front = AreBytes-take (byte_len w) bytes are in
-    let written : to_le_bytes w (from_le_bytes w front) ≡ front = width.written front (omega (arith, length-take (byte_len w) bytes)) front_are in
-    let taken : Takes bytes (to_le_bytes w got.0) got.1 = subst (λ (text : List ℕ). Takes bytes text (drop (byte_len w) bytes)) (sym written) (Takes-drop (byte_len w) bytes are) in
-    subst (λ (y : ℕ × List ℕ). Takes bytes (to_le_bytes w y.0) y.1 × (y.0 < limit)) {x = got} (ok_is got x went.1) (taken, width.below front front_are)
+    let written : to_le_bytes w (from_le_bytes w front) ≡ front =
+    width.written front (omega (arith, length-take (byte_len w) bytes)) front_are in
+    let taken : Takes bytes (to_le_bytes w got.0) got.1 =
+    subst (λ (text : List ℕ). Takes bytes text (drop (byte_len w) bytes)) (sym written)
+    (Takes-drop (byte_len w) bytes are) in
+    subst (λ (y : ℕ × List ℕ). Takes bytes (to_le_bytes w y.0) y.1 × (y.0 < limit)) {x = got}
+    (ok_is got x went.1) (taken, width.below front front_are)
 
-pub byte_taken : (len : ℕ) (bytes : List ℕ) (x : ℕ × List ℕ) → AreBytes bytes → byte_at len bytes ≡ Ok x → Takes bytes (x.0 ∷ []) x.1
+pub byte_taken : (len : ℕ) (bytes : List ℕ) (x : ℕ × List ℕ) → AreBytes bytes → byte_at len bytes ≡ Ok x
+    → Takes bytes (x.0 ∷ []) x.1
 byte_taken len [] x are e = absurd cc
 byte_taken len (b ∷ bytes) x are e =
-    subst (λ (y : ℕ × List ℕ). Takes (b ∷ bytes) (y.0 ∷ []) y.1) (ok_is (b, bytes) x e) (record { parts = refl; rest_are_bytes = λ k. are (suc k) })
+    subst (λ (y : ℕ × List ℕ). Takes (b ∷ bytes) (y.0 ∷ []) y.1) (ok_is (b, bytes) x e)
+    (record { parts = refl; rest_are_bytes = λ k. are (suc k) })
 
 -- ---- judgements
 
-pub judged_taken : (allowed : ℕ → Bool) (fault : ℕ → ℕ → CoreFault) (at : ℕ) (read : ReadStep ℕ) (x : ℕ × List ℕ) → judged allowed fault at read ≡ Ok x → (read ≡ Ok x) × (allowed x.0 ≡ true)
+pub judged_taken : (allowed : ℕ → Bool) (fault : ℕ → ℕ → CoreFault) (at : ℕ) (read : ReadStep ℕ) (x : ℕ × List ℕ)
+    → judged allowed fault at read ≡ Ok x → (read ≡ Ok x) × (allowed x.0 ≡ true)
 judged_taken allowed fault at (Ok n) x e =
     let went = passed (allowed n.0) (at, fault n.0 at) n x e in
     (ap (λ (y : ℕ × List ℕ). Ok y) went.1, subst (λ (y : ℕ × List ℕ). allowed y.0 ≡ true) went.1 went.0)
@@ -117,18 +130,23 @@ judged_taken allowed fault at (Err d) x e = absurd cc
 
 -- ---- the name of the format
 
-pub magic_taken : (len : ℕ) (bytes rest : List ℕ) → AreBytes bytes → magic_at len bytes ≡ Ok rest → Takes bytes (codes "OMPDCOR1") rest
+pub magic_taken : (len : ℕ) (bytes rest : List ℕ) → AreBytes bytes → magic_at len bytes ≡ Ok rest
+    → Takes bytes (codes "OMPDCOR1") rest
 unfolding magic_at
 magic_taken len bytes rest are e =
     let name : List ℕ = codes "OMPDCOR1" in
-    let went = not_failed (ltb (length bytes) 8) (short len) (cond (starts_with nat_eq bytes name) (Ok (drop 8 bytes)) (Err (0, BadMagic))) rest e in
+    let went =
+    not_failed (ltb (length bytes) 8) (short len)
+    (cond (starts_with nat_eq bytes name) (Ok (drop 8 bytes)) (Err (0, BadMagic))) rest e in
     let went_on = passed (starts_with nat_eq bytes name) (0, BadMagic) (drop 8 bytes) rest went.1 in
     let front : name ≡ take 8 bytes = same_text name (take 8 bytes) (sym went_on.0) in
-    let taken : Takes bytes name (drop 8 bytes) = subst (λ (text : List ℕ). Takes bytes text (drop 8 bytes)) (sym front) (Takes-drop 8 bytes are) in
+    let taken : Takes bytes name (drop 8 bytes) =
+    subst (λ (text : List ℕ). Takes bytes text (drop 8 bytes)) (sym front) (Takes-drop 8 bytes are) in
     subst (λ (r : List ℕ). Takes bytes name r) went_on.1 taken
 
 pub magic_again : (len : ℕ) (rest : List ℕ) → magic_at len (codes "OMPDCOR1" ++ rest) ≡ Ok rest
 unfolding magic_at
 magic_again len rest =
-    let long : ltb (length (codes "OMPDCOR1" ++ rest)) 8 ≡ false = le-ltb _ _ (omega (arith, length-append (codes "OMPDCOR1") rest)) in
+    let long : ltb (length (codes "OMPDCOR1" ++ rest)) 8 ≡ false =
+    le-ltb _ _ (omega (arith, length-append (codes "OMPDCOR1") rest)) in
     rw long refl

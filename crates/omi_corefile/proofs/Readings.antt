@@ -13,7 +13,8 @@ pub record Reads {A : Type 0} (len : ℕ) (one : List ℕ → ReadStep A) (text 
   pub cut : (n : ℕ) → n < length text → one (take n text) ≡ Err (short len)
 
 -- a step that failed fails what follows it
-pub bind_failed : {A B : Type 0} (read : Result A ReadRefusal) (f : A → Result B ReadRefusal) (r : ReadRefusal) → read ≡ Err r → (read >>= f) ≡ Err r
+pub bind_failed : {A B : Type 0} (read : Result A ReadRefusal) (f : A → Result B ReadRefusal) (r : ReadRefusal)
+    → read ≡ Err r → (read >>= f) ≡ Err r
 bind_failed read f r e = rw e refl
 
 -- nothing is read
@@ -21,7 +22,9 @@ pub Reads-none : {A : Type 0} (len : ℕ) (x : A) → Reads len (λ bytes. Ok (x
 Reads-none len x = record { whole = λ rest. refl; cut = λ n below. absurd (omega (arith, below)) }
 
 -- one step after another
-pub Reads-then : {A B : Type 0} (len : ℕ) (one : List ℕ → ReadStep A) (two : A → List ℕ → ReadStep B) (a b : List ℕ) (x : A) (y : B) → Reads len one a x → Reads len (two x) b y → Reads len (λ bytes. one bytes >>= λ v. two v.0 v.1) (a ++ b) y
+pub Reads-then : {A B : Type 0} (len : ℕ) (one : List ℕ → ReadStep A) (two : A → List ℕ → ReadStep B) (a b : List ℕ) (x : A) (y : B)
+    → Reads len one a x → Reads len (two x) b y
+    → Reads len (λ bytes. one bytes >>= λ v. two v.0 v.1) (a ++ b) y
 Reads-then {A} {B} len one two a b x y p q =
     let follow : A × List ℕ → ReadStep B = λ v. two v.0 v.1 in
     let both : List ℕ → ReadStep B = λ bytes. one bytes >>= follow in
@@ -32,13 +35,17 @@ Reads-then {A} {B} len one two a b x y p q =
         | inr past ↦
             let m : ℕ = n - length a in
             let split : n ≡ length a + m = omega arith in
-            let fronts : take n (a ++ b) ≡ a ++ take m b = ap (λ (k : ℕ). take k (a ++ b)) split ∙ take-append-add a b m in
-            ap both fronts ∙ bind_again (one (a ++ take m b)) follow (x, take m b) (p.whole (take m b)) ∙ q.cut m (omega (arith, length-append a b))
+            let fronts : take n (a ++ b) ≡ a ++ take m b =
+            ap (λ (k : ℕ). take k (a ++ b)) split ∙ take-append-add a b m in
+            ap both fronts
+            ∙ bind_again (one (a ++ take m b)) follow (x, take m b) (p.whole (take m b))
+            ∙ q.cut m (omega (arith, length-append a b))
       ];
     }
 
 -- a step, seen by a function
-pub Reads-map : {A B : Type 0} (len : ℕ) (one : List ℕ → ReadStep A) (f : A → B) (a : List ℕ) (x : A) → Reads len one a x → Reads len (λ bytes. one bytes >>= λ v. Ok (f v.0, v.1)) a (f x)
+pub Reads-map : {A B : Type 0} (len : ℕ) (one : List ℕ → ReadStep A) (f : A → B) (a : List ℕ) (x : A)
+    → Reads len one a x → Reads len (λ bytes. one bytes >>= λ v. Ok (f v.0, v.1)) a (f x)
 Reads-map {A} {B} len one f a x p =
     let follow : A × List ℕ → ReadStep B = λ v. Ok (f v.0, v.1) in
     record {
@@ -46,15 +53,18 @@ Reads-map {A} {B} len one f a x p =
       cut = λ n below. bind_failed (one (take n a)) follow (short len) (p.cut n below);
     }
 
-pub Reads-number : (w : Width) (limit : ℕ) (width : HasWidth w limit) (len n : ℕ) → n < limit → Reads len (number_at w len) (to_le_bytes w n) n
+pub Reads-number : (w : Width) (limit : ℕ) (width : HasWidth w limit) (len n : ℕ) → n < limit
+    → Reads len (number_at w len) (to_le_bytes w n) n
 Reads-number w limit width len n below =
     let so_long = width.len n in
     record {
       whole = λ rest.
-          let long : ltb (length (to_le_bytes w n ++ rest)) (byte_len w) ≡ false = le-ltb _ _ (omega (arith, length-append (to_le_bytes w n) rest)) in
+          let long : ltb (length (to_le_bytes w n ++ rest)) (byte_len w) ≡ false =
+          le-ltb _ _ (omega (arith, length-append (to_le_bytes w n) rest)) in
           rw (long, take_at (to_le_bytes w n) rest (byte_len w) so_long, drop_at (to_le_bytes w n) rest (byte_len w) so_long, width.read n below) refl;
       cut = λ k inside.
-          let too_short : ltb (length (take k (to_le_bytes w n))) (byte_len w) ≡ true = lt-ltb _ _ (omega (arith, length-take-le k (to_le_bytes w n) (omega arith))) in
+          let too_short : ltb (length (take k (to_le_bytes w n))) (byte_len w) ≡ true =
+          lt-ltb _ _ (omega (arith, length-take-le k (to_le_bytes w n) (omega arith))) in
           rw too_short refl;
     }
 
@@ -65,7 +75,9 @@ Reads-byte len n = record {
 }
 
 -- a number that is allowed
-pub Reads-judged : (len : ℕ) (allowed : ℕ → Bool) (fault : ℕ → ℕ → CoreFault) (at : List ℕ → ℕ) (one : List ℕ → ReadStep ℕ) (a : List ℕ) (x : ℕ) → Reads len one a x → allowed x ≡ true → Reads len (λ bytes. judged allowed fault (at bytes) (one bytes)) a x
+pub Reads-judged : (len : ℕ) (allowed : ℕ → Bool) (fault : ℕ → ℕ → CoreFault) (at : List ℕ → ℕ) (one : List ℕ → ReadStep ℕ) (a : List ℕ) (x : ℕ)
+    → Reads len one a x → allowed x ≡ true
+    → Reads len (λ bytes. judged allowed fault (at bytes) (one bytes)) a x
 Reads-judged len allowed fault at one a x p good = record {
   whole = λ rest. let e = p.whole rest in rw (e, good) refl;
   cut = λ n inside. let e = p.cut n inside in rw e refl;

@@ -23,13 +23,16 @@ pub some_body : (p : Program) (fs : List Frame) (s : Stmt) → IsAt p fs s → 0
 some_body p [] s at = absurd (cc)
 some_body p (f ∷ fs) s at = omega arith
 
-pub body_at_fork : (p : Program) (a : Actor) (r : Rid) → Fits p a → a.counter ≡ counter.Team (team.Fork r) → 0 < length a.stack
+pub body_at_fork : (p : Program) (a : Actor) (r : Rid) → Fits p a → a.counter ≡ counter.Team (team.Fork r)
+    → 0 < length a.stack
 body_at_fork p a r fits is =
     let got : IsRegionGot p a r = subst (FitsCounter p a) is fits.counter in
     some_body p a.stack got.0.0.0 got.0.0.1
 
-module _ (p : Program) (w : List ℕ) (a : Actor) (r : Rid) (same : p.threads ≡ thread_count w) (stands : OpenedBodyStands) where
-  opens : (s : Stmt) → IsAt p a.stack s → IsParallel s → Fits p a → IsRegionGot p a r → HasRegion w r → HaveTasks w 1 a.gathered.team
+module _ (p : Program) (w : List ℕ) (a : Actor) (r : Rid) (same : p.threads ≡ thread_count w)
+    (stands : OpenedBodyStands) where
+  opens : (s : Stmt) → IsAt p a.stack s → IsParallel s → Fits p a → IsRegionGot p a r → HasRegion w r
+      → HaveTasks w 1 a.gathered.team
       → AreOpen p (master_context a r) (at_start (region_function p a) (Master a.context) ∷ a.stack)
   opens (Parallel f num) at is fits got region tasks =
       let function : region_function p a ≡ f = ap parallel_function at in
@@ -53,5 +56,6 @@ module _ (p : Program) (w : List ℕ) (a : Actor) (r : Rid) (same : p.threads �
       → AreOpen p (master_context a r) (at_start (region_function p a) (Master a.context) ∷ a.stack)
   fork_opens fits placed is =
       let got : IsRegionGot p a r = subst (FitsCounter p a) is fits.counter in
-      let there : HasRegion w r × HaveTasks w 1 a.gathered.team = subst (IsPlacedCounter w a) is placed.counter in
+      let there : HasRegion w r × HaveTasks w 1 a.gathered.team =
+      subst (IsPlacedCounter w a) is placed.counter in
       opens got.0.0.0 got.0.0.1 got.0.0.2 fits got there.0 there.1

@@ -13,10 +13,14 @@ use Rattle.omi_handle.specs.Ledger.{pair_cmp}
 use Rattle.omi_handle.specs.Entries.{pair_of, held_by, SerialsBelow}
 
 pub pair_cmp_total : IsTotalOrder pair_cmp
-pair_cmp_total = then_total (on_total (λ (pair : ℕ × ℕ). pair.0) nat_cmp_total) (on_total (λ (pair : ℕ × ℕ). pair.1) nat_cmp_total)
+pair_cmp_total =
+    then_total (on_total (λ (pair : ℕ × ℕ). pair.0) nat_cmp_total)
+    (on_total (λ (pair : ℕ × ℕ). pair.1) nat_cmp_total)
 
-pair_ties : (key serial other another : ℕ) → eq_by_cmp pair_cmp (key, serial) (other, another) ≡ ((key == other) && (serial == another))
-pair_ties key serial other another = sym (both_tied _ _ _ _ (unsigned_ties key other) (unsigned_ties serial another))
+pair_ties : (key serial other another : ℕ)
+    → eq_by_cmp pair_cmp (key, serial) (other, another) ≡ ((key == other) && (serial == another))
+pair_ties key serial other another =
+    sym (both_tied _ _ _ _ (unsigned_ties key other) (unsigned_ties serial another))
 
 -- what an entry is, to a serial
 abbrev pub entry_at : Option Entry → ℕ → Option Held
@@ -26,12 +30,14 @@ entry_at (Some e) serial = cond (serial == e.serial) (Some e.held) None
 ties_same : (key serial another : ℕ) → eq_by_cmp pair_cmp (key, serial) (key, another) ≡ (serial == another)
 ties_same key serial another = pair_ties key serial key another ∙ grind (arith, nat_tests)
 
-ties_other : (key serial other another : ℕ) → key ≢ other → eq_by_cmp pair_cmp (key, serial) (other, another) ≡ false
+ties_other : (key serial other another : ℕ) → key ≢ other
+    → eq_by_cmp pair_cmp (key, serial) (other, another) ≡ false
 ties_other key serial other another apart = pair_ties key serial other another ∙ grind (arith, nat_tests)
 
 pub tied : (pair other : ℕ × ℕ) → eq_by_cmp pair_cmp pair other ≡ true → pair ≡ other
 tied pair other is =
-    let tests : ((pair.0 == other.0) && (pair.1 == other.1)) ≡ true = sym (pair_ties pair.0 pair.1 other.0 other.1) ∙ is in
+    let tests : ((pair.0 == other.0) && (pair.1 == other.1)) ≡ true =
+    sym (pair_ties pair.0 pair.1 other.0 other.1) ∙ is in
     let keys : pair.0 ≡ other.0 = grind (arith, nat_tests) in
     let serials : pair.1 ≡ other.1 = grind (arith, nat_tests) in
     λ i. (keys i, serials i)
@@ -56,39 +62,47 @@ find_at zero serial first key (Some e ∷ slots) is =
     let same : first ≡ key = omega arith in
     rw (same, ties_same key serial e.serial)
     (ap (cond (serial == e.serial) (Some e.held)) (find_before key serial (key + 1) slots (omega arith)))
-find_at (suc place) serial first key (None ∷ slots) is = find_at place serial (first + 1) key slots (omega arith)
+find_at (suc place) serial first key (None ∷ slots) is =
+    find_at place serial (first + 1) key slots (omega arith)
 find_at (suc place) serial first key (Some e ∷ slots) is =
     rw (ties_other key serial first e.serial (λ same. absurd (omega arith)))
     (find_at place serial (first + 1) key slots (omega arith))
 
 -- what is held under a pair is the entry under its key, where that has the pair's serial
-pub held_at : (s : Slab Entry) (key serial : ℕ) → get (held_by s) (key, serial) ≡ entry_at (slab.get s key) serial
+pub held_at : (s : Slab Entry) (key serial : ℕ)
+    → get (held_by s) (key, serial) ≡ entry_at (slab.get s key) serial
 held_at s key serial = get-from_entries pair_cmp_total _ _ ∙ find_at key serial 0 key s.slots (omega arith)
 
-more_at : (k s key : ℕ) (e : Entry) (now before : Option Entry) → (k ≡ key → now ≡ Some e) → (k ≡ key → before ≡ None)
+more_at : (k s key : ℕ) (e : Entry) (now before : Option Entry) → (k ≡ key → now ≡ Some e)
+    → (k ≡ key → before ≡ None)
     → (k ≢ key → now ≡ before)
     → entry_at now s ≡ cond (eq_by_cmp pair_cmp (k, s) (key, e.serial)) (Some e.held) (entry_at before s)
 more_at k s key e now before here vacant elsewhere = grind (arith, common_steps, ties_same, ties_other)
 
-less_at : (k s key : ℕ) (e : Entry) (now before : Option Entry) → (k ≡ key → now ≡ None) → (k ≡ key → before ≡ Some e)
+less_at : (k s key : ℕ) (e : Entry) (now before : Option Entry) → (k ≡ key → now ≡ None)
+    → (k ≡ key → before ≡ Some e)
     → (k ≢ key → now ≡ before)
     → entry_at now s ≡ cond (eq_by_cmp pair_cmp (k, s) (key, e.serial)) None (entry_at before s)
 less_at k s key e now before here vacant elsewhere = grind (arith, common_steps, ties_same, ties_other)
 
 -- an entry more is a pair more
-pub held_more : (old new : Slab Entry) (key : ℕ) (e : Entry) → slab.get old key ≡ None → Updates old new key (Some e)
+pub held_more : (old new : Slab Entry) (key : ℕ) (e : Entry) → slab.get old key ≡ None
+    → Updates old new key (Some e)
     → held_by new ≡ insert (held_by old) (key, e.serial) e.held
 held_more old new key e vacant more = same_map pair_cmp_total pair_cmp_antisymmetric _ _ (λ pair.
     held_at new pair.0 pair.1
-    ∙ more_at pair.0 pair.1 key e _ _ (λ same. rw same more.changed) (λ same. rw same vacant) (λ apart. more.others _ apart)
+    ∙ more_at pair.0 pair.1 key e _ _ (λ same. rw same more.changed) (λ same. rw same vacant)
+    (λ apart. more.others _ apart)
     ∙ sym (get-insert pair_cmp_total (held_by old) (key, e.serial) e.held pair ∙ ap (cond (eq_by_cmp pair_cmp pair (key, e.serial)) (Some e.held)) (held_at old pair.0 pair.1)))
 
 -- an entry less is a pair less
-pub held_less : (old new : Slab Entry) (key : ℕ) (e : Entry) → slab.get old key ≡ Some e → Updates old new key None
+pub held_less : (old new : Slab Entry) (key : ℕ) (e : Entry) → slab.get old key ≡ Some e
+    → Updates old new key None
     → held_by new ≡ remove (held_by old) (key, e.serial)
 held_less old new key e there less = same_map pair_cmp_total pair_cmp_antisymmetric _ _ (λ pair.
     held_at new pair.0 pair.1
-    ∙ less_at pair.0 pair.1 key e _ _ (λ same. rw same less.changed) (λ same. rw same there) (λ apart. less.others _ apart)
+    ∙ less_at pair.0 pair.1 key e _ _ (λ same. rw same less.changed) (λ same. rw same there)
+    (λ apart. less.others _ apart)
     ∙ sym (get-remove pair_cmp_total (held_by old) (key, e.serial) pair ∙ ap (cond (eq_by_cmp pair_cmp pair (key, e.serial)) None) (held_at old pair.0 pair.1)))
 
 ties_itself : (pair : ℕ × ℕ) → eq_by_cmp pair_cmp pair pair ≡ true
@@ -103,9 +117,12 @@ not_tied pair other apart = elim (one_of_both (eq_by_cmp pair_cmp other pair)) [
 
 module _ (held : FinMap pair_cmp Held) (pair : ℕ × ℕ) where
   pub found_inserted : (h : Held) → get (insert held pair h) pair ≡ Some h
-  found_inserted h = get-insert pair_cmp_total held pair h pair ∙ ap (λ b. cond b (Some h) (get held pair)) (ties_itself pair)
+  found_inserted h =
+      get-insert pair_cmp_total held pair h pair
+      ∙ ap (λ b. cond b (Some h) (get held pair)) (ties_itself pair)
 
-  pub kept_inserted : (h : Held) → get held pair ≡ None → (other : ℕ × ℕ) (found : Held) → get held other ≡ Some found
+  pub kept_inserted : (h : Held) → get held pair ≡ None → (other : ℕ × ℕ) (found : Held)
+      → get held other ≡ Some found
       → get (insert held pair h) other ≡ Some found
   kept_inserted h unheld other found is =
       let apart : other ≢ pair = λ same. cc (ap (get held) same) in
@@ -113,14 +130,17 @@ module _ (held : FinMap pair_cmp Held) (pair : ℕ × ℕ) where
       ∙ ap (λ b. cond b (Some h) (get held other)) (not_tied pair other apart) ∙ is
 
   pub gone_removed : get (remove held pair) pair ≡ None
-  gone_removed = get-remove pair_cmp_total held pair pair ∙ ap (λ b. cond b None (get held pair)) (ties_itself pair)
+  gone_removed =
+      get-remove pair_cmp_total held pair pair ∙ ap (λ b. cond b None (get held pair)) (ties_itself pair)
 
   pub others_removed : (other : ℕ × ℕ) → other ≢ pair → get (remove held pair) other ≡ get held other
   others_removed other apart =
-      get-remove pair_cmp_total held pair other ∙ ap (λ b. cond b None (get held other)) (not_tied pair other apart)
+      get-remove pair_cmp_total held pair other
+      ∙ ap (λ b. cond b None (get held other)) (not_tied pair other apart)
 
 -- to remove what isn't there changes nothing
-pub absent_removed : (held : FinMap pair_cmp Held) (pair : ℕ × ℕ) → get held pair ≡ None → remove held pair ≡ held
+pub absent_removed : (held : FinMap pair_cmp Held) (pair : ℕ × ℕ) → get held pair ≡ None
+    → remove held pair ≡ held
 absent_removed held pair absent = same_map pair_cmp_total pair_cmp_antisymmetric _ _ (λ other.
     get-remove pair_cmp_total held pair other
     ∙ elim (one_of_both (eq_by_cmp pair_cmp other pair)) [
@@ -129,11 +149,13 @@ absent_removed held pair absent = same_map pair_cmp_total pair_cmp_antisymmetric
     ])
 
 -- the serials that are held are those of the entries
-pub serial_below : (s : Slab Entry) (made key serial : ℕ) → SerialsBelow s made → get (held_by s) (key, serial) ≢ None → serial < made
+pub serial_below : (s : Slab Entry) (made key serial : ℕ) → SerialsBelow s made
+    → get (held_by s) (key, serial) ≢ None → serial < made
 serial_below s made key serial below held =
     by_entry (slab.get s key) (λ e is. below key e is) (λ none. held (held_at s key serial ∙ none))
   where
-    by_entry : (found : Option Entry) → ((e : Entry) → found ≡ Some e → e.serial < made) → entry_at found serial ≢ None → serial < made
+    by_entry : (found : Option Entry) → ((e : Entry) → found ≡ Some e → e.serial < made)
+        → entry_at found serial ≢ None → serial < made
     by_entry None below held = absurd (held refl)
     by_entry (Some e) below held = elim (one_of_both (serial == e.serial)) [
       | inl is ↦ let same : serial ≡ e.serial = grind (arith, nat_tests) in let less : e.serial < made = below e refl in omega arith
@@ -145,7 +167,8 @@ pub entry_of : (s : Slab Entry) (key serial : ℕ) (h : Held) → get (held_by s
     → (e : Entry) × (slab.get s key ≡ Some e) × (e.serial ≡ serial)
 entry_of s key serial h held = by_entry (slab.get s key) (sym (held_at s key serial) ∙ held)
   where
-    by_entry : (found : Option Entry) → entry_at found serial ≡ Some h → (e : Entry) × (found ≡ Some e) × (e.serial ≡ serial)
+    by_entry : (found : Option Entry) → entry_at found serial ≡ Some h
+        → (e : Entry) × (found ≡ Some e) × (e.serial ≡ serial)
     by_entry None held = absurd (cc)
     by_entry (Some e) held = elim (one_of_both (serial == e.serial)) [
       | inl is ↦ (e, refl, grind (arith, nat_tests))
@@ -153,15 +176,18 @@ entry_of s key serial h held = by_entry (slab.get s key) (sym (held_at s key ser
     ]
 
 -- nothing is held under a key that has no entry
-pub vacant_held : (s : Slab Entry) (key serial : ℕ) → slab.get s key ≡ None → get (held_by s) (key, serial) ≡ None
+pub vacant_held : (s : Slab Entry) (key serial : ℕ) → slab.get s key ≡ None
+    → get (held_by s) (key, serial) ≡ None
 vacant_held s key serial vacant = held_at s key serial ∙ ap (λ found. entry_at found serial) vacant
 
 -- an entry less is the pair that it held less
-pub held_released : (old new : Slab Entry) (key serial : ℕ) (h : Held) → get (held_by old) (key, serial) ≡ Some h
+pub held_released : (old new : Slab Entry) (key serial : ℕ) (h : Held)
+    → get (held_by old) (key, serial) ≡ Some h
     → Updates old new key None → held_by new ≡ remove (held_by old) (key, serial)
 held_released old new key serial h held less =
     let found = entry_of old key serial h held in
     held_less old new key found.0 found.1 less ∙ ap (λ n. remove (held_by old) (key, n)) found.2
 
-pub key_of : (s : Slab Entry) (key serial : ℕ) (h : Held) → get (held_by s) (key, serial) ≡ Some h → slab.ContainsKey s key
+pub key_of : (s : Slab Entry) (key serial : ℕ) (h : Held) → get (held_by s) (key, serial) ≡ Some h
+    → slab.ContainsKey s key
 key_of s key serial h held = ap is_some (entry_of s key serial h held).1

@@ -9,7 +9,8 @@ split P k n at other = go (n == k) refl
     go true e = let same : k ≡ n = grind (arith, nat_tests) in subst P same at
     go false e = other e
 
-pub by_number : (P : ℕ → Type 0) → P 1 → P 2 → P 3 → P 4 → P 5 → P 6 → P 7 → P 8 → P 9 → P 10 → P 11 → P 12 → P 13
+pub by_number : (P : ℕ → Type 0) → P 1 → P 2 → P 3 → P 4 → P 5 → P 6 → P 7 → P 8 → P 9 → P 10 → P 11 → P 12
+    → P 13
     → ((n : ℕ) → n == 1 ≡ false → n == 2 ≡ false → n == 3 ≡ false → n == 4 ≡ false → n == 5 ≡ false → n == 6 ≡ false → n == 7 ≡ false
     → n == 8 ≡ false → n == 9 ≡ false → n == 10 ≡ false → n == 11 ≡ false → n == 12 ≡ false → n == 13 ≡ false → P n)
     → (n : ℕ) → P n

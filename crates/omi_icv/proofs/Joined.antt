@@ -4,12 +4,14 @@ use Rattle.std.proofs.lemmas.Grind.{common_steps}
 use Rattle.omi_icv.specs.declared.variable.Spelling.{Spelling}
 use Rattle.omi_icv.specs.Spellings.{number_text, value_text, after_commas}
 
-joined-cons : (spelling : Spelling) (n : ℕ) (ns : List ℕ) → value_text spelling (n ∷ ns) ≡ number_text spelling n ++ after_commas spelling ns
+joined-cons : (spelling : Spelling) (n : ℕ) (ns : List ℕ)
+    → value_text spelling (n ∷ ns) ≡ number_text spelling n ++ after_commas spelling ns
 unfolding value_text
 joined-cons spelling n [] = grind (arith, common_steps)
 joined-cons spelling n (m ∷ ns) = ap (λ xs. number_text spelling n ++ 44 ∷ xs) (joined-cons spelling m ns)
 
-pub joined_from_first : (spelling : Spelling) (ns : List ℕ) → 0 < length ns → value_text spelling ns ≡ number_text spelling (get_or ns 0 0) ++ after_commas spelling (drop 1 ns)
+pub joined_from_first : (spelling : Spelling) (ns : List ℕ) → 0 < length ns
+    → value_text spelling ns ≡ number_text spelling (get_or ns 0 0) ++ after_commas spelling (drop 1 ns)
 joined_from_first spelling [] some = absurd (omega (arith, some))
 joined_from_first spelling (n ∷ ns) some = joined-cons spelling n ns
 

@@ -80,13 +80,16 @@ next_below P f g below here order = go (nat_lt g f) refl
 
 -- the counts of a valid layout
 pub threads_of_valid : (w : List ℕ) → IsValid w → thread_count w ≤ 64
-threads_of_valid w v = threads_few w (counted w 2 (v.arenas 2 (record { from = omega arith; to = omega arith })))
+threads_of_valid w v =
+    threads_few w (counted w 2 (v.arenas 2 (record { from = omega arith; to = omega arith })))
 
 pub regions_of_valid : (w : List ℕ) → IsValid w → per_thread w 3 ≤ 64
-regions_of_valid w v = regions_few w (counted w 3 (v.arenas 3 (record { from = omega arith; to = omega arith })))
+regions_of_valid w v =
+    regions_few w (counted w 3 (v.arenas 3 (record { from = omega arith; to = omega arith })))
 
 pub tasks_of_valid : (w : List ℕ) → IsValid w → per_thread w 4 ≤ 4096
-tasks_of_valid w v = leb-true _ _ (test_right _ _ (counted w 4 (v.arenas 4 (record { from = omega arith; to = omega arith }))))
+tasks_of_valid w v =
+    leb-true _ _ (test_right _ _ (counted w 4 (v.arenas 4 (record { from = omega arith; to = omega arith }))))
 
 -- the records of an arena are those that its makers make
 pub records_made : (w : List ℕ) (p : ℕ) → records w p ≡ makers w p * per_thread w p
@@ -101,13 +104,15 @@ pub all_make : (w : List ℕ) (p : ℕ) → 2 ≤ p → makers w p ≡ thread_co
 all_make w p h = grind (arith, nat_tests)
 
 -- a slot's number in its arena is below the records of the arena
-pub index_within : (w : List ℕ) (p creator slot : ℕ) → IsSlot w p creator slot → index_of w p creator slot < records w p
+pub index_within : (w : List ℕ) (p creator slot : ℕ) → IsSlot w p creator slot
+    → index_of w p creator slot < records w p
 index_within w p creator slot s =
     let low = mul-add-lt creator (per_thread w p) slot (makers w p) s.made_by s.within in
     omega (arith, low, records_made w p)
 
 -- and small
-pub index_few : (w : List ℕ) (p creator slot : ℕ) → 2 ≤ p → thread_count w ≤ 64 → per_thread w p ≤ 4096 → IsSlot w p creator slot → creator * per_thread w p + slot < 266240
+pub index_few : (w : List ℕ) (p creator slot : ℕ) → 2 ≤ p → thread_count w ≤ 64 → per_thread w p ≤ 4096
+    → IsSlot w p creator slot → creator * per_thread w p + slot < 266240
 index_few w p creator slot two t n s =
     let low = times_few creator (per_thread w p) (omega (arith, s.made_by, all_make w p two, t)) n in
     omega (arith, low, s.within, n)
@@ -132,10 +137,12 @@ positive w inside =
     (positive_by w 25 refl (inside 25 (field 25 (omega arith) (omega arith))))
 
 pub some_regions : (w : List ℕ) → IsValid w → 0 < per_thread w 3
-some_regions w v = let low : 1 ≤ per_thread w 3 = leb-true _ _ (test_left _ _ (counted w 3 (v.arenas 3 (record { from = omega arith; to = omega arith })))) in omega (arith, low)
+some_regions w v =
+    let low : 1 ≤ per_thread w 3 = leb-true _ _ (test_left _ _ (counted w 3 (v.arenas 3 (record { from = omega arith; to = omega arith })))) in omega (arith, low)
 
 pub some_tasks : (w : List ℕ) → IsValid w → 0 < per_thread w 4
-some_tasks w v = let low : 1 ≤ per_thread w 4 = leb-true _ _ (test_left _ _ (counted w 4 (v.arenas 4 (record { from = omega arith; to = omega arith })))) in omega (arith, low)
+some_tasks w v =
+    let low : 1 ≤ per_thread w 4 = leb-true _ _ (test_left _ _ (counted w 4 (v.arenas 4 (record { from = omega arith; to = omega arith })))) in omega (arith, low)
 
 three_or_four : (p : ℕ) → 3 ≤ p → p ≤ 4 → (p ≡ 3) ⊎ (p ≡ 4)
 three_or_four p from to = go (p == 3) refl
@@ -158,4 +165,5 @@ few_slots w p v from to = elim (three_or_four p from to) [
 ]
 
 pub some_threads : (w : List ℕ) → IsValid w → 0 < thread_count w
-some_threads w v = let low : 1 ≤ thread_count w = leb-true _ _ (test_left _ _ (counted w 2 (v.arenas 2 (record { from = omega arith; to = omega arith })))) in omega (arith, low)
+some_threads w v =
+    let low : 1 ≤ thread_count w = leb-true _ _ (test_left _ _ (counted w 2 (v.arenas 2 (record { from = omega arith; to = omega arith })))) in omega (arith, low)

@@ -221,7 +221,8 @@ module _ (k t : ℕ) (w : List ℕ) (some : 1 ≤ t) (most : t ≤ MOST_THREADS)
     inside = λ f is.
         let s = fam.sizes (kind_of f) (kind_is f) in
         let sized = le_test (size w (kind_of f)) 4096 (omega (arith, s, size_few (kind_of f))) in
-        let within = le_test (offset w f + width w f) (size w (kind_of f)) (omega (arith, s, ends k t w fam f is)) in
+        let within =
+        le_test (offset w f + width w f) (size w (kind_of f)) (omega (arith, s, ends k t w fam f is)) in
         both _ _ sized within;
     apart = λ f is g is' order. one_kind (kind_of f) (kind_of g) _ (turned_apart k t w fam f g is is' order);
     arenas = arenas;
@@ -236,8 +237,10 @@ module _ (k t : ℕ) (w : List ℕ) (some : 1 ≤ t) (most : t ≤ MOST_THREADS)
   all_few =
       let one = product_few (family_count t 1) (family_size k t 1) 1 78 (omega arith) (size_few 1) in
       let two = product_few (family_count t 2) (family_size k t 2) 64 78 (omega (arith, most)) (size_few 2) in
-      let three = product_few (family_count t 3) (family_size k t 3) 1024 78 (omega (arith, most)) (size_few 3) in
-      let four = product_few (family_count t 4) (family_size k t 4) 16384 29 (omega (arith, most)) (omega arith) in
+      let three =
+      product_few (family_count t 3) (family_size k t 3) 1024 78 (omega (arith, most)) (size_few 3) in
+      let four =
+      product_few (family_count t 4) (family_size k t 4) 16384 29 (omega (arith, most)) (omega arith) in
       omega (arith, one, two, three, four)
 
   end_is : (p x : ℕ) → IsKind p → place w p ≡ 65536 + 8 * (99 + x) → arena_end w p ≡ 99 + x + long p

@@ -22,7 +22,8 @@ use Rattle.omi_layout.proofs.Puts.{record_read, record_stays, put_other}
 use Rattle.omi_layout.proofs.Stored.{on_word}
 
 -- words stored after others
-filled_more : (r : Rec) (xs : List Entry) (e : Entry) → filled r (xs ++ e ∷ []) ≡ with_word_in (filled r xs) (number e.0) e.1 e.2
+filled_more : (r : Rec) (xs : List Entry) (e : Entry)
+    → filled r (xs ++ e ∷ []) ≡ with_word_in (filled r xs) (number e.0) e.1 e.2
 filled_more r [] e = refl
 filled_more r (x ∷ xs) e = filled_more (with_word_in r (number x.0) x.1 x.2) xs e
 
@@ -38,17 +39,23 @@ module _ (w : List ℕ) (v : IsValid w) where
       let few = small w v.inside (kind_of (number e.0)) (kind_is (number e.0)) in
       omega (arith, room, few, is.1)
 
-  entry_word : (kind c : ℕ) (e : Entry) → IsSlot w kind c 0 → IsEntryOf w kind e → IsRecordWord w c 0 (number e.0) e.1
+  entry_word : (kind c : ℕ) (e : Entry) → IsSlot w kind c 0 → IsEntryOf w kind e
+      → IsRecordWord w c 0 (number e.0) e.1
   entry_word kind c e slot is = record { field = numbered_field e.0; record_slot = subst (λ q. IsSlot w q c 0) (sym is.0) slot; within = is.1 }
 
-  entry_address : (kind c base : ℕ) (e : Entry) → IsEntryOf w kind e → base ≡ slot_address w kind c 0 → base + 8 * (offset w (number e.0) + e.1) ≡ word_address w c 0 (number e.0) e.1
+  entry_address : (kind c base : ℕ) (e : Entry) → IsEntryOf w kind e → base ≡ slot_address w kind c 0
+      → base + 8 * (offset w (number e.0) + e.1) ≡ word_address w c 0 (number e.0) e.1
   unfolding word_address
   entry_address kind c base e is at =
       ap (λ a. a + 8 * (offset w (number e.0) + e.1)) (at ∙ ap (λ q. slot_address w q c 0) (sym is.0))
 
-  module _ (words : List ℕ) (kind c base : ℕ) (e : Entry) (fit : IsTrue (fits w (length words))) (slot : IsSlot w kind c 0) (is : IsEntryOf w kind e) (at : base ≡ slot_address w kind c 0) (address : ℕ) (there : address ≡ base + 8 * (offset w (number e.0) + e.1)) where
+  module _ (words : List ℕ) (kind c base : ℕ) (e : Entry) (fit : IsTrue (fits w (length words)))
+      (slot : IsSlot w kind c 0) (is : IsEntryOf w kind e) (at : base ≡ slot_address w kind c 0) (address : ℕ)
+      (there : address ≡ base + 8 * (offset w (number e.0) + e.1)) where
     on : IsOnWord w words (Store address e.2) c 0 (number e.0) e.1
-    on = on_word w v words (Store address e.2) c 0 (number e.0) e.1 fit (entry_word kind c e slot is) (there ∙ entry_address kind c base e is at)
+    on =
+        on_word w v words (Store address e.2) c 0 (number e.0) e.1 fit (entry_word kind c e slot is)
+        (there ∙ entry_address kind c base e is at)
 
     pub entry_inside : IsWordOf words address
     entry_inside = on.inside
@@ -57,7 +64,8 @@ module _ (w : List ℕ) (v : IsValid w) where
     leaves = on.leaves ∙ ap (λ q. with_word (memory_of w words) c q 0 (number e.0) e.1 e.2) is.0
 
     -- one word more is stored
-    pub filled_next : (old : List ℕ) (plan : List Entry) (i : ℕ) (d : Entry) → i < length plan → get_or plan i d ≡ e → IsFilled w old words c kind (take i plan)
+    pub filled_next : (old : List ℕ) (plan : List Entry) (i : ℕ) (d : Entry) → i < length plan
+        → get_or plan i d ≡ e → IsFilled w old words c kind (take i plan)
         → IsFilled w old (words_after words (Store address e.2)) c kind (take (i + 1) plan)
     filled_next old plan i d within this before = record {
       here =
@@ -82,7 +90,8 @@ pub not_first : (i : ℕ) → 1 ≤ i → i == 0 ≡ false
 not_first i h = grind (arith, nat_tests)
 
 -- four elements are stored, and those behind stay
-pub past_four : (m : ℕ → ℕ) (a b c d j : ℕ) → 4 ≤ j → replace_at (replace_at (replace_at (replace_at m 0 a) 1 b) 2 c) 3 d j ≡ m j
+pub past_four : (m : ℕ → ℕ) (a b c d j : ℕ) → 4 ≤ j
+    → replace_at (replace_at (replace_at (replace_at m 0 a) 1 b) 2 c) 3 d j ≡ m j
 past_four m a b c d j h =
     put_other (replace_at (replace_at (replace_at m 0 a) 1 b) 2 c) 3 j d (λ e. omega (arith, h, e))
     ∙ put_other (replace_at (replace_at m 0 a) 1 b) 2 j c (λ e. omega (arith, h, e))

@@ -31,7 +31,8 @@ module _ (w : List ℕ) (p addr : ℕ) where
   none_between h ne = record { is = tt; all = λ i _ e. absurd (ne (rest (place w p) addr i (size w p) h e)) }
 
   -- none begins behind the last
-  pub none_behind : 0 < size w p → records w p ≤ (addr - place w p) / (8 * size w p) → IsRecordAt w p addr None
+  pub none_behind : 0 < size w p → records w p ≤ (addr - place w p) / (8 * size w p)
+      → IsRecordAt w p addr None
   none_behind h past = record { is = tt; all = λ i within e. absurd (omega (arith, quotient (place w p) addr i (size w p) h e, past, within)) }
 
   -- and else the quotient's record does
@@ -54,14 +55,18 @@ quotient_below : (i t n : ℕ) → 0 < n → i < t * n → i / n < t
 quotient_below i t n h e = (div-lt_iff_lt-mul {k = n} {x = i} {y = t} h).1 e
 
 -- the thread of a record is one of the threads
-pub creator_below : (w : List ℕ) (p addr index : ℕ) → 2 ≤ p → 0 < per_thread w p → IsRecordAt w p addr (Some index) → index / per_thread w p < thread_count w
-creator_below w p addr index two h r = quotient_below index (thread_count w) (per_thread w p) h (omega (arith, r.is.0, records_made w p ∙ ap (λ m. m * per_thread w p) (all_make w p two)))
+pub creator_below : (w : List ℕ) (p addr index : ℕ) → 2 ≤ p → 0 < per_thread w p
+    → IsRecordAt w p addr (Some index) → index / per_thread w p < thread_count w
+creator_below w p addr index two h r =
+    quotient_below index (thread_count w) (per_thread w p) h
+    (omega (arith, r.is.0, records_made w p ∙ ap (λ m. m * per_thread w p) (all_make w p two)))
 
 pub slot_below : (i n : ℕ) → 0 < n → i % n < n
 slot_below i n h = omega (arith, h)
 
 -- the slot of a record, by its number in the arena
-pub slot_found : (w : List ℕ) (p addr index : ℕ) → 2 ≤ p → 0 < per_thread w p → IsRecordAt w p addr (Some index)
+pub slot_found : (w : List ℕ) (p addr index : ℕ) → 2 ≤ p → 0 < per_thread w p
+    → IsRecordAt w p addr (Some index)
     → IsSlotAt w p addr (Some (record { 0 = index / per_thread w p; 1 = index % per_thread w p }))
 unfolding slot_address
 slot_found w p addr index two h r = record {
@@ -70,8 +75,11 @@ slot_found w p addr index two h r = record {
     subst (λ i. addr ≡ record_address w p i) (sym (div-add-mod' index (per_thread w p))) r.is.1,
   );
   all = λ creator slot k e.
-      let same : index ≡ creator * per_thread w p + slot = some_same _ _ (r.all (index_of w p creator slot) (index_within w p creator slot k) e) in
-      let first : index / per_thread w p ≡ creator = ap (λ i. i / per_thread w p) same ∙ div-mul-add creator (per_thread w p) slot k.within in
-      let second : index % per_thread w p ≡ slot = ap (λ i. i % per_thread w p) same ∙ mod-mul-add creator (per_thread w p) slot k.within in
+      let same : index ≡ creator * per_thread w p + slot =
+      some_same _ _ (r.all (index_of w p creator slot) (index_within w p creator slot k) e) in
+      let first : index / per_thread w p ≡ creator =
+      ap (λ i. i / per_thread w p) same ∙ div-mul-add creator (per_thread w p) slot k.within in
+      let second : index % per_thread w p ≡ slot =
+      ap (λ i. i % per_thread w p) same ∙ mod-mul-add creator (per_thread w p) slot k.within in
       ap₂ {C = Option (record { 0 : ℕ; 1 : ℕ })} (λ a b. Some (record { 0 = a; 1 = b })) first second;
 }

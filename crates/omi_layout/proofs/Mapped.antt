@@ -7,7 +7,8 @@ use Rattle.omi_word.proofs.Addresses.{place-address, placed_word}
 use Rattle.omi_word.specs.Words.{words_of, is_word}
 
 -- the word at a place of an image
-pub image_word : (words : List ℕ) (p : ℕ) → p < length words → words_of words (address_at p) ≡ Some (get_or words p 0)
+pub image_word : (words : List ℕ) (p : ℕ) → p < length words
+    → words_of words (address_at p) ≡ Some (get_or words p 0)
 image_word words p within =
     ap (λ b. cond b (Some (word_at words (address_at p))) None) test
     ∙ ap Some (ap (λ at. get_or words at 0) (place-address p))
@@ -29,7 +30,8 @@ pub record Stands (words : List ℕ) (addr x : ℕ) : Type 0 where
 pub stands : (words : List ℕ) (addr x : ℕ) → words_of words addr ≡ Some x → Stands words addr x
 stands words addr x is = go (is_word words addr) refl is
   where
-    go : (b : Bool) → is_word words addr ≡ b → cond b (Some (word_at words addr)) None ≡ Some x → Stands words addr x
+    go : (b : Bool) → is_word words addr ≡ b → cond b (Some (word_at words addr)) None ≡ Some x
+        → Stands words addr x
     go false e f = absurd (cc)
     go true e f =
         let even : addr % 8 ≡ 0 = grind (arith, nat_tests) in

@@ -46,7 +46,8 @@ module _ (k t : ℕ) (w u : List ℕ) (a : IsFamily k t w) (b : IsFamily k t u) 
           let from : 1 ≤ i - 11 = omega (arith, more) in
           let to : i - 11 ≤ 44 = omega (arith, within, words) in
           let here : 11 + (i - 11) ≡ i = omega (arith, more) in
-          subst Same here (a.offsets (i - 11) (record { from = from; to = to }) ∙ sym (b.offsets (i - 11) (record { from = from; to = to })))
+          subst Same here
+          (a.offsets (i - 11) (record { from = from; to = to }) ∙ sym (b.offsets (i - 11) (record { from = from; to = to })))
 
   pub one_family : w ≡ u
   one_family = ext_get_or 0 w u (a.words ∙ sym b.words) same_at

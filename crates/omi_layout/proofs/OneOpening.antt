@@ -20,11 +20,13 @@ use Rattle.omi_layout.proofs.Stored.{memory_read}
 -- ---- each place has a word of a record, or is a gap
 
 -- one of so many numbers has a fact that can be told, or none has
-search : (P : ℕ → Type 0) → ((k : ℕ) → P k ⊎ (P k → ⊥)) → (n : ℕ) → ((k : ℕ) × (k < n) × P k) ⊎ ((k : ℕ) → k < n → P k → ⊥)
+search : (P : ℕ → Type 0) → ((k : ℕ) → P k ⊎ (P k → ⊥)) → (n : ℕ)
+    → ((k : ℕ) × (k < n) × P k) ⊎ ((k : ℕ) → k < n → P k → ⊥)
 search P told zero = inr (λ k below has. omega (arith, below))
 search P told (suc n) = go (search P told n) (told n)
   where
-    go : ((k : ℕ) × (k < n) × P k) ⊎ ((k : ℕ) → k < n → P k → ⊥) → P n ⊎ (P n → ⊥) → ((k : ℕ) × (k < suc n) × P k) ⊎ ((k : ℕ) → k < suc n → P k → ⊥)
+    go : ((k : ℕ) × (k < n) × P k) ⊎ ((k : ℕ) → k < n → P k → ⊥) → P n ⊎ (P n → ⊥)
+        → ((k : ℕ) × (k < suc n) × P k) ⊎ ((k : ℕ) → k < suc n → P k → ⊥)
     go (inl (k, below, has)) here = let less : k < suc n = omega (arith, below) in inl (k, less, has)
     go (inr none) (inl has) = let less : n < suc n = omega arith in inl (n, less, has)
     go (inr none) (inr not) = inr (λ k below has. each k (cases_lt k n) below has)
@@ -54,12 +56,15 @@ told_some P told n = go (search P told n)
 module _ (w : List ℕ) (place : ℕ) where
   -- a word of a field that stands at the place; field f + 1
   abbrev HasWord : ℕ → Type 0
-  HasWord f = Some_of (records w (kind_of (f + 1))) (λ index. Some_of (width w (f + 1)) (λ at. word_place w (f + 1) index at ≡ place))
+  HasWord f =
+      Some_of (records w (kind_of (f + 1)))
+      (λ index. Some_of (width w (f + 1)) (λ at. word_place w (f + 1) index at ≡ place))
 
   told_word : (f : ℕ) → HasWord f ⊎ (HasWord f → ⊥)
   told_word f =
       told_some (λ index. Some_of (width w (f + 1)) (λ at. word_place w (f + 1) index at ≡ place))
-      (λ index. told_some (λ at. word_place w (f + 1) index at ≡ place) (λ at. told_equal (word_place w (f + 1) index at) place) (width w (f + 1))) (records w (kind_of (f + 1)))
+      (λ index. told_some (λ at. word_place w (f + 1) index at ≡ place) (λ at. told_equal (word_place w (f + 1) index at) place) (width w (f + 1)))
+      (records w (kind_of (f + 1)))
 
   abbrev IsAtWord : Type 0
   IsAtWord = (f : ℕ) × (index : ℕ) × (at : ℕ) × IsWord w f index at × (word_place w f index at ≡ place)
@@ -111,7 +116,8 @@ module _ (p : Program) (w : List ℕ) where
       (alone r q 5 _ refl a.max_active b.max_active))
       (λ at within. a.locks at ∙ sym (b.locks at)) below
 
-  same_thread : (i : ℕ) (r q : Rec) → OpensThread w i r → OpensThread w i q → (f : ℕ) → 7 ≤ f → f < 13 → Same r q f
+  same_thread : (i : ℕ) (r q : Rec) → OpensThread w i r → OpensThread w i q → (f : ℕ) → 7 ≤ f → f < 13
+      → Same r q f
   same_thread i r q a b f from below =
       next_below (Same r q) 12 f (
       next_below (Same r q) 11 f (
@@ -198,10 +204,12 @@ module _ (p : Program) (w : List ℕ) where
 
 -- ---- all words
 
-module _ (p : Program) (w : List ℕ) (v : IsValid w) (a b : List ℕ) (x : AreOpening p w a) (y : AreOpening p w b) where
+module _ (p : Program) (w : List ℕ) (v : IsValid w) (a b : List ℕ) (x : AreOpening p w a)
+    (y : AreOpening p w b) where
   -- a record of a kind, by its number in the arena
   abbrev SameRecord : ℕ → Type 0
-  SameRecord f = (c s : ℕ) → IsSlot w (kind_of f) c s → Same p w (memory_of w a c (kind_of f) s) (memory_of w b c (kind_of f) s) f
+  SameRecord f =
+      (c s : ℕ) → IsSlot w (kind_of f) c s → Same p w (memory_of w a c (kind_of f) s) (memory_of w b c (kind_of f) s) f
 
   in_runtime : (f : ℕ) → 1 ≤ f → f < 7 → SameRecord f
   in_runtime f from below c s slot =
@@ -231,27 +239,39 @@ module _ (p : Program) (w : List ℕ) (v : IsValid w) (a b : List ℕ) (x : AreO
   in_regions f from below c s slot =
       let kind : kind_of f ≡ regions = grind (arith, nat_tests) in
       let there = subst (λ k. IsSlot w k c s) kind slot in
-      subst (λ k. Same p w (memory_of w a c k s) (memory_of w b c k s) f) (sym kind) (go there.made_by (told_equal c 0) (told_equal s 0))
+      subst (λ k. Same p w (memory_of w a c k s) (memory_of w b c k s) f) (sym kind)
+      (go there.made_by (told_equal c 0) (told_equal s 0))
     where
-      go : c < thread_count w → (c ≡ 0) ⊎ (c ≡ 0 → ⊥) → (s ≡ 0) ⊎ (s ≡ 0 → ⊥) → Same p w (memory_of w a c regions s) (memory_of w b c regions s) f
+      go : c < thread_count w → (c ≡ 0) ⊎ (c ≡ 0 → ⊥) → (s ≡ 0) ⊎ (s ≡ 0 → ⊥)
+          → Same p w (memory_of w a c regions s) (memory_of w b c regions s) f
       go known (inl first) (inl none) =
           subst (λ i. Same p w (memory_of w a c regions i) (memory_of w b c regions i) f) (sym none)
           (same_region p w (memory_of w a c regions 0) (memory_of w b c regions 0) ((x.made c known).region first) ((y.made c known).region first) f from below)
-      go known (inl first) (inr other) = same_zero p w _ _ ((x.made c known).no_region s (λ _ same. other same)) ((y.made c known).no_region s (λ _ same. other same)) f
-      go known (inr other) none = same_zero p w _ _ ((x.made c known).no_region s (λ same _. other same)) ((y.made c known).no_region s (λ same _. other same)) f
+      go known (inl first) (inr other) =
+          same_zero p w _ _ ((x.made c known).no_region s (λ _ same. other same))
+          ((y.made c known).no_region s (λ _ same. other same)) f
+      go known (inr other) none =
+          same_zero p w _ _ ((x.made c known).no_region s (λ same _. other same))
+          ((y.made c known).no_region s (λ same _. other same)) f
 
   in_tasks : (f : ℕ) → 25 ≤ f → f < 45 → SameRecord f
   in_tasks f from below c s slot =
       let kind : kind_of f ≡ tasks = grind (arith, nat_tests) in
       let there = subst (λ k. IsSlot w k c s) kind slot in
-      subst (λ k. Same p w (memory_of w a c k s) (memory_of w b c k s) f) (sym kind) (go there.made_by (told_equal c 0) (told_equal s 0))
+      subst (λ k. Same p w (memory_of w a c k s) (memory_of w b c k s) f) (sym kind)
+      (go there.made_by (told_equal c 0) (told_equal s 0))
     where
-      go : c < thread_count w → (c ≡ 0) ⊎ (c ≡ 0 → ⊥) → (s ≡ 0) ⊎ (s ≡ 0 → ⊥) → Same p w (memory_of w a c tasks s) (memory_of w b c tasks s) f
+      go : c < thread_count w → (c ≡ 0) ⊎ (c ≡ 0 → ⊥) → (s ≡ 0) ⊎ (s ≡ 0 → ⊥)
+          → Same p w (memory_of w a c tasks s) (memory_of w b c tasks s) f
       go known (inl first) (inl none) =
           subst (λ i. Same p w (memory_of w a c tasks i) (memory_of w b c tasks i) f) (sym none)
           (same_task p w (memory_of w a c tasks 0) (memory_of w b c tasks 0) ((x.made c known).task first) ((y.made c known).task first) f from below)
-      go known (inl first) (inr other) = same_zero p w _ _ ((x.made c known).no_task s (λ _ same. other same)) ((y.made c known).no_task s (λ _ same. other same)) f
-      go known (inr other) none = same_zero p w _ _ ((x.made c known).no_task s (λ same _. other same)) ((y.made c known).no_task s (λ same _. other same)) f
+      go known (inl first) (inr other) =
+          same_zero p w _ _ ((x.made c known).no_task s (λ _ same. other same))
+          ((y.made c known).no_task s (λ _ same. other same)) f
+      go known (inr other) none =
+          same_zero p w _ _ ((x.made c known).no_task s (λ same _. other same))
+          ((y.made c known).no_task s (λ same _. other same)) f
 
   in_record : (f : ℕ) → IsField f → SameRecord f
   in_record f is = go (cases_lt f 7) (cases_lt f 13) (cases_lt f 25)
@@ -260,18 +280,24 @@ module _ (p : Program) (w : List ℕ) (v : IsValid w) (a b : List ℕ) (x : AreO
       go (inl less) m t = in_runtime f is.from less
       go (inr more) (inl less) t = in_threads f more less
       go (inr more) (inr past) (inl less) = in_regions f past less
-      go (inr more) (inr past) (inr behind) = let to = is.to in let last : f < 45 = omega (arith, to) in in_tasks f behind last
+      go (inr more) (inr past) (inr behind) =
+          let to = is.to in let last : f < 45 = omega (arith, to) in in_tasks f behind last
 
   some_there : (f : ℕ) → 0 < per_thread w (kind_of f)
   some_there f = go (cases_lt f 7) (cases_lt f 13) (cases_lt f 25)
     where
       go : (f < 7) ⊎ (7 ≤ f) → (f < 13) ⊎ (13 ≤ f) → (f < 25) ⊎ (25 ≤ f) → 0 < per_thread w (kind_of f)
-      go (inl less) m t = let kind : kind_of f ≡ runtime = grind (arith, nat_tests) in subst (λ k. 0 < per_thread w k) (sym kind) (omega arith)
-      go (inr more) (inl less) t = let kind : kind_of f ≡ threads = grind (arith, nat_tests) in subst (λ k. 0 < per_thread w k) (sym kind) (omega arith)
-      go (inr more) (inr past) (inl less) = let kind : kind_of f ≡ regions = grind (arith, nat_tests) in subst (λ k. 0 < per_thread w k) (sym kind) (some_regions w v)
-      go (inr more) (inr past) (inr behind) = let kind : kind_of f ≡ tasks = grind (arith, nat_tests) in subst (λ k. 0 < per_thread w k) (sym kind) (some_tasks w v)
+      go (inl less) m t =
+          let kind : kind_of f ≡ runtime = grind (arith, nat_tests) in subst (λ k. 0 < per_thread w k) (sym kind) (omega arith)
+      go (inr more) (inl less) t =
+          let kind : kind_of f ≡ threads = grind (arith, nat_tests) in subst (λ k. 0 < per_thread w k) (sym kind) (omega arith)
+      go (inr more) (inr past) (inl less) =
+          let kind : kind_of f ≡ regions = grind (arith, nat_tests) in subst (λ k. 0 < per_thread w k) (sym kind) (some_regions w v)
+      go (inr more) (inr past) (inr behind) =
+          let kind : kind_of f ≡ tasks = grind (arith, nat_tests) in subst (λ k. 0 < per_thread w k) (sym kind) (some_tasks w v)
 
-  same_word : (f index at : ℕ) → IsWord w f index at → slice_index a (word_place w f index at) ≡ slice_index b (word_place w f index at)
+  same_word : (f index at : ℕ) → IsWord w f index at
+      → slice_index a (word_place w f index at) ≡ slice_index b (word_place w f index at)
   same_word f index at is =
       let n = per_thread w (kind_of f) in
       let some = some_there f in
@@ -279,7 +305,8 @@ module _ (p : Program) (w : List ℕ) (v : IsValid w) (a b : List ℕ) (x : AreO
       let made = is.made in
       let all = records_made w (kind_of f) in
       let less : index < makers w (kind_of f) * n = omega (arith, made, all) in
-      let by : index / n < makers w (kind_of f) = (div-lt_iff_lt-mul {k = n} {x = index} {y = makers w (kind_of f)} some).1 less in
+      let by : index / n < makers w (kind_of f) =
+      (div-lt_iff_lt-mul {k = n} {x = index} {y = makers w (kind_of f)} some).1 less in
       let slot : index % n < n = omega (arith, some) in
       let there : IsRecordWord w (index / n) (index % n) f at = record { field = is.field; record_slot = record { made_by = by; within = slot }; within = is.within } in
       subst (λ i. slice_index a (word_place w f i at) ≡ slice_index b (word_place w f i at)) number
@@ -290,16 +317,19 @@ module _ (p : Program) (w : List ℕ) (v : IsValid w) (a b : List ℕ) (x : AreO
   same_place : (i : ℕ) → slice_index a i ≡ slice_index b i
   same_place i = go (cases_lt i TABLE_PLACE) (cases_lt i FRONT_WORDS)
     where
-      go : (i < TABLE_PLACE) ⊎ (TABLE_PLACE ≤ i) → (i < FRONT_WORDS) ⊎ (FRONT_WORDS ≤ i) → slice_index a i ≡ slice_index b i
+      go : (i < TABLE_PLACE) ⊎ (TABLE_PLACE ≤ i) → (i < FRONT_WORDS) ⊎ (FRONT_WORDS ≤ i)
+          → slice_index a i ≡ slice_index b i
       go (inl before) f = x.tables.symbols i before ∙ sym (y.tables.symbols i before)
       go (inr from) (inl before) =
           let less : i - TABLE_PLACE < TABLE_WORDS = omega (arith, from, before) in
           let here : TABLE_PLACE + (i - TABLE_PLACE) ≡ i = omega (arith, from) in
-          subst (λ k. slice_index a k ≡ slice_index b k) here (x.tables.table (i - TABLE_PLACE) less ∙ sym (y.tables.table (i - TABLE_PLACE) less))
+          subst (λ k. slice_index a k ≡ slice_index b k) here
+          (x.tables.table (i - TABLE_PLACE) less ∙ sym (y.tables.table (i - TABLE_PLACE) less))
       go (inr from) (inr behind) = by (word_or_gap w i behind)
         where
           by : IsAtWord w i ⊎ IsGap w i → slice_index a i ≡ slice_index b i
-          by (inl (f, index, at, is, same)) = subst (λ k. slice_index a k ≡ slice_index b k) same (same_word f index at is)
+          by (inl (f, index, at, is, same)) =
+              subst (λ k. slice_index a k ≡ slice_index b k) same (same_word f index at is)
           by (inr gap) = x.gaps i gap ∙ sym (y.gaps i gap)
 
   pub one_opening : a ≡ b

@@ -42,9 +42,11 @@ pub record Told (w : List ℕ) (c kind s f k : ℕ) : Type 0 where
   pub same : kind ≡ kind_of f
 
 pub test_told : (w : List ℕ) (c kind s f k : ℕ) → is_record_word w c kind s f k ≡ true → Told w c kind s f k
-test_told w c kind s f k e = go (kind_of f) (makers w (kind_of f)) (per_thread w (kind_of f)) (width w f) refl refl refl refl e
+test_told w c kind s f k e =
+    go (kind_of f) (makers w (kind_of f)) (per_thread w (kind_of f)) (width w f) refl refl refl refl e
   where
-    go : (q m n x : ℕ) → kind_of f ≡ q → makers w (kind_of f) ≡ m → per_thread w (kind_of f) ≡ n → width w f ≡ x
+    go : (q m n x : ℕ) → kind_of f ≡ q → makers w (kind_of f) ≡ m → per_thread w (kind_of f) ≡ n
+        → width w f ≡ x
         → (nat_lt 0 f && nat_lt f 45) && (kind == q && (nat_lt c m && (nat_lt s n && nat_lt k x))) ≡ true → Told w c kind s f k
     go q m n x eq em en ex e = record {
       word = record {
@@ -57,10 +59,12 @@ test_told w c kind s f k e = go (kind_of f) (makers w (kind_of f)) (per_thread w
 
 module _ (w : List ℕ) (v : IsValid w) where
   -- the address of a word of a record is that of its place
-  pub address_placed : (c s f k : ℕ) → word_address w c s f k ≡ address_at (word_place w f (index_of w (kind_of f) c s) k)
+  pub address_placed : (c s f k : ℕ)
+      → word_address w c s f k ≡ address_at (word_place w f (index_of w (kind_of f) c s) k)
   unfolding word_address slot_address
   address_placed c s f k =
-      sums (place w (kind_of f)) (first_word w (kind_of f)) (index_of w (kind_of f) c s * size w (kind_of f)) (offset w f + k) (aligned w v (kind_of f) (kind_is f))
+      sums (place w (kind_of f)) (first_word w (kind_of f)) (index_of w (kind_of f) c s * size w (kind_of f))
+      (offset w f + k) (aligned w v (kind_of f) (kind_is f))
     where
       sums : (a b x y : ℕ) → 65536 + 8 * b ≡ a → (a + 8 * x) + 8 * y ≡ 65536 + 8 * (b + (x + y))
       sums a b x y e = omega (arith, e)
@@ -68,13 +72,16 @@ module _ (w : List ℕ) (v : IsValid w) where
   -- and this is in an image that the layout fits
   pub place_inside : (words : List ℕ) (c s f k : ℕ) → IsTrue (fits w (length words)) → IsRecordWord w c s f k
       → word_place w f (index_of w (kind_of f) c s) k < length words
-  place_inside words c s f k fit is = (are_inside w v (length words) f (index_of w (kind_of f) c s) k fit (numbered w c s f k is)).inside
+  place_inside words c s f k fit is =
+      (are_inside w v (length words) f (index_of w (kind_of f) c s) k fit (numbered w c s f k is)).inside
 
   -- what the memory has at a word of a record
   pub memory_read : (words : List ℕ) (c s f k : ℕ) → IsRecordWord w c s f k
       → memory_of w words c (kind_of f) s f k ≡ get_or words (word_place w f (index_of w (kind_of f) c s) k) 0
   unfolding memory_of
-  memory_read words c s f k is = ap (λ b. cond b (get_or words (word_place w f (index_of w (kind_of f) c s) k) 0) 0) (test_true w c s f k is)
+  memory_read words c s f k is =
+      ap (λ b. cond b (get_or words (word_place w f (index_of w (kind_of f) c s) k) 0) 0)
+      (test_true w c s f k is)
 
   -- the frame: every other word stays
   read_other : (words : List ℕ) (c s f k x d kind t g h : ℕ) → IsRecordWord w c s f k
@@ -87,29 +94,37 @@ module _ (w : List ℕ) (v : IsValid w) where
           → word_place w g (index_of w (kind_of g) d t) h ≡ word_place w f (index_of w (kind_of f) c s) k → ⊥
       differ e same =
           let told = test_told w d kind t g h e in
-          let all = are_apart w v g (index_of w (kind_of g) d t) h f (index_of w (kind_of f) c s) k (numbered w d t g h told.word) (numbered w c s f k is) same in
+          let all =
+          are_apart w v g (index_of w (kind_of g) d t) h f (index_of w (kind_of f) c s) k
+          (numbered w d t g h told.word) (numbered w c s f k is) same in
           let kinds : kind_of g ≡ kind_of f = ap kind_of all.field in
-          let index : index_of w (kind_of f) d t ≡ index_of w (kind_of f) c s = sym (ap (λ q. index_of w q d t) kinds) ∙ all.record_number in
+          let index : index_of w (kind_of f) d t ≡ index_of w (kind_of f) c s =
+          sym (ap (λ q. index_of w q d t) kinds) ∙ all.record_number in
           let there = subst (λ q. IsSlot w q d t) kinds told.word.record_slot in
           let slots = slots_apart w (kind_of f) d t c s there is.record_slot index in
           apart slots.maker (told.same ∙ kinds) slots.place all.field all.element
 
       go : (b : Bool) → is_record_word w d kind t g h ≡ b
-          → cond b (get_or (set words (word_place w f (index_of w (kind_of f) c s) k) x) (word_place w g (index_of w (kind_of g) d t) h) 0) 0
+          → cond b
+          (get_or (set words (word_place w f (index_of w (kind_of f) c s) k) x) (word_place w g (index_of w (kind_of g) d t) h) 0) 0
           ≡ cond b (get_or words (word_place w g (index_of w (kind_of g) d t) h) 0) 0
       go false e = refl
-      go true e = get_or-set_other words (word_place w f (index_of w (kind_of f) c s) k) (word_place w g (index_of w (kind_of g) d t) h) x 0 (differ e)
+      go true e =
+          get_or-set_other words (word_place w f (index_of w (kind_of f) c s) k)
+          (word_place w g (index_of w (kind_of g) d t) h) x 0 (differ e)
 
   -- a store
   memory_stored : (words : List ℕ) (c s f k x : ℕ) → IsTrue (fits w (length words)) → IsRecordWord w c s f k
       → memory_of w (set words (word_place w f (index_of w (kind_of f) c s) k) x) ≡ with_word (memory_of w words) c (kind_of f) s f k x
   memory_stored words c s f k x fit is =
-      written (memory_of w words) (memory_of w (set words (word_place w f (index_of w (kind_of f) c s) k) x)) c (kind_of f) s f k x
+      written (memory_of w words)
+      (memory_of w (set words (word_place w f (index_of w (kind_of f) c s) k) x)) c (kind_of f) s f k x
       (memory_read (set words (word_place w f (index_of w (kind_of f) c s) k) x) c s f k is ∙ get_or-set_same words _ x 0 (place_inside words c s f k fit is))
       (λ d kind t g h ne. read_other words c s f k x d kind t g h is ne)
 
   -- an operation on a word of a record
-  pub on_word : (words : List ℕ) (op : Op) (c s f k : ℕ) → IsTrue (fits w (length words)) → IsRecordWord w c s f k
+  pub on_word : (words : List ℕ) (op : Op) (c s f k : ℕ) → IsTrue (fits w (length words))
+      → IsRecordWord w c s f k
       → address_of op ≡ word_address w c s f k → IsOnWord w words op c s f k
   on_word words op c s f k fit is at = record {
     inside = subst (IsWordOf words) (sym address) (placed_word words here (place_inside words c s f k fit is));
@@ -134,7 +149,8 @@ module _ (w : List ℕ) (v : IsValid w) where
       finds = ap (λ p. get_or words p 0) placed ∙ sym (memory_read words c s f k is)
 
       behind : 99 ≤ here
-      behind = (are_inside w v (length words) f (index_of w (kind_of f) c s) k fit (numbered w c s f k is)).behind
+      behind =
+          (are_inside w v (length words) f (index_of w (kind_of f) c s) k fit (numbered w c s f k is)).behind
 
   -- what each operation leaves
   pub left : (words : List ℕ) (c s f k : ℕ) → IsTrue (fits w (length words)) → IsRecordWord w c s f k
@@ -154,7 +170,8 @@ module _ (w : List ℕ) (v : IsValid w) where
       here : ℕ
       here = word_in w words c s f k
 
-      by : (op : Op) → address_of op ≡ a → memory_of w (words_after words op) ≡ replaced w words c s f k (left_of op here)
+      by : (op : Op) → address_of op ≡ a
+          → memory_of w (words_after words op) ≡ replaced w words c s f k (left_of op here)
       by op at = (on_word words op c s f k fit is at).leaves
 
       same : replaced w words c s f k here ≡ memory_of w words
@@ -164,7 +181,9 @@ module _ (w : List ℕ) (v : IsValid w) where
   place_held : (words : List ℕ) (c s f k : ℕ) → image_words w ≤ length words → IsRecordWord w c s f k
       → word_place w f (index_of w (kind_of f) c s) k < length words
   place_held words c s f k long is =
-      let last : arena_end w (kind_of f) ≤ image_words w = each_kind (λ p. arena_end w p ≤ image_words w) (omega arith) (omega arith) (omega arith) (omega arith) (kind_of f) (kind_is f) in
+      let last : arena_end w (kind_of f) ≤ image_words w =
+      each_kind (λ p. arena_end w p ≤ image_words w) (omega arith) (omega arith) (omega arith) (omega arith)
+      (kind_of f) (kind_is f) in
       let here = in_arena w v f (index_of w (kind_of f) c s) k (numbered w c s f k is) in
       omega (arith, last, here, long)
 

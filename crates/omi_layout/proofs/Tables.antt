@@ -14,7 +14,8 @@ use Rattle.omi_layout.specs.Given.{wrapped, GivesLayout, HasTables}
 use Rattle.omi_layout.proofs.Mapped.{image_word, stands}
 
 -- words that are mapped one after the other are read
-read_words : (g : Words) (words : List ℕ) (n at : ℕ) → ((p : ℕ) → p < at + n → g (address_at p) ≡ Some (get_or words p 0)) → at + n ≤ length words
+read_words : (g : Words) (words : List ℕ) (n at : ℕ)
+    → ((p : ℕ) → p < at + n → g (address_at p) ≡ Some (get_or words p 0)) → at + n ≤ length words
     → words_from g (address_at at) n ≡ Some (take n (drop at words))
 read_words g words zero at each long = refl
 read_words g words (suc n) at each long =
@@ -24,7 +25,9 @@ read_words g words (suc n) at each long =
     ∙ read_words g words n (at + 1) (λ p h. each p (omega arith)) (omega arith)
     ∙ (let one : at + 1 ≡ suc at = omega arith in ap (λ a. Some (take n (drop a words))) one) in
     let cut : drop at words ≡ get_or words at 0 ∷ drop (suc at) words = drop-cons words at 0 (omega arith) in
-    ap (option_and_then (λ (word : ℕ). option_map (λ (rest : List ℕ). word ∷ rest) (words_from g (address_at at + 8) n))) (each at (omega arith))
+    ap
+    (option_and_then (λ (word : ℕ). option_map (λ (rest : List ℕ). word ∷ rest) (words_from g (address_at at + 8) n)))
+    (each at (omega arith))
     ∙ ap (option_map (λ (rest : List ℕ). get_or words at 0 ∷ rest)) more
     ∙ sym (ap (λ (ws : List ℕ). Some (take (suc n) ws)) cut)
 
@@ -37,39 +40,50 @@ module _ (g h : Words) (more : (addr x : ℕ) → g addr ≡ Some x → h addr �
   words_kept zero a xs is = is
   words_kept (suc n) a xs is = first (λ ys e. words_kept n (a + 8) ys e) (g a) refl is
     where
-      rest : ((ys : List ℕ) → words_from g (a + 8) n ≡ Some ys → words_from h (a + 8) n ≡ Some ys) → (x : ℕ) (o : Option (List ℕ)) → words_from g (a + 8) n ≡ o → option_map (λ (ys : List ℕ). x ∷ ys) o ≡ Some xs
+      rest : ((ys : List ℕ) → words_from g (a + 8) n ≡ Some ys → words_from h (a + 8) n ≡ Some ys)
+          → (x : ℕ) (o : Option (List ℕ)) → words_from g (a + 8) n ≡ o
+          → option_map (λ (ys : List ℕ). x ∷ ys) o ≡ Some xs
           → option_map (λ (ys : List ℕ). x ∷ ys) (words_from h (a + 8) n) ≡ Some xs
       rest kept x None e f = absurd (cc)
       rest kept x (Some ys) e f = ap (option_map (λ (zs : List ℕ). x ∷ zs)) (kept ys e) ∙ f
 
-      first : ((ys : List ℕ) → words_from g (a + 8) n ≡ Some ys → words_from h (a + 8) n ≡ Some ys) → (o : Option ℕ) → g a ≡ o → option_and_then (λ (x : ℕ). option_map (λ (ys : List ℕ). x ∷ ys) (words_from g (a + 8) n)) o ≡ Some xs
+      first : ((ys : List ℕ) → words_from g (a + 8) n ≡ Some ys → words_from h (a + 8) n ≡ Some ys)
+          → (o : Option ℕ) → g a ≡ o
+          → option_and_then (λ (x : ℕ). option_map (λ (ys : List ℕ). x ∷ ys) (words_from g (a + 8) n)) o ≡ Some xs
           → words_from h a (suc n) ≡ Some xs
       first kept None e f = absurd (cc)
       first kept (Some x) e f =
-          ap (option_and_then (λ (y : ℕ). option_map (λ (ys : List ℕ). y ∷ ys) (words_from h (a + 8) n))) (more a x e)
+          ap (option_and_then (λ (y : ℕ). option_map (λ (ys : List ℕ). y ∷ ys) (words_from h (a + 8) n)))
+          (more a x e)
           ∙ rest kept x (words_from g (a + 8) n) refl f
 
   symbols_kept : (n a : ℕ) (xs : List Symbol) → symbols_from g a n ≡ Some xs → symbols_from h a n ≡ Some xs
   symbols_kept zero a xs is = is
   symbols_kept (suc n) a xs is = first (λ ys e. symbols_kept n (a + 40) ys e) (words_from g a 5) refl is
     where
-      rest : ((ys : List Symbol) → symbols_from g (a + 40) n ≡ Some ys → symbols_from h (a + 40) n ≡ Some ys) → (x : Symbol) (o : Option (List Symbol)) → symbols_from g (a + 40) n ≡ o → option_map (λ (ys : List Symbol). x ∷ ys) o ≡ Some xs
+      rest : ((ys : List Symbol) → symbols_from g (a + 40) n ≡ Some ys → symbols_from h (a + 40) n ≡ Some ys)
+          → (x : Symbol) (o : Option (List Symbol)) → symbols_from g (a + 40) n ≡ o
+          → option_map (λ (ys : List Symbol). x ∷ ys) o ≡ Some xs
           → option_map (λ (ys : List Symbol). x ∷ ys) (symbols_from h (a + 40) n) ≡ Some xs
       rest kept x None e f = absurd (cc)
       rest kept x (Some ys) e f = ap (option_map (λ (zs : List Symbol). x ∷ zs)) (kept ys e) ∙ f
 
-      first : ((ys : List Symbol) → symbols_from g (a + 40) n ≡ Some ys → symbols_from h (a + 40) n ≡ Some ys) → (o : Option (List ℕ)) → words_from g a 5 ≡ o
+      first : ((ys : List Symbol) → symbols_from g (a + 40) n ≡ Some ys → symbols_from h (a + 40) n ≡ Some ys)
+          → (o : Option (List ℕ)) → words_from g a 5 ≡ o
           → option_and_then (λ (five : List ℕ). option_map (λ (ys : List Symbol). symbol_of five ∷ ys) (symbols_from g (a + 40) n)) o ≡ Some xs
           → symbols_from h a (suc n) ≡ Some xs
       first kept None e f = absurd (cc)
       first kept (Some five) e f =
-          ap (option_and_then (λ (ws : List ℕ). option_map (λ (ys : List Symbol). symbol_of ws ∷ ys) (symbols_from h (a + 40) n))) (words_kept 5 a five e)
+          ap
+          (option_and_then (λ (ws : List ℕ). option_map (λ (ys : List Symbol). symbol_of ws ∷ ys) (symbols_from h (a + 40) n)))
+          (words_kept 5 a five e)
           ∙ rest kept (symbol_of five) (symbols_from g (a + 40) n) refl f
 
   table_kept : (xs : List Symbol) → symbols_in g ≡ Some xs → symbols_in h ≡ Some xs
   table_kept xs is = first (g 65536) refl is
     where
-      few : (count : ℕ) (b : Bool) → cond b (symbols_from g 65544 count) None ≡ Some xs → cond b (symbols_from h 65544 count) None ≡ Some xs
+      few : (count : ℕ) (b : Bool) → cond b (symbols_from g 65544 count) None ≡ Some xs
+          → cond b (symbols_from h 65544 count) None ≡ Some xs
       few count true f = symbols_kept count 65544 xs f
       few count false f = absurd (cc)
 
@@ -77,7 +91,9 @@ module _ (g h : Words) (more : (addr x : ℕ) → g addr ≡ Some x → h addr �
           → option_and_then (λ (count : ℕ). cond (nat_le count 16) (symbols_from g 65544 count) None) o ≡ Some xs → symbols_in h ≡ Some xs
       first None e f = absurd (cc)
       first (Some count) e f =
-          ap (option_and_then (λ (n : ℕ). cond (nat_le n 16) (symbols_from h 65544 n) None)) (more 65536 count e) ∙ few count (nat_le count 16) f
+          ap (option_and_then (λ (n : ℕ). cond (nat_le n 16) (symbols_from h 65544 n) None))
+          (more 65536 count e)
+          ∙ few count (nat_le count 16) f
 
   symbol_kept : (name : List ℕ) (x : ℕ) → symbol_in g name ≡ Some x → symbol_in h name ≡ Some x
   symbol_kept name x is = go (symbols_in g) refl is
@@ -87,7 +103,10 @@ module _ (g h : Words) (more : (addr x : ℕ) → g addr ≡ Some x → h addr �
           → symbol_in h name ≡ Some x
       go None e f = absurd (cc)
       go (Some symbols) e f =
-          ap (option_and_then (λ (all : List Symbol). option_map (λ (symbol : Symbol). symbol.address) (find (is_named name) all))) (table_kept symbols e) ∙ f
+          ap
+          (option_and_then (λ (all : List Symbol). option_map (λ (symbol : Symbol). symbol.address) (find (is_named name) all)))
+          (table_kept symbols e)
+          ∙ f
 
 -- the symbol of the tables that are published
 named_table : symbol_in (words_of front) (codes "omi_layout") ≡ Some 65880

@@ -26,11 +26,13 @@ first_of_last : (f : ℕ) → kind_of f ≡ 4 → 25 ≤ f
 first_of_last f is = grind (arith, nat_tests)
 
 -- a field's words end before those of a later field of its record
-pub in_order : (w : List ℕ) (f g : ℕ) → IsField f → IsField g → f < g → kind_of f ≡ kind_of g → words_before f + width w f ≤ words_before g
+pub in_order : (w : List ℕ) (f g : ℕ) → IsField f → IsField g → f < g → kind_of f ≡ kind_of g
+    → words_before f + width w f ≤ words_before g
 in_order w f g is is' h same = by (g == 44) refl (f == 43) refl
   where
     by : (b : Bool) → g == 44 ≡ b → (d : Bool) → f == 43 ≡ d → words_before f + width w f ≤ words_before g
-    by true e true e' = let a : g ≡ 44 = grind (arith, nat_tests) in let b : f ≡ 43 = grind (arith, nat_tests) in rw (a, b) (omega arith)
+    by true e true e' =
+        let a : g ≡ 44 = grind (arith, nat_tests) in let b : f ≡ 43 = grind (arith, nat_tests) in rw (a, b) (omega arith)
     by true e false e' =
         let a : g ≡ 44 = grind (arith, nat_tests) in
         let b : f ≢ 43 = grind (arith, nat_tests) in
@@ -54,12 +56,16 @@ in_order w f g is is' h same = by (g == 44) refl (f == 43) refl
         omega (arith, one, mine, other, first, h)
 
 -- and inside the words of all fields
-pub in_all : (w : List ℕ) (t f : ℕ) → thread_count w ≡ t → IsField f → words_before f + width w f ≤ field_words t (kind_of f)
+pub in_all : (w : List ℕ) (t f : ℕ) → thread_count w ≡ t → IsField f
+    → words_before f + width w f ≤ field_words t (kind_of f)
 in_all w t f threads is = let from = is.from in let to = is.to in grind (arith, nat_tests)
 
 -- the field that stands first is one of the record's
 pub first_is : (k p : ℕ) → IsKind p → IsField (turned_first k p)
-first_is k = each_kind (λ p. IsField (turned_first k p)) (record { from = omega arith; to = omega arith }) (record { from = omega arith; to = omega arith }) (record { from = omega arith; to = omega arith }) (record { from = omega arith; to = omega arith })
+first_is k =
+    each_kind (λ p. IsField (turned_first k p)) (record { from = omega arith; to = omega arith })
+    (record { from = omega arith; to = omega arith }) (record { from = omega arith; to = omega arith })
+    (record { from = omega arith; to = omega arith })
 
 kind_1 : (x : ℕ) → x < 6 → kind_of (1 + x) ≡ 1
 kind_1 x h = grind (arith, nat_tests)
@@ -74,7 +80,9 @@ kind_4 : (x : ℕ) → kind_of (25 + x) ≡ 4
 kind_4 x = grind (arith, nat_tests)
 
 pub first_kind : (k p : ℕ) → IsKind p → kind_of (turned_first k p) ≡ p
-first_kind k = each_kind (λ p. kind_of (turned_first k p) ≡ p) (kind_1 (k % 6) (omega arith)) (kind_2 (k % 6) (omega arith)) (kind_3 (k % 12) (omega arith)) (kind_4 (k % 20))
+first_kind k =
+    each_kind (λ p. kind_of (turned_first k p) ≡ p) (kind_1 (k % 6) (omega arith))
+    (kind_2 (k % 6) (omega arith)) (kind_3 (k % 12) (omega arith)) (kind_4 (k % 20))
 
 pub kind_is : (f : ℕ) → IsKind (kind_of f)
 kind_is f = record { from = grind (arith, nat_tests); to = grind (arith, nat_tests) }
@@ -86,24 +94,28 @@ apart_left a m b n h = grind (arith, nat_tests)
 pub apart_right : (a m b n : ℕ) → b + n ≤ a → shares a m b n ≡ false
 apart_right a m b n h = grind (arith, nat_tests)
 
-low_value : (k t f first : ℕ) → first ≡ turned_first k (kind_of f) → first ≤ f → family_offset k t f ≡ k % 3 + (words_before f - words_before first)
+low_value : (k t f first : ℕ) → first ≡ turned_first k (kind_of f) → first ≤ f
+    → family_offset k t f ≡ k % 3 + (words_before f - words_before first)
 low_value k t f first is h =
     let e : nat_le first f ≡ true = grind (arith, nat_tests) in
     rw (← is) (rw e refl)
 
-high_value : (k t f first : ℕ) → first ≡ turned_first k (kind_of f) → f < first → family_offset k t f ≡ k % 3 + ((field_words t (kind_of f) - words_before first) + words_before f)
+high_value : (k t f first : ℕ) → first ≡ turned_first k (kind_of f) → f < first
+    → family_offset k t f ≡ k % 3 + ((field_words t (kind_of f) - words_before first) + words_before f)
 high_value k t f first is h =
     let e : nat_le first f ≡ false = grind (arith, nat_tests) in
     rw (← is) (rw e refl)
 
 module _ (k t : ℕ) (w : List ℕ) (fam : IsFamily k t w) where
-  first_ends : (f first : ℕ) → IsField f → first ≡ turned_first k (kind_of f) → words_before first + width w first ≤ field_words t (kind_of f)
+  first_ends : (f first : ℕ) → IsField f → first ≡ turned_first k (kind_of f)
+      → words_before first + width w first ≤ field_words t (kind_of f)
   first_ends f first is e =
       let kinds : kind_of first ≡ kind_of f = ap kind_of e ∙ first_kind k (kind_of f) (kind_is f) in
       subst (λ p. words_before first + width w first ≤ field_words t p) kinds
       (in_all w t first fam.threads (subst IsField (sym e) (first_is k (kind_of f) (kind_is f))))
 
-  first_before : (f first : ℕ) → IsField f → first ≡ turned_first k (kind_of f) → first ≤ f → words_before first ≤ words_before f
+  first_before : (f first : ℕ) → IsField f → first ≡ turned_first k (kind_of f) → first ≤ f
+      → words_before first ≤ words_before f
   first_before f first is e h = go (first == f) refl
     where
       kinds : kind_of first ≡ kind_of f
@@ -111,17 +123,21 @@ module _ (k t : ℕ) (w : List ℕ) (fam : IsFamily k t w) where
 
       go : (b : Bool) → first == f ≡ b → words_before first ≤ words_before f
       go true x = let same : first ≡ f = grind (arith, nat_tests) in omega (arith, ap words_before same)
-      go false x = let other : first < f = grind (arith, nat_tests) in omega (arith, in_order w first f (subst IsField (sym e) (first_is k (kind_of f) (kind_is f))) is other kinds)
+      go false x =
+          let other : first < f = grind (arith, nat_tests) in omega (arith, in_order w first f (subst IsField (sym e) (first_is k (kind_of f) (kind_is f))) is other kinds)
 
-  first_behind : (f first : ℕ) → IsField f → first ≡ turned_first k (kind_of f) → f < first → words_before f + width w f ≤ words_before first
+  first_behind : (f first : ℕ) → IsField f → first ≡ turned_first k (kind_of f) → f < first
+      → words_before f + width w f ≤ words_before first
   first_behind f first is e h =
-      in_order w f first is (subst IsField (sym e) (first_is k (kind_of f) (kind_is f))) h (sym (ap kind_of e ∙ first_kind k (kind_of f) (kind_is f)))
+      in_order w f first is (subst IsField (sym e) (first_is k (kind_of f) (kind_is f))) h
+      (sym (ap kind_of e ∙ first_kind k (kind_of f) (kind_is f)))
 
   -- each field ends inside its record
   pub ends : (f : ℕ) → IsField f → offset w f + width w f ≤ (k % 3 + field_words t (kind_of f))
   ends f is = go (nat_le (turned_first k (kind_of f)) f) refl
     where
-      go : (b : Bool) → nat_le (turned_first k (kind_of f)) f ≡ b → offset w f + width w f ≤ (k % 3 + field_words t (kind_of f))
+      go : (b : Bool) → nat_le (turned_first k (kind_of f)) f ≡ b
+          → offset w f + width w f ≤ (k % 3 + field_words t (kind_of f))
       go true e =
           let h : turned_first k (kind_of f) ≤ f = leb-true _ _ e in
           let v = fam.offsets f is ∙ low_value k t f (turned_first k (kind_of f)) refl h in
@@ -129,10 +145,12 @@ module _ (k t : ℕ) (w : List ℕ) (fam : IsFamily k t w) where
       go false e =
           let h : f < turned_first k (kind_of f) = grind (arith, nat_tests) in
           let v = fam.offsets f is ∙ high_value k t f (turned_first k (kind_of f)) refl h in
-          omega (arith, v, first_behind f (turned_first k (kind_of f)) is refl h, first_ends f (turned_first k (kind_of f)) is refl)
+          omega
+          (arith, v, first_behind f (turned_first k (kind_of f)) is refl h, first_ends f (turned_first k (kind_of f)) is refl)
 
   -- two fields of a record are apart
-  pub turned_apart : (f g : ℕ) → IsField f → IsField g → f < g → kind_of f ≡ kind_of g → shares (offset w f) (width w f) (offset w g) (width w g) ≡ false
+  pub turned_apart : (f g : ℕ) → IsField f → IsField g → f < g → kind_of f ≡ kind_of g
+      → shares (offset w f) (width w f) (offset w g) (width w g) ≡ false
   turned_apart f g is is' order same = go (nat_le first f) refl (nat_le first g) refl
     where
       first : ℕ
@@ -144,21 +162,25 @@ module _ (k t : ℕ) (w : List ℕ) (fam : IsFamily k t w) where
       all : field_words t (kind_of f) ≡ field_words t (kind_of g)
       all = ap (field_words t) same
 
-      go : (b : Bool) → nat_le first f ≡ b → (d : Bool) → nat_le first g ≡ d → shares (offset w f) (width w f) (offset w g) (width w g) ≡ false
+      go : (b : Bool) → nat_le first f ≡ b → (d : Bool) → nat_le first g ≡ d
+          → shares (offset w f) (width w f) (offset w g) (width w g) ≡ false
       go true e d e' =
           let h : first ≤ f = leb-true _ _ e in
           let v = fam.offsets f is ∙ low_value k t f first refl h in
           let u = fam.offsets g is' ∙ low_value k t g first also (omega (arith, h, order)) in
-          apart_left (offset w f) (width w f) (offset w g) (width w g) (omega (arith, v, u, first_before f first is refl h, in_order w f g is is' order same))
+          apart_left (offset w f) (width w f) (offset w g) (width w g)
+          (omega (arith, v, u, first_before f first is refl h, in_order w f g is is' order same))
       go false e true e' =
           let h : f < first = grind (arith, nat_tests) in
           let h' : first ≤ g = leb-true _ _ e' in
           let v = fam.offsets f is ∙ high_value k t f first refl h in
           let u = fam.offsets g is' ∙ low_value k t g first also h' in
-          apart_right (offset w f) (width w f) (offset w g) (width w g) (omega (arith, v, u, all, first_before g first is' also h', in_all w t g fam.threads is', first_ends f first is refl))
+          apart_right (offset w f) (width w f) (offset w g) (width w g)
+          (omega (arith, v, u, all, first_before g first is' also h', in_all w t g fam.threads is', first_ends f first is refl))
       go false e false e' =
           let h : f < first = grind (arith, nat_tests) in
           let h' : g < first = grind (arith, nat_tests) in
           let v = fam.offsets f is ∙ high_value k t f first refl h in
           let u = fam.offsets g is' ∙ high_value k t g first also h' in
-          apart_left (offset w f) (width w f) (offset w g) (width w g) (omega (arith, v, u, all, in_order w f g is is' order same))
+          apart_left (offset w f) (width w f) (offset w g) (width w g)
+          (omega (arith, v, u, all, in_order w f g is is' order same))

@@ -15,16 +15,19 @@ zero_at zero p = refl
 zero_at (suc n) zero = refl
 zero_at (suc n) (suc p) = zero_at n p
 
-pub published_zero : (w old new : List ℕ) (n : ℕ) → IsValid w → old ≡ replicate n 0 → IsTrue (fits w n) → IsPublished w old new
+pub published_zero : (w old new : List ℕ) (n : ℕ) → IsValid w → old ≡ replicate n 0 → IsTrue (fits w n)
+    → IsPublished w old new
     → (c k s f at : ℕ) → memory_of w new c k s f at ≡ 0
 unfolding memory_of
 published_zero w old new n v zeros fit published c k s f at = go (is_record_word w c k s f at) refl
   where
-    go : (b : Bool) → is_record_word w c k s f at ≡ b → cond b (slice_index new (word_place w f (index_of w (kind_of f) c s) at)) 0 ≡ 0
+    go : (b : Bool) → is_record_word w c k s f at ≡ b
+        → cond b (slice_index new (word_place w f (index_of w (kind_of f) c s) at)) 0 ≡ 0
     go false e = refl
     go true e =
         let told = test_told w c k s f at e in
-        let behind = (are_inside w v n f (index_of w (kind_of f) c s) at fit (numbered w c s f at told.word)).behind in
+        let behind =
+        (are_inside w v n f (index_of w (kind_of f) c s) at fit (numbered w c s f at told.word)).behind in
         published.others (word_place w f (index_of w (kind_of f) c s) at) behind
         ∙ ap (λ (xs : List ℕ). slice_index xs (word_place w f (index_of w (kind_of f) c s) at)) zeros
         ∙ zero_at n (word_place w f (index_of w (kind_of f) c s) at)

@@ -42,11 +42,14 @@ pub record HasRows (line : Line) (rows : List Row) : Type 0 where
   pub count : line.count ≡ first_of (codes "count") rows
   pub layout : line.layout ≡ first_of (codes "layout") rows
 
-first_shown : (name : OptionName) (rows : List Row) (line : Line) → Shows rows line → first_of (id_of name) rows ≡ value_in name line
+first_shown : (name : OptionName) (rows : List Row) (line : Line) → Shows rows line
+    → first_of (id_of name) rows ≡ value_in name line
 first_shown name rows line shown = first_of-all_of (id_of name) rows
-    ∙ ap (option_and_then (λ (values : List Text). slice_get values 0)) (shown.values name) ∙ go (value_in name line)
+    ∙ ap (option_and_then (λ (values : List Text). slice_get values 0)) (shown.values name)
+    ∙ go (value_in name line)
   where
-    go : (value : Option Text) → option_and_then (λ (values : List Text). slice_get values 0) (option_map (λ (v : Text). v ∷ []) value) ≡ value
+    go : (value : Option Text)
+        → option_and_then (λ (values : List Text). slice_get values 0) (option_map (λ (v : Text). v ∷ []) value) ≡ value
     go None = refl
     go (Some value) = refl
 
@@ -60,18 +63,23 @@ shown_line rows shown line shows has =
     let layout : shown.layout ≡ line.layout = sym (first_shown Layout rows shown shows) ∙ sym has.layout in
     λ i. record { words = words i; seed = seed i; on = on i; count = count i; layout = layout i }
 
-pub line_read : (texts : List Text) (line : Line) → All IsUtf8 texts → gives_hyphen texts false ≡ false → fault_of line_app texts ≡ []
+pub line_read : (texts : List Text) (line : Line) → All IsUtf8 texts → gives_hyphen texts false ≡ false
+    → fault_of line_app texts ≡ []
     → HasRows line (matches_of line_app texts) → split_of texts ≡ Some line
 line_read texts line utf8 hyphen clear has = go (split_of texts) (reads_line texts utf8 hyphen)
   where
-    go : (answer : Option Line) → Reads (fault_of line_app texts) (matches_of line_app texts) answer → answer ≡ Some line
+    go : (answer : Option Line) → Reads (fault_of line_app texts) (matches_of line_app texts) answer
+        → answer ≡ Some line
     go None reads = absurd (reads clear)
-    go (Some shown) reads = ap (λ (l : Line). Some l) (shown_line (matches_of line_app texts) shown line reads.1 has)
+    go (Some shown) reads =
+        ap (λ (l : Line). Some l) (shown_line (matches_of line_app texts) shown line reads.1 has)
 
-pub line_refused : (texts : List Text) → All IsUtf8 texts → gives_hyphen texts false ≡ false → (fault_of line_app texts ≡ [] → ⊥) → split_of texts ≡ None
+pub line_refused : (texts : List Text) → All IsUtf8 texts → gives_hyphen texts false ≡ false
+    → (fault_of line_app texts ≡ [] → ⊥) → split_of texts ≡ None
 line_refused texts utf8 hyphen fault = go (split_of texts) (reads_line texts utf8 hyphen)
   where
-    go : (answer : Option Line) → Reads (fault_of line_app texts) (matches_of line_app texts) answer → answer ≡ None
+    go : (answer : Option Line) → Reads (fault_of line_app texts) (matches_of line_app texts) answer
+        → answer ≡ None
     go None reads = refl
     go (Some shown) reads = absurd (fault reads.0)
 
@@ -89,7 +97,8 @@ has_rows found rows line are words seed on count layout = record {
 }
 
 -- Usage isn't answered for want of memory
-pub usage_kind : {T : Type 0} (r : Result T LineError) (k : ErrorKind) → IsErrAnd r (λ e. e ≡ line_error_of k) → IsErrOf r error.Usage → k ≡ kind.OutOfMemory → ⊥
+pub usage_kind : {T : Type 0} (r : Result T LineError) (k : ErrorKind) → IsErrAnd r (λ e. e ≡ line_error_of k)
+    → IsErrOf r error.Usage → k ≡ kind.OutOfMemory → ⊥
 usage_kind (Ok x) k gives is memory = gives
 usage_kind (Err e) k gives is memory =
     let usage : e ≡ error.Usage = cc in

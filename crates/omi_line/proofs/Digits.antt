@@ -62,7 +62,8 @@ pub number_past : (text : List ℕ) (least most : ℕ) → is_decimal_text text 
 number_past text least most is fits unread =
     let n = numeral text is in
     let small : digits_value 10 text < 2 ^ 64 → ⊥ = λ low.
-    subst (λ (bytes : List ℕ). IsNumeral 10 bytes × (digits_value 10 bytes < 2 ^ 64) → ⊥) n.unsigned unread ((n.some, n.digits), low) in
+    subst (λ (bytes : List ℕ). IsNumeral 10 bytes × (digits_value 10 bytes < 2 ^ 64) → ⊥) n.unsigned unread
+    ((n.some, n.digits), low) in
     let past : most < digits_value 10 text = elim (cases_lt (digits_value 10 text) (2 ^ 64)) [ inl low ↦ absurd (small low) | inr high ↦ omega arith ] in
     rw (is, lt-leb (digits_value 10 text) most past) (none (nat_le least (digits_value 10 text)))
   where

@@ -19,7 +19,8 @@ use Rattle.omi_line.proofs.Splits.{plain_kind}
 
 record RefusesWords (words : List Text) : Type 0 where
   free : (line : Line) → gives_hyphen words false ≡ true → split_from words None line ≡ None
-  waits : (name : OptionName) (line : Line) → gives_hyphen words true ≡ true → split_from words (Some name) line ≡ None
+  waits : (name : OptionName) (line : Line) → gives_hyphen words true ≡ true
+      → split_from words (Some name) line ≡ None
 
 refuses_none : RefusesWords []
 unfolding gives_hyphen
@@ -46,22 +47,28 @@ refuses_word word rest next = record {
   waits = λ name line is. waiting_word name line is (begins_with_hyphen word) refl;
 }
   where
-    none_after : (line : Option Line) → gives_hyphen rest false ≡ true → option_and_then (split_from rest None) line ≡ None
+    none_after : (line : Option Line) → gives_hyphen rest false ≡ true
+        → option_and_then (split_from rest None) line ≡ None
     none_after None is = refl
     none_after (Some line) is = next.free line is
 
-    free_word : (k : Kind) (line : Line) → hyphen_word k false (gives_hyphen rest) ≡ true → split_word k word rest (split_from rest) line ≡ None
+    free_word : (k : Kind) (line : Line) → hyphen_word k false (gives_hyphen rest) ≡ true
+        → split_word k word rest (split_from rest) line ≡ None
     free_word Positional line is = next.free _ is
     free_word Rest line is = absurd (both_ways false refl is)
     free_word (Given name given) line is = none_after (with_value name given line) is
     free_word (Named name) line is = next.waits name line is
     free_word RefusedWord line is = refl
 
-    waiting_word : (name : OptionName) (line : Line) → hyphen_word (word_kind word) (is_lone_hyphen word) (gives_hyphen rest) ≡ true → (begins : Bool) → begins_with_hyphen word ≡ begins
+    waiting_word : (name : OptionName) (line : Line)
+        → hyphen_word (word_kind word) (is_lone_hyphen word) (gives_hyphen rest) ≡ true → (begins : Bool)
+        → begins_with_hyphen word ≡ begins
         → cond (begins_with_hyphen word) None (option_and_then (split_from rest None) (with_value name word line)) ≡ None
     waiting_word name line is true begins = rw begins refl
     waiting_word name line is false begins =
-        let later : (is_lone_hyphen word || gives_hyphen rest false) ≡ true = subst (λ (k : Kind). hyphen_word k (is_lone_hyphen word) (gives_hyphen rest) ≡ true) (plain_kind word begins) is in
+        let later : (is_lone_hyphen word || gives_hyphen rest false) ≡ true =
+        subst (λ (k : Kind). hyphen_word k (is_lone_hyphen word) (gives_hyphen rest) ≡ true)
+        (plain_kind word begins) is in
         let found : gives_hyphen rest false ≡ true = rw (not_lone word begins) at later in
         rw begins (none_after (with_value name word line) found)
 
@@ -78,19 +85,24 @@ before_all : (p : ℕ → Bool) (text : Text) → list_any p text ≡ false → 
 before_all p [] none = refl
 before_all p (byte ∷ text) none = go (p byte) refl none (before_all p text)
   where
-    go : (b : Bool) → p byte ≡ b → (b || list_any p text) ≡ false → (list_any p text ≡ false → before_first p text ≡ text) → before_first p (byte ∷ text) ≡ byte ∷ text
+    go : (b : Bool) → p byte ≡ b → (b || list_any p text) ≡ false
+        → (list_any p text ≡ false → before_first p text ≡ text) → before_first p (byte ∷ text) ≡ byte ∷ text
     go true is none next = absurd (both_ways true none refl)
     go false is none next =
         let one_more : 1 + position_or_len p text ≡ suc (position_or_len p text) = omega arith in
         rw is (ap (λ (n : ℕ). take n (byte ∷ text)) one_more ∙ ap (λ (rest : Text). byte ∷ rest) (next none))
 
 named_is : (text : Text) (name : OptionName) → option_named text ≡ Some name → text ≡ id_of name
-named_is text name is = go (bytes_eq (codes "seed") text) refl (bytes_eq (codes "break") text) refl (bytes_eq (codes "count") text) refl (bytes_eq (codes "layout") text) refl is
+named_is text name is =
+    go (bytes_eq (codes "seed") text) refl (bytes_eq (codes "break") text) refl
+    (bytes_eq (codes "count") text) refl (bytes_eq (codes "layout") text) refl is
   where
-    that : (id : Text) (other : OptionName) → bytes_eq id text ≡ true → id_of other ≡ id → Some other ≡ Some name → text ≡ id_of name
+    that : (id : Text) (other : OptionName) → bytes_eq id text ≡ true → id_of other ≡ id
+        → Some other ≡ Some name → text ≡ id_of name
     that id other same spelt named = sym ((bytes_eq-Decides id text).0 same) ∙ sym spelt ∙ ap id_of (cc)
 
-    go : (a : Bool) → bytes_eq (codes "seed") text ≡ a → (b : Bool) → bytes_eq (codes "break") text ≡ b → (d : Bool) → bytes_eq (codes "count") text ≡ d → (e : Bool) → bytes_eq (codes "layout") text ≡ e
+    go : (a : Bool) → bytes_eq (codes "seed") text ≡ a → (b : Bool) → bytes_eq (codes "break") text ≡ b
+        → (d : Bool) → bytes_eq (codes "count") text ≡ d → (e : Bool) → bytes_eq (codes "layout") text ≡ e
         → cond a (Some Seed) (cond b (Some Break) (cond d (Some Count) (cond e (Some Layout) None))) ≡ Some name → text ≡ id_of name
     go true same b q d r e t named = that (codes "seed") Seed same refl named
     go false p true same d r e t named = that (codes "break") Break same refl named
@@ -98,11 +110,14 @@ named_is text name is = go (bytes_eq (codes "seed") text) refl (bytes_eq (codes 
     go false p false q false r true same named = that (codes "layout") Layout same refl named
     go false p false q false r false t named = absurd (cc)
 
-option_spelt : (named : Option OptionName) (text : Text) (name : OptionName) → option_kind named text ≡ Named name → (named ≡ Some name) × (list_any is_equals text ≡ false)
+option_spelt : (named : Option OptionName) (text : Text) (name : OptionName)
+    → option_kind named text ≡ Named name → (named ≡ Some name) × (list_any is_equals text ≡ false)
 option_spelt None text name is = absurd (cc)
 option_spelt (Some other) text name is = go (list_any is_equals text) refl is
   where
-    go : (has : Bool) → list_any is_equals text ≡ has → cond has (Given other (after_first is_equals text)) (Named other) ≡ Named name → (Some other ≡ Some name) × (list_any is_equals text ≡ false)
+    go : (has : Bool) → list_any is_equals text ≡ has
+        → cond has (Given other (after_first is_equals text)) (Named other) ≡ Named name
+        → (Some other ≡ Some name) × (list_any is_equals text ≡ false)
     go true has is = absurd (cc)
     go false has is = (cc, has)
 
@@ -110,13 +125,15 @@ long_spelt : (text : Text) (name : OptionName) → long_kind text ≡ Named name
 long_spelt [] name is = absurd (cc)
 long_spelt (byte ∷ text) name is =
     let parts = option_spelt (option_named (before_first is_equals (byte ∷ text))) (byte ∷ text) name is in
-    sym (before_all is_equals (byte ∷ text) parts.1) ∙ named_is (before_first is_equals (byte ∷ text)) name parts.0
+    sym (before_all is_equals (byte ∷ text) parts.1)
+    ∙ named_is (before_first is_equals (byte ∷ text)) name parts.0
 
 hyphen_spelt : (text : Text) (name : OptionName) → hyphen_kind text ≡ Named name → text ≡ 45 ∷ id_of name
 hyphen_spelt [] name is = absurd (cc)
 hyphen_spelt (byte ∷ text) name is = go (byte == 45) refl is
   where
-    go : (b : Bool) → (byte == 45) ≡ b → cond b (long_kind text) RefusedWord ≡ Named name → byte ∷ text ≡ 45 ∷ id_of name
+    go : (b : Bool) → (byte == 45) ≡ b → cond b (long_kind text) RefusedWord ≡ Named name
+        → byte ∷ text ≡ 45 ∷ id_of name
     go true hyphen is = (λ i. eqb-true byte 45 hyphen i ∷ long_spelt text name is i)
     go false hyphen is = absurd (cc)
 
@@ -124,12 +141,14 @@ word_spelt : (word : Text) (name : OptionName) → word_kind word ≡ Named name
 word_spelt [] name is = absurd (cc)
 word_spelt (byte ∷ text) name is = go (byte == 45) refl is
   where
-    go : (b : Bool) → (byte == 45) ≡ b → cond b (hyphen_kind text) Positional ≡ Named name → byte ∷ text ≡ 45 ∷ 45 ∷ id_of name
+    go : (b : Bool) → (byte == 45) ≡ b → cond b (hyphen_kind text) Positional ≡ Named name
+        → byte ∷ text ≡ 45 ∷ 45 ∷ id_of name
     go true hyphen is = (λ i. eqb-true byte 45 hyphen i ∷ hyphen_spelt text name is i)
     go false hyphen is = absurd (cc)
 
 -- a word that is none of the four is no option without its value
-pub not_named : (word : Text) → (word ≡ codes "--seed" → ⊥) → (word ≡ codes "--break" → ⊥) → (word ≡ codes "--count" → ⊥) → (word ≡ codes "--layout" → ⊥)
+pub not_named : (word : Text) → (word ≡ codes "--seed" → ⊥) → (word ≡ codes "--break" → ⊥)
+    → (word ≡ codes "--count" → ⊥) → (word ≡ codes "--layout" → ⊥)
     → false ≡ is_named (word_kind word)
 not_named word seed break_ count layout = go (word_kind word) refl
   where
@@ -158,7 +177,8 @@ option_no_rest (Some name) text is = go (list_any is_equals text) is
 
 long_rest : (text : Text) → long_kind text ≡ Rest → text ≡ []
 long_rest [] is = refl
-long_rest (byte ∷ text) is = absurd (option_no_rest (option_named (before_first is_equals (byte ∷ text))) (byte ∷ text) is)
+long_rest (byte ∷ text) is =
+    absurd (option_no_rest (option_named (before_first is_equals (byte ∷ text))) (byte ∷ text) is)
 
 hyphen_rests : (text : Text) → hyphen_kind text ≡ Rest → text ≡ 45 ∷ []
 hyphen_rests [] is = absurd (cc)
@@ -172,53 +192,70 @@ rest_spelt : (word : Text) → word_kind word ≡ Rest → is_rest word ≡ true
 rest_spelt [] is = absurd (cc)
 rest_spelt (byte ∷ text) is = go (byte == 45) refl is
   where
-    go : (b : Bool) → (byte == 45) ≡ b → cond b (hyphen_kind text) Positional ≡ Rest → is_rest (byte ∷ text) ≡ true
-    go true hyphen is = ap is_rest (let spelt : byte ∷ text ≡ 45 ∷ 45 ∷ [] = (λ i. eqb-true byte 45 hyphen i ∷ hyphen_rests text is i) in spelt)
+    go : (b : Bool) → (byte == 45) ≡ b → cond b (hyphen_kind text) Positional ≡ Rest
+        → is_rest (byte ∷ text) ≡ true
+    go true hyphen is =
+        ap is_rest
+        (let spelt : byte ∷ text ≡ 45 ∷ 45 ∷ [] = (λ i. eqb-true byte 45 hyphen i ∷ hyphen_rests text is i) in spelt)
     go false hyphen is = absurd (cc)
 
 -- ---- the loop over the words
 
-at_word : (words : List (String Global)) (i : ℕ) (word : String Global) → i < length words → word ≡ slice_index_or words i word
+at_word : (words : List (String Global)) (i : ℕ) (word : String Global) → i < length words
+    → word ≡ slice_index_or words i word
     → drop i (map string_bytes words) ≡ string_bytes word ∷ drop (i + 1) (map string_bytes words)
 at_word [] i word below here = absurd (omega arith)
-at_word (x ∷ words) zero word below here = ap (λ (w : String Global). string_bytes w ∷ map string_bytes words) (sym here)
+at_word (x ∷ words) zero word below here =
+    ap (λ (w : String Global). string_bytes w ∷ map string_bytes words) (sym here)
 at_word (x ∷ words) (suc i) word below here =
     let place : suc i + 1 ≡ suc (i + 1) = omega arith in
-    at_word words i word (omega arith) here ∙ ap (λ (n : ℕ). string_bytes word ∷ drop n (string_bytes x ∷ map string_bytes words)) (sym place)
+    at_word words i word (omega arith) here
+    ∙ ap (λ (n : ℕ). string_bytes word ∷ drop n (string_bytes x ∷ map string_bytes words)) (sym place)
 
-module _ (words : List (String Global)) (i : ℕ) (word : String Global) (is_waiting : Bool) (below : i < length words) (here : word ≡ slice_index_or words i word) where
+module _ (words : List (String Global)) (i : ℕ) (word : String Global) (is_waiting : Bool)
+    (below : i < length words) (here : word ≡ slice_index_or words i word) where
   first_word : drop i (map string_bytes words) ≡ string_bytes word ∷ drop (i + 1) (map string_bytes words)
   first_word = at_word words i word below here
 
   -- `--` ends the search
-  pub hyphen_rest : is_rest (string_bytes word) ≡ true → gives_hyphen (drop i (map string_bytes words)) is_waiting ≡ false
+  pub hyphen_rest : is_rest (string_bytes word) ≡ true
+      → gives_hyphen (drop i (map string_bytes words)) is_waiting ≡ false
   unfolding gives_hyphen
   hyphen_rest is = ap (λ (l : List Text). gives_hyphen l is_waiting) first_word
-      ∙ ap (λ (w : Text). hyphen_word (word_kind w) (is_waiting && is_lone_hyphen w) (gives_hyphen (drop (i + 1) (map string_bytes words)))) ((bytes_eq-Decides (string_bytes word) (45 ∷ 45 ∷ [])).0 is)
+      ∙ ap
+      (λ (w : Text). hyphen_word (word_kind w) (is_waiting && is_lone_hyphen w) (gives_hyphen (drop (i + 1) (map string_bytes words))))
+      ((bytes_eq-Decides (string_bytes word) (45 ∷ 45 ∷ [])).0 is)
 
   -- `-` is found
-  pub hyphen_found : is_waiting ≡ true → is_lone_hyphen (string_bytes word) ≡ true → gives_hyphen (drop i (map string_bytes words)) is_waiting ≡ true
+  pub hyphen_found : is_waiting ≡ true → is_lone_hyphen (string_bytes word) ≡ true
+      → gives_hyphen (drop i (map string_bytes words)) is_waiting ≡ true
   unfolding gives_hyphen
   hyphen_found waits is = ap (λ (l : List Text). gives_hyphen l is_waiting) first_word
-      ∙ ap (λ (w : Text). hyphen_word (word_kind w) (is_waiting && is_lone_hyphen w) (gives_hyphen (drop (i + 1) (map string_bytes words)))) ((bytes_eq-Decides (string_bytes word) (45 ∷ [])).0 is)
+      ∙ ap
+      (λ (w : Text). hyphen_word (word_kind w) (is_waiting && is_lone_hyphen w) (gives_hyphen (drop (i + 1) (map string_bytes words))))
+      ((bytes_eq-Decides (string_bytes word) (45 ∷ [])).0 is)
       ∙ ap (λ (b : Bool). (b && true) || gives_hyphen (drop (i + 1) (map string_bytes words)) false) waits
 
   -- another word settles nothing
-  pub hyphen_more : is_rest (string_bytes word) ≡ false → (is_waiting && is_lone_hyphen (string_bytes word)) ≡ false
+  pub hyphen_more : is_rest (string_bytes word) ≡ false
+      → (is_waiting && is_lone_hyphen (string_bytes word)) ≡ false
       → gives_hyphen (drop (i + 1) (map string_bytes words)) (is_named (word_kind (string_bytes word))) ≡ gives_hyphen (drop i (map string_bytes words)) is_waiting
   unfolding gives_hyphen
   hyphen_more rest lone = sym (ap (λ (l : List Text). gives_hyphen l is_waiting) first_word
-      ∙ ap (λ (b : Bool). hyphen_word (word_kind (string_bytes word)) b (gives_hyphen (drop (i + 1) (map string_bytes words)))) lone
+      ∙ ap
+      (λ (b : Bool). hyphen_word (word_kind (string_bytes word)) b (gives_hyphen (drop (i + 1) (map string_bytes words)))) lone
       ∙ go (word_kind (string_bytes word)) refl)
     where
-      go : (k : Kind) → word_kind (string_bytes word) ≡ k → hyphen_word k false (gives_hyphen (drop (i + 1) (map string_bytes words))) ≡ gives_hyphen (drop (i + 1) (map string_bytes words)) (is_named k)
+      go : (k : Kind) → word_kind (string_bytes word) ≡ k
+          → hyphen_word k false (gives_hyphen (drop (i + 1) (map string_bytes words))) ≡ gives_hyphen (drop (i + 1) (map string_bytes words)) (is_named k)
       go Positional is = refl
       go Rest is = absurd (both_ways (is_rest (string_bytes word)) rest (rest_spelt (string_bytes word) is))
       go (Given name given) is = refl
       go (Named name) is = refl
       go RefusedWord is = refl
 
-pub hyphen_end : (words : List (String Global)) (i : ℕ) (is_waiting : Bool) → length words ≤ i → gives_hyphen (drop i (map string_bytes words)) is_waiting ≡ false
+pub hyphen_end : (words : List (String Global)) (i : ℕ) (is_waiting : Bool) → length words ≤ i
+    → gives_hyphen (drop i (map string_bytes words)) is_waiting ≡ false
 unfolding gives_hyphen
 hyphen_end [] zero is_waiting past = refl
 hyphen_end [] (suc i) is_waiting past = refl

@@ -38,18 +38,21 @@ no_default a rows is = rw (no_items a.defaults is) (go (has_row a.id rows))
     go true = refl
     go false = refl
 
-no_defaults_fault : (rules : List Rule) (rows : List Row) → list_all (λ a. is_empty a.defaults) rules ≡ true → defaults_fault rows rules ≡ []
+no_defaults_fault : (rules : List Rule) (rows : List Row) → list_all (λ a. is_empty a.defaults) rules ≡ true
+    → defaults_fault rows rules ≡ []
 unfolding defaults_fault
 no_defaults_fault [] rows is = refl
 no_defaults_fault (a ∷ rules) rows is =
     let parts = both (is_empty a.defaults) _ is in
     ap₂ or_else (no_default_fault a rows parts.0) (no_defaults_fault rules (with_default rows a) parts.1)
 
-no_defaults : (rules : List Rule) (rows : List Row) → list_all (λ a. is_empty a.defaults) rules ≡ true → fold with_default rows rules ≡ rows
+no_defaults : (rules : List Rule) (rows : List Row) → list_all (λ a. is_empty a.defaults) rules ≡ true
+    → fold with_default rows rules ≡ rows
 no_defaults [] rows is = refl
 no_defaults (a ∷ rules) rows is =
     let parts = both (is_empty a.defaults) _ is in
-    ap (λ (r : List Row). fold with_default r rules) (no_default a rows parts.0) ∙ no_defaults rules rows parts.1
+    ap (λ (r : List Row). fold with_default r rules) (no_default a rows parts.0)
+    ∙ no_defaults rules rows parts.1
 
 -- the parse has the fault of the walk, and its rows
 
@@ -67,6 +70,7 @@ parse_fault words =
 parse_rows : (words : List Text) → matches_of line_app words ≡ rows_from (walk_at [] None idle false) words
 parse_rows words = no_defaults line_rules _ refl
 
-pub reads_line : (words : List Text) → All IsUtf8 words → gives_hyphen words false ≡ false → Reads (fault_of line_app words) (matches_of line_app words) (split_of words)
+pub reads_line : (words : List Text) → All IsUtf8 words → gives_hyphen words false ≡ false
+    → Reads (fault_of line_app words) (matches_of line_app words) (split_of words)
 reads_line words utf8 hyphen = reads_as _ _ _ _ (split_of words) (parse_fault words) (parse_rows words)
     ((reads_words words utf8).free [] None idle empty_line tt refl shows_empty hyphen)

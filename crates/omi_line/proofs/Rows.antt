@@ -15,7 +15,8 @@ bytes_eq_same text = (bytes_eq-Decides text text).1 refl
 pub all_of-with_values : (id : Text) (how : Reading) (values : List Text) (rows : List Row)
     → all_of id (with_values id how CommandLine values rows) ≡ Some (unwrap_or (all_of id rows) [] ++ values)
 all_of-with_values id how values [] = rw (bytes_eq_same id) refl
-all_of-with_values id how values (row ∷ rows) = go (bytes_eq row.id id) refl (all_of-with_values id how values rows)
+all_of-with_values id how values (row ∷ rows) =
+    go (bytes_eq row.id id) refl (all_of-with_values id how values rows)
   where
     go : (b : Bool) → bytes_eq row.id id ≡ b
         → all_of id (with_values id how CommandLine values rows) ≡ Some (unwrap_or (all_of id rows) [] ++ values)
@@ -24,11 +25,13 @@ all_of-with_values id how values (row ∷ rows) = go (bytes_eq row.id id) refl (
     go false is next = rw is (rw is next)
 
 -- every other argument has what it had
-pub all_of-with_values-other : (id other : Text) (how : Reading) (values : List Text) (rows : List Row) → bytes_eq id other ≡ false
+pub all_of-with_values-other : (id other : Text) (how : Reading) (values : List Text) (rows : List Row)
+    → bytes_eq id other ≡ false
     → all_of other (with_values id how CommandLine values rows) ≡ all_of other rows
 all_of-with_values-other id other how values [] apart = rw apart refl
 all_of-with_values-other id other how values (row ∷ rows) apart =
-    go (bytes_eq row.id id) refl (bytes_eq row.id other) refl (all_of-with_values-other id other how values rows apart)
+    go (bytes_eq row.id id) refl (bytes_eq row.id other) refl
+    (all_of-with_values-other id other how values rows apart)
   where
     go : (b : Bool) → bytes_eq row.id id ≡ b → (d : Bool) → bytes_eq row.id other ≡ d
         → all_of other (with_values id how CommandLine values rows) ≡ all_of other rows
@@ -46,7 +49,8 @@ pub without-none : (id : Text) (rows : List Row) → has_row id rows ≡ false �
 without-none id [] none = refl
 without-none id (row ∷ rows) none = go (bytes_eq row.id id) refl none (without-none id rows)
   where
-    go : (b : Bool) → bytes_eq row.id id ≡ b → (b || has_row id rows) ≡ false → (has_row id rows ≡ false → without id rows ≡ rows)
+    go : (b : Bool) → bytes_eq row.id id ≡ b → (b || has_row id rows) ≡ false
+        → (has_row id rows ≡ false → without id rows ≡ rows)
         → without id (row ∷ rows) ≡ row ∷ rows
     go true is none next = absurd (both_ways true none refl)
     go false is none next = rw is (ap (λ (rest : List Row). row ∷ rest) (next none))
@@ -60,10 +64,12 @@ has_row-all_of id (row ∷ rows) = go (bytes_eq row.id id) (has_row-all_of id ro
     go true next = refl
     go false next = next
 
-pub first_of-all_of : (id : Text) (rows : List Row) → first_of id rows ≡ option_and_then (λ (values : List Text). slice_get values 0) (all_of id rows)
+pub first_of-all_of : (id : Text) (rows : List Row)
+    → first_of id rows ≡ option_and_then (λ (values : List Text). slice_get values 0) (all_of id rows)
 first_of-all_of id rows = go (find (λ r. bytes_eq r.id id) rows)
   where
     go : (found : Option Row) → option_and_then (λ (r : Row). slice_get r.values 0) found
-        ≡ option_and_then (λ (values : List Text). slice_get values 0) (option_map (λ (r : Row). r.values) found)
+        ≡ option_and_then (λ (values : List Text). slice_get values 0)
+        (option_map (λ (r : Row). r.values) found)
     go None = refl
     go (Some row) = refl

@@ -31,11 +31,15 @@ rules_are : line_rules ≡ rule_for Seed ∷ rule_for Break ∷ rule_for Count �
 rules_are = refl
 
 pub by_long : (text : Text) → arg_by_long line_rules text ≡ option_map rule_for (option_named text)
-by_long text = go (bytes_eq (codes "seed") text) (bytes_eq (codes "break") text) (bytes_eq (codes "count") text) (bytes_eq (codes "layout") text)
+by_long text =
+    go (bytes_eq (codes "seed") text) (bytes_eq (codes "break") text) (bytes_eq (codes "count") text)
+    (bytes_eq (codes "layout") text)
   where
     go : (seed break_ count layout : Bool)
-        → cond (seed || false) (Some (rule_for Seed)) (cond (break_ || false) (Some (rule_for Break)) (cond (count || false) (Some (rule_for Count)) (cond (layout || false) (Some (rule_for Layout)) None)))
-        ≡ option_map rule_for (cond seed (Some Seed) (cond break_ (Some Break) (cond count (Some Count) (cond layout (Some Layout) None))))
+        → cond (seed || false) (Some (rule_for Seed))
+        (cond (break_ || false) (Some (rule_for Break)) (cond (count || false) (Some (rule_for Count)) (cond (layout || false) (Some (rule_for Layout)) None)))
+        ≡ option_map rule_for
+        (cond seed (Some Seed) (cond break_ (Some Break) (cond count (Some Count) (cond layout (Some Layout) None))))
     go true break_ count layout = refl
     go false true count layout = refl
     go false false true layout = refl
@@ -53,7 +57,8 @@ rows_with rows pending = settled_rows line_rules pending rows
 
 -- the rows after an option's value, and after a positional word
 abbrev pub rows_after_value : OptionName → Text → List Row → List Row
-rows_after_value name given rows = with_values (id_of name) (reading_by (rule_for name)) CommandLine (given ∷ []) (without (id_of name) rows)
+rows_after_value name given rows =
+    with_values (id_of name) (reading_by (rule_for name)) CommandLine (given ∷ []) (without (id_of name) rows)
 
 abbrev pub rows_after_word : Text → List Row → List Row
 rows_after_word word rows = with_values words_id (reading_by words_built) CommandLine (word ∷ []) rows
@@ -64,10 +69,12 @@ repeated name rows = cond (has_row (id_of name) rows) (kind.ArgumentConflict ∷
 abbrev pub value_fault : OptionName → Text → List Row → Kinds
 value_fault name given rows = use_fault false (rule_for name) (given ∷ []) rows
 
-pub value_fault-repeated : (name : OptionName) (given : Text) (rows : List Row) → value_fault name given rows ≡ repeated name rows
+pub value_fault-repeated : (name : OptionName) (given : Text) (rows : List Row)
+    → value_fault name given rows ≡ repeated name rows
 value_fault-repeated name given rows = go (has_row (id_of name) rows)
   where
-    go : (has : Bool) → or_else (cond (has && true) (kind.ArgumentConflict ∷ []) []) [] ≡ cond has (kind.ArgumentConflict ∷ []) []
+    go : (has : Bool)
+        → or_else (cond (has && true) (kind.ArgumentConflict ∷ []) []) [] ≡ cond has (kind.ArgumentConflict ∷ []) []
     go true = refl
     go false = refl
 
@@ -77,22 +84,26 @@ none_pending rows = refl
 pub word_pending : (rows : List Row) (word : Text) → pending_fault rows (Some (words_id, word ∷ [])) ≡ []
 word_pending rows word = refl
 
-pub rows_with_word : (rows : List Row) (word : Text) → rows_with rows (Some (words_id, word ∷ [])) ≡ rows_after_word word rows
+pub rows_with_word : (rows : List Row) (word : Text)
+    → rows_with rows (Some (words_id, word ∷ [])) ≡ rows_after_word word rows
 rows_with_word rows word = refl
 
-pub name_pending : (name : OptionName) (rows : List Row) → pending_fault rows (Some (id_of name, [])) ≡ kind.InvalidValue ∷ []
+pub name_pending : (name : OptionName) (rows : List Row)
+    → pending_fault rows (Some (id_of name, [])) ≡ kind.InvalidValue ∷ []
 name_pending Seed rows = refl
 name_pending Break rows = refl
 name_pending Count rows = refl
 name_pending Layout rows = refl
 
-pub value_pending : (name : OptionName) (given : Text) (rows : List Row) → pending_fault rows (Some (id_of name, given ∷ [])) ≡ value_fault name given rows
+pub value_pending : (name : OptionName) (given : Text) (rows : List Row)
+    → pending_fault rows (Some (id_of name, given ∷ [])) ≡ value_fault name given rows
 value_pending Seed given rows = refl
 value_pending Break given rows = refl
 value_pending Count given rows = refl
 value_pending Layout given rows = refl
 
-pub rows_with_value : (name : OptionName) (given : Text) (rows : List Row) → rows_with rows (Some (id_of name, given ∷ [])) ≡ rows_after_value name given rows
+pub rows_with_value : (name : OptionName) (given : Text) (rows : List Row)
+    → rows_with rows (Some (id_of name, given ∷ [])) ≡ rows_after_value name given rows
 rows_with_value Seed given rows = refl
 rows_with_value Break given rows = refl
 rows_with_value Count given rows = refl
@@ -111,7 +122,8 @@ never_both false x y = refl
 
 -- where a positional word leads
 abbrev pub after_word : List Row → Option (Text × List Text) → Text → Bool → Walk
-after_word rows pending word is_trailing = walk_at (rows_with rows pending) (Some (words_id, word ∷ [])) positional is_trailing
+after_word rows pending word is_trailing =
+    walk_at (rows_with rows pending) (Some (words_id, word ∷ [])) positional is_trailing
 
 abbrev is_words : Option (Text × List Text) → Bool
 is_words pending = is_pending words_built pending
@@ -119,18 +131,22 @@ is_words pending = is_pending words_built pending
 abbrev LineSteps : Walk → Text → Kinds → Walk → Type 0
 LineSteps = Steps line_shape
 
-to_words_fault : (rows : List Row) (pending : Option (Text × List Text)) → step_fault line_shape 1 (held_at rows pending) value ≡ pending_fault rows pending
+to_words_fault : (rows : List Row) (pending : Option (Text × List Text))
+    → step_fault line_shape 1 (held_at rows pending) value ≡ pending_fault rows pending
 to_words_fault rows pending = never_both (is_words pending) [] (pending_fault rows pending)
 
-to_words_after : (rows : List Row) (pending : Option (Text × List Text)) (waiting : Waiting) (word : Text) (is_trailing kept : Bool) → (is_trailing || false) ≡ kept
+to_words_after : (rows : List Row) (pending : Option (Text × List Text)) (waiting : Waiting) (word : Text) (is_trailing kept : Bool)
+    → (is_trailing || false) ≡ kept
     → after_step line_rules word (walk_at rows pending waiting is_trailing) (held_at rows pending) value ≡ after_word rows pending word kept
 to_words_after rows pending waiting word is_trailing kept is =
     ap₂ (λ (h : Held) (t : Bool). let w : Walk = record { held = pushed words_id word h; waiting = positional; position = 1; is_trailing = t; stopped = None } in w)
     (never_both (is_words pending) (held_at rows pending) (settled line_rules (held_at rows pending))) is
 
 -- a positional word before `--`
-pub word_step : (rows : List Row) (pending : Option (Text × List Text)) (waiting : Waiting) (word : Text) → IsFree waiting → IsPlainWord word
-    → LineSteps (walk_at rows pending waiting false) word (pending_fault rows pending) (after_word rows pending word false)
+pub word_step : (rows : List Row) (pending : Option (Text × List Text)) (waiting : Waiting) (word : Text)
+    → IsFree waiting → IsPlainWord word
+    → LineSteps (walk_at rows pending waiting false) word (pending_fault rows pending)
+    (after_word rows pending word false)
 word_step rows pending idle word free plain =
     let steps = plain_steps line_shape rows pending idle word plain in
     record { fault = steps.fault ∙ to_words_fault rows pending; after = steps.after ∙ to_words_after rows pending idle word false false refl }
@@ -141,7 +157,8 @@ word_step rows pending (option id) word free plain = absurd free
 
 -- a word after `--`
 pub trailing_step : (rows : List Row) (pending : Option (Text × List Text)) (waiting : Waiting) (word : Text)
-    → LineSteps (walk_at rows pending waiting true) word (pending_fault rows pending) (after_word rows pending word true)
+    → LineSteps (walk_at rows pending waiting true) word (pending_fault rows pending)
+    (after_word rows pending word true)
 unfolding walked
 trailing_step rows pending waiting word = record {
   fault = to_words_fault rows pending;
@@ -155,10 +172,12 @@ or_else-nil (k ∷ ks) = refl
 -- an option with its value
 pub given_step : (rows : List Row) (pending : Option (Text × List Text)) (waiting : Waiting) (word text : Text) (name : OptionName) (given : Text)
     → IsLongWord word text (Some given) → option_named text ≡ Some name
-    → LineSteps (walk_at rows pending waiting false) word (or_else (pending_fault rows pending) (repeated name (rows_with rows pending)))
+    → LineSteps (walk_at rows pending waiting false) word
+    (or_else (pending_fault rows pending) (repeated name (rows_with rows pending)))
     (walk_at (rows_after_value name given (rows_with rows pending)) None idle false)
 given_step rows pending waiting word text name given is named =
-    let found : arg_by_long line_rules text ≡ Some (rule_for name) = by_long text ∙ ap (option_map rule_for) named in
+    let found : arg_by_long line_rules text ≡ Some (rule_for name) =
+    by_long text ∙ ap (option_map rule_for) named in
     let h = held_at rows pending in
     let steps = long_steps line_shape rows pending waiting word text (Some given) (Some (rule_for name)) _ is found
     (ap (λ (o : Option Rule). after_flag line_rules waiting word (long_met line_rules o (Some given) h).0 (long_met line_rules o (Some given) h).1) found) in
@@ -173,7 +192,8 @@ pub named_step : (rows : List Row) (pending : Option (Text × List Text)) (waiti
     → LineSteps (walk_at rows pending waiting false) word (pending_fault rows pending)
     (walk_at (rows_with rows pending) (Some (id_of name, [])) (option (id_of name)) false)
 named_step rows pending waiting word text name is named =
-    let found : arg_by_long line_rules text ≡ Some (rule_for name) = by_long text ∙ ap (option_map rule_for) named in
+    let found : arg_by_long line_rules text ≡ Some (rule_for name) =
+    by_long text ∙ ap (option_map rule_for) named in
     let h = held_at rows pending in
     let steps = long_steps line_shape rows pending waiting word text None (Some (rule_for name)) _ is found
     (ap (λ (o : Option Rule). after_flag line_rules waiting word (long_met line_rules o None h).0 (long_met line_rules o None h).1) found) in
@@ -184,11 +204,16 @@ named_step rows pending waiting word text name is named =
 
 -- the value of the option that waits for it
 pub value_step : (rows : List Row) (name : OptionName) (word : Text) → IsPlainWord word
-    → LineSteps (walk_at rows (Some (id_of name, [])) (option (id_of name)) false) word [] (walk_at rows (Some (id_of name, word ∷ [])) idle false)
-value_step rows Seed word plain = plain_steps line_shape rows (Some (codes "seed", [])) (option (codes "seed")) word plain
-value_step rows Break word plain = plain_steps line_shape rows (Some (codes "break", [])) (option (codes "break")) word plain
-value_step rows Count word plain = plain_steps line_shape rows (Some (codes "count", [])) (option (codes "count")) word plain
-value_step rows Layout word plain = plain_steps line_shape rows (Some (codes "layout", [])) (option (codes "layout")) word plain
+    → LineSteps (walk_at rows (Some (id_of name, [])) (option (id_of name)) false) word []
+    (walk_at rows (Some (id_of name, word ∷ [])) idle false)
+value_step rows Seed word plain =
+    plain_steps line_shape rows (Some (codes "seed", [])) (option (codes "seed")) word plain
+value_step rows Break word plain =
+    plain_steps line_shape rows (Some (codes "break", [])) (option (codes "break")) word plain
+value_step rows Count word plain =
+    plain_steps line_shape rows (Some (codes "count", [])) (option (codes "count")) word plain
+value_step rows Layout word plain =
+    plain_steps line_shape rows (Some (codes "layout", [])) (option (codes "layout")) word plain
 
 -- an unknown option is a fault
 pub unknown_step : (rows : List Row) (pending : Option (Text × List Text)) (waiting : Waiting) (word text : Text) (given : Option Text)
@@ -201,14 +226,18 @@ flags_unknown : (flags : Text) (first : ℕ) (h : Held) (n : ℕ) → 0 < n → 
     → flags_fault line_rules false n flags 0 h ≡ kind.UnknownArgument ∷ []
 unfolding flags_fault
 flags_unknown flags first h zero some character = absurd (omega arith)
-flags_unknown flags first h (suc n) some character = ap (λ (o : Option ℕ). bundle_step_fault line_rules false o flags 0 h (flags_fault line_rules false n)) character
+flags_unknown flags first h (suc n) some character =
+    ap
+    (λ (o : Option ℕ). bundle_step_fault line_rules false o flags 0 h (flags_fault line_rules false n)) character
 
 first_fault : (a b : Kinds) → a ≡ kind.UnknownArgument ∷ [] → or_else a b ≡ kind.UnknownArgument ∷ []
 first_fault a b is = ap (λ (k : Kinds). or_else k b) is
 
 -- and so is a word of one hyphen and more
-pub short_step : (rows : List Row) (pending : Option (Text × List Text)) (waiting : Waiting) (word : Text) → IsShortWord word
+pub short_step : (rows : List Row) (pending : Option (Text × List Text)) (waiting : Waiting) (word : Text)
+    → IsShortWord word
     → turn_fault line_shape [] (walk_at rows pending waiting false) word ≡ kind.UnknownArgument ∷ []
 short_step rows pending waiting word is =
     (short_steps line_shape rows pending waiting word is).fault
-    ∙ first_fault _ _ (flags_unknown is.flags is.first (held_at rows pending) (length is.flags) is.some is.character)
+    ∙ first_fault _ _
+    (flags_unknown is.flags is.first (held_at rows pending) (length is.flags) is.some is.character)

@@ -24,7 +24,8 @@ words_id = codes "words"
 -- the rows have the line's words, and of each option its value alone
 pub record Shows (rows : List Row) (line : Line) : Type 0 where
   pub words : unwrap_or (all_of words_id rows) [] ≡ line.words
-  pub values : (name : OptionName) → all_of (id_of name) rows ≡ option_map (λ value. value ∷ []) (value_in name line)
+  pub values : (name : OptionName)
+      → all_of (id_of name) rows ≡ option_map (λ value. value ∷ []) (value_in name line)
 
 pub shows_empty : Shows [] empty_line
 shows_empty = record { words = refl; values = λ name. none name }
@@ -47,19 +48,22 @@ name_apart Break = refl
 name_apart Count = refl
 name_apart Layout = refl
 
-words_keep : (name : OptionName) (words : List Text) (line : Line) → value_in name (with_words words line) ≡ value_in name line
+words_keep : (name : OptionName) (words : List Text) (line : Line)
+    → value_in name (with_words words line) ≡ value_in name line
 words_keep Seed words line = refl
 words_keep Break words line = refl
 words_keep Count words line = refl
 words_keep Layout words line = refl
 
-pub value_keeps : (name : OptionName) (value : Text) (line : Line) → (set_value name value line).words ≡ line.words
+pub value_keeps : (name : OptionName) (value : Text) (line : Line)
+    → (set_value name value line).words ≡ line.words
 value_keeps Seed value line = refl
 value_keeps Break value line = refl
 value_keeps Count value line = refl
 value_keeps Layout value line = refl
 
-value_set : (name : OptionName) (value : Text) (line : Line) → value_in name (set_value name value line) ≡ Some value
+value_set : (name : OptionName) (value : Text) (line : Line)
+    → value_in name (set_value name value line) ≡ Some value
 value_set Seed value line = refl
 value_set Break value line = refl
 value_set Count value line = refl
@@ -92,34 +96,48 @@ same_or_apart Layout Layout = inl refl
 pub shows_word : (how : Reading) (word : Text) (rows : List Row) (line : Line) → Shows rows line
     → Shows (with_values words_id how CommandLine (word ∷ []) rows) (with_words (word ∷ []) line)
 shows_word how word rows line shown = record {
-  words = ap (λ (found : Option (List Text)). unwrap_or found []) (all_of-with_values words_id how (word ∷ []) rows)
+  words =
+      ap (λ (found : Option (List Text)). unwrap_or found [])
+      (all_of-with_values words_id how (word ∷ []) rows)
       ∙ ap (λ (words : List Text). words ++ word ∷ []) shown.words;
-  values = λ name. all_of-with_values-other words_id (id_of name) how (word ∷ []) rows (words_apart name) ∙ shown.values name
+  values =
+      λ name. all_of-with_values-other words_id (id_of name) how (word ∷ []) rows (words_apart name) ∙ shown.values name
       ∙ ap (option_map (λ (value : Text). value ∷ [])) (sym (words_keep name (word ∷ []) line));
 }
 
 -- an option has a row where the line has its value
-pub has_row-shown : (name : OptionName) (rows : List Row) (line : Line) → Shows rows line → has_row (id_of name) rows ≡ is_some (value_in name line)
-has_row-shown name rows line shown = has_row-all_of (id_of name) rows ∙ ap (λ (found : Option (List Text)). is_some found) (shown.values name) ∙ go (value_in name line)
+pub has_row-shown : (name : OptionName) (rows : List Row) (line : Line) → Shows rows line
+    → has_row (id_of name) rows ≡ is_some (value_in name line)
+has_row-shown name rows line shown =
+    has_row-all_of (id_of name) rows
+    ∙ ap (λ (found : Option (List Text)). is_some found) (shown.values name)
+    ∙ go (value_in name line)
   where
     go : (value : Option Text) → is_some (option_map (λ (text : Text). text ∷ []) value) ≡ is_some value
     go None = refl
     go (Some value) = refl
 
 -- the value of one more option
-pub shows_value : (how : Reading) (name : OptionName) (value : Text) (rows : List Row) (line : Line) → value_in name line ≡ None → Shows rows line
-    → Shows (with_values (id_of name) how CommandLine (value ∷ []) (without (id_of name) rows)) (set_value name value line)
+pub shows_value : (how : Reading) (name : OptionName) (value : Text) (rows : List Row) (line : Line)
+    → value_in name line ≡ None → Shows rows line
+    → Shows (with_values (id_of name) how CommandLine (value ∷ []) (without (id_of name) rows))
+    (set_value name value line)
 shows_value how name value rows line none shown =
-    let row : has_row (id_of name) rows ≡ false = has_row-shown name rows line shown ∙ ap (λ (v : Option Text). is_some v) none in
-    subst (λ (kept : List Row). Shows (with_values (id_of name) how CommandLine (value ∷ []) kept) (set_value name value line))
+    let row : has_row (id_of name) rows ≡ false =
+    has_row-shown name rows line shown ∙ ap (λ (v : Option Text). is_some v) none in
+    subst
+    (λ (kept : List Row). Shows (with_values (id_of name) how CommandLine (value ∷ []) kept) (set_value name value line))
     (sym (without-none (id_of name) rows row))
     (record {
-      words = ap (λ (found : Option (List Text)). unwrap_or found []) (all_of-with_values-other (id_of name) words_id how (value ∷ []) rows (name_apart name))
+      words =
+          ap (λ (found : Option (List Text)). unwrap_or found [])
+          (all_of-with_values-other (id_of name) words_id how (value ∷ []) rows (name_apart name))
           ∙ shown.words ∙ sym (value_keeps name value line);
       values = λ other. elim (same_or_apart name other) [
         | inl same ↦ subst (λ (n : OptionName). all_of (id_of n) (with_values (id_of name) how CommandLine (value ∷ []) rows) ≡ option_map (λ (v : Text). v ∷ []) (value_in n (set_value name value line))) same
             (all_of-with_values (id_of name) how (value ∷ []) rows
-            ∙ ap (λ (found : Option (List Text)). Some (unwrap_or found [] ++ value ∷ [])) (shown.values name ∙ ap (option_map (λ (v : Text). v ∷ [])) none)
+            ∙ ap (λ (found : Option (List Text)). Some (unwrap_or found [] ++ value ∷ []))
+            (shown.values name ∙ ap (option_map (λ (v : Text). v ∷ [])) none)
             ∙ ap (option_map (λ (v : Text). v ∷ [])) (sym (value_set name value line)))
         | inr apart ↦ all_of-with_values-other (id_of name) (id_of other) how (value ∷ []) rows apart.ids ∙ shown.values other
             ∙ ap (option_map (λ (v : Text). v ∷ [])) (sym (apart.keeps value line))

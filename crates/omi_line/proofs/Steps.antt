@@ -39,27 +39,34 @@ word_steps : (s : Shape) (rows : List Row) (pending : Option (Text × List Text)
 unfolding walked
 word_steps s rows pending waiting word fault met is_fault is_met =
     let h = held_at rows pending in
-    let same = ap (λ (o : Option Text). subcommand_or_other s.rules o waiting 1 word h) (no_subcommand waiting word) ∙ is_met in
+    let same =
+    ap (λ (o : Option Text). subcommand_or_other s.rules o waiting 1 word h) (no_subcommand waiting word)
+    ∙ is_met in
     record {
       fault = ap₂ (λ (f : Kinds) (m : Held × Step). or_else f (step_fault s 1 m.0 m.1))
           (ap (λ (o : Option Text). other_fault s o word h) (no_subcommand waiting word) ∙ is_fault) same;
       after = ap (λ (m : Held × Step). after_step s.rules word (walk_at rows pending waiting false) m.0 m.1) same;
     }
 
-module _ (s : Shape) (rows : List Row) (pending : Option (Text × List Text)) (waiting : Waiting) (word : Text) where
+module _ (s : Shape) (rows : List Row) (pending : Option (Text × List Text)) (waiting : Waiting)
+    (word : Text) where
   pub plain_steps : IsPlainWord word
       → Steps s (walk_at rows pending waiting false) word
       (step_fault s 1 (plain_word s.rules waiting word (held_at rows pending)).0 (plain_word s.rules waiting word (held_at rows pending)).1)
       (after_step s.rules word (walk_at rows pending waiting false)
       (plain_word s.rules waiting word (held_at rows pending)).0 (plain_word s.rules waiting word (held_at rows pending)).1)
-  plain_steps plain = word_steps s rows pending waiting word [] (plain_word s.rules waiting word (held_at rows pending))
+  plain_steps plain =
+      word_steps s rows pending waiting word [] (plain_word s.rules waiting word (held_at rows pending))
       (rw (plain.rest, plain.long, plain.short) refl) (rw (plain.rest, plain.long, plain.short) refl)
 
   -- `--`
-  pub rest_steps : is_rest word ≡ true → Steps s (walk_at rows pending waiting false) word [] (walk_at rows pending waiting true)
-  rest_steps is = word_steps s rows pending waiting word [] (held_at rows pending, trailing 1) (rw is refl) (rw is refl)
+  pub rest_steps : is_rest word ≡ true
+      → Steps s (walk_at rows pending waiting false) word [] (walk_at rows pending waiting true)
+  rest_steps is =
+      word_steps s rows pending waiting word [] (held_at rows pending, trailing 1) (rw is refl) (rw is refl)
 
-  pub long_steps : (name : Text) (given : Option Text) (found : Option Rule) (met : Held × Step) → IsLongWord word name given → arg_by_long s.rules name ≡ found
+  pub long_steps : (name : Text) (given : Option Text) (found : Option Rule) (met : Held × Step)
+      → IsLongWord word name given → arg_by_long s.rules name ≡ found
       → long_word s.rules waiting word name given (held_at rows pending) ≡ met
       → Steps s (walk_at rows pending waiting false) word
       (or_else (long_fault s.rules s.args_override_self found given (held_at rows pending)) (step_fault s 1 met.0 met.1))

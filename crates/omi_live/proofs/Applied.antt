@@ -17,13 +17,17 @@ use Rattle.omi_live.specs.Work.{HasFound, IsAble}
 use Rattle.omi_live.proofs.Operated.{step_allowed}
 
 -- the word is one of the table
-pub inside : (id : TableId) (o : Op) (me : Seated Part) (x : Part) → IsAble id o me x → (place : ℕ) → place ≡ place_of (address_of o) → place < id.words
+pub inside : (id : TableId) (o : Op) (me : Seated Part) (x : Part) → IsAble id o me x → (place : ℕ)
+    → place ≡ place_of (address_of o) → place < id.words
 inside id o me x is place at =
     let below = is.able.inside in
-    let here : place_of (address_of o) < id.words = subst (λ (q : Op). place_of (address_of q) < id.words) (sym is.is_next) (let count = is.count in omega (arith, below, count)) in
+    let here : place_of (address_of o) < id.words =
+    subst (λ (q : Op). place_of (address_of q) < id.words) (sym is.is_next)
+    (let count = is.count in omega (arith, below, count)) in
     subst (λ n. n < id.words) (sym at) here
 
-pub allowed : (p : Program) (l : Layout) (on : Option Break) (slots seat : ℕ) (st : Step (Unit {0})) (id : TableId) (o : Op) (me : Seated Part) (x : Part) → IsAble id o me x
+pub allowed : (p : Program) (l : Layout) (on : Option Break) (slots seat : ℕ) (st : Step (Unit {0})) (id : TableId) (o : Op) (me : Seated Part) (x : Part)
+    → IsAble id o me x
     → (place : ℕ) → place ≡ place_of (address_of o) → (f : ℕ → ℕ) → ((n : ℕ) → left_of o n ≡ f n) → Allows (Keeps p l on) slots seat me place f (stepped st me)
 allowed p l on slots seat st id o me x is place at f same =
     subst (λ (g : ℕ → ℕ). Allows (Keeps p l on) slots seat me place g (stepped st me)) (fun_ext same)
@@ -40,7 +44,8 @@ exchanged n old new = go (n == old)
     go false = refl
 
 -- what the thread has learnt
-pub has_found : (st : Step (Unit {0})) (me : Seated Part) (n : ℕ) (after : Seated Part) → stepped st me n after → (x : Part) → me ≡ (x ∷ [], []) → HasFound x n after
+pub has_found : (st : Step (Unit {0})) (me : Seated Part) (n : ℕ) (after : Seated Part)
+    → stepped st me n after → (x : Part) → me ≡ (x ∷ [], []) → HasFound x n after
 has_found st me n after told x is =
     let here = told x (ap (λ (m : Seated Part). m.0) is) in
     record { knows = here.0; seats = here.1 }

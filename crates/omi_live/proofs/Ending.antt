@@ -34,13 +34,18 @@ use Rattle.omi_live.specs.Running.{IsPart, IsRaised, IsStopWord, Keeps}
 use Rattle.omi_live.proofs.Lists.{get_within}
 
 -- the words that steps found are those of which they follow
-found_again : (p : Program) (w : List ℕ) (a : Actor) (ns : List ℕ) → map (λ (e : Entry). e.old) (entries_from p w a ns) ≡ ns
+found_again : (p : Program) (w : List ℕ) (a : Actor) (ns : List ℕ)
+    → map (λ (e : Entry). e.old) (entries_from p w a ns) ≡ ns
 found_again p w a [] = refl
 found_again p w a (n ∷ ns) = ap (λ ms. n ∷ ms) (found_again p w (actor_after p w a n) ns)
 
-own_run : (budget : ℕ) (on : Option Break) (x : Part) (p : Program) (l : Layout) (i : ℕ) (r : ThreadRun) → IsRunKnown p l budget on i x r → IsRunOf x.known.program x.known.layout budget on x.known.thread (steps_known x.known) x.accesses r
+own_run : (budget : ℕ) (on : Option Break) (x : Part) (p : Program) (l : Layout) (i : ℕ) (r : ThreadRun)
+    → IsRunKnown p l budget on i x r
+    → IsRunOf x.known.program x.known.layout budget on x.known.thread (steps_known x.known) x.accesses r
 own_run budget on x p l i r k =
-    let again = found_again x.known.program x.known.layout.table (opening_actor x.known.program x.known.thread) x.known.found in
+    let again =
+    found_again x.known.program x.known.layout.table
+    (opening_actor x.known.program x.known.thread) x.known.found in
     record {
       follow = ap (entries_from x.known.program x.known.layout.table (opening_actor x.known.program x.known.thread)) (sym again);
       steps = k.steps;
@@ -54,29 +59,37 @@ own_run budget on x p l i r k =
     }
 
 -- the actors of threads, each of which is known
-same_actors : (actors : List Actor) (runs : List ThreadRun) → length actors ≡ length runs → ((i : ℕ) (r : ThreadRun) → slice_get runs i ≡ Some r → (d : Actor) → slice_index_or actors i d ≡ r.actor) → actors ≡ map (λ (r : ThreadRun). r.actor) runs
+same_actors : (actors : List Actor) (runs : List ThreadRun) → length actors ≡ length runs
+    → ((i : ℕ) (r : ThreadRun) → slice_get runs i ≡ Some r → (d : Actor) → slice_index_or actors i d ≡ r.actor)
+    → actors ≡ map (λ (r : ThreadRun). r.actor) runs
 same_actors [] [] count each = refl
 same_actors [] (r ∷ runs) count each = absurd (omega (arith, count))
 same_actors (a ∷ actors) [] count each = absurd (omega (arith, count))
 same_actors (a ∷ actors) (r ∷ runs) count each =
     λ k. each 0 r refl a k ∷ same_actors actors runs (omega (arith, count)) (λ i q got d. each (suc i) q got d) k
 
-module _ (p : Program) (l : Layout) (budget : ℕ) (on : Option Break) (s : State (Unit {0}) (List Part)) (h : Keeps p l on s) (id : ℕ) (parts : List Part) (at : get_elem? s.views id ≡ some parts)
+module _ (p : Program) (l : Layout) (budget : ℕ) (on : Option Break) (s : State (Unit {0}) (List Part))
+    (h : Keeps p l on s) (id : ℕ) (parts : List Part) (at : get_elem? s.views id ≡ some parts)
     (runs : List ThreadRun) (known : AreRunsKnown p l budget on parts runs) where
-  part_of_run : (i : ℕ) (r : ThreadRun) → slice_get runs i ≡ Some r → (x : Part) × IsPart p l h.behind.keeps.run.entries h.accesses h.behind.run.actors h.stop x × IsRunKnown p l budget on i x r
-  part_of_run i r got = let one = known.each i r got in (one.0, (h.seats.parts id i parts one.0 at one.1).1, one.2)
+  part_of_run : (i : ℕ) (r : ThreadRun) → slice_get runs i ≡ Some r
+      → (x : Part) × IsPart p l h.behind.keeps.run.entries h.accesses h.behind.run.actors h.stop x × IsRunKnown p l budget on i x r
+  part_of_run i r got =
+      let one = known.each i r got in (one.0, (h.seats.parts id i parts one.0 at one.1).1, one.2)
 
-  run_is : (i : ℕ) (r : ThreadRun) → slice_get runs i ≡ Some r → IsRunOf p l budget on i (steps_of i h.behind.keeps.run.entries) (accesses_of i h.accesses) r
+  run_is : (i : ℕ) (r : ThreadRun) → slice_get runs i ≡ Some r
+      → IsRunOf p l budget on i (steps_of i h.behind.keeps.run.entries) (accesses_of i h.accesses) r
   run_is i r got =
       let one = part_of_run i r got in
       let x = one.0 in
       let part = one.1 in
       let is = one.2 in
-      subst (λ (es : List Entry). IsRunOf p l budget on i es (accesses_of i h.accesses) r) (sym (ap (λ j. steps_of j h.behind.keeps.run.entries) (sym is.own) ∙ part.known.steps))
+      subst (λ (es : List Entry). IsRunOf p l budget on i es (accesses_of i h.accesses) r)
+      (sym (ap (λ j. steps_of j h.behind.keeps.run.entries) (sym is.own) ∙ part.known.steps))
       (subst (λ (ys : List Access). IsRunOf p l budget on i (steps_known x.known) ys r) (sym (ap (λ j. accesses_of j h.accesses) (sym is.own) ∙ part.did))
       (subst (λ (z : Program × Layout × ℕ). IsRunOf z.0 z.1 budget on z.2 (steps_known x.known) x.accesses r) (λ k. (is.program k, is.layout k, is.own k)) (own_run budget on x p l i r is)))
 
-  why_stopped : IsStopWord on h.behind.keeps.run.entries h.stop → h.stop ≡ 1 → IsRaised on h.behind.keeps.run.entries
+  why_stopped : IsStopWord on h.behind.keeps.run.entries h.stop → h.stop ≡ 1
+      → IsRaised on h.behind.keeps.run.entries
   why_stopped (inl not) is = absurd (omega (arith, not, is))
   why_stopped (inr (one, raised)) is = raised
 
@@ -86,23 +99,30 @@ module _ (p : Program) (l : Layout) (budget : ℕ) (on : Option Break) (s : Stat
       long : length h.behind.run.actors ≡ length runs
       long = h.behind.keeps.run.actors ∙ ap (λ (q : Program). q.threads) h.behind.program ∙ sym count
 
-      each : (i : ℕ) (r : ThreadRun) → slice_get runs i ≡ Some r → (d : Actor) → slice_index_or h.behind.run.actors i d ≡ r.actor
+      each : (i : ℕ) (r : ThreadRun) → slice_get runs i ≡ Some r → (d : Actor)
+          → slice_index_or h.behind.run.actors i d ≡ r.actor
       each i r got d =
           let one = part_of_run i r got in
           actor_is h.behind.run.actors i d (subst (λ n. i < n) (sym long) (get_within runs r i got))
           ∙ ap (actors_in h.behind.run.actors) (sym one.2.own) ∙ one.1.known.actor ∙ sym one.2.actor
 
-  steps_made : (image : List ℕ) → image ≡ h.behind.run.words → AreStepsOf p l.table h.behind.keeps.run.entries image h.behind.keeps.run.state
-  steps_made image is = subst (λ (z : Program × List ℕ × List ℕ). AreStepsOf z.0 z.1 h.behind.keeps.run.entries z.2 h.behind.keeps.run.state) (λ k. (h.behind.program k, h.behind.table k, sym is k)) h.behind.keeps.run.made_by.steps
+  steps_made : (image : List ℕ) → image ≡ h.behind.run.words
+      → AreStepsOf p l.table h.behind.keeps.run.entries image h.behind.keeps.run.state
+  steps_made image is =
+      subst
+      (λ (z : Program × List ℕ × List ℕ). AreStepsOf z.0 z.1 h.behind.keeps.run.entries z.2 h.behind.keeps.run.state)
+      (λ k. (h.behind.program k, h.behind.table k, sym is k)) h.behind.keeps.run.made_by.steps
 
-  pub is_live : length runs ≡ p.threads → (image : List ℕ) → image ≡ h.behind.run.words → IsLive p l budget on image runs
+  pub is_live : length runs ≡ p.threads → (image : List ℕ) → image ≡ h.behind.run.words
+      → IsLive p l budget on image runs
   is_live count image is = record {
     entries = h.behind.keeps.run.entries;
     state = h.behind.keeps.run.state;
     steps = steps_made image is;
     reached = subst (λ (z : Program × List (ℕ × ℕ × Event)). Reached z.0 (events_in z.1) h.behind.keeps.run.state) (λ k. (h.behind.program k, h.behind.keeps.run.made_by.events k)) h.behind.keeps.run.rule.reached;
     rule =
-        subst (λ (z : Program × List ℕ × List ℕ × List (ℕ × ℕ × Event) × (ℕ → Actor)). Rule z.0 z.1 (memory_of z.1 z.2) (events_in z.3) h.behind.keeps.run.state z.4)
+        subst
+        (λ (z : Program × List ℕ × List ℕ × List (ℕ × ℕ × Event) × (ℕ → Actor)). Rule z.0 z.1 (memory_of z.1 z.2) (events_in z.3) h.behind.keeps.run.state z.4)
         (λ k. (h.behind.program k, h.behind.table k, sym is k, h.behind.keeps.run.made_by.events k, actors_are count k)) h.behind.keeps.run.rule;
     shows = subst (λ (z : List ℕ × List ℕ). Shows z.0 (words_of z.1) h.behind.keeps.run.state) (λ k. (h.behind.table k, sym is k)) (shows_state h.behind.run h.behind.keeps.run h.behind.keeps.run.state h.behind.keeps.run.rule.reached);
     tables = subst (λ (z : List ℕ × List ℕ). HasTables z.0 z.1) (λ k. (h.behind.table k, sym is k)) h.behind.keeps.run.tables;

@@ -43,7 +43,8 @@ went_more on [] e goes = tt
 went_more on (f ∷ []) e goes = (goes.0, goes.1, tt)
 went_more on (f ∷ g ∷ es) e goes = (goes.0, goes.1, went_more on (g ∷ es) e goes.2)
 
-pub goes_more : (on : Option Break) (es : List Entry) (e : Entry) → GoesOn on es → ends_at e.outcome ≡ false → stops_at on e.outcome ≡ false → GoesOn on (es ++ e ∷ [])
+pub goes_more : (on : Option Break) (es : List Entry) (e : Entry) → GoesOn on es → ends_at e.outcome ≡ false
+    → stops_at on e.outcome ≡ false → GoesOn on (es ++ e ∷ [])
 goes_more on [] e goes not_done no_stop = (not_done, no_stop, tt)
 goes_more on (f ∷ es) e goes not_done no_stop = (goes.0, goes.1, goes_more on es e goes.2 not_done no_stop)
 
@@ -56,7 +57,8 @@ ended_by (f ∷ g ∷ es) e = ended_by (g ∷ es) e
 
 -- the thread goes on, or it committed an event at which the run is to stop, and will be told so
 abbrev pub MayGoOn : Option Break → Part → Type 0
-MayGoOn on x = GoesOn on (steps_known x.known) ⊎ ((x.told ≡ true) × (is_ended (steps_known x.known) ≡ false) × WentOn on (steps_known x.known))
+MayGoOn on x =
+    GoesOn on (steps_known x.known) ⊎ ((x.told ≡ true) × (is_ended (steps_known x.known) ≡ false) × WentOn on (steps_known x.known))
 
 pub record IsWorking (p : Program) (l : Layout) (id : TableId) (on : Option Break) (budget made thread : ℕ) (worker : Worker) : Type 0 where
   pub part : Part
@@ -76,14 +78,17 @@ may_went on x (inl goes) = went on (steps_known x.known) goes
 may_went on x (inr was) = was.2
 
 -- a thread that looked and was not told goes on
-pub not_told : (on : Option Break) (x : Part) (raised : Bool) → MayGoOn on x → (x.told ≡ true → raised ≡ true) → raised ≡ false → GoesOn on (steps_known x.known)
+pub not_told : (on : Option Break) (x : Part) (raised : Bool) → MayGoOn on x → (x.told ≡ true → raised ≡ true)
+    → raised ≡ false → GoesOn on (steps_known x.known)
 not_told on x raised (inl goes) told not = goes
 not_told on x raised (inr was) told not = absurd (false≢true (sym not ∙ told was.0))
 
 -- ---- a look
 
 -- what a look leaves of a worker
-pub looked_work : (p : Program) (l : Layout) (id : TableId) (x : Part) (raised : Bool) (old new : Worker) → IsAtWork p l id x old → HasLooked x raised new → IsSameBut old new → IsAtWork p l id (looks raised x) new
+pub looked_work : (p : Program) (l : Layout) (id : TableId) (x : Part) (raised : Bool) (old new : Worker)
+    → IsAtWork p l id x old → HasLooked x raised new → IsSameBut old new
+    → IsAtWork p l id (looks raised x) new
 looked_work p l id x raised old new work looked same = record {
   program = work.program;
   layout = work.layout;
@@ -96,7 +101,8 @@ looked_work p l id x raised old new work looked same = record {
   events = ap (λ (m : Events). m.items) same.events ∙ work.events;
 }
 
-pub same_room : (n : ℕ) (x y : Part) (old new : Worker) → claims_known x.known ≡ claims_known y.known → IsSameBut old new → HasRoom n x old → HasRoom n y new
+pub same_room : (n : ℕ) (x y : Part) (old new : Worker) → claims_known x.known ≡ claims_known y.known
+    → IsSameBut old new → HasRoom n x old → HasRoom n y new
 same_room n x y old new claims same room = record {
   made = subst (λ (m : Steps). n ≤ m.spare) (sym same.made) room.made;
   events = subst (λ (z : Events × ℕ). n ≤ room_for_steps z.0 z.1) (λ k. (sym same.events k, claims k)) room.events;
@@ -145,7 +151,8 @@ behind_step p l id on budget made thread x raised old new out count goes so_far 
 }
 
 -- it committed `done`
-pub behind_done : (p : Program) (l : Layout) (id : TableId) (on : Option Break) (budget made thread : ℕ) (worker : Worker) (out : Outcome) → made < budget → ends_at out ≡ true → (b : Behind p l id on budget made thread worker out)
+pub behind_done : (p : Program) (l : Layout) (id : TableId) (on : Option Break) (budget made thread : ℕ) (worker : Worker) (out : Outcome)
+    → made < budget → ends_at out ≡ true → (b : Behind p l id on budget made thread worker out)
     → HasWorked budget on b.part until.Ended
 behind_done p l id on budget made thread worker out below done b =
     let count : length (steps_known b.part.known) ≡ made + 1 = steps_found b.part.known ∙ b.count in
@@ -156,19 +163,27 @@ behind_done p l id on budget made thread worker out below done b =
       stopped = λ is. absurd (grind (arith, is));
       did =
           b.did
-          ∙ without_raise on b.before b.last b.past b.so_far (done_is_no_stop on b.last.outcome (ap ends_at (sym b.out_is) ∙ done))
+          ∙ without_raise on b.before b.last b.past b.so_far
+          (done_is_no_stop on b.last.outcome (ap ends_at (sym b.out_is) ∙ done))
           ∙ ap (with_looks on) (sym b.steps)
           ∙ sym (append-nil (with_looks on (steps_known b.part.known)));
     }
 
-pub behind_not_ended : (p : Program) (l : Layout) (id : TableId) (on : Option Break) (budget made thread : ℕ) (worker : Worker) (out : Outcome) → ends_at out ≡ false → (b : Behind p l id on budget made thread worker out) → is_ended (steps_known b.part.known) ≡ false
-behind_not_ended p l id on budget made thread worker out not b = ap is_ended b.steps ∙ ended_by b.before b.last ∙ ap ends_at (sym b.out_is) ∙ not
+pub behind_not_ended : (p : Program) (l : Layout) (id : TableId) (on : Option Break) (budget made thread : ℕ) (worker : Worker) (out : Outcome)
+    → ends_at out ≡ false → (b : Behind p l id on budget made thread worker out)
+    → is_ended (steps_known b.part.known) ≡ false
+behind_not_ended p l id on budget made thread worker out not b =
+    ap is_ended b.steps ∙ ended_by b.before b.last ∙ ap ends_at (sym b.out_is) ∙ not
 
-pub behind_stops : (p : Program) (l : Layout) (id : TableId) (on : Option Break) (budget made thread : ℕ) (worker : Worker) (out : Outcome) → stops_at on out ≡ true → (b : Behind p l id on budget made thread worker out) → some_stop on (steps_known b.part.known) ≡ true
-behind_stops p l id on budget made thread worker out stops b = ap (some_stop on) b.steps ∙ stops_last on b.before b.last (ap (stops_at on) (sym b.out_is) ∙ stops)
+pub behind_stops : (p : Program) (l : Layout) (id : TableId) (on : Option Break) (budget made thread : ℕ) (worker : Worker) (out : Outcome)
+    → stops_at on out ≡ true → (b : Behind p l id on budget made thread worker out)
+    → some_stop on (steps_known b.part.known) ≡ true
+behind_stops p l id on budget made thread worker out stops b =
+    ap (some_stop on) b.steps ∙ stops_last on b.before b.last (ap (stops_at on) (sym b.out_is) ∙ stops)
 
 -- it is told so
-pub behind_told : (p : Program) (l : Layout) (id : TableId) (on : Option Break) (budget made thread : ℕ) (old new : Worker) (out : Outcome) → ends_at out ≡ false → stops_at on out ≡ true → (b : Behind p l id on budget made thread old out)
+pub behind_told : (p : Program) (l : Layout) (id : TableId) (on : Option Break) (budget made thread : ℕ) (old new : Worker) (out : Outcome)
+    → ends_at out ≡ false → stops_at on out ≡ true → (b : Behind p l id on budget made thread old out)
     → new.seat.me ≡ (raises b.part ∷ [], []) → IsSameBut old new → IsWorking p l id on budget (made + 1) thread new
 behind_told p l id on budget made thread old new out not stops b knows same = record {
   part = raises b.part;
@@ -194,7 +209,8 @@ behind_told p l id on budget made thread old new out not stops b knows same = re
 }
 
 -- or it goes on
-pub behind_goes : (p : Program) (l : Layout) (id : TableId) (on : Option Break) (budget made thread : ℕ) (worker : Worker) (out : Outcome) → ends_at out ≡ false → stops_at on out ≡ false → (b : Behind p l id on budget made thread worker out)
+pub behind_goes : (p : Program) (l : Layout) (id : TableId) (on : Option Break) (budget made thread : ℕ) (worker : Worker) (out : Outcome)
+    → ends_at out ≡ false → stops_at on out ≡ false → (b : Behind p l id on budget made thread worker out)
     → IsWorking p l id on budget (made + 1) thread worker
 behind_goes p l id on budget made thread worker out not no_stop b = record {
   part = b.part;
@@ -207,7 +223,9 @@ behind_goes p l id on budget made thread worker out not no_stop b = record {
 }
 
 -- what a worker has before its first step
-pub not_begun : (p : Program) (l : Layout) (id : TableId) (on : Option Break) (budget : ℕ) (worker : Worker) → IsAtWork p l id (first_part p l worker.thread) worker → HasRoom budget (first_part p l worker.thread) worker → IsWorking p l id on budget 0 worker.thread worker
+pub not_begun : (p : Program) (l : Layout) (id : TableId) (on : Option Break) (budget : ℕ) (worker : Worker)
+    → IsAtWork p l id (first_part p l worker.thread) worker
+    → HasRoom budget (first_part p l worker.thread) worker → IsWorking p l id on budget 0 worker.thread worker
 not_begun p l id on budget worker work room = record {
   part = first_part p l worker.thread;
   work = work;
@@ -223,6 +241,8 @@ pub stepped_on : (p : Program) (l : Layout) (id : TableId) (on : Option Break) (
     → (now : IsWorking p l id on budget made thread first) → HasLooked now.part raised looked → IsSameBut first looked → raised ≡ false → made < budget
     → ((x : Part) → IsAtWork p l id x looked → HasStepped p l id x looked next out) → next.thread ≡ looked.thread → Behind p l id on budget made thread next out
 stepped_on p l id on budget made thread first looked next raised out now has same not below steps own =
-    behind_step p l id on budget made thread now.part raised looked next out now.count (not_told on now.part raised now.goes has.told not) now.did not below
+    behind_step p l id on budget made thread now.part raised looked next out now.count
+    (not_told on now.part raised now.goes has.told not) now.did not below
     (same_room (budget - made) now.part (looks raised now.part) first looked refl same now.room)
-    (steps (looks raised now.part) (looked_work p l id now.part raised first looked now.work has same)) (own ∙ same.thread ∙ now.own)
+    (steps (looks raised now.part) (looked_work p l id now.part raised first looked now.work has same))
+    (own ∙ same.thread ∙ now.own)

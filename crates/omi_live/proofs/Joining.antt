@@ -19,8 +19,12 @@ use Rattle.omi_live.specs.Running.{thread_of}
 use Rattle.omi_live.specs.Work.{HasWorked}
 use Rattle.omi_live.proofs.Lists.{get_front, get_last, get_more}
 
-module _ (p : Program) (l : Layout) (id : TableId) (budget : ℕ) (on : Option Break) (parts : List Part) (runs : List ThreadRun) (e : Runner) (run : ThreadRun) (so_far : AreRunsKnown p l budget on parts runs) (h : HasEnded p l id budget on (length runs) e)
-    (made : run.made ≡ e.worker.made) (events : run.events ≡ e.worker.events) (actor : run.actor ≡ e.worker.actor) (until : run.until ≡ e.until) (steps : run.steps ≡ length e.worker.made.items) where
+module _ (p : Program) (l : Layout) (id : TableId) (budget : ℕ) (on : Option Break) (parts : List Part)
+    (runs : List ThreadRun) (e : Runner) (run : ThreadRun) (so_far : AreRunsKnown p l budget on parts runs)
+    (h : HasEnded p l id budget on (length runs) e)
+    (made : run.made ≡ e.worker.made) (events : run.events ≡ e.worker.events)
+    (actor : run.actor ≡ e.worker.actor) (until : run.until ≡ e.until)
+    (steps : run.steps ≡ length e.worker.made.items) where
   this_run : IsRunKnown p l budget on (length runs) h.part run
   this_run = record {
     own = h.own;
@@ -33,13 +37,16 @@ module _ (p : Program) (l : Layout) (id : TableId) (budget : ℕ) (on : Option B
     worked = subst (λ (u : Until). HasWorked budget on h.part u) (sym until) h.worked;
   }
 
-  each_run : (i : ℕ) (r : ThreadRun) → slice_get (runs ++ run ∷ []) i ≡ Some r → (x : Part) × (slice_get (parts ++ h.part ∷ []) i ≡ Some x) × IsRunKnown p l budget on i x r
+  each_run : (i : ℕ) (r : ThreadRun) → slice_get (runs ++ run ∷ []) i ≡ Some r
+      → (x : Part) × (slice_get (parts ++ h.part ∷ []) i ≡ Some x) × IsRunKnown p l budget on i x r
   each_run i r got = ⊎_elim before last (get_more runs run r i got)
     where
-      before : slice_get runs i ≡ Some r → (x : Part) × (slice_get (parts ++ h.part ∷ []) i ≡ Some x) × IsRunKnown p l budget on i x r
+      before : slice_get runs i ≡ Some r
+          → (x : Part) × (slice_get (parts ++ h.part ∷ []) i ≡ Some x) × IsRunKnown p l budget on i x r
       before there = let one = so_far.each i r there in (one.0, get_front parts h.part one.0 i one.1, one.2)
 
-      last : (i ≡ length runs) × (run ≡ r) → (x : Part) × (slice_get (parts ++ h.part ∷ []) i ≡ Some x) × IsRunKnown p l budget on i x r
+      last : (i ≡ length runs) × (run ≡ r)
+          → (x : Part) × (slice_get (parts ++ h.part ∷ []) i ≡ Some x) × IsRunKnown p l budget on i x r
       last (at, is) = (
         h.part,
         ap (slice_get (parts ++ h.part ∷ [])) (at ∙ sym so_far.count) ∙ get_last parts h.part,

@@ -24,11 +24,14 @@ abbrev HasFault : List ℕ → Type 0
 HasFault bytes = (fault : ScriptFault) × Refused bytes fault
 
 -- the script's file is missing, or its text refused
-missing : (content : Option (List ℕ)) (r : Refusal) → IsScriptRefusal content r → status_of r ≡ status.NoFile → content ≡ None
+missing : (content : Option (List ℕ)) (r : Refusal) → IsScriptRefusal content r → status_of r ≡ status.NoFile
+    → content ≡ None
 missing None r is same = refl
-missing (Some bytes) r (fault, why, is) same = let wrong : status.Script ≡ status.NoFile = ap status_of (sym is) ∙ same in absurd (cc)
+missing (Some bytes) r (fault, why, is) same =
+    let wrong : status.Script ≡ status.NoFile = ap status_of (sym is) ∙ same in absurd (cc)
 
-all_missing : (content : Option (List ℕ)) (r : Refusal) → content ≡ None → IsScriptRefusal content r → status_of r ≡ status.NoFile
+all_missing : (content : Option (List ℕ)) (r : Refusal) → content ≡ None → IsScriptRefusal content r
+    → status_of r ≡ status.NoFile
 all_missing None r none is = ap status_of is
 all_missing (Some bytes) r none is = absurd (cc none)
 
@@ -47,38 +50,64 @@ unfolding command_or
 one_command a b same = ap (command_or a) same
 
 -- what a request leaves is what its command leaves
-pub left_of : (request command : LiveCommand) (s : Status) (told now : List ℕ → Told) (counted : Type 0) (out after : Option (List ℕ)) (content : Option (List ℕ)) → request ≡ command
-    → ((c : Option (List ℕ)) → told request.script ≡ Some c → IsLiveLeft request c s (told request.core) (now request.core) counted out after)
+pub left_of : (request command : LiveCommand) (s : Status) (told now : List ℕ → Told) (counted : Type 0) (out after : Option (List ℕ)) (content : Option (List ℕ))
+    → request ≡ command
+    →
+    ((c : Option (List ℕ)) → told request.script ≡ Some c → IsLiveLeft request c s (told request.core) (now request.core) counted out after)
     → told command.script ≡ Some content → IsLiveLeft command content s (told command.core) (now command.core) counted out after
 left_of request command s told now counted out after content same left =
-    subst (λ (k : LiveCommand). (c : Option (List ℕ)) → told k.script ≡ Some c → IsLiveLeft k c s (told k.core) (now k.core) counted out after) same left content
+    subst
+    (λ (k : LiveCommand). (c : Option (List ℕ)) → told k.script ≡ Some c → IsLiveLeft k c s (told k.core) (now k.core) counted out after) same left content
 
 -- ---- what is left
 
 module _ (command : LiveCommand) (old new : Told) (counted : Type 0) (out after : Option (List ℕ)) where
   -- ---- after a text and an end of its printing
 
-  pub ok_left : (content : Option (List ℕ)) (text : Vec ℕ) (s : Status) → IsLiveAnswered command content (Ok text) old new → IsPrinting s → (s ≡ status.Success → after ≡ put_on out text.items) → (s ≡ status.Success) ⊎ IsPutCut text.items out after
+  pub ok_left : (content : Option (List ℕ)) (text : Vec ℕ) (s : Status)
+      → IsLiveAnswered command content (Ok text) old new → IsPrinting s
+      → (s ≡ status.Success → after ≡ put_on out text.items)
+      → (s ≡ status.Success) ⊎ IsPutCut text.items out after
       → IsLiveLeft command content s old new counted out after
-  ok_left content text s (core, is, held) (inl e) put partly = subst (λ (x : Status). IsLiveLeft command content x old new counted out after) (sym e) (core, text.items, is, held, put e)
-  ok_left content text s (core, is, held) (inr (inl e)) put (inl done) = let wrong : status.WriteFault ≡ status.Success = sym e ∙ done in absurd (cc)
-  ok_left content text s (core, is, held) (inr (inl e)) put (inr cut) = subst (λ (x : Status). IsLiveLeft command content x old new counted out after) (sym e) (inr (core, text.items, is, held, cut))
-  ok_left content text s (core, is, held) (inr (inr e)) put (inl done) = let wrong : status.OutOfMemory ≡ status.Success = sym e ∙ done in absurd (cc)
-  ok_left content text s (core, is, held) (inr (inr e)) put (inr cut) = subst (λ (x : Status). IsLiveLeft command content x old new counted out after) (sym e) (inr (inr (core, text.items, is, held, cut)))
+  ok_left content text s (core, is, held) (inl e) put partly =
+      subst (λ (x : Status). IsLiveLeft command content x old new counted out after) (sym e)
+      (core, text.items, is, held, put e)
+  ok_left content text s (core, is, held) (inr (inl e)) put (inl done) =
+      let wrong : status.WriteFault ≡ status.Success = sym e ∙ done in absurd (cc)
+  ok_left content text s (core, is, held) (inr (inl e)) put (inr cut) =
+      subst (λ (x : Status). IsLiveLeft command content x old new counted out after) (sym e)
+      (inr (core, text.items, is, held, cut))
+  ok_left content text s (core, is, held) (inr (inr e)) put (inl done) =
+      let wrong : status.OutOfMemory ≡ status.Success = sym e ∙ done in absurd (cc)
+  ok_left content text s (core, is, held) (inr (inr e)) put (inr cut) =
+      subst (λ (x : Status). IsLiveLeft command content x old new counted out after) (sym e)
+      (inr (inr (core, text.items, is, held, cut)))
 
   -- ---- after a refusal
 
-  refused_left : (content : Option (List ℕ)) (r : Refusal) → IsScriptRefusal content r → new ≡ old → IsSaid (refusal_line command.script command.core r) counted out after → IsLiveLeft command content (status_of r) old new counted out after
-  refused_left None r is same said = subst (λ (x : Refusal). IsLiveLeft command None (status_of x) old new counted out after) (sym is) (r, ap status_of is, is, same, said)
-  refused_left (Some bytes) r (fault, why, is) same said = subst (λ (x : Refusal). IsLiveLeft command (Some bytes) (status_of x) old new counted out after) (sym is) (r, ap status_of is, (fault, why, is), same, said)
+  refused_left : (content : Option (List ℕ)) (r : Refusal) → IsScriptRefusal content r → new ≡ old
+      → IsSaid (refusal_line command.script command.core r) counted out after
+      → IsLiveLeft command content (status_of r) old new counted out after
+  refused_left None r is same said =
+      subst (λ (x : Refusal). IsLiveLeft command None (status_of x) old new counted out after) (sym is)
+      (r, ap status_of is, is, same, said)
+  refused_left (Some bytes) r (fault, why, is) same said =
+      subst (λ (x : Refusal). IsLiveLeft command (Some bytes) (status_of x) old new counted out after)
+      (sym is) (r, ap status_of is, (fault, why, is), same, said)
 
-  unread_left : (content : Option (List ℕ)) (r : Refusal) → IsUnread input.Script r → new ≡ old → IsSaid (refusal_line command.script command.core r) counted out after → IsLiveLeft command content (status_of r) old new counted out after
+  unread_left : (content : Option (List ℕ)) (r : Refusal) → IsUnread input.Script r → new ≡ old
+      → IsSaid (refusal_line command.script command.core r) counted out after
+      → IsLiveLeft command content (status_of r) old new counted out after
   unread_left content r (inl failed) same said =
-      subst (λ (x : Refusal). IsLiveLeft command content (status_of x) old new counted out after) (sym failed) (same, subst (λ (x : Refusal). IsSaid (refusal_line command.script command.core x) counted out after) failed said)
+      subst (λ (x : Refusal). IsLiveLeft command content (status_of x) old new counted out after) (sym failed)
+      (same, subst (λ (x : Refusal). IsSaid (refusal_line command.script command.core x) counted out after) failed said)
   unread_left content r (inr memory) same said =
-      subst (λ (x : Refusal). IsLiveLeft command content (status_of x) old new counted out after) (sym memory) (inl (same, subst (λ (x : Refusal). IsSaid (refusal_line command.script command.core x) counted out after) memory said))
+      subst (λ (x : Refusal). IsLiveLeft command content (status_of x) old new counted out after) (sym memory)
+      (inl (same, subst (λ (x : Refusal). IsSaid (refusal_line command.script command.core x) counted out after) memory said))
 
-  pub err_left : (content : Option (List ℕ)) (r : Refusal) → IsLiveAnswered command content (Err r) old new → IsSaid (refusal_line command.script command.core r) counted out after → IsLiveLeft command content (status_of r) old new counted out after
+  pub err_left : (content : Option (List ℕ)) (r : Refusal) → IsLiveAnswered command content (Err r) old new
+      → IsSaid (refusal_line command.script command.core r) counted out after
+      → IsLiveLeft command content (status_of r) old new counted out after
   err_left content r (inl (inl refuses, same)) said = refused_left content r refuses same said
   err_left content r (inl (inr unread, same)) said = unread_left content r unread same said
   err_left content refusal.WriteFault (inr (late, half)) said = inl (half, said)
@@ -95,15 +124,18 @@ module _ (command : LiveCommand) (old new : Told) (counted : Type 0) (out after 
   -- ---- what the clauses say
 
   -- a run was made of the script's program
-  ran : (content : Option (List ℕ)) (core text : List ℕ) → IsLiveAnswer command content core text → HoldsProgram content
+  ran : (content : Option (List ℕ)) (core text : List ℕ) → IsLiveAnswer command content core text
+      → HoldsProgram content
   ran content core text answer = (answer.program, answer.holds)
 
-  partly_ran : (content : Option (List ℕ)) → IsLivePartlyDone command content old new out after → HoldsProgram content
+  partly_ran : (content : Option (List ℕ)) → IsLivePartlyDone command content old new out after
+      → HoldsProgram content
   partly_ran content (inl ((core, text, answer, cut), same)) = ran content core text answer
   partly_ran content (inr (core, text, answer, held, cut)) = ran content core text answer
 
   -- the script was refused, or a run was made, or a fault came before that
-  ends : (content : Option (List ℕ)) (s : Status) → IsLiveLeft command content s old new counted out after → IsFaultStatus s ⊎ (((r : Refusal) × (status_of r ≡ s) × IsScriptRefusal content r) ⊎ HoldsProgram content)
+  ends : (content : Option (List ℕ)) (s : Status) → IsLiveLeft command content s old new counted out after
+      → IsFaultStatus s ⊎ (((r : Refusal) × (status_of r ≡ s) × IsScriptRefusal content r) ⊎ HoldsProgram content)
   ends content status.Success (core, text, answer, held, put) = inr (inr (ran content core text answer))
   ends content status.NoFile (r, is, refuses, same, said) = inr (inl (r, is, refuses))
   ends content status.Script (r, is, refuses, same, said) = inr (inl (r, is, refuses))
@@ -116,7 +148,8 @@ module _ (command : LiveCommand) (old new : Told) (counted : Type 0) (out after 
   ends content status.Incompatible left = absurd left
 
   -- a fact that a refusal with this status says, and that no program leaves room for, decides
-  decides : (content : Option (List ℕ)) (refused s : Status) → ((r : Refusal) → IsScriptRefusal content r → status_of r ≡ refused) → (HoldsProgram content → ⊥)
+  decides : (content : Option (List ℕ)) (refused s : Status)
+      → ((r : Refusal) → IsScriptRefusal content r → status_of r ≡ refused) → (HoldsProgram content → ⊥)
       → IsLiveLeft command content s old new counted out after → (s ≡ refused) ⊎ IsFaultStatus s
   decides content refused s all none left =
       elim (ends content s left) [
@@ -126,18 +159,24 @@ module _ (command : LiveCommand) (old new : Told) (counted : Type 0) (out after 
       ]
 
   -- there is no file exactly where the status says so
-  pub no_file : (content : Option (List ℕ)) (s : Status) → IsLiveLeft command content s old new counted out after → ComesWhere status.NoFile s (content ≡ None)
-  no_file content s left = (from, λ none. decides content status.NoFile s (λ r. all_missing content r none) (no_program content none) left)
+  pub no_file : (content : Option (List ℕ)) (s : Status)
+      → IsLiveLeft command content s old new counted out after → ComesWhere status.NoFile s (content ≡ None)
+  no_file content s left =
+      (from, λ none. decides content status.NoFile s (λ r. all_missing content r none) (no_program content none) left)
     where
       from : s ≡ status.NoFile → content ≡ None
-      from is = let (r, of, refuses, same, said) = subst (λ (x : Status). IsLiveLeft command content x old new counted out after) is left in missing content r refuses of
+      from is =
+          let (r, of, refuses, same, said) = subst (λ (x : Status). IsLiveLeft command content x old new counted out after) is left in missing content r refuses of
 
   -- the grammar refuses exactly where the status says so
-  pub script_refused : (bytes : List ℕ) (s : Status) → IsLiveLeft command (Some bytes) s old new counted out after → ComesWhere status.Script s (HasFault bytes)
+  pub script_refused : (bytes : List ℕ) (s : Status)
+      → IsLiveLeft command (Some bytes) s old new counted out after
+      → ComesWhere status.Script s (HasFault bytes)
   script_refused bytes s left = (from, λ faulty. decides (Some bytes) status.Script s all (none faulty) left)
     where
       from : s ≡ status.Script → HasFault bytes
-      from is = let (r, of, (fault, why, same), kept, said) = subst (λ (x : Status). IsLiveLeft command (Some bytes) x old new counted out after) is left in (fault, why)
+      from is =
+          let (r, of, (fault, why, same), kept, said) = subst (λ (x : Status). IsLiveLeft command (Some bytes) x old new counted out after) is left in (fault, why)
 
       all : (r : Refusal) → IsScriptRefusal (Some bytes) r → status_of r ≡ status.Script
       all r (fault, why, same) = ap status_of same
@@ -146,8 +185,10 @@ module _ (command : LiveCommand) (old new : Told) (counted : Type 0) (out after 
       none (fault, why) (p, grammar) = not_both bytes p fault grammar why
 
   -- what success leaves
-  pub success : (bytes : List ℕ) (s : Status) → s ≡ status.Success → IsLiveLeft command (Some bytes) s old new counted out after
+  pub success : (bytes : List ℕ) (s : Status) → s ≡ status.Success
+      → IsLiveLeft command (Some bytes) s old new counted out after
       → (p : Program) × (core : List ℕ) × (text : List ℕ) × Grammar bytes p × IsLiveRun p command.plan core text × (new ≡ holding old core) × (after ≡ put_on out text)
   success bytes s done left =
-      let (core, text, answer, held, put) = subst (λ (x : Status). IsLiveLeft command (Some bytes) x old new counted out after) done left in
+      let (core, text, answer, held, put) =
+      subst (λ (x : Status). IsLiveLeft command (Some bytes) x old new counted out after) done left in
       (answer.program, core, text, answer.holds, answer.run, held, put)

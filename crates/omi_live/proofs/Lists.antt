@@ -11,13 +11,15 @@ word_is (y ∷ ys) zero x is = some-injective y x is
 word_is (y ∷ ys) (suc k) x is = word_is ys k x is
 
 -- a list with one more at its end
-pub get_more : {X : Type 0} → (xs : List X) (x y : X) (i : ℕ) → slice_get (xs ++ x ∷ []) i ≡ Some y → (slice_get xs i ≡ Some y) ⊎ ((i ≡ length xs) × (x ≡ y))
+pub get_more : {X : Type 0} → (xs : List X) (x y : X) (i : ℕ) → slice_get (xs ++ x ∷ []) i ≡ Some y
+    → (slice_get xs i ≡ Some y) ⊎ ((i ≡ length xs) × (x ≡ y))
 get_more [] x y zero is = inr (refl, grind (arith, is))
 get_more [] x y (suc i) is = absurd (grind (arith, is))
 get_more (z ∷ zs) x y zero is = inl is
 get_more (z ∷ zs) x y (suc i) is = ⊎_elim inl (λ last. inr (ap suc last.0, last.1)) (get_more zs x y i is)
 
-pub get_front : {X : Type 0} → (xs : List X) (x y : X) (i : ℕ) → slice_get xs i ≡ Some y → slice_get (xs ++ x ∷ []) i ≡ Some y
+pub get_front : {X : Type 0} → (xs : List X) (x y : X) (i : ℕ) → slice_get xs i ≡ Some y
+    → slice_get (xs ++ x ∷ []) i ≡ Some y
 get_front [] x y i is = absurd (grind (arith, is))
 get_front (z ∷ zs) x y zero is = is
 get_front (z ∷ zs) x y (suc i) is = get_front zs x y i is
@@ -32,7 +34,8 @@ get_within (z ∷ zs) y zero is = omega arith
 get_within (z ∷ zs) y (suc i) is = let rest = get_within zs y i is in omega (arith, rest)
 
 -- words that are copied one after another
-pub copied : (xs ys : List ℕ) (at word : ℕ) → at < length xs → word ≡ slice_index ys at → ((k : ℕ) → k < at → slice_index xs k ≡ slice_index ys k)
+pub copied : (xs ys : List ℕ) (at word : ℕ) → at < length xs → word ≡ slice_index ys at
+    → ((k : ℕ) → k < at → slice_index xs k ≡ slice_index ys k)
     → (k : ℕ) → k < at + 1 → slice_index (slice_set xs at word) k ≡ slice_index ys k
 copied xs ys at word below is same k within = ⊎_elim before here (cases_lt k at)
   where
@@ -42,10 +45,15 @@ copied xs ys at word below is same k within = ⊎_elim before here (cases_lt k a
     here : at ≤ k → slice_index (slice_set xs at word) k ≡ slice_index ys k
     here more =
         let k_is : k ≡ at = omega (arith, within, more) in
-        ap (λ j. slice_index (slice_set xs at word) j) k_is ∙ get_or-set_same xs at word 0 below ∙ is ∙ ap (slice_index ys) (sym k_is)
+        ap (λ j. slice_index (slice_set xs at word) j) k_is
+        ∙ get_or-set_same xs at word 0 below
+        ∙ is
+        ∙ ap (slice_index ys) (sym k_is)
 
-pub front_is : (xs ys all : List ℕ) (last : ℕ) → all ≡ ys ++ last ∷ [] → length xs ≡ length all - 1 → ((k : ℕ) → k < length xs → slice_index xs k ≡ slice_index all k) → xs ≡ ys
+pub front_is : (xs ys all : List ℕ) (last : ℕ) → all ≡ ys ++ last ∷ [] → length xs ≡ length all - 1
+    → ((k : ℕ) → k < length xs → slice_index xs k ≡ slice_index all k) → xs ≡ ys
 front_is xs ys all last is long same =
     let count : length all ≡ length ys + 1 = ap length is ∙ length-append ys (last ∷ []) in
     let as_long : length xs ≡ length ys = omega (arith, long, count) in
-    ext_get_or 0 xs ys as_long (λ k below. same k below ∙ ap (λ (zs : List ℕ). slice_index zs k) is ∙ get_or_append_left ys (last ∷ []) 0 k (subst (λ n. k < n) as_long below))
+    ext_get_or 0 xs ys as_long
+    (λ k below. same k below ∙ ap (λ (zs : List ℕ). slice_index zs k) is ∙ get_or_append_left ys (last ∷ []) 0 k (subst (λ n. k < n) as_long below))

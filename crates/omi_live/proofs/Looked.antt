@@ -24,7 +24,8 @@ use Rattle.omi_live.specs.Stops.{some_stop}
 use Rattle.omi_live.specs.Running.{IsPart, IsStopWord, Keeps, thread_of}
 use Rattle.omi_live.proofs.Operated.{one_more_access, other_did, own_did, part}
 
-module _ (p : Program) (l : Layout) (on : Option Break) (s : State (Unit {0}) (List Part)) (h : Keeps p l on s) (id : ℕ) (x : Part) (at : get_elem? s.views id ≡ some (x ∷ [])) where
+module _ (p : Program) (l : Layout) (on : Option Break) (s : State (Unit {0}) (List Part))
+    (h : Keeps p l on s) (id : ℕ) (x : Part) (at : get_elem? s.views id ≡ some (x ∷ [])) where
   -- where the stop word stands
   stop_at : image_words l.table ≡ length h.behind.run.words
   stop_at = sym (image_long p l s.words (h.stop ∷ []) h.behind)
@@ -42,7 +43,8 @@ module _ (p : Program) (l : Layout) (on : Option Break) (s : State (Unit {0}) (L
       ∙ set-append_seam h.behind.run.words h.stop [] n
 
   -- the same run, with a stop word behind it
-  abbrev run_with : (words : List ℕ) (n : ℕ) → words ≡ h.behind.run.words ++ n ∷ [] → HasRun p l words (n ∷ [])
+  abbrev run_with : (words : List ℕ) (n : ℕ) → words ≡ h.behind.run.words ++ n ∷ []
+      → HasRun p l words (n ∷ [])
   run_with words n is = record {
     run = h.behind.run;
     keeps = h.behind.keeps;
@@ -60,7 +62,8 @@ module _ (p : Program) (l : Layout) (on : Option Break) (s : State (Unit {0}) (L
       go (inr (is, one)) = omega (arith, is)
 
   abbrev Behind : Access → ℕ → Part → Type 0
-  Behind a stop = IsPart p l h.behind.keeps.run.entries (h.accesses ++ (thread_of x, a) ∷ []) h.behind.run.actors stop
+  Behind a stop =
+      IsPart p l h.behind.keeps.run.entries (h.accesses ++ (thread_of x, a) ∷ []) h.behind.run.actors stop
 
   -- the word behind the image is that at its address
   here : (k : ℕ) → k ≡ place_of (address_at k)
@@ -93,16 +96,21 @@ module _ (p : Program) (l : Layout) (on : Option Break) (s : State (Unit {0}) (L
         first = h.first;
         opens = h.opens;
         accesses = h.accesses ++ (thread_of x, look) ∷ [];
-        made = one_more_access p l on s h id x at look h.behind.keeps.run.entries _ (append-nil h.behind.keeps.run.entries)
+        made =
+            one_more_access p l on s h id x at look h.behind.keeps.run.entries _
+            (append-nil h.behind.keeps.run.entries)
             (ap (slice_index s.words) (sym (here (image_words l.table))) ∙ stop_found ∙ read h.stop bit)
             (ap (λ k. slice_set s.words k (slice_index s.words k)) (here (image_words l.table)));
-        seats = one_changed thread_of Was (Behind look h.stop) s.views h.seats id x at (looks (h.stop == 1) x) refl (looked_part h.stop refl)
+        seats =
+            one_changed thread_of Was (Behind look h.stop) s.views h.seats id x at
+            (looks (h.stop == 1) x) refl (looked_part h.stop refl)
             (λ z other is. record { known = is.known; told = is.told; did = other_did p l on s h id x at z look other is });
       }
 
   -- ---- the stop word is raised
 
-  keeps_raised : some_stop on (steps_known x.known) ≡ true → Keeps p l on (state_after s (image_words l.table) 1 id [] (raises x ∷ []) keeps)
+  keeps_raised : some_stop on (steps_known x.known) ≡ true
+      → Keeps p l on (state_after s (image_words l.table) 1 id [] (raises x ∷ []) keeps)
   keeps_raised stops =
       let before = part p l on s h id x at in
       let Was = IsPart p l h.behind.keeps.run.entries h.accesses h.behind.run.actors h.stop in
@@ -113,7 +121,9 @@ module _ (p : Program) (l : Layout) (on : Option Break) (s : State (Unit {0}) (L
         first = h.first;
         opens = h.opens;
         accesses = h.accesses ++ (thread_of x, access.Raise) ∷ [];
-        made = one_more_access p l on s h id x at access.Raise h.behind.keeps.run.entries _ (append-nil h.behind.keeps.run.entries) tt
+        made =
+            one_more_access p l on s h id x at access.Raise h.behind.keeps.run.entries _
+            (append-nil h.behind.keeps.run.entries) tt
             (ap (λ k. slice_set s.words k 1) (here (image_words l.table)));
         seats = one_changed thread_of Was (Behind access.Raise 1) s.views h.seats id x at (raises x) refl
             (record { known = before.known; told = λ told. refl; did = own_did p l on s h id x at access.Raise })
@@ -141,8 +151,10 @@ look_allowed p l on slots id x st s h homes at small = (
 )
 
 -- a thread that committed an event at which the run is to stop may raise it
-pub raise_allowed : (p : Program) (l : Layout) (on : Option Break) (slots id : ℕ) (x : Part) (st : Step (Unit {0})) → some_stop on (steps_known x.known) ≡ true
-    → Allows (Keeps p l on) slots id (x ∷ [], []) (image_words l.table) (λ _. 1) (λ _. raised st (x ∷ [], []) 1)
+pub raise_allowed : (p : Program) (l : Layout) (on : Option Break) (slots id : ℕ) (x : Part) (st : Step (Unit {0}))
+    → some_stop on (steps_known x.known) ≡ true
+    → Allows (Keeps p l on) slots id (x ∷ [], []) (image_words l.table) (λ _. 1)
+    (λ _. raised st (x ∷ [], []) 1)
 raise_allowed p l on slots id x st stops s h homes at small = (
   raises x ∷ [],
   keeps,

@@ -30,7 +30,8 @@ use Rattle.omi_live.specs.Stops.{some_stop}
 use Rattle.omi_live.proofs.Accesses.{lead_more, other_access, own_access, steps_more}
 use Rattle.omi_live.proofs.StopsLast.{still_stops}
 
-module _ (p : Program) (l : Layout) (on : Option Break) (s : State (Unit {0}) (List Part)) (h : Keeps p l on s) (id : ℕ) (x : Part) (at : get_elem? s.views id ≡ some (x ∷ [])) where
+module _ (p : Program) (l : Layout) (on : Option Break) (s : State (Unit {0}) (List Part))
+    (h : Keeps p l on s) (id : ℕ) (x : Part) (at : get_elem? s.views id ≡ some (x ∷ [])) where
   abbrev Was : Part → Type 0
   Was = IsPart p l h.behind.keeps.run.entries h.accesses h.behind.run.actors h.stop
 
@@ -42,13 +43,17 @@ module _ (p : Program) (l : Layout) (on : Option Break) (s : State (Unit {0}) (L
 
   -- ---- one more access of this thread
 
-  pub own_did : (a : Access) → accesses_of (thread_of x) (h.accesses ++ (thread_of x, a) ∷ []) ≡ x.accesses ++ a ∷ []
+  pub own_did : (a : Access)
+      → accesses_of (thread_of x) (h.accesses ++ (thread_of x, a) ∷ []) ≡ x.accesses ++ a ∷ []
   own_did a = own_access (thread_of x) h.accesses a ∙ ap (λ (ys : List Access). ys ++ a ∷ []) part.did
 
-  pub other_did : (z : Part) (a : Access) → thread_of z ≢ thread_of x → Was z → accesses_of (thread_of z) (h.accesses ++ (thread_of x, a) ∷ []) ≡ z.accesses
-  other_did z a other is = other_access (thread_of z) (thread_of x) h.accesses a (λ same. other (sym same)) ∙ is.did
+  pub other_did : (z : Part) (a : Access) → thread_of z ≢ thread_of x → Was z
+      → accesses_of (thread_of z) (h.accesses ++ (thread_of x, a) ∷ []) ≡ z.accesses
+  other_did z a other is =
+      other_access (thread_of z) (thread_of x) h.accesses a (λ same. other (sym same)) ∙ is.did
 
-  pub one_more_access : (a : Access) (entries : List (ℕ × Entry)) (words : List ℕ) → h.behind.keeps.run.entries ++ step_in (thread_of x) a ≡ entries
+  pub one_more_access : (a : Access) (entries : List (ℕ × Entry)) (words : List ℕ)
+      → h.behind.keeps.run.entries ++ step_in (thread_of x) a ≡ entries
       → Finds a (word_at s.words (address_of (operation_of (address_at (image_words l.table)) a))) → words ≡ words_after s.words (operation_of (address_at (image_words l.table)) a)
       → AreAccesses p l.table entries (h.accesses ++ (thread_of x, a) ∷ []) h.first words
   one_more_access a entries words is found after = record {
@@ -71,7 +76,9 @@ module _ (p : Program) (l : Layout) (on : Option Break) (s : State (Unit {0}) (L
   accesses = h.accesses ++ (thread_of x, access.Step e) ∷ []
 
   abbrev words : List ℕ
-  words = slice_set s.words (place_of (address_of e.op)) (left_of e.op (slice_index s.words (place_of (address_of e.op))))
+  words =
+      slice_set s.words (place_of (address_of e.op))
+      (left_of e.op (slice_index s.words (place_of (address_of e.op))))
 
   found : slice_index s.words (place_of (address_of e.op)) ≡ e.old
   found = found_here p l s.words (h.stop ∷ []) behind x.known part.known
@@ -87,7 +94,8 @@ module _ (p : Program) (l : Layout) (on : Option Break) (s : State (Unit {0}) (L
           (ap (some_stop on) (own_one_more (thread_of x) h.behind.keeps.run.entries e)
           ∙ still_stops on (steps_of (thread_of x) h.behind.keeps.run.entries) e (subst (λ j. some_stop on (steps_of j h.behind.keeps.run.entries) ≡ true) here one.1))
       go false other =
-          ap (some_stop on) (other_one_more one.0 (thread_of x) h.behind.keeps.run.entries e (λ same. let yes : one.0 == thread_of x ≡ true = eq-eqb one.0 (thread_of x) (sym same) in cc (other, yes)))
+          ap (some_stop on)
+          (other_one_more one.0 (thread_of x) h.behind.keeps.run.entries e (λ same. let yes : one.0 == thread_of x ≡ true = eq-eqb one.0 (thread_of x) (sym same) in cc (other, yes)))
           ∙ one.1
 
   module _ (room : length x.known.found < MOST_BUDGET) where
@@ -130,13 +138,16 @@ module _ (p : Program) (l : Layout) (on : Option Break) (s : State (Unit {0}) (L
     }
 
 -- whatever the table is, the operation of a thread keeps the rule, and the thread learns what it found
-pub step_allowed : (p : Program) (l : Layout) (on : Option Break) (slots id : ℕ) (x : Part) (st : Step (Unit {0})) → length x.known.found < MOST_BUDGET
+pub step_allowed : (p : Program) (l : Layout) (on : Option Break) (slots id : ℕ) (x : Part) (st : Step (Unit {0}))
+    → length x.known.found < MOST_BUDGET
     → (o : Op) → o ≡ next_of x.known.program x.known.layout.table (actor_known x.known)
-    → Allows (Keeps p l on) slots id (x ∷ [], []) (place_of (address_of o)) (left_of o) (stepped st (x ∷ [], []))
+    → Allows (Keeps p l on) slots id (x ∷ [], []) (place_of (address_of o)) (left_of o)
+    (stepped st (x ∷ [], []))
 step_allowed p l on slots id x st room o is s h homes at small =
     subst
     (λ (q : Op). (w : List Part) × (a : Act (Unit {0})) × Valid s.homes [] a
-    × Keeps p l on (state_after s (place_of (address_of q)) (left_of q (slice_index s.words (place_of (address_of q)))) id [] w a)
+    × Keeps p l on
+    (state_after s (place_of (address_of q)) (left_of q (slice_index s.words (place_of (address_of q)))) id [] w a)
     × stepped st (x ∷ [], []) (slice_index s.words (place_of (address_of q))) (w, carried_after [] a))
     (sym (is ∙ op_is p l s.words (h.stop ∷ []) h.behind x.known known)) (
       makes (entry_of h.behind.run (thread_of x)).old x ∷ [],
@@ -154,6 +165,7 @@ step_allowed p l on slots id x st room o is s h homes at small =
         let y_is : x ≡ y = head_is x y same in
         let found = found_here p l s.words (h.stop ∷ []) h.behind x.known known in (
           (λ k. (makes (sym found k) (y_is k) ∷ [], [])),
-          subst (λ (q : Part). seats_of (entry_known q.known (slice_index s.words (place_of (address_of (entry_of h.behind.run (thread_of x)).op)))).outcome ≤ claims_known q.known + 1) y_is
+          subst
+              (λ (q : Part). seats_of (entry_known q.known (slice_index s.words (place_of (address_of (entry_of h.behind.run (thread_of x)).op)))).outcome ≤ claims_known q.known + 1) y_is
               (members_known p l s.words (h.stop ∷ []) h.behind x.known known (slice_index s.words (place_of (address_of (entry_of h.behind.run (thread_of x)).op))) found),
         )

@@ -20,13 +20,17 @@ use Rattle.omi_live.specs.Run.{IsLiveRun}
 pub write_of_run : (r : RefusedWrite) → IsOfRun (refusal_of_write r)
 write_of_run r = inr (late r)
 
-module _ (command : LiveCommand) (content : Option (List ℕ)) (old new : Told) (p : Program) (holds : IsProgramIn content p) (core : List ℕ) where
+module _ (command : LiveCommand) (content : Option (List ℕ)) (old new : Told) (p : Program)
+    (holds : IsProgramIn content p) (core : List ℕ) where
   -- the core is partly written
-  pub partly_answered : (text : List ℕ) (r : RefusedWrite) → IsLiveRun p command.plan core text → IsCut old new core → IsLiveAnswered command content (Err (refusal_of_write r)) old new
-  partly_answered text r run cut = inr (late r, (core, text, record { program = p; holds = holds; run = run }, cut))
+  pub partly_answered : (text : List ℕ) (r : RefusedWrite) → IsLiveRun p command.plan core text
+      → IsCut old new core → IsLiveAnswered command content (Err (refusal_of_write r)) old new
+  partly_answered text r run cut =
+      inr (late r, (core, text, record { program = p; holds = holds; run = run }, cut))
 
   -- the core is written, and the text is handed up
-  pub done_answered : (text : Vec ℕ) → IsLiveRun p command.plan core text.items → new ≡ holding old core → IsLiveAnswered command content (Ok text) old new
+  pub done_answered : (text : Vec ℕ) → IsLiveRun p command.plan core text.items → new ≡ holding old core
+      → IsLiveAnswered command content (Ok text) old new
   done_answered text run held = (core, record { program = p; holds = holds; run = run }, held)
 
 -- a refused write is no refusal after which nothing was written
@@ -47,5 +51,7 @@ run_not_usage r (inr written) is = late_not_usage r written is
 -- a text that was printed comes behind all that is written
 pub printing_writes : (s : Status) → IsPrinting s → IsLiveUnwritten s → ⊥
 printing_writes s (inl e) unwritten = let P : Status → Type 0 = λ x. IsLiveUnwritten x in subst P e unwritten
-printing_writes s (inr (inl e)) unwritten = let P : Status → Type 0 = λ x. IsLiveUnwritten x in subst P e unwritten
-printing_writes s (inr (inr e)) unwritten = let P : Status → Type 0 = λ x. IsLiveUnwritten x in subst P e unwritten
+printing_writes s (inr (inl e)) unwritten =
+    let P : Status → Type 0 = λ x. IsLiveUnwritten x in subst P e unwritten
+printing_writes s (inr (inr e)) unwritten =
+    let P : Status → Type 0 = λ x. IsLiveUnwritten x in subst P e unwritten

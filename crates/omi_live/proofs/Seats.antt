@@ -31,16 +31,21 @@ reseated p l on s h views seats = record {
 
 -- the last of so many threads before their first steps gets a seat
 pub split_allowed : (p : Program) (l : Layout) (on : Option Break) (q : Program) (m : Layout) (id n : ℕ)
-    → Splits (Keeps p l on) id (all_below (first_part q m) (suc n)) (without_first (all_below (first_part q m) (suc n))) (first_alone (all_below (first_part q m) (suc n)))
+    → Splits (Keeps p l on) id (all_below (first_part q m) (suc n))
+    (without_first (all_below (first_part q m) (suc n))) (first_alone (all_below (first_part q m) (suc n)))
 split_allowed p l on q m id n s h at =
-    reseated p l on s h _ (last_split thread_of (IsPart p l h.behind.keeps.run.entries h.accesses h.behind.run.actors h.stop) s.views h.seats id n (first_part q m) (λ i. refl) at)
+    reseated p l on s h _
+    (last_split thread_of (IsPart p l h.behind.keeps.run.entries h.accesses h.behind.run.actors h.stop) s.views h.seats id n (first_part q m) (λ i. refl) at)
 
-pub join_allowed : (p : Program) (l : Layout) (on : Option Break) (id : ℕ) (v : List Part) (other : ℕ) (w : List Part) → Joins (Keeps p l on) id v other w (v ++ w) []
+pub join_allowed : (p : Program) (l : Layout) (on : Option Break) (id : ℕ) (v : List Part) (other : ℕ) (w : List Part)
+    → Joins (Keeps p l on) id v other w (v ++ w) []
 join_allowed p l on id v other w s h at apart at_other =
-    reseated p l on s h _ (one_joined thread_of (IsPart p l h.behind.keeps.run.entries h.accesses h.behind.run.actors h.stop) s.views h.seats id other v w at apart at_other)
+    reseated p l on s h _
+    (one_joined thread_of (IsPart p l h.behind.keeps.run.entries h.accesses h.behind.run.actors h.stop) s.views h.seats id other v w at apart at_other)
 
 -- a table is opened
-pub opening_keeps : (p : Program) (l : Layout) (words : List ℕ) → Suits p l.table → AreOpening p l.table words → (on : Option Break)
+pub opening_keeps : (p : Program) (l : Layout) (words : List ℕ) → Suits p l.table → AreOpening p l.table words
+    → (on : Option Break)
     → Keeps p l on (opening (words ++ 0 ∷ []) [] (first_parts p l))
 opening_keeps p l words suits opens on =
     let run = opened p l words (0 ∷ []) suits opens in
@@ -52,6 +57,8 @@ opening_keeps p l words suits opens on =
       opens = opens;
       accesses = [];
       made = record { among = sym (none_yet p l words (0 ∷ []) suits opens); lead = refl; threads = λ i past. refl };
-      seats = first_seated thread_of (IsPart p l run.keeps.run.entries [] run.run.actors 0) (first_part p l) p.threads
+      seats =
+          first_seated thread_of (IsPart p l run.keeps.run.entries [] run.run.actors 0)
+          (first_part p l) p.threads
           (λ i below. record { known = untouched_known p l words (0 ∷ []) suits opens i below; told = λ told. absurd (false≢true told); did = refl });
     }

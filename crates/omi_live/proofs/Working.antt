@@ -14,18 +14,23 @@ use Rattle.omi_live.specs.declared.known.Part.{Part}
 use Rattle.omi_live.specs.declared.worker.Worker.{Worker}
 use Rattle.omi_live.specs.Work.{IsAtWork}
 
-module _ (p : Program) (l : Layout) (id : TableId) (x : Part) (worker : Worker) (w : IsAtWork p l id x worker) where
+module _ (p : Program) (l : Layout) (id : TableId) (x : Part) (worker : Worker)
+    (w : IsAtWork p l id x worker) where
   pub table_is : x.known.layout.table ≡ l.table
   table_is = ap (λ (z : Layout). z.table) w.layout
 
   pub next_is : next_of p l.table worker.actor ≡ next_of x.known.program x.known.layout.table (actor_known x.known)
   next_is = λ k. next_of (sym w.program k) (sym table_is k) (w.actor k)
 
-  pub resumed_is : (n : ℕ) → resumed_at p l.table worker.actor worker.actor.counter n ≡ resumed_at x.known.program x.known.layout.table (actor_known x.known) (actor_known x.known).counter n
+  pub resumed_is : (n : ℕ)
+      → resumed_at p l.table worker.actor worker.actor.counter n ≡ resumed_at x.known.program x.known.layout.table (actor_known x.known) (actor_known x.known).counter n
   resumed_is n = λ k. resumed_at (sym w.program k) (sym table_is k) (w.actor k) (w.actor k).counter n
 
   pub count_is : length worker.made.items ≡ length x.known.found
-  count_is = ap length w.made ∙ length-map (steps_known x.known) (made_of x.known.thread) ∙ steps_found x.known
+  count_is =
+      ap length w.made ∙ length-map (steps_known x.known) (made_of x.known.thread) ∙ steps_found x.known
 
-  pub outcome_is : (n : ℕ) (out : Outcome) → out ≡ (resumed_at p l.table worker.actor worker.actor.counter n).1 → out ≡ (entry_known x.known n).outcome
+  pub outcome_is : (n : ℕ) (out : Outcome)
+      → out ≡ (resumed_at p l.table worker.actor worker.actor.counter n).1
+      → out ≡ (entry_known x.known n).outcome
   outcome_is n out is = is ∙ ap (λ (z : Actor × Outcome). z.1) (resumed_is n)

@@ -34,20 +34,24 @@ pub put_at : {A : Type 0} (m : ℕ → A) (i : ℕ) (x : A) → put m i x i ≡ 
 put_at {A} m i x = ap (λ (b : Bool). if b then x else m i) (eq-eqb i i refl)
 
 -- a slot of which an object is found
-found_is : {A : Type 0} (slot : Slot A) (g : ℕ) (t : A) → found g slot ≡ Some t → slot ≡ record { generations = g + 1; live = Some t }
+found_is : {A : Type 0} (slot : Slot A) (g : ℕ) (t : A) → found g slot ≡ Some t
+    → slot ≡ record { generations = g + 1; live = Some t }
 found_is {A} slot g t = go (slot.generations == g + 1) refl
   where
-    go : (b : Bool) → (slot.generations == g + 1) ≡ b → (if b then slot.live else None) ≡ Some t → slot ≡ record { generations = g + 1; live = Some t }
+    go : (b : Bool) → (slot.generations == g + 1) ≡ b → (if b then slot.live else None) ≡ Some t
+        → slot ≡ record { generations = g + 1; live = Some t }
     go true is live =
         let generations = eqb-true slot.generations (g + 1) is in
         λ j. record { generations = generations j; live = live j }
     go false is live = absurd (cc)
 
 -- where no object is found none is changed
-none_changed : {A : Type 0} (slot : Slot A) (g : ℕ) (f : A → A) → found g slot ≡ None → changed g f slot ≡ slot
+none_changed : {A : Type 0} (slot : Slot A) (g : ℕ) (f : A → A) → found g slot ≡ None
+    → changed g f slot ≡ slot
 none_changed {A} slot g f = go (slot.generations == g + 1)
   where
-    go : (b : Bool) → (if b then slot.live else None) ≡ None → (if b then record { generations = slot.generations; live = option_map f slot.live } else slot) ≡ slot
+    go : (b : Bool) → (if b then slot.live else None) ≡ None
+        → (if b then record { generations = slot.generations; live = option_map f slot.live } else slot) ≡ slot
     go true none =
         let live : option_map f slot.live ≡ slot.live = ap (option_map f) none ∙ sym none in
         λ j. record { generations = slot.generations; live = live j }
@@ -56,14 +60,16 @@ none_changed {A} slot g f = go (slot.generations == g + 1)
 module _ {A : Type 0} (slots : Slots A) (n : Id) (f : A → A) where
   pub on_none : named slots n ≡ None → on slots n f ≡ slots
   on_none none =
-      ap (λ (v : Slot A). put slots n.creator (put (slots n.creator) n.slot v)) (none_changed (slots n.creator n.slot) n.generation f none)
+      ap (λ (v : Slot A). put slots n.creator (put (slots n.creator) n.slot v))
+      (none_changed (slots n.creator n.slot) n.generation f none)
       ∙ ap (put slots n.creator) (put_same (slots n.creator) n.slot)
       ∙ put_same slots n.creator
 
   -- the slot of the name, changed
   pub on_at : on slots n f n.creator n.slot ≡ changed n.generation f (slots n.creator n.slot)
   on_at =
-      ap (λ (row : ℕ → Slot A). row n.slot) (put_at slots n.creator (put (slots n.creator) n.slot (changed n.generation f (slots n.creator n.slot))))
+      ap (λ (row : ℕ → Slot A). row n.slot)
+      (put_at slots n.creator (put (slots n.creator) n.slot (changed n.generation f (slots n.creator n.slot))))
       ∙ put_at (slots n.creator) n.slot (changed n.generation f (slots n.creator n.slot))
 
   module _ (t : A) (live : named slots n ≡ Some t) where
@@ -72,7 +78,10 @@ module _ {A : Type 0} (slots : Slots A) (n : Id) (f : A → A) where
 
     -- the object that was changed is found
     pub named_on : named (on slots n f) n ≡ Some (f t)
-    named_on = ap (found n.generation) changed_is ∙ ap (λ (b : Bool). if b then Some (f t) else None) (eq-eqb (n.generation + 1) (n.generation + 1) refl)
+    named_on =
+        ap (found n.generation) changed_is
+        ∙ ap (λ (b : Bool). if b then Some (f t) else None)
+        (eq-eqb (n.generation + 1) (n.generation + 1) refl)
 
     -- a change that changes nothing
     pub on_same : f t ≡ t → on slots n f ≡ slots
@@ -95,13 +104,16 @@ module _ {A : Type 0} (slots : Slots A) (n : Id) (f : A → A) where
         ∙ ap (λ (x : A). record { generations = n.generation + 1; live = Some x }) back
         ∙ sym (found_is (slots n.creator n.slot) n.generation t live) in
         ap (λ (w : Slot A). put (on slots n f) n.creator (put (on slots n f n.creator) n.slot w)) again
-        ∙ ap (λ (r : ℕ → Slot A). put (on slots n f) n.creator (put r n.slot (slots n.creator n.slot))) (put_at slots n.creator row)
+        ∙ ap (λ (r : ℕ → Slot A). put (on slots n f) n.creator (put r n.slot (slots n.creator n.slot)))
+        (put_at slots n.creator row)
         ∙ put_put slots n.creator row (put row n.slot (slots n.creator n.slot))
-        ∙ ap (put slots n.creator) (put_put (slots n.creator) n.slot v (slots n.creator n.slot) ∙ put_same (slots n.creator) n.slot)
+        ∙ ap (put slots n.creator)
+        (put_put (slots n.creator) n.slot v (slots n.creator n.slot) ∙ put_same (slots n.creator) n.slot)
         ∙ put_same slots n.creator
 
 -- a thread changed back
-pub thread_back : (s : State) (i : ℕ) (f g : Thread → Thread) → g (f (s.threads i)) ≡ s.threads i → on_thread (on_thread s i f) i g ≡ s
+pub thread_back : (s : State) (i : ℕ) (f g : Thread → Thread) → g (f (s.threads i)) ≡ s.threads i
+    → on_thread (on_thread s i f) i g ≡ s
 thread_back s i f g back =
     ap (λ (m : ℕ → Thread). record s { threads = m })
     (ap (λ (h : Thread). put (put s.threads i (f (s.threads i))) i (g h)) (put_at s.threads i (f (s.threads i)))
@@ -110,9 +122,14 @@ thread_back s i f g back =
     ∙ put_same s.threads i)
 
 -- the list of a thread without a task, exchanged and exchanged back
-pub list_back : (s next : State) (i : ℕ) (list old : List Item) → (s.threads i).current ≡ None → next ≡ on_thread s i (λ h. record h { list = list })
+pub list_back : (s next : State) (i : ℕ) (list old : List Item) → (s.threads i).current ≡ None
+    → next ≡ on_thread s i (λ h. record h { list = list })
     → on_thread next i (λ h. record h { list = old }) ≡ s → with_list next i old ≡ s
 list_back s next i list old none after back =
     let current : (next.threads i).current ≡ None =
-    ap (λ (x : State). (x.threads i).current) after ∙ ap (λ (h : Thread). h.current) (put_at s.threads i (record (s.threads i) { list = list })) ∙ none in
-    ap (λ (o : Option Tid). option_map_or (λ (k : Tid). on_task next k (λ t. record t { list = old })) o (on_thread next i (λ h. record h { list = old }))) current ∙ back
+    ap (λ (x : State). (x.threads i).current) after
+    ∙ ap (λ (h : Thread). h.current) (put_at s.threads i (record (s.threads i) { list = list }))
+    ∙ none in
+    ap
+    (λ (o : Option Tid). option_map_or (λ (k : Tid). on_task next k (λ t. record t { list = old })) o (on_thread next i (λ h. record h { list = old }))) current
+    ∙ back

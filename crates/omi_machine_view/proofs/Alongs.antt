@@ -11,7 +11,8 @@ module _ {A : Type 0} (next : A → Option A) where
       ap (λ n. along next n from) e ∙ along_add a b (option_and_then next from)
 
   -- one step more
-  pub along_more : (n : ℕ) (from : Option A) → along next (suc n) from ≡ option_and_then next (along next n from)
+  pub along_more : (n : ℕ) (from : Option A)
+      → along next (suc n) from ≡ option_and_then next (along next n from)
   along_more zero from = refl
   along_more (suc n) from = along_more n (option_and_then next from)
 
@@ -25,7 +26,10 @@ module _ {A : Type 0} (next : A → Option A) where
   around zero d x back = let e : zero * suc d ≡ zero = omega arith in ap (λ n. along next n (Some x)) e
   around (suc m) d x back =
       let e : suc m * suc d ≡ suc d + m * suc d = turns in
-      ap (λ n. along next n (Some x)) e ∙ along_add (suc d) (m * suc d) (Some x) ∙ ap (along next (m * suc d)) back ∙ around m d x back
+      ap (λ n. along next n (Some x)) e
+      ∙ along_add (suc d) (m * suc d) (Some x)
+      ∙ ap (along next (m * suc d)) back
+      ∙ around m d x back
     where
       turns : suc m * suc d ≡ suc d + m * suc d
       turns = grind arith
@@ -33,5 +37,10 @@ module _ {A : Type 0} (next : A → Option A) where
   pub never_back : (d : ℕ) (x : A) → along next (suc d) (Some x) ≡ Some x → Ends next (Some x) → ⊥
   never_back d x back (n, end) =
       let e : n * suc d ≡ n + n * d = grind arith in
-      let there : Some x ≡ None = sym (around n d x back) ∙ ap (λ m. along next m (Some x)) e ∙ along_add n (n * d) (Some x) ∙ ap (along next (n * d)) end ∙ none_stays (n * d) in
+      let there : Some x ≡ None =
+      sym (around n d x back)
+      ∙ ap (λ m. along next m (Some x)) e
+      ∙ along_add n (n * d) (Some x)
+      ∙ ap (along next (n * d)) end
+      ∙ none_stays (n * d) in
       absurd (cc there)

@@ -20,25 +20,35 @@ some_same x y e = cc e
 
 -- what is found of a context is a thread of the state
 with_known : (s : State) (native i : ℕ) → thread_with s native ≡ Some i → i < s.count
-with_known s native i is = go (nat_le FIRST_NATIVE native) (nat_lt (native - FIRST_NATIVE) s.count) (s.threads (native - FIRST_NATIVE)).begun refl is
+with_known s native i is =
+    go (nat_le FIRST_NATIVE native) (nat_lt (native - FIRST_NATIVE) s.count)
+    (s.threads (native - FIRST_NATIVE)).begun refl is
   where
-    go : (a b c : Bool) → nat_lt (native - FIRST_NATIVE) s.count ≡ b → (if a && b && c then Some (native - FIRST_NATIVE) else None) ≡ Some i → i < s.count
-    go true true true e f = let same : native - FIRST_NATIVE ≡ i = some_same (native - FIRST_NATIVE) i f in grind (arith, nat_tests)
+    go : (a b c : Bool) → nat_lt (native - FIRST_NATIVE) s.count ≡ b
+        → (if a && b && c then Some (native - FIRST_NATIVE) else None) ≡ Some i → i < s.count
+    go true true true e f =
+        let same : native - FIRST_NATIVE ≡ i = some_same (native - FIRST_NATIVE) i f in grind (arith, nat_tests)
     go true true false e f = absurd (cc f)
     go true false c e f = absurd (cc f)
     go false b c e f = absurd (cc f)
 
-pub threads_known : (s : State) (contexts : List ℕ) (i : ℕ) → Contains (filter_map (thread_with s) contexts) i → i < s.count
+pub threads_known : (s : State) (contexts : List ℕ) (i : ℕ) → Contains (filter_map (thread_with s) contexts) i
+    → i < s.count
 threads_known s [] i (k, within, is) = absurd (omega (arith, within))
-threads_known s (native ∷ contexts) i among = go (λ is. threads_known s contexts i is) (thread_with s native) refl among
+threads_known s (native ∷ contexts) i among =
+    go (λ is. threads_known s contexts i is) (thread_with s native) refl among
   where
-    go : (Contains (filter_map (thread_with s) contexts) i → i < s.count) → (o : Option ℕ) → thread_with s native ≡ o → Contains (cons_option o (filter_map (thread_with s) contexts)) i → i < s.count
+    go : (Contains (filter_map (thread_with s) contexts) i → i < s.count) → (o : Option ℕ)
+        → thread_with s native ≡ o → Contains (cons_option o (filter_map (thread_with s) contexts)) i
+        → i < s.count
     go rest None e is = rest is
     go rest (Some j) e (zero, within, is) = subst (λ n. n < s.count) is (with_known s native j e)
     go rest (Some j) e (suc k, within, is) = rest (k, omega (arith, within), is)
 
 -- one chain more
-pub chains_more : (s : State) (threads : List ℕ) (i : ℕ) (old new : List TaskRow) → AreChains s threads old → IsChainAdded s i old new → AreChains s (threads ++ i ∷ []) new
-chains_more s [] i old new none (chain, made, is) = (chain, [], made ∙ ap (λ rows. rows ++ chain) none ∙ sym (append-nil chain), is, refl)
+pub chains_more : (s : State) (threads : List ℕ) (i : ℕ) (old new : List TaskRow) → AreChains s threads old
+    → IsChainAdded s i old new → AreChains s (threads ++ i ∷ []) new
+chains_more s [] i old new none (chain, made, is) =
+    (chain, [], made ∙ ap (λ rows. rows ++ chain) none ∙ sym (append-nil chain), is, refl)
 chains_more s (j ∷ threads) i old new (first, rest, was, is, more) (chain, made, last) =
     (first, rest ++ chain, made ∙ ap (λ rows. rows ++ chain) was ∙ append_assoc first rest chain, is, chains_more s threads i rest (rest ++ chain) more (chain, refl, last))

@@ -25,7 +25,8 @@ name_at (Some k) n e = let same : k.0 ≡ n = some_same k.0 n e in ap (λ (m : I
 last : (threads : List ℕ) (i : ℕ) → Contains (threads ++ i ∷ []) i
 last threads i = Contains-append_right threads (i ∷ []) i (0, omega arith, refl)
 
-more : (s : State) (threads : List ℕ) (i : ℕ) (n : Rid) → IsReported s threads n → IsReported s (threads ++ i ∷ []) n
+more : (s : State) (threads : List ℕ) (i : ℕ) (n : Rid) → IsReported s threads n
+    → IsReported s (threads ++ i ∷ []) n
 more s threads i n (j, steps, among, is) = (j, steps, Contains-append_left threads (i ∷ []) j among, is)
 
 only_one : (i j : ℕ) → Contains (i ∷ []) j → i ≡ j
@@ -41,7 +42,8 @@ none_met s met none = record {
   roots = λ i o (k, within, is) root live. absurd (omega (arith, within));
 }
 
-pub walk_begins : (s : State) (threads : List ℕ) (i : ℕ) (met : List (Option Id)) → AreMet s threads met → AreMetBut s threads i met (root_of s i)
+pub walk_begins : (s : State) (threads : List ℕ) (i : ℕ) (met : List (Option Id)) → AreMet s threads met
+    → AreMetBut s threads i met (root_of s i)
 walk_begins s threads i met are = record {
   live = are.live;
   reported = λ n was. more s threads i (region_name n) (are.reported n was);
@@ -51,12 +53,15 @@ walk_begins s threads i met are = record {
   here = refl;
 }
   where
-    root : (j : ℕ) (o : Rid) → root_of s j ≡ Some o → IsLive s o → Contains threads j ⊎ Contains (i ∷ []) j → WasMet met o.0 ⊎ (root_of s i ≡ Some o)
+    root : (j : ℕ) (o : Rid) → root_of s j ≡ Some o → IsLive s o → Contains threads j ⊎ Contains (i ∷ []) j
+        → WasMet met o.0 ⊎ (root_of s i ≡ Some o)
     root j o is live (inl before) = inl (are.roots j o before is live)
     root j o is live (inr new) = inr (ap (root_of s) (only_one i j new) ∙ is)
 
-module _ (s : State) (threads : List ℕ) (i : ℕ) (met : List (Option Id)) (at : Option Rid) (are : AreMetBut s threads i met at) where
-  pub walk_more : (after : List (Option Id)) (n : Id) (r : Region) → option_map (λ (k : Rid). k.0) at ≡ Some n → region_of s (region_name n) ≡ Some r
+module _ (s : State) (threads : List ℕ) (i : ℕ) (met : List (Option Id)) (at : Option Rid)
+    (are : AreMetBut s threads i met at) where
+  pub walk_more : (after : List (Option Id)) (n : Id) (r : Region) → option_map (λ (k : Rid). k.0) at ≡ Some n
+      → region_of s (region_name n) ≡ Some r
       → ((m : Id) → WasMet met m → WasMet after m) → ((m : Id) → WasMet after m → WasMet met m ⊎ (m ≡ n)) → WasMet after n
       → AreMetBut s threads i after r.enclosing
   walk_more after n r is live kept only added = record {
@@ -80,7 +85,8 @@ module _ (s : State) (threads : List ℕ) (i : ℕ) (met : List (Option Id)) (at
 
       reports : (m : Id) → WasMet met m ⊎ (m ≡ n) → IsReported s (threads ++ i ∷ []) (region_name m)
       reports m (inl was) = are.reported m was
-      reports m (inr same) = (i, are.steps, last threads i, are.here ∙ here ∙ ap (λ (j : Id). Some (region_name j)) (sym same))
+      reports m (inr same) =
+          (i, are.steps, last threads i, are.here ∙ here ∙ ap (λ (j : Id). Some (region_name j)) (sym same))
 
       settled : (o : Rid) → WasMet met o.0 ⊎ (at ≡ Some o) → WasMet after o.0 ⊎ (r.enclosing ≡ Some o)
       settled o (inl was) = inl (kept o.0 was)
@@ -88,9 +94,11 @@ module _ (s : State) (threads : List ℕ) (i : ℕ) (met : List (Option Id)) (at
           let same : region_name n ≡ o = some_same (region_name n) o (sym here ∙ e) in
           inl (subst (λ (m : Rid). WasMet after m.0) same added)
 
-      closes : (m : Id) (o : Rid) → enclosing_of s (region_name m) ≡ Some o → IsLive s o → WasMet met m ⊎ (m ≡ n) → WasMet after o.0 ⊎ (r.enclosing ≡ Some o)
+      closes : (m : Id) (o : Rid) → enclosing_of s (region_name m) ≡ Some o → IsLive s o
+          → WasMet met m ⊎ (m ≡ n) → WasMet after o.0 ⊎ (r.enclosing ≡ Some o)
       closes m o encloses alive (inl was) = settled o (are.closed m o was encloses alive)
-      closes m o encloses alive (inr same) = inr (sym encloses_is ∙ ap (λ (j : Id). enclosing_of s (region_name j)) (sym same) ∙ encloses)
+      closes m o encloses alive (inr same) =
+          inr (sym encloses_is ∙ ap (λ (j : Id). enclosing_of s (region_name j)) (sym same) ∙ encloses)
 
   pub walk_ends : Stops s.regions met (option_map (λ (k : Rid). k.0) at) → AreMet s (threads ++ i ∷ []) met
   walk_ends stops = record {
@@ -109,4 +117,6 @@ module _ (s : State) (threads : List ℕ) (i : ℕ) (met : List (Option Id)) (at
 
       settled : (o : Rid) → IsLive s o → WasMet met o.0 ⊎ (at ≡ Some o) → WasMet met o.0
       settled o alive (inl was) = was
-      settled o alive (inr e) = there o alive (subst (λ (x : Option Rid). Stops s.regions met (option_map (λ (k : Rid). k.0) x)) e stops)
+      settled o alive (inr e) =
+          there o alive
+          (subst (λ (x : Option Rid). Stops s.regions met (option_map (λ (k : Rid). k.0) x)) e stops)

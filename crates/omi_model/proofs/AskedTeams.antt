@@ -51,7 +51,8 @@ asked_last : (as' : List (ℕ × Bool)) (b : ℕ × Bool) → IsAsked (as' ++ b 
 asked_last [] b = inl refl
 asked_last (a ∷ as') b = inr (asked_last as' b)
 
-asked_of : (as' : List (ℕ × Bool)) (b : ℕ × Bool) (w : ℕ) → IsAsked (as' ++ b ∷ []) w → IsAsked as' w ⊎ (w ≡ b.0)
+asked_of : (as' : List (ℕ × Bool)) (b : ℕ × Bool) (w : ℕ) → IsAsked (as' ++ b ∷ []) w
+    → IsAsked as' w ⊎ (w ≡ b.0)
 asked_of [] b w (inl same) = inr same
 asked_of [] b w (inr is) = absurd is
 asked_of (a ∷ as') b w (inl same) = inl (inl same)
@@ -61,7 +62,8 @@ asked_of (a ∷ as') b w (inr is) = go (asked_of as' b w is)
     go (inl h) = inl (inr h)
     go (inr h) = inr h
 
-pub got_last : (as' : List (ℕ × Bool)) (w : ℕ) (got : Bool) → got_threads (as' ++ (w, got) ∷ []) ≡ got_threads as' ++ got_threads ((w, got) ∷ [])
+pub got_last : (as' : List (ℕ × Bool)) (w : ℕ) (got : Bool)
+    → got_threads (as' ++ (w, got) ∷ []) ≡ got_threads as' ++ got_threads ((w, got) ∷ [])
 got_last [] w got = refl
 got_last ((v, true) ∷ as') w got = ap (λ xs. v ∷ xs) (got_last as' w got)
 got_last ((v, false) ∷ as') w got = got_last as' w got
@@ -79,21 +81,25 @@ all_last : (P : ℕ → Type 0) (xs : List ℕ) (w : ℕ) → All P xs → P w �
 all_last P [] w all here zero d within = here
 all_last P [] w all here (suc k) d within = absurd (omega (arith, within))
 all_last P (x ∷ xs) w all here zero d within = all 0 d (omega arith)
-all_last P (x ∷ xs) w all here (suc k) d within = all_last P xs w (λ j e h. all (suc j) e (omega arith)) here k d (omega arith)
+all_last P (x ∷ xs) w all here (suc k) d within =
+    all_last P xs w (λ j e h. all (suc j) e (omega arith)) here k d (omega arith)
 
 -- a thread that was asked joined, or was found busy
-got_or_busy : (as' : List (ℕ × Bool)) (w : ℕ) → IsAsked as' w → Contains (got_threads as') w ⊎ Contains as' (w, false)
+got_or_busy : (as' : List (ℕ × Bool)) (w : ℕ) → IsAsked as' w
+    → Contains (got_threads as') w ⊎ Contains as' (w, false)
 got_or_busy [] w is = absurd is
 got_or_busy ((v, true) ∷ as') w (inl same) = inl (0, omega arith, sym same)
 got_or_busy ((v, false) ∷ as') w (inl same) = inr (0, omega arith, ap (λ x. (x, false)) (sym same))
 got_or_busy ((v, true) ∷ as') w (inr is) = go (got_or_busy as' w is)
   where
-    go : Contains (got_threads as') w ⊎ Contains as' (w, false) → Contains (v ∷ got_threads as') w ⊎ Contains ((v, true) ∷ as') (w, false)
+    go : Contains (got_threads as') w ⊎ Contains as' (w, false)
+        → Contains (v ∷ got_threads as') w ⊎ Contains ((v, true) ∷ as') (w, false)
     go (inl (k, within, e)) = inl (suc k, omega arith, e)
     go (inr (k, within, e)) = inr (suc k, omega arith, e)
 got_or_busy ((v, false) ∷ as') w (inr is) = go (got_or_busy as' w is)
   where
-    go : Contains (got_threads as') w ⊎ Contains as' (w, false) → Contains (got_threads as') w ⊎ Contains ((v, false) ∷ as') (w, false)
+    go : Contains (got_threads as') w ⊎ Contains as' (w, false)
+        → Contains (got_threads as') w ⊎ Contains ((v, false) ∷ as') (w, false)
     go (inl h) = inl h
     go (inr (k, within, e)) = inr (suc k, omega arith, e)
 
@@ -116,7 +122,9 @@ pub record AreFirst (i count : ℕ) (as' : List (ℕ × Bool)) : Type 0 where
 suc_not : (n : ℕ) → suc n ≡ n → ⊥
 suc_not n e = omega (arith, e)
 
-next_first : (i count : ℕ) (as' : List (ℕ × Bool)) (w : ℕ) (got : Bool) → AreFirst i count as' → w < count → w ≢ i → (IsAsked as' w → ⊥) → ((v : ℕ) → v < w → v ≢ i → IsAsked as' v) → AreFirst i count (as' ++ (w, got) ∷ [])
+next_first : (i count : ℕ) (as' : List (ℕ × Bool)) (w : ℕ) (got : Bool) → AreFirst i count as' → w < count
+    → w ≢ i → (IsAsked as' w → ⊥) → ((v : ℕ) → v < w → v ≢ i → IsAsked as' v)
+    → AreFirst i count (as' ++ (w, got) ∷ [])
 next_first i count as' w got is known other new least = go (cases_eq w is.bound) (cases_lt w is.bound)
   where
     size_more : length (as' ++ (w, got) ∷ []) ≡ length as' + 1
@@ -146,9 +154,12 @@ next_first i count as' w got is known other new least = go (cases_eq w is.bound)
           where
             of_next : (w ≡ suc is.bound) ⊎ (w ≢ suc is.bound) → w ≡ suc is.bound
             of_next (inl e) = e
-            of_next (inr ne) = absurd (let h = is.below (suc is.bound) (least (suc is.bound) (omega arith) (λ e. suc_not is.bound (e ∙ sym same))) in omega arith)
+            of_next (inr ne) =
+                absurd
+                (let h = is.below (suc is.bound) (least (suc is.bound) (omega arith) (λ e. suc_not is.bound (e ∙ sym same))) in omega arith)
 
-    go : (w ≡ is.bound) ⊎ (w ≢ is.bound) → (w < is.bound) ⊎ (is.bound ≤ w) → AreFirst i count (as' ++ (w, got) ∷ [])
+    go : (w ≡ is.bound) ⊎ (w ≢ is.bound) → (w < is.bound) ⊎ (is.bound ≤ w)
+        → AreFirst i count (as' ++ (w, got) ∷ [])
     go at (inl less) = absurd (new (is.each w less other))
     go (inl same) (inr most) = of_own is.is_own
       where
@@ -159,12 +170,14 @@ next_first i count as' w got is known other new least = go (cases_eq w is.bound)
         let (at_own, next) = gap (omega arith) in
         record { bound = suc w; known = known; below = λ v h. below_more v most h; each = each_more; own = 1; is_own = inl (refl, omega arith); size = of_own at_own next is.is_own }
       where
-        of_own : is.bound ≡ i → w ≡ suc is.bound → IsOwn i is.bound is.own → length (as' ++ (w, got) ∷ []) + 1 ≤ suc w
+        of_own : is.bound ≡ i → w ≡ suc is.bound → IsOwn i is.bound is.own
+            → length (as' ++ (w, got) ∷ []) + 1 ≤ suc w
         of_own at_own next (inl (one, inside)) = absurd (omega arith)
         of_own at_own next (inr (none, outside)) = omega (arith, size_more, is.size)
 
 -- so a team is no larger than the number of threads
-pub team_fits : (i count : ℕ) (as' : List (ℕ × Bool)) → i < count → AreFirst i count as' → suc (length (got_threads as')) ≤ count
+pub team_fits : (i count : ℕ) (as' : List (ℕ × Bool)) → i < count → AreFirst i count as'
+    → suc (length (got_threads as')) ≤ count
 team_fits i count as' known is = go is.is_own
   where
     go : IsOwn i is.bound is.own → suc (length (got_threads as')) ≤ count
@@ -187,7 +200,8 @@ AsksOf s j h = AreAsksRight s j h.asks h.wanted
 pub begun_later : (s u : State) → Stays s u → (w : ℕ) → HasBegun s w → HasBegun u w
 begun_later s u stay w is = record { known = subst (λ n. w < n) (sym stay.count) is.known; begun = stay.begun w is.begun }
 
-asks_later : (s u : State) → Stays s u → (j : ℕ) (as' : List (ℕ × Bool)) (wanted : ℕ) → AreAsksRight s j as' wanted → AreAsksRight u j as' wanted
+asks_later : (s u : State) → Stays s u → (j : ℕ) (as' : List (ℕ × Bool)) (wanted : ℕ)
+    → AreAsksRight s j as' wanted → AreAsksRight u j as' wanted
 asks_later s u stay j as' wanted is = record {
   first = subst (λ n. AreFirst j n as') (sym stay.count) is.first;
   begun = λ k d within. begun_later s u stay (get_or (got_threads as') k d) (is.begun k d within);
@@ -208,7 +222,8 @@ last_long (x ∷ xs) w = omega (arith, last_long xs w)
 none_got : (s : State) → All (HasBegun s) []
 none_got s k d within = absurd (omega (arith, within))
 
-module _ (p : Program) (s : State) (i : ℕ) (e : Event) (next : State) (step : Step p s i e next) (begun : EachThread HasBegunOrNot s) (all : EachThread (AsksOf s) s) where
+module _ (p : Program) (s : State) (i : ℕ) (e : Event) (next : State) (step : Step p s i e next)
+    (begun : EachThread HasBegunOrNot s) (all : EachThread (AsksOf s) s) where
   stay : Stays s next
   stay = stays_step p s i e next step
 
@@ -227,9 +242,12 @@ module _ (p : Program) (s : State) (i : ℕ) (e : Event) (next : State) (step : 
   claimed_other w h = cc
 
   asking : EachThread Asking next
-  asking = thread_step p Asking s i e next step (λ y ys none taken q. q) law (λ j. (asks_later s next stay j (s.threads j).asks (s.threads j).wanted (all j), free_begun j))
+  asking =
+      thread_step p Asking s i e next step (λ y ys none taken q. q) law
+      (λ j. (asks_later s next stay j (s.threads j).asks (s.threads j).wanted (all j), free_begun j))
     where
-      law : (middle : State) → IsRelisted s middle → Stays middle next → EachThread Asking middle → IsThreadLaw p middle i e next Asking
+      law : (middle : State) → IsRelisted s middle → Stays middle next → EachThread Asking middle
+          → IsThreadLaw p middle i e next Asking
       law middle before later of_threads = record {
         begins = λ may q. q;
         offers = λ may of q. (q.0, λ free. stay.begun i (by_begun p s i e next step begun (λ h. not_begin (sym of ∙ h))));
@@ -246,21 +264,33 @@ module _ (p : Program) (s : State) (i : ℕ) (e : Event) (next : State) (step : 
         finishes = λ k t is ex over q. q;
       }
         where
-          asked_right : (w : ℕ) (got : Bool) → MayAsk middle i w got → AreAsksRight next i (middle.threads i).asks (middle.threads i).wanted → AreAsksRight next i ((middle.threads i).asks ++ (w, got) ∷ []) (middle.threads i).wanted
+          asked_right : (w : ℕ) (got : Bool) → MayAsk middle i w got
+              → AreAsksRight next i (middle.threads i).asks (middle.threads i).wanted
+              → AreAsksRight next i ((middle.threads i).asks ++ (w, got) ∷ []) (middle.threads i).wanted
           asked_right w got may q = record {
-            first = next_first i next.count (middle.threads i).asks w got q.first (subst (λ n. w < n) (sym later.count) may.known) may.other
+            first =
+                next_first i next.count (middle.threads i).asks w got q.first
+                (subst (λ n. w < n) (sym later.count) may.known) may.other
                 (λ h. may.new (asked_contains (middle.threads i).asks w h)) (λ v below ne. contains_asked (middle.threads i).asks v (may.least v below ne));
             begun = subst (All (HasBegun next)) (sym (got_last (middle.threads i).asks w got)) (of_got got may.joins);
             most = omega (arith, ap (λ (xs : List ℕ). length xs) (got_last (middle.threads i).asks w got), one_more got, may.smaller);
           }
             where
-              of_got : (b : Bool) → (b ≡ true → (middle.threads w).claim ≡ claim.Free) → All (HasBegun next) (got_threads (middle.threads i).asks ++ got_threads ((w, b) ∷ []))
-              of_got true free = all_last (HasBegun next) (got_threads (middle.threads i).asks) w q.begun (record { known = subst (λ n. w < n) (sym later.count) may.known; begun = (of_threads w).1 (free refl) })
-              of_got false free = subst (All (HasBegun next)) (sym (append_none (got_threads (middle.threads i).asks))) q.begun
+              of_got : (b : Bool) → (b ≡ true → (middle.threads w).claim ≡ claim.Free)
+                  → All (HasBegun next) (got_threads (middle.threads i).asks ++ got_threads ((w, b) ∷ []))
+              of_got true free =
+                  all_last (HasBegun next) (got_threads (middle.threads i).asks) w q.begun
+                  (record { known = subst (λ n. w < n) (sym later.count) may.known; begun = (of_threads w).1 (free refl) })
+              of_got false free =
+                  subst (All (HasBegun next))
+                  (sym (append_none (got_threads (middle.threads i).asks))) q.begun
 
-              one_more : (b : Bool) → length (got_threads (middle.threads i).asks ++ got_threads ((w, b) ∷ [])) ≤ length (got_threads (middle.threads i).asks) + 1
+              one_more : (b : Bool)
+                  → length (got_threads (middle.threads i).asks ++ got_threads ((w, b) ∷ [])) ≤ length (got_threads (middle.threads i).asks) + 1
               one_more true = omega (arith, last_long (got_threads (middle.threads i).asks) w)
-              one_more false = omega (arith, ap (λ (xs : List ℕ). length xs) (append_none (got_threads (middle.threads i).asks)))
+              one_more false =
+                  omega
+                  (arith, ap (λ (xs : List ℕ). length xs) (append_none (got_threads (middle.threads i).asks)))
 
   pub asks_step : EachThread (AsksOf next) next
   asks_step j = (asking j).0
@@ -284,11 +314,14 @@ asked_reached p events s reached = over_events p AreAsked
     none_asked j = record { first = no_asks j (opening p).count; begun = none_got (opening p); most = omega arith }
 
 -- the team of a legal fork
-pub teams_asked : (p : Program) (events : List (ℕ × Event)) (s : State) → Reached p events s → (i : ℕ) (region : Rid) (team : List (Tid × ℕ)) → Legal p s i (event.Fork region team) → HasAskedTeam s i team
+pub teams_asked : (p : Program) (events : List (ℕ × Event)) (s : State) → Reached p events s
+    → (i : ℕ) (region : Rid) (team : List (Tid × ℕ)) → Legal p s i (event.Fork region team)
+    → HasAskedTeam s i team
 teams_asked p events s reached i region team legal =
     let (k, t, r, is, found, may) = legal.rule in
     let asks = (asked_reached p events s reached).asks i in
-    let size : length team ≡ suc (length (got_threads (s.threads i).asks)) = sym (length-map team (λ (m : Tid × ℕ). m.1)) ∙ ap (λ (xs : List ℕ). length xs) may.threads in
+    let size : length team ≡ suc (length (got_threads (s.threads i).asks)) =
+    sym (length-map team (λ (m : Tid × ℕ). m.1)) ∙ ap (λ (xs : List ℕ). length xs) may.threads in
     record {
       threads = may.threads;
       most = omega (arith, size, asks.most);
@@ -296,12 +329,18 @@ teams_asked p events s reached i region team legal =
       others = go size may.threads may.over;
     }
   where
-    go : length team ≡ suc (length (got_threads (s.threads i).asks)) → map (λ m. m.1) team ≡ i ∷ got_threads (s.threads i).asks
+    go : length team ≡ suc (length (got_threads (s.threads i).asks))
+        → map (λ m. m.1) team ≡ i ∷ got_threads (s.threads i).asks
         → (suc (length (got_threads (s.threads i).asks)) ≡ (s.threads i).wanted) ⊎ ((w : ℕ) → w < s.count → w ≢ i → Contains (map (λ a. a.0) (s.threads i).asks) w)
         → (length team ≡ (s.threads i).wanted) ⊎ ((w : ℕ) → w < s.count → w ≢ i → Contains (map (λ m. m.1) team) w ⊎ Contains (s.threads i).asks (w, false))
     go size threads (inl wanted) = inl (size ∙ wanted)
-    go size threads (inr all) = inr (λ w known other. of_asked w (got_or_busy (s.threads i).asks w (contains_asked (s.threads i).asks w (all w known other))))
+    go size threads (inr all) =
+        inr
+        (λ w known other. of_asked w (got_or_busy (s.threads i).asks w (contains_asked (s.threads i).asks w (all w known other))))
       where
-        of_asked : (w : ℕ) → Contains (got_threads (s.threads i).asks) w ⊎ Contains (s.threads i).asks (w, false) → Contains (map (λ m. m.1) team) w ⊎ Contains (s.threads i).asks (w, false)
-        of_asked w (inl (j, within, e)) = inl (subst (λ (xs : List ℕ). Contains xs w) (sym threads) (suc j, omega arith, e))
+        of_asked : (w : ℕ)
+            → Contains (got_threads (s.threads i).asks) w ⊎ Contains (s.threads i).asks (w, false)
+            → Contains (map (λ m. m.1) team) w ⊎ Contains (s.threads i).asks (w, false)
+        of_asked w (inl (j, within, e)) =
+            inl (subst (λ (xs : List ℕ). Contains xs w) (sym threads) (suc j, omega arith, e))
         of_asked w (inr busy) = inr busy

@@ -17,13 +17,16 @@ use Rattle.omi_model.proofs.BarrierOrder.{IsCounted, body_barriers, both, fair_b
 use Rattle.omi_model.proofs.Slots.{false_true}
 
 -- a statement meets the same barriers where the functions that it names do
-same_stmt : (b c : ℕ → ℕ) (s : Stmt) → ((g : ℕ) → named_by s ≡ Some g → b g ≡ c g) → stmt_barriers b s ≡ stmt_barriers c s
+same_stmt : (b c : ℕ → ℕ) (s : Stmt) → ((g : ℕ) → named_by s ≡ Some g → b g ≡ c g)
+    → stmt_barriers b s ≡ stmt_barriers c s
 same_stmt b c stmt.Barrier e = refl
 same_stmt b c (stmt.Call f) e = e f refl
 same_stmt b c (stmt.Repeat n f) e = ap (λ x. n * x) (e f refl)
 same_stmt b c s e = refl
 
-same_body : (b c : ℕ → ℕ) (ss : List Stmt) → ((k : ℕ) (s : Stmt) → slice_get ss k ≡ Some s → stmt_barriers b s ≡ stmt_barriers c s) → body_barriers b ss ≡ body_barriers c ss
+same_body : (b c : ℕ → ℕ) (ss : List Stmt)
+    → ((k : ℕ) (s : Stmt) → slice_get ss k ≡ Some s → stmt_barriers b s ≡ stmt_barriers c s)
+    → body_barriers b ss ≡ body_barriers c ss
 same_body b c [] each = refl
 same_body b c (s ∷ ss) each = omega (arith, each 0 s refl, same_body b c ss (λ k x at. each (suc k) x at))
 
@@ -41,7 +44,8 @@ module _ (p : Program) where
 
   -- ---- functions that reach no barrier
 
-  any_false : (test : Stmt → Bool) (ss : List Stmt) → list_any test ss ≡ false → (k : ℕ) (s : Stmt) → slice_get ss k ≡ Some s → test s ≡ false
+  any_false : (test : Stmt → Bool) (ss : List Stmt) → list_any test ss ≡ false → (k : ℕ) (s : Stmt)
+      → slice_get ss k ≡ Some s → test s ≡ false
   any_false test [] none k s at = absurd (cc at)
   any_false test (x ∷ xs) none zero s at = go (test x) refl none
     where
@@ -57,13 +61,15 @@ module _ (p : Program) where
       go true h = absurd (false_true (sym h))
       go false h = h
 
-  no_stmt : (b : ℕ → ℕ) (s : Stmt) → reaches_barrier (reaches [] p.funcs) s ≡ false → ((g : ℕ) → named_by s ≡ Some g → HasNoBarrier p.funcs g → b g ≡ 0) → stmt_barriers b s ≡ 0
+  no_stmt : (b : ℕ → ℕ) (s : Stmt) → reaches_barrier (reaches [] p.funcs) s ≡ false
+      → ((g : ℕ) → named_by s ≡ Some g → HasNoBarrier p.funcs g → b g ≡ 0) → stmt_barriers b s ≡ 0
   no_stmt b stmt.Barrier none each = absurd (false_true (sym none))
   no_stmt b (stmt.Call f) none each = each f refl none
   no_stmt b (stmt.Repeat n f) none each = ap (λ x. n * x) (each f refl none) ∙ grind arith
   no_stmt b s none each = refl
 
-  no_body : (b : ℕ → ℕ) (ss : List Stmt) → ((k : ℕ) (s : Stmt) → slice_get ss k ≡ Some s → stmt_barriers b s ≡ 0) → body_barriers b ss ≡ 0
+  no_body : (b : ℕ → ℕ) (ss : List Stmt)
+      → ((k : ℕ) (s : Stmt) → slice_get ss k ≡ Some s → stmt_barriers b s ≡ 0) → body_barriers b ss ≡ 0
   no_body b [] each = refl
   no_body b (s ∷ ss) each = omega (arith, each 0 s refl, no_body b ss (λ k x at. each (suc k) x at))
 
@@ -71,11 +77,15 @@ module _ (p : Program) where
   no_barrier zero f none = refl
   no_barrier (suc n) f none = go (cases_lt f (length p.funcs)) (λ j s at e g named has. no_barrier n g has)
     where
-      go : (f < length p.funcs) ⊎ (length p.funcs ≤ f) → ((j : ℕ) (s : Stmt) → slice_get (body_of p.funcs f) j ≡ Some s → reaches_barrier (reaches [] p.funcs) s ≡ false → (g : ℕ) → named_by s ≡ Some g → HasNoBarrier p.funcs g → barriers_to p n g ≡ 0)
+      go : (f < length p.funcs) ⊎ (length p.funcs ≤ f)
+          → ((j : ℕ) (s : Stmt) → slice_get (body_of p.funcs f) j ≡ Some s → reaches_barrier (reaches [] p.funcs) s ≡ false → (g : ℕ) → named_by s ≡ Some g → HasNoBarrier p.funcs g → barriers_to p n g ≡ 0)
           → body_barriers (barriers_to p n) (body_of p.funcs f) ≡ 0
-      go (inr past) shorter = ap (λ (o : Option Func). body_barriers (barriers_to p n) (option_map_or (λ g. g.body) o [])) (slice_get_past p.funcs f past)
+      go (inr past) shorter =
+          ap (λ (o : Option Func). body_barriers (barriers_to p n) (option_map_or (λ g. g.body) o []))
+          (slice_get_past p.funcs f past)
       go (inl within) shorter =
-          let none_here : list_any (reaches_barrier (reaches [] p.funcs)) (body_of p.funcs f) ≡ false = ap (λ (x : Reach). x.barrier) (sym (rules.reach f within)) ∙ none in
+          let none_here : list_any (reaches_barrier (reaches [] p.funcs)) (body_of p.funcs f) ≡ false =
+          ap (λ (x : Reach). x.barrier) (sym (rules.reach f within)) ∙ none in
           no_body (barriers_to p n) (body_of p.funcs f)
           (λ j s at. let e = any_false (reaches_barrier (reaches [] p.funcs)) (body_of p.funcs f) none_here j s at in no_stmt (barriers_to p n) s e (shorter j s at e))
 
@@ -83,9 +93,13 @@ module _ (p : Program) where
   unfolding barriers_of
   none_of f none = eq-eqb (barriers_to p (suc f) f) 0 (no_barrier (suc f) f none)
 
-  fair_by_place : (ss : List Stmt) → ((k : ℕ) (s : Stmt) → slice_get ss k ≡ Some s → fair_stmt (barriers_of p) s ≡ true) → fair_body (barriers_of p) ss ≡ true
+  fair_by_place : (ss : List Stmt)
+      → ((k : ℕ) (s : Stmt) → slice_get ss k ≡ Some s → fair_stmt (barriers_of p) s ≡ true)
+      → fair_body (barriers_of p) ss ≡ true
   fair_by_place [] each = refl
-  fair_by_place (s ∷ ss) each = both (fair_stmt (barriers_of p) s) (fair_body (barriers_of p) ss) (each 0 s refl) (fair_by_place ss (λ k x at. each (suc k) x at))
+  fair_by_place (s ∷ ss) each =
+      both (fair_stmt (barriers_of p) s) (fair_body (barriers_of p) ss) (each 0 s refl)
+      (fair_by_place ss (λ k x at. each (suc k) x at))
 
   fair_at : (f : ℕ) (s : Stmt) → HasStatement p.funcs f s → fair_stmt (barriers_of p) s ≡ true
   fair_at f (stmt.Only m g) at = none_of g (rules.no_barrier_in_only f m g at)

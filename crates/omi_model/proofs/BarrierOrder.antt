@@ -101,20 +101,26 @@ wrong n (item.Release ∷ xs) e = wrong n xs e
 wrong n (item.Pass ∷ xs) e = wrong n xs e
 wrong n (x ∷ xs) e = wrong n xs e
 
-body_order : (n : ℕ) (ss : List Stmt) (rest : List Item) → order n Outside (body_items ss rest) ≡ order n Outside rest
+body_order : (n : ℕ) (ss : List Stmt) (rest : List Item)
+    → order n Outside (body_items ss rest) ≡ order n Outside rest
 body_order n [] rest = refl
 body_order n (s ∷ ss) rest = body_order n ss rest
 
-pub body_left : (b : ℕ → ℕ) (ss : List Stmt) (rest : List Item) → left b (body_items ss rest) ≡ body_barriers b ss + left b rest
+pub body_left : (b : ℕ → ℕ) (ss : List Stmt) (rest : List Item)
+    → left b (body_items ss rest) ≡ body_barriers b ss + left b rest
 body_left b [] rest = omega arith
 body_left b (s ∷ ss) rest = omega (arith, body_left b ss rest)
 
-body_fair : (b : ℕ → ℕ) (ss : List Stmt) (rest : List Item) → fair_body b ss ≡ true → fair b rest ≡ true → fair b (body_items ss rest) ≡ true
+body_fair : (b : ℕ → ℕ) (ss : List Stmt) (rest : List Item) → fair_body b ss ≡ true → fair b rest ≡ true
+    → fair b (body_items ss rest) ≡ true
 body_fair b [] rest e f = f
-body_fair b (s ∷ ss) rest e f = both (fair_stmt b s) (fair b (body_items ss rest)) (and_left (fair_stmt b s) (fair_body b ss) e) (body_fair b ss rest (and_right (fair_stmt b s) (fair_body b ss) e) f)
+body_fair b (s ∷ ss) rest e f =
+    both (fair_stmt b s) (fair b (body_items ss rest)) (and_left (fair_stmt b s) (fair_body b ss) e)
+    (body_fair b ss rest (and_right (fair_stmt b s) (fair_body b ss) e) f)
 
 -- a function in front of a list
-pub function_ready : (p : Program) (b : ℕ → ℕ) → IsCounted p b → (n f w : ℕ) (rest : List Item) → IsReady b n Outside w rest → IsReady b n Outside (b f + w) (function_items p f rest)
+pub function_ready : (p : Program) (b : ℕ → ℕ) → IsCounted p b → (n f w : ℕ) (rest : List Item)
+    → IsReady b n Outside w rest → IsReady b n Outside (b f + w) (function_items p f rest)
 function_ready p b ok n f w rest r = record {
   in_order = body_order n (body_of p.funcs f) rest ∙ r.in_order;
   barriers = omega (arith, body_left b (body_of p.funcs f) rest, ok.bodies f, r.barriers);
@@ -131,7 +137,8 @@ is_quiet (item.Defer seen f final) = false
 is_quiet (item.StartNow f final) = false
 is_quiet x = true
 
-pub quiet_off : (b : ℕ → ℕ) (n : ℕ) (ph : Phase) (w : ℕ) (x : Item) (xs : List Item) → is_quiet x ≡ true → IsReady b n ph w (x ∷ xs) → IsReady b n ph w xs
+pub quiet_off : (b : ℕ → ℕ) (n : ℕ) (ph : Phase) (w : ℕ) (x : Item) (xs : List Item) → is_quiet x ≡ true
+    → IsReady b n ph w (x ∷ xs) → IsReady b n ph w xs
 quiet_off b n ph w item.Arrive xs q r = absurd (false_true q)
 quiet_off b n ph w item.Release xs q r = absurd (false_true q)
 quiet_off b n ph w item.Pass xs q r = absurd (false_true q)
@@ -140,7 +147,8 @@ quiet_off b n ph w (item.Defer seen f final) xs q r = absurd (false_true q)
 quiet_off b n ph w (item.StartNow f final) xs q r = absurd (false_true q)
 quiet_off b n ph w x xs q r = record { in_order = r.in_order; barriers = omega (arith, r.barriers); is_fair = r.is_fair }
 
-pub quiet_on : (b : ℕ → ℕ) (n : ℕ) (ph : Phase) (w : ℕ) (x : Item) (xs : List Item) → is_quiet x ≡ true → IsReady b n ph w xs → IsReady b n ph w (x ∷ xs)
+pub quiet_on : (b : ℕ → ℕ) (n : ℕ) (ph : Phase) (w : ℕ) (x : Item) (xs : List Item) → is_quiet x ≡ true
+    → IsReady b n ph w xs → IsReady b n ph w (x ∷ xs)
 quiet_on b n ph w item.Arrive xs q r = absurd (false_true q)
 quiet_on b n ph w item.Release xs q r = absurd (false_true q)
 quiet_on b n ph w item.Pass xs q r = absurd (false_true q)
@@ -150,7 +158,8 @@ quiet_on b n ph w (item.StartNow f final) xs q r = absurd (false_true q)
 quiet_on b n ph w x xs q r = record { in_order = r.in_order; barriers = omega (arith, r.barriers); is_fair = r.is_fair }
 
 -- a state item may stand in front
-pub shown_ready : (b : ℕ → ℕ) (at : Encounter) (n : ℕ) (ph : Phase) (w state wait : ℕ) (xs : List Item) → IsReady b n ph w xs → IsReady b n ph w (shown at state wait xs)
+pub shown_ready : (b : ℕ → ℕ) (at : Encounter) (n : ℕ) (ph : Phase) (w state wait : ℕ) (xs : List Item)
+    → IsReady b n ph w xs → IsReady b n ph w (shown at state wait xs)
 shown_ready b at n ph w state wait xs r = go at.debug
   where
     go : (d : Bool) → IsReady b n ph w (if d then item.State state wait ∷ xs else xs)
@@ -158,7 +167,8 @@ shown_ready b at n ph w state wait xs r = go at.debug
     go false = r
 
 -- a statement stands outside barriers alone
-do_outside : (n : ℕ) (ph : Phase) (s : Stmt) (rest : List Item) → order n ph (item.Do s ∷ rest) ≡ true → ph ≡ Outside
+do_outside : (n : ℕ) (ph : Phase) (s : Stmt) (rest : List Item) → order n ph (item.Do s ∷ rest) ≡ true
+    → ph ≡ Outside
 do_outside n Outside s rest e = refl
 do_outside n Waiting s rest e = absurd (wrong n rest e)
 do_outside n Released s rest e = absurd (wrong n rest e)
@@ -166,58 +176,84 @@ do_outside n Wrong s rest e = absurd (wrong n rest e)
 
 -- the row of a statement in place of the statement
 module _ (p : Program) (b : ℕ → ℕ) (ok : IsCounted p b) where
-  pub barrier_ready : (at : Encounter) (n w state : ℕ) (rest : List Item) → at.number ≡ n → IsReady b n Outside w rest → IsReady b n Outside (1 + w) (barrier_items at state rest)
-  barrier_ready at n w state rest same r = shown_ready b at n Outside (1 + w) state 0 _ (subst (λ m. IsReady b n Outside (1 + w) (item.Arrive ∷ item.Tasks state ∷ (if m == 0 then item.Release ∷ item.Pass ∷ rest else item.Pass ∷ rest))) (sym same) (go (n == 0) refl))
+  pub barrier_ready : (at : Encounter) (n w state : ℕ) (rest : List Item) → at.number ≡ n
+      → IsReady b n Outside w rest → IsReady b n Outside (1 + w) (barrier_items at state rest)
+  barrier_ready at n w state rest same r =
+      shown_ready b at n Outside (1 + w) state 0 _
+      (subst (λ m. IsReady b n Outside (1 + w) (item.Arrive ∷ item.Tasks state ∷ (if m == 0 then item.Release ∷ item.Pass ∷ rest else item.Pass ∷ rest))) (sym same) (go (n == 0) refl))
     where
-      go : (test : Bool) → n == 0 ≡ test → IsReady b n Outside (1 + w) (item.Arrive ∷ item.Tasks state ∷ (if test then item.Release ∷ item.Pass ∷ rest else item.Pass ∷ rest))
+      go : (test : Bool) → n == 0 ≡ test
+          → IsReady b n Outside (1 + w) (item.Arrive ∷ item.Tasks state ∷ (if test then item.Release ∷ item.Pass ∷ rest else item.Pass ∷ rest))
       go true e = record { in_order = subst (λ t. order n (if t then Released else Wrong) (item.Pass ∷ rest) ≡ true) (sym e) r.in_order; barriers = omega (arith, r.barriers); is_fair = r.is_fair }
       go false e = record { in_order = subst (λ t. order n (if t then Wrong else Outside) rest ≡ true) (sym e) r.in_order; barriers = omega (arith, r.barriers); is_fair = r.is_fair }
 
-  call_row : (n f w : ℕ) (rest : List Item) → IsReady b n Outside w rest → IsReady b n Outside (b f + w) (item.Call f ∷ call_items p f rest)
-  call_row n f w rest r = quiet_on b n Outside (b f + w) (item.Call f) (call_items p f rest) refl (function_ready p b ok n f w (item.Ret ∷ rest) (quiet_on b n Outside w item.Ret rest refl r))
+  call_row : (n f w : ℕ) (rest : List Item) → IsReady b n Outside w rest
+      → IsReady b n Outside (b f + w) (item.Call f ∷ call_items p f rest)
+  call_row n f w rest r =
+      quiet_on b n Outside (b f + w) (item.Call f) (call_items p f rest) refl
+      (function_ready p b ok n f w (item.Ret ∷ rest) (quiet_on b n Outside w item.Ret rest refl r))
 
-  quiet_call : (n f w : ℕ) (rest : List Item) → b f == 0 ≡ true → IsReady b n Outside w rest → IsReady b n Outside w (item.Call f ∷ call_items p f rest)
-  quiet_call n f w rest none r = let zero_barriers = eqb-true (b f) 0 none in subst (λ k. IsReady b n Outside k (item.Call f ∷ call_items p f rest)) (omega arith) (call_row n f w rest r)
+  quiet_call : (n f w : ℕ) (rest : List Item) → b f == 0 ≡ true → IsReady b n Outside w rest
+      → IsReady b n Outside w (item.Call f ∷ call_items p f rest)
+  quiet_call n f w rest none r =
+      let zero_barriers = eqb-true (b f) 0 none in subst (λ k. IsReady b n Outside k (item.Call f ∷ call_items p f rest)) (omega arith) (call_row n f w rest r)
 
   none_more : {n w : ℕ} (xs : List Item) → IsReady b n Outside w xs → IsReady b n Outside (0 + w) xs
   none_more xs r = record { in_order = r.in_order; barriers = omega (arith, r.barriers); is_fair = r.is_fair }
 
   module _ (at : Encounter) where
     -- items that say nothing, one by one
-    on : {w : ℕ} (x : Item) (xs : List Item) → is_quiet x ≡ true → IsReady b at.number Outside w xs → IsReady b at.number Outside w (x ∷ xs)
+    on : {w : ℕ} (x : Item) (xs : List Item) → is_quiet x ≡ true → IsReady b at.number Outside w xs
+        → IsReady b at.number Outside w (x ∷ xs)
     on {w} x xs q r = quiet_on b at.number Outside w x xs q r
 
-    working_on : {w : ℕ} (xs : List Item) → IsReady b at.number Outside w xs → IsReady b at.number Outside w (working at xs)
+    working_on : {w : ℕ} (xs : List Item) → IsReady b at.number Outside w xs
+        → IsReady b at.number Outside w (working at xs)
     working_on {w} xs r = shown_ready b at at.number Outside w _ 0 xs r
 
-    row_ready : (w : ℕ) (s : Stmt) (rest : List Item) → fair_stmt b s ≡ true → IsReady b at.number Outside w rest → IsReady b at.number Outside (stmt_barriers b s + w) (first_of at s ∷ behind p at s rest)
+    row_ready : (w : ℕ) (s : Stmt) (rest : List Item) → fair_stmt b s ≡ true
+        → IsReady b at.number Outside w rest
+        → IsReady b at.number Outside (stmt_barriers b s + w) (first_of at s ∷ behind p at s rest)
     row_ready w (stmt.Parallel f num) rest is r =
-        none_more _ (on item.Enter _ refl (shown_ready b at at.number Outside w _ 0 _ (on (item.Want num) _ refl (on item.Asks _ refl (on (item.Fork f) _ refl (working_on _ (on item.Leave rest refl r)))))))
+        none_more _
+        (on item.Enter _ refl (shown_ready b at at.number Outside w _ 0 _ (on (item.Want num) _ refl (on item.Asks _ refl (on (item.Fork f) _ refl (working_on _ (on item.Leave rest refl r)))))))
     row_ready w (stmt.Task f undeferred final) rest is r = go (undeferred || at.is_final)
       where
-        go : (c : Bool) → IsReady b at.number Outside (0 + w) (item.Enter ∷ (if c then item.StartNow f (final || at.is_final) else item.Defer 0 f (final || at.is_final)) ∷ item.Leave ∷ rest)
+        go : (c : Bool)
+            → IsReady b at.number Outside (0 + w) (item.Enter ∷ (if c then item.StartNow f (final || at.is_final) else item.Defer 0 f (final || at.is_final)) ∷ item.Leave ∷ rest)
         go true = record { in_order = r.in_order; barriers = omega (arith, r.barriers); is_fair = both (b f == 0) (fair b rest) is r.is_fair }
         go false = record { in_order = r.in_order; barriers = omega (arith, r.barriers); is_fair = both (b f == 0) (fair b rest) is r.is_fair }
     row_ready w stmt.Taskwait rest is r =
-        none_more _ (on item.Enter _ refl (shown_ready b at at.number Outside w _ 0 _ (on (item.Tasks _) _ refl (on item.WaitDone _ refl (working_on _ (on item.Leave rest refl r))))))
-    row_ready w stmt.Taskyield rest is r = none_more _ (on item.Enter _ refl (on item.OneTask _ refl (on item.Yield _ refl (on item.Leave rest refl r))))
-    row_ready w stmt.Barrier rest is r = on item.Enter _ refl (barrier_ready at at.number w _ _ refl (working_on _ (on item.Leave rest refl r)))
+        none_more _
+        (on item.Enter _ refl (shown_ready b at at.number Outside w _ 0 _ (on (item.Tasks _) _ refl (on item.WaitDone _ refl (working_on _ (on item.Leave rest refl r))))))
+    row_ready w stmt.Taskyield rest is r =
+        none_more _
+        (on item.Enter _ refl (on item.OneTask _ refl (on item.Yield _ refl (on item.Leave rest refl r))))
+    row_ready w stmt.Barrier rest is r =
+        on item.Enter _ refl
+        (barrier_ready at at.number w _ _ refl (working_on _ (on item.Leave rest refl r)))
     row_ready w (stmt.Critical k f) rest is r =
-        none_more _ (on item.Enter _ refl (shown_ready b at at.number Outside w _ (k + 1) _ (on (item.Lock k) _ refl (working_on _ (on item.Leave _ refl (quiet_call at.number f w (item.Unlock k ∷ rest) is (on (item.Unlock k) rest refl r)))))))
+        none_more _
+        (on item.Enter _ refl (shown_ready b at at.number Outside w _ (k + 1) _ (on (item.Lock k) _ refl (working_on _ (on item.Leave _ refl (quiet_call at.number f w (item.Unlock k ∷ rest) is (on (item.Unlock k) rest refl r)))))))
     row_ready w (stmt.Call f) rest is r = call_row at.number f w rest r
     row_ready w (stmt.Only m f) rest is r = go (at.number == m)
       where
-        go : (c : Bool) → IsReady b at.number Outside (0 + w) ((if c then item.Call f else item.Skip) ∷ (if c then call_items p f rest else rest))
+        go : (c : Bool)
+            → IsReady b at.number Outside (0 + w) ((if c then item.Call f else item.Skip) ∷ (if c then call_items p f rest else rest))
         go true = none_more _ (quiet_call at.number f w rest is r)
         go false = none_more _ (quiet_on b at.number Outside w item.Skip rest refl r)
-    row_ready w (stmt.Repeat zero f) rest is r = subst (λ k. IsReady b at.number Outside k (item.Skip ∷ rest)) (grind arith) (on item.Skip rest refl r)
+    row_ready w (stmt.Repeat zero f) rest is r =
+        subst (λ k. IsReady b at.number Outside k (item.Skip ∷ rest)) (grind arith) (on item.Skip rest refl r)
     row_ready w (stmt.Repeat (suc n) f) rest is r =
         let again : IsReady b at.number Outside (n * b f + w) (item.Do (stmt.Repeat n f) ∷ rest) = record { in_order = r.in_order; barriers = omega (arith, r.barriers); is_fair = r.is_fair } in
-        subst (λ k. IsReady b at.number Outside k (item.Call f ∷ call_items p f (item.Do (stmt.Repeat n f) ∷ rest))) (grind arith) (call_row at.number f (n * b f + w) (item.Do (stmt.Repeat n f) ∷ rest) again)
+        subst
+        (λ k. IsReady b at.number Outside k (item.Call f ∷ call_items p f (item.Do (stmt.Repeat n f) ∷ rest)))
+        (grind arith) (call_row at.number f (n * b f + w) (item.Do (stmt.Repeat n f) ∷ rest) again)
     row_ready w s rest is r = none_more _ (on (first_of at s) rest refl r)
 
     -- a list is as ready when its first item is opened
-    open_do : (ph : Phase) (w : ℕ) (s : Stmt) (xs : List Item) → IsReady b at.number ph w (item.Do s ∷ xs) → IsReady b at.number ph w (first_of at s ∷ behind p at s xs)
+    open_do : (ph : Phase) (w : ℕ) (s : Stmt) (xs : List Item) → IsReady b at.number ph w (item.Do s ∷ xs)
+        → IsReady b at.number ph w (first_of at s ∷ behind p at s xs)
     open_do ph w s xs r =
         let is = do_outside at.number ph s xs r.in_order in
         let here : IsReady b at.number Outside (left b xs) xs = record { in_order = subst (λ (q : Phase). order at.number q (item.Do s ∷ xs) ≡ true) is r.in_order; barriers = refl; is_fair = and_right (fair_stmt b s) (fair b xs) r.is_fair } in
@@ -231,8 +267,11 @@ module _ (p : Program) (b : ℕ → ℕ) (ok : IsCounted p b) where
     drop_quiet x e = absurd (false_true e)
 
     -- what an event takes off a ready list is as ready
-    pub take_ready : (e : Event) (ph : Phase) (w : ℕ) (xs : List Item) (y : Item) (ys : List Item) → take_item p at e xs ≡ Some (y, ys) → IsReady b at.number ph w xs → IsReady b at.number ph w (y ∷ ys)
-    take_ready e ph w = take_keeps p at (IsReady b at.number ph w) (λ x xs may. quiet_off b at.number ph w x xs (drop_quiet x may)) (open_do ph w) e
+    pub take_ready : (e : Event) (ph : Phase) (w : ℕ) (xs : List Item) (y : Item) (ys : List Item)
+        → take_item p at e xs ≡ Some (y, ys) → IsReady b at.number ph w xs → IsReady b at.number ph w (y ∷ ys)
+    take_ready e ph w =
+        take_keeps p at (IsReady b at.number ph w)
+        (λ x xs may. quiet_off b at.number ph w x xs (drop_quiet x may)) (open_do ph w) e
 
   -- ---- first lists
 
@@ -243,13 +282,16 @@ module _ (p : Program) (b : ℕ → ℕ) (ok : IsCounted p b) where
   any_number n m (item.Release ∷ xs) r = absurd (wrong n xs r.in_order)
   any_number n m (item.Pass ∷ xs) r = absurd (wrong n xs r.in_order)
   any_number n m (x ∷ xs) r =
-      let rest = any_number n m xs (record { in_order = r.in_order; barriers = omega (arith, r.barriers); is_fair = and_right (fair_item b x) (fair b xs) r.is_fair }) in
+      let rest =
+      any_number n m xs
+      (record { in_order = r.in_order; barriers = omega (arith, r.barriers); is_fair = and_right (fair_item b x) (fair b xs) r.is_fair }) in
       record { in_order = rest.in_order; barriers = r.barriers; is_fair = r.is_fair }
 
   pub task_ready : (n f : ℕ) → b f == 0 ≡ true → IsReady b n Outside 0 (task_items p f)
   task_ready n f none =
       let zero_barriers = eqb-true (b f) 0 none in
-      subst (λ w. IsReady b n Outside w (task_items p f)) (omega arith) (function_ready p b ok n f 0 (item.Finish ∷ []) (record { in_order = refl; barriers = omega arith; is_fair = refl }))
+      subst (λ w. IsReady b n Outside w (task_items p f)) (omega arith)
+      (function_ready p b ok n f 0 (item.Finish ∷ []) (record { in_order = refl; barriers = omega arith; is_fair = refl }))
 
   last_ready : (n m : ℕ) → IsReady b n Outside 0 (last_of_member m ∷ [])
   last_ready n m = go (m == 0)
@@ -260,22 +302,29 @@ module _ (p : Program) (b : ℕ → ℕ) (ok : IsCounted p b) where
 
   pub member_ready : (at : Encounter) (f : ℕ) → IsReady b at.number Outside (b f + 1) (member_items p at f)
   member_ready at f =
-      working_on at _ (function_ready p b ok at.number f 1 _ (subst (λ w. IsReady b at.number Outside w (end_of_member at (last_of_member at.number ∷ []))) (omega arith) (barrier_ready at at.number 0 _ _ refl (last_ready at.number at.number))))
+      working_on at _
+      (function_ready p b ok at.number f 1 _ (subst (λ w. IsReady b at.number Outside w (end_of_member at (last_of_member at.number ∷ []))) (omega arith) (barrier_ready at at.number 0 _ _ refl (last_ready at.number at.number))))
 
-  pub main_ready : (at : Encounter) (f : ℕ) → IsReady b at.number Outside (b f + 1) (main_items at (body_of p.funcs f))
-  main_ready at f = function_ready p b ok at.number f 1 _ (subst (λ w. IsReady b at.number Outside w (end_of_member at (item.Done ∷ []))) (omega arith) (barrier_ready at at.number 0 _ _ refl (record { in_order = refl; barriers = omega arith; is_fair = refl })))
+  pub main_ready : (at : Encounter) (f : ℕ)
+      → IsReady b at.number Outside (b f + 1) (main_items at (body_of p.funcs f))
+  main_ready at f =
+      function_ready p b ok at.number f 1 _
+      (subst (λ w. IsReady b at.number Outside w (end_of_member at (item.Done ∷ []))) (omega arith) (barrier_ready at at.number 0 _ _ refl (record { in_order = refl; barriers = omega arith; is_fair = refl })))
 
 -- ---- the three events
 
 -- an arrival: the member was outside, and waits
-pub arrive_ready : (b : ℕ → ℕ) (n : ℕ) (ph : Phase) (w : ℕ) (ys : List Item) → IsReady b n ph w (item.Arrive ∷ ys) → (ph ≡ Outside) × (0 < w) × IsReady b n Waiting (w - 1) ys
-arrive_ready b n Outside w ys r = let e = r.barriers in (refl, omega arith, record { in_order = r.in_order; barriers = omega arith; is_fair = r.is_fair })
+pub arrive_ready : (b : ℕ → ℕ) (n : ℕ) (ph : Phase) (w : ℕ) (ys : List Item)
+    → IsReady b n ph w (item.Arrive ∷ ys) → (ph ≡ Outside) × (0 < w) × IsReady b n Waiting (w - 1) ys
+arrive_ready b n Outside w ys r =
+    let e = r.barriers in (refl, omega arith, record { in_order = r.in_order; barriers = omega arith; is_fair = r.is_fair })
 arrive_ready b n Waiting w ys r = absurd (wrong n ys r.in_order)
 arrive_ready b n Released w ys r = absurd (wrong n ys r.in_order)
 arrive_ready b n Wrong w ys r = absurd (wrong n ys r.in_order)
 
 -- a release: member 0 waited
-pub release_ready : (b : ℕ → ℕ) (n : ℕ) (ph : Phase) (w : ℕ) (ys : List Item) → n ≡ 0 → IsReady b n ph w (item.Release ∷ ys) → (ph ≡ Waiting) × IsReady b n Released w ys
+pub release_ready : (b : ℕ → ℕ) (n : ℕ) (ph : Phase) (w : ℕ) (ys : List Item) → n ≡ 0
+    → IsReady b n ph w (item.Release ∷ ys) → (ph ≡ Waiting) × IsReady b n Released w ys
 release_ready b n Outside w ys first r = absurd (wrong n ys r.in_order)
 release_ready b n Waiting w ys first r =
     (refl, record { in_order = subst (λ m. order n (if m == 0 then Released else Wrong) ys ≡ true) first r.in_order; barriers = omega (arith, r.barriers); is_fair = r.is_fair })
@@ -283,14 +332,18 @@ release_ready b n Released w ys first r = absurd (wrong n ys r.in_order)
 release_ready b n Wrong w ys first r = absurd (wrong n ys r.in_order)
 
 -- a pass: member 0 was past its release, and another member waited or was past it
-pub pass_ready : (b : ℕ → ℕ) (n : ℕ) (ph : Phase) (w : ℕ) (ys : List Item) → IsReady b n ph w (item.Pass ∷ ys) → (ph ≡ Outside → ⊥) × IsReady b n Outside w ys
+pub pass_ready : (b : ℕ → ℕ) (n : ℕ) (ph : Phase) (w : ℕ) (ys : List Item) → IsReady b n ph w (item.Pass ∷ ys)
+    → (ph ≡ Outside → ⊥) × IsReady b n Outside w ys
 pass_ready b n Outside w ys r = absurd (wrong n ys r.in_order)
 pass_ready b n Waiting w ys r = go (n == 0) r.in_order
   where
-    go : (t : Bool) → order n (if t then Wrong else Outside) ys ≡ true → (Waiting ≡ Outside → ⊥) × IsReady b n Outside w ys
+    go : (t : Bool) → order n (if t then Wrong else Outside) ys ≡ true
+        → (Waiting ≡ Outside → ⊥) × IsReady b n Outside w ys
     go true e = absurd (wrong n ys e)
-    go false e = ((λ h. cc), record { in_order = e; barriers = omega (arith, r.barriers); is_fair = r.is_fair })
-pass_ready b n Released w ys r = ((λ h. cc), record { in_order = r.in_order; barriers = omega (arith, r.barriers); is_fair = r.is_fair })
+    go false e =
+        ((λ h. cc), record { in_order = e; barriers = omega (arith, r.barriers); is_fair = r.is_fair })
+pass_ready b n Released w ys r =
+    ((λ h. cc), record { in_order = r.in_order; barriers = omega (arith, r.barriers); is_fair = r.is_fair })
 pass_ready b n Wrong w ys r = absurd (wrong n ys r.in_order)
 
 -- ---- all other events
@@ -318,13 +371,16 @@ pass_only event.Pass f other = false_true (sym other)
 pass_only e f other = false_true f
 
 -- what stands in the place of an item of another event is as ready
-pub stays_ready : (b : ℕ → ℕ) (at : Encounter) (n : ℕ) (ph : Phase) (w : ℕ) (e : Event) (y : Item) (ys : List Item) → fits e y ≡ true → is_barrier_event e ≡ false → IsReady b n ph w (y ∷ ys) → IsReady b n ph w (stays at e y ys)
+pub stays_ready : (b : ℕ → ℕ) (at : Encounter) (n : ℕ) (ph : Phase) (w : ℕ) (e : Event) (y : Item) (ys : List Item)
+    → fits e y ≡ true → is_barrier_event e ≡ false → IsReady b n ph w (y ∷ ys)
+    → IsReady b n ph w (stays at e y ys)
 stays_ready b at n ph w e item.Arrive ys f other r = absurd (arrive_only e f other)
 stays_ready b at n ph w e item.Release ys f other r = absurd (release_only e f other)
 stays_ready b at n ph w e item.Pass ys f other r = absurd (pass_only e f other)
 stays_ready b at n ph w e (item.Do s) ys f other r = absurd (no_do e s f)
 stays_ready b at n ph w e item.Asks ys f other r = r
-stays_ready b at n ph w e item.Serve ys f other r = shown_ready b at n ph w _ 0 _ (quiet_on b n ph w item.Offer (item.Serve ∷ ys) refl r)
+stays_ready b at n ph w e item.Serve ys f other r =
+    shown_ready b at n ph w _ 0 _ (quiet_on b n ph w item.Offer (item.Serve ∷ ys) refl r)
 stays_ready b at n ph w e (item.Tasks state) ys f other r = shown_ready b at n ph w state 0 _ r
 stays_ready b at n ph w (event.Seen j) (item.Defer seen g final) ys f other r = record { in_order = r.in_order; barriers = omega (arith, r.barriers); is_fair = r.is_fair }
 stays_ready b at n ph w e (item.Defer seen g final) ys f other r = record { in_order = r.in_order; barriers = omega (arith, r.barriers); is_fair = and_right (b g == 0) (fair b ys) r.is_fair }

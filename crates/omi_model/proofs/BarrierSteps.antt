@@ -40,11 +40,16 @@ Changes s i event.Release n r q = (k : Tid) (t : Task) → IsCurrent s i k t →
 Changes s i e n r q = IsUntouched r q
 
 abbrev AreChanged : State → ℕ → Event → Slots Region → Type 0
-AreChanged s i e slots = (n : Rid) (r : Region) → region_of s n ≡ Some r → (q : Region) × (named slots n.0 ≡ Some q) × Changes s i e n r q
+AreChanged s i e slots =
+    (n : Rid) (r : Region) → region_of s n ≡ Some r → (q : Region) × (named slots n.0 ≡ Some q) × Changes s i e n r q
 
 module _ (p : Program) (s : State) (i : ℕ) where
-  arrive_touches : (k : Tid) (t : Task) → IsCurrent s i k t → AreChanged s i event.Arrive (arrived s t).regions
-  arrive_touches k t is n r e = changed s.regions t.region (λ q. record q { arrivals = slice_set q.arrivals t.number (slice_index q.arrivals t.number + 1) }) (Changes s i event.Arrive n) n r e
+  arrive_touches : (k : Tid) (t : Task) → IsCurrent s i k t
+      → AreChanged s i event.Arrive (arrived s t).regions
+  arrive_touches k t is n r e =
+      changed s.regions t.region
+      (λ q. record q { arrivals = slice_set q.arrivals t.number (slice_index q.arrivals t.number + 1) })
+      (Changes s i event.Arrive n) n r e
       (λ same k' t' is'.
       let one = same_current s i k k' t t' is is' in (
         λ h. ap (λ (x : Task). slice_set r.arrivals x.number (slice_index r.arrivals x.number + 1)) one,
@@ -55,8 +60,11 @@ module _ (p : Program) (s : State) (i : ℕ) where
       let one = same_current s i k k' t t' is is' in
       (λ h. absurd (apart (sym (ap (λ (x : Task). x.region) one ∙ h))), λ other. refl, refl))
 
-  release_touches : (k : Tid) (t : Task) (r0 : Region) → IsCurrent s i k t → region_of s t.region ≡ Some r0 → MayRelease s t r0 → AreChanged s i event.Release (released s t).regions
-  release_touches k t r0 is found may n r e = changed s.regions t.region (λ q. record q { released = q.released + 1 }) (Changes s i event.Release n) n r e
+  release_touches : (k : Tid) (t : Task) (r0 : Region) → IsCurrent s i k t → region_of s t.region ≡ Some r0
+      → MayRelease s t r0 → AreChanged s i event.Release (released s t).regions
+  release_touches k t r0 is found may n r e =
+      changed s.regions t.region (λ q. record q { released = q.released + 1 })
+      (Changes s i event.Release n) n r e
       (λ same k' t' is'.
       let one = same_current s i k k' t t' is is' in
       let known : r0 ≡ r = some_same found (ap (region_of s) (sym same) ∙ e) in (
@@ -73,7 +81,8 @@ module _ (p : Program) (s : State) (i : ℕ) where
   untouched event.Release is = absurd (false_true (sym is))
   untouched e is = λ n r found. (r, found, (refl, refl))
 
-  changed_effect : (e : Event) (y : Item) → Rule s i e y → IfSome (effect p s i e y) (λ u. AreChanged s i e u.regions)
+  changed_effect : (e : Event) (y : Item) → Rule s i e y
+      → IfSome (effect p s i e y) (λ u. AreChanged s i e u.regions)
   changed_effect = regions_effect p s i (AreChanged s i) (record {
     stays = untouched;
     forks = λ region team f k t r may n q e. (q, made_stays s.regions region.0 (new_region k t r team f) n.0 q (fresh_empty s.regions i region.0 may.region_new) e, (refl, refl));
@@ -84,17 +93,25 @@ module _ (p : Program) (s : State) (i : ℕ) where
   })
 
 -- the current task, once the list has moved on
-pub current_after : (s : State) (i : ℕ) (zs : List Item) (k : Tid) (t : Task) → IsCurrent s i k t → IsCurrent (with_list s i zs) i k (relisted zs t)
-current_after s i zs k t is = list_moves s i zs (λ u. IsCurrent u i k (relisted zs t)) (λ n name. current_moved s i n name zs k t is) (λ none. absurd (none_some none is.name))
+pub current_after : (s : State) (i : ℕ) (zs : List Item) (k : Tid) (t : Task) → IsCurrent s i k t
+    → IsCurrent (with_list s i zs) i k (relisted zs t)
+current_after s i zs k t is =
+    list_moves s i zs (λ u. IsCurrent u i k (relisted zs t)) (λ n name. current_moved s i n name zs k t is)
+    (λ none. absurd (none_some none is.name))
 
 -- what a step makes of a region's barriers
-pub region_changed : (p : Program) (s : State) (i : ℕ) (e : Event) (next : State) (m : IsMove p s i e next) (n : Rid) (r : Region) → region_of s n ≡ Some r → (q : Region) × (region_of next n ≡ Some q) × Changes s i e n r q
+pub region_changed : (p : Program) (s : State) (i : ℕ) (e : Event) (next : State) (m : IsMove p s i e next) (n : Rid) (r : Region)
+    → region_of s n ≡ Some r → (q : Region) × (region_of next n ≡ Some q) × Changes s i e n r q
 region_changed p s i e after_step m n r found =
     let zs : List Item = stays (encounter s i) e m.item m.behind in
-    let (q, found_q, h) = from_some (λ (u : State). AreChanged (with_list s i zs) i e u.regions) (effect p (with_list s i zs) i e m.item) after_step m.effect_is (changed_effect p (with_list s i zs) i e m.item m.rule_moved) n r ((is_relisted s i zs).regions n ∙ found) in
+    let (q, found_q, h) =
+    from_some (λ (u : State). AreChanged (with_list s i zs) i e u.regions)
+    (effect p (with_list s i zs) i e m.item) after_step m.effect_is
+    (changed_effect p (with_list s i zs) i e m.item m.rule_moved) n r ((is_relisted s i zs).regions n ∙ found) in
     (q, found_q, back zs q e h)
   where
-    back : (zs : List Item) (q : Region) (e' : Event) → Changes (with_list s i zs) i e' n r q → Changes s i e' n r q
+    back : (zs : List Item) (q : Region) (e' : Event) → Changes (with_list s i zs) i e' n r q
+        → Changes s i e' n r q
     back zs q event.Arrive h = λ k t is. h k (relisted zs t) (current_after s i zs k t is)
     back zs q event.Release h = λ k t is. h k (relisted zs t) (current_after s i zs k t is)
     back zs q e' h = h

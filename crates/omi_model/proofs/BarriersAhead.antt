@@ -9,7 +9,8 @@ use Rattle.omi_model.specs.State.{State}
 use Rattle.omi_model.proofs.BarrierLaw.{placed}
 use Rattle.omi_model.proofs.Slots.{some_same}
 
-pub barriers_ahead : (p : Program) (events : List (ℕ × Event)) (s : State) → Reached p events s → AreBarriersLeft p s
+pub barriers_ahead : (p : Program) (events : List (ℕ × Event)) (s : State) → Reached p events s
+    → AreBarriersLeft p s
 barriers_ahead p events s reached = record {
   members = λ k t r live im found.
       let (q, found_q, m) = ((placed p events s reached).places k t live).0 im in

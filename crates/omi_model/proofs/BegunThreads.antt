@@ -45,14 +45,17 @@ begin_only e fit = absurd (false_true fit)
 abbrev first_taken : Item × List Item
 first_taken = (item.Begin, item.Offer ∷ item.Serve ∷ [])
 
-first_begin : (p : Program) (at : Encounter) (e : Event) (y : Item) (ys : List Item) → take_item p at e worker_items ≡ Some (y, ys) → e ≡ event.Begin
+first_begin : (p : Program) (at : Encounter) (e : Event) (y : Item) (ys : List Item)
+    → take_item p at e worker_items ≡ Some (y, ys) → e ≡ event.Begin
 first_begin p at e y ys is = go (fits e item.Begin) refl is
   where
-    go : (b : Bool) → fits e item.Begin ≡ b → (if b then Some first_taken else None) ≡ Some (y, ys) → e ≡ event.Begin
+    go : (b : Bool) → fits e item.Begin ≡ b → (if b then Some first_taken else None) ≡ Some (y, ys)
+        → e ≡ event.Begin
     go true fit h = begin_only e fit
     go false fit h = absurd (none_some refl h)
 
-module _ (p : Program) (s : State) (i : ℕ) (e : Event) (next : State) (step : Step p s i e next) (all : EachThread HasBegunOrNot s) where
+module _ (p : Program) (s : State) (i : ℕ) (e : Event) (next : State) (step : Step p s i e next)
+    (all : EachThread HasBegunOrNot s) where
   m : IsMove p s i e next
   m = move_of p s i e next step
 
@@ -60,15 +63,20 @@ module _ (p : Program) (s : State) (i : ℕ) (e : Event) (next : State) (step : 
   unbegun_begins : IsUnbegun (s.threads i).list (s.threads i).current (s.threads i).claim → e ≡ event.Begin
   unbegun_begins un =
       let list : list_of s i ≡ worker_items =
-      ap (λ (o : Option Tid). option_map_or (λ (u : Task). u.list) (option_and_then (task_of s) o) (s.threads i).list) un.idle ∙ un.list in
-      first_begin p (encounter s i) e m.item m.behind (ap (take_item p (encounter s i) e) (sym list) ∙ m.taken)
+      ap
+      (λ (o : Option Tid). option_map_or (λ (u : Task). u.list) (option_and_then (task_of s) o) (s.threads i).list) un.idle
+      ∙ un.list in
+      first_begin p (encounter s i) e m.item m.behind
+      (ap (take_item p (encounter s i) e) (sym list) ∙ m.taken)
 
   pub begun_after : e ≡ event.Begin → (next.threads i).begun ≡ true
   begun_after is =
       let middle : State = moved_on s i e m.item m.behind in
-      let made : Some (begun middle i) ≡ Some next = subst (λ (x : Event). effect p middle i x m.item ≡ Some next) is m.effect_is in
+      let made : Some (begun middle i) ≡ Some next =
+      subst (λ (x : Event). effect p middle i x m.item ≡ Some next) is m.effect_is in
       let same : begun middle i ≡ next = some_same refl made in
-      ap (λ (u : State). (u.threads i).begun) (sym same) ∙ ap (λ (h : Thread). h.begun) (put_same middle.threads i (record (middle.threads i) { begun = true }))
+      ap (λ (u : State). (u.threads i).begun) (sym same)
+      ∙ ap (λ (h : Thread). h.begun) (put_same middle.threads i (record (middle.threads i) { begun = true }))
 
   -- the thread of any other event has begun
   pub by_begun : (e ≡ event.Begin → ⊥) → (s.threads i).begun ≡ true
@@ -79,12 +87,16 @@ module _ (p : Program) (s : State) (i : ℕ) (e : Event) (next : State) (step : 
       go (inr un) = absurd (other (unbegun_begins un))
 
   abbrev StillUnbegun : ℕ → Thread → Type 0
-  StillUnbegun j h = j ≢ i → IsUnbegun (s.threads j).list (s.threads j).current (s.threads j).claim → IsUnbegun h.list h.current h.claim
+  StillUnbegun j h =
+      j ≢ i → IsUnbegun (s.threads j).list (s.threads j).current (s.threads j).claim → IsUnbegun h.list h.current h.claim
 
   still : EachThread StillUnbegun next
-  still = thread_step p StillUnbegun s i e next step (λ y ys none taken q ne. absurd (ne refl)) law (λ j ne un. un)
+  still =
+      thread_step p StillUnbegun s i e next step (λ y ys none taken q ne. absurd (ne refl)) law
+      (λ j ne un. un)
     where
-      law : (middle : State) → IsRelisted s middle → Stays middle next → EachThread StillUnbegun middle → IsThreadLaw p middle i e next StillUnbegun
+      law : (middle : State) → IsRelisted s middle → Stays middle next → EachThread StillUnbegun middle
+          → IsThreadLaw p middle i e next StillUnbegun
       law middle before later of_threads = record {
         begins = λ may q ne. absurd (ne refl);
         offers = λ may of q ne. absurd (ne refl);
@@ -106,9 +118,14 @@ module _ (p : Program) (s : State) (i : ℕ) (e : Event) (next : State) (step : 
     where
       go : HasBegunOrNot j (s.threads j) → (j ≡ i) ⊎ (j ≡ i → ⊥) → HasBegunOrNot j (next.threads j)
       go (inl b) at = inl ((stays_step p s i e next step).begun j b)
-      go (inr un) (inl same) = inl (subst (λ h. (next.threads h).begun ≡ true) (sym same) (begun_after (unbegun_begins (subst (λ h. IsUnbegun (s.threads h).list (s.threads h).current (s.threads h).claim) same un))))
+      go (inr un) (inl same) =
+          inl
+          (subst (λ h. (next.threads h).begun ≡ true) (sym same) (begun_after (unbegun_begins (subst (λ h. IsUnbegun (s.threads h).list (s.threads h).current (s.threads h).claim) same un))))
       go (inr un) (inr ne) = inr (still j ne un)
 
-pub begun_or_not : (p : Program) (events : List (ℕ × Event)) (s : State) → Reached p events s → EachThread HasBegunOrNot s
-begun_or_not p events s reached = over_events p (EachThread HasBegunOrNot) (λ u i e next step h. begun_step p u i e next step h) (opening p) events s reached
+pub begun_or_not : (p : Program) (events : List (ℕ × Event)) (s : State) → Reached p events s
+    → EachThread HasBegunOrNot s
+begun_or_not p events s reached =
+    over_events p (EachThread HasBegunOrNot) (λ u i e next step h. begun_step p u i e next step h)
+    (opening p) events s reached
     (each_first_thread p HasBegunOrNot (inl refl) (λ j. inr (record { list = refl; idle = refl; held = λ e. cc })))

@@ -31,10 +31,13 @@ use Rattle.omi_model.proofs.Steps.{IsMove, IsRelisted, from_some, is_relisted, m
 abbrev KeepsCurrent : State → ℕ → ℕ → Thread → Type 0
 KeepsCurrent s i j h = j ≢ i → h.current ≡ (s.threads j).current
 
-pub current_kept : (p : Program) (s : State) (i : ℕ) (e : Event) (next : State) → Step p s i e next → EachThread (KeepsCurrent s i) next
-current_kept p s i e next step = thread_step p (KeepsCurrent s i) s i e next step (λ y ys none taken q. q) law (λ j ne. refl)
+pub current_kept : (p : Program) (s : State) (i : ℕ) (e : Event) (next : State) → Step p s i e next
+    → EachThread (KeepsCurrent s i) next
+current_kept p s i e next step =
+    thread_step p (KeepsCurrent s i) s i e next step (λ y ys none taken q. q) law (λ j ne. refl)
   where
-    law : (middle : State) → IsRelisted s middle → Stays middle next → EachThread (KeepsCurrent s i) middle → IsThreadLaw p middle i e next (KeepsCurrent s i)
+    law : (middle : State) → IsRelisted s middle → Stays middle next → EachThread (KeepsCurrent s i) middle
+        → IsThreadLaw p middle i e next (KeepsCurrent s i)
     law middle before later all = record {
       begins = λ may q. q;
       offers = λ may of q. q;
@@ -54,7 +57,8 @@ current_kept p s i e next step = thread_step p (KeepsCurrent s i) s i e next ste
 abbrev pub Chains : State → Type 0
 Chains s = (i : ℕ) → HasChain s i (s.threads i).current
 
-module _ (p : Program) (s : State) (i : ℕ) (e : Event) (next : State) (step : Step p s i e next) (known : AreMembersKnown s) (chains : Chains s) where
+module _ (p : Program) (s : State) (i : ℕ) (e : Event) (next : State) (step : Step p s i e next)
+    (known : AreMembersKnown s) (chains : Chains s) where
   m : IsMove p s i e next
   m = move_of p s i e next step
 
@@ -67,7 +71,8 @@ module _ (p : Program) (s : State) (i : ℕ) (e : Event) (next : State) (step : 
   before : IsRelisted s middle
   before = is_relisted s i (stays (encounter s i) e m.item m.behind)
 
-  same_progress : (k : Tid) (t v : Task) → task_of s k ≡ Some t → task_of middle k ≡ Some v → v.progress ≡ t.progress
+  same_progress : (k : Tid) (t v : Task) → task_of s k ≡ Some t → task_of middle k ≡ Some v
+      → v.progress ≡ t.progress
   same_progress k t v live found =
       let (w, xs, live', same) = before.tasks k v found in
       ap (λ (x : Task). x.progress) same ∙ ap (λ (x : Task). x.progress) (some_same live' live)
@@ -83,13 +88,19 @@ module _ (p : Program) (s : State) (i : ℕ) (e : Event) (next : State) (step : 
   middle_goes : GoesOn middle i e next
   middle_goes k t v live begun found other =
       let (w, xs, live', same) = before.tasks k t live in
-      goes_on p s i e next step k w v live' (ap (λ (x : Task). x.progress) (sym same) ∙ begun) found (λ name over. other (before.currents i ∙ name) over)
+      goes_on p s i e next step k w v live' (ap (λ (x : Task). x.progress) (sym same) ∙ begun) found
+      (λ name over. other (before.currents i ∙ name) over)
 
-  first : (k : Tid) (t : Task) (r : Region) → task_of middle k ≡ Some t → t.implicit ≡ true → t.number ≡ 0 → region_of middle t.region ≡ Some r → t.scheduling ≡ r.encountering
+  first : (k : Tid) (t : Task) (r : Region) → task_of middle k ≡ Some t → t.implicit ≡ true → t.number ≡ 0
+      → region_of middle t.region ≡ Some r → t.scheduling ≡ r.encountering
   first k t r live im zero_number found =
       let (w, xs, live', same) = before.tasks k t live in
-      let met = (known.encountered k w live').scheduling (ap (λ (x : Task). x.implicit) (sym same) ∙ im) r (ap (λ (x : Task). region_of s x.region) (sym same) ∙ (sym (before.regions t.region) ∙ found)) in
-      ap (λ (x : Task). x.scheduling) same ∙ (met ∙ ap (λ n. if n == 0 then r.encountering else None) (ap (λ (x : Task). x.number) (sym same) ∙ zero_number))
+      let met =
+      (known.encountered k w live').scheduling (ap (λ (x : Task). x.implicit) (sym same) ∙ im) r
+      (ap (λ (x : Task). region_of s x.region) (sym same) ∙ (sym (before.regions t.region) ∙ found)) in
+      ap (λ (x : Task). x.scheduling) same
+      ∙
+      (met ∙ ap (λ n. if n == 0 then r.encountering else None) (ap (λ (x : Task). x.number) (sym same) ∙ zero_number))
 
   loose : (k : Tid) (t : Task) → task_of middle k ≡ Some t → t.progress ≡ NotBegun → t.scheduling ≡ None
   loose k t live waits =
@@ -97,12 +108,14 @@ module _ (p : Program) (s : State) (i : ℕ) (e : Event) (next : State) (step : 
       let met = known.encountered k w live' in
       let (im, other) = met.waiting (ap (λ (x : Task). x.progress) (sym same) ∙ waits) in
       let (r, found, at) = known.tasks k w live' im in
-      ap (λ (x : Task). x.scheduling) same ∙ (met.scheduling im r found ∙ ap (λ b. if b then r.encountering else None) (ne_eqb w.number 0 other))
+      ap (λ (x : Task). x.scheduling) same
+      ∙ (met.scheduling im r found ∙ ap (λ b. if b then r.encountering else None) (ne_eqb w.number 0 other))
 
   own : HasChain next i (next.threads i).current
   own =
       from_some (Chained p middle i middle_chain first loose e) (effect p middle i e m.item) next m.effect_is
-      (own_effect p middle i middle_chain first loose e m.item m.rule_moved) (stays_after p s i e next m) middle_goes
+      (own_effect p middle i middle_chain first loose e m.item m.rule_moved)
+      (stays_after p s i e next m) middle_goes
 
   others : (j : ℕ) → j ≢ i → HasChain next j (next.threads j).current
   others j ne =
@@ -114,10 +127,12 @@ module _ (p : Program) (s : State) (i : ℕ) (e : Event) (next : State) (step : 
             j (s.threads j).current ks chain (λ k t live mine on (name, over). ne (elsewhere k t live mine name))),
       )
     where
-      elsewhere : (k : Tid) (t : Task) → task_of s k ≡ Some t → t.thread ≡ j → (s.threads i).current ≡ Some k → j ≡ i
+      elsewhere : (k : Tid) (t : Task) → task_of s k ≡ Some t → t.thread ≡ j → (s.threads i).current ≡ Some k
+          → j ≡ i
       elsewhere k t live mine name =
           let (ks, chain) = chains i in
-          let (ns, v, list, apart, live', mine', begun, rest) = top_of s i (s.threads i).current ks k name chain in
+          let (ns, v, list, apart, live', mine', begun, rest) =
+          top_of s i (s.threads i).current ks k name chain in
           sym mine ∙ (ap (λ (x : Task). x.thread) (some_same live live') ∙ mine')
 
   pub chains_step : Chains next
@@ -142,11 +157,14 @@ chained p events s reached = over_events p AreChained
       chains = each_first_thread p (λ j h. HasChain (opening p) j h.current) (initial_task ∷ [], (opening_task p, refl, tt, refl, refl, refl, refl)) (λ j. ([], refl));
     })
 
-pub have_chains : (p : Program) (events : List (ℕ × Event)) (s : State) → Reached p events s → (i : ℕ) → (ks : List Tid) × IsChain s i (s.threads i).current ks
+pub have_chains : (p : Program) (events : List (ℕ × Event)) (s : State) → Reached p events s → (i : ℕ)
+    → (ks : List Tid) × IsChain s i (s.threads i).current ks
 have_chains p events s reached = (chained p events s reached).chains
 
 -- so each current task has begun and not finished, and runs on its thread
-pub current_begun : (p : Program) (events : List (ℕ × Event)) (s : State) → Reached p events s → (i : ℕ) (k : Tid) (t : Task) → (s.threads i).current ≡ Some k → task_of s k ≡ Some t → (t.progress ≡ Begun) × (t.thread ≡ i)
+pub current_begun : (p : Program) (events : List (ℕ × Event)) (s : State) → Reached p events s
+    → (i : ℕ) (k : Tid) (t : Task) → (s.threads i).current ≡ Some k → task_of s k ≡ Some t
+    → (t.progress ≡ Begun) × (t.thread ≡ i)
 current_begun p events s reached i k t name live =
     let (ks, chain) = have_chains p events s reached i in
     let (ns, v, list, apart, live', mine, begun, rest) = top_of s i (s.threads i).current ks k name chain in

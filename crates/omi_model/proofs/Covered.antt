@@ -39,7 +39,8 @@ module _ (b : ℕ → ℕ) where
   plain_covered (item.Fork f) xs plain h = absurd (false_true plain)
   plain_covered x xs plain h = (omega (arith, h.0), (tt, h.1))
 
-  shown_covers : (at : Encounter) (state wait : ℕ) (xs : List Item) → Covers b xs → Covers b (shown at state wait xs)
+  shown_covers : (at : Encounter) (state wait : ℕ) (xs : List Item) → Covers b xs
+      → Covers b (shown at state wait xs)
   shown_covers at state wait xs h = go at.debug
     where
       go : (d : Bool) → Covers b (if d then item.State state wait ∷ xs else xs)
@@ -57,24 +58,33 @@ module _ (b : ℕ → ℕ) where
       critical = λ k f xs h. let inner = critical_keeps (Covered b) plain_covered p at f (item.Unlock k ∷ xs) (omega (arith, h.0), (tt, h.1)) in (omega (arith, inner.0), (tt, inner.1));
     }
 
-    pub take_covers : (at : Encounter) (e : Event) (xs : List Item) (y : Item) (ys : List Item) → take_item p at e xs ≡ Some (y, ys) → Covers b xs → Covers b (y ∷ ys)
-    take_covers at = take_keeps p at (Covers b) (λ x xs may h. h.1) (λ s xs h. (row_keeps p at (Covered b) (covered at) (shape_of s) xs h).1)
+    pub take_covers : (at : Encounter) (e : Event) (xs : List Item) (y : Item) (ys : List Item)
+        → take_item p at e xs ≡ Some (y, ys) → Covers b xs → Covers b (y ∷ ys)
+    take_covers at =
+        take_keeps p at (Covers b) (λ x xs may h. h.1)
+        (λ s xs h. (row_keeps p at (Covered b) (covered at) (shape_of s) xs h).1)
 
     -- the barrier at the end of a member covers what stands in front of it
     end_covered : (at : Encounter) (xs : List Item) → Covers b xs → Covered b (end_of_member at xs)
-    end_covered at xs h = shown_keeps (Covered b) plain_covered at WAIT_BARRIER_IMPLICIT_PARALLEL 0 (item.Arrive ∷ item.Tasks WAIT_BARRIER_IMPLICIT_PARALLEL ∷ (if at.number == 0 then item.Release ∷ item.Pass ∷ xs else item.Pass ∷ xs)) (go (at.number == 0))
+    end_covered at xs h =
+        shown_keeps (Covered b) plain_covered at WAIT_BARRIER_IMPLICIT_PARALLEL 0
+        (item.Arrive ∷ item.Tasks WAIT_BARRIER_IMPLICIT_PARALLEL ∷ (if at.number == 0 then item.Release ∷ item.Pass ∷ xs else item.Pass ∷ xs))
+        (go (at.number == 0))
       where
-        go : (d : Bool) → Covered b (item.Arrive ∷ item.Tasks WAIT_BARRIER_IMPLICIT_PARALLEL ∷ (if d then item.Release ∷ item.Pass ∷ xs else item.Pass ∷ xs))
+        go : (d : Bool)
+            → Covered b (item.Arrive ∷ item.Tasks WAIT_BARRIER_IMPLICIT_PARALLEL ∷ (if d then item.Release ∷ item.Pass ∷ xs else item.Pass ∷ xs))
         go true = (omega arith, (tt, (tt, (tt, (tt, h)))))
         go false = (omega arith, (tt, (tt, (tt, h))))
 
     pub member_covers : (at : Encounter) (f : ℕ) → Covers b (member_items p at f)
-    member_covers at f = (member_keeps (Covered b) plain_covered p at f (end_covered at _ (last_keeps (Covers b) (tt, tt) (tt, tt) at.number))).1
+    member_covers at f =
+        (member_keeps (Covered b) plain_covered p at f (end_covered at _ (last_keeps (Covers b) (tt, tt) (tt, tt) at.number))).1
 
     pub main_covers : (at : Encounter) → Covers b (main_items at (body_of p.funcs p.main))
     main_covers at = (main_keeps (Covered b) plain_covered p at (end_covered at (item.Done ∷ []) (tt, tt))).1
 
-  pub stays_covers : (at : Encounter) (e : Event) (y : Item) (ys : List Item) → Covers b (y ∷ ys) → Covers b (stays at e y ys)
+  pub stays_covers : (at : Encounter) (e : Event) (y : Item) (ys : List Item) → Covers b (y ∷ ys)
+      → Covers b (stays at e y ys)
   stays_covers at e item.Asks ys h = h
   stays_covers at e item.Serve ys h = shown_covers at _ 0 (item.Offer ∷ item.Serve ∷ ys) (tt, h)
   stays_covers at e (item.Tasks state) ys h = shown_covers at state 0 (item.Tasks state ∷ ys) h

@@ -21,17 +21,21 @@ all_set [] n all k d within = absurd (omega (arith, within))
 all_set (x ∷ xs) zero all zero d within = refl
 all_set (x ∷ xs) zero all (suc k) d within = all (suc k) d within
 all_set (x ∷ xs) (suc n) all zero d within = all 0 d (omega arith)
-all_set (x ∷ xs) (suc n) all (suc k) d within = all_set xs n (λ j e inside. all (suc j) e (omega arith)) k d (omega arith)
+all_set (x ∷ xs) (suc n) all (suc k) d within =
+    all_set xs n (λ j e inside. all (suc j) e (omega arith)) k d (omega arith)
 
-others_set : (xs : List Bool) (n : ℕ) → All (λ b. b ≡ true) (drop 1 xs) → All (λ b. b ≡ true) (drop 1 (slice_set xs n true))
+others_set : (xs : List Bool) (n : ℕ) → All (λ b. b ≡ true) (drop 1 xs)
+    → All (λ b. b ≡ true) (drop 1 (slice_set xs n true))
 others_set [] n all = all
 others_set (x ∷ xs) zero all = all
 others_set (x ∷ xs) (suc n) all = all_set xs n all
 
-joins_step : (p : Program) (s : State) (i : ℕ) (e : Event) (next : State) → Step p s i e next → EachRegion (λ n r. IsJoinedLast r) s → EachRegion (λ n r. IsJoinedLast r) next
+joins_step : (p : Program) (s : State) (i : ℕ) (e : Event) (next : State) → Step p s i e next
+    → EachRegion (λ n r. IsJoinedLast r) s → EachRegion (λ n r. IsJoinedLast r) next
 joins_step p s i e next step all = region_step p (λ n r. IsJoinedLast r) s i e next step law all
   where
-    law : (middle : State) → IsRelisted s middle → Stays middle next → IsRegionLaw p middle i next (λ n r. IsJoinedLast r)
+    law : (middle : State) → IsRelisted s middle → Stays middle next
+        → IsRegionLaw p middle i next (λ n r. IsJoinedLast r)
     law middle relists later = record {
       arrives = λ k t r is found q. q;
       releases = λ k t r is found may q. q;
@@ -40,6 +44,9 @@ joins_step p s i e next step all = region_step p (λ n r. IsJoinedLast r) s i e 
       forks = λ region team f k t r is found may new joined. absurd (false_true joined);
     }
 
-pub joins_last : (p : Program) (events : List (ℕ × Event)) (s : State) → Reached p events s → (n : Rid) (r : Region) → region_of s n ≡ Some r → IsJoinedLast r
-joins_last p events s reached = over_events p (EachRegion (λ n r. IsJoinedLast r)) (λ u i e next step h. joins_step p u i e next step h) (opening p) events s reached
+pub joins_last : (p : Program) (events : List (ℕ × Event)) (s : State) → Reached p events s
+    → (n : Rid) (r : Region) → region_of s n ≡ Some r → IsJoinedLast r
+joins_last p events s reached =
+    over_events p (EachRegion (λ n r. IsJoinedLast r)) (λ u i e next step h. joins_step p u i e next step h)
+    (opening p) events s reached
     (each_first_region p (λ n r. IsJoinedLast r) (λ joined. absurd (false_true joined)))

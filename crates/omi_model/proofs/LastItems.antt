@@ -44,8 +44,11 @@ module _ (May : Item → Type 0) where
       critical = λ k f xs h. critical_keeps (Closes May) plain_closes p at f (item.Unlock k ∷ xs) h;
     }
 
-    pub take_closes : (at : Encounter) (e : Event) (xs : List Item) (y : Item) (ys : List Item) → take_item p at e xs ≡ Some (y, ys) → Closes May xs → Closes May (y ∷ ys)
-    take_closes at = take_keeps p at (Closes May) (drop_keeps (Closes May) (λ xs h. h) (λ state xs h. h) (λ xs h. h)) (λ s xs h. row_keeps p at (Closes May) (closes at) (shape_of s) xs h)
+    pub take_closes : (at : Encounter) (e : Event) (xs : List Item) (y : Item) (ys : List Item)
+        → take_item p at e xs ≡ Some (y, ys) → Closes May xs → Closes May (y ∷ ys)
+    take_closes at =
+        take_keeps p at (Closes May) (drop_keeps (Closes May) (λ xs h. h) (λ state xs h. h) (λ xs h. h))
+        (λ s xs h. row_keeps p at (Closes May) (closes at) (shape_of s) xs h)
 
     pub task_closes : May item.Finish → (f : ℕ) → Closes May (task_items p f)
     task_closes may f = task_keeps (Closes May) plain_closes p f (may, refl, tt)
@@ -53,20 +56,29 @@ module _ (May : Item → Type 0) where
     last_closes : (n : ℕ) → May (last_of_member n) → Closes May (last_of_member n ∷ [])
     last_closes n = go (n == 0)
       where
-        go : (c : Bool) → May (if c then item.Join else item.ImplicitEnd) → Closes May ((if c then item.Join else item.ImplicitEnd) ∷ [])
+        go : (c : Bool) → May (if c then item.Join else item.ImplicitEnd)
+            → Closes May ((if c then item.Join else item.ImplicitEnd) ∷ [])
         go true may = (may, refl, tt)
         go false may = (may, refl, tt)
 
-    pub member_closes : (at : Encounter) (f : ℕ) → May (last_of_member at.number) → Closes May (member_items p at f)
-    member_closes at f may = member_keeps (Closes May) plain_closes p at f (barrier_keeps p at (Closes May) (closes at) _ _ (last_closes at.number may))
+    pub member_closes : (at : Encounter) (f : ℕ) → May (last_of_member at.number)
+        → Closes May (member_items p at f)
+    member_closes at f may =
+        member_keeps (Closes May) plain_closes p at f
+        (barrier_keeps p at (Closes May) (closes at) _ _ (last_closes at.number may))
 
     pub main_closes : May item.Done → (at : Encounter) → Closes May (main_items at (body_of p.funcs p.main))
-    main_closes may at = main_keeps (Closes May) plain_closes p at (barrier_keeps p at (Closes May) (closes at) _ (item.Done ∷ []) (may, refl, tt))
+    main_closes may at =
+        main_keeps (Closes May) plain_closes p at
+        (barrier_keeps p at (Closes May) (closes at) _ (item.Done ∷ []) (may, refl, tt))
 
-  pub stays_closes : (at : Encounter) (e : Event) (y : Item) (ys : List Item) → Closes May (y ∷ ys) → Closes May (stays at e y ys)
+  pub stays_closes : (at : Encounter) (e : Event) (y : Item) (ys : List Item) → Closes May (y ∷ ys)
+      → Closes May (stays at e y ys)
   stays_closes at e item.Asks ys h = h
-  stays_closes at e item.Serve ys h = shown_keeps (Closes May) plain_closes at _ 0 (item.Offer ∷ item.Serve ∷ ys) h
-  stays_closes at e (item.Tasks state) ys h = shown_keeps (Closes May) plain_closes at state 0 (item.Tasks state ∷ ys) h
+  stays_closes at e item.Serve ys h =
+      shown_keeps (Closes May) plain_closes at _ 0 (item.Offer ∷ item.Serve ∷ ys) h
+  stays_closes at e (item.Tasks state) ys h =
+      shown_keeps (Closes May) plain_closes at state 0 (item.Tasks state ∷ ys) h
   stays_closes at (event.Seen j) (item.Defer seen f final) ys h = h
   stays_closes at e item.ImplicitEnd ys h = h.2
   stays_closes at e item.Join ys h = h.2
@@ -74,5 +86,6 @@ module _ (May : Item → Type 0) where
   stays_closes at e item.Finish ys h = h.2
   stays_closes at e y ys h = h
 
-  pub start_closes : (x : Item) (at : Encounter) (xs : List Item) → Closes May xs → Closes May (start_list x at xs)
+  pub start_closes : (x : Item) (at : Encounter) (xs : List Item) → Closes May xs
+      → Closes May (start_list x at xs)
   start_closes x at xs h = start_keeps (Closes May) plain_closes x at xs h

@@ -18,28 +18,38 @@ module _ (p : Program) (at : Encounter) (P : List Item → Type 0)
   opened_keeps (item.Do s) xs h = rows s xs h
   opened_keeps x xs h = h
 
-  pub take_keeps : (e : Event) (xs : List Item) (y : Item) (ys : List Item) → take_item p at e xs ≡ Some (y, ys) → P xs → P (y ∷ ys)
+  pub take_keeps : (e : Event) (xs : List Item) (y : Item) (ys : List Item)
+      → take_item p at e xs ≡ Some (y, ys) → P xs → P (y ∷ ys)
   take_keeps e [] y ys is h = absurd (none_some refl is)
-  take_keeps e (x ∷ xs) y ys is h = fit (λ t may. take_keeps e xs y ys t (drops x xs may h)) (fits e (opened p at x xs).0) is
+  take_keeps e (x ∷ xs) y ys is h =
+      fit (λ t may. take_keeps e xs y ys t (drops x xs may h)) (fits e (opened p at x xs).0) is
     where
-      dropped : (take_item p at e xs ≡ Some (y, ys) → may_drop x ≡ true → P (y ∷ ys)) → (d : Bool) → may_drop x ≡ d → (if d then take_item p at e xs else None) ≡ Some (y, ys) → P (y ∷ ys)
+      dropped : (take_item p at e xs ≡ Some (y, ys) → may_drop x ≡ true → P (y ∷ ys)) → (d : Bool)
+          → may_drop x ≡ d → (if d then take_item p at e xs else None) ≡ Some (y, ys) → P (y ∷ ys)
       dropped more true may t = more t may
       dropped more false may t = absurd (none_some refl t)
 
-      fit : (take_item p at e xs ≡ Some (y, ys) → may_drop x ≡ true → P (y ∷ ys)) → (d : Bool) → (if d then Some (opened p at x xs) else (if may_drop x then take_item p at e xs else None)) ≡ Some (y, ys) → P (y ∷ ys)
-      fit more true t = let same : opened p at x xs ≡ (y, ys) = some_same refl t in subst (λ (o : Item × List Item). P (o.0 ∷ o.1)) same (opened_keeps x xs h)
+      fit : (take_item p at e xs ≡ Some (y, ys) → may_drop x ≡ true → P (y ∷ ys)) → (d : Bool)
+          → (if d then Some (opened p at x xs) else (if may_drop x then take_item p at e xs else None)) ≡ Some (y, ys)
+          → P (y ∷ ys)
+      fit more true t =
+          let same : opened p at x xs ≡ (y, ys) = some_same refl t in subst (λ (o : Item × List Item). P (o.0 ∷ o.1)) same (opened_keeps x xs h)
       fit more false t = dropped more (may_drop x) refl t
 
 -- an event takes an item of its own
-pub take_fits : (p : Program) (at : Encounter) (e : Event) (xs : List Item) (y : Item) (ys : List Item) → take_item p at e xs ≡ Some (y, ys) → fits e y ≡ true
+pub take_fits : (p : Program) (at : Encounter) (e : Event) (xs : List Item) (y : Item) (ys : List Item)
+    → take_item p at e xs ≡ Some (y, ys) → fits e y ≡ true
 take_fits p at e [] y ys is = absurd (none_some refl is)
 take_fits p at e (x ∷ xs) y ys is = fit (take_fits p at e xs y ys) (fits e (opened p at x xs).0) refl is
   where
-    dropped : (take_item p at e xs ≡ Some (y, ys) → fits e y ≡ true) → (d : Bool) → (if d then take_item p at e xs else None) ≡ Some (y, ys) → fits e y ≡ true
+    dropped : (take_item p at e xs ≡ Some (y, ys) → fits e y ≡ true) → (d : Bool)
+        → (if d then take_item p at e xs else None) ≡ Some (y, ys) → fits e y ≡ true
     dropped more true t = more t
     dropped more false t = absurd (none_some refl t)
 
-    fit : (take_item p at e xs ≡ Some (y, ys) → fits e y ≡ true) → (d : Bool) → fits e (opened p at x xs).0 ≡ d
+    fit : (take_item p at e xs ≡ Some (y, ys) → fits e y ≡ true) → (d : Bool)
+        → fits e (opened p at x xs).0 ≡ d
         → (if d then Some (opened p at x xs) else (if may_drop x then take_item p at e xs else None)) ≡ Some (y, ys) → fits e y ≡ true
-    fit more true f t = let same : opened p at x xs ≡ (y, ys) = some_same refl t in subst (λ (o : Item × List Item). fits e o.0 ≡ true) same f
+    fit more true f t =
+        let same : opened p at x xs ≡ (y, ys) = some_same refl t in subst (λ (o : Item × List Item). fits e o.0 ≡ true) same f
     fit more false f t = dropped more (may_drop x) t

@@ -33,13 +33,16 @@ plain_back k w x xs plain h = h
 
 module _ (k w : ℕ) (p : Program) where
   -- the row of `critical` takes and gives back
-  critical_back : (at : Encounter) (l f : ℕ) (xs : List Item) → Gives k w xs → Gives k w (item.Lock l ∷ working at (item.Leave ∷ item.Call f ∷ call_items p f (item.Unlock l ∷ xs)))
+  critical_back : (at : Encounter) (l f : ℕ) (xs : List Item) → Gives k w xs
+      → Gives k w (item.Lock l ∷ working at (item.Leave ∷ item.Call f ∷ call_items p f (item.Unlock l ∷ xs)))
   critical_back at l f xs h = go (l == k) refl
     where
-      within : (v : ℕ) → Gives k v (item.Unlock l ∷ xs) → Gives k v (working at (item.Leave ∷ item.Call f ∷ call_items p f (item.Unlock l ∷ xs)))
+      within : (v : ℕ) → Gives k v (item.Unlock l ∷ xs)
+          → Gives k v (working at (item.Leave ∷ item.Call f ∷ call_items p f (item.Unlock l ∷ xs)))
       within v = critical_keeps (Gives k v) (plain_back k v) p at f (item.Unlock l ∷ xs)
 
-      go : (b : Bool) → l == k ≡ b → gives_back k (working at (item.Leave ∷ item.Call f ∷ call_items p f (item.Unlock l ∷ xs))) (if b then suc w else w) ≡ true
+      go : (b : Bool) → l == k ≡ b
+          → gives_back k (working at (item.Leave ∷ item.Call f ∷ call_items p f (item.Unlock l ∷ xs))) (if b then suc w else w) ≡ true
       go true e = within (suc w) (subst (λ b. gives_back k xs (if b then w else suc w) ≡ true) (sym e) h)
       go false e = within w (passed k l w xs e h)
 
@@ -53,20 +56,28 @@ module _ (k w : ℕ) (p : Program) where
     critical = critical_back at;
   }
 
-  pub take_back : (at : Encounter) (e : Event) (xs : List Item) (y : Item) (ys : List Item) → take_item p at e xs ≡ Some (y, ys) → Gives k w xs → Gives k w (y ∷ ys)
-  take_back at = take_keeps p at (Gives k w) (drop_keeps (Gives k w) (λ xs h. h) (λ state xs h. h) (λ xs h. h)) (λ s xs h. row_keeps p at (Gives k w) (gives at) (shape_of s) xs h)
+  pub take_back : (at : Encounter) (e : Event) (xs : List Item) (y : Item) (ys : List Item)
+      → take_item p at e xs ≡ Some (y, ys) → Gives k w xs → Gives k w (y ∷ ys)
+  take_back at =
+      take_keeps p at (Gives k w) (drop_keeps (Gives k w) (λ xs h. h) (λ state xs h. h) (λ xs h. h))
+      (λ s xs h. row_keeps p at (Gives k w) (gives at) (shape_of s) xs h)
 
 module _ (k : ℕ) (p : Program) where
   pub task_back : (f : ℕ) → Gives k 0 (task_items p f)
   task_back f = task_keeps (Gives k 0) (plain_back k 0) p f refl
 
   pub member_back : (at : Encounter) (f : ℕ) → Gives k 0 (member_items p at f)
-  member_back at f = member_keeps (Gives k 0) (plain_back k 0) p at f (barrier_keeps p at (Gives k 0) (gives k 0 p at) _ _ (last_keeps (Gives k 0) refl refl at.number))
+  member_back at f =
+      member_keeps (Gives k 0) (plain_back k 0) p at f
+      (barrier_keeps p at (Gives k 0) (gives k 0 p at) _ _ (last_keeps (Gives k 0) refl refl at.number))
 
   pub main_back : (at : Encounter) → Gives k 0 (main_items at (body_of p.funcs p.main))
-  main_back at = main_keeps (Gives k 0) (plain_back k 0) p at (barrier_keeps p at (Gives k 0) (gives k 0 p at) _ (item.Done ∷ []) refl)
+  main_back at =
+      main_keeps (Gives k 0) (plain_back k 0) p at
+      (barrier_keeps p at (Gives k 0) (gives k 0 p at) _ (item.Done ∷ []) refl)
 
-pub start_back : (k : ℕ) (x : Item) (at : Encounter) (xs : List Item) → Gives k 0 xs → Gives k 0 (start_list x at xs)
+pub start_back : (k : ℕ) (x : Item) (at : Encounter) (xs : List Item) → Gives k 0 xs
+    → Gives k 0 (start_list x at xs)
 start_back k x at xs h = start_keeps (Gives k 0) (plain_back k 0) x at xs h
 
 -- ---- the two events of locks, and all others
@@ -85,11 +96,14 @@ unlock_only (event.Unlock k) l fit other = false_true (sym other)
 unlock_only e l fit other = false_true fit
 
 -- what stands in the place of an item of another event gives back as much
-pub stays_back : (k w : ℕ) (at : Encounter) (e : Event) (y : Item) (ys : List Item) → fits e y ≡ true → is_lock_event e ≡ false → Gives k w (y ∷ ys) → Gives k w (stays at e y ys)
+pub stays_back : (k w : ℕ) (at : Encounter) (e : Event) (y : Item) (ys : List Item) → fits e y ≡ true
+    → is_lock_event e ≡ false → Gives k w (y ∷ ys) → Gives k w (stays at e y ys)
 stays_back k w at e (item.Lock l) ys fit other h = absurd (lock_only e l fit other)
 stays_back k w at e (item.Unlock l) ys fit other h = absurd (unlock_only e l fit other)
 stays_back k w at e item.Asks ys fit other h = h
-stays_back k w at e item.Serve ys fit other h = shown_keeps (Gives k w) (plain_back k w) at _ 0 (item.Offer ∷ item.Serve ∷ ys) h
-stays_back k w at e (item.Tasks state) ys fit other h = shown_keeps (Gives k w) (plain_back k w) at state 0 (item.Tasks state ∷ ys) h
+stays_back k w at e item.Serve ys fit other h =
+    shown_keeps (Gives k w) (plain_back k w) at _ 0 (item.Offer ∷ item.Serve ∷ ys) h
+stays_back k w at e (item.Tasks state) ys fit other h =
+    shown_keeps (Gives k w) (plain_back k w) at state 0 (item.Tasks state ∷ ys) h
 stays_back k w at (event.Seen j) (item.Defer seen f final) ys fit other h = h
 stays_back k w at e y ys fit other h = h

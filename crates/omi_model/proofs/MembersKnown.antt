@@ -32,7 +32,8 @@ deferred_waits e = cc
 member_waits : (j : ℕ) → (if j == 0 then Begun else NotBegun) ≡ NotBegun → j ≡ 0 → ⊥
 member_waits j w first = begun_waits (subst (λ n. (if n == 0 then Begun else NotBegun) ≡ NotBegun) first w)
 
-pub members_step : (p : Program) (s : State) (i : ℕ) (e : Event) (next : State) → Step p s i e next → AreMembersKnown s → AreMembersKnown next
+pub members_step : (p : Program) (s : State) (i : ℕ) (e : Event) (next : State) → Step p s i e next
+    → AreMembersKnown s → AreMembersKnown next
 members_step p s i e next step known = record {
   regions = region_step p (λ n r. HasMembers r) s i e next step region_law known.regions;
   tasks = task_step p (IsMemberByNumber next) s i e next step (λ k t y ys is taken q. q) task_law
@@ -40,7 +41,9 @@ members_step p s i e next step known = record {
       let (r, found, at) = known.tasks k t live implicit in
       let (q, found_q, same) = (stays_step p s i e next step).regions t.region r found in
       (q, found_q, ap (λ (team : List (Tid × ℕ)). slice_get team t.number) same.team ∙ at));
-  encountered = task_step p (λ k t. IsEncountered next t) s i e next step (λ k t y ys is taken q. record { generating = q.generating; scheduling = q.scheduling; waiting = q.waiting }) met_law
+  encountered =
+      task_step p (λ k t. IsEncountered next t) s i e next step
+      (λ k t y ys is taken q. record { generating = q.generating; scheduling = q.scheduling; waiting = q.waiting }) met_law
       (λ k t live.
       let met = known.encountered k t live in
       record {
@@ -51,14 +54,18 @@ members_step p s i e next step known = record {
 }
   where
     -- a region of the next state that a task was in before
-    was_met : (k : Tid) (t : Task) → task_of s k ≡ Some t → t.implicit ≡ true → (q : Region) → region_of next t.region ≡ Some q → (r : Region) × (region_of s t.region ≡ Some r) × (q.encountering ≡ r.encountering)
+    was_met : (k : Tid) (t : Task) → task_of s k ≡ Some t → t.implicit ≡ true → (q : Region)
+        → region_of next t.region ≡ Some q
+        → (r : Region) × (region_of s t.region ≡ Some r) × (q.encountering ≡ r.encountering)
     was_met k t live im q found_q =
         let (r, found, at) = known.tasks k t live im in
         let (q', found_q', same) = (stays_step p s i e next step).regions t.region r found in
         let one : q' ≡ q = some_same found_q' found_q in
         (r, found, ap (λ (x : Region). x.encountering) (sym one) ∙ same.encountering)
 
-    met_law : (middle : State) (y : Item) → IsRelisted s middle → Stays middle next → EachTask (λ k t. IsEncountered next t) middle → IsTaskLaw p middle i e y next (λ k t. IsEncountered next t)
+    met_law : (middle : State) (y : Item) → IsRelisted s middle → Stays middle next
+        → EachTask (λ k t. IsEncountered next t) middle
+        → IsTaskLaw p middle i e y next (λ k t. IsEncountered next t)
     met_law middle y relists later all = record {
       shows = λ k t x q. record { generating = q.generating; scheduling = q.scheduling; waiting = q.waiting };
       tools = λ k t x q. record { generating = q.generating; scheduling = q.scheduling; waiting = q.waiting };
@@ -75,7 +82,8 @@ members_step p s i e next step known = record {
       made = λ task f final k t is of fresh by. record { generating = λ im. absurd (false_true im); scheduling = λ im. absurd (false_true im); waiting = λ w. absurd (begun_waits w) };
     }
 
-    region_law : (middle : State) → IsRelisted s middle → Stays middle next → IsRegionLaw p middle i next (λ n r. HasMembers r)
+    region_law : (middle : State) → IsRelisted s middle → Stays middle next
+        → IsRegionLaw p middle i next (λ n r. HasMembers r)
     region_law middle before later = record {
       arrives = λ k t r is found q. record { some = q.some; arrivals = length-set r.arrivals t.number (slice_index r.arrivals t.number + 1) ∙ q.arrivals; ended = q.ended };
       releases = λ k t r is found may q. record { some = q.some; arrivals = q.arrivals; ended = q.ended };
@@ -89,7 +97,8 @@ members_step p s i e next step known = record {
           };
     }
 
-    task_law : (middle : State) (y : Item) → IsRelisted s middle → Stays middle next → EachTask (IsMemberByNumber next) middle → IsTaskLaw p middle i e y next (IsMemberByNumber next)
+    task_law : (middle : State) (y : Item) → IsRelisted s middle → Stays middle next
+        → EachTask (IsMemberByNumber next) middle → IsTaskLaw p middle i e y next (IsMemberByNumber next)
     task_law middle y before later all = record {
       shows = λ k t x q. q;
       tools = λ k t x q. q;
@@ -102,8 +111,11 @@ members_step p s i e next step known = record {
       made = λ task f final k t is of fresh by implicit. absurd (false_true implicit);
     }
 
-pub members_known : (p : Program) (events : List (ℕ × Event)) (s : State) → Reached p events s → AreMembersKnown s
-members_known p events s reached = over_events p AreMembersKnown (λ u i e next step h. members_step p u i e next step h) (opening p) events s reached
+pub members_known : (p : Program) (events : List (ℕ × Event)) (s : State) → Reached p events s
+    → AreMembersKnown s
+members_known p events s reached =
+    over_events p AreMembersKnown (λ u i e next step h. members_step p u i e next step h)
+    (opening p) events s reached
     (record {
       regions = each_first_region p (λ n r. HasMembers r) (record { some = omega arith; arrivals = refl; ended = refl });
       tasks = each_first_task p (IsMemberByNumber (opening p)) (λ implicit. (opening_region p, refl, refl));

@@ -39,7 +39,8 @@ names_of_task s u stay t is = record {
   scheduling = λ k e. live_task s u stay k (is.scheduling k e);
 }
 
-pub member_stays : (s u : State) → Stays s u → (n : Rid) (j : ℕ) (m : Tid × ℕ) → IsMemberTask s n j m → IsMemberTask u n j m
+pub member_stays : (s u : State) → Stays s u → (n : Rid) (j : ℕ) (m : Tid × ℕ) → IsMemberTask s n j m
+    → IsMemberTask u n j m
 member_stays s u stay n j m is =
     let (v, found, same) = stay.tasks m.0 is.task is.live in
     record {
@@ -52,7 +53,8 @@ member_stays s u stay n j m is =
       thread = same.thread is.undeferred ∙ is.thread;
     }
 
-names_of_region : (s u : State) → Stays s u → (n : Rid) (r : Region) → NamesOfRegion s n r → NamesOfRegion u n r
+names_of_region : (s u : State) → Stays s u → (n : Rid) (r : Region) → NamesOfRegion s n r
+    → NamesOfRegion u n r
 names_of_region s u stay n r is = record {
   enclosing = λ o e. live_region s u stay o (is.enclosing o e);
   encountering = λ k e. live_task s u stay k (is.encountering k e);
@@ -67,19 +69,25 @@ not_deferred true g = cc
 not_deferred false g = cc
 
 -- a name by a test
-when : (s : State) (b : Bool) (k n : Tid) → IsLiveTask s k → (if b then Some k else None) ≡ Some n → IsLiveTask s n
+when : (s : State) (b : Bool) (k n : Tid) → IsLiveTask s k → (if b then Some k else None) ≡ Some n
+    → IsLiveTask s n
 when s true k n live e = subst (IsLiveTask s) (some_same refl e) live
 when s false k n live e = absurd (none_some refl e)
 
-first_name : (s : State) (team : List (Tid × ℕ)) (k : Tid) → ((j : ℕ) (m : Tid × ℕ) → slice_get team j ≡ Some m → IsLiveTask s m.0) → master_of team ≡ Some k → IsLiveTask s k
+first_name : (s : State) (team : List (Tid × ℕ)) (k : Tid)
+    → ((j : ℕ) (m : Tid × ℕ) → slice_get team j ≡ Some m → IsLiveTask s m.0) → master_of team ≡ Some k
+    → IsLiveTask s k
 first_name s [] k all e = absurd (none_some refl e)
 first_name s (m ∷ ms) k all e = subst (IsLiveTask s) (some_same refl e) (all 0 m refl)
 
-module _ (p : Program) (s : State) (i : ℕ) (e : Event) (next : State) (step : Step p s i e next) (names : AreNamesLive s) where
+module _ (p : Program) (s : State) (i : ℕ) (e : Event) (next : State) (step : Step p s i e next)
+    (names : AreNamesLive s) where
   stay : Stays s next
   stay = stays_step p s i e next step
 
-  task_law : (middle : State) (y : Item) → IsRelisted s middle → Stays middle next → EachTask (λ k t. NamesOfTask next t) middle → IsTaskLaw p middle i e y next (λ k t. NamesOfTask next t)
+  task_law : (middle : State) (y : Item) → IsRelisted s middle → Stays middle next
+      → EachTask (λ k t. NamesOfTask next t) middle
+      → IsTaskLaw p middle i e y next (λ k t. NamesOfTask next t)
   task_law middle y before later all = record {
     shows = λ k t x q. record { region = q.region; generating = q.generating; scheduling = q.scheduling };
     tools = λ k t x q. record { region = q.region; generating = q.generating; scheduling = q.scheduling };
@@ -107,7 +115,8 @@ module _ (p : Program) (s : State) (i : ℕ) (e : Event) (next : State) (step : 
       current : (k : Tid) (t : Task) → IsCurrent middle i k t → IsLiveTask next k
       current k t is = live_task s next stay k (names.currents i k (sym (before.currents i) ∙ is.name))
 
-  region_law : (middle : State) → IsRelisted s middle → Stays middle next → IsRegionLaw p middle i next (λ n r. NamesOfRegion next n r)
+  region_law : (middle : State) → IsRelisted s middle → Stays middle next
+      → IsRegionLaw p middle i next (λ n r. NamesOfRegion next n r)
   region_law middle before later = record {
     arrives = λ k t r is found q. record { enclosing = q.enclosing; encountering = q.encountering; team = q.team };
     releases = λ k t r is found may q. record { enclosing = q.enclosing; encountering = q.encountering; team = q.team };
@@ -124,13 +133,18 @@ module _ (p : Program) (s : State) (i : ℕ) (e : Event) (next : State) (step : 
   Current j h = (k : Tid) → h.current ≡ Some k → IsLiveTask next k
 
   next_tasks : EachTask (λ k t. NamesOfTask next t) next
-  next_tasks = task_step p (λ k t. NamesOfTask next t) s i e next step (λ k t y ys is taken q. record { region = q.region; generating = q.generating; scheduling = q.scheduling }) task_law
+  next_tasks =
+      task_step p (λ k t. NamesOfTask next t) s i e next step
+      (λ k t y ys is taken q. record { region = q.region; generating = q.generating; scheduling = q.scheduling }) task_law
       (λ k t live. names_of_task s next stay t (names.tasks k t live))
 
   next_regions : EachRegion (λ n r. NamesOfRegion next n r) next
-  next_regions = region_step p (λ n r. NamesOfRegion next n r) s i e next step region_law (λ n r live. names_of_region s next stay n r (names.regions n r live))
+  next_regions =
+      region_step p (λ n r. NamesOfRegion next n r) s i e next step region_law
+      (λ n r live. names_of_region s next stay n r (names.regions n r live))
 
-  thread_law : (middle : State) → IsRelisted s middle → Stays middle next → EachThread Current middle → IsThreadLaw p middle i e next Current
+  thread_law : (middle : State) → IsRelisted s middle → Stays middle next → EachThread Current middle
+      → IsThreadLaw p middle i e next Current
   thread_law middle before later all = record {
     begins = λ may q. q;
     offers = λ may of q. q;
@@ -149,13 +163,17 @@ module _ (p : Program) (s : State) (i : ℕ) (e : Event) (next : State) (step : 
     finishes = λ k t is ex over q n g. from_scheduling k t is n g;
   }
     where
-      from_scheduling : (k : Tid) (t : Task) → IsCurrent middle i k t → (n : Tid) → t.scheduling ≡ Some n → IsLiveTask next n
+      from_scheduling : (k : Tid) (t : Task) → IsCurrent middle i k t → (n : Tid) → t.scheduling ≡ Some n
+          → IsLiveTask next n
       from_scheduling k t is n g =
           let (v, xs, live, same) = before.tasks k t is.live in
-          live_task s next stay n ((names.tasks k v live).scheduling n (ap (λ (x : Task). x.scheduling) (sym same) ∙ g))
+          live_task s next stay n
+          ((names.tasks k v live).scheduling n (ap (λ (x : Task). x.scheduling) (sym same) ∙ g))
 
   next_currents : EachThread Current next
-  next_currents = thread_step p Current s i e next step (λ y ys none taken q. q) thread_law (λ j k f. live_task s next stay k (names.currents j k f))
+  next_currents =
+      thread_step p Current s i e next step (λ y ys none taken q. q) thread_law
+      (λ j k f. live_task s next stay k (names.currents j k f))
 
   pub names_step : AreNamesLive next
   names_step = record { currents = next_currents; tasks = next_tasks; regions = next_regions }
@@ -178,11 +196,15 @@ names_opening p = record {
     first : IsLiveTask (opening p) initial_task
     first = (opening_task p, refl, λ d. not_deferred true d)
 
-    member : (n : Rid) → n.0 ≡ record { creator = 0; slot = 0; generation = 0 } → (j : ℕ) (m : Tid × ℕ) → slice_get (opening_region p).team j ≡ Some m → IsMemberTask (opening p) n j m
+    member : (n : Rid) → n.0 ≡ record { creator = 0; slot = 0; generation = 0 } → (j : ℕ) (m : Tid × ℕ)
+        → slice_get (opening_region p).team j ≡ Some m → IsMemberTask (opening p) n j m
     member n name zero m g =
         let is : (initial_task, 0) ≡ m = some_same refl g in
-        subst (IsMemberTask (opening p) n 0) is (record { task = opening_task p; live = refl; implicit = refl; undeferred = λ h. cc; region = ap (λ (a : Id). record { 0 = a }) (sym name); number = refl; thread = refl })
+        subst (IsMemberTask (opening p) n 0) is
+        (record { task = opening_task p; live = refl; implicit = refl; undeferred = λ h. cc; region = ap (λ (a : Id). record { 0 = a }) (sym name); number = refl; thread = refl })
     member n name (suc j) m g = absurd (none_some refl g)
 
 pub names_live : (p : Program) (events : List (ℕ × Event)) (s : State) → Reached p events s → AreNamesLive s
-names_live p events s reached = over_events p AreNamesLive (λ u i e next step h. names_step p u i e next step h) (opening p) events s reached (names_opening p)
+names_live p events s reached =
+    over_events p AreNamesLive (λ u i e next step h. names_step p u i e next step h)
+    (opening p) events s reached (names_opening p)

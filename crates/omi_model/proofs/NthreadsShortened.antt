@@ -24,13 +24,15 @@ use Rattle.omi_model.proofs.StaysKept.{stays_step}
 use Rattle.omi_model.proofs.Steps.{IsRelisted}
 
 -- setting a variable sets the list's head, or leaves the list
-pub set_nthreads : (icv value : ℕ) (v w : Variables) → with_variable icv value v ≡ Some w → (w.nthreads ≡ v.nthreads) ⊎ ((icv ≡ NTHREADS_VAR) × (w.nthreads ≡ with_head value v.nthreads))
+pub set_nthreads : (icv value : ℕ) (v w : Variables) → with_variable icv value v ≡ Some w
+    → (w.nthreads ≡ v.nthreads) ⊎ ((icv ≡ NTHREADS_VAR) × (w.nthreads ≡ with_head value v.nthreads))
 set_nthreads icv value v w e = by_dyn (icv == DYN_VAR) e
   where
     list_of : {x : Variables} → ◌≡◌ {A = Option Variables} (Some x) (Some w) → w.nthreads ≡ x.nthreads
     list_of f = ap (λ (x : Variables). x.nthreads) (sym (some_same refl f))
 
-    by_device : (b : Bool) → (if b then Some (record v { device = value }) else None) ≡ Some w → (w.nthreads ≡ v.nthreads) ⊎ ((icv ≡ NTHREADS_VAR) × (w.nthreads ≡ with_head value v.nthreads))
+    by_device : (b : Bool) → (if b then Some (record v { device = value }) else None) ≡ Some w
+        → (w.nthreads ≡ v.nthreads) ⊎ ((icv ≡ NTHREADS_VAR) × (w.nthreads ≡ with_head value v.nthreads))
     by_device true f = inl (list_of f)
     by_device false f = absurd (none_some refl f)
 
@@ -39,7 +41,8 @@ set_nthreads icv value v w e = by_dyn (icv == DYN_VAR) e
     by_sched true f = inl (list_of f)
     by_sched false f = by_device (icv == DEFAULT_DEVICE_VAR) f
 
-    by_nthreads : (b : Bool) → icv == NTHREADS_VAR ≡ b → (if b then Some (record v { nthreads = with_head value v.nthreads })
+    by_nthreads : (b : Bool) → icv == NTHREADS_VAR ≡ b
+        → (if b then Some (record v { nthreads = with_head value v.nthreads })
         else (if icv == RUN_SCHED_VAR then Some (record v { schedule = record { kind = value % 8; chunk = value / 8 } }) else (if icv == DEFAULT_DEVICE_VAR then Some (record v { device = value }) else None))) ≡ Some w
         → (w.nthreads ≡ v.nthreads) ⊎ ((icv ≡ NTHREADS_VAR) × (w.nthreads ≡ with_head value v.nthreads))
     by_nthreads true is f = inr (eqb-true icv NTHREADS_VAR is, list_of f)
@@ -72,10 +75,12 @@ some_of_shortened (x ∷ y ∷ ys) h = omega arith
 
 module _ (p : Program) where
   -- setting a variable keeps what stands behind the head
-  set_shortened : (r : Region) (icv value : ℕ) (v w : Variables) → with_variable icv value v ≡ Some w → IsShortenedBy p r v → IsShortenedBy p r w
+  set_shortened : (r : Region) (icv value : ℕ) (v w : Variables) → with_variable icv value v ≡ Some w
+      → IsShortenedBy p r v → IsShortenedBy p r w
   set_shortened r icv value v w e is = go (set_nthreads icv value v w e)
     where
-      go : (w.nthreads ≡ v.nthreads) ⊎ ((icv ≡ NTHREADS_VAR) × (w.nthreads ≡ with_head value v.nthreads)) → IsShortenedBy p r w
+      go : (w.nthreads ≡ v.nthreads) ⊎ ((icv ≡ NTHREADS_VAR) × (w.nthreads ≡ with_head value v.nthreads))
+          → IsShortenedBy p r w
       go (inl same) = record { some = subst (λ (xs : List ℕ). 1 ≤ length xs) (sym same) is.some; rest = ap (drop 1) same ∙ is.rest }
       go (inr (at, same)) = record {
         some = subst (λ (xs : List ℕ). 1 ≤ length xs) (sym same) (subst (λ n. 1 ≤ n) (sym (length_of_head value v.nthreads)) is.some);
@@ -83,20 +88,24 @@ module _ (p : Program) where
       }
 
   -- a member's list, one level deeper
-  deeper : (xs : List ℕ) (n : ℕ) → drop 1 xs ≡ drop (n + 1) p.env.nthreads → drop 1 (shortened xs) ≡ drop (n + 1 + 1) p.env.nthreads
+  deeper : (xs : List ℕ) (n : ℕ) → drop 1 xs ≡ drop (n + 1) p.env.nthreads
+      → drop 1 (shortened xs) ≡ drop (n + 1 + 1) p.env.nthreads
   deeper xs n e = rest_of_shortened xs ∙ (ap (drop 1) e ∙ drop-drop 1 (n + 1) p.env.nthreads)
 
   abbrev Shortened : State → Tid → Task → Type 0
   Shortened s k t = (r : Region) × (region_of s t.region ≡ Some r) × IsShortenedBy p r t.variables
 
-  shortened_step : (s : State) (i : ℕ) (e : Event) (next : State) → Step p s i e next → EachTask (Shortened s) s → EachTask (Shortened next) next
-  shortened_step s i e next step all = task_step p (Shortened next) s i e next step (λ k t y ys is taken q. q) law
+  shortened_step : (s : State) (i : ℕ) (e : Event) (next : State) → Step p s i e next
+      → EachTask (Shortened s) s → EachTask (Shortened next) next
+  shortened_step s i e next step all =
+      task_step p (Shortened next) s i e next step (λ k t y ys is taken q. q) law
       (λ k t live.
       let (r, found, is) = all k t live in
       let (q, found_q, same) = (stays_step p s i e next step).regions t.region r found in
       (q, found_q, record { some = is.some; rest = is.rest ∙ ap (λ n. drop (n + 1) p.env.nthreads) (sym same.levels) }))
     where
-      law : (middle : State) (y : Item) → IsRelisted s middle → Stays middle next → EachTask (Shortened next) middle → IsTaskLaw p middle i e y next (Shortened next)
+      law : (middle : State) (y : Item) → IsRelisted s middle → Stays middle next
+          → EachTask (Shortened next) middle → IsTaskLaw p middle i e y next (Shortened next)
       law middle y before later of_tasks = record {
         shows = λ k t x q. q;
         tools = λ k t x q. q;
@@ -114,6 +123,9 @@ module _ (p : Program) where
         made = λ task f final k t is of fresh by. of_tasks k t is.live;
       }
 
-  pub nthreads_shortened : (events : List (ℕ × Event)) (s : State) → Reached p events s → EachTask (Shortened s) s
-  nthreads_shortened events s reached = over_events p (λ u. EachTask (Shortened u) u) (λ u i e next step h. shortened_step u i e next step h) (opening p) events s reached
+  pub nthreads_shortened : (events : List (ℕ × Event)) (s : State) → Reached p events s
+      → EachTask (Shortened s) s
+  nthreads_shortened events s reached =
+      over_events p (λ u. EachTask (Shortened u) u) (λ u i e next step h. shortened_step u i e next step h)
+      (opening p) events s reached
       (each_first_task p (Shortened (opening p)) (opening_region p, refl, record { some = (Rules-from_accepted p).count.0; rest = refl }))

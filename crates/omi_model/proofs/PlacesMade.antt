@@ -41,12 +41,19 @@ module _ (P : ℕ → ℕ → Type 0) where
   lives_on : (slots : Slots Task) (k : Id) (f : Task → Task) → LivesIn P slots → LivesIn P (on slots k f)
   lives_on slots k f all c j = on_live slots k f (λ x. P c j) (λ x h. h) c j (λ x live. all c j x live)
 
-  lives_made : (slots : Slots Task) (k : Id) (x : Task) → LivesIn P slots → P k.creator k.slot → LivesIn P (made slots k x)
-  lives_made slots k x all here = each_slot slots k (λ c j (slot : Slot Task). (t : Task) → slot.live ≡ Some t → P c j) (record { generations = k.generation + 1; live = Some x }) (λ t live. here) (λ c j apart t live. all c j t live)
+  lives_made : (slots : Slots Task) (k : Id) (x : Task) → LivesIn P slots → P k.creator k.slot
+      → LivesIn P (made slots k x)
+  lives_made slots k x all here =
+      each_slot slots k (λ c j (slot : Slot Task). (t : Task) → slot.live ≡ Some t → P c j)
+      (record { generations = k.generation + 1; live = Some x }) (λ t live. here)
+      (λ c j apart t live. all c j t live)
 
-  lives_members : (task : ℕ → ℕ → Task) (n : ℕ) (team : List (Tid × ℕ)) (slots : Slots Task) → TeamIn P team → LivesIn P slots → LivesIn P (with_members task n team slots)
+  lives_members : (task : ℕ → ℕ → Task) (n : ℕ) (team : List (Tid × ℕ)) (slots : Slots Task) → TeamIn P team
+      → LivesIn P slots → LivesIn P (with_members task n team slots)
   lives_members task n [] slots here all = all
-  lives_members task n (m ∷ ms) slots here all = lives_members task (n + 1) ms (made slots m.0.0 (task n m.1)) here.1 (lives_made slots m.0.0 (task n m.1) all here.0)
+  lives_members task n (m ∷ ms) slots here all =
+      lives_members task (n + 1) ms (made slots m.0.0 (task n m.1)) here.1
+      (lives_made slots m.0.0 (task n m.1) all here.0)
 
   abbrev Lives : State → Type 0
   Lives u = LivesIn P u.tasks
@@ -65,17 +72,22 @@ module _ (P : ℕ → ℕ → Type 0) where
       joins = λ region k t r is here. lives_on s.tasks k.0 (λ u. record u { progress = Finished }) all;
     }
 
-  lives_step : (p : Program) (s : State) (i : ℕ) (e : Event) (next : State) → Step p s i e next → MakesIn P e → LivesIn P s.tasks → LivesIn P next.tasks
+  lives_step : (p : Program) (s : State) (i : ℕ) (e : Event) (next : State) → Step p s i e next → MakesIn P e
+      → LivesIn P s.tasks → LivesIn P next.tasks
   lives_step p s i e after_step step here all =
       let m = move_of p s i e after_step step in
       let zs : List Item = stays (encounter s i) e m.item m.behind in
-      let middle : Lives (with_list s i zs) = list_moves s i zs Lives (λ k is. lives_on s.tasks k.0 (relisted zs) all) (λ none. all) in
-      from_some (λ u. MakesIn P e → Lives u) (effect p (with_list s i zs) i e m.item) after_step m.effect_is (slots_effect p (with_list s i zs) i (λ e regions tasks. MakesIn P e → LivesIn P tasks) (lives p (with_list s i zs) i middle) e m.item m.rule_moved) here
+      let middle : Lives (with_list s i zs) =
+      list_moves s i zs Lives (λ k is. lives_on s.tasks k.0 (relisted zs) all) (λ none. all) in
+      from_some (λ u. MakesIn P e → Lives u) (effect p (with_list s i zs) i e m.item) after_step m.effect_is
+      (slots_effect p (with_list s i zs) i (λ e regions tasks. MakesIn P e → LivesIn P tasks) (lives p (with_list s i zs) i middle) e m.item m.rule_moved) here
 
   abbrev pub EachMakesIn : List (ℕ × Event) → Type 0
   EachMakesIn [] = ⊤
   EachMakesIn (x ∷ xs) = MakesIn P x.1 × EachMakesIn xs
 
-  pub lives_leads : (p : Program) (s : State) (xs : List (ℕ × Event)) (u : State) → Leads p s xs u → EachMakesIn xs → LivesIn P s.tasks → LivesIn P u.tasks
+  pub lives_leads : (p : Program) (s : State) (xs : List (ℕ × Event)) (u : State) → Leads p s xs u
+      → EachMakesIn xs → LivesIn P s.tasks → LivesIn P u.tasks
   lives_leads p s [] u same here all = subst Lives (sym same) all
-  lives_leads p s (x ∷ xs) u (after_step, step, leads) here all = lives_leads p after_step xs u leads here.1 (lives_step p s x.0 x.1 after_step step here.0 all)
+  lives_leads p s (x ∷ xs) u (after_step, step, leads) here all =
+      lives_leads p after_step xs u leads here.1 (lives_step p s x.0 x.1 after_step step here.0 all)

@@ -57,22 +57,28 @@ module _ (p : Program) (events : List (ℕ × Event)) (s : State) (reached : Rea
   seen_task : (k : Tid) → IsLiveTask s k → IsVisibleTask s k
   seen_task k (t, live, un) = record { task = t; live = live; shown = go t.implicit refl }
     where
-      go : (kind : Bool) → t.implicit ≡ kind → MatchBool kind (IsVisibleRegion s t.region) (HasStarted t.progress)
+      go : (kind : Bool) → t.implicit ≡ kind
+          → MatchBool kind (IsVisibleRegion s t.region) (HasStarted t.progress)
       go true im = seen_region t.region (names.tasks k t live).region
-      go false ex = has_started t.progress un (λ w. false_true (sym ex ∙ (((members_known p events s reached).encountered k t live).waiting w).0))
+      go false ex =
+          has_started t.progress un
+          (λ w. false_true (sym ex ∙ (((members_known p events s reached).encountered k t live).waiting w).0))
 
   -- a task that is seen is not deferred
   seen_undeferred : (k : Tid) (seen : IsVisibleTask s k) → seen.task.progress ≡ Deferred → ⊥
   seen_undeferred k seen = go seen.task.implicit refl seen.shown
     where
-      go : (kind : Bool) → seen.task.implicit ≡ kind → MatchBool kind (IsVisibleRegion s seen.task.region) (HasStarted seen.task.progress) → seen.task.progress ≡ Deferred → ⊥
+      go : (kind : Bool) → seen.task.implicit ≡ kind
+          → MatchBool kind (IsVisibleRegion s seen.task.region) (HasStarted seen.task.progress)
+          → seen.task.progress ≡ Deferred → ⊥
       go true im shown = undeferred p events s reached k seen.task seen.live im
       go false ex shown = not_deferred seen.task.progress shown
 
   manned : AreManned s
   manned = are_manned p events s reached
 
-  member_right : (n : Rid) (r : Region) → region_of s n ≡ Some r → (j : ℕ) (m : Tid × ℕ) → slice_get r.team j ≡ Some m → IsMember s m.0 m.1
+  member_right : (n : Rid) (r : Region) → region_of s n ≡ Some r → (j : ℕ) (m : Tid × ℕ)
+      → slice_get r.team j ≡ Some m → IsMember s m.0 m.1
   member_right n r live j m at =
       let is = (names.regions n r live).team j m at in
       record {
@@ -120,5 +126,6 @@ module _ (p : Program) (events : List (ℕ × Event)) (s : State) (reached : Rea
     tasks = λ k seen. task_right k seen.task seen.live (seen_undeferred k seen);
   }
 
-pub reached_well_formed : (p : Program) (events : List (ℕ × Event)) (s : State) → Reached p events s → IsWellFormed s
+pub reached_well_formed : (p : Program) (events : List (ℕ × Event)) (s : State) → Reached p events s
+    → IsWellFormed s
 reached_well_formed p events s reached = well_formed p events s reached

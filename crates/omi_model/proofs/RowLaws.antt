@@ -60,35 +60,48 @@ module _ (P : List Item → Type 0) (plain : KeepsPlain P) where
 
   module _ (p : Program) where
     pub call_keeps : (f : ℕ) (xs : List Item) → P xs → P (item.Call f ∷ call_items p f xs)
-    call_keeps f xs h = plain (item.Call f) (call_items p f xs) refl (body_keeps (body_of p.funcs f) (item.Ret ∷ xs) (plain item.Ret xs refl h))
+    call_keeps f xs h =
+        plain (item.Call f) (call_items p f xs) refl
+        (body_keeps (body_of p.funcs f) (item.Ret ∷ xs) (plain item.Ret xs refl h))
 
     -- the call under `critical`
-    pub critical_keeps : (at : Encounter) (f : ℕ) (xs : List Item) → P xs → P (working at (item.Leave ∷ item.Call f ∷ call_items p f xs))
+    pub critical_keeps : (at : Encounter) (f : ℕ) (xs : List Item) → P xs
+        → P (working at (item.Leave ∷ item.Call f ∷ call_items p f xs))
     critical_keeps at f xs h = leaving_keeps at (item.Call f ∷ call_items p f xs) (call_keeps f xs h)
 
     pub task_keeps : (f : ℕ) → P (item.Finish ∷ []) → P (task_items p f)
     task_keeps f h = body_keeps (body_of p.funcs f) (item.Finish ∷ []) h
 
-    pub member_keeps : (at : Encounter) (f : ℕ) → P (end_of_member at (last_of_member at.number ∷ [])) → P (member_items p at f)
+    pub member_keeps : (at : Encounter) (f : ℕ) → P (end_of_member at (last_of_member at.number ∷ []))
+        → P (member_items p at f)
     member_keeps at f h = working_keeps at _ (body_keeps (body_of p.funcs f) _ h)
 
-    pub main_keeps : (at : Encounter) → P (end_of_member at (item.Done ∷ [])) → P (main_items at (body_of p.funcs p.main))
+    pub main_keeps : (at : Encounter) → P (end_of_member at (item.Done ∷ []))
+        → P (main_items at (body_of p.funcs p.main))
     main_keeps at h = body_keeps (body_of p.funcs p.main) _ h
 
 -- what a law has to keep besides, for the rows that a task encounters
 pub record KeepsRows (p : Program) (at : Encounter) (P : List Item → Type 0) : Type 0 where
   pub plain : KeepsPlain P
-  pub fork : (num : Option ℕ) (f : ℕ) (xs : List Item) → P xs → P (item.Want num ∷ item.Asks ∷ item.Fork f ∷ xs)
+  pub fork : (num : Option ℕ) (f : ℕ) (xs : List Item) → P xs
+      → P (item.Want num ∷ item.Asks ∷ item.Fork f ∷ xs)
   pub taskwait : (xs : List Item) → P xs → P (item.Tasks WAIT_TASKWAIT ∷ xs)
-  pub barrier : (state : ℕ) (xs : List Item) → at.number == 0 ≡ false → P xs → P (item.Arrive ∷ item.Tasks state ∷ item.Pass ∷ xs)
-  pub first_barrier : (state : ℕ) (xs : List Item) → at.number == 0 ≡ true → P xs → P (item.Arrive ∷ item.Tasks state ∷ item.Release ∷ item.Pass ∷ xs)
-  pub critical : (k f : ℕ) (xs : List Item) → P xs → P (item.Lock k ∷ working at (item.Leave ∷ item.Call f ∷ call_items p f (item.Unlock k ∷ xs)))
+  pub barrier : (state : ℕ) (xs : List Item) → at.number == 0 ≡ false → P xs
+      → P (item.Arrive ∷ item.Tasks state ∷ item.Pass ∷ xs)
+  pub first_barrier : (state : ℕ) (xs : List Item) → at.number == 0 ≡ true → P xs
+      → P (item.Arrive ∷ item.Tasks state ∷ item.Release ∷ item.Pass ∷ xs)
+  pub critical : (k f : ℕ) (xs : List Item) → P xs
+      → P (item.Lock k ∷ working at (item.Leave ∷ item.Call f ∷ call_items p f (item.Unlock k ∷ xs)))
 
 module _ (p : Program) (at : Encounter) (P : List Item → Type 0) (keeps : KeepsRows p at P) where
   pub barrier_keeps : (state : ℕ) (xs : List Item) → P xs → P (barrier_items at state xs)
-  barrier_keeps state xs h = shown_keeps P keeps.plain at state 0 (item.Arrive ∷ item.Tasks state ∷ (if at.number == 0 then item.Release ∷ item.Pass ∷ xs else item.Pass ∷ xs)) (go (at.number == 0) refl)
+  barrier_keeps state xs h =
+      shown_keeps P keeps.plain at state 0
+      (item.Arrive ∷ item.Tasks state ∷ (if at.number == 0 then item.Release ∷ item.Pass ∷ xs else item.Pass ∷ xs))
+      (go (at.number == 0) refl)
     where
-      go : (d : Bool) → at.number == 0 ≡ d → P (item.Arrive ∷ item.Tasks state ∷ (if d then item.Release ∷ item.Pass ∷ xs else item.Pass ∷ xs))
+      go : (d : Bool) → at.number == 0 ≡ d
+          → P (item.Arrive ∷ item.Tasks state ∷ (if d then item.Release ∷ item.Pass ∷ xs else item.Pass ∷ xs))
       go true is = keeps.first_barrier state xs is h
       go false is = keeps.barrier state xs is h
 
@@ -96,18 +109,26 @@ module _ (p : Program) (at : Encounter) (P : List Item → Type 0) (keeps : Keep
   leaving xs h = leaving_keeps P keeps.plain at xs h
 
   waiting : (state wait : ℕ) (xs : List Item) → P xs → P (item.Enter ∷ shown at state wait xs)
-  waiting state wait xs h = keeps.plain item.Enter (shown at state wait xs) refl (shown_keeps P keeps.plain at state wait xs h)
+  waiting state wait xs h =
+      keeps.plain item.Enter (shown at state wait xs) refl (shown_keeps P keeps.plain at state wait xs h)
 
   pub row_keeps : (q : Shape) (xs : List Item) → P xs → P (first_item at q ∷ items_behind p at q xs)
-  row_keeps (shape.Parallel f num) xs h = waiting OVERHEAD 0 (item.Want num ∷ item.Asks ∷ item.Fork f ∷ working at (item.Leave ∷ xs)) (keeps.fork num f (working at (item.Leave ∷ xs)) (leaving xs h))
+  row_keeps (shape.Parallel f num) xs h =
+      waiting OVERHEAD 0 (item.Want num ∷ item.Asks ∷ item.Fork f ∷ working at (item.Leave ∷ xs))
+      (keeps.fork num f (working at (item.Leave ∷ xs)) (leaving xs h))
   row_keeps (shape.Task f undeferred final) xs h = go (undeferred || at.is_final)
     where
       left : P (item.Leave ∷ xs)
       left = keeps.plain item.Leave xs refl h
 
-      go : (c : Bool) → P (item.Enter ∷ (if c then item.StartNow f (final || at.is_final) else item.Defer 0 f (final || at.is_final)) ∷ item.Leave ∷ xs)
-      go true = keeps.plain item.Enter (item.StartNow f (final || at.is_final) ∷ item.Leave ∷ xs) refl (keeps.plain (item.StartNow f (final || at.is_final)) (item.Leave ∷ xs) refl left)
-      go false = keeps.plain item.Enter (item.Defer 0 f (final || at.is_final) ∷ item.Leave ∷ xs) refl (keeps.plain (item.Defer 0 f (final || at.is_final)) (item.Leave ∷ xs) refl left)
+      go : (c : Bool)
+          → P (item.Enter ∷ (if c then item.StartNow f (final || at.is_final) else item.Defer 0 f (final || at.is_final)) ∷ item.Leave ∷ xs)
+      go true =
+          keeps.plain item.Enter (item.StartNow f (final || at.is_final) ∷ item.Leave ∷ xs) refl
+          (keeps.plain (item.StartNow f (final || at.is_final)) (item.Leave ∷ xs) refl left)
+      go false =
+          keeps.plain item.Enter (item.Defer 0 f (final || at.is_final) ∷ item.Leave ∷ xs) refl
+          (keeps.plain (item.Defer 0 f (final || at.is_final)) (item.Leave ∷ xs) refl left)
   row_keeps shape.Taskwait xs h =
       waiting WAIT_TASKWAIT 0 (item.Tasks WAIT_TASKWAIT ∷ item.WaitDone ∷ working at (item.Leave ∷ xs))
       (keeps.taskwait (item.WaitDone ∷ working at (item.Leave ∷ xs)) (keeps.plain item.WaitDone (working at (item.Leave ∷ xs)) refl (leaving xs h)))
@@ -115,9 +136,12 @@ module _ (p : Program) (at : Encounter) (P : List Item → Type 0) (keeps : Keep
       keeps.plain item.Enter (item.OneTask ∷ item.Yield ∷ item.Leave ∷ xs) refl
       (keeps.plain item.OneTask (item.Yield ∷ item.Leave ∷ xs) refl (keeps.plain item.Yield (item.Leave ∷ xs) refl (keeps.plain item.Leave xs refl h)))
   row_keeps shape.Barrier xs h =
-      keeps.plain item.Enter (barrier_items at WAIT_BARRIER_EXPLICIT (working at (item.Leave ∷ xs))) refl (barrier_keeps WAIT_BARRIER_EXPLICIT (working at (item.Leave ∷ xs)) (leaving xs h))
+      keeps.plain item.Enter (barrier_items at WAIT_BARRIER_EXPLICIT (working at (item.Leave ∷ xs))) refl
+      (barrier_keeps WAIT_BARRIER_EXPLICIT (working at (item.Leave ∷ xs)) (leaving xs h))
   row_keeps (shape.Critical k f) xs h =
-      waiting WAIT_CRITICAL (k + 1) (item.Lock k ∷ working at (item.Leave ∷ item.Call f ∷ call_items p f (item.Unlock k ∷ xs))) (keeps.critical k f xs h)
+      waiting WAIT_CRITICAL (k + 1)
+      (item.Lock k ∷ working at (item.Leave ∷ item.Call f ∷ call_items p f (item.Unlock k ∷ xs)))
+      (keeps.critical k f xs h)
   row_keeps (shape.Call f) xs h = call_keeps P keeps.plain p f xs h
   row_keeps (shape.Only m f) xs h = go (at.number == m)
     where
@@ -125,13 +149,16 @@ module _ (p : Program) (at : Encounter) (P : List Item → Type 0) (keeps : Keep
       go true = call_keeps P keeps.plain p f xs h
       go false = keeps.plain item.Skip xs refl h
   row_keeps (shape.Repeat zero f) xs h = keeps.plain item.Skip xs refl h
-  row_keeps (shape.Repeat (suc n) f) xs h = call_keeps P keeps.plain p f (item.Do (stmt.Repeat n f) ∷ xs) (keeps.plain (item.Do (stmt.Repeat n f)) xs refl h)
+  row_keeps (shape.Repeat (suc n) f) xs h =
+      call_keeps P keeps.plain p f (item.Do (stmt.Repeat n f) ∷ xs)
+      (keeps.plain (item.Do (stmt.Repeat n f)) xs refl h)
   row_keeps (shape.Sets variable word) xs h = keeps.plain (item.Set variable word) xs refl h
   row_keeps (shape.Tool x) xs h = keeps.plain (item.SetTool x) xs refl h
   row_keeps shape.Work xs h = keeps.plain item.Work xs refl h
 
 -- a law of the last item of a member
-pub last_keeps : (P : List Item → Type 0) → P (item.Join ∷ []) → P (item.ImplicitEnd ∷ []) → (n : ℕ) → P (last_of_member n ∷ [])
+pub last_keeps : (P : List Item → Type 0) → P (item.Join ∷ []) → P (item.ImplicitEnd ∷ []) → (n : ℕ)
+    → P (last_of_member n ∷ [])
 last_keeps P join end n = go (n == 0)
   where
     go : (c : Bool) → P ((if c then item.Join else item.ImplicitEnd) ∷ [])
@@ -139,7 +166,9 @@ last_keeps P join end n = go (n == 0)
     go false = end
 
 -- a law that is kept where one of the items is passed over that may be
-pub drop_keeps : (P : List Item → Type 0) → ((xs : List Item) → P (item.Asks ∷ xs) → P xs) → ((state : ℕ) (xs : List Item) → P (item.Tasks state ∷ xs) → P xs) → ((xs : List Item) → P (item.OneTask ∷ xs) → P xs)
+pub drop_keeps : (P : List Item → Type 0) → ((xs : List Item) → P (item.Asks ∷ xs) → P xs)
+    → ((state : ℕ) (xs : List Item) → P (item.Tasks state ∷ xs) → P xs)
+    → ((xs : List Item) → P (item.OneTask ∷ xs) → P xs)
     → (x : Item) (xs : List Item) → may_drop x ≡ true → P (x ∷ xs) → P xs
 drop_keeps P asks tasks one item.Asks xs may h = asks xs h
 drop_keeps P asks tasks one (item.Tasks state) xs may h = tasks state xs h

@@ -27,7 +27,9 @@ InRun c k = (c ≡ 0) × ((k ≡ 0) ⊎ ((k ≡ 1) ⊎ ((k ≡ 2) ⊎ (k ≡ 3))
 lives_first : LivesIn InRun (opening run_program).tasks
 lives_first c k t live = go (c == 0) (k == 0) refl refl live
   where
-    go : (a b : Bool) → c == 0 ≡ a → k == 0 ≡ b → (if a && b then record { generations = 1; live = Some (opening_task run_program) } else unused).live ≡ Some t → InRun c k
+    go : (a b : Bool) → c == 0 ≡ a → k == 0 ≡ b
+        → (if a && b then record { generations = 1; live = Some (opening_task run_program) } else unused).live ≡ Some t
+        → InRun c k
     go true true e f h = (eqb-true c 0 e, inl (eqb-true k 0 f))
     go true false e f h = absurd (none_some refl h)
     go false b e f h = absurd (none_some refl h)
@@ -47,7 +49,8 @@ abbrev is_settled : Option Task → Bool
 is_settled None = true
 is_settled (Some t) = t.implicit || is_over t.progress
 
-settled : (o : Option Task) (t : Task) → o ≡ Some t → is_settled o ≡ true → t.implicit ≡ false → t.progress ≡ Finished
+settled : (o : Option Task) (t : Task) → o ≡ Some t → is_settled o ≡ true → t.implicit ≡ false
+    → t.progress ≡ Finished
 settled None t e h ex = absurd (none_some refl e)
 settled (Some x) t e h ex =
     let same : x ≡ t = some_same refl e in
@@ -58,11 +61,15 @@ settled (Some x) t e h ex =
     go false im h' = over t.progress (subst (λ b. (b || is_over t.progress) ≡ true) im h')
 
 -- each explicit task of a state is finished where the four slots are settled
-all_finished : (s : State) (n : Rid) → LivesIn InRun s.tasks → is_settled (s.tasks 0 0).live ≡ true → is_settled (s.tasks 0 1).live ≡ true → is_settled (s.tasks 0 2).live ≡ true → is_settled (s.tasks 0 3).live ≡ true → AreFinished s n
+all_finished : (s : State) (n : Rid) → LivesIn InRun s.tasks → is_settled (s.tasks 0 0).live ≡ true
+    → is_settled (s.tasks 0 1).live ≡ true → is_settled (s.tasks 0 2).live ≡ true
+    → is_settled (s.tasks 0 3).live ≡ true → AreFinished s n
 all_finished s n lives a b c' d c k t live ex region = go (lives c k t live)
   where
     at : (j : ℕ) → c ≡ 0 → k ≡ j → is_settled (s.tasks 0 j).live ≡ true → t.progress ≡ Finished
-    at j first slot h = settled (s.tasks 0 j).live t (subst (λ x. (s.tasks 0 x).live ≡ Some t) slot (subst (λ x. (s.tasks x k).live ≡ Some t) first live)) h ex
+    at j first slot h =
+        settled (s.tasks 0 j).live t
+        (subst (λ x. (s.tasks 0 x).live ≡ Some t) slot (subst (λ x. (s.tasks x k).live ≡ Some t) first live)) h ex
 
     go : InRun c k → t.progress ≡ Finished
     go (first, inl e) = at 0 first e a
@@ -79,7 +86,8 @@ apart : Contains (worker ∷ []) master → ⊥
 apart (zero, within, is) = let same : ◌≡◌ {A = ℕ} 2 1 = ap (λ (a : Tid). a.0.slot) is in omega arith
 apart (suc k, within, is) = omega (arith, within)
 
-team_fresh : (slots : Slots Task) → IsFresh slots 0 master.0 → IsFresh slots 0 worker.0 → All {X = Tid × ℕ} (λ m. IsFresh slots 0 m.0.0) ((master, 0) ∷ (worker, 1) ∷ [])
+team_fresh : (slots : Slots Task) → IsFresh slots 0 master.0 → IsFresh slots 0 worker.0
+    → All {X = Tid × ℕ} (λ m. IsFresh slots 0 m.0.0) ((master, 0) ∷ (worker, 1) ∷ [])
 team_fresh slots a b zero d within = a
 team_fresh slots a b (suc zero) d within = b
 team_fresh slots a b (suc (suc k)) d within = absurd (omega (arith, within))
@@ -354,7 +362,8 @@ leads_last_release : Leads run_program at_release run_to_last_release at_last_re
 leads_last_release = holds_leads run_program at_release run_to_last_release holds_last_release
 
 lives_last_release : LivesIn InRun at_last_release.tasks
-lives_last_release = lives_leads InRun run_program at_release run_to_last_release at_last_release leads_last_release
+lives_last_release =
+    lives_leads InRun run_program at_release run_to_last_release at_last_release leads_last_release
     (tt, (tt, (tt, (tt, (tt, (tt, (tt, (tt, (tt, (tt, (tt, tt))))))))))) lives_release
 
 settled_last : AreFinished at_last_release initial_region
@@ -382,7 +391,8 @@ holds_done = (
 pub run_is_legal : (s : State) × Reached run_program run_events s
 run_is_legal = (
   end_of run_program at_last_release run_to_done,
-  leads_append run_program first run_to_release at_release (run_to_last_release ++ run_to_done) (end_of run_program at_last_release run_to_done) leads_release
+  leads_append run_program first run_to_release at_release (run_to_last_release ++ run_to_done)
+      (end_of run_program at_last_release run_to_done) leads_release
       (leads_append run_program at_release run_to_last_release at_last_release run_to_done (end_of run_program at_last_release run_to_done) leads_last_release
       (holds_leads run_program at_last_release run_to_done holds_done)),
 )

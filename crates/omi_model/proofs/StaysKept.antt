@@ -83,7 +83,8 @@ stays_trans s t u a b = record {
   count = b.count ∙ a.count;
 }
 
-pub stays_thread : (s : State) (i : ℕ) (f : Thread → Thread) → ((s.threads i).begun ≡ true → (f (s.threads i)).begun ≡ true) → Stays s (on_thread s i f)
+pub stays_thread : (s : State) (i : ℕ) (f : Thread → Thread)
+    → ((s.threads i).begun ≡ true → (f (s.threads i)).begun ≡ true) → Stays s (on_thread s i f)
 stays_thread s i f keeps = record {
   tasks = λ k t e. (t, e, same_task t);
   regions = λ n r e. (r, e, same_region r);
@@ -91,7 +92,8 @@ stays_thread s i f keeps = record {
   count = refl;
 }
 
-pub stays_task : (s : State) (k : Tid) (f : Task → Task) → ((t : Task) → task_of s k ≡ Some t → IsSameTask t (f t)) → Stays s (on_task s k f)
+pub stays_task : (s : State) (k : Tid) (f : Task → Task)
+    → ((t : Task) → task_of s k ≡ Some t → IsSameTask t (f t)) → Stays s (on_task s k f)
 stays_task s k f keeps = record {
   tasks = λ n t e. later_on IsSameTask same_task s.tasks k.0 f keeps n.0 t e;
   regions = λ n r e. (r, e, same_region r);
@@ -99,7 +101,8 @@ stays_task s k f keeps = record {
   count = refl;
 }
 
-pub stays_region : (s : State) (n : Rid) (f : Region → Region) → ((r : Region) → region_of s n ≡ Some r → IsSameRegion r (f r)) → Stays s (on_region s n f)
+pub stays_region : (s : State) (n : Rid) (f : Region → Region)
+    → ((r : Region) → region_of s n ≡ Some r → IsSameRegion r (f r)) → Stays s (on_region s n f)
 stays_region s n f keeps = record {
   tasks = λ k t e. (t, e, same_task t);
   regions = λ m r e. later_on IsSameRegion same_region s.regions n.0 f keeps m.0 r e;
@@ -109,12 +112,16 @@ stays_region s n f keeps = record {
 
 -- ---- new tasks
 
-pub fresh_empty : {A : Type 0} (slots : Slots A) (i : ℕ) (n : Id) → IsFresh slots i n → (slots n.creator n.slot).live ≡ None
+pub fresh_empty : {A : Type 0} (slots : Slots A) (i : ℕ) (n : Id) → IsFresh slots i n
+    → (slots n.creator n.slot).live ≡ None
 fresh_empty slots i n is = ap (λ c. (slots c n.slot).live) is.creator ∙ is.empty
 
-pub fresh_made : {A : Type 0} (slots : Slots A) (i : ℕ) (n k : Id) (x : A) → IsFresh slots i n → IsFresh slots i k → (n ≡ k → ⊥) → IsFresh (made slots k x) i n
+pub fresh_made : {A : Type 0} (slots : Slots A) (i : ℕ) (n k : Id) (x : A) → IsFresh slots i n
+    → IsFresh slots i k → (n ≡ k → ⊥) → IsFresh (made slots k x) i n
 fresh_made slots i n k x is of ne =
-    let same = made_beside slots k x i n.slot (λ c j. ne (id_same n k (is.creator ∙ sym of.creator) j (is.next ∙ (ap (λ h. (slots i h).generations) j ∙ sym of.next)))) in
+    let same =
+    made_beside slots k x i n.slot
+    (λ c j. ne (id_same n k (is.creator ∙ sym of.creator) j (is.next ∙ (ap (λ h. (slots i h).generations) j ∙ sym of.next)))) in
     record { creator = is.creator; empty = ap (λ slot. slot.live) same ∙ is.empty; next = is.next ∙ sym (ap (λ slot. slot.generations) same); below = is.below }
 
 -- each member of a team is new where those before it have been made
@@ -122,7 +129,8 @@ abbrev pub AreNew : Slots Task → ℕ → List (Tid × ℕ) → Type 0
 AreNew slots i [] = Unit {0}
 AreNew slots i (m ∷ ms) = IsFresh slots i m.0.0 × ((x : Task) → AreNew (made slots m.0.0 x) i ms)
 
-pub new_team : (slots : Slots Task) (i : ℕ) (team : List (Tid × ℕ)) → All (λ m. IsFresh slots i m.0.0) team → AreDistinct (map (λ m. m.0) team) → AreNew slots i team
+pub new_team : (slots : Slots Task) (i : ℕ) (team : List (Tid × ℕ)) → All (λ m. IsFresh slots i m.0.0) team
+    → AreDistinct (map (λ m. m.0) team) → AreNew slots i team
 new_team slots i [] all distinct = tt
 new_team slots i (m ∷ ms) all distinct =
     let first : IsFresh slots i m.0.0 = all 0 m (omega arith) in
@@ -137,13 +145,17 @@ new_team slots i (m ∷ ms) all distinct =
     apart : (j : ℕ) (d : Tid × ℕ) → j < length ms → (get_or ms j d).0.0 ≡ m.0.0 → ⊥
     apart j d h same =
         let within : j < length names = omega (arith, as_long) in
-        distinct.0 (j, within, get_or-map (λ (a : Tid × ℕ). a.0) ms j d m.0 h ∙ ap (λ (a : Id). record { 0 = a }) same)
+        distinct.0
+        (j, within, get_or-map (λ (a : Tid × ℕ). a.0) ms j d m.0 h ∙ ap (λ (a : Id). record { 0 = a }) same)
 
-pub later_members : (R : Task → Task → Type 0) → ((x : Task) → R x x) → (task : ℕ → ℕ → Task) (number : ℕ) (team : List (Tid × ℕ)) (slots : Slots Task) (i : ℕ) → AreNew slots i team → Later R slots (with_members task number team slots)
+pub later_members : (R : Task → Task → Type 0) → ((x : Task) → R x x)
+    → (task : ℕ → ℕ → Task) (number : ℕ) (team : List (Tid × ℕ)) (slots : Slots Task) (i : ℕ)
+    → AreNew slots i team → Later R slots (with_members task number team slots)
 later_members R same task number [] slots i new n x e = (x, e, same x)
 later_members R same task number (m ∷ ms) slots i new n x e =
     let made_here = made slots m.0.0 (task number m.1) in
-    later_members R same task (number + 1) ms made_here i (new.1 (task number m.1)) n x (made_stays slots m.0.0 (task number m.1) n x (fresh_empty slots i m.0.0 new.0) e)
+    later_members R same task (number + 1) ms made_here i (new.1 (task number m.1)) n x
+    (made_stays slots m.0.0 (task number m.1) n x (fresh_empty slots i m.0.0 new.0) e)
 
 -- ---- changes of one object
 
@@ -154,7 +166,8 @@ set_more (x ∷ xs) zero (suc j) = omega arith
 set_more (x ∷ xs) (suc n) zero = omega arith
 set_more (x ∷ xs) (suc n) (suc j) = set_more xs n j
 
-set_true : (xs : List Bool) (n j : ℕ) → slice_get xs j ≡ Some true → slice_get (slice_set xs n true) j ≡ Some true
+set_true : (xs : List Bool) (n j : ℕ) → slice_get xs j ≡ Some true
+    → slice_get (slice_set xs n true) j ≡ Some true
 set_true [] n j e = absurd (none_some refl e)
 set_true (x ∷ xs) zero zero e = refl
 set_true (x ∷ xs) zero (suc j) e = e
@@ -167,7 +180,8 @@ stage_most NotBegun = omega arith
 stage_most Begun = omega arith
 stage_most Finished = omega arith
 
-other_task : (t : Task) (enter tool : ℕ) (v : Variables) (zs : List Item) → IsSameTask t (record t { enter = enter; tool = tool; variables = v; list = zs })
+other_task : (t : Task) (enter tool : ℕ) (v : Variables) (zs : List Item)
+    → IsSameTask t (record t { enter = enter; tool = tool; variables = v; list = zs })
 other_task t enter tool v zs = record { implicit = refl; region = refl; generating = refl; function = refl; is_final = refl; stage = omega arith; started = λ h. h; thread = λ h. refl; number = λ h. refl; scheduling = λ h. refl }
 
 begun_task : (t : Task) → t.progress ≡ NotBegun → IsSameTask t (record t { progress = Begun })
@@ -198,7 +212,8 @@ finished_task t = record {
   scheduling = λ h. refl;
 }
 
-started_task : (i : ℕ) (k : Tid) (t u : Task) (zs : List Item) → u.progress ≡ Deferred → IsSameTask u (record (scheduled i k t u) { list = zs })
+started_task : (i : ℕ) (k : Tid) (t u : Task) (zs : List Item) → u.progress ≡ Deferred
+    → IsSameTask u (record (scheduled i k t u) { list = zs })
 started_task i k t u zs is = record {
   implicit = refl;
   region = refl;
@@ -212,7 +227,8 @@ started_task i k t u zs is = record {
   scheduling = λ h. absurd (h is);
 }
 
-arrived_region : (r : Region) (n : ℕ) → IsSameRegion r (record r { arrivals = slice_set r.arrivals n (slice_index r.arrivals n + 1) })
+arrived_region : (r : Region) (n : ℕ)
+    → IsSameRegion r (record r { arrivals = slice_set r.arrivals n (slice_index r.arrivals n + 1) })
 arrived_region r n = record {
   enclosing = refl;
   encountering = refl;
@@ -238,7 +254,8 @@ joined_region r = record { enclosing = refl; encountering = refl; team = refl; f
 
 -- ---- events
 
-stays_made : (s : State) (k : Tid) (x : Task) (i : ℕ) → IsFresh s.tasks i k.0 → Stays s (record s { tasks = made s.tasks k.0 x })
+stays_made : (s : State) (k : Tid) (x : Task) (i : ℕ) → IsFresh s.tasks i k.0
+    → Stays s (record s { tasks = made s.tasks k.0 x })
 stays_made s k x i fresh = record {
   tasks = λ n t e. later_made IsSameTask same_task s.tasks k.0 x (fresh_empty s.tasks i k.0 fresh) n.0 t e;
   regions = λ n r e. (r, e, same_region r);
@@ -246,7 +263,8 @@ stays_made s k x i fresh = record {
   count = refl;
 }
 
-stays_forked : (s : State) (i : ℕ) (region : Rid) (new : Region) (task : ℕ → ℕ → Task) (team : List (Tid × ℕ)) → IsFresh s.regions i region.0 → AreNew s.tasks i team
+stays_forked : (s : State) (i : ℕ) (region : Rid) (new : Region) (task : ℕ → ℕ → Task) (team : List (Tid × ℕ))
+    → IsFresh s.regions i region.0 → AreNew s.tasks i team
     → Stays s (record s { regions = made s.regions region.0 new; tasks = with_members task 0 team s.tasks })
 stays_forked s i region new task team fresh news = record {
   tasks = λ n t e. later_members IsSameTask same_task task 0 team s.tasks i news n.0 t e;
@@ -255,35 +273,54 @@ stays_forked s i region new task team fresh news = record {
   count = refl;
 }
 
-stays_global : (s : State) (locks : ℕ → Option ℕ) (n : ℕ) → Stays s (record s { locks = locks; max_active = n })
+stays_global : (s : State) (locks : ℕ → Option ℕ) (n : ℕ)
+    → Stays s (record s { locks = locks; max_active = n })
 stays_global s locks n = record { tasks = λ k t e. (t, e, same_task t); regions = λ k r e. (r, e, same_region r); begun = λ i h. h; count = refl }
 
 -- another current task
-stays_current : (s u : State) (i : ℕ) (k : Option Tid) → Stays s u → Stays s (on_thread u i (λ h. record h { current = k }))
-stays_current s u i k h = stays_trans s u (on_thread u i (λ h. record h { current = k })) h (stays_thread u i (λ h. record h { current = k }) (λ b. b))
+stays_current : (s u : State) (i : ℕ) (k : Option Tid) → Stays s u
+    → Stays s (on_thread u i (λ h. record h { current = k }))
+stays_current s u i k h =
+    stays_trans s u (on_thread u i (λ h. record h { current = k })) h
+    (stays_thread u i (λ h. record h { current = k }) (λ b. b))
 
-stays_setting : (s : State) (k : Tid) (f : Task → Task) → ((t : Task) → IsSameTask t (f t)) → Stays s (on_task s k f)
+stays_setting : (s : State) (k : Tid) (f : Task → Task) → ((t : Task) → IsSameTask t (f t))
+    → Stays s (on_task s k f)
 stays_setting s k f keeps = stays_task s k f (λ t e. keeps t)
 
-pub stays_effect : (p : Program) (s : State) (i : ℕ) (e : Event) (y : Item) → Rule s i e y → IfSome (effect p s i e y) (Stays s)
+pub stays_effect : (p : Program) (s : State) (i : ℕ) (e : Event) (y : Item) → Rule s i e y
+    → IfSome (effect p s i e y) (Stays s)
 stays_effect p s i event.Begin y rule = stays_thread s i (λ h. record h { begun = true }) (λ h. refl)
 stays_effect p s i event.Offer y rule = stays_thread s i (λ h. record h { claim = claim.Free }) (λ h. h)
 stays_effect p s i (event.Want n) y rule = stays_thread s i (λ h. record h { wanted = n; asks = [] }) (λ h. h)
 stays_effect p s i (event.Ask w true) y rule =
     let listed : State = on_thread s i (λ h. record h { asks = h.asks ++ (w, true) ∷ [] }) in
-    stays_trans s listed (on_thread listed w (λ h. record h { claim = claim.By i })) (stays_thread s i (λ h. record h { asks = h.asks ++ (w, true) ∷ [] }) (λ h. h)) (stays_thread listed w (λ h. record h { claim = claim.By i }) (λ h. h))
-stays_effect p s i (event.Ask w false) y rule = stays_thread s i (λ h. record h { asks = h.asks ++ (w, false) ∷ [] }) (λ h. h)
+    stays_trans s listed (on_thread listed w (λ h. record h { claim = claim.By i }))
+    (stays_thread s i (λ h. record h { asks = h.asks ++ (w, true) ∷ [] }) (λ h. h))
+    (stays_thread listed w (λ h. record h { claim = claim.By i }) (λ h. h))
+stays_effect p s i (event.Ask w false) y rule =
+    stays_thread s i (λ h. record h { asks = h.asks ++ (w, false) ∷ [] }) (λ h. h)
 stays_effect p s i (event.Fork region team) (item.Fork f) rule =
     of_region s i (forked p s i region team f) (Stays s) _ rule
     (λ k t r is found may. stays_current s _ i (master_of team) (stays_forked s i region _ (member_task p region k t r f) team may.region_new (new_team s.tasks i team may.tasks_new may.distinct)))
 stays_effect p s i (event.Fork region team) y rule = tt
 stays_effect p s i (event.ImplicitBegin task) y rule =
-    stays_current s _ i (Some task) (stays_task s task (λ t. record t { progress = Begun }) (λ t e. let same : rule.member ≡ t = some_same rule.live e in begun_task t (ap (λ (u : Task). u.progress) (sym same) ∙ rule.waiting)))
-stays_effect p s i (event.State state wait) y rule = stays_thread s i (λ h. record h { state = state; wait = wait }) (λ h. h)
-stays_effect p s i event.Enter y rule = of_current s i (entered s) (Stays s) _ rule (λ k t is h. stays_setting s k (λ u. record u { enter = t.exit - 32 }) (λ u. other_task u _ u.tool u.variables u.list))
-stays_effect p s i event.Leave y rule = of_current s i (left s) (Stays s) _ rule (λ k t is h. stays_setting s k (λ u. record u { enter = 0 }) (λ u. other_task u _ u.tool u.variables u.list))
-stays_effect p s i event.Arrive y rule = of_current_region s i (λ k t. arrived s t) (Stays s) _ rule (λ k t r is found h. stays_region s t.region (λ q. record q { arrivals = slice_set q.arrivals t.number (slice_index q.arrivals t.number + 1) }) (λ q e. arrived_region q t.number))
-stays_effect p s i event.Release y rule = of_current_region s i (λ k t. released s t) (Stays s) _ rule (λ k t r is found h. stays_region s t.region (λ q. record q { released = q.released + 1 }) (λ q e. released_region q))
+    stays_current s _ i (Some task)
+    (stays_task s task (λ t. record t { progress = Begun }) (λ t e. let same : rule.member ≡ t = some_same rule.live e in begun_task t (ap (λ (u : Task). u.progress) (sym same) ∙ rule.waiting)))
+stays_effect p s i (event.State state wait) y rule =
+    stays_thread s i (λ h. record h { state = state; wait = wait }) (λ h. h)
+stays_effect p s i event.Enter y rule =
+    of_current s i (entered s) (Stays s) _ rule
+    (λ k t is h. stays_setting s k (λ u. record u { enter = t.exit - 32 }) (λ u. other_task u _ u.tool u.variables u.list))
+stays_effect p s i event.Leave y rule =
+    of_current s i (left s) (Stays s) _ rule
+    (λ k t is h. stays_setting s k (λ u. record u { enter = 0 }) (λ u. other_task u _ u.tool u.variables u.list))
+stays_effect p s i event.Arrive y rule =
+    of_current_region s i (λ k t. arrived s t) (Stays s) _ rule
+    (λ k t r is found h. stays_region s t.region (λ q. record q { arrivals = slice_set q.arrivals t.number (slice_index q.arrivals t.number + 1) }) (λ q e. arrived_region q t.number))
+stays_effect p s i event.Release y rule =
+    of_current_region s i (λ k t. released s t) (Stays s) _ rule
+    (λ k t r is found h. stays_region s t.region (λ q. record q { released = q.released + 1 }) (λ q e. released_region q))
 stays_effect p s i (event.ImplicitEnd task) y rule =
     of_current_region s i (task_ended s i) (Stays s) _ rule
     (λ k t r is found h. let first : State = on_task s k (λ u. record u { progress = Finished }) in
@@ -294,10 +331,16 @@ stays_effect p s i (event.Join region) y rule =
     stays_current s _ i r.encountering (stays_trans s first _ (stays_setting s k (λ u. record u { progress = Finished }) finished_task) (stays_region first t.region (λ q. record q { joined = true }) (λ q e. joined_region q))))
 stays_effect p s i (event.FreeTask task) y rule = tt
 stays_effect p s i (event.FreeRegion region) y rule = tt
-stays_effect p s i (event.Defer task) (item.Defer seen f final) rule = of_current s i (deferred p s task f final seen) (Stays s) _ rule (λ k t is fresh. stays_made s task _ i fresh)
+stays_effect p s i (event.Defer task) (item.Defer seen f final) rule =
+    of_current s i (deferred p s task f final seen) (Stays s) _ rule
+    (λ k t is fresh. stays_made s task _ i fresh)
 stays_effect p s i (event.Defer task) y rule = tt
-stays_effect p s i (event.StartNow task) (item.Defer seen f final) rule = of_current s i (started_now p s i task f final) (Stays s) _ rule (λ k t is fresh. stays_current s _ i (Some task) (stays_made s task _ i fresh))
-stays_effect p s i (event.StartNow task) (item.StartNow f final) rule = of_current s i (started_now p s i task f final) (Stays s) _ rule (λ k t is fresh. stays_current s _ i (Some task) (stays_made s task _ i fresh))
+stays_effect p s i (event.StartNow task) (item.Defer seen f final) rule =
+    of_current s i (started_now p s i task f final) (Stays s) _ rule
+    (λ k t is fresh. stays_current s _ i (Some task) (stays_made s task _ i fresh))
+stays_effect p s i (event.StartNow task) (item.StartNow f final) rule =
+    of_current s i (started_now p s i task f final) (Stays s) _ rule
+    (λ k t is fresh. stays_current s _ i (Some task) (stays_made s task _ i fresh))
 stays_effect p s i (event.StartNow task) y rule = tt
 stays_effect p s i (event.Start task) (item.Tasks state) rule =
     of_current s i (started s i task) (Stays s) _ rule
@@ -306,23 +349,36 @@ stays_effect p s i (event.Start task) item.OneTask rule =
     of_current s i (started_alone s i task) (Stays s) _ rule
     (λ k t is may. stays_current s _ i (Some task) (stays_task s task (scheduled i k t) (λ u e. let same : may.new ≡ u = some_same may.live e in started_task i k t u u.list (ap (λ (x : Task). x.progress) (sym same) ∙ may.deferred))))
 stays_effect p s i (event.Start task) y rule = tt
-stays_effect p s i (event.Finish task) y rule = of_current s i (finished s i) (Stays s) _ rule (λ k t is h. stays_current s _ i t.scheduling (stays_setting s k (λ u. record u { progress = Finished }) finished_task))
-stays_effect p s i (event.Set icv value) y rule = of_set s i icv value (Stays s) rule (stays_global s s.locks value) (λ k t v is e. stays_setting s k (λ u. record u { variables = v }) (λ u. other_task u u.enter u.tool v u.list))
-stays_effect p s i (event.SetTool x) y rule = of_current s i (λ k t. with_tool s x k) (Stays s) _ rule (λ k t is h. stays_setting s k (λ u. record u { tool = x }) (λ u. other_task u u.enter x u.variables u.list))
+stays_effect p s i (event.Finish task) y rule =
+    of_current s i (finished s i) (Stays s) _ rule
+    (λ k t is h. stays_current s _ i t.scheduling (stays_setting s k (λ u. record u { progress = Finished }) finished_task))
+stays_effect p s i (event.Set icv value) y rule =
+    of_set s i icv value (Stays s) rule (stays_global s s.locks value)
+    (λ k t v is e. stays_setting s k (λ u. record u { variables = v }) (λ u. other_task u u.enter u.tool v u.list))
+stays_effect p s i (event.SetTool x) y rule =
+    of_current s i (λ k t. with_tool s x k) (Stays s) _ rule
+    (λ k t is h. stays_setting s k (λ u. record u { tool = x }) (λ u. other_task u u.enter x u.variables u.list))
 stays_effect p s i (event.Lock k) y rule = stays_global s (put s.locks k (Some i)) s.max_active
 stays_effect p s i (event.Unlock k) y rule = stays_global s (put s.locks k None) s.max_active
 stays_effect p s i e y rule = stays_same s
 
 pub stays_list : (s : State) (i : ℕ) (zs : List Item) → Stays s (with_list s i zs)
-stays_list s i zs = list_moves s i zs (Stays s) (λ k is. stays_setting s k (relisted zs) (λ u. other_task u u.enter u.tool u.variables zs)) (λ none. stays_thread s i (λ h. record h { list = zs }) (λ h. h))
+stays_list s i zs =
+    list_moves s i zs (Stays s)
+    (λ k is. stays_setting s k (relisted zs) (λ u. other_task u u.enter u.tool u.variables zs))
+    (λ none. stays_thread s i (λ h. record h { list = zs }) (λ h. h))
 
 -- each step keeps what stays
-pub stays_step : (p : Program) (s : State) (i : ℕ) (e : Event) (next : State) → Step p s i e next → Stays s next
+pub stays_step : (p : Program) (s : State) (i : ℕ) (e : Event) (next : State) → Step p s i e next
+    → Stays s next
 stays_step p = step_law p Stays stays_trans stays_list (stays_effect p)
 
-pub stays_leads : (p : Program) (s : State) (events : List (ℕ × Event)) (u : State) → Leads p s events u → Stays s u
+pub stays_leads : (p : Program) (s : State) (events : List (ℕ × Event)) (u : State) → Leads p s events u
+    → Stays s u
 stays_leads p s [] u same = subst (Stays s) (sym same) (stays_same s)
-stays_leads p s (x ∷ xs) u (next, step, leads) = stays_trans s next u (stays_step p s x.0 x.1 next step) (stays_leads p next xs u leads)
+stays_leads p s (x ∷ xs) u (next, step, leads) =
+    stays_trans s next u (stays_step p s x.0 x.1 next step) (stays_leads p next xs u leads)
 
-pub stay : (p : Program) (first more : List (ℕ × Event)) (s u : State) → Reached p first s → Leads p s more u → Stays s u
+pub stay : (p : Program) (first more : List (ℕ × Event)) (s u : State) → Reached p first s → Leads p s more u
+    → Stays s u
 stay p first more s u reached leads = stays_leads p s more u leads

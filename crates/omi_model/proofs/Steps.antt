@@ -37,14 +37,18 @@ relisted zs t = record t { list = zs }
 
 -- ---- what an event makes by the current task
 
-pub at_current : (s : State) (i : ℕ) (k : Tid) (t : Task) (f : Tid → Task → State) → IsCurrent s i k t → by_current s i f ≡ Some (f k t)
+pub at_current : (s : State) (i : ℕ) (k : Tid) (t : Task) (f : Tid → Task → State) → IsCurrent s i k t
+    → by_current s i f ≡ Some (f k t)
 at_current s i k t f is =
     ap (option_and_then (λ (n : Tid). option_map (f n) (task_of s n))) is.name ∙ ap (option_map (f k)) is.live
 
-pub at_region : (s : State) (i : ℕ) (k : Tid) (t : Task) (r : Region) (f : Tid → Task → Region → State) → IsCurrent s i k t → region_of s t.region ≡ Some r → by_region s i f ≡ Some (f k t r)
+pub at_region : (s : State) (i : ℕ) (k : Tid) (t : Task) (r : Region) (f : Tid → Task → Region → State)
+    → IsCurrent s i k t → region_of s t.region ≡ Some r → by_region s i f ≡ Some (f k t r)
 at_region s i k t r f is found =
-    ap (option_and_then (λ (n : Tid). option_and_then (λ (u : Task). option_map (f n u) (region_of s u.region)) (task_of s n))) is.name
-    ∙ (ap (option_and_then (λ (u : Task). option_map (f k u) (region_of s u.region))) is.live ∙ ap (option_map (f k t)) found)
+    ap
+    (option_and_then (λ (n : Tid). option_and_then (λ (u : Task). option_map (f n u) (region_of s u.region)) (task_of s n))) is.name
+    ∙
+    (ap (option_and_then (λ (u : Task). option_map (f k u) (region_of s u.region))) is.live ∙ ap (option_map (f k t)) found)
 
 -- a law of what is made
 pub if_some : {A : Type 0} (P : A → Type 0) (o : Option A) (x : A) → o ≡ Some x → P x → IfSome o P
@@ -53,26 +57,36 @@ if_some {A} P o x is h = subst (λ (q : Option A). IfSome q P) (sym is) h
 pub from_some : {A : Type 0} (P : A → Type 0) (o : Option A) (x : A) → o ≡ Some x → IfSome o P → P x
 from_some {A} P o x is h = subst (λ (q : Option A). IfSome q P) is h
 
-pub of_current : (s : State) (i : ℕ) (f : Tid → Task → State) (L : State → Type 0) (P : Tid → Task → Type 0) → OfCurrent s i P → ((k : Tid) (t : Task) → IsCurrent s i k t → P k t → L (f k t)) → IfSome (by_current s i f) L
-of_current s i f L P (k, t, is, h) law = if_some L (by_current s i f) (f k t) (at_current s i k t f is) (law k t is h)
+pub of_current : (s : State) (i : ℕ) (f : Tid → Task → State) (L : State → Type 0) (P : Tid → Task → Type 0)
+    → OfCurrent s i P → ((k : Tid) (t : Task) → IsCurrent s i k t → P k t → L (f k t))
+    → IfSome (by_current s i f) L
+of_current s i f L P (k, t, is, h) law =
+    if_some L (by_current s i f) (f k t) (at_current s i k t f is) (law k t is h)
 
-pub of_current_region : (s : State) (i : ℕ) (f : Tid → Task → State) (L : State → Type 0) (P : Tid → Task → Region → Type 0) → OfCurrentRegion s i P
+pub of_current_region : (s : State) (i : ℕ) (f : Tid → Task → State) (L : State → Type 0) (P : Tid → Task → Region → Type 0)
+    → OfCurrentRegion s i P
     → ((k : Tid) (t : Task) (r : Region) → IsCurrent s i k t → region_of s t.region ≡ Some r → P k t r → L (f k t)) → IfSome (by_current s i f) L
-of_current_region s i f L P (k, t, r, is, found, h) law = if_some L (by_current s i f) (f k t) (at_current s i k t f is) (law k t r is found h)
+of_current_region s i f L P (k, t, r, is, found, h) law =
+    if_some L (by_current s i f) (f k t) (at_current s i k t f is) (law k t r is found h)
 
-pub of_region : (s : State) (i : ℕ) (f : Tid → Task → Region → State) (L : State → Type 0) (P : Tid → Task → Region → Type 0) → OfCurrentRegion s i P
+pub of_region : (s : State) (i : ℕ) (f : Tid → Task → Region → State) (L : State → Type 0) (P : Tid → Task → Region → Type 0)
+    → OfCurrentRegion s i P
     → ((k : Tid) (t : Task) (r : Region) → IsCurrent s i k t → region_of s t.region ≡ Some r → P k t r → L (f k t r)) → IfSome (by_region s i f) L
-of_region s i f L P (k, t, r, is, found, h) law = if_some L (by_region s i f) (f k t r) (at_region s i k t r f is found) (law k t r is found h)
+of_region s i f L P (k, t, r, is, found, h) law =
+    if_some L (by_region s i f) (f k t r) (at_region s i k t r f is found) (law k t r is found h)
 
-pub of_set : (s : State) (i icv value : ℕ) (L : State → Type 0) → OfCurrent s i (λ k t. ⊤) → L (record s { max_active = value })
+pub of_set : (s : State) (i icv value : ℕ) (L : State → Type 0) → OfCurrent s i (λ k t. ⊤)
+    → L (record s { max_active = value })
     → ((k : Tid) (t : Task) (v : Variables) → IsCurrent s i k t → with_variable icv value t.variables ≡ Some v → L (on_task s k (λ u. record u { variables = v }))) → IfSome (with_set s i icv value) L
 of_set s i icv value L (k, t, is, h) whole own = by_test (icv == MAX_ACTIVE_LEVELS_VAR)
   where
-    of_own : (o : Option Variables) → with_variable icv value t.variables ≡ o → IfSome (option_map (λ v. on_task s k (λ u. record u { variables = v })) o) L
+    of_own : (o : Option Variables) → with_variable icv value t.variables ≡ o
+        → IfSome (option_map (λ v. on_task s k (λ u. record u { variables = v })) o) L
     of_own None e = tt
     of_own (Some v) e = own k t v is e
 
-    by_test : (b : Bool) → IfSome (if b then Some (record s { max_active = value }) else with_task_variable s i icv value) L
+    by_test : (b : Bool)
+        → IfSome (if b then Some (record s { max_active = value }) else with_task_variable s i icv value) L
     by_test true = whole
     by_test false =
         subst (λ (o : Option State). IfSome o L)
@@ -87,28 +101,37 @@ pub list_moves : (s : State) (i : ℕ) (zs : List Item) (L : State → Type 0)
     → ((s.threads i).current ≡ None → L (on_thread s i (λ h. record h { list = zs }))) → L (with_list s i zs)
 list_moves s i zs L busy idle = go (s.threads i).current refl
   where
-    go : (o : Option Tid) → (s.threads i).current ≡ o → L (option_map_or (λ k. on_task s k (λ t. record t { list = zs })) o (on_thread s i (λ h. record h { list = zs })))
+    go : (o : Option Tid) → (s.threads i).current ≡ o
+        → L (option_map_or (λ k. on_task s k (λ t. record t { list = zs })) o (on_thread s i (λ h. record h { list = zs })))
     go None e = idle e
     go (Some k) e = busy k e
 
 -- what is live where one object was changed
-pub on_live : {A : Type 0} (slots : Slots A) (k : Id) (f : A → A) (P : A → Type 0) → ((x : A) → P x → P (f x)) → (c j : ℕ) → ((x : A) → (slots c j).live ≡ Some x → P x) → (y : A) → (on slots k f c j).live ≡ Some y → P y
+pub on_live : {A : Type 0} (slots : Slots A) (k : Id) (f : A → A) (P : A → Type 0) → ((x : A) → P x → P (f x))
+    → (c j : ℕ) → ((x : A) → (slots c j).live ≡ Some x → P x) → (y : A) → (on slots k f c j).live ≡ Some y
+    → P y
 on_live {A} slots k f P keeps c j was =
-    each_slot slots k (λ d h (slot : Slot A). ((x : A) → (slots d h).live ≡ Some x → P x) → (y : A) → slot.live ≡ Some y → P y) (changed k.generation f (slots k.creator k.slot))
+    each_slot slots k
+    (λ d h (slot : Slot A). ((x : A) → (slots d h).live ≡ Some x → P x) → (y : A) → slot.live ≡ Some y → P y)
+    (changed k.generation f (slots k.creator k.slot))
     (λ all y e. go all y e) (λ d h apart all. all) c j was
   where
     of_map : (o : Option A) → ((x : A) → o ≡ Some x → P x) → (y : A) → option_map f o ≡ Some y → P y
     of_map None all y e = absurd (none_some refl e)
     of_map (Some x) all y e = let same : f x ≡ y = some_same refl e in subst P same (keeps x (all x refl))
 
-    go : ((x : A) → (slots k.creator k.slot).live ≡ Some x → P x) → (y : A) → (changed k.generation f (slots k.creator k.slot)).live ≡ Some y → P y
+    go : ((x : A) → (slots k.creator k.slot).live ≡ Some x → P x) → (y : A)
+        → (changed k.generation f (slots k.creator k.slot)).live ≡ Some y → P y
     go all y e = by_test ((slots k.creator k.slot).generations == k.generation + 1) e
       where
-        by_test : (b : Bool) → (if b then record { generations = (slots k.creator k.slot).generations; live = option_map f (slots k.creator k.slot).live } else slots k.creator k.slot).live ≡ Some y → P y
+        by_test : (b : Bool)
+            → (if b then record { generations = (slots k.creator k.slot).generations; live = option_map f (slots k.creator k.slot).live } else slots k.creator k.slot).live ≡ Some y
+            → P y
         by_test true h = of_map (slots k.creator k.slot).live all y h
         by_test false h = all y h
 
-pub on_fresh : {A : Type 0} (slots : Slots A) (k : Id) (f : A → A) (i : ℕ) (n : Id) → IsFresh slots i n → IsFresh (on slots k f) i n
+pub on_fresh : {A : Type 0} (slots : Slots A) (k : Id) (f : A → A) (i : ℕ) (n : Id) → IsFresh slots i n
+    → IsFresh (on slots k f) i n
 on_fresh slots k f i n is = record {
   creator = is.creator;
   empty = on_empty slots k f i n.slot is.empty;
@@ -125,11 +148,15 @@ module _ (s : State) (i : ℕ) (k0 : Tid) (is_current : (s.threads i).current �
       let same : k0 ≡ k = some_same is_current is.name in
       record { name = is.name; live = ap (task_of next) (sym same) ∙ (on_same s.tasks k0.0 (relisted zs) ∙ ap (option_map (relisted zs)) (ap (task_of s) same ∙ is.live)) }
 
-  of_moved : (P Q : Tid → Task → Type 0) → ((k : Tid) (t : Task) → P k t → Q k (relisted zs t)) → OfCurrent s i P → OfCurrent next i Q
+  of_moved : (P Q : Tid → Task → Type 0) → ((k : Tid) (t : Task) → P k t → Q k (relisted zs t))
+      → OfCurrent s i P → OfCurrent next i Q
   of_moved P Q keeps (k, t, is, h) = (k, relisted zs t, current_moved k t is, keeps k t h)
 
-  of_region_moved : (P Q : Tid → Task → Region → Type 0) → ((k : Tid) (t : Task) (r : Region) → P k t r → Q k (relisted zs t) r) → OfCurrentRegion s i P → OfCurrentRegion next i Q
-  of_region_moved P Q keeps (k, t, r, is, found, h) = (k, relisted zs t, r, current_moved k t is, found, keeps k t r h)
+  of_region_moved : (P Q : Tid → Task → Region → Type 0)
+      → ((k : Tid) (t : Task) (r : Region) → P k t r → Q k (relisted zs t) r) → OfCurrentRegion s i P
+      → OfCurrentRegion next i Q
+  of_region_moved P Q keeps (k, t, r, is, found, h) =
+      (k, relisted zs t, r, current_moved k t is, found, keeps k t r h)
 
   fork_moved : (region : Rid) (team : List (Tid × ℕ)) → MayFork s i region team → MayFork next i region team
   fork_moved region team may = record {
@@ -142,26 +169,33 @@ module _ (s : State) (i : ℕ) (k0 : Tid) (is_current : (s.threads i).current �
 
   finished_moved : (n : Rid) → AreFinished s n → AreFinished next n
   finished_moved n all c j t live =
-      on_live s.tasks k0.0 (relisted zs) (λ u. u.implicit ≡ false → u.region ≡ n → u.progress ≡ Finished) (λ x h. h) c j (all c j) t live
+      on_live s.tasks k0.0 (relisted zs) (λ u. u.implicit ≡ false → u.region ≡ n → u.progress ≡ Finished)
+      (λ x h. h) c j (all c j) t live
 
   children_moved : (k : Tid) → AreChildrenFinished s k → AreChildrenFinished next k
   children_moved k all c j t live =
-      on_live s.tasks k0.0 (relisted zs) (λ u. u.implicit ≡ false → u.generating ≡ Some k → u.progress ≡ Finished) (λ x h. h) c j (all c j) t live
+      on_live s.tasks k0.0 (relisted zs)
+      (λ u. u.implicit ≡ false → u.generating ≡ Some k → u.progress ≡ Finished) (λ x h. h) c j
+      (all c j) t live
 
   taken_moved : (region : Rid) (place : ℕ) → IsTaken s i region place → IsTaken next i region place
   taken_moved region place is =
       let found = each_slot s.tasks k0.0 (λ c j (slot : Slot Task). (s.tasks c j).live ≡ Some is.task → (u : Task) × (slot.live ≡ Some u) × ((u ≡ is.task) ⊎ (u ≡ relisted zs is.task))) (changed k0.0.generation (relisted zs) (s.tasks k0.0.creator k0.0.slot))
-      (λ e. here (s.tasks k0.0.creator k0.0.slot) e) (λ c j apart e. (is.task, e, inl refl)) i is.slot is.live in
+      (λ e. here (s.tasks k0.0.creator k0.0.slot) e)
+      (λ c j apart e. (is.task, e, inl refl)) i is.slot is.live in
       of_found found.0 found.1 found.2
     where
-      here : (slot : Slot Task) → slot.live ≡ Some is.task → (u : Task) × ((changed k0.0.generation (relisted zs) slot).live ≡ Some u) × ((u ≡ is.task) ⊎ (u ≡ relisted zs is.task))
+      here : (slot : Slot Task) → slot.live ≡ Some is.task
+          → (u : Task) × ((changed k0.0.generation (relisted zs) slot).live ≡ Some u) × ((u ≡ is.task) ⊎ (u ≡ relisted zs is.task))
       here slot e = by_test (slot.generations == k0.0.generation + 1)
         where
-          by_test : (b : Bool) → (u : Task) × ((if b then record { generations = slot.generations; live = option_map (relisted zs) slot.live } else slot).live ≡ Some u) × ((u ≡ is.task) ⊎ (u ≡ relisted zs is.task))
+          by_test : (b : Bool)
+              → (u : Task) × ((if b then record { generations = slot.generations; live = option_map (relisted zs) slot.live } else slot).live ≡ Some u) × ((u ≡ is.task) ⊎ (u ≡ relisted zs is.task))
           by_test true = (relisted zs is.task, ap (option_map (relisted zs)) e, inr refl)
           by_test false = (is.task, e, inl refl)
 
-      of_found : (u : Task) → (next.tasks i is.slot).live ≡ Some u → (u ≡ is.task) ⊎ (u ≡ relisted zs is.task) → IsTaken next i region place
+      of_found : (u : Task) → (next.tasks i is.slot).live ≡ Some u → (u ≡ is.task) ⊎ (u ≡ relisted zs is.task)
+          → IsTaken next i region place
       of_found u live (inl same) = record {
         slot = is.slot;
         task = u;
@@ -181,9 +215,12 @@ module _ (s : State) (i : ℕ) (k0 : Tid) (is_current : (s.threads i).current �
         there = ap (λ (x : Task). x.place) same ∙ is.there;
       }
 
-  start_moved : (task : Tid) (x : Item) (k : Tid) (t : Task) → MayStart s task x k t → MayStart next task x k (relisted zs t)
+  start_moved : (task : Tid) (x : Item) (k : Tid) (t : Task) → MayStart s task x k t
+      → MayStart next task x k (relisted zs t)
   start_moved task x k t may =
-      let found = later_on (λ (u v : Task). (v ≡ u) ⊎ (v ≡ relisted zs u)) (λ u. inl refl) s.tasks k0.0 (relisted zs) (λ u e. inr refl) task.0 may.new may.live in
+      let found =
+      later_on (λ (u v : Task). (v ≡ u) ⊎ (v ≡ relisted zs u)) (λ u. inl refl) s.tasks k0.0 (relisted zs)
+      (λ u e. inr refl) task.0 may.new may.live in
       of_found found.0 found.1 found.2
     where
       allowed : (x : Item) (u : Task) → MayStartAt x k t u → MayStartAt x k (relisted zs t) (relisted zs u)
@@ -196,7 +233,8 @@ module _ (s : State) (i : ℕ) (k0 : Tid) (is_current : (s.threads i).current �
       allowed_same item.OneTask u h = h
       allowed_same y u h = absurd h
 
-      of_found : (v : Task) → task_of next task ≡ Some v → (v ≡ may.new) ⊎ (v ≡ relisted zs may.new) → MayStart next task x k (relisted zs t)
+      of_found : (v : Task) → task_of next task ≡ Some v → (v ≡ may.new) ⊎ (v ≡ relisted zs may.new)
+          → MayStart next task x k (relisted zs t)
       of_found v live (inl same) = record {
         new = may.new;
         live = live ∙ ap (λ (u : Task). Some u) same;
@@ -223,17 +261,26 @@ module _ (s : State) (i : ℕ) (k0 : Tid) (is_current : (s.threads i).current �
   busy_rule event.Enter y rule = of_moved _ _ (λ k t h. h) rule
   busy_rule event.Leave y rule = of_moved _ _ (λ k t h. h) rule
   busy_rule event.Arrive y rule = of_region_moved _ _ (λ k t r h. h) rule
-  busy_rule event.Release y rule = of_region_moved _ _ (λ k t r h. record { first = h.first; arrived = h.arrived; finished = finished_moved t.region h.finished }) rule
+  busy_rule event.Release y rule =
+      of_region_moved _ _
+      (λ k t r h. record { first = h.first; arrived = h.arrived; finished = finished_moved t.region h.finished }) rule
   busy_rule event.Pass y rule = of_region_moved _ _ (λ k t r h. h) rule
-  busy_rule (event.ImplicitEnd task) y rule = of_region_moved _ _ (λ k t r h. record { current = h.current; implicit = h.implicit; other = h.other }) rule
-  busy_rule (event.Join region) y rule = of_region_moved _ _ (λ k t r h. record { mine = h.mine; implicit = h.implicit; first = h.first; ended = h.ended }) rule
+  busy_rule (event.ImplicitEnd task) y rule =
+      of_region_moved _ _
+      (λ k t r h. record { current = h.current; implicit = h.implicit; other = h.other }) rule
+  busy_rule (event.Join region) y rule =
+      of_region_moved _ _
+      (λ k t r h. record { mine = h.mine; implicit = h.implicit; first = h.first; ended = h.ended }) rule
   busy_rule (event.FreeTask task) y rule = absurd rule
   busy_rule (event.FreeRegion region) y rule = absurd rule
   busy_rule (event.Seen j) y rule = of_moved _ _ (λ k t h. taken_moved t.region j h) rule
-  busy_rule (event.Defer task) y rule = of_moved _ _ (λ k t h. on_fresh s.tasks k0.0 (relisted zs) i task.0 h) rule
-  busy_rule (event.StartNow task) y rule = of_moved _ _ (λ k t h. on_fresh s.tasks k0.0 (relisted zs) i task.0 h) rule
+  busy_rule (event.Defer task) y rule =
+      of_moved _ _ (λ k t h. on_fresh s.tasks k0.0 (relisted zs) i task.0 h) rule
+  busy_rule (event.StartNow task) y rule =
+      of_moved _ _ (λ k t h. on_fresh s.tasks k0.0 (relisted zs) i task.0 h) rule
   busy_rule (event.Start task) y rule = of_moved _ _ (λ k t h. start_moved task y k t h) rule
-  busy_rule (event.Finish task) y rule = of_moved _ _ (λ k t h. record { current = h.current; explicit = h.explicit }) rule
+  busy_rule (event.Finish task) y rule =
+      of_moved _ _ (λ k t h. record { current = h.current; explicit = h.explicit }) rule
   busy_rule event.WaitDone y rule = of_moved _ _ (λ k t h. children_moved k h) rule
   busy_rule (event.Set icv value) y rule = of_moved _ _ (λ k t h. h) rule
   busy_rule (event.SetTool x) y rule = of_moved _ _ (λ k t h. h) rule
@@ -244,8 +291,11 @@ module _ (s : State) (i : ℕ) (none : (s.threads i).current ≡ None) (zs : Lis
   idle_next = on_thread s i (λ h. record h { list = zs })
 
   -- what does not read the list of a thread is the same
-  pub idle_same : {B : Type 0} (F : Thread → B) → F (record (s.threads i) { list = zs }) ≡ F (s.threads i) → (j : ℕ) → F (idle_next.threads j) ≡ F (s.threads j)
-  idle_same F same j = each_put (λ m h. F h ≡ F (s.threads m)) s.threads i (record (s.threads i) { list = zs }) same j (λ ne. refl)
+  pub idle_same : {B : Type 0} (F : Thread → B) → F (record (s.threads i) { list = zs }) ≡ F (s.threads i)
+      → (j : ℕ) → F (idle_next.threads j) ≡ F (s.threads j)
+  idle_same F same j =
+      each_put (λ m h. F h ≡ F (s.threads m)) s.threads i (record (s.threads i) { list = zs }) same j
+      (λ ne. refl)
 
   no_current : {P : Tid → Task → Type 0} → OfCurrent s i P → ⊥
   no_current (k, t, is, h) = none_some none is.name
@@ -296,12 +346,16 @@ module _ (s : State) (i : ℕ) (none : (s.threads i).current ≡ None) (zs : Lis
   idle_rule e y rule = rule
 
 -- the rule of an event holds where the list has moved on
-pub rule_moved : (s : State) (i : ℕ) (e : Event) (y : Item) (zs : List Item) → Rule s i e y → Rule (with_list s i zs) i e y
-rule_moved s i e y zs rule = list_moves s i zs (λ u. Rule u i e y) (λ k is. busy_rule s i k is zs e y rule) (λ none. idle_rule s i none zs e y rule)
+pub rule_moved : (s : State) (i : ℕ) (e : Event) (y : Item) (zs : List Item) → Rule s i e y
+    → Rule (with_list s i zs) i e y
+rule_moved s i e y zs rule =
+    list_moves s i zs (λ u. Rule u i e y) (λ k is. busy_rule s i k is zs e y rule)
+    (λ none. idle_rule s i none zs e y rule)
 
 -- a state whose list has moved on has the same objects but for a list
 pub record IsRelisted (s u : State) : Type 0 where
-  pub tasks : (k : Tid) (t : Task) → task_of u k ≡ Some t → (v : Task) × (xs : List Item) × (task_of s k ≡ Some v) × (t ≡ relisted xs v)
+  pub tasks : (k : Tid) (t : Task) → task_of u k ≡ Some t
+      → (v : Task) × (xs : List Item) × (task_of s k ≡ Some v) × (t ≡ relisted xs v)
   pub regions : (n : Rid) → region_of u n ≡ region_of s n
   pub currents : (j : ℕ) → (u.threads j).current ≡ (s.threads j).current
   pub asks : (j : ℕ) → (u.threads j).asks ≡ (s.threads j).asks
@@ -331,7 +385,8 @@ pub record IsMove (p : Program) (s : State) (i : ℕ) (e : Event) (next : State)
   pub rule_moved : Rule (moved_on s i e item behind) i e item
   pub effect_is : effect p (moved_on s i e item behind) i e item ≡ Some next
 
-pub move_of : (p : Program) (s : State) (i : ℕ) (e : Event) (next : State) → Step p s i e next → IsMove p s i e next
+pub move_of : (p : Program) (s : State) (i : ℕ) (e : Event) (next : State) → Step p s i e next
+    → IsMove p s i e next
 move_of p s i e after_step step = record {
   known = step.legal.known;
   item = step.legal.item;

@@ -42,13 +42,16 @@ pub record InTables (s : State) : Type 0 where
   pub threads : EachThread ThreadTables s
 
 -- the kind of the schedule is as it was, or it was set
-set_kind : (icv value : ℕ) (v w : Variables) → with_variable icv value v ≡ Some w → (w.schedule.kind ≡ v.schedule.kind) ⊎ ((icv ≡ RUN_SCHED_VAR) × (w.schedule.kind ≡ value % 8))
+set_kind : (icv value : ℕ) (v w : Variables) → with_variable icv value v ≡ Some w
+    → (w.schedule.kind ≡ v.schedule.kind) ⊎ ((icv ≡ RUN_SCHED_VAR) × (w.schedule.kind ≡ value % 8))
 set_kind icv value v w e = by_dyn (icv == DYN_VAR) e
   where
-    kind_of : {x : Variables} → ◌≡◌ {A = Option Variables} (Some x) (Some w) → w.schedule.kind ≡ x.schedule.kind
+    kind_of : {x : Variables} → ◌≡◌ {A = Option Variables} (Some x) (Some w)
+        → w.schedule.kind ≡ x.schedule.kind
     kind_of f = ap (λ (x : Variables). x.schedule.kind) (sym (some_same refl f))
 
-    by_device : (b : Bool) → (if b then Some (record v { device = value }) else None) ≡ Some w → (w.schedule.kind ≡ v.schedule.kind) ⊎ ((icv ≡ RUN_SCHED_VAR) × (w.schedule.kind ≡ value % 8))
+    by_device : (b : Bool) → (if b then Some (record v { device = value }) else None) ≡ Some w
+        → (w.schedule.kind ≡ v.schedule.kind) ⊎ ((icv ≡ RUN_SCHED_VAR) × (w.schedule.kind ≡ value % 8))
     by_device true f = inl (kind_of f)
     by_device false f = absurd (none_some refl f)
 
@@ -71,32 +74,39 @@ set_kind icv value v w e = by_dyn (icv == DYN_VAR) e
     by_dyn false f = by_nthreads (icv == NTHREADS_VAR) f
 
 -- what the event's item says
-shown_item : (state wait : ℕ) (y : Item) → fits (event.State state wait) y ≡ true → IsItemRight y → Contains state_numbers state
-shown_item state wait (item.State s w) fit is = subst (Contains state_numbers) (sym (eqb-true state s (and_left (state == s) (wait == w) fit))) is
+shown_item : (state wait : ℕ) (y : Item) → fits (event.State state wait) y ≡ true → IsItemRight y
+    → Contains state_numbers state
+shown_item state wait (item.State s w) fit is =
+    subst (Contains state_numbers) (sym (eqb-true state s (and_left (state == s) (wait == w) fit))) is
 shown_item state wait y fit is = absurd (false_true fit)
 
-set_item : (icv value : ℕ) (y : Item) → fits (event.Set icv value) y ≡ true → IsItemRight y → icv ≡ RUN_SCHED_VAR → IsKind (value % 8)
+set_item : (icv value : ℕ) (y : Item) → fits (event.Set icv value) y ≡ true → IsItemRight y
+    → icv ≡ RUN_SCHED_VAR → IsKind (value % 8)
 set_item icv value (item.Set v x) fit is sched =
     let icv_is = eqb-true icv v (and_left (icv == v) (value == x) fit) in
-    subst (λ n. IsKind (n % 8)) (sym (eqb-true value x (and_right (icv == v) (value == x) fit))) (is.0 (sym icv_is ∙ sched))
+    subst (λ n. IsKind (n % 8)) (sym (eqb-true value x (and_right (icv == v) (value == x) fit)))
+    (is.0 (sym icv_is ∙ sched))
 set_item icv value y fit is sched = absurd (false_true fit)
 
 start_right : (x : Item) (at : Encounter) (zs : List Item) → AreRight zs → AreRight (start_list x at zs)
 start_right (item.Tasks state) at zs h = working_right at zs h
 start_right x at zs h = h
 
-module _ (p : Program) (s : State) (i : ℕ) (e : Event) (next : State) (step : Step p s i e next) (tables : InTables s) where
+module _ (p : Program) (s : State) (i : ℕ) (e : Event) (next : State) (step : Step p s i e next)
+    (tables : InTables s) where
   pub m : IsMove p s i e next
   m = move_of p s i e next step
 
   pub list_right : AreRight (list_of s i)
   list_right = of_current (s.threads i).current
     where
-      of_task : (o : Option Task) → ((t : Task) → o ≡ Some t → AreRight t.list) → AreRight (option_map_or (λ t. t.list) o (s.threads i).list)
+      of_task : (o : Option Task) → ((t : Task) → o ≡ Some t → AreRight t.list)
+          → AreRight (option_map_or (λ t. t.list) o (s.threads i).list)
       of_task None all = (tables.threads i).0
       of_task (Some t) all = all t refl
 
-      of_current : (o : Option Tid) → AreRight (option_map_or (λ t. t.list) (option_and_then (task_of s) o) (s.threads i).list)
+      of_current : (o : Option Tid)
+          → AreRight (option_map_or (λ t. t.list) (option_and_then (task_of s) o) (s.threads i).list)
       of_current None = (tables.threads i).0
       of_current (Some k) = of_task (task_of s k) (λ t live. (tables.tasks k t live).0)
 
@@ -106,7 +116,8 @@ module _ (p : Program) (s : State) (i : ℕ) (e : Event) (next : State) (step : 
   pub item_fits : fits e m.item ≡ true
   item_fits = take_fits p (encounter s i) e (list_of s i) m.item m.behind m.taken
 
-  task_law : (middle : State) (y : Item) → IsRelisted s middle → Stays middle next → EachTask TaskTables middle → IsTaskLaw p middle i e y next TaskTables
+  task_law : (middle : State) (y : Item) → IsRelisted s middle → Stays middle next
+      → EachTask TaskTables middle → IsTaskLaw p middle i e y next TaskTables
   task_law middle y before later of_tasks = record {
     shows = λ k t x q. q;
     tools = λ k t x q. q;
@@ -119,14 +130,19 @@ module _ (p : Program) (s : State) (i : ℕ) (e : Event) (next : State) (step : 
     made = λ task f final k t is of fresh by. (task_right p f, (of_tasks k t is.live).1);
   }
     where
-      of_set : (icv value : ℕ) (v w : Variables) → with_variable icv value v ≡ Some w → e ≡ event.Set icv value → IsKind v.schedule.kind → IsKind w.schedule.kind
+      of_set : (icv value : ℕ) (v w : Variables) → with_variable icv value v ≡ Some w
+          → e ≡ event.Set icv value → IsKind v.schedule.kind → IsKind w.schedule.kind
       of_set icv value v w f at_set kind = go (set_kind icv value v w f)
         where
-          go : (w.schedule.kind ≡ v.schedule.kind) ⊎ ((icv ≡ RUN_SCHED_VAR) × (w.schedule.kind ≡ value % 8)) → IsKind w.schedule.kind
+          go : (w.schedule.kind ≡ v.schedule.kind) ⊎ ((icv ≡ RUN_SCHED_VAR) × (w.schedule.kind ≡ value % 8))
+              → IsKind w.schedule.kind
           go (inl same) = subst IsKind (sym same) kind
-          go (inr (sched, is)) = subst IsKind (sym is) (set_item icv value m.item (subst (λ (x : Event). fits x m.item ≡ true) at_set item_fits) item_right sched)
+          go (inr (sched, is)) =
+              subst IsKind (sym is)
+              (set_item icv value m.item (subst (λ (x : Event). fits x m.item ≡ true) at_set item_fits) item_right sched)
 
-  thread_law : (middle : State) → IsRelisted s middle → Stays middle next → EachThread ThreadTables middle → IsThreadLaw p middle i e next ThreadTables
+  thread_law : (middle : State) → IsRelisted s middle → Stays middle next → EachThread ThreadTables middle
+      → IsThreadLaw p middle i e next ThreadTables
   thread_law middle before later of_threads = record {
     begins = λ may q. q;
     offers = λ may of q. q;
@@ -150,7 +166,8 @@ module _ (p : Program) (s : State) (i : ℕ) (e : Event) (next : State) (step : 
   }
 
 pub in_tables : (p : Program) (events : List (ℕ × Event)) (s : State) → Reached p events s → InTables s
-in_tables p events s reached = over_events p InTables (λ u i e next step h. tables_step p u i e next step h) (opening p) events s reached
+in_tables p events s reached =
+    over_events p InTables (λ u i e next step h. tables_step p u i e next step h) (opening p) events s reached
     (record {
       tasks = each_first_task p TaskTables (main_right p (record { debug = p.env.debug; number = 0; level = 0; is_final = false }), let range = (Rules-from_accepted p).schedule in (range.0, range.1));
       threads = each_first_thread p ThreadTables (tt, (0, omega arith, refl)) (λ j. (worker_right, (7, omega arith, refl)));

@@ -38,22 +38,29 @@ module _ (p : Program) where
     critical = λ k f xs h. critical_keeps Waits plain_waits p at f (item.Unlock k ∷ xs) h;
   }
 
-  pub take_waits : (at : Encounter) (e : Event) (xs : List Item) (y : Item) (ys : List Item) → take_item p at e xs ≡ Some (y, ys) → Waits xs → Waits (y ∷ ys)
-  take_waits at = take_keeps p at Waits (drop_keeps Waits (λ xs h. h) (λ state xs h. h.1) (λ xs h. h)) (λ s xs h. row_keeps p at Waits (waits at) (shape_of s) xs h)
+  pub take_waits : (at : Encounter) (e : Event) (xs : List Item) (y : Item) (ys : List Item)
+      → take_item p at e xs ≡ Some (y, ys) → Waits xs → Waits (y ∷ ys)
+  take_waits at =
+      take_keeps p at Waits (drop_keeps Waits (λ xs h. h) (λ state xs h. h.1) (λ xs h. h))
+      (λ s xs h. row_keeps p at Waits (waits at) (shape_of s) xs h)
 
   pub task_waits : (f : ℕ) → Waits (task_items p f)
   task_waits f = task_keeps Waits plain_waits p f tt
 
   pub member_waits : (at : Encounter) (f : ℕ) → Waits (member_items p at f)
-  member_waits at f = member_keeps Waits plain_waits p at f (barrier_keeps p at Waits (waits at) _ _ (last_keeps Waits tt tt at.number))
+  member_waits at f =
+      member_keeps Waits plain_waits p at f
+      (barrier_keeps p at Waits (waits at) _ _ (last_keeps Waits tt tt at.number))
 
   pub main_waits : (at : Encounter) → Waits (main_items at (body_of p.funcs p.main))
-  main_waits at = main_keeps Waits plain_waits p at (barrier_keeps p at Waits (waits at) _ (item.Done ∷ []) tt)
+  main_waits at =
+      main_keeps Waits plain_waits p at (barrier_keeps p at Waits (waits at) _ (item.Done ∷ []) tt)
 
 pub start_waits : (x : Item) (at : Encounter) (xs : List Item) → Waits xs → Waits (start_list x at xs)
 start_waits x at xs h = start_keeps Waits plain_waits x at xs h
 
-pub stays_waits : (at : Encounter) (e : Event) (y : Item) (ys : List Item) → Waits (y ∷ ys) → Waits (stays at e y ys)
+pub stays_waits : (at : Encounter) (e : Event) (y : Item) (ys : List Item) → Waits (y ∷ ys)
+    → Waits (stays at e y ys)
 stays_waits at e item.Asks ys h = h
 stays_waits at e item.Serve ys h = shown_keeps Waits plain_waits at _ 0 (item.Offer ∷ item.Serve ∷ ys) h
 stays_waits at e (item.Tasks state) ys h = shown_keeps Waits plain_waits at state 0 (item.Tasks state ∷ ys) h

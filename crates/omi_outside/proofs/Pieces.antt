@@ -6,12 +6,14 @@ use Rattle.std.proofs.lemmas.List.{take-append-le, append-nil}
 use Rattle.omi_outside.specs.Outside.{Told, holding, extended, put_on}
 use Rattle.omi_outside.specs.declared.limits.TheConstants.{PIECE}
 
-pub extended-holding : (told : Told) (front more : List ℕ) → extended (holding told front) more ≡ holding told (front ++ more)
+pub extended-holding : (told : Told) (front more : List ℕ)
+    → extended (holding told front) more ≡ holding told (front ++ more)
 extended-holding None front more = refl
 extended-holding (Some content) front more = refl
 
 -- one piece more
-pub held_more : (before now after : Told) (bytes : List ℕ) (at end : ℕ) → at ≤ end → now ≡ holding before (take at bytes)
+pub held_more : (before now after : Told) (bytes : List ℕ) (at end : ℕ) → at ≤ end
+    → now ≡ holding before (take at bytes)
     → after ≡ extended now (take (end - at) (drop at bytes)) → after ≡ holding before (take end bytes)
 held_more before now after bytes at end within so_far added =
     let is_end : at + (end - at) ≡ end = omega arith in
@@ -23,7 +25,8 @@ taken : (bytes : List ℕ) (at most : ℕ) → at ≡ min (length bytes) most �
 taken bytes at most is = grind (arith, common_steps, take_all {A = ℕ})
 
 -- the whole was read once as many bytes are there as were wanted
-pub read_all : (content : Option (List ℕ)) (whole : List ℕ) (size most wanted at : ℕ) → Some size ≡ option_map length content
+pub read_all : (content : Option (List ℕ)) (whole : List ℕ) (size most wanted at : ℕ)
+    → Some size ≡ option_map length content
     → wanted ≡ min size most → at ≡ wanted → ((bytes : List ℕ) → content ≡ Some bytes → whole ≡ take at bytes)
     → (bytes : List ℕ) × (content ≡ Some bytes) × (whole ≡ take most bytes)
 read_all None whole size most wanted at is_size is_wanted is_at so_far = absurd (cc)
@@ -49,12 +52,14 @@ pub put_none : (old : Option (List ℕ)) → old ≡ put_on old []
 put_none None = refl
 put_none (Some bytes) = ap (λ (l : List ℕ). Some l) (sym (append-nil bytes))
 
-put_on-put_on : (old : Option (List ℕ)) (front more : List ℕ) → put_on (put_on old front) more ≡ put_on old (front ++ more)
+put_on-put_on : (old : Option (List ℕ)) (front more : List ℕ)
+    → put_on (put_on old front) more ≡ put_on old (front ++ more)
 put_on-put_on None front more = refl
 put_on-put_on (Some bytes) front more = ap (λ (l : List ℕ). Some l) (append_assoc bytes front more)
 
 -- one piece more was put
-pub put_more : (before now after : Option (List ℕ)) (bytes : List ℕ) (at end : ℕ) → at ≤ end → now ≡ put_on before (take at bytes)
+pub put_more : (before now after : Option (List ℕ)) (bytes : List ℕ) (at end : ℕ) → at ≤ end
+    → now ≡ put_on before (take at bytes)
     → after ≡ put_on now (take (end - at) (drop at bytes)) → after ≡ put_on before (take end bytes)
 put_more before now after bytes at end within so_far added =
     let is_end : at + (end - at) ≡ end = omega arith in

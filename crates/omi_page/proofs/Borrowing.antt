@@ -4,7 +4,8 @@ use Rattle.omi_outside.specs.declared.files.Files as files
 use Rattle.omi_page.specs.declared.pages.Pages.{Pages}
 use Rattle.omi_page.specs.Borrowed.{StaysBorrowed}
 
-pub stays_then : {F : Type 0} {g : files.Ghosts F} (old middle new : Pages F g) → StaysBorrowed old middle → StaysBorrowed middle new → StaysBorrowed old new
+pub stays_then : {F : Type 0} {g : files.Ghosts F} (old middle new : Pages F g) → StaysBorrowed old middle
+    → StaysBorrowed middle new → StaysBorrowed old new
 stays_then old middle new first second = record {
   reference = second.reference ∙ first.reference;
   told = second.told ∙ first.told;

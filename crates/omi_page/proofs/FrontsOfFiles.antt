@@ -18,7 +18,8 @@ use Rattle.omi_page.proofs.Taking.{Took, header_took, contexts_took, bounds_took
 
 -- a step that takes so many bytes gives the same of a front that has them
 pub record IsLocal {A : Type 0} (n : ℕ) (step : ℕ → List ℕ → ReadStep A) (Enough : A → ℕ → Type 0) : Type 0 where
-  pub same : (len : ℕ) (front tail : List ℕ) → n ≤ length front → Same Enough tail (step len front) (step (len + length tail) (front ++ tail))
+  pub same : (len : ℕ) (front tail : List ℕ) → n ≤ length front
+      → Same Enough tail (step len front) (step (len + length tail) (front ++ tail))
   pub took : (len : ℕ) (bytes : List ℕ) (x : A × List ℕ) → step len bytes ≡ Ok x → Took n bytes x.1
 
 -- what was read of a front is what reading gives of all that is left, of which this stays
@@ -26,9 +27,11 @@ abbrev pub Tells : {A : Type 0} → ReadStep A → ReadStep A → List ℕ → T
 Tells (Ok x) whole rest = whole ≡ Ok (x.0, rest)
 Tells (Err e) whole rest = whole ≡ Err e
 
-from_same : {A : Type 0} (Enough : A → ℕ → Type 0) (tail rest : List ℕ) (front whole : ReadStep A) → Same Enough tail front whole
+from_same : {A : Type 0} (Enough : A → ℕ → Type 0) (tail rest : List ℕ) (front whole : ReadStep A)
+    → Same Enough tail front whole
     → ((x : A × List ℕ) → whole ≡ Ok x → x.1 ≡ rest) → Tells front whole rest
-from_same Enough tail rest (Ok x) whole same took = same.0 ∙ ap (λ (l : List ℕ). Ok (x.0, l)) (took (x.0, x.1 ++ tail) same.0)
+from_same Enough tail rest (Ok x) whole same took =
+    same.0 ∙ ap (λ (l : List ℕ). Ok (x.0, l)) (took (x.0, x.1 ++ tail) same.0)
 from_same Enough tail rest (Err e) whole same took = same
 
 from_equal : {A : Type 0} (rest : List ℕ) (front whole : ReadStep A) → front ≡ whole
@@ -37,13 +40,15 @@ from_equal rest (Ok x) whole e took = sym e ∙ ap (λ (l : List ℕ). Ok (x.0, 
 from_equal rest (Err r) whole e took = sym e
 
 -- a front that has all that is wanted, or all that is left
-pub front_tells : {A : Type 0} (n : ℕ) (step : ℕ → List ℕ → ReadStep A) (Enough : A → ℕ → Type 0) → IsLocal n step Enough
+pub front_tells : {A : Type 0} (n : ℕ) (step : ℕ → List ℕ → ReadStep A) (Enough : A → ℕ → Type 0)
+    → IsLocal n step Enough
     → (bytes front : List ℕ) (at count : ℕ) → at ≤ length bytes → count ≡ min n (length bytes - at) → front ≡ take count (drop at bytes)
     → Tells (step (at + count) front) (step (length bytes) (drop at bytes)) (drop (at + n) bytes)
 front_tells {A} n step Enough local bytes front at count within counted is =
     let here : List ℕ = drop at bytes in
     let left : length here ≡ length bytes - at = length-drop at bytes in
-    let took : (x : A × List ℕ) → step (length bytes) here ≡ Ok x → x.1 ≡ drop (at + n) bytes = λ x e. (local.took (length bytes) here x e).left ∙ drop-drop n at bytes in
+    let took : (x : A × List ℕ) → step (length bytes) here ≡ Ok x → x.1 ≡ drop (at + n) bytes =
+    λ x e. (local.took (length bytes) here x e).left ∙ drop-drop n at bytes in
     elim (cases_lt (length here) n) [
       | inl short ↦
           let all : count ≡ length here = omega arith in
@@ -55,7 +60,8 @@ front_tells {A} n step Enough local bytes front at count within counted is =
           let tail : List ℕ = drop count here in
           let end : at + count + length tail ≡ length bytes = omega (arith, length-drop count here) in
           let both : front ++ tail ≡ here = ap (λ (l : List ℕ). l ++ tail) is ∙ take-append-drop count here in
-          let enough : n ≤ length front = omega (arith, ap length is ∙ length-take-le count here (omega arith)) in
+          let enough : n ≤ length front =
+          omega (arith, ap length is ∙ length-take-le count here (omega arith)) in
           from_same Enough tail (drop (at + n) bytes) (step (at + count) front) (step (length bytes) here)
           (subst (λ (y : ReadStep A). Same Enough tail (step (at + count) front) y) (λ i. step (end i) (both i)) (local.same (at + count) front tail enough)) took
     ]
@@ -90,10 +96,12 @@ local_bounds left = record {
 
 -- ---- answers
 
-pub told_value : {A : Type 0} (front whole : ReadStep A) (rest left : List ℕ) (x : A) → front ≡ Ok (x, left) → Tells front whole rest → whole ≡ Ok (x, rest)
+pub told_value : {A : Type 0} (front whole : ReadStep A) (rest left : List ℕ) (x : A) → front ≡ Ok (x, left)
+    → Tells front whole rest → whole ≡ Ok (x, rest)
 told_value front whole rest left x e tells = subst (λ y. Tells y whole rest) e tells
 
-pub told_fault : {A : Type 0} (error : CoreError) (front whole : ReadStep A) (rest : List ℕ) → CoreFails error front → Tells front whole rest → Fails (page_error_of error) whole
+pub told_fault : {A : Type 0} (error : CoreError) (front whole : ReadStep A) (rest : List ℕ)
+    → CoreFails error front → Tells front whole rest → Fails (page_error_of error) whole
 told_fault (Fault at why) front whole rest e tells = subst (λ y. Tells y whole rest) e tells
 told_fault OutOfMemory front whole rest e tells = tt
 
@@ -105,22 +113,28 @@ pub record IsFront (bytes piece : List ℕ) (len at count end n : ℕ) : Type 0 
   pub ends : at + count ≡ end
   pub is : take count piece ≡ take count (drop at bytes)
 
-tells : {A : Type 0} (n : ℕ) (step : ℕ → List ℕ → ReadStep A) (Enough : A → ℕ → Type 0) → IsLocal n step Enough
+tells : {A : Type 0} (n : ℕ) (step : ℕ → List ℕ → ReadStep A) (Enough : A → ℕ → Type 0)
+    → IsLocal n step Enough
     → (bytes piece : List ℕ) (len at count end : ℕ) → IsFront bytes piece len at count end n
     → Tells (step end (take count piece)) (step len (drop at bytes)) (drop (at + n) bytes)
 tells n step Enough local bytes piece len at count end front =
-    subst (λ (k : ℕ). Tells (step end (take count piece)) (step k (drop at bytes)) (drop (at + n) bytes)) front.length_is
+    subst
+    (λ (k : ℕ). Tells (step end (take count piece)) (step k (drop at bytes)) (drop (at + n) bytes)) front.length_is
     (subst (λ (k : ℕ). Tells (step k (take count piece)) (step (length bytes) (drop at bytes)) (drop (at + n) bytes)) front.ends
     (front_tells n step Enough local bytes (take count piece) at count (omega (arith, front.length_is, front.within)) (omega (arith, front.length_is, front.counted)) front.is))
 
-pub front_value : {A : Type 0} (n : ℕ) (step : ℕ → List ℕ → ReadStep A) (Enough : A → ℕ → Type 0) → IsLocal n step Enough
+pub front_value : {A : Type 0} (n : ℕ) (step : ℕ → List ℕ → ReadStep A) (Enough : A → ℕ → Type 0)
+    → IsLocal n step Enough
     → (bytes piece left : List ℕ) (len at count end : ℕ) (x : A) → IsFront bytes piece len at count end n
     → step end (take count piece) ≡ Ok (x, left) → step len (drop at bytes) ≡ Ok (x, drop (at + n) bytes)
 front_value n step Enough local bytes piece left len at count end x front e =
-    told_value (step end (take count piece)) (step len (drop at bytes)) (drop (at + n) bytes) left x e (tells n step Enough local bytes piece len at count end front)
+    told_value (step end (take count piece)) (step len (drop at bytes)) (drop (at + n) bytes) left x e
+    (tells n step Enough local bytes piece len at count end front)
 
-pub front_fault : {A : Type 0} (n : ℕ) (step : ℕ → List ℕ → ReadStep A) (Enough : A → ℕ → Type 0) → IsLocal n step Enough
+pub front_fault : {A : Type 0} (n : ℕ) (step : ℕ → List ℕ → ReadStep A) (Enough : A → ℕ → Type 0)
+    → IsLocal n step Enough
     → (bytes piece : List ℕ) (len at count end : ℕ) (error : CoreError) → IsFront bytes piece len at count end n
     → CoreFails error (step end (take count piece)) → Fails (page_error_of error) (step len (drop at bytes))
 front_fault n step Enough local bytes piece len at count end error front e =
-    told_fault error (step end (take count piece)) (step len (drop at bytes)) (drop (at + n) bytes) e (tells n step Enough local bytes piece len at count end front)
+    told_fault error (step end (take count piece)) (step len (drop at bytes)) (drop (at + n) bytes) e
+    (tells n step Enough local bytes piece len at count end front)

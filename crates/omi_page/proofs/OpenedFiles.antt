@@ -26,7 +26,8 @@ file_is_core bytes p are read = by_answer (some_answer bytes are)
     by_answer (inr (at, why, refused)) = let both = sym read ∙ refused in absurd cc
 
 -- a core has no fault
-pub core_opens : (error : PageError) (bytes : List ℕ) (c : CoreImage) (P : Type 0) → Fails error (reading bytes) → Core bytes c
+pub core_opens : (error : PageError) (bytes : List ℕ) (c : CoreImage) (P : Type 0)
+    → Fails error (reading bytes) → Core bytes c
     → UnlessFreeError error P
 core_opens (Fault at why) bytes c P failed is = let both = sym (read_core bytes c is) ∙ failed in absurd cc
 core_opens NoFile bytes c P failed is = absurd failed
@@ -45,7 +46,8 @@ pub same_parts : (bytes : List ℕ) (a b : Parts) → reading bytes ≡ Ok a →
 same_parts bytes a b is_a is_b = ok_is a b (sym is_a ∙ is_b)
 
 -- what is told of a core's file is what the core tells
-pub tells_core : (told : FileTold) (bytes : List ℕ) (c : CoreImage) → Holds told bytes → Core bytes c → told_by_file told ≡ told_by c
+pub tells_core : (told : FileTold) (bytes : List ℕ) (c : CoreImage) → Holds told bytes → Core bytes c
+    → told_by_file told ≡ told_by c
 tells_core told bytes c holds is = ap told_by_file holds ∙ ap told_by_reading (read_core bytes c is)
 
 -- nothing is kept at first

@@ -11,6 +11,7 @@ read_on bytes old piece rest at done count within fits so_far read =
     let front : length (take done old) ≡ done = length-take-le done old within in
     ap (λ n. take (n + count) (take done old ++ (piece ++ rest))) (sym front)
     ∙ take-append-add (take done old) (piece ++ rest) count
-    ∙ ap (λ (l : List ℕ). take done old ++ l) (take-append-le count piece rest fits ∙ read ∙ ap (take count) (sym (drop-drop done at bytes)))
+    ∙ ap (λ (l : List ℕ). take done old ++ l)
+    (take-append-le count piece rest fits ∙ read ∙ ap (take count) (sym (drop-drop done at bytes)))
     ∙ ap (λ (l : List ℕ). l ++ take count (drop done (drop at bytes))) so_far
     ∙ sym (take-add done count (drop at bytes))

@@ -5,7 +5,9 @@ use Rattle.omi_calls.specs.Told.{aligned_word_at}
 use Rattle.omi_word.specs.SymbolTable.{words_from}
 use Rattle.omi_page.specs.AllWords.{all_words}
 
-pub five_are : (words : Words) (at : ℕ) (first second third fourth fifth : Option ℕ) → first ≡ aligned_word_at words at → second ≡ aligned_word_at words (at + 8) → third ≡ aligned_word_at words (at + 16)
+pub five_are : (words : Words) (at : ℕ) (first second third fourth fifth : Option ℕ)
+    → first ≡ aligned_word_at words at → second ≡ aligned_word_at words (at + 8)
+    → third ≡ aligned_word_at words (at + 16)
     → fourth ≡ aligned_word_at words (at + 24) → fifth ≡ aligned_word_at words (at + 32) → all_words (first ∷ second ∷ third ∷ fourth ∷ fifth ∷ []) ≡ words_from (aligned_word_at words) at 5
 five_are words at first second third fourth fifth is1 is2 is3 is4 is5 =
     let here3 : at + 16 ≡ at + 8 + 8 = omega arith in

@@ -20,7 +20,8 @@ use Rattle.omi_page.specs.Paging.{IsPage, ArePartsOf}
 
 -- ---- the words of a span
 
-words_get : (bytes : List ℕ) (at count j : ℕ) → j < count → slice_get (words_there bytes at count) j ≡ Some (word_there bytes (at + 8 * j))
+words_get : (bytes : List ℕ) (at count j : ℕ) → j < count
+    → slice_get (words_there bytes at count) j ≡ Some (word_there bytes (at + 8 * j))
 unfolding words_there
 words_get bytes at zero j below = absurd (omega arith)
 words_get bytes at (suc count) zero below =
@@ -36,7 +37,8 @@ words_past bytes at zero j past = refl
 words_past bytes at (suc count) zero past = absurd (omega arith)
 words_past bytes at (suc count) (suc j) past = words_past bytes (at + 8) count j (omega arith)
 
-span_words : (bytes : List ℕ) (s : Span) (addr : ℕ) → addr % 8 ≡ 0 → word_of (segment_there bytes s) addr ≡ option_map (word_there bytes) (place_of s addr)
+span_words : (bytes : List ℕ) (s : Span) (addr : ℕ) → addr % 8 ≡ 0
+    → word_of (segment_there bytes s) addr ≡ option_map (word_there bytes) (place_of s addr)
 span_words bytes s addr aligned =
     elim (cases_lt addr s.start) [
       | inl before ↦ let low : leb s.start addr ≡ false = grind (arith, nat_tests) in rw low refl
@@ -47,20 +49,25 @@ span_words bytes s addr aligned =
           let there : 8 * j ≡ addr - s.start = omega arith in
           elim (cases_lt addr (s.start + 8 * s.count)) [
             | inl below ↦
-                let high : ltb addr (s.start + 8 * s.count) ≡ true = lt-ltb addr (s.start + 8 * s.count) below in
-                rw (low, high) (words_get bytes s.place s.count j (omega arith) ∙ ap (λ (n : ℕ). Some (word_there bytes (s.place + n))) there)
+                let high : ltb addr (s.start + 8 * s.count) ≡ true =
+                lt-ltb addr (s.start + 8 * s.count) below in
+                rw (low, high)
+                (words_get bytes s.place s.count j (omega arith) ∙ ap (λ (n : ℕ). Some (word_there bytes (s.place + n))) there)
             | inr past ↦
-                let high : ltb addr (s.start + 8 * s.count) ≡ false = le-ltb addr (s.start + 8 * s.count) past in
+                let high : ltb addr (s.start + 8 * s.count) ≡ false =
+                le-ltb addr (s.start + 8 * s.count) past in
                 rw (low, high) (words_past bytes s.place s.count j (omega arith))
           ]
     ]
 
-map_or : {A B : Type 0} (f : A → B) (a b : Option A) → option_or (option_map f a) (option_map f b) ≡ option_map f (option_or a b)
+map_or : {A B : Type 0} (f : A → B) (a b : Option A)
+    → option_or (option_map f a) (option_map f b) ≡ option_map f (option_or a b)
 map_or f None b = refl
 map_or f (Some x) b = refl
 
 -- the word at an address is the one at its place
-pub place_words : (bytes : List ℕ) (spans : List Span) (addr : ℕ) → addr % 8 ≡ 0 → words_of_segments (segments_there bytes spans) addr ≡ option_map (word_there bytes) (place_in spans addr)
+pub place_words : (bytes : List ℕ) (spans : List Span) (addr : ℕ) → addr % 8 ≡ 0
+    → words_of_segments (segments_there bytes spans) addr ≡ option_map (word_there bytes) (place_in spans addr)
 place_words bytes [] addr aligned = refl
 place_words bytes (s ∷ spans) addr aligned =
     (λ i. option_or (span_words bytes s addr aligned i) (place_words bytes spans addr aligned i))
@@ -84,7 +91,8 @@ same_words a b e = ap (λ o. unwrapped o) e
     unwrapped (Some w) = w
     unwrapped None = a
 
-by_reading : (bytes : List ℕ) (words : Words) (read : Result Parts ReadRefusal) → reading bytes ≡ read → (told_by_reading read).words ≡ Some words → Tells (Some (Some bytes)) words
+by_reading : (bytes : List ℕ) (words : Words) (read : Result Parts ReadRefusal) → reading bytes ≡ read
+    → (told_by_reading read).words ≡ Some words → Tells (Some (Some bytes)) words
 by_reading bytes words (Ok parts) is e = record {
   bytes = bytes;
   parts = parts;
@@ -110,7 +118,8 @@ pub record TellsPlaces (told : FileTold) (spans : List Span) (words : Words) (ad
 same_order : (a b : ℕ) → (let some : ℕ → Option ℕ = λ n. Some n in some a ≡ some b) → a ≡ b
 same_order a b e = cc
 
-pub tells_places : (told : FileTold) (contexts : List ℕ) (spans : List Span) (words : Words) (addr : ℕ) → (told_by_file told).words ≡ Some words
+pub tells_places : (told : FileTold) (contexts : List ℕ) (spans : List Span) (words : Words) (addr : ℕ)
+    → (told_by_file told).words ≡ Some words
     → ArePartsOf told contexts spans → addr % 8 ≡ 0 → TellsPlaces told spans words addr
 tells_places told contexts spans words addr e parts aligned =
     let t = tells told words e in
@@ -137,26 +146,30 @@ some_there f None stands = absurd cc
 some_there f (Some at) stands = refl
 
 -- no word stands there
-pub not_mapped : (told : FileTold) (contexts : List ℕ) (spans : List Span) (words : Words) (addr : ℕ) → (told_by_file told).words ≡ Some words
+pub not_mapped : (told : FileTold) (contexts : List ℕ) (spans : List Span) (words : Words) (addr : ℕ)
+    → (told_by_file told).words ≡ Some words
     → ArePartsOf told contexts spans → addr % 8 ≡ 0 → is_some (place_in spans addr) ≡ false → aligned_word_at words addr ≡ None
 not_mapped told contexts spans words addr e parts aligned lacks =
     let t = tells_places told contexts spans words addr e parts aligned in
     t.word_is ∙ none_there (word_there t.bytes) (place_in spans addr) lacks
 
 -- a word stands there
-pub mapped : (told : FileTold) (contexts : List ℕ) (spans : List Span) (words : Words) (addr : ℕ) → (told_by_file told).words ≡ Some words
+pub mapped : (told : FileTold) (contexts : List ℕ) (spans : List Span) (words : Words) (addr : ℕ)
+    → (told_by_file told).words ≡ Some words
     → ArePartsOf told contexts spans → addr % 8 ≡ 0 → is_some (place_in spans addr) ≡ true → IsSome (aligned_word_at words addr)
 mapped told contexts spans words addr e parts aligned stands =
     let t = tells_places told contexts spans words addr e parts aligned in
     subst IsSome (sym t.word_is) (some_there (word_there t.bytes) (place_in spans addr) stands)
 
-by_place : (bytes word : List ℕ) (o : Option ℕ) → is_some o ≡ true → ((at : ℕ) → o ≡ Some at → word ≡ eight_at bytes at)
+by_place : (bytes word : List ℕ) (o : Option ℕ) → is_some o ≡ true
+    → ((at : ℕ) → o ≡ Some at → word ≡ eight_at bytes at)
     → option_map (word_there bytes) o ≡ Some (number_of 0 word)
 by_place bytes word None stands is = absurd cc
 by_place bytes word (Some at) stands is = ap (λ (w : List ℕ). Some (from_le_bytes w64 w)) (sym (is at refl))
 
 -- the word is the one in the page
-pub in_page : (told : FileTold) (contexts : List ℕ) (spans : List Span) (words : Words) (order addr : ℕ) (word items : List ℕ) → (told_by_file told).words ≡ Some words → (told_by_file told).order ≡ Some order
+pub in_page : (told : FileTold) (contexts : List ℕ) (spans : List Span) (words : Words) (order addr : ℕ) (word items : List ℕ)
+    → (told_by_file told).words ≡ Some words → (told_by_file told).order ≡ Some order
     → ArePartsOf told contexts spans → addr % 8 ≡ 0 → is_some (place_in spans addr) ≡ true
     → ((bytes : List ℕ) → Holds told bytes → IsPage bytes spans (addr / 4096) items) → word ≡ eight_at items (addr % 4096)
     → aligned_word_at words addr ≡ Some (number_of order word)
@@ -166,11 +179,13 @@ in_page told contexts spans words order addr word items e told_order parts align
     let offset_aligned : addr % 4096 % 8 ≡ 0 = omega arith in
     let inside : addr % 4096 < 4096 = omega arith in
     t.word_is
-    ∙ by_place t.bytes word (place_in spans addr) stands (λ at there. is ∙ page t.bytes t.holds (addr % 4096) at offset_aligned inside (ap (place_in spans) here ∙ there))
+    ∙ by_place t.bytes word (place_in spans addr) stands
+    (λ at there. is ∙ page t.bytes t.holds (addr % 4096) at offset_aligned inside (ap (place_in spans) here ∙ there))
     ∙ ap (λ o. Some (number_of o word)) (sym (t.order_is order told_order))
 
 -- where words are told, the order that is told is 0
-pub told_order : (told : FileTold) (contexts : List ℕ) (spans : List Span) (words : Words) → (told_by_file told).words ≡ Some words → ArePartsOf told contexts spans
+pub told_order : (told : FileTold) (contexts : List ℕ) (spans : List Span) (words : Words)
+    → (told_by_file told).words ≡ Some words → ArePartsOf told contexts spans
     → (told_by_file told).order ≡ Some 0
 told_order told contexts spans words e parts =
     let t = tells told words e in
@@ -183,7 +198,8 @@ pub record TellsSymbols (told : FileTold) (symbols : Symbols) : Type 0 where
   pub told_words : (told_by_file told).words ≡ Some words
   pub symbols_are : symbol_in (aligned_word_at words) ≡ symbols
 
-symbols_by : (bytes : List ℕ) (symbols : Symbols) (read : Result Parts ReadRefusal) → reading bytes ≡ read → (told_by_reading read).symbols ≡ Some symbols → TellsSymbols (Some (Some bytes)) symbols
+symbols_by : (bytes : List ℕ) (symbols : Symbols) (read : Result Parts ReadRefusal) → reading bytes ≡ read
+    → (told_by_reading read).symbols ≡ Some symbols → TellsSymbols (Some (Some bytes)) symbols
 symbols_by bytes symbols (Ok parts) is e = record {
   words = words_of_segments parts.segments;
   told_words = ap (λ r. (told_by_reading r).words) is;
@@ -191,18 +207,22 @@ symbols_by bytes symbols (Ok parts) is e = record {
 }
 symbols_by bytes symbols (Err refusal) is e = absurd cc
 
-pub tells_symbols : (told : FileTold) (symbols : Symbols) → (told_by_file told).symbols ≡ Some symbols → TellsSymbols told symbols
+pub tells_symbols : (told : FileTold) (symbols : Symbols) → (told_by_file told).symbols ≡ Some symbols
+    → TellsSymbols told symbols
 tells_symbols (Some (Some bytes)) symbols e = symbols_by bytes symbols (reading bytes) refl e
 tells_symbols (Some None) symbols e = absurd cc
 tells_symbols None symbols e = absurd cc
 
 -- an order that is told is 0
-order_by : (bytes : List ℕ) (order : ℕ) (read : Result Parts ReadRefusal) → reading bytes ≡ read → (told_by_reading read).order ≡ Some order
+order_by : (bytes : List ℕ) (order : ℕ) (read : Result Parts ReadRefusal) → reading bytes ≡ read
+    → (told_by_reading read).order ≡ Some order
     → ((parts : Parts) → reading bytes ≡ Ok parts → parts.order ≡ 0) → order ≡ 0
 order_by bytes order (Ok parts) is e none = let same : parts.order ≡ order = cc in sym same ∙ none parts is
 order_by bytes order (Err refusal) is e none = absurd cc
 
-pub no_other_order : (told : FileTold) (contexts : List ℕ) (spans : List Span) (order : ℕ) → ArePartsOf told contexts spans → (told_by_file told).order ≡ Some order → order ≡ 0
-no_other_order (Some (Some bytes)) contexts spans order parts e = order_by bytes order (reading bytes) refl e (λ p read. (parts bytes p refl read).0)
+pub no_other_order : (told : FileTold) (contexts : List ℕ) (spans : List Span) (order : ℕ)
+    → ArePartsOf told contexts spans → (told_by_file told).order ≡ Some order → order ≡ 0
+no_other_order (Some (Some bytes)) contexts spans order parts e =
+    order_by bytes order (reading bytes) refl e (λ p read. (parts bytes p refl read).0)
 no_other_order (Some None) contexts spans order parts e = absurd cc
 no_other_order None contexts spans order parts e = absurd cc

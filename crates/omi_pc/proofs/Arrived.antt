@@ -20,7 +20,8 @@ module _ (p : Program) (c : Context) (n : ℕ) (implicit : c.implicit ≡ true) 
   master_stays : (saved : Context) → IsMasterOf saved c → IsMasterOf saved (arrived n c)
   master_stays saved is = record { implicit = is.implicit; number = is.number; depth = is.depth }
 
-  stands_stays : (f : ℕ) (fs : List Frame) (o : Opened) → StandsOn p c f fs o → StandsOn p (arrived n c) f fs o
+  stands_stays : (f : ℕ) (fs : List Frame) (o : Opened) → StandsOn p c f fs o
+      → StandsOn p (arrived n c) f fs o
   stands_stays f fs opened.Main stands = (stands.0, first_stays stands.1, stands.2)
   stands_stays f fs opened.Worker stands = (stands.0, first_stays stands.1, stands.2)
   stands_stays f fs (opened.Master saved) stands = (stands.0, stands.1, master_stays saved stands.2)
@@ -29,7 +30,8 @@ module _ (p : Program) (c : Context) (n : ℕ) (implicit : c.implicit ≡ true) 
   stands_stays f fs (opened.Repeat left) stands = stands
   stands_stays f fs (opened.Critical k) stands = stands
 
-  under_stays : (f : ℕ) (fs : List Frame) (o : Opened) → StandsOn p c f fs o → AreOpen p (context_under c o) fs → (AreOpen p c fs → AreOpen p (arrived n c) fs)
+  under_stays : (f : ℕ) (fs : List Frame) (o : Opened) → StandsOn p c f fs o
+      → AreOpen p (context_under c o) fs → (AreOpen p c fs → AreOpen p (arrived n c) fs)
       → AreOpen p (context_under (arrived n c) o) fs
   under_stays f fs opened.Main stands bodies more = more bodies
   under_stays f fs opened.Worker stands bodies more = more bodies

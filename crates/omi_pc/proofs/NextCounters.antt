@@ -64,7 +64,8 @@ module _ (P : Counter → Type 0) (next : HoldsNext P) where
   ended_next debug o a = next.plain plain.Return tt
 
   module _ (p : Program) where
-    settled_by_next : (a : Actor) (f : Frame) (fs : List Frame) (s : Option Stmt) → P (settled_by p a f fs s).counter
+    settled_by_next : (a : Actor) (f : Frame) (fs : List Frame) (s : Option Stmt)
+        → P (settled_by p a f fs s).counter
     settled_by_next a f fs (Some s) = begun_next P next.plain s (record a { stack = advanced f ∷ fs })
     settled_by_next a f fs None = ended_next p.env.debug f.opened a
 

@@ -31,5 +31,6 @@ main_open p =
 
 pub opened_fits : (p : Program) (thread : ℕ) → thread < p.threads → Fits p (opening_actor p thread)
 opened_fits p zero within =
-    settled_fits p (record (waiting_actor 0) { stack = at_start p.main Main ∷ [] }) (record { thread = within; variables = refl; bodies = main_open p; some = omega arith })
+    settled_fits p (record (waiting_actor 0) { stack = at_start p.main Main ∷ [] })
+    (record { thread = within; variables = refl; bodies = main_open p; some = omega arith })
 opened_fits p (suc i) within = record { thread = within; variables = refl; bodies = tt; counter = refl }

@@ -22,7 +22,8 @@ body_within fs f =
     ⊎_elim
     (λ (there : (g : Func) × (f < length fs) × (slice_get fs f ≡ Some g) × (get_or fs f g ≡ g)).
     let size : length (body_of fs f) ≡ length there.0.body = ap body_size there.2 in
-    let same : length (get_or fs f there.0).body ≡ length there.0.body = ap (λ (g : Func). length g.body) there.3 in
+    let same : length (get_or fs f there.0).body ≡ length there.0.body =
+    ap (λ (g : Func). length g.body) there.3 in
     let part = get_or-le-sum_by (λ (g : Func). length g.body) fs f there.0 there.1 in
     omega (arith, size, same, part))
     (λ (past : (length fs ≤ f) × (slice_get fs f ≡ None)).
@@ -33,7 +34,8 @@ body_within fs f =
     body_size o = length (option_map_or (λ (g : Func). g.body) o [])
 
 -- a position is at most that behind all statements of a program
-pub position_within : (p : Program) (c : Context) (f : Frame) (fs : List Frame) → AreOpen p c (f ∷ fs) → f.next ≤ MAX_STATEMENTS
+pub position_within : (p : Program) (c : Context) (f : Frame) (fs : List Frame) → AreOpen p c (f ∷ fs)
+    → f.next ≤ MAX_STATEMENTS
 position_within p c f fs bodies =
     let short = (Rules-from_accepted p).statements in
     let within = body_within p.funcs f.function in
@@ -41,12 +43,14 @@ position_within p c f fs bodies =
     omega (arith, short, within, next)
 
 -- another frame at the top leaves the room
-pub room_with_top : (p : Program) (c : Context) (f : Frame) (fs : List Frame) → AreOpen p c fs → length (with_top f fs) < STACK_ROOM
+pub room_with_top : (p : Program) (c : Context) (f : Frame) (fs : List Frame) → AreOpen p c fs
+    → length (with_top f fs) < STACK_ROOM
 room_with_top p c f [] bodies = omega arith
 room_with_top p c f (g ∷ gs) bodies = let few = bodies_have_room p c (g ∷ gs) bodies in omega (arith, few)
 
 -- the same of the innermost body
-pub position_of_top : (p : Program) (c : Context) (fs : List Frame) (f : Frame) → top_of fs ≡ Some f → AreOpen p c fs → f.next ≤ MAX_STATEMENTS
+pub position_of_top : (p : Program) (c : Context) (fs : List Frame) (f : Frame) → top_of fs ≡ Some f
+    → AreOpen p c fs → f.next ≤ MAX_STATEMENTS
 position_of_top p c [] f is bodies = absurd (cc)
 position_of_top p c (g ∷ gs) f is bodies =
     let same : g ≡ f = cc in subst (λ (h : Frame). h.next ≤ MAX_STATEMENTS) same (position_within p c g gs bodies)

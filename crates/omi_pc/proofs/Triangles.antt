@@ -12,14 +12,16 @@ triangle (suc n) = triangle n + suc n
 pub triangle_below : (m n : ℕ) → m < n → triangle m + m + 1 ≤ triangle n
 triangle_below m zero below = absurd (omega arith)
 triangle_below m (suc n) below =
-    ⊎_elim (λ (less : m < n). let more : triangle m + m + 1 ≤ triangle n = triangle_below m n less in omega arith)
+    ⊎_elim
+    (λ (less : m < n). let more : triangle m + m + 1 ≤ triangle n = triangle_below m n less in omega arith)
     (λ (least : n ≤ m). let same : m ≡ n = omega arith in let row : triangle m ≡ triangle n = ap triangle same in omega arith)
     (cases_lt m n)
 
 -- one body more: of a smaller function than the task below, or than the body outside it
 one_more : (b : Bool) (x task outer count n : ℕ) → x < cond b task outer → count + outer + triangle task ≤ n
     → count + 1 + x + triangle (cond b x task) ≤ n
-one_more true x task outer count n below fits = let row : triangle x + x + 1 ≤ triangle task = triangle_below x task below in omega arith
+one_more true x task outer count n below fits =
+    let row : triangle x + x + 1 ≤ triangle task = triangle_below x task below in omega arith
 one_more false x task outer count n below fits = omega arith
 
 -- the outermost body
@@ -34,5 +36,7 @@ few_go_down n [] down begins = omega arith
 few_go_down n (f ∷ []) down begins = one_body (opens_task f.opened) f.function n begins
 few_go_down n (f ∷ g ∷ gs) down begins =
     let rest = few_go_down n (g ∷ gs) down.1 begins in
-    let more = one_more (opens_task f.opened) f.function (task_function (g ∷ gs)) g.function (length (g ∷ gs)) (triangle n) down.0 rest in
+    let more =
+    one_more (opens_task f.opened) f.function (task_function (g ∷ gs)) g.function (length (g ∷ gs))
+    (triangle n) down.0 rest in
     omega arith

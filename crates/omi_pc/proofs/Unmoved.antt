@@ -44,7 +44,8 @@ ended_differs a debug opened.Call = same a _ _
 ended_differs a debug (opened.Repeat left) = same a _ _
 ended_differs a debug (opened.Critical k) = same a _ _
 
-settles_by : (p : Program) (a : Actor) (f : Frame) (fs : List Frame) (o : Option Stmt) → DifferInBodies a (settled_by p a f fs o)
+settles_by : (p : Program) (a : Actor) (f : Frame) (fs : List Frame) (o : Option Stmt)
+    → DifferInBodies a (settled_by p a f fs o)
 settles_by p a f fs (Some s) = begun_differs a (advanced f ∷ fs) s
 settles_by p a f fs None = ended_differs a p.env.debug f.opened
 
@@ -56,17 +57,20 @@ pub settled_differs : (p : Program) (a : Actor) → DifferInBodies a (settled p 
 settled_differs p a = settles_in p a a.stack
 
 -- the same where other bodies were put in before
-settled_elsewhere : (p : Program) (a : Actor) (fs : List Frame) → DifferInBodies a (settled p (record a { stack = fs }))
+settled_elsewhere : (p : Program) (a : Actor) (fs : List Frame)
+    → DifferInBodies a (settled p (record a { stack = fs }))
 settled_elsewhere p a fs =
     let differs = settled_differs p (record a { stack = fs }) in
     record { thread = differs.thread; context = differs.context; gathered = differs.gathered }
 
-round_differs : (a : Actor) (left : ℕ) (f : Frame) (fs : List Frame) → DifferInBodies a (next_round left f fs a)
+round_differs : (a : Actor) (left : ℕ) (f : Frame) (fs : List Frame)
+    → DifferInBodies a (next_round left f fs a)
 round_differs a zero f fs = same a _ _
 round_differs a (suc zero) f fs = same a _ _
 round_differs a (suc (suc left)) f fs = same a _ _
 
-returns_by : (p : Program) (a : Actor) (o : Opened) (f : Frame) (fs : List Frame) → DifferInBodies a (returned_by p o f fs a)
+returns_by : (p : Program) (a : Actor) (o : Opened) (f : Frame) (fs : List Frame)
+    → DifferInBodies a (returned_by p o f fs a)
 returns_by p a opened.Call f fs = settled_elsewhere p a fs
 returns_by p a (opened.Repeat left) f fs = round_differs a left f fs
 returns_by p a (opened.Critical k) f fs = same a _ _
@@ -93,7 +97,8 @@ goes_in p a (f ∷ fs) = goes_at p a f.next
 pub worked_differs : (p : Program) (a : Actor) → DifferInBodies a (worked p a)
 worked_differs p a = goes_in p a a.stack
 
-works_by : (p : Program) (a : Actor) (debug : Bool) → DifferInBodies a (cond debug (goes_to plain.WorkState a) (worked p a))
+works_by : (p : Program) (a : Actor) (debug : Bool)
+    → DifferInBodies a (cond debug (goes_to plain.WorkState a) (worked p a))
 works_by p a true = same a _ _
 works_by p a false = worked_differs p a
 

@@ -43,7 +43,8 @@ some_at_end p P [] at = absurd at
 some_at_end p P (f ∷ fs) at = omega arith
 
 -- and its context has a size
-some_member : (p : Program) (c : Context) (fs : List Frame) → AreOpen p c fs → 0 < length fs → 0 < OWN_SLOTS * c.size
+some_member : (p : Program) (c : Context) (fs : List Frame) → AreOpen p c fs → 0 < length fs
+    → 0 < OWN_SLOTS * c.size
 some_member p c [] bodies some = absurd (omega arith)
 some_member p c (f ∷ fs) bodies some = let least = bodies.0.context.size.0 in omega (arith, least)
 
@@ -64,26 +65,37 @@ module _ (p : Program) (a : Actor) (fits : Fits p a) where
 
   -- ---- a task enters the runtime
 
-  task_fits : (f : ℕ) (undeferred given b : Bool) → IsAt p a.stack (stmt.Task f undeferred given) → Fits p (record a { counter = task_counter b })
+  task_fits : (f : ℕ) (undeferred given b : Bool) → IsAt p a.stack (stmt.Task f undeferred given)
+      → Fits p (record a { counter = task_counter b })
   task_fits f undeferred given true at =
-      there (counter.Task (task.LoadVariable None 0)) (((stmt.Task f undeferred given, at, tt), tt), omega arith)
+      there (counter.Task (task.LoadVariable None 0))
+      (((stmt.Task f undeferred given, at, tt), tt), omega arith)
   task_fits f undeferred given false at =
       there (counter.Task (task.LoadSlot 0)) ((stmt.Task f undeferred given, at, tt), omega arith)
 
   enters_by : (debug final : Bool) (s : Stmt) → Enters s → IsAt p a.stack s → IsImplicitAtBarrier p a
       → Fits p (record a { counter = behind_enter debug final (Some s) })
-  enters_by true final (stmt.Parallel f num) enters at may = there (counter.Team team.OverheadState) (stmt.Parallel f num, at, tt)
-  enters_by false final (stmt.Parallel f num) enters at may = there (counter.Team team.LoadLevels) (stmt.Parallel f num, at, tt)
-  enters_by debug final (stmt.Task f undeferred given) enters at may = task_fits f undeferred given (undeferred || final) at
+  enters_by true final (stmt.Parallel f num) enters at may =
+      there (counter.Team team.OverheadState) (stmt.Parallel f num, at, tt)
+  enters_by false final (stmt.Parallel f num) enters at may =
+      there (counter.Team team.LoadLevels) (stmt.Parallel f num, at, tt)
+  enters_by debug final (stmt.Task f undeferred given) enters at may =
+      task_fits f undeferred given (undeferred || final) at
   enters_by true final stmt.Taskwait enters at may = there (counter.Look (look.State wait.Taskwait)) (at, tt)
   enters_by false final stmt.Taskwait enters at may =
-      there (counter.Look (look.LoadRow wait.Taskwait 0)) ((at, some_member p a.context a.stack fits.bodies (some_at p a.stack stmt.Taskwait at)), refl)
+      there (counter.Look (look.LoadRow wait.Taskwait 0))
+      ((at, some_member p a.context a.stack fits.bodies (some_at p a.stack stmt.Taskwait at)), refl)
   enters_by debug final stmt.Taskyield enters at may =
-      there (counter.Look (look.LoadRow wait.Taskyield 0)) ((at, some_member p a.context a.stack fits.bodies (some_at p a.stack stmt.Taskyield at)), refl)
-  enters_by true final stmt.Barrier enters at may = there (counter.Barrier (barrier.State Explicit)) (at, may at)
-  enters_by false final stmt.Barrier enters at may = there (counter.Barrier (barrier.Arrive Explicit)) (at, may at)
-  enters_by true final (stmt.Critical k f) enters at may = there (counter.Plain plain.LockState) (stmt.Critical k f, at, tt)
-  enters_by false final (stmt.Critical k f) enters at may = there (counter.Plain plain.Lock) (stmt.Critical k f, at, tt)
+      there (counter.Look (look.LoadRow wait.Taskyield 0))
+      ((at, some_member p a.context a.stack fits.bodies (some_at p a.stack stmt.Taskyield at)), refl)
+  enters_by true final stmt.Barrier enters at may =
+      there (counter.Barrier (barrier.State Explicit)) (at, may at)
+  enters_by false final stmt.Barrier enters at may =
+      there (counter.Barrier (barrier.Arrive Explicit)) (at, may at)
+  enters_by true final (stmt.Critical k f) enters at may =
+      there (counter.Plain plain.LockState) (stmt.Critical k f, at, tt)
+  enters_by false final (stmt.Critical k f) enters at may =
+      there (counter.Plain plain.Lock) (stmt.Critical k f, at, tt)
   enters_by debug final _ enters at may = absurd enters
 
   -- ---- and leaves it
@@ -110,7 +122,8 @@ module _ (p : Program) (a : Actor) (fits : Fits p a) where
       ⊎_elim (λ start. some_at_start StartsWorking a.stack start)
       (λ (in_work : (s : Stmt) × IsAt p a.stack s × StoresState s). some_at p a.stack in_work.0 in_work.1) at
 
-  pub fits_behind : (c : PlainCounter) (old : ℕ) → FitsPlain p a c → IsImplicitAtBarrier p a → Fits p (plain_moved p a c old)
+  pub fits_behind : (c : PlainCounter) (old : ℕ) → FitsPlain p a c → IsImplicitAtBarrier p a
+      → Fits p (plain_moved p a c old)
   fits_behind plain.Work old at may = settles stmt.Work at
   fits_behind plain.Call old at may = settled_fits p a (has_task (some_at_start _ a.stack at))
   fits_behind plain.Skip old at may = settles at.0 at.1
@@ -118,7 +131,9 @@ module _ (p : Program) (a : Actor) (fits : Fits p a) where
   fits_behind plain.Set old at may = settles at.0 at.1
   fits_behind plain.Tool old at may = settles (stmt.Tool at.0) at.1
   fits_behind plain.Enter old at may =
-      subst (λ (o : Option Stmt). Fits p (record a { counter = behind_enter p.env.debug a.context.is_final o })) (sym at.1)
+      subst
+      (λ (o : Option Stmt). Fits p (record a { counter = behind_enter p.env.debug a.context.is_final o }))
+      (sym at.1)
       (enters_by p.env.debug a.context.is_final at.0 at.2 at.1 may)
   fits_behind plain.Leave old at may =
       subst (λ (o : Option Stmt). Fits p (left_behind p o a)) (sym at.1) (leaves_by at.0 at.1)

@@ -25,7 +25,8 @@ module _ (p : Program) (w : List ℕ) (v : IsValid w) where
   placed : IsPlaced w (opening_actor p 0)
   placed =
       let a : Actor = record (waiting_actor 0) { stack = at_start p.main Main ∷ [] } in
-      let all : AreContextsPlaced w initial_context (at_start p.main Main ∷ []) = (record { task = first_task; region = first_region; row = first_task }, tt) in
+      let all : AreContextsPlaced w initial_context (at_start p.main Main ∷ []) =
+      (record { task = first_task; region = first_region; row = first_task }, tt) in
       settled_placed p w a (record { bodies = all; counter = tt })
 
   pub opens : {E : Type 0} (r : Result Actor E) → OpeningFits → IfOk r (λ a. a ≡ opening_actor p 0)

@@ -10,7 +10,8 @@ use Rattle.omi_pc.specs.Fits.{ShapeSets}
 use Rattle.omi_plain.specs.StatementLaws.{VariablesAreSetAsRowsSay}
 use Rattle.omi_plain.specs.Statements.{variable_of, word_to_set}
 
-set_as_row : (at : Encounter) (q : Shape) → ShapeSets q → first_item at q ≡ item.Set (variable_of q) (word_to_set q)
+set_as_row : (at : Encounter) (q : Shape) → ShapeSets q
+    → first_item at q ≡ item.Set (variable_of q) (word_to_set q)
 set_as_row at (shape.Sets variable word) sets = refl
 set_as_row at _ sets = absurd sets
 

@@ -56,17 +56,21 @@ module _ (p : Program) (w : List ℕ) where
     ended_placed debug (opened.Repeat left) = record { bodies = all; counter = tt }
     ended_placed debug (opened.Critical k) = record { bodies = all; counter = tt }
 
-  settles_by : (a : Actor) (f : Frame) (fs : List Frame) (o : Option Stmt) → a.stack ≡ f ∷ fs → AreContextsPlaced w a.context (f ∷ fs)
+  settles_by : (a : Actor) (f : Frame) (fs : List Frame) (o : Option Stmt) → a.stack ≡ f ∷ fs
+      → AreContextsPlaced w a.context (f ∷ fs)
       → IsPlaced w (settled_by p a f fs o)
   settles_by a f fs (Some s) is all = begun_placed a (advanced f) fs all s
   settles_by a f fs None is all =
-      ended_placed a (subst (λ (gs : List Frame). AreContextsPlaced w a.context gs) (sym is) all) p.env.debug f.opened
+      ended_placed a
+      (subst (λ (gs : List Frame). AreContextsPlaced w a.context gs) (sym is) all) p.env.debug f.opened
 
   -- a plain counter names no record
-  plainly : (a : Actor) (c : PlainCounter) → a.counter ≡ counter.Plain c → AreContextsPlaced w a.context a.stack → IsPlaced w a
+  plainly : (a : Actor) (c : PlainCounter) → a.counter ≡ counter.Plain c
+      → AreContextsPlaced w a.context a.stack → IsPlaced w a
   plainly a c is all = record { bodies = all; counter = subst (λ (d : Counter). IsPlacedCounter w a d) (sym is) tt }
 
-  settles_in : (a : Actor) (fs : List Frame) → a.stack ≡ fs → AreContextsPlaced w a.context fs → IsPlaced w a → IsPlaced w (settled_in p a fs)
+  settles_in : (a : Actor) (fs : List Frame) → a.stack ≡ fs → AreContextsPlaced w a.context fs → IsPlaced w a
+      → IsPlaced w (settled_in p a fs)
   settles_in a [] is all at = at
   settles_in a (f ∷ fs) is all at = settles_by a f fs (next_statement p f) is all
 
@@ -77,8 +81,10 @@ module _ (p : Program) (w : List ℕ) where
 
   module _ (a : Actor) (c : PlainCounter) (is : a.counter ≡ counter.Plain c) (at : IsPlaced w a) where
     module _ (f : Frame) (fs : List Frame) (all : AreContextsPlaced w a.context (f ∷ fs)) where
-      under : (o : Opened) → f.opened ≡ o → context_under a.context o ≡ a.context → AreContextsPlaced w a.context fs
-      under o how same = subst (λ (d : Context). AreContextsPlaced w d fs) (ap (context_under a.context) how ∙ same) all.1
+      under : (o : Opened) → f.opened ≡ o → context_under a.context o ≡ a.context
+          → AreContextsPlaced w a.context fs
+      under o how same =
+          subst (λ (d : Context). AreContextsPlaced w d fs) (ap (context_under a.context) how ∙ same) all.1
 
       round_placed : (left : ℕ) → AreContextsPlaced w a.context fs → IsPlaced w (next_round left f fs a)
       round_placed zero rest = record { bodies = rest; counter = tt }
@@ -91,7 +97,8 @@ module _ (p : Program) (w : List ℕ) where
       returns_by (opened.Master saved) how = at
       returns_by (opened.Task wait saved) how = at
       returns_by opened.Call how =
-          settled_placed (record a { stack = fs }) (plainly (record a { stack = fs }) c is (under opened.Call how refl))
+          settled_placed (record a { stack = fs })
+          (plainly (record a { stack = fs }) c is (under opened.Call how refl))
       returns_by (opened.Repeat left) how = round_placed left (under (opened.Repeat left) how refl)
       returns_by (opened.Critical k) how = record { bodies = under (opened.Critical k) how refl; counter = tt }
 
@@ -123,7 +130,8 @@ module _ (p : Program) (w : List ℕ) where
     task_placed true = record { bodies = at.bodies; counter = tt }
     task_placed false = record { bodies = at.bodies; counter = tt }
 
-    enters_by : (debug final : Bool) (o : Option Stmt) → IsPlaced w (record a { counter = behind_enter debug final o })
+    enters_by : (debug final : Bool) (o : Option Stmt)
+        → IsPlaced w (record a { counter = behind_enter debug final o })
     enters_by true final (Some (stmt.Parallel f num)) = record { bodies = at.bodies; counter = tt }
     enters_by false final (Some (stmt.Parallel f num)) = record { bodies = at.bodies; counter = tt }
     enters_by debug final (Some (stmt.Task f undeferred given)) = task_placed (undeferred || final)
@@ -136,7 +144,8 @@ module _ (p : Program) (w : List ℕ) where
     enters_by debug final o = record { bodies = at.bodies; counter = tt }
 
     -- a body under a lock, which begins where a statement is in work
-    calls_in : (fs : List Frame) (k f : ℕ) → statement_of p fs ≡ Some (stmt.Critical k f) → AreContextsPlaced w a.context fs
+    calls_in : (fs : List Frame) (k f : ℕ) → statement_of p fs ≡ Some (stmt.Critical k f)
+        → AreContextsPlaced w a.context fs
         → AreContextsPlaced w a.context (at_start f (opened.Critical k) ∷ fs)
     calls_in [] k f is all = absurd (cc)
     calls_in (g ∷ gs) k f is all = (all.0, all)

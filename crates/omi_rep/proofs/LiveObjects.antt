@@ -41,14 +41,16 @@ module _ (w : List ℕ) (memory : Words) (s : State) (valid : IsValid w) (shows 
     live = refl;
   }
 
-  pub region_lives : AreNames s → (n : Rid) → IsVisibleRegion s n → Lives w memory regions (region_address w n) (2 * n.0.generation + 1)
+  pub region_lives : AreNames s → (n : Rid) → IsVisibleRegion s n
+      → Lives w memory regions (region_address w n) (2 * n.0.generation + 1)
   region_lives names n seen = record {
     place = slot_begins w regions n.0.creator n.0.slot (region_slot w memory valid s shows n seen);
     word = region_life w memory valid s shows n seen;
     live = generation_lives n.0.generation (names.regions n seen);
   }
 
-  pub task_lives : AreNames s → (k : Tid) → IsVisibleTask s k → Lives w memory tasks (task_address w k) (2 * k.0.generation + 1)
+  pub task_lives : AreNames s → (k : Tid) → IsVisibleTask s k
+      → Lives w memory tasks (task_address w k) (2 * k.0.generation + 1)
   task_lives names k seen = record {
     place = slot_begins w tasks k.0.creator k.0.slot (task_slot w memory valid s shows k seen);
     word = task_life w memory valid s shows k seen;

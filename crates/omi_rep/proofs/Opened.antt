@@ -54,15 +54,19 @@ alone_found x y c k g is = go (c == 0 && k == 0) refl (1 == g + 1) refl (0 == g 
       generation = grind (arith, nat_tests);
       same = let some : Some x ≡ Some y = sym (ap (λ t. cond t (Some x) None) f) ∙ i in cc;
     }
-    go true e false f u h i = let none : None ≡ Some y = sym (ap (λ t. cond t (Some x) None) f) ∙ i in absurd (cc)
+    go true e false f u h i =
+        let none : None ≡ Some y = sym (ap (λ t. cond t (Some x) None) f) ∙ i in absurd (cc)
     go false e d f true h i = absurd (let wrong : 0 ≡ g + 1 = eqb-true 0 (g + 1) h in omega (arith, wrong))
-    go false e d f false h i = let none : None ≡ Some y = sym (ap (λ t. cond t None None) h) ∙ i in absurd (cc)
+    go false e d f false h i =
+        let none : None ≡ Some y = sym (ap (λ t. cond t None None) h) ∙ i in absurd (cc)
 
 -- a slot that is empty where one object is alone has had none
-alone_free : {A : Type 0} (x : A) (c k : ℕ) → (first_alone x c k).live ≡ None → (first_alone x c k).generations ≡ 0
+alone_free : {A : Type 0} (x : A) (c k : ℕ) → (first_alone x c k).live ≡ None
+    → (first_alone x c k).generations ≡ 0
 alone_free {A} x c k = go (c == 0 && k == 0)
   where
-    go : (b : Bool) → (if b then record { generations = 1; live = Some x } else unused).live ≡ None → (if b then record { generations = 1; live = Some x } else unused).generations ≡ 0
+    go : (b : Bool) → (if b then record { generations = 1; live = Some x } else unused).live ≡ None
+        → (if b then record { generations = 1; live = Some x } else unused).generations ≡ 0
     go true is = absurd (cc)
     go false is = refl
 
@@ -70,11 +74,13 @@ alone_free {A} x c k = go (c == 0 && k == 0)
 alone_named : {A : Type 0} (x : A) → LiveAreNamed (first_alone x)
 alone_named {A} x c k y = go (c == 0 && k == 0)
   where
-    go : (b : Bool) → (if b then record { generations = 1; live = Some x } else unused).live ≡ Some y → (g : ℕ) × (found g (if b then record { generations = 1; live = Some x } else unused) ≡ Some y)
+    go : (b : Bool) → (if b then record { generations = 1; live = Some x } else unused).live ≡ Some y
+        → (g : ℕ) × (found g (if b then record { generations = 1; live = Some x } else unused) ≡ Some y)
     go true is = (0, is)
     go false is = absurd (cc)
 
-module _ (p : Program) (w words : List ℕ) (v : IsValid w) (suits : p.threads ≡ thread_count w) (opens : AreOpening p w words) where
+module _ (p : Program) (w words : List ℕ) (v : IsValid w) (suits : p.threads ≡ thread_count w)
+    (opens : AreOpening p w words) where
   abbrev g : Words
   g = words_of words
 
@@ -123,8 +129,10 @@ module _ (p : Program) (w words : List ℕ) (v : IsValid w) (suits : p.threads �
     tasks = λ k seen. subst (λ (t : Task). IsTaskRight s t) (alone_found (opening_task p) seen.task k.0.creator k.0.slot k.0.generation seen.live).same task_right;
   }
     where
-      current : (i : ℕ) (k : Tid) (b : Bool) → i == 0 ≡ b → (if b then initial_thread else waiting_worker).current ≡ Some k → IsVisibleTask s k
-      current i k true e is = let same : initial_task ≡ k = cc in subst (λ (q : Tid). IsVisibleTask s q) same task_seen
+      current : (i : ℕ) (k : Tid) (b : Bool) → i == 0 ≡ b
+          → (if b then initial_thread else waiting_worker).current ≡ Some k → IsVisibleTask s k
+      current i k true e is =
+          let same : initial_task ≡ k = cc in subst (λ (q : Tid). IsVisibleTask s q) same task_seen
       current i k false e is = absurd (cc)
 
       listed : (b : Bool) → Contains state_numbers (if b then initial_thread else waiting_worker).state
@@ -134,31 +142,42 @@ module _ (p : Program) (w words : List ℕ) (v : IsValid w) (suits : p.threads �
   -- ---- the records
 
   slot_0 : IsSlot w regions 0 0 × IsSlot w tasks 0 0
-  slot_0 = (record { made_by = some_threads w v; within = some_regions w v }, record { made_by = some_threads w v; within = some_tasks w v })
+  slot_0 =
+      (record { made_by = some_threads w v; within = some_regions w v }, record { made_by = some_threads w v; within = some_tasks w v })
 
-  threads_shown : (fields : Field → Bool) (i : ℕ) → i < s.count → CodesStand fields (thread_code w i (thread_told (s.threads i))) (records_of w g i threads 0)
+  threads_shown : (fields : Field → Bool) (i : ℕ) → i < s.count
+      → CodesStand fields (thread_code w i (thread_told (s.threads i))) (records_of w g i threads 0)
   threads_shown fields i within =
       let there : i < thread_count w = omega (arith, suits, within) in
-      codes_stand w words v opens.count fields _ threads i 0 (record { made_by = there; within = omega arith }) (thread_coded w v i (thread_told (s.threads i)))
+      codes_stand w words v opens.count fields _ threads i 0
+      (record { made_by = there; within = omega arith }) (thread_coded w v i (thread_told (s.threads i)))
       (thread_opened p w i (memory_of w words i threads 0) (opens.made i there).thread)
 
   region_shown : CodesStand shown (region_code w (region_told (opening_region p))) (records_of w g 0 regions 0)
   region_shown =
-      codes_stand w words v opens.count shown _ regions 0 0 slot_0.0 (region_coded w v (region_told (opening_region p)) (omega (arith, suits, some)))
+      codes_stand w words v opens.count shown _ regions 0 0 slot_0.0
+      (region_coded w v (region_told (opening_region p)) (omega (arith, suits, some)))
       (region_opened p w (memory_of w words 0 regions 0) ((opens.made 0 (some_threads w v)).region refl))
 
   task_shown : CodesStand shown (task_code w (task_told (opening_task p))) (records_of w g 0 tasks 0)
   task_shown =
-      codes_stand w words v opens.count shown _ tasks 0 0 slot_0.1 (task_coded w v (task_told (opening_task p)) (Rules-from_accepted p).count.1)
+      codes_stand w words v opens.count shown _ tasks 0 0 slot_0.1
+      (task_coded w v (task_told (opening_task p)) (Rules-from_accepted p).count.1)
       (task_opened p w (memory_of w words 0 tasks 0) ((opens.made 0 (some_threads w v)).task refl))
 
   -- the life word of the one object of a kind
-  life_stands : (f : Field) (kind : ℕ) → kind_of (number f) ≡ kind → IsSlot w kind 0 0 → memory_of w words 0 (kind_of (number f)) 0 (number f) 0 ≡ 1 → Stands (records_of w g 0 (kind_of (number f)) 0) f 0 1
+  life_stands : (f : Field) (kind : ℕ) → kind_of (number f) ≡ kind → IsSlot w kind 0 0
+      → memory_of w words 0 (kind_of (number f)) 0 (number f) 0 ≡ 1
+      → Stands (records_of w g 0 (kind_of (number f)) 0) f 0 1
   unfolding word_address
   life_stands f kind is slot e =
-      mapped w v words 0 0 (number f) 0 (omega (arith, opens.count)) (record { field = numbered_field f; record_slot = subst (λ q. IsSlot w q 0 0) (sym is) slot; within = wide w v (number f) }) ∙ ap Some e
+      mapped w v words 0 0 (number f) 0 (omega (arith, opens.count))
+      (record { field = numbered_field f; record_slot = subst (λ q. IsSlot w q 0 0) (sym is) slot; within = wide w v (number f) })
+      ∙ ap Some e
 
-  slots_shown : {A : Type 0} (kind : ℕ) (life : Field) (x : A) (c k : ℕ) → Stands (records_of w g 0 kind 0) life 0 1 → ShowsSlot (records_of w g c kind k) life (first_alone x c k)
+  slots_shown : {A : Type 0} (kind : ℕ) (life : Field) (x : A) (c k : ℕ)
+      → Stands (records_of w g 0 kind 0) life 0 1
+      → ShowsSlot (records_of w g c kind k) life (first_alone x c k)
   slots_shown {A} kind life x c k stands = record {
     live = λ e y is. alive y e (alone_found x y c k e is);
     free = λ word is there. omega (arith, alone_free x c k is);
@@ -182,7 +201,9 @@ module _ (p : Program) (w words : List ℕ) (v : IsValid w) (suits : p.threads �
 
   records_shown : RecordsShow w (records_of w g) s
   records_shown = record {
-    globals = codes_stand w words v opens.count shown _ runtime 0 0 (record { made_by = omega arith; within = omega arith }) (runtime_coded w v (runtime_told s))
+    globals =
+        codes_stand w words v opens.count shown _ runtime 0 0
+        (record { made_by = omega arith; within = omega arith }) (runtime_coded w v (runtime_told s))
         (runtime_opened p w (memory_of w words 0 runtime 0) opens.runtime_record);
     lives = threads_shown shown_unbegun;
     threads = λ i known _. threads_shown shown i known;
@@ -192,15 +213,20 @@ module _ (p : Program) (w words : List ℕ) (v : IsValid w) (suits : p.threads �
     tasks = λ k seen. task_in k seen.task (alone_found (opening_task p) seen.task k.0.creator k.0.slot k.0.generation seen.live);
   }
     where
-      region_in : (n : Rid) (r : Region) → Alone (opening_region p) r n.0.creator n.0.slot n.0.generation → CodesStand shown (region_code w (region_told r)) (records_of w g n.0.creator regions n.0.slot)
+      region_in : (n : Rid) (r : Region) → Alone (opening_region p) r n.0.creator n.0.slot n.0.generation
+          → CodesStand shown (region_code w (region_told r)) (records_of w g n.0.creator regions n.0.slot)
       region_in n r at =
-          subst (λ (d : ℕ). CodesStand shown (region_code w (region_told r)) (records_of w g d regions n.0.slot)) (sym at.creator)
+          subst
+          (λ (d : ℕ). CodesStand shown (region_code w (region_told r)) (records_of w g d regions n.0.slot))
+          (sym at.creator)
           (subst (λ (j : ℕ). CodesStand shown (region_code w (region_told r)) (records_of w g 0 regions j)) (sym at.place)
           (subst (λ (q : Region). CodesStand shown (region_code w (region_told q)) (records_of w g 0 regions 0)) at.same region_shown))
 
-      task_in : (k : Tid) (t : Task) → Alone (opening_task p) t k.0.creator k.0.slot k.0.generation → CodesStand shown (task_code w (task_told t)) (records_of w g k.0.creator tasks k.0.slot)
+      task_in : (k : Tid) (t : Task) → Alone (opening_task p) t k.0.creator k.0.slot k.0.generation
+          → CodesStand shown (task_code w (task_told t)) (records_of w g k.0.creator tasks k.0.slot)
       task_in k t at =
-          subst (λ (d : ℕ). CodesStand shown (task_code w (task_told t)) (records_of w g d tasks k.0.slot)) (sym at.creator)
+          subst (λ (d : ℕ). CodesStand shown (task_code w (task_told t)) (records_of w g d tasks k.0.slot))
+          (sym at.creator)
           (subst (λ (j : ℕ). CodesStand shown (task_code w (task_told t)) (records_of w g 0 tasks j)) (sym at.place)
           (subst (λ (q : Task). CodesStand shown (task_code w (task_told q)) (records_of w g 0 tasks 0)) at.same task_shown))
 

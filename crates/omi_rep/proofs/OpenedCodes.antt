@@ -15,37 +15,46 @@ use Rattle.omi_layout.specs.Table.{width}
 use Rattle.omi_rep.specs.Codes.{HasCodes, region_code, region_told, runtime_code, runtime_told, task_code, task_told, thread_code, thread_told}
 use Rattle.omi_rep.proofs.Codes.{same_word}
 
-pub runtime_opened : (p : Program) (w : List ℕ) (r : Rec) → OpensRuntime p r → HasCodes (runtime_code w (runtime_told (opening p))) r
+pub runtime_opened : (p : Program) (w : List ℕ) (r : Rec) → OpensRuntime p r
+    → HasCodes (runtime_code w (runtime_told (opening p))) r
 runtime_opened p w r o RuntimeVersion zero word is = o.version ∙ same_word _ _ is
 runtime_opened p w r o RuntimeThreads zero word is = o.threads ∙ same_word _ _ is
 runtime_opened p w r o RuntimeProcs zero word is = o.procs ∙ same_word _ _ is
 runtime_opened p w r o RuntimeDebug zero word is = o.debug ∙ same_word _ _ is
 runtime_opened p w r o RuntimeMaxActive zero word is = o.max_active ∙ same_word _ _ is
-runtime_opened p w r o RuntimeLocks lock word is = o.locks lock ∙ go (nat_lt lock (width w (number RuntimeLocks))) is
+runtime_opened p w r o RuntimeLocks lock word is =
+    o.locks lock ∙ go (nat_lt lock (width w (number RuntimeLocks))) is
   where
     go : (b : Bool) → (if b then Some 0 else None) ≡ Some word → 0 ≡ word
     go true some = same_word 0 word some
     go false none = absurd (cc)
 runtime_opened p w r o f at word is = absurd (cc)
 
-pub thread_opened : (p : Program) (w : List ℕ) (i : ℕ) (r : Rec) → OpensThread w i r → HasCodes (thread_code w i (thread_told ((opening p).threads i))) r
+pub thread_opened : (p : Program) (w : List ℕ) (i : ℕ) (r : Rec) → OpensThread w i r
+    → HasCodes (thread_code w i (thread_told ((opening p).threads i))) r
 thread_opened p w i r o = go (i == 0) refl
   where
-    go : (b : Bool) → i == 0 ≡ b → HasCodes (thread_code w i (thread_told (if b then initial_thread else waiting_worker))) r
+    go : (b : Bool) → i == 0 ≡ b
+        → HasCodes (thread_code w i (thread_told (if b then initial_thread else waiting_worker))) r
     go true first ThreadLife zero word is = o.life ∙ ap (λ b. if b then 1 else 0) first ∙ same_word _ _ is
     go true first ThreadNative zero word is = o.native ∙ same_word _ _ is
-    go true first ThreadCurrent zero word is = o.current ∙ ap (λ b. if b then slot_address w tasks 0 0 else 0) first ∙ same_word _ _ is
-    go true first ThreadState zero word is = o.state ∙ ap (λ b. if b then WORK_SERIAL else IDLE) first ∙ same_word _ _ is
+    go true first ThreadCurrent zero word is =
+        o.current ∙ ap (λ b. if b then slot_address w tasks 0 0 else 0) first ∙ same_word _ _ is
+    go true first ThreadState zero word is =
+        o.state ∙ ap (λ b. if b then WORK_SERIAL else IDLE) first ∙ same_word _ _ is
     go true first ThreadClaim zero word is = o.claim ∙ same_word _ _ is
     go true first f at word is = absurd (cc)
     go false worker ThreadLife zero word is = o.life ∙ ap (λ b. if b then 1 else 0) worker ∙ same_word _ _ is
     go false worker ThreadNative zero word is = o.native ∙ same_word _ _ is
-    go false worker ThreadCurrent zero word is = o.current ∙ ap (λ b. if b then slot_address w tasks 0 0 else 0) worker ∙ same_word _ _ is
-    go false worker ThreadState zero word is = o.state ∙ ap (λ b. if b then WORK_SERIAL else IDLE) worker ∙ same_word _ _ is
+    go false worker ThreadCurrent zero word is =
+        o.current ∙ ap (λ b. if b then slot_address w tasks 0 0 else 0) worker ∙ same_word _ _ is
+    go false worker ThreadState zero word is =
+        o.state ∙ ap (λ b. if b then WORK_SERIAL else IDLE) worker ∙ same_word _ _ is
     go false worker ThreadClaim zero word is = o.claim ∙ same_word _ _ is
     go false worker f at word is = absurd (cc)
 
-pub region_opened : (p : Program) (w : List ℕ) (r : Rec) → OpensRegion p w r → HasCodes (region_code w (region_told (opening_region p))) r
+pub region_opened : (p : Program) (w : List ℕ) (r : Rec) → OpensRegion p w r
+    → HasCodes (region_code w (region_told (opening_region p))) r
 region_opened p w r o RegionFunction zero word is = o.function ∙ same_word _ _ is
 region_opened p w r o RegionEnclosing zero word is = o.enclosing ∙ same_word _ _ is
 region_opened p w r o RegionEncountering zero word is = o.encountering ∙ same_word _ _ is
@@ -57,7 +66,8 @@ region_opened p w r o RegionArrived zero word is = o.arrived ∙ same_word _ _ i
 region_opened p w r o RegionTeam zero word is = o.member ∙ same_word _ _ is
 region_opened p w r o f at word is = absurd (cc)
 
-pub task_opened : (p : Program) (w : List ℕ) (r : Rec) → OpensTask p w r → HasCodes (task_code w (task_told (opening_task p))) r
+pub task_opened : (p : Program) (w : List ℕ) (r : Rec) → OpensTask p w r
+    → HasCodes (task_code w (task_told (opening_task p))) r
 task_opened p w r o TaskImplicit zero word is = o.implicit ∙ same_word _ _ is
 task_opened p w r o TaskRegion zero word is = o.region ∙ same_word _ _ is
 task_opened p w r o TaskThread zero word is = o.thread ∙ same_word _ _ is

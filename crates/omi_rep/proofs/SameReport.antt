@@ -30,26 +30,32 @@ use Rattle.omi_rep.proofs.Same.{one_word, same_flag, same_tasks}
 use Rattle.omi_rep.proofs.SameRows.{same_region_of, same_scheduling, same_number, same_enclosing, same_task_row, same_region_row}
 
 -- what a list of what is there has is told by an element
-from_list : {A B : Type 0} (h : A → Option B) (xs : List A) (y : B) → Contains (filter_map h xs) y → (x : A) × (h x ≡ Some y)
+from_list : {A B : Type 0} (h : A → Option B) (xs : List A) (y : B) → Contains (filter_map h xs) y
+    → (x : A) × (h x ≡ Some y)
 from_list h [] y (k, within, is) = absurd (omega (arith, within))
 from_list {A} {B} h (x ∷ xs) y is = go (h x) refl (from_list h xs y) is
   where
-    go : (o : Option B) → h x ≡ o → (Contains (filter_map h xs) y → (z : A) × (h z ≡ Some y)) → Contains (cons_option o (filter_map h xs)) y → (z : A) × (h z ≡ Some y)
+    go : (o : Option B) → h x ≡ o → (Contains (filter_map h xs) y → (z : A) × (h z ≡ Some y))
+        → Contains (cons_option o (filter_map h xs)) y → (z : A) × (h z ≡ Some y)
     go None e more c = more c
     go (Some z) e more (zero, within, same) = (x, e ∙ ap Some same)
     go (Some z) e more (suc k, within, same) = more (k, omega (arith, within), same)
 
 -- a thread that is found has begun
 found_begun : (s : State) (native i : ℕ) → thread_with s native ≡ Some i → HasBegun s i
-found_begun s native i is = go (nat_le FIRST_NATIVE native) (nat_lt (native - FIRST_NATIVE) s.count) refl ((s.threads (native - FIRST_NATIVE)).begun) refl is
+found_begun s native i is =
+    go (nat_le FIRST_NATIVE native) (nat_lt (native - FIRST_NATIVE) s.count) refl
+    ((s.threads (native - FIRST_NATIVE)).begun) refl is
   where
-    at : native - FIRST_NATIVE ≡ i → nat_lt (native - FIRST_NATIVE) s.count ≡ true → (s.threads (native - FIRST_NATIVE)).begun ≡ true → HasBegun s i
+    at : native - FIRST_NATIVE ≡ i → nat_lt (native - FIRST_NATIVE) s.count ≡ true
+        → (s.threads (native - FIRST_NATIVE)).begun ≡ true → HasBegun s i
     at same low begun = record {
       known = ltb-true i s.count (ap (λ j. nat_lt j s.count) (sym same) ∙ low);
       begun = ap (λ j. (s.threads j).begun) (sym same) ∙ begun;
     }
 
-    go : (x y : Bool) → nat_lt (native - FIRST_NATIVE) s.count ≡ y → (z : Bool) → (s.threads (native - FIRST_NATIVE)).begun ≡ z
+    go : (x y : Bool) → nat_lt (native - FIRST_NATIVE) s.count ≡ y → (z : Bool)
+        → (s.threads (native - FIRST_NATIVE)).begun ≡ z
         → cond ((x && y) && z) (Some (native - FIRST_NATIVE)) None ≡ Some i → HasBegun s i
     go true true e true f g = let same : native - FIRST_NATIVE ≡ i = cc in at same e f
     go true true e false f g = absurd (cc)
@@ -70,7 +76,8 @@ small_state x (suc (suc (suc (suc (suc (suc (suc (suc zero))))))), within, is) =
 small_state x (suc (suc (suc (suc (suc (suc (suc (suc (suc k)))))))), within, is) = absurd (omega arith)
 
 -- a state and a wait id are told by their word
-told_state : (x y u z : ℕ) → x < WAIT_PLACE → y < WAIT_PLACE → state_word x u ≡ state_word y z → (x ≡ y) × (u ≡ z)
+told_state : (x y u z : ℕ) → x < WAIT_PLACE → y < WAIT_PLACE → state_word x u ≡ state_word y z
+    → (x ≡ y) × (u ≡ z)
 told_state x y u z small low e = (omega (arith, e), omega (arith, e))
 
 with_same : (x y p q : Bool) → (y ≡ true → p ≡ q) → (x && y) && p ≡ (x && y) && q
@@ -78,7 +85,8 @@ with_same true true p q f = f refl
 with_same true false p q f = refl
 with_same false y p q f = refl
 
-module _ (w : List ℕ) (words : Words) (v : IsValid w) (s t : State) (a : Shows w words s) (b : Shows w words t) where
+module _ (w : List ℕ) (words : Words) (v : IsValid w) (s t : State) (a : Shows w words s)
+    (b : Shows w words t) where
   count : s.count ≡ t.count
   count = a.within.count ∙ sym b.within.count
 
@@ -90,8 +98,12 @@ module _ (w : List ℕ) (words : Words) (v : IsValid w) (s t : State) (a : Shows
   same_head =
       let globals = a.records.globals in
       let others = b.records.globals in
-      let procs = one_word (records_of w words 0 runtime 0) RuntimeProcs 0 _ _ (globals RuntimeProcs 0 _ refl refl) (others RuntimeProcs 0 _ refl refl) in
-      let max_active = one_word (records_of w words 0 runtime 0) RuntimeMaxActive 0 _ _ (globals RuntimeMaxActive 0 _ refl refl) (others RuntimeMaxActive 0 _ refl refl) in
+      let procs =
+      one_word (records_of w words 0 runtime 0) RuntimeProcs 0 _ _ (globals RuntimeProcs 0 _ refl refl)
+      (others RuntimeProcs 0 _ refl refl) in
+      let max_active =
+      one_word (records_of w words 0 runtime 0) RuntimeMaxActive 0 _ _
+      (globals RuntimeMaxActive 0 _ refl refl) (others RuntimeMaxActive 0 _ refl refl) in
       λ p. record { version = OPENMP_VERSION; threads = count p; debug = flag (debug p); procs = procs p; max_active = max_active p }
 
   same_begun : (i : ℕ) → i < s.count → (s.threads i).begun ≡ (t.threads i).begun
@@ -107,7 +119,8 @@ module _ (w : List ℕ) (words : Words) (v : IsValid w) (s t : State) (a : Shows
   same_current i is =
       let too = begun_too i is in
       same_tasks w words v s t a b (s.threads i).current (t.threads i).current
-      (λ k e. a.within.well_formed.currents i k is.known e) (λ k e. b.within.well_formed.currents i k too.known e)
+      (λ k e. a.within.well_formed.currents i k is.known e)
+      (λ k e. b.within.well_formed.currents i k too.known e)
       (one_word (records_of w words i threads 0) ThreadCurrent 0 _ _ (a.records.threads i is.known is.begun ThreadCurrent 0 _ refl refl) (b.records.threads i too.known too.begun ThreadCurrent 0 _ refl refl))
 
   -- a task that both states show
@@ -137,7 +150,8 @@ module _ (w : List ℕ) (words : Words) (v : IsValid w) (s t : State) (a : Shows
     there = subst (IsVisibleRegion t) (sym (same_region_of w words v s t a b k x.here x.there)) (b.within.well_formed.tasks k x.there).region;
   }
 
-  shared_enclosing : (n : Rid) (x : SharedRegion n) (r : Rid) → x.here.region.enclosing ≡ Some r → SharedRegion r
+  shared_enclosing : (n : Rid) (x : SharedRegion n) (r : Rid) → x.here.region.enclosing ≡ Some r
+      → SharedRegion r
   shared_enclosing n x r e = record {
     here = (a.within.well_formed.regions n x.here).enclosing r e;
     there = (b.within.well_formed.regions n x.there).enclosing r (sym (same_enclosing w words v s t a b n x.here x.there) ∙ e);
@@ -149,9 +163,12 @@ module _ (w : List ℕ) (words : Words) (v : IsValid w) (s t : State) (a : Shows
       let too = begun_too i is in
       let mine = a.records.threads i is.known is.begun in
       let theirs = b.records.threads i too.known too.begun in
-      let words_same = one_word (records_of w words i threads 0) ThreadState 0 _ _ (mine ThreadState 0 _ refl refl) (theirs ThreadState 0 _ refl refl) in
+      let words_same =
+      one_word (records_of w words i threads 0) ThreadState 0 _ _ (mine ThreadState 0 _ refl refl)
+      (theirs ThreadState 0 _ refl refl) in
       let both = told_state (s.threads i).state (t.threads i).state (s.threads i).wait (t.threads i).wait
-      (small_state _ (a.within.well_formed.states i is.known)) (small_state _ (b.within.well_formed.states i too.known)) words_same in
+      (small_state _ (a.within.well_formed.states i is.known))
+      (small_state _ (b.within.well_formed.states i too.known)) words_same in
       let current = same_current i is in
       λ p. record {
         thread = i;
@@ -169,10 +186,12 @@ module _ (w : List ℕ) (words : Words) (v : IsValid w) (s t : State) (a : Shows
           ∙ ap (λ (n : ℕ). Some n) (same_number w words v s t a b k x.here x.there)
           ∙ sym (ap (option_map (λ (y : Task). y.number)) x.there.live)
 
-      numbers : (i : ℕ) → HasBegun s i → option_map (λ (x : Task). x.number) (current_task s i) ≡ option_map (λ (x : Task). x.number) (current_task t i)
+      numbers : (i : ℕ) → HasBegun s i
+          → option_map (λ (x : Task). x.number) (current_task s i) ≡ option_map (λ (x : Task). x.number) (current_task t i)
       numbers i is =
           number_of (s.threads i).current (shared_current i is)
-          ∙ ap (λ (o : Option Tid). option_map (λ (x : Task). x.number) (option_and_then (task_of t) o)) (same_current i is)
+          ∙ ap (λ (o : Option Tid). option_map (λ (x : Task). x.number) (option_and_then (task_of t) o))
+          (same_current i is)
 
   same_with : (native : ℕ) → thread_with s native ≡ thread_with t native
   same_with native =
@@ -184,19 +203,26 @@ module _ (w : List ℕ) (words : Words) (v : IsValid w) (s t : State) (a : Shows
   same_thread_row : (native : ℕ) → thread_row s native ≡ thread_row t native
   same_thread_row native = λ p. record { native = native; found = found (thread_with s native) refl p }
     where
-      found : (o : Option ℕ) → thread_with s native ≡ o → option_map (thread_part s) (thread_with s native) ≡ option_map (thread_part t) (thread_with t native)
-      found None e = ap (option_map (thread_part s)) e ∙ sym (ap (option_map (thread_part t)) (sym (same_with native) ∙ e))
+      found : (o : Option ℕ) → thread_with s native ≡ o
+          → option_map (thread_part s) (thread_with s native) ≡ option_map (thread_part t) (thread_with t native)
+      found None e =
+          ap (option_map (thread_part s)) e
+          ∙ sym (ap (option_map (thread_part t)) (sym (same_with native) ∙ e))
       found (Some i) e =
-          ap (option_map (thread_part s)) e ∙ ap (λ (x : ThreadPart). Some x) (same_part i (found_begun s native i e))
+          ap (option_map (thread_part s)) e
+          ∙ ap (λ (x : ThreadPart). Some x) (same_part i (found_begun s native i e))
           ∙ sym (ap (option_map (thread_part t)) (sym (same_with native) ∙ e))
 
   same_thread_rows : (contexts : List ℕ) → map (thread_row s) contexts ≡ map (thread_row t) contexts
   same_thread_rows [] = refl
-  same_thread_rows (native ∷ contexts) = let rest = same_thread_rows contexts in λ p. same_thread_row native p ∷ rest p
+  same_thread_rows (native ∷ contexts) =
+      let rest = same_thread_rows contexts in λ p. same_thread_row native p ∷ rest p
 
-  same_threads : (contexts : List ℕ) → filter_map (thread_with s) contexts ≡ filter_map (thread_with t) contexts
+  same_threads : (contexts : List ℕ)
+      → filter_map (thread_with s) contexts ≡ filter_map (thread_with t) contexts
   same_threads [] = refl
-  same_threads (native ∷ contexts) = ap₂ (λ (o : Option ℕ) (rest : List ℕ). cons_option o rest) (same_with native) (same_threads contexts)
+  same_threads (native ∷ contexts) =
+      ap₂ (λ (o : Option ℕ) (rest : List ℕ). cons_option o rest) (same_with native) (same_threads contexts)
 
   -- the regions that enclose one
   same_enclosing_of : (n : Rid) (x : SharedRegion n) → enclosing_of s n ≡ enclosing_of t n
@@ -222,11 +248,17 @@ module _ (w : List ℕ) (words : Words) (v : IsValid w) (s t : State) (a : Shows
   }
   led (suc steps) (Some n) f =
       let x = f n refl in
-      let more = led steps (enclosing_of s n) (λ r e. shared_enclosing n x r (sym (ap (option_and_then (λ (q : Region). q.enclosing)) x.here.live) ∙ e)) in
+      let more =
+      led steps (enclosing_of s n)
+      (λ r e. shared_enclosing n x r (sym (ap (option_and_then (λ (q : Region). q.enclosing)) x.here.live) ∙ e)) in
       record { same = more.same ∙ ap (along (enclosing_of t) steps) (same_enclosing_of n x); shared = more.shared }
 
-  innermost : (i : ℕ) → HasBegun s i → option_map (λ (x : Task). x.region) (current_task s i) ≡ option_map (λ (x : Task). x.region) (current_task t i)
-  innermost i is = of_current (s.threads i).current (shared_current i is) ∙ ap (λ (o : Option Tid). option_map (λ (x : Task). x.region) (option_and_then (task_of t) o)) (same_current i is)
+  innermost : (i : ℕ) → HasBegun s i
+      → option_map (λ (x : Task). x.region) (current_task s i) ≡ option_map (λ (x : Task). x.region) (current_task t i)
+  innermost i is =
+      of_current (s.threads i).current (shared_current i is)
+      ∙ ap (λ (o : Option Tid). option_map (λ (x : Task). x.region) (option_and_then (task_of t) o))
+      (same_current i is)
     where
       of_current : (o : Option Tid) → ((k : Tid) → o ≡ Some k → Shared k)
           → option_map (λ (x : Task). x.region) (option_and_then (task_of s) o) ≡ option_map (λ (x : Task). x.region) (option_and_then (task_of t) o)
@@ -237,32 +269,39 @@ module _ (w : List ℕ) (words : Words) (v : IsValid w) (s t : State) (a : Shows
           ∙ ap (λ (n : Rid). Some n) (same_region_of w words v s t a b k x.here x.there)
           ∙ sym (ap (option_map (λ (y : Task). y.region)) x.there.live)
 
-  innermost_shared : (i : ℕ) → HasBegun s i → (n : Rid) → option_map (λ (x : Task). x.region) (current_task s i) ≡ Some n → SharedRegion n
+  innermost_shared : (i : ℕ) → HasBegun s i → (n : Rid)
+      → option_map (λ (x : Task). x.region) (current_task s i) ≡ Some n → SharedRegion n
   innermost_shared i is n e = of_current (s.threads i).current (shared_current i is) e
     where
-      of_current : (o : Option Tid) → ((k : Tid) → o ≡ Some k → Shared k) → option_map (λ (x : Task). x.region) (option_and_then (task_of s) o) ≡ Some n → SharedRegion n
+      of_current : (o : Option Tid) → ((k : Tid) → o ≡ Some k → Shared k)
+          → option_map (λ (x : Task). x.region) (option_and_then (task_of s) o) ≡ Some n → SharedRegion n
       of_current None f g = absurd (cc)
       of_current (Some k) f g =
           let x = f k refl in
-          let regions : Some x.here.task.region ≡ Some n = sym (ap (option_map (λ (y : Task). y.region)) x.here.live) ∙ g in
+          let regions : Some x.here.task.region ≡ Some n =
+          sym (ap (option_map (λ (y : Task). y.region)) x.here.live) ∙ g in
           let same : x.here.task.region ≡ n = cc regions in
           subst SharedRegion same (shared_region k x)
 
   led_from : (i steps : ℕ) → HasBegun s i → Led steps (option_map (λ (x : Task). x.region) (current_task s i))
-  led_from i steps is = led steps (option_map (λ (x : Task). x.region) (current_task s i)) (innermost_shared i is)
+  led_from i steps is =
+      led steps (option_map (λ (x : Task). x.region) (current_task s i)) (innermost_shared i is)
 
   -- what is reported of one state is shown by both, and reported of the other
-  reported_too : (all : List ℕ) → ((i : ℕ) → Contains all i → HasBegun s i) → (n : Rid) → IsReported s all n → SharedRegion n × IsReported t all n
+  reported_too : (all : List ℕ) → ((i : ℕ) → Contains all i → HasBegun s i) → (n : Rid) → IsReported s all n
+      → SharedRegion n × IsReported t all n
   reported_too all begun n (i, steps, among, is) =
       let way = led_from i steps (begun i among) in
       (way.shared n is, (i, steps, among, ap (along (enclosing_of t) steps) (sym (innermost i (begun i among))) ∙ sym way.same ∙ is))
 
-  reported_back : (all : List ℕ) → ((i : ℕ) → Contains all i → HasBegun s i) → (n : Rid) → IsReported t all n → IsReported s all n
+  reported_back : (all : List ℕ) → ((i : ℕ) → Contains all i → HasBegun s i) → (n : Rid) → IsReported t all n
+      → IsReported s all n
   reported_back all begun n (i, steps, among, is) =
       let way = led_from i steps (begun i among) in
       (i, steps, among, way.same ∙ ap (along (enclosing_of t) steps) (innermost i (begun i among)) ∙ is)
 
-  same_region_rows : (all : List ℕ) (rows : List RegionRow) → ((i : ℕ) → Contains all i → HasBegun s i) → AreRegions s all rows → AreRegions t all rows
+  same_region_rows : (all : List ℕ) (rows : List RegionRow) → ((i : ℕ) → Contains all i → HasBegun s i)
+      → AreRegions s all rows → AreRegions t all rows
   same_region_rows all rows begun is = record {
     in_order = is.in_order;
     each = λ row among.
@@ -279,7 +318,8 @@ module _ (w : List ℕ) (words : Words) (v : IsValid w) (s t : State) (a : Shows
   }
 
   -- a chain of one state is that of the other
-  same_chain : (i : ℕ) (from : Option Tid) (rows : List TaskRow) → ((k : Tid) → from ≡ Some k → Shared k) → IsChain s i from rows → IsChain t i from rows
+  same_chain : (i : ℕ) (from : Option Tid) (rows : List TaskRow) → ((k : Tid) → from ≡ Some k → Shared k)
+      → IsChain s i from rows → IsChain t i from rows
   same_chain i None [] f is = is
   same_chain i None (row ∷ rows) f is = is
   same_chain i (Some k) [] f is = is
@@ -287,7 +327,8 @@ module _ (w : List ℕ) (words : Words) (v : IsValid w) (s t : State) (a : Shows
       let x = f k refl in
       let one : Some task ≡ Some x.here.task = sym live ∙ x.here.live in
       let same : task ≡ x.here.task = cc one in
-      let next : IsChain s i x.here.task.scheduling rows = subst (λ (y : Task). IsChain s i y.scheduling rows) same rest in
+      let next : IsChain s i x.here.task.scheduling rows =
+      subst (λ (y : Task). IsChain s i y.scheduling rows) same rest in
       let more = same_chain i x.here.task.scheduling rows (shared_next k x) next in (
         x.there.task,
         x.there.live,
@@ -295,7 +336,8 @@ module _ (w : List ℕ) (words : Words) (v : IsValid w) (s t : State) (a : Shows
         subst (λ (o : Option Tid). IsChain t i o rows) (same_scheduling w words v s t a b k x.here x.there) more,
       )
 
-  same_chains : (all : List ℕ) (rows : List TaskRow) → ((i : ℕ) → Contains all i → HasBegun s i) → AreChains s all rows → AreChains t all rows
+  same_chains : (all : List ℕ) (rows : List TaskRow) → ((i : ℕ) → Contains all i → HasBegun s i)
+      → AreChains s all rows → AreChains t all rows
   same_chains [] rows begun is = is
   same_chains (i ∷ all) rows begun (chain, rest, joined, is, more) =
       let here = begun i (0, omega arith, refl) in (

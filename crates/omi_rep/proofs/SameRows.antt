@@ -31,24 +31,31 @@ same_list {A} told code (x ∷ xs) (y ∷ ys) long a b one =
     let words : Some (code x) ≡ Some (code y) = sym (a 0 x refl) ∙ b 0 y refl in
     let codes : code x ≡ code y = cc words in
     let first : x ≡ y = one 0 x y refl refl codes in
-    let rest : xs ≡ ys = same_list (λ j. told (suc j)) code xs ys (omega (arith, long)) (λ j z is. a (suc j) z is) (λ j z is. b (suc j) z is) (λ j z u is was. one (suc j) z u is was) in
+    let rest : xs ≡ ys =
+    same_list (λ j. told (suc j)) code xs ys (omega (arith, long)) (λ j z is. a (suc j) z is)
+    (λ j z is. b (suc j) z is) (λ j z u is was. one (suc j) z u is was) in
     λ i. first i ∷ rest i
 
 -- an element of a list of members keeps what all of them keep
-member_at : (P : Tid × ℕ → Type 0) (xs : List (Tid × ℕ)) (j : ℕ) (m : Tid × ℕ) → All P xs → slice_get xs j ≡ Some m → P m
+member_at : (P : Tid × ℕ → Type 0) (xs : List (Tid × ℕ)) (j : ℕ) (m : Tid × ℕ) → All P xs
+    → slice_get xs j ≡ Some m → P m
 member_at P [] j m all is = absurd (cc)
 member_at P (x ∷ xs) zero m all is = let same : x ≡ m = cc is in subst P same (all 0 x (omega arith))
-member_at P (x ∷ xs) (suc j) m all is = member_at P xs j m (λ k d within. all (suc k) d (omega (arith, within))) is
+member_at P (x ∷ xs) (suc j) m all is =
+    member_at P xs j m (λ k d within. all (suc k) d (omega (arith, within))) is
 
-module _ (w : List ℕ) (words : Words) (v : IsValid w) (s t : State) (a : Shows w words s) (b : Shows w words t) where
+module _ (w : List ℕ) (words : Words) (v : IsValid w) (s t : State) (a : Shows w words s)
+    (b : Shows w words t) where
   -- what a visible task's record says in both states
   module _ (k : Tid) (x : IsVisibleTask s k) (y : IsVisibleTask t k) where
     abbrev record_seen : Seen
     record_seen = records_of w words k.0.creator tasks k.0.slot
 
     -- one word is the code of both
-    alike : (f : Field) (u v : ℕ) → visible f ≡ true → task_code w (task_told x.task) f 0 ≡ Some u → task_code w (task_told y.task) f 0 ≡ Some v → u ≡ v
-    alike f u v is one other = one_word record_seen f 0 u v (a.records.tasks k x f 0 u is one) (b.records.tasks k y f 0 v is other)
+    alike : (f : Field) (u v : ℕ) → visible f ≡ true → task_code w (task_told x.task) f 0 ≡ Some u
+        → task_code w (task_told y.task) f 0 ≡ Some v → u ≡ v
+    alike f u v is one other =
+        one_word record_seen f 0 u v (a.records.tasks k x f 0 u is one) (b.records.tasks k y f 0 v is other)
 
     right : IsTaskRight s x.task
     right = a.within.well_formed.tasks k x
@@ -64,21 +71,29 @@ module _ (w : List ℕ) (words : Words) (v : IsValid w) (s t : State) (a : Shows
         (alike TaskThread _ _ refl refl refl)
 
     pub same_region_of : x.task.region ≡ y.task.region
-    same_region_of = same_region w words v s t a b x.task.region y.task.region right.region right_too.region (alike TaskRegion _ _ refl refl refl)
+    same_region_of =
+        same_region w words v s t a b x.task.region y.task.region right.region right_too.region
+        (alike TaskRegion _ _ refl refl refl)
 
     pub same_scheduling : x.task.scheduling ≡ y.task.scheduling
-    same_scheduling = same_tasks w words v s t a b x.task.scheduling y.task.scheduling right.scheduling right_too.scheduling (alike TaskScheduling _ _ refl refl refl)
+    same_scheduling =
+        same_tasks w words v s t a b x.task.scheduling y.task.scheduling right.scheduling right_too.scheduling
+        (alike TaskScheduling _ _ refl refl refl)
 
     same_generating : x.task.generating ≡ y.task.generating
-    same_generating = same_tasks w words v s t a b x.task.generating y.task.generating right.generating right_too.generating (alike TaskGenerating _ _ refl refl refl)
+    same_generating =
+        same_tasks w words v s t a b x.task.generating y.task.generating right.generating right_too.generating
+        (alike TaskGenerating _ _ refl refl refl)
 
     pub same_number : x.task.number ≡ y.task.number
     same_number = alike TaskNumber _ _ refl refl refl
 
     same_nthreads : x.task.variables.nthreads ≡ y.task.variables.nthreads
     same_nthreads =
-        same_list (λ j. record_seen (number TaskNthreads) j) (λ n. n) x.task.variables.nthreads y.task.variables.nthreads
-        (alike TaskNthreadsLength _ _ refl refl refl) (λ j n is. a.records.tasks k x TaskNthreads j n refl is) (λ j n is. b.records.tasks k y TaskNthreads j n refl is) (λ j n m _ _ e. e)
+        same_list (λ j. record_seen (number TaskNthreads) j)
+        (λ n. n) x.task.variables.nthreads y.task.variables.nthreads
+        (alike TaskNthreadsLength _ _ refl refl refl) (λ j n is. a.records.tasks k x TaskNthreads j n refl is)
+        (λ j n is. b.records.tasks k y TaskNthreads j n refl is) (λ j n m _ _ e. e)
 
     pub same_task_row : (i : ℕ) → task_row i k x.task ≡ task_row i k y.task
     same_task_row i =
@@ -114,8 +129,12 @@ module _ (w : List ℕ) (words : Words) (v : IsValid w) (s t : State) (a : Shows
     abbrev region_seen : Seen
     region_seen = records_of w words n.0.creator regions n.0.slot
 
-    region_alike : (f : Field) (u v : ℕ) → visible f ≡ true → region_code w (region_told x.region) f 0 ≡ Some u → region_code w (region_told y.region) f 0 ≡ Some v → u ≡ v
-    region_alike f u v is one other = one_word region_seen f 0 u v (a.records.regions n x f 0 u is one) (b.records.regions n y f 0 v is other)
+    region_alike : (f : Field) (u v : ℕ) → visible f ≡ true
+        → region_code w (region_told x.region) f 0 ≡ Some u
+        → region_code w (region_told y.region) f 0 ≡ Some v → u ≡ v
+    region_alike f u v is one other =
+        one_word region_seen f 0 u v (a.records.regions n x f 0 u is one)
+        (b.records.regions n y f 0 v is other)
 
     fine : IsRegionRight s x.region
     fine = a.within.well_formed.regions n x
@@ -124,24 +143,34 @@ module _ (w : List ℕ) (words : Words) (v : IsValid w) (s t : State) (a : Shows
     fine_too = b.within.well_formed.regions n y
 
     pub same_enclosing : x.region.enclosing ≡ y.region.enclosing
-    same_enclosing = same_regions w words v s t a b x.region.enclosing y.region.enclosing fine.enclosing fine_too.enclosing (region_alike RegionEnclosing _ _ refl refl refl)
+    same_enclosing =
+        same_regions w words v s t a b x.region.enclosing y.region.enclosing fine.enclosing fine_too.enclosing
+        (region_alike RegionEnclosing _ _ refl refl refl)
 
     same_size : length x.region.team ≡ length y.region.team
     same_size = region_alike RegionSize _ _ refl refl refl
 
-    same_member : (j : ℕ) (m q : Tid × ℕ) → slice_get x.region.team j ≡ Some m → slice_get y.region.team j ≡ Some q → task_address w m.0 ≡ task_address w q.0 → m ≡ q
+    same_member : (j : ℕ) (m q : Tid × ℕ) → slice_get x.region.team j ≡ Some m
+        → slice_get y.region.team j ≡ Some q → task_address w m.0 ≡ task_address w q.0 → m ≡ q
     same_member j m q is was e =
         let first = member_at (λ (u : Tid × ℕ). IsMember s u.0 u.1) x.region.team j m fine.members is in
         let second = member_at (λ (u : Tid × ℕ). IsMember t u.0 u.1) y.region.team j q fine_too.members was in
         let tasks : m.0 ≡ q.0 = same_task w words v s t a b m.0 q.0 first.visible second.visible e in
         let visible : IsVisibleTask t m.0 = subst (IsVisibleTask t) (sym tasks) second.visible in
-        let theirs : visible.task.thread ≡ q.1 = second.same visible.task (subst (λ (k : Tid). task_of t k ≡ Some visible.task) tasks visible.live) in
-        let threads : m.1 ≡ q.1 = sym (first.same first.visible.task first.visible.live) ∙ same_thread_of m.0 first.visible visible ∙ theirs in
+        let theirs : visible.task.thread ≡ q.1 =
+        second.same visible.task (subst (λ (k : Tid). task_of t k ≡ Some visible.task) tasks visible.live) in
+        let threads : m.1 ≡ q.1 =
+        sym (first.same first.visible.task first.visible.live)
+        ∙ same_thread_of m.0 first.visible visible
+        ∙ theirs in
         λ p. (tasks p, threads p)
 
     same_team : x.region.team ≡ y.region.team
-    same_team = same_list (λ j. region_seen (number RegionTeam) j) (λ m. task_address w m.0) x.region.team y.region.team same_size
-        (λ j m is. a.records.regions n x RegionTeam j _ refl (member_code w (region_told x.region) j m is)) (λ j m is. b.records.regions n y RegionTeam j _ refl (member_code w (region_told y.region) j m is)) same_member
+    same_team =
+        same_list (λ j. region_seen (number RegionTeam) j)
+        (λ m. task_address w m.0) x.region.team y.region.team same_size
+        (λ j m is. a.records.regions n x RegionTeam j _ refl (member_code w (region_told x.region) j m is))
+        (λ j m is. b.records.regions n y RegionTeam j _ refl (member_code w (region_told y.region) j m is)) same_member
 
     pub same_region_row : region_row n x.region ≡ region_row n y.region
     same_region_row =

@@ -69,7 +69,9 @@ pub record Before (p : Program) (w : List ℕ) (m : Memory) (events : List (ℕ 
   pub known : i < s.count
   pub few : length events + 1 < MOST_EVENTS
   -- what barriers say of other threads stays
-  pub barriers : (e : Event) (u : State) → Step p s i e u → (j : ℕ) → j < s.count → j ≢ i → (c : BarrierCounter) → (actors j).counter ≡ counter.Barrier c → KeepsBarrierRow s (actors j) c → KeepsBarrierRow u (actors j) c
+  pub barriers : (e : Event) (u : State) → Step p s i e u → (j : ℕ) → j < s.count → j ≢ i
+      → (c : BarrierCounter) → (actors j).counter ≡ counter.Barrier c → KeepsBarrierRow s (actors j) c
+      → KeepsBarrierRow u (actors j) c
 
 -- ---- what a store spares
 
@@ -81,7 +83,8 @@ pub not_less : (x y : Rec) (f at : ℕ) → y ≡ x → x f at ≤ y f at
 not_less x y f at same = let word : y f at ≡ x f at = ap (λ (r : Rec). r f at) same in omega (arith, word)
 
 -- what relates the word before a store to the word after it
-word_goes : (R : ℕ → ℕ → Type 0) → ((x : ℕ) → R x x) → (m : Memory) (c q s f k v d p t g h : ℕ) → R (m c q s f k) v → R (m d p t g h) (with_word m c q s f k v d p t g h)
+word_goes : (R : ℕ → ℕ → Type 0) → ((x : ℕ) → R x x) → (m : Memory) (c q s f k v d p t g h : ℕ)
+    → R (m c q s f k) v → R (m d p t g h) (with_word m c q s f k v d p t g h)
 word_goes R same m c q s f k v d p t g h here =
     each_put (λ i (made : MadeRecords). R (m i p t g h) (made p t g h)) m c _
     (each_put (λ i (slots : ℕ → Rec). R (m c i t g h) (slots t g h)) (m c) q _
@@ -94,15 +97,19 @@ word_goes R same m c q s f k v d p t g h here =
     d (λ ne. same (m d p t g h))
 
 -- no word falls where one rises, and a word that is 0 stays so where 0 is stored
-word_rises : (m : Memory) (c q s f k v d p t g h : ℕ) → m c q s f k ≤ v → m d p t g h ≤ with_word m c q s f k v d p t g h
+word_rises : (m : Memory) (c q s f k v d p t g h : ℕ) → m c q s f k ≤ v
+    → m d p t g h ≤ with_word m c q s f k v d p t g h
 word_rises = word_goes (λ x y. x ≤ y) (λ x. omega arith)
 
-word_clears : (m : Memory) (c q s f k v d p t g h : ℕ) → v ≡ 0 → m d p t g h ≡ 0 → with_word m c q s f k v d p t g h ≡ 0
-word_clears m c q s f k v d p t g h zero = word_goes (λ x y. x ≡ 0 → y ≡ 0) (λ x e. e) m c q s f k v d p t g h (λ e. zero)
+word_clears : (m : Memory) (c q s f k v d p t g h : ℕ) → v ≡ 0 → m d p t g h ≡ 0
+    → with_word m c q s f k v d p t g h ≡ 0
+word_clears m c q s f k v d p t g h zero =
+    word_goes (λ x y. x ≡ 0 → y ≡ 0) (λ x e. e) m c q s f k v d p t g h (λ e. zero)
 
 -- the records of another thread
 -- where the record is not that of a live task
-pub spares_own : (m : Memory) (s : State) (i kind slot f at v j : ℕ) (a : Actor) → j ≢ i → (kind ≡ tasks → (s.tasks i slot).live ≡ None) → Spares m (with_word m i kind slot f at v) s j a
+pub spares_own : (m : Memory) (s : State) (i kind slot f at v j : ℕ) (a : Actor) → j ≢ i
+    → (kind ≡ tasks → (s.tasks i slot).live ≡ None) → Spares m (with_word m i kind slot f at v) s j a
 spares_own m s i kind slot f at v j a other free = record {
   regions_same = λ k e. record_stays m i kind slot f at v j regions k (λ c _ _. other c);
   tasks_same = λ k e. record_stays m i kind slot f at v j tasks k (λ c _ _. other c);
@@ -114,9 +121,12 @@ spares_own m s i kind slot f at v j a other free = record {
   where
     apart : (k : Tid) (t : Task) → task_of s k ≡ Some t → k.0.creator ≡ i → tasks ≡ kind → k.0.slot ≡ slot → ⊥
     apart k t live c q h =
-        none_some (subst (λ x. (s.tasks x k.0.slot).live ≡ None) (sym c) (subst (λ x. (s.tasks i x).live ≡ None) (sym h) (free (sym q)))) (found_live k.0.generation (s.tasks k.0.creator k.0.slot) t live)
+        none_some
+        (subst (λ x. (s.tasks x k.0.slot).live ≡ None) (sym c) (subst (λ x. (s.tasks i x).live ≡ None) (sym h) (free (sym q))))
+        (found_live k.0.generation (s.tasks k.0.creator k.0.slot) t live)
 
-pub spares_threads : (m : Memory) (s : State) (i : ℕ) (f : Field) (v j : ℕ) (a : Actor) → number f ≢ number ThreadAssign → Spares m (with_word m i threads 0 (number f) 0 v) s j a
+pub spares_threads : (m : Memory) (s : State) (i : ℕ) (f : Field) (v j : ℕ) (a : Actor)
+    → number f ≢ number ThreadAssign → Spares m (with_word m i threads 0 (number f) 0 v) s j a
 spares_threads m s i f v j a apart = record {
   regions_same = λ k e. record_stays m i threads 0 (number f) 0 v j regions k (λ _ kind _. absurd (omega (arith, kind)));
   tasks_same = λ k e. record_stays m i threads 0 (number f) 0 v j tasks k (λ _ kind _. absurd (omega (arith, kind)));
@@ -126,7 +136,8 @@ spares_threads m s i f v j a apart = record {
   hand_same = λ k t g h known is live deferred of. word_stays m i threads 0 (number f) 0 v k.0.creator tasks k.0.slot (number g) h (λ _ kind _ _ _. absurd (omega (arith, kind)));
 }
 
-pub spares_runtime : (m : Memory) (s : State) (f : Field) (at v j : ℕ) (a : Actor) → Spares m (with_word m 0 runtime 0 (number f) at v) s j a
+pub spares_runtime : (m : Memory) (s : State) (f : Field) (at v j : ℕ) (a : Actor)
+    → Spares m (with_word m 0 runtime 0 (number f) at v) s j a
 spares_runtime m s f at v j a = record {
   regions_same = λ k e. record_stays m 0 runtime 0 (number f) at v j regions k (λ _ kind _. absurd (omega (arith, kind)));
   tasks_same = λ k e. record_stays m 0 runtime 0 (number f) at v j tasks k (λ _ kind _. absurd (omega (arith, kind)));
@@ -137,7 +148,10 @@ spares_runtime m s f at v j a = record {
 }
 
 -- a live object has no record in the making
-pub spares_region : (m : Memory) (s : State) (n : Rid) (r : Region) (f : Field) (at v j : ℕ) (a : Actor) → region_of s n ≡ Some r → (number f ≢ number RegionLeft) ⊎ (m n.0.creator regions n.0.slot (number f) at ≤ v) → Spares m (with_word m n.0.creator regions n.0.slot (number f) at v) s j a
+pub spares_region : (m : Memory) (s : State) (n : Rid) (r : Region) (f : Field) (at v j : ℕ) (a : Actor)
+    → region_of s n ≡ Some r
+    → (number f ≢ number RegionLeft) ⊎ (m n.0.creator regions n.0.slot (number f) at ≤ v)
+    → Spares m (with_word m n.0.creator regions n.0.slot (number f) at v) s j a
 spares_region m s n r f at v j a live rises = record {
   regions_same = λ k e. record_stays m n.0.creator regions n.0.slot (number f) at v j regions k
       (λ c _ slot. none_some (subst (λ x. (s.regions x n.0.slot).live ≡ None) c (subst (λ x. (s.regions j x).live ≡ None) slot e)) (found_live n.0.generation (s.regions n.0.creator n.0.slot) r live));
@@ -148,15 +162,19 @@ spares_region m s n r f at v j a live rises = record {
   hand_same = λ k t g h known is here deferred of. word_stays m n.0.creator regions n.0.slot (number f) at v k.0.creator tasks k.0.slot (number g) h (λ _ kind _ _ _. absurd (omega (arith, kind)));
 }
   where
-    kept : (k : ℕ) → (number f ≢ number RegionLeft) ⊎ (m n.0.creator regions n.0.slot (number f) at ≤ v) → m j regions k (number RegionLeft) 0 ≤ with_word m n.0.creator regions n.0.slot (number f) at v j regions k (number RegionLeft) 0
+    kept : (k : ℕ) → (number f ≢ number RegionLeft) ⊎ (m n.0.creator regions n.0.slot (number f) at ≤ v)
+        → m j regions k (number RegionLeft) 0 ≤ with_word m n.0.creator regions n.0.slot (number f) at v j regions k (number RegionLeft) 0
     kept k (inl apart) =
         let same = word_stays m n.0.creator regions n.0.slot (number f) at v j regions k (number RegionLeft) 0 (λ _ _ _ field _. apart (sym field)) in omega (arith, same)
-    kept k (inr more) = word_rises m n.0.creator regions n.0.slot (number f) at v j regions k (number RegionLeft) 0 more
+    kept k (inr more) =
+        word_rises m n.0.creator regions n.0.slot (number f) at v j regions k (number RegionLeft) 0 more
 
 -- what lives in one slot is one task
-pub same_name : (s : State) (k h : Tid) (t x : Task) → task_of s k ≡ Some t → task_of s h ≡ Some x → h.0.creator ≡ k.0.creator → h.0.slot ≡ k.0.slot → (h ≡ k) × (x ≡ t)
+pub same_name : (s : State) (k h : Tid) (t x : Task) → task_of s k ≡ Some t → task_of s h ≡ Some x
+    → h.0.creator ≡ k.0.creator → h.0.slot ≡ k.0.slot → (h ≡ k) × (x ≡ t)
 same_name s k h t x live there c q =
-    let one : s.tasks h.0.creator h.0.slot ≡ s.tasks k.0.creator k.0.slot = ap (λ d. s.tasks d h.0.slot) c ∙ ap (s.tasks k.0.creator) q in
+    let one : s.tasks h.0.creator h.0.slot ≡ s.tasks k.0.creator k.0.slot =
+    ap (λ d. s.tasks d h.0.slot) c ∙ ap (s.tasks k.0.creator) q in
     let first = found_generations k.0.generation (s.tasks k.0.creator k.0.slot) t live in
     let other = found_generations h.0.generation (s.tasks h.0.creator h.0.slot) x there in
     let alike = ap (λ (y : Slot Task). y.generations) one in (
@@ -170,9 +188,12 @@ SparesSlots t f v j = (number f ≢ number TaskSlots) ⊎ ((t.thread ≢ j) ⊎ 
 
 -- and the hand of thread j: it is in no word of a place, or in no deferred task, or the task is not in that hand
 abbrev pub SparesHand : State → Tid → Task → Field → ℕ → Actor → Type 0
-SparesHand s k t f j a = (g : Field) → is_place g ≡ true → number g ≡ number f → t.progress ≡ Deferred → j < s.count → (owed a).hand ≡ Some k → ⊥
+SparesHand s k t f j a =
+    (g : Field) → is_place g ≡ true → number g ≡ number f → t.progress ≡ Deferred → j < s.count → (owed a).hand ≡ Some k → ⊥
 
-pub spares_task : (m : Memory) (s : State) (k : Tid) (t : Task) (f : Field) (at v j : ℕ) (a : Actor) → task_of s k ≡ Some t → SparesSlots t f v j → SparesHand s k t f j a → Spares m (with_word m k.0.creator tasks k.0.slot (number f) at v) s j a
+pub spares_task : (m : Memory) (s : State) (k : Tid) (t : Task) (f : Field) (at v j : ℕ) (a : Actor)
+    → task_of s k ≡ Some t → SparesSlots t f v j → SparesHand s k t f j a
+    → Spares m (with_word m k.0.creator tasks k.0.slot (number f) at v) s j a
 spares_task m s k t f at v j a live slots hand = record {
   regions_same = λ h e. record_stays m k.0.creator tasks k.0.slot (number f) at v j regions h (λ _ kind _. absurd (omega (arith, kind)));
   tasks_same = λ h e. record_stays m k.0.creator tasks k.0.slot (number f) at v j tasks h
@@ -180,27 +201,44 @@ spares_task m s k t f at v j a live slots hand = record {
   assign_same = λ x e. word_stays m k.0.creator tasks k.0.slot (number f) at v j threads 0 (number ThreadAssign) 0 (λ _ kind _ _ _. absurd (omega (arith, kind)));
   left_kept = λ h. not_less (m j regions h) (with_word m k.0.creator tasks k.0.slot (number f) at v j regions h) (number RegionLeft) 0 (record_stays m k.0.creator tasks k.0.slot (number f) at v j regions h (λ _ kind _. absurd (omega (arith, kind))));
   slots_kept = λ row x place there im is empty. kept row x place there is empty slots;
-  hand_same = λ h x g place known is there deferred of. word_stays m k.0.creator tasks k.0.slot (number f) at v h.0.creator tasks h.0.slot (number g) place
+  hand_same =
+      λ h x g place known is there deferred of. word_stays m k.0.creator tasks k.0.slot (number f) at v h.0.creator tasks h.0.slot (number g) place
       (λ c _ slot field _.
       let (name, same) = same_name s k h t x live there c slot in
       hand g of field (ap (λ (y : Task). y.progress) (sym same) ∙ deferred) known (is ∙ ap Some name));
 }
   where
-    kept : (row : Tid) (x : Task) (place : ℕ) → task_of s row ≡ Some x → x.thread ≡ j → slot_of m row place ≡ 0 → SparesSlots t f v j → slot_of (with_word m k.0.creator tasks k.0.slot (number f) at v) row place ≡ 0
-    kept row x place there is empty (inl apart) = word_stays m k.0.creator tasks k.0.slot (number f) at v row.0.creator tasks row.0.slot (number TaskSlots) place (λ _ _ _ field _. apart (sym field)) ∙ empty
+    kept : (row : Tid) (x : Task) (place : ℕ) → task_of s row ≡ Some x → x.thread ≡ j
+        → slot_of m row place ≡ 0 → SparesSlots t f v j
+        → slot_of (with_word m k.0.creator tasks k.0.slot (number f) at v) row place ≡ 0
+    kept row x place there is empty (inl apart) =
+        word_stays m k.0.creator tasks k.0.slot (number f) at v row.0.creator tasks row.0.slot
+        (number TaskSlots) place (λ _ _ _ field _. apart (sym field))
+        ∙ empty
     kept row x place there is empty (inr (inl other)) =
-        word_stays m k.0.creator tasks k.0.slot (number f) at v row.0.creator tasks row.0.slot (number TaskSlots) place
-        (λ c _ slot _ _. let (name, same) = same_name s k row t x live there c slot in other (ap (λ (y : Task). y.thread) (sym same) ∙ is)) ∙ empty
-    kept row x place there is empty (inr (inr zero)) = word_clears m k.0.creator tasks k.0.slot (number f) at v row.0.creator tasks row.0.slot (number TaskSlots) place zero empty
+        word_stays m k.0.creator tasks k.0.slot (number f) at v row.0.creator tasks row.0.slot
+        (number TaskSlots) place
+        (λ c _ slot _ _. let (name, same) = same_name s k row t x live there c slot in other (ap (λ (y : Task). y.thread) (sym same) ∙ is))
+        ∙ empty
+    kept row x place there is empty (inr (inr zero)) =
+        word_clears m k.0.creator tasks k.0.slot (number f) at v row.0.creator tasks row.0.slot
+        (number TaskSlots) place zero empty
 
 -- a task that has begun on another thread
-pub spares_begun : (m : Memory) (s : State) (k : Tid) (t : Task) (f : Field) (at v i j : ℕ) (a : Actor) → task_of s k ≡ Some t → t.progress ≡ Begun → t.thread ≡ i → j ≢ i → Spares m (with_word m k.0.creator tasks k.0.slot (number f) at v) s j a
-spares_begun m s k t f at v i j a live begun runs other = spares_task m s k t f at v j a live (inr (inl (λ same. other (sym same ∙ runs)))) (λ g of field deferred known is. begun_undeferred t begun deferred)
+pub spares_begun : (m : Memory) (s : State) (k : Tid) (t : Task) (f : Field) (at v i j : ℕ) (a : Actor)
+    → task_of s k ≡ Some t → t.progress ≡ Begun → t.thread ≡ i → j ≢ i
+    → Spares m (with_word m k.0.creator tasks k.0.slot (number f) at v) s j a
+spares_begun m s k t f at v i j a live begun runs other =
+    spares_task m s k t f at v j a live (inr (inl (λ same. other (sym same ∙ runs))))
+    (λ g of field deferred known is. begun_undeferred t begun deferred)
 
 -- ---- other threads
 
-module _ (p : Program) (w : List ℕ) (m n : Memory) (events later : List (ℕ × Event)) (s u : State) (actors : ℕ → Actor) (i : ℕ) (rule : Rule p w m events s actors) (leaves : LeavesOthers s u i) (names : NamesStay s u) where
-  ended_stays : (j : ℕ) (c : Counter) → ((x : ℕ × Event) → Contains events x → Contains later x) → HasEnded events j c → HasEnded later j c
+module _ (p : Program) (w : List ℕ) (m n : Memory) (events later : List (ℕ × Event)) (s u : State)
+    (actors : ℕ → Actor) (i : ℕ) (rule : Rule p w m events s actors) (leaves : LeavesOthers s u i)
+    (names : NamesStay s u) where
+  ended_stays : (j : ℕ) (c : Counter) → ((x : ℕ × Event) → Contains events x → Contains later x)
+      → HasEnded events j c → HasEnded later j c
   ended_stays j (counter.Plain plain.Ended) more o = more (j, event.Done) o
   ended_stays j (counter.Plain plain.Work) more o = tt
   ended_stays j (counter.Plain plain.Call) more o = tt
@@ -223,9 +261,12 @@ module _ (p : Program) (w : List ℕ) (m n : Memory) (events later : List (ℕ �
   ended_stays j (counter.Look c) more o = tt
   ended_stays j (counter.Finish c) more o = tt
 
-  other_thread : ((x : ℕ × Event) → Contains events x → Contains later x) → (j : ℕ) → j < s.count → j ≢ i → Spares m n s j (actors j)
-      → ((k : Tid) → (owed (actors j)).hand ≡ Some k → (t : Task) × (task_of u k ≡ Some t) × (t.progress ≡ Deferred))
-      → ((c : BarrierCounter) → (actors j).counter ≡ counter.Barrier c → KeepsBarrierRow s (actors j) c → KeepsBarrierRow u (actors j) c)
+  other_thread : ((x : ℕ × Event) → Contains events x → Contains later x) → (j : ℕ) → j < s.count → j ≢ i
+      → Spares m n s j (actors j)
+      →
+      ((k : Tid) → (owed (actors j)).hand ≡ Some k → (t : Task) × (task_of u k ≡ Some t) × (t.progress ≡ Deferred))
+      →
+      ((c : BarrierCounter) → (actors j).counter ≡ counter.Barrier c → KeepsBarrierRow s (actors j) c → KeepsBarrierRow u (actors j) c)
       → KeepsThread p w n later u j (actors j)
   other_thread more j known other spares hands barriers =
       let o = rule.threads j known in
@@ -240,8 +281,11 @@ module _ (p : Program) (w : List ℕ) (m n : Memory) (events later : List (ℕ �
       }
 
   -- the own thread has another actor, and the others theirs. What they have in their hands is what the words after the step say
-  pub all_threads : (a : Actor) → KeepsWords w n u (all_owed (replace_at actors i a)) → ((x : ℕ × Event) → Contains events x → Contains later x) → ((j : ℕ) → j ≢ i → Spares m n s j (actors j))
-      → ((j : ℕ) → j < s.count → j ≢ i → (c : BarrierCounter) → (actors j).counter ≡ counter.Barrier c → KeepsBarrierRow s (actors j) c → KeepsBarrierRow u (actors j) c)
+  pub all_threads : (a : Actor) → KeepsWords w n u (all_owed (replace_at actors i a))
+      → ((x : ℕ × Event) → Contains events x → Contains later x)
+      → ((j : ℕ) → j ≢ i → Spares m n s j (actors j))
+      →
+      ((j : ℕ) → j < s.count → j ≢ i → (c : BarrierCounter) → (actors j).counter ≡ counter.Barrier c → KeepsBarrierRow s (actors j) c → KeepsBarrierRow u (actors j) c)
       → KeepsThread p w n later u i a → (j : ℕ) → j < u.count → KeepsThread p w n later u j (replace_at actors i a j)
   all_threads a words more spares barriers own j known = go (j == i) refl
     where
@@ -250,7 +294,8 @@ module _ (p : Program) (w : List ℕ) (m n : Memory) (events later : List (ℕ �
       go false e =
           let other : j ≢ i = λ same. cc (sym (eq-eqb j i same), e) in
           other_thread more j (subst (λ c. j < c) leaves.count known) other (spares j other)
-          (λ k is. words.deferred.hands j k known (ap (λ (x : Actor). (owed x).hand) (put_other actors i j a other) ∙ is)) (barriers j (subst (λ c. j < c) leaves.count known) other)
+          (λ k is. words.deferred.hands j k known (ap (λ (x : Actor). (owed x).hand) (put_other actors i j a other) ∙ is))
+          (barriers j (subst (λ c. j < c) leaves.count known) other)
 
 -- ---- steps
 
@@ -259,12 +304,15 @@ no_slot : (e : Event) (found : ℕ) → (Makes e → ⊥) → FindsEmptySlot e f
 no_slot (event.Defer task) found not = absurd (not tt)
 no_slot e found not = tt
 
-module _ (p : Program) (w : List ℕ) (m : Memory) (events : List (ℕ × Event)) (s : State) (actors : ℕ → Actor) (i : ℕ) (before : Before p w m events s actors i) where
+module _ (p : Program) (w : List ℕ) (m : Memory) (events : List (ℕ × Event)) (s : State) (actors : ℕ → Actor)
+    (i : ℕ) (before : Before p w m events s actors i) where
   abbrev rule : Rule p w m events s actors
   rule = before.rule
 
   -- no event: the state stays
-  quiet_rule : (n : Memory) (a : Actor) → KeepsWords w n s (all_owed (replace_at actors i a)) → ((j : ℕ) → j ≢ i → Spares m n s j (actors j)) → KeepsThread p w n events s i a → Rule p w n (events ++ []) s (replace_at actors i a)
+  quiet_rule : (n : Memory) (a : Actor) → KeepsWords w n s (all_owed (replace_at actors i a))
+      → ((j : ℕ) → j ≢ i → Spares m n s j (actors j)) → KeepsThread p w n events s i a
+      → Rule p w n (events ++ []) s (replace_at actors i a)
   quiet_rule n a words spares own =
       subst (λ (xs : List (ℕ × Event)). Rule p w n xs s (replace_at actors i a)) (sym (append-nil events))
       (record {
@@ -275,13 +323,16 @@ module _ (p : Program) (w : List ℕ) (m : Memory) (events : List (ℕ × Event)
         threads = all_threads p w m n events events s s actors i rule (same_state s i) (names_same s) a words (λ x there. there) spares (λ j known other c at o. o) own;
       })
 
-  pub quiet_keeps : (o : Op) (x : RecordWord) (after : Actor × Outcome) → after.1 ≡ outcome.Quiet → KeepsWords w (left_in m o x) s (all_owed (replace_at actors i after.0))
+  pub quiet_keeps : (o : Op) (x : RecordWord) (after : Actor × Outcome) → after.1 ≡ outcome.Quiet
+      → KeepsWords w (left_in m o x) s (all_owed (replace_at actors i after.0))
       → ((j : ℕ) → j ≢ i → Spares m (left_in m o x) s j (actors j)) → KeepsThread p w (left_in m o x) events s i after.0 → KeepsRule p w m events s actors i o x after
   quiet_keeps o x (a, out) is words spares own =
       subst (λ (y : Outcome). KeepsRule p w m events s actors i o x (a, y)) (sym is)
       (record { next = s; leads = refl; comes = tt; rule = quiet_rule (left_in m o x) a words spares own })
 
-  pub waits_keep : (o : Op) (x : RecordWord) (after : Actor × Outcome) (address : ℕ) → after.1 ≡ outcome.NotReady address (found_in m x) → Waits w s i address (found_in m x) → Compares o → address ≡ address_of o
+  pub waits_keep : (o : Op) (x : RecordWord) (after : Actor × Outcome) (address : ℕ)
+      → after.1 ≡ outcome.NotReady address (found_in m x) → Waits w s i address (found_in m x) → Compares o
+      → address ≡ address_of o
       → KeepsWords w (left_in m o x) s (all_owed (replace_at actors i after.0)) → ((j : ℕ) → j ≢ i → Spares m (left_in m o x) s j (actors j)) → KeepsThread p w (left_in m o x) events s i after.0
       → KeepsRule p w m events s actors i o x after
   waits_keep o x (a, out) address is waits compares there words spares own =
@@ -289,13 +340,16 @@ module _ (p : Program) (w : List ℕ) (m : Memory) (events : List (ℕ × Event)
       (record { next = s; leads = (refl, waits); comes = (compares, there, refl); rule = quiet_rule (left_in m o x) a words spares own })
 
   -- an event: `u` is the next state
-  pub event_keeps : (o : Op) (x : RecordWord) (after : Actor × Outcome) (e : Event) (u : State) → after.1 ≡ outcome.Event e → Step p s i e u → CommitsAt w s i e o → FindsEmptySlot e (found_in m x)
+  pub event_keeps : (o : Op) (x : RecordWord) (after : Actor × Outcome) (e : Event) (u : State)
+      → after.1 ≡ outcome.Event e → Step p s i e u → CommitsAt w s i e o → FindsEmptySlot e (found_in m x)
       → AreWithin w regions u.regions → AreWithin w tasks u.tasks → AreNewMembers p u → KeepsWords w (left_in m o x) u (all_owed (replace_at actors i after.0))
       → ((j : ℕ) → j ≢ i → Spares m (left_in m o x) s j (actors j)) → KeepsThread p w (left_in m o x) (events ++ (i, e) ∷ []) u i after.0 → KeepsRule p w m events s actors i o x after
   event_keeps o x (a, out) e u is step commits finds in_regions in_tasks waiting words spares own =
       let leaves : LeavesOthers s u i = events_leave_others p events s rule.reached i e u step in
-      let reached : Reached p (events ++ (i, e) ∷ []) u = leads_on p (opening p) events s (i, e) u rule.reached step in
-      let named : LiveAreNamed u.regions × LiveAreNamed u.tasks = all_named p (events ++ (i, e) ∷ []) u reached in
+      let reached : Reached p (events ++ (i, e) ∷ []) u =
+      leads_on p (opening p) events s (i, e) u rule.reached step in
+      let named : LiveAreNamed u.regions × LiveAreNamed u.tasks =
+      all_named p (events ++ (i, e) ∷ []) u reached in
       subst (λ (y : Outcome). KeepsRule p w m events s actors i o x (a, y)) (sym is)
       (record {
         next = u;
@@ -318,24 +372,31 @@ module _ (p : Program) (w : List ℕ) (m : Memory) (events : List (ℕ × Event)
       })
 
   -- an event that makes no object
-  pub plain_event_keeps : (o : Op) (x : RecordWord) (after : Actor × Outcome) (e : Event) (u : State) → (Makes e → ⊥) → after.1 ≡ outcome.Event e → Step p s i e u → CommitsAt w s i e o
+  pub plain_event_keeps : (o : Op) (x : RecordWord) (after : Actor × Outcome) (e : Event) (u : State)
+      → (Makes e → ⊥) → after.1 ≡ outcome.Event e → Step p s i e u → CommitsAt w s i e o
       → AreNewMembers p u → KeepsWords w (left_in m o x) u (all_owed (replace_at actors i after.0))
       → ((j : ℕ) → j ≢ i → Spares m (left_in m o x) s j (actors j)) → KeepsThread p w (left_in m o x) (events ++ (i, e) ∷ []) u i after.0 → KeepsRule p w m events s actors i o x after
   plain_event_keeps o x after e u not is step commits waiting words spares own =
       let none = nothing_new p s i e u not step in
-      event_keeps o x after e u is step commits (no_slot e (found_in m x) not) (within_stays w regions s.regions u.regions none.regions rule.within.regions) (within_stays w tasks s.tasks u.tasks none.tasks rule.within.tasks) waiting words spares own
+      event_keeps o x after e u is step commits (no_slot e (found_in m x) not)
+      (within_stays w regions s.regions u.regions none.regions rule.within.regions)
+      (within_stays w tasks s.tasks u.tasks none.tasks rule.within.tasks) waiting words spares own
 
   -- a load leaves the memory
   pub of_load : (at : ℕ) (x : RecordWord) → left_in m (op.Load at) x ≡ m
   of_load at x = word_back m x.creator (kind_of (number x.field)) x.slot (number x.field) x.place
 
   -- a step that leaves the memory, and behind which its thread owes the same
-  module _ (o : Op) (x : RecordWord) (b : Actor) (stays : left_in m o x ≡ m) (same : owed b ≡ owed (actors i)) (own : KeepsThread p w m events s i b) where
+  module _ (o : Op) (x : RecordWord) (b : Actor) (stays : left_in m o x ≡ m) (same : owed b ≡ owed (actors i))
+      (own : KeepsThread p w m events s i b) where
     words_stay : KeepsWords w (left_in m o x) s (all_owed (replace_at actors i b))
-    words_stay = subst (λ (n : Memory). KeepsWords w n s (all_owed (replace_at actors i b))) (sym stays) (moves_keep w m s actors i b rule.words same)
+    words_stay =
+        subst (λ (n : Memory). KeepsWords w n s (all_owed (replace_at actors i b))) (sym stays)
+        (moves_keep w m s actors i b rule.words same)
 
     spared : (j : ℕ) → j ≢ i → Spares m (left_in m o x) s j (actors j)
-    spared j other = subst (λ (n : Memory). Spares m n s j (actors j)) (sym stays) (spares_none m s j (actors j))
+    spared j other =
+        subst (λ (n : Memory). Spares m n s j (actors j)) (sym stays) (spares_none m s j (actors j))
 
     thread_stays : KeepsThread p w (left_in m o x) events s i b
     thread_stays = subst (λ (n : Memory). KeepsThread p w n events s i b) (sym stays) own
@@ -343,13 +404,20 @@ module _ (p : Program) (w : List ℕ) (m : Memory) (events : List (ℕ × Event)
     pub quiet_stays : KeepsRule p w m events s actors i o x (b, outcome.Quiet)
     quiet_stays = quiet_keeps o x (b, outcome.Quiet) refl words_stay spared thread_stays
 
-    pub waits_stay : (address : ℕ) → Waits w s i address (found_in m x) → Compares o → address ≡ address_of o → KeepsRule p w m events s actors i o x (b, outcome.NotReady address (found_in m x))
-    waits_stay address waits compares there = waits_keep o x (b, outcome.NotReady address (found_in m x)) address refl waits compares there words_stay spared thread_stays
+    pub waits_stay : (address : ℕ) → Waits w s i address (found_in m x) → Compares o → address ≡ address_of o
+        → KeepsRule p w m events s actors i o x (b, outcome.NotReady address (found_in m x))
+    waits_stay address waits compares there =
+        waits_keep o x
+        (b, outcome.NotReady address (found_in m x)) address refl waits compares there words_stay spared thread_stays
 
   -- a load that leads on, and one that finds a word on which the thread waits
-  pub load_stays : (address : ℕ) (x : RecordWord) (b : Actor) → owed b ≡ owed (actors i) → KeepsThread p w m events s i b → KeepsRule p w m events s actors i (op.Load address) x (b, outcome.Quiet)
+  pub load_stays : (address : ℕ) (x : RecordWord) (b : Actor) → owed b ≡ owed (actors i)
+      → KeepsThread p w m events s i b
+      → KeepsRule p w m events s actors i (op.Load address) x (b, outcome.Quiet)
   load_stays address x b same own = quiet_stays (op.Load address) x b (of_load address x) same own
 
-  pub load_waits : (address : ℕ) (x : RecordWord) (b : Actor) → Waits w s i address (found_in m x) → owed b ≡ owed (actors i) → KeepsThread p w m events s i b
+  pub load_waits : (address : ℕ) (x : RecordWord) (b : Actor) → Waits w s i address (found_in m x)
+      → owed b ≡ owed (actors i) → KeepsThread p w m events s i b
       → KeepsRule p w m events s actors i (op.Load address) x (b, outcome.NotReady address (found_in m x))
-  load_waits address x b waits same own = waits_stay (op.Load address) x b (of_load address x) same own address waits tt refl
+  load_waits address x b waits same own =
+      waits_stay (op.Load address) x b (of_load address x) same own address waits tt refl

@@ -17,19 +17,24 @@ use Rattle.omi_pc.specs.Settle.{statement_begun, calling, ended, goes_to, settle
 -- a fact of open bodies that a call and a return leave, and that does not name positions
 pub record IsOfBodies (P : Context → List Frame → Type 0) : Type 0 where
   pub advances : (c : Context) (f : Frame) (fs : List Frame) → P c (f ∷ fs) → P c (advanced f ∷ fs)
-  pub calls : (c : Context) (g : ℕ) (o : Opened) (f : Frame) (fs : List Frame) → IsCalled o → P c (f ∷ fs) → P c (at_start g o ∷ f ∷ fs)
+  pub calls : (c : Context) (g : ℕ) (o : Opened) (f : Frame) (fs : List Frame) → IsCalled o → P c (f ∷ fs)
+      → P c (at_start g o ∷ f ∷ fs)
   pub returns : (c : Context) (f : Frame) (fs : List Frame) → IsCalled f.opened → P c (f ∷ fs) → P c fs
-  pub again : (c : Context) (f : Frame) (left : ℕ) (fs : List Frame) → IsCalled f.opened → P c (f ∷ fs) → P c (started_again f (opened.Repeat left) ∷ fs)
+  pub again : (c : Context) (f : Frame) (left : ℕ) (fs : List Frame) → IsCalled f.opened → P c (f ∷ fs)
+      → P c (started_again f (opened.Repeat left) ∷ fs)
 
 module _ (P : Context → List Frame → Type 0) (laws : IsOfBodies P) (p : Program) where
   abbrev Of : Actor → Type 0
   Of a = P a.context a.stack
 
-  called : (g : ℕ) (o : Opened) (a : Actor) (f : Frame) (fs : List Frame) → a.stack ≡ f ∷ fs → IsCalled o → Of a → Of (calling g o a)
+  called : (g : ℕ) (o : Opened) (a : Actor) (f : Frame) (fs : List Frame) → a.stack ≡ f ∷ fs → IsCalled o
+      → Of a → Of (calling g o a)
   called g o a f fs is c x =
-      subst (λ (y : List Frame). P a.context (at_start g o ∷ y)) (sym is) (laws.calls a.context g o f fs c (subst (P a.context) is x))
+      subst (λ (y : List Frame). P a.context (at_start g o ∷ y)) (sym is)
+      (laws.calls a.context g o f fs c (subst (P a.context) is x))
 
-  begins : (s : Stmt) (a : Actor) (f : Frame) (fs : List Frame) → a.stack ≡ f ∷ fs → Of a → Of (statement_begun s a)
+  begins : (s : Stmt) (a : Actor) (f : Frame) (fs : List Frame) → a.stack ≡ f ∷ fs → Of a
+      → Of (statement_begun s a)
   begins (stmt.Call g) a f fs is o = called g opened.Call a f fs is refl o
   begins (stmt.Only m g) a f fs is o = go (a.context.number == m)
     where
@@ -56,7 +61,9 @@ module _ (P : Context → List Frame → Type 0) (laws : IsOfBodies P) (p : Prog
       go (f ∷ fs) is x = by (next_statement p f)
         where
           by : (n : Option Stmt) → Of (settled_by p a f fs n)
-          by (Some s) = begins s (record a { stack = advanced f ∷ fs }) (advanced f) fs refl (laws.advances a.context f fs x)
+          by (Some s) =
+              begins s (record a { stack = advanced f ∷ fs }) (advanced f) fs refl
+              (laws.advances a.context f fs x)
           by None = ends p.env.debug f.opened a o
 
   pub worked_of : (a : Actor) → Of a → Of (worked p a)
@@ -77,7 +84,8 @@ module _ (P : Context → List Frame → Type 0) (laws : IsOfBodies P) (p : Prog
       go true = o
       go false = worked_of a o
 
-  pub returned_of : (a : Actor) (f : Frame) (fs : List Frame) → a.stack ≡ f ∷ fs → IsCalled f.opened → Of a → Of (returned p a)
+  pub returned_of : (a : Actor) (f : Frame) (fs : List Frame) → a.stack ≡ f ∷ fs → IsCalled f.opened → Of a
+      → Of (returned p a)
   returned_of a f fs is called o = subst (λ (x : List Frame). Of (returned_in p x a)) (sym is) (go f.opened)
     where
       here : P a.context (f ∷ fs)

@@ -47,14 +47,20 @@ module _ (w : List ℕ) (s : State) (valid : IsValid w) (same : s.count ≡ thre
       let few = threads_of_valid w valid in
       omega (arith, sum, few, same)
 
-  pub children_few : (owes : ℕ → Owed) (k : Tid) → unfinished_children w s k + sum_of_owed s owes (children_owed s k) ≤ 4096 * 64 + 2 * 64
+  pub children_few : (owes : ℕ → Owed) (k : Tid)
+      → unfinished_children w s k + sum_of_owed s owes (children_owed s k) ≤ 4096 * 64 + 2 * 64
   children_few owes k =
       let live = slots_few (λ t. is_unfinished t && is_some_task k t.generating) in
-      let owed = owed_few owes (children_owed s k) (λ o. let first = one_few (is_some_task k o.raised) in let second = one_few (is_some_task k (option_and_then (generating_of s) o.lowered)) in omega (arith, first, second)) in
+      let owed =
+      owed_few owes (children_owed s k)
+      (λ o. let first = one_few (is_some_task k o.raised) in let second = one_few (is_some_task k (option_and_then (generating_of s) o.lowered)) in omega (arith, first, second)) in
       omega (arith, live, owed)
 
-  pub pending_few : (owes : ℕ → Owed) (n : Rid) → unfinished_in w s n + sum_of_owed s owes (pending_owed n) ≤ 4096 * 64 + 2 * 64
+  pub pending_few : (owes : ℕ → Owed) (n : Rid)
+      → unfinished_in w s n + sum_of_owed s owes (pending_owed n) ≤ 4096 * 64 + 2 * 64
   pending_few owes n =
       let live = slots_few (λ t. is_unfinished t && is_region n t.region) in
-      let owed = owed_few owes (pending_owed n) (λ o. let first = one_few (is_some_region n o.pending) in omega (arith, first)) in
+      let owed =
+      owed_few owes (pending_owed n)
+      (λ o. let first = one_few (is_some_region n o.pending) in omega (arith, first)) in
       omega (arith, live, owed)

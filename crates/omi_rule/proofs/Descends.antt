@@ -47,7 +47,8 @@ Below f (item.Defer seen g final ∷ xs) = (g < f) × Below f xs
 Below f (item.StartNow g final ∷ xs) = (g < f) × Below f xs
 Below f (x ∷ xs) = Below f xs
 
-shown_below : (f : ℕ) (at : Encounter) (state wait : ℕ) (xs : List Item) → Below f xs → Below f (shown at state wait xs)
+shown_below : (f : ℕ) (at : Encounter) (state wait : ℕ) (xs : List Item) → Below f xs
+    → Below f (shown at state wait xs)
 shown_below f at state wait xs h = go at.debug
   where
     go : (d : Bool) → Below f (if d then item.State state wait ∷ xs else xs)
@@ -57,14 +58,18 @@ shown_below f at state wait xs h = go at.debug
 working_below : (f : ℕ) (at : Encounter) (xs : List Item) → Below f xs → Below f (working at xs)
 working_below f at xs h = shown_below f at _ 0 xs h
 
-barrier_below : (f : ℕ) (at : Encounter) (state : ℕ) (rest : List Item) → Below f rest → Below f (barrier_items at state rest)
+barrier_below : (f : ℕ) (at : Encounter) (state : ℕ) (rest : List Item) → Below f rest
+    → Below f (barrier_items at state rest)
 barrier_below f at state rest h = shown_below f at state 0 _ (go (at.number == 0))
   where
-    go : (d : Bool) → Below f (item.Arrive ∷ item.Tasks state ∷ (if d then item.Release ∷ item.Pass ∷ rest else item.Pass ∷ rest))
+    go : (d : Bool)
+        → Below f (item.Arrive ∷ item.Tasks state ∷ (if d then item.Release ∷ item.Pass ∷ rest else item.Pass ∷ rest))
     go true = h
     go false = h
 
-body_below : (f : ℕ) (ss : List Stmt) (rest : List Item) → ((k : ℕ) (s : Stmt) → slice_get ss k ≡ Some s → NamesBelow f s) → Below f rest → Below f (body_items ss rest)
+body_below : (f : ℕ) (ss : List Stmt) (rest : List Item)
+    → ((k : ℕ) (s : Stmt) → slice_get ss k ≡ Some s → NamesBelow f s) → Below f rest
+    → Below f (body_items ss rest)
 body_below f [] rest all h = h
 body_below f (s ∷ ss) rest all h = (all 0 s refl, body_below f ss rest (λ k x e. all (suc k) x e) h)
 
@@ -72,30 +77,41 @@ module _ (p : Program) where
   -- a function names only functions below its own
   function_below : (f g : ℕ) (rest : List Item) → g ≤ f → Below f rest → Below f (function_items p g rest)
   function_below f g rest small h =
-      body_below f (body_of p.funcs g) rest (λ k s e c names. let less : c < g = (Rules-from_accepted p).above g c s (k, e) names in omega arith) h
+      body_below f (body_of p.funcs g) rest
+      (λ k s e c names. let less : c < g = (Rules-from_accepted p).above g c s (k, e) names in omega arith) h
 
   call_below : (f g : ℕ) (rest : List Item) → g < f → Below f rest → Below f (call_items p g rest)
   call_below f g rest small h = function_below f g (item.Ret ∷ rest) (omega arith) h
 
-  row_below : (f : ℕ) (at : Encounter) (s : Stmt) (rest : List Item) → Below f (item.Do s ∷ rest) → Below f (first_of at s ∷ behind p at s rest)
-  row_below f at (stmt.Parallel g num) rest h = shown_below f at _ 0 (item.Want num ∷ item.Asks ∷ item.Fork g ∷ working at (item.Leave ∷ rest)) (working_below f at (item.Leave ∷ rest) h.1)
+  row_below : (f : ℕ) (at : Encounter) (s : Stmt) (rest : List Item) → Below f (item.Do s ∷ rest)
+      → Below f (first_of at s ∷ behind p at s rest)
+  row_below f at (stmt.Parallel g num) rest h =
+      shown_below f at _ 0 (item.Want num ∷ item.Asks ∷ item.Fork g ∷ working at (item.Leave ∷ rest))
+      (working_below f at (item.Leave ∷ rest) h.1)
   row_below f at (stmt.Task g undeferred final) rest h = go (undeferred || at.is_final)
     where
-      go : (c : Bool) → Below f (item.Enter ∷ (if c then item.StartNow g (final || at.is_final) else item.Defer 0 g (final || at.is_final)) ∷ item.Leave ∷ rest)
+      go : (c : Bool)
+          → Below f (item.Enter ∷ (if c then item.StartNow g (final || at.is_final) else item.Defer 0 g (final || at.is_final)) ∷ item.Leave ∷ rest)
       go true = (h.0 g refl, h.1)
       go false = (h.0 g refl, h.1)
-  row_below f at stmt.Taskwait rest h = shown_below f at _ 0 (item.Tasks WAIT_TASKWAIT ∷ item.WaitDone ∷ working at (item.Leave ∷ rest)) (working_below f at (item.Leave ∷ rest) h.1)
-  row_below f at stmt.Barrier rest h = barrier_below f at _ (working at (item.Leave ∷ rest)) (working_below f at (item.Leave ∷ rest) h.1)
+  row_below f at stmt.Taskwait rest h =
+      shown_below f at _ 0 (item.Tasks WAIT_TASKWAIT ∷ item.WaitDone ∷ working at (item.Leave ∷ rest))
+      (working_below f at (item.Leave ∷ rest) h.1)
+  row_below f at stmt.Barrier rest h =
+      barrier_below f at _ (working at (item.Leave ∷ rest)) (working_below f at (item.Leave ∷ rest) h.1)
   row_below f at (stmt.Critical k g) rest h =
-      shown_below f at _ _ (item.Lock k ∷ working at (item.Leave ∷ item.Call g ∷ call_items p g (item.Unlock k ∷ rest)))
+      shown_below f at _ _
+      (item.Lock k ∷ working at (item.Leave ∷ item.Call g ∷ call_items p g (item.Unlock k ∷ rest)))
       (working_below f at (item.Leave ∷ item.Call g ∷ call_items p g (item.Unlock k ∷ rest)) (call_below f g (item.Unlock k ∷ rest) (h.0 g refl) h.1))
   row_below f at (stmt.Call g) rest h = call_below f g rest (h.0 g refl) h.1
   row_below f at (stmt.Only m g) rest h = go (at.number == m)
     where
-      go : (c : Bool) → Below f ((if c then item.Call g else item.Skip) ∷ (if c then call_items p g rest else rest))
+      go : (c : Bool)
+          → Below f ((if c then item.Call g else item.Skip) ∷ (if c then call_items p g rest else rest))
       go true = call_below f g rest (h.0 g refl) h.1
       go false = h.1
-  row_below f at (stmt.Repeat (suc n) g) rest h = call_below f g (item.Do (stmt.Repeat n g) ∷ rest) (h.0 g refl) (h.0, h.1)
+  row_below f at (stmt.Repeat (suc n) g) rest h =
+      call_below f g (item.Do (stmt.Repeat n g) ∷ rest) (h.0 g refl) (h.0, h.1)
   row_below f at s rest h = h.1
 
   drop_below : (f : ℕ) (x : Item) (xs : List Item) → may_drop x ≡ true → Below f (x ∷ xs) → Below f xs
@@ -104,7 +120,8 @@ module _ (p : Program) where
   drop_below f item.OneTask xs may h = h
   drop_below f x xs may h = absurd (false_true may)
 
-  take_below : (f : ℕ) (at : Encounter) (e : Event) (xs : List Item) (y : Item) (ys : List Item) → take_item p at e xs ≡ Some (y, ys) → Below f xs → Below f (y ∷ ys)
+  take_below : (f : ℕ) (at : Encounter) (e : Event) (xs : List Item) (y : Item) (ys : List Item)
+      → take_item p at e xs ≡ Some (y, ys) → Below f xs → Below f (y ∷ ys)
   take_below f at = take_keeps p at (Below f) (drop_below f) (row_below f at)
 
   task_below : (f : ℕ) → Below f (task_items p f)
@@ -118,12 +135,15 @@ module _ (p : Program) where
       go false = tt
 
   member_below : (at : Encounter) (f : ℕ) → Below f (member_items p at f)
-  member_below at f = working_below f at _ (function_below f f _ (omega arith) (barrier_below f at _ (last_of_member at.number ∷ []) (last_below f at.number)))
+  member_below at f =
+      working_below f at _
+      (function_below f f _ (omega arith) (barrier_below f at _ (last_of_member at.number ∷ []) (last_below f at.number)))
 
   main_below : (at : Encounter) → Below p.main (main_items at (body_of p.funcs p.main))
   main_below at = function_below p.main p.main _ (omega arith) (barrier_below p.main at _ (item.Done ∷ []) tt)
 
-stays_below : (f : ℕ) (at : Encounter) (e : Event) (y : Item) (ys : List Item) → Below f (y ∷ ys) → Below f (stays at e y ys)
+stays_below : (f : ℕ) (at : Encounter) (e : Event) (y : Item) (ys : List Item) → Below f (y ∷ ys)
+    → Below f (stays at e y ys)
 stays_below f at e item.Asks ys h = h
 stays_below f at e item.Serve ys h = shown_below f at _ 0 (item.Offer ∷ item.Serve ∷ ys) h
 stays_below f at e (item.Tasks state) ys h = shown_below f at state 0 (item.Tasks state ∷ ys) h
@@ -141,26 +161,32 @@ start_below f x at zs h = h
 
 -- an explicit task was made by a task with a larger function, which is live in this state
 abbrev IsUnder : State → Task → Type 0
-IsUnder s t = t.implicit ≡ false → (g : Tid) × (u : Task) × (t.generating ≡ Some g) × (task_of s g ≡ Some u) × (t.function < u.function)
+IsUnder s t =
+    t.implicit ≡ false → (g : Tid) × (u : Task) × (t.generating ≡ Some g) × (task_of s g ≡ Some u) × (t.function < u.function)
 
 -- and a task's list makes only tasks over smaller functions
 abbrev Descends : State → Tid → Task → Type 0
 Descends s k t = Below t.function t.list × IsUnder s t
 
-module _ (p : Program) (s : State) (i : ℕ) (e : Event) (next : State) (step : Step p s i e next) (all : EachTask (Descends s) s) where
+module _ (p : Program) (s : State) (i : ℕ) (e : Event) (next : State) (step : Step p s i e next)
+    (all : EachTask (Descends s) s) where
   move : IsMove p s i e next
   move = move_of p s i e next step
 
   -- the item that the event takes from the list of the current task
   taken_below : (k : Tid) (t : Task) → IsCurrent s i k t → Below t.function (move.item ∷ move.behind)
-  taken_below k t is = take_below p t.function (encounter s i) e t.list move.item move.behind (ap (take_item p (encounter s i) e) (sym (list_of_current s i k t is)) ∙ move.taken) (all k t is.live).0
+  taken_below k t is =
+      take_below p t.function (encounter s i) e t.list move.item move.behind
+      (ap (take_item p (encounter s i) e) (sym (list_of_current s i k t is)) ∙ move.taken) (all k t is.live).0
 
   -- which is the current one once the list has moved on
-  moved_below : (k : Tid) (t : Task) → IsCurrent (moved_on s i e move.item move.behind) i k t → Below t.function (move.item ∷ move.behind)
+  moved_below : (k : Tid) (t : Task) → IsCurrent (moved_on s i e move.item move.behind) i k t
+      → Below t.function (move.item ∷ move.behind)
   moved_below k t is =
       let before = is_relisted s i (stays (encounter s i) e move.item move.behind) in
       let (v, xs, live, same) = before.tasks k t is.live in
-      subst (λ (f : ℕ). Below f (move.item ∷ move.behind)) (sym (ap (λ (x : Task). x.function) same)) (taken_below k v (record { name = sym (before.currents i) ∙ is.name; live = live }))
+      subst (λ (f : ℕ). Below f (move.item ∷ move.behind)) (sym (ap (λ (x : Task). x.function) same))
+      (taken_below k v (record { name = sym (before.currents i) ∙ is.name; live = live }))
 
   still_under : (t : Task) → IsUnder s t → IsUnder next t
   still_under t under ex =
@@ -169,16 +195,23 @@ module _ (p : Program) (s : State) (i : ℕ) (e : Event) (next : State) (step : 
       (g, v, by, later, (let one : v.function ≡ u.function = same.function in omega arith))
 
   -- a task that the current one makes
-  made_under : (k : Tid) (t new : Task) → IsCurrent (moved_on s i e move.item move.behind) i k t → new.generating ≡ Some k → new.function < t.function → IsUnder next new
+  made_under : (k : Tid) (t new : Task) → IsCurrent (moved_on s i e move.item move.behind) i k t
+      → new.generating ≡ Some k → new.function < t.function → IsUnder next new
   made_under k t new is by less ex =
       let (v, later, same) = (stays_after p s i e next move).tasks k t is.live in
       (k, v, by, later, (let one : v.function ≡ t.function = same.function in omega arith))
 
-  made_below : (f : ℕ) (final : Bool) (k : Tid) (t : Task) → IsCurrent (moved_on s i e move.item move.behind) i k t → (move.item ≡ item.StartNow f final) ⊎ ((seen : ℕ) × (move.item ≡ item.Defer seen f final)) → f < t.function
-  made_below f final k t is (inl same) = (subst (λ (y : Item). Below t.function (y ∷ move.behind)) same (moved_below k t is)).0
-  made_below f final k t is (inr (seen, same)) = (subst (λ (y : Item). Below t.function (y ∷ move.behind)) same (moved_below k t is)).0
+  made_below : (f : ℕ) (final : Bool) (k : Tid) (t : Task)
+      → IsCurrent (moved_on s i e move.item move.behind) i k t
+      → (move.item ≡ item.StartNow f final) ⊎ ((seen : ℕ) × (move.item ≡ item.Defer seen f final))
+      → f < t.function
+  made_below f final k t is (inl same) =
+      (subst (λ (y : Item). Below t.function (y ∷ move.behind)) same (moved_below k t is)).0
+  made_below f final k t is (inr (seen, same)) =
+      (subst (λ (y : Item). Below t.function (y ∷ move.behind)) same (moved_below k t is)).0
 
-  descend_law : EachTask (Descends next) (moved_on s i e move.item move.behind) → IsTaskLaw p (moved_on s i e move.item move.behind) i e move.item next (Descends next)
+  descend_law : EachTask (Descends next) (moved_on s i e move.item move.behind)
+      → IsTaskLaw p (moved_on s i e move.item move.behind) i e move.item next (Descends next)
   descend_law middle = record {
     shows = λ k t enter h. h;
     tools = λ k t x h. h;
@@ -196,12 +229,16 @@ module _ (p : Program) (s : State) (i : ℕ) (e : Event) (next : State) (step : 
       (λ k t is taken h. (stays_below t.function (encounter s i) e move.item move.behind (taken_below k t is), still_under t h.1))
       (λ k t ne live h. (h.0, still_under t h.1)) descend_law all
 
-descended : (p : Program) (events : List (ℕ × Event)) (s : State) → Reached p events s → EachTask (Descends s) s
-descended p events s reached = over_events p (λ z. EachTask (Descends z) z) (λ z i e next step h. descend_step p z i e next step h) (opening p) events s reached
+descended : (p : Program) (events : List (ℕ × Event)) (s : State) → Reached p events s
+    → EachTask (Descends s) s
+descended p events s reached =
+    over_events p (λ z. EachTask (Descends z) z) (λ z i e next step h. descend_step p z i e next step h)
+    (opening p) events s reached
     (each_first_task p (Descends (opening p)) (main_below p (record { debug = p.env.debug; number = 0; level = 0; is_final = false }), λ ex. absurd (false_true (sym ex))))
 
 -- the task that made an explicit task
-pub made_by_larger : (p : Program) (events : List (ℕ × Event)) (s : State) → Reached p events s → (k : Tid) (t : Task) → task_of s k ≡ Some t → t.implicit ≡ false
+pub made_by_larger : (p : Program) (events : List (ℕ × Event)) (s : State) → Reached p events s
+    → (k : Tid) (t : Task) → task_of s k ≡ Some t → t.implicit ≡ false
     → (g : Tid) × (u : Task) × (t.generating ≡ Some g) × (task_of s g ≡ Some u) × (t.function < u.function)
 made_by_larger p events s reached k t live ex = (descended p events s reached k t live).1 ex
 
@@ -216,15 +253,20 @@ tasks_descend = λ p events s reached k t live ex g u by found.
 
 module _ (p : Program) (events : List (ℕ × Event)) (s : State) (reached : Reached p events s) where
   -- down the chain of the tasks that made a task, to the member of its region
-  chain_below : (ks : List Tid) (k : Tid) (t : Task) (r : Region) → task_of s k ≡ Some t → region_of s t.region ≡ Some r → IsLineage s t.implicit t.region t.generating ks → t.function ≤ r.function
-  chain_below [] k t r live found im = let same : r.function ≡ t.function = member_function p events s reached k t r live im found in omega (arith, same)
+  chain_below : (ks : List Tid) (k : Tid) (t : Task) (r : Region) → task_of s k ≡ Some t
+      → region_of s t.region ≡ Some r → IsLineage s t.implicit t.region t.generating ks
+      → t.function ≤ r.function
+  chain_below [] k t r live found im =
+      let same : r.function ≡ t.function = member_function p events s reached k t r live im found in omega (arith, same)
   chain_below (g ∷ gs) k t r live found (ex, u, by, maker, region, started, rest) =
       let less : t.function < u.function = tasks_descend p events s reached k t live ex g u by maker in
-      let small : u.function ≤ r.function = chain_below gs g u r maker (ap (region_of s) region ∙ found) rest in
+      let small : u.function ≤ r.function =
+      chain_below gs g u r maker (ap (region_of s) region ∙ found) rest in
       omega (arith, less, small)
 
   -- an explicit task of a region runs a smaller function than the region's members
-  pub below_members : (k : Tid) (t : Task) (r : Region) → task_of s k ≡ Some t → t.implicit ≡ false → region_of s t.region ≡ Some r → t.function < r.function
+  pub below_members : (k : Tid) (t : Task) (r : Region) → task_of s k ≡ Some t → t.implicit ≡ false
+      → region_of s t.region ≡ Some r → t.function < r.function
   below_members k t r live ex found = go lineage.tasks lineage.chain
     where
       lineage : HasLineage s t
@@ -234,5 +276,6 @@ module _ (p : Program) (events : List (ℕ × Event)) (s : State) (reached : Rea
       go [] im = absurd (false_true (sym ex ∙ im))
       go (g ∷ gs) (not, u, by, maker, region, started, rest) =
           let less : t.function < u.function = tasks_descend p events s reached k t live ex g u by maker in
-          let small : u.function ≤ r.function = chain_below gs g u r maker (ap (region_of s) region ∙ found) rest in
+          let small : u.function ≤ r.function =
+          chain_below gs g u r maker (ap (region_of s) region ∙ found) rest in
           omega (arith, less, small)

@@ -24,7 +24,8 @@ pub record AreBelow (s : State) : Type 0 where
   pub tasks : EachTask TaskBelow s
   pub regions : EachRegion RegionBelow s
 
-below_step : (p : Program) (s : State) (i : ℕ) (e : Event) (next : State) → Step p s i e next → AreBelow s → AreBelow next
+below_step : (p : Program) (s : State) (i : ℕ) (e : Event) (next : State) → Step p s i e next → AreBelow s
+    → AreBelow next
 below_step p s i e next step all = record {
   tasks = task_step p TaskBelow s i e next step (λ k t y ys is taken h. h)
       (λ middle y listed stays each. record {
@@ -48,7 +49,8 @@ below_step p s i e next step all = record {
       }) all.regions;
 }
 
-pub generations_below : (p : Program) (events : List (ℕ × Event)) (s : State) → Reached p events s → AreBelow s
+pub generations_below : (p : Program) (events : List (ℕ × Event)) (s : State) → Reached p events s
+    → AreBelow s
 generations_below p events s reached =
     over_events p AreBelow (λ u i e next step h. below_step p u i e next step h) (opening p) events s reached
     (record { tasks = each_first_task p TaskBelow (omega arith); regions = each_first_region p RegionBelow (omega arith) })

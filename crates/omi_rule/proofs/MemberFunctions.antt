@@ -15,9 +15,11 @@ use Rattle.omi_model.proofs.Slots.{some_same}
 use Rattle.omi_model.proofs.StaysKept.{stays_step}
 
 abbrev RunsFunction : State → Tid → Task → Type 0
-RunsFunction s k t = t.implicit ≡ true → (r : Region) × (region_of s t.region ≡ Some r) × (r.function ≡ t.function)
+RunsFunction s k t =
+    t.implicit ≡ true → (r : Region) × (region_of s t.region ≡ Some r) × (r.function ≡ t.function)
 
-runs_step : (p : Program) (s : State) (i : ℕ) (e : Event) (next : State) → Step p s i e next → EachTask (RunsFunction s) s → EachTask (RunsFunction next) next
+runs_step : (p : Program) (s : State) (i : ℕ) (e : Event) (next : State) → Step p s i e next
+    → EachTask (RunsFunction s) s → EachTask (RunsFunction next) next
 runs_step p s i e next step all = task_step p (RunsFunction next) s i e next step (λ k t y ys is taken h. h)
     (λ middle y listed stays each. record {
       shows = λ k t enter h. h;
@@ -35,7 +37,9 @@ runs_step p s i e next step all = task_step p (RunsFunction next) s i e next ste
     let (q, later, alike) = (stays_step p s i e next step).regions t.region r found in
     (q, later, alike.function ∙ same))
 
-pub member_function : (p : Program) (events : List (ℕ × Event)) (s : State) → Reached p events s → (k : Tid) (t : Task) (r : Region) → task_of s k ≡ Some t → t.implicit ≡ true → region_of s t.region ≡ Some r → r.function ≡ t.function
+pub member_function : (p : Program) (events : List (ℕ × Event)) (s : State) → Reached p events s
+    → (k : Tid) (t : Task) (r : Region) → task_of s k ≡ Some t → t.implicit ≡ true
+    → region_of s t.region ≡ Some r → r.function ≡ t.function
 member_function p events s reached k t r live im found =
     let (q, there, same) = over_events p (λ z. EachTask (RunsFunction z) z) (λ z i e next step h. runs_step p z i e next step h) (opening p) events s reached
     (each_first_task p (RunsFunction (opening p)) (λ im. (opening_region p, refl, refl))) k t live im in

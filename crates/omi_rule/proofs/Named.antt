@@ -30,23 +30,35 @@ IsCounted {A} x = (y : A) → x.live ≡ Some y → x.generations ≢ 0
 abbrev pub AreCounted : {A : Type 0} → Slots A → Type 0
 AreCounted {A} slots = (c k : ℕ) → IsCounted (slots c k)
 
-counted_on : {A : Type 0} (slots : Slots A) (n : Id) (f : A → A) → AreCounted slots → AreCounted (on slots n f)
-counted_on {A} slots n f all = each_slot slots n (λ c k (x : Slot A). IsCounted x) (changed n.generation f (slots n.creator n.slot)) (go ((slots n.creator n.slot).generations == n.generation + 1)) (λ c k apart. all c k)
+counted_on : {A : Type 0} (slots : Slots A) (n : Id) (f : A → A) → AreCounted slots
+    → AreCounted (on slots n f)
+counted_on {A} slots n f all =
+    each_slot slots n (λ c k (x : Slot A). IsCounted x) (changed n.generation f (slots n.creator n.slot))
+    (go ((slots n.creator n.slot).generations == n.generation + 1)) (λ c k apart. all c k)
   where
-    mapped : (o : Option A) → (slots n.creator n.slot).live ≡ o → (y : A) → option_map f o ≡ Some y → (slots n.creator n.slot).generations ≢ 0
+    mapped : (o : Option A) → (slots n.creator n.slot).live ≡ o → (y : A) → option_map f o ≡ Some y
+        → (slots n.creator n.slot).generations ≢ 0
     mapped None is y e = absurd (none_some refl e)
     mapped (Some x) is y e = all n.creator n.slot x is
 
-    go : (b : Bool) → IsCounted (if b then record { generations = (slots n.creator n.slot).generations; live = option_map f (slots n.creator n.slot).live } else slots n.creator n.slot)
+    go : (b : Bool)
+        → IsCounted (if b then record { generations = (slots n.creator n.slot).generations; live = option_map f (slots n.creator n.slot).live } else slots n.creator n.slot)
     go true y e = mapped (slots n.creator n.slot).live refl y e
     go false y e = all n.creator n.slot y e
 
-counted_made : {A : Type 0} (slots : Slots A) (n : Id) (x : A) → AreCounted slots → AreCounted (made slots n x)
-counted_made {A} slots n x all = each_slot slots n (λ c k (y : Slot A). IsCounted y) (record { generations = n.generation + 1; live = Some x }) (λ y e zero. omega (arith, zero)) (λ c k apart. all c k)
+counted_made : {A : Type 0} (slots : Slots A) (n : Id) (x : A) → AreCounted slots
+    → AreCounted (made slots n x)
+counted_made {A} slots n x all =
+    each_slot slots n (λ c k (y : Slot A). IsCounted y)
+    (record { generations = n.generation + 1; live = Some x }) (λ y e zero. omega (arith, zero))
+    (λ c k apart. all c k)
 
-counted_members : (task : ℕ → ℕ → Task) (j : ℕ) (team : List (Tid × ℕ)) (slots : Slots Task) → AreCounted slots → AreCounted (with_members task j team slots)
+counted_members : (task : ℕ → ℕ → Task) (j : ℕ) (team : List (Tid × ℕ)) (slots : Slots Task)
+    → AreCounted slots → AreCounted (with_members task j team slots)
 counted_members task j [] slots all = all
-counted_members task j (m ∷ ms) slots all = counted_members task (j + 1) ms (made slots m.0.0 (task j m.1)) (counted_made slots m.0.0 (task j m.1) all)
+counted_members task j (m ∷ ms) slots all =
+    counted_members task (j + 1) ms (made slots m.0.0 (task j m.1))
+    (counted_made slots m.0.0 (task j m.1) all)
 
 -- of regions and of tasks
 abbrev pub AllCounted : State → Type 0
@@ -75,11 +87,13 @@ module _ (p : Program) (z : State) (i : ℕ) (all : AllCounted z) where
   list_counted : (zs : List Item) → AllCounted (with_list z i zs)
   list_counted zs = list_moves z i zs AllCounted (λ k is. (all.0, by_task k _)) (λ none. all)
 
-counted_step : (p : Program) (s : State) (i : ℕ) (e : Event) (next : State) → Step p s i e next → AllCounted s → AllCounted next
+counted_step : (p : Program) (s : State) (i : ℕ) (e : Event) (next : State) → Step p s i e next → AllCounted s
+    → AllCounted next
 counted_step p s i e next step all =
     let m = move_of p s i e next step in
     let middle : State = moved_on s i e m.item m.behind in
-    from_some AllCounted (effect p middle i e m.item) next m.effect_is (slots_effect p middle i (λ e regions tasks. AreCounted regions × AreCounted tasks) (effect_counted p middle i (list_counted p s i all _)) e m.item m.rule_moved)
+    from_some AllCounted (effect p middle i e m.item) next m.effect_is
+    (slots_effect p middle i (λ e regions tasks. AreCounted regions × AreCounted tasks) (effect_counted p middle i (list_counted p s i all _)) e m.item m.rule_moved)
 
 counted_first : {A : Type 0} (x : A) → AreCounted (first_alone x)
 counted_first {A} x c k = go (c == 0 && k == 0)
@@ -89,18 +103,23 @@ counted_first {A} x c k = go (c == 0 && k == 0)
     go false y e = absurd (none_some refl e)
 
 all_counted : (p : Program) (events : List (ℕ × Event)) (s : State) → Reached p events s → AllCounted s
-all_counted p events s reached = over_events p AllCounted (λ u i e next step h. counted_step p u i e next step h) (opening p) events s reached (counted_first (opening_region p), counted_first (opening_task p))
+all_counted p events s reached =
+    over_events p AllCounted (λ u i e next step h. counted_step p u i e next step h)
+    (opening p) events s reached (counted_first (opening_region p), counted_first (opening_task p))
 
 counted_named : {A : Type 0} (slots : Slots A) → AreCounted slots → LiveAreNamed slots
 counted_named {A} slots all c k x live =
-    let some : (slots c k).generations == (slots c k).generations - 1 + 1 ≡ true = eq-eqb _ _ (one_less (slots c k).generations (all c k x live)) in
+    let some : (slots c k).generations == (slots c k).generations - 1 + 1 ≡ true =
+    eq-eqb _ _ (one_less (slots c k).generations (all c k x live)) in
     ((slots c k).generations - 1, ap (λ b. if b then (slots c k).live else None) some ∙ live)
   where
     one_less : (n : ℕ) → n ≢ 0 → n ≡ n - 1 + 1
     one_less n ne = omega (arith, ne)
 
-pub all_named : (p : Program) (events : List (ℕ × Event)) (s : State) → Reached p events s → LiveAreNamed s.regions × LiveAreNamed s.tasks
-all_named p events s reached = let (in_regions, in_tasks) = all_counted p events s reached in (counted_named s.regions in_regions, counted_named s.tasks in_tasks)
+pub all_named : (p : Program) (events : List (ℕ × Event)) (s : State) → Reached p events s
+    → LiveAreNamed s.regions × LiveAreNamed s.tasks
+all_named p events s reached =
+    let (in_regions, in_tasks) = all_counted p events s reached in (counted_named s.regions in_regions, counted_named s.tasks in_tasks)
 
 -- the name of a live task
 pub record IsTaskIn (s : State) (c k : ℕ) (t : Task) : Type 0 where
@@ -109,7 +128,8 @@ pub record IsTaskIn (s : State) (c k : ℕ) (t : Task) : Type 0 where
   pub slot : name.0.slot ≡ k
   pub live : task_of s name ≡ Some t
 
-pub task_named : (p : Program) (events : List (ℕ × Event)) (s : State) → Reached p events s → (c k : ℕ) (t : Task) → (s.tasks c k).live ≡ Some t → IsTaskIn s c k t
+pub task_named : (p : Program) (events : List (ℕ × Event)) (s : State) → Reached p events s
+    → (c k : ℕ) (t : Task) → (s.tasks c k).live ≡ Some t → IsTaskIn s c k t
 task_named p events s reached c k t live =
     let (g, is) = (all_named p events s reached).1 c k t live in
     record { name = record { 0 = record { creator = c; slot = k; generation = g } }; creator = refl; slot = refl; live = is }

@@ -27,7 +27,8 @@ use Rattle.omi_rule.proofs.NothingNew.{IsNoneNew, Makes, list_new, nothing_new}
 -- generations never fall, and what was made lives only where it lived
 pub record AreKept {A : Type 0} (x y : Slots A) : Type 0 where
   pub grow : (c j : ℕ) → (x c j).generations ≤ (y c j).generations
-  pub back : (n : Id) (v : A) → n.generation < (x n.creator n.slot).generations → named y n ≡ Some v → (t : A) × (named x n ≡ Some t)
+  pub back : (n : Id) (v : A) → n.generation < (x n.creator n.slot).generations → named y n ≡ Some v
+      → (t : A) × (named x n ≡ Some t)
 
 pub kept_same : {A : Type 0} (x : Slots A) → AreKept x x
 kept_same {A} x = record { grow = λ c j. omega arith; back = λ n v below live. (v, live) }
@@ -48,8 +49,11 @@ kept_none {A} x y same = record {
   back = λ n v below live. go n v live (x n.creator n.slot).live refl;
 }
   where
-    go : (n : Id) (v : A) → named y n ≡ Some v → (o : Option A) → (x n.creator n.slot).live ≡ o → (t : A) × (named x n ≡ Some t)
-    go n v live None e = absurd (none_some (same.empty n.creator n.slot e) (found_live n.generation (y n.creator n.slot) v live))
+    go : (n : Id) (v : A) → named y n ≡ Some v → (o : Option A) → (x n.creator n.slot).live ≡ o
+        → (t : A) × (named x n ≡ Some t)
+    go n v live None e =
+        absurd
+        (none_some (same.empty n.creator n.slot e) (found_live n.generation (y n.creator n.slot) v live))
     go n v live (Some t) e =
         let made_there = found_generations n.generation (y n.creator n.slot) v live in
         let alike = same.generations n.creator n.slot in
@@ -65,11 +69,14 @@ kept_made {A} x i n new fresh = record {
     next_here : n.generation ≡ (x n.creator n.slot).generations
     next_here = fresh.next ∙ ap (λ c. (x c n.slot).generations) (sym fresh.creator)
 
-kept_members : (task : ℕ → ℕ → Task) (number : ℕ) (team : List (Tid × ℕ)) (slots : Slots Task) (i : ℕ) → AreNew slots i team → AreKept slots (with_members task number team slots)
+kept_members : (task : ℕ → ℕ → Task) (number : ℕ) (team : List (Tid × ℕ)) (slots : Slots Task) (i : ℕ)
+    → AreNew slots i team → AreKept slots (with_members task number team slots)
 kept_members task number [] slots i new = kept_same slots
 kept_members task number (m ∷ ms) slots i new =
-    kept_trans slots (made slots m.0.0 (task number m.1)) (with_members task (number + 1) ms (made slots m.0.0 (task number m.1)))
-    (kept_made slots i m.0.0 (task number m.1) new.0) (kept_members task (number + 1) ms (made slots m.0.0 (task number m.1)) i (new.1 (task number m.1)))
+    kept_trans slots (made slots m.0.0 (task number m.1))
+    (with_members task (number + 1) ms (made slots m.0.0 (task number m.1)))
+    (kept_made slots i m.0.0 (task number m.1) new.0)
+    (kept_members task (number + 1) ms (made slots m.0.0 (task number m.1)) i (new.1 (task number m.1)))
 
 -- ---- events
 
@@ -83,22 +90,27 @@ module _ (z : State) (i : ℕ) where
   abbrev of_kept : State → Type 0
   of_kept u = AreKept z.tasks u.tasks
 
-  effect_keeps : (p : Program) (e : Event) (y : Item) → Makes e → Rule z i e y → IfSome (effect p z i e y) of_kept
+  effect_keeps : (p : Program) (e : Event) (y : Item) → Makes e → Rule z i e y
+      → IfSome (effect p z i e y) of_kept
   effect_keeps p (event.Fork region team) (item.Fork f) makes rule =
       of_region z i (forked p z i region team f) of_kept (λ k t r. MayFork z i region team) rule
       (λ k t r is found may. kept_members (member_task p region k t r f) 0 team z.tasks i (new_team z.tasks i team may.tasks_new may.distinct))
   effect_keeps p (event.Fork region team) y makes rule = tt
   effect_keeps p (event.Defer task) (item.Defer seen f final) makes rule =
-      of_current z i (deferred p z task f final seen) of_kept (λ k t. IsFresh z.tasks i task.0) rule (λ k t is fresh. kept_made z.tasks i task.0 (deferred_task p k t f final seen) fresh)
+      of_current z i (deferred p z task f final seen) of_kept (λ k t. IsFresh z.tasks i task.0) rule
+      (λ k t is fresh. kept_made z.tasks i task.0 (deferred_task p k t f final seen) fresh)
   effect_keeps p (event.Defer task) y makes rule = tt
   effect_keeps p (event.StartNow task) (item.Defer seen f final) makes rule =
-      of_current z i (started_now p z i task f final) of_kept (λ k t. IsFresh z.tasks i task.0) rule (λ k t is fresh. kept_made z.tasks i task.0 (scheduled i k t (deferred_task p k t f final 0)) fresh)
+      of_current z i (started_now p z i task f final) of_kept (λ k t. IsFresh z.tasks i task.0) rule
+      (λ k t is fresh. kept_made z.tasks i task.0 (scheduled i k t (deferred_task p k t f final 0)) fresh)
   effect_keeps p (event.StartNow task) (item.StartNow f final) makes rule =
-      of_current z i (started_now p z i task f final) of_kept (λ k t. IsFresh z.tasks i task.0) rule (λ k t is fresh. kept_made z.tasks i task.0 (scheduled i k t (deferred_task p k t f final 0)) fresh)
+      of_current z i (started_now p z i task f final) of_kept (λ k t. IsFresh z.tasks i task.0) rule
+      (λ k t is fresh. kept_made z.tasks i task.0 (scheduled i k t (deferred_task p k t f final 0)) fresh)
   effect_keeps p (event.StartNow task) y makes rule = tt
   effect_keeps p e y makes rule = absurd makes
 
-tasks_kept : (p : Program) (s : State) (i : ℕ) (e : Event) (next : State) → Step p s i e next → AreKept s.tasks next.tasks
+tasks_kept : (p : Program) (s : State) (i : ℕ) (e : Event) (next : State) → Step p s i e next
+    → AreKept s.tasks next.tasks
 tasks_kept p s i e next step = go (makes_or_not e)
   where
     go : Makes e ⊎ (Makes e → ⊥) → AreKept s.tasks next.tasks
@@ -119,5 +131,6 @@ pub record NamesStay (s u : State) : Type 0 where
 pub names_same : (s : State) → NamesStay s s
 names_same s = record { stays = stays_same s; tasks = kept_same s.tasks }
 
-pub names_step : (p : Program) (s : State) (i : ℕ) (e : Event) (next : State) → Step p s i e next → NamesStay s next
+pub names_step : (p : Program) (s : State) (i : ℕ) (e : Event) (next : State) → Step p s i e next
+    → NamesStay s next
 names_step p s i e next step = record { stays = stays_step p s i e next step; tasks = tasks_kept p s i e next step }

@@ -22,9 +22,11 @@ use Rattle.omi_rule.specs.Rule.{AreNewMembers, IsNewMember}
 abbrev IsNew : Program → Tid → Task → Type 0
 IsNew p k t = t.progress ≡ NotBegun → IsNewMember p t
 
-module _ (p : Program) (z : State) (i : ℕ) (e : Event) (y : Item) (next : State) (known : (f : ℕ) → y ≡ item.Fork f → f < length p.funcs) where
+module _ (p : Program) (z : State) (i : ℕ) (e : Event) (y : Item) (next : State)
+    (known : (f : ℕ) → y ≡ item.Fork f → f < length p.funcs) where
   -- a member but member 0
-  new_member : (region : Rid) (k : Tid) (t : Task) (r : Region) (f j thread : ℕ) → f < length p.funcs → IsNew p k (member_task p region k t r f j thread)
+  new_member : (region : Rid) (k : Tid) (t : Task) (r : Region) (f j thread : ℕ) → f < length p.funcs
+      → IsNew p k (member_task p region k t r f j thread)
   new_member region k t r f j thread within waits = record {
     function = within;
     exit = go (j == 0) refl;
@@ -49,7 +51,9 @@ module _ (p : Program) (z : State) (i : ℕ) (e : Event) (y : Item) (next : Stat
   }
 
 -- where no team is forked
-pub waiting_step : (p : Program) (s : State) (i : ℕ) (e : Event) (next : State) → Step p s i e next → ((y : Item × List Item) → take_item p (encounter s i) e (list_of s i) ≡ Some y → (f : ℕ) → y.0 ≡ item.Fork f → f < length p.funcs) → AreNewMembers p s → AreNewMembers p next
+pub waiting_step : (p : Program) (s : State) (i : ℕ) (e : Event) (next : State) → Step p s i e next
+    → ((y : Item × List Item) → take_item p (encounter s i) e (list_of s i) ≡ Some y → (f : ℕ) → y.0 ≡ item.Fork f → f < length p.funcs)
+    → AreNewMembers p s → AreNewMembers p next
 waiting_step p s i e next step known all =
     let m = move_of p s i e next step in
     task_step_from p (IsNew p) (IsNew p) s i e next m

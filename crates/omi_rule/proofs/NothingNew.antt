@@ -70,29 +70,44 @@ module _ (z : State) (i : ℕ) where
   }
 
   pub list_new : (zs : List Item) → NothingNew z (with_list z i zs)
-  list_new zs = list_moves z i zs of_nothing (λ k is. record { regions = none_same z.regions; tasks = none_on z.tasks k.0 _ }) (λ none. record { regions = none_same z.regions; tasks = none_same z.tasks })
+  list_new zs =
+      list_moves z i zs of_nothing
+      (λ k is. record { regions = none_same z.regions; tasks = none_on z.tasks k.0 _ })
+      (λ none. record { regions = none_same z.regions; tasks = none_same z.tasks })
 
-pub nothing_new : (p : Program) (s : State) (i : ℕ) (e : Event) (next : State) → (Makes e → ⊥) → Step p s i e next → NothingNew s next
+pub nothing_new : (p : Program) (s : State) (i : ℕ) (e : Event) (next : State) → (Makes e → ⊥)
+    → Step p s i e next → NothingNew s next
 nothing_new p s i e next not step =
     let m = move_of p s i e next step in
     let middle : State = moved_on s i e m.item m.behind in
-    let (in_regions, in_tasks) = from_some (λ (u : State). NoneNew middle i e u.regions u.tasks) (effect p middle i e m.item) next m.effect_is (slots_effect p middle i (NoneNew middle i) (effect_new middle i p) e m.item m.rule_moved) not in
+    let (in_regions, in_tasks) =
+    from_some (λ (u : State). NoneNew middle i e u.regions u.tasks)
+    (effect p middle i e m.item) next m.effect_is
+    (slots_effect p middle i (NoneNew middle i) (effect_new middle i p) e m.item m.rule_moved) not in
     nothing_trans s middle next (list_new s i _) (record { regions = in_regions; tasks = in_tasks })
 
 -- so what was within a layout is
-pub within_stays : {A : Type 0} (w : List ℕ) (kind : ℕ) (x y : Slots A) → IsNoneNew x y → AreWithin w kind x → AreWithin w kind y
+pub within_stays : {A : Type 0} (w : List ℕ) (kind : ℕ) (x y : Slots A) → IsNoneNew x y → AreWithin w kind x
+    → AreWithin w kind y
 within_stays {A} w kind x y same all creator slot g v is = go (x creator slot).live refl
   where
-    go : (o : Option A) → (x creator slot).live ≡ o → record { maker : creator < thread_count w; place : slot < per_thread w kind }
-    go None e = absurd (none_some (ap (λ (o : Option A). if (y creator slot).generations == g + 1 then o else None) (same.empty creator slot e) ∙ of_none ((y creator slot).generations == g + 1)) is)
+    go : (o : Option A) → (x creator slot).live ≡ o
+        → record { maker : creator < thread_count w; place : slot < per_thread w kind }
+    go None e =
+        absurd
+        (none_some (ap (λ (o : Option A). if (y creator slot).generations == g + 1 then o else None) (same.empty creator slot e) ∙ of_none ((y creator slot).generations == g + 1)) is)
       where
         of_none : (b : Bool) → ◌≡◌ {A = Option A} (if b then None else None) None
         of_none true = refl
         of_none false = refl
     go (Some z) e = all creator slot g z (here ((y creator slot).generations == g + 1) refl is)
       where
-        here : (b : Bool) → (y creator slot).generations == g + 1 ≡ b → (if b then (y creator slot).live else None) ≡ Some v → found g (x creator slot) ≡ Some z
-        here true f h = ap (λ (b : Bool). if b then (x creator slot).live else None) (ap (λ n. n == g + 1) (sym (same.generations creator slot)) ∙ f) ∙ e
+        here : (b : Bool) → (y creator slot).generations == g + 1 ≡ b
+            → (if b then (y creator slot).live else None) ≡ Some v → found g (x creator slot) ≡ Some z
+        here true f h =
+            ap (λ (b : Bool). if b then (x creator slot).live else None)
+            (ap (λ n. n == g + 1) (sym (same.generations creator slot)) ∙ f)
+            ∙ e
         here false f h = absurd (none_some refl h)
 
 -- and what had a name has one

@@ -42,7 +42,8 @@ use Rattle.omi_rule.proofs.plain.Firsts.{IsFirst, IsGrounded, grounds_are_of_bod
 use Rattle.omi_rule.specs.Chains.{RunsFunctions}
 use Rattle.omi_rule.proofs.Runs.{runs_are_of_bodies}
 
-module _ (p : Program) (w words : List ℕ) (valid : IsValid w) (suits : Suits p w) (are : AreOpening p w words) where
+module _ (p : Program) (w words : List ℕ) (valid : IsValid w) (suits : Suits p w)
+    (are : AreOpening p w words) where
   within : IsWithin w (opening p)
   within = (opening_shown p w words valid suits.threads are).within
 
@@ -56,14 +57,17 @@ module _ (p : Program) (w words : List ℕ) (valid : IsValid w) (suits : Suits p
 
   first : IsFirst (settled p a).counter
   first =
-      subst (λ (b : Actor). IsFirst b.counter) (settled_forgets p a (at_start p.main Main) [] (counter.Plain plain.Work) refl)
+      subst (λ (b : Actor). IsFirst b.counter)
+      (settled_forgets p a (at_start p.main Main) [] (counter.Plain plain.Work) refl)
       (settled_first p (at_counter (counter.Plain plain.Work) a) (plain_first plain.Work tt))
 
   task_there : IsSlot w tasks 0 0
-  task_there = let o = within.tasks 0 0 0 (opening_task p) refl in record { made_by = o.maker; within = o.place }
+  task_there =
+      let o = within.tasks 0 0 0 (opening_task p) refl in record { made_by = o.maker; within = o.place }
 
   region_there : IsSlot w regions 0 0
-  region_there = let o = within.regions 0 0 0 (opening_region p) refl in record { made_by = o.maker; within = o.place }
+  region_there =
+      let o = within.regions 0 0 0 (opening_region p) refl in record { made_by = o.maker; within = o.place }
 
   contexts : AreContextsPlaced w initial_context (at_start p.main Main ∷ [])
   contexts = (record { task = task_there; region = region_there; row = task_there }, tt)
@@ -93,7 +97,9 @@ module _ (p : Program) (w words : List ℕ) (valid : IsValid w) (suits : Suits p
 
   thread_0 : 0 < p.threads → KeepsThread p w (memory_of w words) [] (opening p) 0 (opening_actor p 0)
   thread_0 known =
-      let (f, fs, stack) = some_frame (settled p a).stack (settled_of (λ c xs. IsGrounded xs) grounds_are_of_bodies p a (λ called. absurd (cc called))) in
+      let (f, fs, stack) =
+      some_frame (settled p a).stack
+      (settled_of (λ c xs. IsGrounded xs) grounds_are_of_bodies p a (λ called. absurd (cc called))) in
       record {
         thread = differs.thread;
         fits = opened_fits p 0 known;
@@ -102,7 +108,9 @@ module _ (p : Program) (w words : List ℕ) (valid : IsValid w) (suits : Suits p
           current = ap (λ (c : Context). Some c.task) (sym differs.context);
           bodies = settled_of (KeepsBodies p (opening p) 0) (bodies_are_of_bodies p (opening p) 0) p a (context, (refl, refl), context);
           ahead = λ t live.
-              subst (λ (c : Context). IsAhead p (encounter_of (opening p) c) (settled p a).stack (settled p a).counter t.list) (sym differs.context)
+              subst
+              (λ (c : Context). IsAhead p (encounter_of (opening p) c) (settled p a).stack (settled p a).counter t.list)
+              (sym differs.context)
               (subst (λ (x : Task). IsAhead p (encounter_of (opening p) initial_context) (settled p a).stack (settled p a).counter x.list)
               (some_same refl (subst (λ (c : Context). task_of (opening p) c.task ≡ Some t) differs.context live))
               (settled_ahead p (encounter_of (opening p) initial_context) refl a (at_start p.main Main) [] refl));
@@ -115,9 +123,12 @@ module _ (p : Program) (w words : List ℕ) (valid : IsValid w) (suits : Suits p
   -- ---- the others
 
   worker_is : (i : ℕ) → (opening p).threads (suc i) ≡ waiting_worker
-  worker_is i = ap (λ (b : Bool). if b then initial_thread else waiting_worker) (ne_eqb (suc i) 0 (λ same. absurd (cc same)))
+  worker_is i =
+      ap (λ (b : Bool). if b then initial_thread else waiting_worker)
+      (ne_eqb (suc i) 0 (λ same. absurd (cc same)))
 
-  thread_waits : (i : ℕ) → suc i < p.threads → KeepsThread p w (memory_of w words) [] (opening p) (suc i) (waiting_actor (suc i))
+  thread_waits : (i : ℕ) → suc i < p.threads
+      → KeepsThread p w (memory_of w words) [] (opening p) (suc i) (waiting_actor (suc i))
   thread_waits i known = record {
     thread = refl;
     fits = opened_fits p (suc i) known;
@@ -128,7 +139,8 @@ module _ (p : Program) (w words : List ℕ) (valid : IsValid w) (suits : Suits p
     ended = tt;
   }
 
-  threads_are : (i : ℕ) → i < p.threads → KeepsThread p w (memory_of w words) [] (opening p) i (opening_actor p i)
+  threads_are : (i : ℕ) → i < p.threads
+      → KeepsThread p w (memory_of w words) [] (opening p) i (opening_actor p i)
   threads_are zero known = thread_0 known
   threads_are (suc i) known = thread_waits i known
 

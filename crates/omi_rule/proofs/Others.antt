@@ -45,7 +45,8 @@ same_thread_trans h g k a b = record { begun = b.begun ∙ a.begun; current = b.
 same_region : (i : ℕ) (r : Region) → IsSameForOthers i r r
 same_region i r = record { arrivals = λ j m at other. refl; released = λ m at other. refl; team = refl; levels = refl; active = refl }
 
-same_region_trans : (i : ℕ) (r q x : Region) → IsSameForOthers i r q → IsSameForOthers i q x → IsSameForOthers i r x
+same_region_trans : (i : ℕ) (r q x : Region) → IsSameForOthers i r q → IsSameForOthers i q x
+    → IsSameForOthers i r x
 same_region_trans i r q x a b = record {
   arrivals = λ j m at other. b.arrivals j m (ap (λ (t : List (Tid × ℕ)). slice_get t j) a.team ∙ at) other ∙ a.arrivals j m at other;
   released = λ m at other. b.released m (ap (λ (t : List (Tid × ℕ)). slice_get t 0) a.team ∙ at) other ∙ a.released m at other;
@@ -73,22 +74,28 @@ leaves_trans s t u i a b = record {
 -- the current task of a thread runs on it, and the member with the number of that task does
 pub record KnowsOwn (z : State) (i : ℕ) : Type 0 where
   pub thread : (k : Tid) (t : Task) → IsCurrent z i k t → t.thread ≡ i
-  pub member : (k : Tid) (t : Task) (r : Region) → IsCurrent z i k t → region_of z t.region ≡ Some r → (m : Tid × ℕ) × (slice_get r.team t.number ≡ Some m) × (m.1 ≡ i)
+  pub member : (k : Tid) (t : Task) (r : Region) → IsCurrent z i k t → region_of z t.region ≡ Some r
+      → (m : Tid × ℕ) × (slice_get r.team t.number ≡ Some m) × (m.1 ≡ i)
 
 -- ---- changes
 
 -- other threads
-thread_put : (z : State) (i : ℕ) (h : Thread) → (j : ℕ) → j ≢ i → IsSameThread (z.threads j) (put z.threads i h j)
-thread_put z i h j other = subst (λ (g : Thread). IsSameThread (z.threads j) g) (sym (put_other z.threads i j h other)) (same_thread (z.threads j))
+thread_put : (z : State) (i : ℕ) (h : Thread) → (j : ℕ) → j ≢ i
+    → IsSameThread (z.threads j) (put z.threads i h j)
+thread_put z i h j other =
+    subst (λ (g : Thread). IsSameThread (z.threads j) g) (sym (put_other z.threads i j h other))
+    (same_thread (z.threads j))
 
 threads_same : (z : State) (i : ℕ) → (j : ℕ) → j ≢ i → IsSameThread (z.threads j) (z.threads j)
 threads_same z i j other = same_thread (z.threads j)
 
-regions_same : (z : State) (i : ℕ) (n : Rid) (r : Region) → region_of z n ≡ Some r → (q : Region) × (region_of z n ≡ Some q) × IsSameForOthers i r q
+regions_same : (z : State) (i : ℕ) (n : Rid) (r : Region) → region_of z n ≡ Some r
+    → (q : Region) × (region_of z n ≡ Some q) × IsSameForOthers i r q
 regions_same z i n r live = (r, live, same_region i r)
 
 -- a task that runs on this thread, or that is deferred, is changed
-task_on : (z : State) (i : ℕ) (k : Tid) (f : Task → Task) → ((t : Task) → task_of z k ≡ Some t → (t.thread ≡ i) ⊎ (t.progress ≡ Deferred))
+task_on : (z : State) (i : ℕ) (k : Tid) (f : Task → Task)
+    → ((t : Task) → task_of z k ≡ Some t → (t.thread ≡ i) ⊎ (t.progress ≡ Deferred))
     → (n : Tid) (t : Task) → task_of z n ≡ Some t → t.thread ≢ i → (t.progress ≡ Deferred → ⊥) → named (on z.tasks k.0 f) n.0 ≡ Some t
 task_on z i k f own n t live other begun = go (same_or_not n.0 k.0)
   where
@@ -100,24 +107,29 @@ task_on z i k f own n t live other begun = go (same_or_not n.0 k.0)
     go (inl same) = absurd (of_own (own t (subst (λ (d : Id). named z.tasks d ≡ Some t) same live)))
     go (inr ne) = on_other z.tasks k.0 f n.0 ne ∙ live
 
-own_task : (z : State) (i : ℕ) (k : Tid) (t : Task) → IsCurrent z i k t → KnowsOwn z i → (u : Task) → task_of z k ≡ Some u → (u.thread ≡ i) ⊎ (u.progress ≡ Deferred)
+own_task : (z : State) (i : ℕ) (k : Tid) (t : Task) → IsCurrent z i k t → KnowsOwn z i → (u : Task)
+    → task_of z k ≡ Some u → (u.thread ≡ i) ⊎ (u.progress ≡ Deferred)
 own_task z i k t is knows u live = inl (knows.thread k u (record { name = is.name; live = live }))
 
 -- a region is changed
-region_on : (z : State) (i : ℕ) (n : Rid) (f : Region → Region) → ((r : Region) → region_of z n ≡ Some r → IsSameForOthers i r (f r))
+region_on : (z : State) (i : ℕ) (n : Rid) (f : Region → Region)
+    → ((r : Region) → region_of z n ≡ Some r → IsSameForOthers i r (f r))
     → (x : Rid) (r : Region) → region_of z x ≡ Some r → (q : Region) × (named (on z.regions n.0 f) x.0 ≡ Some q) × IsSameForOthers i r q
 region_on z i n f same x r live = go (same_or_not x.0 n.0)
   where
-    go : (x.0 ≡ n.0) ⊎ (x.0 ≡ n.0 → ⊥) → (q : Region) × (named (on z.regions n.0 f) x.0 ≡ Some q) × IsSameForOthers i r q
+    go : (x.0 ≡ n.0) ⊎ (x.0 ≡ n.0 → ⊥)
+        → (q : Region) × (named (on z.regions n.0 f) x.0 ≡ Some q) × IsSameForOthers i r q
     go (inl e) =
         let here : region_of z n ≡ Some r = subst (λ (d : Id). named z.regions d ≡ Some r) e live in
         (f r, subst (λ (d : Id). named (on z.regions n.0 f) d ≡ Some (f r)) (sym e) (on_same z.regions n.0 f ∙ ap (λ o. option_map f o) here), same r here)
     go (inr ne) = (r, on_other z.regions n.0 f x.0 ne ∙ live, same_region i r)
 
 -- an object of this thread is made
-made_fresh : {A : Type 0} (slots : Slots A) (i : ℕ) (n : Id) (x : A) → IsFresh slots i n → (j : ℕ) (k : Id) → j ≢ i → IsFresh slots j k → IsFresh (made slots n x) j k
+made_fresh : {A : Type 0} (slots : Slots A) (i : ℕ) (n : Id) (x : A) → IsFresh slots i n → (j : ℕ) (k : Id)
+    → j ≢ i → IsFresh slots j k → IsFresh (made slots n x) j k
 made_fresh {A} slots i n x new j k other fresh =
-    let same : made slots n x j k.slot ≡ slots j k.slot = made_beside slots n x j k.slot (λ c h. other (c ∙ new.creator)) in
+    let same : made slots n x j k.slot ≡ slots j k.slot =
+    made_beside slots n x j k.slot (λ c h. other (c ∙ new.creator)) in
     record {
       creator = fresh.creator;
       empty = ap (λ (slot : Slot A). slot.live) same ∙ fresh.empty;
@@ -125,13 +137,18 @@ made_fresh {A} slots i n x new j k other fresh =
       below = fresh.below;
     }
 
-members_fresh : (task : ℕ → ℕ → Task) (number : ℕ) (team : List (Tid × ℕ)) (slots : Slots Task) (i : ℕ) → AreNew slots i team → (j : ℕ) (k : Id) → j ≢ i → IsFresh slots j k → IsFresh (with_members task number team slots) j k
+members_fresh : (task : ℕ → ℕ → Task) (number : ℕ) (team : List (Tid × ℕ)) (slots : Slots Task) (i : ℕ)
+    → AreNew slots i team → (j : ℕ) (k : Id) → j ≢ i → IsFresh slots j k
+    → IsFresh (with_members task number team slots) j k
 members_fresh task number [] slots i new j k other fresh = fresh
 members_fresh task number (m ∷ ms) slots i new j k other fresh =
-    members_fresh task (number + 1) ms (made slots m.0.0 (task number m.1)) i (new.1 (task number m.1)) j k other
+    members_fresh task (number + 1) ms (made slots m.0.0 (task number m.1)) i
+    (new.1 (task number m.1)) j k other
     (made_fresh slots i m.0.0 (task number m.1) new.0 j k other fresh)
 
-pub members_stay : (task : ℕ → ℕ → Task) (number : ℕ) (team : List (Tid × ℕ)) (slots : Slots Task) (i : ℕ) → AreNew slots i team → (k : Id) (t : Task) → named slots k ≡ Some t → named (with_members task number team slots) k ≡ Some t
+pub members_stay : (task : ℕ → ℕ → Task) (number : ℕ) (team : List (Tid × ℕ)) (slots : Slots Task) (i : ℕ)
+    → AreNew slots i team → (k : Id) (t : Task) → named slots k ≡ Some t
+    → named (with_members task number team slots) k ≡ Some t
 members_stay task number [] slots i new k t live = live
 members_stay task number (m ∷ ms) slots i new k t live =
     members_stay task (number + 1) ms (made slots m.0.0 (task number m.1)) i (new.1 (task number m.1)) k t
@@ -165,7 +182,9 @@ module _ (z : State) (i : ℕ) (knows : KnowsOwn z i) where
     tasks_fresh = λ j n other fresh. fresh;
   }
 
-  by_task : (k : Tid) (f : Task → Task) → ((t : Task) → task_of z k ≡ Some t → (t.thread ≡ i) ⊎ (t.progress ≡ Deferred)) → LeavesOthers z (on_task z k f) i
+  by_task : (k : Tid) (f : Task → Task)
+      → ((t : Task) → task_of z k ≡ Some t → (t.thread ≡ i) ⊎ (t.progress ≡ Deferred))
+      → LeavesOthers z (on_task z k f) i
   by_task k f own = record {
     environment = refl;
     count = refl;
@@ -176,7 +195,8 @@ module _ (z : State) (i : ℕ) (knows : KnowsOwn z i) where
     tasks_fresh = λ j n other fresh. on_fresh z.tasks k.0 f j n fresh;
   }
 
-  by_task_and_thread : (k : Tid) (f : Task → Task) (h : Thread) → ((t : Task) → task_of z k ≡ Some t → (t.thread ≡ i) ⊎ (t.progress ≡ Deferred))
+  by_task_and_thread : (k : Tid) (f : Task → Task) (h : Thread)
+      → ((t : Task) → task_of z k ≡ Some t → (t.thread ≡ i) ⊎ (t.progress ≡ Deferred))
       → LeavesOthers z (record z { tasks = on z.tasks k.0 f; threads = put z.threads i h }) i
   by_task_and_thread k f h own = record {
     environment = refl;
@@ -188,7 +208,9 @@ module _ (z : State) (i : ℕ) (knows : KnowsOwn z i) where
     tasks_fresh = λ j n other fresh. on_fresh z.tasks k.0 f j n fresh;
   }
 
-  by_region : (n : Rid) (f : Region → Region) → ((r : Region) → region_of z n ≡ Some r → IsSameForOthers i r (f r)) → LeavesOthers z (on_region z n f) i
+  by_region : (n : Rid) (f : Region → Region)
+      → ((r : Region) → region_of z n ≡ Some r → IsSameForOthers i r (f r))
+      → LeavesOthers z (on_region z n f) i
   by_region n f same = record {
     environment = refl;
     count = refl;
@@ -199,9 +221,11 @@ module _ (z : State) (i : ℕ) (knows : KnowsOwn z i) where
     tasks_fresh = λ j x other fresh. fresh;
   }
 
-  by_all : (k : Tid) (f : Task → Task) (n : Rid) (g : Region → Region) (h : Thread) → ((t : Task) → task_of z k ≡ Some t → (t.thread ≡ i) ⊎ (t.progress ≡ Deferred))
+  by_all : (k : Tid) (f : Task → Task) (n : Rid) (g : Region → Region) (h : Thread)
+      → ((t : Task) → task_of z k ≡ Some t → (t.thread ≡ i) ⊎ (t.progress ≡ Deferred))
       → ((r : Region) → region_of z n ≡ Some r → IsSameForOthers i r (g r))
-      → LeavesOthers z (record z { tasks = on z.tasks k.0 f; regions = on z.regions n.0 g; threads = put z.threads i h }) i
+      → LeavesOthers z
+      (record z { tasks = on z.tasks k.0 f; regions = on z.regions n.0 g; threads = put z.threads i h }) i
   by_all k f n g h own same = record {
     environment = refl;
     count = refl;
@@ -212,7 +236,8 @@ module _ (z : State) (i : ℕ) (knows : KnowsOwn z i) where
     tasks_fresh = λ j x other fresh. on_fresh z.tasks k.0 f j x fresh;
   }
 
-  by_made : (task : Tid) (x : Task) (h : Thread) → IsFresh z.tasks i task.0 → LeavesOthers z (record z { tasks = made z.tasks task.0 x; threads = put z.threads i h }) i
+  by_made : (task : Tid) (x : Task) (h : Thread) → IsFresh z.tasks i task.0
+      → LeavesOthers z (record z { tasks = made z.tasks task.0 x; threads = put z.threads i h }) i
   by_made task x h new = record {
     environment = refl;
     count = refl;
@@ -223,7 +248,8 @@ module _ (z : State) (i : ℕ) (knows : KnowsOwn z i) where
     tasks_fresh = λ j n other fresh. made_fresh z.tasks i task.0 x new j n other fresh;
   }
 
-  by_deferred : (task : Tid) (x : Task) → IsFresh z.tasks i task.0 → LeavesOthers z (record z { tasks = made z.tasks task.0 x }) i
+  by_deferred : (task : Tid) (x : Task) → IsFresh z.tasks i task.0
+      → LeavesOthers z (record z { tasks = made z.tasks task.0 x }) i
   by_deferred task x new = record {
     environment = refl;
     count = refl;
@@ -234,7 +260,8 @@ module _ (z : State) (i : ℕ) (knows : KnowsOwn z i) where
     tasks_fresh = λ j n other fresh. made_fresh z.tasks i task.0 x new j n other fresh;
   }
 
-  by_fork : (p : Program) (region : Rid) (team : List (Tid × ℕ)) (f : ℕ) (k : Tid) (t : Task) (r : Region) → MayFork z i region team → LeavesOthers z (forked p z i region team f k t r) i
+  by_fork : (p : Program) (region : Rid) (team : List (Tid × ℕ)) (f : ℕ) (k : Tid) (t : Task) (r : Region)
+      → MayFork z i region team → LeavesOthers z (forked p z i region team f k t r) i
   by_fork p region team f k t r may =
       let new : AreNew z.tasks i team = new_team z.tasks i team may.tasks_new may.distinct in
       let task : ℕ → ℕ → Task = member_task p region k t r f in
@@ -253,7 +280,8 @@ module _ (z : State) (i : ℕ) (knows : KnowsOwn z i) where
 
   -- an arrival is the own member's, and a release that of member 0
   arrives : (k : Tid) (t : Task) → IsCurrent z i k t → (r : Region) → region_of z t.region ≡ Some r
-      → IsSameForOthers i r (record r { arrivals = slice_set r.arrivals t.number (slice_index r.arrivals t.number + 1) })
+      → IsSameForOthers i r
+      (record r { arrivals = slice_set r.arrivals t.number (slice_index r.arrivals t.number + 1) })
   arrives k t is r live = record {
     arrivals = λ j m at other. get_or-set_other r.arrivals t.number j (slice_index r.arrivals t.number + 1) 0
         (λ same.
@@ -266,7 +294,8 @@ module _ (z : State) (i : ℕ) (knows : KnowsOwn z i) where
     active = refl;
   }
 
-  releases : (k : Tid) (t : Task) → IsCurrent z i k t → t.number ≡ 0 → (r : Region) → region_of z t.region ≡ Some r → IsSameForOthers i r (record r { released = r.released + 1 })
+  releases : (k : Tid) (t : Task) → IsCurrent z i k t → t.number ≡ 0 → (r : Region)
+      → region_of z t.region ≡ Some r → IsSameForOthers i r (record r { released = r.released + 1 })
   releases k t is first r live = record {
     arrivals = λ j m at other. refl;
     released = λ m at other.
@@ -311,7 +340,8 @@ module _ (z : State) (i : ℕ) (knows : KnowsOwn z i) where
       claims = record {
         environment = refl;
         count = refl;
-        threads = λ j other. each_put (λ c g. c ≢ i → IsSameThread (z.threads c) g) first w (record (first w) { claim = claim.By i })
+        threads =
+            λ j other. each_put (λ c g. c ≢ i → IsSameThread (z.threads c) g) first w (record (first w) { claim = claim.By i })
             (λ ne. let o = thread_put z i h w ne in record { begun = o.begun; current = o.current; wanted = o.wanted; asks = o.asks; list = o.list })
             j (λ apart ne. thread_put z i h j ne) other;
         tasks = λ k t live other begun. live;
@@ -321,31 +351,44 @@ module _ (z : State) (i : ℕ) (knows : KnowsOwn z i) where
       }
   effect_leaves p (event.Ask w false) y rule = by_thread _
   effect_leaves p (event.Fork region team) (item.Fork f) rule =
-      of_region z i (forked p z i region team f) of_leaves (λ k t r. MayFork z i region team) rule (λ k t r is found may. by_fork p region team f k t r may)
+      of_region z i (forked p z i region team f) of_leaves (λ k t r. MayFork z i region team) rule
+      (λ k t r is found may. by_fork p region team f k t r may)
   effect_leaves p (event.Fork region team) y rule = tt
   effect_leaves p (event.ImplicitBegin task) y rule =
       by_task_and_thread task (λ t. record t { progress = Begun }) _
       (λ t live. let same : rule.member ≡ t = some_same rule.live live in inl (ap (λ (u : Task). u.thread) (sym same) ∙ rule.mine))
   effect_leaves p (event.State state wait) y rule = by_thread _
-  effect_leaves p event.Enter y rule = of_current z i (entered z) of_leaves (λ k t. ⊤) rule (λ k t is h. by_task k _ (own_task z i k t is knows))
-  effect_leaves p event.Leave y rule = of_current z i (left z) of_leaves (λ k t. ⊤) rule (λ k t is h. by_task k _ (own_task z i k t is knows))
-  effect_leaves p event.Arrive y rule = of_current_region z i (λ k t. arrived z t) of_leaves _ rule (λ k t r is found h. by_region t.region _ (arrives k t is))
-  effect_leaves p event.Release y rule = of_current_region z i (λ k t. released z t) of_leaves _ rule (λ k t r is found h. by_region t.region _ (releases k t is h.first))
+  effect_leaves p event.Enter y rule =
+      of_current z i (entered z) of_leaves (λ k t. ⊤) rule
+      (λ k t is h. by_task k _ (own_task z i k t is knows))
+  effect_leaves p event.Leave y rule =
+      of_current z i (left z) of_leaves (λ k t. ⊤) rule (λ k t is h. by_task k _ (own_task z i k t is knows))
+  effect_leaves p event.Arrive y rule =
+      of_current_region z i (λ k t. arrived z t) of_leaves _ rule
+      (λ k t r is found h. by_region t.region _ (arrives k t is))
+  effect_leaves p event.Release y rule =
+      of_current_region z i (λ k t. released z t) of_leaves _ rule
+      (λ k t r is found h. by_region t.region _ (releases k t is h.first))
   effect_leaves p event.Pass y rule = unchanged
   effect_leaves p (event.ImplicitEnd task) y rule =
-      of_current_region z i (task_ended z i) of_leaves _ rule (λ k t r is found h. by_all k _ t.region _ _ (own_task z i k t is knows) (λ q live. ends t q))
+      of_current_region z i (task_ended z i) of_leaves _ rule
+      (λ k t r is found h. by_all k _ t.region _ _ (own_task z i k t is knows) (λ q live. ends t q))
   effect_leaves p (event.Join region) y rule =
-      of_region z i (joined z i) of_leaves _ rule (λ k t r is found h. by_all k _ t.region _ _ (own_task z i k t is knows) (λ q live. joins q))
+      of_region z i (joined z i) of_leaves _ rule
+      (λ k t r is found h. by_all k _ t.region _ _ (own_task z i k t is knows) (λ q live. joins q))
   effect_leaves p (event.FreeTask task) y rule = tt
   effect_leaves p (event.FreeRegion region) y rule = tt
   effect_leaves p (event.Seen j) y rule = unchanged
   effect_leaves p (event.Defer task) (item.Defer seen f final) rule =
-      of_current z i (deferred p z task f final seen) of_leaves (λ k t. IsFresh z.tasks i task.0) rule (λ k t is fresh. by_deferred task (deferred_task p k t f final seen) fresh)
+      of_current z i (deferred p z task f final seen) of_leaves (λ k t. IsFresh z.tasks i task.0) rule
+      (λ k t is fresh. by_deferred task (deferred_task p k t f final seen) fresh)
   effect_leaves p (event.Defer task) y rule = tt
   effect_leaves p (event.StartNow task) (item.Defer seen f final) rule =
-      of_current z i (started_now p z i task f final) of_leaves (λ k t. IsFresh z.tasks i task.0) rule (λ k t is fresh. by_made task (scheduled i k t (deferred_task p k t f final 0)) _ fresh)
+      of_current z i (started_now p z i task f final) of_leaves (λ k t. IsFresh z.tasks i task.0) rule
+      (λ k t is fresh. by_made task (scheduled i k t (deferred_task p k t f final 0)) _ fresh)
   effect_leaves p (event.StartNow task) (item.StartNow f final) rule =
-      of_current z i (started_now p z i task f final) of_leaves (λ k t. IsFresh z.tasks i task.0) rule (λ k t is fresh. by_made task (scheduled i k t (deferred_task p k t f final 0)) _ fresh)
+      of_current z i (started_now p z i task f final) of_leaves (λ k t. IsFresh z.tasks i task.0) rule
+      (λ k t is fresh. by_made task (scheduled i k t (deferred_task p k t f final 0)) _ fresh)
   effect_leaves p (event.StartNow task) y rule = tt
   effect_leaves p (event.Start task) (item.Tasks state) rule =
       of_current z i (started z i task) of_leaves (MayStart z task (item.Tasks state)) rule
@@ -354,10 +397,13 @@ module _ (z : State) (i : ℕ) (knows : KnowsOwn z i) where
       of_current z i (started_alone z i task) of_leaves (MayStart z task item.OneTask) rule
       (λ k t is may. by_task_and_thread task _ _ (λ u live. let same : may.new ≡ u = some_same may.live live in inr (ap (λ (x : Task). x.progress) (sym same) ∙ may.deferred)))
   effect_leaves p (event.Start task) y rule = tt
-  effect_leaves p (event.Finish task) y rule = of_current z i (finished z i) of_leaves (MayFinish task) rule (λ k t is h. by_task_and_thread k _ _ (own_task z i k t is knows))
+  effect_leaves p (event.Finish task) y rule =
+      of_current z i (finished z i) of_leaves (MayFinish task) rule
+      (λ k t is h. by_task_and_thread k _ _ (own_task z i k t is knows))
   effect_leaves p event.WaitDone y rule = unchanged
   effect_leaves p event.Yield y rule = unchanged
-  effect_leaves p (event.Set icv value) y rule = of_set z i icv value of_leaves rule whole (λ k t v is e. by_task k _ (own_task z i k t is knows))
+  effect_leaves p (event.Set icv value) y rule =
+      of_set z i icv value of_leaves rule whole (λ k t v is e. by_task k _ (own_task z i k t is knows))
     where
       whole : LeavesOthers z (record z { max_active = value }) i
       whole = record {
@@ -369,7 +415,9 @@ module _ (z : State) (i : ℕ) (knows : KnowsOwn z i) where
         regions_fresh = λ j n other fresh. fresh;
         tasks_fresh = λ j n other fresh. fresh;
       }
-  effect_leaves p (event.SetTool x) y rule = of_current z i (λ k t. with_tool z x k) of_leaves (λ k t. ⊤) rule (λ k t is h. by_task k _ (own_task z i k t is knows))
+  effect_leaves p (event.SetTool x) y rule =
+      of_current z i (λ k t. with_tool z x k) of_leaves (λ k t. ⊤) rule
+      (λ k t is h. by_task k _ (own_task z i k t is knows))
   effect_leaves p (event.Lock k) y rule = by_locks _
   effect_leaves p (event.Unlock k) y rule = by_locks _
   effect_leaves p event.Work y rule = unchanged
@@ -395,12 +443,15 @@ knows_moved s i zs knows =
           ap (λ (u : Task). u.thread) same ∙ knows.thread k v (record { name = sym (o.currents i) ∙ is.name; live = live });
       member = λ k t r is found.
           let (v, xs, live, same) = o.tasks k t is.live in
-          let there : region_of s v.region ≡ Some r = subst (λ (u : Task). region_of s u.region ≡ Some r) same (sym (o.regions t.region) ∙ found) in
-          let (m, at, runs) = knows.member k v r (record { name = sym (o.currents i) ∙ is.name; live = live }) there in
+          let there : region_of s v.region ≡ Some r =
+          subst (λ (u : Task). region_of s u.region ≡ Some r) same (sym (o.regions t.region) ∙ found) in
+          let (m, at, runs) =
+          knows.member k v r (record { name = sym (o.currents i) ∙ is.name; live = live }) there in
           (m, subst (λ (u : Task). slice_get r.team u.number ≡ Some m) (sym same) at, runs);
     }
 
-pub step_leaves : (p : Program) (s : State) (i : ℕ) (e : Event) (next : State) → KnowsOwn s i → Step p s i e next → LeavesOthers s next i
+pub step_leaves : (p : Program) (s : State) (i : ℕ) (e : Event) (next : State) → KnowsOwn s i
+    → Step p s i e next → LeavesOthers s next i
 step_leaves p s i e next knows step =
     let m = move_of p s i e next step in
     let middle : State = moved_on s i e m.item m.behind in
@@ -410,13 +461,15 @@ step_leaves p s i e next knows step =
 
 -- ---- what is known of a reached state
 
-pub known_own : (p : Program) (events : List (ℕ × Event)) (s : State) → Reached p events s → (i : ℕ) → KnowsOwn s i
+pub known_own : (p : Program) (events : List (ℕ × Event)) (s : State) → Reached p events s → (i : ℕ)
+    → KnowsOwn s i
 known_own p events s reached i = record {
   thread = λ k t is. let (ks, chain) = have_chains p events s reached i in on_chain k t is ks chain;
   member = λ k t r is found. member k t r is found t.implicit refl;
 }
   where
-    on_chain : (k : Tid) (t : Task) → IsCurrent s i k t → (ks : List Tid) → IsChain s i (s.threads i).current ks → t.thread ≡ i
+    on_chain : (k : Tid) (t : Task) → IsCurrent s i k t → (ks : List Tid)
+        → IsChain s i (s.threads i).current ks → t.thread ≡ i
     on_chain k t is [] none = absurd (none_some none is.name)
     on_chain k t is (n ∷ ns) (u, top, apart, live, thread, begun, rest) =
         let same : n ≡ k = some_same top is.name in
@@ -426,7 +479,8 @@ known_own p events s reached i = record {
     runs : (k : Tid) (t : Task) → IsCurrent s i k t → t.thread ≡ i
     runs k t is = let (ks, chain) = have_chains p events s reached i in on_chain k t is ks chain
 
-    member : (k : Tid) (t : Task) (r : Region) → IsCurrent s i k t → region_of s t.region ≡ Some r → (b : Bool) → t.implicit ≡ b
+    member : (k : Tid) (t : Task) (r : Region) → IsCurrent s i k t → region_of s t.region ≡ Some r
+        → (b : Bool) → t.implicit ≡ b
         → (m : Tid × ℕ) × (slice_get r.team t.number ≡ Some m) × (m.1 ≡ i)
     member k t r is found true e =
         let (q, live, at) = (members_known p events s reached).tasks k t is.live e in
@@ -434,11 +488,13 @@ known_own p events s reached i = record {
         ((k, t.thread), ap (λ (x : Region). slice_get x.team t.number) (sym same) ∙ at, runs k t is)
     member k t r is found false e =
         let (ks, chain) = have_chains p events s reached i in
-        let (q, m, live, at, thread) = ((encounters p events s reached).explicit k t is.live e).thread (undeferred k t is ks chain) in
+        let (q, m, live, at, thread) =
+        ((encounters p events s reached).explicit k t is.live e).thread (undeferred k t is ks chain) in
         let same : q ≡ r = some_same live found in
         (m, ap (λ (x : Region). slice_get x.team t.number) (sym same) ∙ at, thread ∙ runs k t is)
       where
-        undeferred : (k : Tid) (t : Task) → IsCurrent s i k t → (ks : List Tid) → IsChain s i (s.threads i).current ks → t.progress ≡ Deferred → ⊥
+        undeferred : (k : Tid) (t : Task) → IsCurrent s i k t → (ks : List Tid)
+            → IsChain s i (s.threads i).current ks → t.progress ≡ Deferred → ⊥
         undeferred k t is [] none d = absurd (none_some none is.name)
         undeferred k t is (n ∷ ns) (u, top, apart, live, thread, begun, rest) d =
             let same : n ≡ k = some_same top is.name in
@@ -446,4 +502,5 @@ known_own p events s reached i = record {
             cc (sym begun, ap (λ (x : Task). x.progress) one, d)
 
 pub events_leave_others : EventsLeaveOthers
-events_leave_others = λ p events s reached i e next step. step_leaves p s i e next (known_own p events s reached i) step
+events_leave_others =
+    λ p events s reached i e next step. step_leaves p s i e next (known_own p events s reached i) step

@@ -33,13 +33,16 @@ pub begun_undeferred : (t : Task) → t.progress ≡ progress.Begun → t.progre
 begun_undeferred t begun deferred = cc (sym begun, deferred)
 
 -- the context of the innermost body of a stack
-pub of_innermost : (p : Program) (s : State) (i : ℕ) (c : Context) (fs : List Frame) → KeepsBodies p s i c fs → KeepsContext s i c
+pub of_innermost : (p : Program) (s : State) (i : ℕ) (c : Context) (fs : List Frame) → KeepsBodies p s i c fs
+    → KeepsContext s i c
 of_innermost p s i c [] o = o
 of_innermost p s i c (f ∷ fs) o = o.0
 
 module _ (p : Program) (s u : State) (i : ℕ) (leaves : LeavesOthers s u i) (j : ℕ) (other : j ≢ i) where
   task_stays : (c : Context) (o : KeepsContext s j c) → task_of u c.task ≡ Some o.task
-  task_stays c o = leaves.tasks c.task o.task o.live (λ same. other (sym o.thread ∙ same)) (begun_undeferred o.task o.begun)
+  task_stays c o =
+      leaves.tasks c.task o.task o.live (λ same. other (sym o.thread ∙ same))
+      (begun_undeferred o.task o.begun)
 
   context_stays : (c : Context) → KeepsContext s j c → KeepsContext u j c
   context_stays c o =
@@ -71,25 +74,32 @@ module _ (p : Program) (s u : State) (i : ℕ) (leaves : LeavesOthers s u i) (j 
   encounter_stays : (c : Context) → KeepsContext s j c → encounter_of u c ≡ encounter_of s c
   encounter_stays c o =
       ap (encounter_by u) (task_stays c o)
-      ∙ ap (λ (b : Bool). record { debug = b; number = o.task.number; level = level_of u o.task.region; is_final = o.task.is_final }) (ap (λ (e : Env). e.debug) leaves.environment)
-      ∙ ap (λ l. record { debug = s.environment.debug; number = o.task.number; level = l; is_final = o.task.is_final }) (level_stays c o)
+      ∙ ap
+      (λ (b : Bool). record { debug = b; number = o.task.number; level = level_of u o.task.region; is_final = o.task.is_final })
+      (ap (λ (e : Env). e.debug) leaves.environment)
+      ∙ ap
+      (λ l. record { debug = s.environment.debug; number = o.task.number; level = l; is_final = o.task.is_final })
+      (level_stays c o)
       ∙ sym (ap (encounter_by s) o.live)
 
-  scheduled_stays : (saved c : Context) → KeepsContext s j c → IsScheduledFrom s saved c → IsScheduledFrom u saved c
+  scheduled_stays : (saved c : Context) → KeepsContext s j c → IsScheduledFrom s saved c
+      → IsScheduledFrom u saved c
   scheduled_stays saved c o x = record {
     task = o.task;
     live = task_stays c o;
     scheduling = ap (λ (t : Task). t.scheduling) (some_same o.live x.live) ∙ x.scheduling;
   }
 
-  suspended_stays : (c : Context) (list new : List Item) → KeepsContext s j c → new ≡ list → IsSuspended s c list → IsSuspended u c new
+  suspended_stays : (c : Context) (list new : List Item) → KeepsContext s j c → new ≡ list
+      → IsSuspended s c list → IsSuspended u c new
   suspended_stays c list new o same x = record {
     task = o.task;
     live = task_stays c o;
     list_is = ap (λ (t : Task). t.list) (some_same o.live x.live) ∙ x.list_is ∙ sym same;
   }
 
-  body_stays : (c : Context) (o : Opened) (fs : List Frame) → KeepsContext s j c → KeepsContext s j (context_under c o) → KeepsBody p s c o fs → KeepsBody p u c o fs
+  body_stays : (c : Context) (o : Opened) (fs : List Frame) → KeepsContext s j c
+      → KeepsContext s j (context_under c o) → KeepsBody p s c o fs → KeepsBody p u c o fs
   body_stays c opened.Main fs k l keeps = keeps
   body_stays c (opened.Master saved) fs k l (from, suspended) = (
     scheduled_stays saved c k from,
@@ -109,7 +119,8 @@ module _ (p : Program) (s u : State) (i : ℕ) (leaves : LeavesOthers s u i) (j 
   bodies_stay c (f ∷ fs) (o, body, rest) =
       (context_stays c o, body_stays c f.opened fs o (of_innermost p s j (context_under c f.opened) fs rest) body, bodies_stay (context_under c f.opened) fs rest)
 
-  in_task_stays : (a : Actor) (f : Frame) (fs : List Frame) → a.stack ≡ f ∷ fs → StandsInTask p s j a → StandsInTask p u j a
+  in_task_stays : (a : Actor) (f : Frame) (fs : List Frame) → a.stack ≡ f ∷ fs → StandsInTask p s j a
+      → StandsInTask p u j a
   in_task_stays a f fs is o =
       let top : KeepsContext s j a.context = of_innermost p s j a.context a.stack o.bodies in
       record {
@@ -124,7 +135,9 @@ module _ (p : Program) (s u : State) (i : ℕ) (leaves : LeavesOthers s u i) (j 
   worker_stays : (c : WorkerCounter) → worker_ahead u c ≡ worker_ahead s c
   worker_stays worker.Begin = refl
   worker_stays worker.Offer = refl
-  worker_stays (worker.AddLeft r) = ap (λ (b : Bool). if b then item.State IDLE 0 ∷ offering else offering) (ap (λ (e : Env). e.debug) leaves.environment)
+  worker_stays (worker.AddLeft r) =
+      ap (λ (b : Bool). if b then item.State IDLE 0 ∷ offering else offering)
+      (ap (λ (e : Env). e.debug) leaves.environment)
   worker_stays worker.IdleState = refl
   worker_stays c = refl
 

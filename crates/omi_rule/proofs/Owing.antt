@@ -17,18 +17,27 @@ use Rattle.omi_rule_words.specs.Owes.{Owed, all_owed, owed}
 use Rattle.omi_rule_words.specs.Words.{KeepsWords}
 
 -- another actor owes this
-pub owed_after : (w : List ℕ) (m : Memory) (s : State) (actors : ℕ → Actor) (i : ℕ) (a : Actor) (o : Owed) → owed a ≡ o → KeepsWords w m s (replace_at (all_owed actors) i o) → KeepsWords w m s (all_owed (replace_at actors i a))
+pub owed_after : (w : List ℕ) (m : Memory) (s : State) (actors : ℕ → Actor) (i : ℕ) (a : Actor) (o : Owed)
+    → owed a ≡ o → KeepsWords w m s (replace_at (all_owed actors) i o)
+    → KeepsWords w m s (all_owed (replace_at actors i a))
 owed_after w m s actors i a o is keeps = subst (λ (owes : ℕ → Owed). KeepsWords w m s owes) same keeps
   where
     same : replace_at (all_owed actors) i o ≡ all_owed (replace_at actors i a)
     same = fun_ext (λ j. go j (j == i) refl)
       where
-        go : (j : ℕ) (b : Bool) → j == i ≡ b → replace_at (all_owed actors) i o j ≡ all_owed (replace_at actors i a) j
-        go j true e = ap (λ (b : Bool). if b then o else owed (actors j)) e ∙ sym is ∙ sym (ap (λ (b : Bool). owed (if b then a else actors j)) e)
-        go j false e = ap (λ (b : Bool). if b then o else owed (actors j)) e ∙ sym (ap (λ (b : Bool). owed (if b then a else actors j)) e)
+        go : (j : ℕ) (b : Bool) → j == i ≡ b
+            → replace_at (all_owed actors) i o j ≡ all_owed (replace_at actors i a) j
+        go j true e =
+            ap (λ (b : Bool). if b then o else owed (actors j)) e
+            ∙ sym is
+            ∙ sym (ap (λ (b : Bool). owed (if b then a else actors j)) e)
+        go j false e =
+            ap (λ (b : Bool). if b then o else owed (actors j)) e
+            ∙ sym (ap (λ (b : Bool). owed (if b then a else actors j)) e)
 
 -- an event takes an item, and its effect leads to a state
-pub step_of : (p : Program) (s : State) (i : ℕ) (e : Event) (u : State) (y : Item) (ys : List Item) → i < s.count → take_item p (encounter s i) e (list_of s i) ≡ Some (y, ys) → Rule s i e y
+pub step_of : (p : Program) (s : State) (i : ℕ) (e : Event) (u : State) (y : Item) (ys : List Item)
+    → i < s.count → take_item p (encounter s i) e (list_of s i) ≡ Some (y, ys) → Rule s i e y
     → effect p (with_list s i (stays (encounter s i) e y ys)) i e y ≡ Some u → Step p s i e u
 step_of p s i e u y ys known taken rule is = record {
   legal = record { known = known; item = y; behind = ys; taken = taken; rule = rule };
@@ -37,7 +46,12 @@ step_of p s i e u y ys known taken rule is = record {
 
 -- a thread without a task: its list, and the state in which its list has moved on
 pub idle_list : (s : State) (i : ℕ) → (s.threads i).current ≡ None → list_of s i ≡ (s.threads i).list
-idle_list s i none = ap (λ (n : Option Tid). option_map_or (λ t. t.list) (option_and_then (task_of s) n) (s.threads i).list) none
+idle_list s i none =
+    ap
+    (λ (n : Option Tid). option_map_or (λ t. t.list) (option_and_then (task_of s) n) (s.threads i).list) none
 
-pub idle_moved : (s : State) (i : ℕ) (zs : List Item) → (s.threads i).current ≡ None → with_list s i zs ≡ on_thread s i (λ h. record h { list = zs })
-idle_moved s i zs none = ap (λ (n : Option Tid). option_map_or (λ k. on_task s k (λ t. record t { list = zs })) n (on_thread s i (λ h. record h { list = zs }))) none
+pub idle_moved : (s : State) (i : ℕ) (zs : List Item) → (s.threads i).current ≡ None
+    → with_list s i zs ≡ on_thread s i (λ h. record h { list = zs })
+idle_moved s i zs none =
+    ap
+    (λ (n : Option Tid). option_map_or (λ k. on_task s k (λ t. record t { list = zs })) n (on_thread s i (λ h. record h { list = zs }))) none

@@ -38,12 +38,16 @@ AreBelow k (f ∷ fs) = IsBelow k f.opened × AreBelow k fs
 
 module _ (p : Program) (s : State) (i : ℕ) (k : Tid) where
   abbrev Under : List Frame → Type 0
-  Under fs = (c : Context) (ns : List Tid) → KeepsBodies p s i c fs → (n : Tid) → IsChain s i (Some c.task) (n ∷ ns) → IsApart k ns → AreBelow k fs
+  Under fs =
+      (c : Context) (ns : List Tid) → KeepsBodies p s i c fs → (n : Tid) → IsChain s i (Some c.task) (n ∷ ns) → IsApart k ns → AreBelow k fs
 
   -- one step down the chain
-  under : (fs : List Frame) (saved c : Context) → Under fs → KeepsContext s i c → IsScheduledFrom s saved c → KeepsBodies p s i saved fs → (n : Tid) (ns : List Tid) → IsChain s i (Some c.task) (n ∷ ns) → IsApart k ns
+  under : (fs : List Frame) (saved c : Context) → Under fs → KeepsContext s i c → IsScheduledFrom s saved c
+      → KeepsBodies p s i saved fs → (n : Tid) (ns : List Tid) → IsChain s i (Some c.task) (n ∷ ns)
+      → IsApart k ns
       → (saved.task ≡ k → ⊥) × AreBelow k fs
-  under fs saved c rest o from bodies n ns (u, top, apart, live, thread, begun, chain) others = go ns next others
+  under fs saved c rest o from bodies n ns (u, top, apart, live, thread, begun, chain) others =
+      go ns next others
     where
       same : c.task ≡ n
       same = cc top
@@ -51,36 +55,47 @@ module _ (p : Program) (s : State) (i : ℕ) (k : Tid) where
       next : IsChain s i (Some saved.task) ns
       next =
           let here : task_of s c.task ≡ Some u = subst (λ (x : Tid). task_of s x ≡ Some u) (sym same) live in
-          let is : u.scheduling ≡ Some saved.task = ap (λ (t : Task). t.scheduling) (some_same here from.live) ∙ from.scheduling in
+          let is : u.scheduling ≡ Some saved.task =
+          ap (λ (t : Task). t.scheduling) (some_same here from.live) ∙ from.scheduling in
           subst (λ (x : Option Tid). IsChain s i x ns) is chain
 
-      go : (ms : List Tid) → IsChain s i (Some saved.task) ms → IsApart k ms → (saved.task ≡ k → ⊥) × AreBelow k fs
+      go : (ms : List Tid) → IsChain s i (Some saved.task) ms → IsApart k ms
+          → (saved.task ≡ k → ⊥) × AreBelow k fs
       go [] none away = absurd (cc none)
       go (m ∷ ms) (v, topm, apartm, livem, threadm, begunm, chainm) (ne, away) =
           let first : saved.task ≡ m = cc topm in
           ((λ e. ne (sym e ∙ first)), rest saved ms bodies m (v, topm, apartm, livem, threadm, begunm, chainm) away)
 
   -- the body of a task, by how it was opened
-  below_opened : (f : Frame) (fs : List Frame) (c : Context) (ns : List Tid) (n : Tid) → Under fs → KeepsContext s i c → (x : Opened) → KeepsBody p s c x fs → KeepsBodies p s i (context_under c x) fs
+  below_opened : (f : Frame) (fs : List Frame) (c : Context) (ns : List Tid) (n : Tid) → Under fs
+      → KeepsContext s i c → (x : Opened) → KeepsBody p s c x fs → KeepsBodies p s i (context_under c x) fs
       → IsChain s i (Some c.task) (n ∷ ns) → IsApart k ns → IsBelow k x × AreBelow k fs
   below_opened f fs c ns n inside o opened.Main keeps rest chain away = (tt, inside c ns rest n chain away)
   below_opened f fs c ns n inside o opened.Worker keeps rest chain away = (tt, inside c ns rest n chain away)
-  below_opened f fs c ns n inside o (opened.Master saved) (from, keeps) rest chain away = under fs saved c inside o from rest n ns chain away
-  below_opened f fs c ns n inside o (opened.Task w saved) (from, keeps) rest chain away = under fs saved c inside o from rest n ns chain away
+  below_opened f fs c ns n inside o (opened.Master saved) (from, keeps) rest chain away =
+      under fs saved c inside o from rest n ns chain away
+  below_opened f fs c ns n inside o (opened.Task w saved) (from, keeps) rest chain away =
+      under fs saved c inside o from rest n ns chain away
   below_opened f fs c ns n inside o opened.Call keeps rest chain away = (tt, inside c ns rest n chain away)
-  below_opened f fs c ns n inside o (opened.Repeat left) keeps rest chain away = (tt, inside c ns rest n chain away)
-  below_opened f fs c ns n inside o (opened.Critical lock) keeps rest chain away = (tt, inside c ns rest n chain away)
+  below_opened f fs c ns n inside o (opened.Repeat left) keeps rest chain away =
+      (tt, inside c ns rest n chain away)
+  below_opened f fs c ns n inside o (opened.Critical lock) keeps rest chain away =
+      (tt, inside c ns rest n chain away)
 
   below : (fs : List Frame) → Under fs
   below [] c ns o n chain away = tt
-  below (f ∷ fs) c ns (o, body, bodies) n chain away = below_opened f fs c ns n (below fs) o f.opened body bodies chain away
+  below (f ∷ fs) c ns (o, body, bodies) n chain away =
+      below_opened f fs c ns n (below fs) o f.opened body bodies chain away
 
 -- of the current task
-pub below_current : (p : Program) (s : State) (i : ℕ) (c : Context) (fs : List Frame) (ks : List Tid) → (s.threads i).current ≡ Some c.task → IsChain s i (s.threads i).current ks → KeepsBodies p s i c fs → AreBelow c.task fs
+pub below_current : (p : Program) (s : State) (i : ℕ) (c : Context) (fs : List Frame) (ks : List Tid)
+    → (s.threads i).current ≡ Some c.task → IsChain s i (s.threads i).current ks → KeepsBodies p s i c fs
+    → AreBelow c.task fs
 below_current p s i c fs [] is chain o = absurd (none_some chain is)
 below_current p s i c fs (n ∷ ns) is (u, top, apart, live, thread, begun, chain) o =
     let same : n ≡ c.task = some_same top is in
-    below p s i c.task fs c ns o n (u, sym is ∙ top, apart, live, thread, begun, chain) (subst (λ (x : Tid). IsApart x ns) same apart)
+    below p s i c.task fs c ns o n (u, sym is ∙ top, apart, live, thread, begun, chain)
+    (subst (λ (x : Tid). IsApart x ns) same apart)
 
 -- ---- an event on the own task
 
@@ -101,14 +116,16 @@ pub record ChangesTask (s u : State) (i : ℕ) (k : Tid) : Type 0 where
   pub current : (u.threads i).current ≡ (s.threads i).current
   pub own : (t : Task) → task_of s k ≡ Some t → (v : Task) × (task_of u k ≡ Some v) × IsAlike t v
   pub others : (n : Tid) → (n.0 ≡ k.0 → ⊥) → task_of u n ≡ task_of s n
-  pub regions : (n : Rid) (r : Region) → region_of s n ≡ Some r → (q : Region) × (region_of u n ≡ Some q) × (q.team ≡ r.team) × (q.levels ≡ r.levels) × (q.arrivals ≡ r.arrivals)
+  pub regions : (n : Rid) (r : Region) → region_of s n ≡ Some r
+      → (q : Region) × (region_of u n ≡ Some q) × (q.team ≡ r.team) × (q.levels ≡ r.levels) × (q.arrivals ≡ r.arrivals)
 
 module _ (p : Program) (s u : State) (i : ℕ) (k : Tid) (changes : ChangesTask s u i k) where
   alike : (t : Task) → IsAlike t t
   alike t = record { implicit = refl; region = refl; thread = refl; number = refl; scheduling = refl; exit = refl; final = refl; progress = refl }
 
   -- any task goes on as one that is alike
-  pub goes_on : (n : Tid) (t : Task) → task_of s n ≡ Some t → (v : Task) × (task_of u n ≡ Some v) × IsAlike t v
+  pub goes_on : (n : Tid) (t : Task) → task_of s n ≡ Some t
+      → (v : Task) × (task_of u n ≡ Some v) × IsAlike t v
   goes_on n t live = go (same_or_not n.0 k.0)
     where
       go : (n.0 ≡ k.0) ⊎ (n.0 ≡ k.0 → ⊥) → (v : Task) × (task_of u n ≡ Some v) × IsAlike t v
@@ -143,26 +160,37 @@ module _ (p : Program) (s u : State) (i : ℕ) (k : Tid) (changes : ChangesTask 
       let (v, now, is) = goes_on c.task o.task o.live in
       let (q, found, team, levels, arrivals) = changes.regions c.region o.region o.found in
       let level : level_of u v.region ≡ level_of s o.task.region =
-      ap (level_of u) (is.region ∙ o.region_is) ∙ ap (λ (x : Option Region). option_map_or (λ r. r.levels) x 0) found ∙ levels
-      ∙ sym (ap (level_of s) o.region_is ∙ ap (λ (x : Option Region). option_map_or (λ r. r.levels) x 0) o.found) in
+      ap (level_of u) (is.region ∙ o.region_is)
+      ∙ ap (λ (x : Option Region). option_map_or (λ r. r.levels) x 0) found
+      ∙ levels
+      ∙ sym
+      (ap (level_of s) o.region_is ∙ ap (λ (x : Option Region). option_map_or (λ r. r.levels) x 0) o.found) in
       ap (encounter_by u) now
-      ∙ ap (λ (b : Bool). record { debug = b; number = v.number; level = level_of u v.region; is_final = v.is_final }) (ap (λ (e : Env). e.debug) changes.environment)
-      ∙ ap (λ n. record { debug = s.environment.debug; number = n; level = level_of u v.region; is_final = v.is_final }) is.number
-      ∙ ap (λ l. record { debug = s.environment.debug; number = o.task.number; level = l; is_final = v.is_final }) level
-      ∙ ap (λ (b : Bool). record { debug = s.environment.debug; number = o.task.number; level = level_of s o.task.region; is_final = b }) is.final
+      ∙ ap
+      (λ (b : Bool). record { debug = b; number = v.number; level = level_of u v.region; is_final = v.is_final })
+      (ap (λ (e : Env). e.debug) changes.environment)
+      ∙ ap
+      (λ n. record { debug = s.environment.debug; number = n; level = level_of u v.region; is_final = v.is_final }) is.number
+      ∙ ap
+      (λ l. record { debug = s.environment.debug; number = o.task.number; level = l; is_final = v.is_final }) level
+      ∙ ap
+      (λ (b : Bool). record { debug = s.environment.debug; number = o.task.number; level = level_of s o.task.region; is_final = b }) is.final
       ∙ sym (ap (encounter_by s) o.live)
 
   scheduled_kept : (saved c : Context) → IsScheduledFrom s saved c → IsScheduledFrom u saved c
-  scheduled_kept saved c x = let (v, now, is) = goes_on c.task x.task x.live in record { task = v; live = now; scheduling = is.scheduling ∙ x.scheduling }
+  scheduled_kept saved c x =
+      let (v, now, is) = goes_on c.task x.task x.live in record { task = v; live = now; scheduling = is.scheduling ∙ x.scheduling }
 
-  suspended_kept : (c : Context) (list new : List Item) → (c.task ≡ k → ⊥) → new ≡ list → IsSuspended s c list → IsSuspended u c new
+  suspended_kept : (c : Context) (list new : List Item) → (c.task ≡ k → ⊥) → new ≡ list → IsSuspended s c list
+      → IsSuspended u c new
   suspended_kept c list new apart same x = record {
     task = x.task;
     live = changes.others c.task (λ (e : c.task.0 ≡ k.0). apart (ap (λ (d : Id). record { 0 = d }) e)) ∙ x.live;
     list_is = x.list_is ∙ sym same;
   }
 
-  body_kept : (c : Context) (o : Opened) (fs : List Frame) → IsBelow k o → KeepsContext s i (context_under c o) → KeepsBody p s c o fs → KeepsBody p u c o fs
+  body_kept : (c : Context) (o : Opened) (fs : List Frame) → IsBelow k o
+      → KeepsContext s i (context_under c o) → KeepsBody p s c o fs → KeepsBody p u c o fs
   body_kept c opened.Main fs apart l keeps = keeps
   body_kept c (opened.Master saved) fs apart l (from, suspended) =
       (scheduled_kept saved c from, suspended_kept saved _ _ apart (ap (λ at. working at (leaving p at fs)) (encounter_kept saved l)) suspended)
@@ -173,7 +201,8 @@ module _ (p : Program) (s u : State) (i : ℕ) (k : Tid) (changes : ChangesTask 
   body_kept c (opened.Repeat left) fs apart l keeps = tt
   body_kept c (opened.Critical lock) fs apart l keeps = tt
 
-  pub bodies_kept : (c : Context) (fs : List Frame) → AreBelow k fs → KeepsBodies p s i c fs → KeepsBodies p u i c fs
+  pub bodies_kept : (c : Context) (fs : List Frame) → AreBelow k fs → KeepsBodies p s i c fs
+      → KeepsBodies p u i c fs
   bodies_kept c [] apart o = context_kept c o
   bodies_kept c (f ∷ fs) (here, apart) (o, body, rest) =
       (context_kept c o, body_kept c f.opened fs here (of_innermost p s i (context_under c f.opened) fs rest) body, bodies_kept (context_under c f.opened) fs apart rest)

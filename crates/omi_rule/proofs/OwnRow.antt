@@ -9,7 +9,9 @@ use Rattle.omi_pc.specs.declared.context.Context.{Context}
 use Rattle.omi_rule_words.specs.ExplicitKinds.{IsRow}
 use Rattle.omi_rule.specs.Chains.{KeepsContext}
 
-pub own_row : (p : Program) (events : List (ℕ × Event)) (s : State) → Reached p events s → (i : ℕ) (c : Context) (o : KeepsContext s i c) → IsRow s i c.row o.task
+pub own_row : (p : Program) (events : List (ℕ × Event)) (s : State) → Reached p events s
+    → (i : ℕ) (c : Context) (o : KeepsContext s i c) → IsRow s i c.row o.task
 own_row p events s reached i c o =
-    let member = ((names_live p events s reached).regions c.region o.region o.found).team c.number (c.row, i) o.row in
+    let member =
+    ((names_live p events s reached).regions c.region o.region o.found).team c.number (c.row, i) o.row in
     record { task = member.task; live = member.live; implicit = member.implicit; region = member.region ∙ sym o.region_is; thread = member.thread }

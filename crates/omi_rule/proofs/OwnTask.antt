@@ -35,7 +35,8 @@ use Rattle.omi_rule.proofs.Own.{AreBelow, ChangesTask, IsAlike, below_current, b
 -- ---- facts of open bodies
 
 -- a body that a statement opened says nothing of the state
-called_says_nothing : (p : Program) (s : State) (c : Context) (o : Opened) (fs : List Frame) → IsCalled o → KeepsBody p s c o fs
+called_says_nothing : (p : Program) (s : State) (c : Context) (o : Opened) (fs : List Frame) → IsCalled o
+    → KeepsBody p s c o fs
 called_says_nothing p s c opened.Main fs called = absurd (cc called)
 called_says_nothing p s c opened.Worker fs called = tt
 called_says_nothing p s c (opened.Master saved) fs called = absurd (cc called)
@@ -73,10 +74,13 @@ places_are_of_bodies w = record {
 -- ---- the current task
 
 -- a thread at a counter of a task has a body open, and stands in its task
-pub in_task : (p : Program) (s : State) (i : ℕ) (a : Actor) → ((c : WorkerCounter) → a.counter ≡ counter.Worker c → ⊥) → Stands p s i a → (f : Frame) × (fs : List Frame) × (a.stack ≡ f ∷ fs) × StandsInTask p s i a
+pub in_task : (p : Program) (s : State) (i : ℕ) (a : Actor)
+    → ((c : WorkerCounter) → a.counter ≡ counter.Worker c → ⊥) → Stands p s i a
+    → (f : Frame) × (fs : List Frame) × (a.stack ≡ f ∷ fs) × StandsInTask p s i a
 in_task p s i a busy stands = go a.stack refl stands
   where
-    go : (xs : List Frame) → a.stack ≡ xs → StandsWith p s i a xs → (f : Frame) × (fs : List Frame) × (a.stack ≡ f ∷ fs) × StandsInTask p s i a
+    go : (xs : List Frame) → a.stack ≡ xs → StandsWith p s i a xs
+        → (f : Frame) × (fs : List Frame) × (a.stack ≡ f ∷ fs) × StandsInTask p s i a
     go (f ∷ fs) is o = (f, fs, is, o)
     go [] is o = absurd (none a.counter refl)
       where
@@ -110,10 +114,14 @@ module _ (p : Program) (s : State) (i : ℕ) (a : Actor) (o : StandsInTask p s i
 
   -- the state whose list has moved on
   pub list_moved : (zs : List Item) → with_list s i zs ≡ on_task s a.context.task (relisted zs)
-  list_moved zs = ap (λ (n : Option Tid). option_map_or (λ k. on_task s k (λ t. record t { list = zs })) n (on_thread s i (λ h. record h { list = zs }))) o.current
+  list_moved zs =
+      ap
+      (λ (n : Option Tid). option_map_or (λ k. on_task s k (λ t. record t { list = zs })) n (on_thread s i (λ h. record h { list = zs }))) o.current
 
   -- a state in which the own task is another
-  pub own_changes : (f : Task → Task) (u : State) → ((t : Task) → task_of s a.context.task ≡ Some t → IsAlike t (f t)) → u.environment ≡ s.environment → (u.threads i).current ≡ (s.threads i).current
+  pub own_changes : (f : Task → Task) (u : State)
+      → ((t : Task) → task_of s a.context.task ≡ Some t → IsAlike t (f t)) → u.environment ≡ s.environment
+      → (u.threads i).current ≡ (s.threads i).current
       → u.tasks ≡ on s.tasks a.context.task.0 f → u.regions ≡ s.regions → ChangesTask s u i a.context.task
   own_changes f u alike environment current tasks regions = record {
     environment = environment;
@@ -126,14 +134,18 @@ module _ (p : Program) (s : State) (i : ℕ) (a : Actor) (o : StandsInTask p s i
 
   -- the tasks that made way for others are not the current one
   pub own_below : (events : List (ℕ × Event)) → Reached p events s → AreBelow a.context.task a.stack
-  own_below events reached = let (ks, chain) = have_chains p events s reached i in below_current p s i a.context a.stack ks o.current chain o.bodies
+  own_below events reached =
+      let (ks, chain) = have_chains p events s reached i in below_current p s i a.context a.stack ks o.current chain o.bodies
 
   -- the thread stands where its actor is after an event on its task that opens and closes no task's body
-  pub own_stands : (events : List (ℕ × Event)) → Reached p events s → (u : State) → ChangesTask s u i a.context.task → (b : Actor) (f : Frame) (fs : List Frame) → b.stack ≡ f ∷ fs → b.context ≡ a.context
+  pub own_stands : (events : List (ℕ × Event)) → Reached p events s → (u : State)
+      → ChangesTask s u i a.context.task → (b : Actor) (f : Frame) (fs : List Frame) → b.stack ≡ f ∷ fs
+      → b.context ≡ a.context
       → (KeepsBodies p u i a.context a.stack → KeepsBodies p u i b.context b.stack)
       → ((t : Task) → task_of u a.context.task ≡ Some t → IsAhead p (encounter_of s a.context) b.stack b.counter t.list) → Stands p u i b
   own_stands events reached u changes b f fs stack context bodies next =
-      let same : encounter_of u a.context ≡ encounter_of s a.context = encounter_kept p s u i a.context.task changes a.context top in
+      let same : encounter_of u a.context ≡ encounter_of s a.context =
+      encounter_kept p s u i a.context.task changes a.context top in
       subst (StandsWith p u i b) (sym stack)
       (record {
         current = changes.current ∙ o.current ∙ ap (λ (c : Context). Some c.task) (sym context);
@@ -145,9 +157,13 @@ module _ (p : Program) (s : State) (i : ℕ) (a : Actor) (o : StandsInTask p s i
       })
 
   -- what is ahead of the task with its new list
-  pub relisted_ahead : (zs : List Item) (u : State) → u.tasks ≡ on s.tasks a.context.task.0 (relisted zs) → (P : List Item → Type 0) → P zs → (t : Task) → task_of u a.context.task ≡ Some t → P t.list
+  pub relisted_ahead : (zs : List Item) (u : State) → u.tasks ≡ on s.tasks a.context.task.0 (relisted zs)
+      → (P : List Item → Type 0) → P zs → (t : Task) → task_of u a.context.task ≡ Some t → P t.list
   relisted_ahead zs u tasks P is t live =
-      let now : task_of u a.context.task ≡ Some (relisted zs top.task) = ap (λ (x : Slots Task). named x a.context.task.0) tasks ∙ on_same s.tasks a.context.task.0 (relisted zs) ∙ ap (λ (x : Option Task). option_map (relisted zs) x) top.live in
+      let now : task_of u a.context.task ≡ Some (relisted zs top.task) =
+      ap (λ (x : Slots Task). named x a.context.task.0) tasks
+      ∙ on_same s.tasks a.context.task.0 (relisted zs)
+      ∙ ap (λ (x : Option Task). option_map (relisted zs) x) top.live in
       subst (λ (x : Task). P x.list) (some_same now live) is
 
 -- a task with another list is alike

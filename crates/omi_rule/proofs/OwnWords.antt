@@ -22,7 +22,8 @@ use Rattle.omi_rule.proofs.Assembly.{Before}
 abbrev pub thread_word : ℕ → Field → RecordWord
 thread_word i f = record { creator = i; slot = 0; field = f; place = 0 }
 
-module _ (p : Program) (w : List ℕ) (m : Memory) (events : List (ℕ × Event)) (s : State) (actors : ℕ → Actor) (i : ℕ) (before : Before p w m events s actors i) where
+module _ (p : Program) (w : List ℕ) (m : Memory) (events : List (ℕ × Event)) (s : State) (actors : ℕ → Actor)
+    (i : ℕ) (before : Before p w m events s actors i) where
   known_thread : i < thread_count w
   known_thread = subst (λ n. i < n) before.rule.within.count before.known
 
@@ -36,8 +37,10 @@ module _ (p : Program) (w : List ℕ) (m : Memory) (events : List (ℕ × Event)
   pub thread_there : (f : Field) → kind_of (number f) ≡ threads → IsRecordWord w i 0 (number f) 0
   thread_there f kind = record { field = numbered_field f; record_slot = subst (λ q. IsSlot w q i 0) (sym kind) (record { made_by = known_thread; within = omega arith }); within = wide (number f) }
 
-  pub load_on : (f : Field) → kind_of (number f) ≡ threads → IsOn w (op.Load (of_thread w (actors i).thread f)) (thread_word i f)
+  pub load_on : (f : Field) → kind_of (number f) ≡ threads
+      → IsOn w (op.Load (of_thread w (actors i).thread f)) (thread_word i f)
   load_on f kind = record { there = thread_there f kind; address = own_thread f }
 
-  pub store_on : (f : Field) (v : ℕ) → kind_of (number f) ≡ threads → IsOn w (op.Store (of_thread w (actors i).thread f) v) (thread_word i f)
+  pub store_on : (f : Field) (v : ℕ) → kind_of (number f) ≡ threads
+      → IsOn w (op.Store (of_thread w (actors i).thread f) v) (thread_word i f)
   store_on f v kind = record { there = thread_there f kind; address = own_thread f }

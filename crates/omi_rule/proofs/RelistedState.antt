@@ -23,28 +23,37 @@ module _ (s : State) (k : Tid) (zs : List Item) where
   u = on_task s k (relisted zs)
 
   -- a task is live in both states or in none, and has changed in its list alone
-  same_but_lists : (n : Tid) → (task_of u n ≡ task_of s n) ⊎ (task_of u n ≡ option_map (relisted zs) (task_of s n))
+  same_but_lists : (n : Tid)
+      → (task_of u n ≡ task_of s n) ⊎ (task_of u n ≡ option_map (relisted zs) (task_of s n))
   same_but_lists n = go (same_or_not n.0 k.0)
     where
-      go : (n.0 ≡ k.0) ⊎ (n.0 ≡ k.0 → ⊥) → (task_of u n ≡ task_of s n) ⊎ (task_of u n ≡ option_map (relisted zs) (task_of s n))
-      go (inl same) = inr (ap (named u.tasks) same ∙ on_same s.tasks k.0 (relisted zs) ∙ ap (λ x. option_map (relisted zs) (named s.tasks x)) (sym same))
+      go : (n.0 ≡ k.0) ⊎ (n.0 ≡ k.0 → ⊥)
+          → (task_of u n ≡ task_of s n) ⊎ (task_of u n ≡ option_map (relisted zs) (task_of s n))
+      go (inl same) =
+          inr
+          (ap (named u.tasks) same ∙ on_same s.tasks k.0 (relisted zs) ∙ ap (λ x. option_map (relisted zs) (named s.tasks x)) (sym same))
       go (inr other) = inl (on_other s.tasks k.0 (relisted zs) n.0 other)
 
-  later : (n : Tid) (t : Task) → task_of s n ≡ Some t → (xs : List Item) × (task_of u n ≡ Some (relisted xs t))
+  later : (n : Tid) (t : Task) → task_of s n ≡ Some t
+      → (xs : List Item) × (task_of u n ≡ Some (relisted xs t))
   later n t live = go (same_but_lists n)
     where
-      go : (task_of u n ≡ task_of s n) ⊎ (task_of u n ≡ option_map (relisted zs) (task_of s n)) → (xs : List Item) × (task_of u n ≡ Some (relisted xs t))
+      go : (task_of u n ≡ task_of s n) ⊎ (task_of u n ≡ option_map (relisted zs) (task_of s n))
+          → (xs : List Item) × (task_of u n ≡ Some (relisted xs t))
       go (inl same) = (t.list, same ∙ live)
       go (inr moved) = (zs, moved ∙ ap (option_map (relisted zs)) live)
 
-  earlier : (n : Tid) (v : Task) → task_of u n ≡ Some v → (t : Task) × (xs : List Item) × (task_of s n ≡ Some t) × (v ≡ relisted xs t)
+  earlier : (n : Tid) (v : Task) → task_of u n ≡ Some v
+      → (t : Task) × (xs : List Item) × (task_of s n ≡ Some t) × (v ≡ relisted xs t)
   earlier n v live = by (task_of s n) refl
     where
-      gone : task_of s n ≡ None → (task_of u n ≡ task_of s n) ⊎ (task_of u n ≡ option_map (relisted zs) (task_of s n)) → ⊥
+      gone : task_of s n ≡ None
+          → (task_of u n ≡ task_of s n) ⊎ (task_of u n ≡ option_map (relisted zs) (task_of s n)) → ⊥
       gone e (inl same) = cc (sym live ∙ same ∙ e)
       gone e (inr moved) = cc (sym live ∙ moved ∙ ap (option_map (relisted zs)) e)
 
-      by : (o : Option Task) → task_of s n ≡ o → (t : Task) × (xs : List Item) × (task_of s n ≡ Some t) × (v ≡ relisted xs t)
+      by : (o : Option Task) → task_of s n ≡ o
+          → (t : Task) × (xs : List Item) × (task_of s n ≡ Some t) × (v ≡ relisted xs t)
       by (Some t) e = let (xs, now) = later n t e in (t, xs, e, some_same live now)
       by None e = absurd (gone e (same_but_lists n))
 
@@ -59,7 +68,8 @@ module _ (s : State) (k : Tid) (zs : List Item) where
   some_earlier n some = by (task_of u n) refl some
     where
       by : (o : Option Task) → task_of u n ≡ o → IsSome o → IsSome (task_of s n)
-      by (Some v) e is = let (t, xs, was, same) = earlier n v e in subst (λ (o : Option Task). IsSome o) (sym was) refl
+      by (Some v) e is =
+          let (t, xs, was, same) = earlier n v e in subst (λ (o : Option Task). IsSome o) (sym was) refl
       by None e is = absurd (cc is)
 
   -- ---- what is visible
@@ -70,7 +80,9 @@ module _ (s : State) (k : Tid) (zs : List Item) where
   region_earlier : (n : Rid) → IsVisibleRegion u n → IsVisibleRegion s n
   region_earlier n seen = record { region = seen.region; live = seen.live; team = λ j d within. some_earlier (get_or seen.region.team j d).0 (seen.team j d within) }
 
-  shown_as : (x y : State) → ((n : Rid) → IsVisibleRegion x n → IsVisibleRegion y n) → (implicit : Bool) (n : Rid) (started : Type 0) → MatchBool implicit (IsVisibleRegion x n) started → MatchBool implicit (IsVisibleRegion y n) started
+  shown_as : (x y : State) → ((n : Rid) → IsVisibleRegion x n → IsVisibleRegion y n)
+      → (implicit : Bool) (n : Rid) (started : Type 0) → MatchBool implicit (IsVisibleRegion x n) started
+      → MatchBool implicit (IsVisibleRegion y n) started
   shown_as x y regions true n started is = regions n is
   shown_as x y regions false n started is = is
 
@@ -79,7 +91,8 @@ module _ (s : State) (k : Tid) (zs : List Item) where
       let (xs, now) = later n seen.task seen.live in
       record { task = relisted xs seen.task; live = now; shown = shown_as s u region_later seen.task.implicit seen.task.region (HasStarted seen.task.progress) seen.shown }
 
-  task_earlier : (n : Tid) (seen : IsVisibleTask u n) → (was : IsVisibleTask s n) × (xs : List Item) × (seen.task ≡ relisted xs was.task)
+  task_earlier : (n : Tid) (seen : IsVisibleTask u n)
+      → (was : IsVisibleTask s n) × (xs : List Item) × (seen.task ≡ relisted xs was.task)
   task_earlier n seen =
       let (t, xs, was, same) = earlier n seen.task seen.live in
       (record { task = t; live = was; shown = shown_as u s region_earlier t.implicit t.region (HasStarted t.progress) (subst (λ (x : Task). MatchBool x.implicit (IsVisibleRegion u x.region) (HasStarted x.progress)) same seen.shown) }, xs, same)
@@ -87,11 +100,13 @@ module _ (s : State) (k : Tid) (zs : List Item) where
   same_chain : scheduling_of u ≡ scheduling_of s
   same_chain = fun_ext (λ n. go n (same_but_lists n))
     where
-      of_list : (o : Option Task) → option_and_then (λ (t : Task). t.scheduling) (option_map (relisted zs) o) ≡ option_and_then (λ (t : Task). t.scheduling) o
+      of_list : (o : Option Task)
+          → option_and_then (λ (t : Task). t.scheduling) (option_map (relisted zs) o) ≡ option_and_then (λ (t : Task). t.scheduling) o
       of_list None = refl
       of_list (Some t) = refl
 
-      go : (n : Tid) → (task_of u n ≡ task_of s n) ⊎ (task_of u n ≡ option_map (relisted zs) (task_of s n)) → scheduling_of u n ≡ scheduling_of s n
+      go : (n : Tid) → (task_of u n ≡ task_of s n) ⊎ (task_of u n ≡ option_map (relisted zs) (task_of s n))
+          → scheduling_of u n ≡ scheduling_of s n
       go n (inl same) = ap (option_and_then (λ (t : Task). t.scheduling)) same
       go n (inr moved) = ap (option_and_then (λ (t : Task). t.scheduling)) moved ∙ of_list (task_of s n)
 

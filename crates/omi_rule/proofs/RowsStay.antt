@@ -62,17 +62,22 @@ use Rattle.omi_rule.proofs.OthersStand.{begun_undeferred, of_innermost}
 pub record Spares (m n : Memory) (s : State) (j : ℕ) (a : Actor) : Type 0 where
   pub regions_same : (slot : ℕ) → (s.regions j slot).live ≡ None → n j regions slot ≡ m j regions slot
   pub tasks_same : (slot : ℕ) → (s.tasks j slot).live ≡ None → n j tasks slot ≡ m j tasks slot
-  pub assign_same : (t : Place) → a.counter ≡ counter.Worker (worker.ClearAssign t) → n j threads 0 (number ThreadAssign) 0 ≡ m j threads 0 (number ThreadAssign) 0
+  pub assign_same : (t : Place) → a.counter ≡ counter.Worker (worker.ClearAssign t)
+      → n j threads 0 (number ThreadAssign) 0 ≡ m j threads 0 (number ThreadAssign) 0
   pub left_kept : (slot : ℕ) → m j regions slot (number RegionLeft) 0 ≤ n j regions slot (number RegionLeft) 0
-  pub slots_kept : (row : Tid) (t : Task) (place : ℕ) → task_of s row ≡ Some t → t.implicit ≡ true → t.thread ≡ j → slot_of m row place ≡ 0 → slot_of n row place ≡ 0
-  pub hand_same : (k : Tid) (t : Task) (f : Field) (at : ℕ) → j < s.count → (owed a).hand ≡ Some k → task_of s k ≡ Some t → t.progress ≡ progress.Deferred → is_place f ≡ true
+  pub slots_kept : (row : Tid) (t : Task) (place : ℕ) → task_of s row ≡ Some t → t.implicit ≡ true
+      → t.thread ≡ j → slot_of m row place ≡ 0 → slot_of n row place ≡ 0
+  pub hand_same : (k : Tid) (t : Task) (f : Field) (at : ℕ) → j < s.count → (owed a).hand ≡ Some k
+      → task_of s k ≡ Some t → t.progress ≡ progress.Deferred → is_place f ≡ true
       → n k.0.creator tasks k.0.slot (number f) at ≡ m k.0.creator tasks k.0.slot (number f) at
 
 -- a thread that has a task has its context
-pub context_of : (p : Program) (s : State) (i : ℕ) (a : Actor) → ((c : WorkerCounter) → a.counter ≡ counter.Worker c → ⊥) → Stands p s i a → KeepsContext s i a.context
+pub context_of : (p : Program) (s : State) (i : ℕ) (a : Actor)
+    → ((c : WorkerCounter) → a.counter ≡ counter.Worker c → ⊥) → Stands p s i a → KeepsContext s i a.context
 context_of p s i a busy stands = go a.stack refl stands a.counter refl
   where
-    go : (fs : List Frame) → a.stack ≡ fs → StandsWith p s i a fs → (c : Counter) → a.counter ≡ c → KeepsContext s i a.context
+    go : (fs : List Frame) → a.stack ≡ fs → StandsWith p s i a fs → (c : Counter) → a.counter ≡ c
+        → KeepsContext s i a.context
     go (f ∷ fs) is o c e = of_innermost p s i a.context a.stack o.bodies
     go [] is o (counter.Worker c) e = absurd (busy c e)
     go [] is o (counter.Team c) e = absurd (subst (λ x. IsWorkerAhead s x (s.threads i).list) e o.ahead)
@@ -84,11 +89,14 @@ context_of p s i a busy stands = go a.stack refl stands a.counter refl
     go [] is o (counter.Plain c) e = absurd (subst (λ x. IsWorkerAhead s x (s.threads i).list) e o.ahead)
 
 -- of the first members' tasks
-pub of_member : (P : Tid → Type 0) (team : List (Tid × ℕ)) (n j : ℕ) → All P (take n (tasks_of team)) → j < n → j < length team → P (member_of team j).0
+pub of_member : (P : Tid → Type 0) (team : List (Tid × ℕ)) (n j : ℕ) → All P (take n (tasks_of team)) → j < n
+    → j < length team → P (member_of team j).0
 of_member P [] n j all below within = absurd (omega (arith, within))
 of_member P (m ∷ ms) zero j all below within = absurd (omega (arith, below))
 of_member P (m ∷ ms) (suc n) zero all below within = All-head P m.0 (take n (tasks_of ms)) all
-of_member P (m ∷ ms) (suc n) (suc j) all below within = of_member P ms n j (All-tail P m.0 (take n (tasks_of ms)) all) (omega (arith, below)) (omega (arith, within))
+of_member P (m ∷ ms) (suc n) (suc j) all below within =
+    of_member P ms n j (All-tail P m.0 (take n (tasks_of ms)) all) (omega (arith, below))
+    (omega (arith, within))
 
 -- the words of a start are of a task's place
 start_field : (w : List ℕ) (a : Actor) (l : ℕ) → is_place (start_plan w a l).field ≡ true
@@ -106,7 +114,8 @@ finished_stays x progress.Begun more is = let done = ap stage_of is in absurd (o
 finished_stays x progress.NotBegun more is = let done = ap stage_of is in absurd (omega (arith, more, done))
 finished_stays x progress.Deferred more is = let done = ap stage_of is in absurd (omega (arith, more, done))
 
-module _ (p : Program) (w : List ℕ) (m n : Memory) (s u : State) (i : ℕ) (leaves : LeavesOthers s u i) (names : NamesStay s u) (j : ℕ) (other : j ≢ i) (a : Actor) (spares : Spares m n s j a) where
+module _ (p : Program) (w : List ℕ) (m n : Memory) (s u : State) (i : ℕ) (leaves : LeavesOthers s u i)
+    (names : NamesStay s u) (j : ℕ) (other : j ≢ i) (a : Actor) (spares : Spares m n s j a) where
   -- ---- workers
 
   waits_stay : (k : Tid) → WaitsFor s j k → WaitsFor u j k
@@ -122,20 +131,24 @@ module _ (p : Program) (w : List ℕ) (m n : Memory) (s u : State) (i : ℕ) (le
   meets_stays k known (waits, is) = (waits_stay k waits, is)
 
   size_stays : (r : Rid) (size : ℕ) → HasSize s r size → HasSize u r size
-  size_stays r size (region, found, is) = let (q, now, same) = leaves.regions r region found in (q, now, ap length same.team ∙ is)
+  size_stays r size (region, found, is) =
+      let (q, now, same) = leaves.regions r region found in (q, now, ap length same.team ∙ is)
 
-  worker_stays : (c : WorkerCounter) → a.counter ≡ counter.Worker c → KeepsWorkerRow w m s j c → KeepsWorkerRow w n u j c
+  worker_stays : (c : WorkerCounter) → a.counter ≡ counter.Worker c → KeepsWorkerRow w m s j c
+      → KeepsWorkerRow w n u j c
   worker_stays worker.Begin at o = (leaves.threads j other).begun ∙ o
   worker_stays worker.Offer at o = tt
   worker_stays worker.LoadAssign at o = tt
-  worker_stays (worker.ClearAssign t) at (k, waits, is, word) = (k, waits_stay k waits, is, spares.assign_same t at ∙ word)
+  worker_stays (worker.ClearAssign t) at (k, waits, is, word) =
+      (k, waits_stay k waits, is, spares.assign_same t at ∙ word)
   worker_stays (worker.LoadLife t) at (k, waits, is) = (k, waits_stay k waits, is)
   worker_stays (worker.LoadFunction k) at waits = waits_stay k waits
   worker_stays (worker.LoadRegion k f) at o = meets_stays k _ o
   worker_stays (worker.LoadRegionLife k f r) at o = meets_stays k _ o
   worker_stays (worker.LoadSize k f r) at o = meets_stays k _ o
   worker_stays (worker.LoadNumber k f r size) at (o, has) = (meets_stays k _ o, size_stays r size has)
-  worker_stays (worker.ImplicitBegin k f r size number) at (o, has) = (meets_stays k _ o, size_stays r size has)
+  worker_stays (worker.ImplicitBegin k f r size number) at (o, has) =
+      (meets_stays k _ o, size_stays r size has)
   worker_stays worker.ImplicitEnd at o = tt
   worker_stays (worker.AddLeft r) at o = tt
   worker_stays worker.IdleState at o = tt
@@ -143,10 +156,12 @@ module _ (p : Program) (w : List ℕ) (m n : Memory) (s u : State) (i : ℕ) (le
   -- ---- what is gathered
 
   levels_stay : KnowsLevels s a → KnowsLevels u a
-  levels_stay (r, found, levels) = let (q, now, same) = leaves.regions a.context.region r found in (q, now, same.levels ∙ levels)
+  levels_stay (r, found, levels) =
+      let (q, now, same) = leaves.regions a.context.region r found in (q, now, same.levels ∙ levels)
 
   active_stays : KnowsActive s a → KnowsActive u a
-  active_stays (r, found, levels, active) = let (q, now, same) = leaves.regions a.context.region r found in (q, now, same.levels ∙ levels, same.active ∙ active)
+  active_stays (r, found, levels, active) =
+      let (q, now, same) = leaves.regions a.context.region r found in (q, now, same.levels ∙ levels, same.active ∙ active)
 
   variables_stay : KeepsContext s j a.context → (k : ℕ) → KnowsVariables s a k → KnowsVariables u a k
   variables_stay top k (t, live, are) =
@@ -173,23 +188,31 @@ module _ (p : Program) (w : List ℕ) (m n : Memory) (s u : State) (i : ℕ) (le
       inl (ap (λ xs. suc (length (got_threads xs))) h.asks ∙ full ∙ sym h.wanted)
   over_stays (inr all) =
       let h = leaves.threads j other in
-      inr (λ v known apart. subst (λ xs. Contains (map (λ x. x.0) xs) v) (sym h.asks) (all v (subst (λ c. v < c) leaves.count known) apart))
+      inr
+      (λ v known apart. subst (λ xs. Contains (map (λ x. x.0) xs) v) (sym h.asks) (all v (subst (λ c. v < c) leaves.count known) apart))
 
   team_got_stays : KeepsContext s j a.context → HasTeam s j a → HasTeam u j a
   team_got_stays top o = record { asks = asked_stays top o.asks; over = over_stays o.over }
 
   -- ---- records in the making
 
-  region_made : (r : Rid) → IsInTheMaking j (s.regions j) r.0 → n r.0.creator regions r.0.slot ≡ m r.0.creator regions r.0.slot
-  region_made r o = subst (λ c. n c regions r.0.slot ≡ m c regions r.0.slot) (sym o.maker) (spares.regions_same r.0.slot o.free)
+  region_made : (r : Rid) → IsInTheMaking j (s.regions j) r.0
+      → n r.0.creator regions r.0.slot ≡ m r.0.creator regions r.0.slot
+  region_made r o =
+      subst (λ c. n c regions r.0.slot ≡ m c regions r.0.slot) (sym o.maker)
+      (spares.regions_same r.0.slot o.free)
 
-  task_made : (k : Tid) → IsInTheMaking j (s.tasks j) k.0 → n k.0.creator tasks k.0.slot ≡ m k.0.creator tasks k.0.slot
-  task_made k o = subst (λ c. n c tasks k.0.slot ≡ m c tasks k.0.slot) (sym o.maker) (spares.tasks_same k.0.slot o.free)
+  task_made : (k : Tid) → IsInTheMaking j (s.tasks j) k.0
+      → n k.0.creator tasks k.0.slot ≡ m k.0.creator tasks k.0.slot
+  task_made k o =
+      subst (λ c. n c tasks k.0.slot ≡ m c tasks k.0.slot) (sym o.maker) (spares.tasks_same k.0.slot o.free)
 
   filled_stays : (x y : Rec) (plan : ℕ → Planned) (k : ℕ) → y ≡ x → IsFilled x plan k → IsFilled y plan k
   filled_stays x y plan k same o = subst (λ (z : Rec). IsFilled z plan k) (sym same) o
 
-  all_filled_stay : (r : Rid) (k : ℕ) → IsInTheMaking j (s.regions j) r.0 → ((l : ℕ) → l < k → IsInTheMaking j (s.tasks j) (member_of a.gathered.team l).0.0) → HasFilled p w m a r k → HasFilled p w n a r k
+  all_filled_stay : (r : Rid) (k : ℕ) → IsInTheMaking j (s.regions j) r.0
+      → ((l : ℕ) → l < k → IsInTheMaking j (s.tasks j) (member_of a.gathered.team l).0.0)
+      → HasFilled p w m a r k → HasFilled p w n a r k
   all_filled_stay r k is are o = record {
     below = o.below;
     region = filled_stays (m r.0.creator regions r.0.slot) (n r.0.creator regions r.0.slot) _ _ (region_made r is) o.region;
@@ -203,16 +226,20 @@ module _ (p : Program) (w : List ℕ) (m n : Memory) (s u : State) (i : ℕ) (le
   abbrev Owing : TeamCounter → Owed
   Owing c = by_team a.gathered.team c
 
-  team_stays : (c : TeamCounter) → KeepsContext s j a.context → KeepsMaking s j (Owing c) → FitsTeam p a c → KeepsTeamRow p w m s j a c → KeepsTeamRow p w n u j a c
+  team_stays : (c : TeamCounter) → KeepsContext s j a.context → KeepsMaking s j (Owing c) → FitsTeam p a c
+      → KeepsTeamRow p w m s j a c → KeepsTeamRow p w n u j a c
   team_stays team.OverheadState top making fits o = tt
   team_stays team.LoadLevels top making fits o = tt
   team_stays team.LoadActive top making fits o = levels_stay o
-  team_stays (team.LoadVariable word) top making fits (active, variables) = (active_stays active, variables_stay top word variables)
+  team_stays (team.LoadVariable word) top making fits (active, variables) =
+      (active_stays active, variables_stay top word variables)
   team_stays team.Want top making fits o = knows_stays top o
   team_stays team.Ask top making fits o = asked_stays top o
   team_stays (team.LoadRegionLife slot) top making fits o = team_got_stays top o
-  team_stays (team.TakeRegion r) top making fits (o, fresh) = (team_got_stays top o, leaves.regions_fresh j r.0 other fresh)
-  team_stays (team.FillRegion r word) top making fits (o, below, filled) = (team_got_stays top o, below, filled_stays _ _ _ _ (region_made r (making.region r refl)) filled)
+  team_stays (team.TakeRegion r) top making fits (o, fresh) =
+      (team_got_stays top o, leaves.regions_fresh j r.0 other fresh)
+  team_stays (team.FillRegion r word) top making fits (o, below, filled) =
+      (team_got_stays top o, below, filled_stays _ _ _ _ (region_made r (making.region r refl)) filled)
   team_stays (team.LoadTaskLife r member slot) top making (got, within) (o, filled) =
       (team_got_stays top o, all_filled_stay r member (making.region r refl) (λ l below. of_member (λ (x : Tid). IsInTheMaking j (s.tasks j) x.0) a.gathered.team member l making.tasks below (omega (arith, below, within))) filled)
   team_stays (team.TakeTask r member t) top making (got, within, mine) (o, filled, fresh, free) =
@@ -236,17 +263,20 @@ module _ (p : Program) (w : List ℕ) (m n : Memory) (s u : State) (i : ℕ) (le
   team_stays (team.Fork r) top making fits (o, filled) =
       (team_got_stays top o, all_filled_stay r (length a.gathered.team) (making.region r refl) (λ l below. whole (λ k. IsInTheMaking j (s.tasks j) k.0) a.gathered.team l making.tasks below) filled)
     where
-      whole : (P : Tid → Type 0) (xs : List (Tid × ℕ)) (l : ℕ) → All P (tasks_of xs) → l < length xs → P (member_of xs l).0
+      whole : (P : Tid → Type 0) (xs : List (Tid × ℕ)) (l : ℕ) → All P (tasks_of xs) → l < length xs
+          → P (member_of xs l).0
       whole P [] l all below = absurd (omega (arith, below))
       whole P (x ∷ xs) zero all below = All-head P x.0 (tasks_of xs) all
-      whole P (x ∷ xs) (suc l) all below = whole P xs l (All-tail P x.0 (tasks_of xs) all) (omega (arith, below))
+      whole P (x ∷ xs) (suc l) all below =
+          whole P xs l (All-tail P x.0 (tasks_of xs) all) (omega (arith, below))
   team_stays (team.Assign member) top making fits o = tt
 
   -- ---- joins
 
   join_stays : (c : JoinCounter) → KeepsJoinRow m j a c → KeepsJoinRow n j a c
   join_stays join.LoadLeft o = tt
-  join_stays join.Join (maker, full) = let more = spares.left_kept a.context.region.0.slot in (maker, omega (arith, full, more))
+  join_stays join.Join (maker, full) =
+      let more = spares.left_kept a.context.region.0.slot in (maker, omega (arith, full, more))
   join_stays (join.LoadMember r size member) o = tt
   join_stays (join.LoadLife r size member t) o = tt
   join_stays (join.FreeTask r size member t) o = tt
@@ -255,17 +285,21 @@ module _ (p : Program) (w : List ℕ) (m n : Memory) (s u : State) (i : ℕ) (le
   -- ---- looks at the slots
 
   row_of_stays : (row : Place) (k : ℕ) → OfRegion s a (IsRowOf row k) → OfRegion u a (IsRowOf row k)
-  row_of_stays row k (r, found, o) = let (q, now, same) = leaves.regions a.context.region r found in (q, now, subst (λ (xs : List (Tid × ℕ)). (x : Tid × ℕ) × (slice_get xs (member_at k) ≡ Some x) × (place_of x.0.0 ≡ row)) (sym same.team) o)
+  row_of_stays row k (r, found, o) =
+      let (q, now, same) = leaves.regions a.context.region r found in (q, now, subst (λ (xs : List (Tid × ℕ)). (x : Tid × ℕ) × (slice_get xs (member_at k) ≡ Some x) × (place_of x.0.0 ≡ row)) (sym same.team) o)
 
   made_stays : (code : ℕ) → WasMade w s code → WasMade w u code
-  made_stays code o = let k : Tid = coded_task w code in let more = names.tasks.grow k.0.creator k.0.slot in omega (arith, o, more)
+  made_stays code o =
+      let k : Tid = coded_task w code in let more = names.tasks.grow k.0.creator k.0.slot in omega (arith, o, more)
 
   may_stays : (v : Wait) (t x : Task) → IsSameTask t x → MayStartIn v a t → MayStartIn v a x
   may_stays (wait.Barrier b) t x same may = tt
   may_stays wait.Taskwait t x same may = same.generating ∙ may
   may_stays wait.Taskyield t x same may = same.generating ∙ may
 
-  may_stay : (v : Wait) (k : Tid) → k.0.generation < (s.tasks k.0.creator k.0.slot).generations → ((t : Task) → task_of s k ≡ Some t → MayStartIn v a t) → (t : Task) → task_of u k ≡ Some t → MayStartIn v a t
+  may_stay : (v : Wait) (k : Tid) → k.0.generation < (s.tasks k.0.creator k.0.slot).generations
+      → ((t : Task) → task_of s k ≡ Some t → MayStartIn v a t) → (t : Task) → task_of u k ≡ Some t
+      → MayStartIn v a t
   may_stay v k made may t live =
       let (x, was) = names.tasks.back k.0 t made live in
       let (y, later, same) = names.stays.tasks k x was in
@@ -273,8 +307,10 @@ module _ (p : Program) (w : List ℕ) (m n : Memory) (s u : State) (i : ℕ) (le
 
   tested_stays : (v : Wait) (code : ℕ) → HasTested w s a v code → HasTested w u a v code
   tested_stays (wait.Barrier b) code o = tt
-  tested_stays wait.Taskwait code (made, may) = (made_stays code made, may_stay wait.Taskwait (coded_task w code) made may)
-  tested_stays wait.Taskyield code (made, may) = (made_stays code made, may_stay wait.Taskyield (coded_task w code) made may)
+  tested_stays wait.Taskwait code (made, may) =
+      (made_stays code made, may_stay wait.Taskwait (coded_task w code) made may)
+  tested_stays wait.Taskyield code (made, may) =
+      (made_stays code made, may_stay wait.Taskyield (coded_task w code) made may)
 
   abbrev in_the_hand : Counter → Option Tid
   in_the_hand c = (owed_at a.context a.gathered.team c).hand
@@ -283,7 +319,9 @@ module _ (p : Program) (w : List ℕ) (m n : Memory) (s u : State) (i : ℕ) (le
   abbrev StaysInHand : Tid → Type 0
   StaysInHand k = (t : Task) × (task_of u k ≡ Some t) × (t.progress ≡ progress.Deferred)
 
-  in_hand_stays : (v : Wait) (k : Tid) (known : Task → Type 0) → ((t x : Task) → IsSameTask t x → known t → known x) → StaysInHand k → IsInHand s a v k known → IsInHand u a v k known
+  in_hand_stays : (v : Wait) (k : Tid) (known : Task → Type 0)
+      → ((t x : Task) → IsSameTask t x → known t → known x) → StaysInHand k → IsInHand s a v k known
+      → IsInHand u a v k known
   in_hand_stays v k known keeps (t, now, deferred) o =
       let (x, later, same) = names.stays.tasks k o.task o.is.live in
       record {
@@ -294,48 +332,69 @@ module _ (p : Program) (w : List ℕ) (m n : Memory) (s u : State) (i : ℕ) (le
         knows = keeps o.task x same o.knows;
       }
 
-  placed_stays : (v : Wait) (k : Tid) (f : ℕ) (final : Bool) (l : ℕ) → j < s.count → (owed a).hand ≡ Some k → StaysInHand k → HasPlaced w m s a v k f final l → HasPlaced w n u a v k f final l
+  placed_stays : (v : Wait) (k : Tid) (f : ℕ) (final : Bool) (l : ℕ) → j < s.count → (owed a).hand ≡ Some k
+      → StaysInHand k → HasPlaced w m s a v k f final l → HasPlaced w n u a v k f final l
   placed_stays v k f final l known hand now (o, filled) = (
     in_hand_stays v k (λ t. (t.function ≡ f) × (t.is_final ≡ final)) (λ t x same (g, h). (same.function ∙ g, same.is_final ∙ h)) now o,
     λ q below. spares.hand_same k o.task (start_plan w a q).field (start_plan w a q).at known hand o.is.live o.is.progress (start_field w a q) ∙ filled q below,
   )
 
-  look_stays : (c : LookCounter) → a.counter ≡ counter.Look c → j < s.count → ((k : Tid) → (owed a).hand ≡ Some k → StaysInHand k) → KeepsLookRow w m s a c → KeepsLookRow w n u a c
+  look_stays : (c : LookCounter) → a.counter ≡ counter.Look c → j < s.count
+      → ((k : Tid) → (owed a).hand ≡ Some k → StaysInHand k) → KeepsLookRow w m s a c → KeepsLookRow w n u a c
   look_stays (look.State v) at known now o = tt
   look_stays (look.LoadRow v k) at known now o = tt
   look_stays (look.LoadSlot v k row) at known now o = row_of_stays row k o
-  look_stays (look.LoadGenerating v k row code) at known now (o, made) = (row_of_stays row k o, made_stays code made)
-  look_stays (look.Take v k row code) at known now (o, tested) = (row_of_stays row k o, tested_stays v code tested)
-  look_stays (look.LoadFunction v k code t) at known now o = in_hand_stays v t (λ x. Unit {0}) (λ x y same h. tt) (now t (ap in_the_hand at)) o
-  look_stays (look.LoadFinal v k code t f) at known now o = in_hand_stays v t (λ x. x.function ≡ f) (λ x y same h. same.function ∙ h) (now t (ap in_the_hand at)) o
-  look_stays (look.Fill v k code t f final word) at known now o = placed_stays v t f final word known (ap in_the_hand at) (now t (ap in_the_hand at)) o
-  look_stays (look.Start v k code t f final) at known now o = placed_stays v t f final START_WORDS known (ap in_the_hand at) (now t (ap in_the_hand at)) o
+  look_stays (look.LoadGenerating v k row code) at known now (o, made) =
+      (row_of_stays row k o, made_stays code made)
+  look_stays (look.Take v k row code) at known now (o, tested) =
+      (row_of_stays row k o, tested_stays v code tested)
+  look_stays (look.LoadFunction v k code t) at known now o =
+      in_hand_stays v t (λ x. Unit {0}) (λ x y same h. tt) (now t (ap in_the_hand at)) o
+  look_stays (look.LoadFinal v k code t f) at known now o =
+      in_hand_stays v t (λ x. x.function ≡ f) (λ x y same h. same.function ∙ h) (now t (ap in_the_hand at)) o
+  look_stays (look.Fill v k code t f final word) at known now o =
+      placed_stays v t f final word known (ap in_the_hand at) (now t (ap in_the_hand at)) o
+  look_stays (look.Start v k code t f final) at known now o =
+      placed_stays v t f final START_WORDS known (ap in_the_hand at) (now t (ap in_the_hand at)) o
   look_stays look.LoadChildren at known now o = tt
   look_stays (look.Yield k) at known now o = tt
 
   -- ---- explicit tasks in the making
 
-  place_stays : (t : Task) → IsRow s j a.context.row t → (place : Option ℕ) → HasPlace p m a place → HasPlace p n a place
+  place_stays : (t : Task) → IsRow s j a.context.row t → (place : Option ℕ) → HasPlace p m a place
+      → HasPlace p n a place
   place_stays t row None o = tt
-  place_stays t row (Some place) (defers, empty) = (defers, spares.slots_kept a.context.row row.task place row.live row.implicit row.thread empty)
+  place_stays t row (Some place) (defers, empty) =
+      (defers, spares.slots_kept a.context.row row.task place row.live row.implicit row.thread empty)
 
-  loaded_stays : (top : KeepsContext s j a.context) → IsRow s j a.context.row top.task → (place : Option ℕ) → HasLoaded p m s a place → HasLoaded p n u a place
-  loaded_stays top row place (o, variables) = (place_stays top.task row place o, variables_stay top VARIABLE_WORDS variables)
+  loaded_stays : (top : KeepsContext s j a.context) → IsRow s j a.context.row top.task → (place : Option ℕ)
+      → HasLoaded p m s a place → HasLoaded p n u a place
+  loaded_stays top row place (o, variables) =
+      (place_stays top.task row place o, variables_stay top VARIABLE_WORDS variables)
 
-  task_filled_stays : (top : KeepsContext s j a.context) → IsRow s j a.context.row top.task → (place : Option ℕ) (t : Tid) (l : ℕ) → All (λ k. IsInTheMaking j (s.tasks j) k.0) (t ∷ []) → HasFilledTask p w m s a place t l → HasFilledTask p w n u a place t l
+  task_filled_stays : (top : KeepsContext s j a.context) → IsRow s j a.context.row top.task
+      → (place : Option ℕ) (t : Tid) (l : ℕ) → All (λ k. IsInTheMaking j (s.tasks j) k.0) (t ∷ [])
+      → HasFilledTask p w m s a place t l → HasFilledTask p w n u a place t l
   task_filled_stays top row place t l making (o, below, filled) =
       (loaded_stays top row place o, below, filled_stays _ _ _ _ (task_made t (All-head (λ k. IsInTheMaking j (s.tasks j) k.0) t [] making)) filled)
 
-  task_stays : (c : TaskCounter) (top : KeepsContext s j a.context) → IsRow s j a.context.row top.task → KeepsMaking s j (by_task a.context c) → KeepsTaskRow p w m s j a c → KeepsTaskRow p w n u j a c
+  task_stays : (c : TaskCounter) (top : KeepsContext s j a.context) → IsRow s j a.context.row top.task
+      → KeepsMaking s j (by_task a.context c) → KeepsTaskRow p w m s j a c → KeepsTaskRow p w n u j a c
   task_stays (task.LoadSlot place) top row making o = o
-  task_stays (task.LoadVariable place word) top row making (o, variables) = (place_stays top.task row place o, variables_stay top word variables)
+  task_stays (task.LoadVariable place word) top row making (o, variables) =
+      (place_stays top.task row place o, variables_stay top word variables)
   task_stays (task.LoadLife place slot) top row making o = loaded_stays top row place o
-  task_stays (task.Take place t) top row making (o, fresh) = (loaded_stays top row place o, leaves.tasks_fresh j t.0 other fresh)
+  task_stays (task.Take place t) top row making (o, fresh) =
+      (loaded_stays top row place o, leaves.tasks_fresh j t.0 other fresh)
   task_stays (task.Fill place t word) top row making o = task_filled_stays top row place t word making.tasks o
-  task_stays (task.AddPending place t) top row making o = task_filled_stays top row place t TASK_WORDS making.tasks o
-  task_stays (task.AddChildren place t) top row making o = task_filled_stays top row place t TASK_WORDS making.tasks o
-  task_stays (task.AddReferences place t) top row making o = task_filled_stays top row place t TASK_WORDS making.tasks o
-  task_stays (task.Defer place t) top row making o = task_filled_stays top row (Some place) t TASK_WORDS making.tasks o
+  task_stays (task.AddPending place t) top row making o =
+      task_filled_stays top row place t TASK_WORDS making.tasks o
+  task_stays (task.AddChildren place t) top row making o =
+      task_filled_stays top row place t TASK_WORDS making.tasks o
+  task_stays (task.AddReferences place t) top row making o =
+      task_filled_stays top row place t TASK_WORDS making.tasks o
+  task_stays (task.Defer place t) top row making o =
+      task_filled_stays top row (Some place) t TASK_WORDS making.tasks o
   task_stays (task.StartNow t) top row making o = task_filled_stays top row None t TASK_WORDS making.tasks o
 
   -- ---- explicit tasks that have finished
@@ -368,7 +427,10 @@ module _ (p : Program) (w : List ℕ) (m n : Memory) (s u : State) (i : ℕ) (le
 
   -- ---- the whole
 
-  pub row_stays : Fits p a → Stands p s j a → ((top : KeepsContext s j a.context) → IsRow s j a.context.row top.task) → j < s.count → ((k : Tid) → (owed a).hand ≡ Some k → StaysInHand k) → KeepsMaking s j (owed a) → ((c : BarrierCounter) → a.counter ≡ counter.Barrier c → KeepsBarrierRow s a c → KeepsBarrierRow u a c)
+  pub row_stays : Fits p a → Stands p s j a
+      → ((top : KeepsContext s j a.context) → IsRow s j a.context.row top.task) → j < s.count
+      → ((k : Tid) → (owed a).hand ≡ Some k → StaysInHand k) → KeepsMaking s j (owed a)
+      → ((c : BarrierCounter) → a.counter ≡ counter.Barrier c → KeepsBarrierRow s a c → KeepsBarrierRow u a c)
       → KeepsRow p w m s j a a.counter → KeepsRow p w n u j a a.counter
   row_stays fits stands rows known hands making barriers o = go a.counter refl o
     where
@@ -376,12 +438,14 @@ module _ (p : Program) (w : List ℕ) (m n : Memory) (s u : State) (i : ℕ) (le
       go (counter.Worker c) e x = worker_stays c e x
       go (counter.Team c) e x =
           team_stays c (context_of p s j a (λ d f. absurd (cc (sym e, f))) stands)
-          (subst (λ (y : Counter). KeepsMaking s j (owed_at a.context a.gathered.team y)) e making) (subst (λ (y : Counter). FitsCounter p a y) e fits.counter) x
+          (subst (λ (y : Counter). KeepsMaking s j (owed_at a.context a.gathered.team y)) e making)
+          (subst (λ (y : Counter). FitsCounter p a y) e fits.counter) x
       go (counter.Barrier c) e x = barriers c e x
       go (counter.Join c) e x = join_stays c x
       go (counter.Task c) e x =
           let top = context_of p s j a (λ d f. absurd (cc (sym e, f))) stands in
-          task_stays c top (rows top) (subst (λ (y : Counter). KeepsMaking s j (owed_at a.context a.gathered.team y)) e making) x
+          task_stays c top (rows top)
+          (subst (λ (y : Counter). KeepsMaking s j (owed_at a.context a.gathered.team y)) e making) x
       go (counter.Look c) e x = look_stays c e known hands x
       go (counter.Finish c) e x = finish_stays c x
       go (counter.Plain c) e x = tt

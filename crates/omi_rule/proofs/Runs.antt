@@ -24,7 +24,8 @@ runs_are_of_bodies s = record {
 
 module _ (p : Program) (s u : State) (i : ℕ) (stays : Stays s u) where
   -- of tasks that were live
-  pub bodies_run : (c : Context) (fs : List Frame) → KeepsBodies p s i c fs → RunsFunctions s c fs → RunsFunctions u c fs
+  pub bodies_run : (c : Context) (fs : List Frame) → KeepsBodies p s i c fs → RunsFunctions s c fs
+      → RunsFunctions u c fs
   bodies_run c [] o runs = tt
   bodies_run c (f ∷ fs) (o, body, rest) (here, under) = (
     λ opens t live.
@@ -33,7 +34,8 @@ module _ (p : Program) (s u : State) (i : ℕ) (stays : Stays s u) where
     bodies_run (context_under c f.opened) fs rest under,
   )
 
-  pub stack_runs : (a : Actor) → Stands p s i a → RunsFunctions s a.context a.stack → RunsFunctions u a.context a.stack
+  pub stack_runs : (a : Actor) → Stands p s i a → RunsFunctions s a.context a.stack
+      → RunsFunctions u a.context a.stack
   stack_runs a stands runs = go a.stack refl stands
     where
       go : (fs : List Frame) → a.stack ≡ fs → StandsWith p s i a fs → RunsFunctions u a.context a.stack

@@ -17,7 +17,8 @@ use Rattle.omi_rule.specs.Chains.{StandsInTask, StandsWith, encounter_of}
 use Rattle.omi_rule.specs.Rows.{KeepsRow}
 use Rattle.omi_rule.specs.Rule.{HasEnded, KeepsThread}
 
-pub same_bodies : (p : Program) (w : List ℕ) (m : Memory) (events : List (ℕ × Event)) (s : State) (i : ℕ) (a : Actor) → KeepsThread p w m events s i a → (f : Frame) (fs : List Frame) → a.stack ≡ f ∷ fs → StandsInTask p s i a
+pub same_bodies : (p : Program) (w : List ℕ) (m : Memory) (events : List (ℕ × Event)) (s : State) (i : ℕ) (a : Actor)
+    → KeepsThread p w m events s i a → (f : Frame) (fs : List Frame) → a.stack ≡ f ∷ fs → StandsInTask p s i a
     → (n : Memory) (x : Counter) (g : Gathered) → length g.variables ≡ VARIABLE_WORDS → FitsCounter p (record a { counter = x; gathered = g }) x → IsPlacedCounter w (record a { counter = x; gathered = g }) x
     → ((t : Task) → task_of s a.context.task ≡ Some t → IsAhead p (encounter_of s a.context) a.stack x t.list) → KeepsRow p w n s i (record a { counter = x; gathered = g }) x → HasEnded events i x
     → KeepsThread p w n events s i (record a { counter = x; gathered = g })

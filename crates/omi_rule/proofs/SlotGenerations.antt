@@ -32,13 +32,19 @@ AreFew {A} slots = (c k : ℕ) → (slots c k).generations ≤ 2 ^ 32
 few_on : {A : Type 0} (slots : Slots A) (n : Id) (f : A → A) → AreFew slots → AreFew (on slots n f)
 few_on {A} slots n f all c k = subst (λ g. g ≤ 2 ^ 32) (sym (on_generations slots n f c k)) (all c k)
 
-few_made : {A : Type 0} (slots : Slots A) (n : Id) (x : A) → n.generation < 2 ^ 32 → AreFew slots → AreFew (made slots n x)
-few_made {A} slots n x below all = each_slot slots n (λ c k (y : Slot A). y.generations ≤ 2 ^ 32) (record { generations = n.generation + 1; live = Some x }) (omega (arith, below)) (λ c k apart. all c k)
+few_made : {A : Type 0} (slots : Slots A) (n : Id) (x : A) → n.generation < 2 ^ 32 → AreFew slots
+    → AreFew (made slots n x)
+few_made {A} slots n x below all =
+    each_slot slots n (λ c k (y : Slot A). y.generations ≤ 2 ^ 32)
+    (record { generations = n.generation + 1; live = Some x }) (omega (arith, below)) (λ c k apart. all c k)
 
-few_members : (task : ℕ → ℕ → Task) (j : ℕ) (team : List (Tid × ℕ)) (slots : Slots Task) → ((n : ℕ) (m : Tid × ℕ) → slice_get team n ≡ Some m → m.0.0.generation < 2 ^ 32) → AreFew slots → AreFew (with_members task j team slots)
+few_members : (task : ℕ → ℕ → Task) (j : ℕ) (team : List (Tid × ℕ)) (slots : Slots Task)
+    → ((n : ℕ) (m : Tid × ℕ) → slice_get team n ≡ Some m → m.0.0.generation < 2 ^ 32) → AreFew slots
+    → AreFew (with_members task j team slots)
 few_members task j [] slots below all = all
 few_members task j (m ∷ ms) slots below all =
-    few_members task (j + 1) ms (made slots m.0.0 (task j m.1)) (λ n x at. below (suc n) x at) (few_made slots m.0.0 (task j m.1) (below 0 m refl) all)
+    few_members task (j + 1) ms (made slots m.0.0 (task j m.1)) (λ n x at. below (suc n) x at)
+    (few_made slots m.0.0 (task j m.1) (below 0 m refl) all)
 
 few_first : {A : Type 0} (x : A) → AreFew (first_alone x)
 few_first {A} x c k = go (c == 0 && k == 0)
@@ -89,12 +95,17 @@ module _ (p : Program) (z : State) (i : ℕ) (all : AllFew z) where
   list_few : (zs : List Item) → AllFew (with_list z i zs)
   list_few zs = list_moves z i zs AllFew (λ k is. (all.0, by_task k _)) (λ none. all)
 
-few_step : (p : Program) (s : State) (i : ℕ) (e : Event) (next : State) → Step p s i e next → AllFew s → AllFew next
+few_step : (p : Program) (s : State) (i : ℕ) (e : Event) (next : State) → Step p s i e next → AllFew s
+    → AllFew next
 few_step p s i e next step all =
     let m = move_of p s i e next step in
     let middle : State = moved_on s i e m.item m.behind in
-    from_some (λ (u : State). MakesBelow e → AllFew u) (effect p middle i e m.item) next m.effect_is (slots_effect p middle i (λ e regions tasks. MakesBelow e → AreFew regions × AreFew tasks) (effect_few p middle i (list_few p s i all _)) e m.item m.rule_moved)
+    from_some (λ (u : State). MakesBelow e → AllFew u) (effect p middle i e m.item) next m.effect_is
+    (slots_effect p middle i (λ e regions tasks. MakesBelow e → AreFew regions × AreFew tasks) (effect_few p middle i (list_few p s i all _)) e m.item m.rule_moved)
     (makes_below middle i e m.item m.rule_moved)
 
-pub slots_few : (p : Program) (events : List (ℕ × Event)) (s : State) → Reached p events s → AreFew s.regions × AreFew s.tasks
-slots_few p events s reached = over_events p AllFew (λ u i e next step h. few_step p u i e next step h) (opening p) events s reached (few_first (opening_region p), few_first (opening_task p))
+pub slots_few : (p : Program) (events : List (ℕ × Event)) (s : State) → Reached p events s
+    → AreFew s.regions × AreFew s.tasks
+slots_few p events s reached =
+    over_events p AllFew (λ u i e next step h. few_step p u i e next step h) (opening p) events s reached
+    (few_first (opening_region p), few_first (opening_task p))

@@ -21,8 +21,10 @@ use Rattle.omi_rule.proofs.task.TaskKeeps.{task_keeps}
 use Rattle.omi_rule.proofs.team.TeamKeeps.{team_keeps}
 use Rattle.omi_rule.proofs.worker.WorkerKeeps.{worker_keeps}
 
-module _ (p : Program) (w : List ℕ) (m : Memory) (events : List (ℕ × Event)) (s : State) (actors : ℕ → Actor) (i : ℕ) (before : Before p w m events s actors i) where
-  by_family : (c : Counter) → (actors i).counter ≡ c → IsKept c → StepKeeps p w m events s actors i (next_at p w (actors i) c) (λ old. resumed_at p w (actors i) c old)
+module _ (p : Program) (w : List ℕ) (m : Memory) (events : List (ℕ × Event)) (s : State) (actors : ℕ → Actor)
+    (i : ℕ) (before : Before p w m events s actors i) where
+  by_family : (c : Counter) → (actors i).counter ≡ c → IsKept c
+      → StepKeeps p w m events s actors i (next_at p w (actors i) c) (λ old. resumed_at p w (actors i) c old)
   by_family (counter.Worker c) at kept = worker_keeps p w m events s actors i before c at
   by_family (counter.Team c) at kept = team_keeps p w m events s actors i before c at
   by_family (counter.Barrier c) at kept = barrier_keeps p w m events s actors i before c at

@@ -32,22 +32,32 @@ behind_task p = if p.env.debug then item.State IDLE 0 ∷ offering else offering
 abbrev pub WaitsBehind : Program → ℕ → Thread → Type 0
 WaitsBehind p i h = (k : Tid) → h.current ≡ Some k → i ≢ 0 → h.list ≡ behind_task p
 
-module _ (p : Program) (events : List (ℕ × Event)) (s : State) (reached : Reached p events s) (i : ℕ) (e : Event) (next : State) (step : Step p s i e next) where
+module _ (p : Program) (events : List (ℕ × Event)) (s : State) (reached : Reached p events s) (i : ℕ)
+    (e : Event) (next : State) (step : Step p s i e next) where
   m : IsMove p s i e next
   m = move_of p s i e next step
 
   -- and it stands there once the task is to begin
   abbrev Begins : ℕ → Thread → Type 0
-  Begins j h = WaitsBehind p j h × ((task : Tid) → e ≡ event.ImplicitBegin task → j ≡ i → h.list ≡ behind_task p)
+  Begins j h =
+      WaitsBehind p j h × ((task : Tid) → e ≡ event.ImplicitBegin task → j ≡ i → h.list ≡ behind_task p)
 
-  first : (task : Tid) → e ≡ event.ImplicitBegin task → (s.threads i).current ≡ None → take_item p (encounter s i) e (s.threads i).list ≡ Some (m.item, m.behind) → stays (encounter s i) e m.item m.behind ≡ behind_task p
+  first : (task : Tid) → e ≡ event.ImplicitBegin task → (s.threads i).current ≡ None
+      → take_item p (encounter s i) e (s.threads i).list ≡ Some (m.item, m.behind)
+      → stays (encounter s i) e m.item m.behind ≡ behind_task p
   first task is none taken =
-      let may : Rules.Rule s i (event.ImplicitBegin task) m.item = subst (λ (x : Event). Rules.Rule s i x m.item) is m.rule in
-      let (team, by, one) = (claims_kept p events s reached i).meant task (record { task = may.member; live = may.live; waiting = may.waiting; thread = may.mine }) in
+      let may : Rules.Rule s i (event.ImplicitBegin task) m.item =
+      subst (λ (x : Event). Rules.Rule s i x m.item) is m.rule in
+      let (team, by, one) =
+      (claims_kept p events s reached i).meant task
+      (record { task = may.member; live = may.live; waiting = may.waiting; thread = may.mine }) in
       let here : take_item p (encounter s i) (event.ImplicitBegin task) (item.Serve ∷ []) ≡ Some (m.item, m.behind) =
-      subst (λ (x : Event). take_item p (encounter s i) x (item.Serve ∷ []) ≡ Some (m.item, m.behind)) is (subst (λ (xs : List Item). take_item p (encounter s i) e xs ≡ Some (m.item, m.behind)) team.ahead taken) in
+      subst (λ (x : Event). take_item p (encounter s i) x (item.Serve ∷ []) ≡ Some (m.item, m.behind)) is
+      (subst (λ (xs : List Item). take_item p (encounter s i) e xs ≡ Some (m.item, m.behind)) team.ahead taken) in
       let same : (item.Serve, []) ≡ (m.item, m.behind) = some_same refl here in
-      let seen : (encounter s i).debug ≡ p.env.debug = ap (λ (k : Option Tid). (encounter_by s (option_and_then (task_of s) k)).debug) none ∙ ap (λ (x : Env). x.debug) (environment_stays p events s reached) in
+      let seen : (encounter s i).debug ≡ p.env.debug =
+      ap (λ (k : Option Tid). (encounter_by s (option_and_then (task_of s) k)).debug) none
+      ∙ ap (λ (x : Env). x.debug) (environment_stays p events s reached) in
       ap (λ (x : Item × List Item). stays (encounter s i) e x.0 x.1) (sym same)
       ∙ ap (λ (b : Bool). if b then item.State IDLE 0 ∷ offering else offering) seen
 
@@ -75,10 +85,14 @@ module _ (p : Program) (events : List (ℕ × Event)) (s : State) (reached : Rea
       (λ j other h. (h, λ task is same. absurd (busy j other task is same)))
       (λ each. law (moved_on s i e m.item m.behind) each) all j).0
     where
-      busy : (j : ℕ) → (j ≡ i → (s.threads i).current ≡ None → ⊥) → (task : Tid) → e ≡ event.ImplicitBegin task → j ≡ i → ⊥
+      busy : (j : ℕ) → (j ≡ i → (s.threads i).current ≡ None → ⊥) → (task : Tid)
+          → e ≡ event.ImplicitBegin task → j ≡ i → ⊥
       busy j other task is same = other same (subst (λ (x : Event). Rules.Rule s i x m.item) is m.rule).idle
 
-pub worker_lists : (p : Program) (events : List (ℕ × Event)) (s : State) → Reached p events s → EachThread (WaitsBehind p) s
+pub worker_lists : (p : Program) (events : List (ℕ × Event)) (s : State) → Reached p events s
+    → EachThread (WaitsBehind p) s
 worker_lists p events s reached =
-    over_reached p (EachThread (WaitsBehind p)) (λ first u before i e next step h. behind_step p first u before i e next step h) [] (opening p) refl events s reached
+    over_reached p (EachThread (WaitsBehind p))
+    (λ first u before i e next step h. behind_step p first u before i e next step h) []
+    (opening p) refl events s reached
     (each_first_thread p (WaitsBehind p) (λ k is ne. absurd (ne refl)) (λ j k is ne. absurd (none_some refl is)))

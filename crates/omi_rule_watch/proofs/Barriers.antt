@@ -48,30 +48,42 @@ use Rattle.omi_rule_watch.proofs.Resting.{Rests, rests_join, rests_plain, rests_
 use Rattle.omi_rule_watch.proofs.Standing.{record_word, some_word, word_of}
 use Rattle.omi_rule_watch.proofs.Waits.{all_slots, some_body}
 
-rests_barrier : (c : BarrierCounter) → ((a : Actor) (h : SlotLook) → IsLookGiven a (counter.Barrier c) h) → Rests (counter.Barrier c)
+rests_barrier : (c : BarrierCounter) → ((a : Actor) (h : SlotLook) → IsLookGiven a (counter.Barrier c) h)
+    → Rests (counter.Barrier c)
 rests_barrier c given = record { region = refl; task = refl; look = given }
 
-module _ (p : Program) (w : List ℕ) (m : Memory) (events : List (ℕ × Event)) (s : State) (actors : ℕ → Actor) (i : ℕ) (before : Before p w m events s actors i) (h : Watch) where
+module _ (p : Program) (w : List ℕ) (m : Memory) (events : List (ℕ × Event)) (s : State) (actors : ℕ → Actor)
+    (i : ℕ) (before : Before p w m events s actors i) (h : Watch) where
   abbrev a : Actor
   a = actors i
 
   -- ---- barriers
 
-  module _ (c : BarrierCounter) (at : (actors i).counter ≡ counter.Barrier c) (given : IsSearchGiven (actors i) (counter.Barrier c) h.search) where
+  module _ (c : BarrierCounter) (at : (actors i).counter ≡ counter.Barrier c)
+      (given : IsSearchGiven (actors i) (counter.Barrier c) h.search) where
     calm : IsCalm h.search
     calm = calm_at a (counter.Barrier c) h.search refl refl refl given
 
     any : (x : RecordWord) × IsOn w (barrier_next w (actors i) c) x
     any = some_word p w m events s actors i before (counter.Barrier c) at tt
 
-  module _ (b : Barrier) (at : (actors i).counter ≡ counter.Barrier (barrier.LoadArrived b)) (given : IsSearchGiven (actors i) (counter.Barrier (barrier.LoadArrived b)) h.search) (has : HasAll (actors i) h.look) where
+  module _ (b : Barrier) (at : (actors i).counter ≡ counter.Barrier (barrier.LoadArrived b))
+      (given : IsSearchGiven (actors i) (counter.Barrier (barrier.LoadArrived b)) h.search)
+      (has : HasAll (actors i) h.look) where
     abbrev on_arrived : RecordWord
     on_arrived = word_of a.context.region.0.creator a.context.region.0.slot RegionArrived
 
     by_missing : (d : Bool) → KeepsParts w m s i (op.Load (of_current w a RegionArrived)) on_arrived
         (if d then looking b a else to_barrier (barrier.LoadPending b) a, if d then outcome.NotReady (of_current w a RegionArrived) (found_in m on_arrived) else outcome.Quiet) h
-    by_missing true = waits_parts w m s i _ on_arrived (looking b a) h (calm (barrier.LoadArrived b) at given) _ _ refl refl refl refl (λ waits. all_slots p w m events s actors i before (counter.Barrier (barrier.LoadArrived b)) at tt h.look has) (record { looked = refl; seen = refl })
-    by_missing false = quiet_parts w m s i (op.Load (of_current w a RegionArrived)) on_arrived (to_barrier (barrier.LoadPending b) a) h (calm (barrier.LoadArrived b) at given) refl refl refl refl (look_stays w s i on_arrived (op.Load (of_current w a RegionArrived)) (found_in m on_arrived) (slots_of a) h.look has (λ k. refl))
+    by_missing true =
+        waits_parts w m s i _ on_arrived (looking b a) h
+        (calm (barrier.LoadArrived b) at given) _ _ refl refl refl refl
+        (λ waits. all_slots p w m events s actors i before (counter.Barrier (barrier.LoadArrived b)) at tt h.look has)
+        (record { looked = refl; seen = refl })
+    by_missing false =
+        quiet_parts w m s i (op.Load (of_current w a RegionArrived)) on_arrived
+        (to_barrier (barrier.LoadPending b) a) h (calm (barrier.LoadArrived b) at given) refl refl refl refl
+        (look_stays w s i on_arrived (op.Load (of_current w a RegionArrived)) (found_in m on_arrived) (slots_of a) h.look has (λ k. refl))
 
     load_arrived : PartsKeep w m s i (barrier_next w (actors i) (barrier.LoadArrived b)) (λ old. (barrier_moved p (actors i) (barrier.LoadArrived b) old, barrier_outcome w (actors i) (barrier.LoadArrived b) old)) h
     load_arrived = (
@@ -80,14 +92,22 @@ module _ (p : Program) (w : List ℕ) (m : Memory) (events : List (ℕ × Event)
       by_missing (some_missing a (found_in m on_arrived)),
     )
 
-  module _ (b : Barrier) (at : (actors i).counter ≡ counter.Barrier (barrier.LoadPending b)) (given : IsSearchGiven (actors i) (counter.Barrier (barrier.LoadPending b)) h.search) (has : HasAll (actors i) h.look) where
+  module _ (b : Barrier) (at : (actors i).counter ≡ counter.Barrier (barrier.LoadPending b))
+      (given : IsSearchGiven (actors i) (counter.Barrier (barrier.LoadPending b)) h.search)
+      (has : HasAll (actors i) h.look) where
     abbrev on_pending : RecordWord
     on_pending = word_of a.context.region.0.creator a.context.region.0.slot RegionPending
 
     by_pending : (d : Bool) → KeepsParts w m s i (op.Load (of_current w a RegionPending)) on_pending
         (if d then to_barrier (barrier.Release b) a else looking b a, if d then outcome.Quiet else outcome.NotReady (of_current w a RegionPending) (found_in m on_pending)) h
-    by_pending true = quiet_rests w m s i _ on_pending (to_barrier (barrier.Release b) a) h (calm (barrier.LoadPending b) at given) refl refl (rests_barrier (barrier.Release b) (λ a h. tt))
-    by_pending false = waits_parts w m s i _ on_pending (looking b a) h (calm (barrier.LoadPending b) at given) _ _ refl refl refl refl (λ waits. all_slots p w m events s actors i before (counter.Barrier (barrier.LoadPending b)) at tt h.look has) (record { looked = refl; seen = refl })
+    by_pending true =
+        quiet_rests w m s i _ on_pending (to_barrier (barrier.Release b) a) h
+        (calm (barrier.LoadPending b) at given) refl refl (rests_barrier (barrier.Release b) (λ a h. tt))
+    by_pending false =
+        waits_parts w m s i _ on_pending (looking b a) h
+        (calm (barrier.LoadPending b) at given) _ _ refl refl refl refl
+        (λ waits. all_slots p w m events s actors i before (counter.Barrier (barrier.LoadPending b)) at tt h.look has)
+        (record { looked = refl; seen = refl })
 
     load_pending : PartsKeep w m s i (barrier_next w (actors i) (barrier.LoadPending b)) (λ old. (barrier_moved p (actors i) (barrier.LoadPending b) old, barrier_outcome w (actors i) (barrier.LoadPending b) old)) h
     load_pending = (
@@ -96,7 +116,9 @@ module _ (p : Program) (w : List ℕ) (m : Memory) (events : List (ℕ × Event)
       by_pending (found_in m on_pending == 0),
     )
 
-  module _ (b : Barrier) (at : (actors i).counter ≡ counter.Barrier (barrier.LoadReleased b)) (given : IsSearchGiven (actors i) (counter.Barrier (barrier.LoadReleased b)) h.search) (has : (actors i).context.number ≢ 0 → HasAll (actors i) h.look) where
+  module _ (b : Barrier) (at : (actors i).counter ≡ counter.Barrier (barrier.LoadReleased b))
+      (given : IsSearchGiven (actors i) (counter.Barrier (barrier.LoadReleased b)) h.search)
+      (has : (actors i).context.number ≢ 0 → HasAll (actors i) h.look) where
     abbrev on_released : RecordWord
     on_released = word_of a.context.region.0.creator a.context.region.0.slot RegionReleased
 
@@ -108,7 +130,8 @@ module _ (p : Program) (w : List ℕ) (m : Memory) (events : List (ℕ × Event)
     no_wait zero first (r, there, is) less =
         let o = here p w m events s actors i before (counter.Barrier (barrier.LoadReleased b)) at tt in
         let one : o.region ≡ r = some_same o.found there in
-        let stands = (keeps_region p w m events s actors i before (counter.Barrier (barrier.LoadReleased b)) at tt).codes RegionReleased 0 _ refl in
+        let stands =
+        (keeps_region p w m events s actors i before (counter.Barrier (barrier.LoadReleased b)) at tt).codes RegionReleased 0 _ refl in
         let all : o.region.released ≡ a.context.arrivals = ap (λ (x : Region). x.released) one ∙ is in
         omega (arith, stands, all, less)
     no_wait (suc n) first released less = omega (arith, first)
@@ -121,19 +144,28 @@ module _ (p : Program) (w : List ℕ) (m : Memory) (events : List (ℕ × Event)
     rests_end o is c = absurd is
 
     rests_passed : (x : Barrier) → IsAtBarrier p a.stack x → Rests (passed p x a).counter
-    rests_passed Explicit waits = rests_working p a (some_body p w m events s actors i before (counter.Barrier (barrier.LoadReleased b)) at tt)
+    rests_passed Explicit waits =
+        rests_working p a
+        (some_body p w m events s actors i before (counter.Barrier (barrier.LoadReleased b)) at tt)
     rests_passed Implicit waits = go a.stack waits
       where
         go : (fs : List Frame) → IsAtEnd p IsMember fs → Rests (ended_in fs a).counter
         go [] none = absurd none
         go (f ∷ fs) is = rests_end f.opened is.1 a.counter
 
-    by_closed : (d : Bool) → is_closed a word ≡ d → KeepsParts w m s i (op.Load (of_current w a RegionReleased)) on_released
+    by_closed : (d : Bool) → is_closed a word ≡ d
+        → KeepsParts w m s i (op.Load (of_current w a RegionReleased)) on_released
         (if d then looking b a else passed p b a, if d then outcome.NotReady (of_current w a RegionReleased) word else outcome.Event event.Pass) h
     by_closed true closed =
-        let other : a.context.number ≢ 0 = λ first. no_wait a.context.number first (row p w m events s actors i before (barrier.LoadReleased b) at) (ltb-true word a.context.arrivals closed) in
-        waits_parts w m s i _ on_released (looking b a) h (calm (barrier.LoadReleased b) at given) _ _ refl refl refl refl (λ waits. all_slots p w m events s actors i before (counter.Barrier (barrier.LoadReleased b)) at tt h.look (has other)) (record { looked = refl; seen = refl })
-    by_closed false past = event_rests w m s i _ on_released (passed p b a) h (calm (barrier.LoadReleased b) at given) _ (rests_passed b (fits_barrier p w m events s actors i before (barrier.LoadReleased b) at).0)
+        let other : a.context.number ≢ 0 =
+        λ first. no_wait a.context.number first (row p w m events s actors i before (barrier.LoadReleased b) at) (ltb-true word a.context.arrivals closed) in
+        waits_parts w m s i _ on_released (looking b a) h
+        (calm (barrier.LoadReleased b) at given) _ _ refl refl refl refl
+        (λ waits. all_slots p w m events s actors i before (counter.Barrier (barrier.LoadReleased b)) at tt h.look (has other))
+        (record { looked = refl; seen = refl })
+    by_closed false past =
+        event_rests w m s i _ on_released (passed p b a) h (calm (barrier.LoadReleased b) at given) _
+        (rests_passed b (fits_barrier p w m events s actors i before (barrier.LoadReleased b) at).0)
 
     load_released : PartsKeep w m s i (barrier_next w (actors i) (barrier.LoadReleased b)) (λ old. (barrier_moved p (actors i) (barrier.LoadReleased b) old, barrier_outcome w (actors i) (barrier.LoadReleased b) old)) h
     load_released = (
@@ -142,8 +174,11 @@ module _ (p : Program) (w : List ℕ) (m : Memory) (events : List (ℕ × Event)
       by_closed (is_closed a word) refl,
     )
 
-  pub barrier_parts : (c : BarrierCounter) (at : (actors i).counter ≡ counter.Barrier c) → IsSearchGiven (actors i) (counter.Barrier c) h.search → IsLookGiven (actors i) (counter.Barrier c) h.look
-      → PartsKeep w m s i (barrier_next w (actors i) c) (λ old. (barrier_moved p (actors i) c old, barrier_outcome w (actors i) c old)) h
+  pub barrier_parts : (c : BarrierCounter) (at : (actors i).counter ≡ counter.Barrier c)
+      → IsSearchGiven (actors i) (counter.Barrier c) h.search
+      → IsLookGiven (actors i) (counter.Barrier c) h.look
+      → PartsKeep w m s i (barrier_next w (actors i) c)
+      (λ old. (barrier_moved p (actors i) c old, barrier_outcome w (actors i) c old)) h
   barrier_parts (barrier.State b) at given has =
       let (x, on) = any (barrier.State b) at given in
       (x, on, event_rests w m s i _ x _ h (calm (barrier.State b) at given) _ (rests_barrier (barrier.Arrive b) (λ a h. tt)))
@@ -159,7 +194,8 @@ module _ (p : Program) (w : List ℕ) (m : Memory) (events : List (ℕ × Event)
 
   -- ---- the end of an explicit task
 
-  module _ (c : FinishCounter) (at : (actors i).counter ≡ counter.Finish c) (kept : IsFinishKept c) (given : IsSearchGiven (actors i) (counter.Finish c) h.search) where
+  module _ (c : FinishCounter) (at : (actors i).counter ≡ counter.Finish c) (kept : IsFinishKept c)
+      (given : IsSearchGiven (actors i) (counter.Finish c) h.search) where
     calm_finish : IsCalm h.search
     calm_finish = calm_at a (counter.Finish c) h.search refl refl refl given
 
@@ -167,28 +203,35 @@ module _ (p : Program) (w : List ℕ) (m : Memory) (events : List (ℕ × Event)
     some = some_word p w m events s actors i before (counter.Finish c) at kept
 
   -- the wait goes on, with a new look
-  back_calm : (v : Option Wait) → (region_found (behind_finish p v) ≡ None) × (task_found (behind_finish p v) ≡ None)
+  back_calm : (v : Option Wait)
+      → (region_found (behind_finish p v) ≡ None) × (task_found (behind_finish p v) ≡ None)
   back_calm None = (refl, refl)
   back_calm (Some wait.Taskyield) = (refl, refl)
   back_calm (Some wait.Taskwait) = (refl, refl)
   back_calm (Some (wait.Barrier b)) = (refl, refl)
 
-  back_given : (b : Actor) (l : SlotLook) → Has l 0 None → (v : Option Wait) → IsLookGiven b (behind_finish p v) l
+  back_given : (b : Actor) (l : SlotLook) → Has l 0 None → (v : Option Wait)
+      → IsLookGiven b (behind_finish p v) l
   back_given b l has None = tt
   back_given b l has (Some wait.Taskyield) = tt
   back_given b l has (Some wait.Taskwait) = go p.env.debug
     where
-      go : (d : Bool) → IsLookGiven b (counter.Look (if d then look.State wait.Taskwait else look.LoadRow wait.Taskwait 0)) l
+      go : (d : Bool)
+          → IsLookGiven b (counter.Look (if d then look.State wait.Taskwait else look.LoadRow wait.Taskwait 0)) l
       go true = tt
       go false = has
   back_given b l has (Some (wait.Barrier k)) = go p.env.debug
     where
-      go : (d : Bool) → IsLookGiven b (counter.Look (if d then look.State (wait.Barrier k) else look.LoadRow (wait.Barrier k) 0)) l
+      go : (d : Bool)
+          → IsLookGiven b (counter.Look (if d then look.State (wait.Barrier k) else look.LoadRow (wait.Barrier k) 0)) l
       go true = tt
       go false = has
 
-  pub finish_parts : (c : FinishCounter) (at : (actors i).counter ≡ counter.Finish c) → IsFinishKept c → IsSearchGiven (actors i) (counter.Finish c) h.search → IsLookGiven (actors i) (counter.Finish c) h.look
-      → PartsKeep w m s i (finish_next w (actors i) c) (λ old. (finish_moved p w (actors i) c old, finish_outcome (actors i) c)) h
+  pub finish_parts : (c : FinishCounter) (at : (actors i).counter ≡ counter.Finish c) → IsFinishKept c
+      → IsSearchGiven (actors i) (counter.Finish c) h.search
+      → IsLookGiven (actors i) (counter.Finish c) h.look
+      → PartsKeep w m s i (finish_next w (actors i) c)
+      (λ old. (finish_moved p w (actors i) c old, finish_outcome (actors i) c)) h
   finish_parts finish.Finish at kept given has =
       let (x, on) = some finish.Finish at tt given in
       (x, on, event_parts w m s i _ x _ h (calm_finish finish.Finish at tt given) _ refl refl (record { looked = refl; seen = refl }))
@@ -209,7 +252,9 @@ module _ (p : Program) (w : List ℕ) (m : Memory) (events : List (ℕ × Event)
       let (no_region, no_task) = back_calm v in (
         x,
         on,
-        quiet_parts w m s i (finish_next w (actors i) (finish.SubtractPending v)) x (record a { counter = behind_finish p v }) h (calm_finish (finish.SubtractPending v) at tt given) refl refl no_region no_task
+        quiet_parts w m s i (finish_next w (actors i) (finish.SubtractPending v)) x
+            (record a { counter = behind_finish p v }) h
+            (calm_finish (finish.SubtractPending v) at tt given) refl refl no_region no_task
             (back_given (record a { counter = behind_finish p v }) _ (look_stays w s i x (finish_next w (actors i) (finish.SubtractPending v)) (found_in m x) 0 h.look has (λ k. refl)) v),
       )
   finish_parts (finish.SubtractReferences v t generating) at kept given has = absurd kept

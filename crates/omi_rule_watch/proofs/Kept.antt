@@ -38,22 +38,28 @@ use Rattle.omi_rule_watch.proofs.Workers.{join_parts, worker_parts}
 
 -- ---- a step
 
-module _ (p : Program) (w : List ℕ) (m : Memory) (events : List (ℕ × Event)) (s : State) (actors : ℕ → Actor) (i : ℕ) (before : Before p w m events s actors i) (h : Watch) where
-  parts : (c : Counter) → (actors i).counter ≡ c → IsKept c → IsSearchGiven (actors i) c h.search → IsLookGiven (actors i) c h.look → PartsKeep w m s i (next_at p w (actors i) c) (λ old. resumed_at p w (actors i) c old) h
+module _ (p : Program) (w : List ℕ) (m : Memory) (events : List (ℕ × Event)) (s : State) (actors : ℕ → Actor)
+    (i : ℕ) (before : Before p w m events s actors i) (h : Watch) where
+  parts : (c : Counter) → (actors i).counter ≡ c → IsKept c → IsSearchGiven (actors i) c h.search
+      → IsLookGiven (actors i) c h.look
+      → PartsKeep w m s i (next_at p w (actors i) c) (λ old. resumed_at p w (actors i) c old) h
   parts (counter.Worker c) at kept search look = worker_parts p w m events s actors i before h c at search
   parts (counter.Team c) at kept search look = team_parts p w m events s actors i before h c at search
-  parts (counter.Barrier c) at kept search look = barrier_parts p w m events s actors i before h c at search look
+  parts (counter.Barrier c) at kept search look =
+      barrier_parts p w m events s actors i before h c at search look
   parts (counter.Join c) at kept search look = join_parts p w m events s actors i before h c at kept search
   parts (counter.Task c) at kept search look = making_parts p w m events s actors i before h c at kept search
   parts (counter.Look c) at kept search look = look_parts p w m events s actors i before h c at search look
-  parts (counter.Finish c) at kept search look = finish_parts p w m events s actors i before h c at kept search look
+  parts (counter.Finish c) at kept search look =
+      finish_parts p w m events s actors i before h c at kept search look
   parts (counter.Plain c) at kept search look = plain_parts p w m events s actors i before h c at search
 
 pub watch_kept : StepsKeepWatch
 watch_kept = λ p w m events s actors i valid suits rule known few kept h given.
     let before : Before p w m events s actors i =
     record { valid = valid; suits = suits; rule = rule; known = known; few = few; barriers = λ e u step j there other c at row. barrier_rows_stay p w m events s actors rule i known e u step j there other c at row } in
-    let (x, on, keeps) = parts p w m events s actors i before h (actors i).counter refl kept given.search given.look in
+    let (x, on, keeps) =
+    parts p w m events s actors i before h (actors i).counter refl kept given.search given.look in
     let quiet : IsQuietKept p (resumed_at p w (actors i) (actors i).counter (found_in m x)) h.quiet = quiet_steps_few p w (actors i) (found_in m x) h.quiet (rule.threads i known).fits kept given.quiet in (
       x,
       on,
@@ -66,7 +72,9 @@ watch_kept = λ p w m events s actors i valid suits rule known few kept h given.
 -- ---- the first
 
 opening_rests : (p : Program) (i : ℕ) → Rests (opening_actor p i).counter
-opening_rests p zero = rests_settled p (record (waiting_actor 0) { stack = at_start p.main Main ∷ [] }) (λ none. rests_worker worker.Begin)
+opening_rests p zero =
+    rests_settled p (record (waiting_actor 0) { stack = at_start p.main Main ∷ [] })
+    (λ none. rests_worker worker.Begin)
 opening_rests p (suc i) = rests_worker worker.Begin
 
 pub openings_given : OpeningsGiveWatch
@@ -80,9 +88,11 @@ openings_given = λ p i.
 
 -- ---- words
 
-same_place : (w : List ℕ) → IsValid w → (o : Op) (x y : RecordWord) → IsOn w o x → IsOn w o y → word_place w (number x.field) (index_of w (kind_of (number x.field)) x.creator x.slot) x.place ≡ word_place w (number y.field) (index_of w (kind_of (number y.field)) y.creator y.slot) y.place
+same_place : (w : List ℕ) → IsValid w → (o : Op) (x y : RecordWord) → IsOn w o x → IsOn w o y
+    → word_place w (number x.field) (index_of w (kind_of (number x.field)) x.creator x.slot) x.place ≡ word_place w (number y.field) (index_of w (kind_of (number y.field)) y.creator y.slot) y.place
 same_place w valid o x y on there =
-    let one : word_address w x.creator x.slot (number x.field) x.place ≡ word_address w y.creator y.slot (number y.field) y.place = sym on.address ∙ there.address in
+    let one : word_address w x.creator x.slot (number x.field) x.place ≡ word_address w y.creator y.slot (number y.field) y.place =
+    sym on.address ∙ there.address in
     let first = address_placed w valid x.creator x.slot (number x.field) x.place in
     let second = address_placed w valid y.creator y.slot (number y.field) y.place in
     omega (arith, one, first, second)
@@ -90,7 +100,8 @@ same_place w valid o x y on there =
 pub words_one : WordsAreOne
 words_one = λ w o x y valid on there.
     let same = are_apart w valid (number x.field) (index_of w (kind_of (number x.field)) x.creator x.slot) x.place (number y.field) (index_of w (kind_of (number y.field)) y.creator y.slot) y.place
-    (numbered w x.creator x.slot (number x.field) x.place on.there) (numbered w y.creator y.slot (number y.field) y.place there.there) (same_place w valid o x y on there) in
+    (numbered w x.creator x.slot (number x.field) x.place on.there)
+    (numbered w y.creator y.slot (number y.field) y.place there.there) (same_place w valid o x y on there) in
     let slots = slots_apart w (kind_of (number x.field)) x.creator x.slot y.creator y.slot on.there.record_slot (subst (λ f. IsSlot w (kind_of f) y.creator y.slot) (sym same.field) there.there.record_slot)
     (same.record_number ∙ ap (λ f. index_of w (kind_of f) y.creator y.slot) (sym same.field)) in
     record { creator = slots.maker; slot = slots.place; field = same.field; place = same.element }

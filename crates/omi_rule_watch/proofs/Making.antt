@@ -49,7 +49,8 @@ use Rattle.omi_rule_watch.proofs.Searching.{task_found_free, task_passed, task_t
 use Rattle.omi_rule_watch.proofs.Standing.{own, own_maker, record_word, some_word, word_of}
 use Rattle.omi_rule_watch.proofs.Teams.{no_life}
 
-module _ (p : Program) (w : List ℕ) (m : Memory) (events : List (ℕ × Event)) (s : State) (actors : ℕ → Actor) (i : ℕ) (before : Before p w m events s actors i) (h : Watch) where
+module _ (p : Program) (w : List ℕ) (m : Memory) (events : List (ℕ × Event)) (s : State) (actors : ℕ → Actor)
+    (i : ℕ) (before : Before p w m events s actors i) (h : Watch) where
   abbrev a : Actor
   a = actors i
 
@@ -58,10 +59,12 @@ module _ (p : Program) (w : List ℕ) (m : Memory) (events : List (ℕ × Event)
 
   -- ---- `task` constructs
 
-  rests_making : (c : TaskCounter) → region_found (counter.Task c) ≡ None → task_found (counter.Task c) ≡ None → Rests (counter.Task c)
+  rests_making : (c : TaskCounter) → region_found (counter.Task c) ≡ None → task_found (counter.Task c) ≡ None
+      → Rests (counter.Task c)
   rests_making c no_region no_task = record { region = no_region; task = no_task; look = λ a h. tt }
 
-  rests_two : (b : Bool) (c d : TaskCounter) → Rests (counter.Task c) → Rests (counter.Task d) → Rests (counter.Task (if b then c else d))
+  rests_two : (b : Bool) (c d : TaskCounter) → Rests (counter.Task c) → Rests (counter.Task d)
+      → Rests (counter.Task (if b then c else d))
   rests_two b c d one other = one_of (λ (x : TaskCounter). Rests (counter.Task x)) b c d one other
 
   rests_raised : (place : Option ℕ) (t : Tid) → Rests (counter.Task (behind_raises place t))
@@ -72,7 +75,8 @@ module _ (p : Program) (w : List ℕ) (m : Memory) (events : List (ℕ × Event)
     any : (x : RecordWord) × IsOn w (making_next p w (actors i) c) x
     any = some_word p w m events s actors i before (counter.Task c) at kept
 
-  module _ (place : ℕ) (at : (actors i).counter ≡ counter.Task (task.LoadSlot place)) (given : IsSearchGiven (actors i) (counter.Task (task.LoadSlot place)) h.search) where
+  module _ (place : ℕ) (at : (actors i).counter ≡ counter.Task (task.LoadSlot place))
+      (given : IsSearchGiven (actors i) (counter.Task (task.LoadSlot place)) h.search) where
     abbrev x : RecordWord
     x = record { creator = a.context.row.0.creator; slot = a.context.row.0.slot; field = TaskSlots; place = place }
 
@@ -82,8 +86,11 @@ module _ (p : Program) (w : List ℕ) (m : Memory) (events : List (ℕ × Event)
     by_slot : (b : Bool)
         → KeepsParts w m s i (op.Load (of_own_slot w a place)) x
         (to_task (if b then task.LoadVariable (Some place) 0 else (if nat_lt (place + 1) OWN_SLOTS then task.LoadSlot (place + 1) else task.LoadVariable None 0)) a, if b then outcome.Quiet else outcome.Event (event.Seen place)) h
-    by_slot true = quiet_rests w m s i _ x _ h calm refl refl (rests_making (task.LoadVariable (Some place) 0) refl refl)
-    by_slot false = event_rests w m s i _ x _ h calm _ (rests_two (nat_lt (place + 1) OWN_SLOTS) (task.LoadSlot (place + 1)) (task.LoadVariable None 0) (rests_making (task.LoadSlot (place + 1)) refl refl) (rests_making (task.LoadVariable None 0) refl refl))
+    by_slot true =
+        quiet_rests w m s i _ x _ h calm refl refl (rests_making (task.LoadVariable (Some place) 0) refl refl)
+    by_slot false =
+        event_rests w m s i _ x _ h calm _
+        (rests_two (nat_lt (place + 1) OWN_SLOTS) (task.LoadSlot (place + 1)) (task.LoadVariable None 0) (rests_making (task.LoadSlot (place + 1)) refl refl) (rests_making (task.LoadVariable None 0) refl refl))
 
     own_slots : PartsKeep w m s i (making_next p w (actors i) (task.LoadSlot place)) (λ old. (making_moved p w (actors i) (task.LoadSlot place) old, making_outcome w (actors i) (task.LoadSlot place) old)) h
     own_slots = (
@@ -95,21 +102,28 @@ module _ (p : Program) (w : List ℕ) (m : Memory) (events : List (ℕ × Event)
       by_slot (found_in m x == 0),
     )
 
-  module _ (place : Option ℕ) (slot : ℕ) (at : (actors i).counter ≡ counter.Task (task.LoadLife place slot)) (given : IsSearchGiven (actors i) (counter.Task (task.LoadLife place slot)) h.search) where
+  module _ (place : Option ℕ) (slot : ℕ) (at : (actors i).counter ≡ counter.Task (task.LoadLife place slot))
+      (given : IsSearchGiven (actors i) (counter.Task (task.LoadLife place slot)) h.search) where
     abbrev y : RecordWord
     y = own_life (actors i) TaskLife slot
 
     one_task : MayOweTask w m s i
     one_task = inl
         (let most = tasks_owed w m s (all_owed actors) before.rule.words i before.known in
-        let none = ap (λ (o : Owed). length o.tasks) (owes p w m events s actors i before (task.LoadLife place slot) at) in
+        let none =
+        ap (λ (o : Owed). length o.tasks) (owes p w m events s actors i before (task.LoadLife place slot) at) in
         omega (arith, most, none))
 
     by_life : (b : Bool) → is_free (found_in m y) ≡ b
         → KeepsParts w m s i (op.Load (of_place w (own_place a slot) TaskLife)) y
         (to_task (if b then task.Take place (record { 0 = object_in (own_place a slot) (found_in m y) }) else task.LoadLife place (next_slot w tasks slot)) a, if b then outcome.Quiet else outcome.NotReady (of_place w (own_place a slot) TaskLife) (found_in m y)) h
-    by_life true free = task_found_free w m s i a mine h _ slot given.expected given.region given.task (to_task (task.Take place (record { 0 = object_in (own_place a slot) (found_in m y) })) a) refl free refl tt
-    by_life false taken = task_passed w m s i a mine h _ slot given.expected given.region given.task (to_task (task.LoadLife place (next_slot w tasks slot)) a) refl _ (placed p w m events s actors i before (task.LoadLife place slot) at) one_task refl refl tt
+    by_life true free =
+        task_found_free w m s i a mine h _ slot given.expected given.region given.task
+        (to_task (task.Take place (record { 0 = object_in (own_place a slot) (found_in m y) })) a) refl free refl tt
+    by_life false taken =
+        task_passed w m s i a mine h _ slot given.expected given.region given.task
+        (to_task (task.LoadLife place (next_slot w tasks slot)) a) refl _
+        (placed p w m events s actors i before (task.LoadLife place slot) at) one_task refl refl tt
 
     task_search : PartsKeep w m s i (making_next p w (actors i) (task.LoadLife place slot)) (λ old. (making_moved p w (actors i) (task.LoadLife place slot) old, making_outcome w (actors i) (task.LoadLife place slot) old)) h
     task_search = (
@@ -118,8 +132,10 @@ module _ (p : Program) (w : List ℕ) (m : Memory) (events : List (ℕ × Event)
       by_life (is_free (found_in m y)) refl,
     )
 
-  pub making_parts : (c : TaskCounter) (at : (actors i).counter ≡ counter.Task c) → IsTaskKept c → IsSearchGiven (actors i) (counter.Task c) h.search
-      → PartsKeep w m s i (making_next p w (actors i) c) (λ old. (making_moved p w (actors i) c old, making_outcome w (actors i) c old)) h
+  pub making_parts : (c : TaskCounter) (at : (actors i).counter ≡ counter.Task c) → IsTaskKept c
+      → IsSearchGiven (actors i) (counter.Task c) h.search
+      → PartsKeep w m s i (making_next p w (actors i) c)
+      (λ old. (making_moved p w (actors i) c old, making_outcome w (actors i) c old)) h
   making_parts (task.LoadSlot place) at kept given = own_slots place at given
   making_parts (task.LoadVariable place word) at kept given =
       let k = (actors i).context.task.0 in
@@ -128,7 +144,8 @@ module _ (p : Program) (w : List ℕ) (m : Memory) (events : List (ℕ × Event)
       let (no_region, no_task) = no_life word i (found_in m x) k.creator k.slot (of_variable w k word) below in (
         x,
         record { there = variable_word w k word below (context_placed p w m events s actors i before (task.LoadVariable place word) at).task; address = refl },
-        quiet_rests w m s i (op.Load (of_variable w k word)) x _ h (calm_at a (counter.Task (task.LoadVariable place word)) h.search refl refl refl given) no_region no_task
+        quiet_rests w m s i (op.Load (of_variable w k word)) x _ h
+            (calm_at a (counter.Task (task.LoadVariable place word)) h.search refl refl refl given) no_region no_task
             (rests_two (nat_lt (word + 1) VARIABLE_WORDS) (task.LoadVariable place (word + 1)) (task.LoadLife place 0) (rests_making (task.LoadVariable place (word + 1)) refl refl) (rests_making (task.LoadLife place 0) refl refl)),
       )
   making_parts (task.LoadLife place slot) at kept given = task_search place slot at given
@@ -141,7 +158,8 @@ module _ (p : Program) (w : List ℕ) (m : Memory) (events : List (ℕ × Event)
       let (x, on) = any (task.Fill place t word) at tt in (
         x,
         on,
-        quiet_rests w m s i _ x _ h (calm_at a (counter.Task (task.Fill place t word)) h.search refl refl refl given) refl refl
+        quiet_rests w m s i _ x _ h
+            (calm_at a (counter.Task (task.Fill place t word)) h.search refl refl refl given) refl refl
             (rests_two (nat_lt (word + 1) TASK_WORDS) (task.Fill place t (word + 1)) (task.AddPending place t) (rests_making (task.Fill place t (word + 1)) refl refl) (rests_making (task.AddPending place t) refl refl)),
       )
   making_parts (task.AddPending place t) at kept given =
@@ -158,13 +176,15 @@ module _ (p : Program) (w : List ℕ) (m : Memory) (events : List (ℕ × Event)
       let (x, on) = any (task.StartNow t) at tt in (
         x,
         on,
-        event_rests w m s i _ x _ h (calm_at a (counter.Task (task.StartNow t)) h.search refl refl refl given) _
+        event_rests w m s i _ x _ h
+            (calm_at a (counter.Task (task.StartNow t)) h.search refl refl refl given) _
             (rests_settled p (begun_explicit (made_function p a) None (task_context a t (makes_final p a)) a) (λ none. subst Rests (sym at) (rests_making (task.StartNow t) refl refl))),
       )
 
   -- ---- plain steps
 
-  module _ (c : PlainCounter) (at : (actors i).counter ≡ counter.Plain c) (given : IsSearchGiven (actors i) (counter.Plain c) h.search) where
+  module _ (c : PlainCounter) (at : (actors i).counter ≡ counter.Plain c)
+      (given : IsSearchGiven (actors i) (counter.Plain c) h.search) where
     calm_plain : IsCalm h.search
     calm_plain = calm_at a (counter.Plain c) h.search refl refl refl given
 
@@ -174,8 +194,10 @@ module _ (p : Program) (w : List ℕ) (m : Memory) (events : List (ℕ × Event)
     word : (x : RecordWord) × IsOn w (plain_next p w (actors i) c) x
     word = some_word p w m events s actors i before (counter.Plain c) at tt
 
-    commits : (b : Actor) (e : Event) → Rests b.counter → (x : RecordWord) × IsOn w (plain_next p w (actors i) c) x × KeepsParts w m s i (plain_next p w (actors i) c) x (b, outcome.Event e) h
-    commits b e rests = (word.0, word.1, event_rests w m s i (plain_next p w (actors i) c) word.0 b h calm_plain e rests)
+    commits : (b : Actor) (e : Event) → Rests b.counter
+        → (x : RecordWord) × IsOn w (plain_next p w (actors i) c) x × KeepsParts w m s i (plain_next p w (actors i) c) x (b, outcome.Event e) h
+    commits b e rests =
+        (word.0, word.1, event_rests w m s i (plain_next p w (actors i) c) word.0 b h calm_plain e rests)
 
   rests_left : (x : Option Stmt) → Rests (actors i).counter → Rests (left_behind p x (actors i)).counter
   rests_left None now = rests_settled p (actors i) (λ none. now)
@@ -183,11 +205,13 @@ module _ (p : Program) (w : List ℕ) (m : Memory) (events : List (ℕ × Event)
   rests_left (Some x) now = rests_settled p (actors i) (λ none. now)
 
   -- behind an enter: a look may begin
-  entered_calm : (debug final : Bool) (x : Option Stmt) → (region_found (behind_enter debug final x) ≡ None) × (task_found (behind_enter debug final x) ≡ None) × ((b : Actor) → IsLookGiven b (behind_enter debug final x) no_look)
+  entered_calm : (debug final : Bool) (x : Option Stmt)
+      → (region_found (behind_enter debug final x) ≡ None) × (task_found (behind_enter debug final x) ≡ None) × ((b : Actor) → IsLookGiven b (behind_enter debug final x) no_look)
   entered_calm debug final None = (refl, refl, λ b. tt)
   entered_calm true final (Some (stmt.Parallel f num)) = (refl, refl, λ b. tt)
   entered_calm false final (Some (stmt.Parallel f num)) = (refl, refl, λ b. tt)
-  entered_calm debug final (Some (stmt.Task f undeferred given)) = let rests = rests_task (undeferred || final) in (rests.region, rests.task, λ b. rests.look b no_look)
+  entered_calm debug final (Some (stmt.Task f undeferred given)) =
+      let rests = rests_task (undeferred || final) in (rests.region, rests.task, λ b. rests.look b no_look)
   entered_calm true final (Some stmt.Taskwait) = (refl, refl, λ b. tt)
   entered_calm false final (Some stmt.Taskwait) = (refl, refl, λ b. record { looked = refl; seen = refl })
   entered_calm debug final (Some stmt.Taskyield) = (refl, refl, λ b. record { looked = refl; seen = refl })
@@ -197,14 +221,19 @@ module _ (p : Program) (w : List ℕ) (m : Memory) (events : List (ℕ × Event)
   entered_calm false final (Some (stmt.Critical k f)) = (refl, refl, λ b. tt)
   entered_calm debug final (Some x) = (refl, refl, λ b. tt)
 
-  module _ (at : (actors i).counter ≡ counter.Plain plain.Lock) (given : IsSearchGiven (actors i) (counter.Plain plain.Lock) h.search) where
+  module _ (at : (actors i).counter ≡ counter.Plain plain.Lock)
+      (given : IsSearchGiven (actors i) (counter.Plain plain.Lock) h.search) where
     abbrev lock : RecordWord
     lock = record { creator = 0; slot = 0; field = RuntimeLocks; place = lock_in (in_work p (actors i)) }
 
     by_lock : (b : Bool) → KeepsParts w m s i (plain_next p w (actors i) plain.Lock) lock
         (if b then back_to_work p a else a, if b then outcome.Event (event.Lock (lock_in (in_work p a))) else outcome.NotReady (of_lock w (lock_in (in_work p a))) (found_in m lock)) h
-    by_lock true = event_rests w m s i _ lock _ h (calm_plain plain.Lock at given) _ (rests_working p a (λ none. here plain.Lock at given))
-    by_lock false = waits_rests w m s i _ lock a h (calm_plain plain.Lock at given) _ _ refl refl refl (here plain.Lock at given)
+    by_lock true =
+        event_rests w m s i _ lock _ h (calm_plain plain.Lock at given) _
+        (rests_working p a (λ none. here plain.Lock at given))
+    by_lock false =
+        waits_rests w m s i _ lock a h (calm_plain plain.Lock at given) _ _ refl refl refl
+        (here plain.Lock at given)
 
     locks : PartsKeep w m s i (plain_next p w (actors i) plain.Lock) (λ old. (plain_moved p (actors i) plain.Lock old, plain_outcome p w (actors i) plain.Lock old)) h
     locks = (
@@ -213,22 +242,33 @@ module _ (p : Program) (w : List ℕ) (m : Memory) (events : List (ℕ × Event)
       by_lock (found_in m lock == 0),
     )
 
-  pub plain_parts : (c : PlainCounter) (at : (actors i).counter ≡ counter.Plain c) → IsSearchGiven (actors i) (counter.Plain c) h.search → PartsKeep w m s i (plain_next p w (actors i) c) (λ old. (plain_moved p (actors i) c old, plain_outcome p w (actors i) c old)) h
-  plain_parts plain.Work at given = commits plain.Work at given _ _ (rests_settled p a (λ none. here plain.Work at given))
-  plain_parts plain.Call at given = commits plain.Call at given _ _ (rests_settled p a (λ none. here plain.Call at given))
-  plain_parts plain.Skip at given = commits plain.Skip at given _ _ (rests_settled p a (λ none. here plain.Skip at given))
-  plain_parts plain.Return at given = commits plain.Return at given _ _ (rests_returned p a (here plain.Return at given))
-  plain_parts plain.Set at given = commits plain.Set at given _ _ (rests_settled p a (λ none. here plain.Set at given))
-  plain_parts plain.Tool at given = commits plain.Tool at given _ _ (rests_settled p a (λ none. here plain.Tool at given))
+  pub plain_parts : (c : PlainCounter) (at : (actors i).counter ≡ counter.Plain c)
+      → IsSearchGiven (actors i) (counter.Plain c) h.search
+      → PartsKeep w m s i (plain_next p w (actors i) c) (λ old. (plain_moved p (actors i) c old, plain_outcome p w (actors i) c old)) h
+  plain_parts plain.Work at given =
+      commits plain.Work at given _ _ (rests_settled p a (λ none. here plain.Work at given))
+  plain_parts plain.Call at given =
+      commits plain.Call at given _ _ (rests_settled p a (λ none. here plain.Call at given))
+  plain_parts plain.Skip at given =
+      commits plain.Skip at given _ _ (rests_settled p a (λ none. here plain.Skip at given))
+  plain_parts plain.Return at given =
+      commits plain.Return at given _ _ (rests_returned p a (here plain.Return at given))
+  plain_parts plain.Set at given =
+      commits plain.Set at given _ _ (rests_settled p a (λ none. here plain.Set at given))
+  plain_parts plain.Tool at given =
+      commits plain.Tool at given _ _ (rests_settled p a (λ none. here plain.Tool at given))
   plain_parts plain.Enter at given =
       let (x, on) = word plain.Enter at given in
       let (no_region, no_task, look) = entered_calm p.env.debug a.context.is_final (in_work p a) in
       (x, on, event_parts w m s i _ x _ h (calm_plain plain.Enter at given) _ no_region no_task (look (past_enter p a)))
-  plain_parts plain.Leave at given = commits plain.Leave at given _ _ (rests_left (in_work p a) (here plain.Leave at given))
-  plain_parts plain.WorkState at given = commits plain.WorkState at given _ _ (rests_worked p a (λ none. here plain.WorkState at given))
+  plain_parts plain.Leave at given =
+      commits plain.Leave at given _ _ (rests_left (in_work p a) (here plain.Leave at given))
+  plain_parts plain.WorkState at given =
+      commits plain.WorkState at given _ _ (rests_worked p a (λ none. here plain.WorkState at given))
   plain_parts plain.LockState at given = commits plain.LockState at given _ _ (rests_plain plain.Lock)
   plain_parts plain.Lock at given = locks at given
-  plain_parts plain.Unlock at given = commits plain.Unlock at given _ _ (rests_settled p a (λ none. here plain.Unlock at given))
+  plain_parts plain.Unlock at given =
+      commits plain.Unlock at given _ _ (rests_settled p a (λ none. here plain.Unlock at given))
   plain_parts plain.Done at given = commits plain.Done at given _ _ (rests_plain plain.Ended)
   plain_parts plain.Ended at given =
       let (x, on) = word plain.Ended at given in

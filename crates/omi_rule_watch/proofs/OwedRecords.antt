@@ -26,7 +26,8 @@ sum_zero (suc n) f none =
     let last = none n (omega arith) in
     omega (arith, front, last)
 
-sum_more : (n : ℕ) (f g h : ℕ → ℕ) → ((j : ℕ) → j < n → f j ≤ g j + h j) → sum_below n f ≤ sum_below n g + sum_below n h
+sum_more : (n : ℕ) (f g h : ℕ → ℕ) → ((j : ℕ) → j < n → f j ≤ g j + h j)
+    → sum_below n f ≤ sum_below n g + sum_below n h
 sum_more zero f g h more = omega arith
 sum_more (suc n) f g h more =
     let front = sum_more n f g h (λ j below. more j (omega (arith, below))) in
@@ -42,7 +43,8 @@ sum_met (suc n) c = go (sum_met n c) (c == n) refl
     other j below true e is = let same : c ≡ j = eqb-true c j e in absurd (omega (arith, below, is, same))
     other j below false e is = refl
 
-    go : sum_below n (λ j. one (c == j)) ≤ 1 → (b : Bool) → c == n ≡ b → sum_below n (λ j. one (c == j)) + one b ≤ 1
+    go : sum_below n (λ j. one (c == j)) ≤ 1 → (b : Bool) → c == n ≡ b
+        → sum_below n (λ j. one (c == j)) + one b ≤ 1
     go front true e =
         let is : c ≡ n = eqb-true c n e in
         let none = sum_zero n (λ j. one (c == j)) (λ j below. other j below (c == j) refl is) in
@@ -57,7 +59,9 @@ one_or false c = omega arith
 slots_few : (n : ℕ) (ks : List Tid) → sum_below n (λ j. one (has_slot j ks)) ≤ length ks
 slots_few n [] = let none = sum_zero n (λ j. one (has_slot j [])) (λ j below. refl) in omega (arith, none)
 slots_few n (k ∷ ks) =
-    let parts = sum_more n (λ j. one (has_slot j (k ∷ ks))) (λ j. one (k.0.slot == j)) (λ j. one (has_slot j ks)) (λ j below. one_or (k.0.slot == j) (has_slot j ks)) in
+    let parts =
+    sum_more n (λ j. one (has_slot j (k ∷ ks))) (λ j. one (k.0.slot == j)) (λ j. one (has_slot j ks))
+    (λ j below. one_or (k.0.slot == j) (has_slot j ks)) in
     let first = sum_met n k.0.slot in
     let rest = slots_few n ks in
     omega (arith, parts, first, rest)
@@ -65,7 +69,8 @@ slots_few n (k ∷ ks) =
 -- ---- life words
 
 -- a record that is not owed is not in the making
-not_in_making : {A : Type 0} (slot : Slot A) (r : Rec) (life : Field) (owed : Bool) → KeepsLife r life slot owed → owed ≡ false → one (is_in_making slot (r (number life) 0)) ≡ 0
+not_in_making : {A : Type 0} (slot : Slot A) (r : Rec) (life : Field) (owed : Bool)
+    → KeepsLife r life slot owed → owed ≡ false → one (is_in_making slot (r (number life) 0)) ≡ 0
 not_in_making slot r life owed keeps none = go slot.live refl
   where
     go : (l : Option _) → slot.live ≡ l → one (is_none l && r (number life) 0 % 2 == 1) ≡ 0
@@ -74,21 +79,26 @@ not_in_making slot r life owed keeps none = go slot.live refl
         let word : r (number life) 0 ≡ 2 * slot.generations = keeps.free e none in
         even (r (number life) 0 % 2 == 1) refl word
       where
-        even : (b : Bool) → r (number life) 0 % 2 == 1 ≡ b → r (number life) 0 ≡ 2 * slot.generations → one b ≡ 0
-        even true odd word = let is = eqb-true (r (number life) 0 % 2) 1 odd in absurd (omega (arith, is, word))
+        even : (b : Bool) → r (number life) 0 % 2 == 1 ≡ b → r (number life) 0 ≡ 2 * slot.generations
+            → one b ≡ 0
+        even true odd word =
+            let is = eqb-true (r (number life) 0 % 2) 1 odd in absurd (omega (arith, is, word))
         even false odd word = refl
 
-in_making_owed : {A : Type 0} (slot : Slot A) (r : Rec) (life : Field) (owed : Bool) → KeepsLife r life slot owed → one (is_in_making slot (r (number life) 0)) ≤ one owed
+in_making_owed : {A : Type 0} (slot : Slot A) (r : Rec) (life : Field) (owed : Bool)
+    → KeepsLife r life slot owed → one (is_in_making slot (r (number life) 0)) ≤ one owed
 in_making_owed slot r life true keeps = most (is_in_making slot (r (number life) 0))
   where
     most : (b : Bool) → one b ≤ 1
     most true = omega arith
     most false = omega arith
-in_making_owed slot r life false keeps = let none = not_in_making slot r life false keeps refl in omega (arith, none)
+in_making_owed slot r life false keeps =
+    let none = not_in_making slot r life false keeps refl in omega (arith, none)
 
 -- ---- a thread
 
-module _ (w : List ℕ) (m : Memory) (s : State) (owes : ℕ → Owed) (words : KeepsWords w m s owes) (i : ℕ) (known : i < s.count) where
+module _ (w : List ℕ) (m : Memory) (s : State) (owes : ℕ → Owed) (words : KeepsWords w m s owes) (i : ℕ)
+    (known : i < s.count) where
   -- no record of a region is owed
   pub no_region_owed : (owes i).region ≡ None → owed_regions w m s i < 1
   no_region_owed none =

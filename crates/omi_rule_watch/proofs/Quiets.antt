@@ -67,21 +67,31 @@ carries_next : (t : ℕ) → HoldsNext (Carries t)
 carries_next t = record { plain = λ c before. omega arith; state = omega arith; arrive = omega arith; finish = omega arith }
 
 -- a thread with an open body works again
-carried_working : (t : ℕ) (p : Program) (a : Actor) → IsAtStart IsMaster a.stack → carried t ≤ most_quiet t (back_to_work p a).counter
-carried_working t p a starts = working_next (Carries t) (carries_next t) p a (λ none. absurd (subst (λ (fs : List Frame). IsAtStart IsMaster fs) none starts))
+carried_working : (t : ℕ) (p : Program) (a : Actor) → IsAtStart IsMaster a.stack
+    → carried t ≤ most_quiet t (back_to_work p a).counter
+carried_working t p a starts =
+    working_next (Carries t) (carries_next t) p a
+    (λ none. absurd (subst (λ (fs : List Frame). IsAtStart IsMaster fs) none starts))
 
 -- ---- where a step goes by what it found
 
 -- a quiet step, or one behind which nothing is counted
-either : (t q : ℕ) (b : Bool) (x y : Actor) (o r : Outcome) → quiet_after o q ≤ most_quiet t x.counter → quiet_after r q ≤ most_quiet t y.counter → quiet_after (if b then o else r) q ≤ most_quiet t (if b then x else y).counter
-either t q b x y o r one other = paired (λ (out : Outcome) (z : Actor). quiet_after out q ≤ most_quiet t z.counter) b o r x y one other
+either : (t q : ℕ) (b : Bool) (x y : Actor) (o r : Outcome) → quiet_after o q ≤ most_quiet t x.counter
+    → quiet_after r q ≤ most_quiet t y.counter
+    → quiet_after (if b then o else r) q ≤ most_quiet t (if b then x else y).counter
+either t q b x y o r one other =
+    paired (λ (out : Outcome) (z : Actor). quiet_after out q ≤ most_quiet t z.counter) b o r x y one other
 
 -- ---- the families
 
-quiet_worker : (p : Program) (w : List ℕ) (a : Actor) (c : WorkerCounter) (old q : ℕ) → q ≤ most_quiet p.threads (counter.Worker c) → quiet_after (worker_outcome w a c old) q ≤ most_quiet p.threads (worker_moved p w a c old).counter
+quiet_worker : (p : Program) (w : List ℕ) (a : Actor) (c : WorkerCounter) (old q : ℕ)
+    → q ≤ most_quiet p.threads (counter.Worker c)
+    → quiet_after (worker_outcome w a c old) q ≤ most_quiet p.threads (worker_moved p w a c old).counter
 quiet_worker p w a worker.Begin old q few = omega arith
 quiet_worker p w a worker.Offer old q few = omega arith
-quiet_worker p w a worker.LoadAssign old q few = either p.threads q (old == 0) a (to_worker (worker.ClearAssign (task_place w old)) a) _ outcome.Quiet (omega arith) (omega (arith, few))
+quiet_worker p w a worker.LoadAssign old q few =
+    either p.threads q (old == 0) a (to_worker (worker.ClearAssign (task_place w old)) a) _ outcome.Quiet
+    (omega arith) (omega (arith, few))
 quiet_worker p w a (worker.ClearAssign t) old q few = omega (arith, few)
 quiet_worker p w a (worker.LoadLife t) old q few = omega (arith, few)
 quiet_worker p w a (worker.LoadFunction t) old q few = omega (arith, few)
@@ -93,77 +103,130 @@ quiet_worker p w a (worker.ImplicitBegin t f r size number) old q few = omega ar
 quiet_worker p w a worker.ImplicitEnd old q few = omega arith
 quiet_worker p w a (worker.AddLeft r) old q few = go p.env.debug
   where
-    go : (b : Bool) → q + 1 ≤ most_quiet p.threads (counter.Worker (if b then worker.IdleState else worker.Offer))
+    go : (b : Bool)
+        → q + 1 ≤ most_quiet p.threads (counter.Worker (if b then worker.IdleState else worker.Offer))
     go true = omega (arith, few)
     go false = omega (arith, few)
 quiet_worker p w a worker.IdleState old q few = omega arith
 
 -- the counter behind a word of a fill, or behind the last one
-filled_to : (t q : ℕ) (b : Bool) (x y : TeamCounter) → q ≤ team_quiet t x → q ≤ team_quiet t y → q ≤ team_quiet t (if b then x else y)
+filled_to : (t q : ℕ) (b : Bool) (x y : TeamCounter) → q ≤ team_quiet t x → q ≤ team_quiet t y
+    → q ≤ team_quiet t (if b then x else y)
 filled_to t q b x y one other = one_of (λ (c : TeamCounter). q ≤ team_quiet t c) b x y one other
 
 -- and behind a life word that was looked at
-searched_to : (t q : ℕ) (b : Bool) (waits : Outcome) (x y : TeamCounter) → quiet_after waits q ≡ 0 → q + 1 ≤ team_quiet t x → quiet_after (if b then outcome.Quiet else waits) q ≤ team_quiet t (if b then x else y)
-searched_to t q b waits x y none few = paired (λ (out : Outcome) (c : TeamCounter). quiet_after out q ≤ team_quiet t c) b outcome.Quiet waits x y few (omega (arith, none))
+searched_to : (t q : ℕ) (b : Bool) (waits : Outcome) (x y : TeamCounter) → quiet_after waits q ≡ 0
+    → q + 1 ≤ team_quiet t x
+    → quiet_after (if b then outcome.Quiet else waits) q ≤ team_quiet t (if b then x else y)
+searched_to t q b waits x y none few =
+    paired
+    (λ (out : Outcome) (c : TeamCounter). quiet_after out q ≤ team_quiet t c) b outcome.Quiet waits x y few
+    (omega (arith, none))
 
-quiet_assigning : (p : Program) (member : ℕ) (a : Actor) (q : ℕ) → IsAtStart IsMaster a.stack → q ≤ member → q ≤ carried p.threads → q ≤ most_quiet p.threads (assigning_from p member a).counter
+quiet_assigning : (p : Program) (member : ℕ) (a : Actor) (q : ℕ) → IsAtStart IsMaster a.stack → q ≤ member
+    → q ≤ carried p.threads → q ≤ most_quiet p.threads (assigning_from p member a).counter
 quiet_assigning p member a q starts few most = go (nat_lt member (team_size a))
   where
-    go : (b : Bool) → q ≤ most_quiet p.threads (if b then to_team (team.Assign member) a else back_to_work p a).counter
+    go : (b : Bool)
+        → q ≤ most_quiet p.threads (if b then to_team (team.Assign member) a else back_to_work p a).counter
     go true = few
     go false = let least = carried_working p.threads p a starts in omega (arith, least, most)
 
-quiet_team : (p : Program) (w : List ℕ) (a : Actor) (c : TeamCounter) (old q : ℕ) → FitsTeam p a c → q ≤ team_quiet p.threads c → quiet_after (team_outcome p w a c old) q ≤ most_quiet p.threads (team_moved p w a c old).counter
+quiet_team : (p : Program) (w : List ℕ) (a : Actor) (c : TeamCounter) (old q : ℕ) → FitsTeam p a c
+    → q ≤ team_quiet p.threads c
+    → quiet_after (team_outcome p w a c old) q ≤ most_quiet p.threads (team_moved p w a c old).counter
 quiet_team p w a team.OverheadState old q fits few = omega arith
 quiet_team p w a team.LoadLevels old q fits few = omega (arith, few)
 quiet_team p w a team.LoadActive old q fits few = omega (arith, few)
 quiet_team p w a (team.LoadVariable word) old q fits few = last (nat_lt (word + 1) VARIABLE_WORDS) refl
   where
-    last : (b : Bool) → nat_lt (word + 1) VARIABLE_WORDS ≡ b → q + 1 ≤ team_quiet p.threads (if b then team.LoadVariable (word + 1) else team.Want)
+    last : (b : Bool) → nat_lt (word + 1) VARIABLE_WORDS ≡ b
+        → q + 1 ≤ team_quiet p.threads (if b then team.LoadVariable (word + 1) else team.Want)
     last true e = omega (arith, few)
     last false e = let within = fits.1 in omega (arith, few, within)
 quiet_team p w a team.Want old q fits few = omega arith
 quiet_team p w a team.Ask old q fits few = omega arith
-quiet_team p w a (team.LoadRegionLife slot) old q fits few = searched_to p.threads q (is_free old) _ (team.TakeRegion (record { 0 = object_in (own_place a slot) old })) (team.LoadRegionLife (next_slot w regions slot)) refl (omega (arith, few))
+quiet_team p w a (team.LoadRegionLife slot) old q fits few =
+    searched_to p.threads q (is_free old) _
+    (team.TakeRegion (record { 0 = object_in (own_place a slot) old }))
+    (team.LoadRegionLife (next_slot w regions slot)) refl (omega (arith, few))
 quiet_team p w a (team.TakeRegion r) old q fits few = omega (arith, few)
-quiet_team p w a (team.FillRegion r word) old q fits few = filled_to p.threads (q + 1) (nat_lt (word + 1) REGION_WORDS) (team.FillRegion r (word + 1)) (team.LoadTaskLife r 0 0) (omega (arith, few)) (let within = fits.1 in omega (arith, few, within))
-quiet_team p w a (team.LoadTaskLife r member slot) old q fits few = searched_to p.threads q (is_free old) _ (team.TakeTask r member (record { 0 = object_in (own_place a slot) old })) (team.LoadTaskLife r member (next_slot w tasks slot)) refl (omega (arith, few))
+quiet_team p w a (team.FillRegion r word) old q fits few =
+    filled_to p.threads (q + 1) (nat_lt (word + 1) REGION_WORDS) (team.FillRegion r (word + 1))
+    (team.LoadTaskLife r 0 0) (omega (arith, few)) (let within = fits.1 in omega (arith, few, within))
+quiet_team p w a (team.LoadTaskLife r member slot) old q fits few =
+    searched_to p.threads q (is_free old) _
+    (team.TakeTask r member (record { 0 = object_in (own_place a slot) old }))
+    (team.LoadTaskLife r member (next_slot w tasks slot)) refl (omega (arith, few))
 quiet_team p w a (team.TakeTask r member t) old q fits few = omega (arith, few)
-quiet_team p w a (team.FillTask r member t word) old q fits few = filled_to p.threads (q + 1) (nat_lt (word + 1) TASK_WORDS) (team.FillTask r member t (word + 1)) (team.StoreMember r member t) (omega (arith, few)) (let within = fits.1 in omega (arith, few, within))
-quiet_team p w a (team.StoreMember r member t) old q fits few = filled_to p.threads (q + 1) (nat_lt (member + 1) (team_size a)) (team.LoadTaskLife r (member + 1) 0) (team.Fork r) (omega (arith, few)) (let all = fits.0.0.2 in let one = fits.1 in omega (arith, few, all, one))
+quiet_team p w a (team.FillTask r member t word) old q fits few =
+    filled_to p.threads (q + 1) (nat_lt (word + 1) TASK_WORDS) (team.FillTask r member t (word + 1))
+    (team.StoreMember r member t) (omega (arith, few)) (let within = fits.1 in omega (arith, few, within))
+quiet_team p w a (team.StoreMember r member t) old q fits few =
+    filled_to p.threads (q + 1) (nat_lt (member + 1) (team_size a)) (team.LoadTaskLife r (member + 1) 0)
+    (team.Fork r) (omega (arith, few))
+    (let all = fits.0.0.2 in let one = fits.1 in omega (arith, few, all, one))
 quiet_team p w a (team.Fork r) old q fits few = omega arith
-quiet_team p w a (team.Assign member) old q fits few = quiet_assigning p (member + 1) a (q + 1) fits.0 (omega (arith, few)) (let one = fits.2 in let all = fits.3 in omega (arith, few, one, all))
+quiet_team p w a (team.Assign member) old q fits few =
+    quiet_assigning p (member + 1) a (q + 1) fits.0 (omega (arith, few))
+    (let one = fits.2 in let all = fits.3 in omega (arith, few, one, all))
 
-quiet_barrier : (p : Program) (w : List ℕ) (a : Actor) (c : BarrierCounter) (old q : ℕ) → q ≤ most_quiet p.threads (counter.Barrier c) → quiet_after (barrier_outcome w a c old) q ≤ most_quiet p.threads (barrier_moved p a c old).counter
+quiet_barrier : (p : Program) (w : List ℕ) (a : Actor) (c : BarrierCounter) (old q : ℕ)
+    → q ≤ most_quiet p.threads (counter.Barrier c)
+    → quiet_after (barrier_outcome w a c old) q ≤ most_quiet p.threads (barrier_moved p a c old).counter
 quiet_barrier p w a (barrier.State b) old q few = omega arith
 quiet_barrier p w a (barrier.Arrive b) old q few = omega arith
-quiet_barrier p w a (barrier.LoadArrived b) old q few = either p.threads q (some_missing a old) (looking b a) (to_barrier (barrier.LoadPending b) a) _ outcome.Quiet (omega arith) (omega (arith, few))
-quiet_barrier p w a (barrier.LoadPending b) old q few = either p.threads q (old == 0) (to_barrier (barrier.Release b) a) (looking b a) outcome.Quiet _ (omega (arith, few)) (omega arith)
+quiet_barrier p w a (barrier.LoadArrived b) old q few =
+    either p.threads q (some_missing a old) (looking b a)
+    (to_barrier (barrier.LoadPending b) a) _ outcome.Quiet (omega arith) (omega (arith, few))
+quiet_barrier p w a (barrier.LoadPending b) old q few =
+    either p.threads q (old == 0) (to_barrier (barrier.Release b) a) (looking b a) outcome.Quiet _
+    (omega (arith, few)) (omega arith)
 quiet_barrier p w a (barrier.Release b) old q few = omega arith
-quiet_barrier p w a (barrier.LoadReleased b) old q few = either p.threads q (is_closed a old) (looking b a) (passed p b a) _ _ (omega arith) (omega arith)
+quiet_barrier p w a (barrier.LoadReleased b) old q few =
+    either p.threads q (is_closed a old) (looking b a) (passed p b a) _ _ (omega arith) (omega arith)
 
-quiet_join : (p : Program) (w : List ℕ) (a : Actor) (c : JoinCounter) (old q : ℕ) → IsJoinKept c → q ≤ most_quiet p.threads (counter.Join c) → quiet_after (join_outcome w a c old) q ≤ most_quiet p.threads (join_moved p w a c old).counter
-quiet_join p w a join.LoadLeft old q kept few = either p.threads q (some_inside a old) a (to_join join.Join a) _ outcome.Quiet (omega arith) (omega (arith, few))
+quiet_join : (p : Program) (w : List ℕ) (a : Actor) (c : JoinCounter) (old q : ℕ) → IsJoinKept c
+    → q ≤ most_quiet p.threads (counter.Join c)
+    → quiet_after (join_outcome w a c old) q ≤ most_quiet p.threads (join_moved p w a c old).counter
+quiet_join p w a join.LoadLeft old q kept few =
+    either p.threads q (some_inside a old) a (to_join join.Join a) _ outcome.Quiet (omega arith)
+    (omega (arith, few))
 quiet_join p w a join.Join old q kept few = omega arith
 quiet_join p w a (join.LoadMember r size member) old q kept few = absurd kept
 quiet_join p w a (join.LoadLife r size member t) old q kept few = absurd kept
 quiet_join p w a (join.FreeTask r size member t) old q kept few = absurd kept
 quiet_join p w a (join.FreeRegion r size) old q kept few = absurd kept
 
-made_to : (q : ℕ) (b : Bool) (x y : TaskCounter) → q ≤ making_quiet x → q ≤ making_quiet y → q ≤ making_quiet (if b then x else y)
+made_to : (q : ℕ) (b : Bool) (x y : TaskCounter) → q ≤ making_quiet x → q ≤ making_quiet y
+    → q ≤ making_quiet (if b then x else y)
 made_to q b x y one other = one_of (λ (c : TaskCounter). q ≤ making_quiet c) b x y one other
 
-made_from : (q : ℕ) (b : Bool) (other : Outcome) (x y : TaskCounter) → quiet_after other q ≡ 0 → q + 1 ≤ making_quiet x → quiet_after (if b then outcome.Quiet else other) q ≤ making_quiet (if b then x else y)
-made_from q b other x y none few = paired (λ (out : Outcome) (c : TaskCounter). quiet_after out q ≤ making_quiet c) b outcome.Quiet other x y few (omega (arith, none))
+made_from : (q : ℕ) (b : Bool) (other : Outcome) (x y : TaskCounter) → quiet_after other q ≡ 0
+    → q + 1 ≤ making_quiet x
+    → quiet_after (if b then outcome.Quiet else other) q ≤ making_quiet (if b then x else y)
+made_from q b other x y none few =
+    paired
+    (λ (out : Outcome) (c : TaskCounter). quiet_after out q ≤ making_quiet c) b outcome.Quiet other x y few
+    (omega (arith, none))
 
-quiet_making : (p : Program) (w : List ℕ) (a : Actor) (c : TaskCounter) (old q : ℕ) → FitsTask p a c → IsTaskKept c → q ≤ making_quiet c → quiet_after (making_outcome w a c old) q ≤ most_quiet p.threads (making_moved p w a c old).counter
+quiet_making : (p : Program) (w : List ℕ) (a : Actor) (c : TaskCounter) (old q : ℕ) → FitsTask p a c
+    → IsTaskKept c → q ≤ making_quiet c
+    → quiet_after (making_outcome w a c old) q ≤ most_quiet p.threads (making_moved p w a c old).counter
 quiet_making p w a (task.LoadSlot place) old q fits kept few =
-    made_from q (old == 0) _ (task.LoadVariable (Some place) 0) (if nat_lt (place + 1) OWN_SLOTS then task.LoadSlot (place + 1) else task.LoadVariable None 0) refl (omega (arith, few))
-quiet_making p w a (task.LoadVariable place word) old q fits kept few = made_to (q + 1) (nat_lt (word + 1) VARIABLE_WORDS) (task.LoadVariable place (word + 1)) (task.LoadLife place 0) (omega (arith, few)) (let within = fits.1 in omega (arith, few, within))
+    made_from q (old == 0) _ (task.LoadVariable (Some place) 0)
+    (if nat_lt (place + 1) OWN_SLOTS then task.LoadSlot (place + 1) else task.LoadVariable None 0) refl
+    (omega (arith, few))
+quiet_making p w a (task.LoadVariable place word) old q fits kept few =
+    made_to (q + 1) (nat_lt (word + 1) VARIABLE_WORDS) (task.LoadVariable place (word + 1))
+    (task.LoadLife place 0) (omega (arith, few)) (let within = fits.1 in omega (arith, few, within))
 quiet_making p w a (task.LoadLife place slot) old q fits kept few =
-    made_from q (is_free old) _ (task.Take place (record { 0 = object_in (own_place a slot) old })) (task.LoadLife place (next_slot w tasks slot)) refl (omega (arith, few))
+    made_from q (is_free old) _ (task.Take place (record { 0 = object_in (own_place a slot) old }))
+    (task.LoadLife place (next_slot w tasks slot)) refl (omega (arith, few))
 quiet_making p w a (task.Take place t) old q fits kept few = omega (arith, few)
-quiet_making p w a (task.Fill place t word) old q fits kept few = made_to (q + 1) (nat_lt (word + 1) TASK_WORDS) (task.Fill place t (word + 1)) (task.AddPending place t) (omega (arith, few)) (let within = fits.1 in omega (arith, few, within))
+quiet_making p w a (task.Fill place t word) old q fits kept few =
+    made_to (q + 1) (nat_lt (word + 1) TASK_WORDS) (task.Fill place t (word + 1)) (task.AddPending place t)
+    (omega (arith, few)) (let within = fits.1 in omega (arith, few, within))
 quiet_making p w a (task.AddPending place t) old q fits kept few = omega (arith, few)
 quiet_making p w a (task.AddChildren None t) old q fits kept few = omega (arith, few)
 quiet_making p w a (task.AddChildren (Some place) t) old q fits kept few = omega (arith, few)
@@ -174,13 +237,17 @@ quiet_making p w a (task.StartNow t) old q fits kept few = omega arith
 -- ---- waits
 
 no_statement : (p : Program) (a : Actor) (w : Wait) → a.stack ≡ [] → Waits p a w → ⊥
-no_statement p a (wait.Barrier Explicit) none waits = absurd (cc (subst (λ fs. IsAtBarrier p fs Explicit) none waits.0))
+no_statement p a (wait.Barrier Explicit) none waits =
+    absurd (cc (subst (λ fs. IsAtBarrier p fs Explicit) none waits.0))
 no_statement p a (wait.Barrier Implicit) none waits = subst (λ fs. IsAtBarrier p fs Implicit) none waits.0
-no_statement p a wait.Taskwait none waits = let is = subst (λ fs. IsAt p fs stmt.Taskwait) none waits in absurd (cc is)
-no_statement p a wait.Taskyield none waits = let is = subst (λ fs. IsAt p fs stmt.Taskyield) none waits in absurd (cc is)
+no_statement p a wait.Taskwait none waits =
+    let is = subst (λ fs. IsAt p fs stmt.Taskwait) none waits in absurd (cc is)
+no_statement p a wait.Taskyield none waits =
+    let is = subst (λ fs. IsAt p fs stmt.Taskyield) none waits in absurd (cc is)
 
 -- a team has at most all threads
-pub size_is_few : (p : Program) (a : Actor) (w : Wait) → AreOpen p a.context a.stack → Waits p a w → a.context.size ≤ p.threads
+pub size_is_few : (p : Program) (a : Actor) (w : Wait) → AreOpen p a.context a.stack → Waits p a w
+    → a.context.size ≤ p.threads
 size_is_few p a w bodies waits = go a.stack refl bodies
   where
     go : (fs : List Frame) → a.stack ≡ fs → AreOpen p a.context fs → a.context.size ≤ p.threads
@@ -188,36 +255,45 @@ size_is_few p a w bodies waits = go a.stack refl bodies
     go (f ∷ fs) is bodies = bodies.0.context.size.1
 
 -- the next slot is looked at, or the wait goes on behind the last one
-quiet_on : (p : Program) (a : Actor) (v : Wait) (n : ℕ) (row : Place) (q : ℕ) → n < slots_of a → a.context.size ≤ p.threads → q ≤ at_look p.threads n + 3 → q + 1 ≤ most_quiet p.threads (next_look a v (n + 1) row)
+quiet_on : (p : Program) (a : Actor) (v : Wait) (n : ℕ) (row : Place) (q : ℕ) → n < slots_of a
+    → a.context.size ≤ p.threads → q ≤ at_look p.threads n + 3
+    → q + 1 ≤ most_quiet p.threads (next_look a v (n + 1) row)
 quiet_on p a v n row q within all few = go (nat_lt (n + 1) (slots_of a))
   where
     behind : (v : Wait) → q + 1 ≤ most_quiet p.threads (behind_look a v)
     behind (wait.Barrier b) = first (a.context.number == 0)
       where
-        first : (d : Bool) → q + 1 ≤ most_quiet p.threads (counter.Barrier (if d then barrier.LoadArrived b else barrier.LoadReleased b))
+        first : (d : Bool)
+            → q + 1 ≤ most_quiet p.threads (counter.Barrier (if d then barrier.LoadArrived b else barrier.LoadReleased b))
         first true = omega (arith, few, within, all)
         first false = omega (arith, few, within, all)
     behind wait.Taskwait = omega (arith, few, within, all)
     behind wait.Taskyield = omega (arith, few, within, all)
 
-    at : (d : Bool) → q + 1 ≤ most_quiet p.threads (counter.Look (if d then look.LoadRow v (n + 1) else look.LoadSlot v (n + 1) row))
+    at : (d : Bool)
+        → q + 1 ≤ most_quiet p.threads (counter.Look (if d then look.LoadRow v (n + 1) else look.LoadSlot v (n + 1) row))
     at true = omega (arith, few)
     at false = omega (arith, few)
 
-    go : (b : Bool) → q + 1 ≤ most_quiet p.threads (if b then counter.Look (look_at v (n + 1) row) else behind_look a v)
+    go : (b : Bool)
+        → q + 1 ≤ most_quiet p.threads (if b then counter.Look (look_at v (n + 1) row) else behind_look a v)
     go true = at ((n + 1) % OWN_SLOTS == 0)
     go false = behind v
 
 -- one of two counters behind a quiet step
-quietly : (t q : ℕ) (b : Bool) (x y : Actor) → q ≤ most_quiet t x.counter → q ≤ most_quiet t y.counter → q ≤ most_quiet t (if b then x else y).counter
+quietly : (t q : ℕ) (b : Bool) (x y : Actor) → q ≤ most_quiet t x.counter → q ≤ most_quiet t y.counter
+    → q ≤ most_quiet t (if b then x else y).counter
 quietly t q b x y one other = one_of (λ (z : Actor). q ≤ most_quiet t z.counter) b x y one other
 
-quiet_code : (t : ℕ) (v : Wait) (n : ℕ) (row : Place) (code q : ℕ) → q ≤ at_look t n + 1 → q + 1 ≤ most_quiet t (counter.Look (behind_code v n row code))
+quiet_code : (t : ℕ) (v : Wait) (n : ℕ) (row : Place) (code q : ℕ) → q ≤ at_look t n + 1
+    → q + 1 ≤ most_quiet t (counter.Look (behind_code v n row code))
 quiet_code t (wait.Barrier b) n row code q few = omega (arith, few)
 quiet_code t wait.Taskwait n row code q few = omega (arith, few)
 quiet_code t wait.Taskyield n row code q few = omega (arith, few)
 
-quiet_looks : (p : Program) (w : List ℕ) (a : Actor) (c : LookCounter) (old q : ℕ) → AreOpen p a.context a.stack → FitsLook p a c → q ≤ most_quiet p.threads (counter.Look c) → quiet_after (look_outcome w a c old) q ≤ most_quiet p.threads (look_moved p w a c old).counter
+quiet_looks : (p : Program) (w : List ℕ) (a : Actor) (c : LookCounter) (old q : ℕ)
+    → AreOpen p a.context a.stack → FitsLook p a c → q ≤ most_quiet p.threads (counter.Look c)
+    → quiet_after (look_outcome w a c old) q ≤ most_quiet p.threads (look_moved p w a c old).counter
 quiet_looks p w a (look.State v) old q bodies fits few = omega arith
 quiet_looks p w a (look.LoadRow v n) old q bodies fits few = omega (arith, few)
 quiet_looks p w a (look.LoadSlot v n row) old q bodies fits few =
@@ -225,37 +301,48 @@ quiet_looks p w a (look.LoadSlot v n row) old q bodies fits few =
     (quiet_on p a v n row q fits.0.1 (size_is_few p a v bodies fits.0.0) (omega (arith, few)))
     (quiet_code p.threads v n row old q few)
 quiet_looks p w a (look.LoadGenerating v n row code) old q bodies fits few =
-    quietly p.threads (q + 1) (old == _) (to_look (look.Take v n row code) a) (looking_on v n row a) (omega (arith, few))
+    quietly p.threads (q + 1) (old == _) (to_look (look.Take v n row code) a) (looking_on v n row a)
+    (omega (arith, few))
     (quiet_on p a v n row q fits.0.0.1 (size_is_few p a v bodies fits.0.0.0) (omega (arith, few)))
 quiet_looks p w a (look.Take v n row code) old q bodies fits few =
-    quietly p.threads (q + 1) (old == code) (to_look (look.LoadFunction v n code (coded_task w code)) a) (looking_on v n row a) (omega (arith, few))
+    quietly p.threads (q + 1) (old == code) (to_look (look.LoadFunction v n code (coded_task w code)) a)
+    (looking_on v n row a) (omega (arith, few))
     (quiet_on p a v n row q fits.0.0.1 (size_is_few p a v bodies fits.0.0.0) (omega (arith, few)))
 quiet_looks p w a (look.LoadFunction v n code t) old q bodies fits few = omega (arith, few)
 quiet_looks p w a (look.LoadFinal v n code t f) old q bodies fits few = omega (arith, few)
-quiet_looks p w a (look.Fill v n code t f final word) old q bodies fits few = go (nat_lt (word + 1) START_WORDS)
+quiet_looks p w a (look.Fill v n code t f final word) old q bodies fits few =
+    go (nat_lt (word + 1) START_WORDS)
   where
-    go : (b : Bool) → q + 1 ≤ most_quiet p.threads (counter.Look (if b then look.Fill v n code t f final (word + 1) else look.Start v n code t f final))
+    go : (b : Bool)
+        → q + 1 ≤ most_quiet p.threads (counter.Look (if b then look.Fill v n code t f final (word + 1) else look.Start v n code t f final))
     go true = omega (arith, few)
     go false = let within = fits.1 in omega (arith, few, within)
 quiet_looks p w a (look.Start v n code t f final) old q bodies fits few = omega arith
-quiet_looks p w a look.LoadChildren old q bodies fits few = either p.threads q (old == 0) (back_to_work p a) (to_look (look.LoadRow wait.Taskwait 0) a) _ _ (omega arith) (omega arith)
+quiet_looks p w a look.LoadChildren old q bodies fits few =
+    either p.threads q (old == 0) (back_to_work p a) (to_look (look.LoadRow wait.Taskwait 0) a) _ _
+    (omega arith) (omega arith)
 quiet_looks p w a (look.Yield n) old q bodies fits few = omega arith
 
-quiet_back : (p : Program) (v : Option Wait) (q : ℕ) → q ≤ 2 → q + 1 ≤ most_quiet p.threads (behind_finish p v)
+quiet_back : (p : Program) (v : Option Wait) (q : ℕ) → q ≤ 2
+    → q + 1 ≤ most_quiet p.threads (behind_finish p v)
 quiet_back p None q few = omega (arith, few)
 quiet_back p (Some wait.Taskyield) q few = omega (arith, few)
 quiet_back p (Some wait.Taskwait) q few = go p.env.debug
   where
-    go : (b : Bool) → q + 1 ≤ most_quiet p.threads (counter.Look (if b then look.State wait.Taskwait else look.LoadRow wait.Taskwait 0))
+    go : (b : Bool)
+        → q + 1 ≤ most_quiet p.threads (counter.Look (if b then look.State wait.Taskwait else look.LoadRow wait.Taskwait 0))
     go true = omega (arith, few)
     go false = omega (arith, few)
 quiet_back p (Some (wait.Barrier b)) q few = go p.env.debug
   where
-    go : (d : Bool) → q + 1 ≤ most_quiet p.threads (counter.Look (if d then look.State (wait.Barrier b) else look.LoadRow (wait.Barrier b) 0))
+    go : (d : Bool)
+        → q + 1 ≤ most_quiet p.threads (counter.Look (if d then look.State (wait.Barrier b) else look.LoadRow (wait.Barrier b) 0))
     go true = omega (arith, few)
     go false = omega (arith, few)
 
-quiet_finish : (p : Program) (w : List ℕ) (a : Actor) (c : FinishCounter) (old q : ℕ) → IsFinishKept c → q ≤ most_quiet p.threads (counter.Finish c) → quiet_after (finish_outcome a c) q ≤ most_quiet p.threads (finish_moved p w a c old).counter
+quiet_finish : (p : Program) (w : List ℕ) (a : Actor) (c : FinishCounter) (old q : ℕ) → IsFinishKept c
+    → q ≤ most_quiet p.threads (counter.Finish c)
+    → quiet_after (finish_outcome a c) q ≤ most_quiet p.threads (finish_moved p w a c old).counter
 quiet_finish p w a finish.Finish old q kept few = omega arith
 quiet_finish p w a (finish.LoadGenerating v t) old q kept few = omega (arith, few)
 quiet_finish p w a (finish.SubtractChildren v t generating) old q kept few = omega (arith, few)
@@ -267,11 +354,13 @@ quiet_finish p w a (finish.LoadNext v generating) old q kept few = absurd kept
 quiet_finish p w a (finish.LoadLife v generating next) old q kept few = absurd kept
 quiet_finish p w a (finish.SubtractGenerating v generating explicit) old q kept few = absurd kept
 
-not_quiet : (q : ℕ) (b : Bool) (x y : Outcome) → quiet_after x q ≡ 0 → quiet_after y q ≡ 0 → quiet_after (if b then x else y) q ≡ 0
+not_quiet : (q : ℕ) (b : Bool) (x y : Outcome) → quiet_after x q ≡ 0 → quiet_after y q ≡ 0
+    → quiet_after (if b then x else y) q ≡ 0
 not_quiet q b x y one other = one_of (λ (out : Outcome). quiet_after out q ≡ 0) b x y one other
 
 -- no plain step is quiet
-quiet_plain : (p : Program) (w : List ℕ) (a : Actor) (c : PlainCounter) (old q : ℕ) → quiet_after (plain_outcome p w a c old) q ≡ 0
+quiet_plain : (p : Program) (w : List ℕ) (a : Actor) (c : PlainCounter) (old q : ℕ)
+    → quiet_after (plain_outcome p w a c old) q ≡ 0
 quiet_plain p w a plain.Work old q = refl
 quiet_plain p w a plain.Call old q = refl
 quiet_plain p w a plain.Skip old q = refl
@@ -289,7 +378,8 @@ quiet_plain p w a plain.Ended old q = refl
 
 -- ---- each step
 
-quiet_goes : (p : Program) (w : List ℕ) (a : Actor) (c : Counter) (old q : ℕ) → AreOpen p a.context a.stack → FitsCounter p a c → IsKept c → q ≤ most_quiet p.threads c
+quiet_goes : (p : Program) (w : List ℕ) (a : Actor) (c : Counter) (old q : ℕ) → AreOpen p a.context a.stack
+    → FitsCounter p a c → IsKept c → q ≤ most_quiet p.threads c
     → quiet_after (resumed_at p w a c old).1 q ≤ most_quiet p.threads (resumed_at p w a c old).0.counter
 quiet_goes p w a (counter.Worker c) old q bodies fits kept few = quiet_worker p w a c old q few
 quiet_goes p w a (counter.Team c) old q bodies fits kept few = quiet_team p w a c old q fits few
@@ -298,29 +388,40 @@ quiet_goes p w a (counter.Join c) old q bodies fits kept few = quiet_join p w a 
 quiet_goes p w a (counter.Task c) old q bodies fits kept few = quiet_making p w a c old q fits kept few
 quiet_goes p w a (counter.Look c) old q bodies fits kept few = quiet_looks p w a c old q bodies fits few
 quiet_goes p w a (counter.Finish c) old q bodies fits kept few = quiet_finish p w a c old q kept few
-quiet_goes p w a (counter.Plain c) old q bodies fits kept few = let none = quiet_plain p w a c old q in omega (arith, none)
+quiet_goes p w a (counter.Plain c) old q bodies fits kept few =
+    let none = quiet_plain p w a c old q in omega (arith, none)
 
 -- ---- the bound
 
-few_looks : (p : Program) (a : Actor) (v : Wait) (n k : ℕ) → AreOpen p a.context a.stack → Waits p a v → n < slots_of a → k ≤ 11 → at_look p.threads n + k + 1 ≤ most_in_row p.threads
-few_looks p a v n k bodies waits within few = let all = size_is_few p a v bodies waits in omega (arith, within, all, few)
+few_looks : (p : Program) (a : Actor) (v : Wait) (n k : ℕ) → AreOpen p a.context a.stack → Waits p a v
+    → n < slots_of a → k ≤ 11 → at_look p.threads n + k + 1 ≤ most_in_row p.threads
+few_looks p a v n k bodies waits within few =
+    let all = size_is_few p a v bodies waits in omega (arith, within, all, few)
 
-few_look : (p : Program) (a : Actor) (c : LookCounter) → AreOpen p a.context a.stack → FitsLook p a c → most_quiet p.threads (counter.Look c) + 1 ≤ most_in_row p.threads
+few_look : (p : Program) (a : Actor) (c : LookCounter) → AreOpen p a.context a.stack → FitsLook p a c
+    → most_quiet p.threads (counter.Look c) + 1 ≤ most_in_row p.threads
 few_look p a (look.State v) bodies fits = omega arith
-few_look p a (look.LoadRow v n) bodies fits = let bound = few_looks p a v n 0 bodies fits.0.0 fits.0.1 (omega arith) in omega (arith, bound)
+few_look p a (look.LoadRow v n) bodies fits =
+    let bound = few_looks p a v n 0 bodies fits.0.0 fits.0.1 (omega arith) in omega (arith, bound)
 few_look p a (look.LoadSlot v n row) bodies fits = few_looks p a v n 1 bodies fits.0.0 fits.0.1 (omega arith)
-few_look p a (look.LoadGenerating v n row code) bodies fits = few_looks p a v n 2 bodies fits.0.0.0 fits.0.0.1 (omega arith)
-few_look p a (look.Take v n row code) bodies fits = few_looks p a v n 3 bodies fits.0.0.0 fits.0.0.1 (omega arith)
-few_look p a (look.LoadFunction v n code t) bodies fits = few_looks p a v n 4 bodies fits.0.0 fits.0.1 (omega arith)
-few_look p a (look.LoadFinal v n code t f) bodies fits = few_looks p a v n 5 bodies fits.0.0.0 fits.0.0.1 (omega arith)
+few_look p a (look.LoadGenerating v n row code) bodies fits =
+    few_looks p a v n 2 bodies fits.0.0.0 fits.0.0.1 (omega arith)
+few_look p a (look.Take v n row code) bodies fits =
+    few_looks p a v n 3 bodies fits.0.0.0 fits.0.0.1 (omega arith)
+few_look p a (look.LoadFunction v n code t) bodies fits =
+    few_looks p a v n 4 bodies fits.0.0 fits.0.1 (omega arith)
+few_look p a (look.LoadFinal v n code t f) bodies fits =
+    few_looks p a v n 5 bodies fits.0.0.0 fits.0.0.1 (omega arith)
 few_look p a (look.Fill v n code t f final word) bodies fits =
     let bound = few_looks p a v n 11 bodies fits.0.0.0.0 fits.0.0.0.1 (omega arith) in
     let last = fits.1 in omega (arith, bound, last)
-few_look p a (look.Start v n code t f final) bodies fits = few_looks p a v n 11 bodies fits.0.0.0 fits.0.0.1 (omega arith)
+few_look p a (look.Start v n code t f final) bodies fits =
+    few_looks p a v n 11 bodies fits.0.0.0 fits.0.0.1 (omega arith)
 few_look p a look.LoadChildren bodies fits = omega arith
 few_look p a (look.Yield n) bodies fits = omega arith
 
-few_team : (p : Program) (a : Actor) (c : TeamCounter) → FitsTeam p a c → team_quiet p.threads c + 1 ≤ most_in_row p.threads
+few_team : (p : Program) (a : Actor) (c : TeamCounter) → FitsTeam p a c
+    → team_quiet p.threads c + 1 ≤ most_in_row p.threads
 few_team p a team.OverheadState fits = omega arith
 few_team p a team.LoadLevels fits = omega arith
 few_team p a team.LoadActive fits = omega arith
@@ -330,10 +431,14 @@ few_team p a team.Ask fits = omega arith
 few_team p a (team.LoadRegionLife slot) fits = omega arith
 few_team p a (team.TakeRegion r) fits = omega arith
 few_team p a (team.FillRegion r word) fits = let within = fits.1 in omega (arith, within)
-few_team p a (team.LoadTaskLife r member slot) fits = let all = fits.0.0.2 in let one = fits.1 in omega (arith, all, one)
-few_team p a (team.TakeTask r member t) fits = let all = fits.0.0.2 in let one = fits.1 in omega (arith, all, one)
-few_team p a (team.FillTask r member t word) fits = let all = fits.0.0.0.2 in let one = fits.0.1 in let within = fits.1 in omega (arith, all, one, within)
-few_team p a (team.StoreMember r member t) fits = let all = fits.0.0.2 in let one = fits.1 in omega (arith, all, one)
+few_team p a (team.LoadTaskLife r member slot) fits =
+    let all = fits.0.0.2 in let one = fits.1 in omega (arith, all, one)
+few_team p a (team.TakeTask r member t) fits =
+    let all = fits.0.0.2 in let one = fits.1 in omega (arith, all, one)
+few_team p a (team.FillTask r member t word) fits =
+    let all = fits.0.0.0.2 in let one = fits.0.1 in let within = fits.1 in omega (arith, all, one, within)
+few_team p a (team.StoreMember r member t) fits =
+    let all = fits.0.0.2 in let one = fits.1 in omega (arith, all, one)
 few_team p a (team.Fork r) fits = omega arith
 few_team p a (team.Assign member) fits = let one = fits.2 in let all = fits.3 in omega (arith, one, all)
 
@@ -349,7 +454,8 @@ few_join : (t : ℕ) (c : JoinCounter) → most_quiet t (counter.Join c) + 1 ≤
 few_join t join.LoadLeft = omega arith
 few_join t c = omega arith
 
-few_making : (p : Program) (a : Actor) (c : TaskCounter) → FitsTask p a c → making_quiet c + 1 ≤ most_in_row p.threads
+few_making : (p : Program) (a : Actor) (c : TaskCounter) → FitsTask p a c
+    → making_quiet c + 1 ≤ most_in_row p.threads
 few_making p a (task.LoadVariable place word) fits = let within = fits.1 in omega (arith, within)
 few_making p a (task.Fill place t word) fits = let within = fits.1 in omega (arith, within)
 few_making p a c fits = omega arith
@@ -358,7 +464,8 @@ few_finish : (t : ℕ) (c : FinishCounter) → finish_quiet t c + 1 ≤ most_in_
 few_finish t finish.Finish = omega arith
 few_finish t c = omega arith
 
-few_at : (p : Program) (a : Actor) (c : Counter) → AreOpen p a.context a.stack → FitsCounter p a c → most_quiet p.threads c + 1 ≤ most_in_row p.threads
+few_at : (p : Program) (a : Actor) (c : Counter) → AreOpen p a.context a.stack → FitsCounter p a c
+    → most_quiet p.threads c + 1 ≤ most_in_row p.threads
 few_at p a (counter.Worker c) bodies fits = few_worker p.threads c
 few_at p a (counter.Team c) bodies fits = few_team p a c fits
 few_at p a (counter.Barrier c) bodies fits = few_barrier p.threads c

@@ -34,12 +34,14 @@ pub rests_join : (c : JoinCounter) → Rests (counter.Join c)
 rests_join c = record { region = refl; task = refl; look = λ a h. tt }
 
 -- one of two
-pub rests_actor : (b : Bool) (x y : Actor) → Rests x.counter → Rests y.counter → Rests (if b then x else y).counter
+pub rests_actor : (b : Bool) (x y : Actor) → Rests x.counter → Rests y.counter
+    → Rests (if b then x else y).counter
 rests_actor b x y one other = one_of (λ (z : Actor). Rests z.counter) b x y one other
 
 -- ---- moves between statements
 
-rests_end : (debug : Bool) → Rests (counter.Barrier (if debug then barrier.State Implicit else barrier.Arrive Implicit))
+rests_end : (debug : Bool)
+    → Rests (counter.Barrier (if debug then barrier.State Implicit else barrier.Arrive Implicit))
 rests_end true = record { region = refl; task = refl; look = λ a h. tt }
 rests_end false = record { region = refl; task = refl; look = λ a h. tt }
 
@@ -53,7 +55,8 @@ rests_settled p a alone = settled_next Rests rests_next p a alone
 pub rests_worked : (p : Program) (a : Actor) → (a.stack ≡ [] → Rests a.counter) → Rests (worked p a).counter
 rests_worked p a alone = worked_next Rests rests_next p a alone
 
-pub rests_working : (p : Program) (a : Actor) → (a.stack ≡ [] → Rests a.counter) → Rests (back_to_work p a).counter
+pub rests_working : (p : Program) (a : Actor) → (a.stack ≡ [] → Rests a.counter)
+    → Rests (back_to_work p a).counter
 rests_working p a alone = working_next Rests rests_next p a alone
 
 pub rests_returned : (p : Program) (a : Actor) → Rests a.counter → Rests (returned p a).counter

@@ -25,52 +25,76 @@ use Rattle.omi_rule_watch.proofs.Resting.{Rests}
 use Rattle.omi_rule_watch.proofs.Standing.{same_number, word_of}
 
 -- the life word that is expected is loaded
-pub expects_this : (h : Search) (address : ℕ) (x : RecordWord) → (h.expected ≡ None) ⊎ (h.expected ≡ Some x) → IsExpected h.expected (op.Load address) x
+pub expects_this : (h : Search) (address : ℕ) (x : RecordWord) → (h.expected ≡ None) ⊎ (h.expected ≡ Some x)
+    → IsExpected h.expected (op.Load address) x
 expects_this h address x (inl none) = expects_none h (op.Load address) x none
-expects_this h address x (inr some) = subst (λ (e : Option RecordWord). IsExpected e (op.Load address) x) (sym some) (refl, refl)
+expects_this h address x (inr some) =
+    subst (λ (e : Option RecordWord). IsExpected e (op.Load address) x) (sym some) (refl, refl)
 
 -- the slot behind one
-slot_behind : (w : List ℕ) (kind slot : ℕ) → slot < per_thread w kind → (slot + 1) % per_thread w kind ≡ next_slot w kind slot
+slot_behind : (w : List ℕ) (kind slot : ℕ) → slot < per_thread w kind
+    → (slot + 1) % per_thread w kind ≡ next_slot w kind slot
 slot_behind w kind slot within = go (nat_lt (slot + 1) (per_thread w kind)) refl
   where
-    go : (b : Bool) → nat_lt (slot + 1) (per_thread w kind) ≡ b → (slot + 1) % per_thread w kind ≡ (if b then slot + 1 else 0)
-    go true e = sym (ap (λ n. (n + (slot + 1)) % per_thread w kind) (zero-mul (per_thread w kind)) ∙ ap (λ n. n % per_thread w kind) (zero-add (slot + 1))) ∙ mod-mul-add 0 (per_thread w kind) (slot + 1) (ltb-true (slot + 1) (per_thread w kind) e)
-    go false e = let last : slot + 1 ≡ per_thread w kind = grind (arith, nat_tests, e, within) in ap (λ n. n % per_thread w kind) last ∙ mod_self (per_thread w kind)
+    go : (b : Bool) → nat_lt (slot + 1) (per_thread w kind) ≡ b
+        → (slot + 1) % per_thread w kind ≡ (if b then slot + 1 else 0)
+    go true e =
+        sym
+        (ap (λ n. (n + (slot + 1)) % per_thread w kind) (zero-mul (per_thread w kind)) ∙ ap (λ n. n % per_thread w kind) (zero-add (slot + 1)))
+        ∙ mod-mul-add 0 (per_thread w kind) (slot + 1) (ltb-true (slot + 1) (per_thread w kind) e)
+    go false e =
+        let last : slot + 1 ≡ per_thread w kind = grind (arith, nat_tests, e, within) in ap (λ n. n % per_thread w kind) last ∙ mod_self (per_thread w kind)
 
 -- ---- one arena, that of regions or of tasks, by its life word
 
 -- a free record is found
-found_one : (life : Field) (i : ℕ) (x : RecordWord) (address found : ℕ) (r : Option Id) → r ≡ None → is_own life i x ≡ true → is_free found ≡ true → found_after life i x (op.Load address) found outcome.Quiet r ≡ Some (found_in_slot x found)
+found_one : (life : Field) (i : ℕ) (x : RecordWord) (address found : ℕ) (r : Option Id) → r ≡ None
+    → is_own life i x ≡ true → is_free found ≡ true
+    → found_after life i x (op.Load address) found outcome.Quiet r ≡ Some (found_in_slot x found)
 found_one life i x address found r none own free =
     ap (found_after life i x (op.Load address) found outcome.Quiet) none
     ∙ ap (λ b. if b && is_free found then Some (found_in_slot x found) else None) own
     ∙ ap (λ b. if b then Some (found_in_slot x found) else None) free
 
 -- the odd life word of the object that was found is stored
-taken_one : (life : Field) (i : ℕ) (n : Id) (address found : ℕ) (r : Option Id) → r ≡ Some n → is_own life i (word_of n.creator n.slot life) ≡ true → found_after life i (word_of n.creator n.slot life) (op.Store address (used_word n)) found outcome.Quiet r ≡ None
+taken_one : (life : Field) (i : ℕ) (n : Id) (address found : ℕ) (r : Option Id) → r ≡ Some n
+    → is_own life i (word_of n.creator n.slot life) ≡ true
+    → found_after life i (word_of n.creator n.slot life) (op.Store address (used_word n)) found outcome.Quiet r ≡ None
 taken_one life i n address found r some own =
-    ap (found_after life i (word_of n.creator n.slot life) (op.Store address (used_word n)) found outcome.Quiet) some
-    ∙ ap (λ b. if b && (is_own life i (word_of n.creator n.slot life) && n.slot == n.slot) then None else Some n) (same_number (used_word n))
-    ∙ ap (λ b. if b && n.slot == n.slot then None else Some n) own ∙ ap (λ b. if b then None else Some n) (same_number n.slot)
+    ap
+    (found_after life i (word_of n.creator n.slot life) (op.Store address (used_word n)) found outcome.Quiet) some
+    ∙ ap
+    (λ b. if b && (is_own life i (word_of n.creator n.slot life) && n.slot == n.slot) then None else Some n)
+    (same_number (used_word n))
+    ∙ ap (λ b. if b && n.slot == n.slot then None else Some n) own
+    ∙ ap (λ b. if b then None else Some n) (same_number n.slot)
 
 -- the search goes on at the slot behind it
-goes_behind : (w : List ℕ) (i : ℕ) (a : Actor) (life : Field) (slot address word : ℕ) → is_own_life i (own_life a life slot) ≡ true → slot < per_thread w (kind_of (number life))
+goes_behind : (w : List ℕ) (i : ℕ) (a : Actor) (life : Field) (slot address word : ℕ)
+    → is_own_life i (own_life a life slot) ≡ true → slot < per_thread w (kind_of (number life))
     → expected_after w i (own_life a life slot) (outcome.NotReady address word) ≡ Some (own_life a life (next_slot w (kind_of (number life)) slot))
 goes_behind w i a life slot address word own within =
     ap (λ b. if b then Some (life_behind w (own_life a life slot)) else None) own
     ∙ ap (λ n. Some (own_life a life n)) (slot_behind w (kind_of (number life)) slot within)
 
-module _ (w : List ℕ) (m : Memory) (s : State) (i : ℕ) (a : Actor) (mine : a.thread ≡ i) (h : Watch) (address : ℕ) where
+module _ (w : List ℕ) (m : Memory) (s : State) (i : ℕ) (a : Actor) (mine : a.thread ≡ i) (h : Watch)
+    (address : ℕ) where
   own_thread : a.thread == i ≡ true
   own_thread = eq-eqb a.thread i mine
 
   -- ---- regions
 
-  module _ (slot : ℕ) (expected : (h.search.expected ≡ None) ⊎ (h.search.expected ≡ Some (own_life a RegionLife slot))) (region : h.search.region ≡ None) (task : h.search.task ≡ None) (b : Actor) (no_task : task_found b.counter ≡ None) where
+  module _ (slot : ℕ)
+      (expected : (h.search.expected ≡ None) ⊎ (h.search.expected ≡ Some (own_life a RegionLife slot)))
+      (region : h.search.region ≡ None) (task : h.search.task ≡ None) (b : Actor)
+      (no_task : task_found b.counter ≡ None) where
     abbrev x : RecordWord
     x = own_life a RegionLife slot
 
-    pub region_found_free : is_free (found_in m x) ≡ true → region_found b.counter ≡ Some (found_in_slot x (found_in m x)) → IsLookGiven b b.counter (looked_at w s i x (op.Load address) (found_in m x) h.look.looked h.look.seen) → KeepsParts w m s i (op.Load address) x (b, outcome.Quiet) h
+    pub region_found_free : is_free (found_in m x) ≡ true
+        → region_found b.counter ≡ Some (found_in_slot x (found_in m x))
+        → IsLookGiven b b.counter (looked_at w s i x (op.Load address) (found_in m x) h.look.looked h.look.seen)
+        → KeepsParts w m s i (op.Load address) x (b, outcome.Quiet) h
     region_found_free free found look = record {
       meets_search = expects_this h.search address x expected;
       search = record {
@@ -82,7 +106,9 @@ module _ (w : List ℕ) (m : Memory) (s : State) (i : ℕ) (a : Actor) (mine : a
       look = look;
     }
 
-    pub region_passed : (word : ℕ) → slot < per_thread w regions → MayOweRegion w m s i → sought b b.counter ≡ Some (own_life a RegionLife (next_slot w regions slot)) → region_found b.counter ≡ None
+    pub region_passed : (word : ℕ) → slot < per_thread w regions → MayOweRegion w m s i
+        → sought b b.counter ≡ Some (own_life a RegionLife (next_slot w regions slot))
+        → region_found b.counter ≡ None
         → IsLookGiven b b.counter h.look → KeepsParts w m s i (op.Load address) x (b, outcome.NotReady address word) h
     region_passed word within may goes none look = record {
       meets_search = (expects_this h.search address x expected, record { region = λ own. (region, may); task = λ own. absurd (cc own) });
@@ -96,8 +122,10 @@ module _ (w : List ℕ) (m : Memory) (s : State) (i : ℕ) (a : Actor) (mine : a
     }
 
   -- the odd life word of the region that was found is stored
-  pub region_taken : (n : Id) (b : Actor) → n.creator ≡ i → h.search.expected ≡ None → h.search.region ≡ Some n → h.search.task ≡ None → Rests b.counter
-      → KeepsParts w m s i (op.Store address (used_word n)) (word_of n.creator n.slot RegionLife) (b, outcome.Quiet) h
+  pub region_taken : (n : Id) (b : Actor) → n.creator ≡ i → h.search.expected ≡ None
+      → h.search.region ≡ Some n → h.search.task ≡ None → Rests b.counter
+      → KeepsParts w m s i (op.Store address (used_word n)) (word_of n.creator n.slot RegionLife)
+      (b, outcome.Quiet) h
   region_taken n b maker none region task rests = record {
     meets_search = expects_none h.search (op.Store address (used_word n)) (word_of n.creator n.slot RegionLife) none;
     search = record {
@@ -111,11 +139,17 @@ module _ (w : List ℕ) (m : Memory) (s : State) (i : ℕ) (a : Actor) (mine : a
 
   -- ---- tasks
 
-  module _ (slot : ℕ) (expected : (h.search.expected ≡ None) ⊎ (h.search.expected ≡ Some (own_life a TaskLife slot))) (region : h.search.region ≡ None) (task : h.search.task ≡ None) (b : Actor) (no_region : region_found b.counter ≡ None) where
+  module _ (slot : ℕ)
+      (expected : (h.search.expected ≡ None) ⊎ (h.search.expected ≡ Some (own_life a TaskLife slot)))
+      (region : h.search.region ≡ None) (task : h.search.task ≡ None) (b : Actor)
+      (no_region : region_found b.counter ≡ None) where
     abbrev y : RecordWord
     y = own_life a TaskLife slot
 
-    pub task_found_free : is_free (found_in m y) ≡ true → task_found b.counter ≡ Some (found_in_slot y (found_in m y)) → IsLookGiven b b.counter (looked_at w s i y (op.Load address) (found_in m y) h.look.looked h.look.seen) → KeepsParts w m s i (op.Load address) y (b, outcome.Quiet) h
+    pub task_found_free : is_free (found_in m y) ≡ true
+        → task_found b.counter ≡ Some (found_in_slot y (found_in m y))
+        → IsLookGiven b b.counter (looked_at w s i y (op.Load address) (found_in m y) h.look.looked h.look.seen)
+        → KeepsParts w m s i (op.Load address) y (b, outcome.Quiet) h
     task_found_free free found look = record {
       meets_search = expects_this h.search address y expected;
       search = record {
@@ -127,7 +161,9 @@ module _ (w : List ℕ) (m : Memory) (s : State) (i : ℕ) (a : Actor) (mine : a
       look = look;
     }
 
-    pub task_passed : (word : ℕ) → slot < per_thread w tasks → MayOweTask w m s i → sought b b.counter ≡ Some (own_life a TaskLife (next_slot w tasks slot)) → task_found b.counter ≡ None
+    pub task_passed : (word : ℕ) → slot < per_thread w tasks → MayOweTask w m s i
+        → sought b b.counter ≡ Some (own_life a TaskLife (next_slot w tasks slot))
+        → task_found b.counter ≡ None
         → IsLookGiven b b.counter h.look → KeepsParts w m s i (op.Load address) y (b, outcome.NotReady address word) h
     task_passed word within may goes none look = record {
       meets_search = (expects_this h.search address y expected, record { region = λ own. absurd (cc own); task = λ own. (task, may) });
@@ -141,8 +177,10 @@ module _ (w : List ℕ) (m : Memory) (s : State) (i : ℕ) (a : Actor) (mine : a
     }
 
   -- the odd life word of the task that was found is stored
-  pub task_taken : (n : Id) (b : Actor) → n.creator ≡ i → h.search.expected ≡ None → h.search.region ≡ None → h.search.task ≡ Some n → Rests b.counter
-      → KeepsParts w m s i (op.Store address (used_word n)) (word_of n.creator n.slot TaskLife) (b, outcome.Quiet) h
+  pub task_taken : (n : Id) (b : Actor) → n.creator ≡ i → h.search.expected ≡ None → h.search.region ≡ None
+      → h.search.task ≡ Some n → Rests b.counter
+      → KeepsParts w m s i (op.Store address (used_word n)) (word_of n.creator n.slot TaskLife)
+      (b, outcome.Quiet) h
   task_taken n b maker none region task rests = record {
     meets_search = expects_none h.search (op.Store address (used_word n)) (word_of n.creator n.slot TaskLife) none;
     search = record {

@@ -39,25 +39,30 @@ same_number n = eq-eqb n n refl
 abbrev pub word_of : ℕ → ℕ → Field → RecordWord
 word_of creator slot f = record { creator = creator; slot = slot; field = f; place = 0 }
 
-module _ (p : Program) (w : List ℕ) (m : Memory) (events : List (ℕ × Event)) (s : State) (actors : ℕ → Actor) (i : ℕ) (before : Before p w m events s actors i) where
+module _ (p : Program) (w : List ℕ) (m : Memory) (events : List (ℕ × Event)) (s : State) (actors : ℕ → Actor)
+    (i : ℕ) (before : Before p w m events s actors i) where
   pub own : KeepsThread p w m events s i (actors i)
   own = before.rule.threads i before.known
 
   wide : (f : ℕ) → 0 < width w f
   wide f = grind (arith, nat_tests, some_threads w before.valid)
 
-  pub record_word : (kind creator slot : ℕ) (f : Field) → kind_of (number f) ≡ kind → IsSlot w kind creator slot → IsRecordWord w creator slot (number f) 0
+  pub record_word : (kind creator slot : ℕ) (f : Field) → kind_of (number f) ≡ kind
+      → IsSlot w kind creator slot → IsRecordWord w creator slot (number f) 0
   record_word kind creator slot f is there = record { field = numbered_field f; record_slot = subst (λ q. IsSlot w q creator slot) (sym is) there; within = wide (number f) }
 
   pub own_maker : (actors i).thread < thread_count w
   own_maker = subst (λ n. (actors i).thread < n) before.suits.threads own.fits.thread
 
   -- a word of the thread's own record
-  pub thread_word : (f : Field) → kind_of (number f) ≡ threads → IsRecordWord w (actors i).thread 0 (number f) 0
-  thread_word f is = let maker = own_maker in record_word threads (actors i).thread 0 f is (record { made_by = omega (arith, maker); within = omega arith })
+  pub thread_word : (f : Field) → kind_of (number f) ≡ threads
+      → IsRecordWord w (actors i).thread 0 (number f) 0
+  thread_word f is =
+      let maker = own_maker in record_word threads (actors i).thread 0 f is (record { made_by = omega (arith, maker); within = omega arith })
 
   -- whatever word it is
-  pub some_word : (c : Counter) → (actors i).counter ≡ c → IsKept c → (x : RecordWord) × IsOn w (next_at p w (actors i) c) x
+  pub some_word : (c : Counter) → (actors i).counter ≡ c → IsKept c
+      → (x : RecordWord) × IsOn w (next_at p w (actors i) c) x
   some_word c at kept =
       subst (λ (d : Counter). (x : RecordWord) × IsOn w (next_at p w (actors i) d) x) at
       (let keeps = steps_keep p w m events s actors i before.valid before.suits before.rule before.known before.few (subst IsKept (sym at) kept) in (keeps.0, keeps.1))

@@ -43,8 +43,10 @@ use Rattle.omi_rule_watch.proofs.Standing.{own, own_maker, record_word, some_wor
 
 -- a word of a data environment is no life word
 pub no_life : (word i found creator slot address : ℕ) → word < VARIABLE_WORDS
-    → (finds RegionLife i (record { creator = creator; slot = slot; field = (variable_at word).0; place = (variable_at word).1 }) (op.Load address) found outcome.Quiet ≡ false)
-    × (finds TaskLife i (record { creator = creator; slot = slot; field = (variable_at word).0; place = (variable_at word).1 }) (op.Load address) found outcome.Quiet ≡ false)
+    →
+    (finds RegionLife i (record { creator = creator; slot = slot; field = (variable_at word).0; place = (variable_at word).1 }) (op.Load address) found outcome.Quiet ≡ false)
+    ×
+    (finds TaskLife i (record { creator = creator; slot = slot; field = (variable_at word).0; place = (variable_at word).1 }) (op.Load address) found outcome.Quiet ≡ false)
 no_life zero i found creator slot address below = (refl, refl)
 no_life (suc zero) i found creator slot address below = (refl, refl)
 no_life (suc (suc zero)) i found creator slot address below = (refl, refl)
@@ -53,9 +55,11 @@ no_life (suc (suc (suc (suc zero)))) i found creator slot address below = (refl,
 no_life (suc (suc (suc (suc (suc zero))))) i found creator slot address below = (refl, refl)
 no_life (suc (suc (suc (suc (suc (suc zero)))))) i found creator slot address below = (refl, refl)
 no_life (suc (suc (suc (suc (suc (suc (suc zero))))))) i found creator slot address below = (refl, refl)
-no_life (suc (suc (suc (suc (suc (suc (suc (suc n)))))))) i found creator slot address below = absurd (omega (arith, below))
+no_life (suc (suc (suc (suc (suc (suc (suc (suc n)))))))) i found creator slot address below =
+    absurd (omega (arith, below))
 
-module _ (p : Program) (w : List ℕ) (m : Memory) (events : List (ℕ × Event)) (s : State) (actors : ℕ → Actor) (i : ℕ) (before : Before p w m events s actors i) (h : Watch) where
+module _ (p : Program) (w : List ℕ) (m : Memory) (events : List (ℕ × Event)) (s : State) (actors : ℕ → Actor)
+    (i : ℕ) (before : Before p w m events s actors i) (h : Watch) where
   abbrev a : Actor
   a = actors i
 
@@ -67,24 +71,31 @@ module _ (p : Program) (w : List ℕ) (m : Memory) (events : List (ℕ × Event)
     any = some_word p w m events s actors i before (counter.Team c) at tt
 
     -- a quiet store
-    stores : IsCalm h.search → (address word : ℕ) → team_next p w (actors i) c ≡ op.Store address word → (b : Actor) → Rests b.counter → (x : RecordWord) × IsOn w (op.Store address word) x × KeepsParts w m s i (op.Store address word) x (b, outcome.Quiet) h
+    stores : IsCalm h.search → (address word : ℕ) → team_next p w (actors i) c ≡ op.Store address word
+        → (b : Actor) → Rests b.counter
+        → (x : RecordWord) × IsOn w (op.Store address word) x × KeepsParts w m s i (op.Store address word) x (b, outcome.Quiet) h
     stores calm address word is b rests =
         let (x, on) = any in
         (x, subst (λ o. IsOn w o x) is on, quiet_rests w m s i (op.Store address word) x b h calm refl refl rests)
 
   -- no search stands behind these
-  rests_team : (c : TeamCounter) → region_found (counter.Team c) ≡ None → task_found (counter.Team c) ≡ None → Rests (counter.Team c)
+  rests_team : (c : TeamCounter) → region_found (counter.Team c) ≡ None → task_found (counter.Team c) ≡ None
+      → Rests (counter.Team c)
   rests_team c no_region no_task = record { region = no_region; task = no_task; look = λ a h. tt }
 
   rests_assigning : (member : ℕ) (b : Actor) → Rests b.counter → Rests (assigning_from p member b).counter
-  rests_assigning member b now = rests_actor (nat_lt member (team_size b)) (to_team (team.Assign member) b) (back_to_work p b) (rests_team (team.Assign member) refl refl) (rests_working p b (λ none. now))
+  rests_assigning member b now =
+      rests_actor (nat_lt member (team_size b)) (to_team (team.Assign member) b) (back_to_work p b)
+      (rests_team (team.Assign member) refl refl) (rests_working p b (λ none. now))
 
-  rests_two : (b : Bool) (c d : TeamCounter) → Rests (counter.Team c) → Rests (counter.Team d) → Rests (counter.Team (if b then c else d))
+  rests_two : (b : Bool) (c d : TeamCounter) → Rests (counter.Team c) → Rests (counter.Team d)
+      → Rests (counter.Team (if b then c else d))
   rests_two b c d one other = one_of (λ (x : TeamCounter). Rests (counter.Team x)) b c d one other
 
   -- ---- the searches
 
-  module _ (slot : ℕ) (at : (actors i).counter ≡ counter.Team (team.LoadRegionLife slot)) (given : IsSearchGiven (actors i) (counter.Team (team.LoadRegionLife slot)) h.search) where
+  module _ (slot : ℕ) (at : (actors i).counter ≡ counter.Team (team.LoadRegionLife slot))
+      (given : IsSearchGiven (actors i) (counter.Team (team.LoadRegionLife slot)) h.search) where
     abbrev x : RecordWord
     x = own_life (actors i) RegionLife slot
 
@@ -97,8 +108,13 @@ module _ (p : Program) (w : List ℕ) (m : Memory) (events : List (ℕ × Event)
     by_region : (b : Bool) → is_free (found_in m x) ≡ b
         → KeepsParts w m s i (op.Load (of_place w (own_place a slot) RegionLife)) x
         (to_team (if b then team.TakeRegion (record { 0 = object_in (own_place a slot) (found_in m x) }) else team.LoadRegionLife (next_slot w regions slot)) a, if b then outcome.Quiet else outcome.NotReady (of_place w (own_place a slot) RegionLife) (found_in m x)) h
-    by_region true free = region_found_free w m s i a mine h _ slot given.expected given.region given.task (to_team (team.TakeRegion (record { 0 = object_in (own_place a slot) (found_in m x) })) a) refl free refl tt
-    by_region false taken = region_passed w m s i a mine h _ slot given.expected given.region given.task (to_team (team.LoadRegionLife (next_slot w regions slot)) a) refl _ (placed p w m events s actors i before (team.LoadRegionLife slot) at) one_region refl refl tt
+    by_region true free =
+        region_found_free w m s i a mine h _ slot given.expected given.region given.task
+        (to_team (team.TakeRegion (record { 0 = object_in (own_place a slot) (found_in m x) })) a) refl free refl tt
+    by_region false taken =
+        region_passed w m s i a mine h _ slot given.expected given.region given.task
+        (to_team (team.LoadRegionLife (next_slot w regions slot)) a) refl _
+        (placed p w m events s actors i before (team.LoadRegionLife slot) at) one_region refl refl tt
 
     region_search : PartsKeep w m s i (team_next p w (actors i) (team.LoadRegionLife slot)) (λ old. (team_moved p w (actors i) (team.LoadRegionLife slot) old, team_outcome p w (actors i) (team.LoadRegionLife slot) old)) h
     region_search = (
@@ -107,14 +123,17 @@ module _ (p : Program) (w : List ℕ) (m : Memory) (events : List (ℕ × Event)
       by_region (is_free (found_in m x)) refl,
     )
 
-  module _ (r : Rid) (member slot : ℕ) (at : (actors i).counter ≡ counter.Team (team.LoadTaskLife r member slot)) (given : IsSearchGiven (actors i) (counter.Team (team.LoadTaskLife r member slot)) h.search) where
+  module _ (r : Rid) (member slot : ℕ)
+      (at : (actors i).counter ≡ counter.Team (team.LoadTaskLife r member slot))
+      (given : IsSearchGiven (actors i) (counter.Team (team.LoadTaskLife r member slot)) h.search) where
     abbrev y : RecordWord
     y = own_life (actors i) TaskLife slot
 
     -- the team is this thread and those that were got
     got : length (actors i).gathered.team ≡ length (got_threads (s.threads i).asks) + 1
     got =
-        let joined = (row p w m events s actors i before (team.LoadTaskLife r member slot) at).0.asks.joined in
+        let joined =
+        (row p w m events s actors i before (team.LoadTaskLife r member slot) at).0.asks.joined in
         let same = ap length joined in
         let long = length-map (actors i).gathered.team (λ (m : Tid × ℕ). m.1) in
         omega (arith, same, long)
@@ -124,7 +143,9 @@ module _ (p : Program) (w : List ℕ) (m : Memory) (events : List (ℕ × Event)
       is_forking p w m events s actors i before (team.LoadTaskLife r member slot) at refl (fits p w m events s actors i before (team.LoadTaskLife r member slot) at).0.0.0,
       (let most = tasks_owed w m s (all_owed actors) before.rule.words i before.known in
           let few = first_few member (tasks_of (actors i).gathered.team) in
-          let same = ap (λ (o : Owed). length o.tasks) (owes p w m events s actors i before (team.LoadTaskLife r member slot) at) in
+          let same =
+          ap (λ (o : Owed). length o.tasks)
+          (owes p w m events s actors i before (team.LoadTaskLife r member slot) at) in
           let one = (fits p w m events s actors i before (team.LoadTaskLife r member slot) at).1 in
           let all = got in
           omega (arith, most, few, same, one, all)),
@@ -133,8 +154,13 @@ module _ (p : Program) (w : List ℕ) (m : Memory) (events : List (ℕ × Event)
     by_task : (b : Bool) → is_free (found_in m y) ≡ b
         → KeepsParts w m s i (op.Load (of_place w (own_place a slot) TaskLife)) y
         (to_team (if b then team.TakeTask r member (record { 0 = object_in (own_place a slot) (found_in m y) }) else team.LoadTaskLife r member (next_slot w tasks slot)) a, if b then outcome.Quiet else outcome.NotReady (of_place w (own_place a slot) TaskLife) (found_in m y)) h
-    by_task true free = task_found_free w m s i a mine h _ slot given.expected given.region given.task (to_team (team.TakeTask r member (record { 0 = object_in (own_place a slot) (found_in m y) })) a) refl free refl tt
-    by_task false taken = task_passed w m s i a mine h _ slot given.expected given.region given.task (to_team (team.LoadTaskLife r member (next_slot w tasks slot)) a) refl _ (placed p w m events s actors i before (team.LoadTaskLife r member slot) at).1 one_task refl refl tt
+    by_task true free =
+        task_found_free w m s i a mine h _ slot given.expected given.region given.task
+        (to_team (team.TakeTask r member (record { 0 = object_in (own_place a slot) (found_in m y) })) a) refl free refl tt
+    by_task false taken =
+        task_passed w m s i a mine h _ slot given.expected given.region given.task
+        (to_team (team.LoadTaskLife r member (next_slot w tasks slot)) a) refl _
+        (placed p w m events s actors i before (team.LoadTaskLife r member slot) at).1 one_task refl refl tt
 
     task_search : PartsKeep w m s i (team_next p w (actors i) (team.LoadTaskLife r member slot)) (λ old. (team_moved p w (actors i) (team.LoadTaskLife r member slot) old, team_outcome p w (actors i) (team.LoadTaskLife r member slot) old)) h
     task_search = (
@@ -145,7 +171,9 @@ module _ (p : Program) (w : List ℕ) (m : Memory) (events : List (ℕ × Event)
 
   -- ---- each step
 
-  pub team_parts : (c : TeamCounter) (at : (actors i).counter ≡ counter.Team c) → IsSearchGiven (actors i) (counter.Team c) h.search → PartsKeep w m s i (team_next p w (actors i) c) (λ old. (team_moved p w (actors i) c old, team_outcome p w (actors i) c old)) h
+  pub team_parts : (c : TeamCounter) (at : (actors i).counter ≡ counter.Team c)
+      → IsSearchGiven (actors i) (counter.Team c) h.search
+      → PartsKeep w m s i (team_next p w (actors i) c) (λ old. (team_moved p w (actors i) c old, team_outcome p w (actors i) c old)) h
   team_parts team.OverheadState at given =
       let (x, on) = any team.OverheadState at in
       (x, on, event_rests w m s i _ x _ h (calm_at a (counter.Team team.OverheadState) h.search refl refl refl given) _ (rests_team team.LoadLevels refl refl))
@@ -166,7 +194,8 @@ module _ (p : Program) (w : List ℕ) (m : Memory) (events : List (ℕ × Event)
       let (no_region, no_task) = no_life word i (found_in m x) k.creator k.slot (of_variable w k word) below in (
         x,
         record { there = variable_word w k word below (context_placed p w m events s actors i before (team.LoadVariable word) at).task; address = refl },
-        quiet_rests w m s i (op.Load (of_variable w k word)) x _ h (calm_at a (counter.Team (team.LoadVariable word)) h.search refl refl refl given) no_region no_task
+        quiet_rests w m s i (op.Load (of_variable w k word)) x _ h
+            (calm_at a (counter.Team (team.LoadVariable word)) h.search refl refl refl given) no_region no_task
             (rests_two (nat_lt (word + 1) VARIABLE_WORDS) (team.LoadVariable (word + 1)) team.Want (rests_team (team.LoadVariable (word + 1)) refl refl) (rests_team team.Want refl refl)),
       )
   team_parts team.Want at given =
@@ -182,7 +211,8 @@ module _ (p : Program) (w : List ℕ) (m : Memory) (events : List (ℕ × Event)
     region_taken w m s i a mine h _ r.0 _ ((fits p w m events s actors i before (team.TakeRegion r) at).1 ∙ mine) (either_none given.expected) given.region given.task (rests_team (team.FillRegion r 0) refl refl),
   )
   team_parts (team.FillRegion r word) at given =
-      stores (team.FillRegion r word) at (calm_at a (counter.Team (team.FillRegion r word)) h.search refl refl refl given) _ _ refl _
+      stores (team.FillRegion r word) at
+      (calm_at a (counter.Team (team.FillRegion r word)) h.search refl refl refl given) _ _ refl _
       (rests_two (nat_lt (word + 1) REGION_WORDS) (team.FillRegion r (word + 1)) (team.LoadTaskLife r 0 0) (rests_team (team.FillRegion r (word + 1)) refl refl) (rests_team (team.LoadTaskLife r 0 0) refl refl))
   team_parts (team.LoadTaskLife r member slot) at given = task_search r member slot at given
   team_parts (team.TakeTask r member t) at given = (
@@ -191,13 +221,17 @@ module _ (p : Program) (w : List ℕ) (m : Memory) (events : List (ℕ × Event)
     task_taken w m s i a mine h _ t.0 _ ((fits p w m events s actors i before (team.TakeTask r member t) at).2 ∙ mine) (either_none given.expected) given.region given.task (rests_team (team.FillTask r member t 0) refl refl),
   )
   team_parts (team.FillTask r member t word) at given =
-      stores (team.FillTask r member t word) at (calm_at a (counter.Team (team.FillTask r member t word)) h.search refl refl refl given) _ _ refl _
+      stores (team.FillTask r member t word) at
+      (calm_at a (counter.Team (team.FillTask r member t word)) h.search refl refl refl given) _ _ refl _
       (rests_two (nat_lt (word + 1) TASK_WORDS) (team.FillTask r member t (word + 1)) (team.StoreMember r member t) (rests_team (team.FillTask r member t (word + 1)) refl refl) (rests_team (team.StoreMember r member t) refl refl))
   team_parts (team.StoreMember r member t) at given =
-      stores (team.StoreMember r member t) at (calm_at a (counter.Team (team.StoreMember r member t)) h.search refl refl refl given) _ _ refl _
+      stores (team.StoreMember r member t) at
+      (calm_at a (counter.Team (team.StoreMember r member t)) h.search refl refl refl given) _ _ refl _
       (rests_two (nat_lt (member + 1) (team_size a)) (team.LoadTaskLife r (member + 1) 0) (team.Fork r) (rests_team (team.LoadTaskLife r (member + 1) 0) refl refl) (rests_team (team.Fork r) refl refl))
   team_parts (team.Fork r) at given =
       let (x, on) = any (team.Fork r) at in
       (x, on, event_rests w m s i _ x _ h (calm_at a (counter.Team (team.Fork r)) h.search refl refl refl given) _ (rests_assigning 1 (begun_master (region_function p a) (master_context a r) a) (subst Rests (sym at) (rests_team (team.Fork r) refl refl))))
   team_parts (team.Assign member) at given =
-      stores (team.Assign member) at (calm_at a (counter.Team (team.Assign member)) h.search refl refl refl given) _ _ refl _ (rests_assigning (member + 1) a (subst Rests (sym at) (rests_team (team.Assign member) refl refl)))
+      stores (team.Assign member) at
+      (calm_at a (counter.Team (team.Assign member)) h.search refl refl refl given) _ _ refl _
+      (rests_assigning (member + 1) a (subst Rests (sym at) (rests_team (team.Assign member) refl refl)))

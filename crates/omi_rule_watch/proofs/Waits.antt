@@ -56,17 +56,26 @@ use Rattle.omi_rule_watch.proofs.Standing.{record_word, same_number, some_word, 
 
 -- ---- the team of a waiting thread
 
-module _ (p : Program) (w : List ℕ) (m : Memory) (events : List (ℕ × Event)) (s : State) (actors : ℕ → Actor) (i : ℕ) (before : Before p w m events s actors i) (x : Counter) (at : (actors i).counter ≡ x) (of_member : IsOfMember x) where
+module _ (p : Program) (w : List ℕ) (m : Memory) (events : List (ℕ × Event)) (s : State) (actors : ℕ → Actor)
+    (i : ℕ) (before : Before p w m events s actors i) (x : Counter) (at : (actors i).counter ≡ x)
+    (of_member : IsOfMember x) where
   abbrev known : KeepsContext s i (actors i).context
   known = here p w m events s actors i before x at of_member
 
   pub region_is : (r : Region) → region_of s (actors i).context.region ≡ Some r → current_region s i ≡ Some r
   region_is r found =
-      ap (λ (k : Option Tid). option_and_then (λ (t : Task). region_of s t.region) (option_and_then (task_of s) k)) (stands p w m events s actors i before x at of_member).current
-      ∙ ap (λ (t : Option Task). option_and_then (λ (t : Task). region_of s t.region) t) known.live ∙ ap (region_of s) known.region_is ∙ found
+      ap
+      (λ (k : Option Tid). option_and_then (λ (t : Task). region_of s t.region) (option_and_then (task_of s) k))
+      (stands p w m events s actors i before x at of_member).current
+      ∙ ap (λ (t : Option Task). option_and_then (λ (t : Task). region_of s t.region) t) known.live
+      ∙ ap (region_of s) known.region_is
+      ∙ found
 
   pub size_is : current_team_size s i ≡ (actors i).context.size
-  size_is = ap (λ (r : Option Region). option_map_or (λ (r : Region). length r.team) r 0) (region_is known.region known.found) ∙ known.size
+  size_is =
+      ap (λ (r : Option Region). option_map_or (λ (r : Region). length r.team) r 0)
+      (region_is known.region known.found)
+      ∙ known.size
 
   -- all slots are four times the size
   pub all_slots : (h : SlotLook) → HasAll (actors i) h → h.looked ≡ OWN_SLOTS * current_team_size s i
@@ -74,24 +83,34 @@ module _ (p : Program) (w : List ℕ) (m : Memory) (events : List (ℕ × Event)
 
   -- a body is open
   pub some_body : (actors i).stack ≡ [] → Rests (actors i).counter
-  some_body none = let (f, fs, is, o) = body p w m events s actors i before x at of_member in absurd (cc (sym is, none))
+  some_body none =
+      let (f, fs, is, o) = body p w m events s actors i before x at of_member in absurd (cc (sym is, none))
 
   -- the slot with number n is in the row that was loaded
-  pub slot_is : (row : Place) (n : ℕ) → OfRegion s (actors i) (IsRowOf row n) → is_slot s i n (record { creator = row.creator; slot = row.slot; field = TaskSlots; place = n % OWN_SLOTS }) ≡ true
+  pub slot_is : (row : Place) (n : ℕ) → OfRegion s (actors i) (IsRowOf row n)
+      → is_slot s i n (record { creator = row.creator; slot = row.slot; field = TaskSlots; place = n % OWN_SLOTS }) ≡ true
   slot_is row n (r, found, (k, there, is)) =
       let member : current_member_task s i (n / OWN_SLOTS) ≡ Some k.0 =
-      ap (λ (r : Option Region). option_and_then (λ (r : Region). option_map (λ (m : Tid × ℕ). m.0) (slice_get r.team (n / OWN_SLOTS))) r) (region_is r found) ∙ ap (option_map (λ (m : Tid × ℕ). m.0)) there in
-      ap (λ b. b && option_map_or (λ (k : Tid). row.creator == k.0.creator && row.slot == k.0.slot) (current_member_task s i (n / OWN_SLOTS)) false) (same_number (n % OWN_SLOTS))
-      ∙ ap (λ (t : Option Tid). option_map_or (λ (k : Tid). row.creator == k.0.creator && row.slot == k.0.slot) t false) member
+      ap
+      (λ (r : Option Region). option_and_then (λ (r : Region). option_map (λ (m : Tid × ℕ). m.0) (slice_get r.team (n / OWN_SLOTS))) r)
+      (region_is r found)
+      ∙ ap (option_map (λ (m : Tid × ℕ). m.0)) there in
+      ap
+      (λ b. b && option_map_or (λ (k : Tid). row.creator == k.0.creator && row.slot == k.0.slot) (current_member_task s i (n / OWN_SLOTS)) false)
+      (same_number (n % OWN_SLOTS))
+      ∙ ap
+      (λ (t : Option Tid). option_map_or (λ (k : Tid). row.creator == k.0.creator && row.slot == k.0.slot) t false) member
       ∙ ap (λ (q : Place). q.creator == k.0.0.creator && q.slot == k.0.0.slot) (sym is)
       ∙ ap (λ b. b && k.0.0.slot == k.0.0.slot) (same_number k.0.0.creator) ∙ same_number k.0.0.slot
 
 -- ---- the next slot
 
-next_calm : (a : Actor) (v : Wait) (n : ℕ) (row : Place) → (region_found (next_look a v n row) ≡ None) × (task_found (next_look a v n row) ≡ None)
+next_calm : (a : Actor) (v : Wait) (n : ℕ) (row : Place)
+    → (region_found (next_look a v n row) ≡ None) × (task_found (next_look a v n row) ≡ None)
 next_calm a v n row = go (nat_lt n (slots_of a))
   where
-    first : (b : Barrier) (d : Bool) → (region_found (counter.Barrier (if d then barrier.LoadArrived b else barrier.LoadReleased b)) ≡ None) × (task_found (counter.Barrier (if d then barrier.LoadArrived b else barrier.LoadReleased b)) ≡ None)
+    first : (b : Barrier) (d : Bool)
+        → (region_found (counter.Barrier (if d then barrier.LoadArrived b else barrier.LoadReleased b)) ≡ None) × (task_found (counter.Barrier (if d then barrier.LoadArrived b else barrier.LoadReleased b)) ≡ None)
     first b true = (refl, refl)
     first b false = (refl, refl)
 
@@ -100,16 +119,19 @@ next_calm a v n row = go (nat_lt n (slots_of a))
     behind wait.Taskwait = (refl, refl)
     behind wait.Taskyield = (refl, refl)
 
-    at : (d : Bool) → (region_found (counter.Look (if d then look.LoadRow v n else look.LoadSlot v n row)) ≡ None) × (task_found (counter.Look (if d then look.LoadRow v n else look.LoadSlot v n row)) ≡ None)
+    at : (d : Bool)
+        → (region_found (counter.Look (if d then look.LoadRow v n else look.LoadSlot v n row)) ≡ None) × (task_found (counter.Look (if d then look.LoadRow v n else look.LoadSlot v n row)) ≡ None)
     at true = (refl, refl)
     at false = (refl, refl)
 
-    go : (b : Bool) → (region_found (if b then counter.Look (look_at v n row) else behind_look a v) ≡ None) × (task_found (if b then counter.Look (look_at v n row) else behind_look a v) ≡ None)
+    go : (b : Bool)
+        → (region_found (if b then counter.Look (look_at v n row) else behind_look a v) ≡ None) × (task_found (if b then counter.Look (look_at v n row) else behind_look a v) ≡ None)
     go true = at (n % OWN_SLOTS == 0)
     go false = behind v
 
 -- so many slots were passed: the next one is looked at, or all were
-next_given : (a b : Actor) (v : Wait) (n : ℕ) (row : Place) (h : SlotLook) → b.context ≡ a.context → n < slots_of a → Has h (n + 1) None → IsLookGiven b (next_look a v (n + 1) row) h
+next_given : (a b : Actor) (v : Wait) (n : ℕ) (row : Place) (h : SlotLook) → b.context ≡ a.context
+    → n < slots_of a → Has h (n + 1) None → IsLookGiven b (next_look a v (n + 1) row) h
 next_given a b v n row h same within has = go (nat_lt (n + 1) (slots_of a)) refl
   where
     all : nat_lt (n + 1) (slots_of a) ≡ false → HasAll b h
@@ -118,7 +140,8 @@ next_given a b v n row h same within has = go (nat_lt (n + 1) (slots_of a)) refl
         whole : n + 1 ≡ slots_of a
         whole = grind (arith, nat_tests, past, within)
 
-    first : (b' : Barrier) (d : Bool) → HasAll b h → IsLookGiven b (counter.Barrier (if d then barrier.LoadArrived b' else barrier.LoadReleased b')) h
+    first : (b' : Barrier) (d : Bool) → HasAll b h
+        → IsLookGiven b (counter.Barrier (if d then barrier.LoadArrived b' else barrier.LoadReleased b')) h
     first b' true whole = whole
     first b' false whole = λ other. whole
 
@@ -127,24 +150,29 @@ next_given a b v n row h same within has = go (nat_lt (n + 1) (slots_of a)) refl
     behind wait.Taskwait whole = whole
     behind wait.Taskyield whole = tt
 
-    at : (d : Bool) → IsLookGiven b (counter.Look (if d then look.LoadRow v (n + 1) else look.LoadSlot v (n + 1) row)) h
+    at : (d : Bool)
+        → IsLookGiven b (counter.Look (if d then look.LoadRow v (n + 1) else look.LoadSlot v (n + 1) row)) h
     at true = has
     at false = has
 
-    go : (d : Bool) → nat_lt (n + 1) (slots_of a) ≡ d → IsLookGiven b (if d then counter.Look (look_at v (n + 1) row) else behind_look a v) h
+    go : (d : Bool) → nat_lt (n + 1) (slots_of a) ≡ d
+        → IsLookGiven b (if d then counter.Look (look_at v (n + 1) row) else behind_look a v) h
     go true e = at ((n + 1) % OWN_SLOTS == 0)
     go false e = behind v (all e)
 
 -- ---- the steps
 
-rests_look : (c : LookCounter) → ((a : Actor) (h : SlotLook) → IsLookGiven a (counter.Look c) h) → Rests (counter.Look c)
+rests_look : (c : LookCounter) → ((a : Actor) (h : SlotLook) → IsLookGiven a (counter.Look c) h)
+    → Rests (counter.Look c)
 rests_look c given = record { region = refl; task = refl; look = given }
 
-module _ (p : Program) (w : List ℕ) (m : Memory) (events : List (ℕ × Event)) (s : State) (actors : ℕ → Actor) (i : ℕ) (before : Before p w m events s actors i) (h : Watch) where
+module _ (p : Program) (w : List ℕ) (m : Memory) (events : List (ℕ × Event)) (s : State) (actors : ℕ → Actor)
+    (i : ℕ) (before : Before p w m events s actors i) (h : Watch) where
   abbrev a : Actor
   a = actors i
 
-  module _ (c : LookCounter) (at : (actors i).counter ≡ counter.Look c) (given : IsSearchGiven (actors i) (counter.Look c) h.search) where
+  module _ (c : LookCounter) (at : (actors i).counter ≡ counter.Look c)
+      (given : IsSearchGiven (actors i) (counter.Look c) h.search) where
     calm : IsCalm h.search
     calm = calm_at a (counter.Look c) h.search refl refl refl given
 
@@ -152,14 +180,18 @@ module _ (p : Program) (w : List ℕ) (m : Memory) (events : List (ℕ × Event)
     any = some_word p w m events s actors i before (counter.Look c) at tt
 
   -- the row of a member
-  module _ (v : Wait) (n : ℕ) (at : (actors i).counter ≡ counter.Look (look.LoadRow v n)) (given : IsSearchGiven (actors i) (counter.Look (look.LoadRow v n)) h.search) (has : Has h.look n None) where
+  module _ (v : Wait) (n : ℕ) (at : (actors i).counter ≡ counter.Look (look.LoadRow v n))
+      (given : IsSearchGiven (actors i) (counter.Look (look.LoadRow v n)) h.search)
+      (has : Has h.look n None) where
     row_there : IsRecordWord w a.context.region.0.creator a.context.region.0.slot (number RegionTeam) (member_at n)
     row_there = record {
       field = numbered_field RegionTeam;
       record_slot = (context_placed p w m events s actors i before (counter.Look (look.LoadRow v n)) at tt).region;
       within =
-          let looks = (fits_counter p w m events s actors i before (counter.Look (look.LoadRow v n)) at tt).0.1 in
-          let few = (is_context p w m events s actors i before (counter.Look (look.LoadRow v n)) at tt).size.1 in
+          let looks =
+          (fits_counter p w m events s actors i before (counter.Look (look.LoadRow v n)) at tt).0.1 in
+          let few =
+          (is_context p w m events s actors i before (counter.Look (look.LoadRow v n)) at tt).size.1 in
           let same : p.threads ≡ thread_count w = before.suits.threads in
           omega (arith, looks, few, same);
     }
@@ -170,34 +202,44 @@ module _ (p : Program) (w : List ℕ) (m : Memory) (events : List (ℕ × Event)
         (x, record { there = row_there; address = refl }, quiet_parts w m s i _ x _ h (calm (look.LoadRow v n) at given) refl refl refl refl (look_stays w s i x (look_next w (actors i) (look.LoadRow v n)) (found_in m x) n h.look has (λ k. refl)))
 
   -- a slot
-  module _ (v : Wait) (n : ℕ) (row : Place) (at : (actors i).counter ≡ counter.Look (look.LoadSlot v n row)) (given : IsSearchGiven (actors i) (counter.Look (look.LoadSlot v n row)) h.search) (has : Has h.look n None) where
+  module _ (v : Wait) (n : ℕ) (row : Place) (at : (actors i).counter ≡ counter.Look (look.LoadSlot v n row))
+      (given : IsSearchGiven (actors i) (counter.Look (look.LoadSlot v n row)) h.search)
+      (has : Has h.look n None) where
     abbrev on_slot : RecordWord
     on_slot = record { creator = row.creator; slot = row.slot; field = TaskSlots; place = n % OWN_SLOTS }
 
     abbrev code_there : ℕ
     code_there = found_in m on_slot
 
-    loaded_is : (d : Bool) → code_there == 0 ≡ d → looked_at w s i on_slot (op.Load (of_slot w row n)) code_there h.look.looked h.look.seen ≡ (if d then record { looked = n + 1; seen = None } else record { looked = n; seen = Some code_there })
+    loaded_is : (d : Bool) → code_there == 0 ≡ d
+        → looked_at w s i on_slot (op.Load (of_slot w row n)) code_there h.look.looked h.look.seen ≡ (if d then record { looked = n + 1; seen = None } else record { looked = n; seen = Some code_there })
     loaded_is d e =
-        look_loads w s i on_slot (op.Load (of_slot w row n)) code_there n h.look has (slot_is p w m events s actors i before (counter.Look (look.LoadSlot v n row)) at tt row n (row_is p w m events s actors i before (counter.Look (look.LoadSlot v n row)) at tt))
-        ∙ ap (λ (d : Bool). if d then record { looked = n + 1; seen = None } else record { looked = n; seen = Some code_there }) e
+        look_loads w s i on_slot (op.Load (of_slot w row n)) code_there n h.look has
+        (slot_is p w m events s actors i before (counter.Look (look.LoadSlot v n row)) at tt row n (row_is p w m events s actors i before (counter.Look (look.LoadSlot v n row)) at tt))
+        ∙ ap
+        (λ (d : Bool). if d then record { looked = n + 1; seen = None } else record { looked = n; seen = Some code_there }) e
 
-    seen_code : (v : Wait) (h : SlotLook) → Has h n (Some code_there) → IsLookGiven (to_look (behind_code v n row code_there) a) (counter.Look (behind_code v n row code_there)) h
+    seen_code : (v : Wait) (h : SlotLook) → Has h n (Some code_there)
+        → IsLookGiven (to_look (behind_code v n row code_there) a) (counter.Look (behind_code v n row code_there)) h
     seen_code (wait.Barrier b) h is = is
     seen_code wait.Taskwait h is = is
     seen_code wait.Taskyield h is = is
 
-    code_calm : (v : Wait) → (region_found (counter.Look (behind_code v n row code_there)) ≡ None) × (task_found (counter.Look (behind_code v n row code_there)) ≡ None)
+    code_calm : (v : Wait)
+        → (region_found (counter.Look (behind_code v n row code_there)) ≡ None) × (task_found (counter.Look (behind_code v n row code_there)) ≡ None)
     code_calm v = (refl, refl)
 
-    by_code : (d : Bool) → code_there == 0 ≡ d → KeepsParts w m s i (op.Load (of_slot w row n)) on_slot (if d then looking_on v n row a else to_look (behind_code v n row code_there) a, outcome.Quiet) h
+    by_code : (d : Bool) → code_there == 0 ≡ d
+        → KeepsParts w m s i (op.Load (of_slot w row n)) on_slot (if d then looking_on v n row a else to_look (behind_code v n row code_there) a, outcome.Quiet) h
     by_code true none =
         let (no_region, no_task) = next_calm a v (n + 1) row in
         let fit = fits_counter p w m events s actors i before (counter.Look (look.LoadSlot v n row)) at tt in
-        quiet_parts w m s i _ on_slot (looking_on v n row a) h (calm (look.LoadSlot v n row) at given) refl refl no_region no_task
+        quiet_parts w m s i _ on_slot (looking_on v n row a) h
+        (calm (look.LoadSlot v n row) at given) refl refl no_region no_task
         (subst (λ (l : SlotLook). IsLookGiven (looking_on v n row a) (next_look a v (n + 1) row) l) (sym (loaded_is true none)) (next_given a (looking_on v n row a) v n row _ refl fit.0.1 (record { looked = refl; seen = refl })))
     by_code false some =
-        quiet_parts w m s i _ on_slot (to_look (behind_code v n row code_there) a) h (calm (look.LoadSlot v n row) at given) refl refl refl refl
+        quiet_parts w m s i _ on_slot (to_look (behind_code v n row code_there) a) h
+        (calm (look.LoadSlot v n row) at given) refl refl refl refl
         (subst (λ (l : SlotLook). IsLookGiven (to_look (behind_code v n row code_there) a) (counter.Look (behind_code v n row code_there)) l) (sym (loaded_is false some)) (seen_code v _ (record { looked = refl; seen = refl })))
 
     load_slot : PartsKeep w m s i (look_next w (actors i) (look.LoadSlot v n row)) (λ old. (look_moved p w (actors i) (look.LoadSlot v n row) old, look_outcome w (actors i) (look.LoadSlot v n row) old)) h
@@ -208,7 +250,10 @@ module _ (p : Program) (w : List ℕ) (m : Memory) (events : List (ℕ × Event)
     )
 
   -- the test of a task that was seen
-  module _ (v : Wait) (n : ℕ) (row : Place) (code : ℕ) (at : (actors i).counter ≡ counter.Look (look.LoadGenerating v n row code)) (given : IsSearchGiven (actors i) (counter.Look (look.LoadGenerating v n row code)) h.search) (has : Has h.look n (Some code)) where
+  module _ (v : Wait) (n : ℕ) (row : Place) (code : ℕ)
+      (at : (actors i).counter ≡ counter.Look (look.LoadGenerating v n row code))
+      (given : IsSearchGiven (actors i) (counter.Look (look.LoadGenerating v n row code)) h.search)
+      (has : Has h.look n (Some code)) where
     abbrev on_generating : RecordWord
     on_generating = word_of (coded_task w code).0.creator (coded_task w code).0.slot TaskGenerating
 
@@ -216,38 +261,55 @@ module _ (p : Program) (w : List ℕ) (m : Memory) (events : List (ℕ × Event)
     maker = found_in m on_generating
 
     generating_is : is_generating_of w code on_generating ≡ true
-    generating_is = ap (λ b. b && (coded_place w code).slot == (coded_place w code).slot) (same_number (coded_place w code).creator) ∙ same_number (coded_place w code).slot
+    generating_is =
+        ap (λ b. b && (coded_place w code).slot == (coded_place w code).slot)
+        (same_number (coded_place w code).creator)
+        ∙ same_number (coded_place w code).slot
 
-    starts_children : (x : Wait) → TestsChildren x → children_start (Ahead.waiting p (sees p w m events s actors i before (counter.Look (look.LoadGenerating v n row code)) at tt) a.stack x) ≡ true
+    starts_children : (x : Wait) → TestsChildren x
+        → children_start (Ahead.waiting p (sees p w m events s actors i before (counter.Look (look.LoadGenerating v n row code)) at tt) a.stack x) ≡ true
     starts_children (wait.Barrier b) tests = absurd tests
     starts_children wait.Taskwait tests = refl
     starts_children wait.Taskyield tests = refl
 
     children_is : children_start (list_of s i) ≡ true
     children_is =
-        let list = own_list p s i a (stands p w m events s actors i before (counter.Look (look.LoadGenerating v n row code)) at tt) in
-        let ahead = ahead_is p w m events s actors i before (counter.Look (look.LoadGenerating v n row code)) at tt in
-        let fit = fits_counter p w m events s actors i before (counter.Look (look.LoadGenerating v n row code)) at tt in
+        let list =
+        own_list p s i a
+        (stands p w m events s actors i before (counter.Look (look.LoadGenerating v n row code)) at tt) in
+        let ahead =
+        ahead_is p w m events s actors i before (counter.Look (look.LoadGenerating v n row code)) at tt in
+        let fit =
+        fits_counter p w m events s actors i before (counter.Look (look.LoadGenerating v n row code)) at tt in
         ap children_start (list ∙ ahead) ∙ starts_children v fit.2
 
     no_child : is_no_child w s i on_generating (op.Load (of_task w (coded_task w code) TaskGenerating)) maker code ≡ not (maker == task_address w a.context.task)
     no_child =
-        ap (λ b. b && (children_start (list_of s i) && not (maker == task_word w (s.threads i).current))) generating_is
+        ap
+        (λ b. b && (children_start (list_of s i) && not (maker == task_word w (s.threads i).current))) generating_is
         ∙ ap (λ b. b && not (maker == task_word w (s.threads i).current)) children_is
-        ∙ ap (λ (k : Option Tid). not (maker == task_word w k)) (stands p w m events s actors i before (counter.Look (look.LoadGenerating v n row code)) at tt).current
+        ∙ ap (λ (k : Option Tid). not (maker == task_word w k))
+        (stands p w m events s actors i before (counter.Look (look.LoadGenerating v n row code)) at tt).current
 
     tested_is : (d : Bool) → maker == task_address w a.context.task ≡ d
         → looked_at w s i on_generating (op.Load (of_task w (coded_task w code) TaskGenerating)) maker h.look.looked h.look.seen ≡ (if not d then record { looked = n + 1; seen = None } else record { looked = n; seen = Some code })
-    tested_is d e = look_passes w s i on_generating (op.Load (of_task w (coded_task w code) TaskGenerating)) maker n code h.look (not d) has (no_child ∙ ap not e)
+    tested_is d e =
+        look_passes w s i on_generating
+        (op.Load (of_task w (coded_task w code) TaskGenerating)) maker n code h.look (not d) has
+        (no_child ∙ ap not e)
 
-    by_maker : (d : Bool) → maker == task_address w a.context.task ≡ d → KeepsParts w m s i (op.Load (of_task w (coded_task w code) TaskGenerating)) on_generating (if d then to_look (look.Take v n row code) a else looking_on v n row a, outcome.Quiet) h
+    by_maker : (d : Bool) → maker == task_address w a.context.task ≡ d
+        → KeepsParts w m s i (op.Load (of_task w (coded_task w code) TaskGenerating)) on_generating (if d then to_look (look.Take v n row code) a else looking_on v n row a, outcome.Quiet) h
     by_maker true same =
-        quiet_parts w m s i _ on_generating (to_look (look.Take v n row code) a) h (calm (look.LoadGenerating v n row code) at given) refl refl refl refl
+        quiet_parts w m s i _ on_generating (to_look (look.Take v n row code) a) h
+        (calm (look.LoadGenerating v n row code) at given) refl refl refl refl
         (subst (λ (l : SlotLook). Has l n (Some code)) (sym (tested_is true same)) (record { looked = refl; seen = refl }))
     by_maker false other =
         let (no_region, no_task) = next_calm a v (n + 1) row in
-        let fit = fits_counter p w m events s actors i before (counter.Look (look.LoadGenerating v n row code)) at tt in
-        quiet_parts w m s i _ on_generating (looking_on v n row a) h (calm (look.LoadGenerating v n row code) at given) refl refl no_region no_task
+        let fit =
+        fits_counter p w m events s actors i before (counter.Look (look.LoadGenerating v n row code)) at tt in
+        quiet_parts w m s i _ on_generating (looking_on v n row a) h
+        (calm (look.LoadGenerating v n row code) at given) refl refl no_region no_task
         (subst (λ (l : SlotLook). IsLookGiven (looking_on v n row a) (next_look a v (n + 1) row) l) (sym (tested_is false other)) (next_given a (looking_on v n row a) v n row _ refl fit.0.0.1 (record { looked = refl; seen = refl })))
 
     load_generating : PartsKeep w m s i (look_next w (actors i) (look.LoadGenerating v n row code)) (λ old. (look_moved p w (actors i) (look.LoadGenerating v n row code) old, look_outcome w (actors i) (look.LoadGenerating v n row code) old)) h
@@ -258,7 +320,10 @@ module _ (p : Program) (w : List ℕ) (m : Memory) (events : List (ℕ × Event)
     )
 
   -- the exchange that takes it
-  module _ (v : Wait) (n : ℕ) (row : Place) (code : ℕ) (at : (actors i).counter ≡ counter.Look (look.Take v n row code)) (given : IsSearchGiven (actors i) (counter.Look (look.Take v n row code)) h.search) (has : Has h.look n (Some code)) where
+  module _ (v : Wait) (n : ℕ) (row : Place) (code : ℕ)
+      (at : (actors i).counter ≡ counter.Look (look.Take v n row code))
+      (given : IsSearchGiven (actors i) (counter.Look (look.Take v n row code)) h.search)
+      (has : Has h.look n (Some code)) where
     abbrev on_seen : RecordWord
     on_seen = record { creator = row.creator; slot = row.slot; field = TaskSlots; place = n % OWN_SLOTS }
 
@@ -268,18 +333,25 @@ module _ (p : Program) (w : List ℕ) (m : Memory) (events : List (ℕ × Event)
     gone_is : is_gone s i on_seen (op.Cas (of_slot w row n) code 0) now n code ≡ not (now == code)
     gone_is =
         ap (λ b. b && (is_slot s i n on_seen && not (now == code))) (same_number code)
-        ∙ ap (λ b. b && not (now == code)) (slot_is p w m events s actors i before (counter.Look (look.Take v n row code)) at tt row n (row_is p w m events s actors i before (counter.Look (look.Take v n row code)) at tt).0)
+        ∙ ap (λ b. b && not (now == code))
+        (slot_is p w m events s actors i before (counter.Look (look.Take v n row code)) at tt row n (row_is p w m events s actors i before (counter.Look (look.Take v n row code)) at tt).0)
 
     taken_is : (d : Bool) → now == code ≡ d
         → looked_at w s i on_seen (op.Cas (of_slot w row n) code 0) now h.look.looked h.look.seen ≡ (if not d || false then record { looked = n + 1; seen = None } else record { looked = n; seen = Some code })
-    taken_is d e = look_passes w s i on_seen (op.Cas (of_slot w row n) code 0) now n code h.look (not d || false) has (ap (λ b. b || false) (gone_is ∙ ap not e))
+    taken_is d e =
+        look_passes w s i on_seen (op.Cas (of_slot w row n) code 0) now n code h.look (not d || false) has
+        (ap (λ b. b || false) (gone_is ∙ ap not e))
 
-    by_exchange : (d : Bool) → now == code ≡ d → KeepsParts w m s i (op.Cas (of_slot w row n) code 0) on_seen (if d then to_look (look.LoadFunction v n code (coded_task w code)) a else looking_on v n row a, outcome.Quiet) h
-    by_exchange true same = quiet_rests w m s i _ on_seen _ h (calm (look.Take v n row code) at given) refl refl (rests_look (look.LoadFunction v n code (coded_task w code)) (λ a h. tt))
+    by_exchange : (d : Bool) → now == code ≡ d
+        → KeepsParts w m s i (op.Cas (of_slot w row n) code 0) on_seen (if d then to_look (look.LoadFunction v n code (coded_task w code)) a else looking_on v n row a, outcome.Quiet) h
+    by_exchange true same =
+        quiet_rests w m s i _ on_seen _ h (calm (look.Take v n row code) at given) refl refl
+        (rests_look (look.LoadFunction v n code (coded_task w code)) (λ a h. tt))
     by_exchange false other =
         let (no_region, no_task) = next_calm a v (n + 1) row in
         let fit = fits_counter p w m events s actors i before (counter.Look (look.Take v n row code)) at tt in
-        quiet_parts w m s i _ on_seen (looking_on v n row a) h (calm (look.Take v n row code) at given) refl refl no_region no_task
+        quiet_parts w m s i _ on_seen (looking_on v n row a) h
+        (calm (look.Take v n row code) at given) refl refl no_region no_task
         (subst (λ (l : SlotLook). IsLookGiven (looking_on v n row a) (next_look a v (n + 1) row) l) (sym (taken_is false other)) (next_given a (looking_on v n row a) v n row _ refl fit.0.0.1 (record { looked = refl; seen = refl })))
 
     take : PartsKeep w m s i (look_next w (actors i) (look.Take v n row code)) (λ old. (look_moved p w (actors i) (look.Take v n row code) old, look_outcome w (actors i) (look.Take v n row code) old)) h
@@ -290,13 +362,18 @@ module _ (p : Program) (w : List ℕ) (m : Memory) (events : List (ℕ × Event)
     )
 
   -- the children of the current task
-  module _ (at : (actors i).counter ≡ counter.Look look.LoadChildren) (given : IsSearchGiven (actors i) (counter.Look look.LoadChildren) h.search) (has : HasAll (actors i) h.look) where
+  module _ (at : (actors i).counter ≡ counter.Look look.LoadChildren)
+      (given : IsSearchGiven (actors i) (counter.Look look.LoadChildren) h.search)
+      (has : HasAll (actors i) h.look) where
     abbrev on_children : RecordWord
     on_children = word_of a.context.task.0.creator a.context.task.0.slot TaskChildren
 
-    by_children : (b : Bool) → KeepsParts w m s i (op.Load (of_task w a.context.task TaskChildren)) on_children
+    by_children : (b : Bool)
+        → KeepsParts w m s i (op.Load (of_task w a.context.task TaskChildren)) on_children
         (if b then back_to_work p a else to_look (look.LoadRow wait.Taskwait 0) a, if b then outcome.Event event.WaitDone else outcome.NotReady (of_task w a.context.task TaskChildren) (found_in m on_children)) h
-    by_children true = event_rests w m s i _ on_children _ h (calm look.LoadChildren at given) _ (rests_working p a (some_body p w m events s actors i before (counter.Look look.LoadChildren) at tt))
+    by_children true =
+        event_rests w m s i _ on_children _ h (calm look.LoadChildren at given) _
+        (rests_working p a (some_body p w m events s actors i before (counter.Look look.LoadChildren) at tt))
     by_children false =
         waits_parts w m s i _ on_children _ h (calm look.LoadChildren at given) _ _ refl refl refl refl
         (λ waits. all_slots p w m events s actors i before (counter.Look look.LoadChildren) at tt h.look has)
@@ -309,7 +386,8 @@ module _ (p : Program) (w : List ℕ) (m : Memory) (events : List (ℕ × Event)
       by_children (found_in m on_children == 0),
     )
 
-  rests_start : (word : ℕ) (v : Wait) (n code : ℕ) (t : Tid) (f : ℕ) (final : Bool) (d : Bool) → Rests (counter.Look (if d then look.Fill v n code t f final (word + 1) else look.Start v n code t f final))
+  rests_start : (word : ℕ) (v : Wait) (n code : ℕ) (t : Tid) (f : ℕ) (final : Bool) (d : Bool)
+      → Rests (counter.Look (if d then look.Fill v n code t f final (word + 1) else look.Start v n code t f final))
   rests_start word v n code t f final true = rests_look (look.Fill v n code t f final (word + 1)) (λ a h. tt)
   rests_start word v n code t f final false = rests_look (look.Start v n code t f final) (λ a h. tt)
 
@@ -318,8 +396,10 @@ module _ (p : Program) (w : List ℕ) (m : Memory) (events : List (ℕ × Event)
   rests_body wait.Taskwait b now = rests_working p b (λ none. now)
   rests_body wait.Taskyield b now = rests_settled p b (λ none. now)
 
-  pub look_parts : (c : LookCounter) (at : (actors i).counter ≡ counter.Look c) → IsSearchGiven (actors i) (counter.Look c) h.search → IsLookGiven (actors i) (counter.Look c) h.look
-      → PartsKeep w m s i (look_next w (actors i) c) (λ old. (look_moved p w (actors i) c old, look_outcome w (actors i) c old)) h
+  pub look_parts : (c : LookCounter) (at : (actors i).counter ≡ counter.Look c)
+      → IsSearchGiven (actors i) (counter.Look c) h.search → IsLookGiven (actors i) (counter.Look c) h.look
+      → PartsKeep w m s i (look_next w (actors i) c)
+      (λ old. (look_moved p w (actors i) c old, look_outcome w (actors i) c old)) h
   look_parts (look.State v) at given has =
       let (x, on) = any (look.State v) at given in
       (x, on, event_parts w m s i _ x (to_look (look.LoadRow v 0) a) h (calm (look.State v) at given) _ refl refl (record { looked = refl; seen = refl }))
@@ -342,7 +422,8 @@ module _ (p : Program) (w : List ℕ) (m : Memory) (events : List (ℕ × Event)
       (x, on, quiet_rests w m s i _ x _ h (calm (look.Fill v n code t f final word) at given) refl refl (rests_start word v n code t f final (nat_lt (word + 1) START_WORDS)))
   look_parts (look.Start v n code t f final) at given has =
       let (x, on) = any (look.Start v n code t f final) at given in
-      let now : Rests (actors i).counter = subst Rests (sym at) (rests_look (look.Start v n code t f final) (λ a h. tt)) in
+      let now : Rests (actors i).counter =
+      subst Rests (sym at) (rests_look (look.Start v n code t f final) (λ a h. tt)) in
       (x, on, event_rests w m s i _ x _ h (calm (look.Start v n code t f final) at given) _ (rests_body v (begun_explicit f (Some v) (task_context a t final) a) now))
   look_parts look.LoadChildren at given has = load_children at given has
   look_parts (look.Yield n) at given has =

@@ -40,13 +40,15 @@ pub not_found : (mine free : Bool) → free ≡ false → mine && free ≡ false
 not_found true free is = is
 not_found false free is = refl
 
-module _ (p : Program) (w : List ℕ) (m : Memory) (events : List (ℕ × Event)) (s : State) (actors : ℕ → Actor) (i : ℕ) (before : Before p w m events s actors i) (h : Watch) where
+module _ (p : Program) (w : List ℕ) (m : Memory) (events : List (ℕ × Event)) (s : State) (actors : ℕ → Actor)
+    (i : ℕ) (before : Before p w m events s actors i) (h : Watch) where
   abbrev a : Actor
   a = actors i
 
   -- ---- workers
 
-  module _ (c : WorkerCounter) (at : (actors i).counter ≡ counter.Worker c) (given : IsSearchGiven (actors i) (counter.Worker c) h.search) where
+  module _ (c : WorkerCounter) (at : (actors i).counter ≡ counter.Worker c)
+      (given : IsSearchGiven (actors i) (counter.Worker c) h.search) where
     calm : IsCalm h.search
     calm = calm_at (actors i) (counter.Worker c) h.search refl refl refl given
 
@@ -60,23 +62,33 @@ module _ (p : Program) (w : List ℕ) (m : Memory) (events : List (ℕ × Event)
     any = some_word p w m events s actors i before (counter.Worker c) at tt
 
     -- an event
-    event_to : (b : Actor) (e : Event) → Rests b.counter → (x : RecordWord) × IsOn w (worker_next w (actors i) c) x × KeepsParts w m s i (worker_next w (actors i) c) x (b, outcome.Event e) h
-    event_to b e rests = (any.0, any.1, event_rests w m s i (worker_next w (actors i) c) any.0 b h calm e rests)
+    event_to : (b : Actor) (e : Event) → Rests b.counter
+        → (x : RecordWord) × IsOn w (worker_next w (actors i) c) x × KeepsParts w m s i (worker_next w (actors i) c) x (b, outcome.Event e) h
+    event_to b e rests =
+        (any.0, any.1, event_rests w m s i (worker_next w (actors i) c) any.0 b h calm e rests)
 
   -- the assign word
-  module _ (at : (actors i).counter ≡ counter.Worker worker.LoadAssign) (given : IsSearchGiven (actors i) (counter.Worker worker.LoadAssign) h.search) where
+  module _ (at : (actors i).counter ≡ counter.Worker worker.LoadAssign)
+      (given : IsSearchGiven (actors i) (counter.Worker worker.LoadAssign) h.search) where
     abbrev assign : RecordWord
     assign = word_of (actors i).thread 0 ThreadAssign
 
     by_assign : (b : Bool) → KeepsParts w m s i (op.Load (of_thread w a.thread ThreadAssign)) assign
         (if b then a else to_worker (worker.ClearAssign (task_place w (found_in m assign))) a, if b then outcome.NotReady (of_thread w a.thread ThreadAssign) (found_in m assign) else outcome.Quiet) h
-    by_assign true = waits_rests w m s i _ assign a h (calm worker.LoadAssign at given) _ _ refl refl refl (here worker.LoadAssign at given)
-    by_assign false = quiet_rests w m s i _ assign _ h (calm worker.LoadAssign at given) refl refl (rests_worker (worker.ClearAssign (task_place w (found_in m assign))))
+    by_assign true =
+        waits_rests w m s i _ assign a h (calm worker.LoadAssign at given) _ _ refl refl refl
+        (here worker.LoadAssign at given)
+    by_assign false =
+        quiet_rests w m s i _ assign _ h (calm worker.LoadAssign at given) refl refl
+        (rests_worker (worker.ClearAssign (task_place w (found_in m assign))))
 
     loads_assign : PartsKeep w m s i (worker_next w (actors i) worker.LoadAssign) (λ old. (worker_moved p w (actors i) worker.LoadAssign old, worker_outcome w (actors i) worker.LoadAssign old)) h
-    loads_assign = (assign, record { there = thread_word p w m events s actors i before ThreadAssign refl; address = refl }, by_assign (found_in m assign == 0))
+    loads_assign =
+        (assign, record { there = thread_word p w m events s actors i before ThreadAssign refl; address = refl }, by_assign (found_in m assign == 0))
 
-  pub worker_parts : (c : WorkerCounter) (at : (actors i).counter ≡ counter.Worker c) → IsSearchGiven (actors i) (counter.Worker c) h.search → PartsKeep w m s i (worker_next w (actors i) c) (λ old. (worker_moved p w (actors i) c old, worker_outcome w (actors i) c old)) h
+  pub worker_parts : (c : WorkerCounter) (at : (actors i).counter ≡ counter.Worker c)
+      → IsSearchGiven (actors i) (counter.Worker c) h.search
+      → PartsKeep w m s i (worker_next w (actors i) c) (λ old. (worker_moved p w (actors i) c old, worker_outcome w (actors i) c old)) h
   worker_parts worker.Begin at given = event_to worker.Begin at given _ _ (rests_worker worker.Offer)
   worker_parts worker.Offer at given = event_to worker.Offer at given _ _ (rests_worker worker.LoadAssign)
   worker_parts worker.LoadAssign at given = loads_assign at given
@@ -92,7 +104,9 @@ module _ (p : Program) (w : List ℕ) (m : Memory) (events : List (ℕ × Event)
       taken : is_free (m t.creator tasks t.slot (number TaskLife) 0) ≡ false
       taken =
           let (k, o, is) = row_is p w m events s actors i before (worker.LoadLife t) at in
-          ap is_free (ap (λ (q : Place). m q.creator tasks q.slot (number TaskLife) 0) (sym is) ∙ task_life p w m events s actors before.rule k o.task o.live) ∙ used_taken k.0
+          ap is_free
+          (ap (λ (q : Place). m q.creator tasks q.slot (number TaskLife) 0) (sym is) ∙ task_life p w m events s actors before.rule k o.task o.live)
+          ∙ used_taken k.0
   worker_parts (worker.LoadFunction t) at given = (
     word_of t.0.creator t.0.slot TaskFunction,
     record { there = record_word p w m events s actors i before tasks t.0.creator t.0.slot TaskFunction refl (placed (worker.LoadFunction t) at given); address = refl },
@@ -113,7 +127,9 @@ module _ (p : Program) (w : List ℕ) (m : Memory) (events : List (ℕ × Event)
       taken =
           let (o, known) = row_is p w m events s actors i before (worker.LoadRegionLife t f r) at in
           let (u, live) = ((names_live p events s before.rule.reached).tasks t o.task o.live).region in
-          ap is_free (ap (λ (q : Place). m q.creator regions q.slot (number RegionLife) 0) (sym known.1) ∙ region_life p w m events s actors before.rule o.task.region u live) ∙ used_taken o.task.region.0
+          ap is_free
+          (ap (λ (q : Place). m q.creator regions q.slot (number RegionLife) 0) (sym known.1) ∙ region_life p w m events s actors before.rule o.task.region u live)
+          ∙ used_taken o.task.region.0
   worker_parts (worker.LoadSize t f r) at given = (
     word_of r.0.creator r.0.slot RegionSize,
     record { there = record_word p w m events s actors i before regions r.0.creator r.0.slot RegionSize refl (placed (worker.LoadSize t f r) at given).1; address = refl },
@@ -135,15 +151,19 @@ module _ (p : Program) (w : List ℕ) (m : Memory) (events : List (ℕ × Event)
 
   -- ---- joins
 
-  module _ (at : (actors i).counter ≡ counter.Join join.LoadLeft) (given : IsSearchGiven (actors i) (counter.Join join.LoadLeft) h.search) where
+  module _ (at : (actors i).counter ≡ counter.Join join.LoadLeft)
+      (given : IsSearchGiven (actors i) (counter.Join join.LoadLeft) h.search) where
     abbrev left : RecordWord
     left = word_of a.context.region.0.creator a.context.region.0.slot RegionLeft
 
     idle : IsCalm h.search
     idle = calm_at (actors i) (counter.Join join.LoadLeft) h.search refl refl refl given
 
-    by_left : (b : Bool) → KeepsParts w m s i (op.Load (of_region w a.context.region RegionLeft)) left (if b then a else to_join join.Join a, if b then outcome.NotReady (of_region w a.context.region RegionLeft) (found_in m left) else outcome.Quiet) h
-    by_left true = waits_rests w m s i _ left a h idle _ _ refl refl refl (subst Rests (sym at) (rests_join join.LoadLeft))
+    by_left : (b : Bool)
+        → KeepsParts w m s i (op.Load (of_region w a.context.region RegionLeft)) left (if b then a else to_join join.Join a, if b then outcome.NotReady (of_region w a.context.region RegionLeft) (found_in m left) else outcome.Quiet) h
+    by_left true =
+        waits_rests w m s i _ left a h idle _ _ refl refl refl
+        (subst Rests (sym at) (rests_join join.LoadLeft))
     by_left false = quiet_rests w m s i _ left _ h idle refl refl (rests_join join.Join)
 
     loads_left : PartsKeep w m s i (join_next w (actors i) join.LoadLeft) (λ old. (join_moved p w (actors i) join.LoadLeft old, join_outcome w (actors i) join.LoadLeft old)) h
@@ -153,7 +173,9 @@ module _ (p : Program) (w : List ℕ) (m : Memory) (events : List (ℕ × Event)
       by_left (some_inside a (found_in m left)),
     )
 
-  pub join_parts : (c : JoinCounter) (at : (actors i).counter ≡ counter.Join c) → IsJoinKept c → IsSearchGiven (actors i) (counter.Join c) h.search → PartsKeep w m s i (join_next w (actors i) c) (λ old. (join_moved p w (actors i) c old, join_outcome w (actors i) c old)) h
+  pub join_parts : (c : JoinCounter) (at : (actors i).counter ≡ counter.Join c) → IsJoinKept c
+      → IsSearchGiven (actors i) (counter.Join c) h.search
+      → PartsKeep w m s i (join_next w (actors i) c) (λ old. (join_moved p w (actors i) c old, join_outcome w (actors i) c old)) h
   join_parts join.LoadLeft at kept given = loads_left at given
   join_parts join.Join at kept given =
       let (x, on) = some_word p w m events s actors i before (counter.Join join.Join) at tt in

@@ -44,7 +44,8 @@ module _ {A : Type 0} (R : A → A → Type 0) where
   live_before None None y alike is = absurd (cc)
   live_before None (Some z) y alike is = absurd alike
   live_before (Some x) None y alike is = absurd alike
-  live_before (Some x) (Some z) y alike is = let same : z ≡ y = cc in (x, refl, subst (λ (q : A). R x q) same alike)
+  live_before (Some x) (Some z) y alike is =
+      let same : z ≡ y = cc in (x, refl, subst (λ (q : A). R x q) same alike)
 
   pub none_before : (o p : Option A) → LiveAlike R o p → p ≡ None → o ≡ None
   none_before None None alike is = refl
@@ -72,22 +73,30 @@ module _ {A : Type 0} (R : A → A → Type 0) where
   slots_same same xs = λ c k. record { generations = refl; live = live_same same (xs c k).live }
 
   pub slots_back : ((x y : A) → R x y → R y x) → (xs ys : Slots A) → SlotsAlike R xs ys → SlotsAlike R ys xs
-  slots_back back xs ys alike = λ c k. record { generations = sym (alike c k).generations; live = live_back back (xs c k).live (ys c k).live (alike c k).live }
+  slots_back back xs ys alike =
+      λ c k. record { generations = sym (alike c k).generations; live = live_back back (xs c k).live (ys c k).live (alike c k).live }
 
   -- what is found under a name
   pub named_alike : (xs ys : Slots A) → SlotsAlike R xs ys → (n : Id) → LiveAlike R (named xs n) (named ys n)
   named_alike xs ys alike n = go (xs n.creator n.slot) (ys n.creator n.slot) (alike n.creator n.slot)
     where
       go : (x y : Slot A) → SlotAlike R x y → LiveAlike R (found n.generation x) (found n.generation y)
-      go x y o = subst (λ z. LiveAlike R (if x.generations == n.generation + 1 then x.live else None) (if z == n.generation + 1 then y.live else None)) (sym o.generations) (tested (x.generations == n.generation + 1))
+      go x y o =
+          subst
+          (λ z. LiveAlike R (if x.generations == n.generation + 1 then x.live else None) (if z == n.generation + 1 then y.live else None))
+          (sym o.generations) (tested (x.generations == n.generation + 1))
         where
           tested : (b : Bool) → LiveAlike R (if b then x.live else None) (if b then y.live else None)
           tested true = o.live
           tested false = tt
 
   -- the object of a name is changed
-  pub on_alike : ((x : A) → R x x) → (xs : Slots A) (n : Id) (g : A → A) → ((x : A) → named xs n ≡ Some x → R x (g x)) → SlotsAlike R xs (on xs n g)
-  on_alike same xs n g here = each_slot xs n (λ c k (y : Slot A). SlotAlike R (xs c k) y) (changed n.generation g (xs n.creator n.slot)) (go ((xs n.creator n.slot).generations == n.generation + 1) here) (λ c k apart. slots_same same xs c k)
+  pub on_alike : ((x : A) → R x x) → (xs : Slots A) (n : Id) (g : A → A)
+      → ((x : A) → named xs n ≡ Some x → R x (g x)) → SlotsAlike R xs (on xs n g)
+  on_alike same xs n g here =
+      each_slot xs n (λ c k (y : Slot A). SlotAlike R (xs c k) y)
+      (changed n.generation g (xs n.creator n.slot))
+      (go ((xs n.creator n.slot).generations == n.generation + 1) here) (λ c k apart. slots_same same xs c k)
     where
       x : Slot A
       x = xs n.creator n.slot
@@ -96,12 +105,14 @@ module _ {A : Type 0} (R : A → A → Type 0) where
       mapped None each = tt
       mapped (Some z) each = each z refl
 
-      go : (b : Bool) → ((z : A) → (if b then x.live else None) ≡ Some z → R z (g z)) → SlotAlike R x (if b then record { generations = x.generations; live = option_map g x.live } else x)
+      go : (b : Bool) → ((z : A) → (if b then x.live else None) ≡ Some z → R z (g z))
+          → SlotAlike R x (if b then record { generations = x.generations; live = option_map g x.live } else x)
       go true each = record { generations = refl; live = mapped x.live each }
       go false each = slots_same same xs n.creator n.slot
 
   -- a life word that stays
-  pub life_alike : (r q : Rec) (life : Field) (x y : Slot A) (owed : Bool) → SlotAlike R x y → q (number life) 0 ≡ r (number life) 0 → KeepsLife r life x owed → KeepsLife q life y owed
+  pub life_alike : (r q : Rec) (life : Field) (x y : Slot A) (owed : Bool) → SlotAlike R x y
+      → q (number life) 0 ≡ r (number life) 0 → KeepsLife r life x owed → KeepsLife q life y owed
   life_alike r q life x y owed alike same o = record {
     live = λ z is.
         let (v, live, _) = live_before x.live y.live z alike.live is in
@@ -138,14 +149,16 @@ pub region_back : (r q : Region) → IsSameRegion r q → IsSameRegion q r
 region_back r q o = record { team = sym o.team; joined = sym o.joined }
 
 -- what is counted of a task
-pub parts_same : (f : Bool → Progress → Rid → Option Tid → ℕ) (t u : Task) → IsSameTask t u → f u.implicit u.progress u.region u.generating ≡ f t.implicit t.progress t.region t.generating
+pub parts_same : (f : Bool → Progress → Rid → Option Tid → ℕ) (t u : Task) → IsSameTask t u
+    → f u.implicit u.progress u.region u.generating ≡ f t.implicit t.progress t.region t.generating
 parts_same f t u o =
     ap (λ x. f x u.progress u.region u.generating) o.implicit
     ∙ (ap (λ x. f t.implicit x u.region u.generating) o.progress
     ∙ (ap (λ x. f t.implicit t.progress x u.generating) o.region
     ∙ ap (λ x. f t.implicit t.progress t.region x) o.generating))
 
-pub live_counted : (f : Task → ℕ) → ((t u : Task) → IsSameTask t u → f u ≡ f t) → (o p : Option Task) → LiveAlike IsSameTask o p → of_live f p ≡ of_live f o
+pub live_counted : (f : Task → ℕ) → ((t u : Task) → IsSameTask t u → f u ≡ f t) → (o p : Option Task)
+    → LiveAlike IsSameTask o p → of_live f p ≡ of_live f o
 live_counted f same None None alike = refl
 live_counted f same None (Some u) alike = absurd alike
 live_counted f same (Some t) None alike = absurd alike
@@ -153,14 +166,16 @@ live_counted f same (Some t) (Some u) alike = same t u alike
 
 -- ---- two states
 
-module _ (a b : State) (regions_alike : SlotsAlike IsSameRegion a.regions b.regions) (tasks_alike : SlotsAlike IsSameTask a.tasks b.tasks) where
+module _ (a b : State) (regions_alike : SlotsAlike IsSameRegion a.regions b.regions)
+    (tasks_alike : SlotsAlike IsSameTask a.tasks b.tasks) where
   pub task_found : (k : Tid) → LiveAlike IsSameTask (task_of a k) (task_of b k)
   task_found k = named_alike IsSameTask a.tasks b.tasks tasks_alike k.0
 
   pub region_found : (n : Rid) → LiveAlike IsSameRegion (region_of a n) (region_of b n)
   region_found n = named_alike IsSameRegion a.regions b.regions regions_alike n.0
 
-  pub task_before : (k : Tid) (u : Task) → task_of b k ≡ Some u → (t : Task) × (task_of a k ≡ Some t) × IsSameTask t u
+  pub task_before : (k : Tid) (u : Task) → task_of b k ≡ Some u
+      → (t : Task) × (task_of a k ≡ Some t) × IsSameTask t u
   task_before k u is = live_before IsSameTask (task_of a k) (task_of b k) u (task_found k) is
 
   pub some_task : (k : Tid) → IsSome (task_of a k) → IsSome (task_of b k)
@@ -169,25 +184,32 @@ module _ (a b : State) (regions_alike : SlotsAlike IsSameRegion a.regions b.regi
   pub generating_same : (k : Tid) → generating_of b k ≡ generating_of a k
   generating_same k = go (task_of a k) (task_of b k) (task_found k)
     where
-      go : (o p : Option Task) → LiveAlike IsSameTask o p → option_and_then (λ (t : Task). t.generating) p ≡ option_and_then (λ (t : Task). t.generating) o
+      go : (o p : Option Task) → LiveAlike IsSameTask o p
+          → option_and_then (λ (t : Task). t.generating) p ≡ option_and_then (λ (t : Task). t.generating) o
       go None None alike = refl
       go None (Some u) alike = absurd alike
       go (Some t) None alike = absurd alike
       go (Some t) (Some u) alike = alike.generating
 
-module _ (a b : State) (regions_alike : SlotsAlike IsSameRegion a.regions b.regions) (tasks_alike : SlotsAlike IsSameTask a.tasks b.tasks) where
+module _ (a b : State) (regions_alike : SlotsAlike IsSameRegion a.regions b.regions)
+    (tasks_alike : SlotsAlike IsSameTask a.tasks b.tasks) where
   regions_back : SlotsAlike IsSameRegion b.regions a.regions
   regions_back = slots_back IsSameRegion region_back a.regions b.regions regions_alike
 
   tasks_back : SlotsAlike IsSameTask b.tasks a.tasks
   tasks_back = slots_back IsSameTask task_back a.tasks b.tasks tasks_alike
 
-  pub task_after : (k : Tid) (t : Task) → task_of a k ≡ Some t → (u : Task) × (task_of b k ≡ Some u) × IsSameTask t u
-  task_after k t is = let (u, live, same) = task_before b a regions_back tasks_back k t is in (u, live, task_back u t same)
+  pub task_after : (k : Tid) (t : Task) → task_of a k ≡ Some t
+      → (u : Task) × (task_of b k ≡ Some u) × IsSameTask t u
+  task_after k t is =
+      let (u, live, same) = task_before b a regions_back tasks_back k t is in (u, live, task_back u t same)
 
-  region_after : (n : Rid) (r : Region) → region_of a n ≡ Some r → (q : Region) × (region_of b n ≡ Some q) × IsSameRegion r q
+  region_after : (n : Rid) (r : Region) → region_of a n ≡ Some r
+      → (q : Region) × (region_of b n ≡ Some q) × IsSameRegion r q
   region_after n r is =
-      let (q, live, same) = live_before IsSameRegion (region_of b n) (region_of a n) r (region_found b a regions_back tasks_back n) is in
+      let (q, live, same) =
+      live_before IsSameRegion (region_of b n) (region_of a n) r
+      (region_found b a regions_back tasks_back n) is in
       (q, live, region_back q r same)
 
   pub waits_after : (i : ℕ) (k : Tid) → WaitsFor a i k → WaitsFor b i k
@@ -200,12 +222,14 @@ module _ (a b : State) (regions_alike : SlotsAlike IsSameRegion a.regions b.regi
       let (u, live, same) = task_after k x.task x.live in
       record { task = u; live = live; explicit = same.implicit ∙ x.explicit; progress = same.progress ∙ x.progress }
 
-  pub deferred_in_after : (row : Task) (place : ℕ) (k : Tid) → IsDeferredIn a row place k → IsDeferredIn b row place k
+  pub deferred_in_after : (row : Task) (place : ℕ) (k : Tid) → IsDeferredIn a row place k
+      → IsDeferredIn b row place k
   deferred_in_after row place k x =
       let (u, live, same) = task_after k x.task x.live in
       record { task = u; live = live; progress = same.progress ∙ x.progress; region = same.region ∙ x.region; place_is = same.place ∙ x.place_is; maker = x.maker }
 
-  in_making : {A : Type 0} (R : A → A → Type 0) (i : ℕ) (xs ys : Slots A) (n : Id) → SlotsAlike R ys xs → IsInTheMaking i (xs i) n → IsInTheMaking i (ys i) n
+  in_making : {A : Type 0} (R : A → A → Type 0) (i : ℕ) (xs ys : Slots A) (n : Id) → SlotsAlike R ys xs
+      → IsInTheMaking i (xs i) n → IsInTheMaking i (ys i) n
   in_making R i xs ys n alike x = record {
     maker = x.maker;
     free = none_before R (ys i n.slot).live (xs i n.slot).live (alike i n.slot).live x.free;
@@ -233,6 +257,7 @@ module _ (a b : State) (regions_alike : SlotsAlike IsSameRegion a.regions b.regi
     assigns = All-weaker (λ (m : Tid × ℕ). WaitsFor a m.1 m.0) (λ (m : Tid × ℕ). WaitsFor b m.1 m.0) (λ m. waits_after m.1 m.0) o.assigns x.assigns;
   }
     where
-      parent : (g : Option Tid) → IsSome (option_and_then (task_of a) g) → IsSome (option_and_then (task_of b) g)
+      parent : (g : Option Tid) → IsSome (option_and_then (task_of a) g)
+          → IsSome (option_and_then (task_of b) g)
       parent None is = is
       parent (Some q) is = some_task a b regions_alike tasks_alike q is

@@ -26,8 +26,10 @@ use Rattle.omi_rule_words.proofs.Sums.{sum_changed, sum_same}
 
 -- What is kept but for assign words, where the assign word of one thread is stored, and threads owe other assign words or have met
 -- other tasks
-module _ (w : List ℕ) (m : Memory) (s : State) (owes : ℕ → Owed) (i to word : ℕ) (p : Owed) (keeps : KeepsWords w m s owes)
-    (alike_own : OwesAlike p (owes i)) (region_same : p.region ≡ (owes i).region) (tasks_same : p.tasks ≡ (owes i).tasks) (waits : All (λ x. WaitsFor s x.1 x.0) p.assigns) where
+module _ (w : List ℕ) (m : Memory) (s : State) (owes : ℕ → Owed) (i to word : ℕ) (p : Owed)
+    (keeps : KeepsWords w m s owes)
+    (alike_own : OwesAlike p (owes i)) (region_same : p.region ≡ (owes i).region)
+    (tasks_same : p.tasks ≡ (owes i).tasks) (waits : All (λ x. WaitsFor s x.1 x.0) p.assigns) where
   abbrev other : ℕ → Owed
   other = replace_at owes i p
 
@@ -46,7 +48,8 @@ module _ (w : List ℕ) (m : Memory) (s : State) (owes : ℕ → Owed) (i to wor
   stays : (c kind k : ℕ) → (kind ≡ threads → ⊥) → after c kind k ≡ m c kind k
   stays c kind k ne = record_stays m to threads 0 (number ThreadAssign) 0 word c kind k (λ _ same _. ne same)
 
-  thread_kept : (j : ℕ) → KeepsThread w j (m j threads 0) (s.threads j) → KeepsThread w j (after j threads 0) (s.threads j)
+  thread_kept : (j : ℕ) → KeepsThread w j (m j threads 0) (s.threads j)
+      → KeepsThread w j (after j threads 0) (s.threads j)
   thread_kept j o = go (j == to) refl
     where
       go : (b : Bool) → j == to ≡ b → KeepsThread w j (after j threads 0) (s.threads j)
@@ -56,9 +59,12 @@ module _ (w : List ℕ) (m : Memory) (s : State) (owes : ℕ → Owed) (i to wor
           (subst (λ (r : Rec). KeepsThread w to r (s.threads to)) (sym (record_read m to threads 0 (number ThreadAssign) 0 word))
           (let before : KeepsThread w to (m to threads 0) (s.threads to) = subst (λ c. KeepsThread w c (m c threads 0) (s.threads c)) (sym is) o in
           assign_stored w to (m to threads 0) (thread_told (s.threads to)) before word))
-      go false e = subst (λ (r : Rec). KeepsThread w j r (s.threads j)) (sym (record_stays m to threads 0 (number ThreadAssign) 0 word j threads 0 (λ same _ _. grind (arith, nat_tests)))) o
+      go false e =
+          subst (λ (r : Rec). KeepsThread w j r (s.threads j))
+          (sym (record_stays m to threads 0 (number ThreadAssign) 0 word j threads 0 (λ same _ _. grind (arith, nat_tests)))) o
 
-  pub assign_changed : ((j : ℕ) → j < s.count → KeepsAssign w s other j (after j threads 0)) → KeepsWords w after s other
+  pub assign_changed : ((j : ℕ) → j < s.count → KeepsAssign w s other j (after j threads 0))
+      → KeepsWords w after s other
   assign_changed assigned = record {
     runtime_record = subst (λ (r : Rec). KeepsRuntime w r s) (sym (stays 0 runtime 0 (λ kind. absurd (omega (arith, kind))))) keeps.runtime_record;
     made = made;
@@ -68,8 +74,12 @@ module _ (w : List ℕ) (m : Memory) (s : State) (owes : ℕ → Owed) (i to wor
       same : ◌≡◌ {A = ℕ → ℕ → Rec} (λ c. after c tasks) (λ c. m c tasks)
       same = fun_ext (λ c. fun_ext (λ k. stays c tasks k (λ kind. absurd (omega (arith, kind)))))
 
-      waits_of_all : (j : ℕ) → All (λ x. WaitsFor s x.1 x.0) (owes j).assigns → All (λ x. WaitsFor s x.1 x.0) (other j).assigns
-      waits_of_all j before = each_put (λ k (x : Owed). All (λ y. WaitsFor s y.1 y.0) (owes k).assigns → All (λ y. WaitsFor s y.1 y.0) x.assigns) owes i p (λ _. waits) j (λ _ given. given) before
+      waits_of_all : (j : ℕ) → All (λ x. WaitsFor s x.1 x.0) (owes j).assigns
+          → All (λ x. WaitsFor s x.1 x.0) (other j).assigns
+      waits_of_all j before =
+          each_put
+          (λ k (x : Owed). All (λ y. WaitsFor s y.1 y.0) (owes k).assigns → All (λ y. WaitsFor s y.1 y.0) x.assigns) owes i p
+          (λ _. waits) j (λ _ given. given) before
 
       made : (j : ℕ) → j < s.count → KeepsMade w s other j (after j)
       made j known =
@@ -105,11 +115,14 @@ is_task_same : (k : Tid) → is_task k k ≡ true
 is_task_same k = grind (arith, nat_tests)
 
 pub assign_stores_keep : AssignStoresKeep
-assign_stores_keep = λ w m s owes i to k rest keeps maker known owed waits alone some. kept w m s owes i to k rest keeps maker known owed waits alone some
+assign_stores_keep =
+    λ w m s owes i to k rest keeps maker known owed waits alone some. kept w m s owes i to k rest keeps maker known owed waits alone some
   where
-    kept : (w : List ℕ) (m : Memory) (s : State) (owes : ℕ → Owed) (i to : ℕ) (k : Tid) (rest : List (Tid × ℕ)) → KeepsWords w m s owes → i < s.count → to < s.count
+    kept : (w : List ℕ) (m : Memory) (s : State) (owes : ℕ → Owed) (i to : ℕ) (k : Tid) (rest : List (Tid × ℕ))
+        → KeepsWords w m s owes → i < s.count → to < s.count
         → (owes i).assigns ≡ (k, to) ∷ rest → WaitsFor s to k → ((t : Tid) → WaitsFor s to t → t ≡ k) → task_address w k ≢ 0
-        → KeepsWords w (with_word m to threads 0 (number ThreadAssign) 0 (task_address w k)) s (replace_at owes i (record (owes i) { assigns = rest }))
+        → KeepsWords w (with_word m to threads 0 (number ThreadAssign) 0 (task_address w k)) s
+        (replace_at owes i (record (owes i) { assigns = rest }))
     kept w m s owes i to k rest keeps maker known owed waits alone some =
         assign_changed w m s owes i to (task_address w k) p keeps alike_own refl refl
         (All-tail (λ x. WaitsFor s x.1 x.0) (k, to) rest (subst (λ (ms : List (Tid × ℕ)). All (λ x. WaitsFor s x.1 x.0) ms) owed (keeps.made i maker).objects.assigns))
@@ -131,11 +144,16 @@ assign_stores_keep = λ w m s owes i to k rest keeps maker known owed waits alon
         met j = each_put (λ c (x : Owed). one x.met ≡ one (owes c).met) owes i p refl j (λ _. refl)
 
         -- one store less is owed, for this thread and task
-        less : (j : ℕ) (t : Tid) → sum_of_owed s other (assign_owed j t) + one (to == j && is_task t k) ≡ sum_of_owed s owes (assign_owed j t)
+        less : (j : ℕ) (t : Tid)
+            → sum_of_owed s other (assign_owed j t) + one (to == j && is_task t k) ≡ sum_of_owed s owes (assign_owed j t)
         less j t =
-            let change = sum_changed s.count i (λ c. assign_owed j t (owes c)) (λ c. assign_owed j t (other c)) maker (λ c ne. ap (assign_owed j t) (put_other owes i c p ne)) in
-            let before : assign_owed j t (owes i) ≡ one (to == j && is_task t k) + assigns_in j t rest = ap (assigns_in j t) owed in
-            let now : assign_owed j t (other i) ≡ assigns_in j t rest = ap (assign_owed j t) (put_same owes i p) in
+            let change =
+            sum_changed s.count i (λ c. assign_owed j t (owes c)) (λ c. assign_owed j t (other c)) maker
+            (λ c ne. ap (assign_owed j t) (put_other owes i c p ne)) in
+            let before : assign_owed j t (owes i) ≡ one (to == j && is_task t k) + assigns_in j t rest =
+            ap (assigns_in j t) owed in
+            let now : assign_owed j t (other i) ≡ assigns_in j t rest =
+            ap (assign_owed j t) (put_same owes i p) in
             omega (arith, change, before, now)
 
         assigned : (j : ℕ) → j < s.count → (b : Bool) → j == to ≡ b → KeepsAssign w s other j (n j threads 0)
@@ -148,13 +166,18 @@ assign_stores_keep = λ w m s owes i to k rest keeps maker known owed waits alon
               none = λ nobody. absurd (nobody k waits);
             })
           where
-            own : KeepsAssign w s owes to (m to threads 0) → IsAssignedOnce w s other to k (n to threads 0 (number ThreadAssign) 0)
+            own : KeepsAssign w s owes to (m to threads 0)
+                → IsAssignedOnce w s other to k (n to threads 0 (number ThreadAssign) 0)
             own before =
                 let was = (before.waiting k waits).once in
-                let stored : n to threads 0 (number ThreadAssign) 0 ≡ task_address w k = word_read m to threads 0 (number ThreadAssign) 0 (task_address w k) in
-                let test : (n to threads 0 (number ThreadAssign) 0 == task_address w k) ≡ true = eq-eqb _ _ stored in
-                let counted : one (n to threads 0 (number ThreadAssign) 0 == task_address w k) ≡ 1 = ap one test in
-                let there : one (to == to && is_task k k) ≡ 1 = ap one (both (eq-eqb to to refl) (is_task_same k)) in
+                let stored : n to threads 0 (number ThreadAssign) 0 ≡ task_address w k =
+                word_read m to threads 0 (number ThreadAssign) 0 (task_address w k) in
+                let test : (n to threads 0 (number ThreadAssign) 0 == task_address w k) ≡ true =
+                eq-eqb _ _ stored in
+                let counted : one (n to threads 0 (number ThreadAssign) 0 == task_address w k) ≡ 1 =
+                ap one test in
+                let there : one (to == to && is_task k k) ≡ 1 =
+                ap one (both (eq-eqb to to refl) (is_task_same k)) in
                 let one_less = less to k in
                 let met_same = met to in
                 record { word_is = inr stored; once = omega (arith, was, counted, there, one_less, met_same) }
@@ -164,7 +187,8 @@ assign_stores_keep = λ w m s owes i to k rest keeps maker known owed waits alon
                   let was = (keeps.made j within).assign.waiting t there in
                   let once = was.once in
                   let apart : to == j ≡ false = grind (arith, nat_tests) in
-                  let none : one (to == j && is_task t k) ≡ 0 = ap (λ (c : Bool). one (c && is_task t k)) apart in
+                  let none : one (to == j && is_task t k) ≡ 0 =
+                  ap (λ (c : Bool). one (c && is_task t k)) apart in
                   let one_less = less j t in
                   let met_same = met j in
                   record { word_is = was.word_is; once = omega (arith, once, none, one_less, met_same) };
@@ -172,13 +196,17 @@ assign_stores_keep = λ w m s owes i to k rest keeps maker known owed waits alon
             })
 
 pub assign_clears_keep : AssignClearsKeep
-assign_clears_keep = λ w m s owes i k keeps known stored unmet waits alone some. kept w m s owes i k keeps known stored unmet waits alone some
+assign_clears_keep =
+    λ w m s owes i k keeps known stored unmet waits alone some. kept w m s owes i k keeps known stored unmet waits alone some
   where
-    kept : (w : List ℕ) (m : Memory) (s : State) (owes : ℕ → Owed) (i : ℕ) (k : Tid) → KeepsWords w m s owes → i < s.count
+    kept : (w : List ℕ) (m : Memory) (s : State) (owes : ℕ → Owed) (i : ℕ) (k : Tid) → KeepsWords w m s owes
+        → i < s.count
         → m i threads 0 (number ThreadAssign) 0 ≡ task_address w k → (owes i).met ≡ false → WaitsFor s i k → ((t : Tid) → WaitsFor s i t → t ≡ k) → task_address w k ≢ 0
-        → KeepsWords w (with_word m i threads 0 (number ThreadAssign) 0 0) s (replace_at owes i (record (owes i) { met = true }))
+        → KeepsWords w (with_word m i threads 0 (number ThreadAssign) 0 0) s
+        (replace_at owes i (record (owes i) { met = true }))
     kept w m s owes i k keeps known stored unmet waits alone some =
-        assign_changed w m s owes i i 0 p keeps alike_own refl refl (keeps.made i known).objects.assigns (λ j within. assigned j within (j == i) refl)
+        assign_changed w m s owes i i 0 p keeps alike_own refl refl (keeps.made i known).objects.assigns
+        (λ j within. assigned j within (j == i) refl)
       where
         p : Owed
         p = record (owes i) { met = true }
@@ -192,8 +220,11 @@ assign_clears_keep = λ w m s owes i k keeps known stored unmet waits alone some
         alike_own : OwesAlike p (owes i)
         alike_own = record { pending = refl; raised = refl; lowered = refl; left = refl; hand = refl }
 
-        same_sum : (j : ℕ) (t : Tid) → sum_of_owed s other (assign_owed j t) ≡ sum_of_owed s owes (assign_owed j t)
-        same_sum j t = sum_same s.count (λ c. assign_owed j t (other c)) (λ c. assign_owed j t (owes c)) (λ c. each_put (λ d (x : Owed). assign_owed j t x ≡ assign_owed j t (owes d)) owes i p refl c (λ _. refl))
+        same_sum : (j : ℕ) (t : Tid)
+            → sum_of_owed s other (assign_owed j t) ≡ sum_of_owed s owes (assign_owed j t)
+        same_sum j t =
+            sum_same s.count (λ c. assign_owed j t (other c)) (λ c. assign_owed j t (owes c))
+            (λ c. each_put (λ d (x : Owed). assign_owed j t x ≡ assign_owed j t (owes d)) owes i p refl c (λ _. refl))
 
         assigned : (j : ℕ) → j < s.count → (b : Bool) → j == i ≡ b → KeepsAssign w s other j (n j threads 0)
         assigned j within true e =
@@ -208,9 +239,12 @@ assign_clears_keep = λ w m s owes i k keeps known stored unmet waits alone some
             own : IsAssignedOnce w s other i k (n i threads 0 (number ThreadAssign) 0)
             own =
                 let was = ((keeps.made i known).assign.waiting k waits).once in
-                let now : n i threads 0 (number ThreadAssign) 0 ≡ 0 = word_read m i threads 0 (number ThreadAssign) 0 0 in
-                let before : one (m i threads 0 (number ThreadAssign) 0 == task_address w k) ≡ 1 = ap one (eq-eqb _ _ stored) in
-                let after : one (n i threads 0 (number ThreadAssign) 0 == task_address w k) ≡ 0 = ap one (ne_eqb _ _ (λ same. some (sym same ∙ now))) in
+                let now : n i threads 0 (number ThreadAssign) 0 ≡ 0 =
+                word_read m i threads 0 (number ThreadAssign) 0 0 in
+                let before : one (m i threads 0 (number ThreadAssign) 0 == task_address w k) ≡ 1 =
+                ap one (eq-eqb _ _ stored) in
+                let after : one (n i threads 0 (number ThreadAssign) 0 == task_address w k) ≡ 0 =
+                ap one (ne_eqb _ _ (λ same. some (sym same ∙ now))) in
                 let unmet_before : one (owes i).met ≡ 0 = ap one unmet in
                 let met_now : one (other i).met ≡ 1 = ap (λ (x : Owed). one x.met) (put_same owes i p) in
                 let sum = same_sum i k in
@@ -221,7 +255,8 @@ assign_clears_keep = λ w m s owes i k keeps known stored unmet waits alone some
                   let was = (keeps.made j within).assign.waiting t there in
                   let once = was.once in
                   let sum = same_sum j t in
-                  let met_same : one (other j).met ≡ one (owes j).met = ap (λ (x : Owed). one x.met) (put_other owes i j p (λ is. grind (arith, nat_tests))) in
+                  let met_same : one (other j).met ≡ one (owes j).met =
+                  ap (λ (x : Owed). one x.met) (put_other owes i j p (λ is. grind (arith, nat_tests))) in
                   record { word_is = was.word_is; once = omega (arith, once, sum, met_same) };
               none = (keeps.made j within).assign.none;
             })

@@ -60,7 +60,8 @@ module _ {A : Type 0} (Stays : Type 0) (New : A → Type 0) (x y : Slot A) where
   found_stays (inl stays) g u is = ap (found g) stays.same ∙ is
   found_stays (inr begins) g u is = absurd (found_there g x u begins.empty is)
 
-  pub found_was : Grows Stays New x y → (g : ℕ) (v : A) → found g y ≡ Some v → (found g x ≡ Some v) ⊎ IsNew New g x v
+  pub found_was : Grows Stays New x y → (g : ℕ) (v : A) → found g y ≡ Some v
+      → (found g x ≡ Some v) ⊎ IsNew New g x v
   found_was (inl stays) g v is = inl (sym (ap (found g) stays.same) ∙ is)
   found_was (inr begins) g v is = inr (go (y.generations == g + 1) refl is)
     where
@@ -76,7 +77,8 @@ module _ {A : Type 0} (Stays : Type 0) (New : A → Type 0) (x y : Slot A) where
   some_stays (inr begins) g is = absurd (none_found g x begins.empty is)
 
 -- a slot that is as it was has no other record in the making
-pub making_same : {A : Type 0} (i : ℕ) (was now : ℕ → Slot A) (n : Id) → now n.slot ≡ was n.slot → IsInTheMaking i was n → IsInTheMaking i now n
+pub making_same : {A : Type 0} (i : ℕ) (was now : ℕ → Slot A) (n : Id) → now n.slot ≡ was n.slot
+    → IsInTheMaking i was n → IsInTheMaking i now n
 making_same i was now n same is = record { maker = is.maker; free = ap (λ x. x.live) same ∙ is.free; next = is.next ∙ sym (ap (λ x. x.generations) same) }
 
 -- ---- new objects
@@ -104,7 +106,8 @@ one_none b c none = ap (λ x. one (b && x)) none ∙ go b
     go false = refl
 
 -- the life word of a record that was taken
-pub begun_life : {A : Type 0} (r : Rec) (f : Field) (x y : Slot A) (New : A → Type 0) (before now : Bool) → Begins New x y → before ≡ true → KeepsLife r f x before → KeepsLife r f y now
+pub begun_life : {A : Type 0} (r : Rec) (f : Field) (x y : Slot A) (New : A → Type 0) (before now : Bool)
+    → Begins New x y → before ≡ true → KeepsLife r f x before → KeepsLife r f y now
 begun_life r f x y New before now begins taken o = record {
   live = λ u is. let was = o.taken begins.empty taken in let more = begins.generations in omega (arith, was, more);
   taken = λ none _. let some = begins.live in absurd (cc);

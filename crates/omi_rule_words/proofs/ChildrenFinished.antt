@@ -26,18 +26,22 @@ use Rattle.omi_rule_words.proofs.TaskWords.{task_name}
 
 -- an explicit task that is not unfinished has finished
 over : (t : Task) → t.implicit ≡ false → one (is_unfinished t) ≡ 0 → t.progress ≡ progress.Finished
-over t explicit none = go t.progress (sym (ap (λ b. one (is_unfinished (record t { implicit = b }))) explicit) ∙ none)
+over t explicit none =
+    go t.progress (sym (ap (λ b. one (is_unfinished (record t { implicit = b }))) explicit) ∙ none)
   where
-    go : (p : Progress) → one (is_unfinished (record t { implicit = false; progress = p })) ≡ 0 → p ≡ progress.Finished
+    go : (p : Progress) → one (is_unfinished (record t { implicit = false; progress = p })) ≡ 0
+        → p ≡ progress.Finished
     go Deferred is = absurd (omega (arith, is))
     go NotBegun is = absurd (omega (arith, is))
     go Begun is = absurd (omega (arith, is))
     go Finished is = refl
 
-module _ (w : List ℕ) (m : Memory) (s : State) (owes : ℕ → Owed) (k : Tid) (t : Task) (keeps : KeepsWords w m s owes) (within : IsWithin w s) (live : task_of s k ≡ Some t)
+module _ (w : List ℕ) (m : Memory) (s : State) (owes : ℕ → Owed) (k : Tid) (t : Task)
+    (keeps : KeepsWords w m s owes) (within : IsWithin w s) (live : task_of s k ≡ Some t)
     (word : m k.0.creator tasks k.0.slot (number TaskChildren) 0 ≡ 0) where
   below : (c j g : ℕ) (x : Task) → found g (s.tasks c j) ≡ Some x → (c < s.count) × (j < per_thread w tasks)
-  below c j g x is = let at = within.tasks c j g x is in let count = within.count in let maker = at.maker in (omega (arith, maker, count), at.place)
+  below c j g x is =
+      let at = within.tasks c j g x is in let count = within.count in let maker = at.maker in (omega (arith, maker, count), at.place)
 
   none_unfinished : unfinished_children w s k ≡ 0
   none_unfinished =
@@ -48,14 +52,19 @@ module _ (w : List ℕ) (m : Memory) (s : State) (owes : ℕ → Owed) (k : Tid)
       omega (arith, is, word)
 
   -- a child that has a generation is found in the layout
-  pub child_finished : (c j g : ℕ) (u : Task) → found g (s.tasks c j) ≡ Some u → u.implicit ≡ false → u.generating ≡ Some k → u.progress ≡ progress.Finished
+  pub child_finished : (c j g : ℕ) (u : Task) → found g (s.tasks c j) ≡ Some u → u.implicit ≡ false
+      → u.generating ≡ Some k → u.progress ≡ progress.Finished
   child_finished c j g u is explicit made =
       let at = below c j g u is in
       let counted : Task → ℕ = λ x. one (is_unfinished x && is_some_task k x.generating) in
       let first = part_below (per_thread w tasks) j (λ n. of_live counted (s.tasks c n).live) at.1 in
-      let second = part_below s.count c (λ d. sum_below (per_thread w tasks) (λ n. of_live counted (s.tasks d n).live)) at.0 in
+      let second =
+      part_below s.count c
+      (λ d. sum_below (per_thread w tasks) (λ n. of_live counted (s.tasks d n).live)) at.0 in
       let own : of_live counted (s.tasks c j).live ≡ one (is_unfinished u && true) =
-      ap (of_live counted) (found_live g (s.tasks c j) u is) ∙ (ap (λ o. one (is_unfinished u && is_some_task k o)) made ∙ ap (λ b. one (is_unfinished u && b)) (is_own_id k.0)) in
+      ap (of_live counted) (found_live g (s.tasks c j) u is)
+      ∙
+      (ap (λ o. one (is_unfinished u && is_some_task k o)) made ∙ ap (λ b. one (is_unfinished u && b)) (is_own_id k.0)) in
       let none = none_unfinished in
       over u explicit (of_both (is_unfinished u) (omega (arith, first, second, own, none)))
     where
@@ -65,7 +74,9 @@ module _ (w : List ℕ) (m : Memory) (s : State) (owes : ℕ → Owed) (k : Tid)
 
   -- so each child has finished
   pub children_finished : AreChildrenFinished s k
-  children_finished c j u there explicit made = let (g, is) = within.tasks_named c j u there in child_finished c j g u is explicit made
+  children_finished c j u there explicit made =
+      let (g, is) = within.tasks_named c j u there in child_finished c j g u is explicit made
 
 pub all_children_finished : AllChildrenFinished
-all_children_finished = λ w m s owes k t keeps within live word. children_finished w m s owes k t keeps within live word
+all_children_finished =
+    λ w m s owes k t keeps within live word. children_finished w m s owes k t keeps within live word

@@ -23,7 +23,8 @@ use Rattle.omi_rule_words.proofs.Renewed.{OwesSame, owes_same, region_becomes, r
 use Rattle.omi_rule_words.proofs.Sums.{sum_changed}
 use Rattle.omi_rule_words.proofs.TaskEnds.{found_name, is_region_same}
 
-module _ (w : List ℕ) (m : Memory) (s : State) (owes : ℕ → Owed) (i : ℕ) (n : Rid) (keeps : KeepsWords w m s owes) (known : i < s.count) (owed : (owes i).left ≡ Some n) where
+module _ (w : List ℕ) (m : Memory) (s : State) (owes : ℕ → Owed) (i : ℕ) (n : Rid)
+    (keeps : KeepsWords w m s owes) (known : i < s.count) (owed : (owes i).left ≡ Some n) where
   abbrev word : ℕ
   word = m n.0.creator regions n.0.slot (number RegionLeft) 0
 
@@ -49,9 +50,12 @@ module _ (w : List ℕ) (m : Memory) (s : State) (owes : ℕ → Owed) (i : ℕ)
   same_met j = each_put (λ c (x : Owed). x.met ≡ (owes c).met) owes i given refl j (λ _. refl)
 
   -- one departure less is owed, on this region
-  less : (q : Rid) → sum_of_owed s other (left_owed q) + one (is_region q n) ≡ sum_of_owed s owes (left_owed q)
+  less : (q : Rid)
+      → sum_of_owed s other (left_owed q) + one (is_region q n) ≡ sum_of_owed s owes (left_owed q)
   less q =
-      let change = sum_changed s.count i (λ c. left_owed q (owes c)) (λ c. left_owed q (other c)) known (λ c ne. ap (left_owed q) (put_other owes i c given ne)) in
+      let change =
+      sum_changed s.count i (λ c. left_owed q (owes c)) (λ c. left_owed q (other c)) known
+      (λ c ne. ap (left_owed q) (put_other owes i c given ne)) in
       let before : left_owed q (owes i) ≡ one (is_region q n) = ap (λ o. one (is_some_region q o)) owed in
       let now : left_owed q (other i) ≡ 0 = ap (left_owed q) (put_same owes i given) in
       omega (arith, change, before, now)
@@ -67,11 +71,13 @@ module _ (w : List ℕ) (m : Memory) (s : State) (owes : ℕ → Owed) (i : ℕ)
       members : ended_members x ≡ ended_members y
       members = ap ended_members (some_same was now)
 
-      beside : (c ≡ n.0.creator → k ≡ n.0.slot → ⊥) → after c regions k (number RegionLeft) 0 + sum_of_owed s other (left_owed name) + ended_members x
+      beside : (c ≡ n.0.creator → k ≡ n.0.slot → ⊥)
+          → after c regions k (number RegionLeft) 0 + sum_of_owed s other (left_owed name) + ended_members x
           ≡ m c regions k (number RegionLeft) 0 + sum_of_owed s owes (left_owed name) + ended_members y
       beside apart =
           let same : after c regions k (number RegionLeft) 0 ≡ m c regions k (number RegionLeft) 0
-          = word_stays m n.0.creator regions n.0.slot (number RegionLeft) 0 (word + 1) c regions k (number RegionLeft) 0 (λ creator _ slot _ _. apart creator slot) in
+          = word_stays m n.0.creator regions n.0.slot (number RegionLeft) 0 (word + 1) c regions k
+          (number RegionLeft) 0 (λ creator _ slot _ _. apart creator slot) in
           let none : one (is_region name n) ≡ 0 = ap one (other_name (is_region name n) refl) in
           let sum = less name in
           omega (arith, same, none, sum, members)
@@ -83,27 +89,40 @@ module _ (w : List ℕ) (m : Memory) (s : State) (owes : ℕ → Owed) (i : ℕ)
               let slot : k ≡ n.0.slot = grind (arith, nat_tests) in
               absurd (apart creator slot)
 
-      go : (c ≡ n.0.creator) ⊎ (c ≢ n.0.creator) → (k ≡ n.0.slot) ⊎ (k ≢ n.0.slot) → after c regions k (number RegionLeft) 0 + sum_of_owed s other (left_owed name) + ended_members x
+      go : (c ≡ n.0.creator) ⊎ (c ≢ n.0.creator) → (k ≡ n.0.slot) ⊎ (k ≢ n.0.slot)
+          → after c regions k (number RegionLeft) 0 + sum_of_owed s other (left_owed name) + ended_members x
           ≡ m c regions k (number RegionLeft) 0 + sum_of_owed s owes (left_owed name) + ended_members y
       go (inl creator) (inl slot) =
           let (r, live, _) = (keeps.made i known).objects.left n owed in
-          let is : name ≡ n = ap (λ d. region_in d k (s.regions d k)) creator ∙ (ap (λ q. region_in n.0.creator q (s.regions n.0.creator q)) slot ∙ found_name s n r live) in
+          let is : name ≡ n =
+          ap (λ d. region_in d k (s.regions d k)) creator
+          ∙ (ap (λ q. region_in n.0.creator q (s.regions n.0.creator q)) slot ∙ found_name s n r live) in
           let stored : after c regions k (number RegionLeft) 0 ≡ word + 1
-          = ap (λ d. after d regions k (number RegionLeft) 0) creator ∙ (ap (λ q. after n.0.creator regions q (number RegionLeft) 0) slot ∙ word_read m n.0.creator regions n.0.slot (number RegionLeft) 0 (word + 1)) in
-          let before : m c regions k (number RegionLeft) 0 ≡ word = ap (λ d. m d regions k (number RegionLeft) 0) creator ∙ ap (λ q. m n.0.creator regions q (number RegionLeft) 0) slot in
-          let own : one (is_region name n) ≡ 1 = ap (λ q. one (is_region q n)) is ∙ ap one (is_region_same n) in
+          = ap (λ d. after d regions k (number RegionLeft) 0) creator
+          ∙
+          (ap (λ q. after n.0.creator regions q (number RegionLeft) 0) slot ∙ word_read m n.0.creator regions n.0.slot (number RegionLeft) 0 (word + 1)) in
+          let before : m c regions k (number RegionLeft) 0 ≡ word =
+          ap (λ d. m d regions k (number RegionLeft) 0) creator
+          ∙ ap (λ q. m n.0.creator regions q (number RegionLeft) 0) slot in
+          let own : one (is_region name n) ≡ 1 =
+          ap (λ q. one (is_region q n)) is ∙ ap one (is_region_same n) in
           let sum = less name in
           omega (arith, stored, before, own, sum, members)
       go (inl creator) (inr ne) = beside (λ _ same. ne same)
       go (inr ne) _ = beside (λ same _. ne same)
 
   stays : (c kind k : ℕ) → (kind ≡ regions → ⊥) → after c kind k ≡ m c kind k
-  stays c kind k ne = record_stays m n.0.creator regions n.0.slot (number RegionLeft) 0 (word + 1) c kind k (λ _ same _. ne same)
+  stays c kind k ne =
+      record_stays m n.0.creator regions n.0.slot (number RegionLeft) 0 (word + 1) c kind k
+      (λ _ same _. ne same)
 
   departed : KeepsWords w after s other
   departed =
-      renewed w m after s s.regions s.tasks owes other keeps (λ c k. region_becomes (s.regions c k)) (λ c k. task_becomes (s.tasks c k)) alike
-      (stays 0 runtime 0 (λ kind. absurd (omega (arith, kind)))) (λ c. stays c threads 0 (λ kind. absurd (omega (arith, kind)))) (λ c k. stays c tasks k (λ kind. absurd (omega (arith, kind))))
+      renewed w m after s s.regions s.tasks owes other keeps (λ c k. region_becomes (s.regions c k))
+      (λ c k. task_becomes (s.tasks c k)) alike
+      (stays 0 runtime 0 (λ kind. absurd (omega (arith, kind))))
+      (λ c. stays c threads 0 (λ kind. absurd (omega (arith, kind))))
+      (λ c k. stays c tasks k (λ kind. absurd (omega (arith, kind))))
       (λ c k f at ne. word_stays m n.0.creator regions n.0.slot (number RegionLeft) 0 (word + 1) c regions k f at (λ _ _ _ field _. ne field))
       left_is
       (λ j within. each_put (λ c (o : Owed). c < s.count → (q : Rid) → o.left ≡ Some q → (x : Region) × (region_of s q ≡ Some x) × (x.joined ≡ false)) owes i given

@@ -2,7 +2,8 @@
 use Rattle.std.proofs.Common.{◌≡◌, ◌≢◌, ◌⊎◌, ℕ, inl, inr, sym, subst}
 use Rattle.std.proofs.lemmas.Bool.{cases_eq}
 
-pub each_place : (P : ℕ → ℕ → Type 0) (a b : ℕ) → P a b → ((c j : ℕ) → (c ≡ a → j ≡ b → ⊥) → P c j) → (c j : ℕ) → P c j
+pub each_place : (P : ℕ → ℕ → Type 0) (a b : ℕ) → P a b → ((c j : ℕ) → (c ≡ a → j ≡ b → ⊥) → P c j)
+    → (c j : ℕ) → P c j
 each_place P a b here beside c j = go (cases_eq c a) (cases_eq j b)
   where
     go : (c ≡ a) ⊎ (c ≢ a) → (j ≡ b) ⊎ (j ≢ b) → P c j

@@ -30,7 +30,8 @@ use Rattle.omi_rule_words.proofs.Changed.{current_stored}
 use Rattle.omi_rule_words.proofs.OtherCounts.{owed_put}
 use Rattle.omi_rule_words.proofs.TaskMoves.{GoesTo, TeamsAlike, generating_same, some_after, task_moved, tasks_recounted}
 
-module _ (w : List ℕ) (m : Memory) (s : State) (owes : ℕ → Owed) (i : ℕ) (k : Tid) (t : Task) (h : Tid) (keeps : KeepsWords w m s owes) (within : IsWithin w s) (names : AreNamesLive s) (known : i < s.count)
+module _ (w : List ℕ) (m : Memory) (s : State) (owes : ℕ → Owed) (i : ℕ) (k : Tid) (t : Task) (h : Tid)
+    (keeps : KeepsWords w m s owes) (within : IsWithin w s) (names : AreNamesLive s) (known : i < s.count)
     (owed : owes i ≡ nothing) (running : IsRunning s k t) (made : t.generating ≡ Some h) where
   abbrev g : Task → Task
   g = λ u. record u { progress = progress.Finished }
@@ -56,18 +57,22 @@ module _ (w : List ℕ) (m : Memory) (s : State) (owes : ℕ → Owed) (i : ℕ)
   -- it was in no slot and in no hand
   undeferred : (u : Task) → task_of s k ≡ Some u → u.progress ≡ progress.Deferred → ⊥
   undeferred u is deferred =
-      let was : u.progress ≡ progress.Begun = ap (λ (x : Task). x.progress) (some_same is running.live) ∙ running.progress in
+      let was : u.progress ≡ progress.Begun =
+      ap (λ (x : Task). x.progress) (some_same is running.live) ∙ running.progress in
       absurd (cc)
 
   -- it was unfinished, and is not
   was_unfinished : is_unfinished t ≡ true
-  was_unfinished = ap (λ b. not b && not (is_finished t.progress)) running.explicit ∙ ap (λ (x : Progress). not (is_finished x)) running.progress
+  was_unfinished =
+      ap (λ b. not b && not (is_finished t.progress)) running.explicit
+      ∙ ap (λ (x : Progress). not (is_finished x)) running.progress
 
   now_finished : (b : Bool) → one (is_unfinished (g t) && b) ≡ 0
   now_finished b = ap (λ x. one (not x && false && b)) running.explicit
 
   maker : k.0.creator < s.count
-  maker = let at = within.tasks k.0.creator k.0.slot k.0.generation t running.live in let count = within.count in let below = at.maker in omega (arith, count, below)
+  maker =
+      let at = within.tasks k.0.creator k.0.slot k.0.generation t running.live in let count = within.count in let below = at.maker in omega (arith, count, below)
 
   slot_below : k.0.slot < per_thread w tasks
   slot_below = (within.tasks k.0.creator k.0.slot k.0.generation t running.live).place
@@ -90,7 +95,9 @@ module _ (w : List ℕ) (m : Memory) (s : State) (owes : ℕ → Owed) (i : ℕ)
       over = record { task = g t; live = on_same s.tasks k.0 g ∙ ap (option_map g) running.live; explicit = running.explicit; progress = refl }
 
       generating_is : generating_of after k ≡ Some h
-      generating_is = generating_same w s k t g running.live goes k ∙ (ap (option_and_then (λ (x : Task). x.generating)) running.live ∙ made)
+      generating_is =
+          generating_same w s k t g running.live goes k
+          ∙ (ap (option_and_then (λ (x : Task). x.generating)) running.live ∙ made)
 
       maker_live : IsSome (option_and_then (task_of after) (generating_of after k))
       maker_live =
@@ -104,19 +111,27 @@ module _ (w : List ℕ) (m : Memory) (s : State) (owes : ℕ → Owed) (i : ℕ)
       (task_moved w s k t g running.live goes m owes i p keeps
       (subst (λ (o : Owed). TeamsAlike p o) (sym owed) (record { region = refl; tasks = refl; left = refl; assigns = refl; met = refl }))
       (λ n.
-      let change = tasks_recounted w s k t g running.live goes maker slot_below (λ _ _ x. one (is_unfinished x && is_region n x.region)) in
-      let was : one (is_unfinished t && is_region n t.region) ≡ one (is_region n t.region) = ap (λ b. one (b && is_region n t.region)) was_unfinished in
+      let change =
+      tasks_recounted w s k t g running.live goes maker slot_below
+      (λ _ _ x. one (is_unfinished x && is_region n x.region)) in
+      let was : one (is_unfinished t && is_region n t.region) ≡ one (is_region n t.region) =
+      ap (λ b. one (b && is_region n t.region)) was_unfinished in
       let none = now_finished (is_region n t.region) in
       let owes_more = owed_put s owes i p known (pending_owed n) in
       let before : pending_owed n (owes i) ≡ 0 = ap (pending_owed n) owed in
       omega (arith, change, was, none, owes_more, before))
       (λ q.
-      let change = tasks_recounted w s k t g running.live goes maker slot_below (λ _ _ x. one (is_unfinished x && is_some_task q x.generating)) in
-      let was : one (is_unfinished t && is_some_task q t.generating) ≡ one (is_some_task q t.generating) = ap (λ b. one (b && is_some_task q t.generating)) was_unfinished in
+      let change =
+      tasks_recounted w s k t g running.live goes maker slot_below
+      (λ _ _ x. one (is_unfinished x && is_some_task q x.generating)) in
+      let was : one (is_unfinished t && is_some_task q t.generating) ≡ one (is_some_task q t.generating) =
+      ap (λ b. one (b && is_some_task q t.generating)) was_unfinished in
       let none = now_finished (is_some_task q t.generating) in
       let owes_more = owed_put s owes i p known (children_owed s q) in
       let before : children_owed s q (owes i) ≡ 0 = ap (children_owed s q) owed in
-      let now : children_owed s q p ≡ 0 + one (is_some_task q t.generating) = ap (λ (o : Option Task). 0 + one (is_some_task q (option_and_then (λ (x : Task). x.generating) o))) running.live in
+      let now : children_owed s q p ≡ 0 + one (is_some_task q t.generating) =
+      ap
+      (λ (o : Option Task). 0 + one (is_some_task q (option_and_then (λ (x : Task). x.generating) o))) running.live in
       omega (arith, change, was, none, owes_more, before, now))
       (λ c j _ _ row _ _ place _ d _. undeferred d.task d.live d.progress)
       (λ o. o.environment)
@@ -129,4 +144,5 @@ module _ (w : List ℕ) (m : Memory) (s : State) (owes : ℕ → Owed) (i : ℕ)
       known
 
 pub finishes_keep : FinishesKeep
-finishes_keep = λ w m s owes i k g t keeps within names known owed running made. task_finishes w m s owes i k t g keeps within names known owed running made
+finishes_keep =
+    λ w m s owes i k g t keeps within names known owed running made. task_finishes w m s owes i k t g keeps within names known owed running made

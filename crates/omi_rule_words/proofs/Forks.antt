@@ -47,8 +47,10 @@ pub address_some : (w : List ℕ) → IsValid w → (k : Tid) → task_address w
 unfolding slot_address
 address_some w v k none =
     let arena : is_arena w tasks ≡ true = v.arenas tasks (record { from = omega arith; to = omega arith }) in
-    let placed : is_placed w tasks ≡ true = test_left (is_placed w tasks) _ (test_right (is_counted w tasks) _ arena) in
-    let above : nat_le FIRST_ADDRESS (place w tasks) ≡ true = test_left (nat_le FIRST_ADDRESS (place w tasks)) _ (test_right (place w tasks % 8 == 0) _ placed) in
+    let placed : is_placed w tasks ≡ true =
+    test_left (is_placed w tasks) _ (test_right (is_counted w tasks) _ arena) in
+    let above : nat_le FIRST_ADDRESS (place w tasks) ≡ true =
+    test_left (nat_le FIRST_ADDRESS (place w tasks)) _ (test_right (place w tasks % 8 == 0) _ placed) in
     let some : FIRST_ADDRESS ≤ place w tasks = leb-true FIRST_ADDRESS (place w tasks) above in
     omega (arith, none, some)
 
@@ -69,13 +71,17 @@ is_task_turned a b e =
     let creator : a.0.creator ≡ b.0.creator = grind (arith, nat_tests) in
     let slot : a.0.slot ≡ b.0.slot = grind (arith, nat_tests) in
     let generation : a.0.generation ≡ b.0.generation = grind (arith, nat_tests) in
-    subst (λ (n : Id). is_task b (record { 0 = n }) ≡ true) (sym (id_same a.0 b.0 creator slot generation)) (same b)
+    subst (λ (n : Id). is_task b (record { 0 = n }) ≡ true) (sym (id_same a.0 b.0 creator slot generation))
+    (same b)
   where
     same : (k : Tid) → is_task k k ≡ true
     same k = grind (arith, nat_tests)
 
-module _ (p : Program) (w : List ℕ) (m : Memory) (s : State) (owes : ℕ → Owed) (i : ℕ) (region : Rid) (team : List (Tid × ℕ)) (f : ℕ) (k : Tid) (t : Task) (r : Region)
-    (keeps : KeepsWords w m s owes) (known : i < s.count) (owed : owes i ≡ record nothing { region = Some region; tasks = tasks_of team }) (filled : ForkIsFilled p w (m i) region team f k t r)
+module _ (p : Program) (w : List ℕ) (m : Memory) (s : State) (owes : ℕ → Owed) (i : ℕ) (region : Rid)
+    (team : List (Tid × ℕ)) (f : ℕ) (k : Tid) (t : Task) (r : Region)
+    (keeps : KeepsWords w m s owes) (known : i < s.count)
+    (owed : owes i ≡ record nothing { region = Some region; tasks = tasks_of team })
+    (filled : ForkIsFilled p w (m i) region team f k t r)
     (idle : All (λ x. HasNoTask s owes x.1) (drop 1 team)) (names : AreNamesLive s) (v : IsValid w) where
   abbrev new : ℕ → ℕ → Task
   new = member_task p region k t r f
@@ -96,7 +102,9 @@ module _ (p : Program) (w : List ℕ) (m : Memory) (s : State) (owes : ℕ → O
   other = replace_at owes i given
 
   alike : (j : ℕ) → OwesAlike (other j) (owes j)
-  alike j = each_put (λ c (x : Owed). OwesAlike x (owes c)) owes i given (subst (λ (o : Owed). OwesAlike given o) (sym owed) own) j (λ _. owes_alike (owes j))
+  alike j =
+      each_put (λ c (x : Owed). OwesAlike x (owes c)) owes i given
+      (subst (λ (o : Owed). OwesAlike given o) (sym owed) own) j (λ _. owes_alike (owes j))
     where
       own : OwesAlike given (record nothing { region = Some region; tasks = tasks_of team })
       own = record { pending = refl; raised = refl; lowered = refl; left = refl; hand = refl }
@@ -118,11 +126,14 @@ module _ (p : Program) (w : List ℕ) (m : Memory) (s : State) (owes : ℕ → O
   apart = subst (λ (o : Owed). AreApart o.tasks) owed (keeps.made i known).making.apart
 
   abbrev RegionGrows : ℕ → ℕ → Slot Region → Type 0
-  RegionGrows c j y = Grows (has_region_slot j (other c).region ≡ has_region_slot j (owes c).region) (NewRegion w (m c regions j) (has_region_slot j (owes c).region)) (s.regions c j) y
+  RegionGrows c j y =
+      Grows (has_region_slot j (other c).region ≡ has_region_slot j (owes c).region)
+      (NewRegion w (m c regions j) (has_region_slot j (owes c).region)) (s.regions c j) y
 
   region_slots : (c j : ℕ) → RegionGrows c j (rs c j)
   region_slots =
-      each_slot s.regions region.0 RegionGrows (record { generations = region.0.generation + 1; live = Some (new_region k t r team f) })
+      each_slot s.regions region.0 RegionGrows
+      (record { generations = region.0.generation + 1; live = Some (new_region k t r team f) })
       (subst (λ c. RegionGrows c region.0.slot (record { generations = region.0.generation + 1; live = Some (new_region k t r team f) })) (sym region_making.maker) (inr begins))
       (λ c j beside. inl (record { same = refl; fact = stays c j beside }))
     where
@@ -139,13 +150,18 @@ module _ (p : Program) (w : List ℕ) (m : Memory) (s : State) (owes : ℕ → O
         };
       }
 
-      stays : (c j : ℕ) → (c ≡ region.0.creator → j ≡ region.0.slot → ⊥) → has_region_slot j (other c).region ≡ has_region_slot j (owes c).region
+      stays : (c j : ℕ) → (c ≡ region.0.creator → j ≡ region.0.slot → ⊥)
+          → has_region_slot j (other c).region ≡ has_region_slot j (owes c).region
       stays c j beside =
-          each_put (λ d (o : Owed). (d ≡ region.0.creator → j ≡ region.0.slot → ⊥) → has_region_slot j o.region ≡ has_region_slot j (owes d).region) owes i given
-          (λ ne. sym (ap (λ (o : Owed). has_region_slot j o.region) owed ∙ ne_eqb region.0.slot j (λ same. ne (sym region_making.maker) (sym same)))) c (λ _ _. refl) beside
+          each_put
+          (λ d (o : Owed). (d ≡ region.0.creator → j ≡ region.0.slot → ⊥) → has_region_slot j o.region ≡ has_region_slot j (owes d).region) owes i given
+          (λ ne. sym (ap (λ (o : Owed). has_region_slot j o.region) owed ∙ ne_eqb region.0.slot j (λ same. ne (sym region_making.maker) (sym same)))) c
+          (λ _ _. refl) beside
 
   abbrev TaskGrows : ℕ → ℕ → Slot Task → Type 0
-  TaskGrows c j y = Grows (has_slot j (other c).tasks ≡ has_slot j (owes c).tasks) (NewTask w (m c tasks j) (has_slot j (owes c).tasks) IsMember) (s.tasks c j) y
+  TaskGrows c j y =
+      Grows (has_slot j (other c).tasks ≡ has_slot j (owes c).tasks)
+      (NewTask w (m c tasks j) (has_slot j (owes c).tasks) IsMember) (s.tasks c j) y
 
   going : (j : ℕ) → (if j == 0 then progress.Begun else progress.NotBegun) ≡ progress.Deferred → ⊥
   going j = go (j == 0)
@@ -154,7 +170,8 @@ module _ (p : Program) (w : List ℕ) (m : Memory) (s : State) (owes : ℕ → O
       go true is = absurd (cc)
       go false is = absurd (cc)
 
-  member_grows : (j : ℕ) (x : Tid × ℕ) → slice_get team j ≡ Some x → (y : Slot Task) → y ≡ record { generations = x.0.0.generation + 1; live = Some (new j x.1) } → TaskGrows i x.0.0.slot y
+  member_grows : (j : ℕ) (x : Tid × ℕ) → slice_get team j ≡ Some x → (y : Slot Task)
+      → y ≡ record { generations = x.0.0.generation + 1; live = Some (new j x.1) } → TaskGrows i x.0.0.slot y
   member_grows j x is y now =
       let making = member_making j x is in
       inr (record {
@@ -175,7 +192,8 @@ module _ (p : Program) (w : List ℕ) (m : Memory) (s : State) (owes : ℕ → O
   task_slots : (c j : ℕ) → TaskGrows c j (ts c j)
   task_slots c j = go (made_at new 0 team s.tasks c j)
     where
-      go : IsMadeAt new 0 team c j (ts c j) ⊎ IsBeside team c j (s.tasks c j) (ts c j) → TaskGrows c j (ts c j)
+      go : IsMadeAt new 0 team c j (ts c j) ⊎ IsBeside team c j (s.tasks c j) (ts c j)
+          → TaskGrows c j (ts c j)
       go (inl x) =
           let maker : i ≡ c = sym (x.creator ∙ (member_making x.at x.member x.is).maker) in
           let number_is : 0 + x.at ≡ x.at = omega arith in
@@ -204,37 +222,47 @@ module _ (p : Program) (w : List ℕ) (m : Memory) (s : State) (owes : ℕ → O
           ap (found x.0.0.generation)
           (y.now ∙ (ap (λ n. record { generations = y.member.0.0.generation + 1; live = Some (new n y.member.1) }) number_is
           ∙ ap (λ (q : Tid × ℕ). record { generations = q.0.0.generation + 1; live = Some (new j q.1) }) same))
-          ∙ ap (λ b. if b then Some (new j x.1) else None) (eq-eqb (x.0.0.generation + 1) (x.0.0.generation + 1) refl)
+          ∙ ap (λ b. if b then Some (new j x.1) else None)
+          (eq-eqb (x.0.0.generation + 1) (x.0.0.generation + 1) refl)
       go (inr y) = absurd (y.none j x is refl refl)
 
   member_waits : (j : ℕ) (x : Tid × ℕ) → slice_get team (suc j) ≡ Some x → WaitsFor after x.1 x.0
   member_waits j x is = record { task = new (suc j) x.1; live = member_live (suc j) x is; progress = ap (λ b. if b then progress.Begun else progress.NotBegun) (ne_eqb (suc j) 0 (λ e. absurd (omega (arith, e)))); thread = refl }
 
   -- a name in no member's slot was live before
-  old_or_new : (q : Tid) (u : Task) → task_of after q ≡ Some u → (task_of s q ≡ Some u) ⊎ ((j : ℕ) × (x : Tid × ℕ) × (slice_get team j ≡ Some x) × (x.0 ≡ q) × (u ≡ new j x.1))
+  old_or_new : (q : Tid) (u : Task) → task_of after q ≡ Some u
+      → (task_of s q ≡ Some u) ⊎ ((j : ℕ) × (x : Tid × ℕ) × (slice_get team j ≡ Some x) × (x.0 ≡ q) × (u ≡ new j x.1))
   old_or_new q u is = go (made_at new 0 team s.tasks q.0.creator q.0.slot)
     where
       go : IsMadeAt new 0 team q.0.creator q.0.slot (ts q.0.creator q.0.slot) ⊎ IsBeside team q.0.creator q.0.slot (s.tasks q.0.creator q.0.slot) (ts q.0.creator q.0.slot)
           → (task_of s q ≡ Some u) ⊎ ((j : ℕ) × (x : Tid × ℕ) × (slice_get team j ≡ Some x) × (x.0 ≡ q) × (u ≡ new j x.1))
       go (inr y) = inl (sym (ap (found q.0.generation) y.same) ∙ is)
       go (inl y) =
-          let there : found q.0.generation (record { generations = y.member.0.0.generation + 1; live = Some (new (0 + y.at) y.member.1) }) ≡ Some u = sym (ap (found q.0.generation) y.now) ∙ is in
-          let (generation, same) = of_generation (y.member.0.0.generation + 1 == q.0.generation + 1) refl there in
+          let there : found q.0.generation (record { generations = y.member.0.0.generation + 1; live = Some (new (0 + y.at) y.member.1) }) ≡ Some u =
+          sym (ap (found q.0.generation) y.now) ∙ is in
+          let (generation, same) =
+          of_generation (y.member.0.0.generation + 1 == q.0.generation + 1) refl there in
           let number_is : 0 + y.at ≡ y.at = omega arith in
-          inr (y.at, y.member, y.is, ap (λ (n : Id). record { 0 = n }) (id_same y.member.0.0 q.0 (sym y.creator) (sym y.slot) generation), sym same ∙ ap (λ n. new n y.member.1) number_is)
+          inr
+          (y.at, y.member, y.is, ap (λ (n : Id). record { 0 = n }) (id_same y.member.0.0 q.0 (sym y.creator) (sym y.slot) generation), sym same ∙ ap (λ n. new n y.member.1) number_is)
         where
-          of_generation : (b : Bool) → (y.member.0.0.generation + 1 == q.0.generation + 1) ≡ b → (if b then Some (new (0 + y.at) y.member.1) else None) ≡ Some u
+          of_generation : (b : Bool) → (y.member.0.0.generation + 1 == q.0.generation + 1) ≡ b
+              → (if b then Some (new (0 + y.at) y.member.1) else None) ≡ Some u
               → (y.member.0.0.generation ≡ q.0.generation) × (new (0 + y.at) y.member.1 ≡ u)
-          of_generation true e there = (let same : y.member.0.0.generation + 1 ≡ q.0.generation + 1 = eqb-true _ _ e in omega (arith, same), some_same refl there)
+          of_generation true e there =
+              (let same : y.member.0.0.generation + 1 ≡ q.0.generation + 1 = eqb-true _ _ e in omega (arith, same), some_same refl there)
           of_generation false e there = absurd (cc)
 
   -- what was live has no member's name
-  no_member : (q : Tid) → IsSome (task_of s q) → (j : ℕ) (x : Tid × ℕ) → slice_get team j ≡ Some x → is_task q x.0 ≡ true → ⊥
+  no_member : (q : Tid) → IsSome (task_of s q) → (j : ℕ) (x : Tid × ℕ) → slice_get team j ≡ Some x
+      → is_task q x.0 ≡ true → ⊥
   no_member q live j x is e =
       let making = member_making j x is in
       let creator : q.0.creator ≡ x.0.0.creator = grind (arith, nat_tests) in
       let slot : x.0.0.slot ≡ q.0.slot = grind (arith, nat_tests) in
-      let empty : (s.tasks q.0.creator q.0.slot).live ≡ None = subst (λ c. (s.tasks c q.0.slot).live ≡ None) (sym (creator ∙ making.maker)) (subst (λ h. (s.tasks i h).live ≡ None) slot making.free) in
+      let empty : (s.tasks q.0.creator q.0.slot).live ≡ None =
+      subst (λ c. (s.tasks c q.0.slot).live ≡ None) (sym (creator ∙ making.maker))
+      (subst (λ h. (s.tasks i h).live ≡ None) slot making.free) in
       none_found q.0.generation (s.tasks q.0.creator q.0.slot) empty live
 
   -- ---- what is kept of each thread
@@ -255,7 +283,8 @@ module _ (p : Program) (w : List ℕ) (m : Memory) (s : State) (owes : ℕ → O
           slot_same : (h : ℕ) → ts j h ≡ s.tasks j h
           slot_same h = go (made_at new 0 team s.tasks j h)
             where
-              go : IsMadeAt new 0 team j h (ts j h) ⊎ IsBeside team j h (s.tasks j h) (ts j h) → ts j h ≡ s.tasks j h
+              go : IsMadeAt new 0 team j h (ts j h) ⊎ IsBeside team j h (s.tasks j h) (ts j h)
+                  → ts j h ≡ s.tasks j h
               go (inl y) = absurd (ne (y.creator ∙ (member_making y.at y.member y.is).maker))
               go (inr y) = y.same
 
@@ -268,47 +297,68 @@ module _ (p : Program) (w : List ℕ) (m : Memory) (s : State) (owes : ℕ → O
       (λ _ h d inside.
       let x : Tid × ℕ = get_or (drop 1 team) h d in
       member_waits h x (behind_first team h x (slice_get-get_or (drop 1 team) h d inside)))
-      j (λ _ there. All-weaker (λ (q : Tid × ℕ). WaitsFor s q.1 q.0) (λ (q : Tid × ℕ). WaitsFor after q.1 q.0) (λ q. still q.1 q.0) (owes j).assigns (keeps.made j there).objects.assigns) within
+      j
+      (λ _ there. All-weaker (λ (q : Tid × ℕ). WaitsFor s q.1 q.0) (λ (q : Tid × ℕ). WaitsFor after q.1 q.0) (λ q. still q.1 q.0) (owes j).assigns (keeps.made j there).objects.assigns) within
 
   -- what is owed to a thread's assign word now
-  more : (j : ℕ) (q : Tid) → sum_of_owed s other (assign_owed j q) ≡ sum_of_owed s owes (assign_owed j q) + assigns_in j q (drop 1 team)
+  more : (j : ℕ) (q : Tid)
+      → sum_of_owed s other (assign_owed j q) ≡ sum_of_owed s owes (assign_owed j q) + assigns_in j q (drop 1 team)
   more j q =
-      let change = sum_changed s.count i (λ c. assign_owed j q (owes c)) (λ c. assign_owed j q (other c)) known (λ c ne. ap (assign_owed j q) (put_other owes i c given ne)) in
+      let change =
+      sum_changed s.count i (λ c. assign_owed j q (owes c)) (λ c. assign_owed j q (other c)) known
+      (λ c ne. ap (assign_owed j q) (put_other owes i c given ne)) in
       let before : assign_owed j q (owes i) ≡ 0 = ap (assign_owed j q) owed in
-      let now : assign_owed j q (other i) ≡ assigns_in j q (drop 1 team) = ap (assign_owed j q) (put_same owes i given) in
+      let now : assign_owed j q (other i) ≡ assigns_in j q (drop 1 team) =
+      ap (assign_owed j q) (put_same owes i given) in
       omega (arith, change, before, now)
 
   met_same : (j : ℕ) → one (other j).met ≡ one (owes j).met
-  met_same j = each_put (λ c (o : Owed). one o.met ≡ one (owes c).met) owes i given (sym (ap (λ (o : Owed). one o.met) owed)) j (λ _. refl)
+  met_same j =
+      each_put (λ c (o : Owed). one o.met ≡ one (owes c).met) owes i given
+      (sym (ap (λ (o : Owed). one o.met) owed)) j (λ _. refl)
 
   -- a task that waited is no member's
-  assigned_old : (j : ℕ) (q : Tid) (word : ℕ) → WaitsFor s j q → IsAssignedOnce w s owes j q word → IsAssignedOnce w after other j q word
+  assigned_old : (j : ℕ) (q : Tid) (word : ℕ) → WaitsFor s j q → IsAssignedOnce w s owes j q word
+      → IsAssignedOnce w after other j q word
   assigned_old j q word waits was =
       let once = was.once in
       let sum = more j q in
       let live : IsSome (task_of s q) = some_found (task_of s q) waits.task waits.live in
-      let none : assigns_in j q (drop 1 team) ≡ 0 = none_in j q (drop 1 team) (λ h x is. no_member q live (suc h) x (behind_first team h x is)) in
+      let none : assigns_in j q (drop 1 team) ≡ 0 =
+      none_in j q (drop 1 team) (λ h x is. no_member q live (suc h) x (behind_first team h x is)) in
       let met = met_same j in
       record { word_is = was.word_is; once = omega (arith, once, sum, none, met) }
 
   -- and nobody owed a store of a member's task
-  member_unowed : (j h : ℕ) (x : Tid × ℕ) → slice_get team h ≡ Some x → sum_of_owed s owes (assign_owed j x.0) ≡ 0
-  member_unowed j h x is = sum_none_within s.count (λ c. assign_owed j x.0 (owes c)) (λ c there. none_in j x.0 (owes c).assigns (each c there))
+  member_unowed : (j h : ℕ) (x : Tid × ℕ) → slice_get team h ≡ Some x
+      → sum_of_owed s owes (assign_owed j x.0) ≡ 0
+  member_unowed j h x is =
+      sum_none_within s.count (λ c. assign_owed j x.0 (owes c))
+      (λ c there. none_in j x.0 (owes c).assigns (each c there))
     where
-      each : (c : ℕ) → c < s.count → (a : ℕ) (y : Tid × ℕ) → slice_get (owes c).assigns a ≡ Some y → is_task x.0 y.0 ≡ true → ⊥
+      each : (c : ℕ) → c < s.count → (a : ℕ) (y : Tid × ℕ) → slice_get (owes c).assigns a ≡ Some y
+          → is_task x.0 y.0 ≡ true → ⊥
       each c there a y at e =
-          let waits = all_at (λ (z : Tid × ℕ). WaitsFor s z.1 z.0) (owes c).assigns (keeps.made c there).objects.assigns a y at in
+          let waits =
+          all_at (λ (z : Tid × ℕ). WaitsFor s z.1 z.0) (owes c).assigns
+          (keeps.made c there).objects.assigns a y at in
           no_member y.0 (some_found (task_of s y.0) waits.task waits.live) h x is (is_task_turned x.0 y.0 e)
 
-  assigned_new : (j : ℕ) → j < s.count → (h : ℕ) (x : Tid × ℕ) → slice_get team (suc h) ≡ Some x → x.1 ≡ j → IsAssignedOnce w after other j x.0 (m j threads 0 (number ThreadAssign) 0)
+  assigned_new : (j : ℕ) → j < s.count → (h : ℕ) (x : Tid × ℕ) → slice_get team (suc h) ≡ Some x → x.1 ≡ j
+      → IsAssignedOnce w after other j x.0 (m j threads 0 (number ThreadAssign) 0)
   assigned_new j within h x is thread =
       let behind = behind_second team h x is in
-      let free = subst (λ c. HasNoTask s owes c) thread (all_at (λ (y : Tid × ℕ). HasNoTask s owes y.1) (drop 1 team) idle h x behind) in
+      let free =
+      subst (λ c. HasNoTask s owes c) thread
+      (all_at (λ (y : Tid × ℕ). HasNoTask s owes y.1) (drop 1 team) idle h x behind) in
       let word : m j threads 0 (number ThreadAssign) 0 ≡ 0 = (keeps.made j within).assign.none free.waits in
-      let elsewhere : one (m j threads 0 (number ThreadAssign) 0 == task_address w x.0) ≡ 0 = ap one (ne_eqb _ _ (λ same. address_some w v x.0 (sym same ∙ word))) in
+      let elsewhere : one (m j threads 0 (number ThreadAssign) 0 == task_address w x.0) ≡ 0 =
+      ap one (ne_eqb _ _ (λ same. address_some w v x.0 (sym same ∙ word))) in
       let sum = more j x.0 in
       let before = member_unowed j (suc h) x is in
-      let once : assigns_in j x.0 (drop 1 team) ≡ 1 = subst (λ c. assigns_in c x.0 (drop 1 team) ≡ 1) thread (once_in (drop 1 team) (apart_behind_first team apart) h x behind) in
+      let once : assigns_in j x.0 (drop 1 team) ≡ 1 =
+      subst (λ c. assigns_in c x.0 (drop 1 team) ≡ 1) thread
+      (once_in (drop 1 team) (apart_behind_first team apart) h x behind) in
       let met : one (other j).met ≡ 0 = met_same j ∙ ap one free.met in
       record { word_is = inl word; once = omega (arith, elsewhere, sum, before, once, met) }
 
@@ -318,22 +368,28 @@ module _ (p : Program) (w : List ℕ) (m : Memory) (s : State) (owes : ℕ → O
     none = λ nobody. (keeps.made j within).assign.none (λ q there. nobody q (still j q there));
   }
     where
-      go : (q : Tid) (there : WaitsFor after j q) → (task_of s q ≡ Some there.task) ⊎ ((h : ℕ) × (x : Tid × ℕ) × (slice_get team h ≡ Some x) × (x.0 ≡ q) × (there.task ≡ new h x.1))
+      go : (q : Tid) (there : WaitsFor after j q)
+          → (task_of s q ≡ Some there.task) ⊎ ((h : ℕ) × (x : Tid × ℕ) × (slice_get team h ≡ Some x) × (x.0 ≡ q) × (there.task ≡ new h x.1))
           → IsAssignedOnce w after other j q (m j threads 0 (number ThreadAssign) 0)
       go q there (inl live) =
           let before : WaitsFor s j q = record { task = there.task; live = live; progress = there.progress; thread = there.thread } in
-          assigned_old j q (m j threads 0 (number ThreadAssign) 0) before ((keeps.made j within).assign.waiting q before)
+          assigned_old j q (m j threads 0 (number ThreadAssign) 0) before
+          ((keeps.made j within).assign.waiting q before)
       go q there (inr (h, x, is, name, same)) =
           subst (λ (y : Tid). IsAssignedOnce w after other j y (m j threads 0 (number ThreadAssign) 0)) name
           (by_number h is (sym (ap (λ (y : Task). y.thread) same) ∙ there.thread) (sym (ap (λ (y : Task). y.progress) same) ∙ there.progress))
         where
-          by_number : (h : ℕ) → slice_get team h ≡ Some x → x.1 ≡ j → (if h == 0 then progress.Begun else progress.NotBegun) ≡ progress.NotBegun
+          by_number : (h : ℕ) → slice_get team h ≡ Some x → x.1 ≡ j
+              → (if h == 0 then progress.Begun else progress.NotBegun) ≡ progress.NotBegun
               → IsAssignedOnce w after other j x.0 (m j threads 0 (number ThreadAssign) 0)
           by_number zero is thread waits = absurd (cc)
           by_number (suc h) is thread waits = assigned_new j within h x is thread
 
   task_forks : KeepsWords w (with_word m i threads 0 (number ThreadCurrent) 0 (task_word w (master_of team))) (forked p s i region team f k t r) other
-  task_forks = current_stored w m after other i (master_of team) (members_grown w m s rs ts owes other keeps names alike region_slots task_slots making_kept assigns assigned) known
+  task_forks =
+      current_stored w m after other i (master_of team)
+      (members_grown w m s rs ts owes other keeps names alike region_slots task_slots making_kept assigns assigned) known
 
 pub forks_keep : ForksKeep
-forks_keep = λ p w m s owes i region team f k t r keeps known owed filled idle names v. task_forks p w m s owes i region team f k t r keeps known owed filled idle names v
+forks_keep =
+    λ p w m s owes i region team f k t r keeps known owed filled idle names v. task_forks p w m s owes i region team f k t r keeps known owed filled idle names v

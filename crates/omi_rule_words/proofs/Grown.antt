@@ -38,7 +38,9 @@ pub record OwesLess (p o : Owed) : Type 0 where
 pub owes_less : (p o : Owed) → OwesAlike p o → OwesLess p o
 owes_less p o alike = record { pending = λ n is. sym alike.pending ∙ is; raised = λ k is. sym alike.raised ∙ is; lowered = alike.lowered; left = alike.left }
 
-module _ (w : List ℕ) (m : Memory) (s : State) (rs : Slots Region) (ts : Slots Task) (owes other : ℕ → Owed) (Kind : Task → Type 0) (keeps : KeepsWords w m s owes) (names : AreNamesLive s) (alike : (j : ℕ) → OwesLess (other j) (owes j))
+module _ (w : List ℕ) (m : Memory) (s : State) (rs : Slots Region) (ts : Slots Task) (owes other : ℕ → Owed)
+    (Kind : Task → Type 0) (keeps : KeepsWords w m s owes) (names : AreNamesLive s)
+    (alike : (j : ℕ) → OwesLess (other j) (owes j))
     (region_slots : (c k : ℕ) → Grows (has_region_slot k (other c).region ≡ has_region_slot k (owes c).region) (NewRegion w (m c regions k) (has_region_slot k (owes c).region)) (s.regions c k) (rs c k))
     (task_slots : (c k : ℕ) → Grows (has_slot k (other c).tasks ≡ has_slot k (owes c).tasks) (NewTask w (m c tasks k) (has_slot k (owes c).tasks) Kind) (s.tasks c k) (ts c k)) where
   abbrev after : State
@@ -50,53 +52,80 @@ module _ (w : List ℕ) (m : Memory) (s : State) (rs : Slots Region) (ts : Slots
   -- ---- what was live is live
 
   pub task_after : (k : Tid) (t : Task) → task_of s k ≡ Some t → task_of after k ≡ Some t
-  task_after k t is = found_stays _ (NewAt k.0.creator k.0.slot) (s.tasks k.0.creator k.0.slot) (ts k.0.creator k.0.slot) (task_slots k.0.creator k.0.slot) k.0.generation t is
+  task_after k t is =
+      found_stays _ (NewAt k.0.creator k.0.slot) (s.tasks k.0.creator k.0.slot) (ts k.0.creator k.0.slot)
+      (task_slots k.0.creator k.0.slot) k.0.generation t is
 
-  pub task_before : (k : Tid) (t : Task) → task_of after k ≡ Some t → (task_of s k ≡ Some t) ⊎ IsNew (NewAt k.0.creator k.0.slot) k.0.generation (s.tasks k.0.creator k.0.slot) t
-  task_before k t is = found_was _ (NewAt k.0.creator k.0.slot) (s.tasks k.0.creator k.0.slot) (ts k.0.creator k.0.slot) (task_slots k.0.creator k.0.slot) k.0.generation t is
+  pub task_before : (k : Tid) (t : Task) → task_of after k ≡ Some t
+      → (task_of s k ≡ Some t) ⊎ IsNew (NewAt k.0.creator k.0.slot) k.0.generation (s.tasks k.0.creator k.0.slot) t
+  task_before k t is =
+      found_was _ (NewAt k.0.creator k.0.slot) (s.tasks k.0.creator k.0.slot) (ts k.0.creator k.0.slot)
+      (task_slots k.0.creator k.0.slot) k.0.generation t is
 
   some_task_after : (k : Tid) → IsSome (task_of s k) → IsSome (task_of after k)
-  some_task_after k is = some_stays _ (NewAt k.0.creator k.0.slot) (s.tasks k.0.creator k.0.slot) (ts k.0.creator k.0.slot) (task_slots k.0.creator k.0.slot) k.0.generation is
+  some_task_after k is =
+      some_stays _ (NewAt k.0.creator k.0.slot) (s.tasks k.0.creator k.0.slot) (ts k.0.creator k.0.slot)
+      (task_slots k.0.creator k.0.slot) k.0.generation is
 
   region_after : (n : Rid) (x : Region) → region_of s n ≡ Some x → region_of after n ≡ Some x
-  region_after n x is = found_stays _ _ (s.regions n.0.creator n.0.slot) (rs n.0.creator n.0.slot) (region_slots n.0.creator n.0.slot) n.0.generation x is
+  region_after n x is =
+      found_stays _ _ (s.regions n.0.creator n.0.slot) (rs n.0.creator n.0.slot)
+      (region_slots n.0.creator n.0.slot) n.0.generation x is
 
   some_region_after : (n : Rid) → IsSome (region_of s n) → IsSome (region_of after n)
-  some_region_after n is = some_stays _ _ (s.regions n.0.creator n.0.slot) (rs n.0.creator n.0.slot) (region_slots n.0.creator n.0.slot) n.0.generation is
+  some_region_after n is =
+      some_stays _ _ (s.regions n.0.creator n.0.slot) (rs n.0.creator n.0.slot)
+      (region_slots n.0.creator n.0.slot) n.0.generation is
 
   finished_after : (k : Tid) → HasFinished s k → HasFinished after k
   finished_after k x = record { task = x.task; live = task_after k x.task x.live; explicit = x.explicit; progress = x.progress }
 
   generating_after : (k : Tid) → HasFinished s k → generating_of after k ≡ generating_of s k
-  generating_after k x = ap (option_and_then (λ (t : Task). t.generating)) (task_after k x.task x.live ∙ sym x.live)
+  generating_after k x =
+      ap (option_and_then (λ (t : Task). t.generating)) (task_after k x.task x.live ∙ sym x.live)
 
   pub waits_after : (i : ℕ) (k : Tid) → WaitsFor s i k → WaitsFor after i k
   waits_after i k x = record { task = x.task; live = task_after k x.task x.live; progress = x.progress; thread = x.thread }
 
   -- ---- what is counted
 
-  pub tasks_counted : (f : ℕ → ℕ → Task → ℕ) → ((c k : ℕ) (t : Task) → NewAt c k t → f c k t ≡ 0) → sum_of_slots w after f ≡ sum_of_slots w s f
+  pub tasks_counted : (f : ℕ → ℕ → Task → ℕ) → ((c k : ℕ) (t : Task) → NewAt c k t → f c k t ≡ 0)
+      → sum_of_slots w after f ≡ sum_of_slots w s f
   tasks_counted f none =
-      sum_same s.count (λ c. sum_below (per_thread w tasks) (λ k. of_live (f c k) (ts c k).live)) (λ c. sum_below (per_thread w tasks) (λ k. of_live (f c k) (s.tasks c k).live))
+      sum_same s.count (λ c. sum_below (per_thread w tasks) (λ k. of_live (f c k) (ts c k).live))
+      (λ c. sum_below (per_thread w tasks) (λ k. of_live (f c k) (s.tasks c k).live))
       (λ c. sum_same (per_thread w tasks) (λ k. of_live (f c k) (ts c k).live) (λ k. of_live (f c k) (s.tasks c k).live)
       (λ k. counted c k (task_slots c k)))
     where
-      counted : (c k : ℕ) → Grows (has_slot k (other c).tasks ≡ has_slot k (owes c).tasks) (NewAt c k) (s.tasks c k) (ts c k) → of_live (f c k) (ts c k).live ≡ of_live (f c k) (s.tasks c k).live
+      counted : (c k : ℕ)
+          → Grows (has_slot k (other c).tasks ≡ has_slot k (owes c).tasks) (NewAt c k) (s.tasks c k) (ts c k)
+          → of_live (f c k) (ts c k).live ≡ of_live (f c k) (s.tasks c k).live
       counted c k (inl stays) = ap (λ (x : Slot Task). of_live (f c k) x.live) stays.same
-      counted c k (inr begins) = ap (of_live (f c k)) begins.live ∙ (none c k begins.object begins.new ∙ sym (ap (of_live (f c k)) begins.empty))
+      counted c k (inr begins) =
+          ap (of_live (f c k)) begins.live
+          ∙ (none c k begins.object begins.new ∙ sym (ap (of_live (f c k)) begins.empty))
 
-  owed_same : (f : Owed → ℕ) → ((j : ℕ) → f (other j) ≡ f (owes j)) → sum_of_owed s other f ≡ sum_of_owed s owes f
+  owed_same : (f : Owed → ℕ) → ((j : ℕ) → f (other j) ≡ f (owes j))
+      → sum_of_owed s other f ≡ sum_of_owed s owes f
   owed_same f each = sum_same s.count (λ j. f (other j)) (λ j. f (owes j)) each
 
-  lowered_same : (k : Tid) (j : ℕ) → j < s.count → children_owed after k (other j) ≡ children_owed s k (other j)
-  lowered_same k j known = go (other j).lowered (λ q is. ((keeps.made j known).objects.lowered q (sym (alike j).lowered ∙ is)).0)
+  lowered_same : (k : Tid) (j : ℕ) → j < s.count
+      → children_owed after k (other j) ≡ children_owed s k (other j)
+  lowered_same k j known =
+      go (other j).lowered (λ q is. ((keeps.made j known).objects.lowered q (sym (alike j).lowered ∙ is)).0)
     where
-      go : (o : Option Tid) → ((q : Tid) → o ≡ Some q → HasFinished s q) → one (is_some_task k (other j).raised) + one (is_some_task k (option_and_then (generating_of after) o)) ≡ one (is_some_task k (other j).raised) + one (is_some_task k (option_and_then (generating_of s) o))
+      go : (o : Option Tid) → ((q : Tid) → o ≡ Some q → HasFinished s q)
+          → one (is_some_task k (other j).raised) + one (is_some_task k (option_and_then (generating_of after) o)) ≡ one (is_some_task k (other j).raised) + one (is_some_task k (option_and_then (generating_of s) o))
       go None finished = refl
-      go (Some q) finished = ap (λ g. one (is_some_task k (other j).raised) + one (is_some_task k g)) (generating_after q (finished q refl))
+      go (Some q) finished =
+          ap (λ g. one (is_some_task k (other j).raised) + one (is_some_task k g))
+          (generating_after q (finished q refl))
 
-  children_same : (k : Tid) → sum_of_owed after other (children_owed after k) ≡ sum_of_owed s other (children_owed s k)
-  children_same k = sum_same_within s.count (λ j. children_owed after k (other j)) (λ j. children_owed s k (other j)) (lowered_same k)
+  children_same : (k : Tid)
+      → sum_of_owed after other (children_owed after k) ≡ sum_of_owed s other (children_owed s k)
+  children_same k =
+      sum_same_within s.count (λ j. children_owed after k (other j)) (λ j. children_owed s k (other j))
+      (lowered_same k)
 
   left_same : (n : Rid) → sum_of_owed s other (left_owed n) ≡ sum_of_owed s owes (left_owed n)
   left_same n = owed_same (left_owed n) (λ j. ap (λ q. one (is_some_region n q)) (alike j).left)
@@ -104,14 +133,17 @@ module _ (w : List ℕ) (m : Memory) (s : State) (rs : Slots Region) (ts : Slots
   -- ---- new objects: nothing names them
 
   -- the name of what is live in a slot
-  named_there : (c k : ℕ) → c < s.count → k < per_thread w tasks → (t : Task) → (s.tasks c k).live ≡ Some t → task_of s (task_in c k (s.tasks c k)) ≡ Some t
+  named_there : (c k : ℕ) → c < s.count → k < per_thread w tasks → (t : Task) → (s.tasks c k).live ≡ Some t
+      → task_of s (task_in c k (s.tasks c k)) ≡ Some t
   named_there c k maker place t live =
       let word = ((keeps.made c maker).tasks k place).life.live t live in
-      let some : (s.tasks c k).generations == (s.tasks c k).generations - 1 + 1 ≡ true = eq-eqb _ _ (omega (arith, word)) in
+      let some : (s.tasks c k).generations == (s.tasks c k).generations - 1 + 1 ≡ true =
+      eq-eqb _ _ (omega (arith, word)) in
       ap (λ b. if b then (s.tasks c k).live else None) some ∙ live
 
   -- a name in an empty slot is no live task's
-  unnamed : (k : Tid) → (s.tasks k.0.creator k.0.slot).live ≡ None → (o : Option Tid) → ((q : Tid) → o ≡ Some q → IsSome (task_of s q)) → is_some_task k o ≡ false
+  unnamed : (k : Tid) → (s.tasks k.0.creator k.0.slot).live ≡ None → (o : Option Tid)
+      → ((q : Tid) → o ≡ Some q → IsSome (task_of s q)) → is_some_task k o ≡ false
   unnamed k empty None live = refl
   unnamed k empty (Some q) live = go (is_task k q) refl
     where
@@ -120,9 +152,11 @@ module _ (w : List ℕ) (m : Memory) (s : State) (rs : Slots Region) (ts : Slots
       go true e =
           let creator : k.0.creator ≡ q.0.creator = grind (arith, nat_tests) in
           let place : k.0.slot ≡ q.0.slot = grind (arith, nat_tests) in
-          absurd (none_found q.0.generation (s.tasks q.0.creator q.0.slot) (subst (λ c. (s.tasks c q.0.slot).live ≡ None) creator (subst (λ j. (s.tasks k.0.creator j).live ≡ None) place empty)) (live q refl))
+          absurd
+          (none_found q.0.generation (s.tasks q.0.creator q.0.slot) (subst (λ c. (s.tasks c q.0.slot).live ≡ None) creator (subst (λ j. (s.tasks k.0.creator j).live ≡ None) place empty)) (live q refl))
 
-  region_unnamed : (n : Rid) → (s.regions n.0.creator n.0.slot).live ≡ None → (q : Rid) → IsSome (region_of s q) → is_region n q ≡ false
+  region_unnamed : (n : Rid) → (s.regions n.0.creator n.0.slot).live ≡ None → (q : Rid)
+      → IsSome (region_of s q) → is_region n q ≡ false
   region_unnamed n empty q live = go (is_region n q) refl
     where
       go : (b : Bool) → is_region n q ≡ b → b ≡ false
@@ -130,61 +164,80 @@ module _ (w : List ℕ) (m : Memory) (s : State) (rs : Slots Region) (ts : Slots
       go true e =
           let creator : n.0.creator ≡ q.0.creator = grind (arith, nat_tests) in
           let place : n.0.slot ≡ q.0.slot = grind (arith, nat_tests) in
-          absurd (none_found q.0.generation (s.regions q.0.creator q.0.slot) (subst (λ c. (s.regions c q.0.slot).live ≡ None) creator (subst (λ j. (s.regions n.0.creator j).live ≡ None) place empty)) live)
+          absurd
+          (none_found q.0.generation (s.regions q.0.creator q.0.slot) (subst (λ c. (s.regions c q.0.slot).live ≡ None) creator (subst (λ j. (s.regions n.0.creator j).live ≡ None) place empty)) live)
 
-  some_region_unnamed : (n : Rid) → (s.regions n.0.creator n.0.slot).live ≡ None → (o : Option Rid) → ((q : Rid) → o ≡ Some q → IsSome (region_of s q)) → is_some_region n o ≡ false
+  some_region_unnamed : (n : Rid) → (s.regions n.0.creator n.0.slot).live ≡ None → (o : Option Rid)
+      → ((q : Rid) → o ≡ Some q → IsSome (region_of s q)) → is_some_region n o ≡ false
   some_region_unnamed n empty None live = refl
   some_region_unnamed n empty (Some q) live = region_unnamed n empty q (live q refl)
 
   -- no task is made by a new one, and none is in a new region
-  no_children : (k : Tid) → (s.tasks k.0.creator k.0.slot).live ≡ None → (f : Task → Bool) → sum_of_slots w s (λ c j t. one (f t && is_some_task k t.generating)) ≡ 0
-  no_children k empty f = slots_none_within w s (λ c j t. one (f t && is_some_task k t.generating)) (λ c j maker place. go c j maker place (s.tasks c j).live refl)
+  no_children : (k : Tid) → (s.tasks k.0.creator k.0.slot).live ≡ None → (f : Task → Bool)
+      → sum_of_slots w s (λ c j t. one (f t && is_some_task k t.generating)) ≡ 0
+  no_children k empty f =
+      slots_none_within w s (λ c j t. one (f t && is_some_task k t.generating))
+      (λ c j maker place. go c j maker place (s.tasks c j).live refl)
     where
-      go : (c j : ℕ) → c < s.count → j < per_thread w tasks → (o : Option Task) → (s.tasks c j).live ≡ o → of_live (λ t. one (f t && is_some_task k t.generating)) o ≡ 0
+      go : (c j : ℕ) → c < s.count → j < per_thread w tasks → (o : Option Task) → (s.tasks c j).live ≡ o
+          → of_live (λ t. one (f t && is_some_task k t.generating)) o ≡ 0
       go c j maker place None is = refl
       go c j maker place (Some t) is =
           one_none (f t) (is_some_task k t.generating)
           (unnamed k empty t.generating (λ q made. let (u, live, _) = (names.tasks (task_in c j (s.tasks c j)) t (named_there c j maker place t is)).generating q made in some_found (task_of s q) u live))
 
   no_tasks : (n : Rid) → (s.regions n.0.creator n.0.slot).live ≡ None → unfinished_in w s n ≡ 0
-  no_tasks n empty = slots_none_within w s (λ c j t. one (is_unfinished t && is_region n t.region)) (λ c j maker place. go c j maker place (s.tasks c j).live refl)
+  no_tasks n empty =
+      slots_none_within w s (λ c j t. one (is_unfinished t && is_region n t.region))
+      (λ c j maker place. go c j maker place (s.tasks c j).live refl)
     where
-      go : (c j : ℕ) → c < s.count → j < per_thread w tasks → (o : Option Task) → (s.tasks c j).live ≡ o → of_live (λ t. one (is_unfinished t && is_region n t.region)) o ≡ 0
+      go : (c j : ℕ) → c < s.count → j < per_thread w tasks → (o : Option Task) → (s.tasks c j).live ≡ o
+          → of_live (λ t. one (is_unfinished t && is_region n t.region)) o ≡ 0
       go c j maker place None is = refl
       go c j maker place (Some t) is =
           one_none (is_unfinished t) (is_region n t.region)
           (region_unnamed n empty t.region (let (x, live) = (names.tasks (task_in c j (s.tasks c j)) t (named_there c j maker place t is)).region in some_found (region_of s t.region) x live))
 
   -- and no thread owes anything on it
-  region_unowed : (n : Rid) → (s.regions n.0.creator n.0.slot).live ≡ None → (sum_of_owed s owes (pending_owed n) ≡ 0) × (sum_of_owed s owes (left_owed n) ≡ 0)
+  region_unowed : (n : Rid) → (s.regions n.0.creator n.0.slot).live ≡ None
+      → (sum_of_owed s owes (pending_owed n) ≡ 0) × (sum_of_owed s owes (left_owed n) ≡ 0)
   region_unowed n empty = (
     sum_none_within s.count (λ j. pending_owed n (owes j)) (λ j known. ap one (some_region_unnamed n empty (owes j).pending (keeps.made j known).objects.pending)),
     sum_none_within s.count (λ j. left_owed n (owes j)) (λ j known. ap one (some_region_unnamed n empty (owes j).left (λ q is. let (x, live, _) = (keeps.made j known).objects.left q is in some_found (region_of s q) x live))),
   )
 
-  children_unowed : (k : Tid) → (s.tasks k.0.creator k.0.slot).live ≡ None → sum_of_owed s owes (children_owed s k) ≡ 0
+  children_unowed : (k : Tid) → (s.tasks k.0.creator k.0.slot).live ≡ None
+      → sum_of_owed s owes (children_owed s k) ≡ 0
   children_unowed k empty = sum_none_within s.count (λ j. children_owed s k (owes j)) each
     where
-      made_by : (o : Option Tid) → ((q : Tid) → o ≡ Some q → IsSome (option_and_then (task_of s) (generating_of s q))) → is_some_task k (option_and_then (generating_of s) o) ≡ false
+      made_by : (o : Option Tid)
+          → ((q : Tid) → o ≡ Some q → IsSome (option_and_then (task_of s) (generating_of s q)))
+          → is_some_task k (option_and_then (generating_of s) o) ≡ false
       made_by None live = refl
       made_by (Some q) live = go (generating_of s q) (live q refl)
         where
           go : (g : Option Tid) → IsSome (option_and_then (task_of s) g) → is_some_task k g ≡ false
           go None is = refl
-          go (Some h) is = unnamed k empty (Some h) (λ x same. let eq : h ≡ x = cc in subst (λ (y : Tid). IsSome (task_of s y)) eq is)
+          go (Some h) is =
+              unnamed k empty (Some h)
+              (λ x same. let eq : h ≡ x = cc in subst (λ (y : Tid). IsSome (task_of s y)) eq is)
 
       each : (j : ℕ) → j < s.count → children_owed s k (owes j) ≡ 0
       each j known =
           let o = (keeps.made j known).objects in
-          let a : one (is_some_task k (owes j).raised) ≡ 0 = ap one (unnamed k empty (owes j).raised o.raised) in
-          let b : one (is_some_task k (option_and_then (generating_of s) (owes j).lowered)) ≡ 0 = ap one (made_by (owes j).lowered (λ q is. (o.lowered q is).1)) in
+          let a : one (is_some_task k (owes j).raised) ≡ 0 =
+          ap one (unnamed k empty (owes j).raised o.raised) in
+          let b : one (is_some_task k (option_and_then (generating_of s) (owes j).lowered)) ≡ 0 =
+          ap one (made_by (owes j).lowered (λ q is. (o.lowered q is).1)) in
           omega (arith, a, b)
 
-  module _ (pending_counted : (n : Rid) → unfinished_in w after n + sum_of_owed s other (pending_owed n) ≡ unfinished_in w s n + sum_of_owed s owes (pending_owed n))
+  module _
+      (pending_counted : (n : Rid) → unfinished_in w after n + sum_of_owed s other (pending_owed n) ≡ unfinished_in w s n + sum_of_owed s owes (pending_owed n))
       (children_counted : (k : Tid) → unfinished_children w after k + sum_of_owed s other (children_owed s k) ≡ unfinished_children w s k + sum_of_owed s owes (children_owed s k)) where
     -- ---- objects that were live
 
-    region_kept : (n : Rid) (r : Rec) (x : Region) → KeepsRegion w s owes n r x → KeepsRegion w after other n r x
+    region_kept : (n : Rid) (r : Rec) (x : Region) → KeepsRegion w s owes n r x
+        → KeepsRegion w after other n r x
     region_kept n r x o = region_counted w s after owes other n r x (pending_counted n) (left_same n) o
 
     counts_kept : (k : Tid) (r : Rec) → KeepsCounts w s owes k r → KeepsCounts w after other k r
@@ -199,10 +252,13 @@ module _ (w : List ℕ) (m : Memory) (s : State) (rs : Slots Region) (ts : Slots
     slots_kept : (r : Rec) (t : Task) → KeepsSlots w s r t → KeepsSlots w after r t
     slots_kept r t o = λ place within. go place (o place within)
       where
-        go : (place : ℕ) → Has r TaskSlots place 0 ⊎ ((k : Tid) × IsDeferredIn s t place k × Has r TaskSlots place (slot_word w k))
+        go : (place : ℕ)
+            → Has r TaskSlots place 0 ⊎ ((k : Tid) × IsDeferredIn s t place k × Has r TaskSlots place (slot_word w k))
             → Has r TaskSlots place 0 ⊎ ((k : Tid) × IsDeferredIn after t place k × Has r TaskSlots place (slot_word w k))
         go place (inl none) = inl none
-        go place (inr (k, x, is)) = inr (k, record { task = x.task; live = task_after k x.task x.live; progress = x.progress; region = x.region; place_is = x.place_is; maker = x.maker }, is)
+        go place (inr (k, x, is)) =
+            inr
+            (k, record { task = x.task; live = task_after k x.task x.live; progress = x.progress; region = x.region; place_is = x.place_is; maker = x.maker }, is)
 
     task_kept : (k : Tid) (r : Rec) (t : Task) → KeepsTask w s owes k r t → KeepsTask w after other k r t
     task_kept k r t o = record {
@@ -212,7 +268,8 @@ module _ (w : List ℕ) (m : Memory) (s : State) (rs : Slots Region) (ts : Slots
       slots = λ implicit. slots_kept r t (o.slots implicit);
     }
 
-    objects_kept : (j : ℕ) → All (λ q. WaitsFor after q.1 q.0) (other j).assigns → OwesOnLive s (owes j) → OwesOnLive after (other j)
+    objects_kept : (j : ℕ) → All (λ q. WaitsFor after q.1 q.0) (other j).assigns → OwesOnLive s (owes j)
+        → OwesOnLive after (other j)
     objects_kept j assigns x = record {
       pending = λ n is. some_region_after n (x.pending n ((alike j).pending n is));
       left = λ n is. let (r, live, open_) = x.left n (sym (alike j).left ∙ is) in (r, region_after n r live, open_);
@@ -223,11 +280,14 @@ module _ (w : List ℕ) (m : Memory) (s : State) (rs : Slots Region) (ts : Slots
       assigns = assigns;
     }
       where
-        parent : (g : Option Tid) → IsSome (option_and_then (task_of s) g) → IsSome (option_and_then (task_of after) g)
+        parent : (g : Option Tid) → IsSome (option_and_then (task_of s) g)
+            → IsSome (option_and_then (task_of after) g)
         parent None is = is
         parent (Some q) is = some_task_after q is
 
-    region_begun : (n : Rid) (r : Rec) (taken : Bool) (x : Region) → (s.regions n.0.creator n.0.slot).live ≡ None → NewRegion w r taken x → KeepsRegion w after other n r x
+    region_begun : (n : Rid) (r : Rec) (taken : Bool) (x : Region)
+        → (s.regions n.0.creator n.0.slot).live ≡ None → NewRegion w r taken x
+        → KeepsRegion w after other n r x
     region_begun n r taken x empty new =
         let o = new.filled in
         record {
@@ -246,7 +306,8 @@ module _ (w : List ℕ) (m : Memory) (s : State) (rs : Slots Region) (ts : Slots
               omega (arith, word, owed, nobody, ended);
         }
 
-    task_begun : (k : Tid) (r : Rec) (taken : Bool) (t : Task) → (s.tasks k.0.creator k.0.slot).live ≡ None → NewTask w r taken Kind t → KeepsTask w after other k r t
+    task_begun : (k : Tid) (r : Rec) (taken : Bool) (t : Task) → (s.tasks k.0.creator k.0.slot).live ≡ None
+        → NewTask w r taken Kind t → KeepsTask w after other k r t
     task_begun k r taken t empty new = record {
       environment = new.environment;
       place = new.place;
@@ -264,32 +325,44 @@ module _ (w : List ℕ) (m : Memory) (s : State) (rs : Slots Region) (ts : Slots
 
     -- ---- the whole
 
-    region_slot_kept : (c k : ℕ) → KeepsRegionSlot w s owes c k (m c regions k) → KeepsRegionSlot w after other c k (m c regions k)
+    region_slot_kept : (c k : ℕ) → KeepsRegionSlot w s owes c k (m c regions k)
+        → KeepsRegionSlot w after other c k (m c regions k)
     region_slot_kept c k o = go (region_slots c k)
       where
-        go : Grows (has_region_slot k (other c).region ≡ has_region_slot k (owes c).region) (NewRegion w (m c regions k) (has_region_slot k (owes c).region)) (s.regions c k) (rs c k) → KeepsRegionSlot w after other c k (m c regions k)
+        go : Grows (has_region_slot k (other c).region ≡ has_region_slot k (owes c).region) (NewRegion w (m c regions k) (has_region_slot k (owes c).region)) (s.regions c k) (rs c k)
+            → KeepsRegionSlot w after other c k (m c regions k)
         go (inl stays) = record {
-          life = subst (λ (x : Slot Region). KeepsLife (m c regions k) RegionLife x (has_region_slot k (other c).region)) (sym stays.same)
+          life =
+              subst
+              (λ (x : Slot Region). KeepsLife (m c regions k) RegionLife x (has_region_slot k (other c).region))
+              (sym stays.same)
               (subst (λ b. KeepsLife (m c regions k) RegionLife (s.regions c k) b) (sym stays.fact) o.life);
           live = λ x is.
-              let there : (s.regions c k).live ≡ Some x = sym (ap (λ (y : Slot Region). y.live) stays.same) ∙ is in
+              let there : (s.regions c k).live ≡ Some x =
+              sym (ap (λ (y : Slot Region). y.live) stays.same) ∙ is in
               subst (λ (y : Slot Region). KeepsRegion w after other (region_in c k y) (m c regions k) x) (sym stays.same) (region_kept (region_in c k (s.regions c k)) (m c regions k) x (o.live x there));
         }
         go (inr begins) = record {
           life = begun_life (m c regions k) RegionLife (s.regions c k) (rs c k) (NewRegion w (m c regions k) (has_region_slot k (owes c).region)) (has_region_slot k (owes c).region) (has_region_slot k (other c).region) begins begins.new.taken_is o.life;
-          live = λ x is. region_begun (region_in c k (rs c k)) (m c regions k) (has_region_slot k (owes c).region) x begins.empty
+          live =
+              λ x is. region_begun (region_in c k (rs c k)) (m c regions k) (has_region_slot k (owes c).region) x begins.empty
               (subst (λ (y : Region). NewRegion w (m c regions k) (has_region_slot k (owes c).region) y) (some_same begins.live is) begins.new);
         }
 
-    task_slot_kept : (c k : ℕ) → KeepsTaskSlot w s owes c k (m c tasks k) → KeepsTaskSlot w after other c k (m c tasks k)
+    task_slot_kept : (c k : ℕ) → KeepsTaskSlot w s owes c k (m c tasks k)
+        → KeepsTaskSlot w after other c k (m c tasks k)
     task_slot_kept c k o = go (task_slots c k)
       where
-        go : Grows (has_slot k (other c).tasks ≡ has_slot k (owes c).tasks) (NewAt c k) (s.tasks c k) (ts c k) → KeepsTaskSlot w after other c k (m c tasks k)
+        go : Grows (has_slot k (other c).tasks ≡ has_slot k (owes c).tasks) (NewAt c k) (s.tasks c k) (ts c k)
+            → KeepsTaskSlot w after other c k (m c tasks k)
         go (inl stays) = record {
-          life = subst (λ (x : Slot Task). KeepsLife (m c tasks k) TaskLife x (has_slot k (other c).tasks)) (sym stays.same)
+          life =
+              subst (λ (x : Slot Task). KeepsLife (m c tasks k) TaskLife x (has_slot k (other c).tasks))
+              (sym stays.same)
               (subst (λ b. KeepsLife (m c tasks k) TaskLife (s.tasks c k) b) (sym stays.fact) o.life);
           live = λ t is.
-              let there : (s.tasks c k).live ≡ Some t = sym (ap (λ (y : Slot Task). y.live) stays.same) ∙ is in
+              let there : (s.tasks c k).live ≡ Some t =
+              sym (ap (λ (y : Slot Task). y.live) stays.same) ∙ is in
               subst (λ (y : Slot Task). KeepsTask w after other (task_in c k y) (m c tasks k) t) (sym stays.same) (task_kept (task_in c k (s.tasks c k)) (m c tasks k) t (o.live t there));
         }
         go (inr begins) = record {
@@ -297,7 +370,8 @@ module _ (w : List ℕ) (m : Memory) (s : State) (rs : Slots Region) (ts : Slots
           live = λ t is. task_begun (task_in c k (ts c k)) (m c tasks k) (has_slot k (owes c).tasks) t begins.empty (subst (NewAt c k) (some_same begins.live is) begins.new);
         }
 
-    pub grown : ((j : ℕ) → j < s.count → KeepsMaking after j (other j)) → ((j : ℕ) → j < s.count → All (λ q. WaitsFor after q.1 q.0) (other j).assigns)
+    pub grown : ((j : ℕ) → j < s.count → KeepsMaking after j (other j))
+        → ((j : ℕ) → j < s.count → All (λ q. WaitsFor after q.1 q.0) (other j).assigns)
         → ((j : ℕ) → j < s.count → KeepsAssign w after other j (m j threads 0)) → KeepsDeferred w (λ c. m c tasks) after other → KeepsWords w m after other
     grown making assigns assigned deferred = record {
       runtime_record = keeps.runtime_record;

@@ -34,7 +34,8 @@ pub record IsMember (t : Task) : Type 0 where
 implicit_none : (t : Task) → t.implicit ≡ true → is_unfinished t ≡ false
 implicit_none t implicit = ap (λ b. not b && not (is_finished t.progress)) implicit
 
-module _ (w : List ℕ) (m : Memory) (s : State) (rs : Slots Region) (ts : Slots Task) (owes other : ℕ → Owed) (keeps : KeepsWords w m s owes) (names : AreNamesLive s) (alike : (j : ℕ) → OwesAlike (other j) (owes j))
+module _ (w : List ℕ) (m : Memory) (s : State) (rs : Slots Region) (ts : Slots Task) (owes other : ℕ → Owed)
+    (keeps : KeepsWords w m s owes) (names : AreNamesLive s) (alike : (j : ℕ) → OwesAlike (other j) (owes j))
     (region_slots : (c k : ℕ) → Grows (has_region_slot k (other c).region ≡ has_region_slot k (owes c).region) (NewRegion w (m c regions k) (has_region_slot k (owes c).region)) (s.regions c k) (rs c k))
     (task_slots : (c k : ℕ) → Grows (has_slot k (other c).tasks ≡ has_slot k (owes c).tasks) (NewTask w (m c tasks k) (has_slot k (owes c).tasks) IsMember) (s.tasks c k) (ts c k)) where
   abbrev after : State
@@ -46,21 +47,30 @@ module _ (w : List ℕ) (m : Memory) (s : State) (rs : Slots Region) (ts : Slots
   less : (j : ℕ) → OwesLess (other j) (owes j)
   less j = owes_less (other j) (owes j) (alike j)
 
-  owed_same : (f : Owed → ℕ) → ((j : ℕ) → f (other j) ≡ f (owes j)) → sum_of_owed s other f ≡ sum_of_owed s owes f
+  owed_same : (f : Owed → ℕ) → ((j : ℕ) → f (other j) ≡ f (owes j))
+      → sum_of_owed s other f ≡ sum_of_owed s owes f
   owed_same f each = sum_same s.count (λ j. f (other j)) (λ j. f (owes j)) each
 
-  pending_counted : (n : Rid) → unfinished_in w after n + sum_of_owed s other (pending_owed n) ≡ unfinished_in w s n + sum_of_owed s owes (pending_owed n)
+  pending_counted : (n : Rid)
+      → unfinished_in w after n + sum_of_owed s other (pending_owed n) ≡ unfinished_in w s n + sum_of_owed s owes (pending_owed n)
   pending_counted n =
       let same : unfinished_in w after n ≡ unfinished_in w s n
-      = tasks_counted w m s rs ts owes other IsMember keeps names less region_slots task_slots (λ c k t. one (is_unfinished t && is_region n t.region)) (λ c k t new. ap (λ b. one (b && is_region n t.region)) (implicit_none t new.kind.implicit)) in
+      = tasks_counted w m s rs ts owes other IsMember keeps names less region_slots task_slots
+      (λ c k t. one (is_unfinished t && is_region n t.region))
+      (λ c k t new. ap (λ b. one (b && is_region n t.region)) (implicit_none t new.kind.implicit)) in
       let owed = owed_same (pending_owed n) (λ j. ap (λ q. one (is_some_region n q)) (alike j).pending) in
       omega (arith, same, owed)
 
-  children_counted : (k : Tid) → unfinished_children w after k + sum_of_owed s other (children_owed s k) ≡ unfinished_children w s k + sum_of_owed s owes (children_owed s k)
+  children_counted : (k : Tid)
+      → unfinished_children w after k + sum_of_owed s other (children_owed s k) ≡ unfinished_children w s k + sum_of_owed s owes (children_owed s k)
   children_counted k =
       let same : unfinished_children w after k ≡ unfinished_children w s k
-      = tasks_counted w m s rs ts owes other IsMember keeps names less region_slots task_slots (λ c j t. one (is_unfinished t && is_some_task k t.generating)) (λ c j t new. ap (λ b. one (b && is_some_task k t.generating)) (implicit_none t new.kind.implicit)) in
-      let owed = owed_same (children_owed s k) (λ j. ap₂ (λ a b. one (is_some_task k a) + one (is_some_task k (option_and_then (generating_of s) b))) (alike j).raised (alike j).lowered) in
+      = tasks_counted w m s rs ts owes other IsMember keeps names less region_slots task_slots
+      (λ c j t. one (is_unfinished t && is_some_task k t.generating))
+      (λ c j t new. ap (λ b. one (b && is_some_task k t.generating)) (implicit_none t new.kind.implicit)) in
+      let owed =
+      owed_same (children_owed s k)
+      (λ j. ap₂ (λ a b. one (is_some_task k a) + one (is_some_task k (option_and_then (generating_of s) b))) (alike j).raised (alike j).lowered) in
       omega (arith, same, owed)
 
   deferred_kept : KeepsDeferred w (λ c. m c tasks) after other
@@ -71,16 +81,20 @@ module _ (w : List ℕ) (m : Memory) (s : State) (rs : Slots Region) (ts : Slots
         (t, task_after w m s rs ts owes other IsMember keeps names less region_slots task_slots k t live, deferred);
   }
     where
-      slots_same : (k : Tid) → slots_with w (λ c. m c tasks) after (slot_word w k) ≡ slots_with w (λ c. m c tasks) s (slot_word w k)
+      slots_same : (k : Tid)
+          → slots_with w (λ c. m c tasks) after (slot_word w k) ≡ slots_with w (λ c. m c tasks) s (slot_word w k)
       slots_same k =
           tasks_counted w m s rs ts owes other IsMember keeps names less region_slots task_slots
           (λ c j x. if x.implicit then sum_below (width w (number TaskSlots)) (λ place. one (m c tasks j (number TaskSlots) place == slot_word w k)) else 0)
           (λ c j t new.
-          ap (λ b. if b then sum_below (width w (number TaskSlots)) (λ place. one (m c tasks j (number TaskSlots) place == slot_word w k)) else 0) new.kind.implicit
-          ∙ sum_none_within (width w (number TaskSlots)) (λ place. one (m c tasks j (number TaskSlots) place == slot_word w k))
+          ap
+          (λ b. if b then sum_below (width w (number TaskSlots)) (λ place. one (m c tasks j (number TaskSlots) place == slot_word w k)) else 0) new.kind.implicit
+          ∙ sum_none_within (width w (number TaskSlots))
+          (λ place. one (m c tasks j (number TaskSlots) place == slot_word w k))
           (λ place within. ap one (ne_eqb _ _ (λ same. let none = new.slots new.kind.implicit place within in absurd (omega (arith, same, none))))))
 
-      go : (k : Tid) (t : Task) → t.progress ≡ progress.Deferred → (task_of s k ≡ Some t) ⊎ IsNew (NewAt k.0.creator k.0.slot) k.0.generation (s.tasks k.0.creator k.0.slot) t
+      go : (k : Tid) (t : Task) → t.progress ≡ progress.Deferred
+          → (task_of s k ≡ Some t) ⊎ IsNew (NewAt k.0.creator k.0.slot) k.0.generation (s.tasks k.0.creator k.0.slot) t
           → slots_with w (λ c. m c tasks) after (slot_word w k) + sum_of_owed after other (start_owed k) ≡ 1
       go k t deferred (inl live) =
           let was = keeps.deferred.once k t live deferred in
@@ -89,7 +103,8 @@ module _ (w : List ℕ) (m : Memory) (s : State) (rs : Slots Region) (ts : Slots
           omega (arith, was, same, owed)
       go k t deferred (inr new) = absurd (new.new.kind.undeferred deferred)
 
-  pub members_grown : ((j : ℕ) → j < s.count → KeepsMaking after j (other j)) → ((j : ℕ) → j < s.count → All (λ q. WaitsFor after q.1 q.0) (other j).assigns)
+  pub members_grown : ((j : ℕ) → j < s.count → KeepsMaking after j (other j))
+      → ((j : ℕ) → j < s.count → All (λ q. WaitsFor after q.1 q.0) (other j).assigns)
       → ((j : ℕ) → j < s.count → KeepsAssign w after other j (m j threads 0)) → KeepsWords w m after other
   members_grown making assigns assigned =
       grown w m s rs ts owes other IsMember keeps names less region_slots task_slots pending_counted children_counted making assigns assigned deferred_kept

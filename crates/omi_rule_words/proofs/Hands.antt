@@ -16,10 +16,12 @@ abbrev pub with_hands : (ℕ → Owed) → (ℕ → Option Tid) → ℕ → Owed
 with_hands owes hands = λ j. record (owes j) { hand = hands j }
 
 -- one thread has another
-pub one_hand : (owes : ℕ → Owed) (i : ℕ) (hand : Option Tid) → ◌≡◌ {A = ℕ → Owed} (with_hands owes (replace_at (λ j. (owes j).hand) i hand)) (replace_at owes i (record (owes i) { hand = hand }))
+pub one_hand : (owes : ℕ → Owed) (i : ℕ) (hand : Option Tid)
+    → ◌≡◌ {A = ℕ → Owed} (with_hands owes (replace_at (λ j. (owes j).hand) i hand)) (replace_at owes i (record (owes i) { hand = hand }))
 one_hand owes i hand = fun_ext (λ j. go j (j == i) refl)
   where
-    go : (j : ℕ) (b : Bool) → j == i ≡ b → record (owes j) { hand = if b then hand else (owes j).hand } ≡ (if b then record (owes i) { hand = hand } else owes j)
+    go : (j : ℕ) (b : Bool) → j == i ≡ b
+        → record (owes j) { hand = if b then hand else (owes j).hand } ≡ (if b then record (owes i) { hand = hand } else owes j)
     go j true e = ap (λ c. record (owes c) { hand = hand }) (eqb-true j i e)
     go j false e = refl
 
@@ -27,7 +29,8 @@ module _ (w : List ℕ) (s : State) (owes : ℕ → Owed) (hands : ℕ → Optio
   abbrev other : ℕ → Owed
   other = with_hands owes hands
 
-  region_rehanded : (n : Rid) (r : Rec) (x : Region) → KeepsRegion w s owes n r x → KeepsRegion w s other n r x
+  region_rehanded : (n : Rid) (r : Rec) (x : Region) → KeepsRegion w s owes n r x
+      → KeepsRegion w s other n r x
   region_rehanded n r x o = region_counted w s s owes other n r x refl refl o
 
   task_rehanded : (k : Tid) (r : Rec) (t : Task) → KeepsTask w s owes k r t → KeepsTask w s other k r t

@@ -27,7 +27,8 @@ IsIdle (counter.Look c) = ⊥
 IsIdle (counter.Finish c) = ⊥
 IsIdle (counter.Plain c) = Unit {0}
 
-pub owes_nothing : (context : Context) (members : List (Tid × ℕ)) (c : Counter) → IsIdle c → owed_at context members c ≡ nothing
+pub owes_nothing : (context : Context) (members : List (Tid × ℕ)) (c : Counter) → IsIdle c
+    → owed_at context members c ≡ nothing
 owes_nothing context members (counter.Worker worker.Begin) is = refl
 owes_nothing context members (counter.Barrier c) is = refl
 owes_nothing context members (counter.Plain c) is = refl
@@ -41,8 +42,11 @@ opening_idle p zero = go (next_statement p (at_start p.main Main))
     a = record (waiting_actor 0) { stack = at_start p.main Main ∷ [] }
 
     go : (s : Option Stmt) → IsIdle (settled_by p a (at_start p.main Main) [] s).counter
-    go (Some s) = begun_next IsIdle (λ c before. tt) s (record a { stack = advanced (at_start p.main Main) ∷ [] })
+    go (Some s) =
+        begun_next IsIdle (λ c before. tt) s (record a { stack = advanced (at_start p.main Main) ∷ [] })
     go None = tt
 
 pub opening_owes : (p : Program) (i : ℕ) → owed (opening_actor p i) ≡ nothing
-opening_owes p i = owes_nothing (opening_actor p i).context (opening_actor p i).gathered.team (opening_actor p i).counter (opening_idle p i)
+opening_owes p i =
+    owes_nothing (opening_actor p i).context (opening_actor p i).gathered.team (opening_actor p i).counter
+    (opening_idle p i)

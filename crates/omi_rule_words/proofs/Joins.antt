@@ -25,7 +25,8 @@ use Rattle.omi_rule_words.proofs.Renewed.{RegionRenews, owes_same}
 use Rattle.omi_rule_words.proofs.Sums.{part_below}
 use Rattle.omi_rule_words.proofs.TaskEnds.{finished_kept, found_name, is_region_same, still_open}
 
-module _ (w : List ℕ) (m : Memory) (s : State) (owes : ℕ → Owed) (i : ℕ) (k : Tid) (t : Task) (r : Region) (keeps : KeepsWords w m s owes) (known : i < s.count) (running : IsRunningMember s k t r)
+module _ (w : List ℕ) (m : Memory) (s : State) (owes : ℕ → Owed) (i : ℕ) (k : Tid) (t : Task) (r : Region)
+    (keeps : KeepsWords w m s owes) (known : i < s.count) (running : IsRunningMember s k t r)
     (all_left : (j : ℕ) → j < s.count → (owes j).left ≢ Some t.region) where
   abbrev joins : Region → Region
   joins x = record x { joined = true }
@@ -36,9 +37,11 @@ module _ (w : List ℕ) (m : Memory) (s : State) (owes : ℕ → Owed) (i : ℕ)
   renews : (x : Region) → RegionRenews x (joins x)
   renews x = record { ended = x.ended; joined = true; is = refl }
 
-  left : (j : ℕ) → j < s.count → (n : Rid) → (owes j).left ≡ Some n → (x : Region) × (region_of over n ≡ Some x) × (x.joined ≡ false)
+  left : (j : ℕ) → j < s.count → (n : Rid) → (owes j).left ≡ Some n
+      → (x : Region) × (region_of over n ≡ Some x) × (x.joined ≡ false)
   left j within n is =
-      still_open w m s owes owes k t r joins keeps running (λ c. owes_same (owes c)) (λ c. refl) (λ c. refl) renews n
+      still_open w m s owes owes k t r joins keeps running (λ c. owes_same (owes c)) (λ c. refl)
+      (λ c. refl) renews n
       (λ same. absurd (all_left j within (is ∙ ap (λ (x : Id). Some (record { 0 = x })) same)))
       ((keeps.made j within).objects.left n is)
 
@@ -49,17 +52,23 @@ module _ (w : List ℕ) (m : Memory) (s : State) (owes : ℕ → Owed) (i : ℕ)
       known
 
 pub joins_keep : JoinsKeep
-joins_keep = λ w m s owes i k t r keeps known running all_left. task_joins w m s owes i k t r keeps known running all_left
+joins_keep =
+    λ w m s owes i k t r keeps known running all_left. task_joins w m s owes i k t r keeps known running all_left
 
 pub all_have_left : AllHaveLeft
-all_have_left = λ w m s owes n r keeps live maker place word j within is. none_owed w m s owes n r keeps live maker place word j within is
+all_have_left =
+    λ w m s owes n r keeps live maker place word j within is. none_owed w m s owes n r keeps live maker place word j within is
   where
-    none_owed : (w : List ℕ) (m : Memory) (s : State) (owes : ℕ → Owed) (n : Rid) (r : Region) → KeepsWords w m s owes → region_of s n ≡ Some r → n.0.creator < s.count
+    none_owed : (w : List ℕ) (m : Memory) (s : State) (owes : ℕ → Owed) (n : Rid) (r : Region)
+        → KeepsWords w m s owes → region_of s n ≡ Some r → n.0.creator < s.count
         → n.0.slot < per_thread w regions → m n.0.creator regions n.0.slot (number RegionLeft) 0 ≡ ended_members r → (j : ℕ) → j < s.count → (owes j).left ≡ Some n → ⊥
     none_owed w m s owes n r keeps live maker place word j within is =
-        let counted = (((keeps.made n.0.creator maker).regions n.0.slot place).live r (found_live n.0.generation (s.regions n.0.creator n.0.slot) r live)).left in
+        let counted =
+        (((keeps.made n.0.creator maker).regions n.0.slot place).live r (found_live n.0.generation (s.regions n.0.creator n.0.slot) r live)).left in
         let name = found_name s n r live in
-        let named : sum_of_owed s owes (left_owed (region_in n.0.creator n.0.slot (s.regions n.0.creator n.0.slot))) ≡ sum_of_owed s owes (left_owed n) = ap (λ q. sum_of_owed s owes (left_owed q)) name in
+        let named : sum_of_owed s owes (left_owed (region_in n.0.creator n.0.slot (s.regions n.0.creator n.0.slot))) ≡ sum_of_owed s owes (left_owed n) =
+        ap (λ q. sum_of_owed s owes (left_owed q)) name in
         let part = part_below s.count j (λ c. left_owed n (owes c)) within in
-        let own : left_owed n (owes j) ≡ 1 = ap (λ o. one (is_some_region n o)) is ∙ ap one (is_region_same n) in
+        let own : left_owed n (owes j) ≡ 1 =
+        ap (λ o. one (is_some_region n o)) is ∙ ap one (is_region_same n) in
         omega (arith, counted, named, part, own, word)

@@ -23,12 +23,16 @@ abbrev Relisted : Task → Task → Type 0
 Relisted t u = u ≡ record t { list = u.list }
 
 -- its record has the same codes
-relisted_kept : (w : List ℕ) (s : State) (owes : ℕ → Owed) (k : Tid) (r : Rec) (t : Task) (list : List Item) → KeepsTask w s owes k r t → KeepsTask w s owes k r (record t { list = list })
+relisted_kept : (w : List ℕ) (s : State) (owes : ℕ → Owed) (k : Tid) (r : Rec) (t : Task) (list : List Item)
+    → KeepsTask w s owes k r t → KeepsTask w s owes k r (record t { list = list })
 relisted_kept w s owes k r t list =
-    task_rewritten w s owes k r r t (record t { list = list }) (record { implicit = refl; region = refl; thread = refl; generating = refl; progress = refl; place = refl }) refl (λ _. refl)
+    task_rewritten w s owes k r r t (record t { list = list })
+    (record { implicit = refl; region = refl; thread = refl; generating = refl; progress = refl; place = refl }) refl
+    (λ _. refl)
     (λ e. e) (λ e. e)
 
-task_list_keeps : (w : List ℕ) (m : Memory) (s : State) (owes : ℕ → Owed) (k : Tid) (list : List Item) → KeepsWords w m s owes → KeepsWords w m (on_task s k (λ t. record t { list = list })) owes
+task_list_keeps : (w : List ℕ) (m : Memory) (s : State) (owes : ℕ → Owed) (k : Tid) (list : List Item)
+    → KeepsWords w m s owes → KeepsWords w m (on_task s k (λ t. record t { list = list })) owes
 task_list_keeps w m s owes k list keeps =
     other_states w s (on_task s k g) owes refl (slots_same IsSameRegion same_region s.regions)
     (on_alike IsSameTask same_task s.tasks k.0 g (λ t _. record { implicit = refl; region = refl; thread = refl; generating = refl; progress = refl; place = refl })) m m keeps
@@ -42,7 +46,9 @@ task_list_keeps w m s owes k list keeps =
     g : Task → Task
     g t = record t { list = list }
 
-    each : (i j : ℕ) → i < s.count → j < per_thread w tasks → (u : Task) → ((t : Task) × ((s.tasks i j).live ≡ Some t) × Relisted t u) → KeepsTask w s owes (task_in i j (s.tasks i j)) (m i tasks j) u
+    each : (i j : ℕ) → i < s.count → j < per_thread w tasks → (u : Task)
+        → ((t : Task) × ((s.tasks i j).live ≡ Some t) × Relisted t u)
+        → KeepsTask w s owes (task_in i j (s.tasks i j)) (m i tasks j) u
     each i j known within u (t, live, same) =
         subst (λ (x : Task). KeepsTask w s owes (task_in i j (s.tasks i j)) (m i tasks j) x) (sym same)
         (relisted_kept w s owes (task_in i j (s.tasks i j)) (m i tasks j) t u.list (((keeps.made i known).tasks j within).live t live))
@@ -50,8 +56,11 @@ task_list_keeps w m s owes k list keeps =
 pub list_moves_keep : ListMovesKeep
 list_moves_keep = λ w m s owes i list keeps known. go w m s owes i list keeps known (s.threads i).current
   where
-    go : (w : List ℕ) (m : Memory) (s : State) (owes : ℕ → Owed) (i : ℕ) (list : List Item) → KeepsWords w m s owes → i < s.count → (o : Option Tid)
-        → KeepsWords w m (option_map_or (λ k. on_task s k (λ t. record t { list = list })) o (on_thread s i (λ h. record h { list = list }))) owes
+    go : (w : List ℕ) (m : Memory) (s : State) (owes : ℕ → Owed) (i : ℕ) (list : List Item)
+        → KeepsWords w m s owes → i < s.count → (o : Option Tid)
+        → KeepsWords w m
+        (option_map_or (λ k. on_task s k (λ t. record t { list = list })) o (on_thread s i (λ h. record h { list = list }))) owes
     go w m s owes i list keeps known (Some k) = task_list_keeps w m s owes k list keeps
     go w m s owes i list keeps known None =
-        thread_changes_keep w m s owes i (record (s.threads i) { list = list }) keeps (keeps.made i known).thread
+        thread_changes_keep w m s owes i (record (s.threads i) { list = list }) keeps
+        (keeps.made i known).thread

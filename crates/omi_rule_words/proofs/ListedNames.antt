@@ -11,7 +11,8 @@ use Rattle.omi_model.proofs.NamesLive.{live_region, live_task, member_stays}
 use Rattle.omi_model.proofs.StaysKept.{stays_list}
 use Rattle.omi_model.proofs.Steps.{IsRelisted, is_relisted}
 
-pub names_stay_live : (s : State) (i : ℕ) (list : List Item) → AreNamesLive s → AreNamesLive (with_list s i list)
+pub names_stay_live : (s : State) (i : ℕ) (list : List Item) → AreNamesLive s
+    → AreNamesLive (with_list s i list)
 names_stay_live s i list o = record {
   currents = λ j k is. live_task s after stays k (o.currents j k (sym (moved.currents j) ∙ is));
   tasks = λ k t is.

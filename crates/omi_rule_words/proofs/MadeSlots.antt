@@ -8,7 +8,9 @@ use Rattle.omi_rule_words.specs.Owes.{Owed}
 use Rattle.omi_rule_words.specs.Threads.{KeepsAssign, KeepsThread}
 use Rattle.omi_rule_words.specs.Words.{KeepsMade, KeepsRegionSlot, KeepsTaskSlot}
 
-pub made_kept : (w : List ℕ) (s : State) (owes : ℕ → Owed) (j : ℕ) (a b : MadeRecords) → b threads 0 ≡ a threads 0 → KeepsMade w s owes j a → ((k : ℕ) → k < per_thread w regions → KeepsRegionSlot w s owes j k (b regions k))
+pub made_kept : (w : List ℕ) (s : State) (owes : ℕ → Owed) (j : ℕ) (a b : MadeRecords)
+    → b threads 0 ≡ a threads 0 → KeepsMade w s owes j a
+    → ((k : ℕ) → k < per_thread w regions → KeepsRegionSlot w s owes j k (b regions k))
     → ((k : ℕ) → k < per_thread w tasks → KeepsTaskSlot w s owes j k (b tasks k)) → KeepsMade w s owes j b
 made_kept w s owes j a b same o of_regions of_tasks = record {
   thread = subst (λ (r : Rec). KeepsThread w j r (s.threads j)) (sym same) o.thread;

@@ -9,7 +9,10 @@ use Rattle.omi_rule_words.specs.Words.{KeepsWords}
 use Rattle.omi_rule_words.specs.Kinds.{MovesKeep}
 
 pub moves_keep : MovesKeep
-moves_keep = λ w m s actors i a keeps same. subst (λ (owes : ℕ → Owed). KeepsWords w m s owes) (sym (all actors i a same)) keeps
+moves_keep =
+    λ w m s actors i a keeps same. subst (λ (owes : ℕ → Owed). KeepsWords w m s owes) (sym (all actors i a same)) keeps
   where
-    all : (actors : ℕ → Actor) (i : ℕ) (a : Actor) → owed a ≡ owed (actors i) → all_owed (replace_at actors i a) ≡ all_owed actors
-    all actors i a same = fun_ext (λ j. each_put (λ k (x : Actor). owed x ≡ owed (actors k)) actors i a same j (λ _. refl))
+    all : (actors : ℕ → Actor) (i : ℕ) (a : Actor) → owed a ≡ owed (actors i)
+        → all_owed (replace_at actors i a) ≡ all_owed actors
+    all actors i a same =
+        fun_ext (λ j. each_put (λ k (x : Actor). owed x ≡ owed (actors k)) actors i a same j (λ _. refl))

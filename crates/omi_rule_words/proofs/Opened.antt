@@ -32,18 +32,23 @@ use Rattle.omi_rule_words.proofs.Idle.{opening_owes}
 use Rattle.omi_rule_words.proofs.Sums.{owed_none, slots_none}
 
 -- the one task counts nothing
-none_counted : (p : Program) (f : Task → ℕ) → f (opening_task p) ≡ 0 → (c k : ℕ) → of_live f (first_alone (opening_task p) c k).live ≡ 0
+none_counted : (p : Program) (f : Task → ℕ) → f (opening_task p) ≡ 0 → (c k : ℕ)
+    → of_live f (first_alone (opening_task p) c k).live ≡ 0
 none_counted p f none c k = go (c == 0 && k == 0)
   where
-    go : (b : Bool) → of_live f (if b then record { generations = 1; live = Some (opening_task p) } else unused).live ≡ 0
+    go : (b : Bool)
+        → of_live f (if b then record { generations = 1; live = Some (opening_task p) } else unused).live ≡ 0
     go true = none
     go false = refl
 
 -- where the object is that is alone in its slots
-alone_live : {A : Type 0} (x y : A) (c k : ℕ) → (first_alone x c k).live ≡ Some y → (c ≡ 0) × (k ≡ 0) × (x ≡ y)
+alone_live : {A : Type 0} (x y : A) (c k : ℕ) → (first_alone x c k).live ≡ Some y
+    → (c ≡ 0) × (k ≡ 0) × (x ≡ y)
 alone_live {A} x y c k is = go (c == 0 && k == 0) refl is
   where
-    go : (b : Bool) → (c == 0 && k == 0) ≡ b → (if b then record { generations = 1; live = Some x } else unused).live ≡ Some y → (c ≡ 0) × (k ≡ 0) × (x ≡ y)
+    go : (b : Bool) → (c == 0 && k == 0) ≡ b
+        → (if b then record { generations = 1; live = Some x } else unused).live ≡ Some y
+        → (c ≡ 0) × (k ≡ 0) × (x ≡ y)
     go true e h = (grind (arith, nat_tests), grind (arith, nat_tests), cc)
     go false e h = absurd (cc)
 
@@ -52,7 +57,8 @@ life_kept : {A : Type 0} (x : A) (r : Rec) (life : Field) (owed : Bool) (c k : �
     → (c ≡ 0 → k ≡ 0 → r (number life) 0 ≡ 1) → ((c ≡ 0 → k ≡ 0 → ⊥) → r (number life) 0 ≡ 0) → KeepsLife r life (first_alone x c k) owed
 life_kept {A} x r life owed c k nobody first other = go (c == 0 && k == 0) refl
   where
-    go : (b : Bool) → (c == 0 && k == 0) ≡ b → KeepsLife r life (if b then record { generations = 1; live = Some x } else unused) owed
+    go : (b : Bool) → (c == 0 && k == 0) ≡ b
+        → KeepsLife r life (if b then record { generations = 1; live = Some x } else unused) owed
     go true e =
         let creator : c ≡ 0 = grind (arith, nat_tests) in
         let place : k ≡ 0 = grind (arith, nat_tests) in
@@ -62,7 +68,8 @@ life_kept {A} x r life owed c k nobody first other = go (c == 0 && k == 0) refl
         let is = other (λ creator place. grind (arith, nat_tests)) in
         record { live = λ y live. absurd (cc); taken = λ live taken. absurd (cc); free = λ live free. is }
 
-module _ (p : Program) (w words : List ℕ) (v : IsValid w) (suits : Suits p w) (opens : AreOpening p w words) where
+module _ (p : Program) (w words : List ℕ) (v : IsValid w) (suits : Suits p w)
+    (opens : AreOpening p w words) where
   abbrev m : Memory
   m = memory_of w words
 
@@ -78,7 +85,8 @@ module _ (p : Program) (w words : List ℕ) (v : IsValid w) (suits : Suits p w) 
   -- no task waits for a thread
   none_waits : (i : ℕ) (k : Tid) → WaitsFor s i k → ⊥
   none_waits i k waits =
-      each_first_task p (λ k t. t.progress ≡ progress.NotBegun → ⊥) (λ is. absurd (cc)) k waits.task waits.live waits.progress
+      each_first_task p (λ k t. t.progress ≡ progress.NotBegun → ⊥)
+      (λ is. absurd (cc)) k waits.task waits.live waits.progress
 
   assign_kept : (i : ℕ) (r : Rec) → OpensThread w i r → KeepsAssign w s owes i r
   assign_kept i r o = record {
@@ -90,7 +98,9 @@ module _ (p : Program) (w words : List ℕ) (v : IsValid w) (suits : Suits p w) 
   region_kept n r o = record {
     codes = region_opened p w r o;
     pending =
-        let unfinished = slots_none w s (λ c k t. one (is_unfinished t && is_region n t.region)) (none_counted p (λ t. one (is_unfinished t && is_region n t.region)) refl) in
+        let unfinished =
+        slots_none w s (λ c k t. one (is_unfinished t && is_region n t.region))
+        (none_counted p (λ t. one (is_unfinished t && is_region n t.region)) refl) in
         let owed = owed_none s owes (pending_owed n) none refl in
         let is = o.pending in
         omega (arith, unfinished, owed, is);
@@ -103,7 +113,9 @@ module _ (p : Program) (w words : List ℕ) (v : IsValid w) (suits : Suits p w) 
   counts_kept : (k : Tid) (r : Rec) → OpensTask p w r → KeepsCounts w s owes k r
   counts_kept k r o = record {
     children =
-        let unfinished = slots_none w s (λ c j t. one (is_unfinished t && is_some_task k t.generating)) (none_counted p (λ t. one (is_unfinished t && is_some_task k t.generating)) refl) in
+        let unfinished =
+        slots_none w s (λ c j t. one (is_unfinished t && is_some_task k t.generating))
+        (none_counted p (λ t. one (is_unfinished t && is_some_task k t.generating)) refl) in
         let owed = owed_none s owes (children_owed s k) none refl in
         let is = o.children in
         omega (arith, unfinished, owed, is);
@@ -117,9 +129,12 @@ module _ (p : Program) (w words : List ℕ) (v : IsValid w) (suits : Suits p w) 
     slots = λ implicit place within. inl (o.slots place);
   }
 
-  region_slot_kept : (i slot : ℕ) (made : MadeRecords) → OpensMade p w i made → KeepsRegionSlot w s owes i slot (made regions slot)
+  region_slot_kept : (i slot : ℕ) (made : MadeRecords) → OpensMade p w i made
+      → KeepsRegionSlot w s owes i slot (made regions slot)
   region_slot_kept i slot made o = record {
-    life = life_kept (opening_region p) (made regions slot) RegionLife (has_region_slot slot (owes i).region) i slot
+    life =
+        life_kept (opening_region p) (made regions slot) RegionLife
+        (has_region_slot slot (owes i).region) i slot
         (ap (λ (o : Owed). has_region_slot slot o.region) (none i))
         (λ creator place. subst (λ j. made regions j (number RegionLife) 0 ≡ 1) (sym place) (o.region creator).life)
         (λ other. o.no_region slot other (number RegionLife) 0);
@@ -130,7 +145,8 @@ module _ (p : Program) (w words : List ℕ) (v : IsValid w) (suits : Suits p w) 
         (subst (λ j. KeepsRegion w s owes n (made regions j) (opening_region p)) (sym place) (region_kept n (made regions 0) (o.region creator)));
   }
 
-  task_slot_kept : (i slot : ℕ) (made : MadeRecords) → OpensMade p w i made → KeepsTaskSlot w s owes i slot (made tasks slot)
+  task_slot_kept : (i slot : ℕ) (made : MadeRecords) → OpensMade p w i made
+      → KeepsTaskSlot w s owes i slot (made tasks slot)
   task_slot_kept i slot made o = record {
     life = life_kept (opening_task p) (made tasks slot) TaskLife (has_slot slot (owes i).tasks) i slot
         (ap (λ (o : Owed). has_slot slot o.tasks) (none i))

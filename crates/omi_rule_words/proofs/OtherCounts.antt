@@ -32,29 +32,36 @@ use Rattle.omi_rule_words.proofs.StoredCodes.{region_apart, task_apart}
 
 -- ---- names
 
-pub generation_of : {A : Type 0} (g : ℕ) (slot : Slot A) (x : A) → found g slot ≡ Some x → slot.generations ≡ g + 1
+pub generation_of : {A : Type 0} (g : ℕ) (slot : Slot A) (x : A) → found g slot ≡ Some x
+    → slot.generations ≡ g + 1
 generation_of {A} g slot x is = go (slot.generations == g + 1) refl is
   where
-    go : (b : Bool) → slot.generations == g + 1 ≡ b → (if b then slot.live else None) ≡ Some x → slot.generations ≡ g + 1
+    go : (b : Bool) → slot.generations == g + 1 ≡ b → (if b then slot.live else None) ≡ Some x
+        → slot.generations ≡ g + 1
     go true e _ = eqb-true slot.generations (g + 1) e
     go false e none = absurd (cc)
 
 -- the name of what lives in the slot of a live object
-pub name_of_slot : {A : Type 0} (slots : Slots A) (n : Id) (x : A) → named slots n ≡ Some x → record { creator = n.creator; slot = n.slot; generation = (slots n.creator n.slot).generations - 1 } ≡ n
+pub name_of_slot : {A : Type 0} (slots : Slots A) (n : Id) (x : A) → named slots n ≡ Some x
+    → record { creator = n.creator; slot = n.slot; generation = (slots n.creator n.slot).generations - 1 } ≡ n
 name_of_slot slots n x is =
     let count = generation_of n.generation (slots n.creator n.slot) x is in
-    id_same (record { creator = n.creator; slot = n.slot; generation = (slots n.creator n.slot).generations - 1 }) n refl refl (omega (arith, count))
+    id_same
+    (record { creator = n.creator; slot = n.slot; generation = (slots n.creator n.slot).generations - 1 }) n refl refl
+    (omega (arith, count))
 
 pub is_own_id : (n : Id) → is_id n n ≡ true
 is_own_id n =
-    ap (λ (b : Bool). b && (n.slot == n.slot && n.generation == n.generation)) (eq-eqb n.creator n.creator refl)
+    ap (λ (b : Bool). b && (n.slot == n.slot && n.generation == n.generation))
+    (eq-eqb n.creator n.creator refl)
     ∙ (ap (λ (b : Bool). b && n.generation == n.generation) (eq-eqb n.slot n.slot refl)
     ∙ eq-eqb n.generation n.generation refl)
 
 pub is_other_id : (q n : Id) → (q.creator ≡ n.creator → q.slot ≡ n.slot → ⊥) → is_id q n ≡ false
 is_other_id q n apart = go (q.creator == n.creator) refl (q.slot == n.slot) refl
   where
-    go : (a : Bool) → q.creator == n.creator ≡ a → (b : Bool) → q.slot == n.slot ≡ b → a && (b && q.generation == n.generation) ≡ false
+    go : (a : Bool) → q.creator == n.creator ≡ a → (b : Bool) → q.slot == n.slot ≡ b
+        → a && (b && q.generation == n.generation) ≡ false
     go true e true f = absurd (apart (eqb-true q.creator n.creator e) (eqb-true q.slot n.slot f))
     go true e false f = refl
     go false e b f = refl
@@ -74,17 +81,24 @@ makes_alike : (o : Owed) → MakesAlike o o
 makes_alike o = record { region = refl; tasks = refl; left = refl; assigns = refl; met = refl; hand = refl }
 
 -- one thread owes otherwise
-pub owed_put : (s : State) (owes : ℕ → Owed) (i : ℕ) (p : Owed) → i < s.count → (f : Owed → ℕ) → sum_of_owed s (replace_at owes i p) f + f (owes i) ≡ sum_of_owed s owes f + f p
+pub owed_put : (s : State) (owes : ℕ → Owed) (i : ℕ) (p : Owed) → i < s.count → (f : Owed → ℕ)
+    → sum_of_owed s (replace_at owes i p) f + f (owes i) ≡ sum_of_owed s owes f + f p
 owed_put s owes i p known f =
-    let change = sum_changed s.count i (λ j. f (owes j)) (λ j. f (replace_at owes i p j)) known (λ j ne. ap f (put_other owes i j p ne)) in
+    let change =
+    sum_changed s.count i (λ j. f (owes j)) (λ j. f (replace_at owes i p j)) known
+    (λ j ne. ap f (put_other owes i j p ne)) in
     let own : f (replace_at owes i p i) ≡ f p = ap f (put_same owes i p) in
     omega (arith, change, own)
 
 -- and counts the same by it
-pub owed_put_same : (s : State) (owes : ℕ → Owed) (i : ℕ) (p : Owed) → (f : Owed → ℕ) → f p ≡ f (owes i) → sum_of_owed s (replace_at owes i p) f ≡ sum_of_owed s owes f
-owed_put_same s owes i p f same = sum_same s.count (λ j. f (replace_at owes i p j)) (λ j. f (owes j)) (λ j. each_put (λ k (x : Owed). f x ≡ f (owes k)) owes i p same j (λ _. refl))
+pub owed_put_same : (s : State) (owes : ℕ → Owed) (i : ℕ) (p : Owed) → (f : Owed → ℕ) → f p ≡ f (owes i)
+    → sum_of_owed s (replace_at owes i p) f ≡ sum_of_owed s owes f
+owed_put_same s owes i p f same =
+    sum_same s.count (λ j. f (replace_at owes i p j)) (λ j. f (owes j))
+    (λ j. each_put (λ k (x : Owed). f x ≡ f (owes k)) owes i p same j (λ _. refl))
 
-module _ (w : List ℕ) (m n : Memory) (s : State) (owes : ℕ → Owed) (i : ℕ) (p : Owed) (keeps : KeepsWords w m s owes) (alike_own : MakesAlike p (owes i)) where
+module _ (w : List ℕ) (m n : Memory) (s : State) (owes : ℕ → Owed) (i : ℕ) (p : Owed)
+    (keeps : KeepsWords w m s owes) (alike_own : MakesAlike p (owes i)) where
   abbrev other : ℕ → Owed
   other = replace_at owes i p
 
@@ -92,8 +106,10 @@ module _ (w : List ℕ) (m n : Memory) (s : State) (owes : ℕ → Owed) (i : �
   alike j = each_put (λ k (x : Owed). MakesAlike x (owes k)) owes i p alike_own j (λ _. makes_alike (owes j))
 
   -- the record of a region that has another word for its unfinished explicit tasks
-  pub region_counted : (q : Rid) (a b : Rec) (x : Region) → ((g : Field) (at : ℕ) → number g ≢ number RegionPending → b (number g) at ≡ a (number g) at)
-      → (a (number RegionPending) 0 ≡ unfinished_in w s q + sum_of_owed s owes (pending_owed q) → b (number RegionPending) 0 ≡ unfinished_in w s q + sum_of_owed s other (pending_owed q))
+  pub region_counted : (q : Rid) (a b : Rec) (x : Region)
+      → ((g : Field) (at : ℕ) → number g ≢ number RegionPending → b (number g) at ≡ a (number g) at)
+      →
+      (a (number RegionPending) 0 ≡ unfinished_in w s q + sum_of_owed s owes (pending_owed q) → b (number RegionPending) 0 ≡ unfinished_in w s q + sum_of_owed s other (pending_owed q))
       → KeepsRegion w s owes q a x → KeepsRegion w s other q b x
   region_counted q a b x same pending o =
       record {
@@ -102,7 +118,9 @@ module _ (w : List ℕ) (m n : Memory) (s : State) (owes : ℕ → Owed) (i : �
         left =
             let was = o.left in
             let word = same RegionLeft 0 (λ is. omega (arith, is)) in
-            let owed = owed_put_same s owes i p (left_owed q) (ap (λ x. left_owed q (record (owes i) { left = x })) alike_own.left) in
+            let owed =
+            owed_put_same s owes i p (left_owed q)
+            (ap (λ x. left_owed q (record (owes i) { left = x })) alike_own.left) in
             omega (arith, was, word, owed);
       }
 
@@ -118,7 +136,8 @@ module _ (w : List ℕ) (m n : Memory) (s : State) (owes : ℕ → Owed) (i : �
   }
 
   -- the record of a task that counts otherwise
-  pub task_counted : (k : Tid) (a b : Rec) (t : Task) → ((g : Field) (at : ℕ) → number g ≢ number TaskChildren → b (number g) at ≡ a (number g) at)
+  pub task_counted : (k : Tid) (a b : Rec) (t : Task)
+      → ((g : Field) (at : ℕ) → number g ≢ number TaskChildren → b (number g) at ≡ a (number g) at)
       → (KeepsCounts w s owes k a → KeepsCounts w s other k b) → KeepsTask w s owes k a t → KeepsTask w s other k b t
   task_counted k a b t same counts o = record {
     environment = λ g at word none told. same g at (task_apart w (task_told t) g at word told).0 ∙ o.environment g at word none told;
@@ -127,7 +146,8 @@ module _ (w : List ℕ) (m n : Memory) (s : State) (owes : ℕ → Owed) (i : �
     slots = λ implicit at within. slot at (o.slots implicit at within);
   }
     where
-      slot : (at : ℕ) → Has a TaskSlots at 0 ⊎ ((j : Tid) × IsDeferredIn s t at j × Has a TaskSlots at (slot_word w j))
+      slot : (at : ℕ)
+          → Has a TaskSlots at 0 ⊎ ((j : Tid) × IsDeferredIn s t at j × Has a TaskSlots at (slot_word w j))
           → Has b TaskSlots at 0 ⊎ ((j : Tid) × IsDeferredIn s t at j × Has b TaskSlots at (slot_word w j))
       slot at (inl none) = inl (same TaskSlots at (λ is. omega (arith, is)) ∙ none)
       slot at (inr (j, x, is)) = inr (j, x, same TaskSlots at (λ is. omega (arith, is)) ∙ is)
@@ -150,33 +170,44 @@ module _ (w : List ℕ) (m n : Memory) (s : State) (owes : ℕ → Owed) (i : �
       once = λ k t live deferred.
           let was = keeps.deferred.once k t live deferred in
           let words = slots_as_before w m n s slots (slot_word w k) in
-          let owed = owed_put_same s owes i p (start_owed k) (ap (λ x. start_owed k (record (owes i) { hand = x })) alike_own.hand) in
+          let owed =
+          owed_put_same s owes i p (start_owed k)
+          (ap (λ x. start_owed k (record (owes i) { hand = x })) alike_own.hand) in
           omega (arith, was, words, owed);
       hands = λ j k known is. keeps.deferred.hands j k known (sym (alike j).hand ∙ is);
     };
   }
     where
       objects_of : (j : ℕ) → OwesOnLive s (owes j) → OwesOnLive s (other j)
-      objects_of j before = each_put (λ k (x : Owed). OwesOnLive s (owes k) → OwesOnLive s x) owes i p objects j (λ _ given. given) before
+      objects_of j before =
+          each_put (λ k (x : Owed). OwesOnLive s (owes k) → OwesOnLive s x) owes i p objects j
+          (λ _ given. given) before
 
       made : (j : ℕ) → j < s.count → KeepsMade w s other j (n j)
       made j known =
           let o = keeps.made j known in
-          let thread : n j threads 0 ≡ m j threads 0 = stays j threads 0 (λ kind. absurd (omega (arith, kind))) (λ kind. absurd (omega (arith, kind))) in
+          let thread : n j threads 0 ≡ m j threads 0 =
+          stays j threads 0 (λ kind. absurd (omega (arith, kind))) (λ kind. absurd (omega (arith, kind))) in
           record {
             thread = subst (λ (r : Rec). KeepsThread w j r (s.threads j)) (sym thread) o.thread;
             assign = subst (λ (r : Rec). KeepsAssign w s other j r) (sym thread) (assign_owed_same w s owes other (λ k. (alike k).assigns) (λ k. (alike k).met) j (m j threads 0) o.assign);
             regions = λ k within.
                 let region = o.regions k within in
                 record {
-                  life = subst (λ (q : Option Rid). KeepsLife (n j regions k) RegionLife (s.regions j k) (has_region_slot k q)) (sym (alike j).region)
+                  life =
+                      subst
+                      (λ (q : Option Rid). KeepsLife (n j regions k) RegionLife (s.regions j k) (has_region_slot k q))
+                      (sym (alike j).region)
                       (life_same (m j regions k) (n j regions k) RegionLife (s.regions j k) (has_region_slot k (owes j).region) (region_lives j k) region.life);
                   live = λ x is. regions_are j k known within x is (region.live x is);
                 };
             tasks = λ k within.
                 let task = o.tasks k within in
                 record {
-                  life = subst (λ (ks : List Tid). KeepsLife (n j tasks k) TaskLife (s.tasks j k) (has_slot k ks)) (sym (alike j).tasks)
+                  life =
+                      subst
+                      (λ (ks : List Tid). KeepsLife (n j tasks k) TaskLife (s.tasks j k) (has_slot k ks))
+                      (sym (alike j).tasks)
                       (life_same (m j tasks k) (n j tasks k) TaskLife (s.tasks j k) (has_slot k (owes j).tasks) (task_lives j k) task.life);
                   live = λ t is. tasks_are j k known within t is (task.live t is);
                 };

@@ -27,20 +27,25 @@ pub record OwesAlike (p o : Owed) : Type 0 where
 pub owes_alike : (o : Owed) → OwesAlike o o
 owes_alike o = record { pending = refl; raised = refl; lowered = refl; left = refl; hand = refl }
 
-module _ (w : List ℕ) (s : State) (owes other : ℕ → Owed) (alike : (j : ℕ) → OwesAlike (other j) (owes j)) where
+module _ (w : List ℕ) (s : State) (owes other : ℕ → Owed)
+    (alike : (j : ℕ) → OwesAlike (other j) (owes j)) where
   same : (f : Owed → ℕ) → ((j : ℕ) → f (other j) ≡ f (owes j)) → sum_of_owed s other f ≡ sum_of_owed s owes f
   same f each = sum_same s.count (λ j. f (other j)) (λ j. f (owes j)) each
 
-  pub region_owed : (n : Rid) (r : Rec) (x : Region) → KeepsRegion w s owes n r x → KeepsRegion w s other n r x
+  pub region_owed : (n : Rid) (r : Rec) (x : Region) → KeepsRegion w s owes n r x
+      → KeepsRegion w s other n r x
   region_owed n r x o =
       let pending = same (pending_owed n) (λ j. ap (λ q. one (is_some_region n q)) (alike j).pending) in
-      region_counted w s s owes other n r x (omega (arith, pending)) (same (left_owed n) (λ j. ap (λ q. one (is_some_region n q)) (alike j).left)) o
+      region_counted w s s owes other n r x (omega (arith, pending))
+      (same (left_owed n) (λ j. ap (λ q. one (is_some_region n q)) (alike j).left)) o
 
   counts_owed : (k : Tid) (r : Rec) → KeepsCounts w s owes k r → KeepsCounts w s other k r
   counts_owed k r o = record {
     children =
         let was = o.children in
-        let owed = same (children_owed s k) (λ j. ap₂ (λ a b. one (is_some_task k a) + one (is_some_task k (option_and_then (generating_of s) b))) (alike j).raised (alike j).lowered) in
+        let owed =
+        same (children_owed s k)
+        (λ j. ap₂ (λ a b. one (is_some_task k a) + one (is_some_task k (option_and_then (generating_of s) b))) (alike j).raised (alike j).lowered) in
         omega (arith, was, owed);
   }
 
@@ -57,7 +62,8 @@ module _ (w : List ℕ) (s : State) (owes other : ℕ → Owed) (alike : (j : �
   }
 
 -- and what a thread owes on lives
-pub objects_owed : (s : State) (o p : Owed) → OwesAlike p o → All (λ m. WaitsFor s m.1 m.0) p.assigns → OwesOnLive s o → OwesOnLive s p
+pub objects_owed : (s : State) (o p : Owed) → OwesAlike p o → All (λ m. WaitsFor s m.1 m.0) p.assigns
+    → OwesOnLive s o → OwesOnLive s p
 objects_owed s o p alike assigns x = record {
   pending = λ n is. x.pending n (sym alike.pending ∙ is);
   left = λ n is. x.left n (sym alike.left ∙ is);
@@ -67,14 +73,16 @@ objects_owed s o p alike assigns x = record {
 }
 
 -- threads that owe the same assign words, and have met the same tasks
-pub assign_owed_same : (w : List ℕ) (s : State) (owes other : ℕ → Owed) → ((j : ℕ) → (other j).assigns ≡ (owes j).assigns) → ((j : ℕ) → (other j).met ≡ (owes j).met)
+pub assign_owed_same : (w : List ℕ) (s : State) (owes other : ℕ → Owed)
+    → ((j : ℕ) → (other j).assigns ≡ (owes j).assigns) → ((j : ℕ) → (other j).met ≡ (owes j).met)
     → (i : ℕ) (r : Rec) → KeepsAssign w s owes i r → KeepsAssign w s other i r
 assign_owed_same w s owes other assigns met i r o = record {
   waiting = λ k waits.
       let was = o.waiting k waits in
       let sum = was.once in
       let owed : sum_of_owed s other (assign_owed i k) ≡ sum_of_owed s owes (assign_owed i k)
-      = sum_same s.count (λ j. assign_owed i k (other j)) (λ j. assign_owed i k (owes j)) (λ j. ap (assigns_in i k) (assigns j)) in
+      = sum_same s.count (λ j. assign_owed i k (other j)) (λ j. assign_owed i k (owes j))
+      (λ j. ap (assigns_in i k) (assigns j)) in
       let met_same : one (other i).met ≡ one (owes i).met = ap one (met i) in
       record { word_is = was.word_is; once = omega (arith, sum, owed, met_same) };
   none = o.none;

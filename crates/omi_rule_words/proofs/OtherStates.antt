@@ -24,15 +24,19 @@ use Rattle.omi_rule_words.proofs.Alike.{IsSameRegion, SlotsAlike, deferred_in_af
 use Rattle.omi_rule_words.proofs.Sums.{sum_same}
 
 -- a slot word stands in as many slots as before, where the words of all slots are as before
-pub slots_as_before : (w : List ℕ) (m n : Memory) (s : State) → ((i k place : ℕ) → n i tasks k (number TaskSlots) place ≡ m i tasks k (number TaskSlots) place) → (code : ℕ)
+pub slots_as_before : (w : List ℕ) (m n : Memory) (s : State)
+    → ((i k place : ℕ) → n i tasks k (number TaskSlots) place ≡ m i tasks k (number TaskSlots) place)
+    → (code : ℕ)
     → slots_with w (λ c. n c tasks) s code ≡ slots_with w (λ c. m c tasks) s code
 slots_as_before w m n s same code =
-    sum_same s.count (λ c. sum_below (per_thread w tasks) (λ j. of_live (held n c j) (s.tasks c j).live)) (λ c. sum_below (per_thread w tasks) (λ j. of_live (held m c j) (s.tasks c j).live))
+    sum_same s.count (λ c. sum_below (per_thread w tasks) (λ j. of_live (held n c j) (s.tasks c j).live))
+    (λ c. sum_below (per_thread w tasks) (λ j. of_live (held m c j) (s.tasks c j).live))
     (λ c. sum_same (per_thread w tasks) (λ j. of_live (held n c j) (s.tasks c j).live) (λ j. of_live (held m c j) (s.tasks c j).live)
     (λ j. of_row c j (s.tasks c j).live))
   where
     held : Memory → ℕ → ℕ → Task → ℕ
-    held x c j t = if t.implicit then sum_below (width w (number TaskSlots)) (λ place. one (x c tasks j (number TaskSlots) place == code)) else 0
+    held x c j t =
+        if t.implicit then sum_below (width w (number TaskSlots)) (λ place. one (x c tasks j (number TaskSlots) place == code)) else 0
 
     of_row : (c j : ℕ) (o : Option Task) → of_live (held n c j) o ≡ of_live (held m c j) o
     of_row c j None = refl
@@ -41,7 +45,9 @@ slots_as_before w m n s same code =
         (sum_same (width w (number TaskSlots)) (λ place. one (n c tasks j (number TaskSlots) place == code)) (λ place. one (m c tasks j (number TaskSlots) place == code))
         (λ place. ap (λ x. one (x == code)) (same c j place)))
 
-module _ (w : List ℕ) (s u : State) (owes : ℕ → Owed) (count : u.count ≡ s.count) (regions_alike : SlotsAlike IsSameRegion s.regions u.regions) (tasks_alike : SlotsAlike IsSameTask s.tasks u.tasks) where
+module _ (w : List ℕ) (s u : State) (owes : ℕ → Owed) (count : u.count ≡ s.count)
+    (regions_alike : SlotsAlike IsSameRegion s.regions u.regions)
+    (tasks_alike : SlotsAlike IsSameTask s.tasks u.tasks) where
   regions_back : SlotsAlike IsSameRegion u.regions s.regions
   regions_back = slots_back IsSameRegion region_back s.regions u.regions regions_alike
 
@@ -55,41 +61,55 @@ module _ (w : List ℕ) (s u : State) (owes : ℕ → Owed) (count : u.count ≡
   waits_now = waits_after s u regions_alike tasks_alike
 
   -- what is counted
-  tasks_counted : (f : ℕ → ℕ → Task → ℕ) → ((c k : ℕ) (t v : Task) → IsSameTask t v → f c k v ≡ f c k t) → sum_of_slots w u f ≡ sum_of_slots w s f
+  tasks_counted : (f : ℕ → ℕ → Task → ℕ) → ((c k : ℕ) (t v : Task) → IsSameTask t v → f c k v ≡ f c k t)
+      → sum_of_slots w u f ≡ sum_of_slots w s f
   tasks_counted f same =
-      ap (λ n. sum_below n (λ c. sum_below (per_thread w tasks) (λ k. of_live (f c k) (u.tasks c k).live))) count
-      ∙ sum_same s.count (λ c. sum_below (per_thread w tasks) (λ k. of_live (f c k) (u.tasks c k).live)) (λ c. sum_below (per_thread w tasks) (λ k. of_live (f c k) (s.tasks c k).live))
+      ap
+      (λ n. sum_below n (λ c. sum_below (per_thread w tasks) (λ k. of_live (f c k) (u.tasks c k).live))) count
+      ∙ sum_same s.count (λ c. sum_below (per_thread w tasks) (λ k. of_live (f c k) (u.tasks c k).live))
+      (λ c. sum_below (per_thread w tasks) (λ k. of_live (f c k) (s.tasks c k).live))
       (λ c. sum_same (per_thread w tasks) (λ k. of_live (f c k) (u.tasks c k).live) (λ k. of_live (f c k) (s.tasks c k).live)
       (λ k. live_counted (f c k) (same c k) (s.tasks c k).live (u.tasks c k).live (tasks_alike c k).live))
 
   owed_counted : (f g : Owed → ℕ) → ((o : Owed) → f o ≡ g o) → sum_of_owed u owes f ≡ sum_of_owed s owes g
-  owed_counted f g same = ap (λ n. sum_below n (λ i. f (owes i))) count ∙ sum_same s.count (λ i. f (owes i)) (λ i. g (owes i)) (λ i. same (owes i))
+  owed_counted f g same =
+      ap (λ n. sum_below n (λ i. f (owes i))) count
+      ∙ sum_same s.count (λ i. f (owes i)) (λ i. g (owes i)) (λ i. same (owes i))
 
   region_kept : (n : Rid) (r : Rec) (x : Region) → KeepsRegion w s owes n r x → KeepsRegion w u owes n r x
   region_kept n r x o =
       let same : unfinished_in w u n ≡ unfinished_in w s n
-      = tasks_counted (λ c k t. one (is_unfinished t && is_region n t.region)) (λ c k t v alike. parts_same (λ i p q g. one (is_unfinished (record v { implicit = i; progress = p }) && is_region n q)) t v alike) in
-      let owed : sum_of_owed u owes (pending_owed n) ≡ sum_of_owed s owes (pending_owed n) = owed_counted (pending_owed n) (pending_owed n) (λ o. refl) in
-      region_counted w s u owes owes n r x (omega (arith, same, owed)) (owed_counted (left_owed n) (left_owed n) (λ o. refl)) o
+      = tasks_counted (λ c k t. one (is_unfinished t && is_region n t.region))
+      (λ c k t v alike. parts_same (λ i p q g. one (is_unfinished (record v { implicit = i; progress = p }) && is_region n q)) t v alike) in
+      let owed : sum_of_owed u owes (pending_owed n) ≡ sum_of_owed s owes (pending_owed n) =
+      owed_counted (pending_owed n) (pending_owed n) (λ o. refl) in
+      region_counted w s u owes owes n r x (omega (arith, same, owed))
+      (owed_counted (left_owed n) (left_owed n) (λ o. refl)) o
 
   counts_kept : (k : Tid) (r : Rec) → KeepsCounts w s owes k r → KeepsCounts w u owes k r
   counts_kept k r o = record {
     children =
         let was = o.children in
         let same : unfinished_children w u k ≡ unfinished_children w s k
-        = tasks_counted (λ c j x. one (is_unfinished x && is_some_task k x.generating)) (λ c j x v alike. parts_same (λ i p q g. one (is_unfinished (record v { implicit = i; progress = p }) && is_some_task k g)) x v alike) in
-        let owed : sum_of_owed u owes (children_owed u k) ≡ sum_of_owed s owes (children_owed s k) = owed_counted (children_owed u k) (children_owed s k) (λ o. of_lowered o.raised o.lowered) in
+        = tasks_counted (λ c j x. one (is_unfinished x && is_some_task k x.generating))
+        (λ c j x v alike. parts_same (λ i p q g. one (is_unfinished (record v { implicit = i; progress = p }) && is_some_task k g)) x v alike) in
+        let owed : sum_of_owed u owes (children_owed u k) ≡ sum_of_owed s owes (children_owed s k) =
+        owed_counted (children_owed u k) (children_owed s k) (λ o. of_lowered o.raised o.lowered) in
         omega (arith, was, same, owed);
   }
     where
-      of_lowered : (raised lowered : Option Tid) → one (is_some_task k raised) + one (is_some_task k (option_and_then (generating_of u) lowered)) ≡ one (is_some_task k raised) + one (is_some_task k (option_and_then (generating_of s) lowered))
+      of_lowered : (raised lowered : Option Tid)
+          → one (is_some_task k raised) + one (is_some_task k (option_and_then (generating_of u) lowered)) ≡ one (is_some_task k raised) + one (is_some_task k (option_and_then (generating_of s) lowered))
       of_lowered raised None = refl
-      of_lowered raised (Some q) = ap (λ g. one (is_some_task k raised) + one (is_some_task k g)) (generating_same s u regions_alike tasks_alike q)
+      of_lowered raised (Some q) =
+          ap (λ g. one (is_some_task k raised) + one (is_some_task k g))
+          (generating_same s u regions_alike tasks_alike q)
 
   slots_kept : (r : Rec) (t : Task) → KeepsSlots w s r t → KeepsSlots w u r t
   slots_kept r t o = λ place within. go place (o place within)
     where
-      go : (place : ℕ) → Has r TaskSlots place 0 ⊎ ((k : Tid) × IsDeferredIn s t place k × Has r TaskSlots place (slot_word w k))
+      go : (place : ℕ)
+          → Has r TaskSlots place 0 ⊎ ((k : Tid) × IsDeferredIn s t place k × Has r TaskSlots place (slot_word w k))
           → Has r TaskSlots place 0 ⊎ ((k : Tid) × IsDeferredIn u t place k × Has r TaskSlots place (slot_word w k))
       go place (inl none) = inl none
       go place (inr (k, x, is)) = inr (k, deferred_in_after s u regions_alike tasks_alike t place k x, is)
@@ -102,12 +122,14 @@ module _ (w : List ℕ) (s u : State) (owes : ℕ → Owed) (count : u.count ≡
     slots = λ implicit. slots_kept r t (o.slots implicit);
   }
 
-  assign_kept : (i : ℕ) (r q : Rec) → q (number ThreadAssign) 0 ≡ r (number ThreadAssign) 0 → KeepsAssign w s owes i r → KeepsAssign w u owes i q
+  assign_kept : (i : ℕ) (r q : Rec) → q (number ThreadAssign) 0 ≡ r (number ThreadAssign) 0
+      → KeepsAssign w s owes i r → KeepsAssign w u owes i q
   assign_kept i r q same o = record {
     waiting = λ k waits.
         let was = o.waiting k (waits_before i k waits) in
         let once = was.once in
-        let owed : sum_of_owed u owes (assign_owed i k) ≡ sum_of_owed s owes (assign_owed i k) = owed_counted (assign_owed i k) (assign_owed i k) (λ o. refl) in
+        let owed : sum_of_owed u owes (assign_owed i k) ≡ sum_of_owed s owes (assign_owed i k) =
+        owed_counted (assign_owed i k) (assign_owed i k) (λ o. refl) in
         subst (λ word. IsAssignedOnce w u owes i k word) (sym same) (record { word_is = was.word_is; once = omega (arith, once, owed) });
     none = λ nobody. same ∙ o.none (λ k waits. nobody k (waits_now i k waits));
   }
@@ -124,9 +146,11 @@ module _ (w : List ℕ) (s u : State) (owes : ℕ → Owed) (count : u.count ≡
           let (t, live, same) = task_before s u regions_alike tasks_alike k v is in
           let was = keeps.deferred.once k t live (sym same.progress ∙ deferred) in
           let now : slots_with w (λ c. n c tasks) u (slot_word w k) ≡ slots_with w (λ c. n c tasks) s (slot_word w k)
-          = tasks_counted (λ c j x. if x.implicit then in_row (slot_word w k) c j else 0) (λ c j x y alike. parts_same (λ i p q g. if i then in_row (slot_word w k) c j else 0) x y alike) in
+          = tasks_counted (λ c j x. if x.implicit then in_row (slot_word w k) c j else 0)
+          (λ c j x y alike. parts_same (λ i p q g. if i then in_row (slot_word w k) c j else 0) x y alike) in
           let words = slots_as_before w m n s same_slots (slot_word w k) in
-          let owed : sum_of_owed u owes (start_owed k) ≡ sum_of_owed s owes (start_owed k) = owed_counted (start_owed k) (start_owed k) (λ o. refl) in
+          let owed : sum_of_owed u owes (start_owed k) ≡ sum_of_owed s owes (start_owed k) =
+          owed_counted (start_owed k) (start_owed k) (λ o. refl) in
           omega (arith, was, now, words, owed);
       hands = λ i k known is.
           let (t, live, deferred) = keeps.deferred.hands i k (subst (λ c. i < c) count known) is in
@@ -136,12 +160,17 @@ module _ (w : List ℕ) (s u : State) (owes : ℕ → Owed) (count : u.count ≡
       where
         -- the slots of a row that hold a word
         in_row : ℕ → ℕ → ℕ → ℕ
-        in_row code c j = sum_below (width w (number TaskSlots)) (λ place. one (n c tasks j (number TaskSlots) place == code))
+        in_row code c j =
+            sum_below (width w (number TaskSlots))
+            (λ place. one (n c tasks j (number TaskSlots) place == code))
 
     -- and other words in the records of the objects that are live, which are their codes
-    pub other_states : KeepsRuntime w (n 0 runtime 0) u → ((i : ℕ) → i < s.count → KeepsThread w i (n i threads 0) (u.threads i))
-        → ((i k : ℕ) → i < s.count → k < per_thread w regions → (x : Region) → (u.regions i k).live ≡ Some x → KeepsRegion w s owes (region_in i k (s.regions i k)) (n i regions k) x)
-        → ((i k : ℕ) → i < s.count → k < per_thread w tasks → (t : Task) → (u.tasks i k).live ≡ Some t → KeepsTask w s owes (task_in i k (s.tasks i k)) (n i tasks k) t)
+    pub other_states : KeepsRuntime w (n 0 runtime 0) u
+        → ((i : ℕ) → i < s.count → KeepsThread w i (n i threads 0) (u.threads i))
+        →
+        ((i k : ℕ) → i < s.count → k < per_thread w regions → (x : Region) → (u.regions i k).live ≡ Some x → KeepsRegion w s owes (region_in i k (s.regions i k)) (n i regions k) x)
+        →
+        ((i k : ℕ) → i < s.count → k < per_thread w tasks → (t : Task) → (u.tasks i k).live ≡ Some t → KeepsTask w s owes (task_in i k (s.tasks i k)) (n i tasks k) t)
         → KeepsWords w n u owes
     other_states runtime_is threads_are regions_are tasks_are = record { runtime_record = runtime_is; made = λ i known. made i (subst (λ c. i < c) count known); deferred = deferred_kept }
       where
@@ -168,7 +197,8 @@ module _ (w : List ℕ) (s u : State) (owes : ℕ → Owed) (count : u.count ≡
             }
 
 -- a task that is another, and whose record has other words than its counts and slots
-pub task_rewritten : (w : List ℕ) (s : State) (owes : ℕ → Owed) (k : Tid) (r q : Rec) (t u : Task) → IsSameTask t u
+pub task_rewritten : (w : List ℕ) (s : State) (owes : ℕ → Owed) (k : Tid) (r q : Rec) (t u : Task)
+    → IsSameTask t u
     → q (number TaskChildren) 0 ≡ r (number TaskChildren) 0 → ((place : ℕ) → q (number TaskSlots) place ≡ r (number TaskSlots) place)
     → (KeepsEnvironment w r t → KeepsEnvironment w q u) → (KeepsPlace w r t → KeepsPlace w q u) → KeepsTask w s owes k r t → KeepsTask w s owes k q u
 task_rewritten w s owes k r q t u same children slots environment place o = record {
@@ -180,7 +210,10 @@ task_rewritten w s owes k r q t u same children slots environment place o = reco
   slots = λ implicit at within. slot at (o.slots (sym same.implicit ∙ implicit) at within);
 }
   where
-    slot : (at : ℕ) → Has r TaskSlots at 0 ⊎ ((j : Tid) × IsDeferredIn s t at j × Has r TaskSlots at (slot_word w j))
+    slot : (at : ℕ)
+        → Has r TaskSlots at 0 ⊎ ((j : Tid) × IsDeferredIn s t at j × Has r TaskSlots at (slot_word w j))
         → Has q TaskSlots at 0 ⊎ ((j : Tid) × IsDeferredIn s u at j × Has q TaskSlots at (slot_word w j))
     slot at (inl none) = inl (slots at ∙ none)
-    slot at (inr (j, x, is)) = inr (j, record { task = x.task; live = x.live; progress = x.progress; region = x.region ∙ sym same.region; place_is = x.place_is; maker = x.maker ∙ sym same.thread }, slots at ∙ is)
+    slot at (inr (j, x, is)) =
+        inr
+        (j, record { task = x.task; live = x.live; progress = x.progress; region = x.region ∙ sym same.region; place_is = x.place_is; maker = x.maker ∙ sym same.thread }, slots at ∙ is)

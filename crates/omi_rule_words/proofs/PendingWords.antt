@@ -22,18 +22,22 @@ use Rattle.omi_rule_words.specs.CountKinds.{PendingAddsKeep, PendingSubtractsKee
 use Rattle.omi_rule_words.proofs.OtherCounts.{MakesAlike, counts_same, is_other_id, is_own_id, name_of_slot, other_counts, owed_put, owed_put_same, region_counted, task_counted}
 use Rattle.omi_rule_words.proofs.Sums.{part_below}
 
-module _ (w : List ℕ) (m : Memory) (s : State) (owes : ℕ → Owed) (i : ℕ) (p : Owed) (n : Rid) (word : ℕ) (keeps : KeepsWords w m s owes) (known : i < s.count) (alike : MakesAlike p (owes i)) where
+module _ (w : List ℕ) (m : Memory) (s : State) (owes : ℕ → Owed) (i : ℕ) (p : Owed) (n : Rid) (word : ℕ)
+    (keeps : KeepsWords w m s owes) (known : i < s.count) (alike : MakesAlike p (owes i)) where
   abbrev after : Memory
   after = with_region_word m n RegionPending word
 
   stays : (c kind j : ℕ) → (kind ≡ regions → ⊥) → after c kind j ≡ m c kind j
-  stays c kind j ne = record_stays m n.0.creator regions n.0.slot (number RegionPending) 0 word c kind j (λ _ is _. ne is)
+  stays c kind j ne =
+      record_stays m n.0.creator regions n.0.slot (number RegionPending) 0 word c kind j (λ _ is _. ne is)
 
   -- the word is right where as much is added to it as is owed more, and no less is owed on other regions
   pub pending_stored : (region : Region) → region_of s n ≡ Some region
       → ((k : Tid) → children_owed s k p ≡ children_owed s k (owes i))
-      → ((q : Rid) → (q.0.creator ≡ n.0.creator → q.0.slot ≡ n.0.slot → ⊥) → pending_owed q p ≡ pending_owed q (owes i))
-      → (pending_owed n (owes i) ≤ word_of_region m n RegionPending → word + pending_owed n (owes i) ≡ word_of_region m n RegionPending + pending_owed n p)
+      →
+      ((q : Rid) → (q.0.creator ≡ n.0.creator → q.0.slot ≡ n.0.slot → ⊥) → pending_owed q p ≡ pending_owed q (owes i))
+      →
+      (pending_owed n (owes i) ≤ word_of_region m n RegionPending → word + pending_owed n (owes i) ≡ word_of_region m n RegionPending + pending_owed n p)
       → (OwesOnLive s (owes i) → OwesOnLive s p)
       → KeepsWords w after s (replace_at owes i p)
   pending_stored region live children beside here objects =
@@ -45,38 +49,56 @@ module _ (w : List ℕ) (m : Memory) (s : State) (owes : ℕ → Owed) (i : ℕ)
       (λ c j within _ x there o. in_record c j x o (cases_eq c n.0.creator) (cases_eq j n.0.slot))
       (λ c j within _ t there o.
       let same = stays c tasks j (λ kind. absurd (omega (arith, kind))) in
-      task_counted w m after s owes i p keeps alike (task_in c j (s.tasks c j)) (m c tasks j) (after c tasks j) t (λ g at _. ap (λ (r : Rec). r (number g) at) same)
+      task_counted w m after s owes i p keeps alike (task_in c j (s.tasks c j)) (m c tasks j)
+      (after c tasks j) t (λ g at _. ap (λ (r : Rec). r (number g) at) same)
       (counts_same w m after s owes i p keeps alike (task_in c j (s.tasks c j)) (m c tasks j) (after c tasks j) (ap (λ (r : Rec). r (number TaskChildren) 0) same)
       (children (task_in c j (s.tasks c j)))) o)
     where
       name_is : region_in n.0.creator n.0.slot (s.regions n.0.creator n.0.slot) ≡ n
       name_is = ap (λ (q : Id). record { 0 = q }) (name_of_slot s.regions n.0 region live)
 
-      own : (x : Region) → KeepsRegion w s owes n (m n.0.creator regions n.0.slot) x → KeepsRegion w s (replace_at owes i p) n (after n.0.creator regions n.0.slot) x
-      own x o = region_counted w m after s owes i p keeps alike n (m n.0.creator regions n.0.slot) (after n.0.creator regions n.0.slot) x
+      own : (x : Region) → KeepsRegion w s owes n (m n.0.creator regions n.0.slot) x
+          → KeepsRegion w s (replace_at owes i p) n (after n.0.creator regions n.0.slot) x
+      own x o =
+          region_counted w m after s owes i p keeps alike n (m n.0.creator regions n.0.slot)
+          (after n.0.creator regions n.0.slot) x
           (λ g at ne. word_stays m n.0.creator regions n.0.slot (number RegionPending) 0 word n.0.creator regions n.0.slot (number g) at (λ _ _ _ is _. ne is))
           (λ was.
-          let stored : after n.0.creator regions n.0.slot (number RegionPending) 0 ≡ word = word_read m n.0.creator regions n.0.slot (number RegionPending) 0 word in
+          let stored : after n.0.creator regions n.0.slot (number RegionPending) 0 ≡ word =
+          word_read m n.0.creator regions n.0.slot (number RegionPending) 0 word in
           let change = owed_put s owes i p known (pending_owed n) in
-          let least : pending_owed n (owes i) ≤ sum_of_owed s owes (pending_owed n) = part_below s.count i (λ j. pending_owed n (owes j)) known in
+          let least : pending_owed n (owes i) ≤ sum_of_owed s owes (pending_owed n) =
+          part_below s.count i (λ j. pending_owed n (owes j)) known in
           let now = here (omega (arith, was, least)) in
           omega (arith, was, stored, change, now))
           o
 
-      apart : (c j : ℕ) (x : Region) → KeepsRegion w s owes (region_in c j (s.regions c j)) (m c regions j) x → (c ≡ n.0.creator → j ≡ n.0.slot → ⊥) → KeepsRegion w s (replace_at owes i p) (region_in c j (s.regions c j)) (after c regions j) x
+      apart : (c j : ℕ) (x : Region) → KeepsRegion w s owes (region_in c j (s.regions c j)) (m c regions j) x
+          → (c ≡ n.0.creator → j ≡ n.0.slot → ⊥)
+          → KeepsRegion w s (replace_at owes i p) (region_in c j (s.regions c j)) (after c regions j) x
       apart c j x o ne =
-          let same : after c regions j ≡ m c regions j = record_stays m n.0.creator regions n.0.slot (number RegionPending) 0 word c regions j (λ creator _ place. ne creator place) in
-          region_counted w m after s owes i p keeps alike (region_in c j (s.regions c j)) (m c regions j) (after c regions j) x (λ g at _. ap (λ (r : Rec). r (number g) at) same)
+          let same : after c regions j ≡ m c regions j =
+          record_stays m n.0.creator regions n.0.slot (number RegionPending) 0 word c regions j
+          (λ creator _ place. ne creator place) in
+          region_counted w m after s owes i p keeps alike (region_in c j (s.regions c j)) (m c regions j)
+          (after c regions j) x (λ g at _. ap (λ (r : Rec). r (number g) at) same)
           (λ was.
-          let word_same : after c regions j (number RegionPending) 0 ≡ m c regions j (number RegionPending) 0 = ap (λ (r : Rec). r (number RegionPending) 0) same in
-          let owed = owed_put_same s owes i p (pending_owed (region_in c j (s.regions c j))) (beside (region_in c j (s.regions c j)) ne) in
+          let word_same : after c regions j (number RegionPending) 0 ≡ m c regions j (number RegionPending) 0 =
+          ap (λ (r : Rec). r (number RegionPending) 0) same in
+          let owed =
+          owed_put_same s owes i p (pending_owed (region_in c j (s.regions c j)))
+          (beside (region_in c j (s.regions c j)) ne) in
           omega (arith, was, word_same, owed))
           o
 
-      in_record : (c j : ℕ) (x : Region) → KeepsRegion w s owes (region_in c j (s.regions c j)) (m c regions j) x → (c ≡ n.0.creator) ⊎ (c ≢ n.0.creator) → (j ≡ n.0.slot) ⊎ (j ≢ n.0.slot)
+      in_record : (c j : ℕ) (x : Region)
+          → KeepsRegion w s owes (region_in c j (s.regions c j)) (m c regions j) x
+          → (c ≡ n.0.creator) ⊎ (c ≢ n.0.creator) → (j ≡ n.0.slot) ⊎ (j ≢ n.0.slot)
           → KeepsRegion w s (replace_at owes i p) (region_in c j (s.regions c j)) (after c regions j) x
       in_record c j x o (inl creator) (inl place) =
-          subst (λ d. KeepsRegion w s (replace_at owes i p) (region_in d j (s.regions d j)) (after d regions j) x) (sym creator)
+          subst
+          (λ d. KeepsRegion w s (replace_at owes i p) (region_in d j (s.regions d j)) (after d regions j) x)
+          (sym creator)
           (subst (λ q. KeepsRegion w s (replace_at owes i p) (region_in n.0.creator q (s.regions n.0.creator q)) (after n.0.creator regions q) x) (sym place)
           (subst (λ (q : Rid). KeepsRegion w s (replace_at owes i p) q (after n.0.creator regions n.0.slot) x) (sym name_is)
           (own x (subst (λ (q : Rid). KeepsRegion w s owes q (m n.0.creator regions n.0.slot) x) name_is
@@ -91,13 +113,18 @@ live_of None is = absurd (cc)
 live_of (Some x) is = (x, refl)
 
 pub pending_adds_keep : PendingAddsKeep
-pending_adds_keep = λ w m s owes i n keeps known none live small. kept w m s owes i n keeps known none live small
+pending_adds_keep =
+    λ w m s owes i n keeps known none live small. kept w m s owes i n keeps known none live small
   where
-    kept : (w : List ℕ) (m : Memory) (s : State) (owes : ℕ → Owed) (i : ℕ) (n : Rid) → KeepsWords w m s owes → i < s.count → (owes i).pending ≡ None → IsSome (region_of s n) → word_of_region m n RegionPending < MOST_EVENTS
-        → KeepsWords w (with_region_word m n RegionPending (one_more (word_of_region m n RegionPending))) s (replace_at owes i (record (owes i) { pending = Some n }))
+    kept : (w : List ℕ) (m : Memory) (s : State) (owes : ℕ → Owed) (i : ℕ) (n : Rid) → KeepsWords w m s owes
+        → i < s.count → (owes i).pending ≡ None → IsSome (region_of s n)
+        → word_of_region m n RegionPending < MOST_EVENTS
+        → KeepsWords w (with_region_word m n RegionPending (one_more (word_of_region m n RegionPending))) s
+        (replace_at owes i (record (owes i) { pending = Some n }))
     kept w m s owes i n keeps known none live small =
         let (region, is) = live_of (region_of s n) live in
-        pending_stored w m s owes i p n (one_more (word_of_region m n RegionPending)) keeps known (record { region = refl; tasks = refl; left = refl; assigns = refl; met = refl; hand = refl })
+        pending_stored w m s owes i p n (one_more (word_of_region m n RegionPending)) keeps known
+        (record { region = refl; tasks = refl; left = refl; assigns = refl; met = refl; hand = refl })
         region is (λ k. refl)
         (λ q apart.
         let unowed : pending_owed q (owes i) ≡ 0 = ap (λ (o : Option Rid). one (is_some_region q o)) none in
@@ -120,15 +147,19 @@ pending_adds_keep = λ w m s owes i n keeps known none live small. kept w m s ow
 pub pending_subtracts_keep : PendingSubtractsKeep
 pending_subtracts_keep = λ w m s owes i n keeps known owed small. kept w m s owes i n keeps known owed small
   where
-    kept : (w : List ℕ) (m : Memory) (s : State) (owes : ℕ → Owed) (i : ℕ) (n : Rid) → KeepsWords w m s owes → i < s.count → (owes i).pending ≡ Some n → word_of_region m n RegionPending < 2 ^ 64
-        → KeepsWords w (with_region_word m n RegionPending (one_less (word_of_region m n RegionPending))) s (replace_at owes i (record (owes i) { pending = None }))
+    kept : (w : List ℕ) (m : Memory) (s : State) (owes : ℕ → Owed) (i : ℕ) (n : Rid) → KeepsWords w m s owes
+        → i < s.count → (owes i).pending ≡ Some n → word_of_region m n RegionPending < 2 ^ 64
+        → KeepsWords w (with_region_word m n RegionPending (one_less (word_of_region m n RegionPending))) s
+        (replace_at owes i (record (owes i) { pending = None }))
     kept w m s owes i n keeps known owed small =
         let (region, is) = live_of (region_of s n) ((keeps.made i known).objects.pending n owed) in
-        pending_stored w m s owes i p n (one_less (word_of_region m n RegionPending)) keeps known (record { region = refl; tasks = refl; left = refl; assigns = refl; met = refl; hand = refl })
+        pending_stored w m s owes i p n (one_less (word_of_region m n RegionPending)) keeps known
+        (record { region = refl; tasks = refl; left = refl; assigns = refl; met = refl; hand = refl })
         region is (λ k. refl)
         (λ q apart. sym (ap (λ (o : Option Rid). one (is_some_region q o)) owed ∙ ap one (is_other_id q.0 n.0 apart)))
         (λ least.
-        let before : pending_owed n (owes i) ≡ 1 = ap (λ (o : Option Rid). one (is_some_region n o)) owed ∙ ap one (is_own_id n.0) in
+        let before : pending_owed n (owes i) ≡ 1 =
+        ap (λ (o : Option Rid). one (is_some_region n o)) owed ∙ ap one (is_own_id n.0) in
         let now : pending_owed n p ≡ 0 = refl in
         omega (arith, least, before, now, small))
         (λ x. record {

@@ -19,7 +19,9 @@ use Rattle.omi_rule_words.specs.Words.{IsInTheMaking, KeepsMade, KeepsMaking, Ke
 use Rattle.omi_rule_words.specs.Kinds.{RegionTakesKeep}
 use Rattle.omi_rule_words.proofs.OtherOwes.{OwesAlike, owes_alike, assign_owed_same, deferred_owed, objects_owed, region_owed, task_owed}
 
-module _ (w : List ℕ) (m : Memory) (s : State) (owes : ℕ → Owed) (i : ℕ) (n : Rid) (keeps : KeepsWords w m s owes) (none : (owes i).region ≡ None) (making : IsInTheMaking i (s.regions i) n.0) where
+module _ (w : List ℕ) (m : Memory) (s : State) (owes : ℕ → Owed) (i : ℕ) (n : Rid)
+    (keeps : KeepsWords w m s owes) (none : (owes i).region ≡ None)
+    (making : IsInTheMaking i (s.regions i) n.0) where
   abbrev slot : ℕ
   slot = n.0.slot
 
@@ -33,10 +35,15 @@ module _ (w : List ℕ) (m : Memory) (s : State) (owes : ℕ → Owed) (i : ℕ)
   after = with_word m i regions slot (number RegionLife) 0 (2 * n.0.generation + 1)
 
   stays : (c kind k : ℕ) → (kind ≡ regions → ⊥) → after c kind k ≡ m c kind k
-  stays c kind k ne = record_stays m i regions slot (number RegionLife) 0 (2 * n.0.generation + 1) c kind k (λ _ same _. ne same)
+  stays c kind k ne =
+      record_stays m i regions slot (number RegionLife) 0 (2 * n.0.generation + 1) c kind k
+      (λ _ same _. ne same)
 
   alike : (j : ℕ) → OwesAlike (other j) (owes j)
-  alike j = each_put (λ k (x : Owed). OwesAlike x (owes k)) owes i p (record { pending = refl; raised = refl; lowered = refl; left = refl; hand = refl }) j (λ _. owes_alike (owes j))
+  alike j =
+      each_put (λ k (x : Owed). OwesAlike x (owes k)) owes i p
+      (record { pending = refl; raised = refl; lowered = refl; left = refl; hand = refl }) j
+      (λ _. owes_alike (owes j))
 
   assigns : (j : ℕ) → (other j).assigns ≡ (owes j).assigns
   assigns j = each_put (λ k (x : Owed). x.assigns ≡ (owes k).assigns) owes i p refl j (λ _. refl)
@@ -48,11 +55,13 @@ module _ (w : List ℕ) (m : Memory) (s : State) (owes : ℕ → Owed) (i : ℕ)
   made_tasks j = each_put (λ k (x : Owed). x.tasks ≡ (owes k).tasks) owes i p refl j (λ _. refl)
 
   -- the life word of a slot that is not the one taken
-  life : (j k : ℕ) → (j == i && k == slot) ≡ false → KeepsLife (m j regions k) RegionLife (s.regions j k) (has_region_slot k (owes j).region)
+  life : (j k : ℕ) → (j == i && k == slot) ≡ false
+      → KeepsLife (m j regions k) RegionLife (s.regions j k) (has_region_slot k (owes j).region)
       → KeepsLife (m j regions k) RegionLife (s.regions j k) (has_region_slot k (other j).region)
   life j k ne o = go (j == i) refl
     where
-      go : (b : Bool) → j == i ≡ b → KeepsLife (m j regions k) RegionLife (s.regions j k) (has_region_slot k (if b then p else owes j).region)
+      go : (b : Bool) → j == i ≡ b
+          → KeepsLife (m j regions k) RegionLife (s.regions j k) (has_region_slot k (if b then p else owes j).region)
       go true e =
           let creator : j ≡ i = grind (arith, nat_tests) in
           let before : (owes j).region ≡ None = subst (λ c. (owes c).region ≡ None) (sym creator) none in
@@ -61,7 +70,8 @@ module _ (w : List ℕ) (m : Memory) (s : State) (owes : ℕ → Owed) (i : ℕ)
           subst (λ (b : Bool). KeepsLife (m j regions k) RegionLife (s.regions j k) b) (unowed ∙ sym apart) o
       go false e = o
 
-  region : (j k : ℕ) → KeepsRegionSlot w s owes j k (m j regions k) → (b : Bool) → (j == i && k == slot) ≡ b → KeepsRegionSlot w s other j k (after j regions k)
+  region : (j k : ℕ) → KeepsRegionSlot w s owes j k (m j regions k) → (b : Bool) → (j == i && k == slot) ≡ b
+      → KeepsRegionSlot w s other j k (after j regions k)
   region j k o true e =
       let creator : j ≡ i = grind (arith, nat_tests) in
       let place : k ≡ slot = grind (arith, nat_tests) in
@@ -77,11 +87,15 @@ module _ (w : List ℕ) (m : Memory) (s : State) (owes : ℕ → Owed) (i : ℕ)
           live = λ x is. absurd (cc);
           taken = λ _ _.
               let next = making.next in
-              let is : after i regions slot (number RegionLife) 0 ≡ 2 * n.0.generation + 1 = word_read m i regions slot (number RegionLife) 0 (2 * n.0.generation + 1) in
+              let is : after i regions slot (number RegionLife) 0 ≡ 2 * n.0.generation + 1 =
+              word_read m i regions slot (number RegionLife) 0 (2 * n.0.generation + 1) in
               omega (arith, next, is);
           free = λ _ unowed.
-              let owed : (other i).region ≡ Some n = each_put (λ k (x : Owed). k ≡ i → x.region ≡ Some n) owes i p (λ _. refl) i (λ ne. absurd (ne refl)) refl in
-              let there : has_region_slot slot (other i).region ≡ slot == slot = ap (has_region_slot slot) owed in
+              let owed : (other i).region ≡ Some n =
+              each_put (λ k (x : Owed). k ≡ i → x.region ≡ Some n) owes i p (λ _. refl) i
+              (λ ne. absurd (ne refl)) refl in
+              let there : has_region_slot slot (other i).region ≡ slot == slot =
+              ap (has_region_slot slot) owed in
               let same : slot == slot ≡ true = grind (arith, nat_tests) in
               absurd (cc);
         };
@@ -100,7 +114,8 @@ module _ (w : List ℕ) (m : Memory) (s : State) (owes : ℕ → Owed) (i : ℕ)
   }
 
   making_kept : (j : ℕ) → KeepsMaking s j (owes j) → KeepsMaking s j (other j)
-  making_kept j = each_put (λ k (x : Owed). KeepsMaking s k (owes k) → KeepsMaking s k x) owes i p own_making j (λ _ o. o)
+  making_kept j =
+      each_put (λ k (x : Owed). KeepsMaking s k (owes k) → KeepsMaking s k x) owes i p own_making j (λ _ o. o)
 
   tasks_same : ◌≡◌ {A = ℕ → ℕ → Rec} (λ c. after c tasks) (λ c. m c tasks)
   tasks_same = fun_ext (λ c. fun_ext (λ k. stays c tasks k (λ kind. absurd (omega (arith, kind)))))
@@ -108,7 +123,8 @@ module _ (w : List ℕ) (m : Memory) (s : State) (owes : ℕ → Owed) (i : ℕ)
   made : (j : ℕ) → j < s.count → KeepsMade w s other j (after j)
   made j known =
       let o = keeps.made j known in
-      let thread : after j threads 0 ≡ m j threads 0 = stays j threads 0 (λ kind. absurd (omega (arith, kind))) in
+      let thread : after j threads 0 ≡ m j threads 0 =
+      stays j threads 0 (λ kind. absurd (omega (arith, kind))) in
       record {
         thread = subst (λ (r : Rec). KeepsThread w j r (s.threads j)) (sym thread) o.thread;
         assign = subst (λ (r : Rec). KeepsAssign w s other j r) (sym thread) (assign_owed_same w s owes other assigns met j (m j threads 0) o.assign);

@@ -63,55 +63,78 @@ module _ {A : Type 0} (R : A → A → Type 0) where
   none_after None None r is = refl
 
   -- what is found of a generation
-  found_before : (g : ℕ) (x y : Slot A) → SlotBecomes R x y → (v : A) → found g y ≡ Some v → (u : A) × (found g x ≡ Some u) × R u v
-  found_before g x y o v is = go (y.generations == g + 1) (x.generations == g + 1) (ap (λ n. n == g + 1) (sym o.generations)) x.live y.live o.live is
+  found_before : (g : ℕ) (x y : Slot A) → SlotBecomes R x y → (v : A) → found g y ≡ Some v
+      → (u : A) × (found g x ≡ Some u) × R u v
+  found_before g x y o v is =
+      go (y.generations == g + 1) (x.generations == g + 1)
+      (ap (λ n. n == g + 1) (sym o.generations)) x.live y.live o.live is
     where
-      go : (b c : Bool) → c ≡ b → (p q : Option A) → Becomes R p q → (if b then q else None) ≡ Some v → (u : A) × ((if c then p else None) ≡ Some u) × R u v
-      go true c e p q r is = let (u, there, related) = live_before p q r v is in (u, subst (λ t. (if t then p else None) ≡ Some u) (sym e) there, related)
+      go : (b c : Bool) → c ≡ b → (p q : Option A) → Becomes R p q → (if b then q else None) ≡ Some v
+          → (u : A) × ((if c then p else None) ≡ Some u) × R u v
+      go true c e p q r is =
+          let (u, there, related) = live_before p q r v is in (u, subst (λ t. (if t then p else None) ≡ Some u) (sym e) there, related)
       go false c e p q r is = absurd (cc)
 
-  found_after : (g : ℕ) (x y : Slot A) → SlotBecomes R x y → (u : A) → found g x ≡ Some u → (v : A) × (found g y ≡ Some v) × R u v
-  found_after g x y o u is = go (x.generations == g + 1) (y.generations == g + 1) (ap (λ n. n == g + 1) o.generations) x.live y.live o.live is
+  found_after : (g : ℕ) (x y : Slot A) → SlotBecomes R x y → (u : A) → found g x ≡ Some u
+      → (v : A) × (found g y ≡ Some v) × R u v
+  found_after g x y o u is =
+      go (x.generations == g + 1) (y.generations == g + 1)
+      (ap (λ n. n == g + 1) o.generations) x.live y.live o.live is
     where
-      go : (b c : Bool) → c ≡ b → (p q : Option A) → Becomes R p q → (if b then p else None) ≡ Some u → (v : A) × ((if c then q else None) ≡ Some v) × R u v
-      go true c e (Some z) (Some v) r is = let same : z ≡ u = cc in (v, ap (λ t. if t then Some v else None) e, subst (λ a. R a v) same r)
+      go : (b c : Bool) → c ≡ b → (p q : Option A) → Becomes R p q → (if b then p else None) ≡ Some u
+          → (v : A) × ((if c then q else None) ≡ Some v) × R u v
+      go true c e (Some z) (Some v) r is =
+          let same : z ≡ u = cc in (v, ap (λ t. if t then Some v else None) e, subst (λ a. R a v) same r)
       go true c e (Some z) None r is = absurd r
       go true c e None q r is = absurd (cc)
       go false c e p q r is = absurd (cc)
 
   some_before : (g : ℕ) (x y : Slot A) → SlotBecomes R x y → IsSome (found g y) → IsSome (found g x)
-  some_before g x y o is = go (y.generations == g + 1) (x.generations == g + 1) (ap (λ n. n == g + 1) (sym o.generations)) x.live y.live o.live is
+  some_before g x y o is =
+      go (y.generations == g + 1) (x.generations == g + 1)
+      (ap (λ n. n == g + 1) (sym o.generations)) x.live y.live o.live is
     where
-      go : (b c : Bool) → c ≡ b → (p q : Option A) → Becomes R p q → IsSome (if b then q else None) → IsSome (if c then p else None)
+      go : (b c : Bool) → c ≡ b → (p q : Option A) → Becomes R p q → IsSome (if b then q else None)
+          → IsSome (if c then p else None)
       go true c e (Some z) q r is = subst (λ t. IsSome (if t then Some z else None)) (sym e) refl
       go true c e None (Some v) r is = absurd r
       go true c e None None r is = absurd (cc)
       go false c e p q r is = absurd (cc)
 
   some_after : (g : ℕ) (x y : Slot A) → SlotBecomes R x y → IsSome (found g x) → IsSome (found g y)
-  some_after g x y o is = go (x.generations == g + 1) (y.generations == g + 1) (ap (λ n. n == g + 1) o.generations) x.live y.live o.live is
+  some_after g x y o is =
+      go (x.generations == g + 1) (y.generations == g + 1)
+      (ap (λ n. n == g + 1) o.generations) x.live y.live o.live is
     where
-      go : (b c : Bool) → c ≡ b → (p q : Option A) → Becomes R p q → IsSome (if b then p else None) → IsSome (if c then q else None)
+      go : (b c : Bool) → c ≡ b → (p q : Option A) → Becomes R p q → IsSome (if b then p else None)
+          → IsSome (if c then q else None)
       go true c e (Some z) (Some v) r is = subst (λ t. IsSome (if t then Some v else None)) (sym e) refl
       go true c e (Some z) None r is = absurd r
       go true c e None q r is = absurd (cc)
       go false c e p q r is = absurd (cc)
 
   -- a part that they have in common
-  found_part : {B : Type 0} (f : A → Option B) → ((u v : A) → R u v → f v ≡ f u) → (g : ℕ) (x y : Slot A) → SlotBecomes R x y → option_and_then f (found g y) ≡ option_and_then f (found g x)
-  found_part {B} f same g x y o = go (y.generations == g + 1) (x.generations == g + 1) (ap (λ n. n == g + 1) (sym o.generations)) x.live y.live o.live
+  found_part : {B : Type 0} (f : A → Option B) → ((u v : A) → R u v → f v ≡ f u) → (g : ℕ) (x y : Slot A)
+      → SlotBecomes R x y → option_and_then f (found g y) ≡ option_and_then f (found g x)
+  found_part {B} f same g x y o =
+      go (y.generations == g + 1) (x.generations == g + 1)
+      (ap (λ n. n == g + 1) (sym o.generations)) x.live y.live o.live
     where
-      go : (b c : Bool) → c ≡ b → (p q : Option A) → Becomes R p q → option_and_then f (if b then q else None) ≡ option_and_then f (if c then p else None)
-      go true c e (Some z) (Some v) r = same z v r ∙ sym (ap (λ t. option_and_then f (if t then Some z else None)) e)
+      go : (b c : Bool) → c ≡ b → (p q : Option A) → Becomes R p q
+          → option_and_then f (if b then q else None) ≡ option_and_then f (if c then p else None)
+      go true c e (Some z) (Some v) r =
+          same z v r ∙ sym (ap (λ t. option_and_then f (if t then Some z else None)) e)
       go true c e (Some z) None r = absurd r
       go true c e None (Some v) r = absurd r
       go true c e None None r = sym (ap (λ t. option_and_then f (if t then None else None)) e)
       go false c e p q r = sym (ap (λ t. option_and_then f (if t then p else None)) e)
 
-  making_becomes : (i : ℕ) (was now : ℕ → Slot A) (n : Id) → SlotBecomes R (was n.slot) (now n.slot) → IsInTheMaking i was n → IsInTheMaking i now n
+  making_becomes : (i : ℕ) (was now : ℕ → Slot A) (n : Id) → SlotBecomes R (was n.slot) (now n.slot)
+      → IsInTheMaking i was n → IsInTheMaking i now n
   making_becomes i was now n o is = record { maker = is.maker; free = none_after (was n.slot).live (now n.slot).live o.live is.free; next = is.next ∙ sym o.generations }
 
-  life_becomes : (r : Rec) (f : Field) (x y : Slot A) (owed : Bool) → SlotBecomes R x y → KeepsLife r f x owed → KeepsLife r f y owed
+  life_becomes : (r : Rec) (f : Field) (x y : Slot A) (owed : Bool) → SlotBecomes R x y → KeepsLife r f x owed
+      → KeepsLife r f y owed
   life_becomes r f x y owed o k = record {
     live = λ v is. let (u, there, related) = live_before x.live y.live o.live v is in let was = k.live u there in let same = o.generations in omega (arith, was, same);
     taken = λ none taken. let was = k.taken (none_before x.live y.live o.live none) taken in let same = o.generations in omega (arith, was, same);
@@ -165,9 +188,12 @@ module _ (t u : Task) (r : TaskRenews t u) where
   pub unfinished_same : is_unfinished u ≡ is_unfinished t
   unfinished_same = ap is_unfinished r.is ∙ go r.goes
     where
-      go : (r.progress ≡ t.progress) ⊎ GoesOn t r.progress → (not t.implicit && not (is_finished r.progress)) ≡ (not t.implicit && not (is_finished t.progress))
+      go : (r.progress ≡ t.progress) ⊎ GoesOn t r.progress
+          → (not t.implicit && not (is_finished r.progress)) ≡ (not t.implicit && not (is_finished t.progress))
       go (inl same) = ap (λ p. not t.implicit && not (is_finished p)) same
-      go (inr on) = ap (λ b. not b && not (is_finished r.progress)) on.implicit ∙ sym (ap (λ b. not b && not (is_finished t.progress)) on.implicit)
+      go (inr on) =
+          ap (λ b. not b && not (is_finished r.progress)) on.implicit
+          ∙ sym (ap (λ b. not b && not (is_finished t.progress)) on.implicit)
 
   deferred_before : u.progress ≡ progress.Deferred → t.progress ≡ progress.Deferred
   deferred_before is = go r.goes
@@ -204,30 +230,45 @@ pub record OwesSame (p o : Owed) : Type 0 where
 pub owes_same : (o : Owed) → OwesSame o o
 owes_same o = record { region = refl; tasks = refl; pending = refl; raised = refl; lowered = refl; hand = refl }
 
-module _ (w : List ℕ) (m n : Memory) (s : State) (rs : Slots Region) (ts : Slots Task) (owes other : ℕ → Owed) (keeps : KeepsWords w m s owes)
-    (region_slots : (c k : ℕ) → SlotBecomes RegionRenews (s.regions c k) (rs c k)) (task_slots : (c k : ℕ) → SlotBecomes TaskRenews (s.tasks c k) (ts c k))
+module _ (w : List ℕ) (m n : Memory) (s : State) (rs : Slots Region) (ts : Slots Task) (owes other : ℕ → Owed)
+    (keeps : KeepsWords w m s owes)
+    (region_slots : (c k : ℕ) → SlotBecomes RegionRenews (s.regions c k) (rs c k))
+    (task_slots : (c k : ℕ) → SlotBecomes TaskRenews (s.tasks c k) (ts c k))
     (alike : (j : ℕ) → OwesSame (other j) (owes j)) where
   abbrev after : State
   after = record s { regions = rs; tasks = ts }
 
-  task_before : (k : Tid) (u : Task) → task_of after k ≡ Some u → (t : Task) × (task_of s k ≡ Some t) × TaskRenews t u
-  task_before k u is = found_before TaskRenews k.0.generation (s.tasks k.0.creator k.0.slot) (ts k.0.creator k.0.slot) (task_slots k.0.creator k.0.slot) u is
+  task_before : (k : Tid) (u : Task) → task_of after k ≡ Some u
+      → (t : Task) × (task_of s k ≡ Some t) × TaskRenews t u
+  task_before k u is =
+      found_before TaskRenews k.0.generation (s.tasks k.0.creator k.0.slot) (ts k.0.creator k.0.slot)
+      (task_slots k.0.creator k.0.slot) u is
 
-  task_after : (k : Tid) (t : Task) → task_of s k ≡ Some t → (u : Task) × (task_of after k ≡ Some u) × TaskRenews t u
-  task_after k t is = found_after TaskRenews k.0.generation (s.tasks k.0.creator k.0.slot) (ts k.0.creator k.0.slot) (task_slots k.0.creator k.0.slot) t is
+  task_after : (k : Tid) (t : Task) → task_of s k ≡ Some t
+      → (u : Task) × (task_of after k ≡ Some u) × TaskRenews t u
+  task_after k t is =
+      found_after TaskRenews k.0.generation (s.tasks k.0.creator k.0.slot) (ts k.0.creator k.0.slot)
+      (task_slots k.0.creator k.0.slot) t is
 
   some_task_before : (k : Tid) → IsSome (task_of after k) → IsSome (task_of s k)
-  some_task_before k is = some_before TaskRenews k.0.generation (s.tasks k.0.creator k.0.slot) (ts k.0.creator k.0.slot) (task_slots k.0.creator k.0.slot) is
+  some_task_before k is =
+      some_before TaskRenews k.0.generation (s.tasks k.0.creator k.0.slot) (ts k.0.creator k.0.slot)
+      (task_slots k.0.creator k.0.slot) is
 
   some_task_after : (k : Tid) → IsSome (task_of s k) → IsSome (task_of after k)
-  some_task_after k is = some_after TaskRenews k.0.generation (s.tasks k.0.creator k.0.slot) (ts k.0.creator k.0.slot) (task_slots k.0.creator k.0.slot) is
+  some_task_after k is =
+      some_after TaskRenews k.0.generation (s.tasks k.0.creator k.0.slot) (ts k.0.creator k.0.slot)
+      (task_slots k.0.creator k.0.slot) is
 
   some_region_after : (r : Rid) → IsSome (region_of s r) → IsSome (region_of after r)
-  some_region_after r is = some_after RegionRenews r.0.generation (s.regions r.0.creator r.0.slot) (rs r.0.creator r.0.slot) (region_slots r.0.creator r.0.slot) is
+  some_region_after r is =
+      some_after RegionRenews r.0.generation (s.regions r.0.creator r.0.slot) (rs r.0.creator r.0.slot)
+      (region_slots r.0.creator r.0.slot) is
 
   generating_same : (k : Tid) → generating_of after k ≡ generating_of s k
   generating_same k =
-      found_part TaskRenews (λ t. t.generating) (λ t u r. ap (λ (x : Task). x.generating) r.is) k.0.generation (s.tasks k.0.creator k.0.slot) (ts k.0.creator k.0.slot) (task_slots k.0.creator k.0.slot)
+      found_part TaskRenews (λ t. t.generating) (λ t u r. ap (λ (x : Task). x.generating) r.is) k.0.generation
+      (s.tasks k.0.creator k.0.slot) (ts k.0.creator k.0.slot) (task_slots k.0.creator k.0.slot)
 
   finished_after : (k : Tid) → HasFinished s k → HasFinished after k
   finished_after k x =
@@ -235,19 +276,23 @@ module _ (w : List ℕ) (m n : Memory) (s : State) (rs : Slots Region) (ts : Slo
       record { task = u; live = live; explicit = ap (λ (y : Task). y.implicit) related.is ∙ x.explicit; progress = explicit_same x.task u related x.explicit ∙ x.progress }
 
   -- what is counted over tasks, and over what threads owe
-  tasks_counted : (f : ℕ → ℕ → Task → ℕ) → ((c k : ℕ) (t u : Task) → TaskRenews t u → f c k u ≡ f c k t) → sum_of_slots w after f ≡ sum_of_slots w s f
+  tasks_counted : (f : ℕ → ℕ → Task → ℕ) → ((c k : ℕ) (t u : Task) → TaskRenews t u → f c k u ≡ f c k t)
+      → sum_of_slots w after f ≡ sum_of_slots w s f
   tasks_counted f same =
-      sum_same s.count (λ c. sum_below (per_thread w tasks) (λ k. of_live (f c k) (ts c k).live)) (λ c. sum_below (per_thread w tasks) (λ k. of_live (f c k) (s.tasks c k).live))
+      sum_same s.count (λ c. sum_below (per_thread w tasks) (λ k. of_live (f c k) (ts c k).live))
+      (λ c. sum_below (per_thread w tasks) (λ k. of_live (f c k) (s.tasks c k).live))
       (λ c. sum_same (per_thread w tasks) (λ k. of_live (f c k) (ts c k).live) (λ k. of_live (f c k) (s.tasks c k).live)
       (λ k. counted (f c k) (same c k) (s.tasks c k).live (ts c k).live (task_slots c k).live))
     where
-      counted : (f : Task → ℕ) → ((t u : Task) → TaskRenews t u → f u ≡ f t) → (p q : Option Task) → Becomes TaskRenews p q → of_live f q ≡ of_live f p
+      counted : (f : Task → ℕ) → ((t u : Task) → TaskRenews t u → f u ≡ f t) → (p q : Option Task)
+          → Becomes TaskRenews p q → of_live f q ≡ of_live f p
       counted f same (Some t) (Some u) r = same t u r
       counted f same (Some t) None r = absurd r
       counted f same None (Some u) r = absurd r
       counted f same None None r = refl
 
-  owed_same : (f g : Owed → ℕ) → ((j : ℕ) → f (other j) ≡ g (owes j)) → sum_of_owed s other f ≡ sum_of_owed s owes g
+  owed_same : (f g : Owed → ℕ) → ((j : ℕ) → f (other j) ≡ g (owes j))
+      → sum_of_owed s other f ≡ sum_of_owed s owes g
   owed_same f g each = sum_same s.count (λ j. f (other j)) (λ j. g (owes j)) each
 
   -- the word for members that have left may be another one, as may these members
@@ -255,7 +300,8 @@ module _ (w : List ℕ) (m n : Memory) (s : State) (rs : Slots Region) (ts : Slo
       (left_is : (c k : ℕ) (x y : Region) → (s.regions c k).live ≡ Some x → (rs c k).live ≡ Some y
       → n c regions k (number RegionLeft) 0 + sum_of_owed s other (left_owed (region_in c k (s.regions c k))) + ended_members x
       ≡ m c regions k (number RegionLeft) 0 + sum_of_owed s owes (left_owed (region_in c k (s.regions c k))) + ended_members y) where
-    region_kept : (c k : ℕ) (x y : Region) → (s.regions c k).live ≡ Some x → (rs c k).live ≡ Some y → RegionRenews x y
+    region_kept : (c k : ℕ) (x y : Region) → (s.regions c k).live ≡ Some x → (rs c k).live ≡ Some y
+        → RegionRenews x y
         → KeepsRegion w s owes (region_in c k (s.regions c k)) (m c regions k) x → KeepsRegion w after other (region_in c k (s.regions c k)) (n c regions k) y
     region_kept c k x y was now r o = record {
       codes = λ f at word told. words c k (number f) at (region_apart w (region_told y) f at word told).1 ∙ o.codes f at word (subst (λ (z : Region). region_code w (region_told z) f at ≡ Some word) r.is told);
@@ -263,8 +309,11 @@ module _ (w : List ℕ) (m n : Memory) (s : State) (rs : Slots Region) (ts : Slo
           let word = stays RegionPending 0 (λ e. absurd (omega (arith, e))) in
           let was = o.pending in
           let same : unfinished_in w after name ≡ unfinished_in w s name
-          = tasks_counted (λ a b t. one (is_unfinished t && is_region name t.region)) (λ a b t u r. ap₂ (λ p q. one (p && is_region name q)) (unfinished_same t u r) (ap (λ (z : Task). z.region) r.is)) in
-          let owed = owed_same (pending_owed name) (pending_owed name) (λ j. ap (λ q. one (is_some_region name q)) (alike j).pending) in
+          = tasks_counted (λ a b t. one (is_unfinished t && is_region name t.region))
+          (λ a b t u r. ap₂ (λ p q. one (p && is_region name q)) (unfinished_same t u r) (ap (λ (z : Task). z.region) r.is)) in
+          let owed =
+          owed_same (pending_owed name) (pending_owed name)
+          (λ j. ap (λ q. one (is_some_region name q)) (alike j).pending) in
           omega (arith, word, was, same, owed);
       left = let before = o.left in let change = left_is c k x y was now in omega (arith, before, change);
     }
@@ -272,15 +321,20 @@ module _ (w : List ℕ) (m n : Memory) (s : State) (rs : Slots Region) (ts : Slo
         name : Rid
         name = region_in c k (s.regions c k)
 
-        stays : (f : Field) (at : ℕ) → number f ≢ number RegionLeft → n c regions k (number f) at ≡ m c regions k (number f) at
+        stays : (f : Field) (at : ℕ) → number f ≢ number RegionLeft
+            → n c regions k (number f) at ≡ m c regions k (number f) at
         stays f at ne = words c k (number f) at ne
 
-    region_slot_kept : (c k : ℕ) → KeepsRegionSlot w s owes c k (m c regions k) → KeepsRegionSlot w after other c k (n c regions k)
+    region_slot_kept : (c k : ℕ) → KeepsRegionSlot w s owes c k (m c regions k)
+        → KeepsRegionSlot w after other c k (n c regions k)
     region_slot_kept c k o = record {
-      life = life_word (life_becomes RegionRenews (m c regions k) RegionLife (s.regions c k) (rs c k) (has_region_slot k (other c).region) (region_slots c k)
+      life =
+          life_word
+          (life_becomes RegionRenews (m c regions k) RegionLife (s.regions c k) (rs c k) (has_region_slot k (other c).region) (region_slots c k)
           (subst (λ (q : Option Rid). KeepsLife (m c regions k) RegionLife (s.regions c k) (has_region_slot k q)) (sym (alike c).region) o.life));
       live = λ y is.
-          let (x, was, related) = live_before RegionRenews (s.regions c k).live (rs c k).live (region_slots c k).live y is in
+          let (x, was, related) =
+          live_before RegionRenews (s.regions c k).live (rs c k).live (region_slots c k).live y is in
           subst (λ (q : Rid). KeepsRegion w after other q (n c regions k) y) (sym name_same) (region_kept c k x y was is related (o.live x was));
     }
       where
@@ -290,7 +344,8 @@ module _ (w : List ℕ) (m n : Memory) (s : State) (rs : Slots Region) (ts : Slo
         word : n c regions k (number RegionLife) 0 ≡ m c regions k (number RegionLife) 0
         word = words c k (number RegionLife) 0 (λ e. absurd (omega (arith, e)))
 
-        life_word : KeepsLife (m c regions k) RegionLife (rs c k) (has_region_slot k (other c).region) → KeepsLife (n c regions k) RegionLife (rs c k) (has_region_slot k (other c).region)
+        life_word : KeepsLife (m c regions k) RegionLife (rs c k) (has_region_slot k (other c).region)
+            → KeepsLife (n c regions k) RegionLife (rs c k) (has_region_slot k (other c).region)
         life_word l = record {
           live = λ x is. let before = l.live x is in omega (arith, before, word);
           taken = λ none taken. word ∙ l.taken none taken;
@@ -302,17 +357,21 @@ module _ (w : List ℕ) (m n : Memory) (s : State) (rs : Slots Region) (ts : Slo
     children =
         let was = o.children in
         let same : unfinished_children w after k ≡ unfinished_children w s k
-        = tasks_counted (λ c j x. one (is_unfinished x && is_some_task k x.generating)) (λ c j x y a. ap₂ (λ p q. one (p && is_some_task k q)) (unfinished_same x y a) (ap (λ (z : Task). z.generating) a.is)) in
+        = tasks_counted (λ c j x. one (is_unfinished x && is_some_task k x.generating))
+        (λ c j x y a. ap₂ (λ p q. one (p && is_some_task k q)) (unfinished_same x y a) (ap (λ (z : Task). z.generating) a.is)) in
         let owed = owed_same (children_owed after k) (children_owed s k) (λ j. ap₂ (λ a b. one (is_some_task k a) + one (is_some_task k (option_and_then (generating_of after) b))) (alike j).raised (alike j).lowered
         ∙ of_lowered (owes j).raised (owes j).lowered) in
         omega (arith, was, same, owed);
   }
     where
-      of_lowered : (raised lowered : Option Tid) → one (is_some_task k raised) + one (is_some_task k (option_and_then (generating_of after) lowered)) ≡ one (is_some_task k raised) + one (is_some_task k (option_and_then (generating_of s) lowered))
+      of_lowered : (raised lowered : Option Tid)
+          → one (is_some_task k raised) + one (is_some_task k (option_and_then (generating_of after) lowered)) ≡ one (is_some_task k raised) + one (is_some_task k (option_and_then (generating_of s) lowered))
       of_lowered raised None = refl
-      of_lowered raised (Some q) = ap (λ g. one (is_some_task k raised) + one (is_some_task k g)) (generating_same q)
+      of_lowered raised (Some q) =
+          ap (λ g. one (is_some_task k raised) + one (is_some_task k g)) (generating_same q)
 
-  deferred_in : (t u : Task) → TaskRenews t u → (place : ℕ) (k : Tid) → IsDeferredIn s t place k → IsDeferredIn after u place k
+  deferred_in : (t u : Task) → TaskRenews t u → (place : ℕ) (k : Tid) → IsDeferredIn s t place k
+      → IsDeferredIn after u place k
   deferred_in t u r place k x =
       let (y, live, related) = task_after k x.task x.live in
       record {
@@ -327,12 +386,14 @@ module _ (w : List ℕ) (m n : Memory) (s : State) (rs : Slots Region) (ts : Slo
   slots_kept : (r : Rec) (t u : Task) → TaskRenews t u → KeepsSlots w s r t → KeepsSlots w after r u
   slots_kept r t u related o = λ place within. go place (o place within)
     where
-      go : (place : ℕ) → Has r TaskSlots place 0 ⊎ ((k : Tid) × IsDeferredIn s t place k × Has r TaskSlots place (slot_word w k))
+      go : (place : ℕ)
+          → Has r TaskSlots place 0 ⊎ ((k : Tid) × IsDeferredIn s t place k × Has r TaskSlots place (slot_word w k))
           → Has r TaskSlots place 0 ⊎ ((k : Tid) × IsDeferredIn after u place k × Has r TaskSlots place (slot_word w k))
       go place (inl none) = inl none
       go place (inr (k, x, is)) = inr (k, deferred_in t u related place k x, is)
 
-  task_kept : (k : Tid) (r : Rec) (t u : Task) → TaskRenews t u → KeepsTask w s owes k r t → KeepsTask w after other k r u
+  task_kept : (k : Tid) (r : Rec) (t u : Task) → TaskRenews t u → KeepsTask w s owes k r t
+      → KeepsTask w after other k r u
   task_kept k r t u related o = record {
     environment = subst (λ (x : Task). KeepsEnvironment w r x) (sym related.is) o.environment;
     place = λ has. subst (λ (x : Task). KeepsPlace w r x) (sym related.is)
@@ -343,10 +404,13 @@ module _ (w : List ℕ) (m n : Memory) (s : State) (rs : Slots Region) (ts : Slo
 
   task_slot_kept : (c k : ℕ) (r : Rec) → KeepsTaskSlot w s owes c k r → KeepsTaskSlot w after other c k r
   task_slot_kept c k r o = record {
-    life = life_becomes TaskRenews r TaskLife (s.tasks c k) (ts c k) (has_slot k (other c).tasks) (task_slots c k)
+    life =
+        life_becomes TaskRenews r TaskLife (s.tasks c k) (ts c k) (has_slot k (other c).tasks)
+        (task_slots c k)
         (subst (λ (q : List Tid). KeepsLife r TaskLife (s.tasks c k) (has_slot k q)) (sym (alike c).tasks) o.life);
     live = λ u is.
-        let (t, was, related) = live_before TaskRenews (s.tasks c k).live (ts c k).live (task_slots c k).live u is in
+        let (t, was, related) =
+        live_before TaskRenews (s.tasks c k).live (ts c k).live (task_slots c k).live u is in
         subst (λ (q : Tid). KeepsTask w after other q r u) (sym name_same) (task_kept (task_in c k (s.tasks c k)) r t u related (o.live t was));
   }
     where
@@ -362,7 +426,8 @@ module _ (w : List ℕ) (m n : Memory) (s : State) (rs : Slots Region) (ts : Slo
     apart = subst (λ (ks : List Tid). AreApart ks) (sym (alike j).tasks) x.apart;
   }
 
-  objects_kept : (j : ℕ) → ((r : Rid) → (other j).left ≡ Some r → (x : Region) × (region_of after r ≡ Some x) × (x.joined ≡ false))
+  objects_kept : (j : ℕ)
+      → ((r : Rid) → (other j).left ≡ Some r → (x : Region) × (region_of after r ≡ Some x) × (x.joined ≡ false))
       → All (λ q. WaitsFor after q.1 q.0) (other j).assigns → OwesOnLive s (owes j) → OwesOnLive after (other j)
   objects_kept j left assigns x = record {
     pending = λ r is. some_region_after r (x.pending r (sym (alike j).pending ∙ is));
@@ -374,7 +439,8 @@ module _ (w : List ℕ) (m n : Memory) (s : State) (rs : Slots Region) (ts : Slo
     assigns = assigns;
   }
     where
-      parent : (g : Option Tid) → IsSome (option_and_then (task_of s) g) → IsSome (option_and_then (task_of after) g)
+      parent : (g : Option Tid) → IsSome (option_and_then (task_of s) g)
+          → IsSome (option_and_then (task_of after) g)
       parent None is = is
       parent (Some q) is = some_task_after q is
 
@@ -384,9 +450,11 @@ module _ (w : List ℕ) (m n : Memory) (s : State) (rs : Slots Region) (ts : Slo
         let (t, live, related) = task_before k u is in
         let was = o.once k t live (deferred_before t u related deferred) in
         let slots : slots_with w r after (slot_word w k) ≡ slots_with w r s (slot_word w k)
-        = tasks_counted (λ c j x. if x.implicit then sum_below (width w (number TaskSlots)) (λ place. one (r c j (number TaskSlots) place == slot_word w k)) else 0)
+        = tasks_counted
+        (λ c j x. if x.implicit then sum_below (width w (number TaskSlots)) (λ place. one (r c j (number TaskSlots) place == slot_word w k)) else 0)
         (λ c j x y a. ap (λ (z : Task). if z.implicit then sum_below (width w (number TaskSlots)) (λ place. one (r c j (number TaskSlots) place == slot_word w k)) else 0) a.is) in
-        let owed = owed_same (start_owed k) (start_owed k) (λ j. ap (λ q. one (is_some_task k q)) (alike j).hand) in
+        let owed =
+        owed_same (start_owed k) (start_owed k) (λ j. ap (λ q. one (is_some_task k q)) (alike j).hand) in
         omega (arith, was, slots, owed);
     hands = λ i k known is.
         let (t, live, deferred) = o.hands i k known (sym (alike i).hand ∙ is) in
@@ -395,12 +463,14 @@ module _ (w : List ℕ) (m n : Memory) (s : State) (rs : Slots Region) (ts : Slo
   }
 
   -- where the records of the runtime, of threads and of tasks are the same, and of regions all words but for members that have left
-  pub renewed : n 0 runtime 0 ≡ m 0 runtime 0 → ((c : ℕ) → n c threads 0 ≡ m c threads 0) → ((c k : ℕ) → n c tasks k ≡ m c tasks k)
+  pub renewed : n 0 runtime 0 ≡ m 0 runtime 0 → ((c : ℕ) → n c threads 0 ≡ m c threads 0)
+      → ((c k : ℕ) → n c tasks k ≡ m c tasks k)
       → ((c k f at : ℕ) → f ≢ number RegionLeft → n c regions k f at ≡ m c regions k f at)
       → ((c k : ℕ) (x y : Region) → (s.regions c k).live ≡ Some x → (rs c k).live ≡ Some y
       → n c regions k (number RegionLeft) 0 + sum_of_owed s other (left_owed (region_in c k (s.regions c k))) + ended_members x
       ≡ m c regions k (number RegionLeft) 0 + sum_of_owed s owes (left_owed (region_in c k (s.regions c k))) + ended_members y)
-      → ((j : ℕ) → j < s.count → (r : Rid) → (other j).left ≡ Some r → (x : Region) × (region_of after r ≡ Some x) × (x.joined ≡ false))
+      →
+      ((j : ℕ) → j < s.count → (r : Rid) → (other j).left ≡ Some r → (x : Region) × (region_of after r ≡ Some x) × (x.joined ≡ false))
       → ((j : ℕ) → j < s.count → All (λ q. WaitsFor after q.1 q.0) (other j).assigns)
       → ((j : ℕ) → j < s.count → KeepsAssign w after other j (m j threads 0))
       → KeepsWords w n after other

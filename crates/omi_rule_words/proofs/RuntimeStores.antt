@@ -16,13 +16,16 @@ use Rattle.omi_rule_words.proofs.Alike.{IsSameRegion, same_region, same_task, sl
 use Rattle.omi_rule_words.proofs.OtherStates.{other_states}
 
 pub runtime_stores_keep : RuntimeStoresKeep
-runtime_stores_keep = λ w m s owes max_active locks f at word keeps is. kept w m s owes max_active locks f at word keeps is
+runtime_stores_keep =
+    λ w m s owes max_active locks f at word keeps is. kept w m s owes max_active locks f at word keeps is
   where
-    kept : (w : List ℕ) (m : Memory) (s : State) (owes : ℕ → Owed) (max_active : ℕ) (locks : ℕ → Option ℕ) (f : Field) (at word : ℕ) → KeepsWords w m s owes
+    kept : (w : List ℕ) (m : Memory) (s : State) (owes : ℕ → Owed) (max_active : ℕ) (locks : ℕ → Option ℕ) (f : Field) (at word : ℕ)
+        → KeepsWords w m s owes
         → KeepsRuntime w (with_word_in (m 0 runtime 0) (number f) at word) (with_runtime s max_active locks)
         → KeepsWords w (with_word m 0 runtime 0 (number f) at word) (with_runtime s max_active locks) owes
     kept w m s owes max_active locks f at word keeps is =
-        other_states w s (with_runtime s max_active locks) owes refl (slots_same IsSameRegion same_region s.regions) (slots_same IsSameTask same_task s.tasks) m n keeps
+        other_states w s (with_runtime s max_active locks) owes refl
+        (slots_same IsSameRegion same_region s.regions) (slots_same IsSameTask same_task s.tasks) m n keeps
         (λ i. ap (λ (r : Rec). r (number ThreadAssign) 0) (stays i threads 0 (λ kind. absurd (omega (arith, kind)))))
         (λ i j. ap (λ (r : Rec). r (number RegionLife) 0) (stays i regions j (λ kind. absurd (omega (arith, kind)))))
         (λ i j. ap (λ (r : Rec). r (number TaskLife) 0) (stays i tasks j (λ kind. absurd (omega (arith, kind)))))

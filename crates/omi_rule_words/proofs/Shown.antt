@@ -33,14 +33,18 @@ use Rattle.omi_rule_words.specs.Words.{KeepsTask, KeepsWords, region_in, task_in
 use Rattle.omi_rule_words.proofs.StoredCodes.{all_codes}
 
 -- an object that is found is of the slot's last generation
-pub found_generations : {A : Type 0} (g : ℕ) (slot : Slot A) (x : A) → found g slot ≡ Some x → slot.generations ≡ g + 1
+pub found_generations : {A : Type 0} (g : ℕ) (slot : Slot A) (x : A) → found g slot ≡ Some x
+    → slot.generations ≡ g + 1
 found_generations {A} g slot x e = go (slot.generations == g + 1) refl e
   where
-    go : (b : Bool) → slot.generations == g + 1 ≡ b → (if b then slot.live else None) ≡ Some x → slot.generations ≡ g + 1
+    go : (b : Bool) → slot.generations == g + 1 ≡ b → (if b then slot.live else None) ≡ Some x
+        → slot.generations ≡ g + 1
     go true is h = eqb-true slot.generations (g + 1) is
     go false is h = absurd (cc)
 
-module _ (w words : List ℕ) (s : State) (owes : ℕ → Owed) (v : IsValid w) (count : length words ≡ image_words w) (tables : HasTables w words) (within : IsWithin w s) (keeps : KeepsWords w (memory_of w words) s owes) where
+module _ (w words : List ℕ) (s : State) (owes : ℕ → Owed) (v : IsValid w)
+    (count : length words ≡ image_words w) (tables : HasTables w words) (within : IsWithin w s)
+    (keeps : KeepsWords w (memory_of w words) s owes) where
   abbrev g : Words
   g = words_of words
 
@@ -48,13 +52,18 @@ module _ (w words : List ℕ) (s : State) (owes : ℕ → Owed) (v : IsValid w) 
   m = memory_of w words
 
   thread_slot : (i : ℕ) → i < s.count → IsSlot w threads i 0
-  thread_slot i known = let same = within.count in record { made_by = omega (arith, known, same); within = omega arith }
+  thread_slot i known =
+      let same = within.count in record { made_by = omega (arith, known, same); within = omega arith }
 
-  thread_shown : (fields : Field → Bool) (i : ℕ) → i < s.count → CodesStand fields (thread_code w i (thread_told (s.threads i))) (records_of w g i threads 0)
-  thread_shown fields i known = codes_stand w words v count fields _ threads i 0 (thread_slot i known) (thread_coded w v i (thread_told (s.threads i))) (keeps.made i known).thread
+  thread_shown : (fields : Field → Bool) (i : ℕ) → i < s.count
+      → CodesStand fields (thread_code w i (thread_told (s.threads i))) (records_of w g i threads 0)
+  thread_shown fields i known =
+      codes_stand w words v count fields _ threads i 0 (thread_slot i known)
+      (thread_coded w v i (thread_told (s.threads i))) (keeps.made i known).thread
 
   -- the life word of a slot, as it is kept
-  slot_shown : {A : Type 0} (f : Field) (c k : ℕ) (slot : Slot A) (owed : Bool) → IsSlot w (kind_of (number f)) c k → KeepsLife (m c (kind_of (number f)) k) f slot owed
+  slot_shown : {A : Type 0} (f : Field) (c k : ℕ) (slot : Slot A) (owed : Bool)
+      → IsSlot w (kind_of (number f)) c k → KeepsLife (m c (kind_of (number f)) k) f slot owed
       → ShowsSlot (records_of w g c (kind_of (number f)) k) f slot
   unfolding word_address
   slot_shown f c k slot owed there o = record {
@@ -69,9 +78,13 @@ module _ (w words : List ℕ) (s : State) (owes : ℕ → Owed) (v : IsValid w) 
       r = m c (kind_of (number f)) k
 
       of_word : (x : ℕ) → r (number f) 0 ≡ x → Stands (records_of w g c (kind_of (number f)) k) f 0 x
-      of_word x e = mapped w v words c k (number f) 0 (omega (arith, count)) (record { field = numbered_field f; record_slot = there; within = wide w v (number f) }) ∙ ap Some e
+      of_word x e =
+          mapped w v words c k (number f) 0 (omega (arith, count))
+          (record { field = numbered_field f; record_slot = there; within = wide w v (number f) })
+          ∙ ap Some e
 
-      at_least : (word : ℕ) → slot.live ≡ None → Stands (records_of w g c (kind_of (number f)) k) f 0 (r (number f) 0)
+      at_least : (word : ℕ) → slot.live ≡ None
+          → Stands (records_of w g c (kind_of (number f)) k) f 0 (r (number f) 0)
           → Stands (records_of w g c (kind_of (number f)) k) f 0 word → (b : Bool) → owed ≡ b → 2 * slot.generations ≤ word
       at_least word empty is there true taken =
           let same : r (number f) 0 ≡ word = cc in
@@ -82,11 +95,13 @@ module _ (w words : List ℕ) (s : State) (owes : ℕ → Owed) (v : IsValid w) 
           let life = o.free empty free in
           omega (arith, same, life)
 
-  region_shown : (n : Rid) (seen : IsVisibleRegion s n) → CodesStand shown (region_code w (region_told seen.region)) (records_of w g n.0.creator regions n.0.slot)
+  region_shown : (n : Rid) (seen : IsVisibleRegion s n)
+      → CodesStand shown (region_code w (region_told seen.region)) (records_of w g n.0.creator regions n.0.slot)
   region_shown n seen =
       let few = (within.well_formed.regions n seen).few in
       let same = within.count in
-      codes_stand w words v count shown _ regions n.0.creator n.0.slot (record { made_by = there.maker; within = there.place })
+      codes_stand w words v count shown _ regions n.0.creator n.0.slot
+      (record { made_by = there.maker; within = there.place })
       (region_coded w v (region_told seen.region) (omega (arith, few, same))) o.codes
     where
       there : record { maker : n.0.creator < thread_count w; place : n.0.slot < per_thread w regions }
@@ -96,11 +111,15 @@ module _ (w words : List ℕ) (s : State) (owes : ℕ → Owed) (v : IsValid w) 
       known = let same = within.count in let maker = there.maker in omega (arith, same, maker)
 
       o : KeepsRegion w s owes (region_in n.0.creator n.0.slot (s.regions n.0.creator n.0.slot)) (m n.0.creator regions n.0.slot) seen.region
-      o = ((keeps.made n.0.creator known).regions n.0.slot there.place).live seen.region (found_live n.0.generation (s.regions n.0.creator n.0.slot) seen.region seen.live)
+      o =
+          ((keeps.made n.0.creator known).regions n.0.slot there.place).live seen.region
+          (found_live n.0.generation (s.regions n.0.creator n.0.slot) seen.region seen.live)
 
-  task_shown : (k : Tid) (seen : IsVisibleTask s k) → CodesStand shown (task_code w (task_told seen.task)) (records_of w g k.0.creator tasks k.0.slot)
+  task_shown : (k : Tid) (seen : IsVisibleTask s k)
+      → CodesStand shown (task_code w (task_told seen.task)) (records_of w g k.0.creator tasks k.0.slot)
   task_shown k seen =
-      codes_stand w words v count shown _ tasks k.0.creator k.0.slot (record { made_by = there.maker; within = there.place })
+      codes_stand w words v count shown _ tasks k.0.creator k.0.slot
+      (record { made_by = there.maker; within = there.place })
       (task_coded w v (task_told seen.task) (within.well_formed.tasks k seen).variables.few)
       (all_codes w (m k.0.creator tasks k.0.slot) seen.task o.environment (o.place placed))
     where
@@ -111,12 +130,15 @@ module _ (w words : List ℕ) (s : State) (owes : ℕ → Owed) (v : IsValid w) 
       known = let same = within.count in let maker = there.maker in omega (arith, same, maker)
 
       o : KeepsTask w s owes (task_in k.0.creator k.0.slot (s.tasks k.0.creator k.0.slot)) (m k.0.creator tasks k.0.slot) seen.task
-      o = ((keeps.made k.0.creator known).tasks k.0.slot there.place).live seen.task (found_live k.0.generation (s.tasks k.0.creator k.0.slot) seen.task seen.live)
+      o =
+          ((keeps.made k.0.creator known).tasks k.0.slot there.place).live seen.task
+          (found_live k.0.generation (s.tasks k.0.creator k.0.slot) seen.task seen.live)
 
       -- it is implicit, or has started
       placed : HasPlace seen.task
       placed explicit deferred =
-          subst (λ (p : Progress). HasStarted p) deferred (subst (λ b. MatchBool b (IsVisibleRegion s seen.task.region) (HasStarted seen.task.progress)) explicit seen.shown)
+          subst (λ (p : Progress). HasStarted p) deferred
+          (subst (λ b. MatchBool b (IsVisibleRegion s seen.task.region) (HasStarted seen.task.progress)) explicit seen.shown)
 
   records_shown : RecordsShow w (records_of w g) s
   records_shown = record {
@@ -137,4 +159,5 @@ module _ (w words : List ℕ) (s : State) (owes : ℕ → Owed) (v : IsValid w) 
   kept_shown = record { layout = tables_give w words v tables; within = within; records = records_shown }
 
 pub kept_words_show : KeptWordsShow
-kept_words_show = λ w words s owes v count tables within keeps. kept_shown w words s owes v count tables within keeps
+kept_words_show =
+    λ w words s owes v count tables within keeps. kept_shown w words s owes v count tables within keeps

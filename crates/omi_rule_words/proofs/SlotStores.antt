@@ -32,8 +32,11 @@ use Rattle.omi_rule_words.proofs.OtherCounts.{owed_put}
 use Rattle.omi_rule_words.proofs.SlotSums.{slots_changed}
 use Rattle.omi_rule_words.proofs.StoredCodes.{task_apart}
 
-module _ (w : List ℕ) (m : Memory) (s : State) (owes : ℕ → Owed) (i : ℕ) (hand : Option Tid) (row : Tid) (u : Task) (place word : ℕ) (keeps : KeepsWords w m s owes)
-    (known : i < s.count) (maker : row.0.creator < s.count) (slot_below : row.0.slot < per_thread w tasks) (live : task_of s row ≡ Some u) (implicit : u.implicit ≡ true) (inside : place < width w (number TaskSlots))
+module _ (w : List ℕ) (m : Memory) (s : State) (owes : ℕ → Owed) (i : ℕ) (hand : Option Tid) (row : Tid)
+    (u : Task) (place word : ℕ) (keeps : KeepsWords w m s owes)
+    (known : i < s.count) (maker : row.0.creator < s.count) (slot_below : row.0.slot < per_thread w tasks)
+    (live : task_of s row ≡ Some u) (implicit : u.implicit ≡ true)
+    (inside : place < width w (number TaskSlots))
     (word_is : (word ≡ 0) ⊎ ((k : Tid) × IsDeferredIn s u place k × (word ≡ slot_word w k))) where
   abbrev after : Memory
   after = with_slot m row place word
@@ -42,17 +45,22 @@ module _ (w : List ℕ) (m : Memory) (s : State) (owes : ℕ → Owed) (i : ℕ)
   p = record (owes i) { hand = hand }
 
   stays : (c kind j : ℕ) → (kind ≡ tasks → ⊥) → after c kind j ≡ m c kind j
-  stays c kind j ne = record_stays m row.0.creator tasks row.0.slot (number TaskSlots) place word c kind j (λ _ same _. ne same)
+  stays c kind j ne =
+      record_stays m row.0.creator tasks row.0.slot (number TaskSlots) place word c kind j
+      (λ _ same _. ne same)
 
   other_word : (g : ℕ) → g ≢ number TaskSlots → (c j at : ℕ) → after c tasks j g at ≡ m c tasks j g at
-  other_word g ne c j at = word_stays m row.0.creator tasks row.0.slot (number TaskSlots) place word c tasks j g at (λ _ _ _ same _. ne same)
+  other_word g ne c j at =
+      word_stays m row.0.creator tasks row.0.slot (number TaskSlots) place word c tasks j g at
+      (λ _ _ _ same _. ne same)
 
   there : (s.tasks row.0.creator row.0.slot).live ≡ Some u
   there = found_live row.0.generation (s.tasks row.0.creator row.0.slot) u live
 
   -- the row's own record
   row_kept : KeepsTask w s owes (task_in row.0.creator row.0.slot (s.tasks row.0.creator row.0.slot)) (m row.0.creator tasks row.0.slot) u
-      → KeepsTask w s owes (task_in row.0.creator row.0.slot (s.tasks row.0.creator row.0.slot)) (after row.0.creator tasks row.0.slot) u
+      → KeepsTask w s owes (task_in row.0.creator row.0.slot (s.tasks row.0.creator row.0.slot))
+      (after row.0.creator tasks row.0.slot) u
   row_kept o = record {
     environment = λ g at x none told. other_word (number g) (task_apart w (task_told u) g at x told).1 row.0.creator row.0.slot at ∙ o.environment g at x none told;
     place = λ has g at x is told. other_word (number g) (task_apart w (task_told u) g at x told).1 row.0.creator row.0.slot at ∙ o.place has g at x is told;
@@ -61,28 +69,42 @@ module _ (w : List ℕ) (m : Memory) (s : State) (owes : ℕ → Owed) (i : ℕ)
   }
     where
       IsSlotOf : (ℕ → ℕ → ℕ) → ℕ → Type 0
-      IsSlotOf r at = Has r TaskSlots at 0 ⊎ ((k : Tid) × IsDeferredIn s u at k × Has r TaskSlots at (slot_word w k))
+      IsSlotOf r at =
+          Has r TaskSlots at 0 ⊎ ((k : Tid) × IsDeferredIn s u at k × Has r TaskSlots at (slot_word w k))
 
-      stored : (word ≡ 0) ⊎ ((k : Tid) × IsDeferredIn s u place k × (word ≡ slot_word w k)) → IsSlotOf (after row.0.creator tasks row.0.slot) place
-      stored (inl none) = inl (word_read m row.0.creator tasks row.0.slot (number TaskSlots) place word ∙ none)
-      stored (inr (k, deferred, is)) = inr (k, deferred, word_read m row.0.creator tasks row.0.slot (number TaskSlots) place word ∙ is)
+      stored : (word ≡ 0) ⊎ ((k : Tid) × IsDeferredIn s u place k × (word ≡ slot_word w k))
+          → IsSlotOf (after row.0.creator tasks row.0.slot) place
+      stored (inl none) =
+          inl (word_read m row.0.creator tasks row.0.slot (number TaskSlots) place word ∙ none)
+      stored (inr (k, deferred, is)) =
+          inr (k, deferred, word_read m row.0.creator tasks row.0.slot (number TaskSlots) place word ∙ is)
 
-      slot : (at : ℕ) → (at ≡ place) ⊎ (at ≢ place) → IsSlotOf (m row.0.creator tasks row.0.slot) at → IsSlotOf (after row.0.creator tasks row.0.slot) at
-      slot at (inl same) _ = subst (λ x. IsSlotOf (after row.0.creator tasks row.0.slot) x) (sym same) (stored word_is)
+      slot : (at : ℕ) → (at ≡ place) ⊎ (at ≢ place) → IsSlotOf (m row.0.creator tasks row.0.slot) at
+          → IsSlotOf (after row.0.creator tasks row.0.slot) at
+      slot at (inl same) _ =
+          subst (λ x. IsSlotOf (after row.0.creator tasks row.0.slot) x) (sym same) (stored word_is)
       slot at (inr ne) was = go was
         where
           stays_there : after row.0.creator tasks row.0.slot (number TaskSlots) at ≡ m row.0.creator tasks row.0.slot (number TaskSlots) at
-          stays_there = word_stays m row.0.creator tasks row.0.slot (number TaskSlots) place word row.0.creator tasks row.0.slot (number TaskSlots) at (λ _ _ _ _ same. ne same)
+          stays_there =
+              word_stays m row.0.creator tasks row.0.slot
+              (number TaskSlots) place word row.0.creator tasks row.0.slot (number TaskSlots) at
+              (λ _ _ _ _ same. ne same)
 
-          go : IsSlotOf (m row.0.creator tasks row.0.slot) at → IsSlotOf (after row.0.creator tasks row.0.slot) at
+          go : IsSlotOf (m row.0.creator tasks row.0.slot) at
+              → IsSlotOf (after row.0.creator tasks row.0.slot) at
           go (inl none) = inl (stays_there ∙ none)
           go (inr (k, deferred, is)) = inr (k, deferred, stays_there ∙ is)
 
-  slot_kept : (c j : ℕ) → KeepsTaskSlot w s owes c j (m c tasks j) → KeepsTaskSlot w s owes c j (after c tasks j)
+  slot_kept : (c j : ℕ) → KeepsTaskSlot w s owes c j (m c tasks j)
+      → KeepsTaskSlot w s owes c j (after c tasks j)
   slot_kept =
-      each_place (λ c j. KeepsTaskSlot w s owes c j (m c tasks j) → KeepsTaskSlot w s owes c j (after c tasks j)) row.0.creator row.0.slot
+      each_place
+      (λ c j. KeepsTaskSlot w s owes c j (m c tasks j) → KeepsTaskSlot w s owes c j (after c tasks j)) row.0.creator row.0.slot
       (λ o. record {
-        life = life_same (m row.0.creator tasks row.0.slot) (after row.0.creator tasks row.0.slot) TaskLife (s.tasks row.0.creator row.0.slot) (has_slot row.0.slot (owes row.0.creator).tasks)
+        life =
+            life_same (m row.0.creator tasks row.0.slot) (after row.0.creator tasks row.0.slot) TaskLife
+            (s.tasks row.0.creator row.0.slot) (has_slot row.0.slot (owes row.0.creator).tasks)
             (other_word (number TaskLife) (λ is. omega (arith, is)) row.0.creator row.0.slot 0) o.life;
         live = λ x is.
             let name : Tid = task_in row.0.creator row.0.slot (s.tasks row.0.creator row.0.slot) in
@@ -95,7 +117,8 @@ module _ (w : List ℕ) (m : Memory) (s : State) (owes : ℕ → Owed) (i : ℕ)
   made_stored : (j : ℕ) → KeepsMade w s owes j (m j) → KeepsMade w s owes j (after j)
   made_stored j o =
       made_kept w s owes j (m j) (after j) (stays j threads 0 (λ kind. absurd (omega (arith, kind)))) o
-      (λ k below. subst (λ (r : Rec). KeepsRegionSlot w s owes j k r) (sym (stays j regions k (λ kind. absurd (omega (arith, kind))))) (o.regions k below)) (λ k below. slot_kept j k (o.tasks k below))
+      (λ k below. subst (λ (r : Rec). KeepsRegionSlot w s owes j k r) (sym (stays j regions k (λ kind. absurd (omega (arith, kind))))) (o.regions k below))
+      (λ k below. slot_kept j k (o.tasks k below))
 
   -- each deferred task is where it was, or has changed its slot for a hand or its hand for a slot
   pub slot_stored : ((q : Tid) (t : Task) → task_of s q ≡ Some t → t.progress ≡ progress.Deferred
@@ -108,29 +131,40 @@ module _ (w : List ℕ) (m : Memory) (s : State) (owes : ℕ → Owed) (i : ℕ)
     deferred = record {
       once = λ q t is deferred.
           let was = keeps.deferred.once q t is deferred in
-          let slots = slots_changed w s row u place there implicit maker slot_below inside m word (slot_word w q) in
+          let slots =
+          slots_changed w s row u place there implicit maker slot_below inside m word (slot_word w q) in
           let owed = owed_put s owes i p known (start_owed q) in
           let even = balance q t is deferred in
           omega (arith, was, slots, owed, even);
       hands = λ j q below.
-          each_put (λ c (o : Owed). c < s.count → o.hand ≡ Some q → (t : Task) × (task_of s q ≡ Some t) × (t.progress ≡ progress.Deferred)) owes i p (λ _. held q)
+          each_put
+          (λ c (o : Owed). c < s.count → o.hand ≡ Some q → (t : Task) × (task_of s q ≡ Some t) × (t.progress ≡ progress.Deferred)) owes i p
+          (λ _. held q)
           j (λ _ there. keeps.deferred.hands j q there) below;
     };
   }
 
 pub slot_takes_keep : SlotTakesKeep
-slot_takes_keep = λ w m s owes i row u place k keeps within v known owed live implicit inside deferred word. taken w m s owes i row u place k keeps within v known owed live implicit inside deferred word
+slot_takes_keep =
+    λ w m s owes i row u place k keeps within v known owed live implicit inside deferred word. taken w m s owes i row u place k keeps within v known owed live implicit inside deferred word
   where
-    taken : (w : List ℕ) (m : Memory) (s : State) (owes : ℕ → Owed) (i : ℕ) (row : Tid) (u : Task) (place : ℕ) (k : Tid) → KeepsWords w m s owes → IsWithin w s → IsValid w → i < s.count → owes i ≡ nothing
+    taken : (w : List ℕ) (m : Memory) (s : State) (owes : ℕ → Owed) (i : ℕ) (row : Tid) (u : Task) (place : ℕ) (k : Tid)
+        → KeepsWords w m s owes → IsWithin w s → IsValid w → i < s.count → owes i ≡ nothing
         → task_of s row ≡ Some u → u.implicit ≡ true → place < width w (number TaskSlots) → IsDeferredIn s u place k → slot_of m row place ≡ slot_word w k
         → KeepsWords w (with_slot m row place 0) s (replace_at owes i (record nothing { hand = Some k }))
     taken w m s owes i row u place k keeps within v known owed live implicit inside deferred word =
-        subst (λ (o : Owed). KeepsWords w (with_slot m row place 0) s (replace_at owes i (record o { hand = Some k }))) owed
+        subst
+        (λ (o : Owed). KeepsWords w (with_slot m row place 0) s (replace_at owes i (record o { hand = Some k }))) owed
         (slot_stored w m s owes i (Some k) row u place 0 keeps known
-        (let count = within.count in let below = (has_record w s row u within live).made_by in omega (arith, count, below)) (has_record w s row u within live).within live implicit inside (inl refl)
+        (let count = within.count in let below = (has_record w s row u within live).made_by in omega (arith, count, below))
+        (has_record w s row u within live).within live implicit inside (inl refl)
         (λ q t is _.
-        let gone : one (0 == slot_word w q) ≡ 0 = ap one (ne_eqb 0 (slot_word w q) (λ none. code_some w q (sym none))) in
-        let was : one (slot_of m row place == slot_word w q) ≡ one (is_task q k) = ap (λ x. one (x == slot_word w q)) word ∙ same_codes w v k q (has_record w s k deferred.task within deferred.live) (has_record w s q t within is) in
+        let gone : one (0 == slot_word w q) ≡ 0 =
+        ap one (ne_eqb 0 (slot_word w q) (λ none. code_some w q (sym none))) in
+        let was : one (slot_of m row place == slot_word w q) ≡ one (is_task q k) =
+        ap (λ x. one (x == slot_word w q)) word
+        ∙ same_codes w v k q (has_record w s k deferred.task within deferred.live)
+        (has_record w s q t within is) in
         let unheld : start_owed q (owes i) ≡ 0 = ap (start_owed q) owed in
         omega (arith, gone, was, unheld))
         (λ q is. let same : k ≡ q = some_same refl is in subst (λ (x : Tid). (t : Task) × (task_of s x ≡ Some t) × (t.progress ≡ progress.Deferred)) same (deferred.task, deferred.live, deferred.progress)))

@@ -44,7 +44,8 @@ other_name q k ne = go (is_some_task q (Some k)) refl
         let generation : q.0.generation ≡ k.0.generation = grind (arith, nat_tests) in
         absurd (ne (id_same q.0 k.0 creator slot generation))
 
-module _ (w : List ℕ) (m : Memory) (s : State) (owes : ℕ → Owed) (i : ℕ) (task : Tid) (new : Task) (k : Tid) (t : Task) (list : Task → List Item)
+module _ (w : List ℕ) (m : Memory) (s : State) (owes : ℕ → Owed) (i : ℕ) (task : Tid) (new : Task) (k : Tid)
+    (t : Task) (list : Task → List Item)
     (keeps : KeepsWords w m s owes) (known : i < s.count) (ready : IsReady w m s owes i task new k t) where
   abbrev g : Task → Task
   g = λ u. record (scheduled i k t u) { list = list u }
@@ -77,27 +78,36 @@ module _ (w : List ℕ) (m : Memory) (s : State) (owes : ℕ → Owed) (i : ℕ)
   in_hand : start_owed task (owes i) ≡ 1
   in_hand = ap (start_owed task) owed ∙ ap one (is_own_id task.0)
 
-  unslotted : (c j : ℕ) → c < s.count → j < per_thread w tasks → (row : Task) → (s.tasks c j).live ≡ Some row → row.implicit ≡ true → (place : ℕ) → place < width w (number TaskSlots)
+  unslotted : (c j : ℕ) → c < s.count → j < per_thread w tasks → (row : Task) → (s.tasks c j).live ≡ Some row
+      → row.implicit ≡ true → (place : ℕ) → place < width w (number TaskSlots)
       → IsDeferredIn s row place task → m c tasks j (number TaskSlots) place ≡ slot_word w task → ⊥
   unslotted c j maker within row is implicit place below _ word =
       let name : Tid = record { 0 = record { creator = c; slot = j; generation = 0 } } in
-      let some : 1 ≤ slots_with w (λ d. m d tasks) s (slot_word w task) = subst (λ code. 1 ≤ slots_with w (λ d. m d tasks) s code) word (slot_counted w s name row place is implicit maker within below m) in
-      let part : start_owed task (owes i) ≤ sum_of_owed s owes (start_owed task) = part_below s.count i (λ c. start_owed task (owes c)) known in
+      let some : 1 ≤ slots_with w (λ d. m d tasks) s (slot_word w task) =
+      subst (λ code. 1 ≤ slots_with w (λ d. m d tasks) s code) word
+      (slot_counted w s name row place is implicit maker within below m) in
+      let part : start_owed task (owes i) ≤ sum_of_owed s owes (start_owed task) =
+      part_below s.count i (λ c. start_owed task (owes c)) known in
       omega (arith, some, part, once, in_hand)
 
   unheld : (j : ℕ) (q : Tid) → j < s.count → j ≢ i → (owes j).hand ≡ Some q → q.0 ≡ task.0 → ⊥
   unheld j q below ne is same =
       let name : q ≡ task = ap (λ (n : Id). record { 0 = n }) same in
-      let here : start_owed task (owes j) ≡ 1 = ap (λ o. one (is_some_task task o)) (is ∙ ap Some name) ∙ ap one (is_own_id task.0) in
-      let parts : start_owed task (owes i) + start_owed task (owes j) ≤ sum_of_owed s owes (start_owed task) = parts_below s.count i j (λ c. start_owed task (owes c)) known below ne in
+      let here : start_owed task (owes j) ≡ 1 =
+      ap (λ o. one (is_some_task task o)) (is ∙ ap Some name) ∙ ap one (is_own_id task.0) in
+      let parts : start_owed task (owes i) + start_owed task (owes j) ≤ sum_of_owed s owes (start_owed task) =
+      parts_below s.count i j (λ c. start_owed task (owes c)) known below ne in
       omega (arith, parts, once, in_hand, here)
 
   -- it is unfinished as before
   unfinished_same : is_unfinished (g new) ≡ is_unfinished new
   unfinished_same = sym (ap (λ (p : Progress). not new.implicit && not (is_finished p)) ready.1.progress)
 
-  environment : KeepsTask w s owes task (m task.0.creator tasks task.0.slot) new → KeepsEnvironment w (m task.0.creator tasks task.0.slot) (g new)
-  environment o = environment_placed w (m task.0.creator tasks task.0.slot) new i t.number (Some k) (exit_below t.exit) 0 o.environment
+  environment : KeepsTask w s owes task (m task.0.creator tasks task.0.slot) new
+      → KeepsEnvironment w (m task.0.creator tasks task.0.slot) (g new)
+  environment o =
+      environment_placed w (m task.0.creator tasks task.0.slot) new i t.number (Some k)
+      (exit_below t.exit) 0 o.environment
 
   pub task_starts : KeepsWords w (with_word m i threads 0 (number ThreadCurrent) 0 (task_address w task)) (with_current (on_task s task g) i (Some task)) (replace_at owes i nothing)
   task_starts =
@@ -105,12 +115,17 @@ module _ (w : List ℕ) (m : Memory) (s : State) (owes : ℕ → Owed) (i : ℕ)
       (task_moved w s task new g live goes m owes i nothing keeps
       (subst (λ (o : Owed). TeamsAlike nothing o) (sym owed) (record { region = refl; tasks = refl; left = refl; assigns = refl; met = refl }))
       (λ n.
-      let same : unfinished_in w after n ≡ unfinished_in w s n = tasks_counted w s task new g live goes (λ _ _ x. one (is_unfinished x && is_region n x.region)) (ap (λ b. one (b && is_region n new.region)) unfinished_same) in
+      let same : unfinished_in w after n ≡ unfinished_in w s n =
+      tasks_counted w s task new g live goes (λ _ _ x. one (is_unfinished x && is_region n x.region))
+      (ap (λ b. one (b && is_region n new.region)) unfinished_same) in
       let owed_same = owed_put_same s owes i nothing (pending_owed n) (sym (ap (pending_owed n) owed)) in
       omega (arith, same, owed_same))
       (λ q.
-      let same : unfinished_children w after q ≡ unfinished_children w s q = tasks_counted w s task new g live goes (λ _ _ x. one (is_unfinished x && is_some_task q x.generating)) (ap (λ b. one (b && is_some_task q new.generating)) unfinished_same) in
-      let owed_same = owed_put_same s owes i nothing (children_owed s q) (sym (ap (children_owed s q) owed)) in
+      let same : unfinished_children w after q ≡ unfinished_children w s q =
+      tasks_counted w s task new g live goes (λ _ _ x. one (is_unfinished x && is_some_task q x.generating))
+      (ap (λ b. one (b && is_some_task q new.generating)) unfinished_same) in
+      let owed_same =
+      owed_put_same s owes i nothing (children_owed s q) (sym (ap (children_owed s q) owed)) in
       omega (arith, same, owed_same))
       unslotted environment
       (λ _. ready.2)
@@ -121,7 +136,9 @@ module _ (w : List ℕ) (m : Memory) (s : State) (owes : ℕ → Owed) (i : ℕ)
       known
 
 pub starts_keep : StartsKeep
-starts_keep = λ w m s owes i task new k t keeps known ready. task_starts w m s owes i task new k t (λ u. working (encounter s i) u.list) keeps known ready
+starts_keep =
+    λ w m s owes i task new k t keeps known ready. task_starts w m s owes i task new k t (λ u. working (encounter s i) u.list) keeps known ready
 
 pub starts_alone_keep : StartsAloneKeep
-starts_alone_keep = λ w m s owes i task new k t keeps known ready. task_starts w m s owes i task new k t (λ u. u.list) keeps known ready
+starts_alone_keep =
+    λ w m s owes i task new k t keeps known ready. task_starts w m s owes i task new k t (λ u. u.list) keeps known ready

@@ -17,22 +17,26 @@ use Rattle.omi_rule_words.specs.Objects.{KeepsEnvironment, KeepsPlace}
 -- ---- threads
 
 module _ (w : List ℕ) (i : ℕ) (r : Rec) (h : ThreadWords) (o : HasCodes (thread_code w i h) r) where
-  pub life_stored : (begun : Bool) → HasCodes (thread_code w i (record h { begun = begun })) (with_word_in r (number ThreadLife) 0 (flag begun))
+  pub life_stored : (begun : Bool)
+      → HasCodes (thread_code w i (record h { begun = begun })) (with_word_in r (number ThreadLife) 0 (flag begun))
   life_stored begun ThreadLife zero word is = same_word _ _ is
   life_stored begun ThreadLife (suc at) word is = absurd (cc)
   life_stored begun f at word is = o f at word is
 
-  pub current_code_stored : (current : Option Tid) → HasCodes (thread_code w i (record h { current = current })) (with_word_in r (number ThreadCurrent) 0 (task_word w current))
+  pub current_code_stored : (current : Option Tid)
+      → HasCodes (thread_code w i (record h { current = current })) (with_word_in r (number ThreadCurrent) 0 (task_word w current))
   current_code_stored current ThreadCurrent zero word is = same_word _ _ is
   current_code_stored current ThreadCurrent (suc at) word is = absurd (cc)
   current_code_stored current f at word is = o f at word is
 
-  pub state_stored : (state wait : ℕ) → HasCodes (thread_code w i (record h { state = state; wait = wait })) (with_word_in r (number ThreadState) 0 (state_word state wait))
+  pub state_stored : (state wait : ℕ)
+      → HasCodes (thread_code w i (record h { state = state; wait = wait })) (with_word_in r (number ThreadState) 0 (state_word state wait))
   state_stored state wait ThreadState zero word is = same_word _ _ is
   state_stored state wait ThreadState (suc at) word is = absurd (cc)
   state_stored state wait f at word is = o f at word is
 
-  pub claim_stored : (claim : Claim) → HasCodes (thread_code w i (record h { claim = claim })) (with_word_in r (number ThreadClaim) 0 (claim_word claim))
+  pub claim_stored : (claim : Claim)
+      → HasCodes (thread_code w i (record h { claim = claim })) (with_word_in r (number ThreadClaim) 0 (claim_word claim))
   claim_stored claim ThreadClaim zero word is = same_word _ _ is
   claim_stored claim ThreadClaim (suc at) word is = absurd (cc)
   claim_stored claim f at word is = o f at word is
@@ -44,27 +48,33 @@ module _ (w : List ℕ) (i : ℕ) (r : Rec) (h : ThreadWords) (o : HasCodes (thr
 -- ---- regions and tasks
 
 -- a region doesn't tell the counts of its record
-pub region_apart : (w : List ℕ) (r : RegionWords) (f : Field) (at word : ℕ) → region_code w r f at ≡ Some word → (number f ≢ number RegionPending) × (number f ≢ number RegionLeft)
+pub region_apart : (w : List ℕ) (r : RegionWords) (f : Field) (at word : ℕ) → region_code w r f at ≡ Some word
+    → (number f ≢ number RegionPending) × (number f ≢ number RegionLeft)
 region_apart w r RegionPending at word is = absurd (cc)
 region_apart w r RegionLeft at word is = absurd (cc)
 region_apart w r f at word is = (λ e. absurd (omega (arith, e)), λ e. absurd (omega (arith, e)))
 
 -- nor a task the count and the slots of its
-pub task_apart : (w : List ℕ) (t : TaskWords) (f : Field) (at word : ℕ) → task_code w t f at ≡ Some word → (number f ≢ number TaskChildren) × (number f ≢ number TaskSlots)
+pub task_apart : (w : List ℕ) (t : TaskWords) (f : Field) (at word : ℕ) → task_code w t f at ≡ Some word
+    → (number f ≢ number TaskChildren) × (number f ≢ number TaskSlots)
 task_apart w t TaskChildren at word is = absurd (cc)
 task_apart w t TaskSlots at word is = absurd (cc)
 task_apart w t f at word is = (λ e. absurd (omega (arith, e)), λ e. absurd (omega (arith, e)))
 
 -- a field of a task's place is another than one that is none
 pub place_apart : (f g : Field) → is_place f ≡ true → is_place g ≡ false → number f ≢ number g
-place_apart f g one none same = clash one (ap (λ n. list_any (λ x. number x == n) (TaskThread ∷ TaskNumber ∷ TaskScheduling ∷ TaskExit ∷ TaskEnter ∷ [])) same ∙ none)
+place_apart f g one none same =
+    clash one
+    (ap (λ n. list_any (λ x. number x == n) (TaskThread ∷ TaskNumber ∷ TaskScheduling ∷ TaskExit ∷ TaskEnter ∷ [])) same ∙ none)
   where
     clash : {b : Bool} → b ≡ true → b ≡ false → ⊥
     clash p q = cc
 
 -- a task has the codes of its environment wherever its place is
-pub environment_placed : (w : List ℕ) (r : Rec) (t : Task) (thread member : ℕ) (scheduling : Option Tid) (exit enter : ℕ) → KeepsEnvironment w r t
-    → KeepsEnvironment w r (record t { thread = thread; number = member; scheduling = scheduling; exit = exit; enter = enter })
+pub environment_placed : (w : List ℕ) (r : Rec) (t : Task) (thread member : ℕ) (scheduling : Option Tid) (exit enter : ℕ)
+    → KeepsEnvironment w r t
+    → KeepsEnvironment w r
+    (record t { thread = thread; number = member; scheduling = scheduling; exit = exit; enter = enter })
 environment_placed w r t thread member scheduling exit enter o TaskThread at word none is = absurd (cc)
 environment_placed w r t thread member scheduling exit enter o TaskNumber at word none is = absurd (cc)
 environment_placed w r t thread member scheduling exit enter o TaskScheduling at word none is = absurd (cc)
@@ -73,7 +83,8 @@ environment_placed w r t thread member scheduling exit enter o TaskEnter at word
 environment_placed w r t thread member scheduling exit enter o f at word none is = o f at word none is
 
 -- all codes are those of the environment and of the place
-pub all_codes : (w : List ℕ) (r : Rec) (t : Task) → KeepsEnvironment w r t → KeepsPlace w r t → HasCodes (task_code w (task_told t)) r
+pub all_codes : (w : List ℕ) (r : Rec) (t : Task) → KeepsEnvironment w r t → KeepsPlace w r t
+    → HasCodes (task_code w (task_told t)) r
 all_codes w r t environment place f at word is = go (is_place f) refl
   where
     go : (b : Bool) → is_place f ≡ b → r (number f) at ≡ word

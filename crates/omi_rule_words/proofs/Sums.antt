@@ -16,10 +16,12 @@ sum_none (suc n) f none =
     omega (arith, before, last)
 
 -- where no thread owes anything
-pub owed_none : (s : State) (owes : ℕ → Owed) (f : Owed → ℕ) → ((i : ℕ) → owes i ≡ nothing) → f nothing ≡ 0 → sum_of_owed s owes f ≡ 0
+pub owed_none : (s : State) (owes : ℕ → Owed) (f : Owed → ℕ) → ((i : ℕ) → owes i ≡ nothing) → f nothing ≡ 0
+    → sum_of_owed s owes f ≡ 0
 owed_none s owes f none zero_is = sum_none s.count (λ i. f (owes i)) (λ i. ap f (none i) ∙ zero_is)
 
-pub slots_none : (w : List ℕ) (s : State) (f : ℕ → ℕ → Task → ℕ) → ((c k : ℕ) → of_live (f c k) (s.tasks c k).live ≡ 0) → sum_of_slots w s f ≡ 0
+pub slots_none : (w : List ℕ) (s : State) (f : ℕ → ℕ → Task → ℕ)
+    → ((c k : ℕ) → of_live (f c k) (s.tasks c k).live ≡ 0) → sum_of_slots w s f ≡ 0
 slots_none w s f none =
     sum_none s.count (λ c. sum_below (per_thread w tasks) (λ k. of_live (f c k) (s.tasks c k).live))
     (λ c. sum_none (per_thread w tasks) (λ k. of_live (f c k) (s.tasks c k).live) (none c))
@@ -32,13 +34,17 @@ sum_same (suc n) f g same =
     let last = same n in
     omega (arith, before, last)
 
-pub slots_same : (w : List ℕ) (s : State) (f g : ℕ → ℕ → Task → ℕ) → ((c k : ℕ) → of_live (f c k) (s.tasks c k).live ≡ of_live (g c k) (s.tasks c k).live) → sum_of_slots w s f ≡ sum_of_slots w s g
+pub slots_same : (w : List ℕ) (s : State) (f g : ℕ → ℕ → Task → ℕ)
+    → ((c k : ℕ) → of_live (f c k) (s.tasks c k).live ≡ of_live (g c k) (s.tasks c k).live)
+    → sum_of_slots w s f ≡ sum_of_slots w s g
 slots_same w s f g same =
-    sum_same s.count (λ c. sum_below (per_thread w tasks) (λ k. of_live (f c k) (s.tasks c k).live)) (λ c. sum_below (per_thread w tasks) (λ k. of_live (g c k) (s.tasks c k).live))
+    sum_same s.count (λ c. sum_below (per_thread w tasks) (λ k. of_live (f c k) (s.tasks c k).live))
+    (λ c. sum_below (per_thread w tasks) (λ k. of_live (g c k) (s.tasks c k).live))
     (λ c. sum_same (per_thread w tasks) (λ k. of_live (f c k) (s.tasks c k).live) (λ k. of_live (g c k) (s.tasks c k).live) (same c))
 
 -- a sum with one part changed
-pub sum_changed : (n i : ℕ) (f g : ℕ → ℕ) → i < n → ((k : ℕ) → k ≢ i → g k ≡ f k) → sum_below n g + f i ≡ sum_below n f + g i
+pub sum_changed : (n i : ℕ) (f g : ℕ → ℕ) → i < n → ((k : ℕ) → k ≢ i → g k ≡ f k)
+    → sum_below n g + f i ≡ sum_below n f + g i
 sum_changed zero i f g within same = absurd (omega (arith, within))
 sum_changed (suc n) i f g within same = go (λ before. sum_changed n i f g before same) (i == n) refl
   where
@@ -49,7 +55,8 @@ sum_changed (suc n) i f g within same = go (λ before. sum_changed n i f g befor
         let last = same n (λ is. omega (arith, is, before)) in
         omega (arith, front, last)
 
-    go : (i < n → sum_below n g + f i ≡ sum_below n f + g i) → (b : Bool) → i == n ≡ b → sum_below n g + g n + f i ≡ sum_below n f + f n + g i
+    go : (i < n → sum_below n g + f i ≡ sum_below n f + g i) → (b : Bool) → i == n ≡ b
+        → sum_below n g + g n + f i ≡ sum_below n f + f n + g i
     go front_changed true e =
         let is : i ≡ n = eqb-true i n e in
         let front = all_same n (omega (arith, is)) in
@@ -99,7 +106,8 @@ sum_none_within (suc n) f none =
     let last = none n (omega arith) in
     omega (arith, before, last)
 
-pub slots_none_within : (w : List ℕ) (s : State) (f : ℕ → ℕ → Task → ℕ) → ((c k : ℕ) → c < s.count → k < per_thread w tasks → of_live (f c k) (s.tasks c k).live ≡ 0)
+pub slots_none_within : (w : List ℕ) (s : State) (f : ℕ → ℕ → Task → ℕ)
+    → ((c k : ℕ) → c < s.count → k < per_thread w tasks → of_live (f c k) (s.tasks c k).live ≡ 0)
     → sum_of_slots w s f ≡ 0
 slots_none_within w s f none =
     sum_none_within s.count (λ c. sum_below (per_thread w tasks) (λ k. of_live (f c k) (s.tasks c k).live))

@@ -29,8 +29,10 @@ use Rattle.omi_rule_words.proofs.Changed.{current_stored, on_becomes}
 use Rattle.omi_rule_words.proofs.Renewed.{OwesSame, TaskRenews, owes_same, region_becomes, renewed, task_stays}
 use Rattle.omi_rule_words.proofs.Sums.{part_below, sum_same}
 
-module _ (w : List ℕ) (m : Memory) (s : State) (owes : ℕ → Owed) (i : ℕ) (k : Tid) (keeps : KeepsWords w m s owes) (known : i < s.count) (owed : owes i ≡ record nothing { met = true })
-    (waits : WaitsFor s i k) (alone : (t : Tid) → WaitsFor s i t → t ≡ k) (implicit : (t : Task) → task_of s k ≡ Some t → t.implicit ≡ true) where
+module _ (w : List ℕ) (m : Memory) (s : State) (owes : ℕ → Owed) (i : ℕ) (k : Tid)
+    (keeps : KeepsWords w m s owes) (known : i < s.count) (owed : owes i ≡ record nothing { met = true })
+    (waits : WaitsFor s i k) (alone : (t : Tid) → WaitsFor s i t → t ≡ k)
+    (implicit : (t : Task) → task_of s k ≡ Some t → t.implicit ≡ true) where
   abbrev goes_on : Task → Task
   goes_on t = record t { progress = progress.Begun }
 
@@ -41,7 +43,9 @@ module _ (w : List ℕ) (m : Memory) (s : State) (owes : ℕ → Owed) (i : ℕ)
   other = replace_at owes i nothing
 
   alike : (j : ℕ) → OwesSame (other j) (owes j)
-  alike j = each_put (λ c (x : Owed). OwesSame x (owes c)) owes i nothing (subst (λ (o : Owed). OwesSame nothing o) (sym owed) own) j (λ _. owes_same (owes j))
+  alike j =
+      each_put (λ c (x : Owed). OwesSame x (owes c)) owes i nothing
+      (subst (λ (o : Owed). OwesSame nothing o) (sym owed) own) j (λ _. owes_same (owes j))
     where
       own : OwesSame nothing (record nothing { met = true })
       own = record { region = refl; tasks = refl; pending = refl; raised = refl; lowered = refl; hand = refl }
@@ -49,7 +53,8 @@ module _ (w : List ℕ) (m : Memory) (s : State) (owes : ℕ → Owed) (i : ℕ)
   begins : (t : Task) → task_of s k ≡ Some t → TaskRenews t (goes_on t)
   begins t live =
       let same : waits.task ≡ t = some_same waits.live live in
-      let waiting : t.progress ≡ progress.NotBegun = subst (λ (x : Task). x.progress ≡ progress.NotBegun) same waits.progress in
+      let waiting : t.progress ≡ progress.NotBegun =
+      subst (λ (x : Task). x.progress ≡ progress.NotBegun) same waits.progress in
       record { progress = progress.Begun; list = t.list; is = refl; goes = inr (record { implicit = implicit t live; was = λ deferred. absurd (cc); now = λ deferred. absurd (cc) }) }
 
   -- the other tasks wait as before
@@ -58,11 +63,14 @@ module _ (w : List ℕ) (m : Memory) (s : State) (owes : ℕ → Owed) (i : ℕ)
     where
       go : (q.0 ≡ k.0) ⊎ (q.0 ≡ k.0 → ⊥) → WaitsFor s j q × (q.0 ≡ k.0 → ⊥)
       go (inl same) =
-          let (t, was, is) = map_some goes_on (named s.tasks k.0) x.task (sym (on_same s.tasks k.0 goes_on) ∙ (ap (named (on s.tasks k.0 goes_on)) (sym same) ∙ x.live)) in
+          let (t, was, is) =
+          map_some goes_on (named s.tasks k.0) x.task
+          (sym (on_same s.tasks k.0 goes_on) ∙ (ap (named (on s.tasks k.0 goes_on)) (sym same) ∙ x.live)) in
           let begun : x.task.progress ≡ progress.Begun = ap (λ (y : Task). y.progress) is in
           let waiting = x.progress in
           absurd (cc)
-      go (inr ne) = (record { task = x.task; live = sym (on_other s.tasks k.0 goes_on q.0 ne) ∙ x.live; progress = x.progress; thread = x.thread }, ne)
+      go (inr ne) =
+          (record { task = x.task; live = sym (on_other s.tasks k.0 goes_on q.0 ne) ∙ x.live; progress = x.progress; thread = x.thread }, ne)
 
   waits_after : (j : ℕ) (q : Tid) → WaitsFor s j q → (q.0 ≡ k.0 → ⊥) → WaitsFor after j q
   waits_after j q x ne = record { task = x.task; live = on_other s.tasks k.0 goes_on q.0 ne ∙ x.live; progress = x.progress; thread = x.thread }
@@ -83,17 +91,21 @@ module _ (w : List ℕ) (m : Memory) (s : State) (owes : ℕ → Owed) (i : ℕ)
   word_is : m i threads 0 (number ThreadAssign) 0 ≡ 0
   word_is = go ((keeps.made i known).assign.waiting k waits).word_is
     where
-      go : (m i threads 0 (number ThreadAssign) 0 ≡ 0) ⊎ (m i threads 0 (number ThreadAssign) 0 ≡ task_address w k) → m i threads 0 (number ThreadAssign) 0 ≡ 0
+      go : (m i threads 0 (number ThreadAssign) 0 ≡ 0) ⊎ (m i threads 0 (number ThreadAssign) 0 ≡ task_address w k)
+          → m i threads 0 (number ThreadAssign) 0 ≡ 0
       go (inl none) = none
       go (inr stored) =
           let once = ((keeps.made i known).assign.waiting k waits).once in
-          let there : one (m i threads 0 (number ThreadAssign) 0 == task_address w k) ≡ 1 = ap one (eq-eqb _ _ stored) in
+          let there : one (m i threads 0 (number ThreadAssign) 0 == task_address w k) ≡ 1 =
+          ap one (eq-eqb _ _ stored) in
           absurd (omega (arith, once, met, there))
 
-  still_waiting : (ms : List (Tid × ℕ)) → assigns_in i k ms ≡ 0 → All (λ q. WaitsFor s q.1 q.0) ms → All (λ q. WaitsFor after q.1 q.0) ms
+  still_waiting : (ms : List (Tid × ℕ)) → assigns_in i k ms ≡ 0 → All (λ q. WaitsFor s q.1 q.0) ms
+      → All (λ q. WaitsFor after q.1 q.0) ms
   still_waiting [] none all = All-nil (λ q. WaitsFor after q.1 q.0)
   still_waiting (x ∷ xs) none all =
-      All-cons (λ q. WaitsFor after q.1 q.0) x xs (waits_after x.1 x.0 head ne) (still_waiting xs (omega (arith, none)) (All-tail (λ q. WaitsFor s q.1 q.0) x xs all))
+      All-cons (λ q. WaitsFor after q.1 q.0) x xs (waits_after x.1 x.0 head ne)
+      (still_waiting xs (omega (arith, none)) (All-tail (λ q. WaitsFor s q.1 q.0) x xs all))
     where
       head : WaitsFor s x.1 x.0
       head = All-head (λ q. WaitsFor s q.1 q.0) x xs all
@@ -102,13 +114,15 @@ module _ (w : List ℕ) (m : Memory) (s : State) (owes : ℕ → Owed) (i : ℕ)
       ne same =
           let thread : x.1 ≡ i = of_thread x.1 x.0 head same in
           let a : x.1 == i ≡ true = eq-eqb _ _ thread in
-          let b : is_task k x.0 ≡ true = subst (λ (n : Id). is_task k (record { 0 = n }) ≡ true) (sym same) (grind (arith, nat_tests)) in
+          let b : is_task k x.0 ≡ true =
+          subst (λ (n : Id). is_task k (record { 0 = n }) ≡ true) (sym same) (grind (arith, nat_tests)) in
           let both : one (x.1 == i && is_task k x.0) ≡ 1 = ap (λ c. one (c && is_task k x.0)) a ∙ ap one b in
           omega (arith, both, none)
 
   assigns : (j : ℕ) → j < s.count → All (λ q. WaitsFor after q.1 q.0) (other j).assigns
   assigns j within =
-      each_put (λ c (x : Owed). c < s.count → All (λ q. WaitsFor after q.1 q.0) x.assigns) owes i nothing (λ _. All-nil (λ q. WaitsFor after q.1 q.0)) j
+      each_put (λ c (x : Owed). c < s.count → All (λ q. WaitsFor after q.1 q.0) x.assigns) owes i nothing
+      (λ _. All-nil (λ q. WaitsFor after q.1 q.0)) j
       (λ _ there.
       let bound = part_below s.count j (λ c. assign_owed i k (owes c)) there in
       still_waiting (owes j).assigns (let zero_is = unowed in omega (arith, bound, zero_is)) (keeps.made j there).objects.assigns) within
@@ -133,20 +147,25 @@ module _ (w : List ℕ) (m : Memory) (s : State) (owes : ℕ → Owed) (i : ℕ)
                 let sum : sum_of_owed s other (assign_owed j q) ≡ sum_of_owed s owes (assign_owed j q)
                 = sum_same s.count (λ c. assign_owed j q (other c)) (λ c. assign_owed j q (owes c))
                 (λ c. each_put (λ d (x : Owed). assign_owed j q x ≡ assign_owed j q (owes d)) owes i nothing (sym (ap (assign_owed j q) owed)) c (λ _. refl)) in
-                let met_same : one (other j).met ≡ one (owes j).met = ap (λ (x : Owed). one x.met) (put_other owes i j nothing ne) in
+                let met_same : one (other j).met ≡ one (owes j).met =
+                ap (λ (x : Owed). one x.met) (put_other owes i j nothing ne) in
                 record { word_is = was.word_is; once = omega (arith, once, sum, met_same) };
             none = λ nobody. (keeps.made j within).assign.none (λ q there. nobody q (waits_after j q there (λ same. ne (of_thread j q there same))));
           }
 
   left_owes : (j : ℕ) → (other j).left ≡ (owes j).left
-  left_owes j = each_put (λ c (x : Owed). x.left ≡ (owes c).left) owes i nothing (sym (ap (λ (o : Owed). o.left) owed)) j (λ _. refl)
+  left_owes j =
+      each_put (λ c (x : Owed). x.left ≡ (owes c).left) owes i nothing
+      (sym (ap (λ (o : Owed). o.left) owed)) j (λ _. refl)
 
-  left_same : (c j : ℕ) (x y : Region) → x ≡ y → m c regions j (number RegionLeft) 0 + sum_of_owed s other (left_owed (region_in c j (s.regions c j))) + ended_members x
+  left_same : (c j : ℕ) (x y : Region) → x ≡ y
+      → m c regions j (number RegionLeft) 0 + sum_of_owed s other (left_owed (region_in c j (s.regions c j))) + ended_members x
       ≡ m c regions j (number RegionLeft) 0 + sum_of_owed s owes (left_owed (region_in c j (s.regions c j))) + ended_members y
   left_same c j x y same =
       let name : Rid = region_in c j (s.regions c j) in
       let owes_left : sum_of_owed s other (left_owed name) ≡ sum_of_owed s owes (left_owed name)
-      = sum_same s.count (λ d. left_owed name (other d)) (λ d. left_owed name (owes d)) (λ d. ap (λ q. one (is_some_region name q)) (left_owes d)) in
+      = sum_same s.count (λ d. left_owed name (other d)) (λ d. left_owed name (owes d))
+      (λ d. ap (λ q. one (is_some_region name q)) (left_owes d)) in
       let members : ended_members x ≡ ended_members y = ap ended_members same in
       omega (arith, owes_left, members)
 
@@ -161,4 +180,5 @@ module _ (w : List ℕ) (m : Memory) (s : State) (owes : ℕ → Owed) (i : ℕ)
       known
 
 pub begins_keep : BeginsKeep
-begins_keep = λ w m s owes i k keeps known owed waits alone implicit. task_begins w m s owes i k keeps known owed waits alone implicit
+begins_keep =
+    λ w m s owes i k keeps known owed waits alone implicit. task_begins w m s owes i k keeps known owed waits alone implicit

@@ -23,17 +23,25 @@ on_none q o is = ap (λ (x : Option Tid). one (is_some_task q x)) is
 on_own : (k : Tid) (o : Option Tid) → o ≡ Some k → one (is_some_task k o) ≡ 1
 on_own k o is = ap (λ (x : Option Tid). one (is_some_task k x)) is ∙ ap one (is_own_id k.0)
 
-on_other : (q k : Tid) (o : Option Tid) → o ≡ Some k → (q.0.creator ≡ k.0.creator → q.0.slot ≡ k.0.slot → ⊥) → one (is_some_task q o) ≡ 0
-on_other q k o is apart = ap (λ (x : Option Tid). one (is_some_task q x)) is ∙ ap one (is_other_id q.0 k.0 apart)
+on_other : (q k : Tid) (o : Option Tid) → o ≡ Some k → (q.0.creator ≡ k.0.creator → q.0.slot ≡ k.0.slot → ⊥)
+    → one (is_some_task q o) ≡ 0
+on_other q k o is apart =
+    ap (λ (x : Option Tid). one (is_some_task q x)) is ∙ ap one (is_other_id q.0 k.0 apart)
 
 pub children_adds_keep : ChildrenAddsKeep
-children_adds_keep = λ w m s owes i k keeps known none live small. kept w m s owes i k keeps known none live small
+children_adds_keep =
+    λ w m s owes i k keeps known none live small. kept w m s owes i k keeps known none live small
   where
-    kept : (w : List ℕ) (m : Memory) (s : State) (owes : ℕ → Owed) (i : ℕ) (k : Tid) → KeepsWords w m s owes → i < s.count → (owes i).raised ≡ None → IsSome (task_of s k) → word_of_task m k TaskChildren < MOST_EVENTS
-        → KeepsWords w (with_task_word m k TaskChildren (one_more (word_of_task m k TaskChildren))) s (replace_at owes i (record (owes i) { raised = Some k }))
+    kept : (w : List ℕ) (m : Memory) (s : State) (owes : ℕ → Owed) (i : ℕ) (k : Tid) → KeepsWords w m s owes
+        → i < s.count → (owes i).raised ≡ None → IsSome (task_of s k)
+        → word_of_task m k TaskChildren < MOST_EVENTS
+        → KeepsWords w (with_task_word m k TaskChildren (one_more (word_of_task m k TaskChildren))) s
+        (replace_at owes i (record (owes i) { raised = Some k }))
     kept w m s owes i k keeps known none live small =
         let (t, is) = live_of (task_of s k) live in
-        children_stored w m s owes i p k t keeps known (record { region = refl; tasks = refl; left = refl; assigns = refl; met = refl; hand = refl }) is (λ q. refl)
+        children_stored w m s owes i p k t keeps known
+        (record { region = refl; tasks = refl; left = refl; assigns = refl; met = refl; hand = refl }) is
+        (λ q. refl)
         (λ q apart. ap (λ x. x + lowered q) (on_other q k (Some k) refl apart ∙ sym (on_none q (owes i).raised none)))
         (λ x. record {
           pending = x.pending;
@@ -44,7 +52,8 @@ children_adds_keep = λ w m s owes i k keeps known none live small. kept w m s o
         })
         (one_more (word_of_task m k TaskChildren))
         (λ _.
-        let before : children_owed s k (owes i) ≡ 0 + lowered k = ap (λ x. x + lowered k) (on_none k (owes i).raised none) in
+        let before : children_owed s k (owes i) ≡ 0 + lowered k =
+        ap (λ x. x + lowered k) (on_none k (owes i).raised none) in
         let now : children_owed s k p ≡ 1 + lowered k = ap (λ x. x + lowered k) (on_own k (Some k) refl) in
         omega (arith, before, now, small))
       where
@@ -55,13 +64,21 @@ children_adds_keep = λ w m s owes i k keeps known none live small. kept w m s o
         lowered q = one (is_some_task q (option_and_then (generating_of s) (owes i).lowered))
 
 pub children_subtracts_keep : ChildrenSubtractsKeep
-children_subtracts_keep = λ w m s owes i k g keeps known owed made small. kept w m s owes i k g keeps known owed made small
+children_subtracts_keep =
+    λ w m s owes i k g keeps known owed made small. kept w m s owes i k g keeps known owed made small
   where
-    kept : (w : List ℕ) (m : Memory) (s : State) (owes : ℕ → Owed) (i : ℕ) (k g : Tid) → KeepsWords w m s owes → i < s.count → (owes i).lowered ≡ Some k → generating_of s k ≡ Some g → word_of_task m g TaskChildren < 2 ^ 64
-        → KeepsWords w (with_task_word m g TaskChildren (one_less (word_of_task m g TaskChildren))) s (replace_at owes i (record (owes i) { lowered = None }))
+    kept : (w : List ℕ) (m : Memory) (s : State) (owes : ℕ → Owed) (i : ℕ) (k g : Tid) → KeepsWords w m s owes
+        → i < s.count → (owes i).lowered ≡ Some k → generating_of s k ≡ Some g
+        → word_of_task m g TaskChildren < 2 ^ 64
+        → KeepsWords w (with_task_word m g TaskChildren (one_less (word_of_task m g TaskChildren))) s
+        (replace_at owes i (record (owes i) { lowered = None }))
     kept w m s owes i k g keeps known owed made small =
-        let (t, is) = live_of (task_of s g) (subst (λ (o : Option Tid). IsSome (option_and_then (task_of s) o)) made ((keeps.made i known).objects.lowered k owed).1) in
-        children_stored w m s owes i p g t keeps known (record { region = refl; tasks = refl; left = refl; assigns = refl; met = refl; hand = refl }) is (λ q. refl)
+        let (t, is) =
+        live_of (task_of s g)
+        (subst (λ (o : Option Tid). IsSome (option_and_then (task_of s) o)) made ((keeps.made i known).objects.lowered k owed).1) in
+        children_stored w m s owes i p g t keeps known
+        (record { region = refl; tasks = refl; left = refl; assigns = refl; met = refl; hand = refl }) is
+        (λ q. refl)
         (λ q apart. ap (λ x. raised q + x) (sym (on_other q g (option_and_then (generating_of s) (owes i).lowered) of_made apart)))
         (λ x. record {
           pending = x.pending;
@@ -72,7 +89,8 @@ children_subtracts_keep = λ w m s owes i k g keeps known owed made small. kept 
         })
         (one_less (word_of_task m g TaskChildren))
         (λ least.
-        let before : children_owed s g (owes i) ≡ raised g + 1 = ap (λ x. raised g + x) (on_own g (option_and_then (generating_of s) (owes i).lowered) of_made) in
+        let before : children_owed s g (owes i) ≡ raised g + 1 =
+        ap (λ x. raised g + x) (on_own g (option_and_then (generating_of s) (owes i).lowered) of_made) in
         let now : children_owed s g p ≡ raised g + 0 = refl in
         omega (arith, least, before, now, small))
       where

@@ -52,7 +52,8 @@ pub record TeamsAlike (p o : Owed) : Type 0 where
   pub assigns : p.assigns ≡ o.assigns
   pub met : p.met ≡ o.met
 
-module _ (w : List ℕ) (s : State) (k : Tid) (t : Task) (g : Task → Task) (live : task_of s k ≡ Some t) (goes : GoesTo t (g t)) where
+module _ (w : List ℕ) (s : State) (k : Tid) (t : Task) (g : Task → Task) (live : task_of s k ≡ Some t)
+    (goes : GoesTo t (g t)) where
   abbrev after : State
   after = on_task s k g
 
@@ -65,13 +66,17 @@ module _ (w : List ℕ) (s : State) (k : Tid) (t : Task) (g : Task → Task) (li
   -- the slots of all tasks
   slot_here : after.tasks k.0.creator k.0.slot ≡ record { generations = there.generations; live = Some (g t) }
   slot_here =
-      each_slot s.tasks k.0 (λ c j (y : Slot Task). c ≡ k.0.creator → j ≡ k.0.slot → y ≡ record { generations = there.generations; live = Some (g t) }) (changed k.0.generation g there)
+      each_slot s.tasks k.0
+      (λ c j (y : Slot Task). c ≡ k.0.creator → j ≡ k.0.slot → y ≡ record { generations = there.generations; live = Some (g t) })
+      (changed k.0.generation g there)
       (λ _ _. ap (λ b. if b then record { generations = there.generations; live = option_map g there.live } else there) (eq-eqb _ _ (found_generations k.0.generation there t live))
       ∙ ap (λ o. record { generations = there.generations; live = option_map g o }) live_there)
       (λ c j apart a b. absurd (apart a b)) k.0.creator k.0.slot refl refl
 
   slot_beside : (c j : ℕ) → (c ≡ k.0.creator → j ≡ k.0.slot → ⊥) → after.tasks c j ≡ s.tasks c j
-  slot_beside = each_slot s.tasks k.0 (λ c j (y : Slot Task). (c ≡ k.0.creator → j ≡ k.0.slot → ⊥) → y ≡ s.tasks c j) (changed k.0.generation g there) (λ apart. absurd (apart refl refl)) (λ c j _ _. refl)
+  slot_beside =
+      each_slot s.tasks k.0 (λ c j (y : Slot Task). (c ≡ k.0.creator → j ≡ k.0.slot → ⊥) → y ≡ s.tasks c j)
+      (changed k.0.generation g there) (λ apart. absurd (apart refl refl)) (λ c j _ _. refl)
 
   -- what is found under a name
   now : task_of after k ≡ Some (g t)
@@ -81,7 +86,9 @@ module _ (w : List ℕ) (s : State) (k : Tid) (t : Task) (g : Task → Task) (li
   beside q ne = on_other s.tasks k.0 g q.0 ne
 
   -- a name is this one, or the same is found under it
-  each_name : (P : Tid → Option Task → Option Task → Type 0) → P k (Some t) (Some (g t)) → ((q : Tid) (o : Option Task) → (q.0 ≡ k.0 → ⊥) → P q o o) → (q : Tid) → P q (task_of s q) (task_of after q)
+  each_name : (P : Tid → Option Task → Option Task → Type 0) → P k (Some t) (Some (g t))
+      → ((q : Tid) (o : Option Task) → (q.0 ≡ k.0 → ⊥) → P q o o) → (q : Tid)
+      → P q (task_of s q) (task_of after q)
   each_name P here other q = go (same_or_not q.0 k.0)
     where
       go : (q.0 ≡ k.0) ⊎ (q.0 ≡ k.0 → ⊥) → P q (task_of s q) (task_of after q)
@@ -98,7 +105,9 @@ module _ (w : List ℕ) (s : State) (k : Tid) (t : Task) (g : Task → Task) (li
 
   pub generating_same : (q : Tid) → generating_of after q ≡ generating_of s q
   generating_same =
-      each_name (λ q o p. option_and_then (λ (x : Task). x.generating) p ≡ option_and_then (λ (x : Task). x.generating) o) goes.generating (λ q o _. refl)
+      each_name
+      (λ q o p. option_and_then (λ (x : Task). x.generating) p ≡ option_and_then (λ (x : Task). x.generating) o) goes.generating
+      (λ q o _. refl)
 
   -- what is found under another name, as it was
   stays_after : (q : Tid) (x : Task) → task_of s q ≡ Some x → (q.0 ≡ k.0 → ⊥) → task_of after q ≡ Some x
@@ -143,16 +152,21 @@ module _ (w : List ℕ) (s : State) (k : Tid) (t : Task) (g : Task → Task) (li
   abbrev counted_at : (ℕ → ℕ → Task → ℕ) → State → ℕ → ℕ → ℕ
   counted_at f u c j = of_live (f c j) (u.tasks c j).live
 
-  counted_here : (f : ℕ → ℕ → Task → ℕ) → (counted_at f after k.0.creator k.0.slot ≡ f k.0.creator k.0.slot (g t)) × (counted_at f s k.0.creator k.0.slot ≡ f k.0.creator k.0.slot t)
-  counted_here f = (ap (λ (x : Slot Task). of_live (f k.0.creator k.0.slot) x.live) slot_here, ap (of_live (f k.0.creator k.0.slot)) live_there)
+  counted_here : (f : ℕ → ℕ → Task → ℕ)
+      → (counted_at f after k.0.creator k.0.slot ≡ f k.0.creator k.0.slot (g t)) × (counted_at f s k.0.creator k.0.slot ≡ f k.0.creator k.0.slot t)
+  counted_here f =
+      (ap (λ (x : Slot Task). of_live (f k.0.creator k.0.slot) x.live) slot_here, ap (of_live (f k.0.creator k.0.slot)) live_there)
 
-  counted_beside : (f : ℕ → ℕ → Task → ℕ) (c j : ℕ) → (c ≡ k.0.creator → j ≡ k.0.slot → ⊥) → counted_at f after c j ≡ counted_at f s c j
+  counted_beside : (f : ℕ → ℕ → Task → ℕ) (c j : ℕ) → (c ≡ k.0.creator → j ≡ k.0.slot → ⊥)
+      → counted_at f after c j ≡ counted_at f s c j
   counted_beside f c j apart = ap (λ (x : Slot Task). of_live (f c j) x.live) (slot_beside c j apart)
 
   -- where it counts the same
-  pub tasks_counted : (f : ℕ → ℕ → Task → ℕ) → f k.0.creator k.0.slot (g t) ≡ f k.0.creator k.0.slot t → sum_of_slots w after f ≡ sum_of_slots w s f
+  pub tasks_counted : (f : ℕ → ℕ → Task → ℕ) → f k.0.creator k.0.slot (g t) ≡ f k.0.creator k.0.slot t
+      → sum_of_slots w after f ≡ sum_of_slots w s f
   tasks_counted f same =
-      sum_same s.count (λ c. sum_below (per_thread w tasks) (λ j. counted_at f after c j)) (λ c. sum_below (per_thread w tasks) (λ j. counted_at f s c j))
+      sum_same s.count (λ c. sum_below (per_thread w tasks) (λ j. counted_at f after c j))
+      (λ c. sum_below (per_thread w tasks) (λ j. counted_at f s c j))
       (λ c. sum_same (per_thread w tasks) (λ j. counted_at f after c j) (λ j. counted_at f s c j)
       (λ j. each_place (λ c j. counted_at f after c j ≡ counted_at f s c j) k.0.creator k.0.slot ((counted_here f).0 ∙ (same ∙ sym (counted_here f).1)) (counted_beside f) c j))
 
@@ -161,7 +175,10 @@ module _ (w : List ℕ) (s : State) (k : Tid) (t : Task) (g : Task → Task) (li
       → sum_of_slots w after f + f k.0.creator k.0.slot t ≡ sum_of_slots w s f + f k.0.creator k.0.slot (g t)
   tasks_recounted maker within f =
       let here = counted_here f in
-      let first = sum_changed (per_thread w tasks) k.0.slot (λ j. counted_at f s k.0.creator j) (λ j. counted_at f after k.0.creator j) within (λ j ne. counted_beside f k.0.creator j (λ _ same. ne same)) in
+      let first =
+      sum_changed (per_thread w tasks) k.0.slot (λ j. counted_at f s k.0.creator j)
+      (λ j. counted_at f after k.0.creator j) within
+      (λ j ne. counted_beside f k.0.creator j (λ _ same. ne same)) in
       let second = sum_changed s.count k.0.creator (λ c. sum_below (per_thread w tasks) (λ j. counted_at f s c j)) (λ c. sum_below (per_thread w tasks) (λ j. counted_at f after c j)) maker
       (λ c ne. sum_same (per_thread w tasks) (λ j. counted_at f after c j) (λ j. counted_at f s c j) (λ j. counted_beside f c j (λ same _. ne same))) in
       let a = here.0 in
@@ -171,13 +188,15 @@ module _ (w : List ℕ) (s : State) (k : Tid) (t : Task) (g : Task → Task) (li
   children_owed_same : (q : Tid) (o : Owed) → children_owed after q o ≡ children_owed s q o
   children_owed_same q o = go o.lowered
     where
-      go : (lowered : Option Tid) → one (is_some_task q o.raised) + one (is_some_task q (option_and_then (generating_of after) lowered)) ≡ one (is_some_task q o.raised) + one (is_some_task q (option_and_then (generating_of s) lowered))
+      go : (lowered : Option Tid)
+          → one (is_some_task q o.raised) + one (is_some_task q (option_and_then (generating_of after) lowered)) ≡ one (is_some_task q o.raised) + one (is_some_task q (option_and_then (generating_of s) lowered))
       go None = refl
       go (Some h) = ap (λ x. one (is_some_task q o.raised) + one (is_some_task q x)) (generating_same h)
 
   -- ---- what is kept
 
-  module _ (m : Memory) (owes : ℕ → Owed) (i : ℕ) (p : Owed) (keeps : KeepsWords w m s owes) (alike_own : TeamsAlike p (owes i))
+  module _ (m : Memory) (owes : ℕ → Owed) (i : ℕ) (p : Owed) (keeps : KeepsWords w m s owes)
+      (alike_own : TeamsAlike p (owes i))
       (pending_counted : (n : Rid) → unfinished_in w after n + sum_of_owed s (replace_at owes i p) (pending_owed n) ≡ unfinished_in w s n + sum_of_owed s owes (pending_owed n))
       (children_counted : (q : Tid) → unfinished_children w after q + sum_of_owed s (replace_at owes i p) (children_owed s q) ≡ unfinished_children w s q + sum_of_owed s owes (children_owed s q))
       (unslotted : (c j : ℕ) → c < s.count → j < per_thread w tasks → (row : Task) → (s.tasks c j).live ≡ Some row → row.implicit ≡ true → (place : ℕ) → place < width w (number TaskSlots)
@@ -186,11 +205,15 @@ module _ (w : List ℕ) (s : State) (k : Tid) (t : Task) (g : Task → Task) (li
     other = replace_at owes i p
 
     alike : (j : ℕ) → TeamsAlike (other j) (owes j)
-    alike j = each_put (λ c (x : Owed). TeamsAlike x (owes c)) owes i p alike_own j (λ _. record { region = refl; tasks = refl; left = refl; assigns = refl; met = refl })
+    alike j =
+        each_put (λ c (x : Owed). TeamsAlike x (owes c)) owes i p alike_own j
+        (λ _. record { region = refl; tasks = refl; left = refl; assigns = refl; met = refl })
 
-    region_kept : (n : Rid) (r : Rec) (x : Region) → KeepsRegion w s owes n r x → KeepsRegion w after other n r x
+    region_kept : (n : Rid) (r : Rec) (x : Region) → KeepsRegion w s owes n r x
+        → KeepsRegion w after other n r x
     region_kept n r x o =
-        region_counted w s after owes other n r x (pending_counted n) (owed_put_same s owes i p (left_owed n) (ap (λ q. one (is_some_region n q)) alike_own.left)) o
+        region_counted w s after owes other n r x (pending_counted n)
+        (owed_put_same s owes i p (left_owed n) (ap (λ q. one (is_some_region n q)) alike_own.left)) o
 
     counts_kept : (q : Tid) (r : Rec) → KeepsCounts w s owes q r → KeepsCounts w after other q r
     counts_kept q r o = record {
@@ -198,14 +221,17 @@ module _ (w : List ℕ) (s : State) (k : Tid) (t : Task) (g : Task → Task) (li
           let was = o.children in
           let change = children_counted q in
           let owed : sum_of_owed s other (children_owed after q) ≡ sum_of_owed s other (children_owed s q)
-          = sum_same s.count (λ j. children_owed after q (other j)) (λ j. children_owed s q (other j)) (λ j. children_owed_same q (other j)) in
+          = sum_same s.count (λ j. children_owed after q (other j)) (λ j. children_owed s q (other j))
+          (λ j. children_owed_same q (other j)) in
           omega (arith, was, change, owed);
     }
 
-    slots_kept : (c j : ℕ) → c < s.count → j < per_thread w tasks → (x : Task) → (s.tasks c j).live ≡ Some x → x.implicit ≡ true → KeepsSlots w s (m c tasks j) x → KeepsSlots w after (m c tasks j) x
+    slots_kept : (c j : ℕ) → c < s.count → j < per_thread w tasks → (x : Task) → (s.tasks c j).live ≡ Some x
+        → x.implicit ≡ true → KeepsSlots w s (m c tasks j) x → KeepsSlots w after (m c tasks j) x
     slots_kept c j maker within x is implicit o = λ place below. go place below (o place below)
       where
-        go : (place : ℕ) → place < width w (number TaskSlots) → Has (m c tasks j) TaskSlots place 0 ⊎ ((q : Tid) × IsDeferredIn s x place q × Has (m c tasks j) TaskSlots place (slot_word w q))
+        go : (place : ℕ) → place < width w (number TaskSlots)
+            → Has (m c tasks j) TaskSlots place 0 ⊎ ((q : Tid) × IsDeferredIn s x place q × Has (m c tasks j) TaskSlots place (slot_word w q))
             → Has (m c tasks j) TaskSlots place 0 ⊎ ((q : Tid) × IsDeferredIn after x place q × Has (m c tasks j) TaskSlots place (slot_word w q))
         go place below (inl none) = inl none
         go place below (inr (q, d, word)) = inr (
@@ -223,7 +249,9 @@ module _ (w : List ℕ) (s : State) (k : Tid) (t : Task) (g : Task → Task) (li
           word,
         )
 
-    task_kept : (c j : ℕ) → c < s.count → j < per_thread w tasks → (x : Task) → (s.tasks c j).live ≡ Some x → (q : Tid) → (q.0 ≡ k.0 → ⊥) → KeepsTask w s owes q (m c tasks j) x → KeepsTask w after other q (m c tasks j) x
+    task_kept : (c j : ℕ) → c < s.count → j < per_thread w tasks → (x : Task) → (s.tasks c j).live ≡ Some x
+        → (q : Tid) → (q.0 ≡ k.0 → ⊥) → KeepsTask w s owes q (m c tasks j) x
+        → KeepsTask w after other q (m c tasks j) x
     task_kept c j maker within x is q ne o = record {
       environment = o.environment;
       place = o.place;
@@ -232,9 +260,11 @@ module _ (w : List ℕ) (s : State) (k : Tid) (t : Task) (g : Task → Task) (li
     }
 
     -- the record of the task itself has its codes
-    module _ (environment : KeepsTask w s owes k (m k.0.creator tasks k.0.slot) t → KeepsEnvironment w (m k.0.creator tasks k.0.slot) (g t))
+    module _
+        (environment : KeepsTask w s owes k (m k.0.creator tasks k.0.slot) t → KeepsEnvironment w (m k.0.creator tasks k.0.slot) (g t))
         (place : KeepsTask w s owes k (m k.0.creator tasks k.0.slot) t → KeepsPlace w (m k.0.creator tasks k.0.slot) (g t)) where
-      own_kept : KeepsTask w s owes k (m k.0.creator tasks k.0.slot) t → KeepsTask w after other k (m k.0.creator tasks k.0.slot) (g t)
+      own_kept : KeepsTask w s owes k (m k.0.creator tasks k.0.slot) t
+          → KeepsTask w after other k (m k.0.creator tasks k.0.slot) (g t)
       own_kept o = record {
         environment = environment o;
         place = λ _. place o;
@@ -242,40 +272,55 @@ module _ (w : List ℕ) (s : State) (k : Tid) (t : Task) (g : Task → Task) (li
         slots = λ implicit. let explicit = goes.implicit ∙ goes.explicit in absurd (cc);
       }
 
-      slot_kept : (c j : ℕ) → c < s.count → j < per_thread w tasks → KeepsTaskSlot w s owes c j (m c tasks j) → KeepsTaskSlot w after other c j (m c tasks j)
+      slot_kept : (c j : ℕ) → c < s.count → j < per_thread w tasks → KeepsTaskSlot w s owes c j (m c tasks j)
+          → KeepsTaskSlot w after other c j (m c tasks j)
       slot_kept =
-          each_place (λ c j. c < s.count → j < per_thread w tasks → KeepsTaskSlot w s owes c j (m c tasks j) → KeepsTaskSlot w after other c j (m c tasks j)) k.0.creator k.0.slot here aside
+          each_place
+          (λ c j. c < s.count → j < per_thread w tasks → KeepsTaskSlot w s owes c j (m c tasks j) → KeepsTaskSlot w after other c j (m c tasks j)) k.0.creator k.0.slot here aside
         where
-          owed_life : (c j : ℕ) → KeepsLife (m c tasks j) TaskLife (s.tasks c j) (has_slot j (owes c).tasks) → KeepsLife (m c tasks j) TaskLife (s.tasks c j) (has_slot j (other c).tasks)
-          owed_life c j = subst (λ (ks : List Tid). KeepsLife (m c tasks j) TaskLife (s.tasks c j) (has_slot j ks)) (sym (alike c).tasks)
+          owed_life : (c j : ℕ) → KeepsLife (m c tasks j) TaskLife (s.tasks c j) (has_slot j (owes c).tasks)
+              → KeepsLife (m c tasks j) TaskLife (s.tasks c j) (has_slot j (other c).tasks)
+          owed_life c j =
+              subst (λ (ks : List Tid). KeepsLife (m c tasks j) TaskLife (s.tasks c j) (has_slot j ks))
+              (sym (alike c).tasks)
 
-          here : k.0.creator < s.count → k.0.slot < per_thread w tasks → KeepsTaskSlot w s owes k.0.creator k.0.slot (m k.0.creator tasks k.0.slot) → KeepsTaskSlot w after other k.0.creator k.0.slot (m k.0.creator tasks k.0.slot)
+          here : k.0.creator < s.count → k.0.slot < per_thread w tasks
+              → KeepsTaskSlot w s owes k.0.creator k.0.slot (m k.0.creator tasks k.0.slot)
+              → KeepsTaskSlot w after other k.0.creator k.0.slot (m k.0.creator tasks k.0.slot)
           here maker within o = record {
             life =
                 let before = owed_life k.0.creator k.0.slot o.life in
-                subst (λ (x : Slot Task). KeepsLife (m k.0.creator tasks k.0.slot) TaskLife x (has_slot k.0.slot (other k.0.creator).tasks)) (sym slot_here)
+                subst
+                (λ (x : Slot Task). KeepsLife (m k.0.creator tasks k.0.slot) TaskLife x (has_slot k.0.slot (other k.0.creator).tasks))
+                (sym slot_here)
                 (record { live = λ x is. before.live t live_there; taken = λ none. absurd (cc); free = λ none. absurd (cc) });
             live = λ x is.
                 let same : g t ≡ x = some_same (ap (λ (y : Slot Task). y.live) slot_here) is in
-                subst (λ (y : Slot Task). KeepsTask w after other (task_in k.0.creator k.0.slot y) (m k.0.creator tasks k.0.slot) x) (sym slot_here)
+                subst
+                (λ (y : Slot Task). KeepsTask w after other (task_in k.0.creator k.0.slot y) (m k.0.creator tasks k.0.slot) x)
+                (sym slot_here)
                 (subst (λ (y : Task). KeepsTask w after other (task_in k.0.creator k.0.slot there) (m k.0.creator tasks k.0.slot) y) same
                 (subst (λ (q : Tid). KeepsTask w after other q (m k.0.creator tasks k.0.slot) (g t)) (sym (task_name s k t live))
                 (own_kept (subst (λ (q : Tid). KeepsTask w s owes q (m k.0.creator tasks k.0.slot) t) (task_name s k t live) (o.live t live_there)))));
           }
 
-          aside : (c j : ℕ) → (c ≡ k.0.creator → j ≡ k.0.slot → ⊥) → c < s.count → j < per_thread w tasks → KeepsTaskSlot w s owes c j (m c tasks j) → KeepsTaskSlot w after other c j (m c tasks j)
+          aside : (c j : ℕ) → (c ≡ k.0.creator → j ≡ k.0.slot → ⊥) → c < s.count → j < per_thread w tasks
+              → KeepsTaskSlot w s owes c j (m c tasks j) → KeepsTaskSlot w after other c j (m c tasks j)
           aside c j apart maker within o = record {
             life = subst (λ (x : Slot Task). KeepsLife (m c tasks j) TaskLife x (has_slot j (other c).tasks)) (sym (slot_beside c j apart)) (owed_life c j o.life);
             live = λ x is.
-                let was : (s.tasks c j).live ≡ Some x = sym (ap (λ (y : Slot Task). y.live) (slot_beside c j apart)) ∙ is in
-                subst (λ (y : Slot Task). KeepsTask w after other (task_in c j y) (m c tasks j) x) (sym (slot_beside c j apart))
+                let was : (s.tasks c j).live ≡ Some x =
+                sym (ap (λ (y : Slot Task). y.live) (slot_beside c j apart)) ∙ is in
+                subst (λ (y : Slot Task). KeepsTask w after other (task_in c j y) (m c tasks j) x)
+                (sym (slot_beside c j apart))
                 (task_kept c j maker within x was (task_in c j (s.tasks c j)) (λ same. apart (ap (λ (n : Id). n.creator) same) (ap (λ (n : Id). n.slot) same)) (o.live x was));
           }
 
       making_kept : (j : ℕ) → KeepsMaking s j (owes j) → KeepsMaking after j (other j)
       making_kept j x = record {
         region = λ n is. x.region n (sym (alike j).region ∙ is);
-        tasks = subst (λ (ks : List Tid). All (λ q. IsInTheMaking j (after.tasks j) q.0) ks) (sym (alike j).tasks)
+        tasks =
+            subst (λ (ks : List Tid). All (λ q. IsInTheMaking j (after.tasks j) q.0) ks) (sym (alike j).tasks)
             (All-weaker (λ (q : Tid). IsInTheMaking j (s.tasks j) q.0) (λ (q : Tid). IsInTheMaking j (after.tasks j) q.0)
             (λ q o. record { maker = o.maker; free = on_empty s.tasks k.0 g j q.0.slot o.free; next = o.next ∙ sym (on_generations s.tasks k.0 g j q.0.slot) }) (owes j).tasks x.tasks);
         apart = subst (λ (ks : List Tid). AreApart ks) (sym (alike j).tasks) x.apart;
@@ -292,11 +337,13 @@ module _ (w : List ℕ) (s : State) (k : Tid) (t : Task) (g : Task → Task) (li
         assigns = All-weaker (λ (q : Tid × ℕ). WaitsFor s q.1 q.0) (λ (q : Tid × ℕ). WaitsFor after q.1 q.0) (λ q. waits_after q.1 q.0) o.assigns x.assigns;
       }
         where
-          parent : (h : Option Tid) → IsSome (option_and_then (task_of s) h) → IsSome (option_and_then (task_of after) h)
+          parent : (h : Option Tid) → IsSome (option_and_then (task_of s) h)
+              → IsSome (option_and_then (task_of after) h)
           parent None is = is
           parent (Some q) is = some_after q is
 
-      assign_kept : (j : ℕ) → KeepsAssign w s owes j (m j threads 0) → KeepsAssign w after other j (m j threads 0)
+      assign_kept : (j : ℕ) → KeepsAssign w s owes j (m j threads 0)
+          → KeepsAssign w after other j (m j threads 0)
       assign_kept j o = record {
         waiting = λ q waits.
             let was = o.waiting q (waits_before j q waits) in
@@ -331,15 +378,19 @@ module _ (w : List ℕ) (s : State) (k : Tid) (t : Task) (g : Task → Task) (li
             };
         deferred = record {
           once = λ q x is deferred.
-              let ne : q.0 ≡ k.0 → ⊥ = λ same. goes.started (subst (λ (y : Task). y.progress ≡ progress.Deferred) (same_after q x is same) deferred) in
+              let ne : q.0 ≡ k.0 → ⊥ =
+              λ same. goes.started (subst (λ (y : Task). y.progress ≡ progress.Deferred) (same_after q x is same) deferred) in
               let was = keeps.deferred.once q x (stays_before q x is ne) deferred in
               let slots : slots_with w (λ c. m c tasks) after (slot_word w q) ≡ slots_with w (λ c. m c tasks) s (slot_word w q)
-              = tasks_counted (λ c j y. if y.implicit then sum_below (width w (number TaskSlots)) (λ place. one (m c tasks j (number TaskSlots) place == slot_word w q)) else 0)
+              = tasks_counted
+              (λ c j y. if y.implicit then sum_below (width w (number TaskSlots)) (λ place. one (m c tasks j (number TaskSlots) place == slot_word w q)) else 0)
               (ap (λ b. if b then sum_below (width w (number TaskSlots)) (λ place. one (m k.0.creator tasks k.0.slot (number TaskSlots) place == slot_word w q)) else 0) goes.implicit) in
               let owed = owed_put_same s owes i p (start_owed q) (hands_same q ne) in
               omega (arith, was, slots, owed);
           hands = λ j q below.
-              each_put (λ c (o : Owed). c < s.count → o.hand ≡ Some q → (x : Task) × (task_of after q ≡ Some x) × (x.progress ≡ progress.Deferred)) owes i p (λ _ is. absurd (cc))
+              each_put
+              (λ c (o : Owed). c < s.count → o.hand ≡ Some q → (x : Task) × (task_of after q ≡ Some x) × (x.progress ≡ progress.Deferred)) owes i p
+              (λ _ is. absurd (cc))
               j (λ ne there is. let (x, was, deferred) = keeps.deferred.hands j q there is in (x, stays_after q x was (unheld j q there ne is), deferred)) below;
         };
       }

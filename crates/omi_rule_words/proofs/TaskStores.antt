@@ -25,22 +25,28 @@ use Rattle.omi_rule_words.proofs.Alike.{IsSameRegion, on_alike, same_region, sam
 use Rattle.omi_rule_words.proofs.OtherStates.{other_states, task_rewritten}
 
 -- the object of a name that is changed
-pub changed_live : {A : Type 0} (n : ℕ) (g : A → A) (slot : Slot A) (x y : A) → found n slot ≡ Some x → (changed n g slot).live ≡ Some y → y ≡ g x
+pub changed_live : {A : Type 0} (n : ℕ) (g : A → A) (slot : Slot A) (x y : A) → found n slot ≡ Some x
+    → (changed n g slot).live ≡ Some y → y ≡ g x
 changed_live {A} n g slot x y there is = go (slot.generations == n + 1) there is
   where
     mapped : slot.live ≡ Some x → option_map g slot.live ≡ Some y → y ≡ g x
     mapped live now = let is : option_map g slot.live ≡ Some (g x) = ap (option_map g) live in cc
 
-    go : (b : Bool) → (if b then slot.live else None) ≡ Some x → (if b then record { generations = slot.generations; live = option_map g slot.live } else slot).live ≡ Some y → y ≡ g x
+    go : (b : Bool) → (if b then slot.live else None) ≡ Some x
+        → (if b then record { generations = slot.generations; live = option_map g slot.live } else slot).live ≡ Some y
+        → y ≡ g x
     go true = mapped
     go false = λ none _. absurd (cc)
 
 pub task_stores_keep : TaskStoresKeep
-task_stores_keep = λ w m s owes k t g f at word keeps live same field codes. kept w m s owes k t g f at word keeps live same field codes
+task_stores_keep =
+    λ w m s owes k t g f at word keeps live same field codes. kept w m s owes k t g f at word keeps live same field codes
   where
-    kept : (w : List ℕ) (m : Memory) (s : State) (owes : ℕ → Owed) (k : Tid) (t : Task) (g : Task → Task) (f : Field) (at word : ℕ) → KeepsWords w m s owes
+    kept : (w : List ℕ) (m : Memory) (s : State) (owes : ℕ → Owed) (k : Tid) (t : Task) (g : Task → Task) (f : Field) (at word : ℕ)
+        → KeepsWords w m s owes
         → task_of s k ≡ Some t → IsSameTask t (g t) → IsOfTask f
-        → HasCodes (task_code w (task_told (g t))) (with_word_in (m k.0.creator tasks k.0.slot) (number f) at word)
+        → HasCodes (task_code w (task_told (g t)))
+        (with_word_in (m k.0.creator tasks k.0.slot) (number f) at word)
         → KeepsWords w (with_word m k.0.creator tasks k.0.slot (number f) at word) (on_task s k g) owes
     kept w m s owes k t g f at word keeps live same field codes =
         other_states w s (on_task s k g) owes refl (slots_same IsSameRegion same_region s.regions)
@@ -59,7 +65,8 @@ task_stores_keep = λ w m s owes k t g f at word keeps live same field codes. ke
         n = with_word m k.0.creator tasks k.0.slot (number f) at word
 
         stays : (c kind j : ℕ) → (kind ≡ tasks → ⊥) → n c kind j ≡ m c kind j
-        stays c kind j ne = record_stays m k.0.creator tasks k.0.slot (number f) at word c kind j (λ _ is _. ne is)
+        stays c kind j ne =
+            record_stays m k.0.creator tasks k.0.slot (number f) at word c kind j (λ _ is _. ne is)
 
         read : n k.0.creator tasks k.0.slot ≡ with_word_in (m k.0.creator tasks k.0.slot) (number f) at word
         read = record_read m k.0.creator tasks k.0.slot (number f) at word
@@ -67,15 +74,22 @@ task_stores_keep = λ w m s owes k t g f at word keeps live same field codes. ke
         now : HasCodes (task_code w (task_told (g t))) (n k.0.creator tasks k.0.slot)
         now = subst (λ (r : Rec). HasCodes (task_code w (task_told (g t))) r) (sym read) codes
 
-        beside : (c slot : ℕ) → (c ≡ k.0.creator → slot ≡ k.0.slot → ⊥) → c < s.count → slot < per_thread w tasks → (v : Task) → (s.tasks c slot).live ≡ Some v → KeepsTask w s owes (task_in c slot (s.tasks c slot)) (n c tasks slot) v
+        beside : (c slot : ℕ) → (c ≡ k.0.creator → slot ≡ k.0.slot → ⊥) → c < s.count
+            → slot < per_thread w tasks → (v : Task) → (s.tasks c slot).live ≡ Some v
+            → KeepsTask w s owes (task_in c slot (s.tasks c slot)) (n c tasks slot) v
         beside c slot apart known within v is =
-            subst (λ (r : Rec). KeepsTask w s owes (task_in c slot (s.tasks c slot)) r v) (sym (record_stays m k.0.creator tasks k.0.slot (number f) at word c tasks slot (λ creator _ place. apart creator place)))
+            subst (λ (r : Rec). KeepsTask w s owes (task_in c slot (s.tasks c slot)) r v)
+            (sym (record_stays m k.0.creator tasks k.0.slot (number f) at word c tasks slot (λ creator _ place. apart creator place)))
             (((keeps.made c known).tasks slot within).live v is)
 
-        here : k.0.creator < s.count → k.0.slot < per_thread w tasks → (v : Task) → (changed k.0.generation g (s.tasks k.0.creator k.0.slot)).live ≡ Some v
-            → KeepsTask w s owes (task_in k.0.creator k.0.slot (s.tasks k.0.creator k.0.slot)) (n k.0.creator tasks k.0.slot) v
+        here : k.0.creator < s.count → k.0.slot < per_thread w tasks → (v : Task)
+            → (changed k.0.generation g (s.tasks k.0.creator k.0.slot)).live ≡ Some v
+            → KeepsTask w s owes (task_in k.0.creator k.0.slot (s.tasks k.0.creator k.0.slot))
+            (n k.0.creator tasks k.0.slot) v
         here known within v is =
-            subst (λ (x : Task). KeepsTask w s owes (task_in k.0.creator k.0.slot (s.tasks k.0.creator k.0.slot)) (n k.0.creator tasks k.0.slot) x) (sym (changed_live k.0.generation g (s.tasks k.0.creator k.0.slot) t v live is))
+            subst
+            (λ (x : Task). KeepsTask w s owes (task_in k.0.creator k.0.slot (s.tasks k.0.creator k.0.slot)) (n k.0.creator tasks k.0.slot) x)
+            (sym (changed_live k.0.generation g (s.tasks k.0.creator k.0.slot) t v live is))
             (task_rewritten w s owes (task_in k.0.creator k.0.slot (s.tasks k.0.creator k.0.slot)) (m k.0.creator tasks k.0.slot) (n k.0.creator tasks k.0.slot) t (g t) same
             (word_stays m k.0.creator tasks k.0.slot (number f) at word k.0.creator tasks k.0.slot (number TaskChildren) 0 (λ _ _ _ is _. field.children (sym is)))
             (λ p. word_stays m k.0.creator tasks k.0.slot (number f) at word k.0.creator tasks k.0.slot (number TaskSlots) p (λ _ _ _ is _. field.slots (sym is)))

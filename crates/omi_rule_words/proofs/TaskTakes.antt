@@ -22,12 +22,14 @@ use Rattle.omi_rule_words.proofs.OtherOwes.{OwesAlike, owes_alike, assign_owed_s
 use Rattle.omi_rule_words.proofs.Fills.{slots_stay}
 
 -- one task more in the making
-has_slot_more : (k : ℕ) (ks : List Tid) (n : Tid) → n.0.slot == k ≡ false → has_slot k (ks ++ n ∷ []) ≡ has_slot k ks
+has_slot_more : (k : ℕ) (ks : List Tid) (n : Tid) → n.0.slot == k ≡ false
+    → has_slot k (ks ++ n ∷ []) ≡ has_slot k ks
 has_slot_more k [] n apart = ap (λ (b : Bool). b || false) apart
 has_slot_more k (x ∷ xs) n apart = ap (λ (b : Bool). x.0.slot == k || b) (has_slot_more k xs n apart)
 
 has_slot_last : (ks : List Tid) (n : Tid) → has_slot n.0.slot (ks ++ n ∷ []) ≡ true
-has_slot_last [] n = let same : n.0.slot == n.0.slot ≡ true = grind (arith, nat_tests) in ap (λ (b : Bool). b || false) same
+has_slot_last [] n =
+    let same : n.0.slot == n.0.slot ≡ true = grind (arith, nat_tests) in ap (λ (b : Bool). b || false) same
 has_slot_last (x ∷ xs) n = go (x.0.slot == n.0.slot) (has_slot_last xs n)
   where
     go : (b : Bool) → has_slot n.0.slot (xs ++ n ∷ []) ≡ true → b || has_slot n.0.slot (xs ++ n ∷ []) ≡ true
@@ -36,13 +38,17 @@ has_slot_last (x ∷ xs) n = go (x.0.slot == n.0.slot) (has_slot_last xs n)
 
 apart_more : (ks : List Tid) (n : Tid) → AreApart ks → has_slot n.0.slot ks ≡ false → AreApart (ks ++ n ∷ [])
 apart_more [] n apart unused = (refl, tt)
-apart_more (x ∷ xs) n (first, rest) unused = (has_slot_more x.0.slot xs n (sides (x.0.slot == n.0.slot) refl unused).0 ∙ first, apart_more xs n rest (sides (x.0.slot == n.0.slot) refl unused).1)
+apart_more (x ∷ xs) n (first, rest) unused =
+    (has_slot_more x.0.slot xs n (sides (x.0.slot == n.0.slot) refl unused).0 ∙ first, apart_more xs n rest (sides (x.0.slot == n.0.slot) refl unused).1)
   where
-    sides : (b : Bool) → x.0.slot == n.0.slot ≡ b → b || has_slot n.0.slot xs ≡ false → (n.0.slot == x.0.slot ≡ false) × (has_slot n.0.slot xs ≡ false)
+    sides : (b : Bool) → x.0.slot == n.0.slot ≡ b → b || has_slot n.0.slot xs ≡ false
+        → (n.0.slot == x.0.slot ≡ false) × (has_slot n.0.slot xs ≡ false)
     sides true e or = absurd (cc)
     sides false e or = (grind (arith, nat_tests), or)
 
-module _ (w : List ℕ) (m : Memory) (s : State) (owes : ℕ → Owed) (i : ℕ) (n : Tid) (keeps : KeepsWords w m s owes) (making : IsInTheMaking i (s.tasks i) n.0) (unused : has_slot n.0.slot (owes i).tasks ≡ false) where
+module _ (w : List ℕ) (m : Memory) (s : State) (owes : ℕ → Owed) (i : ℕ) (n : Tid)
+    (keeps : KeepsWords w m s owes) (making : IsInTheMaking i (s.tasks i) n.0)
+    (unused : has_slot n.0.slot (owes i).tasks ≡ false) where
   abbrev slot : ℕ
   slot = n.0.slot
 
@@ -56,10 +62,14 @@ module _ (w : List ℕ) (m : Memory) (s : State) (owes : ℕ → Owed) (i : ℕ)
   after = with_word m i tasks slot (number TaskLife) 0 (2 * n.0.generation + 1)
 
   stays : (c kind k : ℕ) → (kind ≡ tasks → ⊥) → after c kind k ≡ m c kind k
-  stays c kind k ne = record_stays m i tasks slot (number TaskLife) 0 (2 * n.0.generation + 1) c kind k (λ _ same _. ne same)
+  stays c kind k ne =
+      record_stays m i tasks slot (number TaskLife) 0 (2 * n.0.generation + 1) c kind k (λ _ same _. ne same)
 
   alike : (j : ℕ) → OwesAlike (other j) (owes j)
-  alike j = each_put (λ k (x : Owed). OwesAlike x (owes k)) owes i p (record { pending = refl; raised = refl; lowered = refl; left = refl; hand = refl }) j (λ _. owes_alike (owes j))
+  alike j =
+      each_put (λ k (x : Owed). OwesAlike x (owes k)) owes i p
+      (record { pending = refl; raised = refl; lowered = refl; left = refl; hand = refl }) j
+      (λ _. owes_alike (owes j))
 
   assigns : (j : ℕ) → (other j).assigns ≡ (owes j).assigns
   assigns j = each_put (λ k (x : Owed). x.assigns ≡ (owes k).assigns) owes i p refl j (λ _. refl)
@@ -71,11 +81,13 @@ module _ (w : List ℕ) (m : Memory) (s : State) (owes : ℕ → Owed) (i : ℕ)
   made_region j = each_put (λ k (x : Owed). x.region ≡ (owes k).region) owes i p refl j (λ _. refl)
 
   -- the life word of a slot that is not the one taken
-  life : (j k : ℕ) → (j == i && k == slot) ≡ false → KeepsLife (m j tasks k) TaskLife (s.tasks j k) (has_slot k (owes j).tasks)
+  life : (j k : ℕ) → (j == i && k == slot) ≡ false
+      → KeepsLife (m j tasks k) TaskLife (s.tasks j k) (has_slot k (owes j).tasks)
       → KeepsLife (m j tasks k) TaskLife (s.tasks j k) (has_slot k (other j).tasks)
   life j k ne o = go (j == i) refl
     where
-      go : (b : Bool) → j == i ≡ b → KeepsLife (m j tasks k) TaskLife (s.tasks j k) (has_slot k (if b then p else owes j).tasks)
+      go : (b : Bool) → j == i ≡ b
+          → KeepsLife (m j tasks k) TaskLife (s.tasks j k) (has_slot k (if b then p else owes j).tasks)
       go true e =
           let creator : j ≡ i = eqb-true j i e in
           let apart : slot == k ≡ false = grind (arith, nat_tests) in
@@ -87,7 +99,8 @@ module _ (w : List ℕ) (m : Memory) (s : State) (owes : ℕ → Owed) (i : ℕ)
   empty : (s.tasks i slot).live ≡ None
   empty = making.free
 
-  task : (j k : ℕ) → KeepsTaskSlot w s owes j k (m j tasks k) → (b : Bool) → (j == i && k == slot) ≡ b → KeepsTaskSlot w s other j k (after j tasks k)
+  task : (j k : ℕ) → KeepsTaskSlot w s owes j k (m j tasks k) → (b : Bool) → (j == i && k == slot) ≡ b
+      → KeepsTaskSlot w s other j k (after j tasks k)
   task j k o true e =
       let creator : j ≡ i = grind (arith, nat_tests) in
       let place : k ≡ slot = grind (arith, nat_tests) in
@@ -100,11 +113,15 @@ module _ (w : List ℕ) (m : Memory) (s : State) (owes : ℕ → Owed) (i : ℕ)
           live = λ x is. absurd (cc);
           taken = λ _ _.
               let next = making.next in
-              let is : after i tasks slot (number TaskLife) 0 ≡ 2 * n.0.generation + 1 = word_read m i tasks slot (number TaskLife) 0 (2 * n.0.generation + 1) in
+              let is : after i tasks slot (number TaskLife) 0 ≡ 2 * n.0.generation + 1 =
+              word_read m i tasks slot (number TaskLife) 0 (2 * n.0.generation + 1) in
               omega (arith, next, is);
           free = λ _ unowed.
-              let owed : (other i).tasks ≡ (owes i).tasks ++ n ∷ [] = each_put (λ k (x : Owed). k ≡ i → x.tasks ≡ (owes i).tasks ++ n ∷ []) owes i p (λ _. refl) i (λ ne. absurd (ne refl)) refl in
-              let there : has_slot slot (other i).tasks ≡ has_slot slot ((owes i).tasks ++ n ∷ []) = ap (has_slot slot) owed in
+              let owed : (other i).tasks ≡ (owes i).tasks ++ n ∷ [] =
+              each_put (λ k (x : Owed). k ≡ i → x.tasks ≡ (owes i).tasks ++ n ∷ []) owes i p (λ _. refl) i
+              (λ ne. absurd (ne refl)) refl in
+              let there : has_slot slot (other i).tasks ≡ has_slot slot ((owes i).tasks ++ n ∷ []) =
+              ap (has_slot slot) owed in
               let same : has_slot slot ((owes i).tasks ++ n ∷ []) ≡ true = has_slot_last (owes i).tasks n in
               absurd (cc);
         };
@@ -123,12 +140,14 @@ module _ (w : List ℕ) (m : Memory) (s : State) (owes : ℕ → Owed) (i : ℕ)
   }
 
   making_kept : (j : ℕ) → KeepsMaking s j (owes j) → KeepsMaking s j (other j)
-  making_kept j = each_put (λ k (x : Owed). KeepsMaking s k (owes k) → KeepsMaking s k x) owes i p own_making j (λ _ o. o)
+  making_kept j =
+      each_put (λ k (x : Owed). KeepsMaking s k (owes k) → KeepsMaking s k x) owes i p own_making j (λ _ o. o)
 
   made : (j : ℕ) → j < s.count → KeepsMade w s other j (after j)
   made j known =
       let o = keeps.made j known in
-      let thread : after j threads 0 ≡ m j threads 0 = stays j threads 0 (λ kind. absurd (omega (arith, kind))) in
+      let thread : after j threads 0 ≡ m j threads 0 =
+      stays j threads 0 (λ kind. absurd (omega (arith, kind))) in
       record {
         thread = subst (λ (r : Rec). KeepsThread w j r (s.threads j)) (sym thread) o.thread;
         assign = subst (λ (r : Rec). KeepsAssign w s other j r) (sym thread) (assign_owed_same w s owes other assigns met j (m j threads 0) o.assign);
@@ -147,7 +166,8 @@ module _ (w : List ℕ) (m : Memory) (s : State) (owes : ℕ → Owed) (i : ℕ)
   deferred = record {
     once = λ k t live is.
         let was = (deferred_owed w s owes other alike (λ c. m c tasks) keeps.deferred).once k t live is in
-        let same = slots_stay w m s i slot (number TaskLife) 0 (2 * n.0.generation + 1) empty (slot_word w k) in
+        let same =
+        slots_stay w m s i slot (number TaskLife) 0 (2 * n.0.generation + 1) empty (slot_word w k) in
         omega (arith, was, same);
     hands = (deferred_owed w s owes other alike (λ c. m c tasks) keeps.deferred).hands;
   }

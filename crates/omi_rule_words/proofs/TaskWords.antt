@@ -22,10 +22,13 @@ use Rattle.omi_rule_words.proofs.OtherCounts.{MakesAlike, counts_same, name_of_s
 use Rattle.omi_rule_words.proofs.Sums.{part_below}
 
 -- the task of a name, by the slot in which it lives
-pub task_name : (s : State) (k : Tid) (t : Task) → task_of s k ≡ Some t → task_in k.0.creator k.0.slot (s.tasks k.0.creator k.0.slot) ≡ k
+pub task_name : (s : State) (k : Tid) (t : Task) → task_of s k ≡ Some t
+    → task_in k.0.creator k.0.slot (s.tasks k.0.creator k.0.slot) ≡ k
 task_name s k t live = ap (λ (q : Id). record { 0 = q }) (name_of_slot s.tasks k.0 t live)
 
-module _ (w : List ℕ) (m : Memory) (s : State) (owes : ℕ → Owed) (i : ℕ) (p : Owed) (k : Tid) (t : Task) (keeps : KeepsWords w m s owes) (known : i < s.count) (alike : MakesAlike p (owes i)) (live : task_of s k ≡ Some t)
+module _ (w : List ℕ) (m : Memory) (s : State) (owes : ℕ → Owed) (i : ℕ) (p : Owed) (k : Tid) (t : Task)
+    (keeps : KeepsWords w m s owes) (known : i < s.count) (alike : MakesAlike p (owes i))
+    (live : task_of s k ≡ Some t)
     (pending : (q : Rid) → pending_owed q p ≡ pending_owed q (owes i))
     (children : (q : Tid) → (q.0.creator ≡ k.0.creator → q.0.slot ≡ k.0.slot → ⊥) → children_owed s q p ≡ children_owed s q (owes i))
     (objects : OwesOnLive s (owes i) → OwesOnLive s p) where
@@ -37,19 +40,29 @@ module _ (w : List ℕ) (m : Memory) (s : State) (owes : ℕ → Owed) (i : ℕ)
     after = with_task_word m k TaskChildren word
 
     stays : (c kind j : ℕ) → (kind ≡ tasks → ⊥) → after c kind j ≡ m c kind j
-    stays c kind j ne = record_stays m k.0.creator tasks k.0.slot (number TaskChildren) 0 word c kind j (λ _ is _. ne is)
+    stays c kind j ne =
+        record_stays m k.0.creator tasks k.0.slot (number TaskChildren) 0 word c kind j (λ _ is _. ne is)
 
-    others_stay : (g : Field) (at : ℕ) → number g ≢ number TaskChildren → (c j : ℕ) → after c tasks j (number g) at ≡ m c tasks j (number g) at
-    others_stay g at ne c j = word_stays m k.0.creator tasks k.0.slot (number TaskChildren) 0 word c tasks j (number g) at (λ _ _ _ is _. ne is)
+    others_stay : (g : Field) (at : ℕ) → number g ≢ number TaskChildren → (c j : ℕ)
+        → after c tasks j (number g) at ≡ m c tasks j (number g) at
+    others_stay g at ne c j =
+        word_stays m k.0.creator tasks k.0.slot (number TaskChildren) 0 word c tasks j (number g) at
+        (λ _ _ _ is _. ne is)
 
-    apart : (c j : ℕ) (x : Task) → KeepsTask w s owes (task_in c j (s.tasks c j)) (m c tasks j) x → (c ≡ k.0.creator → j ≡ k.0.slot → ⊥) → KeepsTask w s other (task_in c j (s.tasks c j)) (after c tasks j) x
+    apart : (c j : ℕ) (x : Task) → KeepsTask w s owes (task_in c j (s.tasks c j)) (m c tasks j) x
+        → (c ≡ k.0.creator → j ≡ k.0.slot → ⊥)
+        → KeepsTask w s other (task_in c j (s.tasks c j)) (after c tasks j) x
     apart c j x o ne =
-        let same : after c tasks j ≡ m c tasks j = record_stays m k.0.creator tasks k.0.slot (number TaskChildren) 0 word c tasks j (λ creator _ place. ne creator place) in
-        task_counted w m after s owes i p keeps alike (task_in c j (s.tasks c j)) (m c tasks j) (after c tasks j) x (λ g at _. ap (λ (r : Rec). r (number g) at) same)
+        let same : after c tasks j ≡ m c tasks j =
+        record_stays m k.0.creator tasks k.0.slot (number TaskChildren) 0 word c tasks j
+        (λ creator _ place. ne creator place) in
+        task_counted w m after s owes i p keeps alike (task_in c j (s.tasks c j)) (m c tasks j)
+        (after c tasks j) x (λ g at _. ap (λ (r : Rec). r (number g) at) same)
         (counts_same w m after s owes i p keeps alike (task_in c j (s.tasks c j)) (m c tasks j) (after c tasks j) (ap (λ (r : Rec). r (number TaskChildren) 0) same)
         (children (task_in c j (s.tasks c j)) ne)) o
 
-    task_stored : (KeepsCounts w s owes k (m k.0.creator tasks k.0.slot) → KeepsCounts w s other k (after k.0.creator tasks k.0.slot)) → KeepsWords w after s other
+    task_stored : (KeepsCounts w s owes k (m k.0.creator tasks k.0.slot) → KeepsCounts w s other k (after k.0.creator tasks k.0.slot))
+        → KeepsWords w after s other
     task_stored counts =
         other_counts w m after s owes i p keeps alike (λ c kind j _ ne. stays c kind j ne)
         (λ c j. ap (λ (r : Rec). r (number RegionLife) 0) (stays c regions j (λ kind. absurd (omega (arith, kind)))))
@@ -58,25 +71,37 @@ module _ (w : List ℕ) (m : Memory) (s : State) (owes : ℕ → Owed) (i : ℕ)
         objects
         (λ c j within _ x there o.
         let same = stays c regions j (λ kind. absurd (omega (arith, kind))) in
-        region_counted w m after s owes i p keeps alike (region_in c j (s.regions c j)) (m c regions j) (after c regions j) x (λ g at _. ap (λ (r : Rec). r (number g) at) same)
+        region_counted w m after s owes i p keeps alike (region_in c j (s.regions c j)) (m c regions j)
+        (after c regions j) x (λ g at _. ap (λ (r : Rec). r (number g) at) same)
         (λ was.
-        let word_same : after c regions j (number RegionPending) 0 ≡ m c regions j (number RegionPending) 0 = ap (λ (r : Rec). r (number RegionPending) 0) same in
-        let owed = owed_put_same s owes i p (pending_owed (region_in c j (s.regions c j))) (pending (region_in c j (s.regions c j))) in
+        let word_same : after c regions j (number RegionPending) 0 ≡ m c regions j (number RegionPending) 0 =
+        ap (λ (r : Rec). r (number RegionPending) 0) same in
+        let owed =
+        owed_put_same s owes i p (pending_owed (region_in c j (s.regions c j)))
+        (pending (region_in c j (s.regions c j))) in
         omega (arith, was, word_same, owed))
         o)
         (λ c j within _ x there o. in_record c j x there o (cases_eq c k.0.creator) (cases_eq j k.0.slot))
       where
-        own : (x : Task) → (s.tasks k.0.creator k.0.slot).live ≡ Some x → KeepsTask w s owes (task_in k.0.creator k.0.slot (s.tasks k.0.creator k.0.slot)) (m k.0.creator tasks k.0.slot) x
-            → KeepsTask w s other (task_in k.0.creator k.0.slot (s.tasks k.0.creator k.0.slot)) (after k.0.creator tasks k.0.slot) x
+        own : (x : Task) → (s.tasks k.0.creator k.0.slot).live ≡ Some x
+            → KeepsTask w s owes (task_in k.0.creator k.0.slot (s.tasks k.0.creator k.0.slot)) (m k.0.creator tasks k.0.slot) x
+            → KeepsTask w s other (task_in k.0.creator k.0.slot (s.tasks k.0.creator k.0.slot))
+            (after k.0.creator tasks k.0.slot) x
         own x there o =
-            subst (λ (q : Tid). KeepsTask w s other q (after k.0.creator tasks k.0.slot) x) (sym (task_name s k t live))
+            subst (λ (q : Tid). KeepsTask w s other q (after k.0.creator tasks k.0.slot) x)
+            (sym (task_name s k t live))
             (task_counted w m after s owes i p keeps alike k (m k.0.creator tasks k.0.slot) (after k.0.creator tasks k.0.slot) x (λ g at ne. others_stay g at ne k.0.creator k.0.slot) counts
             (subst (λ (q : Tid). KeepsTask w s owes q (m k.0.creator tasks k.0.slot) x) (task_name s k t live) o))
 
-        in_record : (c j : ℕ) (x : Task) → (s.tasks c j).live ≡ Some x → KeepsTask w s owes (task_in c j (s.tasks c j)) (m c tasks j) x → (c ≡ k.0.creator) ⊎ (c ≢ k.0.creator) → (j ≡ k.0.slot) ⊎ (j ≢ k.0.slot)
+        in_record : (c j : ℕ) (x : Task) → (s.tasks c j).live ≡ Some x
+            → KeepsTask w s owes (task_in c j (s.tasks c j)) (m c tasks j) x
+            → (c ≡ k.0.creator) ⊎ (c ≢ k.0.creator) → (j ≡ k.0.slot) ⊎ (j ≢ k.0.slot)
             → KeepsTask w s other (task_in c j (s.tasks c j)) (after c tasks j) x
         in_record c j x there o (inl creator) (inl place) =
-            let here : (s.tasks k.0.creator k.0.slot).live ≡ Some x = ap (λ d. (s.tasks d k.0.slot).live) (sym creator) ∙ ap (λ q. (s.tasks c q).live) (sym place) ∙ there in
+            let here : (s.tasks k.0.creator k.0.slot).live ≡ Some x =
+            ap (λ d. (s.tasks d k.0.slot).live) (sym creator)
+            ∙ ap (λ q. (s.tasks c q).live) (sym place)
+            ∙ there in
             subst (λ d. KeepsTask w s other (task_in d j (s.tasks d j)) (after d tasks j) x) (sym creator)
             (subst (λ q. KeepsTask w s other (task_in k.0.creator q (s.tasks k.0.creator q)) (after k.0.creator tasks q) x) (sym place)
             (own x here (subst (λ q. KeepsTask w s owes (task_in k.0.creator q (s.tasks k.0.creator q)) (m k.0.creator tasks q) x) place
@@ -86,14 +111,16 @@ module _ (w : List ℕ) (m : Memory) (s : State) (owes : ℕ → Owed) (i : ℕ)
 
   -- the word for unfinished explicit children, to which as much is added as is owed more
   pub children_stored : (word : ℕ)
-      → (children_owed s k (owes i) ≤ word_of_task m k TaskChildren → word + children_owed s k (owes i) ≡ word_of_task m k TaskChildren + children_owed s k p)
+      →
+      (children_owed s k (owes i) ≤ word_of_task m k TaskChildren → word + children_owed s k (owes i) ≡ word_of_task m k TaskChildren + children_owed s k p)
       → KeepsWords w (with_task_word m k TaskChildren word) s other
   children_stored word here = task_stored word (λ o. record {
     children =
         let was = o.children in
         let stored = word_read m k.0.creator tasks k.0.slot (number TaskChildren) 0 word in
         let change = owed_put s owes i p known (children_owed s k) in
-        let least : children_owed s k (owes i) ≤ sum_of_owed s owes (children_owed s k) = part_below s.count i (λ j. children_owed s k (owes j)) known in
+        let least : children_owed s k (owes i) ≤ sum_of_owed s owes (children_owed s k) =
+        part_below s.count i (λ j. children_owed s k (owes j)) known in
         let now = here (omega (arith, was, least)) in
         omega (arith, was, stored, change, now);
   })

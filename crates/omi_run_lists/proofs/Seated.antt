@@ -17,13 +17,15 @@ ends_within_more n m size (kept.Fork region first) le within = omega arith
 ends_within_more n m size _ le within = tt
 
 module _ (ms more : List (Tid × ℕ)) where
-  team_at-append : (first size : ℕ) → first + size ≤ length ms → team_at (ms ++ more) first size ≡ team_at ms first size
+  team_at-append : (first size : ℕ) → first + size ≤ length ms
+      → team_at (ms ++ more) first size ≡ team_at ms first size
   team_at-append first size within =
       let below : first ≤ length ms = omega arith in
       ap (take size) (drop-append-le first ms more below)
       ∙ take-append-le size (drop first ms) more (omega (arith, length-drop first ms))
 
-  event_in-append : (size : ℕ) (k : Kept) → EndsWithin (length ms) size k → event_in (ms ++ more) size k ≡ event_in ms size k
+  event_in-append : (size : ℕ) (k : Kept) → EndsWithin (length ms) size k
+      → event_in (ms ++ more) size k ≡ event_in ms size k
   event_in-append size (kept.Fork region first) within =
       ap (λ (team : List (Tid × ℕ)). event.Fork region team) (team_at-append first size within)
   event_in-append size _ within = refl
@@ -41,7 +43,8 @@ module _ (ms more : List (Tid × ℕ)) where
       (items_stay rows (λ k default within. seated (suc k) default (omega arith)))
 
   -- a row more, whose team is put behind the members
-  pub item_added : (rows : List EventRow) (row : EventRow) (item : ℕ × ℕ × Event) → All (IsSeated (length ms)) rows
+  pub item_added : (rows : List EventRow) (row : EventRow) (item : ℕ × ℕ × Event)
+      → All (IsSeated (length ms)) rows
       → item_in (ms ++ more) row ≡ item
       → map (item_in (ms ++ more)) (rows ++ row ∷ []) ≡ map (item_in ms) rows ++ item ∷ []
   item_added rows row item seated stands =

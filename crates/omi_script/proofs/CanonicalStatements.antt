@@ -47,21 +47,25 @@ abbrev pub statements_of : List Func → ℕ
 statements_of fs = sum_by (λ (f : Func). length f.body) fs
 
 -- the name of a function among the first is a word, and finds its number
-named_first : (closed more : List Func) (k : ℕ) → list_all (λ (f : Func). is_name f.name) closed ≡ true → are_distinct (names_of closed) ≡ true → k < length closed
+named_first : (closed more : List Func) (k : ℕ) → list_all (λ (f : Func). is_name f.name) closed ≡ true
+    → are_distinct (names_of closed) ≡ true → k < length closed
     → (is_plain (name_at (closed ++ more) k) ≡ true) × (position (is_called (name_at (closed ++ more) k)) closed ≡ Some k)
 named_first closed more k named distinct l =
     let f = get_named closed k l named in
-    let name : name_at (closed ++ more) k ≡ text_of (f.0).name = ap (λ o. option_map_or (λ (g : Func). text_of g.name) o []) (get_of_first closed more k f.0 f.1) in
+    let name : name_at (closed ++ more) k ≡ text_of (f.0).name =
+    ap (λ o. option_map_or (λ (g : Func). text_of g.name) o []) (get_of_first closed more k f.0 f.1) in
     (ap is_plain name ∙ plain_name (text_of (f.0).name) f.2, ap (λ w. position (is_called w) closed) name ∙ position_of closed k f.0 distinct f.1)
 
 -- a line that says a statement which may stand there leads after it
-says_leads : (state : ParserState) (ws : List (List ℕ)) (bytes : List ℕ) (l : SourceLine) (s : Stmt) → IsLineOf ws bytes → line_of ws ≡ Some l
+says_leads : (state : ParserState) (ws : List (List ℕ)) (bytes : List ℕ) (l : SourceLine) (s : Stmt)
+    → IsLineOf ws bytes → line_of ws ≡ Some l
     → may_stand state l ≡ true → has_bad_number l ≡ false → has_unknown_name state l ≡ false → is_repeated state l ≡ false → statement_of_line state l ≡ Some s
     → is_over_limit state l ≡ (nat_le MAX_STATEMENTS (statements_above state) || says_such is_too_deep state l) → after_line state l ≡ after_statement state (statement_of_line state l)
     → statements_above state < MAX_STATEMENTS → names_rightly (reaches [] state.closed) s ≡ true → LineLeads state bytes (after_statement state (Some s))
 says_leads state ws bytes l s is_line says stands number name new at over_limit to room rightly =
     let above : List Reach = reaches [] state.closed in
-    let such : (test : List Reach → Stmt → Bool) → test above s ≡ false → says_such test state l ≡ false = λ test h. ap (λ o. option_map_or (test above) o false) at ∙ h in
+    let such : (test : List Reach → Stmt → Bool) → test above s ≡ false → says_such test state l ≡ false =
+    λ test h. ap (λ o. option_map_or (test above) o false) at ∙ h in
     let faultless : IsFaultless state l = record {
       stands = stands;
       number = number;
@@ -75,44 +79,67 @@ says_leads state ws bytes l s is_line says stands number name new at over_limit 
     (step.0, step.1, step.2 ∙ to ∙ ap (after_statement state) at)
 
 -- the line of a statement leads after it
-statement_leads : (head : Head) (closed more : List Func) (name : Name) (done : List Stmt) (s : Stmt) → list_all (λ (f : Func). is_name f.name) closed ≡ true → are_distinct (names_of closed) ≡ true
+statement_leads : (head : Head) (closed more : List Func) (name : Name) (done : List Stmt) (s : Stmt)
+    → list_all (λ (f : Func). is_name f.name) closed ≡ true → are_distinct (names_of closed) ≡ true
     → is_allowed (reaches [] closed) s ≡ true → statements_of closed + length done < MAX_STATEMENTS
-    → LineLeads (inside head closed name done) (statement_line (closed ++ more) s) (inside head closed name (done ++ s ∷ []))
+    → LineLeads (inside head closed name done) (statement_line (closed ++ more) s)
+    (inside head closed name (done ++ s ∷ []))
 statement_leads head closed more name done s named distinct allowed room = by_name (named_by s) refl
   where
-    by_name : (o : Option ℕ) → named_by s ≡ o → LineLeads (inside head closed name done) (statement_line (closed ++ more) s) (inside head closed name (done ++ s ∷ []))
+    by_name : (o : Option ℕ) → named_by s ≡ o
+        → LineLeads (inside head closed name done) (statement_line (closed ++ more) s) (inside head closed name (done ++ s ∷ []))
     by_name None none =
         let Plain : Option ℕ → Type 0 = λ o. IfSome o (λ f. is_plain (name_at (closed ++ more) f) ≡ true) in
         let says : line_of (statement_words (closed ++ more) s) ≡ Some (line.StandAlone (Some s)) =
-        said (closed ++ more) s (and_left (is_in_range s) (names_rightly (reaches [] closed) s) allowed) ∙ ap (λ o. Some (option_map_or (λ f. line.Construct (name_at (closed ++ more) f) (construct_of s)) o (line.StandAlone (Some s)))) none in
-        says_leads (inside head closed name done) (statement_words (closed ++ more) s) (statement_line (closed ++ more) s) (line.StandAlone (Some s)) s
+        said (closed ++ more) s (and_left (is_in_range s) (names_rightly (reaches [] closed) s) allowed)
+        ∙ ap
+        (λ o. Some (option_map_or (λ f. line.Construct (name_at (closed ++ more) f) (construct_of s)) o (line.StandAlone (Some s)))) none in
+        says_leads (inside head closed name done) (statement_words (closed ++ more) s)
+        (statement_line (closed ++ more) s) (line.StandAlone (Some s)) s
         (line_indented (statement_words (closed ++ more) s) (plain_words (closed ++ more) s (and_left (is_in_range s) (names_rightly (reaches [] closed) s) allowed) (subst Plain (sym none) tt))) says
-        refl refl refl refl refl refl refl room (and_right (is_in_range s) (names_rightly (reaches [] closed) s) allowed)
+        refl refl refl refl refl refl refl room
+        (and_right (is_in_range s) (names_rightly (reaches [] closed) s) allowed)
     by_name (Some f) is =
         let size : length (reaches [] closed) ≡ length closed = let l : length (reaches [] closed) ≡ 0 + length closed = length-reaches [] closed in omega arith in
         let Below : Option ℕ → Type 0 = λ o. IsBelow (length (reaches [] closed)) o in
-        let below : f < length (reaches [] closed) = subst Below is (named_above (reaches [] closed) s (and_right (is_in_range s) (names_rightly (reaches [] closed) s) allowed)) in
+        let below : f < length (reaches [] closed) =
+        subst Below is
+        (named_above (reaches [] closed) s (and_right (is_in_range s) (names_rightly (reaches [] closed) s) allowed)) in
         let found = named_first closed more f named distinct (omega arith) in
         let again = over_again s f is in
         let Plain : Option ℕ → Type 0 = λ o. IfSome o (λ g. is_plain (name_at (closed ++ more) g) ≡ true) in
         let l : SourceLine = line.Construct (name_at (closed ++ more) f) (Some again.0) in
         let says : line_of (statement_words (closed ++ more) s) ≡ Some (line.Construct (name_at (closed ++ more) f) (Some again.0)) =
         said (closed ++ more) s (and_left (is_in_range s) (names_rightly (reaches [] closed) s) allowed)
-        ∙ ap (λ o. Some (option_map_or (λ g. line.Construct (name_at (closed ++ more) g) (construct_of s)) o (line.StandAlone (Some s)))) is
+        ∙ ap
+        (λ o. Some (option_map_or (λ g. line.Construct (name_at (closed ++ more) g) (construct_of s)) o (line.StandAlone (Some s)))) is
         ∙ ap (λ c. Some (line.Construct (name_at (closed ++ more) f) c)) again.1 in
-        says_leads (inside head closed name done) (statement_words (closed ++ more) s) (statement_line (closed ++ more) s) (line.Construct (name_at (closed ++ more) f) (Some again.0)) s
+        says_leads (inside head closed name done) (statement_words (closed ++ more) s)
+        (statement_line (closed ++ more) s) (line.Construct (name_at (closed ++ more) f) (Some again.0)) s
         (line_indented (statement_words (closed ++ more) s) (plain_words (closed ++ more) s (and_left (is_in_range s) (names_rightly (reaches [] closed) s) allowed) (subst Plain (sym is) found.0))) says
-        refl refl (ap (λ o. not (is_some o)) found.1) refl (ap (option_map (over again.0)) found.1 ∙ ap Some again.2) refl refl room (and_right (is_in_range s) (names_rightly (reaches [] closed) s) allowed)
+        refl refl (ap (λ o. not (is_some o)) found.1) refl
+        (ap (option_map (over again.0)) found.1 ∙ ap Some again.2) refl refl room
+        (and_right (is_in_range s) (names_rightly (reaches [] closed) s) allowed)
 
 -- the lines of statements lead after the last
-pub body_leads : (head : Head) (closed more : List Func) (name : Name) (done left : List Stmt) → list_all (λ (f : Func). is_name f.name) closed ≡ true → are_distinct (names_of closed) ≡ true
+pub body_leads : (head : Head) (closed more : List Func) (name : Name) (done left : List Stmt)
+    → list_all (λ (f : Func). is_name f.name) closed ≡ true → are_distinct (names_of closed) ≡ true
     → list_all (is_allowed (reaches [] closed)) left ≡ true → statements_of closed + length done + length left ≤ MAX_STATEMENTS
-    → LinesLead (inside head closed name done) (map (statement_line (closed ++ more)) left) (inside head closed name (done ++ left))
-body_leads head closed more name done [] named distinct allowed room = ap (inside head closed name) (sym (append-nil done))
+    → LinesLead (inside head closed name done) (map (statement_line (closed ++ more)) left)
+    (inside head closed name (done ++ left))
+body_leads head closed more name done [] named distinct allowed room =
+    ap (inside head closed name) (sym (append-nil done))
 body_leads head closed more name done (s ∷ left) named distinct allowed room =
     let above : List Reach = reaches [] closed in
     let longer : length (done ++ s ∷ []) ≡ length done + 1 = length_push done s in
-    let first = statement_leads head closed more name done s named distinct (and_left (is_allowed above s) (list_all (is_allowed above) left) allowed) (omega arith) in
-    let rest = body_leads head closed more name (done ++ s ∷ []) left named distinct (and_right (is_allowed above s) (list_all (is_allowed above) left) allowed) (omega arith) in
-    let To : List Stmt → Type 0 = λ b. LinesLead (inside head closed name (done ++ s ∷ [])) (map (statement_line (closed ++ more)) left) (inside head closed name b) in
-    leads_on (inside head closed name done) (inside head closed name (done ++ s ∷ [])) (inside head closed name (done ++ s ∷ left)) (statement_line (closed ++ more) s) (map (statement_line (closed ++ more)) left) first (subst To (append_assoc done (s ∷ []) left) rest)
+    let first =
+    statement_leads head closed more name done s named distinct
+    (and_left (is_allowed above s) (list_all (is_allowed above) left) allowed) (omega arith) in
+    let rest =
+    body_leads head closed more name (done ++ s ∷ []) left named distinct
+    (and_right (is_allowed above s) (list_all (is_allowed above) left) allowed) (omega arith) in
+    let To : List Stmt → Type 0 =
+    λ b. LinesLead (inside head closed name (done ++ s ∷ [])) (map (statement_line (closed ++ more)) left) (inside head closed name b) in
+    leads_on (inside head closed name done) (inside head closed name (done ++ s ∷ []))
+    (inside head closed name (done ++ s ∷ left)) (statement_line (closed ++ more) s)
+    (map (statement_line (closed ++ more)) left) first (subst To (append_assoc done (s ∷ []) left) rest)

@@ -11,10 +11,13 @@ not_zero : (n : ℕ) → 0 < n → (n == 0) ≡ false
 not_zero n l = grind (arith, nat_tests)
 
 -- a piece that others stand behind is a line
-piece_onto : (piece : List ℕ) (first : List ℕ) (more pieces : List (List ℕ)) → pieces ≡ first ∷ more → without_last_empty (piece ∷ pieces) ≡ piece ∷ without_last_empty pieces
-piece_onto piece first more pieces e = ap (λ ps. without_last_empty (piece ∷ ps)) e ∙ sym (ap (λ ps. piece ∷ without_last_empty ps) e)
+piece_onto : (piece : List ℕ) (first : List ℕ) (more pieces : List (List ℕ)) → pieces ≡ first ∷ more
+    → without_last_empty (piece ∷ pieces) ≡ piece ∷ without_last_empty pieces
+piece_onto piece first more pieces e =
+    ap (λ ps. without_last_empty (piece ∷ ps)) e ∙ sym (ap (λ ps. piece ∷ without_last_empty ps) e)
 
-some_piece : (xs : List ℕ) → (first : List ℕ) × (more : List (List ℕ)) × (slice_split is_line_feed xs ≡ first ∷ more)
+some_piece : (xs : List ℕ)
+    → (first : List ℕ) × (more : List (List ℕ)) × (slice_split is_line_feed xs ≡ first ∷ more)
 some_piece xs =
     ⊎_elim
     (λ h. (before_first is_line_feed xs, slice_split is_line_feed (after_first is_line_feed xs), cut_first is_line_feed xs h))
@@ -22,7 +25,8 @@ some_piece xs =
     (cases_lt (position_or_len is_line_feed xs) (length xs))
 
 -- the lines of a text that is not empty, by the first
-pub lines_step : (bytes : List ℕ) → 0 < length bytes → lines bytes ≡ before_first is_line_feed bytes ∷ lines (after_first is_line_feed bytes)
+pub lines_step : (bytes : List ℕ) → 0 < length bytes
+    → lines bytes ≡ before_first is_line_feed bytes ∷ lines (after_first is_line_feed bytes)
 lines_step bytes some =
     ⊎_elim
     (λ h. let next = some_piece (after_first is_line_feed bytes) in
@@ -37,5 +41,6 @@ lines_none [] e = refl
 lines_none (b ∷ bs) e = let no = not_zero (suc (length bs)) (omega arith) in absurd (cc (no, e))
 
 -- what stands after the first line is shorter
-pub after_shorter : (bytes : List ℕ) → 0 < length bytes → length (after_first is_line_feed bytes) < length bytes
+pub after_shorter : (bytes : List ℕ) → 0 < length bytes
+    → length (after_first is_line_feed bytes) < length bytes
 after_shorter bytes some = let e = length-drop (position_or_len is_line_feed bytes + 1) bytes in omega arith

@@ -47,7 +47,8 @@ is_head_in_range (Debug b) = true
 is_head_in_range (Procs n) = passes is_processor_count n
 
 -- one more head line keeps the ranges
-pub head_kept : (h : Head) (l : HeadLine) → is_head_in_range l ≡ true → AreInRange h → AreInRange (head_after h l)
+pub head_kept : (h : Head) (l : HeadLine) → is_head_in_range l ≡ true → AreInRange h
+    → AreInRange (head_after h l)
 head_kept h (Threads None) e k = k
 head_kept h (Threads (Some n)) e k = record { threads = e; sizes = k.sizes; levels = k.levels; schedule = k.schedule; device = k.device; procs = k.procs }
 head_kept h (NumThreads None) e k = k
@@ -83,11 +84,13 @@ is_line_in_range line.End = true
 abbrev pub is_good : Option SourceLine → Bool
 is_good o = passes is_line_in_range o
 
-chosen : (b : Bool) (x y : Option SourceLine) → is_good x ≡ true → is_good y ≡ true → is_good (if b then x else y) ≡ true
+chosen : (b : Bool) (x y : Option SourceLine) → is_good x ≡ true → is_good y ≡ true
+    → is_good (if b then x else y) ≡ true
 chosen true x y h k = h
 chosen false x y h k = k
 
-mapped : {A B : Type 0} (f : A → B) (p : A → Bool) (q : B → Bool) (o : Option A) → ((x : A) → p x ≡ true → q (f x) ≡ true) → passes p o ≡ true → passes q (option_map f o) ≡ true
+mapped : {A B : Type 0} (f : A → B) (p : A → Bool) (q : B → Bool) (o : Option A)
+    → ((x : A) → p x ≡ true → q (f x) ≡ true) → passes p o ≡ true → passes q (option_map f o) ≡ true
 mapped f p q None h e = refl
 mapped f p q (Some x) h e = h x e
 
@@ -95,7 +98,8 @@ mapped f p q (Some x) h e = h x e
 abbrev pub is_kind : Option ℕ → Bool
 is_kind o = passes (is_within 1 4) o
 
-kind_chosen : (b : Bool) (x y : Option ℕ) → is_kind x ≡ true → is_kind y ≡ true → is_kind (if b then x else y) ≡ true
+kind_chosen : (b : Bool) (x y : Option ℕ) → is_kind x ≡ true → is_kind y ≡ true
+    → is_kind (if b then x else y) ≡ true
 kind_chosen true x y h k = h
 kind_chosen false x y h k = k
 
@@ -110,7 +114,8 @@ kind_within word =
 abbrev is_good_head : Option HeadLine → Bool
 is_good_head o = passes is_head_in_range o
 
-head_chosen : (b : Bool) (x y : Option HeadLine) → is_good_head x ≡ true → is_good_head y ≡ true → is_good_head (if b then x else y) ≡ true
+head_chosen : (b : Bool) (x y : Option HeadLine) → is_good_head x ≡ true → is_good_head y ≡ true
+    → is_good_head (if b then x else y) ≡ true
 head_chosen true x y h k = h
 head_chosen false x y h k = k
 
@@ -120,17 +125,23 @@ threads_good (n ∷ []) = number_within 1 MAX_THREADS n
 threads_good (n ∷ m ∷ ws) = refl
 
 -- a kind and a chunk in range
-with_chunk : (k : ℕ) (chunk : List ℕ) → is_within 1 4 k ≡ true → passes is_schedule (option_map (λ n. record { kind = k; chunk = n }) (number_of 0 MAX_CHUNK chunk)) ≡ true
-with_chunk k chunk e = mapped (λ (n : ℕ). record { kind = k; chunk = n }) (λ n. nat_le n MAX_CHUNK) is_schedule (number_of 0 MAX_CHUNK chunk) (λ n l. and_true (is_within 1 4 k) (nat_le n MAX_CHUNK) e l) (number_up_to MAX_CHUNK chunk)
+with_chunk : (k : ℕ) (chunk : List ℕ) → is_within 1 4 k ≡ true
+    → passes is_schedule (option_map (λ n. record { kind = k; chunk = n }) (number_of 0 MAX_CHUNK chunk)) ≡ true
+with_chunk k chunk e =
+    mapped (λ (n : ℕ). record { kind = k; chunk = n }) (λ n. nat_le n MAX_CHUNK) is_schedule
+    (number_of 0 MAX_CHUNK chunk) (λ n l. and_true (is_within 1 4 k) (nat_le n MAX_CHUNK) e l)
+    (number_up_to MAX_CHUNK chunk)
 
-with_kind : (o : Option ℕ) (chunk : List ℕ) → is_kind o ≡ true → is_good_head (option_map (λ k. Schedule (option_map (λ n. record { kind = k; chunk = n }) (number_of 0 MAX_CHUNK chunk))) o) ≡ true
+with_kind : (o : Option ℕ) (chunk : List ℕ) → is_kind o ≡ true
+    → is_good_head (option_map (λ k. Schedule (option_map (λ n. record { kind = k; chunk = n }) (number_of 0 MAX_CHUNK chunk))) o) ≡ true
 with_kind None chunk e = refl
 with_kind (Some k) chunk e = with_chunk k chunk e
 
 schedule_good : (pieces : List (List ℕ)) → is_good_head (kind_and_chunk pieces) ≡ true
 schedule_good [] = refl
 schedule_good (kind ∷ []) = refl
-schedule_good (kind ∷ chunk ∷ []) = head_chosen (length chunk == 0) None _ refl (with_kind (schedule_kind_of kind) chunk (kind_within kind))
+schedule_good (kind ∷ chunk ∷ []) =
+    head_chosen (length chunk == 0) None _ refl (with_kind (schedule_kind_of kind) chunk (kind_within kind))
 schedule_good (kind ∷ chunk ∷ more ∷ pieces) = refl
 
 dynamic_good : (o : Option Bool) → is_good_head (option_map Dynamic o) ≡ true
@@ -143,7 +154,8 @@ debug_good (Some b) = refl
 
 setting_good : (name value : List ℕ) → is_good_head (setting_line name value) ≡ true
 setting_good name value =
-    head_chosen (bytes_eq name (codes "num_threads")) _ _ (head_chosen (has_empty_piece value) None (Some (NumThreads (sizes_of value))) refl (sizes_sound value))
+    head_chosen (bytes_eq name (codes "num_threads")) _ _
+    (head_chosen (has_empty_piece value) None (Some (NumThreads (sizes_of value))) refl (sizes_sound value))
     (head_chosen (bytes_eq name (codes "dynamic")) _ _ (dynamic_good (is_first_of (codes "true") (codes "false") value))
     (head_chosen (bytes_eq name (codes "max_active_levels")) (max_active_line value) _ (number_up_to MAX_LEVELS value)
     (head_chosen (bytes_eq name (codes "schedule")) _ _ (schedule_good (slice_split is_comma value))
@@ -162,7 +174,9 @@ as_line None e = refl
 as_line (Some h) e = e
 
 -- a construct with a number
-numbered : (p : ℕ → Bool) (make : ℕ → Construct) (name : List ℕ) (o : Option ℕ) → ((n : ℕ) → p n ≡ true → is_construct_in_range (make n) ≡ true) → passes p o ≡ true → is_good (Some (line.Construct name (option_map make o))) ≡ true
+numbered : (p : ℕ → Bool) (make : ℕ → Construct) (name : List ℕ) (o : Option ℕ)
+    → ((n : ℕ) → p n ≡ true → is_construct_in_range (make n) ≡ true) → passes p o ≡ true
+    → is_good (Some (line.Construct name (option_map make o))) ≡ true
 numbered p make name o h e = mapped make p is_construct_in_range o h e
 
 parallel_good : (ws : List (List ℕ)) → is_good (parallel_line ws) ≡ true
@@ -170,10 +184,12 @@ parallel_good [] = refl
 parallel_good (f ∷ []) = refl
 parallel_good (f ∷ word ∷ []) = refl
 parallel_good (f ∷ word ∷ n ∷ []) =
-    chosen (bytes_eq word (codes "num")) _ None (numbered (is_within 1 MAX_SIZE) (λ m. construct.Parallel (Some m)) f (number_of 1 MAX_SIZE n) (λ m e. e) (number_within 1 MAX_SIZE n)) refl
+    chosen (bytes_eq word (codes "num")) _ None
+    (numbered (is_within 1 MAX_SIZE) (λ m. construct.Parallel (Some m)) f (number_of 1 MAX_SIZE n) (λ m e. e) (number_within 1 MAX_SIZE n)) refl
 parallel_good (f ∷ word ∷ n ∷ more ∷ ws) = refl
 
-task_of_good : (f : List ℕ) (deferred last : Option ℕ) → is_good (Some (task_construct f deferred last)) ≡ true
+task_of_good : (f : List ℕ) (deferred last : Option ℕ)
+    → is_good (Some (task_construct f deferred last)) ≡ true
 task_of_good f None last = refl
 task_of_good f (Some d) None = refl
 task_of_good f (Some d) (Some l) = refl
@@ -186,7 +202,9 @@ task_good (f ∷ word ∷ b ∷ []) =
     chosen (bytes_eq word (codes "if")) _ _ (task_of_good f (number_of 0 1 b) (Some 0))
     (chosen (bytes_eq word (codes "final")) _ None (task_of_good f (Some 1) (number_of 0 1 b)) refl)
 task_good (f ∷ word ∷ b ∷ other ∷ []) = refl
-task_good (f ∷ word ∷ b ∷ other ∷ c ∷ []) = chosen (bytes_eq word (codes "if") && bytes_eq other (codes "final")) _ None (task_of_good f (number_of 0 1 b) (number_of 0 1 c)) refl
+task_good (f ∷ word ∷ b ∷ other ∷ c ∷ []) =
+    chosen (bytes_eq word (codes "if") && bytes_eq other (codes "final")) _ None
+    (task_of_good f (number_of 0 1 b) (number_of 0 1 c)) refl
 task_good (f ∷ word ∷ b ∷ other ∷ c ∷ more ∷ ws) = refl
 
 bare_good : (s : Stmt) (ws : List (List ℕ)) → is_alone_in_range s ≡ true → is_good (bare_line s ws) ≡ true
@@ -196,7 +214,9 @@ bare_good s (more ∷ ws) e = refl
 critical_good : (ws : List (List ℕ)) → is_good (critical_line ws) ≡ true
 critical_good [] = refl
 critical_good (k ∷ []) = refl
-critical_good (k ∷ f ∷ []) = numbered (λ n. nat_le n MAX_LOCK) construct.Critical f (number_of 0 MAX_LOCK k) (λ n e. e) (number_up_to MAX_LOCK k)
+critical_good (k ∷ f ∷ []) =
+    numbered (λ n. nat_le n MAX_LOCK) construct.Critical f (number_of 0 MAX_LOCK k) (λ n e. e)
+    (number_up_to MAX_LOCK k)
 critical_good (k ∷ f ∷ more ∷ ws) = refl
 
 call_good : (ws : List (List ℕ)) → is_good (call_line ws) ≡ true
@@ -207,39 +227,53 @@ call_good (f ∷ more ∷ ws) = refl
 only_good : (ws : List (List ℕ)) → is_good (only_line ws) ≡ true
 only_good [] = refl
 only_good (m ∷ []) = refl
-only_good (m ∷ f ∷ []) = numbered (λ n. nat_le n MAX_MEMBER) construct.Only f (number_of 0 MAX_MEMBER m) (λ n e. e) (number_up_to MAX_MEMBER m)
+only_good (m ∷ f ∷ []) =
+    numbered (λ n. nat_le n MAX_MEMBER) construct.Only f (number_of 0 MAX_MEMBER m) (λ n e. e)
+    (number_up_to MAX_MEMBER m)
 only_good (m ∷ f ∷ more ∷ ws) = refl
 
 repeat_good : (ws : List (List ℕ)) → is_good (repeat_line ws) ≡ true
 repeat_good [] = refl
 repeat_good (n ∷ []) = refl
-repeat_good (n ∷ f ∷ []) = numbered (λ m. nat_le m MAX_REPEATS) construct.Repeat f (number_of 0 MAX_REPEATS n) (λ m e. e) (number_up_to MAX_REPEATS n)
+repeat_good (n ∷ f ∷ []) =
+    numbered (λ m. nat_le m MAX_REPEATS) construct.Repeat f (number_of 0 MAX_REPEATS n) (λ m e. e)
+    (number_up_to MAX_REPEATS n)
 repeat_good (n ∷ f ∷ more ∷ ws) = refl
 
 -- a stand-alone statement with a number
-set_good : (p : ℕ → Bool) (make : ℕ → Stmt) (o : Option ℕ) → ((n : ℕ) → p n ≡ true → is_alone_in_range (make n) ≡ true) → passes p o ≡ true → is_good (Some (line.StandAlone (option_map make o))) ≡ true
+set_good : (p : ℕ → Bool) (make : ℕ → Stmt) (o : Option ℕ)
+    → ((n : ℕ) → p n ≡ true → is_alone_in_range (make n) ≡ true) → passes p o ≡ true
+    → is_good (Some (line.StandAlone (option_map make o))) ≡ true
 set_good p make o h e = mapped make p is_alone_in_range o h e
 
 set_num_threads_good : (ws : List (List ℕ)) → is_good (set_num_threads_line ws) ≡ true
 set_num_threads_good [] = refl
-set_num_threads_good (n ∷ []) = set_good (is_within 1 MAX_SIZE) SetNumThreads (number_of 1 MAX_SIZE n) (λ m e. and_true (is_within 1 MAX_SIZE m) true e refl) (number_within 1 MAX_SIZE n)
+set_num_threads_good (n ∷ []) =
+    set_good (is_within 1 MAX_SIZE) SetNumThreads (number_of 1 MAX_SIZE n)
+    (λ m e. and_true (is_within 1 MAX_SIZE m) true e refl) (number_within 1 MAX_SIZE n)
 set_num_threads_good (n ∷ more ∷ ws) = refl
 
 set_dynamic_good : (ws : List (List ℕ)) → is_good (set_dynamic_line ws) ≡ true
 set_dynamic_good [] = refl
-set_dynamic_good (b ∷ []) = set_good (is_within 0 1) (λ n. SetDynamic (n == 1)) (number_of 0 1 b) (λ m e. refl) (number_within 0 1 b)
+set_dynamic_good (b ∷ []) =
+    set_good (is_within 0 1) (λ n. SetDynamic (n == 1)) (number_of 0 1 b) (λ m e. refl) (number_within 0 1 b)
 set_dynamic_good (b ∷ more ∷ ws) = refl
 
 set_max_active_good : (ws : List (List ℕ)) → is_good (set_max_active_line ws) ≡ true
 set_max_active_good [] = refl
-set_max_active_good (n ∷ []) = set_good is_level_count SetMaxActive (number_of 0 MAX_LEVELS n) (λ m e. and_true (is_level_count m) true e refl) (number_up_to MAX_LEVELS n)
+set_max_active_good (n ∷ []) =
+    set_good is_level_count SetMaxActive (number_of 0 MAX_LEVELS n)
+    (λ m e. and_true (is_level_count m) true e refl) (number_up_to MAX_LEVELS n)
 set_max_active_good (n ∷ more ∷ ws) = refl
 
-set_schedule_kind : (o : Option ℕ) (chunk : List ℕ) → is_kind o ≡ true → is_good (option_map (λ k. line.StandAlone (option_map (λ n. SetSchedule (record { kind = k; chunk = n })) (number_of 0 MAX_CHUNK chunk))) o) ≡ true
+set_schedule_kind : (o : Option ℕ) (chunk : List ℕ) → is_kind o ≡ true
+    → is_good (option_map (λ k. line.StandAlone (option_map (λ n. SetSchedule (record { kind = k; chunk = n })) (number_of 0 MAX_CHUNK chunk))) o) ≡ true
 set_schedule_kind None chunk e = refl
 set_schedule_kind (Some k) chunk e =
-    set_good (λ n. nat_le n MAX_CHUNK) (λ n. SetSchedule (record { kind = k; chunk = n })) (number_of 0 MAX_CHUNK chunk)
-    (λ n l. and_true (is_within 1 4 k && nat_le n MAX_CHUNK) true (and_true (is_within 1 4 k) (nat_le n MAX_CHUNK) e l) refl) (number_up_to MAX_CHUNK chunk)
+    set_good (λ n. nat_le n MAX_CHUNK) (λ n. SetSchedule (record { kind = k; chunk = n }))
+    (number_of 0 MAX_CHUNK chunk)
+    (λ n l. and_true (is_within 1 4 k && nat_le n MAX_CHUNK) true (and_true (is_within 1 4 k) (nat_le n MAX_CHUNK) e l) refl)
+    (number_up_to MAX_CHUNK chunk)
 
 set_schedule_good : (ws : List (List ℕ)) → is_good (set_schedule_line ws) ≡ true
 set_schedule_good [] = refl
@@ -249,12 +283,16 @@ set_schedule_good (kind ∷ chunk ∷ more ∷ ws) = refl
 
 set_device_good : (ws : List (List ℕ)) → is_good (set_device_line ws) ≡ true
 set_device_good [] = refl
-set_device_good (n ∷ []) = set_good is_device SetDevice (number_of 0 MAX_DEVICE n) (λ m e. and_true (is_device m) true e refl) (number_up_to MAX_DEVICE n)
+set_device_good (n ∷ []) =
+    set_good is_device SetDevice (number_of 0 MAX_DEVICE n) (λ m e. and_true (is_device m) true e refl)
+    (number_up_to MAX_DEVICE n)
 set_device_good (n ∷ more ∷ ws) = refl
 
 tool_good : (ws : List (List ℕ)) → is_good (tool_line ws) ≡ true
 tool_good [] = refl
-tool_good (x ∷ []) = set_good (λ n. nat_le n 18446744073709551615) Tool (number_of 0 18446744073709551615 x) (λ m e. and_true (nat_le m 18446744073709551615) true e refl) (number_up_to 18446744073709551615 x)
+tool_good (x ∷ []) =
+    set_good (λ n. nat_le n 18446744073709551615) Tool (number_of 0 18446744073709551615 x)
+    (λ m e. and_true (nat_le m 18446744073709551615) true e refl) (number_up_to 18446744073709551615 x)
 tool_good (x ∷ more ∷ ws) = refl
 
 statement_good : (first : List ℕ) (ws : List (List ℕ)) → is_good (statement_line first ws) ≡ true

@@ -26,11 +26,15 @@ pub IsUtf8-from_digits : (ds : List ℕ) → list_all is_digit ds ≡ true → I
 IsUtf8-from_digits ds h = IsUtf8-from_ascii ds (IsAscii-from_digits ds h)
 
 -- a parsed number is the value, where it fits
-pub parsed_some : {E : Type 0} (r : Result ℕ E) (o : Option ℕ) (n v : ℕ) → OkIff r ((0 < n) × (v < 2 ^ 64)) v → o ≡ result_ok r → IfSome o (λ x. x ≡ v)
+pub parsed_some : {E : Type 0} (r : Result ℕ E) (o : Option ℕ) (n v : ℕ) → OkIff r ((0 < n) × (v < 2 ^ 64)) v
+    → o ≡ result_ok r → IfSome o (λ x. x ≡ v)
 parsed_some (Ok x) o n v h e = subst (λ p. IfSome p (λ y. y ≡ v)) (sym e) h.1
 parsed_some (Err x) o n v h e = subst (λ p. IfSome p (λ y. y ≡ v)) (sym e) tt
 
 -- there is none only where it does not fit
-pub parsed_none : {E : Type 0} (r : Result ℕ E) (o : Option ℕ) (n v : ℕ) → 0 < n → OkIff r ((0 < n) × (v < 2 ^ 64)) v → o ≡ result_ok r → IfNone o (2 ^ 64 ≤ v)
+pub parsed_none : {E : Type 0} (r : Result ℕ E) (o : Option ℕ) (n v : ℕ) → 0 < n
+    → OkIff r ((0 < n) × (v < 2 ^ 64)) v → o ≡ result_ok r → IfNone o (2 ^ 64 ≤ v)
 parsed_none (Ok x) o n v some h e = subst (λ p. IfNone p (2 ^ 64 ≤ v)) (sym e) tt
-parsed_none (Err x) o n v some h e = subst (λ p. IfNone p (2 ^ 64 ≤ v)) (sym e) (⊎_elim (λ l. absurd (h (some, l))) (λ l. l) (cases_lt v (2 ^ 64)))
+parsed_none (Err x) o n v some h e =
+    subst (λ p. IfNone p (2 ^ 64 ≤ v)) (sym e)
+    (⊎_elim (λ l. absurd (h (some, l))) (λ l. l) (cases_lt v (2 ^ 64)))

@@ -12,7 +12,8 @@ one_test b x y = Bool-set b true x y
 
 same_program : (p q : Program) → AreEqual p q → p ≡ q
 same_program p q e =
-    subst (λ n. (a : IsTrue (is_program n q.env q.funcs q.main)) → p ≡ record { threads = n; env = q.env; funcs = q.funcs; main = q.main; accepted = a }) e.threads
+    subst
+    (λ n. (a : IsTrue (is_program n q.env q.funcs q.main)) → p ≡ record { threads = n; env = q.env; funcs = q.funcs; main = q.main; accepted = a }) e.threads
     (subst (λ env. (a : IsTrue (is_program p.threads env q.funcs q.main)) → p ≡ record { threads = p.threads; env = env; funcs = q.funcs; main = q.main; accepted = a }) e.env
     (subst (λ funcs. (a : IsTrue (is_program p.threads p.env funcs q.main)) → p ≡ record { threads = p.threads; env = p.env; funcs = funcs; main = q.main; accepted = a }) e.funcs
     (subst (λ main. (a : IsTrue (is_program p.threads p.env p.funcs main)) → p ≡ record { threads = p.threads; env = p.env; funcs = p.funcs; main = main; accepted = a }) e.main

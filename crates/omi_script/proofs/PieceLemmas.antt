@@ -17,11 +17,14 @@ place_by : (n l : ℕ) → n ≤ l → unwrap_or (cond (ltb n l) (Some n) None) 
 place_by n l h = grind (arith, nat_tests, common_steps)
 
 -- the first place that passes, or the length
-pub first_place : (p : ℕ → Bool) (xs : List ℕ) → (unwrap_or (position p xs) (length xs) ≡ position_or_len p xs) × (position_or_len p xs ≤ length xs)
-first_place p xs = (place_by (position_or_len p xs) (length xs) (position_or_len-le p xs), position_or_len-le p xs)
+pub first_place : (p : ℕ → Bool) (xs : List ℕ)
+    → (unwrap_or (position p xs) (length xs) ≡ position_or_len p xs) × (position_or_len p xs ≤ length xs)
+first_place p xs =
+    (place_by (position_or_len p xs) (length xs) (position_or_len-le p xs), position_or_len-le p xs)
 
 -- a list without a separator is one piece, and nothing is left
-pub cut_last : (p : ℕ → Bool) (xs : List ℕ) → length xs ≤ position_or_len p xs → (slice_split p xs ≡ xs ∷ []) × (before_first p xs ≡ xs) × (after_first p xs ≡ [])
+pub cut_last : (p : ℕ → Bool) (xs : List ℕ) → length xs ≤ position_or_len p xs
+    → (slice_split p xs ≡ xs ∷ []) × (before_first p xs ≡ xs) × (after_first p xs ≡ [])
 cut_last p xs h = (
   slice_split_none p xs (λ k d l. fails_before_first p xs k d (omega arith)),
   take_all (position_or_len p xs) xs h,
@@ -29,7 +32,8 @@ cut_last p xs h = (
 )
 
 -- the first piece, and the pieces of what is left
-pub cut_first : (p : ℕ → Bool) (xs : List ℕ) → position_or_len p xs < length xs → slice_split p xs ≡ before_first p xs ∷ slice_split p (after_first p xs)
+pub cut_first : (p : ℕ → Bool) (xs : List ℕ) → position_or_len p xs < length xs
+    → slice_split p xs ≡ before_first p xs ∷ slice_split p (after_first p xs)
 cut_first p xs h = slice_split_first p xs 0 h
 
 abbrev not_empty : List (List ℕ) → List (List ℕ)
@@ -43,7 +47,8 @@ abbrev word_onto : List ℕ → List ℕ → List (List ℕ)
 word_onto w rest = if length w == 0 then words rest else w ∷ words rest
 
 -- the words of a line, by its first piece
-pub words_step : (line : List ℕ) → words line ≡ (if length (before_first is_blank line) == 0 then words (after_first is_blank line) else before_first is_blank line ∷ words (after_first is_blank line))
+pub words_step : (line : List ℕ)
+    → words line ≡ (if length (before_first is_blank line) == 0 then words (after_first is_blank line) else before_first is_blank line ∷ words (after_first is_blank line))
 words_step line =
     ⊎_elim
     (λ h. ap not_empty (cut_first is_blank line h) ∙ flip (length (before_first is_blank line) == 0) _ _)
@@ -52,7 +57,8 @@ words_step line =
     (cases_lt (position_or_len is_blank line) (length line))
 
 -- the pieces between commas, by the first
-pub items_step : (word : List ℕ) → slice_split is_comma word ≡ before_first is_comma word ∷ (if ltb (position_or_len is_comma word) (length word) then slice_split is_comma (after_first is_comma word) else [])
+pub items_step : (word : List ℕ)
+    → slice_split is_comma word ≡ before_first is_comma word ∷ (if ltb (position_or_len is_comma word) (length word) then slice_split is_comma (after_first is_comma word) else [])
 items_step word =
     ⊎_elim
     (λ h. cut_first is_comma word h ∙ ap (λ b. before_first is_comma word ∷ (if b then slice_split is_comma (after_first is_comma word) else [])) (sym (lt-ltb _ _ h)))

@@ -18,7 +18,8 @@ use Rattle.omi_script.proofs.PieceLemmas.{items_step}
 abbrev pub passes : {A : Type 0} → (A → Bool) → Option A → Bool
 passes p o = option_map_or p o true
 
-passes-guard : {A : Type 0} (p : A → Bool) (b : Bool) (x : A) → passes p (if b then Some x else None) ≡ cond b (p x) true
+passes-guard : {A : Type 0} (p : A → Bool) (b : Bool) (x : A)
+    → passes p (if b then Some x else None) ≡ cond b (p x) true
 passes-guard p true x = refl
 passes-guard p false x = refl
 
@@ -29,8 +30,12 @@ within_guard false true = refl
 within_guard false false = refl
 
 -- a number lies in its range
-pub number_within : (least most : ℕ) (word : List ℕ) → passes (is_within least most) (number_of least most word) ≡ true
-number_within least most word = passes-guard (is_within least most) (is_decimal word && is_within least most (value_of word)) (value_of word) ∙ within_guard (is_decimal word) (is_within least most (value_of word))
+pub number_within : (least most : ℕ) (word : List ℕ)
+    → passes (is_within least most) (number_of least most word) ≡ true
+number_within least most word =
+    passes-guard (is_within least most) (is_decimal word && is_within least most (value_of word))
+    (value_of word)
+    ∙ within_guard (is_decimal word) (is_within least most (value_of word))
 
 up_to_guard : (p q : Bool) → cond (p && (true && q)) q true ≡ true
 up_to_guard true true = refl
@@ -41,26 +46,38 @@ up_to_guard false q = refl
 pub number_up_to : (most : ℕ) (word : List ℕ) → passes (λ n. nat_le n most) (number_of 0 most word) ≡ true
 number_up_to most word =
     passes-guard (λ n. nat_le n most) (is_decimal word && is_within 0 most (value_of word)) (value_of word)
-    ∙ ap (λ b. cond (is_decimal word && (b && nat_le (value_of word) most)) (nat_le (value_of word) most) true) (le-leb 0 (value_of word) (omega arith))
+    ∙ ap
+    (λ b. cond (is_decimal word && (b && nat_le (value_of word) most)) (nat_le (value_of word) most) true)
+    (le-leb 0 (value_of word) (omega arith))
     ∙ up_to_guard (is_decimal word) (nat_le (value_of word) most)
 
-both_sizes : (n : Option ℕ) (o : Option (List ℕ)) → passes is_size n ≡ true → passes (list_all is_size) o ≡ true → passes (list_all is_size) (option_and_then (λ m. option_map (λ ms. m ∷ ms) o) n) ≡ true
+both_sizes : (n : Option ℕ) (o : Option (List ℕ)) → passes is_size n ≡ true
+    → passes (list_all is_size) o ≡ true
+    → passes (list_all is_size) (option_and_then (λ m. option_map (λ ms. m ∷ ms) o) n) ≡ true
 both_sizes None o h k = refl
 both_sizes (Some m) None h k = refl
 both_sizes (Some m) (Some ms) h k = ap (λ b. b && list_all is_size ms) h ∙ k
 
-each_sizes : (pieces : List (List ℕ)) → passes (list_all is_size) (each_of (map (number_of 1 MAX_SIZE) pieces)) ≡ true
+each_sizes : (pieces : List (List ℕ))
+    → passes (list_all is_size) (each_of (map (number_of 1 MAX_SIZE) pieces)) ≡ true
 each_sizes [] = refl
-each_sizes (w ∷ pieces) = both_sizes (number_of 1 MAX_SIZE w) (each_of (map (number_of 1 MAX_SIZE) pieces)) (number_within 1 MAX_SIZE w) (each_sizes pieces)
+each_sizes (w ∷ pieces) =
+    both_sizes (number_of 1 MAX_SIZE w) (each_of (map (number_of 1 MAX_SIZE) pieces))
+    (number_within 1 MAX_SIZE w) (each_sizes pieces)
 
-one_more : (n : Option ℕ) (o : Option (List ℕ)) → passes (λ ns. nat_le 1 (length ns)) (option_and_then (λ m. option_map (λ ms. m ∷ ms) o) n) ≡ true
+one_more : (n : Option ℕ) (o : Option (List ℕ))
+    → passes (λ ns. nat_le 1 (length ns)) (option_and_then (λ m. option_map (λ ms. m ∷ ms) o) n) ≡ true
 one_more None o = refl
 one_more (Some m) None = refl
 one_more (Some m) (Some ms) = grind (arith, nat_tests)
 
-sizes_guard : (o : Option (List ℕ)) → passes (λ ns. nat_le 1 (length ns)) o ≡ true → passes (list_all is_size) o ≡ true → passes are_sizes (option_and_then (λ ns. if nat_le (length ns) MAX_SIZES then Some ns else None) o) ≡ true
+sizes_guard : (o : Option (List ℕ)) → passes (λ ns. nat_le 1 (length ns)) o ≡ true
+    → passes (list_all is_size) o ≡ true
+    → passes are_sizes (option_and_then (λ ns. if nat_le (length ns) MAX_SIZES then Some ns else None) o) ≡ true
 sizes_guard None h k = refl
-sizes_guard (Some ns) h k = passes-guard are_sizes (nat_le (length ns) MAX_SIZES) ns ∙ guard_three (nat_le 1 (length ns)) (nat_le (length ns) MAX_SIZES) (list_all is_size ns) h k
+sizes_guard (Some ns) h k =
+    passes-guard are_sizes (nat_le (length ns) MAX_SIZES) ns
+    ∙ guard_three (nat_le 1 (length ns)) (nat_le (length ns) MAX_SIZES) (list_all is_size ns) h k
   where
     guard_three : (a b c : Bool) → a ≡ true → c ≡ true → cond b ((a && b) && c) true ≡ true
     guard_three a true c h k = ap (λ x. (x && true) && c) h ∙ k
@@ -103,4 +120,5 @@ is_env-from_tests e t =
     let b : Bool = is_level_count e.max_active in
     let c : Bool = is_schedule e.sched in
     let d : Bool = is_device e.device in
-    and_true (a && b && c && d) (is_processor_count e.procs) (and_true (a && b && c) d (and_true (a && b) c (and_true a b t.sizes t.levels) t.schedule) t.device) t.procs
+    and_true (a && b && c && d) (is_processor_count e.procs)
+    (and_true (a && b && c) d (and_true (a && b) c (and_true a b t.sizes t.levels) t.schedule) t.device) t.procs

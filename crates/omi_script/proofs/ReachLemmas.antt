@@ -11,11 +11,16 @@ use Rattle.omi_script.proofs.StateLemmas.{reaches_more}
 
 greatest_append : (ns : List ℕ) (n : ℕ) → greatest (ns ++ n ∷ []) ≡ max (greatest ns) n
 greatest_append [] n = omega arith
-greatest_append (m ∷ ns) n = let e : greatest (ns ++ n ∷ []) ≡ max (greatest ns) n = greatest_append ns n in omega arith
+greatest_append (m ∷ ns) n =
+    let e : greatest (ns ++ n ∷ []) ≡ max (greatest ns) n = greatest_append ns n in omega arith
 
 -- the greatest depth of statements up to a place, and of the next
-pub greatest_more : (g : Stmt → ℕ) (xs : List Stmt) (i : ℕ) (d : Stmt) → i < length xs → greatest (map g (take (i + 1) xs)) ≡ max (greatest (map g (take i xs))) (g (get_or xs i d))
-greatest_more g xs i d l = ap (λ ys. greatest (map g ys)) (take_more xs i d l) ∙ ap greatest (map-append g (take i xs) (get_or xs i d ∷ [])) ∙ greatest_append (map g (take i xs)) (g (get_or xs i d))
+pub greatest_more : (g : Stmt → ℕ) (xs : List Stmt) (i : ℕ) (d : Stmt) → i < length xs
+    → greatest (map g (take (i + 1) xs)) ≡ max (greatest (map g (take i xs))) (g (get_or xs i d))
+greatest_more g xs i d l =
+    ap (λ ys. greatest (map g ys)) (take_more xs i d l)
+    ∙ ap greatest (map-append g (take i xs) (get_or xs i d ∷ []))
+    ∙ greatest_append (map g (take i xs)) (g (get_or xs i d))
 
 -- none is deeper than there are functions
 abbrev pub AreShallow : List Reach → Type 0
@@ -30,7 +35,8 @@ depth_within above (Only m f) h = omega (arith, h f)
 depth_within above (Repeat n f) h = omega (arith, h f)
 depth_within above s h = omega arith
 
-greatest_within : (above : List Reach) (body : List Stmt) → AreShallow above → greatest (map (depth_of above) body) ≤ length above + 1
+greatest_within : (above : List Reach) (body : List Stmt) → AreShallow above
+    → greatest (map (depth_of above) body) ≤ length above + 1
 greatest_within above [] h = omega arith
 greatest_within above (s ∷ body) h = omega (arith, depth_within above s h, greatest_within above body h)
 
@@ -38,7 +44,8 @@ one_more : {A : Type 0} (xs : List A) (x : A) → length (xs ++ x ∷ []) ≡ le
 one_more [] x = refl
 one_more (y ∷ xs) x = omega (arith, one_more xs x)
 
-shallow_more : (above : List Reach) (r : Reach) → AreShallow above → r.depth ≤ length above + 1 → AreShallow (above ++ r ∷ [])
+shallow_more : (above : List Reach) (r : Reach) → AreShallow above → r.depth ≤ length above + 1
+    → AreShallow (above ++ r ∷ [])
 shallow_more above r h k f =
     let d : Reach = record { barrier = false; depth = 0 } in
     let longer = one_more above r in
@@ -54,11 +61,14 @@ shallow_more above r h k f =
 -- no function is deeper than there are functions
 pub shallow : (above : List Reach) (fs : List Func) → AreShallow above → AreShallow (reaches above fs)
 shallow above [] h = h
-shallow above (g ∷ fs) h = shallow (above ++ reach_of above g.body ∷ []) fs (shallow_more above (reach_of above g.body) h (greatest_within above g.body h))
+shallow above (g ∷ fs) h =
+    shallow (above ++ reach_of above g.body ∷ []) fs
+    (shallow_more above (reach_of above g.body) h (greatest_within above g.body h))
 
 pub shallow_closed : (fs : List Func) (known : List Reach) → known ≡ reaches [] fs → AreShallow known
 shallow_closed fs known e = subst AreShallow (sym e) (shallow [] fs (λ f. lit≤ tt))
 
 -- what is known of one more function
-pub known_more : (known : List Reach) (fs : List Func) (f : Func) → known ≡ reaches [] fs → reaches [] (fs ++ f ∷ []) ≡ known ++ reach_of known f.body ∷ []
+pub known_more : (known : List Reach) (fs : List Func) (f : Func) → known ≡ reaches [] fs
+    → reaches [] (fs ++ f ∷ []) ≡ known ++ reach_of known f.body ∷ []
 known_more known fs f e = reaches_more [] fs f ∙ sym (ap (λ ks. ks ++ reach_of ks f.body ∷ []) e)

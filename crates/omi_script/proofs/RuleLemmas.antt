@@ -47,8 +47,10 @@ tests_of p =
     let functions : Bool = are_functions p.funcs in
     let main : Bool = is_main p.funcs p.main in
     let allowed : Bool = are_allowed [] (map (λ f. f.body) p.funcs) in
-    let to_main : (threads && env && functions && main) ≡ true = and_left (threads && env && functions && main) allowed p.accepted in
-    let to_functions : (threads && env && functions) ≡ true = and_left (threads && env && functions) main to_main in
+    let to_main : (threads && env && functions && main) ≡ true =
+    and_left (threads && env && functions && main) allowed p.accepted in
+    let to_functions : (threads && env && functions) ≡ true =
+    and_left (threads && env && functions) main to_main in
     let to_env : (threads && env) ≡ true = and_left (threads && env) functions to_functions in
     let of_functions : functions ≡ true = and_right (threads && env) functions to_functions in
     let few : Bool = nat_le (length p.funcs) MAX_FUNCTIONS in
@@ -69,7 +71,8 @@ tests_of p =
     }
 
 within : (least most n : ℕ) → is_within least most n ≡ true → (least ≤ n) × (n ≤ most)
-within least most n h = (leb-true least n (and_left (nat_le least n) (nat_le n most) h), leb-true n most (and_right (nat_le least n) (nat_le n most) h))
+within least most n h =
+    (leb-true least n (and_left (nat_le least n) (nat_le n most) h), leb-true n most (and_right (nat_le least n) (nat_le n most) h))
 
 size_at : (ns : List ℕ) → list_all is_size ns ≡ true → (k : ℕ) → k < length ns → IsSize (slice_index ns k)
 size_at ns h k l = within 1 MAX_SIZE (slice_index ns k) (AllPass-from_list_all is_size ns h k 0 l)
@@ -115,16 +118,23 @@ main_within funcs main h =
     (cases_lt main (length funcs))
 
 -- the function with the number of `main`
-pub main_at : (fs : List Func) (m : ℕ) → is_main fs m ≡ true → (f : Func) × (slice_get fs m ≡ Some f) × (text_of f.name ≡ codes "main")
+pub main_at : (fs : List Func) (m : ℕ) → is_main fs m ≡ true
+    → (f : Func) × (slice_get fs m ≡ Some f) × (text_of f.name ≡ codes "main")
 main_at fs m h = by_get (slice_get fs m) refl
   where
-    by_get : (o : Option Func) → slice_get fs m ≡ o → (f : Func) × (slice_get fs m ≡ Some f) × (text_of f.name ≡ codes "main")
-    by_get None e = let no : false ≡ true = sym (ap (λ o. option_map_or (λ (f : Func). bytes_eq (text_of f.name) (codes "main")) o false) e) ∙ h in absurd (cc no)
-    by_get (Some f) e = (f, e, (bytes_eq-Decides (text_of f.name) (codes "main")).0 (sym (ap (λ o. option_map_or (λ (g : Func). bytes_eq (text_of g.name) (codes "main")) o false) e) ∙ h))
+    by_get : (o : Option Func) → slice_get fs m ≡ o
+        → (f : Func) × (slice_get fs m ≡ Some f) × (text_of f.name ≡ codes "main")
+    by_get None e =
+        let no : false ≡ true = sym (ap (λ o. option_map_or (λ (f : Func). bytes_eq (text_of f.name) (codes "main")) o false) e) ∙ h in absurd (cc no)
+    by_get (Some f) e =
+        (f, e, (bytes_eq-Decides (text_of f.name) (codes "main")).0 (sym (ap (λ o. option_map_or (λ (g : Func). bytes_eq (text_of g.name) (codes "main")) o false) e) ∙ h))
 
 -- an element of a list that passes as a whole
-passes_at : {A : Type 0} (test : A → Bool) (xs : List A) (k : ℕ) (x : A) → list_all test xs ≡ true → slice_get xs k ≡ Some x → test x ≡ true
-passes_at test xs k x h e = sym (ap test (get_or_from_slice_get xs k x x e)) ∙ AllPass-from_list_all test xs h k x (slice_get_within xs k x e)
+passes_at : {A : Type 0} (test : A → Bool) (xs : List A) (k : ℕ) (x : A) → list_all test xs ≡ true
+    → slice_get xs k ≡ Some x → test x ≡ true
+passes_at test xs k x h e =
+    sym (ap test (get_or_from_slice_get xs k x x e))
+    ∙ AllPass-from_list_all test xs h k x (slice_get_within xs k x e)
 
 no_func : Func
 no_func = record { name = record { len = 0; bytes = [] }; body = [] }
@@ -134,55 +144,76 @@ name_of_get : (fs : List Func) (f : ℕ) (g : Func) → slice_get fs f ≡ Some 
 name_of_get fs f g e = ap (λ o. option_map_or (λ (h : Func). text_of h.name) o []) e
 
 -- functions of one name are one
-same_number : (fs : List Func) (f g : ℕ) → are_distinct (map (λ (h : Func). text_of h.name) fs) ≡ true → f < length fs → g < length fs → name_at fs f ≡ name_at fs g → f ≡ g
+same_number : (fs : List Func) (f g : ℕ) → are_distinct (map (λ (h : Func). text_of h.name) fs) ≡ true
+    → f < length fs → g < length fs → name_at fs f ≡ name_at fs g → f ≡ g
 same_number fs f g distinct l m same =
     let x : Func = get_or fs f no_func in
     let y : Func = get_or fs g no_func in
     let at_f : slice_get fs f ≡ Some x = slice_get-get_or fs f no_func l in
     let at_g : slice_get fs g ≡ Some y = slice_get-get_or fs g no_func m in
-    let names : text_of x.name ≡ text_of y.name = sym (name_of_get fs f x at_f) ∙ same ∙ name_of_get fs g y at_g in
-    sym (place_by_name fs f x distinct at_f) ∙ ap (λ w. position_or_len (is_called w) fs) names ∙ place_by_name fs g y distinct at_g
+    let names : text_of x.name ≡ text_of y.name =
+    sym (name_of_get fs f x at_f) ∙ same ∙ name_of_get fs g y at_g in
+    sym (place_by_name fs f x distinct at_f)
+    ∙ ap (λ w. position_or_len (is_called w) fs) names
+    ∙ place_by_name fs g y distinct at_g
 
 -- a statement of a function, and the function
-pub statement_in : (fs : List Func) (f : ℕ) (s : Stmt) → HasStatement fs f s → (g : Func) × (slice_get fs f ≡ Some g) × ((k : ℕ) × (slice_get g.body k ≡ Some s))
+pub statement_in : (fs : List Func) (f : ℕ) (s : Stmt) → HasStatement fs f s
+    → (g : Func) × (slice_get fs f ≡ Some g) × ((k : ℕ) × (slice_get g.body k ≡ Some s))
 statement_in fs f s (k, e) = by_get (slice_get fs f) refl
   where
-    by_get : (o : Option Func) → slice_get fs f ≡ o → (g : Func) × (slice_get fs f ≡ Some g) × ((k : ℕ) × (slice_get g.body k ≡ Some s))
-    by_get (Some g) is = (g, is, (k, sym (ap (λ o. slice_get (option_map_or (λ (h : Func). h.body) o []) k) is) ∙ e))
-    by_get None is = let no : None ≡ Some s = sym (ap (λ o. slice_get (option_map_or (λ (h : Func). h.body) o []) k) is) ∙ e in absurd (cc no)
+    by_get : (o : Option Func) → slice_get fs f ≡ o
+        → (g : Func) × (slice_get fs f ≡ Some g) × ((k : ℕ) × (slice_get g.body k ≡ Some s))
+    by_get (Some g) is =
+        (g, is, (k, sym (ap (λ o. slice_get (option_map_or (λ (h : Func). h.body) o []) k) is) ∙ e))
+    by_get None is =
+        let no : None ≡ Some s = sym (ap (λ o. slice_get (option_map_or (λ (h : Func). h.body) o []) k) is) ∙ e in absurd (cc no)
 
 -- a statement may stand after the functions above its own
-allowed_in : (fs : List Func) (f : ℕ) (s : Stmt) → are_allowed [] (map (λ (g : Func). g.body) fs) ≡ true → HasStatement fs f s → (f < length fs) × (is_allowed (reaches [] (take f fs)) s ≡ true)
+allowed_in : (fs : List Func) (f : ℕ) (s : Stmt) → are_allowed [] (map (λ (g : Func). g.body) fs) ≡ true
+    → HasStatement fs f s → (f < length fs) × (is_allowed (reaches [] (take f fs)) s ≡ true)
 allowed_in fs f s h has =
     let at = statement_in fs f s has in
     (slice_get_within fs f at.0 at.1, passes_at (is_allowed (reaches [] (take f fs))) (at.0).body at.2.0 s (allowed_at [] fs f at.0 at.1 h) at.2.1)
 
 -- and names what it may there
-rightly_in : (fs : List Func) (f : ℕ) (s : Stmt) → are_allowed [] (map (λ (g : Func). g.body) fs) ≡ true → HasStatement fs f s → names_rightly (reaches [] (take f fs)) s ≡ true
-rightly_in fs f s h has = and_right (is_in_range s) (names_rightly (reaches [] (take f fs)) s) (allowed_in fs f s h has).1
+rightly_in : (fs : List Func) (f : ℕ) (s : Stmt) → are_allowed [] (map (λ (g : Func). g.body) fs) ≡ true
+    → HasStatement fs f s → names_rightly (reaches [] (take f fs)) s ≡ true
+rightly_in fs f s h has =
+    and_right (is_in_range s) (names_rightly (reaches [] (take f fs)) s) (allowed_in fs f s h has).1
 
 -- a function that it names stands above its own, and reaches what it reaches among all
-above_in : (fs : List Func) (f g : ℕ) (s : Stmt) → are_allowed [] (map (λ (h : Func). h.body) fs) ≡ true → HasStatement fs f s → named_by s ≡ Some g → (g < f) × (reach_in fs g ≡ reach_at (reaches [] (take f fs)) g)
+above_in : (fs : List Func) (f g : ℕ) (s : Stmt) → are_allowed [] (map (λ (h : Func). h.body) fs) ≡ true
+    → HasStatement fs f s → named_by s ≡ Some g
+    → (g < f) × (reach_in fs g ≡ reach_at (reaches [] (take f fs)) g)
 above_in fs f g s h has names =
     let l : f < length fs = (allowed_in fs f s h has).0 in
     let first : length (reaches [] (take f fs)) ≡ f = length_first fs f (omega arith) in
     let Below : Option ℕ → Type 0 = λ o. IsBelow (length (reaches [] (take f fs))) o in
-    let below : g < length (reaches [] (take f fs)) = subst Below names (named_above (reaches [] (take f fs)) s (rightly_in fs f s h has)) in
+    let below : g < length (reaches [] (take f fs)) =
+    subst Below names (named_above (reaches [] (take f fs)) s (rightly_in fs f s h has)) in
     let less : g < f = omega arith in
     (less, reach_first [] fs f g (omega arith) (omega arith))
 
 -- no barrier is reached through such a statement
-no_barrier_in : (fs : List Func) (f g : ℕ) (s : Stmt) → are_allowed [] (map (λ (h : Func). h.body) fs) ≡ true → HasStatement fs f s → named_by s ≡ Some g
+no_barrier_in : (fs : List Func) (f g : ℕ) (s : Stmt) → are_allowed [] (map (λ (h : Func). h.body) fs) ≡ true
+    → HasStatement fs f s → named_by s ≡ Some g
     → (is_above (reaches [] (take f fs)) g && not (reach_at (reaches [] (take f fs)) g).barrier) ≡ true → (reach_in fs g).barrier ≡ false
 no_barrier_in fs f g s h has names test =
     let above : List Reach = reaches [] (take f fs) in
-    ap (λ (r : Reach). r.barrier) (above_in fs f g s h has names).1 ∙ not_so (reach_at above g).barrier (and_right (is_above above g) (not (reach_at above g).barrier) test)
+    ap (λ (r : Reach). r.barrier) (above_in fs f g s h has names).1
+    ∙ not_so (reach_at above g).barrier (and_right (is_above above g) (not (reach_at above g).barrier) test)
 
-not_too_deep_in : (fs : List Func) (f g : ℕ) (num : Option ℕ) → are_allowed [] (map (λ (h : Func). h.body) fs) ≡ true → HasStatement fs f (Parallel g num) → (reach_in fs g).depth < MAX_DEPTH
+not_too_deep_in : (fs : List Func) (f g : ℕ) (num : Option ℕ)
+    → are_allowed [] (map (λ (h : Func). h.body) fs) ≡ true → HasStatement fs f (Parallel g num)
+    → (reach_in fs g).depth < MAX_DEPTH
 not_too_deep_in fs f g num h has =
     let above : List Reach = reaches [] (take f fs) in
-    let same : (reach_in fs g).depth ≡ (reach_at above g).depth = ap (λ (r : Reach). r.depth) (above_in fs f g (Parallel g num) h has refl).1 in
-    let less : (reach_at above g).depth < MAX_DEPTH = ltb-true (reach_at above g).depth MAX_DEPTH (and_right (is_above above g) (nat_lt (reach_at above g).depth MAX_DEPTH) (rightly_in fs f (Parallel g num) h has)) in
+    let same : (reach_in fs g).depth ≡ (reach_at above g).depth =
+    ap (λ (r : Reach). r.depth) (above_in fs f g (Parallel g num) h has refl).1 in
+    let less : (reach_at above g).depth < MAX_DEPTH =
+    ltb-true (reach_at above g).depth MAX_DEPTH
+    (and_right (is_above above g) (nat_lt (reach_at above g).depth MAX_DEPTH) (rightly_in fs f (Parallel g num) h has)) in
     omega arith
 
 -- each program meets the rules

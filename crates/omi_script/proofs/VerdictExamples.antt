@@ -240,7 +240,9 @@ depth_15 = refl
 -- more than 65,536 bytes
 too_long : (bytes : List ℕ) → nat_le (length bytes) MAX_BYTES ≡ false → verdict bytes ≡ refuses 1 OverLimit
 unfolding refuses
-too_long bytes h = ap (λ b. if b then judge 1 first_state (lines bytes) else Refuses (record { line = 1; why = OverLimit })) h
+too_long bytes h =
+    ap
+    (λ b. if b then judge 1 first_state (lines bytes) else Refuses (record { line = 1; why = OverLimit })) h
 
 -- a state after so many functions, and inside one after so many statements
 behind_functions : ℕ → ParserState

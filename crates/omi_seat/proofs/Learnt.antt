@@ -16,7 +16,8 @@ use Rattle.omi_seat.specs.Known.{actor_known, entry_known, finds, own_steps, ste
 pub steps_one_more : (x : Known) (n : ℕ) → steps_known (finds n x) ≡ steps_known x ++ entry_known x n ∷ []
 steps_one_more x n = entries_one_more x.program x.layout.table (opening_actor x.program x.thread) x.found n
 
-pub actor_one_more : (x : Known) (n : ℕ) → actor_known (finds n x) ≡ actor_after x.program x.layout.table (actor_known x) n
+pub actor_one_more : (x : Known) (n : ℕ)
+    → actor_known (finds n x) ≡ actor_after x.program x.layout.table (actor_known x) n
 actor_one_more x n = behind_one_more x.program x.layout.table (opening_actor x.program x.thread) x.found n
 
 pub steps_found : (x : Known) → length (steps_known x) ≡ length x.found
@@ -29,12 +30,18 @@ made_more x n ms is =
     ∙ sym (map-append (made_of x.thread) (steps_known x) (entry_known x n ∷ []))
     ∙ ap (map (made_of x.thread)) (sym (steps_one_more x n))
 
-pub events_more : (x : Known) (n : ℕ) (es : List (ℕ × ℕ × Event)) → es ≡ events_behind 0 (own_steps x.thread (steps_known x))
+pub events_more : (x : Known) (n : ℕ) (es : List (ℕ × ℕ × Event))
+    → es ≡ events_behind 0 (own_steps x.thread (steps_known x))
     → es ++ event_of (length x.found + 1) x.thread (entry_known x n).outcome ≡ events_behind 0 (own_steps x.thread (steps_known (finds n x)))
 events_more x n es is =
     let count : 0 + length (own_steps x.thread (steps_known x)) + 1 ≡ length x.found + 1 =
-    ap (λ k. k + 1) (zero-add (length (own_steps x.thread (steps_known x))) ∙ length-map (steps_known x) (λ (e : Entry). (x.thread, e)) ∙ steps_found x) in
-    ap (λ (ys : List (ℕ × ℕ × Event)). ys ++ event_of (length x.found + 1) x.thread (entry_known x n).outcome) is
-    ∙ ap (λ k. events_behind 0 (own_steps x.thread (steps_known x)) ++ event_of k x.thread (entry_known x n).outcome) (sym count)
+    ap (λ k. k + 1)
+    (zero-add (length (own_steps x.thread (steps_known x))) ∙ length-map (steps_known x) (λ (e : Entry). (x.thread, e)) ∙ steps_found x) in
+    ap
+    (λ (ys : List (ℕ × ℕ × Event)). ys ++ event_of (length x.found + 1) x.thread (entry_known x n).outcome) is
+    ∙ ap
+    (λ k. events_behind 0 (own_steps x.thread (steps_known x)) ++ event_of k x.thread (entry_known x n).outcome)
+    (sym count)
     ∙ sym (events_one_more 0 (own_steps x.thread (steps_known x)) x.thread (entry_known x n))
-    ∙ ap (events_behind 0) (sym (ap (own_steps x.thread) (steps_one_more x n) ∙ map-append (λ (e : Entry). (x.thread, e)) (steps_known x) (entry_known x n ∷ [])))
+    ∙ ap (events_behind 0)
+    (sym (ap (own_steps x.thread) (steps_one_more x n) ∙ map-append (λ (e : Entry). (x.thread, e)) (steps_known x) (entry_known x n ∷ [])))

@@ -43,16 +43,20 @@ keeps_roomy : (a : Run) → KeepsCore a → KeepsCore (roomy a)
 keeps_roomy a k = other_room a k (roomy a).events (roomy a).made refl refl
 
 -- the number of a thread is a byte
-few_made : (a : Run) (k : KeepsCore a) → ((i : ℕ) → length (steps_of i k.run.entries) ≤ MOST_BUDGET) → length a.made.items ≤ 256 * MOST_BUDGET
+few_made : (a : Run) (k : KeepsCore a) → ((i : ℕ) → length (steps_of i k.run.entries) ≤ MOST_BUDGET)
+    → length a.made.items ≤ 256 * MOST_BUDGET
 few_made a k few =
     let steps = k.run.made_by.steps in
-    let each = are_of a.program a.table steps.first [] _ _ k.run.entries a.words k.run.state steps.watches steps.steps in
+    let each =
+    are_of a.program a.table steps.first [] _ _ k.run.entries a.words k.run.state steps.watches steps.steps in
     let all = few_in_all a.program.threads MOST_BUDGET k.run.entries each few in
-    let count : length a.made.items ≡ length k.run.entries = ap length k.run.made_by.made ∙ made_length k.run.entries in
+    let count : length a.made.items ≡ length k.run.entries =
+    ap length k.run.made_by.made ∙ made_length k.run.entries in
     let most = (Rules-from_accepted a.program).threads.1 in
     omega (arith, all, count, most)
 
-some_room : (a : Run) (k : KeepsCore a) → ((i : ℕ) → length (steps_of i k.run.entries) ≤ MOST_BUDGET) → 1 ≤ spare_in (roomy a)
+some_room : (a : Run) (k : KeepsCore a) → ((i : ℕ) → length (steps_of i k.run.entries) ≤ MOST_BUDGET)
+    → 1 ≤ spare_in (roomy a)
 some_room a k few =
     let made = few_made a k few in
     let some : 0 < a.program.threads = (Rules-from_accepted a.program).threads.0 in
@@ -79,7 +83,8 @@ run_behind a i =
       made = record { items = a.made.items ++ made_of i e ∷ []; spare = 0 };
     }
 
-module _ (a : Run) (k : KeepsCore a) (few : (i : ℕ) → length (steps_of i k.run.entries) ≤ MOST_BUDGET) (i : ℕ) (thread : i < a.program.threads) where
+module _ (a : Run) (k : KeepsCore a) (few : (i : ℕ) → length (steps_of i k.run.entries) ≤ MOST_BUDGET) (i : ℕ)
+    (thread : i < a.program.threads) where
   room : 1 ≤ spare_in (roomy a)
   room = some_room a k few
 
@@ -90,12 +95,15 @@ module _ (a : Run) (k : KeepsCore a) (few : (i : ℕ) → length (steps_of i k.r
   kept = k.goes_on i thread
 
   next_run : KeepsRun (run_behind a i)
-  next_run = keeps_behind (roomy a) whole.run i thread room kept (entry_of a i) refl refl refl (run_behind a i).events (run_behind a i).made refl refl
+  next_run =
+      keeps_behind (roomy a) whole.run i thread room kept (entry_of a i) refl refl refl
+      (run_behind a i).events (run_behind a i).made refl refl
 
   next_entries : next_run.entries ≡ k.run.entries ++ (i, entry_of a i) ∷ []
   unfolding next_run whole keeps_roomy
   next_entries =
-      entries_behind (roomy a) whole.run i thread room kept (entry_of a i) refl refl refl (run_behind a i).events (run_behind a i).made refl refl
+      entries_behind (roomy a) whole.run i thread room kept (entry_of a i) refl refl refl
+      (run_behind a i).events (run_behind a i).made refl refl
       ∙ ap (λ es. es ++ (i, entry_of a i) ∷ []) (same_entries a k (roomy a).events (roomy a).made refl refl)
 
   pub next_core : KeepsCore (run_behind a i)
@@ -118,15 +126,22 @@ module _ (a : Run) (k : KeepsCore a) (few : (i : ℕ) → length (steps_of i k.r
   -- a team that it forks has at most one member more than the thread has claims
   pub few_members : seats_of (entry_of a i).outcome ≤ claims_from 0 (steps_of i k.run.entries) + 1
   few_members =
-      subst (λ n. seats_of (entry_of a i).outcome ≤ n + 1) (ap (λ es. claims_by i 0 (events_in es)) k.run.made_by.events ∙ by_steps i 0 0 k.run.entries)
+      subst (λ n. seats_of (entry_of a i).outcome ≤ n + 1)
+      (ap (λ es. claims_by i 0 (events_in es)) k.run.made_by.events ∙ by_steps i 0 0 k.run.entries)
       (go (entry_of a i).outcome (rule_after (roomy a) whole.run i thread room kept).leads)
     where
-      go : (o : Outcome) → LeadsOn a.program a.table (events_in a.events.items) whole.run.state i o (rule_after (roomy a) whole.run i thread room kept).next → seats_of o ≤ claims + 1
+      go : (o : Outcome)
+          → LeadsOn a.program a.table (events_in a.events.items) whole.run.state i o (rule_after (roomy a) whole.run i thread room kept).next
+          → seats_of o ≤ claims + 1
       go outcome.Quiet leads = omega arith
       go (outcome.NotReady address word) leads = omega arith
       go outcome.Ended leads = omega arith
       go (outcome.Event e) leads = by e leads
         where
-          by : (e : Event) → Step a.program whole.run.state i e (rule_after (roomy a) whole.run i thread room kept).next → length (team_in e) ≤ claims + 1
-          by (event.Fork region team) step = few_in_team a.program (events_in a.events.items) whole.run.state whole.run.rule.reached i region team step.legal
+          by : (e : Event)
+              → Step a.program whole.run.state i e (rule_after (roomy a) whole.run i thread room kept).next
+              → length (team_in e) ≤ claims + 1
+          by (event.Fork region team) step =
+              few_in_team a.program
+              (events_in a.events.items) whole.run.state whole.run.rule.reached i region team step.legal
           by e step = omega arith

@@ -25,10 +25,12 @@ as_many_actors : (p : Program) (thread n : ℕ) → length (actors_from p thread
 as_many_actors p thread zero = refl
 as_many_actors p thread (suc n) = ap suc (as_many_actors p (thread + 1) n)
 
-actor_there : (p : Program) (thread n i : ℕ) (d : Actor) → i < n → slice_index_or (actors_from p thread n) i d ≡ opening_actor p (thread + i)
+actor_there : (p : Program) (thread n i : ℕ) (d : Actor) → i < n
+    → slice_index_or (actors_from p thread n) i d ≡ opening_actor p (thread + i)
 actor_there p thread zero i d below = absurd (omega (arith, below))
 actor_there p thread (suc n) zero d below = ap (opening_actor p) (omega arith)
-actor_there p thread (suc n) (suc i) d below = actor_there p (thread + 1) n i d (omega (arith, below)) ∙ ap (opening_actor p) (omega arith)
+actor_there p thread (suc n) (suc i) d below =
+    actor_there p (thread + 1) n i d (omega (arith, below)) ∙ ap (opening_actor p) (omega arith)
 
 are_opening : (p : Program) → AreOpeningActors p (actors_from p 0 p.threads)
 are_opening p = record {
@@ -38,9 +40,11 @@ are_opening p = record {
 
 none_made : (xs : List (ℕ × Entry)) → [] ≡ made_of_steps xs → xs ≡ []
 none_made [] is = refl
-none_made (x ∷ xs) is = absurd (let count : 0 ≡ length (made_of_steps (x ∷ xs)) = ap length is in omega (arith, count))
+none_made (x ∷ xs) is =
+    absurd (let count : 0 ≡ length (made_of_steps (x ∷ xs)) = ap length is in omega (arith, count))
 
-module _ (p : Program) (l : Layout) (words others : List ℕ) (suits : Suits p l.table) (opens : AreOpening p l.table words) where
+module _ (p : Program) (l : Layout) (words others : List ℕ) (suits : Suits p l.table)
+    (opens : AreOpening p l.table words) where
   abbrev first_run : Run
   first_run = record {
     program = p;
@@ -77,7 +81,8 @@ module _ (p : Program) (l : Layout) (words others : List ℕ) (suits : Suits p l
   unfolding opened
   none_yet = no_entry
 
-  pub untouched_known : (i : ℕ) → i < p.threads → IsKnown p l opened.keeps.run.entries opened.run.actors (untouched p l i)
+  pub untouched_known : (i : ℕ) → i < p.threads
+      → IsKnown p l opened.keeps.run.entries opened.run.actors (untouched p l i)
   unfolding opened
   untouched_known i below = record {
     program = refl;

@@ -8,7 +8,8 @@ use Rattle.omi_seat.specs.Seats.{AreSeated, all_below}
 
 -- ---- places in lists
 
-pub one_alone : {X : Type 0} → (x y : X) (known : List X) (at : ℕ) → x ∷ [] ≡ known → slice_get known at ≡ Some y → x ≡ y
+pub one_alone : {X : Type 0} → (x y : X) (known : List X) (at : ℕ) → x ∷ [] ≡ known
+    → slice_get known at ≡ Some y → x ≡ y
 one_alone {X} x y known at is there = go at (subst (λ (ks : List X). slice_get ks at ≡ Some y) (sym is) there)
   where
     go : (at : ℕ) → slice_get (x ∷ []) at ≡ Some y → x ≡ y
@@ -26,7 +27,8 @@ there_in_front : {X : Type 0} → (xs ys : List X) (at : ℕ) (z : X) → slice_
     → ((i : ℕ) × (slice_get xs i ≡ Some z)) ⊎ ((i : ℕ) × (slice_get ys i ≡ Some z))
 there_in_front [] ys at z is = inr (at, is)
 there_in_front (x ∷ xs) ys zero z is = inl (0, is)
-there_in_front (x ∷ xs) ys (suc at) z is = ⊎_elim (λ one. inl (suc one.0, one.1)) inr (there_in_front xs ys at z is)
+there_in_front (x ∷ xs) ys (suc at) z is =
+    ⊎_elim (λ one. inl (suc one.0, one.1)) inr (there_in_front xs ys at z is)
 
 -- a place in a list with one more at its end
 at_end : {X : Type 0} → (l : List X) (a b : X) (j : ℕ) → get_elem? (l ++ a ∷ []) j ≡ some b
@@ -49,7 +51,8 @@ one_below part (suc n) (suc at) z is =
 module _ {X : Type 0} (thread : X → ℕ) where
   -- ---- an operation of a seat that stands for one thread
 
-  module _ (Is Now : X → Type 0) (views : List (List X)) (seated : AreSeated thread Is views) (id : ℕ) (x : X) (at : get_elem? views id ≡ some (x ∷ [])) where
+  module _ (Is Now : X → Type 0) (views : List (List X)) (seated : AreSeated thread Is views) (id : ℕ) (x : X)
+      (at : get_elem? views id ≡ some (x ∷ [])) where
     pub own_part : Is x
     own_part = (seated.parts id 0 (x ∷ []) x at refl).1
 
@@ -61,7 +64,8 @@ module _ {X : Type 0} (thread : X → ℕ) where
         → AreSeated thread Now (slice_set views id (y ∷ []))
     one_changed y same now others = record { seat = seated.seat; parts = each }
       where
-        each : (j at : ℕ) (known : List X) (z : X) → get_elem? (slice_set views id (y ∷ [])) j ≡ some known → slice_get known at ≡ Some z
+        each : (j at : ℕ) (known : List X) (z : X) → get_elem? (slice_set views id (y ∷ [])) j ≡ some known
+            → slice_get known at ≡ Some z
             → (seated.seat (thread z) ≡ j) × Now z
         each j at known z got there = ⊎_elim here elsewhere (at_set views id j (y ∷ []) known got)
           where
@@ -77,13 +81,17 @@ module _ {X : Type 0} (thread : X → ℕ) where
 
   -- ---- a seat for the first of several threads
 
-  module _ (Is : X → Type 0) (views : List (List X)) (seated : AreSeated thread Is views) (id : ℕ) (first : X) (rest : List X)
-      (apart : (at : ℕ) (z : X) → slice_get rest at ≡ Some z → thread z ≢ thread first) (at : get_elem? views id ≡ some (first ∷ rest)) where
+  module _ (Is : X → Type 0) (views : List (List X)) (seated : AreSeated thread Is views) (id : ℕ) (first : X)
+      (rest : List X)
+      (apart : (at : ℕ) (z : X) → slice_get rest at ≡ Some z → thread z ≢ thread first)
+      (at : get_elem? views id ≡ some (first ∷ rest)) where
     abbrev seat_now : ℕ → ℕ
     seat_now i = if i == thread first then length views else seated.seat i
 
     of_first : seat_now (thread first) ≡ length views
-    of_first = ap (λ (b : Bool). if b then length views else seated.seat (thread first)) (eq-eqb (thread first) (thread first) refl)
+    of_first =
+        ap (λ (b : Bool). if b then length views else seated.seat (thread first))
+        (eq-eqb (thread first) (thread first) refl)
 
     of_other : (i : ℕ) → i ≢ thread first → seat_now i ≡ seated.seat i
     of_other i other = go (i == thread first) refl
@@ -95,10 +103,12 @@ module _ {X : Type 0} (thread : X → ℕ) where
     one_seat : seated.seat (thread first) ≡ id
     one_seat = (seated.parts id 0 (first ∷ rest) first at refl).0
 
-    split_parts : (j k : ℕ) (known : List X) (z : X) → get_elem? (slice_set views id rest ++ (first ∷ []) ∷ []) j ≡ some known → slice_get known k ≡ Some z
+    split_parts : (j k : ℕ) (known : List X) (z : X)
+        → get_elem? (slice_set views id rest ++ (first ∷ []) ∷ []) j ≡ some known → slice_get known k ≡ Some z
         → (seat_now (thread z) ≡ j) × Is z
     split_parts j k known z got there =
-        ⊎_elim (λ old. ⊎_elim here elsewhere (at_set views id j rest known old)) new (at_end (slice_set views id rest) (first ∷ []) known j got)
+        ⊎_elim (λ old. ⊎_elim here elsewhere (at_set views id j rest known old)) new
+        (at_end (slice_set views id rest) (first ∷ []) known j got)
       where
         here : (j ≡ id) × (rest ≡ known) → (seat_now (thread z) ≡ j) × Is z
         here (at_id, is) =
@@ -122,7 +132,8 @@ module _ {X : Type 0} (thread : X → ℕ) where
     one_split = record { seat = seat_now; parts = split_parts }
 
   -- the last of so many threads gets a seat
-  pub last_split : (Is : X → Type 0) (views : List (List X)) → AreSeated thread Is views → (id n : ℕ) (part : ℕ → X) → ((i : ℕ) → thread (part i) ≡ i)
+  pub last_split : (Is : X → Type 0) (views : List (List X)) → AreSeated thread Is views
+      → (id n : ℕ) (part : ℕ → X) → ((i : ℕ) → thread (part i) ≡ i)
       → get_elem? views id ≡ some (part n ∷ all_below part n) → AreSeated thread Is (slice_set views id (all_below part n) ++ (part n ∷ []) ∷ [])
   last_split Is views seated id n part of at =
       one_split Is views seated id (part n) (all_below part n)
@@ -134,8 +145,10 @@ module _ {X : Type 0} (thread : X → ℕ) where
 
   -- ---- a seat takes in what another one knows
 
-  module _ (Is : X → Type 0) (views : List (List X)) (seated : AreSeated thread Is views) (id other : ℕ) (v w : List X)
-      (at : get_elem? views id ≡ some v) (apart : other ≡ id → ⊥) (at_other : get_elem? (slice_set views id (v ++ w)) other ≡ some w) where
+  module _ (Is : X → Type 0) (views : List (List X)) (seated : AreSeated thread Is views) (id other : ℕ)
+      (v w : List X)
+      (at : get_elem? views id ≡ some v) (apart : other ≡ id → ⊥)
+      (at_other : get_elem? (slice_set views id (v ++ w)) other ≡ some w) where
     abbrev seat_joined : ℕ → ℕ
     seat_joined i = if seated.seat i == other then id else seated.seat i
 
@@ -153,19 +166,25 @@ module _ {X : Type 0} (thread : X → ℕ) where
     before : get_elem? views other ≡ some w
     before = sym (set_else views id other (v ++ w) apart) ∙ at_other
 
-    join_parts : (j k : ℕ) (known : List X) (z : X) → get_elem? (slice_set (slice_set views id (v ++ w)) other []) j ≡ some known → slice_get known k ≡ Some z
+    join_parts : (j k : ℕ) (known : List X) (z : X)
+        → get_elem? (slice_set (slice_set views id (v ++ w)) other []) j ≡ some known
+        → slice_get known k ≡ Some z
         → (seat_joined (thread z) ≡ j) × Is z
     join_parts j k known z got there =
-        ⊎_elim spent (λ old. ⊎_elim here (elsewhere old.0) (at_set views id j (v ++ w) known old.1)) (at_set (slice_set views id (v ++ w)) other j [] known got)
+        ⊎_elim spent (λ old. ⊎_elim here (elsewhere old.0) (at_set views id j (v ++ w) known old.1))
+        (at_set (slice_set views id (v ++ w)) other j [] known got)
       where
         spent : (j ≡ other) × ([] ≡ known) → (seat_joined (thread z) ≡ j) × Is z
-        spent (at_j, is) = absurd (no_part k z (subst (λ (ks : List X). slice_get ks k ≡ Some z) (sym is) there))
+        spent (at_j, is) =
+            absurd (no_part k z (subst (λ (ks : List X). slice_get ks k ≡ Some z) (sym is) there))
           where
             no_part : (k : ℕ) (z : X) → slice_get [] k ≡ Some z → ⊥
             no_part k z is = grind (arith, is)
 
         here : (j ≡ id) × (v ++ w ≡ known) → (seat_joined (thread z) ≡ j) × Is z
-        here (at_id, is) = ⊎_elim own others (there_in_front v w k z (subst (λ (ks : List X). slice_get ks k ≡ Some z) (sym is) there))
+        here (at_id, is) =
+            ⊎_elim own others
+            (there_in_front v w k z (subst (λ (ks : List X). slice_get ks k ≡ Some z) (sym is) there))
           where
             own : (i : ℕ) × (slice_get v i ≡ Some z) → (seat_joined (thread z) ≡ j) × Is z
             own (i, in_v) =
@@ -177,7 +196,8 @@ module _ {X : Type 0} (thread : X → ℕ) where
                 let was = seated.parts other i w z before in_w in
                 (taken (thread z) was.0 ∙ sym at_id, was.1)
 
-        elsewhere : j ≢ other → (j ≢ id) × (get_elem? views j ≡ some known) → (seat_joined (thread z) ≡ j) × Is z
+        elsewhere : j ≢ other → (j ≢ id) × (get_elem? views j ≡ some known)
+            → (seat_joined (thread z) ≡ j) × Is z
         elsewhere not_other (not, old) =
             let was = seated.parts j k known z old there in
             (left (thread z) (λ same. not_other (sym was.0 ∙ same)) ∙ was.0, was.1)
@@ -187,11 +207,15 @@ module _ {X : Type 0} (thread : X → ℕ) where
 
   -- ---- a table is opened, with one seat for all threads
 
-  pub first_seated : (Is : X → Type 0) (part : ℕ → X) (n : ℕ) → ((i : ℕ) → i < n → Is (part i)) → AreSeated thread Is (all_below part n ∷ [])
+  pub first_seated : (Is : X → Type 0) (part : ℕ → X) (n : ℕ) → ((i : ℕ) → i < n → Is (part i))
+      → AreSeated thread Is (all_below part n ∷ [])
   first_seated Is part n is = record { seat = λ i. 0; parts = each }
     where
-      each : (j k : ℕ) (known : List X) (z : X) → get_elem? (all_below part n ∷ []) j ≡ some known → slice_get known k ≡ Some z → (0 ≡ j) × Is z
+      each : (j k : ℕ) (known : List X) (z : X) → get_elem? (all_below part n ∷ []) j ≡ some known
+          → slice_get known k ≡ Some z → (0 ≡ j) × Is z
       each zero k known z got there =
-          let one = one_below part n k z (subst (λ (ks : List X). slice_get ks k ≡ Some z) (sym (some-injective (all_below part n) known got)) there) in
+          let one =
+          one_below part n k z
+          (subst (λ (ks : List X). slice_get ks k ≡ Some z) (sym (some-injective (all_below part n) known got)) there) in
           (refl, subst Is one.1 (is one.0 one.2))
       each (suc j) k known z got there = absurd (some-ne-none known (sym got))

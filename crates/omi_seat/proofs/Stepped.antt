@@ -52,7 +52,8 @@ module _ (p : Program) (l : Layout) (words others : List ℕ) (h : HasRun p l wo
     pub op_is : next_of x.program x.layout.table (actor_known x) ≡ step.op
     op_is = λ k. next_of (program_is k) (table_is k) (actor_is k)
 
-    pub entry_is : (n : ℕ) → entry_known x n ≡ entry_at h.run.program h.run.table (actors_in h.run.actors x.thread) n
+    pub entry_is : (n : ℕ)
+        → entry_known x n ≡ entry_at h.run.program h.run.table (actors_in h.run.actors x.thread) n
     entry_is n = λ k. entry_at (program_is k) (table_is k) (actor_is k) n
 
     on_word_here : IsWordOf h.run.words (address_of step.op)
@@ -62,7 +63,9 @@ module _ (p : Program) (l : Layout) (words others : List ℕ) (h : HasRun p l wo
     place = place_of (address_of step.op)
 
     pub found_here : slice_index words place ≡ step.old
-    found_here = ap (λ (ws : List ℕ). slice_index ws place) h.are ∙ get_or_append_left h.run.words others 0 place on_word_here.below
+    found_here =
+        ap (λ (ws : List ℕ). slice_index ws place) h.are
+        ∙ get_or_append_left h.run.words others 0 place on_word_here.below
 
     -- the words behind it
     pub words_now : slice_set words place (left_of step.op (slice_index words place)) ≡ (run_behind h.run x.thread).words ++ others
@@ -75,7 +78,8 @@ module _ (p : Program) (l : Layout) (words others : List ℕ) (h : HasRun p l wo
     pub can_step : CanStep x.program x.layout.table (actor_known x)
     can_step =
         let here = own h.run h.keeps.run x.thread thread in
-        let count : length h.run.words ≡ image_words x.layout.table = h.keeps.run.count ∙ ap image_words (sym table_is) in
+        let count : length h.run.words ≡ image_words x.layout.table =
+        h.keeps.run.count ∙ ap image_words (sym table_is) in
         record {
           fits = subst (λ (z : Program × Actor). Fits z.0 z.1) (λ k. (sym program_is k, sym actor_is k)) here.fits;
           placed = subst (λ (z : List ℕ × Actor). IsPlaced z.0 z.1) (λ k. (sym table_is k, sym actor_is k)) here.placed;
@@ -113,12 +117,14 @@ module _ (p : Program) (l : Layout) (words others : List ℕ) (h : HasRun p l wo
       where
         go : (b : Bool) → j == x.thread ≡ b → length (steps_of j entries_now) ≤ MOST_BUDGET
         go true same =
-            let count : length (steps_known (finds step.old x)) ≡ length x.found + 1 = steps_found (finds step.old x) ∙ length-append x.found (step.old ∷ []) in
+            let count : length (steps_known (finds step.old x)) ≡ length x.found + 1 =
+            steps_found (finds step.old x) ∙ length-append x.found (step.old ∷ []) in
             subst (λ i. length (steps_of i entries_now) ≤ MOST_BUDGET) (sym (eqb-true j x.thread same))
             (subst (λ (es : List Entry). length es ≤ MOST_BUDGET) (sym steps_here) (omega (arith, count, room)))
         go false not =
             subst (λ (es : List Entry). length es ≤ MOST_BUDGET)
-            (sym (steps_there j (λ same. let yes : j == x.thread ≡ true = eq-eqb j x.thread same in cc (not, yes)))) (h.few j)
+            (sym (steps_there j (λ same. let yes : j == x.thread ≡ true = eq-eqb j x.thread same in cc (not, yes))))
+            (h.few j)
 
     next : KeepsCore (run_behind h.run x.thread)
     next = next_core h.run h.keeps h.few x.thread thread
@@ -127,7 +133,8 @@ module _ (p : Program) (l : Layout) (words others : List ℕ) (h : HasRun p l wo
     unfolding next
     next_has = next_core_entries h.run h.keeps h.few x.thread thread
 
-    pub run_now : length x.found < MOST_BUDGET → HasRun p l (slice_set words place (left_of step.op (slice_index words place))) others
+    pub run_now : length x.found < MOST_BUDGET
+        → HasRun p l (slice_set words place (left_of step.op (slice_index words place))) others
     run_now room = record {
       run = run_behind h.run x.thread;
       keeps = next;
@@ -150,28 +157,39 @@ module _ (p : Program) (l : Layout) (words others : List ℕ) (h : HasRun p l wo
       thread = is.thread;
       steps = steps_here;
       actor =
-          get_or-set_same h.run.actors x.thread (actor_after h.run.program h.run.table (actors_in h.run.actors x.thread) step.old) (waiting_actor x.thread)
+          get_or-set_same h.run.actors x.thread
+          (actor_after h.run.program h.run.table (actors_in h.run.actors x.thread) step.old)
+          (waiting_actor x.thread)
           (subst (λ n. x.thread < n) (sym h.keeps.run.actors) thread)
           ∙ sym (λ k. actor_after (program_is k) (table_is k) (actor_is k) step.old)
           ∙ sym (actor_one_more x step.old);
     }
 
-    known_beside : (z : Known) → z.thread ≢ x.thread → IsKnown p l h.keeps.run.entries h.run.actors z → IsKnown p l entries_now (run_behind h.run x.thread).actors z
+    known_beside : (z : Known) → z.thread ≢ x.thread → IsKnown p l h.keeps.run.entries h.run.actors z
+        → IsKnown p l entries_now (run_behind h.run x.thread).actors z
     known_beside z other was = record {
       program = was.program;
       layout = was.layout;
       thread = was.thread;
       steps = steps_there z.thread other ∙ was.steps;
       actor =
-          get_or-set_other h.run.actors x.thread z.thread (actor_after h.run.program h.run.table (actors_in h.run.actors x.thread) step.old) (waiting_actor z.thread) other
+          get_or-set_other h.run.actors x.thread z.thread
+          (actor_after h.run.program h.run.table (actors_in h.run.actors x.thread) step.old)
+          (waiting_actor z.thread) other
           ∙ was.actor;
     }
 
-    pub known_now : (room : length x.found < MOST_BUDGET) → IsKnown p l (run_now room).keeps.run.entries (run_now room).run.actors (finds step.old x)
+    pub known_now : (room : length x.found < MOST_BUDGET)
+        → IsKnown p l (run_now room).keeps.run.entries (run_now room).run.actors (finds step.old x)
     unfolding run_now
-    known_now room = subst (λ es. IsKnown p l es (run_behind h.run x.thread).actors (finds step.old x)) (sym next_has) known_here
+    known_now room =
+        subst (λ es. IsKnown p l es (run_behind h.run x.thread).actors (finds step.old x))
+        (sym next_has) known_here
 
-    pub known_there : (room : length x.found < MOST_BUDGET) (z : Known) → z.thread ≢ x.thread → IsKnown p l h.keeps.run.entries h.run.actors z
+    pub known_there : (room : length x.found < MOST_BUDGET) (z : Known) → z.thread ≢ x.thread
+        → IsKnown p l h.keeps.run.entries h.run.actors z
         → IsKnown p l (run_now room).keeps.run.entries (run_now room).run.actors z
     unfolding run_now
-    known_there room z other was = subst (λ es. IsKnown p l es (run_behind h.run x.thread).actors z) (sym next_has) (known_beside z other was)
+    known_there room z other was =
+        subst (λ es. IsKnown p l es (run_behind h.run x.thread).actors z) (sym next_has)
+        (known_beside z other was)

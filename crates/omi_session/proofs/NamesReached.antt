@@ -22,7 +22,8 @@ TaskFits k t = k.0.generation < 2 ^ 32
 abbrev RegionFits : Rid → Region → Type 0
 RegionFits n r = n.0.generation < 2 ^ 32
 
-task_law : (p : Program) (s : State) (i : ℕ) (e : Event) (y : Item) (next : State) → IsTaskLaw p s i e y next TaskFits
+task_law : (p : Program) (s : State) (i : ℕ) (e : Event) (y : Item) (next : State)
+    → IsTaskLaw p s i e y next TaskFits
 task_law p s i e y next = record {
   shows = λ k t enter h. h;
   tools = λ k t x h. h;

@@ -21,7 +21,8 @@ named_within w (Overlap f g) r = omega (arith, r.second.to)
 named_within w (BadArena p) r = grind (arith, nat_tests)
 
 -- a table whose words weren't read gives no layout
-pub stopped : (memory : Words) (address : ℕ) → symbol_in memory (codes "omi_layout") ≡ Some address → (rc : Rc) → StopsAt memory address rc → Refuses memory rc
+pub stopped : (memory : Words) (address : ℕ) → symbol_in memory (codes "omi_layout") ≡ Some address
+    → (rc : Rc) → StopsAt memory address rc → Refuses memory rc
 stopped memory address symbol (Error addr field) h = λ ne. record {
   error = Unmapped addr;
   gives_none = record { address = address; symbol = symbol; at = h.0.at; within = h.0.within; is = h.0.is; none = h.0.none; before = h.0.before };

@@ -16,11 +16,13 @@ use Rattle.omi_rep.proofs.Slots.{slot_found}
 use Rattle.omi_session.proofs.Slots.{kind_is}
 
 -- the object of a name that is held for a kind has this name
-pub name_told : (w : List ℕ) → IsValid w → (kind : Kind) (n : Id) → IsSlot w (record_kind kind) n.creator n.slot → (found : Option Held)
+pub name_told : (w : List ℕ) → IsValid w → (kind : Kind) (n : Id)
+    → IsSlot w (record_kind kind) n.creator n.slot → (found : Option Held)
     → found ≡ Some (record { kind = kind; addr = slot_address w (record_kind kind) n.creator n.slot; life = 2 * n.generation + 1 })
     → (result : Result Id Rc) → IsNameOf w (live_handle kind found) result → result ≡ Ok n
 name_told w valid kind n is found held result named =
-    go result (subst (λ (h : Result Held Rc). IsNameOf w h result) (handle_told w (λ addr. None) kind (2 * n.generation + 1) (slot_address w (record_kind kind) n.creator n.slot) found held) named)
+    go result
+    (subst (λ (h : Result Held Rc). IsNameOf w h result) (handle_told w (λ addr. None) kind (2 * n.generation + 1) (slot_address w (record_kind kind) n.creator n.slot) found held) named)
   where
     object : Held
     object = record { kind = kind; addr = slot_address w (record_kind kind) n.creator n.slot; life = 2 * n.generation + 1 }
@@ -28,7 +30,8 @@ name_told w valid kind n is found held result named =
     has : name_of w object ≡ Some n
     has =
         let half : (2 * n.generation + 1) / 2 ≡ n.generation = omega arith in
-        ap (option_map (λ (at : ℕ × ℕ). record { creator = at.0; slot = at.1; generation = (2 * n.generation + 1) / 2 }))
+        ap
+        (option_map (λ (at : ℕ × ℕ). record { creator = at.0; slot = at.1; generation = (2 * n.generation + 1) / 2 }))
         (slot_found w valid (record_kind kind) (kind_is kind) n.creator n.slot is)
         ∙ ap (λ g. Some (record { creator = n.creator; slot = n.slot; generation = g })) half
 

@@ -19,7 +19,9 @@ kind_is Region = record { from = omega arith; to = omega arith }
 kind_is Task = record { from = omega arith; to = omega arith }
 
 -- what is held has a low address
-pub found_low : (w : List ℕ) (handles : Ledger) (pair : ℕ × ℕ) (found : Option Held) → IsValid w → AreNamed w handles → found ≡ get handles.held pair
+pub found_low : (w : List ℕ) (handles : Ledger) (pair : ℕ × ℕ) (found : Option Held) → IsValid w
+    → AreNamed w handles → found ≡ get handles.held pair
     → IfSome found (λ h. h.addr ≤ LAST_END)
 found_low w handles pair None v named is = tt
-found_low w handles pair (Some h) v named is = place_low w (record_kind h.kind) h.addr v (kind_is h.kind) (named.each pair h (sym is)).place
+found_low w handles pair (Some h) v named is =
+    place_low w (record_kind h.kind) h.addr v (kind_is h.kind) (named.each pair h (sym is)).place

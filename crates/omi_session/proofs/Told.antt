@@ -11,7 +11,8 @@ use Rattle.omi_session.specs.Tells.{Tells, KeepsTold}
 pub as_told : (told now : Told) (memory : Words) → now ≡ told → Tells told memory → (P : Words → Type 0)
     → ((words : Words) (order : ℕ) → now.words ≡ Some words → now.order ≡ Some order → P (aligned_word_at words)) → P memory
 as_told told now memory same t P holds =
-    subst P (sym t.is) (holds t.words t.order (ap (λ x. x.words) same ∙ t.words_told) (ap (λ x. x.order) same ∙ t.order_told))
+    subst P (sym t.is)
+    (holds t.words t.order (ap (λ x. x.words) same ∙ t.words_told) (ap (λ x. x.order) same ∙ t.order_told))
 
 -- callbacks that tell the same tell the same memory
 pub still_tells : (told now : Told) (memory : Words) → now ≡ told → Tells told memory → Tells now memory
@@ -23,14 +24,16 @@ still_tells told now memory same t = record {
   is = t.is;
 }
 
-pub keeps_then : {C F : Type 0} (told : C → Told) (a b c : Kept C F) → KeepsTold told a b → KeepsTold told b c → KeepsTold told a c
+pub keeps_then : {C F : Type 0} (told : C → Told) (a b c : Kept C F) → KeepsTold told a b → KeepsTold told b c
+    → KeepsTold told a c
 keeps_then told a b c first second = record {
   same = second.same ∙ first.same;
   order = second.order ∙ first.order;
   to_host = second.to_host ∙ first.to_host;
 }
 
-pub stays_then : {C F : Type 0} (told : C → Told) (a b c : Opened C F) → StaysWhole told a b → StaysWhole told b c → StaysWhole told a c
+pub stays_then : {C F : Type 0} (told : C → Told) (a b c : Opened C F) → StaysWhole told a b
+    → StaysWhole told b c → StaysWhole told a c
 stays_then told a b c first second = record {
   table = keeps_then told a.table b.table c.table first.table second.table;
   layout = second.layout ∙ first.layout;
@@ -38,7 +41,8 @@ stays_then told a b c first second = record {
 }
 
 -- a count that rose from a later stand on rose from an earlier one
-pub cause_after : (before then now : ℕ) (failure part : Type 0) → before ≤ then → (failure → part) → HasCause then now part → HasCause before now failure
+pub cause_after : (before then now : ℕ) (failure part : Type 0) → before ≤ then → (failure → part)
+    → HasCause then now part → HasCause before now failure
 cause_after before then now failure part later is cause = record {
   later = omega (arith, later, cause.later);
   failed = λ f. (let rose = cause.failed (is f) in omega (arith, rose, later));

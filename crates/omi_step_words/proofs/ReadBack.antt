@@ -18,5 +18,6 @@ generations_back n h = omega (arith, h)
 pub taken_up : LifeGoesUpByOne
 taken_up at life free =
     let even : life % 2 ≡ 0 = eqb-true (life % 2) 0 (test_left (life % 2 == 0) (nat_lt life (2 ^ 33)) free) in
-    let low : life < 2 ^ 33 = ltb-true life (2 ^ 33) (test_right (life % 2 == 0) (nat_lt life (2 ^ 33)) free) in
+    let low : life < 2 ^ 33 =
+    ltb-true life (2 ^ 33) (test_right (life % 2 == 0) (nat_lt life (2 ^ 33)) free) in
     omega (arith, even, low)

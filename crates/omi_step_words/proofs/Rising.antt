@@ -14,20 +14,24 @@ goes_up low (x ∷ xs) = nat_lt low (rank x) && goes_up (rank x) xs
 first_above : (low : ℕ) (x : Planned) (xs : List Planned) → goes_up low (x ∷ xs) ≡ true → low < rank x
 first_above low x xs up = ltb-true low (rank x) (test_left (nat_lt low (rank x)) (goes_up (rank x) xs) up)
 
-others_go_up : (low : ℕ) (x : Planned) (xs : List Planned) → goes_up low (x ∷ xs) ≡ true → goes_up (rank x) xs ≡ true
+others_go_up : (low : ℕ) (x : Planned) (xs : List Planned) → goes_up low (x ∷ xs) ≡ true
+    → goes_up (rank x) xs ≡ true
 others_go_up low x xs up = test_right (nat_lt low (rank x)) (goes_up (rank x) xs) up
 
-above : (low : ℕ) (xs : List Planned) (d : Planned) (k : ℕ) → goes_up low xs ≡ true → k < length xs → low < rank (slice_index_or xs k d)
+above : (low : ℕ) (xs : List Planned) (d : Planned) (k : ℕ) → goes_up low xs ≡ true → k < length xs
+    → low < rank (slice_index_or xs k d)
 above low [] d k up h = absurd (omega (arith, h))
 above low (x ∷ xs) d zero up h = first_above low x xs up
 above low (x ∷ xs) d (suc k) up h =
-    omega (arith, first_above low x xs up, above (rank x) xs d k (others_go_up low x xs up) (omega (arith, h)))
+    omega
+    (arith, first_above low x xs up, above (rank x) xs d k (others_go_up low x xs up) (omega (arith, h)))
 
 rises : (low : ℕ) (xs : List Planned) (d : Planned) (j k : ℕ) → goes_up low xs ≡ true → j < k → k < length xs
     → rank (slice_index_or xs j d) < rank (slice_index_or xs k d)
 rises low [] d j k up h within = absurd (omega (arith, within))
 rises low (x ∷ xs) d j zero up h within = absurd (omega (arith, h))
-rises low (x ∷ xs) d zero (suc k) up h within = above (rank x) xs d k (others_go_up low x xs up) (omega (arith, within))
+rises low (x ∷ xs) d zero (suc k) up h within =
+    above (rank x) xs d k (others_go_up low x xs up) (omega (arith, within))
 rises low (x ∷ xs) d (suc j) (suc k) up h within =
     rises (rank x) xs d j k (others_go_up low x xs up) (omega (arith, h)) (omega (arith, within))
 

@@ -26,7 +26,8 @@ module _ (w : List ℕ) (k : Tid) (valid : IsValid w) (there : HasTask w k) wher
   at = record { creator = k.0.creator; slot = k.0.slot }
 
   index_low : index < 2 ^ 24
-  index_low = let few = index_few w tasks k.0.creator k.0.slot (omega arith) (threads_of_valid w valid) (tasks_of_valid w valid) there in omega (arith, few)
+  index_low =
+      let few = index_few w tasks k.0.creator k.0.slot (omega arith) (threads_of_valid w valid) (tasks_of_valid w valid) there in omega (arith, few)
 
   rest : code % 2 ^ 24 ≡ index
   rest = mod-mul-add (used_word k.0) (2 ^ 24) index index_low
@@ -36,7 +37,9 @@ module _ (w : List ℕ) (k : Tid) (valid : IsValid w) (there : HasTask w k) wher
 
   by_index : slot_by w tasks index ≡ at
   by_index =
-      ap₂ {C = Place} (λ a b. record { creator = a; slot = b }) (div-mul-add k.0.creator (per_thread w tasks) k.0.slot there.within) (mod-mul-add k.0.creator (per_thread w tasks) k.0.slot there.within)
+      ap₂ {C = Place} (λ a b. record { creator = a; slot = b })
+      (div-mul-add k.0.creator (per_thread w tasks) k.0.slot there.within)
+      (mod-mul-add k.0.creator (per_thread w tasks) k.0.slot there.within)
 
   chosen : (x : Place) → x ≡ at → (if nat_lt x.creator (makers w tasks) then x else initial_place) ≡ at
   chosen x same =

@@ -30,7 +30,8 @@ some_body p c [] wait.Taskyield waits = absurd (cc)
 some_body p c (f ∷ fs) v waits = omega arith
 
 -- the context of the innermost body
-pub context_there : (p : Program) (c : Context) (fs : List Frame) → AreOpen p c fs → 0 < length fs → IsContext p c
+pub context_there : (p : Program) (c : Context) (fs : List Frame) → AreOpen p c fs → 0 < length fs
+    → IsContext p c
 context_there p c [] bodies some = absurd (omega (arith, some))
 context_there p c (f ∷ fs) bodies some = bodies.0.context
 
@@ -39,18 +40,22 @@ below_some : (b : Bool) (f g task many : ℕ) → g < many → (f < task → f <
 below_some true f g task many there rest below = omega (arith, there, below)
 below_some false f g task many there rest below = rest below
 
-pub function_there : (p : Program) (c : Context) (fs : List Frame) (f : ℕ) → AreOpen p c fs → f < task_function fs → f < length p.funcs
+pub function_there : (p : Program) (c : Context) (fs : List Frame) (f : ℕ) → AreOpen p c fs
+    → f < task_function fs → f < length p.funcs
 function_there p c [] f bodies below = absurd (omega (arith, below))
 function_there p c (g ∷ gs) f bodies below =
-    below_some (opens_task g.opened) f g.function (task_function gs) (length p.funcs) bodies.0.frame.function (function_there p (context_under c g.opened) gs f bodies.1) below
+    below_some (opens_task g.opened) f g.function (task_function gs) (length p.funcs) bodies.0.frame.function
+    (function_there p (context_under c g.opened) gs f bodies.1) below
 
 -- the bodies once an explicit task is current
-pub start_opens : (p : Program) (a : Actor) (v : Wait) (t : Tid) (f : ℕ) (final : Bool) → OpenedBodyStands → Fits p a
+pub start_opens : (p : Program) (a : Actor) (v : Wait) (t : Tid) (f : ℕ) (final : Bool) → OpenedBodyStands
+    → Fits p a
     → IsWaiting p a.context a.stack v → t.0.creator < p.threads → f < task_function a.stack
     → AreOpen p (task_context a t final) (at_start f (Task (Some v) a.context) ∷ a.stack)
 start_opens p a v t f final stands fits waits maker below =
     let c = context_there p a.context a.stack fits.bodies (some_body p a.context a.stack v waits) in
-    stands p (task_context a t final) f (Task (Some v) a.context) a.stack (function_there p a.context a.stack f fits.bodies below)
+    stands p (task_context a t final) f (Task (Some v) a.context) a.stack
+    (function_there p a.context a.stack f fits.bodies below)
     (record {
       size = c.size;
       number = c.number;
@@ -69,9 +74,11 @@ some_at p [] s at = absurd (cc)
 some_at p (f ∷ fs) s at = omega arith
 
 -- the bodies once a task is current that starts at once
-module _ (p : Program) (a : Actor) (t : Tid) (stands : OpenedBodyStands) (fits : Fits p a) (maker : t.0.creator ≡ a.thread) where
+module _ (p : Program) (a : Actor) (t : Tid) (stands : OpenedBodyStands) (fits : Fits p a)
+    (maker : t.0.creator ≡ a.thread) where
   opens : (s : Stmt) → IsAt p a.stack s → IsTask s
-      → AreOpen p (task_context a t (makes_final p a)) (at_start (made_function p a) (Task None a.context) ∷ a.stack)
+      → AreOpen p (task_context a t (makes_final p a))
+      (at_start (made_function p a) (Task None a.context) ∷ a.stack)
   opens (stmt.Task f undeferred final) at is =
       let c = context_there p a.context a.stack fits.bodies (some_at p a.stack (stmt.Task f undeferred final) at) in
       let function : made_function p a ≡ f = ap explicit_function at in
@@ -91,5 +98,6 @@ module _ (p : Program) (a : Actor) (t : Tid) (stands : OpenedBodyStands) (fits :
   opens _ at never = absurd never
 
 pub start_now_opens : (p : Program) (a : Actor) (t : Tid) → OpenedBodyStands → Fits p a → IsTaskGot p a None t
-    → AreOpen p (task_context a t (makes_final p a)) (at_start (made_function p a) (Task None a.context) ∷ a.stack)
+    → AreOpen p (task_context a t (makes_final p a))
+    (at_start (made_function p a) (Task None a.context) ∷ a.stack)
 start_now_opens p a t stands fits (((s, at, is), own), maker) = opens p a t stands fits maker s at is

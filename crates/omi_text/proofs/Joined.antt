@@ -11,5 +11,6 @@ unfolding decimals
 decimals-cons n [] = grind (arith, common_steps)
 decimals-cons n (m ∷ ns) = ap (λ xs. decimal n ++ 44 ∷ xs) (decimals-cons m ns)
 
-pub decimals_from_first : (ns : List ℕ) (n : ℕ) → slice_get ns 0 ≡ Some n → decimals ns ≡ decimal n ++ after_commas (drop 1 ns)
+pub decimals_from_first : (ns : List ℕ) (n : ℕ) → slice_get ns 0 ≡ Some n
+    → decimals ns ≡ decimal n ++ after_commas (drop 1 ns)
 decimals_from_first ns n first = rw (rows_left ns 0 n first) (decimals-cons n (drop 1 ns))

@@ -6,9 +6,11 @@ use Rattle.std.proofs.lemmas.List.{drop_more}
 use Rattle.std.proofs.lemmas.Option.{slice_get_within, get_or_from_slice_get}
 
 -- the rows that are left begin with the one at this place
-pub rows_left : {X : Type 0} (xs : List X) (i : ℕ) (x : X) → slice_get xs i ≡ Some x → drop i xs ≡ x ∷ drop (i + 1) xs
+pub rows_left : {X : Type 0} (xs : List X) (i : ℕ) (x : X) → slice_get xs i ≡ Some x
+    → drop i xs ≡ x ∷ drop (i + 1) xs
 rows_left xs i x here =
-    drop_more xs i x (slice_get_within xs i x here) ∙ ap (λ y. y ∷ drop (i + 1) xs) (get_or_from_slice_get xs i x x here)
+    drop_more xs i x (slice_get_within xs i x here)
+    ∙ ap (λ y. y ∷ drop (i + 1) xs) (get_or_from_slice_get xs i x x here)
 
 -- one more row is told. `left` is the text of the rows that were left, `then` that of those that are left now.
 pub rows_further : {X : Type 0} (left then : List X → List ℕ) (row old : List ℕ) (xs : List X) (i : ℕ) (x : X) (whole new : List ℕ)

@@ -14,7 +14,8 @@ on_ok (Ok x) P Q more told = more told
 on_ok (Err e) P Q more told = tt
 
 -- three parts, one after the other
-pub three_parts : (old first second new a b c whole : List ℕ) → first ≡ old ++ a → second ≡ first ++ b → a ++ (b ++ c) ≡ whole → new ≡ second ++ c → new ≡ old ++ whole
+pub three_parts : (old first second new a b c whole : List ℕ) → first ≡ old ++ a → second ≡ first ++ b
+    → a ++ (b ++ c) ≡ whole → new ≡ second ++ c → new ≡ old ++ whole
 three_parts old first second new a b c whole is_first is_second are then =
     then
     ∙ ap (λ (t : List ℕ). t ++ c) (is_second ∙ ap (λ (t : List ℕ). t ++ b) is_first)
@@ -23,7 +24,8 @@ three_parts old first second new a b c whole is_first is_second are then =
     ∙ ap (λ (t : List ℕ). old ++ t) are
 
 -- four parts
-pub four_parts : (old first second third new a b c d whole : List ℕ) → first ≡ old ++ a → second ≡ first ++ b → third ≡ second ++ c → a ++ (b ++ (c ++ d)) ≡ whole → new ≡ third ++ d → new ≡ old ++ whole
+pub four_parts : (old first second third new a b c d whole : List ℕ) → first ≡ old ++ a → second ≡ first ++ b
+    → third ≡ second ++ c → a ++ (b ++ (c ++ d)) ≡ whole → new ≡ third ++ d → new ≡ old ++ whole
 four_parts old first second third new a b c d whole is_first is_second is_third are then =
     then
     ∙ ap (λ (t : List ℕ). t ++ d) is_third
@@ -31,28 +33,39 @@ four_parts old first second third new a b c d whole is_first is_second is_third 
     ∙ three_parts old first second (second ++ (c ++ d)) a b (c ++ d) whole is_first is_second are refl
 
 -- words with a space behind each, and then a line of words, are one line
-line_on : (ws : List (List ℕ)) (v : List ℕ) (vs : List (List ℕ)) → spaced ws ++ line (v ∷ vs) ≡ line (ws ++ v ∷ vs)
+line_on : (ws : List (List ℕ)) (v : List ℕ) (vs : List (List ℕ))
+    → spaced ws ++ line (v ∷ vs) ≡ line (ws ++ v ∷ vs)
 line_on [] v vs = refl
 line_on (w ∷ []) v vs = append_assoc w (32 ∷ []) (line (v ∷ vs))
-line_on (w ∷ u ∷ ws) v vs = append_assoc w (32 ∷ spaced (u ∷ ws)) (line (v ∷ vs)) ∙ ap (λ (t : List ℕ). w ++ 32 ∷ t) (line_on (u ∷ ws) v vs)
+line_on (w ∷ u ∷ ws) v vs =
+    append_assoc w (32 ∷ spaced (u ∷ ws)) (line (v ∷ vs))
+    ∙ ap (λ (t : List ℕ). w ++ 32 ∷ t) (line_on (u ∷ ws) v vs)
 
 joined : (ws us : List (List ℕ)) → 0 < length us → spaced ws ++ line us ≡ line (ws ++ us)
 joined ws [] some = absurd (omega (arith, some))
 joined ws (v ∷ vs) some = line_on ws v vs
 
-pub region_whole : (r : RegionRow) → spaced (region_name r) ++ (spaced (region_variables r) ++ line (region_around r)) ≡ region_line r
+pub region_whole : (r : RegionRow)
+    → spaced (region_name r) ++ (spaced (region_variables r) ++ line (region_around r)) ≡ region_line r
 unfolding region_name region_variables region_around region_line
 region_whole r =
-    ap (λ (t : List ℕ). spaced (region_name r) ++ t) (joined (region_variables r) (region_around r) (lit< tt)) ∙ joined (region_name r) (region_variables r ++ region_around r) (lit< tt)
+    ap (λ (t : List ℕ). spaced (region_name r) ++ t) (joined (region_variables r) (region_around r) (lit< tt))
+    ∙ joined (region_name r) (region_variables r ++ region_around r) (lit< tt)
 
-pub environment_whole : (t : TaskRow) → spaced (dynamic_variable t) ++ (spaced (list_variables t) ++ line (task_variables t)) ≡ environment_line t
+pub environment_whole : (t : TaskRow)
+    → spaced (dynamic_variable t) ++ (spaced (list_variables t) ++ line (task_variables t)) ≡ environment_line t
 unfolding dynamic_variable list_variables task_variables environment_line
 environment_whole t =
-    ap (λ (x : List ℕ). spaced (dynamic_variable t) ++ x) (joined (list_variables t) (task_variables t) (lit< tt)) ∙ joined (dynamic_variable t) (list_variables t ++ task_variables t) (lit< tt)
+    ap (λ (x : List ℕ). spaced (dynamic_variable t) ++ x)
+    (joined (list_variables t) (task_variables t) (lit< tt))
+    ∙ joined (dynamic_variable t) (list_variables t ++ task_variables t) (lit< tt)
 
-pub task_whole : (t : TaskRow) → spaced (task_name t) ++ (spaced (task_region t) ++ (spaced (task_ancestors t) ++ line (task_frames t))) ≡ task_line t
+pub task_whole : (t : TaskRow)
+    → spaced (task_name t) ++ (spaced (task_region t) ++ (spaced (task_ancestors t) ++ line (task_frames t))) ≡ task_line t
 unfolding task_name task_region task_ancestors task_frames task_line
 task_whole t =
-    ap (λ (x : List ℕ). spaced (task_name t) ++ (spaced (task_region t) ++ x)) (joined (task_ancestors t) (task_frames t) (lit< tt))
-    ∙ ap (λ (x : List ℕ). spaced (task_name t) ++ x) (joined (task_region t) (task_ancestors t ++ task_frames t) (lit< tt))
+    ap (λ (x : List ℕ). spaced (task_name t) ++ (spaced (task_region t) ++ x))
+    (joined (task_ancestors t) (task_frames t) (lit< tt))
+    ∙ ap (λ (x : List ℕ). spaced (task_name t) ++ x)
+    (joined (task_region t) (task_ancestors t ++ task_frames t) (lit< tt))
     ∙ joined (task_name t) (task_region t ++ (task_ancestors t ++ task_frames t)) (lit< tt)

@@ -13,9 +13,12 @@ use Rattle.omi_top.specs.Command.{Command}
 
 -- a text that was printed, whole or in part, comes behind all that is written
 pub printing_writes : (command : Command) (s : Status) → IsPrinting s → IsUnwritten command s → ⊥
-printing_writes command s (inl e) unwritten = let P : Status → Type 0 = λ x. IsUnwritten command x in subst P e unwritten
-printing_writes command s (inr (inl e)) unwritten = let P : Status → Type 0 = λ x. IsUnwritten command x in subst P e unwritten
-printing_writes command s (inr (inr e)) unwritten = let P : Status → Type 0 = λ x. IsUnwritten command x in subst P e unwritten
+printing_writes command s (inl e) unwritten =
+    let P : Status → Type 0 = λ x. IsUnwritten command x in subst P e unwritten
+printing_writes command s (inr (inl e)) unwritten =
+    let P : Status → Type 0 = λ x. IsUnwritten command x in subst P e unwritten
+printing_writes command s (inr (inr e)) unwritten =
+    let P : Status → Type 0 = λ x. IsUnwritten command x in subst P e unwritten
 
 -- a fault of writing, or want of memory
 pub late_not_read : (result : Result (Vec ℕ) Refusal) → IfErr result IsLate → IsErrAnd result IsReadFault → ⊥
@@ -24,7 +27,8 @@ late_not_read (Err refusal.WriteFault) late read = read
 late_not_read (Err refusal.OutOfMemory) late read = read
 late_not_read (Err r) late read = late
 
-pub late_writes : (C : Type 0) (command : Command) (result : Result (Vec ℕ) Refusal) → IfErr result IsLate → IfErr result (λ r. IsUnwritten command (status_of r) → C)
+pub late_writes : (C : Type 0) (command : Command) (result : Result (Vec ℕ) Refusal) → IfErr result IsLate
+    → IfErr result (λ r. IsUnwritten command (status_of r) → C)
 late_writes C command (Ok text) late = tt
 late_writes C command (Err refusal.WriteFault) late = λ unwritten. absurd unwritten
 late_writes C command (Err refusal.OutOfMemory) late = λ unwritten. absurd unwritten

@@ -19,17 +19,24 @@ at_place : (aligned above within : Bool) (words : List ℕ) (place : ℕ) → na
     → (if aligned then option_or (if above then slice_get words place else None) None else None) ≡ (if aligned && (above && within) then Some (slice_index words place) else None)
 at_place false above within words place e = refl
 at_place true false within words place e = refl
-at_place true true true words place e = ap (λ (x : Option ℕ). option_or x None) (slice_get-get_or words place 0 (ltb-true place (length words) e))
-at_place true true false words place e = ap (λ (x : Option ℕ). option_or x None) (slice_get_past words place (ltb-false place (length words) e))
+at_place true true true words place e =
+    ap (λ (x : Option ℕ). option_or x None) (slice_get-get_or words place 0 (ltb-true place (length words) e))
+at_place true true false words place e =
+    ap (λ (x : Option ℕ). option_or x None) (slice_get_past words place (ltb-false place (length words) e))
 
-alone : (words : List ℕ) (addr : ℕ) → aligned_word_at (segment_words (record { start = FIRST_ADDRESS; words = words } ∷ [])) addr ≡ words_of words addr
-alone words addr = at_place (addr % 8 == 0) (nat_le FIRST_ADDRESS addr) (nat_lt (place_of addr) (length words)) words (place_of addr) refl
+alone : (words : List ℕ) (addr : ℕ)
+    → aligned_word_at (segment_words (record { start = FIRST_ADDRESS; words = words } ∷ [])) addr ≡ words_of words addr
+alone words addr =
+    at_place (addr % 8 == 0) (nat_le FIRST_ADDRESS addr) (nat_lt (place_of addr) (length words)) words
+    (place_of addr) refl
 
 -- two memories with the same word at each address are one
 same_words : (f g : ℕ → Option ℕ) → ((addr : ℕ) → f addr ≡ g addr) → f ≡ g
 same_words f g each = λ i addr. each addr i
 
-pub image_words : (ids words : List ℕ) (core : CoreImage) → HoldsImage ids words core → words_of_core core ≡ words_of words
+pub image_words : (ids words : List ℕ) (core : CoreImage) → HoldsImage ids words core
+    → words_of_core core ≡ words_of words
 image_words ids words core holds =
     ap (λ (segments : List Segment). aligned_word_at (segment_words segments)) holds.segments
-    ∙ same_words (aligned_word_at (segment_words (record { start = FIRST_ADDRESS; words = words } ∷ []))) (words_of words) (alone words)
+    ∙ same_words (aligned_word_at (segment_words (record { start = FIRST_ADDRESS; words = words } ∷ [])))
+    (words_of words) (alone words)

@@ -31,7 +31,8 @@ another : (r s : Refusal) → is_fault r ≡ true → r ≡ s → is_fault s ≡
 another r s fault same proper = let wrong : true ≡ false = sym fault ∙ ap is_fault same ∙ proper in cc
 
 -- no fault is what an answer says
-stop_proper : (plan : Plan) (content core : Option (List ℕ)) (r : Refusal) → is_fault r ≡ true → IsStopAnswer plan content (Gives core (Err r)) → ⊥
+stop_proper : (plan : Plan) (content core : Option (List ℕ)) (r : Refusal) → is_fault r ≡ true
+    → IsStopAnswer plan content (Gives core (Err r)) → ⊥
 stop_proper plan None None r fault is = another r _ fault is refl
 stop_proper plan (Some bytes) None r fault (f, why, is) = another r _ fault is refl
 stop_proper plan None (Some core) r fault is = is
@@ -49,11 +50,14 @@ look_proper : (e : LookFault) → is_fault (refusal_of_look e) ≡ false
 look_proper (look.Damaged addr field) = refl
 look_proper (look.Cycle addr) = refl
 
-show_proper : (content core : Option (List ℕ)) (r : Refusal) → is_fault r ≡ true → IsShowAnswer content (Gives core (Err r)) → ⊥
+show_proper : (content core : Option (List ℕ)) (r : Refusal) → is_fault r ≡ true
+    → IsShowAnswer content (Gives core (Err r)) → ⊥
 show_proper None None r fault is = another r _ fault is refl
 show_proper (Some bytes) None r fault (inl (at, why, refused, is)) = another r _ fault is refl
-show_proper (Some bytes) None r fault (inr (core, spelled, inl (e, none, is))) = another r (refusal_of_layout e) fault is (layout_proper e)
-show_proper (Some bytes) None r fault (inr (core, spelled, inr (e, looked, is))) = another r (refusal_of_look e) fault is (look_proper e)
+show_proper (Some bytes) None r fault (inr (core, spelled, inl (e, none, is))) =
+    another r (refusal_of_layout e) fault is (layout_proper e)
+show_proper (Some bytes) None r fault (inr (core, spelled, inr (e, looked, is))) =
+    another r (refusal_of_look e) fault is (look_proper e)
 show_proper None (Some core) r fault is = is
 show_proper (Some bytes) (Some core) r fault is = is
 
@@ -61,7 +65,8 @@ make_proper : (n : ℕ) (script : Option (List ℕ)) (r : Refusal) → IsMakeAns
 make_proper n None r is = is
 make_proper n (Some script) r is = is
 
-run_proper : (plan : Plan) (text content core : Option (List ℕ)) (r : Refusal) → is_fault r ≡ true → IsRunAnswer plan text content (Gives core (Err r)) → ⊥
+run_proper : (plan : Plan) (text content core : Option (List ℕ)) (r : Refusal) → is_fault r ≡ true
+    → IsRunAnswer plan text content (Gives core (Err r)) → ⊥
 run_proper plan text content None r fault is = stop_proper plan text None r fault is
 run_proper plan text content (Some core) r fault (lines, is, said) = show_proper content None r fault said
 
@@ -70,30 +75,47 @@ abbrev said_of : Answer → Refusal
 said_of (Gives core (Ok text)) = refusal.Usage
 said_of (Gives core (Err r)) = r
 
-proper : (command : Command) (told : List ℕ → Told) (core : Option (List ℕ)) (r : Refusal) → is_fault r ≡ true → IsAnswer command told (Gives core (Err r)) → ⊥
-proper (Stop plan script written) told core r fault (content, is, answer) = stop_proper plan content core r fault answer
+proper : (command : Command) (told : List ℕ → Told) (core : Option (List ℕ)) (r : Refusal) → is_fault r ≡ true
+    → IsAnswer command told (Gives core (Err r)) → ⊥
+proper (Stop plan script written) told core r fault (content, is, answer) =
+    stop_proper plan content core r fault answer
 proper (Make n written) told core r fault is = make_proper n core r is
 proper (Show written) told core r fault (content, is, answer) = show_proper content core r fault answer
-proper (Run plan script written) told core r fault (text, here, content, is, answer) = run_proper plan text content core r fault answer
+proper (Run plan script written) told core r fault (text, here, content, is, answer) =
+    run_proper plan text content core r fault answer
 proper Faulty told core r fault is = another r refusal.Usage fault (ap said_of is) refl
 
-module _ (command : Command) (told : List ℕ → Told) (old new : Told) (counted : Type 0) (out after : Option (List ℕ)) where
+module _ (command : Command) (told : List ℕ → Told) (old new : Told) (counted : Type 0)
+    (out after : Option (List ℕ)) where
   -- after a text and an end of its printing
-  pub ok_left : (text : Vec ℕ) (s : Status) → IsAnswered command told (Ok text) old new → IsPrinting s → (s ≡ status.Success → after ≡ put_on out text.items) → (s ≡ status.Success) ⊎ IsPutCut text.items out after
+  pub ok_left : (text : Vec ℕ) (s : Status) → IsAnswered command told (Ok text) old new → IsPrinting s
+      → (s ≡ status.Success → after ≡ put_on out text.items)
+      → (s ≡ status.Success) ⊎ IsPutCut text.items out after
       → IsLeft command told s old new counted out after
-  ok_left text s (core, is, held) (inl e) put partly = subst (λ (x : Status). IsLeft command told x old new counted out after) (sym e) (core, text.items, is, held, put e)
-  ok_left text s (core, is, held) (inr (inl e)) put (inl done) = let wrong : status.WriteFault ≡ status.Success = sym e ∙ done in absurd (cc)
-  ok_left text s (core, is, held) (inr (inl e)) put (inr cut) = subst (λ (x : Status). IsLeft command told x old new counted out after) (sym e) (inr (core, text.items, is, held, cut))
-  ok_left text s (core, is, held) (inr (inr e)) put (inl done) = let wrong : status.OutOfMemory ≡ status.Success = sym e ∙ done in absurd (cc)
-  ok_left text s (core, is, held) (inr (inr e)) put (inr cut) = subst (λ (x : Status). IsLeft command told x old new counted out after) (sym e) (inr (inr (core, text.items, is, held, cut)))
+  ok_left text s (core, is, held) (inl e) put partly =
+      subst (λ (x : Status). IsLeft command told x old new counted out after) (sym e)
+      (core, text.items, is, held, put e)
+  ok_left text s (core, is, held) (inr (inl e)) put (inl done) =
+      let wrong : status.WriteFault ≡ status.Success = sym e ∙ done in absurd (cc)
+  ok_left text s (core, is, held) (inr (inl e)) put (inr cut) =
+      subst (λ (x : Status). IsLeft command told x old new counted out after) (sym e)
+      (inr (core, text.items, is, held, cut))
+  ok_left text s (core, is, held) (inr (inr e)) put (inl done) =
+      let wrong : status.OutOfMemory ≡ status.Success = sym e ∙ done in absurd (cc)
+  ok_left text s (core, is, held) (inr (inr e)) put (inr cut) =
+      subst (λ (x : Status). IsLeft command told x old new counted out after) (sym e)
+      (inr (inr (core, text.items, is, held, cut)))
 
   -- after a refusal
-  pub err_left : (r : Refusal) → IsAnswered command told (Err r) old new → IsSaid (refusal_line (script_name command) (core_name command) r) counted out after → IsLeft command told (status_of r) old new counted out after
+  pub err_left : (r : Refusal) → IsAnswered command told (Err r) old new
+      → IsSaid (refusal_line (script_name command) (core_name command) r) counted out after
+      → IsLeft command told (status_of r) old new counted out after
   err_left refusal.Usage (inl (core, is, held)) said = (refusal.Usage, refl, core, is, held, said)
   err_left refusal.Usage (inr (inl (early, same))) said = absurd early
   err_left refusal.Usage (inr (inr (inl (late, half)))) said = absurd late
   err_left refusal.Usage (inr (inr (inr (behind, whole)))) said = absurd behind
-  err_left (refusal.NoFile read) (inl (core, is, held)) said = (refusal.NoFile read, refl, core, is, held, said)
+  err_left (refusal.NoFile read) (inl (core, is, held)) said =
+      (refusal.NoFile read, refl, core, is, held, said)
   err_left (refusal.NoFile read) (inr (inl (early, same))) said = absurd early
   err_left (refusal.NoFile read) (inr (inr (inl (late, half)))) said = absurd late
   err_left (refusal.NoFile read) (inr (inr (inr (behind, whole)))) said = absurd behind
@@ -101,11 +123,13 @@ module _ (command : Command) (told : List ℕ → Told) (old new : Told) (counte
   err_left (refusal.Script f) (inr (inl (early, same))) said = absurd early
   err_left (refusal.Script f) (inr (inr (inl (late, half)))) said = absurd late
   err_left (refusal.Script f) (inr (inr (inr (behind, whole)))) said = absurd behind
-  err_left (refusal.Core at why) (inl (core, is, held)) said = (refusal.Core at why, refl, core, is, held, said)
+  err_left (refusal.Core at why) (inl (core, is, held)) said =
+      (refusal.Core at why, refl, core, is, held, said)
   err_left (refusal.Core at why) (inr (inl (early, same))) said = absurd early
   err_left (refusal.Core at why) (inr (inr (inl (late, half)))) said = absurd late
   err_left (refusal.Core at why) (inr (inr (inr (behind, whole)))) said = absurd behind
-  err_left (refusal.Damaged addr field) (inl (core, is, held)) said = (refusal.Damaged addr field, refl, core, is, held, said)
+  err_left (refusal.Damaged addr field) (inl (core, is, held)) said =
+      (refusal.Damaged addr field, refl, core, is, held, said)
   err_left (refusal.Damaged addr field) (inr (inl (early, same))) said = absurd early
   err_left (refusal.Damaged addr field) (inr (inr (inl (late, half)))) said = absurd late
   err_left (refusal.Damaged addr field) (inr (inr (inr (behind, whole)))) said = absurd behind
@@ -113,26 +137,33 @@ module _ (command : Command) (told : List ℕ → Told) (old new : Told) (counte
   err_left (refusal.Cycle addr) (inr (inl (early, same))) said = absurd early
   err_left (refusal.Cycle addr) (inr (inr (inl (late, half)))) said = absurd late
   err_left (refusal.Cycle addr) (inr (inr (inr (behind, whole)))) said = absurd behind
-  err_left refusal.Incompatible (inl (core, is, held)) said = (refusal.Incompatible, refl, core, is, held, said)
+  err_left refusal.Incompatible (inl (core, is, held)) said =
+      (refusal.Incompatible, refl, core, is, held, said)
   err_left refusal.Incompatible (inr (inl (early, same))) said = absurd early
   err_left refusal.Incompatible (inr (inr (inl (late, half)))) said = absurd late
   err_left refusal.Incompatible (inr (inr (inr (behind, whole)))) said = absurd behind
-  err_left (refusal.ReadFault read) (inl (core, is, held)) said = absurd (proper command told core (refusal.ReadFault read) refl is)
+  err_left (refusal.ReadFault read) (inl (core, is, held)) said =
+      absurd (proper command told core (refusal.ReadFault read) refl is)
   err_left (refusal.ReadFault read) (inr (inl (early, same))) said = (read, inl (early, same), said)
   err_left (refusal.ReadFault read) (inr (inr (inl (late, half)))) said = absurd late
   err_left (refusal.ReadFault read) (inr (inr (inr (behind, whole)))) said = (read, inr (behind, whole), said)
-  err_left refusal.WriteFault (inl (core, is, held)) said = absurd (proper command told core refusal.WriteFault refl is)
+  err_left refusal.WriteFault (inl (core, is, held)) said =
+      absurd (proper command told core refusal.WriteFault refl is)
   err_left refusal.WriteFault (inr (inl (early, same))) said = absurd early
   err_left refusal.WriteFault (inr (inr (inl (late, half)))) said = inl (half, said)
   err_left refusal.WriteFault (inr (inr (inr (behind, whole)))) said = absurd behind
-  err_left refusal.OutOfMemory (inl (core, is, held)) said = absurd (proper command told core refusal.OutOfMemory refl is)
+  err_left refusal.OutOfMemory (inl (core, is, held)) said =
+      absurd (proper command told core refusal.OutOfMemory refl is)
   err_left refusal.OutOfMemory (inr (inl (early, same))) said = inl (inl same, said)
   err_left refusal.OutOfMemory (inr (inr (inl (late, half)))) said = inr (inl (half, said))
   err_left refusal.OutOfMemory (inr (inr (inr (behind, whole)))) said = inl (inr (behind, whole), said)
 
 -- What a request leaves is what its command leaves.
-pub left_by : (asked command : Command) (s : Status) (files old new : List ℕ → Told) (counted : Type 0) (out after : Option (List ℕ)) → asked ≡ command
-    → (AreTold asked files → IsLeft asked files s (old (written_name asked)) (new (written_name asked)) counted out after)
+pub left_by : (asked command : Command) (s : Status) (files old new : List ℕ → Told) (counted : Type 0) (out after : Option (List ℕ))
+    → asked ≡ command
+    →
+    (AreTold asked files → IsLeft asked files s (old (written_name asked)) (new (written_name asked)) counted out after)
     → AreTold command files → IsLeft command files s (old (written_name command)) (new (written_name command)) counted out after
 left_by asked command s files old new counted out after is left =
-    subst (λ (k : Command). AreTold k files → IsLeft k files s (old (written_name k)) (new (written_name k)) counted out after) is left
+    subst
+    (λ (k : Command). AreTold k files → IsLeft k files s (old (written_name k)) (new (written_name k)) counted out after) is left

@@ -15,7 +15,8 @@ never_refused : (n : ℕ) (written : Option (List ℕ)) (r : Refusal) → IsMake
 never_refused n None r is = is
 never_refused n (Some bytes) r is = is
 
-module _ (n : ℕ) (script : List ℕ) (told : List ℕ → Told) (old new : Told) (counted : Type 0) (out after : Option (List ℕ)) where
+module _ (n : ℕ) (script : List ℕ) (told : List ℕ → Told) (old new : Told) (counted : Type 0)
+    (out after : Option (List ℕ)) where
   no_refusal : {C : Type 0} (s : Status) → IsRefused (Make n script) told s old new counted out after → C
   no_refusal s (r, same, written, is, held, said) = absurd (never_refused n written r is)
 
@@ -35,7 +36,8 @@ module _ (n : ℕ) (script : List ℕ) (told : List ℕ → Told) (old new : Tol
   -- what success leaves
   pub success : (s : Status) → s ≡ status.Success → IsLeft (Make n script) told s old new counted out after
       → (p : Program) × (line : List ℕ) × Grammar (make_text n) p × IsMade n p line × (new ≡ holding old (make_text n)) × (after ≡ put_on out line)
-  success s done left = go (subst (λ (x : Status). IsLeft (Make n script) told x old new counted out after) done left)
+  success s done left =
+      go (subst (λ (x : Status). IsLeft (Make n script) told x old new counted out after) done left)
     where
       go : IsLeft (Make n script) told status.Success old new counted out after
           → (p : Program) × (line : List ℕ) × Grammar (make_text n) p × IsMade n p line × (new ≡ holding old (make_text n)) × (after ≡ put_on out line)

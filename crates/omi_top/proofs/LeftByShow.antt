@@ -39,11 +39,14 @@ not_refused None r none refuses = none
 not_refused (Some bytes) r (text, (v, spells, is)) refuses = report_not_refused bytes v r spells refuses
 
 -- what an answer says of the core, where the core's content is told
-module _ (core : List ℕ) (told : List ℕ → Told) (content : Option (List ℕ)) (is : told core ≡ Some content) where
+module _ (core : List ℕ) (told : List ℕ → Told) (content : Option (List ℕ))
+    (is : told core ≡ Some content) where
   show_answer : (a : Answer) → IsAnswer (Show core) told a → IsShowAnswer content a
-  show_answer a (c, here, answer) = subst (λ (x : Option (List ℕ)). IsShowAnswer x a) (one_content (told core) c content here is) answer
+  show_answer a (c, here, answer) =
+      subst (λ (x : Option (List ℕ)). IsShowAnswer x a) (one_content (told core) c content here is) answer
 
-  refusals : (written : Option (List ℕ)) (r : Refusal) → IsAnswer (Show core) told (Gives written (Err r)) → IsShowRefusal content r
+  refusals : (written : Option (List ℕ)) (r : Refusal) → IsAnswer (Show core) told (Gives written (Err r))
+      → IsShowRefusal content r
   refusals written r answer = go content written (show_answer (Gives written (Err r)) answer)
     where
       go : (c written : Option (List ℕ)) → IsShowAnswer c (Gives written (Err r)) → IsShowRefusal c r
@@ -71,19 +74,24 @@ module _ (core : List ℕ) (told : List ℕ → Told) (content : Option (List �
 -- ---- a core whose words show a state
 
 -- a look at it gives the state's view
-pub shown_looked : (image : CoreImage) (s : State) → ShowsState image s → (v : View) × IsLooked image (Ok v) × IsViewOf s image.contexts v
+pub shown_looked : (image : CoreImage) (s : State) → ShowsState image s
+    → (v : View) × IsLooked image (Ok v) × IsViewOf s image.contexts v
 shown_looked image s shows =
-    let (v, looked, view) = shown_look shows.w (words_of_core image) s image.contexts shows.valid shows.names shows.shows in
+    let (v, looked, view) =
+    shown_look shows.w (words_of_core image) s image.contexts shows.valid shows.names shows.shows in
     (v, record { w = shows.w; valid = shows.valid; layout = shows.shows.layout; is = looked }, view)
 
 -- so what a look gives is the state's view
-pub looked_shown : (image : CoreImage) (v : View) → IsLooked image (Ok v) → (s : State) → ShowsState image s → IsViewOf s image.contexts v
+pub looked_shown : (image : CoreImage) (v : View) → IsLooked image (Ok v) → (s : State) → ShowsState image s
+    → IsViewOf s image.contexts v
 looked_shown image v looked s shows =
     let (u, also, view) = shown_looked image s shows in
-    subst (λ (x : View). IsViewOf s image.contexts x) (one_view u v (one_looked image (Ok u) (Ok v) also looked)) view
+    subst (λ (x : View). IsViewOf s image.contexts x)
+    (one_view u v (one_looked image (Ok u) (Ok v) also looked)) view
 
 -- words that show a state which events reach are those of its core
-reached_shown : (p : Program) (ids bytes : List ℕ) (s : State) (r : IsReachedCore p ids bytes s) → ShowsState r.core_of.core s
+reached_shown : (p : Program) (ids bytes : List ℕ) (s : State) (r : IsReachedCore p ids bytes s)
+    → ShowsState r.core_of.core s
 reached_shown p ids bytes s r = record {
   w = r.w;
   valid = r.valid;
@@ -92,7 +100,8 @@ reached_shown p ids bytes s r = record {
 }
 
 -- a run left such a core
-abbrev stopped_reached : (p : Program) (plan : Plan) (bytes text : List ℕ) (run : IsStopped p plan bytes text) → IsReachedCore p (thread_ids p.threads) bytes run.state
+abbrev stopped_reached : (p : Program) (plan : Plan) (bytes text : List ℕ) (run : IsStopped p plan bytes text)
+    → IsReachedCore p (thread_ids p.threads) bytes run.state
 stopped_reached p plan bytes text run = record {
   w = run.w;
   valid = run.valid;
@@ -103,62 +112,92 @@ stopped_reached p plan bytes text run = record {
   shows = run.run.shows;
 }
 
-pub run_shown : (p : Program) (plan : Plan) (bytes text : List ℕ) (run : IsStopped p plan bytes text) → ShowsState run.core_of.core run.state
-run_shown p plan bytes text run = reached_shown p (thread_ids p.threads) bytes run.state (stopped_reached p plan bytes text run)
+pub run_shown : (p : Program) (plan : Plan) (bytes text : List ℕ) (run : IsStopped p plan bytes text)
+    → ShowsState run.core_of.core run.state
+run_shown p plan bytes text run =
+    reached_shown p (thread_ids p.threads) bytes run.state (stopped_reached p plan bytes text run)
 
-module _ (core : List ℕ) (told : List ℕ → Told) (old new : Told) (counted : Type 0) (out after : Option (List ℕ)) where
+module _ (core : List ℕ) (told : List ℕ → Told) (old new : Told) (counted : Type 0)
+    (out after : Option (List ℕ)) where
   -- a status comes exactly where a fact holds of the core's content
-  comes : (content : Option (List ℕ)) → told core ≡ Some content → (refused s : Status) (fact : Type 0) → (IsFaultStatus refused → ⊥) → (IsDoneStatus refused → ⊥)
+  comes : (content : Option (List ℕ)) → told core ≡ Some content → (refused s : Status) (fact : Type 0)
+      → (IsFaultStatus refused → ⊥) → (IsDoneStatus refused → ⊥)
       → ((r : Refusal) → IsShowRefusal content r → status_of r ≡ refused → fact) → (fact → Refusing content refused)
       → IsLeft (Show core) told s old new counted out after → ComesWhere refused s fact
   comes content is refused s fact no_fault no_text says refusing =
-      comes_where (Show core) told old new counted out after (IsShowRefusal content) (HasReport content) (refusals core told content is) (did core told content is)
-      refused s fact no_fault no_text says (λ holds. all_refusing content refused (refusing holds)) (λ holds reported. not_refused content (refusing holds).0 reported (refusing holds).1)
+      comes_where (Show core) told old new counted out after (IsShowRefusal content) (HasReport content)
+      (refusals core told content is) (did core told content is)
+      refused s fact no_fault no_text says (λ holds. all_refusing content refused (refusing holds))
+      (λ holds reported. not_refused content (refusing holds).0 reported (refusing holds).1)
 
   -- there is no file exactly where the status says so
-  pub no_file : (s : Status) (content : Option (List ℕ)) → told core ≡ Some content → IsLeft (Show core) told s old new counted out after → ComesWhere status.NoFile s (content ≡ None)
+  pub no_file : (s : Status) (content : Option (List ℕ)) → told core ≡ Some content
+      → IsLeft (Show core) told s old new counted out after → ComesWhere status.NoFile s (content ≡ None)
   no_file s content is =
-      comes content is status.NoFile s (content ≡ None) (λ no. no) (λ no. no) (says_missing content) (λ none. subst (λ (c : Option (List ℕ)). Refusing c status.NoFile) (sym none) missing)
+      comes content is status.NoFile s (content ≡ None) (λ no. no) (λ no. no) (says_missing content)
+      (λ none. subst (λ (c : Option (List ℕ)). Refusing c status.NoFile) (sym none) missing)
 
   -- the grammar of core files refuses exactly where the status says so
-  pub core_refused : (s : Status) (bytes : List ℕ) → told core ≡ Some (Some bytes) → IsLeft (Show core) told s old new counted out after → ComesWhere status.Core s (HasFault bytes)
-  core_refused s bytes is = comes (Some bytes) is status.Core s (HasFault bytes) (λ no. no) (λ no. no) (says_core bytes) (faulty bytes)
+  pub core_refused : (s : Status) (bytes : List ℕ) → told core ≡ Some (Some bytes)
+      → IsLeft (Show core) told s old new counted out after → ComesWhere status.Core s (HasFault bytes)
+  core_refused s bytes is =
+      comes (Some bytes) is status.Core s (HasFault bytes) (λ no. no) (λ no. no) (says_core bytes)
+      (faulty bytes)
 
   -- no layout table of this version is found exactly where the status says so
-  pub incompatible : (s : Status) (bytes : List ℕ) → told core ≡ Some (Some bytes) → IsLeft (Show core) told s old new counted out after → ComesWhere status.Incompatible s (Spells bytes IsIncompatible)
-  incompatible s bytes is = comes (Some bytes) is status.Incompatible s (Spells bytes IsIncompatible) (λ no. no) (λ no. no) (says_incompatible bytes) (incompatible_refused bytes)
+  pub incompatible : (s : Status) (bytes : List ℕ) → told core ≡ Some (Some bytes)
+      → IsLeft (Show core) told s old new counted out after
+      → ComesWhere status.Incompatible s (Spells bytes IsIncompatible)
+  incompatible s bytes is =
+      comes (Some bytes) is status.Incompatible s (Spells bytes IsIncompatible) (λ no. no) (λ no. no)
+      (says_incompatible bytes) (incompatible_refused bytes)
 
   -- the layout table is wrong or the look has a fault exactly where the status says so
-  pub damaged : (s : Status) (bytes : List ℕ) → told core ≡ Some (Some bytes) → IsLeft (Show core) told s old new counted out after → ComesWhere status.Damaged s (Spells bytes IsDamaged)
-  damaged s bytes is = comes (Some bytes) is status.Damaged s (Spells bytes IsDamaged) (λ no. no) (λ no. no) (says_damaged bytes) (damaged_refused bytes)
+  pub damaged : (s : Status) (bytes : List ℕ) → told core ≡ Some (Some bytes)
+      → IsLeft (Show core) told s old new counted out after
+      → ComesWhere status.Damaged s (Spells bytes IsDamaged)
+  damaged s bytes is =
+      comes (Some bytes) is status.Damaged s (Spells bytes IsDamaged) (λ no. no) (λ no. no)
+      (says_damaged bytes) (damaged_refused bytes)
 
   -- a core that has a report is refused nothing
-  pub shows : (s : Status) (bytes text : List ℕ) → told core ≡ Some (Some bytes) → IsReportOf bytes text → IsLeft (Show core) told s old new counted out after → IsDoneOrFailed s
+  pub shows : (s : Status) (bytes text : List ℕ) → told core ≡ Some (Some bytes) → IsReportOf bytes text
+      → IsLeft (Show core) told s old new counted out after → IsDoneOrFailed s
   shows s bytes text is report_is =
-      nothing_refused (Show core) told old new counted out after (λ written r answer. not_refused (Some bytes) r (text, report_is) (refusals core told (Some bytes) is written r answer)) s
+      nothing_refused (Show core) told old new counted out after
+      (λ written r answer. not_refused (Some bytes) r (text, report_is) (refusals core told (Some bytes) is written r answer)) s
 
   -- what success puts
   abbrev Reported : List ℕ → Type 0
-  Reported bytes = (image : CoreImage) × (v : View) × Core bytes image × IsLooked image (Ok v) × (after ≡ put_on out (report v))
+  Reported bytes =
+      (image : CoreImage) × (v : View) × Core bytes image × IsLooked image (Ok v) × (after ≡ put_on out (report v))
       × ((s : State) → ShowsState image s → IsViewOf s image.contexts v)
 
-  put_by : (bytes : List ℕ) → told core ≡ Some (Some bytes) → IsLeft (Show core) told status.Success old new counted out after → Reported bytes
+  put_by : (bytes : List ℕ) → told core ≡ Some (Some bytes)
+      → IsLeft (Show core) told status.Success old new counted out after → Reported bytes
   put_by bytes is (None, text, answer, held, put) =
-      let (v, (image, spelled, looked), same) = show_answer core told (Some bytes) is (Gives None (Ok text)) answer in
+      let (v, (image, spelled, looked), same) =
+      show_answer core told (Some bytes) is (Gives None (Ok text)) answer in
       (image, v, spelled, looked, put ∙ ap (λ (t : List ℕ). put_on out t) same, looked_shown image v looked)
-  put_by bytes is (Some written, text, answer, held, put) = absurd (show_answer core told (Some bytes) is (Gives (Some written) (Ok text)) answer)
+  put_by bytes is (Some written, text, answer, held, put) =
+      absurd (show_answer core told (Some bytes) is (Gives (Some written) (Ok text)) answer)
 
-  pub report_put : (s : Status) (bytes : List ℕ) → told core ≡ Some (Some bytes) → s ≡ status.Success → IsLeft (Show core) told s old new counted out after → Reported bytes
-  report_put s bytes is done left = put_by bytes is (subst (λ (x : Status). IsLeft (Show core) told x old new counted out after) done left)
+  pub report_put : (s : Status) (bytes : List ℕ) → told core ≡ Some (Some bytes) → s ≡ status.Success
+      → IsLeft (Show core) told s old new counted out after → Reported bytes
+  report_put s bytes is done left =
+      put_by bytes is (subst (λ (x : Status). IsLeft (Show core) told x old new counted out after) done left)
 
   -- what is put of a core whose words show a state
-  module _ (bytes : List ℕ) (is : told core ≡ Some (Some bytes)) (image : CoreImage) (spelled : Core bytes image) (state : State) (shows : ShowsState image state) where
+  module _ (bytes : List ℕ) (is : told core ≡ Some (Some bytes)) (image : CoreImage)
+      (spelled : Core bytes image) (state : State) (shows : ShowsState image state) where
     never_refused : {C : Type 0} (s : Status) → IsRefused (Show core) told s old new counted out after → C
     never_refused s (r, same, written, answer, held, said) =
         let (v, looked, view) = shown_looked image state shows in
-        absurd (report_not_refused bytes v r (image, spelled, looked) (refusals core told (Some bytes) is written r answer))
+        absurd
+        (report_not_refused bytes v r (image, spelled, looked) (refusals core told (Some bytes) is written r answer))
 
-    pub shown : (s : Status) → IsLeft (Show core) told s old new counted out after → IsShown state image.contexts s out after
+    pub shown : (s : Status) → IsLeft (Show core) told s old new counted out after
+        → IsShown state image.contexts s out after
     shown status.Success left =
         let (other, v, also, looked, put, views) = put_by bytes is left in
         (v, looked_shown image v (subst (λ (c : CoreImage). IsLooked c (Ok v)) (core_unique bytes other image also spelled) looked) state shows, put)
@@ -173,12 +212,15 @@ module _ (core : List ℕ) (told : List ℕ → Told) (old new : Told) (counted 
     shown status.Incompatible left = never_refused status.Incompatible left
 
   -- and of a core of words that show a state which events reach, as a run left it
-  pub shown_reached : (s : Status) (bytes : List ℕ) → told core ≡ Some (Some bytes) → (p : Program) (ids : List ℕ) (state : State) (r : IsReachedCore p ids bytes state)
+  pub shown_reached : (s : Status) (bytes : List ℕ) → told core ≡ Some (Some bytes)
+      → (p : Program) (ids : List ℕ) (state : State) (r : IsReachedCore p ids bytes state)
       → IsLeft (Show core) told s old new counted out after → IsShown state ids s out after
   shown_reached s bytes is p ids state r left =
       subst (λ (xs : List ℕ). IsShown state xs s out after) r.core_of.image.contexts_are
       (shown bytes is r.core_of.core r.core_of.spelled state (reached_shown p ids bytes state r) s left)
 
-  pub shown_again : (s : Status) (bytes : List ℕ) → told core ≡ Some (Some bytes) → (p : Program) (plan : Plan) (text : List ℕ) (run : IsStopped p plan bytes text)
+  pub shown_again : (s : Status) (bytes : List ℕ) → told core ≡ Some (Some bytes)
+      → (p : Program) (plan : Plan) (text : List ℕ) (run : IsStopped p plan bytes text)
       → IsLeft (Show core) told s old new counted out after → IsShown run.state (thread_ids p.threads) s out after
-  shown_again s bytes is p plan text run = shown_reached s bytes is p (thread_ids p.threads) run.state (stopped_reached p plan bytes text run)
+  shown_again s bytes is p plan text run =
+      shown_reached s bytes is p (thread_ids p.threads) run.state (stopped_reached p plan bytes text run)

@@ -33,10 +33,13 @@ front =
     ++ codes "  repeat "
 
 abbrev pub back : List ℕ
-back = codes " node" ++ 10 ∷ ended (codes "end" ∷ codes "func main" ∷ codes "  parallel team num 4" ∷ codes "end" ∷ [])
+back =
+    codes " node" ++ 10 ∷ ended (codes "end" ∷ codes "func main" ∷ codes "  parallel team num 4" ∷ codes "end" ∷ [])
 
 pub around : (n : ℕ) → make_text n ≡ front ++ (decimal n ++ back)
-around n = ap (λ xs. front ++ xs) (ap (λ xs. xs ++ ended (codes "end" ∷ codes "func main" ∷ codes "  parallel team num 4" ∷ codes "end" ∷ [])) (append_assoc (decimal n) (codes " node") (10 ∷ [])) ∙ append_assoc (decimal n) (codes " node" ++ 10 ∷ []) (ended (codes "end" ∷ codes "func main" ∷ codes "  parallel team num 4" ∷ codes "end" ∷ [])))
+around n =
+    ap (λ xs. front ++ xs)
+    (ap (λ xs. xs ++ ended (codes "end" ∷ codes "func main" ∷ codes "  parallel team num 4" ∷ codes "end" ∷ [])) (append_assoc (decimal n) (codes " node") (10 ∷ [])) ∙ append_assoc (decimal n) (codes " node" ++ 10 ∷ []) (ended (codes "end" ∷ codes "func main" ∷ codes "  parallel team num 4" ∷ codes "end" ∷ [])))
 
 -- ---- programs
 
@@ -54,11 +57,16 @@ all_accepted = refl
 
 accepted : (n : ℕ) → IsNodes n → is_program n ≡ false → ⊥
 accepted n range refused =
-    let place : n - 1 < length (range_with_len 1 100) = omega (arith, range.least, range.most, length-range_with_len 1 100) in
-    let here : get_or (range_with_len 1 100) (n - 1) 0 ≡ n = get_or-range_with_len 1 100 (n - 1) 0 (omega (arith, range.least, range.most)) ∙ omega (arith, range.least) in
-    let none : list_all is_program (range_with_len 1 100) ≡ false = list_all_at is_program (range_with_len 1 100) (n - 1) 0 place (ap is_program here ∙ refused) in
+    let place : n - 1 < length (range_with_len 1 100) =
+    omega (arith, range.least, range.most, length-range_with_len 1 100) in
+    let here : get_or (range_with_len 1 100) (n - 1) 0 ≡ n =
+    get_or-range_with_len 1 100 (n - 1) 0 (omega (arith, range.least, range.most))
+    ∙ omega (arith, range.least) in
+    let none : list_all is_program (range_with_len 1 100) ≡ false =
+    list_all_at is_program (range_with_len 1 100) (n - 1) 0 place (ap is_program here ∙ refused) in
     let wrong : true ≡ false = sym all_accepted ∙ none in
     cc
 
 pub never_refused : (text : List ℕ) → IsMadeText text → (fault : ScriptFault) → Refused text fault → ⊥
-never_refused text (n, range, is) fault refused = accepted n range (ap is_accepted (ap verdict (sym is) ∙ refused.says))
+never_refused text (n, range, is) fault refused =
+    accepted n range (ap is_accepted (ap verdict (sym is) ∙ refused.says))

@@ -19,7 +19,8 @@ use Rattle.omi_top.proofs.Running.{made_run}
 use Rattle.omi_verbs.proofs.Elsewhere.{late}
 
 -- a run that was made, and its line
-pub made : (n : ℕ) (p : Program) (ran : Ran) (line : List ℕ) → IsRanBy p make_plan ran → line ≡ made_line n (count_of TaskBegin ran.core.events.items) ran.why
+pub made : (n : ℕ) (p : Program) (ran : Ran) (line : List ℕ) → IsRanBy p make_plan ran
+    → line ≡ made_line n (count_of TaskBegin ran.core.events.items) ran.why
     → IsMade n p line
 made n p ran line by is =
     let run = made_run p make_plan ran by in
@@ -39,14 +40,18 @@ module _ (n : ℕ) (script : List ℕ) (told : List ℕ → Told) where
   pub no_memory : (old : Told) → IsAnswered (Make n script) told (Err refusal.OutOfMemory) old old
   no_memory old = inr (inl (tt, refl))
 
-  module _ (text line : List ℕ) (is : text ≡ make_text n) (tells : (p : Program) × Grammar text p × IsMade n p line) where
+  module _ (text line : List ℕ) (is : text ≡ make_text n)
+      (tells : (p : Program) × Grammar text p × IsMade n p line) where
     answer : IsAnswer (Make n script) told (Gives (Some text) (Ok line))
     answer = (is, tells)
 
     -- the text is partly written
-    pub partly_answered : (r : RefusedWrite) (old new : Told) → IsCut old new text → IsAnswered (Make n script) told (Err (refusal_of_write r)) old new
+    pub partly_answered : (r : RefusedWrite) (old new : Told) → IsCut old new text
+        → IsAnswered (Make n script) told (Err (refusal_of_write r)) old new
     partly_answered r old new cut = inr (inr (inl (late r, (text, (Ok line, answer), cut))))
 
     -- the text is written, and the line is handed up
-    pub done_answered : (v : Vec ℕ) (old new : Told) → v.items ≡ line → new ≡ holding old text → IsAnswered (Make n script) told (Ok v) old new
-    done_answered v old new same held = (Some text, subst (λ (x : List ℕ). IsAnswer (Make n script) told (Gives (Some text) (Ok x))) (sym same) answer, held)
+    pub done_answered : (v : Vec ℕ) (old new : Told) → v.items ≡ line → new ≡ holding old text
+        → IsAnswered (Make n script) told (Ok v) old new
+    done_answered v old new same held =
+        (Some text, subst (λ (x : List ℕ). IsAnswer (Make n script) told (Gives (Some text) (Ok x))) (sym same) answer, held)

@@ -36,11 +36,14 @@ use Rattle.omi_script.proofs.OneProgram.{one_program}
 use Rattle.omi_core.proofs.Played.{are_left, are_played, front_of_threads, front_played, left_by, played}
 
 -- the events of steps and of further ones
-events_more : (n : ℕ) (xs ys : List (ℕ × Entry)) → events_behind n (xs ++ ys) ≡ events_behind n xs ++ events_behind (n + length xs) ys
+events_more : (n : ℕ) (xs ys : List (ℕ × Entry))
+    → events_behind n (xs ++ ys) ≡ events_behind n xs ++ events_behind (n + length xs) ys
 events_more n [] ys = ap (λ m. events_behind m ys) (let same : n ≡ n + 0 = omega arith in same)
 events_more n (x ∷ xs) ys =
-    ap (λ es. event_of (n + 1) x.0 x.1.outcome ++ es) (events_more (n + 1) xs ys ∙ ap (λ m. events_behind (n + 1) xs ++ events_behind m ys) (let same : n + 1 + length xs ≡ n + length (x ∷ xs) = omega arith in same))
-    ∙ sym (append_assoc (event_of (n + 1) x.0 x.1.outcome) (events_behind (n + 1) xs) (events_behind (n + length (x ∷ xs)) ys))
+    ap (λ es. event_of (n + 1) x.0 x.1.outcome ++ es)
+    (events_more (n + 1) xs ys ∙ ap (λ m. events_behind (n + 1) xs ++ events_behind m ys) (let same : n + 1 + length xs ≡ n + length (x ∷ xs) = omega arith in same))
+    ∙ sym
+    (append_assoc (event_of (n + 1) x.0 x.1.outcome) (events_behind (n + 1) xs) (events_behind (n + length (x ∷ xs)) ys))
 
 module _ (p : Program) (w first : List ℕ) (plan : Plan) where
   -- the first steps by the plan
@@ -51,39 +54,48 @@ module _ (p : Program) (w first : List ℕ) (plan : Plan) where
   more_plays n m less =
       let all : m ≡ n + (m - n) = omega (arith, less) in
       let (js, threads) = front_of_threads (thread_schedule plan.seed) p.threads n (m - n) in
-      let (zs, same) = front_played p w first (opening_actor p) (threads_by (thread_schedule plan.seed) p.threads n) js in
+      let (zs, same) =
+      front_played p w first (opening_actor p) (threads_by (thread_schedule plan.seed) p.threads n) js in
       (zs, ap plays all ∙ ap (played p w first (opening_actor p)) threads ∙ same)
 
-  not_longer : (xs ys : List (ℕ × Entry)) (why end : End) → xs ≡ plays (length xs) → ys ≡ plays (length ys) → length ys ≤ plan.stop.steps
+  not_longer : (xs ys : List (ℕ × Entry)) (why end : End) → xs ≡ plays (length xs) → ys ≡ plays (length ys)
+      → length ys ≤ plan.stop.steps
       → IsEnded plan.stop (length xs) (length xs) (events_behind 0 xs) why → IsEnded plan.stop (length ys) (length ys) (events_behind 0 ys) end → length xs < length ys → ⊥
   not_longer xs ys why end x y few ended later less =
       let (zs, more) = more_plays (length xs) (length ys) less in
       let is : ys ≡ xs ++ zs = y ∙ more ∙ ap (λ fs. fs ++ zs) (sym x) in
-      no_later plan.stop (length xs) (length ys) (events_behind 0 xs) (events_behind (0 + length xs) zs) why end less few ended
+      no_later plan.stop (length xs) (length ys) (events_behind 0 xs)
+      (events_behind (0 + length xs) zs) why end less few ended
       (subst (λ (es : List (ℕ × ℕ × Event)). IsEnded plan.stop (length ys) (length ys) es end) (ap (events_behind 0) is ∙ events_more 0 xs zs) later)
 
-module _ (w : List ℕ) (p : Program) (plan : Plan) (xs ys : List (ℕ × Entry)) (why end : End) (words others : List ℕ) (s t : State) (v : IsValid w)
+module _ (w : List ℕ) (p : Program) (plan : Plan) (xs ys : List (ℕ × Entry)) (why end : End)
+    (words others : List ℕ) (s t : State) (v : IsValid w)
     (x : IsRun w p plan xs why words s) (y : IsRun w p plan ys end others t) where
   same_first : y.steps.first ≡ x.steps.first
   same_first = one_opening p w v y.steps.first x.steps.first y.steps.opens x.steps.opens
 
   x_plays : xs ≡ plays p w x.steps.first plan (length xs)
   x_plays =
-      are_played p w x.steps.first [] _ opening_watches xs words s x.steps.watches (opening_actor p) x.steps.steps x.follow
+      are_played p w x.steps.first [] _ opening_watches xs words s x.steps.watches
+      (opening_actor p) x.steps.steps x.follow
       ∙ ap (played p w x.steps.first (opening_actor p)) x.threads
 
   y_plays : ys ≡ plays p w x.steps.first plan (length ys)
   y_plays =
-      are_played p w y.steps.first [] _ opening_watches ys others t y.steps.watches (opening_actor p) y.steps.steps y.follow
+      are_played p w y.steps.first [] _ opening_watches ys others t y.steps.watches
+      (opening_actor p) y.steps.steps y.follow
       ∙ ap (played p w y.steps.first (opening_actor p)) y.threads
       ∙ ap (λ first. plays p w first plan (length ys)) same_first
 
   as_long : length xs ≡ length ys
   as_long = go (cases_lt (length xs) (length ys)) (cases_lt (length ys) (length xs))
     where
-      go : (length xs < length ys) ⊎ (length ys ≤ length xs) → (length ys < length xs) ⊎ (length xs ≤ length ys) → length xs ≡ length ys
-      go (inl less) m = absurd (not_longer p w x.steps.first plan xs ys why end x_plays y_plays y.few x.ended y.ended less)
-      go (inr more) (inl less) = absurd (not_longer p w x.steps.first plan ys xs end why y_plays x_plays x.few y.ended x.ended less)
+      go : (length xs < length ys) ⊎ (length ys ≤ length xs)
+          → (length ys < length xs) ⊎ (length xs ≤ length ys) → length xs ≡ length ys
+      go (inl less) m =
+          absurd (not_longer p w x.steps.first plan xs ys why end x_plays y_plays y.few x.ended y.ended less)
+      go (inr more) (inl less) =
+          absurd (not_longer p w x.steps.first plan ys xs end why y_plays x_plays x.few y.ended x.ended less)
       go (inr more) (inr least) = omega (arith, more, least)
 
   same_entries : xs ≡ ys
@@ -109,10 +121,12 @@ valid_family p k w fam =
     family_valid k p.threads w some (omega (arith, few)) fam
 
 pub runs_determined : RunsAreDetermined
-runs_determined k w p plan xs ys why end words others s t fam x y = is_one w p plan xs ys why end words others s t (valid_family p k w fam) x y
+runs_determined k w p plan xs ys why end words others s t fam x y =
+    is_one w p plan xs ys why end words others s t (valid_family p k w fam) x y
 
 -- two runs of one program by a plan leave one core and one text
-stopped_one : (p : Program) (plan : Plan) (core text other said : List ℕ) → IsStopped p plan core text → IsStopped p plan other said → (core ≡ other) × (text ≡ said)
+stopped_one : (p : Program) (plan : Plan) (core text other said : List ℕ) → IsStopped p plan core text
+    → IsStopped p plan other said → (core ≡ other) × (text ≡ said)
 stopped_one p plan core text other said a b =
     let same = one_family plan.layout p.threads b.w a.w b.family a.family in
     let one = is_one a.w p plan a.entries b.entries a.end b.end a.words b.words a.state b.state a.valid a.run
@@ -122,14 +136,19 @@ stopped_one p plan core text other said a b =
     )
 
 pub stops_determined : StopsAreDetermined
-stops_determined plan script core text other said (p, g, a) (q, h, b) = stopped_one p plan core text other said a (subst (λ (z : Program). IsStopped z plan other said) (one_program script q p h g) b)
+stops_determined plan script core text other said (p, g, a) (q, h, b) =
+    stopped_one p plan core text other said a
+    (subst (λ (z : Program). IsStopped z plan other said) (one_program script q p h g) b)
 
 made_one : (n : ℕ) (p : Program) (line said : List ℕ) → IsMade n p line → IsMade n p said → line ≡ said
 made_one n p line said a b =
     let same = one_family make_plan.layout p.threads b.w a.w b.family a.family in
     let one = is_one a.w p make_plan a.entries b.entries a.end b.end a.words b.words a.state b.state (valid_family p make_plan.layout a.w a.family) a.run
     (subst (λ w. IsRun w p make_plan b.entries b.end b.words b.state) same b.run) in
-    a.line_is ∙ ap (λ zs. made_line n (count_of TaskBegin (events_behind 0 zs)) a.end) one.entries ∙ ap (made_line n (count_of TaskBegin (events_behind 0 b.entries))) one.end_is ∙ sym b.line_is
+    a.line_is
+    ∙ ap (λ zs. made_line n (count_of TaskBegin (events_behind 0 zs)) a.end) one.entries
+    ∙ ap (made_line n (count_of TaskBegin (events_behind 0 b.entries))) one.end_is
+    ∙ sym b.line_is
 
 pub makes_determined : MakesAreDetermined
 makes_determined n script line other said (is, (p, g, a)) (same, (q, h, b)) =

@@ -43,16 +43,20 @@ code_refusal (error.Refused addr (OutOfRecord f)) = refl
 code_refusal (error.Refused addr (BadArena p)) = refl
 
 -- the words give no layout, or a callback failed
-pub open_refused : (core : CoreImage) (told : Told) (rc : Rc) → told ≡ told_by core → ((memory : Words) → Tells told memory → told.sizes ≡ usual_sizes → Refuses memory rc)
+pub open_refused : (core : CoreImage) (told : Told) (rc : Rc) → told ≡ told_by core
+    → ((memory : Words) → Tells told memory → told.sizes ≡ usual_sizes → Refuses memory rc)
     → IsUnopened core (refusal_of_code rc)
-open_refused core told rc is words = go rc (words (words_of_core core) (tells_core core told is) (ap (λ (t : Told). t.sizes) is))
+open_refused core told rc is words =
+    go rc (words (words_of_core core) (tells_core core told is) (ap (λ (t : Told). t.sizes) is))
   where
     by_cause : (r : Rc) → IsCause (words_of_core core) r → IsRefusedCore core (refusal_of_code r)
-    by_cause r cause = inl (cause.error, cause.gives_none, ap refusal_of_code cause.is ∙ code_refusal cause.error)
+    by_cause r cause =
+        inl (cause.error, cause.gives_none, ap refusal_of_code cause.is ∙ code_refusal cause.error)
 
     go : (r : Rc) → Refuses (words_of_core core) r → IsUnopened core (refusal_of_code r)
     go code.Incompatible refuses = inl (by_cause code.Incompatible (refuses (λ failed. cc failed)))
-    go (code.Error addr field) refuses = inl (by_cause (code.Error addr field) (refuses (λ failed. cc failed)))
+    go (code.Error addr field) refuses =
+        inl (by_cause (code.Error addr field) (refuses (λ failed. cc failed)))
     go r refuses = inr refl
 
 -- a core over which there is no session has no view
@@ -79,11 +83,15 @@ Walked core (Err (walk.Cycle addr)) = IsLooked core (Err (look.Cycle addr))
 Walked core (Err walk.Callback) = Unit {0}
 Walked core (Err walk.OutOfMemory) = Unit {0}
 
-pub walked : (core : CoreImage) (told : Told) (w contexts : List ℕ) (result : Result View WalkFault) → told ≡ told_by core → contexts ≡ core.contexts → IsValid w → GivesLayout (words_of_core core) w
+pub walked : (core : CoreImage) (told : Told) (w contexts : List ℕ) (result : Result View WalkFault)
+    → told ≡ told_by core → contexts ≡ core.contexts → IsValid w → GivesLayout (words_of_core core) w
     → ((memory : Words) → Tells told memory → Gives result (look_view w memory contexts)) → Walked core result
-walked core told w contexts result is same valid layout looks = go result (subst (λ (ids : List ℕ). Gives result (look_view w (words_of_core core) ids)) same (looks (words_of_core core) (tells_core core told is)))
+walked core told w contexts result is same valid layout looks =
+    go result
+    (subst (λ (ids : List ℕ). Gives result (look_view w (words_of_core core) ids)) same (looks (words_of_core core) (tells_core core told is)))
   where
-    go : (r : Result View WalkFault) → Gives r (look_view w (words_of_core core) core.contexts) → Walked core r
+    go : (r : Result View WalkFault) → Gives r (look_view w (words_of_core core) core.contexts)
+        → Walked core r
     go (Ok v) gives = record { w = w; valid = valid; layout = layout; is = gives }
     go (Err (walk.Damaged addr field)) gives = record { w = w; valid = valid; layout = layout; is = gives }
     go (Err (walk.Cycle addr)) gives = record { w = w; valid = valid; layout = layout; is = gives }
@@ -91,7 +99,8 @@ walked core told w contexts result is same valid layout looks = go result (subst
     go (Err walk.OutOfMemory) gives = tt
 
 -- the answer of a walk is a view of the core's words, or says why there is none
-pub walk_viewed : (core : CoreImage) (result : Result View WalkFault) → Walked core result → IsViewed core (handed_on result)
+pub walk_viewed : (core : CoreImage) (result : Result View WalkFault) → Walked core result
+    → IsViewed core (handed_on result)
 walk_viewed core (Ok v) looked = looked
 walk_viewed core (Err (walk.Damaged addr field)) looked = inl (inr (look.Damaged addr field, looked, refl))
 walk_viewed core (Err (walk.Cycle addr)) looked = inl (inr (look.Cycle addr, looked, refl))

@@ -13,7 +13,8 @@ use Rattle.omi_verbs.specs.declared.refusal.Refusal.{Refusal}
 use Rattle.omi_verbs.specs.declared.refusal.Refusal.TheVariants as refusal
 
 -- a fault before `show` reads is one behind the core that was written
-read_back : (plan : Plan) (script core : List ℕ) (r : Refusal) → IsEarly (Show core) r → IsBehind (Run plan script core) r
+read_back : (plan : Plan) (script core : List ℕ) (r : Refusal) → IsEarly (Show core) r
+    → IsBehind (Run plan script core) r
 read_back plan script core (refusal.ReadFault input.Script) is = is
 read_back plan script core (refusal.ReadFault input.Core) is = tt
 read_back plan script core refusal.OutOfMemory is = tt
@@ -31,16 +32,19 @@ shows_last plan script core (refusal.Script fault) words text is = text refl
 shows_last plan script core r words text is = is
 
 -- `show` writes nothing
-show_writes_none : (content : Option (List ℕ)) (bytes : List ℕ) (says : Result (List ℕ) Refusal) → IsShowAnswer content (Gives (Some bytes) says) → ⊥
+show_writes_none : (content : Option (List ℕ)) (bytes : List ℕ) (says : Result (List ℕ) Refusal)
+    → IsShowAnswer content (Gives (Some bytes) says) → ⊥
 show_writes_none None bytes (Ok text) is = is
 show_writes_none None bytes (Err r) is = is
 show_writes_none (Some core) bytes (Ok text) is = is
 show_writes_none (Some core) bytes (Err r) is = is
 
-module _ (plan : Plan) (script core : List ℕ) (told : List ℕ → Told) (content : Option (List ℕ)) (is : told core ≡ Some content) where
+module _ (plan : Plan) (script core : List ℕ) (told : List ℕ → Told) (content : Option (List ℕ))
+    (is : told core ≡ Some content) where
   -- the core that `stop` wrote
   module _ (lines : Vec ℕ) (old new : Told) where
-    pub written_by_stop : IsAnswered (Stop plan script core) told (Ok lines) old new → IsWritten (Run plan script core) told old new
+    pub written_by_stop : IsAnswered (Stop plan script core) told (Ok lines) old new
+        → IsWritten (Run plan script core) told old new
     written_by_stop (Some written, answer, held) = (written, (Ok lines.items, answer), held)
     written_by_stop (None, (text, here, answer), held) = absurd (go text answer)
       where
@@ -49,31 +53,43 @@ module _ (plan : Plan) (script core : List ℕ) (told : List ℕ → Told) (cont
         go (Some bytes) said = said
 
     -- memory runs out behind it
-    pub no_memory : IsAnswered (Stop plan script core) told (Ok lines) old new → IsAnswered (Run plan script core) told (Err refusal.OutOfMemory) old new
+    pub no_memory : IsAnswered (Stop plan script core) told (Ok lines) old new
+        → IsAnswered (Run plan script core) told (Err refusal.OutOfMemory) old new
     no_memory stopped = inr (inr (inr (tt, written_by_stop stopped)))
 
     -- `show` is refused, or fails
-    pub show_failed : (r : Refusal) (before after : Told) → IsAnswered (Stop plan script core) told (Ok lines) old new → IsAnswered (Show core) told (Err r) before after
+    pub show_failed : (r : Refusal) (before after : Told)
+        → IsAnswered (Stop plan script core) told (Ok lines) old new
+        → IsAnswered (Show core) told (Err r) before after
         → IsAnswered (Run plan script core) told (Err r) old new
     show_failed r before after (Some written, (text, here, answer), held) (inl (None, (found, there, said), same)) =
         inl (Some written, (text, here, found, there, (lines.items, answer, said)), held)
-    show_failed r before after stopped (inl (Some bytes, (found, there, said), same)) = absurd (show_writes_none found bytes (Err r) said)
-    show_failed r before after stopped (inr (inl (first, same))) = inr (inr (inr (read_back plan script core r first, written_by_stop stopped)))
-    show_failed r before after stopped (inr (inr (inl (late, (bytes, (says, (found, there, said)), cut))))) = absurd (show_writes_none found bytes says said)
-    show_failed r before after stopped (inr (inr (inr (behind, whole)))) = absurd (show_never_behind core r behind)
-    show_failed r before after (None, (text, here, answer), held) (inl (None, (found, there, said), same)) = absurd (go text answer)
+    show_failed r before after stopped (inl (Some bytes, (found, there, said), same)) =
+        absurd (show_writes_none found bytes (Err r) said)
+    show_failed r before after stopped (inr (inl (first, same))) =
+        inr (inr (inr (read_back plan script core r first, written_by_stop stopped)))
+    show_failed r before after stopped (inr (inr (inl (late, (bytes, (says, (found, there, said)), cut))))) =
+        absurd (show_writes_none found bytes says said)
+    show_failed r before after stopped (inr (inr (inr (behind, whole)))) =
+        absurd (show_never_behind core r behind)
+    show_failed r before after (None, (text, here, answer), held) (inl (None, (found, there, said), same)) =
+        absurd (go text answer)
       where
         go : (t : Option (List ℕ)) → IsStopAnswer plan t (Gives None (Ok lines.items)) → ⊥
         go None said = said
         go (Some bytes) said = said
 
     -- the report is put behind the lines
-    pub shown_behind : (report text : Vec ℕ) (before after : Told) → text.items ≡ lines.items ++ report.items → IsAnswered (Stop plan script core) told (Ok lines) old new → IsAnswered (Show core) told (Ok report) before after
+    pub shown_behind : (report text : Vec ℕ) (before after : Told) → text.items ≡ lines.items ++ report.items
+        → IsAnswered (Stop plan script core) told (Ok lines) old new
+        → IsAnswered (Show core) told (Ok report) before after
         → IsAnswered (Run plan script core) told (Ok text) old new
     shown_behind report text before after joined (Some written, (script_text, here, answer), held) (None, (found, there, said), same) =
         (Some written, (script_text, here, found, there, (lines.items, answer, (report.items, said, joined))), held)
-    shown_behind report text before after joined stopped (Some bytes, (found, there, said), same) = absurd (show_writes_none found bytes (Ok report.items) said)
-    shown_behind report text before after joined (None, (script_text, here, answer), held) (None, (found, there, said), same) = absurd (go script_text answer)
+    shown_behind report text before after joined stopped (Some bytes, (found, there, said), same) =
+        absurd (show_writes_none found bytes (Ok report.items) said)
+    shown_behind report text before after joined (None, (script_text, here, answer), held) (None, (found, there, said), same) =
+        absurd (go script_text answer)
       where
         go : (t : Option (List ℕ)) → IsStopAnswer plan t (Gives None (Ok lines.items)) → ⊥
         go None said = said

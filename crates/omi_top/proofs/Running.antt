@@ -42,11 +42,18 @@ made_run p plan ran r =
     let (added, ends) = r.run in
     let program : last.program ≡ p = added.program ∙ r.opens.program in
     let table : last.table ≡ r.w = added.table ∙ r.opens.table in
-    let all : last.made.items ≡ added.made = added.made_are ∙ ap (λ (ms : List Made). ms ++ added.made) r.opens.made in
+    let all : last.made.items ≡ added.made =
+    added.made_are ∙ ap (λ (ms : List Made). ms ++ added.made) r.opens.made in
     let many : length added.made ≡ length xs = ap length (sym all ∙ h.made_by.made) ∙ made_length xs in
-    let events : added.events ≡ events_behind 0 xs = sym (added.events_are ∙ ap (λ (es : List (ℕ × ℕ × Event)). es ++ added.events) r.opens.events) ∙ h.made_by.events in
-    let steps : AreStepsOf p r.w xs last.words s = subst (λ (q : Program). AreStepsOf q r.w xs last.words s) program (subst (λ t. AreStepsOf last.program t xs last.words s) table h.made_by.steps) in
-    let reached : Reached p (events_in (events_behind 0 xs)) s = subst (λ (es : List (ℕ × ℕ × Event)). Reached p (events_in es) s) h.made_by.events (subst (λ (q : Program). Reached q (events_in last.events.items) s) program h.reached) in
+    let events : added.events ≡ events_behind 0 xs =
+    sym (added.events_are ∙ ap (λ (es : List (ℕ × ℕ × Event)). es ++ added.events) r.opens.events)
+    ∙ h.made_by.events in
+    let steps : AreStepsOf p r.w xs last.words s =
+    subst (λ (q : Program). AreStepsOf q r.w xs last.words s) program
+    (subst (λ t. AreStepsOf last.program t xs last.words s) table h.made_by.steps) in
+    let reached : Reached p (events_in (events_behind 0 xs)) s =
+    subst (λ (es : List (ℕ × ℕ × Event)). Reached p (events_in es) s) h.made_by.events
+    (subst (λ (q : Program). Reached q (events_in last.events.items) s) program h.reached) in
     let long = h.tables.long in
     record {
       entries = xs;
@@ -58,7 +65,8 @@ made_run p plan ran r =
             sym (kept_threads xs)
             ∙ ap (map (λ (m : Made). m.thread)) (sym (sym all ∙ h.made_by.made))
             ∙ added.threads
-            ∙ ap (λ (q : Program). threads_by (thread_schedule plan.seed) q.threads (length added.made)) r.opens.program
+            ∙ ap
+            (λ (q : Program). threads_by (thread_schedule plan.seed) q.threads (length added.made)) r.opens.program
             ∙ ap (threads_by (thread_schedule plan.seed) p.threads) many;
         few = subst (λ n. n ≤ plan.stop.steps) many added.within;
         ended =

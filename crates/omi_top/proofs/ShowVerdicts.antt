@@ -34,7 +34,8 @@ HasFault bytes = (at : ℕ) × (why : CoreFault) × CoreRefused bytes at why
 pub one_looked : (core : CoreImage) (x y : Look View) → IsLooked core x → IsLooked core y → x ≡ y
 one_looked core x y a b =
     sym a.is
-    ∙ ap (λ (w : List ℕ). look_view w (words_of_core core) core.contexts) (one_layout (words_of_core core) a.w b.w a.layout b.layout)
+    ∙ ap (λ (w : List ℕ). look_view w (words_of_core core) core.contexts)
+    (one_layout (words_of_core core) a.w b.w a.layout b.layout)
     ∙ b.is
 
 one_fault : (e f : LookFault) → (let failed : LookFault → Look View = λ x. Err x in failed e ≡ failed f) → e ≡ f
@@ -47,32 +48,47 @@ view_no_fault : (v : View) (e : LookFault) → (let gives : Look View = Ok v in 
 view_no_fault v e same = cc
 
 one_of_core : (core : CoreImage) (r s : Refusal) → IsRefusedCore core r → IsRefusedCore core s → r ≡ s
-one_of_core core r s (inl (e, a, p)) (inl (f, b, q)) = p ∙ ap refusal_of_layout (one_cause (words_of_core core) e f a b) ∙ sym q
-one_of_core core r s (inl (e, a, p)) (inr (f, b, q)) = absurd (not_both (words_of_core core) b.w e b.valid b.layout a)
-one_of_core core r s (inr (e, a, p)) (inl (f, b, q)) = absurd (not_both (words_of_core core) a.w f a.valid a.layout b)
-one_of_core core r s (inr (e, a, p)) (inr (f, b, q)) = p ∙ ap refusal_of_look (one_fault e f (one_looked core (Err e) (Err f) a b)) ∙ sym q
+one_of_core core r s (inl (e, a, p)) (inl (f, b, q)) =
+    p ∙ ap refusal_of_layout (one_cause (words_of_core core) e f a b) ∙ sym q
+one_of_core core r s (inl (e, a, p)) (inr (f, b, q)) =
+    absurd (not_both (words_of_core core) b.w e b.valid b.layout a)
+one_of_core core r s (inr (e, a, p)) (inl (f, b, q)) =
+    absurd (not_both (words_of_core core) a.w f a.valid a.layout b)
+one_of_core core r s (inr (e, a, p)) (inr (f, b, q)) =
+    p ∙ ap refusal_of_look (one_fault e f (one_looked core (Err e) (Err f) a b)) ∙ sym q
 
 -- the refusal of a file's bytes
 abbrev said_by : {A : Type 0} → Result A Reason → Refusal
 said_by (Err reason) = refusal.Core reason.0 reason.1
 said_by (Ok x) = refusal.Usage
 
-pub one_refusal : (content : Option (List ℕ)) (r s : Refusal) → IsShowRefusal content r → IsShowRefusal content s → r ≡ s
+pub one_refusal : (content : Option (List ℕ)) (r s : Refusal) → IsShowRefusal content r
+    → IsShowRefusal content s → r ≡ s
 one_refusal None r s p q = p ∙ sym q
-one_refusal (Some bytes) r s (inl (at, why, a, p)) (inl (place, fault, b, q)) = p ∙ ap said_by (sym a ∙ b) ∙ sym q
-one_refusal (Some bytes) r s (inl (at, why, a, p)) (inr (core, spelled, b)) = absurd (core_not_refused bytes (core, spelled) (at, why, a))
-one_refusal (Some bytes) r s (inr (core, spelled, a)) (inl (at, why, b, q)) = absurd (core_not_refused bytes (core, spelled) (at, why, b))
+one_refusal (Some bytes) r s (inl (at, why, a, p)) (inl (place, fault, b, q)) =
+    p ∙ ap said_by (sym a ∙ b) ∙ sym q
+one_refusal (Some bytes) r s (inl (at, why, a, p)) (inr (core, spelled, b)) =
+    absurd (core_not_refused bytes (core, spelled) (at, why, a))
+one_refusal (Some bytes) r s (inr (core, spelled, a)) (inl (at, why, b, q)) =
+    absurd (core_not_refused bytes (core, spelled) (at, why, b))
 one_refusal (Some bytes) r s (inr (core, spelled, a)) (inr (other, also, b)) =
-    one_of_core core r s a (subst (λ (c : CoreImage). IsRefusedCore c s) (core_unique bytes other core also spelled) b)
+    one_of_core core r s a
+    (subst (λ (c : CoreImage). IsRefusedCore c s) (core_unique bytes other core also spelled) b)
 
-looked_not_refused : (core : CoreImage) (v : View) (r : Refusal) → IsLooked core (Ok v) → IsRefusedCore core r → ⊥
-looked_not_refused core v r looked (inl (e, a, p)) = not_both (words_of_core core) looked.w e looked.valid looked.layout a
-looked_not_refused core v r looked (inr (e, a, p)) = view_no_fault v e (one_looked core (Ok v) (Err e) looked a)
+looked_not_refused : (core : CoreImage) (v : View) (r : Refusal) → IsLooked core (Ok v) → IsRefusedCore core r
+    → ⊥
+looked_not_refused core v r looked (inl (e, a, p)) =
+    not_both (words_of_core core) looked.w e looked.valid looked.layout a
+looked_not_refused core v r looked (inr (e, a, p)) =
+    view_no_fault v e (one_looked core (Ok v) (Err e) looked a)
 
-pub report_not_refused : (bytes : List ℕ) (v : View) (r : Refusal) → Spells bytes (λ core. IsLooked core (Ok v)) → IsShowRefusal (Some bytes) r → ⊥
-report_not_refused bytes v r (core, spelled, looked) (inl (at, why, a, p)) = core_not_refused bytes (core, spelled) (at, why, a)
+pub report_not_refused : (bytes : List ℕ) (v : View) (r : Refusal)
+    → Spells bytes (λ core. IsLooked core (Ok v)) → IsShowRefusal (Some bytes) r → ⊥
+report_not_refused bytes v r (core, spelled, looked) (inl (at, why, a, p)) =
+    core_not_refused bytes (core, spelled) (at, why, a)
 report_not_refused bytes v r (core, spelled, looked) (inr (other, also, a)) =
-    looked_not_refused core v r looked (subst (λ (c : CoreImage). IsRefusedCore c r) (core_unique bytes other core also spelled) a)
+    looked_not_refused core v r looked
+    (subst (λ (c : CoreImage). IsRefusedCore c r) (core_unique bytes other core also spelled) a)
 
 -- ---- the status of each
 
@@ -119,16 +135,24 @@ pub record SaysDamaged (bytes : List ℕ) (s : Status) : Type 0 where
 
 pub kinds : (bytes : List ℕ) (r : Refusal) → IsShowRefusal (Some bytes) r
     → SaysCore bytes (status_of r) ⊎ (SaysIncompatible bytes (status_of r) ⊎ SaysDamaged bytes (status_of r))
-kinds bytes r (inl (at, why, refused, same)) = inl (record { is = ap status_of same; fact = (at, why, refused) })
+kinds bytes r (inl (at, why, refused, same)) =
+    inl (record { is = ap status_of same; fact = (at, why, refused) })
 kinds bytes r (inr (core, spelled, inr (fault, looked, same))) =
-    inr (inr (record { is = ap status_of same ∙ look_status fault; fact = (core, spelled, inr (fault, looked)) }))
+    inr
+    (inr (record { is = ap status_of same ∙ look_status fault; fact = (core, spelled, inr (fault, looked)) }))
 kinds bytes r (inr (core, spelled, inl (e, none, same))) = go (either_table e)
   where
-    go : LacksTable e ⊎ IsWrongTable e → SaysCore bytes (status_of r) ⊎ (SaysIncompatible bytes (status_of r) ⊎ SaysDamaged bytes (status_of r))
-    go (inl lacks) = inr (inl (record { is = ap status_of same ∙ lacking_status e lacks; fact = (core, spelled, (e, none, lacks)) }))
-    go (inr wrong) = inr (inr (record { is = ap status_of same ∙ wrong_status e wrong; fact = (core, spelled, inl (e, none, wrong)) }))
+    go : LacksTable e ⊎ IsWrongTable e
+        → SaysCore bytes (status_of r) ⊎ (SaysIncompatible bytes (status_of r) ⊎ SaysDamaged bytes (status_of r))
+    go (inl lacks) =
+        inr
+        (inl (record { is = ap status_of same ∙ lacking_status e lacks; fact = (core, spelled, (e, none, lacks)) }))
+    go (inr wrong) =
+        inr
+        (inr (record { is = ap status_of same ∙ wrong_status e wrong; fact = (core, spelled, inl (e, none, wrong)) }))
 
-pub says_core : (bytes : List ℕ) (r : Refusal) → IsShowRefusal (Some bytes) r → status_of r ≡ status.Core → HasFault bytes
+pub says_core : (bytes : List ℕ) (r : Refusal) → IsShowRefusal (Some bytes) r → status_of r ≡ status.Core
+    → HasFault bytes
 says_core bytes r refuses is =
     elim (kinds bytes r refuses) [
       | inl k ↦ k.fact
@@ -136,7 +160,8 @@ says_core bytes r refuses is =
       | inr (inr k) ↦ let wrong : status.Damaged ≡ status.Core = sym k.is ∙ is in absurd (cc)
     ]
 
-pub says_incompatible : (bytes : List ℕ) (r : Refusal) → IsShowRefusal (Some bytes) r → status_of r ≡ status.Incompatible → Spells bytes IsIncompatible
+pub says_incompatible : (bytes : List ℕ) (r : Refusal) → IsShowRefusal (Some bytes) r
+    → status_of r ≡ status.Incompatible → Spells bytes IsIncompatible
 says_incompatible bytes r refuses is =
     elim (kinds bytes r refuses) [
       | inl k ↦ let wrong : status.Core ≡ status.Incompatible = sym k.is ∙ is in absurd (cc)
@@ -144,7 +169,8 @@ says_incompatible bytes r refuses is =
       | inr (inr k) ↦ let wrong : status.Damaged ≡ status.Incompatible = sym k.is ∙ is in absurd (cc)
     ]
 
-pub says_damaged : (bytes : List ℕ) (r : Refusal) → IsShowRefusal (Some bytes) r → status_of r ≡ status.Damaged → Spells bytes IsDamaged
+pub says_damaged : (bytes : List ℕ) (r : Refusal) → IsShowRefusal (Some bytes) r
+    → status_of r ≡ status.Damaged → Spells bytes IsDamaged
 says_damaged bytes r refuses is =
     elim (kinds bytes r refuses) [
       | inl k ↦ let wrong : status.Core ≡ status.Damaged = sym k.is ∙ is in absurd (cc)
@@ -153,7 +179,8 @@ says_damaged bytes r refuses is =
     ]
 
 -- a content that is refused as no file is none
-pub says_missing : (content : Option (List ℕ)) (r : Refusal) → IsShowRefusal content r → status_of r ≡ status.NoFile → content ≡ None
+pub says_missing : (content : Option (List ℕ)) (r : Refusal) → IsShowRefusal content r
+    → status_of r ≡ status.NoFile → content ≡ None
 says_missing None r refuses is = refl
 says_missing (Some bytes) r refuses is =
     elim (kinds bytes r refuses) [
@@ -173,12 +200,16 @@ pub faulty : (bytes : List ℕ) → HasFault bytes → Refusing (Some bytes) sta
 faulty bytes (at, why, refused) = (refusal.Core at why, inl (at, why, refused, refl), refl)
 
 pub incompatible : (bytes : List ℕ) → Spells bytes IsIncompatible → Refusing (Some bytes) status.Incompatible
-incompatible bytes (core, spelled, (e, none, lacks)) = (refusal_of_layout e, inr (core, spelled, inl (e, none, refl)), lacking_status e lacks)
+incompatible bytes (core, spelled, (e, none, lacks)) =
+    (refusal_of_layout e, inr (core, spelled, inl (e, none, refl)), lacking_status e lacks)
 
 pub damaged : (bytes : List ℕ) → Spells bytes IsDamaged → Refusing (Some bytes) status.Damaged
-damaged bytes (core, spelled, inl (e, none, wrong)) = (refusal_of_layout e, inr (core, spelled, inl (e, none, refl)), wrong_status e wrong)
-damaged bytes (core, spelled, inr (fault, looked)) = (refusal_of_look fault, inr (core, spelled, inr (fault, looked, refl)), look_status fault)
+damaged bytes (core, spelled, inl (e, none, wrong)) =
+    (refusal_of_layout e, inr (core, spelled, inl (e, none, refl)), wrong_status e wrong)
+damaged bytes (core, spelled, inr (fault, looked)) =
+    (refusal_of_look fault, inr (core, spelled, inr (fault, looked, refl)), look_status fault)
 
 -- nothing else is refused where a refusal with this status is
-pub all_refusing : (content : Option (List ℕ)) (s : Status) → Refusing content s → (r : Refusal) → IsShowRefusal content r → status_of r ≡ s
+pub all_refusing : (content : Option (List ℕ)) (s : Status) → Refusing content s → (r : Refusal)
+    → IsShowRefusal content r → status_of r ≡ s
 all_refusing content s (one, is, same) r refuses = ap status_of (one_refusal content r one refuses is) ∙ same

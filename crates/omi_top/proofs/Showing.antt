@@ -47,10 +47,12 @@ pub words_of_show : (r : Refusal) → ComesOfWords r → IsOfShow r
 words_of_show r comes = record { no_usage = usage r comes; no_write = write r comes; no_script = script r comes }
   where
     usage : (r : Refusal) → ComesOfWords r → r ≡ refusal.Usage → ⊥
-    usage r comes is = let P : Refusal → Type 0 = ComesOfWords in elim (subst P is comes) [ inl e ↦ cc e | inr e ↦ cc e ]
+    usage r comes is =
+        let P : Refusal → Type 0 = ComesOfWords in elim (subst P is comes) [ inl e ↦ cc e | inr e ↦ cc e ]
 
     write : (r : Refusal) → ComesOfWords r → r ≡ refusal.WriteFault → ⊥
-    write r comes is = let P : Refusal → Type 0 = ComesOfWords in elim (subst P is comes) [ inl e ↦ cc e | inr e ↦ cc e ]
+    write r comes is =
+        let P : Refusal → Type 0 = ComesOfWords in elim (subst P is comes) [ inl e ↦ cc e | inr e ↦ cc e ]
 
     script : (r : Refusal) → ComesOfWords r → status_of r ≡ status.Script → ⊥
     script refusal.Incompatible comes is = cc is
@@ -68,12 +70,15 @@ words_of_show r comes = record { no_usage = usage r comes; no_write = write r co
 
 -- an error is that there is no file
 abbrev pub IsNoFile : (X : Type 0) → PageError → Type 0
-IsNoFile X e = let error : Result X PageError = Err e in let none : Result X PageError = Err page.NoFile in error ≡ none
+IsNoFile X e =
+    let error : Result X PageError = Err e in let none : Result X PageError = Err page.NoFile in error ≡ none
 
 -- the file isn't opened
-pub show_unopened : (X : Type 0) (core : List ℕ) (told : List ℕ → Told) (content : Option (List ℕ)) (e : PageError) (old : Told) → told core ≡ Some content
+pub show_unopened : (X : Type 0) (core : List ℕ) (told : List ℕ → Told) (content : Option (List ℕ)) (e : PageError) (old : Told)
+    → told core ≡ Some content
     → (told core ≡ Some None → UnlessFreeError e (IsNoFile X e)) → ((bytes : List ℕ) → told core ≡ Some (Some bytes) → IsFaultOf bytes e) → IsAnswered (Show core) told (Err (refusal_of_page e)) old old
-show_unopened X core told (Some bytes) (page.Fault at why) old is missing fault = inl (None, (Some bytes, is, inl (at, why, fault bytes is, refl)), refl)
+show_unopened X core told (Some bytes) (page.Fault at why) old is missing fault =
+    inl (None, (Some bytes, is, inl (at, why, fault bytes is, refl)), refl)
 show_unopened X core told (Some bytes) page.NoFile old is missing fault = absurd (fault bytes is)
 show_unopened X core told None (page.Fault at why) old is missing fault = let never = missing is in absurd cc
 show_unopened X core told None page.NoFile old is missing fault = inl (None, (None, is, refl), refl)
@@ -81,7 +86,8 @@ show_unopened X core told content page.Failed old is missing fault = inr (inl (t
 show_unopened X core told content page.OutOfMemory old is missing fault = inr (inl (tt, refl))
 
 -- the file of a core is opened, and memory runs out
-pub show_stopped : (core : List ℕ) (told : List ℕ → Told) (old : Told) → IsAnswered (Show core) told (Err refusal.OutOfMemory) old old
+pub show_stopped : (core : List ℕ) (told : List ℕ → Told) (old : Told)
+    → IsAnswered (Show core) told (Err refusal.OutOfMemory) old old
 show_stopped core told old = inr (inl (tt, refl))
 
 -- the content of a file that was opened: it spells a core, and this is what comes of its words
@@ -93,9 +99,11 @@ pub record IsViewedFile (content : Option (List ℕ)) (result : Result View Refu
   pub viewed : IsViewed core result
 
 -- a file that is opened is a core, and its pages tell what the core tells
-pub file_viewed : (told pages : Told) (content : Option (List ℕ)) (contexts : List ℕ) (result : Result View Refusal) → told ≡ Some content → pages ≡ told
+pub file_viewed : (told pages : Told) (content : Option (List ℕ)) (contexts : List ℕ) (result : Result View Refusal)
+    → told ≡ Some content → pages ≡ told
     → (told ≡ Some None → ⊥) → ((bytes : List ℕ) → told ≡ Some (Some bytes) → IsCore bytes)
-    → ((bytes : List ℕ) (core : CoreImage) → told ≡ Some (Some bytes) → Core bytes core → contexts ≡ core.contexts)
+    →
+    ((bytes : List ℕ) (core : CoreImage) → told ≡ Some (Some bytes) → Core bytes core → contexts ≡ core.contexts)
     → ((core : CoreImage) → told_by_file pages ≡ told_by core → contexts ≡ core.contexts → IsViewed core result) → IsViewedFile content result
 file_viewed told pages None contexts result is same there cores ids viewed = absurd (there is)
 file_viewed told pages (Some bytes) contexts result is same there cores ids viewed =
@@ -108,16 +116,23 @@ file_viewed told pages (Some bytes) contexts result is same there cores ids view
       viewed = viewed core (tells_core pages bytes core (same ∙ is) spelled) (ids bytes core is spelled);
     }
 
-module _ (name : List ℕ) (told : List ℕ → Told) (content : Option (List ℕ)) (is : told name ≡ Some content) where
+module _ (name : List ℕ) (told : List ℕ → Told) (content : Option (List ℕ))
+    (is : told name ≡ Some content) where
   -- there is no view of the core's words
-  pub show_refused : (r : Refusal) (old : Told) → IsViewedFile content (Err r) → IsAnswered (Show name) told (Err r) old old
+  pub show_refused : (r : Refusal) (old : Told) → IsViewedFile content (Err r)
+      → IsAnswered (Show name) told (Err r) old old
   show_refused r old file = by_cause file.viewed
     where
       by_cause : IsViewed file.core (Err r) → IsAnswered (Show name) told (Err r) old old
-      by_cause (inl refused) = inl (None, (Some file.bytes, is ∙ ap Some file.is, inr (file.core, file.spelled, refused)), refl)
-      by_cause (inr (inl failed)) = inr (inl (subst (λ (x : Refusal). IsEarly (Show name) x) (sym failed) tt, refl))
-      by_cause (inr (inr memory)) = inr (inl (subst (λ (x : Refusal). IsEarly (Show name) x) (sym memory) tt, refl))
+      by_cause (inl refused) =
+          inl (None, (Some file.bytes, is ∙ ap Some file.is, inr (file.core, file.spelled, refused)), refl)
+      by_cause (inr (inl failed)) =
+          inr (inl (subst (λ (x : Refusal). IsEarly (Show name) x) (sym failed) tt, refl))
+      by_cause (inr (inr memory)) =
+          inr (inl (subst (λ (x : Refusal). IsEarly (Show name) x) (sym memory) tt, refl))
 
   -- the report of the view
-  pub show_reported : (v : View) (text : Vec ℕ) (old : Told) → IsViewedFile content (Ok v) → text.items ≡ report v → IsAnswered (Show name) told (Ok text) old old
-  show_reported v text old file same = (None, (Some file.bytes, is ∙ ap Some file.is, (v, (file.core, file.spelled, file.viewed), same)), refl)
+  pub show_reported : (v : View) (text : Vec ℕ) (old : Told) → IsViewedFile content (Ok v)
+      → text.items ≡ report v → IsAnswered (Show name) told (Ok text) old old
+  show_reported v text old file same =
+      (None, (Some file.bytes, is ∙ ap Some file.is, (v, (file.core, file.spelled, file.viewed), same)), refl)

@@ -43,14 +43,17 @@ text_more (Some core) text = tt
 pub one_content : (x : Told) (a b : Option (List ℕ)) → x ≡ Some a → x ≡ Some b → a ≡ b
 one_content x a b first second = cc
 
-module _ (command : Command) (told : List ℕ → Told) (old new : Told) (counted : Type 0) (out after : Option (List ℕ)) where
+module _ (command : Command) (told : List ℕ → Told) (old new : Told) (counted : Type 0)
+    (out after : Option (List ℕ)) where
   partly_more : IsPartlyDone command told old new out after → DidMore command told
   partly_more (inl ((bytes, is, cut), same)) = inr (bytes, is)
   partly_more (inr (core, text, is, held, cut)) = inl (Gives core (Ok text), text_more core text, is)
 
   -- a fault, a refusal, or more
-  pub kind : (s : Status) → IsLeft command told s old new counted out after → IsFaultStatus s ⊎ (SaysWith (IsAnswer command told) s ⊎ (DidMore command told × IsDoneStatus s))
-  kind status.Success (core, text, is, held, put) = inr (inr (inl (Gives core (Ok text), text_more core text, is), tt))
+  pub kind : (s : Status) → IsLeft command told s old new counted out after
+      → IsFaultStatus s ⊎ (SaysWith (IsAnswer command told) s ⊎ (DidMore command told × IsDoneStatus s))
+  kind status.Success (core, text, is, held, put) =
+      inr (inr (inl (Gives core (Ok text), text_more core text, is), tt))
   kind status.Usage (r, is, core, answer, held, said) = inr (inl (r, is, core, answer))
   kind status.NoFile (r, is, core, answer, held, said) = inr (inl (r, is, core, answer))
   kind status.ReadFault left = inl tt
@@ -62,7 +65,8 @@ module _ (command : Command) (told : List ℕ → Told) (old new : Told) (counte
   kind status.OutOfMemory left = inl tt
 
   -- a command of which no answer is a refusal ends well, or the outside fails
-  pub never_refused : ((core : Option (List ℕ)) (r : Refusal) → IsAnswer command told (Gives core (Err r)) → ⊥) → (s : Status) → IsLeft command told s old new counted out after → IsDoneOrFailed s
+  pub never_refused : ((core : Option (List ℕ)) (r : Refusal) → IsAnswer command told (Gives core (Err r)) → ⊥)
+      → (s : Status) → IsLeft command told s old new counted out after → IsDoneOrFailed s
   never_refused none status.Success left = tt
   never_refused none status.ReadFault left = tt
   never_refused none status.WriteFault left = tt
@@ -76,7 +80,9 @@ module _ (command : Command) (told : List ℕ → Told) (old new : Told) (counte
 
   -- The status of a refusal comes exactly where a fact holds, where R is what the command's refusals say and M what its other
   -- answers say: a refusal with this status says the fact, and where the fact holds, each refusal has this status and there is no other answer.
-  pub comes_where : (R : Refusal → Type 0) (M : Type 0) → ((core : Option (List ℕ)) (r : Refusal) → IsAnswer command told (Gives core (Err r)) → R r) → (DidMore command told → M)
+  pub comes_where : (R : Refusal → Type 0) (M : Type 0)
+      → ((core : Option (List ℕ)) (r : Refusal) → IsAnswer command told (Gives core (Err r)) → R r)
+      → (DidMore command told → M)
       → (refused s : Status) (fact : Type 0) → (IsFaultStatus refused → ⊥) → (IsDoneStatus refused → ⊥)
       → ((r : Refusal) → R r → status_of r ≡ refused → fact) → (fact → (r : Refusal) → R r → status_of r ≡ refused) → (fact → M → ⊥)
       → IsLeft command told s old new counted out after → ComesWhere refused s fact

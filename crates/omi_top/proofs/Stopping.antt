@@ -22,30 +22,41 @@ use Rattle.omi_verbs.proofs.Elsewhere.{late}
 use Rattle.omi_verbs.specs.declared.refusal.Input.TheVariants as input
 use Rattle.omi_verbs.specs.declared.refusal.Refusal.{Refusal}
 
-module _ (plan : Plan) (script core : List ℕ) (told : List ℕ → Told) (content : Option (List ℕ)) (is : told script ≡ Some content) where
+module _ (plan : Plan) (script core : List ℕ) (told : List ℕ → Told) (content : Option (List ℕ))
+    (is : told script ≡ Some content) where
   -- there is no program: the script is refused, can't be read, or memory ran out
-  pub refused_answered : (r : Refusal) (old : Told) → IsScriptRefusal content r ⊎ IsUnread input.Script r → IsAnswered (StopCommand plan script core) told (Err r) old old
+  pub refused_answered : (r : Refusal) (old : Told) → IsScriptRefusal content r ⊎ IsUnread input.Script r
+      → IsAnswered (StopCommand plan script core) told (Err r) old old
   refused_answered r old (inl refuses) = inl (None, (content, is, refuses), refl)
-  refused_answered r old (inr (inl failed)) = inr (inl (subst (λ (x : Refusal). IsEarly (StopCommand plan script core) x) (sym failed) tt, refl))
-  refused_answered r old (inr (inr memory)) = inr (inl (subst (λ (x : Refusal). IsEarly (StopCommand plan script core) x) (sym memory) tt, refl))
+  refused_answered r old (inr (inl failed)) =
+      inr (inl (subst (λ (x : Refusal). IsEarly (StopCommand plan script core) x) (sym failed) tt, refl))
+  refused_answered r old (inr (inr memory)) =
+      inr (inl (subst (λ (x : Refusal). IsEarly (StopCommand plan script core) x) (sym memory) tt, refl))
 
   module _ (p : Program) (holds : IsProgramIn content p) where
     -- the answer of a program's run
-    run_answer : (written text : List ℕ) → IsStopped p plan written text → IsAnswer (StopCommand plan script core) told (Gives (Some written) (Ok text))
+    run_answer : (written text : List ℕ) → IsStopped p plan written text
+        → IsAnswer (StopCommand plan script core) told (Gives (Some written) (Ok text))
     run_answer written text stopped = go content is holds
       where
-        go : (c : Option (List ℕ)) → told script ≡ Some c → IsProgramIn c p → IsAnswer (StopCommand plan script core) told (Gives (Some written) (Ok text))
+        go : (c : Option (List ℕ)) → told script ≡ Some c → IsProgramIn c p
+            → IsAnswer (StopCommand plan script core) told (Gives (Some written) (Ok text))
         go None is nothing = absurd nothing
         go (Some bytes) is grammar = (Some bytes, is, (p, grammar, stopped))
 
     -- the core is partly written
-    pub partly_answered : (written text : List ℕ) (r : RefusedWrite) (old new : Told) → IsStopped p plan written text → IsCut old new written
+    pub partly_answered : (written text : List ℕ) (r : RefusedWrite) (old new : Told)
+        → IsStopped p plan written text → IsCut old new written
         → IsAnswered (StopCommand plan script core) told (Err (refusal_of_write r)) old new
-    partly_answered written text r old new stopped cut = inr (inr (inl (late r, (written, (Ok text, run_answer written text stopped), cut))))
+    partly_answered written text r old new stopped cut =
+        inr (inr (inl (late r, (written, (Ok text, run_answer written text stopped), cut))))
 
     -- the core is written, and the text is handed up
-    pub done_answered : (written : List ℕ) (text : Vec ℕ) (old new : Told) → IsStopped p plan written text.items → new ≡ holding old written → IsAnswered (StopCommand plan script core) told (Ok text) old new
-    done_answered written text old new stopped held = (Some written, run_answer written text.items stopped, held)
+    pub done_answered : (written : List ℕ) (text : Vec ℕ) (old new : Told)
+        → IsStopped p plan written text.items → new ≡ holding old written
+        → IsAnswered (StopCommand plan script core) told (Ok text) old new
+    done_answered written text old new stopped held =
+        (Some written, run_answer written text.items stopped, held)
 
 -- ---- a run that was made
 
@@ -74,6 +85,7 @@ made_stopped p plan ran core text by bytes image lines =
     }
 
 -- a refused write is no refusal after which nothing was written
-pub never_unwritten : (command : Command) (r : RefusedWrite) → IsUnwritten command (status_of (refusal_of_write r)) → ⊥
+pub never_unwritten : (command : Command) (r : RefusedWrite)
+    → IsUnwritten command (status_of (refusal_of_write r)) → ⊥
 never_unwritten command refused.Failed unwritten = unwritten
 never_unwritten command refused.OutOfMemory unwritten = unwritten

@@ -5,16 +5,22 @@ use Rattle.std.specs.Fmt.{digit_glyph, digits, digits_onto}
 use Rattle.omi_text.specs.Numbers.{hexadecimal}
 
 -- the last digit that is left, and one of more
-digits_onto_last : (i n : ℕ) (acc : List ℕ) → 0 < i → n / 16 ≡ 0 → digits_onto i 16 false n acc ≡ digit_glyph false (n % 16) ∷ acc
+digits_onto_last : (i n : ℕ) (acc : List ℕ) → 0 < i → n / 16 ≡ 0
+    → digits_onto i 16 false n acc ≡ digit_glyph false (n % 16) ∷ acc
 digits_onto_last zero n acc some none = absurd (omega arith)
 digits_onto_last (suc k) n acc some none =
-    ap (λ (b : Bool). if b then digit_glyph false (n % 16) ∷ acc else digits_onto k 16 false (n / 16) (digit_glyph false (n % 16) ∷ acc)) (eq-eqb (n / 16) 0 none)
+    ap
+    (λ (b : Bool). if b then digit_glyph false (n % 16) ∷ acc else digits_onto k 16 false (n / 16) (digit_glyph false (n % 16) ∷ acc))
+    (eq-eqb (n / 16) 0 none)
 
-digits_onto_step : (i n : ℕ) (acc : List ℕ) → 0 < i → (n / 16 ≡ 0 → ⊥) → digits_onto i 16 false n acc ≡ digits_onto (i - 1) 16 false (n / 16) (digit_glyph false (n % 16) ∷ acc)
+digits_onto_step : (i n : ℕ) (acc : List ℕ) → 0 < i → (n / 16 ≡ 0 → ⊥)
+    → digits_onto i 16 false n acc ≡ digits_onto (i - 1) 16 false (n / 16) (digit_glyph false (n % 16) ∷ acc)
 digits_onto_step zero n acc some more = absurd (omega arith)
 digits_onto_step (suc k) n acc some more =
     let one : k ≡ suc k - 1 = omega arith in
-    ap (λ (b : Bool). if b then digit_glyph false (n % 16) ∷ acc else digits_onto k 16 false (n / 16) (digit_glyph false (n % 16) ∷ acc)) (ne_eqb (n / 16) 0 more)
+    ap
+    (λ (b : Bool). if b then digit_glyph false (n % 16) ∷ acc else digits_onto k 16 false (n / 16) (digit_glyph false (n % 16) ∷ acc))
+    (ne_eqb (n / 16) 0 more)
     ∙ ap (λ (j : ℕ). digits_onto j 16 false (n / 16) (digit_glyph false (n % 16) ∷ acc)) one
 
 -- what follows the digits
@@ -25,7 +31,8 @@ onto_append (suc k) n acc = go (λ more. onto_append k (n / 16) more) (n / 16 ==
     glyph : ℕ
     glyph = digit_glyph false (n % 16)
 
-    go : ((more : List ℕ) → digits_onto k 16 false (n / 16) more ≡ digits_onto k 16 false (n / 16) [] ++ more) → (b : Bool)
+    go : ((more : List ℕ) → digits_onto k 16 false (n / 16) more ≡ digits_onto k 16 false (n / 16) [] ++ more)
+        → (b : Bool)
         → (if b then glyph ∷ acc else digits_onto k 16 false (n / 16) (glyph ∷ acc)) ≡ (if b then glyph ∷ [] else digits_onto k 16 false (n / 16) (glyph ∷ [])) ++ acc
     go again true = refl
     go again false =
@@ -41,15 +48,20 @@ one_digit k n some small =
     digits_onto_last k n [] some none ∙ ap (λ (d : ℕ). digit_glyph false d ∷ []) same
 
 -- and one of more: its last digit stands behind those of a sixteenth
-pub last_digit : (k n : ℕ) → 0 < k → 16 ≤ n → digits_onto k 16 false n [] ≡ digits_onto (k - 1) 16 false (n / 16) [] ++ digit_glyph false (n % 16) ∷ []
+pub last_digit : (k n : ℕ) → 0 < k → 16 ≤ n
+    → digits_onto k 16 false n [] ≡ digits_onto (k - 1) 16 false (n / 16) [] ++ digit_glyph false (n % 16) ∷ []
 last_digit k n some great =
-    digits_onto_step k n [] some (λ none. omega (arith, great, none)) ∙ onto_append (k - 1) (n / 16) (digit_glyph false (n % 16) ∷ [])
+    digits_onto_step k n [] some (λ none. omega (arith, great, none))
+    ∙ onto_append (k - 1) (n / 16) (digit_glyph false (n % 16) ∷ [])
 
 -- more room for digits than there are changes nothing
-pub enough_digits : (j i n : ℕ) (acc : List ℕ) → 0 < j → j ≤ i → n < 16 ^ j → digits_onto i 16 false n acc ≡ digits_onto j 16 false n acc
+pub enough_digits : (j i n : ℕ) (acc : List ℕ) → 0 < j → j ≤ i → n < 16 ^ j
+    → digits_onto i 16 false n acc ≡ digits_onto j 16 false n acc
 enough_digits zero i n acc some room few = absurd (omega arith)
 enough_digits (suc j) i n acc some room few =
-    go (λ some_left few_left. enough_digits j (i - 1) (n / 16) (digit_glyph false (n % 16) ∷ acc) some_left (omega (arith, room)) few_left) (n / 16 == 0) refl
+    go
+    (λ some_left few_left. enough_digits j (i - 1) (n / 16) (digit_glyph false (n % 16) ∷ acc) some_left (omega (arith, room)) few_left)
+    (n / 16 == 0) refl
   where
     power : 16 ^ suc j ≡ 16 ^ j * 16
     power = pow-suc 16 j
@@ -62,7 +74,8 @@ enough_digits (suc j) i n acc some room few =
         → (b : Bool) → n / 16 == 0 ≡ b → digits_onto i 16 false n acc ≡ digits_onto (suc j) 16 false n acc
     go again true e =
         let none : n / 16 ≡ 0 = eqb-true (n / 16) 0 e in
-        digits_onto_last i n acc (omega (arith, room)) none ∙ sym (digits_onto_last (suc j) n acc (omega arith) none)
+        digits_onto_last i n acc (omega (arith, room)) none
+        ∙ sym (digits_onto_last (suc j) n acc (omega arith) none)
     go again false e =
         let more : n / 16 ≡ 0 → ⊥ = λ none. let wrong : n / 16 == 0 ≡ true = eq-eqb (n / 16) 0 none in cc in
         let great : 16 ≤ n = omega (arith, more) in
@@ -75,4 +88,6 @@ enough_digits (suc j) i n acc some room few =
 -- sixteen digits are enough for a word
 pub hexadecimal_is : (n : ℕ) → n < 2 ^ 64 → codes "0x" ++ digits_onto 16 16 false n [] ≡ hexadecimal n
 unfolding hexadecimal digits
-hexadecimal_is n small = ap (λ (xs : List ℕ). codes "0x" ++ xs) (sym (enough_digits 16 64 n [] (omega arith) (omega arith) (omega (arith, small))))
+hexadecimal_is n small =
+    ap (λ (xs : List ℕ). codes "0x" ++ xs)
+    (sym (enough_digits 16 64 n [] (omega arith) (omega arith) (omega (arith, small))))

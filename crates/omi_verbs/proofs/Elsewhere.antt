@@ -36,7 +36,8 @@ ends_elsewhere (Ok text) = false
 ends_elsewhere (Err r) = is_elsewhere r
 
 pub never_elsewhere : (r s : Refusal) → IsOfScript r → is_elsewhere s ≡ true → (let ended : Refusal → Result (Vec ℕ) Refusal = λ x. Err x in ended r ≡ ended s) → ⊥
-never_elsewhere r s said elsewhere is = let both : false ≡ true = sym (of_script r said) ∙ ap ends_elsewhere is ∙ elsewhere in cc both
+never_elsewhere r s said elsewhere is =
+    let both : false ≡ true = sym (of_script r said) ∙ ap ends_elsewhere is ∙ elsewhere in cc both
 
 pub never_of_core : (r : Refusal) → IsOfScript r → IsOfCore (status_of r) → ⊥
 never_of_core (refusal.NoFile read) is of_core = of_core
@@ -90,7 +91,8 @@ printing s (inr (inr e)) = ap is_printing e
 
 -- its status is none of another kind
 pub never_printing : (s other : Status) → IsPrinting s → is_printing other ≡ false → s ≡ other → ⊥
-never_printing s other printed not is = let both : false ≡ true = sym not ∙ ap is_printing (sym is) ∙ printing s printed in cc both
+never_printing s other printed not is =
+    let both : false ≡ true = sym not ∙ ap is_printing (sym is) ∙ printing s printed in cc both
 
 -- ---- the refusal that a status stands for
 
@@ -110,7 +112,8 @@ of_write refusal.WriteFault is = refl
 of_write r is = absurd (cc)
 
 -- want of memory has no line
-pub unsaid : (script core : List ℕ) (r : Refusal) (counted : Type 0) (old new : Option (List ℕ)) → IsSaid (refusal_line script core r) counted old new → status_of r ≡ status.OutOfMemory → new ≡ old
+pub unsaid : (script core : List ℕ) (r : Refusal) (counted : Type 0) (old new : Option (List ℕ))
+    → IsSaid (refusal_line script core r) counted old new → status_of r ≡ status.OutOfMemory → new ≡ old
 unsaid script core refusal.OutOfMemory counted old new said is = said
 unsaid script core r counted old new said is = absurd (cc)
 

@@ -18,11 +18,13 @@ no_name f past = get_or_past names f [] (omega (arith, past))
 
 short_named : (f : ℕ) → f ≤ 44 → (b : Bool) → is_short (field_text f) ≡ b → length (field_text f) ≤ 32
 short_named f within true short = leb-true (length (field_text f)) 32 short
-short_named f within false long = let wrong : true ≡ false = sym all_short ∙ list_all_at is_short names f [] (omega (arith, within)) long in absurd (cc)
+short_named f within false long =
+    let wrong : true ≡ false = sym all_short ∙ list_all_at is_short names f [] (omega (arith, within)) long in absurd (cc)
 
 pub short : (f : ℕ) → length (field_text f) ≤ 32
 short f = go (nat_le f 44) refl
   where
     go : (b : Bool) → nat_le f 44 ≡ b → length (field_text f) ≤ 32
     go true within = short_named f (leb-true f 44 within) (is_short (field_text f)) refl
-    go false past = let none : length (field_text f) ≡ 0 = ap (λ (name : List ℕ). length name) (no_name f (leb-false f 44 past)) in omega (arith, none)
+    go false past =
+        let none : length (field_text f) ≡ 0 = ap (λ (name : List ℕ). length name) (no_name f (leb-false f 44 past)) in omega (arith, none)

@@ -8,10 +8,12 @@ use Rattle.omi_corefile.specs.Limits.{rises_from}
 use Rattle.omi_numbers.specs.Words.{native_id}
 use Rattle.omi_verbs.specs.Cores.{thread_ids}
 
-rising_from : (n a least : ℕ) → least ≤ native_id a → IsTrue (rises_from least (map native_id (range_with_len a n)))
+rising_from : (n a least : ℕ) → least ≤ native_id a
+    → IsTrue (rises_from least (map native_id (range_with_len a n)))
 rising_from zero a least below = refl
 rising_from (suc n) a least below =
-    ap (λ b. b && rises_from (native_id a + 1) (map native_id (range_with_len (a + 1) n))) (le-leb least (native_id a) below)
+    ap (λ b. b && rises_from (native_id a + 1) (map native_id (range_with_len (a + 1) n)))
+    (le-leb least (native_id a) below)
     ∙ rising_from n (a + 1) (native_id a + 1) (omega arith)
 
 pub rising : (threads : ℕ) → IsTrue (rises_from 0 (thread_ids threads))

@@ -23,14 +23,17 @@ unfolding and_then
 and_then_over y (Ok front) m = mapped_over front y m
 and_then_over y (Err f) m = refl
 
-pub each_over : {A B : Type 0} (look : A → Look B) (xs ys : List A) → each look (xs ++ ys) ≡ and_then (each look xs) (λ front. mapped (λ back. front ++ back) (each look ys))
+pub each_over : {A B : Type 0} (look : A → Look B) (xs ys : List A)
+    → each look (xs ++ ys) ≡ and_then (each look xs) (λ front. mapped (λ back. front ++ back) (each look ys))
 unfolding and_then
 each_over look [] ys = mapped_same (each look ys)
 each_over look (x ∷ xs) ys = go (look x) (each_over look xs ys)
   where
-    go : (l : Look _) → each look (xs ++ ys) ≡ and_then (each look xs) (λ front. mapped (λ back. front ++ back) (each look ys))
+    go : (l : Look _)
+        → each look (xs ++ ys) ≡ and_then (each look xs) (λ front. mapped (λ back. front ++ back) (each look ys))
         → and_then l (λ y. mapped (λ more. y ∷ more) (each look (xs ++ ys)))
-        ≡ and_then (and_then l (λ y. mapped (λ more. y ∷ more) (each look xs))) (λ front. mapped (λ back. front ++ back) (each look ys))
+        ≡ and_then (and_then l (λ y. mapped (λ more. y ∷ more) (each look xs)))
+        (λ front. mapped (λ back. front ++ back) (each look ys))
     go (Err f) rest = refl
     go (Ok y) rest = ap (mapped (λ more. y ∷ more)) rest ∙ and_then_over y (each look xs) (each look ys)
 
@@ -43,20 +46,26 @@ module _ {A B C F : Type 0} (told : C → Told) (look : List ℕ → Words → A
   here s = record { table = record { same = refl; order = refl; to_host = refl }; layout = refl }
 
   -- looks that are the same in the layout of a session give the same
-  pub looks_as : {X : Type 0} (s : Opened C F) (r : Result X WalkFault) (a b : List ℕ → Words → Look X) → ((memory : Words) → a s.layout memory ≡ b s.layout memory) → Looks told s r a → Looks told s r b
+  pub looks_as : {X : Type 0} (s : Opened C F) (r : Result X WalkFault) (a b : List ℕ → Words → Look X)
+      → ((memory : Words) → a s.layout memory ≡ b s.layout memory) → Looks told s r a → Looks told s r b
   unfolding Looks
-  looks_as s r a b same gives = λ memory tells. same_gives r (a s.layout memory) (b s.layout memory) (same memory) (gives memory tells)
+  looks_as s r a b same gives =
+      λ memory tells. same_gives r (a s.layout memory) (b s.layout memory) (same memory) (gives memory tells)
 
   -- no row is added for no element
   pub added_none : (s : Opened C F) (rows : List B) → Added told s rows rows (at_each look [])
   added_none s rows = record { rows = []; is = sym (append-nil rows); gives = look_is told s [] }
 
   -- and rows that are added by one look are added by the other
-  pub added_as : (s : Opened C F) (old new : List B) (a b : List ℕ → Words → Look (List B)) → ((memory : Words) → a s.layout memory ≡ b s.layout memory) → Added told s old new a → Added told s old new b
+  pub added_as : (s : Opened C F) (old new : List B) (a b : List ℕ → Words → Look (List B))
+      → ((memory : Words) → a s.layout memory ≡ b s.layout memory) → Added told s old new a
+      → Added told s old new b
   added_as s old new a b same added = record { rows = added.rows; is = added.is; gives = looks_as s (Ok added.rows) a b same added.gives }
 
   -- the row of one element is added
-  pub added_one : (s : Opened C F) (rows : List B) (x : A) (y : B) → Looks told s (Ok y) (λ w memory. look w memory x) → Added told s rows (rows ++ y ∷ []) (at_each look (x ∷ []))
+  pub added_one : (s : Opened C F) (rows : List B) (x : A) (y : B)
+      → Looks told s (Ok y) (λ w memory. look w memory x)
+      → Added told s rows (rows ++ y ∷ []) (at_each look (x ∷ []))
   unfolding and_then
   added_one s rows x y first = record {
     rows = y ∷ [];
@@ -65,23 +74,31 @@ module _ {A B C F : Type 0} (told : C → Told) (look : List ℕ → Words → A
   }
 
   -- or the look at it is refused
-  pub one_stops : (s : Opened C F) (x : A) (f : WalkFault) → Looks {A = B} told s (Err f) (λ w memory. look w memory x) → Looks {A = List B} told s (Err f) (at_each look (x ∷ []))
-  one_stops s x f first = look_stops told s f (λ w memory. look w memory x) (λ w memory y. mapped (λ ys. y ∷ ys) (Ok [])) first
+  pub one_stops : (s : Opened C F) (x : A) (f : WalkFault)
+      → Looks {A = B} told s (Err f) (λ w memory. look w memory x)
+      → Looks {A = List B} told s (Err f) (at_each look (x ∷ []))
+  one_stops s x f first =
+      look_stops told s f (λ w memory. look w memory x) (λ w memory y. mapped (λ ys. y ∷ ys) (Ok [])) first
 
-  module _ (s t : Opened C F) (front one : List A) (a b : List B) (first : Added told s a b (at_each look front)) (stays : Stays told s t) where
+  module _ (s t : Opened C F) (front one : List A) (a b : List B)
+      (first : Added told s a b (at_each look front)) (stays : Stays told s t) where
     -- and rows that a later look gives are added to those before
-    pub added_then : (c : List B) → Added told t b c (at_each look one) → Added told s a c (at_each look (front ++ one))
+    pub added_then : (c : List B) → Added told t b c (at_each look one)
+        → Added told s a c (at_each look (front ++ one))
     added_then c second = record {
       rows = first.rows ++ second.rows;
       is = second.is ∙ ap (λ xs. xs ++ second.rows) first.is ∙ append_assoc a first.rows second.rows;
-      gives = looks_as s (Ok (first.rows ++ second.rows)) _ _ (λ memory. sym (each_over (look s.layout memory) front one))
+      gives =
+          looks_as s (Ok (first.rows ++ second.rows)) _ _
+          (λ memory. sym (each_over (look s.layout memory) front one))
           (look_then told s t first.rows (Ok (first.rows ++ second.rows)) (at_each look front) (λ w memory rows. mapped (λ back. rows ++ back) (at_each look one w memory)) first.gives stays
           (look_then told t t second.rows (Ok (first.rows ++ second.rows)) (at_each look one) (λ w memory back. Ok (first.rows ++ back)) second.gives (here t)
           (look_is told t (first.rows ++ second.rows))));
     }
 
     -- and one that is refused ends the whole
-    pub added_stops : (rest : List A) (f : WalkFault) → Looks {A = List B} told t (Err f) (at_each look one) → Looks {A = List B} told s (Err f) (at_each look (front ++ (one ++ rest)))
+    pub added_stops : (rest : List A) (f : WalkFault) → Looks {A = List B} told t (Err f) (at_each look one)
+        → Looks {A = List B} told s (Err f) (at_each look (front ++ (one ++ rest)))
     added_stops rest f second =
         looks_as s (Err f) _ _ (λ memory. sym (each_over (look s.layout memory) front (one ++ rest)))
         (look_then told s t first.rows (Err f) (at_each look front) (λ w memory rows. mapped (λ back. rows ++ back) (at_each look (one ++ rest) w memory)) first.gives stays

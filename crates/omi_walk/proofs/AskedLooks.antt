@@ -47,30 +47,37 @@ Same x y = x ≡ y
 
 module _ {A B D E : Type 0} (R : A → B → Type 0) (S : D → E → Type 0) (memory : Words) where
   -- one after the other
-  pub alike_then : (reads : Asks A) (more : A → Asks D) (l : Look B) (next : B → Look E) → Alike R (answer_on memory reads) l
-      → ((x : A) (y : B) → answer_on memory reads ≡ Ok x → l ≡ Ok y → R x y → Alike S (answer_on memory (more x)) (next y))
+  pub alike_then : (reads : Asks A) (more : A → Asks D) (l : Look B) (next : B → Look E)
+      → Alike R (answer_on memory reads) l
+      →
+      ((x : A) (y : B) → answer_on memory reads ≡ Ok x → l ≡ Ok y → R x y → Alike S (answer_on memory (more x)) (next y))
       → Alike S (answer_on memory (then_reads reads more)) (and_then l next)
   unfolding and_then
   alike_then reads more l next first rest =
-      subst (λ (a : Result D WalkFault). Alike S a (and_then l next)) (sym (answer_then memory reads more)) (go (answer_on memory reads) l refl refl first)
+      subst (λ (a : Result D WalkFault). Alike S a (and_then l next)) (sym (answer_then memory reads more))
+      (go (answer_on memory reads) l refl refl first)
     where
-      go : (a : Result A WalkFault) (b : Look B) → answer_on memory reads ≡ a → l ≡ b → Alike R a b → Alike S (answer_on memory (after a more)) (and_then b next)
+      go : (a : Result A WalkFault) (b : Look B) → answer_on memory reads ≡ a → l ≡ b → Alike R a b
+          → Alike S (answer_on memory (after a more)) (and_then b next)
       go (Ok x) (Ok y) e f same = rest x y e f same
       go (Ok x) (Err fault) e f same = absurd same
       go (Err why) (Ok y) e f same = absurd same
       go (Err why) (Err fault) e f same = same
 
 -- the same where both have one value
-pub alike_on : {A D E : Type 0} (S : D → E → Type 0) (memory : Words) (reads : Asks A) (more : A → Asks D) (l : Look A) (next : A → Look E) → Alike Same (answer_on memory reads) l
+pub alike_on : {A D E : Type 0} (S : D → E → Type 0) (memory : Words) (reads : Asks A) (more : A → Asks D) (l : Look A) (next : A → Look E)
+    → Alike Same (answer_on memory reads) l
     → ((x : A) → answer_on memory reads ≡ Ok x → l ≡ Ok x → Alike S (answer_on memory (more x)) (next x)) → Alike S (answer_on memory (then_reads reads more)) (and_then l next)
 alike_on {A} S memory reads more l next first rest =
     alike_then (Same {A = A}) S memory reads more l next first
     (λ x y e f same. subst (λ z. Alike S (answer_on memory (more x)) (next z)) same (rest x e (f ∙ ap Ok (sym same))))
 
-pub alike_map : {A B D E : Type 0} (R : A → B → Type 0) (S : D → E → Type 0) (memory : Words) (reads : Asks A) (f : A → D) (l : Look B) (g : B → E) → Alike R (answer_on memory reads) l
+pub alike_map : {A B D E : Type 0} (R : A → B → Type 0) (S : D → E → Type 0) (memory : Words) (reads : Asks A) (f : A → D) (l : Look B) (g : B → E)
+    → Alike R (answer_on memory reads) l
     → ((x : A) (y : B) → answer_on memory reads ≡ Ok x → l ≡ Ok y → R x y → S (f x) (g y)) → Alike S (answer_on memory (with_answer f reads)) (mapped g l)
 unfolding with_answer
-alike_map R S memory reads f l g first rest = alike_then R S memory reads (λ x. Answer (Ok (f x))) l (λ y. Ok (g y)) first rest
+alike_map R S memory reads f l g first rest =
+    alike_then R S memory reads (λ x. Answer (Ok (f x))) l (λ y. Ok (g y)) first rest
 
 -- lists whose elements belong together
 abbrev pub AllAlike : {A B : Type 0} → (A → B → Type 0) → List A → List B → Type 0
@@ -80,41 +87,49 @@ AllAlike R (x ∷ xs) [] = ⊥
 AllAlike R (x ∷ xs) (y ∷ ys) = R x y × AllAlike R xs ys
 
 -- the same answer with a look's value beside it
-pub alike_with : {A B D : Type 0} (R : A → B → Type 0) (S : D → B → Type 0) (memory : Words) (reads : Asks A) (f : A → D) (l : Look B) → Alike R (answer_on memory reads) l
+pub alike_with : {A B D : Type 0} (R : A → B → Type 0) (S : D → B → Type 0) (memory : Words) (reads : Asks A) (f : A → D) (l : Look B)
+    → Alike R (answer_on memory reads) l
     → ((x : A) (y : B) → answer_on memory reads ≡ Ok x → l ≡ Ok y → R x y → S (f x) y) → Alike S (answer_on memory (with_answer f reads)) l
 unfolding and_then
 alike_with {A} {B} {D} R S memory reads f l first rest =
-    subst (λ l. Alike S (answer_on memory (with_answer f reads)) l) (same l) (alike_map R S memory reads f l (λ y. y) first rest)
+    subst (λ l. Alike S (answer_on memory (with_answer f reads)) l) (same l)
+    (alike_map R S memory reads f l (λ y. y) first rest)
   where
     same : (l : Look B) → mapped (λ y. y) l ≡ l
     same (Ok y) = refl
     same (Err fault) = refl
 
-pub alike_each : {X Z A B : Type 0} (Q : X → Z → Type 0) (R : A → B → Type 0) (memory : Words) (ask : X → Asks A) (l : Z → Look B) → ((x : X) (z : Z) → Q x z → Alike R (answer_on memory (ask x)) (l z))
+pub alike_each : {X Z A B : Type 0} (Q : X → Z → Type 0) (R : A → B → Type 0) (memory : Words) (ask : X → Asks A) (l : Z → Look B)
+    → ((x : X) (z : Z) → Q x z → Alike R (answer_on memory (ask x)) (l z))
     → (xs : List X) (zs : List Z) → AllAlike Q xs zs → Alike (AllAlike R) (answer_on memory (ask_each ask xs)) (each l zs)
 unfolding ask_each
 alike_each Q R memory ask l one [] [] both = tt
 alike_each Q R memory ask l one [] (z ∷ zs) both = absurd both
 alike_each Q R memory ask l one (x ∷ xs) [] both = absurd both
 alike_each Q R memory ask l one (x ∷ xs) (z ∷ zs) both =
-    alike_then R (AllAlike R) memory (ask x) (λ y. with_answer (λ ys. y ∷ ys) (ask_each ask xs)) (l z) (λ y. mapped (λ ys. y ∷ ys) (each l zs)) (one x z both.0)
+    alike_then R (AllAlike R) memory (ask x) (λ y. with_answer (λ ys. y ∷ ys) (ask_each ask xs)) (l z)
+    (λ y. mapped (λ ys. y ∷ ys) (each l zs)) (one x z both.0)
     (λ a b e f r. alike_map (AllAlike R) (AllAlike R) memory (ask_each ask xs) (λ ys. a ∷ ys) (each l zs) (λ ys. b ∷ ys) (alike_each Q R memory ask l one xs zs both.1)
     (λ us vs e f rs. (r, rs)))
 
 -- ---- inquiries
 
 -- a refusal that is a look's fault is that fault to a walk
-pub fault_is : (found : Option Held) (rc : Rc) (fault : LookFault) → IsFault rc fault → fault_of found rc ≡ as_fault fault
+pub fault_is : (found : Option Held) (rc : Rc) (fault : LookFault) → IsFault rc fault
+    → fault_of found rc ≡ as_fault fault
 fault_is found rc (look.Damaged addr field) is = ap (fault_of found) is
 fault_is found rc (look.Cycle addr) is = absurd is
 
 -- the answer of an inquiry for a value
-pub alike_walked : {A : Type 0} (memory : Words) (found : Option Held) (reads : Reads A) (l : Look A) → IsLook {A = A} {B = A} (λ x y. x ≡ y) (answer_on memory reads) l
+pub alike_walked : {A : Type 0} (memory : Words) (found : Option Held) (reads : Reads A) (l : Look A)
+    → IsLook {A = A} {B = A} (λ x y. x ≡ y) (answer_on memory reads) l
     → Alike Same (answer_on memory (answering (walked found) reads)) l
 alike_walked {A} memory found reads l looked =
-    subst (λ (a : Result A WalkFault). Alike Same a l) (sym (answer_answering memory (walked found) reads)) (go (answer_on memory reads) l looked)
+    subst (λ (a : Result A WalkFault). Alike Same a l) (sym (answer_answering memory (walked found) reads))
+    (go (answer_on memory reads) l looked)
   where
-    go : (a : Result A Rc) (l : Look A) → IsLook {A = A} {B = A} (λ x y. x ≡ y) a l → Alike Same (walked found a) l
+    go : (a : Result A Rc) (l : Look A) → IsLook {A = A} {B = A} (λ x y. x ≡ y) a l
+        → Alike Same (walked found a) l
     go (Ok x) (Ok y) same = same
     go (Ok x) (Err fault) same = absurd same
     go (Err rc) (Ok y) same = absurd same
@@ -143,7 +158,8 @@ name_from o = option_map_or (λ (n : Id). n) o (record { creator = 0; slot = 0; 
 
 module _ (w : List ℕ) (memory : Words) (kind : Kind) where
   -- an object that was found has the name that it is met by
-  pub found_object : (o : Held) (n : Id) → name_of w o ≡ Some n → answer_on memory (unchanged w o) ≡ Ok o → o.kind ≡ kind → IsObject w memory kind (met w o) n
+  pub found_object : (o : Held) (n : Id) → name_of w o ≡ Some n → answer_on memory (unchanged w o) ≡ Ok o
+      → o.kind ≡ kind → IsObject w memory kind (met w o) n
   found_object o n named lives of_kind = record {
     name = ap name_from named;
     lives = record {
@@ -154,8 +170,10 @@ module _ (w : List ℕ) (memory : Words) (kind : Kind) where
   }
 
   -- what is found
-  pub alike_object : (change : Result Held Rc → Result Held WalkFault) (reads : Reads Held) (l : Look Id) → IsLook (IsOf w) (answer_on memory reads) l
-      → ((o : Held) → answer_on memory reads ≡ Ok o → (answer_on memory (unchanged w o) ≡ Ok o) × (o.kind ≡ kind))
+  pub alike_object : (change : Result Held Rc → Result Held WalkFault) (reads : Reads Held) (l : Look Id)
+      → IsLook (IsOf w) (answer_on memory reads) l
+      →
+      ((o : Held) → answer_on memory reads ≡ Ok o → (answer_on memory (unchanged w o) ≡ Ok o) × (o.kind ≡ kind))
       → ((o : Held) → change (Ok o) ≡ Ok o) → ((rc : Rc) (fault : LookFault) → IsFault rc fault → change (Err rc) ≡ Err (as_fault fault))
       → Alike (IsObject w memory kind) (answer_on memory (ask_object w change reads)) l
   unfolding ask_object with_answer
@@ -165,34 +183,47 @@ module _ (w : List ℕ) (memory : Words) (kind : Kind) where
       (go (answer_on memory reads) l refl looked)
     where
       go : (a : Result Held Rc) (l : Look Id) → answer_on memory reads ≡ a → IsLook (IsOf w) a l
-          → Alike (IsObject w memory kind) (answer_on memory (after (change a) (λ x. Answer (Ok (met w x))))) l
+          → Alike (IsObject w memory kind)
+          (answer_on memory (after (change a) (λ x. Answer (Ok (met w x))))) l
       go (Ok o) (Ok n) e named =
-          subst (λ a. Alike (IsObject w memory kind) (answer_on memory (after a (λ x. Answer (Ok (met w x))))) (Ok n)) (sym (given o)) (found_object o n named (living o e).0 (living o e).1)
+          subst
+          (λ a. Alike (IsObject w memory kind) (answer_on memory (after a (λ x. Answer (Ok (met w x))))) (Ok n))
+          (sym (given o)) (found_object o n named (living o e).0 (living o e).1)
       go (Ok o) (Err fault) e same = absurd same
       go (Err rc) (Ok n) e same = absurd same
       go (Err rc) (Err fault) e same =
-          subst (λ (a : Result Held WalkFault). Alike (IsObject w memory kind) (answer_on memory (after a (λ x. Answer (Ok (met w x))))) (Err fault)) (sym (refused rc fault same)) refl
+          subst
+          (λ (a : Result Held WalkFault). Alike (IsObject w memory kind) (answer_on memory (after a (λ x. Answer (Ok (met w x))))) (Err fault))
+          (sym (refused rc fault same)) refl
 
   -- and what may be found
   abbrev pub some_met : Option Held → Asks (Option Met)
   some_met x = Answer (Ok (option_map (met w) x))
 
-  pub maybe_answers : (found : Option Held) (reads : Reads Held) → answer_on memory (ask_maybe w found reads) ≡ answer_on memory (after (maybe_absent found (answer_on memory reads)) some_met)
+  pub maybe_answers : (found : Option Held) (reads : Reads Held)
+      → answer_on memory (ask_maybe w found reads) ≡ answer_on memory (after (maybe_absent found (answer_on memory reads)) some_met)
   unfolding ask_maybe with_answer
   maybe_answers found reads =
-      answer_then memory (answering (maybe_absent found) reads) some_met ∙ ap (λ a. answer_on memory (after a some_met)) (answer_answering memory (maybe_absent found) reads)
+      answer_then memory (answering (maybe_absent found) reads) some_met
+      ∙ ap (λ a. answer_on memory (after a some_met)) (answer_answering memory (maybe_absent found) reads)
 
-  pub maybe_refused : {N : Type 0} (R : Option Met → N → Type 0) (found : Option Held) (rc : Rc) (fault : LookFault) → IsFault rc fault
+  pub maybe_refused : {N : Type 0} (R : Option Met → N → Type 0) (found : Option Held) (rc : Rc) (fault : LookFault)
+      → IsFault rc fault
       → Alike R (answer_on memory (after (maybe_absent {A = Held} found (Err rc)) some_met)) (Err fault)
   maybe_refused R found rc (look.Damaged addr field) is =
-      subst (λ c. Alike R (answer_on memory (after (maybe_absent {A = Held} found (Err c)) some_met)) (Err (look.Damaged addr field))) (sym is) refl
+      subst
+      (λ c. Alike R (answer_on memory (after (maybe_absent {A = Held} found (Err c)) some_met)) (Err (look.Damaged addr field)))
+      (sym is) refl
   maybe_refused R found rc (look.Cycle addr) is = absurd is
 
-  pub alike_maybe : (found : Option Held) (reads : Reads Held) (l : Look (Option Id)) → IsOptional w (answer_on memory reads) l
-      → ((o : Held) → answer_on memory reads ≡ Ok o → (answer_on memory (unchanged w o) ≡ Ok o) × (o.kind ≡ kind))
+  pub alike_maybe : (found : Option Held) (reads : Reads Held) (l : Look (Option Id))
+      → IsOptional w (answer_on memory reads) l
+      →
+      ((o : Held) → answer_on memory reads ≡ Ok o → (answer_on memory (unchanged w o) ≡ Ok o) × (o.kind ≡ kind))
       → Alike (MaybeObject w memory kind) (answer_on memory (ask_maybe w found reads)) l
   alike_maybe found reads l looked living =
-      subst (λ (a : Result (Option Met) WalkFault). Alike (MaybeObject w memory kind) a l) (sym (maybe_answers found reads)) (go (answer_on memory reads) l refl looked)
+      subst (λ (a : Result (Option Met) WalkFault). Alike (MaybeObject w memory kind) a l)
+      (sym (maybe_answers found reads)) (go (answer_on memory reads) l refl looked)
     where
       go : (a : Result Held Rc) (l : Look (Option Id)) → answer_on memory reads ≡ a → IsOptional w a l
           → Alike (MaybeObject w memory kind) (answer_on memory (after (maybe_absent found a) some_met)) l
@@ -201,7 +232,9 @@ module _ (w : List ℕ) (memory : Words) (kind : Kind) where
       go (Ok o) (Err fault) e same = absurd same
       go (Err rc) (Ok (Some n)) e same = absurd same
       go (Err rc) (Ok None) e same =
-          subst (λ c. Alike (MaybeObject w memory kind) (answer_on memory (after (maybe_absent {A = Held} found (Err c)) some_met)) (Ok None)) (sym same) tt
+          subst
+          (λ c. Alike (MaybeObject w memory kind) (answer_on memory (after (maybe_absent {A = Held} found (Err c)) some_met)) (Ok None))
+          (sym same) tt
       go (Err rc) (Err fault) e same = maybe_refused (MaybeObject w memory kind) found rc fault same
 
 -- ---- an object that is asked about
@@ -214,32 +247,44 @@ module _ (w : List ℕ) (memory : Words) (kind : Kind) (h : Held) (n : Id) (st :
       (ap (λ (b : Bool). cond b (Ok h) (Err BadInput)) (eq-eqb _ _ (ap record_kind st.of_kind)))
       ∙ st.lives
 
-  pub after_object : {A : Type 0} (more : Held → Reads A) → answer_on memory (then_reads (object_of w kind (Some h)) more) ≡ answer_on memory (more h)
+  pub after_object : {A : Type 0} (more : Held → Reads A)
+      → answer_on memory (then_reads (object_of w kind (Some h)) more) ≡ answer_on memory (more h)
   after_object more = then_answered memory (object_of w kind (Some h)) more h object_answers
 
   -- a word of its record
   pub word_looked : (f : Field) (at : ℕ)
-      → IsLook {A = ℕ} {B = ℕ} (λ x y. x ≡ y) (answer_on memory (word_of w h.addr f at)) (look_word w memory (id_address w (record_kind kind) n) f at)
+      → IsLook {A = ℕ} {B = ℕ} (λ x y. x ≡ y) (answer_on memory (word_of w h.addr f at))
+      (look_word w memory (id_address w (record_kind kind) n) f at)
   word_looked f at =
-      subst (λ a. IsLook {A = ℕ} {B = ℕ} (λ x y. x ≡ y) (answer_on memory (word_of w h.addr f at)) (look_word w memory a f at)) st.at (word_is_looked w memory h.addr f at)
+      subst
+      (λ a. IsLook {A = ℕ} {B = ℕ} (λ x y. x ≡ y) (answer_on memory (word_of w h.addr f at)) (look_word w memory a f at)) st.at
+      (word_is_looked w memory h.addr f at)
 
   -- the object to which one points
-  pub alike_follow : (target : Kind) (f : Field) (at : ℕ) (reads : Reads Held) → reads ≡ then_reads (object_of w kind (Some h)) (λ o. follow w target o.addr f at)
-      → Alike (IsObject w memory target) (answer_on memory (ask_object w (walked (Some h)) reads)) (look_object w memory (record_kind target) (id_address w (record_kind kind) n) f at)
+  pub alike_follow : (target : Kind) (f : Field) (at : ℕ) (reads : Reads Held)
+      → reads ≡ then_reads (object_of w kind (Some h)) (λ o. follow w target o.addr f at)
+      → Alike (IsObject w memory target) (answer_on memory (ask_object w (walked (Some h)) reads))
+      (look_object w memory (record_kind target) (id_address w (record_kind kind) n) f at)
   alike_follow target f at reads is =
-      let here : answer_on memory reads ≡ answer_on memory (follow w target h.addr f at) = ap (answer_on memory) is ∙ after_object (λ o. follow w target o.addr f at) in
-      alike_object w memory target (walked (Some h)) reads (look_object w memory (record_kind target) (id_address w (record_kind kind) n) f at)
+      let here : answer_on memory reads ≡ answer_on memory (follow w target h.addr f at) =
+      ap (answer_on memory) is ∙ after_object (λ o. follow w target o.addr f at) in
+      alike_object w memory target (walked (Some h)) reads
+      (look_object w memory (record_kind target) (id_address w (record_kind kind) n) f at)
       (subst (λ (a : Result Held Rc). IsLook (IsOf w) a (look_object w memory (record_kind target) (id_address w (record_kind kind) n) f at)) (sym here)
       (subst (λ a. IsLook (IsOf w) (answer_on memory (follow w target h.addr f at)) (look_object w memory (record_kind target) a f at)) st.at (object_is_looked w memory target h.addr f at)))
       (λ o e. (followed_lives w memory (object_of w kind (Some h)) target f at (λ x. x.addr) o (sym (ap (answer_on memory) is) ∙ e), follow_kind w memory target h.addr f at o (sym here ∙ e)))
       (λ o. refl) (λ rc fault same. ap Err (fault_is (Some h) rc fault same))
 
   -- and one that there may be
-  pub alike_follow_some : (target : Kind) (f : Field) (reads : Reads Held) → reads ≡ then_reads (object_of w kind (Some h)) (λ o. follow_some w target o.addr f)
-      → Alike (MaybeObject w memory target) (answer_on memory (ask_maybe w (Some h) reads)) (look_optional w memory (record_kind target) (id_address w (record_kind kind) n) f 0)
+  pub alike_follow_some : (target : Kind) (f : Field) (reads : Reads Held)
+      → reads ≡ then_reads (object_of w kind (Some h)) (λ o. follow_some w target o.addr f)
+      → Alike (MaybeObject w memory target) (answer_on memory (ask_maybe w (Some h) reads))
+      (look_optional w memory (record_kind target) (id_address w (record_kind kind) n) f 0)
   alike_follow_some target f reads is =
-      let here : answer_on memory reads ≡ answer_on memory (follow_some w target h.addr f) = ap (answer_on memory) is ∙ after_object (λ o. follow_some w target o.addr f) in
-      alike_maybe w memory target (Some h) reads (look_optional w memory (record_kind target) (id_address w (record_kind kind) n) f 0)
+      let here : answer_on memory reads ≡ answer_on memory (follow_some w target h.addr f) =
+      ap (answer_on memory) is ∙ after_object (λ o. follow_some w target o.addr f) in
+      alike_maybe w memory target (Some h) reads
+      (look_optional w memory (record_kind target) (id_address w (record_kind kind) n) f 0)
       (subst (λ (a : Result Held Rc). IsOptional w a (look_optional w memory (record_kind target) (id_address w (record_kind kind) n) f 0)) (sym here)
       (subst (λ a. IsOptional w (answer_on memory (follow_some w target h.addr f)) (look_optional w memory (record_kind target) a f 0)) st.at (optional_is_looked w memory target h.addr f)))
       (λ o e. (optional_lives w memory (object_of w kind (Some h)) target f (λ x. x.addr) o (sym (ap (answer_on memory) is) ∙ e), some_kind w memory target h.addr f o (sym here ∙ e)))

@@ -44,12 +44,14 @@ unfolding by_name
 met_is w m is = ap (by_name m.held) (sym is)
 
 -- of an object of which there may be none
-pub absent_map : {A B : Type 0} (f : A → B) (found : Option Held) (rc : Rc) → absent {A = B} found rc ≡ map_ok (option_map f) (absent {A = A} found rc)
+pub absent_map : {A B : Type 0} (f : A → B) (found : Option Held) (rc : Rc)
+    → absent {A = B} found rc ≡ map_ok (option_map f) (absent {A = A} found rc)
 absent_map f found Unavailable = refl
 absent_map f found rc = refl
 
 -- a relation leads to what its inquiry finds
-pub inquiry_is : (w : List ℕ) (relation : Relation) (found : Option Held) → related w (kind_from relation) found (kind_to relation) (field_of relation) ≡ inquiry_of w relation found
+pub inquiry_is : (w : List ℕ) (relation : Relation) (found : Option Held)
+    → related w (kind_from relation) found (kind_to relation) (field_of relation) ≡ inquiry_of w relation found
 unfolding current_task generating_task scheduling_task enclosing_region
 inquiry_is w (Current t) found = refl
 inquiry_is w (Generating k) found = refl
@@ -59,11 +61,14 @@ inquiry_is w (Enclosing r) found = refl
 -- ---- the size of a region
 
 -- reads that answer had their first part answered
-pub last_ok : {E A B : Type 0} (memory : Words) (reads : ReadsOr E A) (more : A → ReadsOr E B) (y : B) → answer_on memory (then_reads reads more) ≡ Ok y
+pub last_ok : {E A B : Type 0} (memory : Words) (reads : ReadsOr E A) (more : A → ReadsOr E B) (y : B)
+    → answer_on memory (then_reads reads more) ≡ Ok y
     → (x : A) × (answer_on memory reads ≡ Ok x) × (answer_on memory (more x) ≡ Ok y)
-last_ok {E} {A} {B} memory reads more y is = go (answer_on memory reads) refl (sym (answer_then memory reads more) ∙ is)
+last_ok {E} {A} {B} memory reads more y is =
+    go (answer_on memory reads) refl (sym (answer_then memory reads more) ∙ is)
   where
-    go : (a : Result A E) → answer_on memory reads ≡ a → answer_on memory (after a more) ≡ Ok y → (x : A) × (answer_on memory reads ≡ Ok x) × (answer_on memory (more x) ≡ Ok y)
+    go : (a : Result A E) → answer_on memory reads ≡ a → answer_on memory (after a more) ≡ Ok y
+        → (x : A) × (answer_on memory reads ≡ Ok x) × (answer_on memory (more x) ≡ Ok y)
     go (Ok x) e is = (x, e, is)
     go (Err why) e is = absurd (cc)
 
@@ -72,22 +77,29 @@ both_true true b e = e
 both_true false b e = absurd (cc)
 
 -- a team that is answered has at most as many members as there are threads
-team_within : (w : List ℕ) (memory : Words) (address size : ℕ) → answer_on memory (team_size w address) ≡ Ok size → size ≤ thread_count w
+team_within : (w : List ℕ) (memory : Words) (address size : ℕ)
+    → answer_on memory (team_size w address) ≡ Ok size → size ≤ thread_count w
 unfolding team_size
 team_within w memory address size is =
-    let first = last_ok memory (word_of w address RegionSize 0) (λ x. Answer (cond (nat_le 1 x && nat_le x (thread_count w)) (Ok x) (Err (Error address (number RegionSize))))) size is in
+    let first =
+    last_ok memory (word_of w address RegionSize 0)
+    (λ x. Answer (cond (nat_le 1 x && nat_le x (thread_count w)) (Ok x) (Err (Error address (number RegionSize))))) size is in
     go first.0 (nat_le 1 first.0 && nat_le first.0 (thread_count w)) refl first.2
   where
-    go : (x : ℕ) (b : Bool) → (nat_le 1 x && nat_le x (thread_count w)) ≡ b → cond b (Ok x) (Err (Error address (number RegionSize))) ≡ Ok size → size ≤ thread_count w
+    go : (x : ℕ) (b : Bool) → (nat_le 1 x && nat_le x (thread_count w)) ≡ b
+        → cond b (Ok x) (Err (Error address (number RegionSize))) ≡ Ok size → size ≤ thread_count w
     go x true e is =
         let same : x ≡ size = cc in
-        let low : x ≤ thread_count w = leb-true x (thread_count w) (both_true (nat_le 1 x) (nat_le x (thread_count w)) e) in
+        let low : x ≤ thread_count w =
+        leb-true x (thread_count w) (both_true (nat_le 1 x) (nat_le x (thread_count w)) e) in
         omega (arith, low, same)
     go x false e is = absurd (cc)
 
-pub size_within : (w : List ℕ) (memory : Words) (r : Option Held) (size : ℕ) → Ok size ≡ answer_on memory (ask_region_variable w TEAM_SIZE_VAR r) → size ≤ thread_count w
+pub size_within : (w : List ℕ) (memory : Words) (r : Option Held) (size : ℕ)
+    → Ok size ≡ answer_on memory (ask_region_variable w TEAM_SIZE_VAR r) → size ≤ thread_count w
 unfolding ask_region_variable icv_from_scope then_reads
-size_within w memory r size is = go (answer_on memory inquiry) refl (is ∙ answer_answering memory (walked r) inquiry)
+size_within w memory r size is =
+    go (answer_on memory inquiry) refl (is ∙ answer_answering memory (walked r) inquiry)
   where
     inquiry : Reads ℕ
     inquiry = icv_from_scope w (λ _. r) (Parallel (record { key = 0; serial = 0 })) TEAM_SIZE_VAR

@@ -65,38 +65,50 @@ use Rattle.omi_walk.proofs.TaskLooks.{look_in_parts, parts_of_task}
 
 -- ---- what must not have been met
 
-module _ (w : List ℕ) (memory : Words) (kind : Kind) (known : ℕ → Bool) (before : List ℕ) (same : (address : ℕ) → known address ≡ was_met before address) where
-  pub alike_onward : (reads : Asks (Option Met)) (l : Look (Option Id)) → Alike (MaybeObject w memory kind) (answer_on memory reads) l
-      → Alike (MaybeObject w memory kind) (answer_on memory (then_reads reads (λ next. Answer (unmet known next))))
+module _ (w : List ℕ) (memory : Words) (kind : Kind) (known : ℕ → Bool) (before : List ℕ)
+    (same : (address : ℕ) → known address ≡ was_met before address) where
+  pub alike_onward : (reads : Asks (Option Met)) (l : Look (Option Id))
+      → Alike (MaybeObject w memory kind) (answer_on memory reads) l
+      → Alike (MaybeObject w memory kind)
+      (answer_on memory (then_reads reads (λ next. Answer (unmet known next))))
       (and_then l (λ next. option_map_or (λ n. cond (was_met before (id_address w (record_kind kind) n)) (Err (look.Cycle (id_address w (record_kind kind) n))) (Ok (Some n))) next (Ok None)))
-  alike_onward reads l first = alike_then (MaybeObject w memory kind) (MaybeObject w memory kind) memory reads _ l _ first (λ o n e f r. go o n r)
+  alike_onward reads l first =
+      alike_then (MaybeObject w memory kind) (MaybeObject w memory kind) memory reads _ l _ first
+      (λ o n e f r. go o n r)
     where
       go : (o : Option Met) (n : Option Id) → MaybeObject w memory kind o n
-          → Alike (MaybeObject w memory kind) (unmet known o) (option_map_or (λ n. cond (was_met before (id_address w (record_kind kind) n)) (Err (look.Cycle (id_address w (record_kind kind) n))) (Ok (Some n))) n (Ok None))
+          → Alike (MaybeObject w memory kind) (unmet known o)
+          (option_map_or (λ n. cond (was_met before (id_address w (record_kind kind) n)) (Err (look.Cycle (id_address w (record_kind kind) n))) (Ok (Some n))) n (Ok None))
       go None None r = tt
       go None (Some n) r = absurd r
       go (Some m) None r = absurd r
       go (Some m) (Some n) r =
-          subst (λ a. Alike (MaybeObject w memory kind) (cond (known m.held.addr) (Err (Cycle m.held.addr)) (Ok (Some m))) (cond (was_met before a) (Err (look.Cycle a)) (Ok (Some n)))) r.lives.at
+          subst
+          (λ a. Alike (MaybeObject w memory kind) (cond (known m.held.addr) (Err (Cycle m.held.addr)) (Ok (Some m))) (cond (was_met before a) (Err (look.Cycle a)) (Ok (Some n)))) r.lives.at
           (subst (λ b. Alike (MaybeObject w memory kind) (cond b (Err (Cycle m.held.addr)) (Ok (Some m))) (cond (was_met before m.held.addr) (Err (look.Cycle m.held.addr)) (Ok (Some n)))) (sym (same m.held.addr))
           (test (was_met before m.held.addr)))
         where
-          test : (b : Bool) → Alike (MaybeObject w memory kind) (cond b (Err (Cycle m.held.addr)) (Ok (Some m))) (cond b (Err (look.Cycle m.held.addr)) (Ok (Some n)))
+          test : (b : Bool)
+              → Alike (MaybeObject w memory kind) (cond b (Err (Cycle m.held.addr)) (Ok (Some m))) (cond b (Err (look.Cycle m.held.addr)) (Ok (Some n)))
           test true = refl
           test false = r
 
 -- an address more was met
-pub also_met_before : (known : ℕ → Bool) (before : List ℕ) (a b : ℕ) → a ≡ b → ((address : ℕ) → known address ≡ was_met before address) → (address : ℕ) → also a known address ≡ was_met (b ∷ before) address
+pub also_met_before : (known : ℕ → Bool) (before : List ℕ) (a b : ℕ) → a ≡ b
+    → ((address : ℕ) → known address ≡ was_met before address) → (address : ℕ)
+    → also a known address ≡ was_met (b ∷ before) address
 also_met_before known before a b is same address = λ i. (is i == address) || same address i
 
 -- ---- words of a task
 
 -- the relations of a task, and its row, each with its scheduling task
 abbrev pub RelationsAs : List ℕ → Words → SeenRelations → Relations → Type 0
-RelationsAs w memory seen relations = (seen.relations ≡ relations) × MaybeObject w memory Task seen.next (option_map (λ (t : Tid). t.0) relations.scheduling)
+RelationsAs w memory seen relations =
+    (seen.relations ≡ relations) × MaybeObject w memory Task seen.next (option_map (λ (t : Tid). t.0) relations.scheduling)
 
 abbrev pub LinkAs : List ℕ → Words → Link → TaskRow → Type 0
-LinkAs w memory link row = (link.row ≡ row) × MaybeObject w memory Task link.next (option_map (λ (t : Tid). t.0) row.scheduling)
+LinkAs w memory link row =
+    (link.row ≡ row) × MaybeObject w memory Task link.next (option_map (λ (t : Tid). t.0) row.scheduling)
 
 module _ (w : List ℕ) (memory : Words) (h : Held) (k : Id) (st : Lives w memory Task h k) where
   pub alike_frames : Alike Same (answer_on memory (ask_frames w (Some h))) (look_frames w memory k)
@@ -117,19 +129,25 @@ module _ (w : List ℕ) (memory : Words) (h : Held) (k : Id) (st : Lives w memor
       made exit enter = record { exit = exit; exit_flag = flag_of exit; enter = enter; enter_flag = flag_of enter }
 
       places : ℕ → ℕ → Reads Frames
-      places address exit = then_reads (word_of w address TaskEnter 0) (λ enter. Answer (Ok (made exit enter)))
+      places address exit =
+          then_reads (word_of w address TaskEnter 0) (λ enter. Answer (Ok (made exit enter)))
 
       second : (x y : ℕ) → x ≡ y → (a : Result ℕ Rc) (l : Look ℕ) → IsLook {A = ℕ} {B = ℕ} (λ x y. x ≡ y) a l
-          → Alike Same (answer_on memory (after (walked (Some h) (answer_on memory (after a (λ enter. Answer (Ok (made x enter)))))) last)) (and_then l (λ enter. Ok (y, enter)))
+          → Alike Same
+          (answer_on memory (after (walked (Some h) (answer_on memory (after a (λ enter. Answer (Ok (made x enter)))))) last))
+          (and_then l (λ enter. Ok (y, enter)))
       second x y one (Ok e) (Ok f) same = λ i. (one i, same i)
       second x y one (Ok e) (Err fault) same = absurd same
       second x y one (Err rc) (Ok f) same = absurd same
       second x y one (Err rc) (Err fault) same = fault_is (Some h) rc fault same
 
       first : (a : Result ℕ Rc) (l : Look ℕ) → IsLook {A = ℕ} {B = ℕ} (λ x y. x ≡ y) a l
-          → Alike Same (answer_on memory (after (walked (Some h) (answer_on memory (after a (places h.addr)))) last)) (and_then l (λ exit. and_then (look_word w memory h.addr TaskEnter 0) (λ enter. Ok (exit, enter))))
+          → Alike Same
+          (answer_on memory (after (walked (Some h) (answer_on memory (after a (places h.addr)))) last))
+          (and_then l (λ exit. and_then (look_word w memory h.addr TaskEnter 0) (λ enter. Ok (exit, enter))))
       first (Ok x) (Ok y) same =
-          subst (λ (r : Result Frames Rc). Alike Same (answer_on memory (after (walked (Some h) r) last)) (and_then (look_word w memory h.addr TaskEnter 0) (λ enter. Ok (y, enter))))
+          subst
+          (λ (r : Result Frames Rc). Alike Same (answer_on memory (after (walked (Some h) r) last)) (and_then (look_word w memory h.addr TaskEnter 0) (λ enter. Ok (y, enter))))
           (sym (answer_then memory (word_of w h.addr TaskEnter 0) (λ enter. Answer (Ok (made x enter)))))
           (second x y same (answer_on memory (word_of w h.addr TaskEnter 0)) (look_word w memory h.addr TaskEnter 0) (word_is_looked w memory h.addr TaskEnter 0))
       first (Ok x) (Err fault) same = absurd same
@@ -170,7 +188,8 @@ module _ (w : List ℕ) (memory : Words) (h : Held) (k : Id) (st : Lives w memor
   pub alike_environment : Alike Same (answer_on memory (ask_environment w (Some h))) (look_environment w memory k)
   unfolding ask_environment
   alike_environment =
-      alike_on Same memory (ask_task_variable w DYN_VAR (Some h)) _ (read_task w memory k TaskDynamic) _ (alike_task_variable w memory h k DYN_VAR _ TaskDynamic st refl refl)
+      alike_on Same memory (ask_task_variable w DYN_VAR (Some h)) _ (read_task w memory k TaskDynamic) _
+      (alike_task_variable w memory h k DYN_VAR _ TaskDynamic st refl refl)
       (λ dyn_var e f. alike_on Same memory (ask_nthreads w (Some h)) _ (look_nthreads w memory k) _ alike_nthreads
       (λ nthreads e f. alike_on Same memory (ask_task_variable w RUN_SCHED_VAR (Some h)) _ (read_task w memory k TaskSchedule) _ (alike_task_variable w memory h k RUN_SCHED_VAR _ TaskSchedule st refl refl)
       (λ sched e f. alike_on Same memory (ask_task_variable w DEFAULT_DEVICE_VAR (Some h)) _ (read_task w memory k TaskDevice) _ (alike_task_variable w memory h k DEFAULT_DEVICE_VAR _ TaskDevice st refl refl)
@@ -183,13 +202,16 @@ module _ (w : List ℕ) (memory : Words) (h : Held) (k : Id) (st : Lives w memor
 
   alike_generating : Alike (MaybeObject w memory Task) (answer_on memory (ask_generating w (Some h))) (look_optional w memory tasks (id_address w tasks k) TaskGenerating 0)
   unfolding generating_task
-  alike_generating = alike_follow_some w memory Task h k st Task TaskGenerating (generating_task w (Some h)) refl
+  alike_generating =
+      alike_follow_some w memory Task h k st Task TaskGenerating (generating_task w (Some h)) refl
 
   alike_scheduling : Alike (MaybeObject w memory Task) (answer_on memory (ask_scheduling w (Some h))) (look_optional w memory tasks (id_address w tasks k) TaskScheduling 0)
   unfolding scheduling_task
-  alike_scheduling = alike_follow_some w memory Task h k st Task TaskScheduling (scheduling_task w (Some h)) refl
+  alike_scheduling =
+      alike_follow_some w memory Task h k st Task TaskScheduling (scheduling_task w (Some h)) refl
 
-  module _ (known : ℕ → Bool) (before : List ℕ) (same : (address : ℕ) → known address ≡ was_met before address) where
+  module _ (known : ℕ → Bool) (before : List ℕ)
+      (same : (address : ℕ) → known address ≡ was_met before address) where
     alike_next : Alike (MaybeObject w memory Task) (answer_on memory (ask_next w known (Some h))) (look_onward w memory tasks before (id_address w tasks k) TaskScheduling)
     unfolding ask_next
     alike_next = alike_onward w memory Task known before same (ask_scheduling w (Some h)) _ alike_scheduling
@@ -197,7 +219,9 @@ module _ (w : List ℕ) (memory : Words) (h : Held) (k : Id) (st : Lives w memor
     pub alike_relations : Alike (RelationsAs w memory) (answer_on memory (ask_relations w known (Some h))) (look_relations w memory before k)
     unfolding ask_relations
     alike_relations =
-        alike_on (RelationsAs w memory) memory (ask_task_variable w IMPLICIT_TASK_VAR (Some h)) _ (read_task w memory k TaskImplicit) _ (alike_task_variable w memory h k IMPLICIT_TASK_VAR _ TaskImplicit st refl refl)
+        alike_on (RelationsAs w memory) memory (ask_task_variable w IMPLICIT_TASK_VAR (Some h)) _
+        (read_task w memory k TaskImplicit) _
+        (alike_task_variable w memory h k IMPLICIT_TASK_VAR _ TaskImplicit st refl refl)
         (λ implicit e f. alike_then (IsObject w memory Region) (RelationsAs w memory) memory (ask_region_of w (Some h)) _ (look_object w memory regions (id_address w tasks k) TaskRegion 0) _ alike_region_of
         (λ region r e f is. alike_on (RelationsAs w memory) memory (ask_function w (Some h)) _ (read_task w memory k TaskFunction) _ (alike_function w memory h k st)
         (λ func e f. alike_then (MaybeObject w memory Task) (RelationsAs w memory) memory (ask_generating w (Some h)) _ (look_optional w memory tasks (id_address w tasks k) TaskGenerating 0) _ alike_generating
@@ -213,10 +237,12 @@ module _ (w : List ℕ) (memory : Words) (h : Held) (k : Id) (st : Lives w memor
           subst (MaybeObject w memory Task next) (sym (named_back s)) to,
         ))))))
 
-    pub alike_link : (i : ℕ) → Alike (LinkAs w memory) (answer_on memory (ask_link w known i k (Some h))) (look_task w memory before i k)
+    pub alike_link : (i : ℕ)
+        → Alike (LinkAs w memory) (answer_on memory (ask_link w known i k (Some h))) (look_task w memory before i k)
     unfolding ask_link
     alike_link i =
-        subst (Alike (LinkAs w memory) (answer_on memory (ask_link w known i k (Some h)))) (parts_of_task w memory before i k)
+        subst (Alike (LinkAs w memory) (answer_on memory (ask_link w known i k (Some h))))
+        (parts_of_task w memory before i k)
         (alike_then (RelationsAs w memory) (LinkAs w memory) memory (ask_relations w known (Some h)) _ (look_relations w memory before k) _ alike_relations
         (λ seen relations e f r. alike_on (LinkAs w memory) memory (ask_frames w (Some h)) _ (look_frames w memory k) _ alike_frames
         (λ frames e f. alike_on (LinkAs w memory) memory (ask_tool w (Some h)) _ (read_task w memory k TaskTool) _ (alike_tool w memory h k st)

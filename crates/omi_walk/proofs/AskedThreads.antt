@@ -68,22 +68,27 @@ thread_id i = record { creator = i; slot = 0; generation = 0 }
 
 -- ---- what there may be
 
-maybe_fault : {A : Type 0} (none : Rc) (change : Result A Rc → Result (Option A) WalkFault) → ((rc : Rc) (fault : LookFault) → IsFault rc fault → change (Err rc) ≡ Err (as_fault fault))
+maybe_fault : {A : Type 0} (none : Rc) (change : Result A Rc → Result (Option A) WalkFault)
+    → ((rc : Rc) (fault : LookFault) → IsFault rc fault → change (Err rc) ≡ Err (as_fault fault))
     → ((x : A) → change (Ok x) ≡ Ok (Some x)) → change (Err none) ≡ Ok None → (a : Result A Rc) (l : Look (Option A)) → IsMaybe none a l → Alike Same (change a) l
-maybe_fault none change refused given absent (Ok x) (Ok (Some y)) is = subst (λ a. Alike Same a (Ok (Some y))) (sym (given x)) (ap Some is)
+maybe_fault none change refused given absent (Ok x) (Ok (Some y)) is =
+    subst (λ a. Alike Same a (Ok (Some y))) (sym (given x)) (ap Some is)
 maybe_fault none change refused given absent (Ok x) (Ok None) is = absurd is
 maybe_fault none change refused given absent (Ok x) (Err fault) is = absurd is
 maybe_fault none change refused given absent (Err rc) (Ok (Some y)) is = absurd is
 maybe_fault {A} none change refused given absent (Err rc) (Ok None) is =
-    subst (λ (a : Result (Option A) WalkFault). Alike Same a (Ok None)) (sym (ap (λ c. change (Err c)) is ∙ absent)) refl
+    subst (λ (a : Result (Option A) WalkFault). Alike Same a (Ok None))
+    (sym (ap (λ c. change (Err c)) is ∙ absent)) refl
 maybe_fault {A} none change refused given absent (Err rc) (Err fault) is =
     subst (λ (a : Result (Option A) WalkFault). Alike Same a (Err fault)) (sym (refused rc fault is)) refl
 
-absent_fault : {A : Type 0} (found : Option Held) (rc : Rc) (fault : LookFault) → IsFault rc fault → maybe_absent {A = A} found (Err rc) ≡ Err (as_fault fault)
+absent_fault : {A : Type 0} (found : Option Held) (rc : Rc) (fault : LookFault) → IsFault rc fault
+    → maybe_absent {A = A} found (Err rc) ≡ Err (as_fault fault)
 absent_fault {A} found rc (look.Damaged addr field) is = ap (λ c. maybe_absent {A = A} found (Err c)) is
 absent_fault found rc (look.Cycle addr) is = absurd is
 
-untracked_fault : {A : Type 0} (found : Option Held) (rc : Rc) (fault : LookFault) → IsFault rc fault → maybe_untracked {A = A} found (Err rc) ≡ Err (as_fault fault)
+untracked_fault : {A : Type 0} (found : Option Held) (rc : Rc) (fault : LookFault) → IsFault rc fault
+    → maybe_untracked {A = A} found (Err rc) ≡ Err (as_fault fault)
 untracked_fault {A} found rc (look.Damaged addr field) is = ap (λ c. maybe_untracked {A = A} found (Err c)) is
 untracked_fault found rc (look.Cycle addr) is = absurd is
 
@@ -96,14 +101,18 @@ module _ (w : List ℕ) (memory : Words) where
       (slot_found w valid threads (kind_is Thread) i 0 (record { made_by = low; within = omega arith }))
 
   pub alike_thread_with : IsValid w → (native : ℕ)
-      → Alike (λ o i. MaybeObject w memory Thread o (option_map thread_id i)) (answer_on memory (ask_thread_with w native)) (look_for w memory native (range_with_len 0 (thread_count w)))
+      → Alike (λ o i. MaybeObject w memory Thread o (option_map thread_id i))
+      (answer_on memory (ask_thread_with w native))
+      (look_for w memory native (range_with_len 0 (thread_count w)))
   alike_thread_with valid native =
-      subst (λ (a : Result (Option Met) WalkFault). Alike (λ o i. MaybeObject w memory Thread o (option_map thread_id i)) a (look_for w memory native (range_with_len 0 (thread_count w))))
+      subst
+      (λ (a : Result (Option Met) WalkFault). Alike (λ o i. MaybeObject w memory Thread o (option_map thread_id i)) a (look_for w memory native (range_with_len 0 (thread_count w))))
       (sym (maybe_answers w memory Thread None (thread_with w 0 native)))
       (go (answer_on memory (thread_with w 0 native)) (look_for w memory native (range_with_len 0 (thread_count w))) (thread_found w memory native))
     where
       go : (a : Result Held Rc) (l : Look (Option ℕ)) → IsFound w memory a l
-          → Alike (λ o i. MaybeObject w memory Thread o (option_map thread_id i)) (answer_on memory (after (maybe_absent None a) (some_met w memory Thread))) l
+          → Alike (λ o i. MaybeObject w memory Thread o (option_map thread_id i))
+          (answer_on memory (after (maybe_absent None a) (some_met w memory Thread))) l
       go (Ok h) (Ok (Some i)) found =
           subst (λ h. IsObject w memory Thread (met w h) (thread_id i)) (sym found.0)
           (found_object w memory Thread (begun w i) (thread_id i) (thread_named valid i found.2)
@@ -116,14 +125,19 @@ module _ (w : List ℕ) (memory : Words) where
       go (Ok h) (Err fault) found = absurd found
       go (Err rc) (Ok (Some i)) found = absurd found
       go (Err rc) (Ok None) found =
-          subst (λ c. Alike (λ o i. MaybeObject w memory Thread o (option_map thread_id i)) (answer_on memory (after (maybe_absent {A = Held} None (Err c)) (some_met w memory Thread))) (Ok None)) (sym found) tt
-      go (Err rc) (Err fault) found = maybe_refused w memory Thread (λ o i. MaybeObject w memory Thread o (option_map thread_id i)) None rc fault found
+          subst
+          (λ c. Alike (λ o i. MaybeObject w memory Thread o (option_map thread_id i)) (answer_on memory (after (maybe_absent {A = Held} None (Err c)) (some_met w memory Thread))) (Ok None))
+          (sym found) tt
+      go (Err rc) (Err fault) found =
+          maybe_refused w memory Thread
+          (λ o i. MaybeObject w memory Thread o (option_map thread_id i)) None rc fault found
 
   -- ---- a thread
 
   -- what is seen of the thread of this number, and its current task
   abbrev pub PartAs : ℕ → SeenPart → ThreadPart → Type 0
-  PartAs i seen part = (seen.part ≡ part) × (seen.part.thread ≡ i) × FoundIs w memory (record { thread = i; current = seen.current })
+  PartAs i seen part =
+      (seen.part ≡ part) × (seen.part.thread ≡ i) × FoundIs w memory (record { thread = i; current = seen.current })
 
   module _ (h : Held) (i : ℕ) (st : Lives w memory Thread h (thread_id i)) where
     state_looked : IsMaybe NeedsStateTracking (answer_on memory (state w (Some h))) (look_state w memory i)
@@ -138,10 +152,13 @@ module _ (w : List ℕ) (memory : Words) where
         parted word = Answer (Ok (state_of word, wait_of word))
 
         kept : ℕ → ℕ → Reads (ℕ × ℕ)
-        kept address debug = cond (debug == 0) (Answer (Err NeedsStateTracking)) (then_reads (word_of w address ThreadState 0) parted)
+        kept address debug =
+            cond (debug == 0) (Answer (Err NeedsStateTracking))
+            (then_reads (word_of w address ThreadState 0) parted)
 
         by_word : (a : Result ℕ Rc) (l : Look ℕ) → IsLook {A = ℕ} {B = ℕ} (λ x y. x ≡ y) a l
-            → IsMaybe NeedsStateTracking (answer_on memory (after a parted)) (and_then l (λ word. Ok (Some (state_of word, wait_of word))))
+            → IsMaybe NeedsStateTracking (answer_on memory (after a parted))
+            (and_then l (λ word. Ok (Some (state_of word, wait_of word))))
         by_word (Ok x) (Ok y) same = ap (λ word. (state_of word, wait_of word)) same
         by_word (Ok x) (Err fault) same = absurd same
         by_word (Err rc) (Ok y) same = absurd same
@@ -150,7 +167,8 @@ module _ (w : List ℕ) (memory : Words) where
         here : IsMaybe NeedsStateTracking (answer_on memory (then_reads (word_of w h.addr ThreadState 0) parted))
             (and_then (read_thread w memory i ThreadState) (λ word. Ok (Some (state_of word, wait_of word))))
         here =
-            subst (λ (a : Result (ℕ × ℕ) Rc). IsMaybe NeedsStateTracking a (and_then (read_thread w memory i ThreadState) (λ word. Ok (Some (state_of word, wait_of word)))))
+            subst
+            (λ (a : Result (ℕ × ℕ) Rc). IsMaybe NeedsStateTracking a (and_then (read_thread w memory i ThreadState) (λ word. Ok (Some (state_of word, wait_of word)))))
             (sym (answer_then memory (word_of w h.addr ThreadState 0) parted))
             (by_word (answer_on memory (word_of w h.addr ThreadState 0)) (read_thread w memory i ThreadState)
             (subst (λ a. IsLook {A = ℕ} {B = ℕ} (λ x y. x ≡ y) (answer_on memory (word_of w h.addr ThreadState 0)) (look_word w memory a ThreadState 0)) st.at (word_is_looked w memory h.addr ThreadState 0)))
@@ -159,9 +177,12 @@ module _ (w : List ℕ) (memory : Words) where
             → IsMaybe NeedsStateTracking (answer_on memory (after a (kept h.addr)))
             (and_then l (λ debug. cond (debug == 0) (Ok None) (and_then (read_thread w memory i ThreadState) (λ word. Ok (Some (state_of word, wait_of word))))))
         by_debug (Ok x) (Ok y) same =
-            subst (λ z. IsMaybe NeedsStateTracking (answer_on memory (kept h.addr x)) (cond (z == 0) (Ok None) (and_then (read_thread w memory i ThreadState) (λ word. Ok (Some (state_of word, wait_of word)))))) same (test (x == 0))
+            subst
+            (λ z. IsMaybe NeedsStateTracking (answer_on memory (kept h.addr x)) (cond (z == 0) (Ok None) (and_then (read_thread w memory i ThreadState) (λ word. Ok (Some (state_of word, wait_of word)))))) same
+            (test (x == 0))
           where
-            test : (b : Bool) → IsMaybe NeedsStateTracking (answer_on memory (cond b (Answer (Err NeedsStateTracking)) (then_reads (word_of w h.addr ThreadState 0) parted)))
+            test : (b : Bool)
+                → IsMaybe NeedsStateTracking (answer_on memory (cond b (Answer (Err NeedsStateTracking)) (then_reads (word_of w h.addr ThreadState 0) parted)))
                 (cond b (Ok None) (and_then (read_thread w memory i ThreadState) (λ word. Ok (Some (state_of word, wait_of word)))))
             test true = refl
             test false = here
@@ -172,18 +193,23 @@ module _ (w : List ℕ) (memory : Words) where
     pub alike_state : Alike Same (answer_on memory (ask_state w (Some h))) (look_state w memory i)
     unfolding ask_state
     alike_state =
-        subst (λ (a : Result (Option (ℕ × ℕ)) WalkFault). Alike Same a (look_state w memory i)) (sym (answer_answering memory (maybe_untracked (Some h)) (state w (Some h))))
+        subst (λ (a : Result (Option (ℕ × ℕ)) WalkFault). Alike Same a (look_state w memory i))
+        (sym (answer_answering memory (maybe_untracked (Some h)) (state w (Some h))))
         (maybe_fault NeedsStateTracking (maybe_untracked (Some h)) (untracked_fault (Some h)) (λ x. refl) refl (answer_on memory (state w (Some h))) (look_state w memory i) state_looked)
 
     pub alike_current : Alike (MaybeObject w memory Task) (answer_on memory (ask_current w (Some h))) (look_current w memory i)
     unfolding current_task
-    alike_current = alike_follow_some w memory Thread h (thread_id i) st Task ThreadCurrent (current_task w (Some h)) refl
+    alike_current =
+        alike_follow_some w memory Thread h (thread_id i) st Task ThreadCurrent (current_task w (Some h)) refl
 
     number_looked : (current : Option Id) → look_current w memory i ≡ Ok current
-        → IsMaybe Unavailable (answer_on memory (icv_from_scope w (λ _. Some h) (scoped.Thread (record { key = 0; serial = 0 })) THREAD_NUM_VAR)) (optional (λ k. read_task w memory k TaskNumber) current)
+        → IsMaybe Unavailable
+        (answer_on memory (icv_from_scope w (λ _. Some h) (scoped.Thread (record { key = 0; serial = 0 })) THREAD_NUM_VAR))
+        (optional (λ k. read_task w memory k TaskNumber) current)
     unfolding member_number and_then
     number_looked current now =
-        subst (λ (a : Result ℕ Rc). IsMaybe Unavailable a (optional (λ k. read_task w memory k TaskNumber) current))
+        subst
+        (λ (a : Result ℕ Rc). IsMaybe Unavailable a (optional (λ k. read_task w memory k TaskNumber) current))
         (sym (variable_answers w memory (λ _. Some h) (scoped.Thread (record { key = 0; serial = 0 })) THREAD_NUM_VAR h.addr _ (record_answers w memory Thread h (thread_id i) st) refl
         ∙ answer_then memory (follow_some w Task h.addr ThreadCurrent) word))
         (go (answer_on memory (follow_some w Task h.addr ThreadCurrent)) refl current
@@ -194,27 +220,33 @@ module _ (w : List ℕ) (memory : Words) where
         word : Held → Reads ℕ
         word task = word_of w task.addr TaskNumber 0
 
-        value : (a : Result ℕ Rc) (l : Look ℕ) → IsLook {A = ℕ} {B = ℕ} (λ x y. x ≡ y) a l → IsMaybe Unavailable a (and_then l (λ y. Ok (Some y)))
+        value : (a : Result ℕ Rc) (l : Look ℕ) → IsLook {A = ℕ} {B = ℕ} (λ x y. x ≡ y) a l
+            → IsMaybe Unavailable a (and_then l (λ y. Ok (Some y)))
         value (Ok x) (Ok y) same = same
         value (Ok x) (Err fault) same = absurd same
         value (Err rc) (Ok y) same = absurd same
         value (Err rc) (Err fault) same = same
 
-        go : (a : Result Held Rc) → a ≡ answer_on memory (follow_some w Task h.addr ThreadCurrent) → (current : Option Id) → IsOptional w a (Ok current)
-            → IsMaybe Unavailable (answer_on memory (after a word)) (optional (λ k. read_task w memory k TaskNumber) current)
+        go : (a : Result Held Rc) → a ≡ answer_on memory (follow_some w Task h.addr ThreadCurrent)
+            → (current : Option Id) → IsOptional w a (Ok current)
+            → IsMaybe Unavailable (answer_on memory (after a word))
+            (optional (λ k. read_task w memory k TaskNumber) current)
         go (Ok t) from (Some k) named =
             let of_kind : t.kind ≡ Task = some_kind w memory Task h.addr ThreadCurrent t (sym from) in
-            let there : t.addr ≡ id_address w tasks k = named_address w t k named ∙ ap (λ kind. id_address w (record_kind kind) k) of_kind in
+            let there : t.addr ≡ id_address w tasks k =
+            named_address w t k named ∙ ap (λ kind. id_address w (record_kind kind) k) of_kind in
             value (answer_on memory (word_of w t.addr TaskNumber 0)) (read_task w memory k TaskNumber)
             (subst (λ a. IsLook {A = ℕ} {B = ℕ} (λ x y. x ≡ y) (answer_on memory (word_of w t.addr TaskNumber 0)) (look_word w memory a TaskNumber 0)) there (word_is_looked w memory t.addr TaskNumber 0))
         go (Ok t) from None named = absurd named
         go (Err rc) from (Some k) named = absurd named
         go (Err rc) from None named = named
 
-    pub alike_number : (current : Option Id) → look_current w memory i ≡ Ok current → Alike Same (answer_on memory (ask_number w (Some h))) (optional (λ k. read_task w memory k TaskNumber) current)
+    pub alike_number : (current : Option Id) → look_current w memory i ≡ Ok current
+        → Alike Same (answer_on memory (ask_number w (Some h))) (optional (λ k. read_task w memory k TaskNumber) current)
     unfolding ask_number
     alike_number current now =
-        subst (λ (a : Result (Option ℕ) WalkFault). Alike Same a (optional (λ k. read_task w memory k TaskNumber) current))
+        subst
+        (λ (a : Result (Option ℕ) WalkFault). Alike Same a (optional (λ k. read_task w memory k TaskNumber) current))
         (sym (answer_answering memory (maybe_absent (Some h)) (icv_from_scope w (λ _. Some h) (scoped.Thread (record { key = 0; serial = 0 })) THREAD_NUM_VAR)))
         (maybe_fault Unavailable (maybe_absent (Some h)) (absent_fault (Some h)) (λ x. refl) refl _ _ (number_looked current now))
 
@@ -245,34 +277,41 @@ module _ (w : List ℕ) (memory : Words) where
   abbrev pub RowAs : SeenThread → ThreadRow → Type 0
   RowAs seen row = (seen.row ≡ row) × AreFound (found_in seen.row.found seen.current)
 
-  pub alike_thread : IsValid w → (native : ℕ) → Alike RowAs (answer_on memory (ask_thread w native)) (look_thread w memory native)
+  pub alike_thread : IsValid w → (native : ℕ)
+      → Alike RowAs (answer_on memory (ask_thread w native)) (look_thread w memory native)
   unfolding ask_thread ask_found and_then
   alike_thread valid native =
-      alike_then (λ o i. MaybeObject w memory Thread o (option_map thread_id i)) RowAs memory (ask_thread_with w native) (ask_found w native) (look_for w memory native (range_with_len 0 (thread_count w))) _
+      alike_then (λ o i. MaybeObject w memory Thread o (option_map thread_id i)) RowAs memory
+      (ask_thread_with w native) (ask_found w native)
+      (look_for w memory native (range_with_len 0 (thread_count w))) _
       (alike_thread_with valid native) (λ o i e f is. go o i is)
     where
       with_part : Option ThreadPart → ThreadRow
       with_part part = record { native = native; found = part }
 
-      rows : (l : Look ThreadPart) → mapped with_part (mapped (λ (y : ThreadPart). Some y) l) ≡ mapped (λ (part : ThreadPart). with_part (Some part)) l
+      rows : (l : Look ThreadPart)
+          → mapped with_part (mapped (λ (y : ThreadPart). Some y) l) ≡ mapped (λ (part : ThreadPart). with_part (Some part)) l
       rows (Ok part) = refl
       rows (Err fault) = refl
 
       go : (o : Option Met) (i : Option ℕ) → MaybeObject w memory Thread o (option_map thread_id i)
-          → Alike RowAs (answer_on memory (ask_found w native o)) (mapped with_part (optional (look_part w memory) i))
+          → Alike RowAs (answer_on memory (ask_found w native o))
+          (mapped with_part (optional (look_part w memory) i))
       go None None is = (refl, tt)
       go None (Some i) is = absurd is
       go (Some m) None is = absurd is
       go (Some m) (Some i) is =
           let number : m.name.creator ≡ i = ap (λ (n : Id). n.creator) is.name in
-          subst (λ l. Alike RowAs (answer_on memory (ask_found w native (Some m))) l) (sym (rows (look_part w memory i)))
+          subst (λ l. Alike RowAs (answer_on memory (ask_found w native (Some m))) l)
+          (sym (rows (look_part w memory i)))
           (alike_map (PartAs i) RowAs memory (ask_part w m.name.creator (Some m.held)) _ (look_part w memory i) _
           (subst (λ c. Alike (PartAs i) (answer_on memory (ask_part w c (Some m.held))) (look_part w memory i)) (sym number)
           (alike_part m.held i is.lives))
           (λ seen part e f both.
           ((λ j. record { native = native; found = Some (both.0 j) }), (subst (λ t. FoundIs w memory (record { thread = t; current = seen.current })) (sym both.1) both.2, tt))))
 
-  pub all_rows : (seen : List SeenThread) (rows : List ThreadRow) → AllAlike RowAs seen rows → map (λ s. s.row) seen ≡ rows
+  pub all_rows : (seen : List SeenThread) (rows : List ThreadRow) → AllAlike RowAs seen rows
+      → map (λ s. s.row) seen ≡ rows
   all_rows [] [] all = refl
   all_rows [] (row ∷ rows) all = absurd all
   all_rows (x ∷ seen) [] all = absurd all
@@ -282,14 +321,17 @@ module _ (w : List ℕ) (memory : Words) where
   found_append [] ys one two = two
   found_append (x ∷ xs) ys one two = (one.0, found_append xs ys one.1 two)
 
-  pub all_found : (seen : List SeenThread) (rows : List ThreadRow) → AllAlike RowAs seen rows → AreFound (flat_map (λ s. found_in s.row.found s.current) seen)
+  pub all_found : (seen : List SeenThread) (rows : List ThreadRow) → AllAlike RowAs seen rows
+      → AreFound (flat_map (λ s. found_in s.row.found s.current) seen)
   all_found [] [] all = tt
   all_found [] (row ∷ rows) all = absurd all
   all_found (x ∷ seen) [] all = absurd all
-  all_found (x ∷ seen) (row ∷ rows) all = found_append (found_in x.row.found x.current) _ all.0.1 (all_found seen rows all.1)
+  all_found (x ∷ seen) (row ∷ rows) all =
+      found_append (found_in x.row.found x.current) _ all.0.1 (all_found seen rows all.1)
 
   -- they are the threads that the rows have
-  number_in : (o : Option ThreadPart) (current : Option Met) → map (λ (f : Found). f.thread) (found_in o current) ≡ cons_option (option_map (λ (part : ThreadPart). part.thread) o) []
+  number_in : (o : Option ThreadPart) (current : Option Met)
+      → map (λ (f : Found). f.thread) (found_in o current) ≡ cons_option (option_map (λ (part : ThreadPart). part.thread) o) []
   number_in None current = refl
   number_in (Some part) current = refl
 
@@ -297,15 +339,19 @@ module _ (w : List ℕ) (memory : Words) where
   cons_append None xs = refl
   cons_append (Some x) xs = refl
 
-  pub all_threads : (seen : List SeenThread) (rows : List ThreadRow) → AllAlike RowAs seen rows → map (λ (f : Found). f.thread) (flat_map (λ s. found_in s.row.found s.current) seen) ≡ found_threads w memory rows
+  pub all_threads : (seen : List SeenThread) (rows : List ThreadRow) → AllAlike RowAs seen rows
+      → map (λ (f : Found). f.thread) (flat_map (λ s. found_in s.row.found s.current) seen) ≡ found_threads w memory rows
   all_threads [] [] all = refl
   all_threads [] (row ∷ rows) all = absurd all
   all_threads (x ∷ seen) [] all = absurd all
   all_threads (x ∷ seen) (row ∷ rows) all =
-      map-append (λ (f : Found). f.thread) (found_in x.row.found x.current) (flat_map (λ s. found_in s.row.found s.current) seen)
+      map-append (λ (f : Found). f.thread) (found_in x.row.found x.current)
+      (flat_map (λ s. found_in s.row.found s.current) seen)
       ∙ (λ j. number_in x.row.found x.current j ++ all_threads seen rows all.1 j)
-      ∙ cons_append (option_map (λ (part : ThreadPart). part.thread) x.row.found) (found_threads w memory rows)
-      ∙ ap (λ (row : ThreadRow). cons_option (option_map (λ (part : ThreadPart). part.thread) row.found) (found_threads w memory rows)) all.0.0
+      ∙ cons_append (option_map (λ (part : ThreadPart). part.thread) x.row.found)
+      (found_threads w memory rows)
+      ∙ ap
+      (λ (row : ThreadRow). cons_option (option_map (λ (part : ThreadPart). part.thread) row.found) (found_threads w memory rows)) all.0.0
 
   -- all rows, and what was found
   pub record ThreadsAs (seen : SeenThreads) (rows : List ThreadRow) : Type 0 where
@@ -313,10 +359,12 @@ module _ (w : List ℕ) (memory : Words) where
     pub found : AreFound seen.found
     pub threads : map (λ (f : Found). f.thread) seen.found ≡ found_threads w memory rows
 
-  pub alike_threads : IsValid w → (contexts : List ℕ) → Alike ThreadsAs (answer_on memory (ask_threads w contexts)) (each (look_thread w memory) contexts)
+  pub alike_threads : IsValid w → (contexts : List ℕ)
+      → Alike ThreadsAs (answer_on memory (ask_threads w contexts)) (each (look_thread w memory) contexts)
   unfolding ask_threads
   alike_threads valid contexts =
-      alike_with (AllAlike RowAs) ThreadsAs memory (ask_each (ask_thread w) contexts) all_seen (each (look_thread w memory) contexts)
+      alike_with (AllAlike RowAs) ThreadsAs memory (ask_each (ask_thread w) contexts) all_seen
+      (each (look_thread w memory) contexts)
       (alike_each Same RowAs memory (ask_thread w) (look_thread w memory) (λ x z same. subst (λ z. Alike RowAs (answer_on memory (ask_thread w x)) (look_thread w memory z)) same (alike_thread valid x)) contexts contexts (same_all contexts))
       (λ seen rows e f all. record { rows_are = all_rows seen rows all; found = all_found seen rows all; threads = all_threads seen rows all })
     where

@@ -28,13 +28,15 @@ use Rattle.omi_walk.proofs.AskedThreads.{AreFound, ThreadsAs, alike_threads}
 use Rattle.omi_walk.proofs.AskedWords.{alike_head}
 
 -- lists of lists
-all_flat : {A B : Type 0} (R : A → B → Type 0) (xss : List (List A)) (yss : List (List B)) → AllAlike (AllAlike R) xss yss → AllAlike R (flat_map (λ xs. xs) xss) (flat_map (λ ys. ys) yss)
+all_flat : {A B : Type 0} (R : A → B → Type 0) (xss : List (List A)) (yss : List (List B))
+    → AllAlike (AllAlike R) xss yss → AllAlike R (flat_map (λ xs. xs) xss) (flat_map (λ ys. ys) yss)
 all_flat R [] [] all = tt
 all_flat R [] (ys ∷ yss) all = absurd all
 all_flat R (xs ∷ xss) [] all = absurd all
 all_flat {A} {B} R (xs ∷ xss) (ys ∷ yss) all = go (all_flat R xss yss all.1) xs ys all.0
   where
-    go : AllAlike R (flat_map (λ xs. xs) xss) (flat_map (λ ys. ys) yss) → (xs : List A) (ys : List B) → AllAlike R xs ys → AllAlike R (xs ++ flat_map (λ xs. xs) xss) (ys ++ flat_map (λ ys. ys) yss)
+    go : AllAlike R (flat_map (λ xs. xs) xss) (flat_map (λ ys. ys) yss) → (xs : List A) (ys : List B)
+        → AllAlike R xs ys → AllAlike R (xs ++ flat_map (λ xs. xs) xss) (ys ++ flat_map (λ ys. ys) yss)
     go rest [] [] both = rest
     go rest [] (y ∷ ys) both = absurd both
     go rest (x ∷ xs) [] both = absurd both
@@ -42,46 +44,65 @@ all_flat {A} {B} R (xs ∷ xss) (ys ∷ yss) all = go (all_flat R xss yss all.1)
 
 module _ (w : List ℕ) (memory : Words) where
   -- the first region that was met in a slot is the one of the look
-  first_alike : (at : ℕ × ℕ) (met : List Met) (names : List Id) → AllAlike (IsObject w memory Region) met names → MaybeObject w memory Region (first_in met at) (met_in w memory names at)
+  first_alike : (at : ℕ × ℕ) (met : List Met) (names : List Id)
+      → AllAlike (IsObject w memory Region) met names
+      → MaybeObject w memory Region (first_in met at) (met_in w memory names at)
   first_alike at [] [] all = tt
   first_alike at [] (n ∷ names) all = absurd all
   first_alike at (m ∷ met) [] all = absurd all
   first_alike at (m ∷ met) (n ∷ names) all =
-      subst (λ name. MaybeObject w memory Region (cond (name.creator == at.0 && name.slot == at.1) (Some m) (first_in met at)) (cond (n.creator == at.0 && n.slot == at.1) (Some n) (met_in w memory names at))) (sym all.0.name)
+      subst
+      (λ name. MaybeObject w memory Region (cond (name.creator == at.0 && name.slot == at.1) (Some m) (first_in met at)) (cond (n.creator == at.0 && n.slot == at.1) (Some n) (met_in w memory names at)))
+      (sym all.0.name)
       (go (n.creator == at.0 && n.slot == at.1) (first_alike at met names all.1))
     where
       go : (b : Bool) → MaybeObject w memory Region (first_in met at) (met_in w memory names at)
-          → MaybeObject w memory Region (cond b (Some m) (first_in met at)) (cond b (Some n) (met_in w memory names at))
+          → MaybeObject w memory Region (cond b (Some m) (first_in met at))
+          (cond b (Some n) (met_in w memory names at))
       go true rest = all.0
       go false rest = rest
 
-  slots_alike : (met : List Met) (names : List Id) → AllAlike (IsObject w memory Region) met names → (slots : List (ℕ × ℕ))
-      → AllAlike (IsObject w memory Region) (filter_map (first_in met) slots) (filter_map (met_in w memory names) slots)
+  slots_alike : (met : List Met) (names : List Id) → AllAlike (IsObject w memory Region) met names
+      → (slots : List (ℕ × ℕ))
+      → AllAlike (IsObject w memory Region) (filter_map (first_in met) slots)
+      (filter_map (met_in w memory names) slots)
   slots_alike met names all [] = tt
-  slots_alike met names all (at ∷ slots) = go _ _ (first_in met at) (met_in w memory names at) (first_alike at met names all) (slots_alike met names all slots)
+  slots_alike met names all (at ∷ slots) =
+      go _ _ (first_in met at) (met_in w memory names at) (first_alike at met names all)
+      (slots_alike met names all slots)
     where
-      go : (xs : List Met) (ys : List Id) (o : Option Met) (n : Option Id) → MaybeObject w memory Region o n → AllAlike (IsObject w memory Region) xs ys → AllAlike (IsObject w memory Region) (cons_option o xs) (cons_option n ys)
+      go : (xs : List Met) (ys : List Id) (o : Option Met) (n : Option Id) → MaybeObject w memory Region o n
+          → AllAlike (IsObject w memory Region) xs ys
+          → AllAlike (IsObject w memory Region) (cons_option o xs) (cons_option n ys)
       go xs ys None None is rest = rest
       go xs ys None (Some n) is rest = absurd is
       go xs ys (Some m) None is rest = absurd is
       go xs ys (Some m) (Some n) is rest = (is, rest)
 
-  region_alike : (m : Met) (n : Id) → IsObject w memory Region m n → Alike Same (answer_on memory (ask_region w m)) (look_region w memory n)
-  region_alike m n is = subst (λ k. Alike Same (answer_on memory (ask_row w k (Some m.held))) (look_region w memory n)) (sym is.name) (alike_row w memory m.held n is.lives)
+  region_alike : (m : Met) (n : Id) → IsObject w memory Region m n
+      → Alike Same (answer_on memory (ask_region w m)) (look_region w memory n)
+  region_alike m n is =
+      subst (λ k. Alike Same (answer_on memory (ask_row w k (Some m.held))) (look_region w memory n))
+      (sym is.name) (alike_row w memory m.held n is.lives)
 
   -- what was found, by the threads
-  pairs : (found : List Found) → AreFound w memory found → AllAlike (λ f i. FoundIs w memory f × (f.thread ≡ i)) found (map (λ (f : Found). f.thread) found)
+  pairs : (found : List Found) → AreFound w memory found
+      → AllAlike (λ f i. FoundIs w memory f × (f.thread ≡ i)) found (map (λ (f : Found). f.thread) found)
   pairs [] all = tt
   pairs (f ∷ found) all = ((all.0, refl), pairs found all.1)
 
-  pub alike_view : IsValid w → (contexts : List ℕ) → Alike Same (answer_on memory (ask_view w contexts)) (look_view w memory contexts)
+  pub alike_view : IsValid w → (contexts : List ℕ)
+      → Alike Same (answer_on memory (ask_view w contexts)) (look_view w memory contexts)
   unfolding ask_view ask_all_tasks
   alike_view valid contexts =
       alike_on Same memory (ask_head w) _ (look_head w memory) _ (alike_head w memory)
       (λ head e f. alike_then (ThreadsAs w memory) Same memory (ask_threads w contexts) _ (each (look_thread w memory) contexts) _ (alike_threads w memory valid contexts)
       (λ seen rows e f is.
-      let pairing = subst (AllAlike (λ f i. FoundIs w memory f × (f.thread ≡ i)) seen.found) is.threads (pairs seen.found is.found) in
-      alike_then (AllAlike (AllAlike (IsObject w memory Region))) Same memory (ask_each (ask_regions w) seen.found) _ (each (look_regions w memory) (found_threads w memory rows)) _
+      let pairing =
+      subst (AllAlike (λ f i. FoundIs w memory f × (f.thread ≡ i)) seen.found) is.threads
+      (pairs seen.found is.found) in
+      alike_then (AllAlike (AllAlike (IsObject w memory Region))) Same memory
+      (ask_each (ask_regions w) seen.found) _ (each (look_regions w memory) (found_threads w memory rows)) _
       (alike_each (λ f i. FoundIs w memory f × (f.thread ≡ i)) (AllAlike (IsObject w memory Region)) memory (ask_regions w) (look_regions w memory)
       (λ f i both. subst (λ i. Alike (AllAlike (IsObject w memory Region)) (answer_on memory (ask_regions w f)) (look_regions w memory i)) both.1 (alike_regions w memory f both.0)) seen.found (found_threads w memory rows) pairing)
       (λ met names e f all. alike_then (AllAlike Same) Same memory (ask_rows w (flat_map (λ chain. chain) met)) _ (each (look_region w memory) (filter_map (met_in w memory (flat_map (λ ids. ids) names)) (slot_list w regions))) _

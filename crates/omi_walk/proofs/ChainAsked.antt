@@ -17,33 +17,43 @@ use Rattle.omi_walk.proofs.Goes.{Goes, goes_begin, goes_same, goes_on, goes_stop
 use Rattle.omi_walk.proofs.EachAsked.{with_nothing, with_before}
 
 -- an address more is in a set
-pub also_met : (old new : BTreeSet ℕ) (key : ℕ) → Updates nat_cmp old new key true → (address : ℕ) → contains nat_cmp new address ≡ also key (contains nat_cmp old) address
+pub also_met : (old new : BTreeSet ℕ) (key : ℕ) → Updates nat_cmp old new key true → (address : ℕ)
+    → contains nat_cmp new address ≡ also key (contains nat_cmp old) address
 also_met old new key updates address =
-    updates.0 address ∙ ap (λ (b : Bool). cond b true (contains nat_cmp old address)) (sym (unsigned_ties key address)) ∙ go (key == address)
+    updates.0 address
+    ∙ ap (λ (b : Bool). cond b true (contains nat_cmp old address)) (sym (unsigned_ties key address))
+    ∙ go (key == address)
   where
     go : (b : Bool) → cond b true (contains nat_cmp old address) ≡ (b || contains nat_cmp old address)
     go true = refl
     go false = refl
 
-module _ {A C F : Type 0} (told : C → Told) (asked : C → ℕ) (s : Opened C F) (ask : List ℕ → (ℕ → Bool) → Met → Asks (A × Option Met)) (count : ℕ) (first : Option Met) where
+module _ {A C F : Type 0} (told : C → Told) (asked : C → ℕ) (s : Opened C F)
+    (ask : List ℕ → (ℕ → Bool) → Met → Asks (A × Option Met)) (count : ℕ) (first : Option Met) where
   abbrev pub all_asked : Asks (List A)
   all_asked = ask_chain (ask s.layout) count none_met first
 
   -- the rows so far, and the chain that is left
   abbrev pub ChainGoes : Opened C F → List A → ℕ → (ℕ → Bool) → Option Met → Type 0
-  ChainGoes t rows left known current = Goes told asked s t all_asked (with_answer (λ more. rows ++ more) (ask_chain (ask s.layout) left known current))
+  ChainGoes t rows left known current =
+      Goes told asked s t all_asked
+      (with_answer (λ more. rows ++ more) (ask_chain (ask s.layout) left known current))
 
-  pub chain_begin : (rows : List A) (known : ℕ → Bool) (n : ℕ) → rows ≡ [] → ((address : ℕ) → known address ≡ false) → n ≡ count → ChainGoes s rows n known first
+  pub chain_begin : (rows : List A) (known : ℕ → Bool) (n : ℕ) → rows ≡ []
+      → ((address : ℕ) → known address ≡ false) → n ≡ count → ChainGoes s rows n known first
   chain_begin rows known n none empty all =
-      goes_same told asked s s all_asked all_asked (with_answer (λ more. rows ++ more) (ask_chain (ask s.layout) n known first))
+      goes_same told asked s s all_asked all_asked
+      (with_answer (λ more. rows ++ more) (ask_chain (ask s.layout) n known first))
       (sym (with_nothing all_asked) ∙ (λ i. with_answer (λ more. sym none i ++ more) (ask_chain (ask s.layout) (sym all i) (λ address. sym (empty address) i) first)))
       (goes_begin told asked s all_asked)
 
-  module _ (t u : Opened C F) (rows : List A) (known now : ℕ → Bool) (left : ℕ) (m : Met) (same : (address : ℕ) → now address ≡ also m.held.addr known address)
+  module _ (t u : Opened C F) (rows : List A) (known now : ℕ → Bool) (left : ℕ) (m : Met)
+      (same : (address : ℕ) → now address ≡ also m.held.addr known address)
       (so : ChainGoes t rows (suc left) known (Some m)) where
     -- the next one is asked about
     abbrev onward : A × Option Met → Asks (List A)
-    onward found = with_answer (λ more. (rows ++ found.0 ∷ []) ++ more) (ask_chain (ask s.layout) left now found.1)
+    onward found =
+        with_answer (λ more. (rows ++ found.0 ∷ []) ++ more) (ask_chain (ask s.layout) left now found.1)
 
     asked_next : Goes told asked s t all_asked (then_reads (ask s.layout now m) onward)
     unfolding ask_chain
@@ -53,18 +63,29 @@ module _ {A C F : Type 0} (told : C → Told) (asked : C → ℕ) (s : Opened C 
         ∙ (λ i. then_reads (ask s.layout (λ address. sym (same address) i) m)
         (λ found. with_answer (λ more. (rows ++ found.0 ∷ []) ++ more) (ask_chain (ask s.layout) left (λ address. sym (same address) i) found.1)))) so
 
-    pub chain_next : (n : ℕ) (row : A) (next : Option Met) → Leaves told n t u → Walks told asked t u (Ok (row, next)) (ask t.layout now m) → ChainGoes u (rows ++ row ∷ []) left now next
-    chain_next n row next leaves walks = goes_on told asked s t u (0, 0) all_asked (λ w k. ask w now m) onward asked_next n (row, next) leaves walks
+    pub chain_next : (n : ℕ) (row : A) (next : Option Met) → Leaves told n t u
+        → Walks told asked t u (Ok (row, next)) (ask t.layout now m)
+        → ChainGoes u (rows ++ row ∷ []) left now next
+    chain_next n row next leaves walks =
+        goes_on told asked s t u (0, 0) all_asked (λ w k. ask w now m) onward asked_next n
+        (row, next) leaves walks
 
-    pub chain_stop : (fault : WalkFault) (r : Result (List A) WalkFault) → Walks told asked t u (Err fault) (ask t.layout now m) → IsErrAnd r (λ why. why ≡ fault) → Walks told asked s u r all_asked
-    chain_stop fault r walks is = goes_stop told asked s t u (0, 0) all_asked (λ w k. ask w now m) onward asked_next fault r walks is
+    pub chain_stop : (fault : WalkFault) (r : Result (List A) WalkFault)
+        → Walks told asked t u (Err fault) (ask t.layout now m) → IsErrAnd r (λ why. why ≡ fault)
+        → Walks told asked s u r all_asked
+    chain_stop fault r walks is =
+        goes_stop told asked s t u (0, 0) all_asked (λ w k. ask w now m) onward asked_next fault r walks is
 
   module _ (t : Opened C F) (rows : List A) (known : ℕ → Bool) where
     pub chain_end : (left : ℕ) → ChainGoes t rows left known None → Walks told asked s t (Ok rows) all_asked
     unfolding ask_chain with_answer then_reads
-    chain_end zero so = goes_end told asked s t all_asked (Ok rows) (Ok (rows ++ [])) (ap Ok (sym (append-nil rows))) so
-    chain_end (suc left) so = goes_end told asked s t all_asked (Ok rows) (Ok (rows ++ [])) (ap Ok (sym (append-nil rows))) so
+    chain_end zero so =
+        goes_end told asked s t all_asked (Ok rows) (Ok (rows ++ [])) (ap Ok (sym (append-nil rows))) so
+    chain_end (suc left) so =
+        goes_end told asked s t all_asked (Ok rows) (Ok (rows ++ [])) (ap Ok (sym (append-nil rows))) so
 
-    pub chain_cycle : (m : Met) → ChainGoes t rows zero known (Some m) → Walks told asked s t (Err (Cycle m.held.addr)) all_asked
+    pub chain_cycle : (m : Met) → ChainGoes t rows zero known (Some m)
+        → Walks told asked s t (Err (Cycle m.held.addr)) all_asked
     unfolding ask_chain with_answer then_reads
-    chain_cycle m so = goes_end told asked s t all_asked (Err (Cycle m.held.addr)) (Err (Cycle m.held.addr)) refl so
+    chain_cycle m so =
+        goes_end told asked s t all_asked (Err (Cycle m.held.addr)) (Err (Cycle m.held.addr)) refl so

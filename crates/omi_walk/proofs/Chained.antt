@@ -28,46 +28,64 @@ use Rattle.omi_walk.proofs.Names.{named_address}
 use Rattle.omi_walk.proofs.Steps.{stop_gives, same_gives, looks_before}
 
 -- the address of what was met
-pub met_address : {C F : Type 0} (told : C → Told) (s : Opened C F) (kind : Kind) (m : Met) → IsMet told s kind m → m.held.addr ≡ id_address s.layout (record_kind kind) m.name
-met_address told s kind m met = named_address s.layout m.held m.name met.name ∙ ap (λ k. id_address s.layout (record_kind k) m.name) met.of_kind
+pub met_address : {C F : Type 0} (told : C → Told) (s : Opened C F) (kind : Kind) (m : Met)
+    → IsMet told s kind m → m.held.addr ≡ id_address s.layout (record_kind kind) m.name
+met_address told s kind m met =
+    named_address s.layout m.held m.name met.name
+    ∙ ap (λ k. id_address s.layout (record_kind k) m.name) met.of_kind
 
-pub met_in_address : {C F : Type 0} (told : C → Told) (s t : Opened C F) (kind : Kind) (o : Option Met) → Stays told s t → IfSome o (IsMet told t kind)
+pub met_in_address : {C F : Type 0} (told : C → Told) (s t : Opened C F) (kind : Kind) (o : Option Met)
+    → Stays told s t → IfSome o (IsMet told t kind)
     → (m : Met) → o ≡ Some m → m.held.addr ≡ id_address s.layout (record_kind kind) m.name
 met_in_address told s t kind o stays met m is =
-    met_address told t kind m (subst (λ o. IfSome o (IsMet told t kind)) is met) ∙ ap (λ w. id_address w (record_kind kind) m.name) stays.layout
+    met_address told t kind m (subst (λ o. IfSome o (IsMet told t kind)) is met)
+    ∙ ap (λ w. id_address w (record_kind kind) m.name) stays.layout
 
-names_append : (xs ys : List Met) → map (λ m. m.name) (xs ++ ys) ≡ map (λ m. m.name) xs ++ map (λ m. m.name) ys
+names_append : (xs ys : List Met)
+    → map (λ m. m.name) (xs ++ ys) ≡ map (λ m. m.name) xs ++ map (λ m. m.name) ys
 names_append [] ys = refl
 names_append (x ∷ xs) ys = ap (λ names. x.name ∷ names) (names_append xs ys)
 
 -- the next object, which must not have been met
-pub onward_gives : (w : List ℕ) (kind : ℕ) (before : List ℕ) (known : ℕ → Bool) → ((address : ℕ) → known address ≡ was_met before address) → (next : Option Met)
+pub onward_gives : (w : List ℕ) (kind : ℕ) (before : List ℕ) (known : ℕ → Bool)
+    → ((address : ℕ) → known address ≡ was_met before address) → (next : Option Met)
     → ((m : Met) → next ≡ Some m → m.held.addr ≡ id_address w kind m.name) → (l : Look (Option Id)) → l ≡ Ok (name_in next)
     → Gives (names_met (unmet known next))
     (and_then l (λ o. option_map_or (λ n. cond (was_met before (id_address w kind n)) (Err (Cycle (id_address w kind n))) (Ok (Some n))) o (Ok None)))
 unfolding and_then
-onward_gives w kind before known same None there l is = ap (λ l. and_then l (λ o. option_map_or (λ n. cond (was_met before (id_address w kind n)) (Err (Cycle (id_address w kind n))) (Ok (Some n))) o (Ok None))) is
+onward_gives w kind before known same None there l is =
+    ap
+    (λ l. and_then l (λ o. option_map_or (λ n. cond (was_met before (id_address w kind n)) (Err (Cycle (id_address w kind n))) (Ok (Some n))) o (Ok None))) is
 onward_gives w kind before known same (Some m) there l is =
-    subst (λ l. Gives (names_met (unmet known (Some m))) (and_then l (λ o. option_map_or (λ n. cond (was_met before (id_address w kind n)) (Err (Cycle (id_address w kind n))) (Ok (Some n))) o (Ok None)))) (sym is)
+    subst
+    (λ l. Gives (names_met (unmet known (Some m))) (and_then l (λ o. option_map_or (λ n. cond (was_met before (id_address w kind n)) (Err (Cycle (id_address w kind n))) (Ok (Some n))) o (Ok None))))
+    (sym is)
     (subst (λ a. Gives (names_met (cond (known m.held.addr) (Err (fault.Cycle m.held.addr)) (Ok (Some m)))) (cond (was_met before a) (Err (Cycle a)) (Ok (Some m.name)))) (there m refl)
     (subst (λ b. Gives (names_met (cond b (Err (fault.Cycle m.held.addr)) (Ok (Some m)))) (cond (was_met before m.held.addr) (Err (Cycle m.held.addr)) (Ok (Some m.name)))) (sym (same m.held.addr)) (go (was_met before m.held.addr))))
   where
-    go : (b : Bool) → Gives (names_met (cond b (Err (fault.Cycle m.held.addr)) (Ok (Some m)))) (cond b (Err (Cycle m.held.addr)) (Ok (Some m.name)))
+    go : (b : Bool)
+        → Gives (names_met (cond b (Err (fault.Cycle m.held.addr)) (Ok (Some m)))) (cond b (Err (Cycle m.held.addr)) (Ok (Some m.name)))
     go true = refl
     go false = refl
 
 -- an address more was met
-pub met_more : (old new : BTreeSet ℕ) (key : ℕ) (before : List ℕ) → ((address : ℕ) → contains nat_cmp old address ≡ was_met before address) → Updates nat_cmp old new key true
+pub met_more : (old new : BTreeSet ℕ) (key : ℕ) (before : List ℕ)
+    → ((address : ℕ) → contains nat_cmp old address ≡ was_met before address)
+    → Updates nat_cmp old new key true
     → (address : ℕ) → contains nat_cmp new address ≡ was_met (key ∷ before) address
 met_more old new key before same updates address =
-    updates.0 address ∙ ap (λ (b : Bool). cond b true (contains nat_cmp old address)) (sym (unsigned_ties key address)) ∙ go (key == address) (same address)
+    updates.0 address
+    ∙ ap (λ (b : Bool). cond b true (contains nat_cmp old address)) (sym (unsigned_ties key address))
+    ∙ go (key == address) (same address)
   where
-    go : (b : Bool) → contains nat_cmp old address ≡ was_met before address → cond b true (contains nat_cmp old address) ≡ (b || was_met before address)
+    go : (b : Bool) → contains nat_cmp old address ≡ was_met before address
+        → cond b true (contains nat_cmp old address) ≡ (b || was_met before address)
     go true e = refl
     go false e = e
 
 -- what holds where a chain goes on, at the object there and for as many steps as are left
-pub goes_on : {A : Type 0} (P : ℕ → Option A → Type 0) (left next : ℕ) (o : Option A) (x : A) → o ≡ Some x → left ≡ next → P left o → P next (Some x)
+pub goes_on : {A : Type 0} (P : ℕ → Option A → Type 0) (left next : ℕ) (o : Option A) (x : A) → o ≡ Some x
+    → left ≡ next → P left o → P next (Some x)
 goes_on P left next o x is same so = subst (λ n. P n (Some x)) same (subst (P left) is so)
 
 -- the chain so far, and what is left of it
@@ -76,7 +94,8 @@ pub record ChainSoFar {C F : Type 0} (told : C → Told) (s : Opened C F) (first
   pub same : (address : ℕ) → known address ≡ was_met before address
   pub rest : (memory : Words) → Tells (told s.table.calls) memory
       → look_enclosing s.layout memory (records s.layout regions) [] (Some first)
-      ≡ mapped (λ more. map (λ m. m.name) chain ++ more) (look_enclosing s.layout memory left before (name_in current))
+      ≡ mapped (λ more. map (λ m. m.name) chain ++ more)
+      (look_enclosing s.layout memory left before (name_in current))
 
 mapped_nothing : {A : Type 0} (l : Look (List A)) → l ≡ mapped (λ more. [] ++ more) l
 unfolding and_then
@@ -84,21 +103,26 @@ mapped_nothing (Ok x) = refl
 mapped_nothing (Err fault) = refl
 
 module _ {C F : Type 0} (told : C → Told) (s : Opened C F) (first : Id) where
-  pub chain_begins : (m : Met) (empty : ℕ → Bool) → m.name ≡ first → ((address : ℕ) → empty address ≡ false) → ChainSoFar told s first [] empty (records s.layout regions) (Some m)
+  pub chain_begins : (m : Met) (empty : ℕ → Bool) → m.name ≡ first → ((address : ℕ) → empty address ≡ false)
+      → ChainSoFar told s first [] empty (records s.layout regions) (Some m)
   chain_begins m empty is none = record {
     before = [];
     same = none;
-    rest = λ memory t. mapped_nothing (look_enclosing s.layout memory (records s.layout regions) [] (Some first))
+    rest =
+        λ memory t. mapped_nothing (look_enclosing s.layout memory (records s.layout regions) [] (Some first))
         ∙ ap (λ n. mapped (λ more. [] ++ more) (look_enclosing s.layout memory (records s.layout regions) [] (Some n))) (sym is);
   }
 
-  module _ (t : Opened C F) (stays : Stays told s t) (chain : List Met) (known : ℕ → Bool) (left : ℕ) (region : Met) (so : ChainSoFar told s first chain known (suc left) (Some region)) where
+  module _ (t : Opened C F) (stays : Stays told s t) (chain : List Met) (known : ℕ → Bool) (left : ℕ)
+      (region : Met) (so : ChainSoFar told s first chain known (suc left) (Some region)) where
     -- the addresses that were met, this one included
     abbrev pub now_met : List ℕ
     now_met = id_address s.layout regions region.name ∷ so.before
 
-    pub chain_next : (known_now : ℕ → Bool) (next : Option Met) → ((address : ℕ) → known_now address ≡ was_met now_met address)
-        → Looks told t (Ok (name_in next)) (λ w memory. look_onward w memory regions now_met (id_address w regions region.name) RegionEnclosing)
+    pub chain_next : (known_now : ℕ → Bool) (next : Option Met)
+        → ((address : ℕ) → known_now address ≡ was_met now_met address)
+        → Looks told t (Ok (name_in next))
+        (λ w memory. look_onward w memory regions now_met (id_address w regions region.name) RegionEnclosing)
         → ChainSoFar told s first (chain ++ region ∷ []) known_now left next
     unfolding Looks and_then
     chain_next known_now next same onward = record {
@@ -106,18 +130,24 @@ module _ {C F : Type 0} (told : C → Told) (s : Opened C F) (first : Id) where
       same = same;
       rest = λ memory tells.
           so.rest memory tells
-          ∙ ap (λ (l : Look (Option Id)). mapped (λ more. map (λ m. m.name) chain ++ more) (and_then l (λ next. mapped (λ more. region.name ∷ more) (look_enclosing s.layout memory left now_met next))))
+          ∙ ap
+          (λ (l : Look (Option Id)). mapped (λ more. map (λ m. m.name) chain ++ more) (and_then l (λ next. mapped (λ more. region.name ∷ more) (look_enclosing s.layout memory left now_met next))))
           (looks_before told s t (Ok (name_in next)) (λ w memory. look_onward w memory regions now_met (id_address w regions region.name) RegionEnclosing) stays onward memory tells)
           ∙ go (look_enclosing s.layout memory left now_met (name_in next));
     }
       where
-        go : (l : Look (List Id)) → mapped (λ more. map (λ m. m.name) chain ++ more) (mapped (λ more. region.name ∷ more) l)
+        go : (l : Look (List Id))
+            → mapped (λ more. map (λ m. m.name) chain ++ more) (mapped (λ more. region.name ∷ more) l)
             ≡ mapped (λ more. map (λ m. m.name) (chain ++ region ∷ []) ++ more) l
-        go (Ok more) = ap Ok (sym (append_assoc (map (λ m. m.name) chain) (region.name ∷ []) more) ∙ ap (λ names. names ++ more) (sym (names_append chain (region ∷ []))))
+        go (Ok more) =
+            ap Ok
+            (sym (append_assoc (map (λ m. m.name) chain) (region.name ∷ []) more) ∙ ap (λ names. names ++ more) (sym (names_append chain (region ∷ []))))
         go (Err fault) = refl
 
-    pub chain_stops : (f : WalkFault) → Looks {A = Option Id} told t (Err f) (λ w memory. look_onward w memory regions now_met (id_address w regions region.name) RegionEnclosing)
-        → Looks {A = List Id} told s (Err f) (λ w memory. look_enclosing w memory (records w regions) [] (Some first))
+    pub chain_stops : (f : WalkFault)
+        → Looks {A = Option Id} told t (Err f) (λ w memory. look_onward w memory regions now_met (id_address w regions region.name) RegionEnclosing)
+        → Looks {A = List Id} told s (Err f)
+        (λ w memory. look_enclosing w memory (records w regions) [] (Some first))
     unfolding Looks and_then
     chain_stops f onward = λ memory tells.
         same_gives (Err f) _ _ (sym (so.rest memory tells))
@@ -126,13 +156,17 @@ module _ {C F : Type 0} (told : C → Told) (s : Opened C F) (first : Id) where
         (looks_before told s t (Err f) (λ w memory. look_onward w memory regions now_met (id_address w regions region.name) RegionEnclosing) stays onward memory tells)))
 
   module _ (chain : List Met) (known : ℕ → Bool) where
-    pub chain_ends : (left : ℕ) → ChainSoFar told s first chain known left None → Looks told s (Ok (map (λ m. m.name) chain)) (λ w memory. look_enclosing w memory (records w regions) [] (Some first))
+    pub chain_ends : (left : ℕ) → ChainSoFar told s first chain known left None
+        → Looks told s (Ok (map (λ m. m.name) chain)) (λ w memory. look_enclosing w memory (records w regions) [] (Some first))
     unfolding Looks and_then
     chain_ends zero so = λ memory tells. so.rest memory tells ∙ ap Ok (append-nil (map (λ m. m.name) chain))
-    chain_ends (suc left) so = λ memory tells. so.rest memory tells ∙ ap Ok (append-nil (map (λ m. m.name) chain))
+    chain_ends (suc left) so =
+        λ memory tells. so.rest memory tells ∙ ap Ok (append-nil (map (λ m. m.name) chain))
 
-    pub chain_cycles : (region : Met) → region.held.addr ≡ id_address s.layout regions region.name → ChainSoFar told s first chain known zero (Some region)
-        → Looks {A = List Id} told s (Err (fault.Cycle region.held.addr)) (λ w memory. look_enclosing w memory (records w regions) [] (Some first))
+    pub chain_cycles : (region : Met) → region.held.addr ≡ id_address s.layout regions region.name
+        → ChainSoFar told s first chain known zero (Some region)
+        → Looks {A = List Id} told s (Err (fault.Cycle region.held.addr))
+        (λ w memory. look_enclosing w memory (records w regions) [] (Some first))
     unfolding Looks and_then
     chain_cycles region there so = λ memory tells. so.rest memory tells ∙ ap (λ a. Err (Cycle a)) (sym there)
 

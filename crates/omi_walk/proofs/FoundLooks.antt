@@ -26,7 +26,8 @@ count_in : (o : Option ThreadPart) (current : Option Met) → length (found_in o
 count_in None current = omega arith
 count_in (Some part) current = omega arith
 
-pub found_few : (found : List Found) (o : Option ThreadPart) (current : Option Met) (most : ℕ) → length found ≤ most → length (found ++ found_in o current) ≤ most + 1
+pub found_few : (found : List Found) (o : Option ThreadPart) (current : Option Met) (most : ℕ)
+    → length found ≤ most → length (found ++ found_in o current) ≤ most + 1
 found_few found o current most few =
     let both = length-append found (found_in o current) in
     let one = count_in o current in
@@ -46,15 +47,22 @@ module _ {C F : Type 0} (told : C → Told) (s t : Opened C F) (stays : Stays to
   pub all_after : (found : List Found) → All (IsFound told s) found → All (IsFound told t) found
   all_after found all = All-weaker (IsFound told s) (IsFound told t) found_after found all
 
-  found_one : (o : Option ThreadPart) (current : Option Met) → IfSome current (IsMet told t Task) → All (IsFound told t) (found_in o current)
+  found_one : (o : Option ThreadPart) (current : Option Met) → IfSome current (IsMet told t Task)
+      → All (IsFound told t) (found_in o current)
   found_one None current met = All-nil (IsFound told t)
-  found_one (Some part) current met = All-cons (IsFound told t) (record { thread = part.thread; current = current }) [] (record { met = met }) (All-nil (IsFound told t))
+  found_one (Some part) current met =
+      All-cons (IsFound told t) (record { thread = part.thread; current = current }) [] (record { met = met })
+      (All-nil (IsFound told t))
 
   -- so are they all, with the thread of one row more
-  pub found_all : (found : List Found) (o : Option ThreadPart) (current : Option Met) → All (IsFound told s) found → IfSome current (IsMet told t Task)
+  pub found_all : (found : List Found) (o : Option ThreadPart) (current : Option Met)
+      → All (IsFound told s) found → IfSome current (IsMet told t Task)
       → All (IsFound told t) (found ++ found_in o current)
-  found_all found o current all met = All-append (IsFound told t) found (found_in o current) (all_after found all) (found_one o current met)
+  found_all found o current all met =
+      All-append (IsFound told t) found (found_in o current) (all_after found all) (found_one o current met)
 
 -- the elements that are left begin with the next
 pub next_left : (xs : List ℕ) (i : ℕ) → i < length xs → drop i xs ≡ get_or xs i 0 ∷ drop (i + 1) xs
-next_left xs i below = drop-cons xs i 0 below ∙ ap (λ n. get_or xs i 0 ∷ drop n xs) (let one : suc i ≡ i + 1 = omega arith in one)
+next_left xs i below =
+    drop-cons xs i 0 below
+    ∙ ap (λ n. get_or xs i 0 ∷ drop n xs) (let one : suc i ≡ i + 1 = omega arith in one)

@@ -24,25 +24,32 @@ module _ (w : List ℕ) (memory : Words) where
 
   -- the regions of a thread by its current task
   unfoldable pub regions_by : Look (Option Id) → Look (List Id)
-  regions_by l = and_then (and_then l (λ current. optional region_at current)) (λ innermost. look_enclosing w memory (records w regions) [] innermost)
+  regions_by l =
+      and_then (and_then l (λ current. optional region_at current))
+      (λ innermost. look_enclosing w memory (records w regions) [] innermost)
 
   pub by_task : (k : Id) → regions_by (Ok (Some k)) ≡ and_then (region_at k) regions_at
   unfolding and_then regions_by
   by_task k = go (region_at k)
     where
-      go : (l : Look Id) → and_then (mapped (λ y. Some y) l) (λ innermost. look_enclosing w memory (records w regions) [] innermost) ≡ and_then l regions_at
+      go : (l : Look Id)
+          → and_then (mapped (λ y. Some y) l) (λ innermost. look_enclosing w memory (records w regions) [] innermost) ≡ and_then l regions_at
       go (Ok r) = refl
       go (Err fault) = refl
 
 module _ {C F : Type 0} (told : C → Told) (s : Opened C F) (thread : ℕ) where
   -- a thread without a current task has no region
-  pub no_regions : Looks told s (Ok None) (λ w memory. look_current w memory thread) → Looks {A = List Id} told s (Ok []) (λ w memory. look_regions w memory thread)
+  pub no_regions : Looks told s (Ok None) (λ w memory. look_current w memory thread)
+      → Looks {A = List Id} told s (Ok []) (λ w memory. look_regions w memory thread)
   unfolding Looks and_then regions_by
   no_regions current = λ memory tells. ap (regions_by s.layout memory) (current memory tells)
 
   -- those of a thread with one are the region of this task, and those which enclose it
-  pub regions_from : (k : Id) (r : Result (List Id) WalkFault) → Looks told s (Ok (Some k)) (λ w memory. look_current w memory thread)
+  pub regions_from : (k : Id) (r : Result (List Id) WalkFault)
+      → Looks told s (Ok (Some k)) (λ w memory. look_current w memory thread)
       → Looks told s r (λ w memory. and_then (region_at w memory k) (regions_at w memory)) → Looks told s r (λ w memory. look_regions w memory thread)
   unfolding Looks and_then regions_by
   regions_from k r current given = λ memory tells.
-      subst (Gives r) (sym (ap (regions_by s.layout memory) (current memory tells) ∙ by_task s.layout memory k)) (given memory tells)
+      subst (Gives r)
+      (sym (ap (regions_by s.layout memory) (current memory tells) ∙ by_task s.layout memory k))
+      (given memory tells)

@@ -22,9 +22,11 @@ use Rattle.omi_walk.specs.Objects.{IsMet, name_in}
 use Rattle.omi_walk.proofs.Steps.{EachSoFar, each_ends, looks_after, look_is, look_then, met_after}
 
 -- the threads that are left begin with the next
-pub next_thread : (found : List Found) (at : ℕ) (f : Found) → slice_get found at ≡ Some f → map (λ f. f.thread) (drop at found) ≡ f.thread ∷ map (λ f. f.thread) (drop (at + 1) found)
+pub next_thread : (found : List Found) (at : ℕ) (f : Found) → slice_get found at ≡ Some f
+    → map (λ f. f.thread) (drop at found) ≡ f.thread ∷ map (λ f. f.thread) (drop (at + 1) found)
 next_thread found at f here =
-    ap (map (λ f. f.thread)) (drop_more found at f (slice_get_within found at f here) ∙ ap (λ g. g ∷ drop (at + 1) found) (get_or_from_slice_get found at f f here))
+    ap (map (λ f. f.thread))
+    (drop_more found at f (slice_get_within found at f here) ∙ ap (λ g. g ∷ drop (at + 1) found) (get_or_from_slice_get found at f f here))
 
 -- and past the last there is none
 pub no_thread : (found : List Found) (at : ℕ) → length found ≤ at → map (λ f. f.thread) (drop at found) ≡ []
@@ -35,11 +37,14 @@ module _ {C F : Type 0} (told : C → Told) (s : Opened C F) where
   stays_here = record { table = record { same = refl; order = refl; to_host = refl }; layout = refl }
 
   -- each of them was found
-  pub found_at : (found : List Found) (at : ℕ) (f : Found) → slice_get found at ≡ Some f → All (IsFound told s) found → IsFound told s f
+  pub found_at : (found : List Found) (at : ℕ) (f : Found) → slice_get found at ≡ Some f
+      → All (IsFound told s) found → IsFound told s f
   found_at found at f here all =
-      subst (IsFound told s) (get_or_from_slice_get found at f f here) (All-get_or (IsFound told s) found at f (slice_get_within found at f here) all)
+      subst (IsFound told s) (get_or_from_slice_get found at f f here)
+      (All-get_or (IsFound told s) found at f (slice_get_within found at f here) all)
 
   -- a current task that was met still lives
-  pub current_after : (t : Opened C F) (o : Option Met) → Stays told s t → IfSome o (IsMet told s Task) → IfSome o (IsMet told t Task)
+  pub current_after : (t : Opened C F) (o : Option Met) → Stays told s t → IfSome o (IsMet told s Task)
+      → IfSome o (IsMet told t Task)
   current_after t None stays met = met
   current_after t (Some m) stays met = met_after told s t Task m stays met

@@ -30,7 +30,8 @@ use Rattle.omi_walk.proofs.Steps.{stays_then}
 pub count_then : {E A B : Type 0} (memory : Words) (reads : ReadsOr E A) (more : A → ReadsOr E B)
     → length (addresses_on memory (then_reads reads more)) ≡ length (addresses_on memory reads) + length (addresses_on memory (after (answer_on memory reads) more))
 count_then memory reads more =
-    ap length (addresses_then memory reads more) ∙ length-append (addresses_on memory reads) (addresses_on memory (after (answer_on memory reads) more))
+    ap length (addresses_then memory reads more)
+    ∙ length-append (addresses_on memory reads) (addresses_on memory (after (answer_on memory reads) more))
 
 -- a changed answer is read as the one before it was
 pub answer_answering : {D E A B : Type 0} (memory : Words) (change : Result A D → Result B E) (reads : ReadsOr D A)
@@ -43,7 +44,8 @@ pub addresses_answering : {D E A B : Type 0} (memory : Words) (change : Result A
     → addresses_on memory (answering change reads) ≡ addresses_on memory reads
 unfolding answering
 addresses_answering memory change (Answer result) = refl
-addresses_answering memory change (Read addr more) = ap (λ addresses. addr ∷ addresses) (addresses_answering memory change (more (memory addr)))
+addresses_answering memory change (Read addr more) =
+    ap (λ addresses. addr ∷ addresses) (addresses_answering memory change (more (memory addr)))
 
 -- ---- one call
 
@@ -52,23 +54,29 @@ abbrev pub map_ok : {A B : Type 0} → (A → B) → Result A WalkFault → Resu
 map_ok f (Ok x) = Ok (f x)
 map_ok f (Err fault) = Err fault
 
-map_ok_err : {A B : Type 0} (f : A → B) (a : Result A WalkFault) (fault : WalkFault) → a ≡ Err fault → map_ok f a ≡ Err fault
+map_ok_err : {A B : Type 0} (f : A → B) (a : Result A WalkFault) (fault : WalkFault) → a ≡ Err fault
+    → map_ok f a ≡ Err fault
 map_ok_err f a fault is = ap (map_ok f) is
 
-with_is : {A B : Type 0} (memory : Words) (f : A → B) (reads : Asks A) → answer_on memory (with_answer f reads) ≡ map_ok f (answer_on memory reads)
+with_is : {A B : Type 0} (memory : Words) (f : A → B) (reads : Asks A)
+    → answer_on memory (with_answer f reads) ≡ map_ok f (answer_on memory reads)
 unfolding with_answer
-with_is {A} {B} memory f reads = answer_then memory reads (λ x. Answer (Ok (f x))) ∙ go (answer_on memory reads)
+with_is {A} {B} memory f reads =
+    answer_then memory reads (λ x. Answer (Ok (f x))) ∙ go (answer_on memory reads)
   where
     go : (a : Result A WalkFault) → answer_on memory (after a (λ x. Answer (Ok (f x)))) ≡ map_ok f a
     go (Ok x) = refl
     go (Err fault) = refl
 
-with_count : {A B : Type 0} (memory : Words) (f : A → B) (reads : Asks A) → length (addresses_on memory reads) ≤ length (addresses_on memory (with_answer f reads))
+with_count : {A B : Type 0} (memory : Words) (f : A → B) (reads : Asks A)
+    → length (addresses_on memory reads) ≤ length (addresses_on memory (with_answer f reads))
 unfolding with_answer
-with_count memory f reads = let count = count_then memory reads (λ x. Answer (Ok (f x))) in omega (arith, count)
+with_count memory f reads =
+    let count = count_then memory reads (λ x. Answer (Ok (f x))) in omega (arith, count)
 
 -- an answer of want of memory or of a failed callback is none that was made
-refused : (new : Ledger) (rc : Rc) (answer : Result Held Rc) → rc ≢ NoMem → rc ≢ CallbackError → IsMade new (Err rc) answer → answer ≡ Err rc
+refused : (new : Ledger) (rc : Rc) (answer : Result Held Rc) → rc ≢ NoMem → rc ≢ CallbackError
+    → IsMade new (Err rc) answer → answer ≡ Err rc
 refused new NoMem answer nomem failed made = absurd (nomem refl)
 refused new CallbackError answer nomem failed made = absurd (failed refl)
 refused new rc answer nomem failed made = made
@@ -110,7 +118,8 @@ module _ {C F : Type 0} (told : C → Told) (asked : C → ℕ) where
   of_made_err s mid rc reads change r failed full is answered = record {
     is = λ memory tells ne no.
         let answer = refused mid.handles rc (answer_on memory reads)
-        (λ e. no (is ∙ ap (λ c. change (Err c)) e ∙ full)) (λ e. ne (is ∙ ap (λ c. change (Err c)) e ∙ failed)) (answered.is memory tells) in
+        (λ e. no (is ∙ ap (λ c. change (Err c)) e ∙ full))
+        (λ e. ne (is ∙ ap (λ c. change (Err c)) e ∙ failed)) (answered.is memory tells) in
         is ∙ ap change (sym answer) ∙ sym (answer_answering memory change reads);
     most = λ memory tells.
         let one = answered.most memory tells in
@@ -119,40 +128,51 @@ module _ {C F : Type 0} (told : C → Told) (asked : C → ℕ) where
   }
 
   -- a call's answer, changed
-  pub walks_ok : {A B : Type 0} (s t : Opened C F) (f : A → B) (x : A) (y : B) (reads : Asks A) → y ≡ f x → Walks told asked s t (Ok x) reads → Walks told asked s t (Ok y) (with_answer f reads)
+  pub walks_ok : {A B : Type 0} (s t : Opened C F) (f : A → B) (x : A) (y : B) (reads : Asks A) → y ≡ f x
+      → Walks told asked s t (Ok x) reads → Walks told asked s t (Ok y) (with_answer f reads)
   walks_ok s t f x y reads is walks = record {
     is = λ memory tells ne no. ap Ok is ∙ ap (map_ok f) (walks.is memory tells (λ e. cc) (λ e. cc)) ∙ sym (with_is memory f reads);
     most = λ memory tells. let one = walks.most memory tells in let count = with_count memory f reads in omega (arith, one, count);
   }
 
-  pub walks_err : {A B : Type 0} (s t : Opened C F) (f : A → B) (fault : WalkFault) (reads : Asks A) → Walks told asked s t (Err fault) reads → Walks told asked s t (Err fault) (with_answer f reads)
+  pub walks_err : {A B : Type 0} (s t : Opened C F) (f : A → B) (fault : WalkFault) (reads : Asks A)
+      → Walks told asked s t (Err fault) reads → Walks told asked s t (Err fault) (with_answer f reads)
   walks_err {A} {B} s t f fault reads walks = record {
     is = λ memory tells ne no.
         ap (map_ok f) (walks.is memory tells (λ e. ne (ap (map_ok f) e)) (λ e. no (ap (map_ok f) e))) ∙ sym (with_is memory f reads);
     most = λ memory tells. let one = walks.most memory tells in let count = with_count memory f reads in omega (arith, one, count);
   }
 
-  pub walks_map : {A B : Type 0} (s t : Opened C F) (f : A → B) (a : Result A WalkFault) (r : Result B WalkFault) (reads : Asks A) → r ≡ map_ok f a → Walks told asked s t a reads → Walks told asked s t r (with_answer f reads)
-  walks_map s t f (Ok x) r reads is walks = subst (λ r. Walks told asked s t r (with_answer f reads)) (sym is) (walks_ok s t f x (f x) reads refl walks)
-  walks_map s t f (Err fault) r reads is walks = subst (λ r. Walks told asked s t r (with_answer f reads)) (sym is) (walks_err s t f fault reads walks)
+  pub walks_map : {A B : Type 0} (s t : Opened C F) (f : A → B) (a : Result A WalkFault) (r : Result B WalkFault) (reads : Asks A)
+      → r ≡ map_ok f a → Walks told asked s t a reads → Walks told asked s t r (with_answer f reads)
+  walks_map s t f (Ok x) r reads is walks =
+      subst (λ r. Walks told asked s t r (with_answer f reads)) (sym is)
+      (walks_ok s t f x (f x) reads refl walks)
+  walks_map s t f (Err fault) r reads is walks =
+      subst (λ r. Walks told asked s t r (with_answer f reads)) (sym is) (walks_err s t f fault reads walks)
 
   -- a call between the making of a handle and its release
   pub lent_walks : {A : Type 0} (s given t new : Opened C F) (pair : ℕ × ℕ) (h : Held) (r : Result A WalkFault) (reads : List ℕ → Option Held → Asks A)
       → given.table ≡ s.table → given.layout ≡ s.layout → get given.handles.held pair ≡ Some h → new.table ≡ t.table
       → Walks told asked given t r (reads given.layout (get given.handles.held pair)) → Walks told asked s new r (reads s.layout (Some h))
   lent_walks s given t new pair h r reads table layout there released walks =
-      let here = subst (λ w. Walks told asked given t r (reads w (Some h))) layout (subst (λ o. Walks told asked given t r (reads given.layout o)) there walks) in
+      let here =
+      subst (λ w. Walks told asked given t r (reads w (Some h))) layout
+      (subst (λ o. Walks told asked given t r (reads given.layout o)) there walks) in
       let first = ap (λ (k : Kept C F). asked k.calls) table in
       let last = ap (λ (k : Kept C F). asked k.calls) released in
       record {
         is = λ memory tells. here.is memory (still_tells (told s.table.calls) (told given.table.calls) memory (ap (λ (k : Kept C F). told k.calls) table) tells);
         most = λ memory tells.
-            let one = here.most memory (still_tells (told s.table.calls) (told given.table.calls) memory (ap (λ (k : Kept C F). told k.calls) table) tells) in
+            let one =
+            here.most memory
+            (still_tells (told s.table.calls) (told given.table.calls) memory (ap (λ (k : Kept C F). told k.calls) table) tells) in
             omega (arith, one, first, last);
       }
 
   -- a call's answer is judged
-  pub walks_judged : {A B : Type 0} (s t : Opened C F) (judge : A → Result B WalkFault) (x : A) (r : Result B WalkFault) (reads : Asks A) → r ≡ judge x → Walks told asked s t (Ok x) reads
+  pub walks_judged : {A B : Type 0} (s t : Opened C F) (judge : A → Result B WalkFault) (x : A) (r : Result B WalkFault) (reads : Asks A)
+      → r ≡ judge x → Walks told asked s t (Ok x) reads
       → Walks told asked s t r (then_reads reads (λ x. Answer (judge x)))
   walks_judged s t judge x r reads is walks = record {
     is = λ memory tells ne no.
@@ -161,13 +181,15 @@ module _ {C F : Type 0} (told : C → Told) (asked : C → ℕ) where
   }
 
   -- a call's refusal is that of the call around it
-  pub walks_as : {A : Type 0} (s t : Opened C F) (fault : WalkFault) (r : Result A WalkFault) (reads : Asks A) → IsErrAnd r (λ why. why ≡ fault) → Walks told asked s t (Err fault) reads
+  pub walks_as : {A : Type 0} (s t : Opened C F) (fault : WalkFault) (r : Result A WalkFault) (reads : Asks A)
+      → IsErrAnd r (λ why. why ≡ fault) → Walks told asked s t (Err fault) reads
       → Walks told asked s t r reads
   walks_as s t fault r reads is walks =
       let p = err_from_is_err_and r is in subst (λ r. Walks told asked s t r reads) (sym (p.1 ∙ ap Err p.2)) walks
 
   -- memory ran out after a call
-  pub walks_unsaid : {A B : Type 0} (s t : Opened C F) (f : A → B) (a : Result A WalkFault) (r : Result B WalkFault) (reads : Asks A) → Walks told asked s t a reads → IsErrAnd r (λ why. why ≡ OutOfMemory)
+  pub walks_unsaid : {A B : Type 0} (s t : Opened C F) (f : A → B) (a : Result A WalkFault) (r : Result B WalkFault) (reads : Asks A)
+      → Walks told asked s t a reads → IsErrAnd r (λ why. why ≡ OutOfMemory)
       → Walks told asked s t r (with_answer f reads)
   walks_unsaid s t f a r reads walks is =
       let p = err_from_is_err_and r is in
@@ -196,12 +218,15 @@ module _ {C F : Type 0} (told : C → Told) (asked : C → ℕ) where
   }
 
   -- the same rest in other words
-  pub goes_same : {B : Type 0} (s t : Opened C F) (all rest other : Asks B) → rest ≡ other → Goes told asked s t all rest → Goes told asked s t all other
+  pub goes_same : {B : Type 0} (s t : Opened C F) (all rest other : Asks B) → rest ≡ other
+      → Goes told asked s t all rest → Goes told asked s t all other
   goes_same s t all rest other is so = subst (Goes told asked s t all) is so
 
   -- the words that are told are told later too
-  later_tells : {B : Type 0} (s t : Opened C F) (all rest : Asks B) (memory : Words) → Goes told asked s t all rest → Tells (told s.table.calls) memory → Tells (told t.table.calls) memory
-  later_tells s t all rest memory so tells = still_tells (told s.table.calls) (told t.table.calls) memory so.stays.table.same tells
+  later_tells : {B : Type 0} (s t : Opened C F) (all rest : Asks B) (memory : Words)
+      → Goes told asked s t all rest → Tells (told s.table.calls) memory → Tells (told t.table.calls) memory
+  later_tells s t all rest memory so tells =
+      still_tells (told s.table.calls) (told t.table.calls) memory so.stays.table.same tells
 
   -- a call is seen from where the reads began
   from_start : {A B : Type 0} (s t u : Opened C F) (all rest : Asks B) (pair : ℕ × ℕ) (r : Result A WalkFault) (reads : List ℕ → Option Held → Asks A)
@@ -210,10 +235,13 @@ module _ {C F : Type 0} (told : C → Told) (asked : C → ℕ) where
       subst (λ w. Walks told asked t u r (reads w (get s.handles.held pair))) so.stays.layout
       (subst (λ o. Walks told asked t u r (reads t.layout o)) (ap (λ held. get held pair) so.held) walks)
 
-  module _ {A B : Type 0} (s t u : Opened C F) (pair : ℕ × ℕ) (all : Asks B) (reads : List ℕ → Option Held → Asks A) (more : A → Asks B)
+  module _ {A B : Type 0} (s t u : Opened C F) (pair : ℕ × ℕ) (all : Asks B)
+      (reads : List ℕ → Option Held → Asks A) (more : A → Asks B)
       (so : Goes told asked s t all (then_reads (reads s.layout (get s.handles.held pair)) more)) where
     -- an inquiry answered this
-    pub goes_on : (n : ℕ) (x : A) → Leaves told n t u → Walks told asked t u (Ok x) (reads t.layout (get t.handles.held pair)) → Goes told asked s u all (more x)
+    pub goes_on : (n : ℕ) (x : A) → Leaves told n t u
+        → Walks told asked t u (Ok x) (reads t.layout (get t.handles.held pair))
+        → Goes told asked s u all (more x)
     goes_on n x leaves walks =
         let first = reads s.layout (get s.handles.held pair) in
         let here = from_start s t u all (then_reads first more) pair (Ok x) reads so walks in
@@ -227,12 +255,17 @@ module _ {C F : Type 0} (told : C → Told) (asked : C → ℕ) where
               let then = later_tells s t all (then_reads first more) memory so tells in
               let one = here.most memory then in
               let two = so.most memory tells in
-              let count = count_then memory first more ∙ ap (λ a. length (addresses_on memory first) + length (addresses_on memory (after a more))) (sym (here.is memory then (λ e. cc) (λ e. cc))) in
+              let count =
+              count_then memory first more
+              ∙ ap (λ a. length (addresses_on memory first) + length (addresses_on memory (after a more)))
+              (sym (here.is memory then (λ e. cc) (λ e. cc))) in
               omega (arith, one, two, count);
         }
 
     -- or was refused
-    pub goes_stop : (fault : WalkFault) (r : Result B WalkFault) → Walks told asked t u (Err fault) (reads t.layout (get t.handles.held pair)) → IsErrAnd r (λ why. why ≡ fault) → Walks told asked s u r all
+    pub goes_stop : (fault : WalkFault) (r : Result B WalkFault)
+        → Walks told asked t u (Err fault) (reads t.layout (get t.handles.held pair))
+        → IsErrAnd r (λ why. why ≡ fault) → Walks told asked s u r all
     goes_stop fault r walks is =
         let p = err_from_is_err_and r is in
         let first = reads s.layout (get s.handles.held pair) in
@@ -242,7 +275,8 @@ module _ {C F : Type 0} (told : C → Told) (asked : C → ℕ) where
           is = λ memory tells ne no.
               let then = later_tells s t all (then_reads first more) memory so tells in
               let answer : Err fault ≡ answer_on memory first = here.is memory then
-              (λ e. ne (known ∙ ap Err (let same : fault ≡ Callback = cc in same))) (λ e. no (known ∙ ap Err (let same : fault ≡ OutOfMemory = cc in same))) in
+              (λ e. ne (known ∙ ap Err (let same : fault ≡ Callback = cc in same)))
+              (λ e. no (known ∙ ap Err (let same : fault ≡ OutOfMemory = cc in same))) in
               known ∙ ap (λ a. answer_on memory (after a more)) answer ∙ sym (so.is memory tells ∙ answer_then memory first more);
           most = λ memory tells.
               let then = later_tells s t all (then_reads first more) memory so tells in
@@ -269,14 +303,16 @@ module _ {C F : Type 0} (told : C → Told) (asked : C → ℕ) where
       }
 
   -- nothing is left to read
-  pub goes_end : {B : Type 0} (s t : Opened C F) (all : Asks B) (r answer : Result B WalkFault) → r ≡ answer → Goes told asked s t all (Answer answer) → Walks told asked s t r all
+  pub goes_end : {B : Type 0} (s t : Opened C F) (all : Asks B) (r answer : Result B WalkFault) → r ≡ answer
+      → Goes told asked s t all (Answer answer) → Walks told asked s t r all
   goes_end s t all r answer is so = record {
     is = λ memory tells ne no. is ∙ sym (so.is memory tells);
     most = λ memory tells. let two = so.most memory tells in omega (arith, two);
   }
 
   -- memory ran out, and nothing was asked since
-  pub goes_unmade : {B : Type 0} (s t u : Opened C F) (all rest : Asks B) (fault : WalkFault) (r : Result B WalkFault) → Goes told asked s t all rest → u.table ≡ t.table → IsErrAnd r (λ why. why ≡ fault)
+  pub goes_unmade : {B : Type 0} (s t u : Opened C F) (all rest : Asks B) (fault : WalkFault) (r : Result B WalkFault)
+      → Goes told asked s t all rest → u.table ≡ t.table → IsErrAnd r (λ why. why ≡ fault)
       → fault ≡ OutOfMemory → Walks told asked s u r all
   goes_unmade s t u all rest fault r so table is full =
       let p = err_from_is_err_and r is in
@@ -286,11 +322,14 @@ module _ {C F : Type 0} (told : C → Told) (asked : C → ℕ) where
         most = λ memory tells. let two = so.most memory tells in omega (arith, two, calls);
       }
 
-  pub goes_unsaid : {B : Type 0} (s t : Opened C F) (all rest : Asks B) (r : Result B WalkFault) → Goes told asked s t all rest → IsErrAnd r (λ why. why ≡ OutOfMemory) → Walks told asked s t r all
+  pub goes_unsaid : {B : Type 0} (s t : Opened C F) (all rest : Asks B) (r : Result B WalkFault)
+      → Goes told asked s t all rest → IsErrAnd r (λ why. why ≡ OutOfMemory) → Walks told asked s t r all
   goes_unsaid s t all rest r so is = goes_unmade s t t all rest OutOfMemory r so refl is refl
 
   -- the rest is this one, where words are told
-  pub goes_told : {B : Type 0} (s t : Opened C F) (all rest other : Asks B) → ((memory : Words) → Tells (told s.table.calls) memory → rest ≡ other) → Goes told asked s t all rest → Goes told asked s t all other
+  pub goes_told : {B : Type 0} (s t : Opened C F) (all rest other : Asks B)
+      → ((memory : Words) → Tells (told s.table.calls) memory → rest ≡ other) → Goes told asked s t all rest
+      → Goes told asked s t all other
   goes_told s t all rest other same so = record {
     stays = so.stays;
     held = so.held;

@@ -19,7 +19,8 @@ module _ {C F : Type 0} (told : C → Told) (s given : Opened C F) (kind : Kind)
   lent_stands met = record { object = m.held; is = adds.found; met = met_after told s given kind m stays met }
 
   -- and once it is let go, all handles are as they were
-  pub lent_leaves : (asked new : Opened C F) (n most : ℕ) → n + 1 ≤ most → Leaves told n given asked → new.handles.held ≡ remove asked.handles.held pair
+  pub lent_leaves : (asked new : Opened C F) (n most : ℕ) → n + 1 ≤ most → Leaves told n given asked
+      → new.handles.held ≡ remove asked.handles.held pair
       → new.handles.made ≡ asked.handles.made → new.layout ≡ asked.layout → new.table ≡ asked.table → Leaves told most s new
   lent_leaves asked new n most few leaves removed made layout table = record {
     stays = stays_then told s asked new (stays_then told s given asked stays leaves.stays) (record {

@@ -39,21 +39,26 @@ use Rattle.omi_walk.proofs.Names.{named_address, restored}
 -- ---- faults
 
 -- a refusal that is a look's fault is that fault to a walk
-pub fault_gives : (A : Type 0) (found : Option Held) (rc : Rc) (fault : LookFault) → IsFault rc fault → Gives {A = A} (Err (fault_of found rc)) (Err fault)
+pub fault_gives : (A : Type 0) (found : Option Held) (rc : Rc) (fault : LookFault) → IsFault rc fault
+    → Gives {A = A} (Err (fault_of found rc)) (Err fault)
 fault_gives A found rc (look.Cycle addr) is = absurd is
-fault_gives A found rc (look.Damaged addr field) is = subst (λ c. Gives {A = A} (Err (fault_of found c)) (Err (look.Damaged addr field))) (sym is) refl
+fault_gives A found rc (look.Damaged addr field) is =
+    subst (λ c. Gives {A = A} (Err (fault_of found c)) (Err (look.Damaged addr field))) (sym is) refl
 
 -- the answer of an inquiry for a value
-pub value_gives : {A : Type 0} (found : Option Held) (result answer : Result A Rc) (l : Look A) → (result ≢ Err CallbackError → result ≡ answer)
+pub value_gives : {A : Type 0} (found : Option Held) (result answer : Result A Rc) (l : Look A)
+    → (result ≢ Err CallbackError → result ≡ answer)
     → IsLook {A = A} {B = A} (λ x y. x ≡ y) answer l → Gives (walked found result) l
 value_gives {A} found result answer l is looked = go result answer l is looked
   where
-    ok : (x : A) (answer : Result A Rc) (l : Look A) → Ok x ≡ answer → IsLook {A = A} {B = A} (λ x y. x ≡ y) answer l → l ≡ Ok x
+    ok : (x : A) (answer : Result A Rc) (l : Look A) → Ok x ≡ answer
+        → IsLook {A = A} {B = A} (λ x y. x ≡ y) answer l → l ≡ Ok x
     ok x (Ok y) (Ok z) is same = let first : x ≡ y = cc in ap Ok (sym (first ∙ same))
     ok x (Ok y) (Err fault) is same = absurd same
     ok x (Err rc) l is same = absurd (cc)
 
-    err : (rc : Rc) (answer : Result A Rc) (l : Look A) → Err rc ≡ answer → IsLook {A = A} {B = A} (λ x y. x ≡ y) answer l → Gives (Err (fault_of found rc)) l
+    err : (rc : Rc) (answer : Result A Rc) (l : Look A) → Err rc ≡ answer
+        → IsLook {A = A} {B = A} (λ x y. x ≡ y) answer l → Gives (Err (fault_of found rc)) l
     err rc (Ok y) l is same = absurd (cc)
     err rc (Err why) (Ok z) is same = absurd same
     err rc (Err why) (Err fault) is same =
@@ -67,7 +72,8 @@ value_gives {A} found result answer l is looked = go result answer l is looked
 
 -- ---- handles
 
-module _ {C F : Type 0} (told : C → Told) (s : Opened C F) (kind : Kind) (pair : ℕ × ℕ) (n : Id) (st : Stands told s kind pair n) where
+module _ {C F : Type 0} (told : C → Told) (s : Opened C F) (kind : Kind) (pair : ℕ × ℕ) (n : Id)
+    (st : Stands told s kind pair n) where
   -- the record of the object is the one that its name has
   pub stands_at : st.object.addr ≡ id_address s.layout (record_kind kind) n
   stands_at =
@@ -79,44 +85,56 @@ module _ {C F : Type 0} (told : C → Told) (s : Opened C F) (kind : Kind) (pair
     pub object_answers : answer_on memory (object_of s.layout kind (get s.handles.held pair)) ≡ Ok st.object
     unfolding object_of
     object_answers =
-        then_answered memory (Answer (live_handle kind (get s.handles.held pair))) (unchanged s.layout) st.object
+        then_answered memory (Answer (live_handle kind (get s.handles.held pair)))
+        (unchanged s.layout) st.object
         (ap (live_handle kind) st.is ∙ ap (λ (b : Bool). cond b (Ok st.object) (Err BadInput)) (eq-eqb _ _ (ap record_kind st.met.of_kind)))
         ∙ st.met.lives memory t
 
     pub after_object : {A : Type 0} (more : Held → Reads A)
         → answer_on memory (then_reads (object_of s.layout kind (get s.handles.held pair)) more) ≡ answer_on memory (more st.object)
-    after_object more = then_answered memory (object_of s.layout kind (get s.handles.held pair)) more st.object object_answers
+    after_object more =
+        then_answered memory (object_of s.layout kind (get s.handles.held pair)) more st.object object_answers
 
     -- an inquiry for a word of its record
     pub word_looked : (f : Field) (at : ℕ)
-        → IsLook {A = ℕ} {B = ℕ} (λ x y. x ≡ y) (answer_on memory (then_reads (object_of s.layout kind (get s.handles.held pair)) (λ o. word_of s.layout o.addr f at)))
+        → IsLook {A = ℕ} {B = ℕ} (λ x y. x ≡ y)
+        (answer_on memory (then_reads (object_of s.layout kind (get s.handles.held pair)) (λ o. word_of s.layout o.addr f at)))
         (look_word s.layout memory (id_address s.layout (record_kind kind) n) f at)
     word_looked f at =
-        subst (λ (a : Result ℕ Rc). IsLook {A = ℕ} {B = ℕ} (λ x y. x ≡ y) a (look_word s.layout memory (id_address s.layout (record_kind kind) n) f at)) (sym (after_object (λ o. word_of s.layout o.addr f at)))
+        subst
+        (λ (a : Result ℕ Rc). IsLook {A = ℕ} {B = ℕ} (λ x y. x ≡ y) a (look_word s.layout memory (id_address s.layout (record_kind kind) n) f at))
+        (sym (after_object (λ o. word_of s.layout o.addr f at)))
         (subst (λ a. IsLook {A = ℕ} {B = ℕ} (λ x y. x ≡ y) (answer_on memory (word_of s.layout st.object.addr f at)) (look_word s.layout memory a f at)) stands_at
         (word_is_looked s.layout memory st.object.addr f at))
 
     -- an inquiry for the object to which a word of its record points
     pub object_looked : (target : Kind) (f : Field) (at : ℕ)
-        → IsLook (IsOf s.layout) (answer_on memory (then_reads (object_of s.layout kind (get s.handles.held pair)) (λ o. follow s.layout target o.addr f at)))
+        → IsLook (IsOf s.layout)
+        (answer_on memory (then_reads (object_of s.layout kind (get s.handles.held pair)) (λ o. follow s.layout target o.addr f at)))
         (look_object s.layout memory (record_kind target) (id_address s.layout (record_kind kind) n) f at)
     object_looked target f at =
-        subst (λ (a : Result Held Rc). IsLook (IsOf s.layout) a (look_object s.layout memory (record_kind target) (id_address s.layout (record_kind kind) n) f at)) (sym (after_object (λ o. follow s.layout target o.addr f at)))
+        subst
+        (λ (a : Result Held Rc). IsLook (IsOf s.layout) a (look_object s.layout memory (record_kind target) (id_address s.layout (record_kind kind) n) f at))
+        (sym (after_object (λ o. follow s.layout target o.addr f at)))
         (subst (λ a. IsLook (IsOf s.layout) (answer_on memory (follow s.layout target st.object.addr f at)) (look_object s.layout memory (record_kind target) a f at)) stands_at
         (object_is_looked s.layout memory target st.object.addr f at))
 
     pub optional_looked : (target : Kind) (f : Field)
-        → IsOptional s.layout (answer_on memory (then_reads (object_of s.layout kind (get s.handles.held pair)) (λ o. follow_some s.layout target o.addr f)))
+        → IsOptional s.layout
+        (answer_on memory (then_reads (object_of s.layout kind (get s.handles.held pair)) (λ o. follow_some s.layout target o.addr f)))
         (look_optional s.layout memory (record_kind target) (id_address s.layout (record_kind kind) n) f 0)
     optional_looked target f =
-        subst (λ (a : Result Held Rc). IsOptional s.layout a (look_optional s.layout memory (record_kind target) (id_address s.layout (record_kind kind) n) f 0)) (sym (after_object (λ o. follow_some s.layout target o.addr f)))
+        subst
+        (λ (a : Result Held Rc). IsOptional s.layout a (look_optional s.layout memory (record_kind target) (id_address s.layout (record_kind kind) n) f 0))
+        (sym (after_object (λ o. follow_some s.layout target o.addr f)))
         (subst (λ a. IsOptional s.layout (answer_on memory (follow_some s.layout target st.object.addr f)) (look_optional s.layout memory (record_kind target) a f 0)) stands_at
         (optional_is_looked s.layout memory target st.object.addr f))
 
 -- ---- what was found
 
 -- a handle was made of the object that is found, whose name is this one
-pub found_gives : (w : List ℕ) (new : Ledger) (pair : ℕ × ℕ) (h : Held) (n : Id) (answer : Result Held Rc) (l : Look Id) → get new.held pair ≡ Some h → name_of w h ≡ Some n
+pub found_gives : (w : List ℕ) (new : Ledger) (pair : ℕ × ℕ) (h : Held) (n : Id) (answer : Result Held Rc) (l : Look Id)
+    → get new.held pair ≡ Some h → name_of w h ≡ Some n
     → IsMade new (Ok pair) answer → IsLook (IsOf w) answer l → l ≡ Ok n
 found_gives w new pair h n answer l held named made looked =
     let same : made.object ≡ h = (let both : Some made.object ≡ Some h = sym made.found ∙ held in cc) in
@@ -130,13 +148,15 @@ found_gives w new pair h n answer l held named made looked =
     go (Ok o) (Err fault) is same = absurd same
     go (Err rc) l is same = absurd (cc)
 
-pub found_some : (w : List ℕ) (new : Ledger) (pair : ℕ × ℕ) (h : Held) (n : Id) (answer : Result Held Rc) (l : Look (Option Id)) → get new.held pair ≡ Some h → name_of w h ≡ Some n
+pub found_some : (w : List ℕ) (new : Ledger) (pair : ℕ × ℕ) (h : Held) (n : Id) (answer : Result Held Rc) (l : Look (Option Id))
+    → get new.held pair ≡ Some h → name_of w h ≡ Some n
     → IsMade new (Ok pair) answer → IsOptional w answer l → l ≡ Ok (Some n)
 found_some w new pair h n answer l held named made looked =
     let same : made.object ≡ h = (let both : Some made.object ≡ Some h = sym made.found ∙ held in cc) in
     go answer l (made.answers ∙ ap Ok same) looked
   where
-    go : (answer : Result Held Rc) (l : Look (Option Id)) → answer ≡ Ok h → IsOptional w answer l → l ≡ Ok (Some n)
+    go : (answer : Result Held Rc) (l : Look (Option Id)) → answer ≡ Ok h → IsOptional w answer l
+        → l ≡ Ok (Some n)
     go (Ok o) (Ok (Some m)) is same =
         let object : o ≡ h = cc in
         let both : Some m ≡ Some n = sym same ∙ ap (name_of w) object ∙ named in
@@ -146,7 +166,8 @@ found_some w new pair h n answer l held named made looked =
     go (Err rc) l is same = absurd (cc)
 
 -- there is no such object
-pub found_none : (w : List ℕ) (new : Ledger) (answer : Result Held Rc) (l : Look (Option Id)) → IsMade new (Err Unavailable) answer → IsOptional w answer l → l ≡ Ok None
+pub found_none : (w : List ℕ) (new : Ledger) (answer : Result Held Rc) (l : Look (Option Id))
+    → IsMade new (Err Unavailable) answer → IsOptional w answer l → l ≡ Ok None
 found_none w new (Ok h) l made looked = absurd (cc)
 found_none w new (Err rc) (Ok (Some m)) made looked = absurd looked
 found_none w new (Err rc) (Ok None) made looked = refl
@@ -156,32 +177,37 @@ found_none w new (Err rc) (Err (look.Cycle addr)) made looked = absurd looked
 
 -- the inquiry was refused
 module _ (w : List ℕ) (new : Ledger) (found : Option Held) where
-  object_err : (rc : Rc) (answer : Result Held Rc) (l : Look Id) → answer ≡ Err rc → IsLook (IsOf w) answer l → Gives {A = Id} (Err (fault_of found rc)) l
+  object_err : (rc : Rc) (answer : Result Held Rc) (l : Look Id) → answer ≡ Err rc → IsLook (IsOf w) answer l
+      → Gives {A = Id} (Err (fault_of found rc)) l
   object_err rc (Ok o) l is same = absurd (cc)
   object_err rc (Err why) (Ok z) is same = absurd same
   object_err rc (Err why) (Err fault) is same =
       let one : rc ≡ why = cc in fault_gives Id found rc fault (subst (λ c. IsFault c fault) (sym one) same)
 
-  optional_err : (rc : Rc) (answer : Result Held Rc) (l : Look (Option Id)) → rc ≢ Unavailable → answer ≡ Err rc → IsOptional w answer l → Gives {A = Option Id} (Err (fault_of found rc)) l
+  optional_err : (rc : Rc) (answer : Result Held Rc) (l : Look (Option Id)) → rc ≢ Unavailable
+      → answer ≡ Err rc → IsOptional w answer l → Gives {A = Option Id} (Err (fault_of found rc)) l
   optional_err rc (Ok o) l ne is same = absurd (cc)
   optional_err rc (Err why) (Ok None) ne is same = absurd (ne (let one : rc ≡ why = cc in one ∙ same))
   optional_err rc (Err why) (Ok (Some z)) ne is same = absurd same
   optional_err rc (Err why) (Err fault) ne is same =
       let one : rc ≡ why = cc in fault_gives (Option Id) found rc fault (subst (λ c. IsFault c fault) (sym one) same)
 
-  pub refused_object : (rc : Rc) (answer : Result Held Rc) (l : Look Id) → IsMade new (Err rc) answer → IsLook (IsOf w) answer l → Gives {A = Id} (Err (fault_of found rc)) l
+  pub refused_object : (rc : Rc) (answer : Result Held Rc) (l : Look Id) → IsMade new (Err rc) answer
+      → IsLook (IsOf w) answer l → Gives {A = Id} (Err (fault_of found rc)) l
   refused_object CallbackError answer l made looked = tt
   refused_object NoMem answer l made looked = tt
   refused_object rc answer l made looked = object_err rc answer l made looked
 
-  pub refused_optional : (rc : Rc) (answer : Result Held Rc) (l : Look (Option Id)) → rc ≢ Unavailable → IsMade new (Err rc) answer → IsOptional w answer l
+  pub refused_optional : (rc : Rc) (answer : Result Held Rc) (l : Look (Option Id)) → rc ≢ Unavailable
+      → IsMade new (Err rc) answer → IsOptional w answer l
       → Gives {A = Option Id} (Err (fault_of found rc)) l
   refused_optional CallbackError answer l ne made looked = tt
   refused_optional NoMem answer l ne made looked = tt
   refused_optional rc answer l ne made looked = optional_err rc answer l ne made looked
 
   -- there may be none
-  pub absent_gives : (rc : Rc) (answer : Result Held Rc) (l : Look (Option Id)) → IsMade new (Err rc) answer → IsOptional w answer l
+  pub absent_gives : (rc : Rc) (answer : Result Held Rc) (l : Look (Option Id)) → IsMade new (Err rc) answer
+      → IsOptional w answer l
       → Gives (names_met (absent found rc)) l
   absent_gives Unavailable answer l made looked = found_none w new answer l made looked
   absent_gives CallbackError answer l made looked = tt
@@ -191,12 +217,14 @@ module _ (w : List ℕ) (new : Ledger) (found : Option Held) where
 -- ---- objects that live
 
 -- the object to which an address leads lives
-lead_lives : (w : List ℕ) (memory : Words) (kind : Kind) (f : Field) (pointer : ℕ) (o : Held) → answer_on memory (lead w kind f pointer) ≡ Ok o
+lead_lives : (w : List ℕ) (memory : Words) (kind : Kind) (f : Field) (pointer : ℕ) (o : Held)
+    → answer_on memory (lead w kind f pointer) ≡ Ok o
     → answer_on memory (unchanged w o) ≡ Ok o
 unfolding lead
 lead_lives w memory kind f pointer o is = place (is_some (slot_at w (record_kind kind) pointer)) refl is
   where
-    live : (x : ℕ) → memory (place_of w pointer (life_of (record_kind kind)) 0) ≡ Some x → is_some (slot_at w (record_kind kind) pointer) ≡ true
+    live : (x : ℕ) → memory (place_of w pointer (life_of (record_kind kind)) 0) ≡ Some x
+        → is_some (slot_at w (record_kind kind) pointer) ≡ true
         → (b : Bool) → is_live (record_kind kind) x ≡ b
         → ok_or (cond b (Some (record { kind = kind; addr = pointer; life = x })) None) (Error pointer (number f)) ≡ Ok o
         → answer_on memory (unchanged w o) ≡ Ok o
@@ -206,7 +234,8 @@ lead_lives w memory kind f pointer o is = place (is_some (slot_at w (record_kind
         (unchanged_told w memory kind x pointer (record { place = slot; word = there; live = alive }))
     live x there slot false alive is = absurd (cc)
 
-    word : (found : Option ℕ) → memory (place_of w pointer (life_of (record_kind kind)) 0) ≡ found → is_some (slot_at w (record_kind kind) pointer) ≡ true
+    word : (found : Option ℕ) → memory (place_of w pointer (life_of (record_kind kind)) 0) ≡ found
+        → is_some (slot_at w (record_kind kind) pointer) ≡ true
         → ok_or (option_and_then (object kind pointer) found) (Error pointer (number f)) ≡ Ok o → answer_on memory (unchanged w o) ≡ Ok o
     word None there slot is = absurd (cc)
     word (Some x) there slot is = live x there slot (is_live (record_kind kind) x) refl is
@@ -218,11 +247,13 @@ lead_lives w memory kind f pointer o is = place (is_some (slot_at w (record_kind
     place false slot is = absurd (cc)
 
 -- what reads answer at their end
-pub last_part : {A : Type 0} (memory : Words) (reads : Reads A) (more : A → Reads Held) (o : Held) → answer_on memory (then_reads reads more) ≡ Ok o
+pub last_part : {A : Type 0} (memory : Words) (reads : Reads A) (more : A → Reads Held) (o : Held)
+    → answer_on memory (then_reads reads more) ≡ Ok o
     → (x : A) × (answer_on memory (more x) ≡ Ok o)
 last_part {A} memory reads more o is = go (answer_on memory reads) (sym (answer_then memory reads more) ∙ is)
   where
-    go : (a : Result A Rc) → answer_on memory (after a more) ≡ Ok o → (x : A) × (answer_on memory (more x) ≡ Ok o)
+    go : (a : Result A Rc) → answer_on memory (after a more) ≡ Ok o
+        → (x : A) × (answer_on memory (more x) ≡ Ok o)
     go (Ok x) is = (x, is)
     go (Err rc) is = absurd (cc)
 
@@ -239,19 +270,24 @@ pub optional_lives : {A : Type 0} (w : List ℕ) (memory : Words) (reads : Reads
 unfolding follow_some
 optional_lives w memory reads kind f address o is =
     let first = last_part memory reads (λ x. follow_some w kind (address x) f) o is in
-    let second = last_part memory (word_of w (address first.0) f 0) (λ pointer. cond (pointer == 0) (Answer (Err Unavailable)) (lead w kind f pointer)) o first.1 in
+    let second =
+    last_part memory (word_of w (address first.0) f 0)
+    (λ pointer. cond (pointer == 0) (Answer (Err Unavailable)) (lead w kind f pointer)) o first.1 in
     go second.0 (second.0 == 0) second.1
   where
-    go : (p : ℕ) (b : Bool) → answer_on memory (cond b (Answer (Err Unavailable)) (lead w kind f p)) ≡ Ok o → answer_on memory (unchanged w o) ≡ Ok o
+    go : (p : ℕ) (b : Bool) → answer_on memory (cond b (Answer (Err Unavailable)) (lead w kind f p)) ≡ Ok o
+        → answer_on memory (unchanged w o) ≡ Ok o
     go p true is = absurd (cc)
     go p false is = lead_lives w memory kind f p o is
 
 -- ---- an object that was found and let go
 
 module _ {C F : Type 0} (told : C → Told) (old mid new : Opened C F) (kind : Kind) (pair : ℕ × ℕ)
-    (makes : Makes kind old.handles mid.handles (Ok pair)) (stays : Stays told old mid) (layout : new.layout ≡ mid.layout) (table : new.table ≡ mid.table) where
+    (makes : Makes kind old.handles mid.handles (Ok pair)) (stays : Stays told old mid)
+    (layout : new.layout ≡ mid.layout) (table : new.table ≡ mid.table) where
   -- all handles are as they were
-  pub found_leaves : new.handles.held ≡ remove mid.handles.held pair → new.handles.made ≡ mid.handles.made → Leaves told 1 old new
+  pub found_leaves : new.handles.held ≡ remove mid.handles.held pair → new.handles.made ≡ mid.handles.made
+      → Leaves told 1 old new
   found_leaves removed made = record {
     stays = record {
       table = record {
@@ -267,9 +303,11 @@ module _ {C F : Type 0} (told : C → Told) (old mid new : Opened C F) (kind : K
   }
 
   -- and it lives
-  pub found_met : (m : Met) (reads : Reads Held) → get mid.handles.held pair ≡ Some m.held → m.held.kind ≡ kind → IsNamed mid.layout m.held → name_of mid.layout m.held ≡ Some m.name
+  pub found_met : (m : Met) (reads : Reads Held) → get mid.handles.held pair ≡ Some m.held
+      → m.held.kind ≡ kind → IsNamed mid.layout m.held → name_of mid.layout m.held ≡ Some m.name
       → IsMadeOf (told old.table.calls) mid.handles (Ok pair) reads
-      → ((memory : Words) (o : Held) → answer_on memory reads ≡ Ok o → answer_on memory (unchanged old.layout o) ≡ Ok o)
+      →
+      ((memory : Words) (o : Held) → answer_on memory reads ≡ Ok o → answer_on memory (unchanged old.layout o) ≡ Ok o)
       → IsMet told new kind m
   found_met m reads there of_kind place name answered lives = record {
     of_kind = of_kind;
@@ -279,7 +317,8 @@ module _ {C F : Type 0} (told : C → Told) (old mid new : Opened C F) (kind : K
         let then : Tells (told old.table.calls) memory = still_tells (told new.table.calls) (told old.table.calls) memory
         (sym (ap (λ (t : Kept C F). told t.calls) table ∙ stays.table.same)) t in
         let made = answered memory then in
-        let same : made.object ≡ m.held = (let both : Some made.object ≡ Some m.held = sym made.found ∙ there in cc) in
+        let same : made.object ≡ m.held =
+        (let both : Some made.object ≡ Some m.held = sym made.found ∙ there in cc) in
         subst (λ w. answer_on memory (unchanged w m.held) ≡ Ok m.held) (sym (layout ∙ stays.layout))
         (lives memory m.held (made.answers ∙ ap Ok same));
   }

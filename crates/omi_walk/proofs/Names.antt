@@ -14,7 +14,8 @@ use Rattle.omi_session.specs.Named.{record_kind}
 use Rattle.omi_rep.proofs.Slots.{slot_is}
 
 -- the record of an object is the one that its name has
-pub named_address : (w : List ℕ) (h : Held) (n : Id) → name_of w h ≡ Some n → h.addr ≡ id_address w (record_kind h.kind) n
+pub named_address : (w : List ℕ) (h : Held) (n : Id) → name_of w h ≡ Some n
+    → h.addr ≡ id_address w (record_kind h.kind) n
 named_address w h n is = go (slot_at w (record_kind h.kind) h.addr) refl is
   where
     go : (o : Option (ℕ × ℕ)) → slot_at w (record_kind h.kind) h.addr ≡ o
@@ -27,7 +28,8 @@ named_address w h n is = go (slot_at w (record_kind h.kind) h.addr) refl is
         there.1 ∙ ap (λ (m : Id). slot_address w (record_kind h.kind) m.creator m.slot) same
 
 -- what was added and let go again leaves all as it was
-pub restored : (held : FinMap pair_cmp Held) (pair : ℕ × ℕ) (h : Held) → get held pair ≡ None → remove (insert held pair h) pair ≡ held
+pub restored : (held : FinMap pair_cmp Held) (pair : ℕ × ℕ) (h : Held) → get held pair ≡ None
+    → remove (insert held pair h) pair ≡ held
 restored held pair h unheld = same_map pair_cmp_total pair_cmp_antisymmetric _ _ (λ other.
     get-remove pair_cmp_total (insert held pair h) pair other
     ∙ elim (one_of_both (eq_by_cmp pair_cmp other pair)) [

@@ -23,22 +23,29 @@ range_over a zero k = ap (range_with_len a) (zero-add k) ∙ ap (λ b. range_wit
 range_over a (suc n) k =
     let one : suc n + k ≡ suc (n + k) = omega arith in
     let next : a + 1 + n ≡ a + suc n = omega arith in
-    ap (range_with_len a) one ∙ ap (λ xs. a ∷ xs) (range_over (a + 1) n k ∙ ap (λ b. range_with_len (a + 1) n ++ range_with_len b k) next)
+    ap (range_with_len a) one
+    ∙ ap (λ xs. a ∷ xs)
+    (range_over (a + 1) n k ∙ ap (λ b. range_with_len (a + 1) n ++ range_with_len b k) next)
 
 -- a part for each number: those below one, that of this one, and those behind it
 module _ {A : Type 0} (part : ℕ → List A) where
-  pub parts_more : (n : ℕ) → flat_map part (range_with_len 0 (n + 1)) ≡ flat_map part (range_with_len 0 n) ++ part n
+  pub parts_more : (n : ℕ)
+      → flat_map part (range_with_len 0 (n + 1)) ≡ flat_map part (range_with_len 0 n) ++ part n
   parts_more n =
-      ap (flat_map part) (range_over 0 n 1) ∙ flat_map-append part (range_with_len 0 n) (range_with_len (0 + n) 1)
+      ap (flat_map part) (range_over 0 n 1)
+      ∙ flat_map-append part (range_with_len 0 n) (range_with_len (0 + n) 1)
       ∙ ap (λ xs. flat_map part (range_with_len 0 n) ++ xs) (append-nil (part (0 + n)) ∙ ap part (zero-add n))
 
-  pub parts_behind : (n m : ℕ) → n < m → flat_map part (range_with_len 0 m) ≡ flat_map part (range_with_len 0 n) ++ (part n ++ flat_map part (range_with_len (n + 1) (m - (n + 1))))
+  pub parts_behind : (n m : ℕ) → n < m
+      → flat_map part (range_with_len 0 m) ≡ flat_map part (range_with_len 0 n) ++ (part n ++ flat_map part (range_with_len (n + 1) (m - (n + 1))))
   parts_behind n m below =
       let all : m ≡ n + suc (m - (n + 1)) = omega (arith, below) in
       ap (λ k. flat_map part (range_with_len 0 k)) all
       ∙ ap (flat_map part) (range_over 0 n (suc (m - (n + 1))))
       ∙ flat_map-append part (range_with_len 0 n) (range_with_len (0 + n) (suc (m - (n + 1))))
-      ∙ ap (λ k. flat_map part (range_with_len 0 n) ++ (part k ++ flat_map part (range_with_len (k + 1) (m - (n + 1))))) (zero-add n)
+      ∙ ap
+      (λ k. flat_map part (range_with_len 0 n) ++ (part k ++ flat_map part (range_with_len (k + 1) (m - (n + 1)))))
+      (zero-add n)
 
 -- ---- the regions of an index
 
@@ -47,24 +54,31 @@ module _ (index : BTreeMap ℕ Met) where
   abbrev pub in_one : ℕ → ℕ → List Id
   in_one creator slot = filter_map (in_slot index) ((creator, slot) ∷ [])
 
-  pub none_in : (creator slot : ℕ) → get nat_cmp index (slot_key creator slot) ≡ None → in_one creator slot ≡ []
+  pub none_in : (creator slot : ℕ) → get nat_cmp index (slot_key creator slot) ≡ None
+      → in_one creator slot ≡ []
   none_in creator slot none = ap (λ o. cons_option (name_in o) []) none
 
-  pub one_in : (creator slot : ℕ) (m : Met) → get nat_cmp index (slot_key creator slot) ≡ Some m → in_one creator slot ≡ m.name ∷ []
+  pub one_in : (creator slot : ℕ) (m : Met) → get nat_cmp index (slot_key creator slot) ≡ Some m
+      → in_one creator slot ≡ m.name ∷ []
   one_in creator slot m some = ap (λ o. cons_option (name_in o) []) some
 
-  own_by_slots : (creator : ℕ) (slots : List ℕ) → filter_map (in_slot index) (map (λ slot. (creator, slot)) slots) ≡ flat_map (in_one creator) slots
+  own_by_slots : (creator : ℕ) (slots : List ℕ)
+      → filter_map (in_slot index) (map (λ slot. (creator, slot)) slots) ≡ flat_map (in_one creator) slots
   own_by_slots creator [] = refl
   own_by_slots creator (x ∷ slots) =
-      filter_map-append (in_slot index) ((creator, x) ∷ []) (map (λ slot. (creator, slot)) slots) ∙ ap (λ xs. in_one creator x ++ xs) (own_by_slots creator slots)
+      filter_map-append (in_slot index) ((creator, x) ∷ []) (map (λ slot. (creator, slot)) slots)
+      ∙ ap (λ xs. in_one creator x ++ xs) (own_by_slots creator slots)
 
-  pub own_by_slot : (w : List ℕ) (creator : ℕ) → in_own_slots index w creator ≡ flat_map (in_one creator) (range_with_len 0 (per_thread w regions))
+  pub own_by_slot : (w : List ℕ) (creator : ℕ)
+      → in_own_slots index w creator ≡ flat_map (in_one creator) (range_with_len 0 (per_thread w regions))
   own_by_slot w creator = own_by_slots creator (range_with_len 0 (per_thread w regions))
 
-  pub all_by_thread : (w : List ℕ) (creators : List ℕ) → filter_map (in_slot index) (flat_map (own_slots w) creators) ≡ flat_map (in_own_slots index w) creators
+  pub all_by_thread : (w : List ℕ) (creators : List ℕ)
+      → filter_map (in_slot index) (flat_map (own_slots w) creators) ≡ flat_map (in_own_slots index w) creators
   all_by_thread w [] = refl
   all_by_thread w (x ∷ creators) =
-      filter_map-append (in_slot index) (own_slots w x) (flat_map (own_slots w) creators) ∙ ap (λ xs. in_own_slots index w x ++ xs) (all_by_thread w creators)
+      filter_map-append (in_slot index) (own_slots w x) (flat_map (own_slots w) creators)
+      ∙ ap (λ xs. in_own_slots index w x ++ xs) (all_by_thread w creators)
 
 -- ---- what was met in a slot
 
@@ -74,10 +88,16 @@ same_key a b c d low small = go (a == c) (b == d) (slot_key a b == slot_key c d)
   where
     go : (x y z : Bool) → a == c ≡ x → b == d ≡ y → slot_key a b == slot_key c d ≡ z → (x && y) ≡ z
     go true true true i j k = refl
-    go true true false i j k = absurd (let clash : true ≡ false = sym (eq-eqb _ _ (ap (λ e. e * 65536 + b) (eqb-true a c i) ∙ ap (λ e. c * 65536 + e) (eqb-true b d j))) ∙ k in cc)
-    go true false true i j k = absurd (let same : b ≡ d = omega (arith, low, small, eqb-true _ _ k, eqb-true a c i) in let clash : true ≡ false = sym (eq-eqb b d same) ∙ j in cc)
+    go true true false i j k =
+        absurd
+        (let clash : true ≡ false = sym (eq-eqb _ _ (ap (λ e. e * 65536 + b) (eqb-true a c i) ∙ ap (λ e. c * 65536 + e) (eqb-true b d j))) ∙ k in cc)
+    go true false true i j k =
+        absurd
+        (let same : b ≡ d = omega (arith, low, small, eqb-true _ _ k, eqb-true a c i) in let clash : true ≡ false = sym (eq-eqb b d same) ∙ j in cc)
     go true false false i j k = refl
-    go false y true i j k = absurd (let same : a ≡ c = omega (arith, low, small, eqb-true _ _ k) in let clash : true ≡ false = sym (eq-eqb a c same) ∙ i in cc)
+    go false y true i j k =
+        absurd
+        (let same : a ≡ c = omega (arith, low, small, eqb-true _ _ k) in let clash : true ≡ false = sym (eq-eqb a c same) ∙ i in cc)
     go false y false i j k = refl
 
 module _ (w : List ℕ) (memory : Words) where
@@ -86,17 +106,20 @@ module _ (w : List ℕ) (memory : Words) where
       → met_in w memory (map (λ m. m.name) met) (creator, slot) ≡ name_in (find (λ m. key_of m == slot_key creator slot) met)
   met_is [] creator slot low small = refl
   met_is (m ∷ met) creator slot low small =
-      go (m.name.creator == creator && m.name.slot == slot) (key_of m == slot_key creator slot) (same_key m.name.creator m.name.slot creator slot (All-head (λ m. m.name.slot < 65536) m met small) low)
+      go (m.name.creator == creator && m.name.slot == slot) (key_of m == slot_key creator slot)
+      (same_key m.name.creator m.name.slot creator slot (All-head (λ m. m.name.slot < 65536) m met small) low)
       (met_is met creator slot low (All-tail (λ m. m.name.slot < 65536) m met small))
     where
-      go : (x y : Bool) → x ≡ y → met_in w memory (map (λ m. m.name) met) (creator, slot) ≡ name_in (find (λ m. key_of m == slot_key creator slot) met)
+      go : (x y : Bool) → x ≡ y
+          → met_in w memory (map (λ m. m.name) met) (creator, slot) ≡ name_in (find (λ m. key_of m == slot_key creator slot) met)
           → cond x (Some m.name) (met_in w memory (map (λ m. m.name) met) (creator, slot)) ≡ name_in (cond y (Some m) (find (λ m. key_of m == slot_key creator slot) met))
       go true true same rest = refl
       go true false same rest = absurd (cc)
       go false true same rest = absurd (cc)
       go false false same rest = rest
 
-  module _ (index : BTreeMap ℕ Met) (met : List Met) (first : HasFirst index met) (small : All (λ m. m.name.slot < 65536) met) where
+  module _ (index : BTreeMap ℕ Met) (met : List Met) (first : HasFirst index met)
+      (small : All (λ m. m.name.slot < 65536) met) where
     own_met : (creator a n : ℕ) → a + n ≤ 65536
         → filter_map (met_in w memory (map (λ m. m.name) met)) (map (λ slot. (creator, slot)) (range_with_len a n)) ≡ filter_map (in_slot index) (map (λ slot. (creator, slot)) (range_with_len a n))
     own_met creator a zero few = refl
@@ -104,18 +127,23 @@ module _ (w : List ℕ) (memory : Words) where
         let here : met_in w memory (map (λ m. m.name) met) (creator, a) ≡ in_slot index (creator, a) =
         met_is met creator a (omega (arith, few)) small ∙ ap name_in (sym (first (slot_key creator a))) in
         let more = own_met creator (a + 1) n (omega (arith, few)) in
-        ap (λ o. cons_option o (filter_map (met_in w memory (map (λ m. m.name) met)) (map (λ slot. (creator, slot)) (range_with_len (a + 1) n)))) here
+        ap
+        (λ o. cons_option o (filter_map (met_in w memory (map (λ m. m.name) met)) (map (λ slot. (creator, slot)) (range_with_len (a + 1) n)))) here
         ∙ ap (cons_option (in_slot index (creator, a))) more
 
     all_met : (creators : List ℕ) → per_thread w regions ≤ 65536
         → filter_map (met_in w memory (map (λ m. m.name) met)) (flat_map (own_slots w) creators) ≡ filter_map (in_slot index) (flat_map (own_slots w) creators)
     all_met [] few = refl
     all_met (x ∷ creators) few =
-        filter_map-append (met_in w memory (map (λ m. m.name) met)) (own_slots w x) (flat_map (own_slots w) creators)
-        ∙ ap (λ xs. xs ++ filter_map (met_in w memory (map (λ m. m.name) met)) (flat_map (own_slots w) creators)) (own_met x 0 (per_thread w regions) (omega (arith, few)))
+        filter_map-append (met_in w memory (map (λ m. m.name) met)) (own_slots w x)
+        (flat_map (own_slots w) creators)
+        ∙ ap
+        (λ xs. xs ++ filter_map (met_in w memory (map (λ m. m.name) met)) (flat_map (own_slots w) creators))
+        (own_met x 0 (per_thread w regions) (omega (arith, few)))
         ∙ ap (λ xs. in_own_slots index w x ++ xs) (all_met creators few)
         ∙ sym (filter_map-append (in_slot index) (own_slots w x) (flat_map (own_slots w) creators))
 
     -- those that were met in the slots of a layout are those that the index has in them
-    pub met_in_slots : per_thread w regions ≤ 65536 → filter_map (met_in w memory (map (λ m. m.name) met)) (slot_list w regions) ≡ filter_map (in_slot index) (slot_list w regions)
+    pub met_in_slots : per_thread w regions ≤ 65536
+        → filter_map (met_in w memory (map (λ m. m.name) met)) (slot_list w regions) ≡ filter_map (in_slot index) (slot_list w regions)
     met_in_slots few = all_met (range_with_len 0 (makers w regions)) few

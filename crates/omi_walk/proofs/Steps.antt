@@ -26,14 +26,16 @@ use Rattle.omi_walk.specs.Objects.{IsMet, Stands}
 -- ---- one memory
 
 -- a refusal ends a look
-pub stop_gives : {A B : Type 0} (f : WalkFault) (a : Look A) (b : A → Look B) → Gives {A = A} (Err f) a → Gives {A = B} (Err f) (and_then a b)
+pub stop_gives : {A B : Type 0} (f : WalkFault) (a : Look A) (b : A → Look B) → Gives {A = A} (Err f) a
+    → Gives {A = B} (Err f) (and_then a b)
 unfolding and_then
 stop_gives (Damaged addr field) a b is = ap (λ l. and_then l b) is
 stop_gives (Cycle addr) a b is = ap (λ l. and_then l b) is
 stop_gives Callback a b is = tt
 stop_gives OutOfMemory a b is = tt
 
-pub then_gives : {A B : Type 0} (r : Result B WalkFault) (x : A) (a : Look A) (b : A → Look B) → a ≡ Ok x → Gives r (b x) → Gives r (and_then a b)
+pub then_gives : {A B : Type 0} (r : Result B WalkFault) (x : A) (a : Look A) (b : A → Look B) → a ≡ Ok x
+    → Gives r (b x) → Gives r (and_then a b)
 unfolding and_then
 then_gives r x a b is rest = subst (λ l. Gives r (and_then l b)) (sym is) rest
 
@@ -45,21 +47,24 @@ same_gives r a b is given = subst (Gives r) is given
 
 module _ {C F : Type 0} (told : C → Told) where
   -- what is told in a later session is told in the one before
-  pub looks_before : {A : Type 0} (s t : Opened C F) (r : Result A WalkFault) (look : List ℕ → Words → Look A) → Stays told s t → Looks told t r look → Looks told s r look
+  pub looks_before : {A : Type 0} (s t : Opened C F) (r : Result A WalkFault) (look : List ℕ → Words → Look A)
+      → Stays told s t → Looks told t r look → Looks told s r look
   unfolding Looks
   looks_before s t r look stays there = λ memory tells.
       subst (λ w. Gives r (look w memory)) stays.layout
       (there memory (still_tells (told s.table.calls) (told t.table.calls) memory stays.table.same tells))
 
   -- and the other way round
-  pub looks_after : {A : Type 0} (s t : Opened C F) (r : Result A WalkFault) (look : List ℕ → Words → Look A) → Stays told s t → Looks told s r look → Looks told t r look
+  pub looks_after : {A : Type 0} (s t : Opened C F) (r : Result A WalkFault) (look : List ℕ → Words → Look A)
+      → Stays told s t → Looks told s r look → Looks told t r look
   unfolding Looks
   looks_after s t r look stays there = λ memory tells.
       subst (λ w. Gives r (look w memory)) (sym stays.layout)
       (there memory (still_tells (told t.table.calls) (told s.table.calls) memory (sym stays.table.same) tells))
 
   -- an object that was met still lives, and a handle still stands for it
-  pub met_after : (s t : Opened C F) (kind : Kind) (m : Met) → Stays told s t → IsMet told s kind m → IsMet told t kind m
+  pub met_after : (s t : Opened C F) (kind : Kind) (m : Met) → Stays told s t → IsMet told s kind m
+      → IsMet told t kind m
   met_after s t kind m stays met = record {
     of_kind = met.of_kind;
     place = subst (λ w. IsNamed w m.held) (sym stays.layout) met.place;
@@ -68,7 +73,8 @@ module _ {C F : Type 0} (told : C → Told) where
         (met.lives memory (still_tells (told t.table.calls) (told s.table.calls) memory (sym stays.table.same) tells));
   }
 
-  pub stands_after : (most : ℕ) (s t : Opened C F) (kind : Kind) (pair : ℕ × ℕ) (n : Id) → Leaves told most s t → Stands told s kind pair n → Stands told t kind pair n
+  pub stands_after : (most : ℕ) (s t : Opened C F) (kind : Kind) (pair : ℕ × ℕ) (n : Id)
+      → Leaves told most s t → Stands told s kind pair n → Stands told t kind pair n
   stands_after most s t kind pair n leaves st = record {
     object = st.object;
     is = ap (λ held. get held pair) leaves.held ∙ st.is;
@@ -87,16 +93,19 @@ module _ {C F : Type 0} (told : C → Told) where
   pub read_then : {A B : Type 0} (most : ℕ) (s t : Opened C F) (kind : Kind) (pair : ℕ × ℕ) (n : Id) (x : A) (r : Result B WalkFault) (a : List ℕ → Words → Look A) (b : List ℕ → Words → A → Look B)
       → Leaves told most s t → Stands told s kind pair n → Looks told s (Ok x) a → (Stands told t kind pair n → Looks told t r (λ w memory. b w memory x))
       → Looks told s r (λ w memory. and_then (a w memory) (b w memory))
-  read_then most s t kind pair n x r a b leaves st first rest = look_then s t x r a b first leaves.stays (rest (stands_after most s t kind pair n leaves st))
+  read_then most s t kind pair n x r a b leaves st first rest =
+      look_then s t x r a b first leaves.stays (rest (stands_after most s t kind pair n leaves st))
 
   -- a look was refused
   pub look_stops : {A B : Type 0} (s : Opened C F) (f : WalkFault) (a : List ℕ → Words → Look A) (b : List ℕ → Words → A → Look B)
       → Looks {A = A} told s (Err f) a → Looks {A = B} told s (Err f) (λ w memory. and_then (a w memory) (b w memory))
   unfolding Looks
-  look_stops s f a b first = λ memory tells. stop_gives f (a s.layout memory) (b s.layout memory) (first memory tells)
+  look_stops s f a b first =
+      λ memory tells. stop_gives f (a s.layout memory) (b s.layout memory) (first memory tells)
 
   -- a part was refused, and the call with it
-  pub refused_looks : {A : Type 0} (s : Opened C F) (f : WalkFault) (r : Result A WalkFault) (look : List ℕ → Words → Look A) → IsErrAnd r (λ why. why ≡ f)
+  pub refused_looks : {A : Type 0} (s : Opened C F) (f : WalkFault) (r : Result A WalkFault) (look : List ℕ → Words → Look A)
+      → IsErrAnd r (λ why. why ≡ f)
       → Looks told s (Err f) look → Looks told s r look
   refused_looks s f r look refused rest = let p = err_from_is_err_and r refused in rw (p.1, p.2) rest
 
@@ -106,7 +115,8 @@ module _ {C F : Type 0} (told : C → Told) where
   look_is s x = λ memory tells. refl
 
   -- want of memory, and a callback that failed, say nothing of a look
-  pub look_unsaid : {A : Type 0} (s : Opened C F) (look : List ℕ → Words → Look A) → Looks told s (Err OutOfMemory) look
+  pub look_unsaid : {A : Type 0} (s : Opened C F) (look : List ℕ → Words → Look A)
+      → Looks told s (Err OutOfMemory) look
   unfolding Looks
   look_unsaid s look = λ memory tells. tt
 
@@ -117,7 +127,8 @@ module _ {C F : Type 0} (told : C → Told) where
   }
 
   -- what is left is left over two calls
-  pub leaves_then : (m n most : ℕ) (a b c : Opened C F) → m + n ≤ most → Leaves told m a b → Leaves told n b c → Leaves told most a c
+  pub leaves_then : (m n most : ℕ) (a b c : Opened C F) → m + n ≤ most → Leaves told m a b → Leaves told n b c
+      → Leaves told most a c
   leaves_then m n most a b c few first second = record {
     stays = stays_then a b c first.stays second.stays;
     held = second.held ∙ first.held;
@@ -144,7 +155,8 @@ unfolding and_then
 mapped_next ys y (Ok more) = ap Ok (sym (append_assoc ys (y ∷ []) more))
 mapped_next ys y (Err fault) = refl
 
-module _ {A B C F : Type 0} (told : C → Told) (s : Opened C F) (look : List ℕ → Words → A → Look B) (all : List A) where
+module _ {A B C F : Type 0} (told : C → Told) (s : Opened C F) (look : List ℕ → Words → A → Look B)
+    (all : List A) where
   pub each_begins : EachSoFar told s s look all [] all
   each_begins = record {
     stays = record { table = record { same = refl; order = refl; to_host = refl }; layout = refl };
@@ -152,28 +164,34 @@ module _ {A B C F : Type 0} (told : C → Told) (s : Opened C F) (look : List �
   }
 
   module _ (t : Opened C F) (ys : List B) where
-    pub each_next : (u : Opened C F) (x : A) (left : List A) (y : B) → EachSoFar told s t look all ys (x ∷ left) → Looks told t (Ok y) (λ w memory. look w memory x) → Stays told t u
+    pub each_next : (u : Opened C F) (x : A) (left : List A) (y : B)
+        → EachSoFar told s t look all ys (x ∷ left) → Looks told t (Ok y) (λ w memory. look w memory x)
+        → Stays told t u
         → EachSoFar told s u look all (ys ++ y ∷ []) left
     unfolding Looks and_then
     each_next u x left y so first stays = record {
       stays = stays_then told s t u so.stays stays;
       rest = λ memory tells.
           so.rest memory tells
-          ∙ ap (λ (l : Look B). mapped (λ more. ys ++ more) (and_then l (λ z. mapped (λ more. z ∷ more) (each (look s.layout memory) left))))
+          ∙ ap
+          (λ (l : Look B). mapped (λ more. ys ++ more) (and_then l (λ z. mapped (λ more. z ∷ more) (each (look s.layout memory) left))))
           (looks_before told s t (Ok y) (λ w memory. look w memory x) so.stays first memory tells)
           ∙ mapped_next ys y (each (look s.layout memory) left);
     }
 
-    pub each_stops : (x : A) (left : List A) (f : WalkFault) → EachSoFar told s t look all ys (x ∷ left) → Looks {A = B} told t (Err f) (λ w memory. look w memory x)
+    pub each_stops : (x : A) (left : List A) (f : WalkFault) → EachSoFar told s t look all ys (x ∷ left)
+        → Looks {A = B} told t (Err f) (λ w memory. look w memory x)
         → Looks {A = List B} told s (Err f) (λ w memory. each (look w memory) all)
     unfolding Looks and_then
     each_stops x left f so first = λ memory tells.
-        same_gives (Err f) (mapped (λ more. ys ++ more) (each (look s.layout memory) (x ∷ left))) (each (look s.layout memory) all) (sym (so.rest memory tells))
+        same_gives (Err f) (mapped (λ more. ys ++ more) (each (look s.layout memory) (x ∷ left)))
+        (each (look s.layout memory) all) (sym (so.rest memory tells))
         (stop_gives f (each (look s.layout memory) (x ∷ left)) (λ more. Ok (ys ++ more))
         (stop_gives f (look s.layout memory x) (λ z. mapped (λ more. z ∷ more) (each (look s.layout memory) left))
         (looks_before told s t (Err f) (λ w memory. look w memory x) so.stays first memory tells)))
 
-    pub each_ends : EachSoFar told s t look all ys [] → Looks told s (Ok ys) (λ w memory. each (look w memory) all)
+    pub each_ends : EachSoFar told s t look all ys []
+        → Looks told s (Ok ys) (λ w memory. each (look w memory) all)
     unfolding Looks and_then
     each_ends so = λ memory tells. so.rest memory tells ∙ ap Ok (append-nil ys)
 

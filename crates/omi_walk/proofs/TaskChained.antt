@@ -28,24 +28,28 @@ pub record TasksSoFar {C F : Type 0} (told : C → Told) (s : Opened C F) (threa
       ≡ mapped (λ more. rows ++ more) (look_chain s.layout memory left before thread current)
 
 -- the name of a scheduling task is that of the row
-pub named_back : (o : Option Id) → option_map (λ (n : Tid). n.0) (option_map (λ (n : Id). record { 0 = n }) o) ≡ o
+pub named_back : (o : Option Id)
+    → option_map (λ (n : Tid). n.0) (option_map (λ (n : Id). record { 0 = n }) o) ≡ o
 named_back None = refl
 named_back (Some n) = refl
 
 module _ {C F : Type 0} (told : C → Told) (s : Opened C F) (thread : ℕ) (first : Option Id) where
-  pub tasks_begin : (empty : ℕ → Bool) → ((address : ℕ) → empty address ≡ false) → TasksSoFar told s thread first [] empty (records s.layout tasks) first
+  pub tasks_begin : (empty : ℕ → Bool) → ((address : ℕ) → empty address ≡ false)
+      → TasksSoFar told s thread first [] empty (records s.layout tasks) first
   tasks_begin empty none = record {
     before = [];
     same = none;
     rest = λ memory tells. mapped_same (look_chain s.layout memory (records s.layout tasks) [] thread first);
   }
 
-  module _ (t : Opened C F) (stays : Stays told s t) (rows : List TaskRow) (known : ℕ → Bool) (left : ℕ) (task : Id) (so : TasksSoFar told s thread first rows known (suc left) (Some task)) where
+  module _ (t : Opened C F) (stays : Stays told s t) (rows : List TaskRow) (known : ℕ → Bool) (left : ℕ)
+      (task : Id) (so : TasksSoFar told s thread first rows known (suc left) (Some task)) where
     -- the addresses that were met, this one included
     abbrev pub now_met : List ℕ
     now_met = id_address s.layout tasks task ∷ so.before
 
-    pub tasks_next : (known_now : ℕ → Bool) (row : TaskRow) (next : Option Id) → ((address : ℕ) → known_now address ≡ was_met now_met address)
+    pub tasks_next : (known_now : ℕ → Bool) (row : TaskRow) (next : Option Id)
+        → ((address : ℕ) → known_now address ≡ was_met now_met address)
         → row.scheduling ≡ option_map (λ n. record { 0 = n }) next
         → Looks told t (Ok row) (λ w memory. look_task w memory now_met thread task)
         → TasksSoFar told s thread first (rows ++ row ∷ []) known_now left next
@@ -55,15 +59,20 @@ module _ {C F : Type 0} (told : C → Told) (s : Opened C F) (thread : ℕ) (fir
       same = same;
       rest = λ memory tells.
           so.rest memory tells
-          ∙ ap (λ (l : Look TaskRow). mapped (λ more. rows ++ more) (and_then l (λ row. mapped (λ more. row ∷ more) (look_chain s.layout memory left now_met thread (option_map (λ next. next.0) row.scheduling)))))
+          ∙ ap
+          (λ (l : Look TaskRow). mapped (λ more. rows ++ more) (and_then l (λ row. mapped (λ more. row ∷ more) (look_chain s.layout memory left now_met thread (option_map (λ next. next.0) row.scheduling)))))
           (looks_before told s t (Ok row) (λ w memory. look_task w memory now_met thread task) stays looked memory tells)
-          ∙ mapped_next rows row (look_chain s.layout memory left now_met thread (option_map (λ next. next.0) row.scheduling))
-          ∙ ap (λ o. mapped (λ more. (rows ++ row ∷ []) ++ more) (look_chain s.layout memory left now_met thread o))
+          ∙ mapped_next rows row
+          (look_chain s.layout memory left now_met thread (option_map (λ next. next.0) row.scheduling))
+          ∙ ap
+          (λ o. mapped (λ more. (rows ++ row ∷ []) ++ more) (look_chain s.layout memory left now_met thread o))
           (ap (λ o. option_map (λ (n : Tid). n.0) o) scheduling ∙ named_back next);
     }
 
-    pub tasks_stop : (f : WalkFault) → Looks {A = TaskRow} told t (Err f) (λ w memory. look_task w memory now_met thread task)
-        → Looks {A = List TaskRow} told s (Err f) (λ w memory. look_chain w memory (records w tasks) [] thread first)
+    pub tasks_stop : (f : WalkFault)
+        → Looks {A = TaskRow} told t (Err f) (λ w memory. look_task w memory now_met thread task)
+        → Looks {A = List TaskRow} told s (Err f)
+        (λ w memory. look_chain w memory (records w tasks) [] thread first)
     unfolding Looks and_then
     tasks_stop f looked = λ memory tells.
         same_gives (Err f) _ _ (sym (so.rest memory tells))
@@ -72,12 +81,16 @@ module _ {C F : Type 0} (told : C → Told) (s : Opened C F) (thread : ℕ) (fir
         (looks_before told s t (Err f) (λ w memory. look_task w memory now_met thread task) stays looked memory tells)))
 
   module _ (rows : List TaskRow) (known : ℕ → Bool) where
-    pub tasks_end : (left : ℕ) → TasksSoFar told s thread first rows known left None → Looks told s (Ok rows) (λ w memory. look_chain w memory (records w tasks) [] thread first)
+    pub tasks_end : (left : ℕ) → TasksSoFar told s thread first rows known left None
+        → Looks told s (Ok rows) (λ w memory. look_chain w memory (records w tasks) [] thread first)
     unfolding Looks and_then
     tasks_end zero so = λ memory tells. so.rest memory tells ∙ ap Ok (append-nil rows)
     tasks_end (suc left) so = λ memory tells. so.rest memory tells ∙ ap Ok (append-nil rows)
 
-    pub tasks_cycle : (task : Id) (addr : ℕ) → addr ≡ id_address s.layout tasks task → TasksSoFar told s thread first rows known zero (Some task)
-        → Looks {A = List TaskRow} told s (Err (fault.Cycle addr)) (λ w memory. look_chain w memory (records w tasks) [] thread first)
+    pub tasks_cycle : (task : Id) (addr : ℕ) → addr ≡ id_address s.layout tasks task
+        → TasksSoFar told s thread first rows known zero (Some task)
+        → Looks {A = List TaskRow} told s (Err (fault.Cycle addr))
+        (λ w memory. look_chain w memory (records w tasks) [] thread first)
     unfolding Looks and_then
-    tasks_cycle task addr there so = λ memory tells. so.rest memory tells ∙ ap (λ a. Err (Cycle a)) (sym there)
+    tasks_cycle task addr there so =
+        λ memory tells. so.rest memory tells ∙ ap (λ a. Err (Cycle a)) (sym there)

@@ -28,8 +28,10 @@ as_two (Ok x) (Ok y) part more = refl
 
 -- five looks as one
 as_five : {A B C D E R Z : Type 0} (a : Look A) (b : Look B) (c : Look C) (d : Look D) (e : Look E) (part : A → B → C → D → E → R) (more : R → Look Z)
-    → and_then (and_then a (λ v. and_then b (λ w. and_then c (λ x. and_then d (λ y. and_then e (λ z. Ok (part v w x y z))))))) more
-    ≡ and_then a (λ v. and_then b (λ w. and_then c (λ x. and_then d (λ y. and_then e (λ z. more (part v w x y z))))))
+    → and_then
+    (and_then a (λ v. and_then b (λ w. and_then c (λ x. and_then d (λ y. and_then e (λ z. Ok (part v w x y z))))))) more
+    ≡ and_then a
+    (λ v. and_then b (λ w. and_then c (λ x. and_then d (λ y. and_then e (λ z. more (part v w x y z))))))
 unfolding and_then
 as_five (Err f) b c d e part more = refl
 as_five (Ok v) (Err f) c d e part more = refl
@@ -69,17 +71,20 @@ module _ (w : List ℕ) (memory : Words) (met : List ℕ) (i : ℕ) (k : Id) whe
       Ok (row_from i k relations frames tool environment)))))
 
   environment_part : (relations : Relations) (frames : ℕ × ℕ) (tool : ℕ)
-      → and_then (look_environment w memory k) (λ environment. Ok (row_from i k relations frames tool environment))
+      → and_then (look_environment w memory k)
+      (λ environment. Ok (row_from i k relations frames tool environment))
       ≡ and_then (read_task w memory k TaskDynamic) (λ dynamic. and_then (look_nthreads w memory k) (λ nthreads. and_then (read_task w memory k TaskSchedule) (λ schedule.
       and_then (read_task w memory k TaskDevice) (λ device. and_then (read_task w memory k TaskFinal) (λ final.
       Ok (row_from i k relations frames tool (record { dyn_var = dynamic; nthreads = nthreads; sched = schedule; device = device; final_task = final })))))))
   environment_part relations frames tool =
-      as_five (read_task w memory k TaskDynamic) (look_nthreads w memory k) (read_task w memory k TaskSchedule) (read_task w memory k TaskDevice) (read_task w memory k TaskFinal)
+      as_five (read_task w memory k TaskDynamic) (look_nthreads w memory k)
+      (read_task w memory k TaskSchedule) (read_task w memory k TaskDevice) (read_task w memory k TaskFinal)
       (λ dynamic nthreads schedule device final. record { dyn_var = dynamic; nthreads = nthreads; sched = schedule; device = device; final_task = final })
       (λ environment. Ok (row_from i k relations frames tool environment))
 
   words_part : (relations : Relations)
-      → and_then (look_frames w memory k) (λ frames. and_then (read_task w memory k TaskTool) (λ tool. and_then (look_environment w memory k) (λ environment. Ok (row_from i k relations frames tool environment))))
+      → and_then (look_frames w memory k)
+      (λ frames. and_then (read_task w memory k TaskTool) (λ tool. and_then (look_environment w memory k) (λ environment. Ok (row_from i k relations frames tool environment))))
       ≡ and_then (read_task w memory k TaskExit) (λ exit. and_then (read_task w memory k TaskEnter) (λ enter. and_then (read_task w memory k TaskTool) (λ tool.
       and_then (read_task w memory k TaskDynamic) (λ dynamic. and_then (look_nthreads w memory k) (λ nthreads. and_then (read_task w memory k TaskSchedule) (λ schedule.
       and_then (read_task w memory k TaskDevice) (λ device. and_then (read_task w memory k TaskFinal) (λ final.
@@ -91,7 +96,9 @@ module _ (w : List ℕ) (memory : Words) (met : List ℕ) (i : ℕ) (k : Id) whe
 
   pub parts_of_task : look_in_parts ≡ look_task w memory met i k
   parts_of_task =
-      as_five (read_task w memory k TaskImplicit) (look_object w memory regions (id_address w tasks k) TaskRegion 0) (read_task w memory k TaskFunction) (look_optional w memory tasks (id_address w tasks k) TaskGenerating 0)
+      as_five (read_task w memory k TaskImplicit)
+      (look_object w memory regions (id_address w tasks k) TaskRegion 0) (read_task w memory k TaskFunction)
+      (look_optional w memory tasks (id_address w tasks k) TaskGenerating 0)
       (look_onward w memory tasks met (id_address w tasks k) TaskScheduling)
       (λ implicit region func generating scheduling. record {
         implicit = implicit;
@@ -118,4 +125,5 @@ module _ (w : List ℕ) (memory : Words) (met : List ℕ) (i : ℕ) (k : Id) whe
 pub looks_same : {A C F : Type 0} (told : C → Told) (s : Opened C F) (r : Result A WalkFault) (one other : List ℕ → Words → Look A)
     → ((w : List ℕ) (memory : Words) → one w memory ≡ other w memory) → Looks told s r one → Looks told s r other
 unfolding Looks
-looks_same told s r one other same given = λ memory tells. subst (Gives r) (same s.layout memory) (given memory tells)
+looks_same told s r one other same given =
+    λ memory tells. subst (Gives r) (same s.layout memory) (given memory tells)

@@ -64,7 +64,8 @@ use Rattle.omi_walk.proofs.WordLooks.{variable_answers, record_answers}
 
 -- the thread that is answered is the one that a look finds, and it has begun
 abbrev pub IsFound : List ℕ → Words → Result Held Rc → Look (Option ℕ) → Type 0
-IsFound w memory (Ok h) (Ok (Some i)) = (h ≡ begun w i) × (memory (place_of w (thread_address w i) ThreadLife 0) ≡ Some 1) × (i < thread_count w)
+IsFound w memory (Ok h) (Ok (Some i)) =
+    (h ≡ begun w i) × (memory (place_of w (thread_address w i) ThreadLife 0) ≡ Some 1) × (i < thread_count w)
 IsFound w memory (Ok h) (Ok None) = ⊥
 IsFound w memory (Ok h) (Err fault) = ⊥
 IsFound w memory (Err rc) (Ok (Some i)) = ⊥
@@ -82,14 +83,16 @@ from_range w a (suc n) few = (omega (arith, few), from_range w (a + 1) n (omega 
 
 module _ (w : List ℕ) (memory : Words) (native : ℕ) where
   -- the word that a look gives stands there
-  stands_word : (i x : ℕ) → read_thread w memory i ThreadLife ≡ Ok x → memory (place_of w (thread_address w i) ThreadLife 0) ≡ Some x
+  stands_word : (i x : ℕ) → read_thread w memory i ThreadLife ≡ Ok x
+      → memory (place_of w (thread_address w i) ThreadLife 0) ≡ Some x
   stands_word i x is = go (memory (place_of w (thread_address w i) ThreadLife 0)) is
     where
       go : (o : Option ℕ) → ok_or o (Damaged (thread_address w i) (number ThreadLife)) ≡ Ok x → o ≡ Some x
       go None is = absurd (cc)
       go (Some y) is = let same : y ≡ x = cc in ap Some same
 
-  module _ (i : ℕ) (more : List ℕ) (low : i < thread_count w) (rest : IsFound w memory (answer_on memory (first_with w native more)) (look_for w memory native more)) where
+  module _ (i : ℕ) (more : List ℕ) (low : i < thread_count w)
+      (rest : IsFound w memory (answer_on memory (first_with w native more)) (look_for w memory native more)) where
     taken : Bool → Reads Held
     taken is = cond is (Answer (Ok (begun w i))) (first_with w native more)
 
@@ -97,15 +100,23 @@ module _ (w : List ℕ) (memory : Words) (native : ℕ) where
     same_id id = Answer (Ok (id == native))
 
     has_begun : ℕ → Reads Bool
-    has_begun life = cond (life == 1) (then_reads (word_of w (thread_address w i) ThreadNative 0) same_id) (Answer (Ok false))
+    has_begun life =
+        cond (life == 1) (then_reads (word_of w (thread_address w i) ThreadNative 0) same_id)
+        (Answer (Ok false))
 
     -- by the native id
-    by_id : memory (place_of w (thread_address w i) ThreadLife 0) ≡ Some 1 → (a : Result ℕ Rc) (l : Look ℕ) → IsLook {A = ℕ} {B = ℕ} (λ x y. x ≡ y) a l
-        → IsFound w memory (answer_on memory (after (answer_on memory (after a same_id)) taken)) (and_then l (λ id. cond (id == native) (Ok (Some i)) (look_for w memory native more)))
+    by_id : memory (place_of w (thread_address w i) ThreadLife 0) ≡ Some 1 → (a : Result ℕ Rc) (l : Look ℕ)
+        → IsLook {A = ℕ} {B = ℕ} (λ x y. x ≡ y) a l
+        → IsFound w memory (answer_on memory (after (answer_on memory (after a same_id)) taken))
+        (and_then l (λ id. cond (id == native) (Ok (Some i)) (look_for w memory native more)))
     unfolding and_then taken same_id
-    by_id there (Ok x) (Ok y) same = subst (λ z. IsFound w memory (answer_on memory (cond (x == native) (Answer (Ok (begun w i))) (first_with w native more))) (cond (z == native) (Ok (Some i)) (look_for w memory native more))) same (test (x == native))
+    by_id there (Ok x) (Ok y) same =
+        subst
+        (λ z. IsFound w memory (answer_on memory (cond (x == native) (Answer (Ok (begun w i))) (first_with w native more))) (cond (z == native) (Ok (Some i)) (look_for w memory native more))) same
+        (test (x == native))
       where
-        test : (b : Bool) → IsFound w memory (answer_on memory (cond b (Answer (Ok (begun w i))) (first_with w native more))) (cond b (Ok (Some i)) (look_for w memory native more))
+        test : (b : Bool)
+            → IsFound w memory (answer_on memory (cond b (Answer (Ok (begun w i))) (first_with w native more))) (cond b (Ok (Some i)) (look_for w memory native more))
         test true = (refl, there, low)
         test false = rest
     by_id there (Ok x) (Err fault) same = absurd same
@@ -113,7 +124,8 @@ module _ (w : List ℕ) (memory : Words) (native : ℕ) where
     by_id there (Err rc) (Err fault) same = same
 
     -- by the life word
-    by_life : (a : Result ℕ Rc) (l : Look ℕ) → l ≡ read_thread w memory i ThreadLife → IsLook {A = ℕ} {B = ℕ} (λ x y. x ≡ y) a l
+    by_life : (a : Result ℕ Rc) (l : Look ℕ) → l ≡ read_thread w memory i ThreadLife
+        → IsLook {A = ℕ} {B = ℕ} (λ x y. x ≡ y) a l
         → IsFound w memory (answer_on memory (after (answer_on memory (after a has_begun)) taken))
         (and_then l (λ life. cond (life == 1) (and_then (read_thread w memory i ThreadNative) (λ id. cond (id == native) (Ok (Some i)) (look_for w memory native more))) (look_for w memory native more)))
     unfolding and_then has_begun taken
@@ -122,11 +134,13 @@ module _ (w : List ℕ) (memory : Words) (native : ℕ) where
         (cond (z == 1) (and_then (read_thread w memory i ThreadNative) (λ id. cond (id == native) (Ok (Some i)) (look_for w memory native more))) (look_for w memory native more))) same
         (test (x == 1) refl)
       where
-        test : (b : Bool) → x == 1 ≡ b → IsFound w memory (answer_on memory (after (answer_on memory (cond b (then_reads (word_of w (thread_address w i) ThreadNative 0) same_id) (Answer (Ok false)))) taken))
+        test : (b : Bool) → x == 1 ≡ b
+            → IsFound w memory (answer_on memory (after (answer_on memory (cond b (then_reads (word_of w (thread_address w i) ThreadNative 0) same_id) (Answer (Ok false)))) taken))
             (cond b (and_then (read_thread w memory i ThreadNative) (λ id. cond (id == native) (Ok (Some i)) (look_for w memory native more))) (look_for w memory native more))
         test true e =
             let one : y ≡ 1 = sym same ∙ eqb-true x 1 e in
-            subst (λ (r : Result Bool Rc). IsFound w memory (answer_on memory (after r taken)) (and_then (read_thread w memory i ThreadNative) (λ id. cond (id == native) (Ok (Some i)) (look_for w memory native more))))
+            subst
+            (λ (r : Result Bool Rc). IsFound w memory (answer_on memory (after r taken)) (and_then (read_thread w memory i ThreadNative) (λ id. cond (id == native) (Ok (Some i)) (look_for w memory native more))))
             (sym (answer_then memory (word_of w (thread_address w i) ThreadNative 0) same_id))
             (by_id (stands_word i 1 (sym is ∙ ap Ok one)) (answer_on memory (word_of w (thread_address w i) ThreadNative 0)) (read_thread w memory i ThreadNative) (word_is_looked w memory (thread_address w i) ThreadNative 0))
         test false e = rest
@@ -142,33 +156,39 @@ module _ (w : List ℕ) (memory : Words) (native : ℕ) where
         ∙ ap (λ (r : Result Bool Rc). answer_on memory (after r taken)) (answer_then memory (word_of w (thread_address w i) ThreadLife 0) has_begun)))
         (by_life (answer_on memory (word_of w (thread_address w i) ThreadLife 0)) (read_thread w memory i ThreadLife) refl (word_is_looked w memory (thread_address w i) ThreadLife 0))
 
-  pub first_found : (is : List ℕ) → AreThreads w is → IsFound w memory (answer_on memory (first_with w native is)) (look_for w memory native is)
+  pub first_found : (is : List ℕ) → AreThreads w is
+      → IsFound w memory (answer_on memory (first_with w native is)) (look_for w memory native is)
   unfolding first_with
   first_found [] known = refl
   first_found (i ∷ more) known = next_found i more known.0 (first_found more known.1)
 
   pub thread_found : IsFound w memory (answer_on memory (thread_with w 0 native)) (look_for w memory native (range_with_len 0 (thread_count w)))
   unfolding thread_with
-  thread_found = first_found (range_with_len 0 (thread_count w)) (from_range w 0 (thread_count w) (omega arith))
+  thread_found =
+      first_found (range_with_len 0 (thread_count w)) (from_range w 0 (thread_count w) (omega arith))
 
 -- the number of a thread is that of its name
-pub thread_number : (w : List ℕ) → IsValid w → (i : ℕ) (n : Id) → i < thread_count w → name_of w (begun w i) ≡ Some n → n.creator ≡ i
+pub thread_number : (w : List ℕ) → IsValid w → (i : ℕ) (n : Id) → i < thread_count w
+    → name_of w (begun w i) ≡ Some n → n.creator ≡ i
 thread_number w valid i n low named =
     let same = name_told w valid Thread (record { creator = i; slot = 0; generation = 0 }) (record { made_by = omega (arith, low); within = omega arith })
     (Some (begun w i)) refl (Ok n) named in
     let one : n ≡ record { creator = i; slot = 0; generation = 0 } = cc same in ap (λ (m : Id). m.creator) one
 
 -- the thread that was found
-pub found_thread : (w : List ℕ) (memory : Words) (new : Ledger) (pair : ℕ × ℕ) (h : Held) (n : Id) (answer : Result Held Rc) (l : Look (Option ℕ)) → IsValid w → get new.held pair ≡ Some h → name_of w h ≡ Some n
+pub found_thread : (w : List ℕ) (memory : Words) (new : Ledger) (pair : ℕ × ℕ) (h : Held) (n : Id) (answer : Result Held Rc) (l : Look (Option ℕ))
+    → IsValid w → get new.held pair ≡ Some h → name_of w h ≡ Some n
     → IsMade new (Ok pair) answer → IsFound w memory answer l → (l ≡ Ok (Some n.creator)) × (memory (place_of w h.addr ThreadLife 0) ≡ Some h.life)
 found_thread w memory new pair h n answer l valid held named made looked =
     let same : made.object ≡ h = (let both : Some made.object ≡ Some h = sym made.found ∙ held in cc) in
     go answer l (made.answers ∙ ap Ok same) looked
   where
-    go : (answer : Result Held Rc) (l : Look (Option ℕ)) → answer ≡ Ok h → IsFound w memory answer l → (l ≡ Ok (Some n.creator)) × (memory (place_of w h.addr ThreadLife 0) ≡ Some h.life)
+    go : (answer : Result Held Rc) (l : Look (Option ℕ)) → answer ≡ Ok h → IsFound w memory answer l
+        → (l ≡ Ok (Some n.creator)) × (memory (place_of w h.addr ThreadLife 0) ≡ Some h.life)
     go (Ok o) (Ok (Some i)) is looked =
         let object : h ≡ begun w i = (let first : o ≡ h = cc in sym first ∙ looked.0) in
-        let number : n.creator ≡ i = thread_number w valid i n looked.2 (sym (ap (name_of w) object) ∙ named) in
+        let number : n.creator ≡ i =
+        thread_number w valid i n looked.2 (sym (ap (name_of w) object) ∙ named) in
         (ap (λ k. Ok (Some k)) (sym number), subst (λ (g : Held). memory (place_of w g.addr ThreadLife 0) ≡ Some g.life) (sym object) looked.1)
     go (Ok o) (Ok None) is looked = absurd looked
     go (Ok o) (Err fault) is looked = absurd looked
@@ -185,23 +205,31 @@ IsMaybe none (Err rc) (Ok (Some y)) = ⊥
 IsMaybe none (Err rc) (Ok None) = rc ≡ none
 IsMaybe none (Err rc) (Err fault) = IsFault rc fault
 
-pub maybe_ok : {A : Type 0} (none : Rc) (x : A) (answer : Result A Rc) (l : Look (Option A)) → Ok x ≡ answer → IsMaybe none answer l → l ≡ Ok (Some x)
-maybe_ok none x (Ok y) (Ok (Some z)) is same = ap (λ k. Ok (Some k)) (let first : x ≡ y = cc in sym (first ∙ same))
+pub maybe_ok : {A : Type 0} (none : Rc) (x : A) (answer : Result A Rc) (l : Look (Option A)) → Ok x ≡ answer
+    → IsMaybe none answer l → l ≡ Ok (Some x)
+maybe_ok none x (Ok y) (Ok (Some z)) is same =
+    ap (λ k. Ok (Some k)) (let first : x ≡ y = cc in sym (first ∙ same))
 maybe_ok none x (Ok y) (Ok None) is same = absurd same
 maybe_ok none x (Ok y) (Err fault) is same = absurd same
 maybe_ok none x (Err rc) l is same = absurd (cc)
 
-maybe_err : (A : Type 0) (found : Option Held) (none rc : Rc) (answer : Result A Rc) (l : Look (Option A)) → rc ≢ none → Err rc ≡ answer → IsMaybe {A = A} none answer l → Gives {A = Option A} (Err (fault_of found rc)) l
+maybe_err : (A : Type 0) (found : Option Held) (none rc : Rc) (answer : Result A Rc) (l : Look (Option A))
+    → rc ≢ none → Err rc ≡ answer → IsMaybe {A = A} none answer l
+    → Gives {A = Option A} (Err (fault_of found rc)) l
 maybe_err A found none rc (Ok y) l ne is same = absurd (cc)
 maybe_err A found none rc (Err why) (Ok (Some z)) ne is same = absurd same
 maybe_err A found none rc (Err why) (Ok None) ne is same = absurd (ne (let one : rc ≡ why = cc in one ∙ same))
-maybe_err A found none rc (Err why) (Err fault) ne is same = let one : rc ≡ why = cc in fault_gives (Option A) found rc fault (subst (λ c. IsFault c fault) (sym one) same)
+maybe_err A found none rc (Err why) (Err fault) ne is same =
+    let one : rc ≡ why = cc in fault_gives (Option A) found rc fault (subst (λ c. IsFault c fault) (sym one) same)
 
-maybe_none : (A : Type 0) (none : Rc) (answer : Result A Rc) (l : Look (Option A)) → ((fault : LookFault) → IsFault none fault → ⊥) → Err none ≡ answer → IsMaybe {A = A} none answer l → l ≡ Ok None
+maybe_none : (A : Type 0) (none : Rc) (answer : Result A Rc) (l : Look (Option A))
+    → ((fault : LookFault) → IsFault none fault → ⊥) → Err none ≡ answer → IsMaybe {A = A} none answer l
+    → l ≡ Ok None
 maybe_none A none (Ok y) l never is same = absurd (cc)
 maybe_none A none (Err why) (Ok (Some z)) never is same = absurd same
 maybe_none A none (Err why) (Ok None) never is same = refl
-maybe_none A none (Err why) (Err fault) never is same = absurd (never fault (let one : none ≡ why = cc in subst (λ c. IsFault c fault) (sym one) same))
+maybe_none A none (Err why) (Err fault) never is same =
+    absurd (never fault (let one : none ≡ why = cc in subst (λ c. IsFault c fault) (sym one) same))
 
 unavailable_never : (fault : LookFault) → IsFault Unavailable fault → ⊥
 unavailable_never (Damaged addr field) is = absurd (cc)
@@ -211,38 +239,51 @@ untracked_never : (fault : LookFault) → IsFault NeedsStateTracking fault → �
 untracked_never (Damaged addr field) is = absurd (cc)
 untracked_never (Cycle addr) is = is
 
-pub absent_maybe : {A : Type 0} (found : Option Held) (rc : Rc) (answer : Result A Rc) (l : Look (Option A)) → (rc ≢ CallbackError → Err rc ≡ answer) → IsMaybe Unavailable answer l → Gives (absent found rc) l
-absent_maybe {A} found Unavailable answer l is looked = maybe_none A Unavailable answer l unavailable_never (is (λ e. cc)) looked
+pub absent_maybe : {A : Type 0} (found : Option Held) (rc : Rc) (answer : Result A Rc) (l : Look (Option A))
+    → (rc ≢ CallbackError → Err rc ≡ answer) → IsMaybe Unavailable answer l → Gives (absent found rc) l
+absent_maybe {A} found Unavailable answer l is looked =
+    maybe_none A Unavailable answer l unavailable_never (is (λ e. cc)) looked
 absent_maybe {A} found CallbackError answer l is looked = tt
 absent_maybe {A} found NoMem answer l is looked = tt
-absent_maybe {A} found rc answer l is looked = maybe_err A found Unavailable rc answer l (λ e. cc) (is (λ e. cc)) looked
+absent_maybe {A} found rc answer l is looked =
+    maybe_err A found Unavailable rc answer l (λ e. cc) (is (λ e. cc)) looked
 
-pub untracked_maybe : {A : Type 0} (found : Option Held) (rc : Rc) (answer : Result A Rc) (l : Look (Option A)) → (rc ≢ CallbackError → Err rc ≡ answer) → IsMaybe NeedsStateTracking answer l → Gives (untracked found rc) l
-untracked_maybe {A} found NeedsStateTracking answer l is looked = maybe_none A NeedsStateTracking answer l untracked_never (is (λ e. cc)) looked
+pub untracked_maybe : {A : Type 0} (found : Option Held) (rc : Rc) (answer : Result A Rc) (l : Look (Option A))
+    → (rc ≢ CallbackError → Err rc ≡ answer) → IsMaybe NeedsStateTracking answer l
+    → Gives (untracked found rc) l
+untracked_maybe {A} found NeedsStateTracking answer l is looked =
+    maybe_none A NeedsStateTracking answer l untracked_never (is (λ e. cc)) looked
 untracked_maybe {A} found CallbackError answer l is looked = tt
 untracked_maybe {A} found NoMem answer l is looked = tt
-untracked_maybe {A} found rc answer l is looked = maybe_err A found NeedsStateTracking rc answer l (λ e. cc) (is (λ e. cc)) looked
+untracked_maybe {A} found rc answer l is looked =
+    maybe_err A found NeedsStateTracking rc answer l (λ e. cc) (is (λ e. cc)) looked
 
 -- that no thread was found
-pub absent_thread : (w : List ℕ) (memory : Words) (new : Ledger) (found : Option Held) (rc : Rc) (answer : Result Held Rc) (l : Look (Option ℕ)) → IsMade new (Err rc) answer → IsFound w memory answer l
+pub absent_thread : (w : List ℕ) (memory : Words) (new : Ledger) (found : Option Held) (rc : Rc) (answer : Result Held Rc) (l : Look (Option ℕ))
+    → IsMade new (Err rc) answer → IsFound w memory answer l
     → Gives (number_met (absent found rc)) l
 absent_thread w memory new found rc answer l made looked = go rc made
   where
-    as_maybe : (why : Rc) (answer : Result Held Rc) (l : Look (Option ℕ)) → answer ≡ Err why → IsFound w memory answer l → IsMaybe {A = ℕ} Unavailable (Err why) l
+    as_maybe : (why : Rc) (answer : Result Held Rc) (l : Look (Option ℕ)) → answer ≡ Err why
+        → IsFound w memory answer l → IsMaybe {A = ℕ} Unavailable (Err why) l
     as_maybe why (Ok o) l is looked = absurd (cc)
     as_maybe why (Err what) (Ok (Some i)) is looked = absurd looked
     as_maybe why (Err what) (Ok None) is looked = (let one : what ≡ why = cc in sym one ∙ looked)
-    as_maybe why (Err what) (Err fault) is looked = (let one : what ≡ why = cc in subst (λ c. IsFault c fault) one looked)
+    as_maybe why (Err what) (Err fault) is looked =
+        (let one : what ≡ why = cc in subst (λ c. IsFault c fault) one looked)
 
     go : (why : Rc) → IsMade new (Err why) answer → Gives (number_met (absent found why)) l
-    go Unavailable made = absent_maybe found Unavailable (Err Unavailable) l (λ ne. refl) (as_maybe Unavailable answer l made looked)
+    go Unavailable made =
+        absent_maybe found Unavailable (Err Unavailable) l (λ ne. refl)
+        (as_maybe Unavailable answer l made looked)
     go CallbackError made = tt
     go NoMem made = tt
     go why made = absent_maybe found why (Err why) l (λ ne. refl) (as_maybe why answer l made looked)
 
 -- ---- a thread's record
 
-module _ {C F : Type 0} (told : C → Told) (s : Opened C F) (t : ThreadHandle) (n : Id) (st : Stands told s Thread (thread_pair t) n) where
+module _ {C F : Type 0} (told : C → Told) (s : Opened C F) (t : ThreadHandle) (n : Id)
+    (st : Stands told s Thread (thread_pair t) n) where
   -- it is where the thread of this number has it
   pub thread_at : id_address s.layout threads n ≡ thread_address s.layout n.creator
   thread_at = go (slot_at s.layout (record_kind st.object.kind) st.object.addr) refl st.met.name
@@ -254,8 +295,10 @@ module _ {C F : Type 0} (told : C → Told) (s : Opened C F) (t : ThreadHandle) 
       go (Some at) e is =
           let there = slot_is s.layout (record_kind st.object.kind) st.object.addr at e in
           let same : record { creator = at.0; slot = at.1; generation = st.object.life / 2 } ≡ n = cc in
-          let low : at.1 < 1 = subst (λ k. at.1 < per_thread s.layout (record_kind k)) st.met.of_kind there.0.within in
-          let slot : n.slot ≡ 0 = (let here : at.1 ≡ n.slot = ap (λ (m : Id). m.slot) same in omega (arith, low, here)) in
+          let low : at.1 < 1 =
+          subst (λ k. at.1 < per_thread s.layout (record_kind k)) st.met.of_kind there.0.within in
+          let slot : n.slot ≡ 0 =
+          (let here : at.1 ≡ n.slot = ap (λ (m : Id). m.slot) same in omega (arith, low, here)) in
           ap (slot_address s.layout threads n.creator) slot
 
   module _ (memory : Words) (tells : Tells (told s.table.calls) memory) where
@@ -272,10 +315,13 @@ module _ {C F : Type 0} (told : C → Told) (s : Opened C F) (t : ThreadHandle) 
         parted word = Answer (Ok (word % 65536, word / 65536))
 
         kept : ℕ → ℕ → Reads (ℕ × ℕ)
-        kept address debug = cond (debug == 0) (Answer (Err NeedsStateTracking)) (then_reads (word_of s.layout address ThreadState 0) parted)
+        kept address debug =
+            cond (debug == 0) (Answer (Err NeedsStateTracking))
+            (then_reads (word_of s.layout address ThreadState 0) parted)
 
         by_word : (a : Result ℕ Rc) (l : Look ℕ) → IsLook {A = ℕ} {B = ℕ} (λ x y. x ≡ y) a l
-            → IsMaybe NeedsStateTracking (answer_on memory (after a parted)) (and_then l (λ word. Ok (Some (word % 65536, word / 65536))))
+            → IsMaybe NeedsStateTracking (answer_on memory (after a parted))
+            (and_then l (λ word. Ok (Some (word % 65536, word / 65536))))
         by_word (Ok x) (Ok y) same = ap (λ word. (word % 65536, word / 65536)) same
         by_word (Ok x) (Err fault) same = absurd same
         by_word (Err rc) (Ok y) same = absurd same
@@ -284,7 +330,8 @@ module _ {C F : Type 0} (told : C → Told) (s : Opened C F) (t : ThreadHandle) 
         here : IsMaybe NeedsStateTracking (answer_on memory (then_reads (word_of s.layout st.object.addr ThreadState 0) parted))
             (and_then (read_thread s.layout memory n.creator ThreadState) (λ word. Ok (Some (word % 65536, word / 65536))))
         here =
-            subst (λ (a : Result (ℕ × ℕ) Rc). IsMaybe NeedsStateTracking a (and_then (read_thread s.layout memory n.creator ThreadState) (λ word. Ok (Some (word % 65536, word / 65536)))))
+            subst
+            (λ (a : Result (ℕ × ℕ) Rc). IsMaybe NeedsStateTracking a (and_then (read_thread s.layout memory n.creator ThreadState) (λ word. Ok (Some (word % 65536, word / 65536)))))
             (sym (answer_then memory (word_of s.layout st.object.addr ThreadState 0) parted))
             (by_word (answer_on memory (word_of s.layout st.object.addr ThreadState 0)) (read_thread s.layout memory n.creator ThreadState)
             (subst (λ a. IsLook {A = ℕ} {B = ℕ} (λ x y. x ≡ y) (answer_on memory (word_of s.layout st.object.addr ThreadState 0)) (look_word s.layout memory a ThreadState 0)) (stands_at told s Thread (thread_pair t) n st ∙ thread_at)
@@ -294,9 +341,12 @@ module _ {C F : Type 0} (told : C → Told) (s : Opened C F) (t : ThreadHandle) 
             → IsMaybe NeedsStateTracking (answer_on memory (after a (kept st.object.addr)))
             (and_then l (λ debug. cond (debug == 0) (Ok None) (and_then (read_thread s.layout memory n.creator ThreadState) (λ word. Ok (Some (word % 65536, word / 65536))))))
         by_debug (Ok x) (Ok y) same =
-            subst (λ z. IsMaybe NeedsStateTracking (answer_on memory (kept st.object.addr x)) (cond (z == 0) (Ok None) (and_then (read_thread s.layout memory n.creator ThreadState) (λ word. Ok (Some (word % 65536, word / 65536)))))) same (test (x == 0))
+            subst
+            (λ z. IsMaybe NeedsStateTracking (answer_on memory (kept st.object.addr x)) (cond (z == 0) (Ok None) (and_then (read_thread s.layout memory n.creator ThreadState) (λ word. Ok (Some (word % 65536, word / 65536)))))) same
+            (test (x == 0))
           where
-            test : (b : Bool) → IsMaybe NeedsStateTracking (answer_on memory (cond b (Answer (Err NeedsStateTracking)) (then_reads (word_of s.layout st.object.addr ThreadState 0) parted)))
+            test : (b : Bool)
+                → IsMaybe NeedsStateTracking (answer_on memory (cond b (Answer (Err NeedsStateTracking)) (then_reads (word_of s.layout st.object.addr ThreadState 0) parted)))
                 (cond b (Ok None) (and_then (read_thread s.layout memory n.creator ThreadState) (λ word. Ok (Some (word % 65536, word / 65536)))))
             test true = refl
             test false = here
@@ -305,11 +355,16 @@ module _ {C F : Type 0} (told : C → Told) (s : Opened C F) (t : ThreadHandle) 
         by_debug (Err rc) (Err fault) same = same
 
     -- its number in the team of its current task
-    pub number_looked : (icv : ℕ) (v : Variable) (current : Option Id) → variable_in (scope_of (scoped.Thread t)) icv ≡ Ok v → v.source ≡ MemberNumber → look_current s.layout memory n.creator ≡ Ok current
-        → IsMaybe Unavailable (answer_on memory (icv_from_scope s.layout (get s.handles.held) (scoped.Thread t) icv)) (optional (λ k. read_task s.layout memory k TaskNumber) current)
+    pub number_looked : (icv : ℕ) (v : Variable) (current : Option Id)
+        → variable_in (scope_of (scoped.Thread t)) icv ≡ Ok v → v.source ≡ MemberNumber
+        → look_current s.layout memory n.creator ≡ Ok current
+        → IsMaybe Unavailable
+        (answer_on memory (icv_from_scope s.layout (get s.handles.held) (scoped.Thread t) icv))
+        (optional (λ k. read_task s.layout memory k TaskNumber) current)
     unfolding member_number and_then
     number_looked icv v current is source now =
-        subst (λ (a : Result ℕ Rc). IsMaybe Unavailable a (optional (λ k. read_task s.layout memory k TaskNumber) current))
+        subst
+        (λ (a : Result ℕ Rc). IsMaybe Unavailable a (optional (λ k. read_task s.layout memory k TaskNumber) current))
         (sym (variable_answers s.layout memory (get s.handles.held) (scoped.Thread t) icv st.object.addr v (record_answers told s Thread (thread_pair t) n st memory tells) is
         ∙ ap (λ source. answer_on memory (number_in s.layout source st.object.addr)) source
         ∙ answer_then memory (follow_some s.layout Task st.object.addr ThreadCurrent) word))
@@ -321,18 +376,25 @@ module _ {C F : Type 0} (told : C → Told) (s : Opened C F) (t : ThreadHandle) 
         word : Held → Reads ℕ
         word task = word_of s.layout task.addr TaskNumber 0
 
-        value : (a : Result ℕ Rc) (l : Look ℕ) → IsLook {A = ℕ} {B = ℕ} (λ x y. x ≡ y) a l → IsMaybe Unavailable a (and_then l (λ y. Ok (Some y)))
+        value : (a : Result ℕ Rc) (l : Look ℕ) → IsLook {A = ℕ} {B = ℕ} (λ x y. x ≡ y) a l
+            → IsMaybe Unavailable a (and_then l (λ y. Ok (Some y)))
         value (Ok x) (Ok y) same = same
         value (Ok x) (Err fault) same = absurd same
         value (Err rc) (Ok y) same = absurd same
         value (Err rc) (Err fault) same = same
 
-        go : (a : Result Held Rc) → a ≡ answer_on memory (follow_some s.layout Task st.object.addr ThreadCurrent) → (current : Option Id) → IsOptional s.layout a (Ok current)
-            → IsMaybe Unavailable (answer_on memory (after a word)) (optional (λ k. read_task s.layout memory k TaskNumber) current)
+        go : (a : Result Held Rc)
+            → a ≡ answer_on memory (follow_some s.layout Task st.object.addr ThreadCurrent)
+            → (current : Option Id) → IsOptional s.layout a (Ok current)
+            → IsMaybe Unavailable (answer_on memory (after a word))
+            (optional (λ k. read_task s.layout memory k TaskNumber) current)
         go (Ok h) from (Some k) named =
-            let of_kind : h.kind ≡ Task = some_kind s.layout memory Task st.object.addr ThreadCurrent h (sym from) in
-            let there : h.addr ≡ id_address s.layout tasks k = named_address s.layout h k named ∙ ap (λ kind. id_address s.layout (record_kind kind) k) of_kind in
-            value (answer_on memory (word_of s.layout h.addr TaskNumber 0)) (read_task s.layout memory k TaskNumber)
+            let of_kind : h.kind ≡ Task =
+            some_kind s.layout memory Task st.object.addr ThreadCurrent h (sym from) in
+            let there : h.addr ≡ id_address s.layout tasks k =
+            named_address s.layout h k named ∙ ap (λ kind. id_address s.layout (record_kind kind) k) of_kind in
+            value (answer_on memory (word_of s.layout h.addr TaskNumber 0))
+            (read_task s.layout memory k TaskNumber)
             (subst (λ a. IsLook {A = ℕ} {B = ℕ} (λ x y. x ≡ y) (answer_on memory (word_of s.layout h.addr TaskNumber 0)) (look_word s.layout memory a TaskNumber 0)) there (word_is_looked s.layout memory h.addr TaskNumber 0))
         go (Ok h) from None named = absurd named
         go (Err rc) from (Some k) named = absurd named
@@ -340,9 +402,11 @@ module _ {C F : Type 0} (told : C → Told) (s : Opened C F) (t : ThreadHandle) 
 
 -- ---- a thread that was found and let go
 
-module _ {C F : Type 0} (told : C → Told) (old mid new : Opened C F) (native : ℕ) (pair : ℕ × ℕ) (valid : IsValid old.layout)
+module _ {C F : Type 0} (told : C → Told) (old mid new : Opened C F) (native : ℕ) (pair : ℕ × ℕ)
+    (valid : IsValid old.layout)
     (stays : Stays told old mid) (layout : new.layout ≡ mid.layout) (table : new.table ≡ mid.table) where
-  pub thread_lives : (m : Met) → get mid.handles.held pair ≡ Some m.held → m.held.kind ≡ Thread → IsNamed mid.layout m.held → name_of mid.layout m.held ≡ Some m.name
+  pub thread_lives : (m : Met) → get mid.handles.held pair ≡ Some m.held → m.held.kind ≡ Thread
+      → IsNamed mid.layout m.held → name_of mid.layout m.held ≡ Some m.name
       → IsMadeOf (told old.table.calls) mid.handles (Ok pair) (thread_with old.layout 0 native) → IsMet told new Thread m
   thread_lives m there of_kind place name answered = record {
     of_kind = of_kind;
@@ -352,15 +416,18 @@ module _ {C F : Type 0} (told : C → Told) (old mid new : Opened C F) (native :
         let then : Tells (told old.table.calls) memory = still_tells (told new.table.calls) (told old.table.calls) memory
         (sym (ap (λ (t : Kept C F). told t.calls) table ∙ stays.table.same)) t in
         let found = found_thread old.layout memory mid.handles pair m.held m.name (answer_on memory (thread_with old.layout 0 native)) (look_for old.layout memory native (range_with_len 0 (thread_count old.layout))) valid
-        there (ap (λ w. name_of w m.held) (sym stays.layout) ∙ name) (answered memory then) (thread_found old.layout memory native) in
+        there (ap (λ w. name_of w m.held) (sym stays.layout) ∙ name) (answered memory then)
+        (thread_found old.layout memory native) in
         let here : IsNamed old.layout m.held = subst (λ w. IsNamed w m.held) stays.layout place in
         subst (λ w. answer_on memory (unchanged w m.held) ≡ Ok m.held) (sym (layout ∙ stays.layout))
         (lives_at old.layout memory m.held of_kind here found.1);
   }
     where
-      lives_at : (w : List ℕ) (memory : Words) (h : Held) → h.kind ≡ Thread → IsNamed w h → memory (place_of w h.addr ThreadLife 0) ≡ Some h.life → answer_on memory (unchanged w h) ≡ Ok h
+      lives_at : (w : List ℕ) (memory : Words) (h : Held) → h.kind ≡ Thread → IsNamed w h
+          → memory (place_of w h.addr ThreadLife 0) ≡ Some h.life → answer_on memory (unchanged w h) ≡ Ok h
       lives_at w memory h is named there =
-          subst (λ (k : Held). answer_on memory (unchanged w k) ≡ Ok k) (let same : record { kind = Thread; addr = h.addr; life = h.life } ≡ h = (λ i. record { kind = sym is i; addr = h.addr; life = h.life }) in same)
+          subst (λ (k : Held). answer_on memory (unchanged w k) ≡ Ok k)
+          (let same : record { kind = Thread; addr = h.addr; life = h.life } ≡ h = (λ i. record { kind = sym is i; addr = h.addr; life = h.life }) in same)
           (unchanged_told w memory Thread h.life h.addr (record {
             place = subst (λ k. is_some (slot_at w (record_kind k) h.addr) ≡ true) is named.place;
             word = there;
@@ -368,8 +435,10 @@ module _ {C F : Type 0} (told : C → Told) (old mid new : Opened C F) (native :
           }))
 
 -- the current task of a thread, by its number
-pub current_looks : {C F : Type 0} (told : C → Told) (s : Opened C F) (t : ThreadHandle) (n : Id) (r : Result (Option Id) WalkFault) → Stands told s Thread (thread_pair t) n
+pub current_looks : {C F : Type 0} (told : C → Told) (s : Opened C F) (t : ThreadHandle) (n : Id) (r : Result (Option Id) WalkFault)
+    → Stands told s Thread (thread_pair t) n
     → Looks told s r (λ w memory. look_optional w memory tasks (id_address w threads n) ThreadCurrent 0) → Looks told s r (λ w memory. look_current w memory n.creator)
 unfolding Looks
 current_looks told s t n r st there = λ memory tells.
-    subst (λ a. Gives r (look_optional s.layout memory tasks a ThreadCurrent 0)) (thread_at told s t n st) (there memory tells)
+    subst (λ a. Gives r (look_optional s.layout memory tasks a ThreadCurrent 0)) (thread_at told s t n st)
+    (there memory tells)

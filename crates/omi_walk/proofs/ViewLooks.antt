@@ -43,12 +43,16 @@ found_of P p (x ∷ xs) all = go (p x) (All-head P x xs all) (found_of P p xs (A
     go false here rest = rest
 
 -- each region that an index has of regions that live, lives
-pub index_lives : {C F : Type 0} (told : C → Told) (s : Opened C F) (index : BTreeMap ℕ Met) (met : List Met) → HasFirst index met → All (IsMet told s Region) met → AreLive told s index
-index_lives told s index met first live key = subst (λ o. IfSome o (IsMet told s Region)) (sym (first key)) (found_of (IsMet told s Region) (λ m. key_of m == key) met live)
+pub index_lives : {C F : Type 0} (told : C → Told) (s : Opened C F) (index : BTreeMap ℕ Met) (met : List Met)
+    → HasFirst index met → All (IsMet told s Region) met → AreLive told s index
+index_lives told s index met first live key =
+    subst (λ o. IfSome o (IsMet told s Region)) (sym (first key))
+    (found_of (IsMet told s Region) (λ m. key_of m == key) met live)
 
 -- ---- what the walk's reads answer is what a look gives
 
-gives_of : {A : Type 0} (r : Result A WalkFault) (l : Look A) → (r ≢ Err Callback → r ≢ Err OutOfMemory → r ≡ as_walked l) → Gives r l
+gives_of : {A : Type 0} (r : Result A WalkFault) (l : Look A)
+    → (r ≢ Err Callback → r ≢ Err OutOfMemory → r ≡ as_walked l) → Gives r l
 gives_of {A} (Ok x) l is = go l (is (λ e. cc) (λ e. cc))
   where
     go : (l : Look A) → Ok x ≡ as_walked l → l ≡ Ok x
@@ -60,17 +64,21 @@ gives_of {A} (Err (Damaged addr field)) l is = go l (is (λ e. cc) (λ e. cc))
   where
     go : (l : Look A) → Err (Damaged addr field) ≡ as_walked l → l ≡ Err (plain.Damaged addr field)
     go (Ok y) e = absurd (cc)
-    go (Err (plain.Damaged a f)) e = let same : Damaged addr field ≡ Damaged a f = cc in let one : a ≡ addr = cc in let other : f ≡ field = cc in λ i. Err (plain.Damaged (one i) (other i))
+    go (Err (plain.Damaged a f)) e =
+        let same : Damaged addr field ≡ Damaged a f = cc in let one : a ≡ addr = cc in let other : f ≡ field = cc in λ i. Err (plain.Damaged (one i) (other i))
     go (Err (plain.Cycle a)) e = absurd (cc)
 gives_of {A} (Err (Cycle addr)) l is = go l (is (λ e. cc) (λ e. cc))
   where
     go : (l : Look A) → Err (Cycle addr) ≡ as_walked l → l ≡ Err (plain.Cycle addr)
     go (Ok y) e = absurd (cc)
     go (Err (plain.Damaged a f)) e = absurd (cc)
-    go (Err (plain.Cycle a)) e = let same : Cycle addr ≡ Cycle a = cc in let one : a ≡ addr = cc in ap (λ a. Err (plain.Cycle a)) one
+    go (Err (plain.Cycle a)) e =
+        let same : Cycle addr ≡ Cycle a = cc in let one : a ≡ addr = cc in ap (λ a. Err (plain.Cycle a)) one
 
-pub looks_of_reads : {C F : Type 0} (told : C → Told) (asked : C → ℕ) (s t : Opened C F) (contexts : List ℕ) (r : Result View WalkFault) → IsValid s.layout
+pub looks_of_reads : {C F : Type 0} (told : C → Told) (asked : C → ℕ) (s t : Opened C F) (contexts : List ℕ) (r : Result View WalkFault)
+    → IsValid s.layout
     → Walks told asked s t r (ask_view s.layout contexts) → Looks told s r (λ w memory. look_view w memory contexts)
 unfolding Looks
 looks_of_reads told asked s t contexts r valid walks = λ memory tells.
-    gives_of r (look_view s.layout memory contexts) (λ ne no. walks.is memory tells ne no ∙ looked_view s.layout memory contexts valid)
+    gives_of r (look_view s.layout memory contexts)
+    (λ ne no. walks.is memory tells ne no ∙ looked_view s.layout memory contexts valid)

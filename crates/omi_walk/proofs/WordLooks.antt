@@ -60,34 +60,56 @@ pub variable_answers : (w : List ℕ) (memory : Words) (held : Handles) (of : Sc
     → answer_on memory (icv_from_scope w held of icv) ≡ answer_on memory (number_in w v.source address)
 unfolding icv_from_scope
 variable_answers w memory held of icv address v there is =
-    then_answered memory (record_of w held of) (λ address. then_reads (Answer (variable_in (scope_of of) icv)) (λ variable. number_in w variable.source address)) address there
-    ∙ then_answered memory (Answer (variable_in (scope_of of) icv)) (λ variable. number_in w variable.source address) v is
+    then_answered memory (record_of w held of)
+    (λ address. then_reads (Answer (variable_in (scope_of of) icv)) (λ variable. number_in w variable.source address)) address there
+    ∙ then_answered memory (Answer (variable_in (scope_of of) icv))
+    (λ variable. number_in w variable.source address) v is
 
-module _ {C F : Type 0} (told : C → Told) (s : Opened C F) (kind : Kind) (pair : ℕ × ℕ) (n : Id) (st : Stands told s kind pair n) (memory : Words) (t : Tells (told s.table.calls) memory) where
+module _ {C F : Type 0} (told : C → Told) (s : Opened C F) (kind : Kind) (pair : ℕ × ℕ) (n : Id)
+    (st : Stands told s kind pair n) (memory : Words) (t : Tells (told s.table.calls) memory) where
   pub record_answers : answer_on memory (record_of_handle s.layout kind (get s.handles.held pair)) ≡ Ok st.object.addr
   unfolding record_of_handle
   record_answers = after_object told s kind pair n st memory t (λ h. Answer (Ok h.addr))
 
-  variable_looked : (of : Scoped) (icv : ℕ) (f : Field) (v : Variable) → record_of s.layout (get s.handles.held) of ≡ record_of_handle s.layout kind (get s.handles.held pair)
+  variable_looked : (of : Scoped) (icv : ℕ) (f : Field) (v : Variable)
+      → record_of s.layout (get s.handles.held) of ≡ record_of_handle s.layout kind (get s.handles.held pair)
       → variable_in (scope_of of) icv ≡ Ok v → v.source ≡ Word f
-      → IsLook {A = ℕ} {B = ℕ} (λ x y. x ≡ y) (answer_on memory (icv_from_scope s.layout (get s.handles.held) of icv)) (look_word s.layout memory (id_address s.layout (record_kind kind) n) f 0)
+      → IsLook {A = ℕ} {B = ℕ} (λ x y. x ≡ y)
+      (answer_on memory (icv_from_scope s.layout (get s.handles.held) of icv))
+      (look_word s.layout memory (id_address s.layout (record_kind kind) n) f 0)
   variable_looked of icv f v of_handle is source =
-      subst (λ (a : Result ℕ Rc). IsLook {A = ℕ} {B = ℕ} (λ x y. x ≡ y) a (look_word s.layout memory (id_address s.layout (record_kind kind) n) f 0))
+      subst
+      (λ (a : Result ℕ Rc). IsLook {A = ℕ} {B = ℕ} (λ x y. x ≡ y) a (look_word s.layout memory (id_address s.layout (record_kind kind) n) f 0))
       (sym (variable_answers s.layout memory (get s.handles.held) of icv st.object.addr v (ap (answer_on memory) of_handle ∙ record_answers) is ∙ ap (λ source. answer_on memory (number_in s.layout source st.object.addr)) source))
       (subst (λ a. IsLook {A = ℕ} {B = ℕ} (λ x y. x ≡ y) (answer_on memory (word_of s.layout st.object.addr f 0)) (look_word s.layout memory a f 0)) (stands_at told s kind pair n st)
       (word_is_looked s.layout memory st.object.addr f 0))
 
-module _ {C F : Type 0} (told : C → Told) (s : Opened C F) (n : Id) (memory : Words) (t : Tells (told s.table.calls) memory) where
-  pub task_variable_looked : (k : TaskHandle) (icv : ℕ) (f : Field) (v : Variable) → Stands told s Task (task_pair k) n → variable_in (scope_of (scoped.Task k)) icv ≡ Ok v → v.source ≡ Word f
-      → IsLook {A = ℕ} {B = ℕ} (λ x y. x ≡ y) (answer_on memory (icv_from_scope s.layout (get s.handles.held) (scoped.Task k) icv)) (look_word s.layout memory (id_address s.layout tasks n) f 0)
-  task_variable_looked k icv f v st is source = variable_looked told s Task (task_pair k) n st memory t (scoped.Task k) icv f v refl is source
+module _ {C F : Type 0} (told : C → Told) (s : Opened C F) (n : Id) (memory : Words)
+    (t : Tells (told s.table.calls) memory) where
+  pub task_variable_looked : (k : TaskHandle) (icv : ℕ) (f : Field) (v : Variable)
+      → Stands told s Task (task_pair k) n → variable_in (scope_of (scoped.Task k)) icv ≡ Ok v
+      → v.source ≡ Word f
+      → IsLook {A = ℕ} {B = ℕ} (λ x y. x ≡ y)
+      (answer_on memory (icv_from_scope s.layout (get s.handles.held) (scoped.Task k) icv))
+      (look_word s.layout memory (id_address s.layout tasks n) f 0)
+  task_variable_looked k icv f v st is source =
+      variable_looked told s Task (task_pair k) n st memory t (scoped.Task k) icv f v refl is source
 
-  pub region_variable_looked : (r : RegionHandle) (icv : ℕ) (f : Field) (v : Variable) → Stands told s Region (region_pair r) n → variable_in (scope_of (scoped.Parallel r)) icv ≡ Ok v → v.source ≡ Word f
-      → IsLook {A = ℕ} {B = ℕ} (λ x y. x ≡ y) (answer_on memory (icv_from_scope s.layout (get s.handles.held) (scoped.Parallel r) icv)) (look_word s.layout memory (id_address s.layout regions n) f 0)
-  region_variable_looked r icv f v st is source = variable_looked told s Region (region_pair r) n st memory t (scoped.Parallel r) icv f v refl is source
+  pub region_variable_looked : (r : RegionHandle) (icv : ℕ) (f : Field) (v : Variable)
+      → Stands told s Region (region_pair r) n → variable_in (scope_of (scoped.Parallel r)) icv ≡ Ok v
+      → v.source ≡ Word f
+      → IsLook {A = ℕ} {B = ℕ} (λ x y. x ≡ y)
+      (answer_on memory (icv_from_scope s.layout (get s.handles.held) (scoped.Parallel r) icv))
+      (look_word s.layout memory (id_address s.layout regions n) f 0)
+  region_variable_looked r icv f v st is source =
+      variable_looked told s Region (region_pair r) n st memory t (scoped.Parallel r) icv f v refl is source
 
-  pub region_size_looked : (r : RegionHandle) (icv : ℕ) (v : Variable) → Stands told s Region (region_pair r) n → variable_in (scope_of (scoped.Parallel r)) icv ≡ Ok v → v.source ≡ TeamSize
-      → IsLook {A = ℕ} {B = ℕ} (λ x y. x ≡ y) (answer_on memory (icv_from_scope s.layout (get s.handles.held) (scoped.Parallel r) icv)) (look_size s.layout memory n)
+  pub region_size_looked : (r : RegionHandle) (icv : ℕ) (v : Variable)
+      → Stands told s Region (region_pair r) n → variable_in (scope_of (scoped.Parallel r)) icv ≡ Ok v
+      → v.source ≡ TeamSize
+      → IsLook {A = ℕ} {B = ℕ} (λ x y. x ≡ y)
+      (answer_on memory (icv_from_scope s.layout (get s.handles.held) (scoped.Parallel r) icv))
+      (look_size s.layout memory n)
   region_size_looked r icv v st is source =
       subst (λ (a : Result ℕ Rc). IsLook {A = ℕ} {B = ℕ} (λ x y. x ≡ y) a (look_size s.layout memory n))
       (sym (variable_answers s.layout memory (get s.handles.held) (scoped.Parallel r) icv st.object.addr v (record_answers told s Region (region_pair r) n st memory t) is
@@ -96,19 +118,25 @@ module _ {C F : Type 0} (told : C → Told) (s : Opened C F) (n : Id) (memory : 
       (size_looked s.layout memory st.object.addr))
 
   pub tool_looked : (k : TaskHandle) → Stands told s Task (task_pair k) n
-      → IsLook {A = ℕ} {B = ℕ} (λ x y. x ≡ y) (answer_on memory (tool_data s.layout (get s.handles.held) (scoped.Task k))) (look_word s.layout memory (id_address s.layout tasks n) TaskTool 0)
+      → IsLook {A = ℕ} {B = ℕ} (λ x y. x ≡ y)
+      (answer_on memory (tool_data s.layout (get s.handles.held) (scoped.Task k)))
+      (look_word s.layout memory (id_address s.layout tasks n) TaskTool 0)
   unfolding tool_data
   tool_looked k st =
-      subst (λ (a : Result ℕ Rc). IsLook {A = ℕ} {B = ℕ} (λ x y. x ≡ y) a (look_word s.layout memory (id_address s.layout tasks n) TaskTool 0))
+      subst
+      (λ (a : Result ℕ Rc). IsLook {A = ℕ} {B = ℕ} (λ x y. x ≡ y) a (look_word s.layout memory (id_address s.layout tasks n) TaskTool 0))
       (sym (then_answered memory (record_of s.layout (get s.handles.held) (scoped.Task k)) (tool_word s.layout (scoped.Task k)) st.object.addr (record_answers told s Task (task_pair k) n st memory t)))
       (subst (λ a. IsLook {A = ℕ} {B = ℕ} (λ x y. x ≡ y) (answer_on memory (word_of s.layout st.object.addr TaskTool 0)) (look_word s.layout memory a TaskTool 0)) (stands_at told s Task (task_pair k) n st)
       (word_is_looked s.layout memory st.object.addr TaskTool 0))
 
   pub frames_looked : (k : TaskHandle) → Stands told s Task (task_pair k) n
-      → IsLook {A = ℕ × ℕ} {B = ℕ × ℕ} (λ x y. x ≡ y) (as_places (answer_on memory (frames s.layout (get s.handles.held (task_pair k))))) (look_frames s.layout memory n)
+      → IsLook {A = ℕ × ℕ} {B = ℕ × ℕ} (λ x y. x ≡ y)
+      (as_places (answer_on memory (frames s.layout (get s.handles.held (task_pair k)))))
+      (look_frames s.layout memory n)
   unfolding frames and_then
   frames_looked k st =
-      subst (λ (a : Result Frames Rc). IsLook {A = ℕ × ℕ} {B = ℕ × ℕ} (λ x y. x ≡ y) (as_places a) (look_frames s.layout memory n))
+      subst
+      (λ (a : Result Frames Rc). IsLook {A = ℕ × ℕ} {B = ℕ × ℕ} (λ x y. x ≡ y) (as_places a) (look_frames s.layout memory n))
       (sym (after_object told s Task (task_pair k) n st memory t (λ task. then_reads (word_of s.layout task.addr TaskExit 0) (places task.addr))
       ∙ answer_then memory (word_of s.layout st.object.addr TaskExit 0) (places st.object.addr)))
       (subst (λ a. IsLook {A = ℕ × ℕ} {B = ℕ × ℕ} (λ x y. x ≡ y) (as_places (answer_on memory (after (answer_on memory (word_of s.layout st.object.addr TaskExit 0)) (places st.object.addr))))
@@ -119,19 +147,25 @@ module _ {C F : Type 0} (told : C → Told) (s : Opened C F) (n : Id) (memory : 
       made exit enter = record { exit = exit; exit_flag = flag_of exit; enter = enter; enter_flag = flag_of enter }
 
       places : ℕ → ℕ → Reads Frames
-      places address exit = then_reads (word_of s.layout address TaskEnter 0) (λ enter. Answer (Ok (made exit enter)))
+      places address exit =
+          then_reads (word_of s.layout address TaskEnter 0) (λ enter. Answer (Ok (made exit enter)))
 
       second : (x y : ℕ) → x ≡ y → (a : Result ℕ Rc) (l : Look ℕ) → IsLook {A = ℕ} {B = ℕ} (λ x y. x ≡ y) a l
-          → IsLook {A = ℕ × ℕ} {B = ℕ × ℕ} (λ x y. x ≡ y) (as_places (answer_on memory (after a (λ enter. Answer (Ok (made x enter)))))) (and_then l (λ enter. Ok (y, enter)))
+          → IsLook {A = ℕ × ℕ} {B = ℕ × ℕ} (λ x y. x ≡ y)
+          (as_places (answer_on memory (after a (λ enter. Answer (Ok (made x enter))))))
+          (and_then l (λ enter. Ok (y, enter)))
       second x y one (Ok e) (Ok f) same = λ i. (one i, same i)
       second x y one (Ok e) (Err fault) same = absurd same
       second x y one (Err rc) (Ok f) same = absurd same
       second x y one (Err rc) (Err fault) same = same
 
       first : (address : ℕ) (a : Result ℕ Rc) (l : Look ℕ) → IsLook {A = ℕ} {B = ℕ} (λ x y. x ≡ y) a l
-          → IsLook {A = ℕ × ℕ} {B = ℕ × ℕ} (λ x y. x ≡ y) (as_places (answer_on memory (after a (places address)))) (and_then l (λ exit. and_then (look_word s.layout memory address TaskEnter 0) (λ enter. Ok (exit, enter))))
+          → IsLook {A = ℕ × ℕ} {B = ℕ × ℕ} (λ x y. x ≡ y)
+          (as_places (answer_on memory (after a (places address))))
+          (and_then l (λ exit. and_then (look_word s.layout memory address TaskEnter 0) (λ enter. Ok (exit, enter))))
       first address (Ok x) (Ok y) same =
-          subst (λ (r : Result Frames Rc). IsLook {A = ℕ × ℕ} {B = ℕ × ℕ} (λ x y. x ≡ y) (as_places r) (and_then (look_word s.layout memory address TaskEnter 0) (λ enter. Ok (y, enter))))
+          subst
+          (λ (r : Result Frames Rc). IsLook {A = ℕ × ℕ} {B = ℕ × ℕ} (λ x y. x ≡ y) (as_places r) (and_then (look_word s.layout memory address TaskEnter 0) (λ enter. Ok (y, enter))))
           (sym (answer_then memory (word_of s.layout address TaskEnter 0) (λ enter. Answer (Ok (made x enter)))))
           (second x y same (answer_on memory (word_of s.layout address TaskEnter 0)) (look_word s.layout memory address TaskEnter 0) (word_is_looked s.layout memory address TaskEnter 0))
       first address (Ok x) (Err fault) same = absurd same
@@ -139,10 +173,14 @@ module _ {C F : Type 0} (told : C → Told) (s : Opened C F) (n : Id) (memory : 
       first address (Err rc) (Err fault) same = same
 
 -- the address space has its record where the layout says
-pub space_variable_looked : {C F : Type 0} (s : Opened C F) (memory : Words) (icv : ℕ) (f : Field) (v : Variable) → variable_in (scope_of scoped.Space) icv ≡ Ok v → v.source ≡ Word f
-    → IsLook {A = ℕ} {B = ℕ} (λ x y. x ≡ y) (answer_on memory (icv_from_scope s.layout (get s.handles.held) scoped.Space icv)) (look_word s.layout memory (runtime_address s.layout) f 0)
+pub space_variable_looked : {C F : Type 0} (s : Opened C F) (memory : Words) (icv : ℕ) (f : Field) (v : Variable)
+    → variable_in (scope_of scoped.Space) icv ≡ Ok v → v.source ≡ Word f
+    → IsLook {A = ℕ} {B = ℕ} (λ x y. x ≡ y)
+    (answer_on memory (icv_from_scope s.layout (get s.handles.held) scoped.Space icv))
+    (look_word s.layout memory (runtime_address s.layout) f 0)
 space_variable_looked s memory icv f v is source =
-    subst (λ (a : Result ℕ Rc). IsLook {A = ℕ} {B = ℕ} (λ x y. x ≡ y) a (look_word s.layout memory (runtime_address s.layout) f 0))
+    subst
+    (λ (a : Result ℕ Rc). IsLook {A = ℕ} {B = ℕ} (λ x y. x ≡ y) a (look_word s.layout memory (runtime_address s.layout) f 0))
     (sym (variable_answers s.layout memory (get s.handles.held) scoped.Space icv (runtime_address s.layout) v refl is ∙ ap (λ source. answer_on memory (number_in s.layout source (runtime_address s.layout))) source))
     (word_is_looked s.layout memory (runtime_address s.layout) f 0)
 
@@ -152,4 +190,5 @@ pub value_looks : {A C F : Type 0} (told : C → Told) (s : Opened C F) (found :
     → ((memory : Words) → Tells (told s.table.calls) memory → IsLook {A = A} {B = A} (λ x y. x ≡ y) (answer_on memory reads) (look s.layout memory)) → Looks told s r look
 unfolding Looks
 value_looks told s found result r reads look is answers looked = λ memory t.
-    subst (λ r. Gives r (look s.layout memory)) (sym is) (value_gives found result (answer_on memory reads) (look s.layout memory) (answers memory t) (looked memory t))
+    subst (λ r. Gives r (look s.layout memory)) (sym is)
+    (value_gives found result (answer_on memory reads) (look s.layout memory) (answers memory t) (looked memory t))

@@ -46,7 +46,8 @@ pub record HasAsks (s : State) (k : Tid) (t : Task) : Type 0 where
 pub record AreNext (s : State) (i : ℕ) (y : Item) (k : Tid) (t : Task) : Type 0 where
   pub before : (s.threads t.thread).current ≡ Some k
   pub asking : (s.threads i).current ≡ Some k → is_asking y ≡ true
-  pub was : ((s.threads i).current ≡ Some k → ⊥) → (v : Task) × (task_of s k ≡ Some v) × (asks_next v.list ≡ true)
+  pub was : ((s.threads i).current ≡ Some k → ⊥)
+      → (v : Task) × (task_of s k ≡ Some v) × (asks_next v.list ≡ true)
 
 pub record HadAsks (s : State) (i : ℕ) (y : Item) (k : Tid) (t : Task) : Type 0 where
   pub placed : StartsPlaced t.list
@@ -55,7 +56,8 @@ pub record HadAsks (s : State) (i : ℕ) (y : Item) (k : Tid) (t : Task) : Type 
 
 -- a task that was there, and that this thread does not run, has its asks next still
 abbrev pub KeepsAsks : State → ℕ → Tid → Task → Type 0
-KeepsAsks s i k t = (v : Task) → task_of s k ≡ Some v → asks_next v.list ≡ true → ((s.threads i).current ≡ Some k → ⊥) → asks_next t.list ≡ true
+KeepsAsks s i k t =
+    (v : Task) → task_of s k ≡ Some v → asks_next v.list ≡ true → ((s.threads i).current ≡ Some k → ⊥) → asks_next t.list ≡ true
 
 begun_deferred : Begun ≡ Deferred → ⊥
 begun_deferred e = cc
@@ -64,14 +66,20 @@ finished_deferred : Finished ≡ Deferred → ⊥
 finished_deferred e = cc
 
 -- a want and an ask leave the current task of the thread
-asking_current : (p : Program) (u : State) (i : ℕ) (e : Event) (y : Item) → fits e y ≡ true → is_asking y ≡ true → Rule u i e y → IfSome (effect p u i e y) (λ v. (v.threads i).current ≡ (u.threads i).current)
-asking_current p u i (event.Want n) (item.Want num) fit is rule = ap (λ (h : Thread). h.current) (put_same u.threads i (record (u.threads i) { wanted = n; asks = [] }))
+asking_current : (p : Program) (u : State) (i : ℕ) (e : Event) (y : Item) → fits e y ≡ true
+    → is_asking y ≡ true → Rule u i e y
+    → IfSome (effect p u i e y) (λ v. (v.threads i).current ≡ (u.threads i).current)
+asking_current p u i (event.Want n) (item.Want num) fit is rule =
+    ap (λ (h : Thread). h.current) (put_same u.threads i (record (u.threads i) { wanted = n; asks = [] }))
 asking_current p u i (event.Ask w true) item.Asks fit is rule =
     let listed : State = on_thread u i (λ h. record h { asks = h.asks ++ (w, true) ∷ [] }) in
-    each_put (λ j (h : Thread). j ≡ i → h.current ≡ (u.threads i).current) listed.threads w (record (listed.threads w) { claim = claim.By i })
+    each_put (λ j (h : Thread). j ≡ i → h.current ≡ (u.threads i).current) listed.threads w
+    (record (listed.threads w) { claim = claim.By i })
     (λ same. absurd (rule.other same)) i
     (λ ne same. ap (λ (h : Thread). h.current) (put_same u.threads i (record (u.threads i) { asks = (u.threads i).asks ++ (w, true) ∷ [] }))) refl
-asking_current p u i (event.Ask w false) item.Asks fit is rule = ap (λ (h : Thread). h.current) (put_same u.threads i (record (u.threads i) { asks = (u.threads i).asks ++ (w, false) ∷ [] }))
+asking_current p u i (event.Ask w false) item.Asks fit is rule =
+    ap (λ (h : Thread). h.current)
+    (put_same u.threads i (record (u.threads i) { asks = (u.threads i).asks ++ (w, false) ∷ [] }))
 asking_current p u i e (item.Want num) fit is rule = absurd (false_true fit)
 asking_current p u i e item.Asks fit is rule = absurd (false_true fit)
 asking_current p u i e y fit is rule = absurd (false_true is)
@@ -81,21 +89,29 @@ asks_only w got item.Asks fit = refl
 asks_only w got y fit = absurd (false_true fit)
 
 -- a new name was none
-pub new_name : (s : State) (i : ℕ) (zs : List Item) (n : Tid) (v : Task) → IsFresh (with_list s i zs).tasks i n.0 → task_of s n ≡ Some v → ⊥
+pub new_name : (s : State) (i : ℕ) (zs : List Item) (n : Tid) (v : Task)
+    → IsFresh (with_list s i zs).tasks i n.0 → task_of s n ≡ Some v → ⊥
 new_name s i zs n v fresh found =
     let next : State = with_list s i zs in
     let (w, found_w, same) = (stays_list s i zs).tasks n v found in
-    none_some (fresh_empty next.tasks i n.0 fresh) (found_live n.0.generation (next.tasks n.0.creator n.0.slot) w found_w)
+    none_some (fresh_empty next.tasks i n.0 fresh)
+    (found_live n.0.generation (next.tasks n.0.creator n.0.slot) w found_w)
 
 -- an ask or a fork is taken where a fork is in the making
-pub forking_taken : (p : Program) (events : List (ℕ × Event)) (s : State) → Reached p events s → (i : ℕ) (e : Event) → EachTask (HasAsks s) s → (y : Item) (ys : List Item) → take_item p (encounter s i) e (list_of s i) ≡ Some (y, ys) → is_forking y ≡ true → IsForking s i
+pub forking_taken : (p : Program) (events : List (ℕ × Event)) (s : State) → Reached p events s
+    → (i : ℕ) (e : Event) → EachTask (HasAsks s) s → (y : Item) (ys : List Item)
+    → take_item p (encounter s i) e (list_of s i) ≡ Some (y, ys) → is_forking y ≡ true → IsForking s i
 forking_taken p events s reached i e all y ys is_taken forks = of_current (s.threads i).current refl
   where
     of_current : (o : Option Tid) → (s.threads i).current ≡ o → IsForking s i
     of_current None none =
         let place = have_places p events s reached i in
-        let list : list_of s i ≡ (s.threads i).list = ap (λ (o : Option Tid). option_map_or (λ (u : Task). u.list) (option_and_then (task_of s) o) (s.threads i).list) none in
-        let t = taken_at p (encounter s i) e y ys place.place (ap (take_item p (encounter s i) e) (sym (list ∙ place.list)) ∙ is_taken) in
+        let list : list_of s i ≡ (s.threads i).list =
+        ap
+        (λ (o : Option Tid). option_map_or (λ (u : Task). u.list) (option_and_then (task_of s) o) (s.threads i).list) none in
+        let t =
+        taken_at p (encounter s i) e y ys place.place
+        (ap (take_item p (encounter s i) e) (sym (list ∙ place.list)) ∙ is_taken) in
         absurd (false_true (sym t.plain ∙ forks))
     of_current (Some k) name =
         let (t, live, un) = (names_live p events s reached).currents i k name in
@@ -103,7 +119,8 @@ forking_taken p events s reached i e all y ys is_taken forks = of_current (s.thr
         let taken = ap (take_item p (encounter s i) e) (sym (list_of_current s i k t is)) ∙ is_taken in
         record { name = k; task = t; current = is; next = asks_at_head p (encounter s i) e y ys t.list (all k t live).placed taken forks }
 
-module _ (p : Program) (events : List (ℕ × Event)) (s : State) (reached : Reached p events s) (i : ℕ) (e : Event) (next : State) (step : Step p s i e next) (all : EachTask (HasAsks s) s) where
+module _ (p : Program) (events : List (ℕ × Event)) (s : State) (reached : Reached p events s) (i : ℕ)
+    (e : Event) (next : State) (step : Step p s i e next) (all : EachTask (HasAsks s) s) where
   abbrev m : IsMove p s i e next
   m = move_of p s i e next step
 
@@ -117,13 +134,16 @@ module _ (p : Program) (events : List (ℕ × Event)) (s : State) (reached : Rea
   item_fits = take_fits p (encounter s i) e (list_of s i) m.item m.behind m.taken
 
   current_undeferred : (k : Tid) (t : Task) → IsCurrent s i k t → t.progress ≡ Deferred → ⊥
-  current_undeferred k t is d = begun_deferred (sym (current_begun p events s reached i k t is.name is.live).0 ∙ d)
+  current_undeferred k t is d =
+      begun_deferred (sym (current_begun p events s reached i k t is.name is.live).0 ∙ d)
 
   -- each task of the next state, by the state before
   had_asks : EachTask (HadAsks s i m.item) next
   had_asks = task_step_from p (HasAsks s) (HadAsks s i m.item) s i e next m moves others law all
     where
-      moves : (k : Tid) (t : Task) → IsCurrent s i k t → take_item p (encounter s i) e t.list ≡ Some (m.item, m.behind) → HasAsks s k t → HadAsks s i m.item k (record t { list = stays (encounter s i) e m.item m.behind })
+      moves : (k : Tid) (t : Task) → IsCurrent s i k t
+          → take_item p (encounter s i) e t.list ≡ Some (m.item, m.behind) → HasAsks s k t
+          → HadAsks s i m.item k (record t { list = stays (encounter s i) e m.item m.behind })
       moves k t is taken q =
           let placed = take_placed p (encounter s i) e t.list m.item m.behind taken q.placed.0 in
           record {
@@ -136,7 +156,8 @@ module _ (p : Program) (events : List (ℕ × Event)) (s : State) (reached : Rea
             };
           }
 
-      others : (k : Tid) (t : Task) → ((s.threads i).current ≡ Some k → ⊥) → task_of s k ≡ Some t → HasAsks s k t → HadAsks s i m.item k t
+      others : (k : Tid) (t : Task) → ((s.threads i).current ≡ Some k → ⊥) → task_of s k ≡ Some t
+          → HasAsks s k t → HadAsks s i m.item k t
       others k t ne live q = record {
         placed = q.placed;
         first = q.first;
@@ -165,7 +186,8 @@ module _ (p : Program) (events : List (ℕ × Event)) (s : State) (reached : Rea
       let h = had_asks k t live in
       record { placed = h.placed; first = h.first; top = λ asks. go asks (h.top asks) (cases_eq t.thread i) }
     where
-      go : asks_next t.list ≡ true → AreNext s i m.item k t → (t.thread ≡ i) ⊎ (t.thread ≢ i) → (next.threads t.thread).current ≡ Some k
+      go : asks_next t.list ≡ true → AreNext s i m.item k t → (t.thread ≡ i) ⊎ (t.thread ≢ i)
+          → (next.threads t.thread).current ≡ Some k
       go asks h (inl same) =
           let name : (s.threads i).current ≡ Some k = ap (λ j. (s.threads j).current) (sym same) ∙ h.before in
           ap (λ j. (next.threads j).current) same
@@ -174,12 +196,18 @@ module _ (p : Program) (events : List (ℕ × Event)) (s : State) (reached : Rea
       go asks h (inr other) = current_kept p s i e next step t.thread other ∙ h.before
 
   keeps_asks : EachTask (KeepsAsks s i) next
-  keeps_asks = task_step_from p (HasAsks s) (KeepsAsks s i) s i e next m (λ k t is taken q v found asks ne. absurd (ne is.name)) (λ k t ne live q v found asks other. ap (λ (x : Task). asks_next x.list) (some_same live found) ∙ asks) law all
+  keeps_asks =
+      task_step_from p (HasAsks s) (KeepsAsks s i) s i e next m
+      (λ k t is taken q v found asks ne. absurd (ne is.name))
+      (λ k t ne live q v found asks other. ap (λ (x : Task). asks_next x.list) (some_same live found) ∙ asks) law all
     where
-      was_deferred : (k : Tid) (u : Task) → task_of middle k ≡ Some u → u.progress ≡ Deferred → (v : Task) → task_of s k ≡ Some v → asks_next v.list ≡ true → ⊥
+      was_deferred : (k : Tid) (u : Task) → task_of middle k ≡ Some u → u.progress ≡ Deferred → (v : Task)
+          → task_of s k ≡ Some v → asks_next v.list ≡ true → ⊥
       was_deferred k u live de v found asks =
           let (w, xs, found_w, same) = before.tasks k u live in
-          let d : v.progress ≡ Deferred = ap (λ (x : Task). x.progress) (some_same found found_w) ∙ (ap (λ (x : Task). x.progress) (sym same) ∙ de) in
+          let d : v.progress ≡ Deferred =
+          ap (λ (x : Task). x.progress) (some_same found found_w)
+          ∙ (ap (λ (x : Task). x.progress) (sym same) ∙ de) in
           false_true (sym ((all k v found).first d) ∙ asks)
 
       law : EachTask (KeepsAsks s i) middle → IsTaskLaw p middle i e m.item next (KeepsAsks s i)
@@ -205,24 +233,31 @@ module _ (p : Program) (events : List (ℕ × Event)) (s : State) (reached : Rea
   -- and then nothing else comes
   pub forking_item : IsForking s i → is_forking m.item ≡ true
   forking_item f =
-      let taken = ap (take_item p (encounter s i) e) (sym (list_of_current s i f.name f.task f.current)) ∙ m.taken in
-      asks_taken p (encounter s i) e m.item m.behind f.task.list (all f.name f.task f.current.live).placed.0 f.next taken
+      let taken =
+      ap (take_item p (encounter s i) e) (sym (list_of_current s i f.name f.task f.current)) ∙ m.taken in
+      asks_taken p (encounter s i) e m.item m.behind f.task.list
+      (all f.name f.task f.current.live).placed.0 f.next taken
 
   other_name : (c : ℕ) → c ≢ i → (k : Tid) (t : Task) → IsCurrent s c k t → (s.threads i).current ≡ Some k → ⊥
   other_name c ne k t is name =
-      ne (sym (current_begun p events s reached c k t is.name is.live).1 ∙ (current_begun p events s reached i k t name is.live).1)
+      ne
+      (sym (current_begun p events s reached c k t is.name is.live).1 ∙ (current_begun p events s reached i k t name is.live).1)
 
   pub forking_before : (c : ℕ) → c ≢ i → IsForking next c → IsForking s c
   forking_before c ne f =
-      let name : (s.threads c).current ≡ Some f.name = sym (current_kept p s i e next step c ne) ∙ f.current.name in
+      let name : (s.threads c).current ≡ Some f.name =
+      sym (current_kept p s i e next step c ne) ∙ f.current.name in
       let (t, live, un) = (names_live p events s reached).currents c f.name name in
       let is : IsCurrent s c f.name t = record { name = name; live = live } in
-      let (v, found, asks) = ((had_asks f.name f.task f.current.live).top f.next).was (other_name c ne f.name t is) in
+      let (v, found, asks) =
+      ((had_asks f.name f.task f.current.live).top f.next).was (other_name c ne f.name t is) in
       record { name = f.name; task = v; current = record { name = name; live = found }; next = asks }
 
-  pub forking_after : (after_reached : Reached p (events ++ (i, e) ∷ []) next) (c : ℕ) → c ≢ i → IsForking s c → IsForking next c
+  pub forking_after : (after_reached : Reached p (events ++ (i, e) ∷ []) next) (c : ℕ) → c ≢ i → IsForking s c
+      → IsForking next c
   forking_after after_reached c ne f =
-      let name : (next.threads c).current ≡ Some f.name = current_kept p s i e next step c ne ∙ f.current.name in
+      let name : (next.threads c).current ≡ Some f.name =
+      current_kept p s i e next step c ne ∙ f.current.name in
       let (t, live, un) = (names_live p (events ++ (i, e) ∷ []) next after_reached).currents c f.name name in
       record {
         name = f.name;
@@ -232,22 +267,29 @@ module _ (p : Program) (events : List (ℕ × Event)) (s : State) (reached : Rea
       }
 
   -- a want or an ask came where this thread's fork is in the making
-  pub forking_now : (after_reached : Reached p (events ++ (i, e) ∷ []) next) → IsForking next i → is_asking m.item ≡ true
+  pub forking_now : (after_reached : Reached p (events ++ (i, e) ∷ []) next) → IsForking next i
+      → is_asking m.item ≡ true
   forking_now after_reached f =
       let h = (had_asks f.name f.task f.current.live).top f.next in
-      let mine = (current_begun p (events ++ (i, e) ∷ []) next after_reached i f.name f.task f.current.name f.current.live).1 in
+      let mine =
+      (current_begun p (events ++ (i, e) ∷ []) next after_reached i f.name f.task f.current.name f.current.live).1 in
       h.asking (ap (λ j. (s.threads j).current) (sym mine) ∙ h.before)
 
   pub forking_asked : (w : ℕ) (got : Bool) → e ≡ event.Ask w got → IsForking next i
   forking_asked w got of =
-      let asks : m.item ≡ item.Asks = asks_only w got m.item (subst (λ (x : Event). fits x m.item ≡ true) of item_fits) in
+      let asks : m.item ≡ item.Asks =
+      asks_only w got m.item (subst (λ (x : Event). fits x m.item ≡ true) of item_fits) in
       let f = forking_by (ap is_forking asks) in
       let zs : List Item = stays (encounter s i) e m.item m.behind in
-      let is : IsCurrent middle i f.name (record f.task { list = zs }) = current_after s i zs f.name f.task f.current in
-      let made : Some (asked middle i w got) ≡ Some next = subst (λ (x : Event). effect p middle i x m.item ≡ Some next) of m.effect_is in
+      let is : IsCurrent middle i f.name (record f.task { list = zs }) =
+      current_after s i zs f.name f.task f.current in
+      let made : Some (asked middle i w got) ≡ Some next =
+      subst (λ (x : Event). effect p middle i x m.item ≡ Some next) of m.effect_is in
       let same : asked middle i w got ≡ next = some_same refl made in
       let kept : (next.threads i).current ≡ (middle.threads i).current =
-      from_some (λ (v : State). (v.threads i).current ≡ (middle.threads i).current) (effect p middle i e m.item) next m.effect_is (asking_current p middle i e m.item item_fits (ap is_asking asks) m.rule_moved) in
+      from_some (λ (v : State). (v.threads i).current ≡ (middle.threads i).current)
+      (effect p middle i e m.item) next m.effect_is
+      (asking_current p middle i e m.item item_fits (ap is_asking asks) m.rule_moved) in
       record {
         name = f.name;
         task = record f.task { list = zs };
@@ -262,8 +304,11 @@ module _ (p : Program) (events : List (ℕ × Event)) (s : State) (reached : Rea
       of_asked true k = refl
       of_asked false k = refl
 
-pub have_asks : (p : Program) (events : List (ℕ × Event)) (s : State) → Reached p events s → EachTask (HasAsks s) s
+pub have_asks : (p : Program) (events : List (ℕ × Event)) (s : State) → Reached p events s
+    → EachTask (HasAsks s) s
 have_asks p events s reached =
-    over_reached p (λ u. EachTask (HasAsks u) u) (λ first u first_reached i e next step h. asks_step p first u first_reached i e next step h) [] (opening p) refl events s reached
+    over_reached p (λ u. EachTask (HasAsks u) u)
+    (λ first u first_reached i e next step h. asks_step p first u first_reached i e next step h) []
+    (opening p) refl events s reached
     (each_first_task p (HasAsks (opening p))
     (let h = main_plain p (record { debug = p.env.debug; number = 0; level = 0; is_final = false }) in record { placed = (h.1, h.0.1); first = λ d. h.0.0; top = λ asks. absurd (false_true (sym h.0.0 ∙ asks)) }))

@@ -57,18 +57,24 @@ module _ (p : Program) where
     critical = λ k f xs h. ((refl, refl), critical_keeps Plainly plain_asks p at f (item.Unlock k ∷ xs) ((refl, refl), h));
   }
 
-  pub take_placed : (at : Encounter) (e : Event) (xs : List Item) (y : Item) (ys : List Item) → take_item p at e xs ≡ Some (y, ys) → Placed xs → Placed (y ∷ ys)
-  take_placed at = take_keeps p at Placed (λ x xs may h. h.1) (λ s xs h. (row_keeps p at Plainly (asks at) (shape_of s) xs h).1)
+  pub take_placed : (at : Encounter) (e : Event) (xs : List Item) (y : Item) (ys : List Item)
+      → take_item p at e xs ≡ Some (y, ys) → Placed xs → Placed (y ∷ ys)
+  take_placed at =
+      take_keeps p at Placed (λ x xs may h. h.1)
+      (λ s xs h. (row_keeps p at Plainly (asks at) (shape_of s) xs h).1)
 
   pub task_plain : (f : ℕ) → Plainly (task_items p f)
   task_plain f = task_keeps Plainly plain_asks p f ((refl, refl), ((refl, refl), tt))
 
   pub member_plain : (at : Encounter) (f : ℕ) → Plainly (member_items p at f)
   member_plain at f =
-      member_keeps Plainly plain_asks p at f (barrier_keeps p at Plainly (asks at) _ _ (last_keeps Plainly ((refl, refl), ((refl, refl), tt)) ((refl, refl), ((refl, refl), tt)) at.number))
+      member_keeps Plainly plain_asks p at f
+      (barrier_keeps p at Plainly (asks at) _ _ (last_keeps Plainly ((refl, refl), ((refl, refl), tt)) ((refl, refl), ((refl, refl), tt)) at.number))
 
   pub main_plain : (at : Encounter) → Plainly (main_items at (body_of p.funcs p.main))
-  main_plain at = main_keeps Plainly plain_asks p at (barrier_keeps p at Plainly (asks at) _ (item.Done ∷ []) ((refl, refl), ((refl, refl), tt)))
+  main_plain at =
+      main_keeps Plainly plain_asks p at
+      (barrier_keeps p at Plainly (asks at) _ (item.Done ∷ []) ((refl, refl), ((refl, refl), tt)))
 
 pub start_plain : (x : Item) (at : Encounter) (xs : List Item) → Plainly xs → Plainly (start_list x at xs)
 start_plain x at xs h = start_keeps Plainly plain_asks x at xs h
@@ -84,10 +90,13 @@ asks_no_fork (x ∷ xs) h = absurd (false_true h)
 abbrev pub StartsPlaced : List Item → Type 0
 StartsPlaced xs = Placed xs × (fork_next xs ≡ false)
 
-pub stays_placed : (at : Encounter) (e : Event) (y : Item) (ys : List Item) → Placed (y ∷ ys) → StartsPlaced (stays at e y ys)
+pub stays_placed : (at : Encounter) (e : Event) (y : Item) (ys : List Item) → Placed (y ∷ ys)
+    → StartsPlaced (stays at e y ys)
 stays_placed at e item.Asks ys h = (h, refl)
-stays_placed at e item.Serve ys h = let q = shown_keeps Plainly plain_asks at _ 0 (item.Offer ∷ item.Serve ∷ ys) ((refl, refl), ((refl, refl), h)) in (q.1, q.0.1)
-stays_placed at e (item.Tasks state) ys h = let q = shown_keeps Plainly plain_asks at state 0 (item.Tasks state ∷ ys) ((refl, refl), h) in (q.1, q.0.1)
+stays_placed at e item.Serve ys h =
+    let q = shown_keeps Plainly plain_asks at _ 0 (item.Offer ∷ item.Serve ∷ ys) ((refl, refl), ((refl, refl), h)) in (q.1, q.0.1)
+stays_placed at e (item.Tasks state) ys h =
+    let q = shown_keeps Plainly plain_asks at state 0 (item.Tasks state ∷ ys) ((refl, refl), h) in (q.1, q.0.1)
 stays_placed at e (item.Want num) ys h = (h.1, asks_no_fork ys h.0)
 stays_placed at (event.Seen j) (item.Defer seen f final) ys h = (h, refl)
 stays_placed at e y ys h = (h.1, h.0.1)
@@ -98,11 +107,14 @@ is_asking (item.Want num) = true
 is_asking item.Asks = true
 is_asking x = false
 
-pub stays_asking : (at : Encounter) (e : Event) (y : Item) (ys : List Item) → Placed (y ∷ ys) → asks_next (stays at e y ys) ≡ true → is_asking y ≡ true
+pub stays_asking : (at : Encounter) (e : Event) (y : Item) (ys : List Item) → Placed (y ∷ ys)
+    → asks_next (stays at e y ys) ≡ true → is_asking y ≡ true
 stays_asking at e item.Asks ys h is = refl
 stays_asking at e (item.Want num) ys h is = refl
-stays_asking at e item.Serve ys h is = let q = shown_keeps Plainly plain_asks at _ 0 (item.Offer ∷ item.Serve ∷ ys) ((refl, refl), ((refl, refl), h)) in absurd (false_true (sym q.0.0 ∙ is))
-stays_asking at e (item.Tasks state) ys h is = let q = shown_keeps Plainly plain_asks at state 0 (item.Tasks state ∷ ys) ((refl, refl), h) in absurd (false_true (sym q.0.0 ∙ is))
+stays_asking at e item.Serve ys h is =
+    let q = shown_keeps Plainly plain_asks at _ 0 (item.Offer ∷ item.Serve ∷ ys) ((refl, refl), ((refl, refl), h)) in absurd (false_true (sym q.0.0 ∙ is))
+stays_asking at e (item.Tasks state) ys h is =
+    let q = shown_keeps Plainly plain_asks at state 0 (item.Tasks state ∷ ys) ((refl, refl), h) in absurd (false_true (sym q.0.0 ∙ is))
 stays_asking at (event.Seen j) (item.Defer seen f final) ys h is = absurd (false_true is)
 stays_asking at e y ys h is = absurd (false_true (sym h.0.0 ∙ is))
 
@@ -143,39 +155,51 @@ module _ (p : Program) (at : Encounter) (e : Event) (y : Item) (ys : List Item) 
   -- from a list that begins with neither, neither is taken
   plain_take : (xs : List Item) → Plainly xs → take_item p at e xs ≡ Some (y, ys) → is_forking y ≡ false
   plain_take [] h is = absurd (none_some refl is)
-  plain_take (x ∷ xs) h is = fit (λ may t. plain_take xs (dropped_plain x xs may h) t) (fits e (opened p at x xs).0) is
+  plain_take (x ∷ xs) h is =
+      fit (λ may t. plain_take xs (dropped_plain x xs may h) t) (fits e (opened p at x xs).0) is
     where
-      dropped : (may_drop x ≡ true → take_item p at e xs ≡ Some (y, ys) → is_forking y ≡ false) → (d : Bool) → may_drop x ≡ d → (if d then take_item p at e xs else None) ≡ Some (y, ys) → is_forking y ≡ false
+      dropped : (may_drop x ≡ true → take_item p at e xs ≡ Some (y, ys) → is_forking y ≡ false) → (d : Bool)
+          → may_drop x ≡ d → (if d then take_item p at e xs else None) ≡ Some (y, ys) → is_forking y ≡ false
       dropped more true may t = more may t
       dropped more false may t = absurd (none_some refl t)
 
-      fit : (may_drop x ≡ true → take_item p at e xs ≡ Some (y, ys) → is_forking y ≡ false) → (d : Bool) → (if d then Some (opened p at x xs) else (if may_drop x then take_item p at e xs else None)) ≡ Some (y, ys) → is_forking y ≡ false
-      fit more true t = let same : opened p at x xs ≡ (y, ys) = some_same refl t in subst (λ (o : Item × List Item). is_forking o.0 ≡ false) same (head_plain x xs h.0)
+      fit : (may_drop x ≡ true → take_item p at e xs ≡ Some (y, ys) → is_forking y ≡ false) → (d : Bool)
+          → (if d then Some (opened p at x xs) else (if may_drop x then take_item p at e xs else None)) ≡ Some (y, ys)
+          → is_forking y ≡ false
+      fit more true t =
+          let same : opened p at x xs ≡ (y, ys) = some_same refl t in subst (λ (o : Item × List Item). is_forking o.0 ≡ false) same (head_plain x xs h.0)
       fit more false t = dropped more (may_drop x) refl t
 
   -- so an ask or a fork is taken where the asks stand at the head
-  pub asks_at_head : (xs : List Item) → StartsPlaced xs → take_item p at e xs ≡ Some (y, ys) → is_forking y ≡ true → asks_next xs ≡ true
+  pub asks_at_head : (xs : List Item) → StartsPlaced xs → take_item p at e xs ≡ Some (y, ys)
+      → is_forking y ≡ true → asks_next xs ≡ true
   asks_at_head xs h is forks = go (asks_next xs) refl
     where
       go : (b : Bool) → asks_next xs ≡ b → asks_next xs ≡ true
       go true e' = e'
       go false e' = absurd (false_true (sym (plain_take xs ((e', h.1), h.0) is) ∙ forks))
 
-  fork_taken : (xs : List Item) → fork_next xs ≡ true → take_item p at e xs ≡ Some (y, ys) → is_forking y ≡ true
+  fork_taken : (xs : List Item) → fork_next xs ≡ true → take_item p at e xs ≡ Some (y, ys)
+      → is_forking y ≡ true
   fork_taken [] h is = absurd (false_true h)
   fork_taken (item.Fork f ∷ xs) h is = fit (fits e (item.Fork f)) is
     where
-      fit : (d : Bool) → (if d then Some (at_head (item.Fork f) xs) else None) ≡ Some (y, ys) → is_forking y ≡ true
-      fit true t = let same : at_head (item.Fork f) xs ≡ (y, ys) = some_same refl t in ap (λ (o : Item × List Item). is_forking o.0) (sym same)
+      fit : (d : Bool) → (if d then Some (at_head (item.Fork f) xs) else None) ≡ Some (y, ys)
+          → is_forking y ≡ true
+      fit true t =
+          let same : at_head (item.Fork f) xs ≡ (y, ys) = some_same refl t in ap (λ (o : Item × List Item). is_forking o.0) (sym same)
       fit false t = absurd (none_some refl t)
   fork_taken (x ∷ xs) h is = absurd (false_true h)
 
   -- and where they do, nothing else is taken
-  pub asks_taken : (xs : List Item) → Placed xs → asks_next xs ≡ true → take_item p at e xs ≡ Some (y, ys) → is_forking y ≡ true
+  pub asks_taken : (xs : List Item) → Placed xs → asks_next xs ≡ true → take_item p at e xs ≡ Some (y, ys)
+      → is_forking y ≡ true
   asks_taken [] h first is = absurd (false_true first)
   asks_taken (item.Asks ∷ xs) h first is = fit (fits e item.Asks) is
     where
-      fit : (d : Bool) → (if d then Some (at_head item.Asks xs) else take_item p at e xs) ≡ Some (y, ys) → is_forking y ≡ true
-      fit true t = let same : at_head item.Asks xs ≡ (y, ys) = some_same refl t in ap (λ (o : Item × List Item). is_forking o.0) (sym same)
+      fit : (d : Bool) → (if d then Some (at_head item.Asks xs) else take_item p at e xs) ≡ Some (y, ys)
+          → is_forking y ≡ true
+      fit true t =
+          let same : at_head item.Asks xs ≡ (y, ys) = some_same refl t in ap (λ (o : Item × List Item). is_forking o.0) (sym same)
       fit false t = fork_taken xs h.0 t
   asks_taken (x ∷ xs) h first is = absurd (false_true first)

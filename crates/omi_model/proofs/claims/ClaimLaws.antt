@@ -35,12 +35,14 @@ use Rattle.omi_model.proofs.Slots.{false_true, none_some}
 use Rattle.omi_model.proofs.Steps.{IsRelisted, move_of}
 use Rattle.omi_model.proofs.claims.WorkerLists.{have_places, offer_waits, waits_by}
 
-module _ (p : Program) (events : List (ℕ × Event)) (s : State) (reached : Reached p events s) (i : ℕ) (e : Event) (next : State) (step : Step p s i e next) (all : AreClaimsKept s) where
+module _ (p : Program) (events : List (ℕ × Event)) (s : State) (reached : Reached p events s) (i : ℕ)
+    (e : Event) (next : State) (step : Step p s i e next) (all : AreClaimsKept s) where
   -- a new member other than member 0 is on a thread that was got, so not on thread 0
   next_elsewhere : EachTask RunsElsewhere next
   next_elsewhere = task_step p RunsElsewhere s i e next step (λ k t y ys is taken q. q) law all.elsewhere
     where
-      law : (middle : State) (y : Item) → IsRelisted s middle → Stays middle next → EachTask RunsElsewhere middle → IsTaskLaw p middle i e y next RunsElsewhere
+      law : (middle : State) (y : Item) → IsRelisted s middle → Stays middle next
+          → EachTask RunsElsewhere middle → IsTaskLaw p middle i e y next RunsElsewhere
       law middle y before later of_tasks = record {
         shows = λ k t x q. q;
         tools = λ k t x q. q;
@@ -53,11 +55,15 @@ module _ (p : Program) (events : List (ℕ × Event)) (s : State) (reached : Rea
         made = λ task f final k t is of fresh by im. absurd (false_true im);
       }
         where
-          elsewhere : (region : Rid) (team : List (Tid × ℕ)) → MayFork middle i region team → e ≡ event.Fork region team → (j : ℕ) (n : Tid × ℕ) → slice_get team j ≡ Some n → j ≢ 0 → n.1 ≢ 0
+          elsewhere : (region : Rid) (team : List (Tid × ℕ)) → MayFork middle i region team
+              → e ≡ event.Fork region team → (j : ℕ) (n : Tid × ℕ) → slice_get team j ≡ Some n → j ≢ 0
+              → n.1 ≢ 0
           elsewhere region team may by zero n at other = absurd (other refl)
           elsewhere region team may by (suc j) n at other = λ first.
               let here : slice_get (i ∷ got_threads (s.threads i).asks) (suc j) ≡ Some n.1 =
-              ap (λ xs. slice_get xs (suc j)) (sym (may.threads ∙ ap (λ as'. i ∷ got_threads as') (before.asks i))) ∙ map_at (λ (a : Tid × ℕ). a.1) team (suc j) n at in
+              ap (λ xs. slice_get xs (suc j))
+              (sym (may.threads ∙ ap (λ as'. i ∷ got_threads as') (before.asks i)))
+              ∙ map_at (λ (a : Tid × ℕ). a.1) team (suc j) n at in
               let (k, found) = at_got (s.threads i).asks j n.1 here in
               let got : IsGot s i n.1 = record {
                 forking = forking_by p events s reached i e next step (have_asks p events s reached)
@@ -71,13 +77,15 @@ module _ (p : Program) (events : List (ℕ × Event)) (s : State) (reached : Rea
 
   -- a claim of the own kind stays with thread 0
   next_first : (w : ℕ) → w ≡ 0 → ((next.threads w).claim ≡ claim.Own) × IsSome (next.threads w).current
-  next_first w first = (go (claim_after p s i e next step w), first_step p events s reached i e next step all.elsewhere had_first w first)
+  next_first w first =
+      (go (claim_after p s i e next step w), first_step p events s reached i e next step all.elsewhere had_first w first)
     where
       go : ClaimIs p s i e next step w (next.threads w) → (next.threads w).claim ≡ claim.Own
       go (inl same) = same ∙ ((all.claims w).first first).0
       go (inr (inl offer)) =
           let none = (offer_waits p s i e next step (have_places p events s reached) offer.of).idle in
-          absurd (false_true (ap is_some (sym none) ∙ subst (λ j. IsSome (next.threads j).current) offer.own (first_step p events s reached i e next step all.elsewhere had_first w first)))
+          absurd
+          (false_true (ap is_some (sym none) ∙ subst (λ j. IsSome (next.threads j).current) offer.own (first_step p events s reached i e next step all.elsewhere had_first w first)))
       go (inr (inr claimed)) = absurd (own_free (sym ((all.claims w).first first).0 ∙ claimed.free))
 
   next_other : (w c : ℕ) → (next.threads w).claim ≡ claim.By c → c ≢ w
@@ -88,11 +96,15 @@ module _ (p : Program) (events : List (ℕ × Event)) (s : State) (reached : Rea
 
       go : ClaimIs p s i e next step w (next.threads w) → c ≢ w
       go (inl same) = (all.claims w).other c (sym same ∙ by)
-      go (inr (inl offer)) = absurd (free_by c (sym (offer_frees p s i e next step offer.of) ∙ (ap (λ j. (next.threads j).claim) (sym offer.own) ∙ by)))
+      go (inr (inl offer)) =
+          absurd
+          (free_by c (sym (offer_frees p s i e next step offer.of) ∙ (ap (λ j. (next.threads j).claim) (sym offer.own) ∙ by)))
       go (inr (inr claimed)) = λ same. claimed.other (sym same ∙ sym (same_by i c (sym claimed.by ∙ by)))
 
   own_waits : (c : ℕ) → WaitsForTeam next i → (next.threads i).claim ≡ claim.By c → ⊥
-  own_waits c waits by = free_by c (sym (offer_frees p s i e next step (waits_by p s i e next step (have_places p events s reached) waits.ahead)) ∙ by)
+  own_waits c waits by =
+      free_by c
+      (sym (offer_frees p s i e next step (waits_by p s i e next step (have_places p events s reached) waits.ahead)) ∙ by)
     where
       free_by : (d : ℕ) → claim.Free ≡ claim.By d → ⊥
       free_by d h = cc
@@ -135,10 +147,15 @@ claims_opening : (p : Program) → AreClaimsKept (opening p)
 claims_opening p = record { claims = claims; elsewhere = each_first_task p RunsElsewhere (λ im other. absurd (other refl)) }
   where
     unmeant : (k : Tid) (w : ℕ) → IsMeantFor (opening p) k w → ⊥
-    unmeant k w is = each_first_task p (λ n t. t.progress ≡ NotBegun → ⊥) no_waits k is.task is.live is.waiting
+    unmeant k w is =
+        each_first_task p (λ n t. t.progress ≡ NotBegun → ⊥) no_waits k is.task is.live is.waiting
 
     ungot : (i w : ℕ) → IsGot (opening p) i w → ⊥
-    ungot i w is = each_first_thread p (λ j h. (k : ℕ) → slice_get h.asks k ≡ Some (w, true) → ⊥) (λ k at. none_some refl at) (λ j k at. none_some refl at) i (contains_at ((opening p).threads i).asks (w, true) is.joined).0 (contains_at ((opening p).threads i).asks (w, true) is.joined).1
+    ungot i w is =
+        each_first_thread p (λ j h. (k : ℕ) → slice_get h.asks k ≡ Some (w, true) → ⊥)
+        (λ k at. none_some refl at) (λ j k at. none_some refl at) i
+        (contains_at ((opening p).threads i).asks (w, true) is.joined).0
+        (contains_at ((opening p).threads i).asks (w, true) is.joined).1
 
     by_own : (c : ℕ) → claim.Own ≡ claim.By c → ⊥
     by_own c e = cc
@@ -161,23 +178,31 @@ claims_opening p = record { claims = claims; elsewhere = each_first_task p RunsE
     }
       where
         go : (j : ℕ) → j ≢ 0 → IsSome ((opening p).threads j).current → ⊥
-        go j other some = false_true (ap (λ b. is_some (if b then initial_thread else waiting_worker).current) (sym (ne_eqb j 0 other)) ∙ some)
+        go j other some =
+            false_true
+            (ap (λ b. is_some (if b then initial_thread else waiting_worker).current) (sym (ne_eqb j 0 other)) ∙ some)
 
-pub are_claims_kept : (p : Program) (events : List (ℕ × Event)) (s : State) → Reached p events s → AreClaimsKept s
+pub are_claims_kept : (p : Program) (events : List (ℕ × Event)) (s : State) → Reached p events s
+    → AreClaimsKept s
 are_claims_kept p events s reached =
-    over_reached p AreClaimsKept (λ first u first_reached i e next step h. claims_step p first u first_reached i e next step h) [] (opening p) refl events s reached (claims_opening p)
+    over_reached p AreClaimsKept
+    (λ first u first_reached i e next step h. claims_step p first u first_reached i e next step h) []
+    (opening p) refl events s reached (claims_opening p)
 
-pub claims_kept : (p : Program) (events : List (ℕ × Event)) (s : State) → Reached p events s → (w : ℕ) → IsClaimKept s w
+pub claims_kept : (p : Program) (events : List (ℕ × Event)) (s : State) → Reached p events s → (w : ℕ)
+    → IsClaimKept s w
 claims_kept p events s reached = (are_claims_kept p events s reached).claims
 
 -- ---- asks
 
-pub asks_in_order : (p : Program) (events : List (ℕ × Event)) (s : State) → Reached p events s → (i : ℕ) → AreAsksInOrder p s i
+pub asks_in_order : (p : Program) (events : List (ℕ × Event)) (s : State) → Reached p events s → (i : ℕ)
+    → AreAsksInOrder p s i
 asks_in_order p events s reached i = record {
   asked = let q = in_order p events s reached i in (q.bound, q.known, q.first);
   asks = λ w got legal. by_item (event.Ask w got) legal (λ fit. ap is_forking (ask_item w got legal.item fit));
   forks = λ region team legal. by_item (event.Fork region team) legal (fork_item region team legal.item);
-  alone = λ f e legal. of_item legal.item e (take_fits p (encounter s i) e (list_of s i) legal.item legal.behind legal.taken)
+  alone =
+      λ f e legal. of_item legal.item e (take_fits p (encounter s i) e (list_of s i) legal.item legal.behind legal.taken)
       (asks_taken p (encounter s i) e legal.item legal.behind f.task.list (have_asks p events s reached f.name f.task f.current.live).placed.0 f.next (ap (take_item p (encounter s i) e) (sym (list_of_current s i f.name f.task f.current)) ∙ legal.taken));
 }
   where
@@ -185,8 +210,14 @@ asks_in_order p events s reached i = record {
     of_item y e fit forks = go (forking_item_of y forks)
       where
         go : (y ≡ item.Asks) ⊎ ((f : ℕ) × (y ≡ item.Fork f)) → IsOfFork e
-        go (inl asks) = let (w, got, of) = by_ask e (subst (λ (x : Item). fits e x ≡ true) asks fit) in subst IsOfFork (sym of) tt
-        go (inr (f, fork)) = let (region, team, of) = by_fork e f (subst (λ (x : Item). fits e x ≡ true) fork fit) in subst IsOfFork (sym of) tt
+        go (inl asks) =
+            let (w, got, of) = by_ask e (subst (λ (x : Item). fits e x ≡ true) asks fit) in subst IsOfFork (sym of) tt
+        go (inr (f, fork)) =
+            let (region, team, of) = by_fork e f (subst (λ (x : Item). fits e x ≡ true) fork fit) in subst IsOfFork (sym of) tt
 
-    by_item : (e : Event) (legal : Legal p s i e) → (fits e legal.item ≡ true → is_forking legal.item ≡ true) → IsForking s i
-    by_item e legal is = forking_taken p events s reached i e (have_asks p events s reached) legal.item legal.behind legal.taken (is (take_fits p (encounter s i) e (list_of s i) legal.item legal.behind legal.taken))
+    by_item : (e : Event) (legal : Legal p s i e) → (fits e legal.item ≡ true → is_forking legal.item ≡ true)
+        → IsForking s i
+    by_item e legal is =
+        forking_taken p events s reached i e
+        (have_asks p events s reached) legal.item legal.behind legal.taken
+        (is (take_fits p (encounter s i) e (list_of s i) legal.item legal.behind legal.taken))

@@ -38,7 +38,8 @@ pub ask_item : (w : ℕ) (got : Bool) (y : Item) → fits (event.Ask w got) y �
 ask_item w got item.Asks fit = refl
 ask_item w got y fit = absurd (false_true fit)
 
-pub fork_item : (region : Rid) (team : List (Tid × ℕ)) (y : Item) → fits (event.Fork region team) y ≡ true → is_forking y ≡ true
+pub fork_item : (region : Rid) (team : List (Tid × ℕ)) (y : Item) → fits (event.Fork region team) y ≡ true
+    → is_forking y ≡ true
 fork_item region team (item.Fork f) fit = refl
 fork_item region team y fit = absurd (false_true fit)
 
@@ -50,7 +51,8 @@ pub by_want : (e : Event) (num : Option ℕ) → fits e (item.Want num) ≡ true
 by_want (event.Want n) num fit = (n, refl)
 by_want e num fit = absurd (false_true fit)
 
-pub by_fork : (e : Event) (f : ℕ) → fits e (item.Fork f) ≡ true → (region : Rid) × (team : List (Tid × ℕ)) × (e ≡ event.Fork region team)
+pub by_fork : (e : Event) (f : ℕ) → fits e (item.Fork f) ≡ true
+    → (region : Rid) × (team : List (Tid × ℕ)) × (e ≡ event.Fork region team)
 by_fork (event.Fork region team) f fit = (region, team, refl)
 by_fork e f fit = absurd (false_true fit)
 
@@ -93,7 +95,8 @@ module _ (p : Program) (s : State) (i : ℕ) (e : Event) (next : State) (step : 
 
   -- what is made by the event
   made_by : (of : Event) (u : State) → effect p middle i of m.item ≡ Some u → e ≡ of → u ≡ next
-  made_by of u is same = some_same is (subst (λ (x : Event). effect p middle i x m.item ≡ Some next) same m.effect_is)
+  made_by of u is same =
+      some_same is (subst (λ (x : Event). effect p middle i x m.item ≡ Some next) same m.effect_is)
 
   -- ---- threads
 
@@ -114,12 +117,17 @@ module _ (p : Program) (s : State) (i : ℕ) (e : Event) (next : State) (step : 
   another : (j : ℕ) (h g : Thread) → g.claim ≡ h.claim → ClaimIs j h → ClaimIs j g
   another j h g same (inl is) = inl (same ∙ is)
   another j h g same (inr (inl is)) = inr (inl (record { of = is.of; own = is.own }))
-  another j h g same (inr (inr is)) = inr (inr (record { of = is.of; other = is.other; free = is.free; by = same ∙ is.by }))
+  another j h g same (inr (inr is)) =
+      inr (inr (record { of = is.of; other = is.other; free = is.free; by = same ∙ is.by }))
 
   pub claim_after : EachThread ClaimIs next
-  claim_after = thread_step p ClaimIs s i e next step (λ y ys none taken q. another i (s.threads i) (record (s.threads i) { list = stays (encounter s i) e y ys }) refl q) law (λ j. inl refl)
+  claim_after =
+      thread_step p ClaimIs s i e next step
+      (λ y ys none taken q. another i (s.threads i) (record (s.threads i) { list = stays (encounter s i) e y ys }) refl q) law
+      (λ j. inl refl)
     where
-      law : (u : State) → IsRelisted s u → Stays u next → EachThread ClaimIs u → IsThreadLaw p u i e next ClaimIs
+      law : (u : State) → IsRelisted s u → Stays u next → EachThread ClaimIs u
+          → IsThreadLaw p u i e next ClaimIs
       law u relists later all = record {
         begins = λ may q. another i (u.threads i) (record (u.threads i) { begun = true }) refl q;
         offers = λ may of q. inr (inl (record { of = of; own = refl }));
@@ -139,7 +147,8 @@ module _ (p : Program) (s : State) (i : ℕ) (e : Event) (next : State) (step : 
           offer_ask : (w : ℕ) → event.Offer ≡ event.Ask w true → ⊥
           offer_ask w h = cc
 
-          was_free : (w : ℕ) → (u.threads w).claim ≡ claim.Free → e ≡ event.Ask w true → ClaimIs w (u.threads w) → (s.threads w).claim ≡ claim.Free
+          was_free : (w : ℕ) → (u.threads w).claim ≡ claim.Free → e ≡ event.Ask w true
+              → ClaimIs w (u.threads w) → (s.threads w).claim ≡ claim.Free
           was_free w free of (inl same) = sym same ∙ free
           was_free w free of (inr (inl is)) = absurd (offer_ask w (sym is.of ∙ of))
           was_free w free of (inr (inr is)) = is.free
@@ -151,7 +160,8 @@ module _ (p : Program) (s : State) (i : ℕ) (e : Event) (next : State) (step : 
   pub asks_after : EachThread AsksStay next
   asks_after = thread_step p AsksStay s i e next step (λ y ys none taken q. q) law (λ j. inl refl)
     where
-      law : (u : State) → IsRelisted s u → Stays u next → EachThread AsksStay u → IsThreadLaw p u i e next AsksStay
+      law : (u : State) → IsRelisted s u → Stays u next → EachThread AsksStay u
+          → IsThreadLaw p u i e next AsksStay
       law u relists later all = record {
         begins = λ may q. q;
         offers = λ may of q. q;
@@ -171,9 +181,11 @@ module _ (p : Program) (s : State) (i : ℕ) (e : Event) (next : State) (step : 
   pub want_empties : (n : ℕ) → e ≡ event.Want n → (next.threads i).asks ≡ []
   want_empties n of =
       ap (λ (u : State). (u.threads i).asks) (sym (made_by (event.Want n) (wanting middle i n) refl of))
-      ∙ ap (λ (h : Thread). h.asks) (put_same middle.threads i (record (middle.threads i) { wanted = n; asks = [] }))
+      ∙ ap (λ (h : Thread). h.asks)
+      (put_same middle.threads i (record (middle.threads i) { wanted = n; asks = [] }))
 
-  pub ask_adds : (w : ℕ) (got : Bool) → e ≡ event.Ask w got → w ≢ i → (next.threads i).asks ≡ (s.threads i).asks ++ (w, got) ∷ []
+  pub ask_adds : (w : ℕ) (got : Bool) → e ≡ event.Ask w got → w ≢ i
+      → (next.threads i).asks ≡ (s.threads i).asks ++ (w, got) ∷ []
   ask_adds w got of other =
       ap (λ (u : State). (u.threads i).asks) (sym (made_by (event.Ask w got) (asked middle i w got) refl of))
       ∙ (of_asked got ∙ ap (λ (xs : List (ℕ × Bool)). xs ++ (w, got) ∷ []) (before.asks i))
@@ -181,39 +193,52 @@ module _ (p : Program) (s : State) (i : ℕ) (e : Event) (next : State) (step : 
       of_asked : (b : Bool) → ((asked middle i w b).threads i).asks ≡ (middle.threads i).asks ++ (w, b) ∷ []
       of_asked true =
           let listed : State = on_thread middle i (λ h. record h { asks = h.asks ++ (w, true) ∷ [] }) in
-          ap (λ (h : Thread). h.asks) (put_other listed.threads w i (record (listed.threads w) { claim = claim.By i }) (λ same. other (sym same)))
-          ∙ ap (λ (h : Thread). h.asks) (put_same middle.threads i (record (middle.threads i) { asks = (middle.threads i).asks ++ (w, true) ∷ [] }))
-      of_asked false = ap (λ (h : Thread). h.asks) (put_same middle.threads i (record (middle.threads i) { asks = (middle.threads i).asks ++ (w, false) ∷ [] }))
+          ap (λ (h : Thread). h.asks)
+          (put_other listed.threads w i (record (listed.threads w) { claim = claim.By i }) (λ same. other (sym same)))
+          ∙ ap (λ (h : Thread). h.asks)
+          (put_same middle.threads i (record (middle.threads i) { asks = (middle.threads i).asks ++ (w, true) ∷ [] }))
+      of_asked false =
+          ap (λ (h : Thread). h.asks)
+          (put_same middle.threads i (record (middle.threads i) { asks = (middle.threads i).asks ++ (w, false) ∷ [] }))
 
   pub ask_claims : (w : ℕ) → e ≡ event.Ask w true → (next.threads w).claim ≡ claim.By i
   ask_claims w of =
       let listed : State = on_thread middle i (λ h. record h { asks = h.asks ++ (w, true) ∷ [] }) in
-      ap (λ (u : State). (u.threads w).claim) (sym (made_by (event.Ask w true) (asked middle i w true) refl of))
-      ∙ ap (λ (h : Thread). h.claim) (put_same listed.threads w (record (listed.threads w) { claim = claim.By i }))
+      ap (λ (u : State). (u.threads w).claim)
+      (sym (made_by (event.Ask w true) (asked middle i w true) refl of))
+      ∙ ap (λ (h : Thread). h.claim)
+      (put_same listed.threads w (record (listed.threads w) { claim = claim.By i }))
 
   pub offer_frees : e ≡ event.Offer → (next.threads i).claim ≡ claim.Free
   offer_frees of =
       ap (λ (u : State). (u.threads i).claim) (sym (made_by event.Offer (offered middle i) refl of))
-      ∙ ap (λ (h : Thread). h.claim) (put_same middle.threads i (record (middle.threads i) { claim = claim.Free }))
+      ∙ ap (λ (h : Thread). h.claim)
+      (put_same middle.threads i (record (middle.threads i) { claim = claim.Free }))
 
   pub begin_names : (task : Tid) → e ≡ event.ImplicitBegin task → (next.threads i).current ≡ Some task
   begin_names task of =
-      ap (λ (u : State). (u.threads i).current) (sym (made_by (event.ImplicitBegin task) (task_begun middle i task) refl of))
-      ∙ ap (λ (h : Thread). h.current) (put_same middle.threads i (record (middle.threads i) { current = Some task }))
+      ap (λ (u : State). (u.threads i).current)
+      (sym (made_by (event.ImplicitBegin task) (task_begun middle i task) refl of))
+      ∙ ap (λ (h : Thread). h.current)
+      (put_same middle.threads i (record (middle.threads i) { current = Some task }))
 
   -- other threads keep their lists
   pub list_kept : EachThread (λ j h. j ≢ i → h.list ≡ (s.threads j).list) next
-  list_kept = thread_step p (λ j h. j ≢ i → h.list ≡ (s.threads j).list) s i e next step (λ y ys none taken q ne. absurd (ne refl))
+  list_kept =
+      thread_step p (λ j h. j ≢ i → h.list ≡ (s.threads j).list) s i e next step
+      (λ y ys none taken q ne. absurd (ne refl))
       (λ u relists later all. of_lists p u i e next (λ j xs. j ≢ i → xs ≡ (s.threads j).list)) (λ j ne. refl)
 
   -- a thread that has a task had one, or begins a task that was made for it
   abbrev HadTask : ℕ → Thread → Type 0
-  HadTask j h = IsSome h.current → IsSome (s.threads j).current ⊎ ((j ≡ i) × (task : Tid) × (e ≡ event.ImplicitBegin task))
+  HadTask j h =
+      IsSome h.current → IsSome (s.threads j).current ⊎ ((j ≡ i) × (task : Tid) × (e ≡ event.ImplicitBegin task))
 
   pub had_task : EachThread HadTask next
   had_task = thread_step p HadTask s i e next step (λ y ys none taken q. q) law (λ j some. inl some)
     where
-      law : (u : State) → IsRelisted s u → Stays u next → EachThread HadTask u → IsThreadLaw p u i e next HadTask
+      law : (u : State) → IsRelisted s u → Stays u next → EachThread HadTask u
+          → IsThreadLaw p u i e next HadTask
       law u relists later all = record {
         begins = λ may q. q;
         offers = λ may of q. q;
@@ -230,7 +255,8 @@ module _ (p : Program) (s : State) (i : ℕ) (e : Event) (next : State) (step : 
         finishes = λ k t is ex over q some. had k t is;
       }
         where
-          had : (k : Tid) (t : Task) → IsCurrent u i k t → IsSome (s.threads i).current ⊎ ((i ≡ i) × (task : Tid) × (e ≡ event.ImplicitBegin task))
+          had : (k : Tid) (t : Task) → IsCurrent u i k t
+              → IsSome (s.threads i).current ⊎ ((i ≡ i) × (task : Tid) × (e ≡ event.ImplicitBegin task))
           had k t is = inl (ap is_some (sym (relists.currents i) ∙ is.name))
 
   -- ---- tasks that have not begun
@@ -249,7 +275,9 @@ module _ (p : Program) (s : State) (i : ℕ) (e : Event) (next : State) (step : 
   MeantBy k t = t.progress ≡ NotBegun → IsMeantFor s k t.thread ⊎ IsNewFor k t.thread
 
   meant_by : EachTask MeantBy next
-  meant_by = task_step p MeantBy s i e next step (λ k t y ys is taken q. q) law (λ k t live waits. inl (record { task = t; live = live; waiting = waits; thread = refl }))
+  meant_by =
+      task_step p MeantBy s i e next step (λ k t y ys is taken q. q) law
+      (λ k t live waits. inl (record { task = t; live = live; waiting = waits; thread = refl }))
     where
       begun_waits : Begun ≡ NotBegun → ⊥
       begun_waits h = cc
@@ -260,7 +288,8 @@ module _ (p : Program) (s : State) (i : ℕ) (e : Event) (next : State) (step : 
       deferred_waits : Deferred ≡ NotBegun → ⊥
       deferred_waits h = cc
 
-      law : (u : State) (y : Item) → IsRelisted s u → Stays u next → EachTask MeantBy u → IsTaskLaw p u i e y next MeantBy
+      law : (u : State) (y : Item) → IsRelisted s u → Stays u next → EachTask MeantBy u
+          → IsTaskLaw p u i e y next MeantBy
       law u y relists later all = record {
         shows = λ k t x q. q;
         tools = λ k t x q. q;
@@ -273,7 +302,9 @@ module _ (p : Program) (s : State) (i : ℕ) (e : Event) (next : State) (step : 
         made = λ task f final k t is of fresh by w. absurd (begun_waits w);
       }
         where
-          of_number : (region : Rid) (team : List (Tid × ℕ)) → MayFork u i region team → e ≡ event.Fork region team → (j : ℕ) (n : Tid × ℕ) → slice_get team j ≡ Some n → (if j == 0 then Begun else NotBegun) ≡ NotBegun → IsMeantFor s n.0 n.1 ⊎ IsNewFor n.0 n.1
+          of_number : (region : Rid) (team : List (Tid × ℕ)) → MayFork u i region team
+              → e ≡ event.Fork region team → (j : ℕ) (n : Tid × ℕ) → slice_get team j ≡ Some n
+              → (if j == 0 then Begun else NotBegun) ≡ NotBegun → IsMeantFor s n.0 n.1 ⊎ IsNewFor n.0 n.1
           of_number region team may by zero n at w = absurd (begun_waits w)
           of_number region team may by (suc j) n at w = inr (record {
             region = region;
@@ -286,20 +317,25 @@ module _ (p : Program) (s : State) (i : ℕ) (e : Event) (next : State) (step : 
           })
 
   pub meant_before : (k : Tid) (w : ℕ) → IsMeantFor next k w → IsMeantFor s k w ⊎ IsNewFor k w
-  meant_before k w is = subst (λ j. IsMeantFor s k j ⊎ IsNewFor k j) is.thread (meant_by k is.task is.live is.waiting)
+  meant_before k w is =
+      subst (λ j. IsMeantFor s k j ⊎ IsNewFor k j) is.thread (meant_by k is.task is.live is.waiting)
 
   -- a new member other than member 0 has not begun
-  pub new_meant : (region : Rid) (team : List (Tid × ℕ)) → e ≡ event.Fork region team → (place : ℕ) (n : Tid × ℕ) → slice_get team (suc place) ≡ Some n → IsMeantFor next n.0 n.1
+  pub new_meant : (region : Rid) (team : List (Tid × ℕ)) → e ≡ event.Fork region team
+      → (place : ℕ) (n : Tid × ℕ) → slice_get team (suc place) ≡ Some n → IsMeantFor next n.0 n.1
   new_meant region team of place n at =
-      from_some New (effect p middle i (event.Fork region team) m.item) next (subst (λ (x : Event). effect p middle i x m.item ≡ Some next) of m.effect_is)
+      from_some New (effect p middle i (event.Fork region team) m.item) next
+      (subst (λ (x : Event). effect p middle i x m.item ≡ Some next) of m.effect_is)
       (of_item m.item (subst (λ (x : Event). Rule middle i x m.item) of m.rule_moved)) place n at
     where
       New : State → Type 0
       New v = (j : ℕ) (a : Tid × ℕ) → slice_get team (suc j) ≡ Some a → IsMeantFor v a.0 a.1
 
-      of_item : (y : Item) → Rule middle i (event.Fork region team) y → IfSome (effect p middle i (event.Fork region team) y) New
+      of_item : (y : Item) → Rule middle i (event.Fork region team) y
+          → IfSome (effect p middle i (event.Fork region team) y) New
       of_item (item.Fork f) rule =
-          of_region middle i (forked p middle i region team f) New (λ k t r. MayFork middle i region team) rule
+          of_region middle i (forked p middle i region team f) New
+          (λ k t r. MayFork middle i region team) rule
           (λ k t r is found may j a at'. record {
             task = member_task p region k t r f (suc j) a.1;
             live = members_found (member_task p region k t r f) team middle.tasks i (new_team middle.tasks i team may.tasks_new may.distinct) (suc j) a at';
@@ -309,15 +345,19 @@ module _ (p : Program) (s : State) (i : ℕ) (e : Event) (next : State) (step : 
       of_item y rule = tt
 
 -- a task that another thread is to run has not begun still
-module _ (p : Program) (events : List (ℕ × Event)) (s : State) (reached : Reached p events s) (i : ℕ) (e : Event) (next : State) (step : Step p s i e next) where
+module _ (p : Program) (events : List (ℕ × Event)) (s : State) (reached : Reached p events s) (i : ℕ)
+    (e : Event) (next : State) (step : Step p s i e next) where
   abbrev own : IsMove p s i e next
   own = move_of p s i e next step
 
   abbrev StillMeant : Tid → Task → Type 0
-  StillMeant k t = (v : Task) → task_of s k ≡ Some v → v.progress ≡ NotBegun → v.thread ≢ i → (t.progress ≡ NotBegun) × (t.thread ≡ v.thread)
+  StillMeant k t =
+      (v : Task) → task_of s k ≡ Some v → v.progress ≡ NotBegun → v.thread ≢ i → (t.progress ≡ NotBegun) × (t.thread ≡ v.thread)
 
   still_meant : EachTask StillMeant next
-  still_meant = task_step_from p (λ k t. Unit {0}) StillMeant s i e next own (λ k t is taken q. kept k t is.live) (λ k t ne live q. kept k t live) law (λ k t live. tt)
+  still_meant =
+      task_step_from p (λ k t. Unit {0}) StillMeant s i e next own (λ k t is taken q. kept k t is.live)
+      (λ k t ne live q. kept k t live) law (λ k t live. tt)
     where
       begun_waits : Begun ≡ NotBegun → ⊥
       begun_waits h = cc
@@ -325,13 +365,16 @@ module _ (p : Program) (events : List (ℕ × Event)) (s : State) (reached : Rea
       deferred_waits : Deferred ≡ NotBegun → ⊥
       deferred_waits h = cc
 
-      kept : (k : Tid) (t : Task) → task_of s k ≡ Some t → (v : Task) → task_of s k ≡ Some v → v.progress ≡ NotBegun → v.thread ≢ i → (t.progress ≡ NotBegun) × (t.thread ≡ v.thread)
-      kept k t live v found waits ne = (ap (λ (x : Task). x.progress) (some_same live found) ∙ waits, ap (λ (x : Task). x.thread) (some_same live found))
+      kept : (k : Tid) (t : Task) → task_of s k ≡ Some t → (v : Task) → task_of s k ≡ Some v
+          → v.progress ≡ NotBegun → v.thread ≢ i → (t.progress ≡ NotBegun) × (t.thread ≡ v.thread)
+      kept k t live v found waits ne =
+          (ap (λ (x : Task). x.progress) (some_same live found) ∙ waits, ap (λ (x : Task). x.thread) (some_same live found))
 
       relists : IsRelisted s (moved_on s i e own.item own.behind)
       relists = is_relisted s i (stays (encounter s i) e own.item own.behind)
 
-      law : EachTask StillMeant (moved_on s i e own.item own.behind) → IsTaskLaw p (moved_on s i e own.item own.behind) i e own.item next StillMeant
+      law : EachTask StillMeant (moved_on s i e own.item own.behind)
+          → IsTaskLaw p (moved_on s i e own.item own.behind) i e own.item next StillMeant
       law all = record {
         shows = λ k t x q. q;
         tools = λ k t x q. q;

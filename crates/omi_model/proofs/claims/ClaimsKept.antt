@@ -40,7 +40,8 @@ use Rattle.omi_model.proofs.claims.WorkerLists.{have_places, offer_waits, serves
 offer_begin : (task : Tid) → event.Offer ≡ event.ImplicitBegin task → ⊥
 offer_begin task e = cc
 
-ask_fork : (w : ℕ) (got : Bool) (region : Rid) (team : List (Tid × ℕ)) → event.Ask w got ≡ event.Fork region team → ⊥
+ask_fork : (w : ℕ) (got : Bool) (region : Rid) (team : List (Tid × ℕ))
+    → event.Ask w got ≡ event.Fork region team → ⊥
 ask_fork w got region team e = cc
 
 pub own_free : claim.Own ≡ claim.Free → ⊥
@@ -64,7 +65,8 @@ pub record AreClaimsKept (s : State) : Type 0 where
   pub claims : (w : ℕ) → IsClaimKept s w
   pub elsewhere : EachTask RunsElsewhere s
 
-module _ (p : Program) (events : List (ℕ × Event)) (s : State) (reached : Reached p events s) (i : ℕ) (e : Event) (next : State) (step : Step p s i e next) (all : AreClaimsKept s) where
+module _ (p : Program) (events : List (ℕ × Event)) (s : State) (reached : Reached p events s) (i : ℕ)
+    (e : Event) (next : State) (step : Step p s i e next) (all : AreClaimsKept s) where
   abbrev m : IsMove p s i e next
   m = move_of p s i e next step
 
@@ -84,14 +86,19 @@ module _ (p : Program) (events : List (ℕ × Event)) (s : State) (reached : Rea
   begins_meant waits =
       let place = have_places p events s reached i in
       let list : list_of s i ≡ (s.threads i).list = idle_list in
-      let t = taken_at p (encounter s i) e m.item m.behind place.place (ap (take_item p (encounter s i) e) (sym (list ∙ place.list)) ∙ m.taken) in
+      let t =
+      taken_at p (encounter s i) e m.item m.behind place.place
+      (ap (take_item p (encounter s i) e) (sym (list ∙ place.list)) ∙ m.taken) in
       let serve = t.begin (serves_only place.place (sym place.list ∙ waits.ahead)) in
-      let (task, of) = by_serve e (subst (λ (y : Item). fits e y ≡ true) serve (item_fits p s i e next step)) in
+      let (task, of) =
+      by_serve e (subst (λ (y : Item). fits e y ≡ true) serve (item_fits p s i e next step)) in
       let may : MayBeginTask s i task = rule_of (event.ImplicitBegin task) of in
       (task, of, record { task = may.member; live = may.live; waiting = may.waiting; thread = may.mine })
     where
       idle_list : list_of s i ≡ (s.threads i).list
-      idle_list = ap (λ (o : Option Tid). option_map_or (λ (u : Task). u.list) (option_and_then (task_of s) o) (s.threads i).list) waits.idle
+      idle_list =
+          ap
+          (λ (o : Option Tid). option_map_or (λ (u : Task). u.list) (option_and_then (task_of s) o) (s.threads i).list) waits.idle
 
   waits_still : (w : ℕ) → w ≢ i → WaitsForTeam s w → WaitsForTeam next w
   waits_still w ne is = record { idle = current_kept p s i e next step w ne ∙ is.idle; ahead = list_kept p s i e next step w ne ∙ is.ahead }
@@ -101,13 +108,15 @@ module _ (p : Program) (events : List (ℕ × Event)) (s : State) (reached : Rea
 
   -- ---- who was got
 
-  got_still : (c w : ℕ) → IsForking next c → (next.threads c).asks ≡ (s.threads c).asks → IsGot s c w → IsGot next c w
+  got_still : (c w : ℕ) → IsForking next c → (next.threads c).asks ≡ (s.threads c).asks → IsGot s c w
+      → IsGot next c w
   got_still c w forking same is = record { forking = forking; joined = subst (λ (xs : List (ℕ × Bool)). Contains xs (w, true)) (sym same) is.joined }
 
   asks_kept : (c : ℕ) → c ≢ i → (next.threads c).asks ≡ (s.threads c).asks
   asks_kept c ne = go (asks_after p s i e next step c)
     where
-      go : ((next.threads c).asks ≡ (s.threads c).asks) ⊎ ((c ≡ i) × (is_asking m.item ≡ true)) → (next.threads c).asks ≡ (s.threads c).asks
+      go : ((next.threads c).asks ≡ (s.threads c).asks) ⊎ ((c ≡ i) × (is_asking m.item ≡ true))
+          → (next.threads c).asks ≡ (s.threads c).asks
       go (inl same) = same
       go (inr (own, asking)) = absurd (ne own)
 
@@ -120,7 +129,9 @@ module _ (p : Program) (events : List (ℕ × Event)) (s : State) (reached : Rea
   -- the thread of a new member was got
   new_got : (k : Tid) (w : ℕ) → IsNewFor p s i e next step k w → IsGot s i w
   new_got k w new =
-      let here : slice_get (i ∷ got_threads (s.threads i).asks) (suc new.place) ≡ Some w = ap (λ xs. slice_get xs (suc new.place)) (sym new.threads) ∙ map_at (λ (a : Tid × ℕ). a.1) new.team (suc new.place) (k, w) new.at in
+      let here : slice_get (i ∷ got_threads (s.threads i).asks) (suc new.place) ≡ Some w =
+      ap (λ xs. slice_get xs (suc new.place)) (sym new.threads)
+      ∙ map_at (λ (a : Tid × ℕ). a.1) new.team (suc new.place) (k, w) new.at in
       let (at, found) = at_got (s.threads i).asks new.place w here in
       record {
         forking = forking_by p events s reached i e next step (have_asks p events s reached) (fork_item new.region new.team m.item (item_of (event.Fork new.region new.team) new.of));
@@ -132,15 +143,20 @@ module _ (p : Program) (events : List (ℕ × Event)) (s : State) (reached : Rea
   GotNow w = IsGot s i w ⊎ (e ≡ event.Ask w true)
 
   got_now : (w : ℕ) → IsGot next i w → GotNow w
-  got_now w is = of_item (asking_item m.item (forking_now p events s reached i e next step (have_asks p events s reached) after_reached is.forking))
+  got_now w is =
+      of_item
+      (asking_item m.item (forking_now p events s reached i e next step (have_asks p events s reached) after_reached is.forking))
     where
       fits_item : (y : Item) → m.item ≡ y → fits e y ≡ true
       fits_item y of = subst (λ (x : Item). fits e x ≡ true) of (item_fits p s i e next step)
 
       none : (n : ℕ) → e ≡ event.Want n → GotNow w
-      none n of = let (k, at) = contains_at (next.threads i).asks (w, true) is.joined in absurd (none_some refl (ap (λ (xs : List (ℕ × Bool)). slice_get xs k) (sym (want_empties p s i e next step n of)) ∙ at))
+      none n of =
+          let (k, at) = contains_at (next.threads i).asks (w, true) is.joined in absurd (none_some refl (ap (λ (xs : List (ℕ × Bool)). slice_get xs k) (sym (want_empties p s i e next step n of)) ∙ at))
 
-      of_last : (v : ℕ) (got : Bool) → m.item ≡ item.Asks → e ≡ event.Ask v got → (k : ℕ) → (slice_get (s.threads i).asks k ≡ Some (w, true)) ⊎ ((k ≡ length (s.threads i).asks) × (◌≡◌ {A = ℕ × Bool} (v, got) (w, true))) → GotNow w
+      of_last : (v : ℕ) (got : Bool) → m.item ≡ item.Asks → e ≡ event.Ask v got → (k : ℕ)
+          → (slice_get (s.threads i).asks k ≡ Some (w, true)) ⊎ ((k ≡ length (s.threads i).asks) × (◌≡◌ {A = ℕ × Bool} (v, got) (w, true)))
+          → GotNow w
       of_last v got asks of k (inl old) = inl (record {
         forking = forking_by p events s reached i e next step (have_asks p events s reached) (ap is_forking asks);
         joined = at_contains (s.threads i).asks (w, true) k old;
@@ -153,7 +169,8 @@ module _ (p : Program) (events : List (ℕ × Event)) (s : State) (reached : Rea
           let (v, got, of) = by_ask e (fits_item item.Asks asks) in
           let may : MayAsk s i v got = rule_of (event.Ask v got) of in
           let (k, at) = contains_at (next.threads i).asks (w, true) is.joined in
-          of_last v got asks of k (at_last (s.threads i).asks (v, got) k (w, true) (ap (λ (xs : List (ℕ × Bool)). slice_get xs k) (sym (ask_adds p s i e next step v got of may.other)) ∙ at))
+          of_last v got asks of k
+          (at_last (s.threads i).asks (v, got) k (w, true) (ap (λ (xs : List (ℕ × Bool)). slice_get xs k) (sym (ask_adds p s i e next step v got of may.other)) ∙ at))
 
   -- ---- the thread of the event
 
@@ -166,7 +183,9 @@ module _ (p : Program) (events : List (ℕ × Event)) (s : State) (reached : Rea
           let meant = (all.claims i).meant k old in
           let (task, of, mine) = begins_meant meant.0 in
           let same : task ≡ k = meant.2 task mine in
-          let runs = current_begun p (events ++ (i, e) ∷ []) next after_reached i task is.task (begin_names p s i e next step task of) (ap (task_of next) same ∙ is.live) in
+          let runs =
+          current_begun p (events ++ (i, e) ∷ []) next after_reached i task is.task
+          (begin_names p s i e next step task of) (ap (task_of next) same ∙ is.live) in
           begun_waits (sym runs.0 ∙ is.waiting)
 
   pub own_not_got : (c : ℕ) → IsGot next c i → ⊥
@@ -203,14 +222,19 @@ module _ (p : Program) (events : List (ℕ × Event)) (s : State) (reached : Rea
         where
           go : ClaimIs p s i e next step i (next.threads i) → (c : ℕ) × ((next.threads i).claim ≡ claim.By c)
           go (inl same) = (c, same ∙ by)
-          go (inr (inl offer)) = absurd (idle_some (next.threads i).current (offer_waits p s i e next step (have_places p events s reached) offer.of).idle some)
+          go (inr (inl offer)) =
+              absurd
+              (idle_some (next.threads i).current (offer_waits p s i e next step (have_places p events s reached) offer.of).idle some)
           go (inr (inr claimed)) = absurd (claimed.other refl)
 
-      of_task : IsSome (s.threads i).current ⊎ ((i ≡ i) × (task : Tid) × (e ≡ event.ImplicitBegin task)) → (c : ℕ) × ((next.threads i).claim ≡ claim.By c)
+      of_task : IsSome (s.threads i).current ⊎ ((i ≡ i) × (task : Tid) × (e ≡ event.ImplicitBegin task))
+          → (c : ℕ) × ((next.threads i).claim ≡ claim.By c)
       of_task (inl was) = let (c, by) = (all.claims i).busy other was in of_claim c by
       of_task (inr (own, task, of)) =
           let may : MayBeginTask s i task = rule_of (event.ImplicitBegin task) of in
-          let meant = (all.claims i).meant task (record { task = may.member; live = may.live; waiting = may.waiting; thread = may.mine }) in
+          let meant =
+          (all.claims i).meant task
+          (record { task = may.member; live = may.live; waiting = may.waiting; thread = may.mine }) in
           of_claim task.0.creator meant.1
 
   -- ---- any other thread
@@ -235,11 +259,13 @@ module _ (p : Program) (events : List (ℕ × Event)) (s : State) (reached : Rea
 
     pub other_busy : w ≢ 0 → IsSome (next.threads w).current → (c : ℕ) × ((next.threads w).claim ≡ claim.By c)
     other_busy other some =
-        let (c, by) = (all.claims w).busy other (ap is_some (sym (current_kept p s i e next step w ne)) ∙ some) in
+        let (c, by) =
+        (all.claims w).busy other (ap is_some (sym (current_kept p s i e next step w ne)) ∙ some) in
         (c, claim_stays (claim.By c) (by_claimed c) by)
 
     abbrev MeantNext : Tid → Type 0
-    MeantNext k = WaitsForTeam next w × ((next.threads w).claim ≡ claim.By k.0.creator) × ((n : Tid) → IsMeantFor next n w → n ≡ k)
+    MeantNext k =
+        WaitsForTeam next w × ((next.threads w).claim ≡ claim.By k.0.creator) × ((n : Tid) → IsMeantFor next n w → n ≡ k)
 
     pub other_meant : (k : Tid) → IsMeantFor next k w → MeantNext k
     other_meant k is = go (meant_before p s i e next step k w is)
@@ -256,29 +282,38 @@ module _ (p : Program) (events : List (ℕ × Event)) (s : State) (reached : Rea
             let got = (all.claims w).got i (new_got k w new) in
             (waits_still w ne got.0, claim_stays (claim.By i) (by_claimed i) got.1 ∙ ap (λ (c : ℕ). claim.By c) (sym new.creator), λ n its. alone n (meant_before p s i e next step n w its))
           where
-            place_in : (x : Tid) (at : IsNewFor p s i e next step x w) → slice_get (got_threads (s.threads i).asks) at.place ≡ Some w
-            place_in x at = ap (λ xs. slice_get xs (suc at.place)) (sym at.threads) ∙ map_at (λ (a : Tid × ℕ). a.1) at.team (suc at.place) (x, w) at.at
+            place_in : (x : Tid) (at : IsNewFor p s i e next step x w)
+                → slice_get (got_threads (s.threads i).asks) at.place ≡ Some w
+            place_in x at =
+                ap (λ xs. slice_get xs (suc at.place)) (sym at.threads)
+                ∙ map_at (λ (a : Tid × ℕ). a.1) at.team (suc at.place) (x, w) at.at
 
             alone : (n : Tid) → IsMeantFor s n w ⊎ IsNewFor p s i e next step n w → n ≡ k
             alone n (inl older) = absurd (((all.claims w).got i (new_got k w new)).2 n older)
             alone n (inr at) =
                 let team : at.team ≡ new.team = ap team_of (sym at.of ∙ new.of) in
-                let place : at.place ≡ new.place = (in_order p events s reached i).once at.place new.place w (place_in n at) (place_in k new) in
-                let here : slice_get new.team (suc new.place) ≡ Some (n, w) = ap (λ (xs : List (Tid × ℕ)). slice_get xs (suc new.place)) (sym team) ∙ (ap (λ j. slice_get at.team (suc j)) (sym place) ∙ at.at) in
+                let place : at.place ≡ new.place =
+                (in_order p events s reached i).once at.place new.place w (place_in n at) (place_in k new) in
+                let here : slice_get new.team (suc new.place) ≡ Some (n, w) =
+                ap (λ (xs : List (Tid × ℕ)). slice_get xs (suc new.place)) (sym team)
+                ∙ (ap (λ j. slice_get at.team (suc j)) (sym place) ∙ at.at) in
                 ap (λ (a : Tid × ℕ). a.0) (some_same here new.at)
 
     abbrev GotNext : ℕ → Type 0
-    GotNext c = WaitsForTeam next w × ((next.threads w).claim ≡ claim.By c) × ((k : Tid) → IsMeantFor next k w → ⊥)
+    GotNext c =
+        WaitsForTeam next w × ((next.threads w).claim ≡ claim.By c) × ((k : Tid) → IsMeantFor next k w → ⊥)
 
     -- no task is made for a thread that was got, but by its asker
-    unmeant : (c : ℕ) → (s.threads w).claim ≡ claim.By c → c ≢ i → ((k : Tid) → IsMeantFor s k w → ⊥) → (k : Tid) → IsMeantFor next k w → ⊥
+    unmeant : (c : ℕ) → (s.threads w).claim ≡ claim.By c → c ≢ i → ((k : Tid) → IsMeantFor s k w → ⊥)
+        → (k : Tid) → IsMeantFor next k w → ⊥
     unmeant c by other none k is = go (meant_before p s i e next step k w is)
       where
         go : IsMeantFor s k w ⊎ IsNewFor p s i e next step k w → ⊥
         go (inl old) = none k old
         go (inr new) = other (same_by c i (sym by ∙ ((all.claims w).got i (new_got k w new)).1))
 
-    unmeant_ask : (v : ℕ) (got : Bool) → e ≡ event.Ask v got → ((k : Tid) → IsMeantFor s k w → ⊥) → (k : Tid) → IsMeantFor next k w → ⊥
+    unmeant_ask : (v : ℕ) (got : Bool) → e ≡ event.Ask v got → ((k : Tid) → IsMeantFor s k w → ⊥) → (k : Tid)
+        → IsMeantFor next k w → ⊥
     unmeant_ask v got of none k is = go (meant_before p s i e next step k w is)
       where
         go : IsMeantFor s k w ⊎ IsNewFor p s i e next step k w → ⊥
@@ -298,17 +333,21 @@ module _ (p : Program) (events : List (ℕ × Event)) (s : State) (reached : Rea
             own = subst (λ j. IsGot next j w) same is
 
             an_ask : (v : ℕ) × (got : Bool) × (e ≡ event.Ask v got)
-            an_ask = of_item (asking_item m.item (forking_now p events s reached i e next step (have_asks p events s reached) after_reached own.forking))
+            an_ask =
+                of_item
+                (asking_item m.item (forking_now p events s reached i e next step (have_asks p events s reached) after_reached own.forking))
               where
                 fits_item : (y : Item) → m.item ≡ y → fits e y ≡ true
                 fits_item y of = subst (λ (x : Item). fits e x ≡ true) of (item_fits p s i e next step)
 
-                of_item : (m.item ≡ item.Asks) ⊎ ((num : Option ℕ) × (m.item ≡ item.Want num)) → (v : ℕ) × (got : Bool) × (e ≡ event.Ask v got)
+                of_item : (m.item ≡ item.Asks) ⊎ ((num : Option ℕ) × (m.item ≡ item.Want num))
+                    → (v : ℕ) × (got : Bool) × (e ≡ event.Ask v got)
                 of_item (inl asks) = by_ask e (fits_item item.Asks asks)
                 of_item (inr (num, want)) =
                     let (n, of) = by_want e num (fits_item (item.Want num) want) in
                     let (k, at) = contains_at (next.threads i).asks (w, true) own.joined in
-                    absurd (none_some refl (ap (λ (xs : List (ℕ × Bool)). slice_get xs k) (sym (want_empties p s i e next step n of)) ∙ at))
+                    absurd
+                    (none_some refl (ap (λ (xs : List (ℕ × Bool)). slice_get xs k) (sym (want_empties p s i e next step n of)) ∙ at))
 
             of_now : GotNow w → GotNext i
             of_now (inl old) =
@@ -324,20 +363,27 @@ module _ (p : Program) (events : List (ℕ × Event)) (s : State) (reached : Rea
     WaitsNext c = ((k : Tid) × IsMeantFor next k w) ⊎ IsGot next c w
 
     -- a fork makes a task for each thread that was got
-    forked_meant : (region : Rid) (team : List (Tid × ℕ)) → e ≡ event.Fork region team → IsGot s i w → (k : Tid) × IsMeantFor next k w
+    forked_meant : (region : Rid) (team : List (Tid × ℕ)) → e ≡ event.Fork region team → IsGot s i w
+        → (k : Tid) × IsMeantFor next k w
     forked_meant region team of is =
         let (k, t, r, cur, found, may) = rule_of (event.Fork region team) of in
         let (at, here) = contains_at (s.threads i).asks (w, true) is.joined in
         let (place, got) = got_at (s.threads i).asks at w here in
-        let (n, there, same) = at_map (λ (a : Tid × ℕ). a.1) team (suc place) w (ap (λ xs. slice_get xs (suc place)) may.threads ∙ got) in
+        let (n, there, same) =
+        at_map (λ (a : Tid × ℕ). a.1) team (suc place) w
+        (ap (λ xs. slice_get xs (suc place)) may.threads ∙ got) in
         (n.0, subst (IsMeantFor next n.0) same (new_meant p s i e next step region team of place n there))
 
     got_waits : (c : ℕ) → IsGot s c w → WaitsNext c
     got_waits c is = go (cases_eq c i)
       where
         go : (c ≡ i) ⊎ (c ≢ i) → WaitsNext c
-        go (inr other) = inr (got_still c w (forking_after p events s reached i e next step (have_asks p events s reached) after_reached c other is.forking) (asks_kept c other) is)
-        go (inl same) = subst WaitsNext (sym same) (of_item (forking_item_of m.item (forking_item p events s reached i e next step (have_asks p events s reached) own.forking)))
+        go (inr other) =
+            inr
+            (got_still c w (forking_after p events s reached i e next step (have_asks p events s reached) after_reached c other is.forking) (asks_kept c other) is)
+        go (inl same) =
+            subst WaitsNext (sym same)
+            (of_item (forking_item_of m.item (forking_item p events s reached i e next step (have_asks p events s reached) own.forking)))
           where
             own : IsGot s i w
             own = subst (λ j. IsGot s j w) same is
@@ -346,7 +392,8 @@ module _ (p : Program) (events : List (ℕ × Event)) (s : State) (reached : Rea
             fits_item y of = subst (λ (x : Item). fits e x ≡ true) of (item_fits p s i e next step)
 
             of_item : (m.item ≡ item.Asks) ⊎ ((f : ℕ) × (m.item ≡ item.Fork f)) → WaitsNext i
-            of_item (inr (f, forks)) = let (region, team, of) = by_fork e f (fits_item (item.Fork f) forks) in inl (forked_meant region team of own)
+            of_item (inr (f, forks)) =
+                let (region, team, of) = by_fork e f (fits_item (item.Fork f) forks) in inl (forked_meant region team of own)
             of_item (inl asks) =
                 let (v, got, of) = by_ask e (fits_item item.Asks asks) in
                 let may : MayAsk s i v got = rule_of (event.Ask v got) of in

@@ -42,10 +42,14 @@ waits_not t a d = cc
 begun_deferred : Begun ≡ Deferred → ⊥
 begun_deferred e = cc
 
-scheduling_step : (p : Program) (events : List (ℕ × Event)) (s : State) → Reached p events s → (i : ℕ) (e : Event) (next : State) → Step p s i e next → EachTask HasScheduling s → EachTask HasScheduling next
-scheduling_step p events s reached i e next step all = task_step p HasScheduling s i e next step (λ k t y ys is taken q. q) law all
+scheduling_step : (p : Program) (events : List (ℕ × Event)) (s : State) → Reached p events s
+    → (i : ℕ) (e : Event) (next : State) → Step p s i e next → EachTask HasScheduling s
+    → EachTask HasScheduling next
+scheduling_step p events s reached i e next step all =
+    task_step p HasScheduling s i e next step (λ k t y ys is taken q. q) law all
   where
-    law : (middle : State) (y : Item) → IsRelisted s middle → Stays middle next → EachTask HasScheduling middle → IsTaskLaw p middle i e y next HasScheduling
+    law : (middle : State) (y : Item) → IsRelisted s middle → Stays middle next
+        → EachTask HasScheduling middle → IsTaskLaw p middle i e y next HasScheduling
     law middle y before later of_tasks = record {
       shows = λ k t x q. q;
       tools = λ k t x q. q;
@@ -61,11 +65,15 @@ scheduling_step p events s reached i e next step all = task_step p HasScheduling
         current : (k : Tid) (t : Task) → IsCurrent middle i k t → t.progress ≡ Deferred → ⊥
         current k t is d =
             let (v, xs, live, same) = before.tasks k t is.live in
-            begun_deferred (sym (current_begun p events s reached i k v (sym (before.currents i) ∙ is.name) live).0 ∙ (ap (λ (x : Task). x.progress) (sym same) ∙ d))
+            begun_deferred
+            (sym (current_begun p events s reached i k v (sym (before.currents i) ∙ is.name) live).0 ∙ (ap (λ (x : Task). x.progress) (sym same) ∙ d))
 
-pub have_scheduling : (p : Program) (events : List (ℕ × Event)) (s : State) → Reached p events s → EachTask HasScheduling s
+pub have_scheduling : (p : Program) (events : List (ℕ × Event)) (s : State) → Reached p events s
+    → EachTask HasScheduling s
 have_scheduling p events s reached =
-    over_reached p (EachTask HasScheduling) (λ first u first_reached i e next step h. scheduling_step p first u first_reached i e next step h) [] (opening p) refl events s reached
+    over_reached p (EachTask HasScheduling)
+    (λ first u first_reached i e next step h. scheduling_step p first u first_reached i e next step h) []
+    (opening p) refl events s reached
     (each_first_task p HasScheduling (λ ex. absurd (false_true (sym ex))))
 
 -- ---- thread 0
@@ -84,32 +92,41 @@ join_only : (region : Rid) (y : Item) → fits (event.Join region) y ≡ true �
 join_only region item.Join fit = refl
 join_only region y fit = absurd (false_true fit)
 
-module _ (p : Program) (events : List (ℕ × Event)) (s : State) (reached : Reached p events s) (i : ℕ) (e : Event) (next : State) (step : Step p s i e next) where
+module _ (p : Program) (events : List (ℕ × Event)) (s : State) (reached : Reached p events s) (i : ℕ)
+    (e : Event) (next : State) (step : Step p s i e next) where
   abbrev m : IsMove p s i e next
   m = move_of p s i e next step
 
   -- the region that is joined was encountered
-  encountered : (k : Tid) (t : Task) (r : Region) → IsCurrent s i k t → t.implicit ≡ true → region_of s t.region ≡ Some r → (n : Rid) → e ≡ event.Join n → IsSome r.encountering
+  encountered : (k : Tid) (t : Task) (r : Region) → IsCurrent s i k t → t.implicit ≡ true
+      → region_of s t.region ≡ Some r → (n : Rid) → e ≡ event.Join n → IsSome r.encountering
   encountered k t r is im found n of = go r.encountering refl
     where
       taken : take_item p (encounter s i) e t.list ≡ Some (m.item, m.behind)
       taken = ap (take_item p (encounter s i) e) (sym (list_of_current s i k t is)) ∙ m.taken
 
       joins : m.item ≡ item.Join
-      joins = join_only n m.item (subst (λ (x : Event). fits x m.item ≡ true) of (take_fits p (encounter s i) e t.list m.item m.behind taken))
+      joins =
+          join_only n m.item
+          (subst (λ (x : Event). fits x m.item ≡ true) of (take_fits p (encounter s i) e t.list m.item m.behind taken))
 
       go : (o : Option Tid) → r.encountering ≡ o → IsSome o
       go (Some h) met = refl
       go None none =
-          let generating : t.generating ≡ None = ((members_known p events s reached).encountered k t is.live).generating im r found ∙ none in
-          let z : closing_of t.implicit t.generating t.number ≡ item.Done = ap (λ b. closing_of b t.generating t.number) im ∙ ap (λ o. closing_of true o t.number) generating in
-          let closes : Closes (IsIt item.Done) (m.item ∷ m.behind) = subst (λ x. Closes (IsIt x) (m.item ∷ m.behind)) z (take_closes (IsIt (closing_of t.implicit t.generating t.number)) p (encounter s i) e t.list m.item m.behind taken (last_items p events s reached k t is.live).closes) in
+          let generating : t.generating ≡ None =
+          ((members_known p events s reached).encountered k t is.live).generating im r found ∙ none in
+          let z : closing_of t.implicit t.generating t.number ≡ item.Done =
+          ap (λ b. closing_of b t.generating t.number) im ∙ ap (λ o. closing_of true o t.number) generating in
+          let closes : Closes (IsIt item.Done) (m.item ∷ m.behind) =
+          subst (λ x. Closes (IsIt x) (m.item ∷ m.behind)) z
+          (take_closes (IsIt (closing_of t.implicit t.generating t.number)) p (encounter s i) e t.list m.item m.behind taken (last_items p events s reached k t is.live).closes) in
           absurd (done_join (subst (λ x. Closes (IsIt item.Done) (x ∷ m.behind)) joins closes).0)
 
   pub first_step : EachTask RunsElsewhere s → EachThread HasTask s → EachThread HasTask next
   first_step elsewhere all = thread_step p HasTask s i e next step (λ y ys none taken q. q) law all
     where
-      law : (middle : State) → IsRelisted s middle → Stays middle next → EachThread HasTask middle → IsThreadLaw p middle i e next HasTask
+      law : (middle : State) → IsRelisted s middle → Stays middle next → EachThread HasTask middle
+          → IsThreadLaw p middle i e next HasTask
       law middle before later of_threads = record {
         begins = λ may q. q;
         offers = λ may of q. q;
@@ -127,22 +144,28 @@ module _ (p : Program) (events : List (ℕ × Event)) (s : State) (reached : Rea
         starts = λ task x k t is may new q first. refl;
         finishes = λ k t is ex over q first.
             let (v, xs, cur, same) = was k t is in
-            let (n, from) = have_scheduling p events s reached k v cur.live (ap (λ (x : Task). x.implicit) (sym same) ∙ ex) (λ d. begun_deferred (sym (current_begun p events s reached i k v cur.name cur.live).0 ∙ d)) in
+            let (n, from) =
+            have_scheduling p events s reached k v cur.live (ap (λ (x : Task). x.implicit) (sym same) ∙ ex)
+            (λ d. begun_deferred (sym (current_begun p events s reached i k v cur.name cur.live).0 ∙ d)) in
             ap is_some (ap (λ (x : Task). x.scheduling) same ∙ from);
       }
         where
-          was : (k : Tid) (t : Task) → IsCurrent middle i k t → (v : Task) × (xs : List Item) × IsCurrent s i k v × (t ≡ record v { list = xs })
+          was : (k : Tid) (t : Task) → IsCurrent middle i k t
+              → (v : Task) × (xs : List Item) × IsCurrent s i k v × (t ≡ record v { list = xs })
           was k t is =
               let (v, xs, live, same) = before.tasks k t is.live in
               let current : IsCurrent s i k v = record { name = sym (before.currents i) ∙ is.name; live = live } in
               (v, xs, current, same)
 
-          some_first : (team : List (Tid × ℕ)) (xs : List ℕ) → map (λ m. m.1) team ≡ i ∷ xs → IsSome (master_of team)
+          some_first : (team : List (Tid × ℕ)) (xs : List ℕ) → map (λ m. m.1) team ≡ i ∷ xs
+              → IsSome (master_of team)
           some_first [] xs same = cc
           some_first (a ∷ team) xs same = refl
 
-          elsewhere_current : (k : Tid) (t : Task) → IsCurrent middle i k t → t.implicit ≡ true → t.number ≢ 0 → i ≡ 0 → ⊥
+          elsewhere_current : (k : Tid) (t : Task) → IsCurrent middle i k t → t.implicit ≡ true → t.number ≢ 0
+              → i ≡ 0 → ⊥
           elsewhere_current k t is im other first =
               let (v, xs, cur, same) = was k t is in
-              elsewhere k v cur.live (ap (λ (x : Task). x.implicit) (sym same) ∙ im) (λ z. other (ap (λ (x : Task). x.number) same ∙ z))
+              elsewhere k v cur.live (ap (λ (x : Task). x.implicit) (sym same) ∙ im)
+              (λ z. other (ap (λ (x : Task). x.number) same ∙ z))
               ((current_begun p events s reached i k v cur.name cur.live).1 ∙ first)

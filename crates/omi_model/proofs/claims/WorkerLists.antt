@@ -75,10 +75,12 @@ pub record IsTakenAt (at : Encounter) (e : Event) (place : Place) (y : Item) (ys
   pub offered : e ≡ event.Offer → serves after ≡ true
   pub begin : serves place ≡ true → y ≡ item.Serve
 
-shows_or_offers : (at : Encounter) → (after : Place) × (shown at IDLE 0 (item.Offer ∷ item.Serve ∷ []) ≡ list_at after) × (serves after ≡ false)
+shows_or_offers : (at : Encounter)
+    → (after : Place) × (shown at IDLE 0 (item.Offer ∷ item.Serve ∷ []) ≡ list_at after) × (serves after ≡ false)
 shows_or_offers at = go at.debug
   where
-    go : (d : Bool) → (after : Place) × ((if d then item.State IDLE 0 ∷ item.Offer ∷ item.Serve ∷ [] else item.Offer ∷ item.Serve ∷ []) ≡ list_at after) × (serves after ≡ false)
+    go : (d : Bool)
+        → (after : Place) × ((if d then item.State IDLE 0 ∷ item.Offer ∷ item.Serve ∷ [] else item.Offer ∷ item.Serve ∷ []) ≡ list_at after) × (serves after ≡ false)
     go true = (Shows, refl, refl)
     go false = (Offers, refl, refl)
 
@@ -90,30 +92,41 @@ abbrev at_head : Item → List Item → Item × List Item
 at_head x xs = (x, xs)
 
 module _ (p : Program) (at : Encounter) (e : Event) (y : Item) (ys : List Item) where
-  taken_head : (place : Place) (x : Item) (xs : List Item) → (fits e x ≡ true → IsTakenAt at e place x xs) → (if fits e x then Some (at_head x xs) else None) ≡ Some (y, ys) → IsTakenAt at e place y ys
+  taken_head : (place : Place) (x : Item) (xs : List Item) → (fits e x ≡ true → IsTakenAt at e place x xs)
+      → (if fits e x then Some (at_head x xs) else None) ≡ Some (y, ys) → IsTakenAt at e place y ys
   taken_head place x xs is h = go (fits e x) refl h
     where
-      go : (b : Bool) → fits e x ≡ b → (if b then Some (at_head x xs) else None) ≡ Some (y, ys) → IsTakenAt at e place y ys
-      go true fit t = let same : at_head x xs ≡ (y, ys) = some_same refl t in subst (λ (o : Item × List Item). IsTakenAt at e place o.0 o.1) same (is fit)
+      go : (b : Bool) → fits e x ≡ b → (if b then Some (at_head x xs) else None) ≡ Some (y, ys)
+          → IsTakenAt at e place y ys
+      go true fit t =
+          let same : at_head x xs ≡ (y, ys) = some_same refl t in subst (λ (o : Item × List Item). IsTakenAt at e place o.0 o.1) same (is fit)
       go false fit t = absurd (none_some refl t)
 
   no_offer : {b : Bool} (x : Item) → fits event.Offer x ≡ false → fits e x ≡ true → e ≡ event.Offer → b ≡ true
   no_offer x none fit of = absurd (false_true (sym none ∙ subst (λ (a : Event). fits a x ≡ true) of fit))
 
   pub taken_at : (place : Place) → take_item p at e (list_at place) ≡ Some (y, ys) → IsTakenAt at e place y ys
-  taken_at Outset h = taken_head Outset item.Begin (item.Offer ∷ item.Serve ∷ []) (λ fit. record { after = Offers; list = refl; plain = refl; offer = λ f. absurd (false_true f); offered = no_offer item.Begin refl fit; begin = λ f. absurd (false_true f) }) h
-  taken_at Shows h = taken_head Shows (item.State IDLE 0) (item.Offer ∷ item.Serve ∷ []) (λ fit. record { after = Offers; list = refl; plain = refl; offer = λ f. absurd (false_true f); offered = no_offer (item.State IDLE 0) refl fit; begin = λ f. absurd (false_true f) }) h
-  taken_at Offers h = taken_head Offers item.Offer (item.Serve ∷ []) (λ fit. record { after = Serves; list = refl; plain = refl; offer = λ f. offer_only e fit; offered = λ of. refl; begin = λ f. absurd (false_true f) }) h
+  taken_at Outset h =
+      taken_head Outset item.Begin (item.Offer ∷ item.Serve ∷ [])
+      (λ fit. record { after = Offers; list = refl; plain = refl; offer = λ f. absurd (false_true f); offered = no_offer item.Begin refl fit; begin = λ f. absurd (false_true f) }) h
+  taken_at Shows h =
+      taken_head Shows (item.State IDLE 0) (item.Offer ∷ item.Serve ∷ [])
+      (λ fit. record { after = Offers; list = refl; plain = refl; offer = λ f. absurd (false_true f); offered = no_offer (item.State IDLE 0) refl fit; begin = λ f. absurd (false_true f) }) h
+  taken_at Offers h =
+      taken_head Offers item.Offer (item.Serve ∷ [])
+      (λ fit. record { after = Serves; list = refl; plain = refl; offer = λ f. offer_only e fit; offered = λ of. refl; begin = λ f. absurd (false_true f) }) h
   taken_at Serves h =
       let (after, is, not) = shows_or_offers at in
-      taken_head Serves item.Serve [] (λ fit. record { after = after; list = is; plain = refl; offer = λ f. absurd (false_true (sym not ∙ f)); offered = no_offer item.Serve refl fit; begin = λ f. refl }) h
+      taken_head Serves item.Serve []
+      (λ fit. record { after = after; list = is; plain = refl; offer = λ f. absurd (false_true (sym not ∙ f)); offered = no_offer item.Serve refl fit; begin = λ f. refl }) h
   taken_at Over h = absurd (none_some refl h)
 
 -- an offer is no begin of a task
 offer_begins : (task : Tid) → event.Offer ≡ event.ImplicitBegin task → ⊥
 offer_begins task e = cc
 
-module _ (p : Program) (s : State) (i : ℕ) (e : Event) (next : State) (step : Step p s i e next) (all : EachThread HasPlace s) where
+module _ (p : Program) (s : State) (i : ℕ) (e : Event) (next : State) (step : Step p s i e next)
+    (all : EachThread HasPlace s) where
   abbrev m : IsMove p s i e next
   m = move_of p s i e next step
 
@@ -125,25 +138,33 @@ module _ (p : Program) (s : State) (i : ℕ) (e : Event) (next : State) (step : 
     pub offer : j ≡ i → serves is.place ≡ true → e ≡ event.Offer
     pub offered : j ≡ i → e ≡ event.Offer → serves is.place ≡ true
 
-  abbrev still : (place : Place) (list : List Item) (top : Option Tid) → list ≡ list_at place → (serves place ≡ true → ⊥) → IsAtPlace list top
+  abbrev still : (place : Place) (list : List Item) (top : Option Tid) → list ≡ list_at place
+      → (serves place ≡ true → ⊥) → IsAtPlace list top
   still place list top is not = record { place = place; list = is; idle = λ f. absurd (not f) }
 
   placed : EachThread IsPlaced next
   placed = thread_step_from p HasPlace IsPlaced s i e next m moves others law all
     where
-      moves : (s.threads i).current ≡ None → take_item p (encounter s i) e (s.threads i).list ≡ Some (m.item, m.behind) → HasPlace i (s.threads i) → IsPlaced i (record (s.threads i) { list = stays (encounter s i) e m.item m.behind })
+      moves : (s.threads i).current ≡ None
+          → take_item p (encounter s i) e (s.threads i).list ≡ Some (m.item, m.behind)
+          → HasPlace i (s.threads i)
+          → IsPlaced i (record (s.threads i) { list = stays (encounter s i) e m.item m.behind })
       moves none taken q =
-          let t = taken_at p (encounter s i) e m.item m.behind q.place (ap (take_item p (encounter s i) e) (sym q.list) ∙ taken) in
+          let t =
+          taken_at p (encounter s i) e m.item m.behind q.place
+          (ap (take_item p (encounter s i) e) (sym q.list) ∙ taken) in
           record { is = record { place = t.after; list = t.list; idle = λ f. none }; offer = λ same f. t.offer f; offered = λ same of. t.offered of }
 
-      others : (h : ℕ) → (h ≡ i → (s.threads i).current ≡ None → ⊥) → HasPlace h (s.threads h) → IsPlaced h (s.threads h)
+      others : (h : ℕ) → (h ≡ i → (s.threads i).current ≡ None → ⊥) → HasPlace h (s.threads h)
+          → IsPlaced h (s.threads h)
       others h other q = record {
         is = q;
         offer = λ same f. absurd (other same (subst (λ x. (s.threads x).current ≡ None) same (q.idle f)));
         offered = λ same of. absurd (other same (subst (λ (x : Event). Rule s i x m.item) of m.rule).idle);
       }
 
-      law : EachThread IsPlaced (moved_on s i e m.item m.behind) → IsThreadLaw p (moved_on s i e m.item m.behind) i e next IsPlaced
+      law : EachThread IsPlaced (moved_on s i e m.item m.behind)
+          → IsThreadLaw p (moved_on s i e m.item m.behind) i e next IsPlaced
       law of_threads = record {
         begins = λ may q. record { is = record { place = q.is.place; list = q.is.list; idle = q.is.idle }; offer = q.offer; offered = q.offered };
         offers = λ may of q. record { is = record { place = q.is.place; list = q.is.list; idle = q.is.idle }; offer = q.offer; offered = q.offered };
@@ -160,7 +181,9 @@ module _ (p : Program) (s : State) (i : ℕ) (e : Event) (next : State) (step : 
         finishes = λ k t is ex over q. has_task q (λ none. none_some none is.name);
       }
         where
-          has_task : {top : Option Tid} (q : IsPlaced i (middle.threads i)) → ((middle.threads i).current ≡ None → ⊥) → IsPlaced i (record (middle.threads i) { current = top })
+          has_task : {top : Option Tid} (q : IsPlaced i (middle.threads i))
+              → ((middle.threads i).current ≡ None → ⊥)
+              → IsPlaced i (record (middle.threads i) { current = top })
           has_task q busy = record { is = still q.is.place _ _ q.is.list (λ f. busy (q.is.idle f)); offer = λ same f. absurd (busy (q.is.idle f)); offered = λ same of. absurd (busy (q.is.idle (q.offered same of))) }
 
   pub places_step : EachThread HasPlace next
@@ -176,6 +199,9 @@ module _ (p : Program) (s : State) (i : ℕ) (e : Event) (next : State) (step : 
       let f = q.offered refl of in
       record { idle = q.is.idle f; ahead = q.is.list ∙ ap list_at (is_serves q.is.place f) }
 
-pub have_places : (p : Program) (events : List (ℕ × Event)) (s : State) → Reached p events s → EachThread HasPlace s
-have_places p events s reached = over_events p (EachThread HasPlace) (λ u i e next step h. places_step p u i e next step h) (opening p) events s reached
+pub have_places : (p : Program) (events : List (ℕ × Event)) (s : State) → Reached p events s
+    → EachThread HasPlace s
+have_places p events s reached =
+    over_events p (EachThread HasPlace) (λ u i e next step h. places_step p u i e next step h)
+    (opening p) events s reached
     (each_first_thread p HasPlace (record { place = Over; list = refl; idle = λ f. absurd (false_true f) }) (λ j. record { place = Outset; list = refl; idle = λ f. absurd (false_true f) }))

@@ -41,25 +41,33 @@ module _ (p : Program) (events : List (ℕ × Event)) (s : State) (reached : Rea
       let (r, found) = ((names_live p events s reached).tasks k t live).region in
       (r, found, go r found t.implicit refl r.joined refl)
     where
-      go : (r : Region) → region_of s t.region ≡ Some r → (b : Bool) → t.implicit ≡ b → (j : Bool) → r.joined ≡ j → r.joined ≡ false
+      go : (r : Region) → region_of s t.region ≡ Some r → (b : Bool) → t.implicit ≡ b → (j : Bool)
+          → r.joined ≡ j → r.joined ≡ false
       go r found b kind false j = j
-      go r found true im true j = (((members_in_step p events s reached).members k t r live im found).going not).1
-      go r found false ex true j = absurd (not (rests p events s reached k t live ex r found ((members_in_step p events s reached).joined t.region r found j)))
+      go r found true im true j =
+          (((members_in_step p events s reached).members k t r live im found).going not).1
+      go r found false ex true j =
+          absurd
+          (not (rests p events s reached k t live ex r found ((members_in_step p events s reached).joined t.region r found j)))
 
   -- member 0 of a region that is not joined has begun, and so has the task that encountered the region
-  encountering_begun : (n : Rid) (r : Region) (k : Tid) → region_of s n ≡ Some r → r.encountering ≡ Some k → r.joined ≡ false → (u : Task) × (task_of s k ≡ Some u) × (u.progress ≡ Begun)
+  encountering_begun : (n : Rid) (r : Region) (k : Tid) → region_of s n ≡ Some r → r.encountering ≡ Some k
+      → r.joined ≡ false → (u : Task) × (task_of s k ≡ Some u) × (u.progress ≡ Begun)
   encountering_begun n r k found met unjoined =
       let (a, at) = first_at r.team ((members_known p events s reached).regions n r found).some in
       let is = ((names_live p events s reached).regions n r found).team 0 a at in
       let here : region_of s is.task.region ≡ Some r = ap (region_of s) is.region ∙ found in
       let member = (members_in_step p events s reached).members a.0 is.task r is.live is.implicit here in
       let begun : is.task.progress ≡ Begun =
-      by_progress is.task.progress is.undeferred (λ w. (member.waiting w).0 is.number) (λ f. false_true (sym unjoined ∙ joined_first r is.task.number is.number (member.over f).0)) in
+      by_progress is.task.progress is.undeferred (λ w. (member.waiting w).0 is.number)
+      (λ f. false_true (sym unjoined ∙ joined_first r is.task.number is.number (member.over f).0)) in
       let from : is.task.scheduling ≡ r.encountering =
-      ((members_known p events s reached).encountered a.0 is.task is.live).scheduling is.implicit r here ∙ ap (λ b. if b then r.encountering else None) (eq-eqb is.task.number 0 is.number) in
+      ((members_known p events s reached).encountered a.0 is.task is.live).scheduling is.implicit r here
+      ∙ ap (λ b. if b then r.encountering else None) (eq-eqb is.task.number 0 is.number) in
       scheduling_begun p events s reached a.0 is.task is.live begun k (from ∙ met)
 
-  encountering : (n : Rid) (r : Region) (k : Tid) → region_of s n ≡ Some r → r.encountering ≡ Some k → IsEncountering s n r k
+  encountering : (n : Rid) (r : Region) (k : Tid) → region_of s n ≡ Some r → r.encountering ≡ Some k
+      → IsEncountering s n r k
   encountering n r k found met =
       let (t, live, un, thread, enclosing) = (are_made p events s reached).met n r found k met in
       let begun : r.joined ≡ false → t.progress ≡ Begun = λ unjoined. let (u, live_u, is) = encountering_begun n r k found met unjoined in ap (λ (x : Task). x.progress) (some_same live live_u) ∙ is in

@@ -34,14 +34,16 @@ use Rattle.omi_model.proofs.Steps.{IsRelisted}
 
 -- the encountering task of a region
 abbrev pub IsMetBy : State → Rid → Region → Type 0
-IsMetBy s n r = (k : Tid) → r.encountering ≡ Some k → (t : Task) × (task_of s k ≡ Some t) × (t.progress ≡ Deferred → ⊥) × (t.thread ≡ n.0.creator) × (r.enclosing ≡ Some t.region)
+IsMetBy s n r =
+    (k : Tid) → r.encountering ≡ Some k → (t : Task) × (task_of s k ≡ Some t) × (t.progress ≡ Deferred → ⊥) × (t.thread ≡ n.0.creator) × (r.enclosing ≡ Some t.region)
 
 abbrev pub IsFirstAlone : Rid → Region → Type 0
 IsFirstAlone n r = r.encountering ≡ None → n ≡ initial_region
 
 -- the threads of an explicit task
 abbrev pub IsOnMembers : State → Tid → Task → Type 0
-IsOnMembers s k t = t.implicit ≡ false → ((j : ℕ) × IsThreadOf s t.region j k.0.creator) × ((t.progress ≡ Deferred → ⊥) → IsThreadOf s t.region t.number t.thread)
+IsOnMembers s k t =
+    t.implicit ≡ false → ((j : ℕ) × IsThreadOf s t.region j k.0.creator) × ((t.progress ≡ Deferred → ⊥) → IsThreadOf s t.region t.number t.thread)
 
 pub record AreMade (s : State) : Type 0 where
   pub named : EachRegion (λ n r. IsNamedByFirst n r.team) s
@@ -61,7 +63,9 @@ waits_not : (t : Task) → t.progress ≡ NotBegun → t.progress ≡ Deferred �
 waits_not t a d = cc
 
 -- an explicit task is of the region of its generating task
-child_region : (s : State) (u v : Task) (k : Tid) (gs : List Tid) → IsLineage s u.implicit u.region u.generating gs → u.implicit ≡ false → u.generating ≡ Some k → task_of s k ≡ Some v → v.region ≡ u.region
+child_region : (s : State) (u v : Task) (k : Tid) (gs : List Tid)
+    → IsLineage s u.implicit u.region u.generating gs → u.implicit ≡ false → u.generating ≡ Some k
+    → task_of s k ≡ Some v → v.region ≡ u.region
 child_region s u v k [] im ex by found = absurd (false_true (sym ex ∙ im))
 child_region s u v k (g ∷ gs) (explicit, w, met, live, here, started, rest) ex by found =
     let same : g ≡ k = some_same met by in
@@ -69,23 +73,27 @@ child_region s u v k (g ∷ gs) (explicit, w, met, live, here, started, rest) ex
     ap (λ (x : Task). x.region) (sym one) ∙ here
 
 -- a task starts in its own region
-start_region : (x : Item) (k : Tid) (t u : Task) → MayStartAt x k t u → (u.generating ≡ Some k) ⊎ (u.region ≡ t.region)
+start_region : (x : Item) (k : Tid) (t u : Task) → MayStartAt x k t u
+    → (u.generating ≡ Some k) ⊎ (u.region ≡ t.region)
 start_region (item.Tasks state) k t u may = go (state == WAIT_TASKWAIT) may
   where
-    go : (b : Bool) → MatchBool b (u.generating ≡ Some k) (u.region ≡ t.region) → (u.generating ≡ Some k) ⊎ (u.region ≡ t.region)
+    go : (b : Bool) → MatchBool b (u.generating ≡ Some k) (u.region ≡ t.region)
+        → (u.generating ≡ Some k) ⊎ (u.region ≡ t.region)
     go true h = inl h
     go false h = inr h
 start_region item.OneTask k t u may = inl may
 start_region x k t u may = absurd may
 
-module _ (p : Program) (events : List (ℕ × Event)) (s : State) (reached : Reached p events s) (i : ℕ) (e : Event) (next : State) (step : Step p s i e next) (all : AreMade s) where
+module _ (p : Program) (events : List (ℕ × Event)) (s : State) (reached : Reached p events s) (i : ℕ)
+    (e : Event) (next : State) (step : Step p s i e next) (all : AreMade s) where
   stay : Stays s next
   stay = stays_step p s i e next step
 
   named_step : EachRegion (λ n r. IsNamedByFirst n r.team) next
   named_step = region_step p (λ n r. IsNamedByFirst n r.team) s i e next step law all.named
     where
-      law : (middle : State) → IsRelisted s middle → Stays middle next → IsRegionLaw p middle i next (λ n r. IsNamedByFirst n r.team)
+      law : (middle : State) → IsRelisted s middle → Stays middle next
+          → IsRegionLaw p middle i next (λ n r. IsNamedByFirst n r.team)
       law middle relists later = record {
         arrives = λ k t r is found q. q;
         releases = λ k t r is found may q. q;
@@ -93,7 +101,9 @@ module _ (p : Program) (events : List (ℕ × Event)) (s : State) (reached : Rea
         joins = λ k t r is found may q. q;
         forks = λ region team f k t r is found may new. record {
           first = λ m at.
-              let own : i ≡ m.1 = some_same {o = slice_get (i ∷ got_threads (middle.threads i).asks) 0} refl (ap (λ xs. slice_get xs 0) (sym may.threads) ∙ map_at (λ (a : Tid × ℕ). a.1) team 0 m at) in
+              let own : i ≡ m.1 =
+              some_same {o = slice_get (i ∷ got_threads (middle.threads i).asks) 0} refl
+              (ap (λ xs. slice_get xs 0) (sym may.threads) ∙ map_at (λ (a : Tid × ℕ). a.1) team 0 m at) in
               sym own ∙ sym may.region_new.creator;
           tasks = λ j m at.
               ap (λ (b : Tid × ℕ). b.0.0.creator) (sym (get_or_from_slice_get team j m m at)) ∙ ((may.tasks_new j m (slice_get_within team j m at)).creator ∙ sym may.region_new.creator);
@@ -104,7 +114,8 @@ module _ (p : Program) (events : List (ℕ × Event)) (s : State) (reached : Rea
   met_step = region_step p (IsMetBy next) s i e next step law
       (λ n r live k met. let (t, found, un, thread, enclosing) = all.met n r live k met in let (v, found_v, kept) = stay.tasks k t found in (v, found_v, kept.started un, kept.thread un ∙ thread, enclosing ∙ ap (λ (x : Rid). Some x) (sym kept.region)))
     where
-      law : (middle : State) → IsRelisted s middle → Stays middle next → IsRegionLaw p middle i next (IsMetBy next)
+      law : (middle : State) → IsRelisted s middle → Stays middle next
+          → IsRegionLaw p middle i next (IsMetBy next)
       law middle before later = record {
         arrives = λ k t r is found q. q;
         releases = λ k t r is found may q. q;
@@ -127,7 +138,8 @@ module _ (p : Program) (events : List (ℕ × Event)) (s : State) (reached : Rea
   initial_step : EachRegion IsFirstAlone next
   initial_step = region_step p IsFirstAlone s i e next step law all.initial
     where
-      law : (middle : State) → IsRelisted s middle → Stays middle next → IsRegionLaw p middle i next IsFirstAlone
+      law : (middle : State) → IsRelisted s middle → Stays middle next
+          → IsRegionLaw p middle i next IsFirstAlone
       law middle before later = record {
         arrives = λ k t r is found q. q;
         releases = λ k t r is found may q. q;
@@ -137,21 +149,28 @@ module _ (p : Program) (events : List (ℕ × Event)) (s : State) (reached : Rea
       }
 
   -- the thread of the event is a member's, of the region of its current task
-  current_member : (middle : State) → IsRelisted s middle → (k : Tid) (t : Task) → IsCurrent middle i k t → IsThreadOf next t.region t.number i
+  current_member : (middle : State) → IsRelisted s middle → (k : Tid) (t : Task) → IsCurrent middle i k t
+      → IsThreadOf next t.region t.number i
   current_member middle before k t is =
       let (v, xs, cur, same) = was p events s reached i e next step middle before k t is in
       let runs = current_begun p events s reached i k v cur.name cur.live in
-      subst (λ (x : Task). IsThreadOf next x.region x.number i) (sym same) (thread_later s next stay v.region v.number i (go v cur.live runs.0 runs.1 v.implicit refl))
+      subst (λ (x : Task). IsThreadOf next x.region x.number i) (sym same)
+      (thread_later s next stay v.region v.number i (go v cur.live runs.0 runs.1 v.implicit refl))
     where
-      go : (v : Task) → task_of s k ≡ Some v → v.progress ≡ Begun → v.thread ≡ i → (b : Bool) → v.implicit ≡ b → IsThreadOf s v.region v.number i
-      go v live begun mine true im = let (r, found, at) = (members_known p events s reached).tasks k v live im in (r, (k, v.thread), found, at, mine)
-      go v live begun mine false ex = subst (IsThreadOf s v.region v.number) mine ((all.members k v live ex).1 (λ d. begun_deferred (sym begun ∙ d)))
+      go : (v : Task) → task_of s k ≡ Some v → v.progress ≡ Begun → v.thread ≡ i → (b : Bool) → v.implicit ≡ b
+          → IsThreadOf s v.region v.number i
+      go v live begun mine true im =
+          let (r, found, at) = (members_known p events s reached).tasks k v live im in (r, (k, v.thread), found, at, mine)
+      go v live begun mine false ex =
+          subst (IsThreadOf s v.region v.number) mine
+          ((all.members k v live ex).1 (λ d. begun_deferred (sym begun ∙ d)))
 
   members_step : EachTask (IsOnMembers next) next
   members_step = task_step p (IsOnMembers next) s i e next step (λ k t y ys is taken q. q) law
       (λ k t live ex. let h = all.members k t live ex in let (j, at) = h.0 in ((j, thread_later s next stay t.region j k.0.creator at), λ un. thread_later s next stay t.region t.number t.thread (h.1 un)))
     where
-      law : (middle : State) (y : Item) → IsRelisted s middle → Stays middle next → EachTask (IsOnMembers next) middle → IsTaskLaw p middle i e y next (IsOnMembers next)
+      law : (middle : State) (y : Item) → IsRelisted s middle → Stays middle next
+          → EachTask (IsOnMembers next) middle → IsTaskLaw p middle i e y next (IsOnMembers next)
       law middle y before later of_tasks = record {
         shows = λ k t x q. q;
         tools = λ k t x q. q;
@@ -167,13 +186,20 @@ module _ (p : Program) (events : List (ℕ × Event)) (s : State) (reached : Rea
           current_undeferred : (k : Tid) (t : Task) → IsCurrent middle i k t → t.progress ≡ Deferred → ⊥
           current_undeferred k t is d =
               let (v, xs, cur, same) = was p events s reached i e next step middle before k t is in
-              begun_deferred (sym (current_begun p events s reached i k v cur.name cur.live).0 ∙ (ap (λ (x : Task). x.progress) (sym same) ∙ d))
+              begun_deferred
+              (sym (current_begun p events s reached i k v cur.name cur.live).0 ∙ (ap (λ (x : Task). x.progress) (sym same) ∙ d))
 
-          made_by : (task k : Tid) (t : Task) → IsCurrent middle i k t → task.0.creator ≡ i → (j : ℕ) × IsThreadOf next t.region j task.0.creator
-          made_by task k t is own = (t.number, subst (IsThreadOf next t.region t.number) (sym own) (current_member middle before k t is))
+          made_by : (task k : Tid) (t : Task) → IsCurrent middle i k t → task.0.creator ≡ i
+              → (j : ℕ) × IsThreadOf next t.region j task.0.creator
+          made_by task k t is own =
+              (t.number, subst (IsThreadOf next t.region t.number) (sym own) (current_member middle before k t is))
 
-          start_member : (k : Tid) (u : Task) (j : Tid) (t : Task) (x : Item) → IsCurrent middle i j t → task_of middle k ≡ Some u → u.implicit ≡ false → MayStartAt x j t u → IsThreadOf next u.region t.number i
-          start_member k u j t x is live ex may = subst (λ n. IsThreadOf next n t.number i) (sym (go (start_region x j t u may))) (current_member middle before j t is)
+          start_member : (k : Tid) (u : Task) (j : Tid) (t : Task) (x : Item) → IsCurrent middle i j t
+              → task_of middle k ≡ Some u → u.implicit ≡ false → MayStartAt x j t u
+              → IsThreadOf next u.region t.number i
+          start_member k u j t x is live ex may =
+              subst (λ n. IsThreadOf next n t.number i) (sym (go (start_region x j t u may)))
+              (current_member middle before j t is)
             where
               go : (u.generating ≡ Some j) ⊎ (u.region ≡ t.region) → u.region ≡ t.region
               go (inr same) = same
@@ -181,14 +207,18 @@ module _ (p : Program) (events : List (ℕ × Event)) (s : State) (reached : Rea
                   let (v, xs, live_v, same) = before.tasks k u live in
                   let (w, ys, cur, same_w) = was p events s reached i e next step middle before j t is in
                   let (gs, chain) = (have_lines p events s reached).lines k v live_v in
-                  ap (λ (x : Task). x.region) same ∙ (sym (child_region s v w j gs chain (ap (λ (x : Task). x.implicit) (sym same) ∙ ex) (ap (λ (x : Task). x.generating) (sym same) ∙ child) cur.live) ∙ ap (λ (x : Task). x.region) (sym same_w))
+                  ap (λ (x : Task). x.region) same
+                  ∙
+                  (sym (child_region s v w j gs chain (ap (λ (x : Task). x.implicit) (sym same) ∙ ex) (ap (λ (x : Task). x.generating) (sym same) ∙ child) cur.live) ∙ ap (λ (x : Task). x.region) (sym same_w))
 
   pub made_step : AreMade next
   made_step = record { named = named_step; met = met_step; initial = initial_step; members = members_step }
 
 pub are_made : (p : Program) (events : List (ℕ × Event)) (s : State) → Reached p events s → AreMade s
 are_made p events s reached =
-    over_reached p AreMade (λ first u first_reached i e next step h. made_step p first u first_reached i e next step h) [] (opening p) refl events s reached
+    over_reached p AreMade
+    (λ first u first_reached i e next step h. made_step p first u first_reached i e next step h) []
+    (opening p) refl events s reached
     (record {
       named = each_first_region p (λ n r. IsNamedByFirst n r.team) (record { first = λ m at. ap (λ (a : Tid × ℕ). a.1) (sym (some_same refl at)); tasks = λ j m at. first_task j m at });
       met = each_first_region p (IsMetBy (opening p)) (λ k met. absurd (none_some refl met));

@@ -27,22 +27,30 @@ IsAsOpen r q = (q.ended ≡ r.ended) × (q.joined ≡ r.joined)
 
 -- what an event of a task makes of a region's end
 abbrev pub Ends : Event → Task → Rid → Region → Region → Type 0
-Ends (event.ImplicitEnd task) t n r q = (t.region ≡ n → q.ended ≡ slice_set r.ended t.number true) × ((t.region ≡ n → ⊥) → q.ended ≡ r.ended) × (q.joined ≡ r.joined)
-Ends (event.Join region) t n r q = (t.region ≡ n → q.joined ≡ true) × ((t.region ≡ n → ⊥) → q.joined ≡ r.joined) × (q.ended ≡ r.ended)
+Ends (event.ImplicitEnd task) t n r q =
+    (t.region ≡ n → q.ended ≡ slice_set r.ended t.number true) × ((t.region ≡ n → ⊥) → q.ended ≡ r.ended) × (q.joined ≡ r.joined)
+Ends (event.Join region) t n r q =
+    (t.region ≡ n → q.joined ≡ true) × ((t.region ≡ n → ⊥) → q.joined ≡ r.joined) × (q.ended ≡ r.ended)
 Ends e t n r q = IsAsOpen r q
 
 -- the same by any thread: only an end and a join are looked at with a task
 abbrev pub EndsBy : State → ℕ → Event → Rid → Region → Region → Type 0
-EndsBy s i (event.ImplicitEnd task) n r q = (k : Tid) (t : Task) → IsCurrent s i k t → Ends (event.ImplicitEnd task) t n r q
-EndsBy s i (event.Join region) n r q = (k : Tid) (t : Task) → IsCurrent s i k t → Ends (event.Join region) t n r q
+EndsBy s i (event.ImplicitEnd task) n r q =
+    (k : Tid) (t : Task) → IsCurrent s i k t → Ends (event.ImplicitEnd task) t n r q
+EndsBy s i (event.Join region) n r q =
+    (k : Tid) (t : Task) → IsCurrent s i k t → Ends (event.Join region) t n r q
 EndsBy s i e n r q = IsAsOpen r q
 
 abbrev AreEnded : State → ℕ → Event → Slots Region → Type 0
-AreEnded s i e slots = (n : Rid) (r : Region) → region_of s n ≡ Some r → (q : Region) × (named slots n.0 ≡ Some q) × EndsBy s i e n r q
+AreEnded s i e slots =
+    (n : Rid) (r : Region) → region_of s n ≡ Some r → (q : Region) × (named slots n.0 ≡ Some q) × EndsBy s i e n r q
 
 module _ (p : Program) (s : State) (i : ℕ) where
-  ends : (task k : Tid) (t : Task) → IsCurrent s i k t → AreEnded s i (event.ImplicitEnd task) (task_ended s i k t).regions
-  ends task k t is n r e = changed s.regions t.region (λ q. record q { ended = slice_set q.ended t.number true }) (EndsBy s i (event.ImplicitEnd task) n) n r e
+  ends : (task k : Tid) (t : Task) → IsCurrent s i k t
+      → AreEnded s i (event.ImplicitEnd task) (task_ended s i k t).regions
+  ends task k t is n r e =
+      changed s.regions t.region (λ q. record q { ended = slice_set q.ended t.number true })
+      (EndsBy s i (event.ImplicitEnd task) n) n r e
       (λ same k' t' is'.
       let one = same_current s i k k' t t' is is' in
       (λ h. ap (λ (x : Task). slice_set r.ended x.number true) one, λ other. absurd (other (ap (λ (x : Task). x.region) (sym one) ∙ sym same)), refl))
@@ -50,8 +58,10 @@ module _ (p : Program) (s : State) (i : ℕ) where
       let one = same_current s i k k' t t' is is' in
       (λ h. absurd (apart (sym (ap (λ (x : Task). x.region) one ∙ h))), λ other. refl, refl))
 
-  joins : (region : Rid) (k : Tid) (t : Task) (r0 : Region) → IsCurrent s i k t → AreEnded s i (event.Join region) (joined s i k t r0).regions
-  joins region k t r0 is n r e = changed s.regions t.region (λ q. record q { joined = true }) (EndsBy s i (event.Join region) n) n r e
+  joins : (region : Rid) (k : Tid) (t : Task) (r0 : Region) → IsCurrent s i k t
+      → AreEnded s i (event.Join region) (joined s i k t r0).regions
+  joins region k t r0 is n r e =
+      changed s.regions t.region (λ q. record q { joined = true }) (EndsBy s i (event.Join region) n) n r e
       (λ same k' t' is'.
       let one = same_current s i k k' t t' is is' in
       (λ h. refl, λ other. absurd (other (ap (λ (x : Task). x.region) (sym one) ∙ sym same)), refl))
@@ -64,7 +74,8 @@ module _ (p : Program) (s : State) (i : ℕ) where
   as_open (event.Join region) is = absurd (false_true (sym is))
   as_open e is = λ n r found. (r, found, (refl, refl))
 
-  ended_effect : (e : Event) (y : Item) → Rule s i e y → IfSome (effect p s i e y) (λ u. AreEnded s i e u.regions)
+  ended_effect : (e : Event) (y : Item) → Rule s i e y
+      → IfSome (effect p s i e y) (λ u. AreEnded s i e u.regions)
   ended_effect = regions_effect p s i (AreEnded s i) (record {
     stays = as_open;
     forks = λ region team f k t r may n q e. (q, made_stays s.regions region.0 (new_region k t r team f) n.0 q (fresh_empty s.regions i region.0 may.region_new) e, (refl, refl));
@@ -75,13 +86,18 @@ module _ (p : Program) (s : State) (i : ℕ) where
   })
 
 -- what a step makes of a region's end
-pub region_ended : (p : Program) (s : State) (i : ℕ) (e : Event) (next : State) (m : IsMove p s i e next) (n : Rid) (r : Region) → region_of s n ≡ Some r → (q : Region) × (region_of next n ≡ Some q) × EndsBy s i e n r q
+pub region_ended : (p : Program) (s : State) (i : ℕ) (e : Event) (next : State) (m : IsMove p s i e next) (n : Rid) (r : Region)
+    → region_of s n ≡ Some r → (q : Region) × (region_of next n ≡ Some q) × EndsBy s i e n r q
 region_ended p s i e after_step m n r found =
     let zs : List Item = stays (encounter s i) e m.item m.behind in
-    let (q, found_q, h) = from_some (λ (u : State). AreEnded (with_list s i zs) i e u.regions) (effect p (with_list s i zs) i e m.item) after_step m.effect_is (ended_effect p (with_list s i zs) i e m.item m.rule_moved) n r ((is_relisted s i zs).regions n ∙ found) in
+    let (q, found_q, h) =
+    from_some (λ (u : State). AreEnded (with_list s i zs) i e u.regions)
+    (effect p (with_list s i zs) i e m.item) after_step m.effect_is
+    (ended_effect p (with_list s i zs) i e m.item m.rule_moved) n r ((is_relisted s i zs).regions n ∙ found) in
     (q, found_q, back zs q e h)
   where
-    back : (zs : List Item) (q : Region) (e' : Event) → EndsBy (with_list s i zs) i e' n r q → EndsBy s i e' n r q
+    back : (zs : List Item) (q : Region) (e' : Event) → EndsBy (with_list s i zs) i e' n r q
+        → EndsBy s i e' n r q
     back zs q (event.ImplicitEnd task) h = λ k t is. h k (relisted zs t) (current_after s i zs k t is)
     back zs q (event.Join region) h = λ k t is. h k (relisted zs t) (current_after s i zs k t is)
     back zs q e' h = h

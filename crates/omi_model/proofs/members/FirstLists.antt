@@ -50,7 +50,8 @@ over p s t is = record { deferred = λ d. absurd (finished_deferred (sym is ∙ 
     finished_waits : Finished ≡ NotBegun → ⊥
     finished_waits e = cc
 
-module _ (p : Program) (events : List (ℕ × Event)) (s : State) (reached : Reached p events s) (i : ℕ) (e : Event) (next : State) (step : Step p s i e next) (all : EachTask (λ k t. HasFirstList p s t) s) where
+module _ (p : Program) (events : List (ℕ × Event)) (s : State) (reached : Reached p events s) (i : ℕ)
+    (e : Event) (next : State) (step : Step p s i e next) (all : EachTask (λ k t. HasFirstList p s t) s) where
   m : IsMove p s i e next
   m = move_of p s i e next step
 
@@ -68,9 +69,11 @@ module _ (p : Program) (events : List (ℕ × Event)) (s : State) (reached : Rea
 
   pub lists_step : EachTask (λ k t. HasFirstList p next t) next
   lists_step = task_step_from p (λ k t. HasFirstList p s t) (λ k t. HasFirstList p next t) s i e next m
-      (λ k t is taken h. runs p next _ (current_begun p events s reached i k t is.name is.live).0) (λ k t ne live h. still k t live h) law all
+      (λ k t is taken h. runs p next _ (current_begun p events s reached i k t is.name is.live).0)
+      (λ k t ne live h. still k t live h) law all
     where
-      law : EachTask (λ k t. HasFirstList p next t) (moved_on s i e m.item m.behind) → IsTaskLaw p (moved_on s i e m.item m.behind) i e m.item next (λ k t. HasFirstList p next t)
+      law : EachTask (λ k t. HasFirstList p next t) (moved_on s i e m.item m.behind)
+          → IsTaskLaw p (moved_on s i e m.item m.behind) i e m.item next (λ k t. HasFirstList p next t)
       law of_tasks = record {
         shows = λ k t x q. record { deferred = q.deferred; waiting = q.waiting };
         tools = λ k t x q. record { deferred = q.deferred; waiting = q.waiting };
@@ -86,7 +89,10 @@ module _ (p : Program) (events : List (ℕ × Event)) (s : State) (reached : Rea
         made = λ task f final k t is of fresh by. runs p next _ refl;
       }
 
-pub first_lists : (p : Program) (events : List (ℕ × Event)) (s : State) → Reached p events s → EachTask (λ k t. HasFirstList p s t) s
+pub first_lists : (p : Program) (events : List (ℕ × Event)) (s : State) → Reached p events s
+    → EachTask (λ k t. HasFirstList p s t) s
 first_lists p events s reached =
-    over_reached p (λ u. EachTask (λ k t. HasFirstList p u t) u) (λ first u first_reached i e next step h. lists_step p first u first_reached i e next step h) [] (opening p) refl events s reached
+    over_reached p (λ u. EachTask (λ k t. HasFirstList p u t) u)
+    (λ first u first_reached i e next step h. lists_step p first u first_reached i e next step h) []
+    (opening p) refl events s reached
     (each_first_task p (λ k t. HasFirstList p (opening p) t) (runs p (opening p) _ refl))

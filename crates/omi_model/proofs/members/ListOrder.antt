@@ -41,7 +41,8 @@ module _ (n : ℕ) where
   plain_order item.Pass xs plain h = absurd (false_true plain)
   plain_order x xs plain h = h
 
-  shown_arrived : (at : Encounter) (state wait : ℕ) (xs : List Item) → IsInOrder n Arrived xs → IsInOrder n Arrived (shown at state wait xs)
+  shown_arrived : (at : Encounter) (state wait : ℕ) (xs : List Item) → IsInOrder n Arrived xs
+      → IsInOrder n Arrived (shown at state wait xs)
   shown_arrived at state wait xs h = go at.debug
     where
       go : (d : Bool) → IsInOrder n Arrived (if d then item.State state wait ∷ xs else xs)
@@ -59,8 +60,10 @@ module _ (n : ℕ) where
       critical = λ k f xs h. critical_keeps (IsInOrder n Outside) plain_order p at f (item.Unlock k ∷ xs) h;
     }
 
-    rows_ordered : (at : Encounter) → at.number ≡ n → (s : Stmt) (rest : List Item) → Ordered n (item.Do s ∷ rest) → Ordered n (first_of at s ∷ behind p at s rest)
-    rows_ordered at own s rest (Outside, h) = (Outside, row_keeps p at (IsInOrder n Outside) (in_order at own) (shape_of s) rest h)
+    rows_ordered : (at : Encounter) → at.number ≡ n → (s : Stmt) (rest : List Item)
+        → Ordered n (item.Do s ∷ rest) → Ordered n (first_of at s ∷ behind p at s rest)
+    rows_ordered at own s rest (Outside, h) =
+        (Outside, row_keeps p at (IsInOrder n Outside) (in_order at own) (shape_of s) rest h)
     rows_ordered at own s rest (Arrived, h) = absurd h
     rows_ordered at own s rest (Waiting, h) = absurd h
     rows_ordered at own s rest (Released, h) = absurd h
@@ -80,14 +83,20 @@ module _ (n : ℕ) where
     drop_ordered item.OneTask xs may (Released, h) = absurd h
     drop_ordered x xs may h = absurd (false_true may)
 
-    take_ordered : (at : Encounter) → at.number ≡ n → (e : Event) (xs : List Item) (y : Item) (ys : List Item) → take_item p at e xs ≡ Some (y, ys) → Ordered n xs → Ordered n (y ∷ ys)
+    take_ordered : (at : Encounter) → at.number ≡ n → (e : Event) (xs : List Item) (y : Item) (ys : List Item)
+        → take_item p at e xs ≡ Some (y, ys) → Ordered n xs → Ordered n (y ∷ ys)
     take_ordered at own = take_keeps p at (Ordered n) drop_ordered (rows_ordered at own)
 
     member_order : (at : Encounter) (f : ℕ) → at.number ≡ n → IsInOrder n Outside (member_items p at f)
-    member_order at f own = member_keeps (IsInOrder n Outside) plain_order p at f (barrier_keeps p at (IsInOrder n Outside) (in_order at own) _ _ (last_keeps (IsInOrder n Outside) tt tt at.number))
+    member_order at f own =
+        member_keeps (IsInOrder n Outside) plain_order p at f
+        (barrier_keeps p at (IsInOrder n Outside) (in_order at own) _ _ (last_keeps (IsInOrder n Outside) tt tt at.number))
 
-    main_order : (at : Encounter) → at.number ≡ n → IsInOrder n Outside (main_items at (body_of p.funcs p.main))
-    main_order at own = main_keeps (IsInOrder n Outside) plain_order p at (barrier_keeps p at (IsInOrder n Outside) (in_order at own) _ (item.Done ∷ []) tt)
+    main_order : (at : Encounter) → at.number ≡ n
+        → IsInOrder n Outside (main_items at (body_of p.funcs p.main))
+    main_order at own =
+        main_keeps (IsInOrder n Outside) plain_order p at
+        (barrier_keeps p at (IsInOrder n Outside) (in_order at own) _ (item.Done ∷ []) tt)
 
   -- behind an item
   rest_ordered : (y : Item) (ys : List Item) → Ordered n (y ∷ ys) → Ordered n ys
@@ -104,25 +113,31 @@ module _ (n : ℕ) where
   rest_ordered item.Pass ys (Released, h) = (Outside, h)
   rest_ordered y ys (Released, h) = absurd h
 
-  serve_ordered : (at : Encounter) (ys : List Item) → Ordered n (item.Serve ∷ ys) → Ordered n (shown at 0x100 0 (item.Offer ∷ item.Serve ∷ ys))
-  serve_ordered at ys (Outside, h) = (Outside, shown_keeps (IsInOrder n Outside) plain_order at 0x100 0 (item.Offer ∷ item.Serve ∷ ys) h)
+  serve_ordered : (at : Encounter) (ys : List Item) → Ordered n (item.Serve ∷ ys)
+      → Ordered n (shown at 0x100 0 (item.Offer ∷ item.Serve ∷ ys))
+  serve_ordered at ys (Outside, h) =
+      (Outside, shown_keeps (IsInOrder n Outside) plain_order at 0x100 0 (item.Offer ∷ item.Serve ∷ ys) h)
   serve_ordered at ys (Arrived, h) = absurd h
   serve_ordered at ys (Waiting, h) = absurd h
   serve_ordered at ys (Released, h) = absurd h
 
-  tasks_ordered : (at : Encounter) (state : ℕ) (ys : List Item) → Ordered n (item.Tasks state ∷ ys) → Ordered n (shown at state 0 (item.Tasks state ∷ ys))
-  tasks_ordered at state ys (Outside, h) = (Outside, shown_keeps (IsInOrder n Outside) plain_order at state 0 (item.Tasks state ∷ ys) h)
+  tasks_ordered : (at : Encounter) (state : ℕ) (ys : List Item) → Ordered n (item.Tasks state ∷ ys)
+      → Ordered n (shown at state 0 (item.Tasks state ∷ ys))
+  tasks_ordered at state ys (Outside, h) =
+      (Outside, shown_keeps (IsInOrder n Outside) plain_order at state 0 (item.Tasks state ∷ ys) h)
   tasks_ordered at state ys (Arrived, h) = (Arrived, shown_arrived at state 0 (item.Tasks state ∷ ys) h)
   tasks_ordered at state ys (Waiting, h) = absurd h
   tasks_ordered at state ys (Released, h) = absurd h
 
-  seen_ordered : (seen f : ℕ) (final : Bool) (ys : List Item) → Ordered n (item.Defer seen f final ∷ ys) → Ordered n (item.Defer (seen + 1) f final ∷ ys)
+  seen_ordered : (seen f : ℕ) (final : Bool) (ys : List Item) → Ordered n (item.Defer seen f final ∷ ys)
+      → Ordered n (item.Defer (seen + 1) f final ∷ ys)
   seen_ordered seen f final ys (Outside, h) = (Outside, h)
   seen_ordered seen f final ys (Arrived, h) = absurd h
   seen_ordered seen f final ys (Waiting, h) = absurd h
   seen_ordered seen f final ys (Released, h) = absurd h
 
-  stays_ordered : (at : Encounter) (e : Event) (y : Item) (ys : List Item) → Ordered n (y ∷ ys) → Ordered n (stays at e y ys)
+  stays_ordered : (at : Encounter) (e : Event) (y : Item) (ys : List Item) → Ordered n (y ∷ ys)
+      → Ordered n (stays at e y ys)
   stays_ordered at e item.Asks ys h = h
   stays_ordered at e item.Serve ys h = serve_ordered at ys h
   stays_ordered at e (item.Tasks state) ys h = tasks_ordered at state ys h
@@ -134,11 +149,13 @@ module _ (n : ℕ) where
 abbrev IsOrdered : Tid → Task → Type 0
 IsOrdered k t = t.implicit ≡ true → Ordered t.number t.list
 
-ordered_step : (p : Program) (s : State) (i : ℕ) (e : Event) (next : State) → Step p s i e next → EachTask IsOrdered s → EachTask IsOrdered next
+ordered_step : (p : Program) (s : State) (i : ℕ) (e : Event) (next : State) → Step p s i e next
+    → EachTask IsOrdered s → EachTask IsOrdered next
 ordered_step p s i e next step all = task_step p IsOrdered s i e next step
     (λ k t y ys is taken h im. stays_ordered t.number (encounter s i) e y ys (take_ordered t.number p (encounter s i) (number_met s i k t is) e t.list y ys taken (h im))) law all
   where
-    law : (middle : State) (y : Item) → IsRelisted s middle → Stays middle next → EachTask IsOrdered middle → IsTaskLaw p middle i e y next IsOrdered
+    law : (middle : State) (y : Item) → IsRelisted s middle → Stays middle next → EachTask IsOrdered middle
+        → IsTaskLaw p middle i e y next IsOrdered
     law middle y before later of_tasks = record {
       shows = λ k t x q. q;
       tools = λ k t x q. q;
@@ -152,7 +169,9 @@ ordered_step p s i e next step all = task_step p IsOrdered s i e next step
     }
 
 ordered : (p : Program) (events : List (ℕ × Event)) (s : State) → Reached p events s → EachTask IsOrdered s
-ordered p events s reached = over_events p (EachTask IsOrdered) (λ u i e next step h. ordered_step p u i e next step h) (opening p) events s reached
+ordered p events s reached =
+    over_events p (EachTask IsOrdered) (λ u i e next step h. ordered_step p u i e next step h)
+    (opening p) events s reached
     (each_first_task p IsOrdered (λ im. (Outside, main_order 0 p (record { debug = p.env.debug; number = 0; level = 0; is_final = false }) refl)))
 
 -- ---- the list of an explicit task
@@ -164,7 +183,8 @@ no_barrier b n (item.Release ∷ xs) is none = absurd (wrong n xs is)
 no_barrier b n (item.Pass ∷ xs) is none = absurd (wrong n xs is)
 no_barrier b n (x ∷ xs) is none = no_barrier b n xs is (omega (arith, none))
 
-pub barriers_ordered : (p : Program) (events : List (ℕ × Event)) (s : State) → Reached p events s → (k : Tid) (t : Task) → task_of s k ≡ Some t → AreBarriersInOrder t
+pub barriers_ordered : (p : Program) (events : List (ℕ × Event)) (s : State) → Reached p events s
+    → (k : Tid) (t : Task) → task_of s k ≡ Some t → AreBarriersInOrder t
 barriers_ordered p events s reached k t live = record {
   member = ordered p events s reached k t live;
   explicit = λ ex. let ready = ((placed p events s reached).places k t live).1 ex in no_barrier (barriers_of p) t.number t.list ready.in_order ready.barriers;

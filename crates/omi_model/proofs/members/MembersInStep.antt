@@ -43,7 +43,8 @@ none_ended : (len : ℕ) → get_or (replicate len false) 0 false ≡ false
 none_ended zero = refl
 none_ended (suc len) = refl
 
-first_step : (p : Program) (s : State) (i : ℕ) (e : Event) (next : State) → Step p s i e next → EachRegion FirstStays s → EachRegion FirstStays next
+first_step : (p : Program) (s : State) (i : ℕ) (e : Event) (next : State) → Step p s i e next
+    → EachRegion FirstStays s → EachRegion FirstStays next
 first_step p s i e next step all = region_step p FirstStays s i e next step law all
   where
     law : (middle : State) → IsRelisted s middle → Stays middle next → IsRegionLaw p middle i next FirstStays
@@ -55,12 +56,16 @@ first_step p s i e next step all = region_step p FirstStays s i e next step law 
       forks = λ region team f k t r is found may new. none_ended (length team);
     }
 
-first_stays : (p : Program) (events : List (ℕ × Event)) (s : State) → Reached p events s → EachRegion FirstStays s
-first_stays p events s reached = over_events p (EachRegion FirstStays) (λ u i e next step h. first_step p u i e next step h) (opening p) events s reached (each_first_region p FirstStays refl)
+first_stays : (p : Program) (events : List (ℕ × Event)) (s : State) → Reached p events s
+    → EachRegion FirstStays s
+first_stays p events s reached =
+    over_events p (EachRegion FirstStays) (λ u i e next step h. first_step p u i e next step h)
+    (opening p) events s reached (each_first_region p FirstStays refl)
 
 -- ---- ends by number
 
-others_true : (xs : List Bool) (n : ℕ) → All (λ b. b ≡ true) (drop 1 xs) → n ≢ 0 → n < length xs → get_or xs n false ≡ true
+others_true : (xs : List Bool) (n : ℕ) → All (λ b. b ≡ true) (drop 1 xs) → n ≢ 0 → n < length xs
+    → get_or xs n false ≡ true
 others_true [] n all other within = absurd (omega (arith, within))
 others_true (x ∷ xs) zero all other within = absurd (other refl)
 others_true (x ∷ xs) (suc n) all other within = all n false (omega (arith, within))
@@ -76,11 +81,14 @@ suc_zero n e = omega (arith, e)
 
 has_ended : (r : Region) (n : ℕ) → n < length r.ended → ended_of r n ≡ true → HasEnded r n
 has_ended r zero within is = is
-has_ended r (suc n) within is = slice_get-get_or r.ended (suc n) false within ∙ ap (λ (b : Bool). Some b) (sym (ended_other r (suc n) (suc_zero n)) ∙ is)
+has_ended r (suc n) within is =
+    slice_get-get_or r.ended (suc n) false within
+    ∙ ap (λ (b : Bool). Some b) (sym (ended_other r (suc n) (suc_zero n)) ∙ is)
 
 ended_has : (r : Region) (n : ℕ) → HasEnded r n → ended_of r n ≡ true
 ended_has r zero is = is
-ended_has r (suc n) is = ended_other r (suc n) (suc_zero n) ∙ get_or_from_slice_get r.ended (suc n) true false is
+ended_has r (suc n) is =
+    ended_other r (suc n) (suc_zero n) ∙ get_or_from_slice_get r.ended (suc n) true false is
 
 unfinished : (q : Progress) → (q ≡ Finished → ⊥) → is_finished q ≡ false
 unfinished q not = go (is_finished q) refl
@@ -94,7 +102,8 @@ first_at [] some = absurd (omega (arith, some))
 first_at (x ∷ xs) some = (x, refl)
 
 module _ (p : Program) (events : List (ℕ × Event)) (s : State) (reached : Reached p events s) where
-  module _ (k : Tid) (t : Task) (r : Region) (live : task_of s k ≡ Some t) (im : t.implicit ≡ true) (found : region_of s t.region ≡ Some r) where
+  module _ (k : Tid) (t : Task) (r : Region) (live : task_of s k ≡ Some t) (im : t.implicit ≡ true)
+      (found : region_of s t.region ≡ Some r) where
     ends : ended_of r t.number ≡ is_finished t.progress
     ends = ends_as_finished p events s reached k t live im r found
 
@@ -107,12 +116,15 @@ module _ (p : Program) (events : List (ℕ × Event)) (s : State) (reached : Rea
         omega (arith, subst (λ (x : Region). t.number < length x.team) one inside, sizes.ended)
 
     -- a member that has not begun has all barriers ahead
-    waiting : t.progress ≡ NotBegun → (t.number ≢ 0) × (slice_index r.arrivals t.number ≡ 0) × (r.released ≡ 0)
+    waiting : t.progress ≡ NotBegun
+        → (t.number ≢ 0) × (slice_index r.arrivals t.number ≡ 0) × (r.released ≡ 0)
     waiting w =
         let met = ((members_known p events s reached).encountered k t live).waiting w in
         let list = (first_lists p events s reached k t live).waiting w r found in
-        let all = (member_ready p (barriers_of p) (counted p) (record { debug = p.env.debug; number = t.number; level = r.levels; is_final = false }) r.function).barriers in
-        let ahead : left (barriers_of p) t.list ≡ barriers_of p r.function + 1 = ap (left (barriers_of p)) list ∙ all in
+        let all =
+        (member_ready p (barriers_of p) (counted p) (record { debug = p.env.debug; number = t.number; level = r.levels; is_final = false }) r.function).barriers in
+        let ahead : left (barriers_of p) t.list ≡ barriers_of p r.function + 1 =
+        ap (left (barriers_of p)) list ∙ all in
         let sum = (barriers_ahead p events s reached).members k t r live im found in
         let near = arrivals_near p events s reached k t r live im found in
         let none : slice_index r.arrivals t.number ≡ 0 = omega (arith, sum, ahead) in
@@ -120,8 +132,10 @@ module _ (p : Program) (events : List (ℕ × Event)) (s : State) (reached : Rea
 
     not_joined : (t.progress ≡ Finished → ⊥) → t.number ≢ 0 → (b : Bool) → r.joined ≡ b → r.joined ≡ false
     not_joined not other true j =
-        let ended : get_or r.ended t.number false ≡ true = others_true r.ended t.number (joins_last p events s reached t.region r found j) other within in
-        absurd (false_true (sym (unfinished t.progress not) ∙ (sym ends ∙ (ended_other r t.number other ∙ ended))))
+        let ended : get_or r.ended t.number false ≡ true =
+        others_true r.ended t.number (joins_last p events s reached t.region r found j) other within in
+        absurd
+        (false_true (sym (unfinished t.progress not) ∙ (sym ends ∙ (ended_other r t.number other ∙ ended))))
     not_joined not other false j = j
 
     going : (t.progress ≡ Finished → ⊥) → (slice_get r.ended t.number ≡ Some false) × (r.joined ≡ false)
@@ -131,16 +145,20 @@ module _ (p : Program) (events : List (ℕ × Event)) (s : State) (reached : Rea
         at is = slice_get-get_or r.ended t.number false within ∙ ap (λ (b : Bool). Some b) is
 
         go : (t.number ≡ 0) ⊎ (t.number ≢ 0) → (slice_get r.ended t.number ≡ Some false) × (r.joined ≡ false)
-        go (inl first) = (at (ap (λ n. get_or r.ended n false) first ∙ first_stays p events s reached t.region r found), sym (ended_first r t.number first) ∙ (ends ∙ unfinished t.progress not))
-        go (inr other) = (at (sym (ended_other r t.number other) ∙ (ends ∙ unfinished t.progress not)), not_joined not other r.joined refl)
+        go (inl first) =
+            (at (ap (λ n. get_or r.ended n false) first ∙ first_stays p events s reached t.region r found), sym (ended_first r t.number first) ∙ (ends ∙ unfinished t.progress not))
+        go (inr other) =
+            (at (sym (ended_other r t.number other) ∙ (ends ∙ unfinished t.progress not)), not_joined not other r.joined refl)
 
     -- a member that is finished stands outside the barriers
     at_the_last : t.progress ≡ Finished → slice_index r.arrivals t.number ≡ r.released
     at_the_last f =
         let (q, found_q, m) = ((placed p events s reached).places k t live).0 im in
         let none : t.list ≡ [] = (last_items p events s reached k t live).finished f in
-        let outside = outside_is m.phase (subst (λ xs. order t.number m.phase xs ≡ true) none m.ready.in_order) in
-        let stands : slice_index q.arrivals t.number ≡ q.released = subst (λ ph. Stands ph t.number (slice_index q.arrivals t.number) q.released) outside m.stands in
+        let outside =
+        outside_is m.phase (subst (λ xs. order t.number m.phase xs ≡ true) none m.ready.in_order) in
+        let stands : slice_index q.arrivals t.number ≡ q.released =
+        subst (λ ph. Stands ph t.number (slice_index q.arrivals t.number) q.released) outside m.stands in
         subst (λ (x : Region). slice_index x.arrivals t.number ≡ x.released) (some_same found_q found) stands
 
     in_step : IsMemberInStep r t
@@ -152,15 +170,20 @@ module _ (p : Program) (events : List (ℕ × Event)) (s : State) (reached : Rea
     }
 
   -- a region is joined by member 0, at its end
-  last_release : (n : Rid) (r : Region) → region_of s n ≡ Some r → r.joined ≡ true → r.released ≡ barriers_of p r.function + 1
+  last_release : (n : Rid) (r : Region) → region_of s n ≡ Some r → r.joined ≡ true
+      → r.released ≡ barriers_of p r.function + 1
   last_release n r found joined =
       let (a, at) = first_at r.team ((members_known p events s reached).regions n r found).some in
       let is = ((names_live p events s reached).regions n r found).team 0 a at in
       let here : region_of s is.task.region ≡ Some r = ap (region_of s) is.region ∙ found in
-      let over : is.task.progress ≡ Finished = finished_is is.task.progress (sym (ends a.0 is.task r is.live is.implicit here) ∙ (ended_first r is.task.number is.number ∙ joined)) in
+      let over : is.task.progress ≡ Finished =
+      finished_is is.task.progress
+      (sym (ends a.0 is.task r is.live is.implicit here) ∙ (ended_first r is.task.number is.number ∙ joined)) in
       let none : is.task.list ≡ [] = (last_items p events s reached a.0 is.task is.live).finished over in
       let sum = (barriers_ahead p events s reached).members a.0 is.task r is.live is.implicit here in
-      omega (arith, at_the_last a.0 is.task r is.live is.implicit here over, sum, ap (left (barriers_of p)) none)
+      omega
+      (arith, at_the_last a.0 is.task r is.live is.implicit here over, sum, ap (left (barriers_of p)) none)
 
-pub members_in_step : (p : Program) (events : List (ℕ × Event)) (s : State) → Reached p events s → AreMembersInStep p s
+pub members_in_step : (p : Program) (events : List (ℕ × Event)) (s : State) → Reached p events s
+    → AreMembersInStep p s
 members_in_step p events s reached = record { members = λ k t r live im found. in_step p events s reached k t r live im found; joined = last_release p events s reached }

@@ -38,7 +38,8 @@ IsTrail next None (y ∷ ys) = ⊥
 IsTrail next (Some x) [] = ⊥
 IsTrail next (Some x) (y ∷ ys) = (x ≡ y) × IsTrail next (next x) ys
 
-on_trail : {A : Type 0} (next : A → Option A) (from : Option A) (xs : List A) → IsTrail next from xs → (y : A) → Contains xs y → (n : ℕ) × (along next n from ≡ Some y)
+on_trail : {A : Type 0} (next : A → Option A) (from : Option A) (xs : List A) → IsTrail next from xs → (y : A)
+    → Contains xs y → (n : ℕ) × (along next n from ≡ Some y)
 on_trail next None [] trail y inside = absurd (nowhere y inside)
 on_trail next None (x ∷ xs) trail y inside = absurd trail
 on_trail next (Some x) [] trail y inside = absurd trail
@@ -47,12 +48,16 @@ on_trail next (Some x) (z ∷ xs) trail y inside = elim (either z y xs inside) [
   | inr behind ↦ let (n, is) = on_trail next (next x) xs trail.1 y behind in (suc n, is)
 ]
 
-all_on_trail : {A : Type 0} (next : A → Option A) (from : Option A) (xs : List A) → IsTrail next from xs → (n : ℕ) (y : A) → along next n from ≡ Some y → Contains xs y
-all_on_trail next None [] trail n y is = absurd (let clash : None ≡ Some y = sym (none_stays next n) ∙ is in cc clash)
+all_on_trail : {A : Type 0} (next : A → Option A) (from : Option A) (xs : List A) → IsTrail next from xs
+    → (n : ℕ) (y : A) → along next n from ≡ Some y → Contains xs y
+all_on_trail next None [] trail n y is =
+    absurd (let clash : None ≡ Some y = sym (none_stays next n) ∙ is in cc clash)
 all_on_trail next None (x ∷ xs) trail n y is = absurd trail
 all_on_trail next (Some x) [] trail n y is = absurd trail
-all_on_trail next (Some x) (z ∷ xs) trail zero y is = (0, omega arith, sym trail.0 ∙ (let same : x ≡ y = cc is in same))
-all_on_trail next (Some x) (z ∷ xs) trail (suc n) y is = later z y xs (all_on_trail next (next x) xs trail.1 n y is)
+all_on_trail next (Some x) (z ∷ xs) trail zero y is =
+    (0, omega arith, sym trail.0 ∙ (let same : x ≡ y = cc is in same))
+all_on_trail next (Some x) (z ∷ xs) trail (suc n) y is =
+    later z y xs (all_on_trail next (next x) xs trail.1 n y is)
 
 -- the region of the current task of a thread
 abbrev pub innermost_of : State → ℕ → Option Rid
@@ -60,23 +65,28 @@ innermost_of s i = option_map (λ t. t.region) (current_task s i)
 
 -- these are the regions of a thread
 pub record AreRegionsOf (s : State) (i : ℕ) (ids : List Id) : Type 0 where
-  pub each : (n : Rid) → Contains ids n.0 → (steps : ℕ) × (along (enclosing_of s) steps (innermost_of s i) ≡ Some n)
-  pub all : (n : Rid) (steps : ℕ) → along (enclosing_of s) steps (innermost_of s i) ≡ Some n → Contains ids n.0
+  pub each : (n : Rid) → Contains ids n.0
+      → (steps : ℕ) × (along (enclosing_of s) steps (innermost_of s i) ≡ Some n)
+  pub all : (n : Rid) (steps : ℕ) → along (enclosing_of s) steps (innermost_of s i) ≡ Some n
+      → Contains ids n.0
 
 -- the regions that are met from threads are those that are reported
-pub met_reported : (s : State) (threads : List ℕ) (met : List (List Id)) → AllZip (AreRegionsOf s) threads met → (n : Rid) → Contains (flat_map (λ ids. ids) met) n.0 → IsReported s threads n
+pub met_reported : (s : State) (threads : List ℕ) (met : List (List Id)) → AllZip (AreRegionsOf s) threads met
+    → (n : Rid) → Contains (flat_map (λ ids. ids) met) n.0 → IsReported s threads n
 met_reported s threads met all n inside =
     let (ids, there, here) = from_joined (λ (ids : List Id). ids) met n.0 inside in
     let (i, known, are) = zip_right (AreRegionsOf s) threads met all ids there in
     let (steps, is) = are.each n here in
     (i, steps, known, is)
 
-pub reported_met : (s : State) (threads : List ℕ) (met : List (List Id)) → AllZip (AreRegionsOf s) threads met → (n : Rid) → IsReported s threads n → Contains (flat_map (λ ids. ids) met) n.0
+pub reported_met : (s : State) (threads : List ℕ) (met : List (List Id)) → AllZip (AreRegionsOf s) threads met
+    → (n : Rid) → IsReported s threads n → Contains (flat_map (λ ids. ids) met) n.0
 reported_met s threads met all n (i, steps, known, is) =
     let (ids, there, are) = zip_left (AreRegionsOf s) threads met all i known in
     in_joined (λ (ids : List Id). ids) met ids n.0 there (are.all n steps is)
 
-module _ (w : List ℕ) (words : Words) (s : State) (valid : IsValid w) (names : AreNames s) (shown : Shows w words s) where
+module _ (w : List ℕ) (words : Words) (s : State) (valid : IsValid w) (names : AreNames s)
+    (shown : Shows w words s) where
   right : (n : Rid) (seen : IsVisibleRegion s n) → IsRegionRight s seen.region
   right n seen = shown.within.well_formed.regions n seen
 
@@ -105,12 +115,19 @@ module _ (w : List ℕ) (words : Words) (s : State) (valid : IsValid w) (names :
       → (ids : List Rid) × (look_enclosing w words left (map (region_address w) before) (option_map (λ n. n.0) now) ≡ Ok (map (λ n. n.0) ids)) × IsTrail (enclosing_of s) now ids
   enclosing_looked zero before None walk = ([], refl, tt)
   enclosing_looked (suc left) before None walk = ([], refl, tt)
-  enclosing_looked zero before (Some n) walk = absurd (some_left (enclosing_of s) (IsVisibleRegion s) place (region_address w) (records w regions) places before n walk)
+  enclosing_looked zero before (Some n) walk =
+      absurd
+      (some_left (enclosing_of s) (IsVisibleRegion s) place (region_address w) (records w regions) places before n walk)
   enclosing_looked (suc left) before (Some n) walk =
       let seen = walk.is_seen n refl in
-      let onward = walk_onward (enclosing_of s) (IsVisibleRegion s) place (region_address w) (records w regions) places left before n walk in
-      let then : RegionWalk left (n ∷ before) seen.region.enclosing = subst (RegionWalk left (n ∷ before)) (enclosed n seen) onward in
-      let new = address_new (enclosing_of s) (IsVisibleRegion s) place (region_address w) (records w regions) places left (n ∷ before) seen.region.enclosing then in
+      let onward =
+      walk_onward (enclosing_of s) (IsVisibleRegion s) place (region_address w)
+      (records w regions) places left before n walk in
+      let then : RegionWalk left (n ∷ before) seen.region.enclosing =
+      subst (RegionWalk left (n ∷ before)) (enclosed n seen) onward in
+      let new =
+      address_new (enclosing_of s) (IsVisibleRegion s) place (region_address w)
+      (records w regions) places left (n ∷ before) seen.region.enclosing then in
       let (ids, are, trail) = enclosing_looked left (n ∷ before) seen.region.enclosing then in (
         n ∷ ids,
         step _ _ _ _
@@ -128,20 +145,27 @@ module _ (w : List ℕ) (words : Words) (s : State) (valid : IsValid w) (names :
   pub innermost_seen : (i : ℕ) → HasBegun s i → (n : Rid) → innermost_of s i ≡ Some n → IsVisibleRegion s n
   innermost_seen i has n is = go (s.threads i).current (current_seen w words s valid names shown i has) is
     where
-      go : (o : Option Tid) → ((k : Tid) → o ≡ Some k → IsVisibleTask s k) → option_map (λ (t : Task). t.region) (option_and_then (task_of s) o) ≡ Some n → IsVisibleRegion s n
+      go : (o : Option Tid) → ((k : Tid) → o ≡ Some k → IsVisibleTask s k)
+          → option_map (λ (t : Task). t.region) (option_and_then (task_of s) o) ≡ Some n → IsVisibleRegion s n
       go None seen e = absurd (cc e)
       go (Some k) seen e =
           let task = seen k refl in
-          let both : Some task.task.region ≡ Some n = sym (ap (option_map (λ (t : Task). t.region)) task.live) ∙ e in
+          let both : Some task.task.region ≡ Some n =
+          sym (ap (option_map (λ (t : Task). t.region)) task.live) ∙ e in
           let same : task.task.region ≡ n = cc both in
           subst (IsVisibleRegion s) same (task_region k task)
 
-  innermost_looked : (i : ℕ) → HasBegun s i → look_innermost w words i ≡ Ok (option_map (λ n. n.0) (innermost_of s i))
-  innermost_looked i has = step _ _ _ _ (current_looked w words s valid names shown i has) (go (s.threads i).current (current_seen w words s valid names shown i has))
+  innermost_looked : (i : ℕ) → HasBegun s i
+      → look_innermost w words i ≡ Ok (option_map (λ n. n.0) (innermost_of s i))
+  innermost_looked i has =
+      step _ _ _ _ (current_looked w words s valid names shown i has)
+      (go (s.threads i).current (current_seen w words s valid names shown i has))
     where
       go : (o : Option Tid) → ((k : Tid) → o ≡ Some k → IsVisibleTask s k)
-          → optional (λ (k : Id). look_object w words regions (id_address w tasks k) TaskRegion 0) (option_map (λ (k : Tid). k.0) o)
-          ≡ Ok (option_map (λ (n : Rid). n.0) (option_map (λ (t : Task). t.region) (option_and_then (task_of s) o)))
+          → optional (λ (k : Id). look_object w words regions (id_address w tasks k) TaskRegion 0)
+          (option_map (λ (k : Tid). k.0) o)
+          ≡ Ok
+          (option_map (λ (n : Rid). n.0) (option_map (λ (t : Task). t.region) (option_and_then (task_of s) o)))
       go None seen = refl
       go (Some k) seen =
           let task = seen k refl in
@@ -149,7 +173,8 @@ module _ (w : List ℕ) (words : Words) (s : State) (valid : IsValid w) (names :
           (object_looked w words regions (id_address w tasks k.0) TaskRegion 0 task.task.region.0 (shown.records.tasks k task TaskRegion 0 _ refl refl) (region_live w words s valid names shown task.task.region (task_region k task)))
           (ap (λ (t : Option Task). Ok (option_map (λ (n : Rid). n.0) (option_map (λ (u : Task). u.region) t))) (sym task.live))
 
-  pub regions_looked : (i : ℕ) → HasBegun s i → (ids : List Id) × (look_regions w words i ≡ Ok ids) × AreRegionsOf s i ids
+  pub regions_looked : (i : ℕ) → HasBegun s i
+      → (ids : List Id) × (look_regions w words i ≡ Ok ids) × AreRegionsOf s i ids
   regions_looked i has =
       let seen = innermost_seen i has in
       let (ids, are, trail) = enclosing_looked (records w regions) [] (innermost_of s i)
@@ -170,6 +195,8 @@ module _ (w : List ℕ) (words : Words) (s : State) (valid : IsValid w) (names :
           (suc steps, ap (along (enclosing_of s) steps) (enclosed n is) ∙ end)
 
   -- what is reported of threads that have begun is visible
-  pub reported_seen : (threads : List ℕ) → ((i : ℕ) → Contains threads i → HasBegun s i) → (n : Rid) → IsReported s threads n → IsVisibleRegion s n
+  pub reported_seen : (threads : List ℕ) → ((i : ℕ) → Contains threads i → HasBegun s i) → (n : Rid)
+      → IsReported s threads n → IsVisibleRegion s n
   reported_seen threads begun n (i, steps, known, is) =
-      along_seen (enclosing_of s) (IsVisibleRegion s) place (region_address w) (records w regions) places steps (innermost_of s i) (innermost_seen i (begun i known)) n is
+      along_seen (enclosing_of s) (IsVisibleRegion s) place (region_address w)
+      (records w regions) places steps (innermost_of s i) (innermost_seen i (begun i known)) n is

@@ -51,14 +51,16 @@ comes_before : (a b : Id) → NameBefore a b → ComesBefore a b
 comes_before a b (inl lower) = inl lower
 comes_before a b (inr (same, lower)) = inr (same, inl lower)
 
-rows_in_order : (s : State) (ids : List Id) (rows : List RegionRow) → AllZip (IsRowOf s) ids rows → Ordered NameBefore ids → AreInOrder rows
+rows_in_order : (s : State) (ids : List Id) (rows : List RegionRow) → AllZip (IsRowOf s) ids rows
+    → Ordered NameBefore ids → AreInOrder rows
 rows_in_order s [] [] all order = tt
 rows_in_order s [] (row ∷ rows) all order = absurd all
 rows_in_order s (n ∷ ids) [] all order = absurd all
 rows_in_order s (n ∷ []) (row ∷ []) all order = tt
 rows_in_order s (n ∷ []) (row ∷ next ∷ rows) all order = absurd all.1
 rows_in_order s (n ∷ m ∷ ids) (row ∷ []) all order = absurd all.1
-rows_in_order s (n ∷ m ∷ ids) (row ∷ next ∷ rows) all order = (first, rows_in_order s (m ∷ ids) (next ∷ rows) all.1 order.1)
+rows_in_order s (n ∷ m ∷ ids) (row ∷ next ∷ rows) all order =
+    (first, rows_in_order s (m ∷ ids) (next ∷ rows) all.1 order.1)
   where
     first : ComesBefore row.region.0 next.region.0
     first =
@@ -66,9 +68,11 @@ rows_in_order s (n ∷ m ∷ ids) (row ∷ next ∷ rows) all order = (first, ro
         let (_, _, built) = all.1.0 in
         let one : n ≡ row.region.0 = ap (λ (r : RegionRow). r.region.0) (sym made) in
         let other : m ≡ next.region.0 = ap (λ (r : RegionRow). r.region.0) (sym built) in
-        subst (λ (q : Id). ComesBefore q next.region.0) one (subst (ComesBefore n) other (comes_before n m (order.0 m (0, omega arith, refl))))
+        subst (λ (q : Id). ComesBefore q next.region.0) one
+        (subst (ComesBefore n) other (comes_before n m (order.0 m (0, omega arith, refl))))
 
-module _ (w : List ℕ) (words : Words) (s : State) (valid : IsValid w) (names : AreNames s) (shown : Shows w words s) where
+module _ (w : List ℕ) (words : Words) (s : State) (valid : IsValid w) (names : AreNames s)
+    (shown : Shows w words s) where
   -- ---- a visible region
   module _ (n : Rid) (seen : IsVisibleRegion s n) where
     abbrev r : Region
@@ -86,12 +90,15 @@ module _ (w : List ℕ) (words : Words) (s : State) (valid : IsValid w) (names :
     abbrev member_row : Tid × ℕ → MemberRow
     member_row m = record { thread = m.1; task = m.0 }
 
-    member_looked : (j : ℕ) (m : Tid × ℕ) → slice_get r.team j ≡ Some m → look_member w words n.0 j ≡ Ok (member_row m)
+    member_looked : (j : ℕ) (m : Tid × ℕ) → slice_get r.team j ≡ Some m
+        → look_member w words n.0 j ≡ Ok (member_row m)
     member_looked j m is =
-        let member = All-contains (λ (q : Tid × ℕ). IsMember s q.0 q.1) r.team m right.members (among r.team j m is) in
+        let member =
+        All-contains (λ (q : Tid × ℕ). IsMember s q.0 q.1) r.team m right.members (among r.team j m is) in
         let task = member.visible in
         let begun : HasBegun s task.task.thread = (shown.within.well_formed.tasks m.0 task).begun in
-        step _ _ m.0.0 _ (object_looked w words tasks at RegionTeam j m.0.0 (told RegionTeam j _ refl (member_code w (region_told r) j m is)) (task_live w words s valid names shown m.0 task))
+        step _ _ m.0.0 _
+        (object_looked w words tasks at RegionTeam j m.0.0 (told RegionTeam j _ refl (member_code w (region_told r) j m is)) (task_live w words s valid names shown m.0 task))
         (step _ _ (thread_name task.task.thread) _
         (object_looked w words threads (id_address w tasks m.0.0) TaskThread 0 (thread_name task.task.thread) (shown.records.tasks m.0 task TaskThread 0 _ refl refl) (thread_live w words s valid names shown task.task.thread begun))
         (ap (λ (i : ℕ). Ok (member_row (m.0, i))) (member.same task.task task.live)))
@@ -107,11 +114,14 @@ module _ (w : List ℕ) (words : Words) (s : State) (valid : IsValid w) (names :
         (step _ _ (map member_row r.team) _ (places_looked (look_member w words n.0) member_row 0 r.team element)
         (ap (λ (q : Option Rid). Ok (record (region_row n r) { enclosing = q })) (given_back (λ (q : Rid). q.0) (λ (q : Id). record { 0 = q }) (λ q. refl) r.enclosing)))))))
       where
-        element : (j : ℕ) (m : Tid × ℕ) → slice_get r.team j ≡ Some m → look_member w words n.0 (0 + j) ≡ Ok (member_row m)
-        element j m is = let e : 0 + j ≡ j = omega arith in ap (look_member w words n.0) e ∙ member_looked j m is
+        element : (j : ℕ) (m : Tid × ℕ) → slice_get r.team j ≡ Some m
+            → look_member w words n.0 (0 + j) ≡ Ok (member_row m)
+        element j m is =
+            let e : 0 + j ≡ j = omega arith in ap (look_member w words n.0) e ∙ member_looked j m is
 
   -- ---- the regions that are met from threads that have begun
-  module _ (all : List ℕ) (begun : (i : ℕ) → Contains all i → HasBegun s i) (met : List (List Id)) (are : AllZip (AreRegionsOf s) all met) where
+  module _ (all : List ℕ) (begun : (i : ℕ) → Contains all i → HasBegun s i) (met : List (List Id))
+      (are : AllZip (AreRegionsOf s) all met) where
     abbrev flat : List Id
     flat = flat_map (λ ids. ids) met
 
@@ -120,7 +130,8 @@ module _ (w : List ℕ) (words : Words) (s : State) (valid : IsValid w) (names :
     ids = filter_map (met_in w words flat) (slot_list w regions)
 
     -- what is met in a slot is a region of this slot
-    met_there : (at : ℕ × ℕ) (n : Id) → met_in w words flat at ≡ Some n → Contains flat n × (n.creator ≡ at.0) × (n.slot ≡ at.1)
+    met_there : (at : ℕ × ℕ) (n : Id) → met_in w words flat at ≡ Some n
+        → Contains flat n × (n.creator ≡ at.0) × (n.slot ≡ at.1)
     met_there at n is =
         let found = from_found (λ (m : Id). m.creator == at.0 && m.slot == at.1) flat n is in (
           found.0,
@@ -140,11 +151,16 @@ module _ (w : List ℕ) (words : Words) (s : State) (valid : IsValid w) (names :
     reported_id : (n : Rid) → IsReported s all n → Contains ids n.0
     reported_id n reported =
         let mine = reported_met s all met are n reported in
-        let (m, found) = one_found (λ (q : Id). q.creator == n.0.creator && q.slot == n.0.slot) flat n.0 mine (both (eq-eqb n.0.creator n.0.creator refl) (eq-eqb n.0.slot n.0.slot refl)) in
+        let (m, found) =
+        one_found (λ (q : Id). q.creator == n.0.creator && q.slot == n.0.slot) flat n.0 mine
+        (both (eq-eqb n.0.creator n.0.creator refl) (eq-eqb n.0.slot n.0.slot refl)) in
         let (there, creator, slot) = met_there (n.0.creator, n.0.slot) m found in
         let theirs = seen (region_name m) (met_reported s all met are (region_name m) there) in
-        let same : region_name m ≡ n = same_region w words valid s s shown shown (region_name m) n theirs (seen n reported) (ap₂ (slot_address w regions) creator slot) in
-        let is : met_in w words flat (n.0.creator, n.0.slot) ≡ Some n.0 = found ∙ ap (λ (q : Rid). Some q.0) same in
+        let same : region_name m ≡ n =
+        same_region w words valid s s shown shown (region_name m) n theirs (seen n reported)
+        (ap₂ (slot_address w regions) creator slot) in
+        let is : met_in w words flat (n.0.creator, n.0.slot) ≡ Some n.0 =
+        found ∙ ap (λ (q : Rid). Some q.0) same in
         in_given (met_in w words flat) (slot_list w regions) (n.0.creator, n.0.slot) n.0
         (in_slots w regions n.0.creator n.0.slot (region_slot w words valid s shown n (seen n reported))) is
       where
@@ -152,24 +168,30 @@ module _ (w : List ℕ) (words : Words) (s : State) (valid : IsValid w) (names :
         both x y = ap₂ (λ (p q : Bool). p && q) x y
 
     ids_ordered : Ordered NameBefore ids
-    ids_ordered = given_ordered SlotBefore NameBefore (met_in w words flat) (slot_list w regions) keeps (slots_ordered w regions)
+    ids_ordered =
+        given_ordered SlotBefore NameBefore (met_in w words flat) (slot_list w regions) keeps
+        (slots_ordered w regions)
       where
-        keeps : (a b : ℕ × ℕ) (m n : Id) → SlotBefore a b → met_in w words flat a ≡ Some m → met_in w words flat b ≡ Some n → NameBefore m n
+        keeps : (a b : ℕ × ℕ) (m n : Id) → SlotBefore a b → met_in w words flat a ≡ Some m
+            → met_in w words flat b ≡ Some n → NameBefore m n
         keeps a b m n before is was =
             let (_, creator, slot) = met_there a m is in
             let (_, other, there) = met_there b n was in
-            subst (λ (q : ℕ × ℕ). SlotBefore q (n.creator, n.slot)) (λ j. (sym creator j, sym slot j)) (subst (SlotBefore a) (λ j. (sym other j, sym there j)) before)
+            subst (λ (q : ℕ × ℕ). SlotBefore q (n.creator, n.slot)) (λ j. (sym creator j, sym slot j))
+            (subst (SlotBefore a) (λ j. (sym other j, sym there j)) before)
 
     rows_right : (rows : List RegionRow) → AllZip (IsRowOf s) ids rows → AreRegions s all rows
     rows_right rows zip = record {
       in_order = rows_in_order s ids rows zip ids_ordered;
       each = each_right;
       all = λ n reported.
-          let (row, there, (r, live, made)) = zip_left (IsRowOf s) ids rows zip n.0 (reported_id n reported) in
+          let (row, there, (r, live, made)) =
+          zip_left (IsRowOf s) ids rows zip n.0 (reported_id n reported) in
           subst (Contains (map (λ row. row.region) rows)) (ap (λ (q : RegionRow). q.region) made) (in_map (λ (q : RegionRow). q.region) rows row there);
     }
       where
-        each_right : (row : RegionRow) → Contains rows row → IsReported s all row.region × (r : Region) × (region_of s row.region ≡ Some r) × (row ≡ region_row row.region r)
+        each_right : (row : RegionRow) → Contains rows row
+            → IsReported s all row.region × (r : Region) × (region_of s row.region ≡ Some r) × (row ≡ region_row row.region r)
         each_right row inside =
             let (n, there, (r, live, made)) = zip_right (IsRowOf s) ids rows zip row inside in
             let name : region_name n ≡ row.region = ap (λ (q : RegionRow). q.region) (sym made) in
@@ -181,7 +203,8 @@ module _ (w : List ℕ) (words : Words) (s : State) (valid : IsValid w) (names :
         let (rows, is, zip) = all_looked (look_region w words) (IsRowOf s) ids row_of in
         (rows, is, rows_right rows zip)
       where
-        row_of : (n : Id) → Contains ids n → (row : RegionRow) × (look_region w words n ≡ Ok row) × IsRowOf s n row
+        row_of : (n : Id) → Contains ids n
+            → (row : RegionRow) × (look_region w words n ≡ Ok row) × IsRowOf s n row
         row_of n inside =
             let visible = seen (region_name n) (id_reported n inside) in
             (region_row (region_name n) visible.region, region_looked (region_name n) visible, (visible.region, visible.live, refl))

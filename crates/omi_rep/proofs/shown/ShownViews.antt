@@ -20,7 +20,8 @@ use Rattle.omi_rep.proofs.shown.Enclosing.{AreRegionsOf, regions_looked}
 use Rattle.omi_rep.proofs.shown.RegionRows.{rows_looked}
 use Rattle.omi_rep.proofs.shown.Tasks.{tasks_looked, chains_are}
 
-module _ (w : List ℕ) (words : Words) (s : State) (contexts : List ℕ) (valid : IsValid w) (names : AreNames s) (shown : Shows w words s) where
+module _ (w : List ℕ) (words : Words) (s : State) (contexts : List ℕ) (valid : IsValid w) (names : AreNames s)
+    (shown : Shows w words s) where
   -- the threads that a look finds
   abbrev looked_for : List ℕ
   looked_for = found_threads w words (map (thread_row s) contexts)
@@ -30,13 +31,17 @@ module _ (w : List ℕ) (words : Words) (s : State) (contexts : List ℕ) (valid
 
   begun : (i : ℕ) → Contains looked_for i → HasBegun s i
   begun i inside =
-      let (native, _, is) = from_given (thread_with s) contexts i (subst (λ (is : List ℕ). Contains is i) are_found inside) in
+      let (native, _, is) =
+      from_given (thread_with s) contexts i (subst (λ (is : List ℕ). Contains is i) are_found inside) in
       (with_native s native i is).1
 
   view_looked : (v : View) × (look_view w words contexts ≡ Ok v) × IsViewOf s contexts v
   view_looked =
-      let (met, are, of_threads) = all_looked (look_regions w words) (AreRegionsOf s) looked_for (λ i inside. regions_looked w words s valid names shown i (begun i inside)) in
-      let (regions, rows_are, right) = rows_looked w words s valid names shown looked_for begun met of_threads in
+      let (met, are, of_threads) =
+      all_looked (look_regions w words) (AreRegionsOf s) looked_for
+      (λ i inside. regions_looked w words s valid names shown i (begun i inside)) in
+      let (regions, rows_are, right) =
+      rows_looked w words s valid names shown looked_for begun met of_threads in
       let (chains, chains_looked, of_each) = all_looked (look_tasks w words) (λ i rows. IsChain s i (s.threads i).current rows) looked_for
       (λ i inside. tasks_looked w words s valid names shown i (begun i inside)) in (
         record { head = head_row s; threads = map (thread_row s) contexts; regions = regions; tasks = flat_map (λ rows. rows) chains },

@@ -36,7 +36,8 @@ map_same : {A : Type 0} (xs : List A) → map (λ x. x) xs ≡ xs
 map_same [] = refl
 map_same (x ∷ xs) = ap (λ ys. x ∷ ys) (map_same xs)
 
-module _ (w : List ℕ) (words : Words) (s : State) (valid : IsValid w) (names : AreNames s) (shown : Shows w words s) where
+module _ (w : List ℕ) (words : Words) (s : State) (valid : IsValid w) (names : AreNames s)
+    (shown : Shows w words s) where
   -- ---- a visible task
   module _ (k : Tid) (seen : IsVisibleTask s k) where
     abbrev t : Task
@@ -53,14 +54,19 @@ module _ (w : List ℕ) (words : Words) (s : State) (valid : IsValid w) (names :
 
     nthreads_looked : look_nthreads w words k.0 ≡ Ok t.variables.nthreads
     nthreads_looked =
-        step _ _ (length t.variables.nthreads) _ (within_looked w words at TaskNthreadsLength 1 4 _ (told TaskNthreadsLength 0 _ refl refl) right.variables.some right.variables.few)
+        step _ _ (length t.variables.nthreads) _
+        (within_looked w words at TaskNthreadsLength 1 4 _ (told TaskNthreadsLength 0 _ refl refl) right.variables.some right.variables.few)
         (places_looked (look_word w words at TaskNthreads) (λ (n : ℕ). n) 0 t.variables.nthreads element ∙ ap Ok (map_same t.variables.nthreads))
       where
-        element : (j n : ℕ) → slice_get t.variables.nthreads j ≡ Some n → look_word w words at TaskNthreads (0 + j) ≡ Ok n
-        element j n is = let e : 0 + j ≡ j = omega arith in ap (look_word w words at TaskNthreads) e ∙ word_looked w words at TaskNthreads j n (told TaskNthreads j n refl is)
+        element : (j n : ℕ) → slice_get t.variables.nthreads j ≡ Some n
+            → look_word w words at TaskNthreads (0 + j) ≡ Ok n
+        element j n is =
+            let e : 0 + j ≡ j = omega arith in ap (look_word w words at TaskNthreads) e ∙ word_looked w words at TaskNthreads j n (told TaskNthreads j n refl is)
 
     -- its row, where the task that it was scheduled from was not met
-    task_looked : (i : ℕ) (met : List ℕ) → ((h : Tid) → t.scheduling ≡ Some h → was_met met (id_address w tasks h.0) ≡ false) → look_task w words met i k.0 ≡ Ok (task_row i k t)
+    task_looked : (i : ℕ) (met : List ℕ)
+        → ((h : Tid) → t.scheduling ≡ Some h → was_met met (id_address w tasks h.0) ≡ false)
+        → look_task w words met i k.0 ≡ Ok (task_row i k t)
     task_looked i met new =
         step _ _ _ _ (word_looked w words at TaskImplicit 0 _ (told TaskImplicit 0 _ refl refl))
         (step _ _ t.region.0 _ (object_looked w words regions at TaskRegion 0 t.region.0 (told TaskRegion 0 _ refl refl) (region_live w words s valid names shown t.region right.region))
@@ -77,7 +83,8 @@ module _ (w : List ℕ) (words : Words) (s : State) (valid : IsValid w) (names :
         (step _ _ _ _ (word_looked w words at TaskFinal 0 _ (told TaskFinal 0 _ refl refl))
         (ap₂ (λ (g h : Option Tid). Ok (record (task_row i k t) { generating = g; scheduling = h })) (named t.generating) (named t.scheduling))))))))))))))
       where
-        named : (q : Option Tid) → option_map (λ (n : Id). record { 0 = n }) (option_map (λ (q : Tid). q.0) q) ≡ q
+        named : (q : Option Tid)
+            → option_map (λ (n : Id). record { 0 = n }) (option_map (λ (q : Tid). q.0) q) ≡ q
         named = given_back (λ (q : Tid). q.0) (λ (n : Id). record { 0 = n }) (λ q. refl)
 
         somewhere : (q : Tid) → 0 < id_address w tasks q.0
@@ -111,12 +118,19 @@ module _ (w : List ℕ) (words : Words) (s : State) (valid : IsValid w) (names :
       → (rows : List TaskRow) × (look_chain w words left (map (task_address w) before) i (option_map (λ k. k.0) now) ≡ Ok rows) × IsChain s i now rows
   chain_looked i zero before None walk = ([], refl, tt)
   chain_looked i (suc left) before None walk = ([], refl, tt)
-  chain_looked i zero before (Some k) walk = absurd (some_left (scheduling_of s) (IsVisibleTask s) place (task_address w) (records w tasks) places before k walk)
+  chain_looked i zero before (Some k) walk =
+      absurd
+      (some_left (scheduling_of s) (IsVisibleTask s) place (task_address w) (records w tasks) places before k walk)
   chain_looked i (suc left) before (Some k) walk =
       let seen = walk.is_seen k refl in
-      let onward = walk_onward (scheduling_of s) (IsVisibleTask s) place (task_address w) (records w tasks) places left before k walk in
-      let then : TaskWalk left (k ∷ before) seen.task.scheduling = subst (TaskWalk left (k ∷ before)) (scheduled k seen) onward in
-      let new = address_new (scheduling_of s) (IsVisibleTask s) place (task_address w) (records w tasks) places left (k ∷ before) seen.task.scheduling then in
+      let onward =
+      walk_onward (scheduling_of s) (IsVisibleTask s) place (task_address w)
+      (records w tasks) places left before k walk in
+      let then : TaskWalk left (k ∷ before) seen.task.scheduling =
+      subst (TaskWalk left (k ∷ before)) (scheduled k seen) onward in
+      let new =
+      address_new (scheduling_of s) (IsVisibleTask s) place (task_address w) (records w tasks) places left
+      (k ∷ before) seen.task.scheduling then in
       let (rows, are, chain) = chain_looked i left (k ∷ before) seen.task.scheduling then in (
         task_row i k seen.task ∷ rows,
         step _ _ (task_row i k seen.task) _ (task_looked k seen i (map (task_address w) (k ∷ before)) new) (step _ _ rows _ are refl),
@@ -124,7 +138,8 @@ module _ (w : List ℕ) (words : Words) (s : State) (valid : IsValid w) (names :
       )
 
   -- the chain of a thread that has begun
-  pub tasks_looked : (i : ℕ) → HasBegun s i → (rows : List TaskRow) × (look_tasks w words i ≡ Ok rows) × IsChain s i (s.threads i).current rows
+  pub tasks_looked : (i : ℕ) → HasBegun s i
+      → (rows : List TaskRow) × (look_tasks w words i ≡ Ok rows) × IsChain s i (s.threads i).current rows
   tasks_looked i has =
       let seen = current_seen w words s valid names shown i has in
       let (rows, are, chain) = chain_looked i (records w tasks) [] (s.threads i).current
@@ -139,8 +154,11 @@ module _ (w : List ℕ) (words : Words) (s : State) (valid : IsValid w) (names :
           (suc n, ap (along (scheduling_of s) n) (scheduled k is) ∙ end)
 
 -- the chains of all threads
-pub chains_are : (s : State) (threads : List ℕ) (chains : List (List TaskRow)) → AllZip (λ i rows. IsChain s i (s.threads i).current rows) threads chains → AreChains s threads (flat_map (λ rows. rows) chains)
+pub chains_are : (s : State) (threads : List ℕ) (chains : List (List TaskRow))
+    → AllZip (λ i rows. IsChain s i (s.threads i).current rows) threads chains
+    → AreChains s threads (flat_map (λ rows. rows) chains)
 chains_are s [] [] all = refl
 chains_are s [] (rows ∷ chains) all = absurd all
 chains_are s (i ∷ threads) [] all = absurd all
-chains_are s (i ∷ threads) (rows ∷ chains) all = (rows, flat_map (λ rows. rows) chains, refl, all.0, chains_are s threads chains all.1)
+chains_are s (i ∷ threads) (rows ∷ chains) all =
+    (rows, flat_map (λ rows. rows) chains, refl, all.0, chains_are s threads chains all.1)

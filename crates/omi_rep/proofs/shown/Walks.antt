@@ -24,9 +24,11 @@ from_without n [] y among = absurd (nowhere y among)
 from_without n (x ∷ xs) y among = go (x == n) refl among (from_without n xs y)
   where
     differs : x == n ≡ false → x ≡ n → ⊥
-    differs e same = let clash : x == n ≡ true = grind (arith, nat_tests) in (let no : true ≡ false = sym clash ∙ e in cc no)
+    differs e same =
+        let clash : x == n ≡ true = grind (arith, nat_tests) in (let no : true ≡ false = sym clash ∙ e in cc no)
 
-    go : (b : Bool) → x == n ≡ b → Contains (cond b (without n xs) (x ∷ without n xs)) y → (Contains (without n xs) y → Contains xs y × (y ≡ n → ⊥)) → Contains (x ∷ xs) y × (y ≡ n → ⊥)
+    go : (b : Bool) → x == n ≡ b → Contains (cond b (without n xs) (x ∷ without n xs)) y
+        → (Contains (without n xs) y → Contains xs y × (y ≡ n → ⊥)) → Contains (x ∷ xs) y × (y ≡ n → ⊥)
     go true e c more = let rest = more c in (later x y xs rest.0, rest.1)
     go false e c more = elim (either x y (without n xs) c) [
       | inl same ↦ ((0, omega arith, same), λ is. differs e (same ∙ is))
@@ -46,7 +48,8 @@ without_none : (n : ℕ) (xs : List ℕ) → (Contains xs n → ⊥) → length 
 without_none n [] none = refl
 without_none n (x ∷ xs) none = go (x == n) refl (without_none n xs (λ c. none (later x n xs c)))
   where
-    go : (b : Bool) → x == n ≡ b → length (without n xs) ≡ length xs → length (cond b (without n xs) (x ∷ without n xs)) ≡ suc (length xs)
+    go : (b : Bool) → x == n ≡ b → length (without n xs) ≡ length xs
+        → length (cond b (without n xs) (x ∷ without n xs)) ≡ suc (length xs)
     go true e rest = absurd (none (0, omega arith, eqb-true x n e))
     go false e rest = ap suc rest
 
@@ -55,7 +58,8 @@ without_one : (n : ℕ) (xs : List ℕ) → AreDifferent xs → length xs ≤ su
 without_one n [] all = omega arith
 without_one n (x ∷ xs) all = go (x == n) refl (without_one n xs all.1)
   where
-    go : (b : Bool) → x == n ≡ b → length xs ≤ suc (length (without n xs)) → suc (length xs) ≤ suc (length (cond b (without n xs) (x ∷ without n xs)))
+    go : (b : Bool) → x == n ≡ b → length xs ≤ suc (length (without n xs))
+        → suc (length xs) ≤ suc (length (cond b (without n xs) (x ∷ without n xs)))
     go true e rest =
         let none : Contains xs n → ⊥ = subst (λ (q : ℕ). Contains xs q → ⊥) (eqb-true x n e) all.0 in
         let same = without_none n xs none in
@@ -105,12 +109,20 @@ module _ {A : Type 0} (next : A → Option A) where
   around zero d x back = let e : zero * suc d ≡ zero = omega arith in ap (λ n. along next n (Some x)) e
   around (suc m) d x back =
       let e : suc m * suc d ≡ suc d + m * suc d = grind arith in
-      ap (λ n. along next n (Some x)) e ∙ along_add (suc d) (m * suc d) (Some x) ∙ ap (along next (m * suc d)) back ∙ around m d x back
+      ap (λ n. along next n (Some x)) e
+      ∙ along_add (suc d) (m * suc d) (Some x)
+      ∙ ap (along next (m * suc d)) back
+      ∙ around m d x back
 
   never_back : (d : ℕ) (x : A) → along next (suc d) (Some x) ≡ Some x → Ends next (Some x) → ⊥
   never_back d x back (n, end) =
       let e : n * suc d ≡ n + n * d = grind arith in
-      let there : Some x ≡ None = sym (around n d x back) ∙ ap (λ m. along next m (Some x)) e ∙ along_add n (n * d) (Some x) ∙ ap (along next (n * d)) end ∙ none_stays (n * d) in
+      let there : Some x ≡ None =
+      sym (around n d x back)
+      ∙ ap (λ m. along next m (Some x)) e
+      ∙ along_add n (n * d) (Some x)
+      ∙ ap (along next (n * d)) end
+      ∙ none_stays (n * d) in
       absurd (cc there)
 
 -- what is seen along a chain: what follows is seen too, and each has a place of its own, of which there are `most`, and an address of its own
@@ -134,7 +146,8 @@ length_map f [] = refl
 length_map f (x ∷ xs) = ap suc (length_map f xs)
 
 module _ {A : Type 0} (next : A → Option A) (Seen : A → Type 0) (place address : A → ℕ) (most : ℕ) where
-  pub walk_begins : (from : Option A) → ((x : A) → from ≡ Some x → Seen x) → Ends next from → Walk next Seen place most most [] from
+  pub walk_begins : (from : Option A) → ((x : A) → from ≡ Some x → Seen x) → Ends next from
+      → Walk next Seen place most most [] from
   walk_begins from seen ends = record {
     was_seen = λ x c. absurd (nowhere x c);
     is_seen = seen;
@@ -145,32 +158,42 @@ module _ {A : Type 0} (next : A → Option A) (Seen : A → Type 0) (place addre
   }
 
   -- where the walk is now it was not before
-  now_new : (left : ℕ) (before : List A) (x : A) → Walk next Seen place most left before (Some x) → Contains before x → ⊥
+  now_new : (left : ℕ) (before : List A) (x : A) → Walk next Seen place most left before (Some x)
+      → Contains before x → ⊥
   now_new left before x walk c = let (k, back) = walk.led x c in never_back next k x back walk.ends
 
   module _ (places : Places next Seen place address most) where
     -- what follows what is seen is seen
-    pub along_seen : (n : ℕ) (from : Option A) → ((x : A) → from ≡ Some x → Seen x) → (y : A) → along next n from ≡ Some y → Seen y
+    pub along_seen : (n : ℕ) (from : Option A) → ((x : A) → from ≡ Some x → Seen x) → (y : A)
+        → along next n from ≡ Some y → Seen y
     along_seen zero from seen y is = seen y is
-    along_seen (suc n) None seen y is = absurd (let clash : None ≡ Some y = sym (none_stays next n) ∙ is in cc clash)
-    along_seen (suc n) (Some x) seen y is = along_seen n (next x) (λ z e. places.next_seen x (seen x refl) z e) y is
+    along_seen (suc n) None seen y is =
+        absurd (let clash : None ≡ Some y = sym (none_stays next n) ∙ is in cc clash)
+    along_seen (suc n) (Some x) seen y is =
+        along_seen n (next x) (λ z e. places.next_seen x (seen x refl) z e) y is
 
-    place_new : (left : ℕ) (before : List A) (x : A) → Walk next Seen place most left before (Some x) → Contains (map place before) (place x) → ⊥
+    place_new : (left : ℕ) (before : List A) (x : A) → Walk next Seen place most left before (Some x)
+        → Contains (map place before) (place x) → ⊥
     place_new left before x walk c =
         let (y, inside, same) = from_map place before (place x) c in
-        now_new left before x walk (subst (Contains before) (places.one_place y x (walk.was_seen y inside) (walk.is_seen x refl) same) inside)
+        now_new left before x walk
+        (subst (Contains before) (places.one_place y x (walk.was_seen y inside) (walk.is_seen x refl) same) inside)
 
     -- its address is none of those before
-    pub address_new : (left : ℕ) (before : List A) (now : Option A) → Walk next Seen place most left before now → (x : A) → now ≡ Some x → was_met (map address before) (address x) ≡ false
+    pub address_new : (left : ℕ) (before : List A) (now : Option A)
+        → Walk next Seen place most left before now → (x : A) → now ≡ Some x
+        → was_met (map address before) (address x) ≡ false
     address_new left before now walk x is =
-        let here_now : Walk next Seen place most left before (Some x) = subst (Walk next Seen place most left before) is walk in
+        let here_now : Walk next Seen place most left before (Some x) =
+        subst (Walk next Seen place most left before) is walk in
         not_met address before (address x)
         (λ y inside same. now_new left before x here_now (subst (Contains before) (places.one_address y x (walk.was_seen y inside) (walk.is_seen x is) same) inside))
 
     -- a walk that goes on has a step left
     pub some_left : (before : List A) (x : A) → Walk next Seen place most zero before (Some x) → ⊥
     some_left before x walk =
-        let few : suc (length (map place before)) ≤ most = different_few most (place x ∷ map place before) (place_new zero before x walk, walk.different) below in
+        let few : suc (length (map place before)) ≤ most =
+        different_few most (place x ∷ map place before) (place_new zero before x walk, walk.different) below in
         omega (arith, few, length_map place before, walk.room)
       where
         below : (y : ℕ) → Contains (place x ∷ map place before) y → y < most
@@ -179,7 +202,9 @@ module _ {A : Type 0} (next : A → Option A) (Seen : A → Type 0) (place addre
           | inr behind ↦ let (z, inside, is) = from_map place before y behind in subst (λ (q : ℕ). q < most) is (places.low z (walk.was_seen z inside))
         ]
 
-    pub walk_onward : (left : ℕ) (before : List A) (x : A) → Walk next Seen place most (suc left) before (Some x) → Walk next Seen place most left (x ∷ before) (next x)
+    pub walk_onward : (left : ℕ) (before : List A) (x : A)
+        → Walk next Seen place most (suc left) before (Some x)
+        → Walk next Seen place most left (x ∷ before) (next x)
     walk_onward left before x walk = record {
       was_seen = λ y c. elim (either x y before c) [ inl same ↦ subst Seen same (walk.is_seen x refl) | inr behind ↦ walk.was_seen y behind ];
       is_seen = λ y is. places.next_seen x (walk.is_seen x refl) y is;

@@ -53,7 +53,9 @@ use Rattle.omi_model.proofs.StaysKept.{stays_step}
 use Rattle.omi_rule.proofs.Runs.{stack_runs}
 use Rattle.omi_rule.proofs.barrier.ArrivedBodies.{functions_arrive}
 
-module _ (p : Program) (w : List ℕ) (m : Memory) (events : List (ℕ × Event)) (s : State) (actors : ℕ → Actor) (i : ℕ) (before : Before p w m events s actors i) (b : Barrier) (at : (actors i).counter ≡ counter.Barrier (barrier.Arrive b)) where
+module _ (p : Program) (w : List ℕ) (m : Memory) (events : List (ℕ × Event)) (s : State) (actors : ℕ → Actor)
+    (i : ℕ) (before : Before p w m events s actors i) (b : Barrier)
+    (at : (actors i).counter ≡ counter.Barrier (barrier.Arrive b)) where
   abbrev a : Actor
   a = actors i
 
@@ -92,7 +94,9 @@ module _ (p : Program) (w : List ℕ) (m : Memory) (events : List (ℕ × Event)
 
   step : Step p s i event.Arrive next
   step =
-      steps p w m events s actors i before (counter.Barrier c) at tt event.Arrive item.Arrive behind next taken (a.context.task, mine.task, mine.region, current, there, mine.implicit ∙ is_implicit) refl
+      steps p w m events s actors i before
+      (counter.Barrier c) at tt event.Arrive item.Arrive behind next taken
+      (a.context.task, mine.task, mine.region, current, there, mine.implicit ∙ is_implicit) refl
       (at_current listed i a.context.task (relisted behind mine.task) (λ k t. arrived listed t) (current_moved s i a.context.task current.name behind a.context.task mine.task current))
 
   -- ---- numbers
@@ -117,12 +121,14 @@ module _ (p : Program) (w : List ℕ) (m : Memory) (events : List (ℕ × Event)
 
   words : KeepsWords w (with_region_word m a.context.region RegionArrived (one_more (word_of_region m a.context.region RegionArrived))) next (all_owed actors)
   words =
-      let within : a.context.number < length mine.region.team = slice_get_within mine.region.team a.context.number (a.context.row, i) mine.row in
+      let within : a.context.number < length mine.region.team =
+      slice_get_within mine.region.team a.context.number (a.context.row, i) mine.row in
       let size = sizes mine.region mine.found in
       let place = mine.number in
       let all = few in
       let most = before.few in
-      subst (λ (n : Rid). KeepsWords w (with_region_word m n RegionArrived (one_more (word_of_region m n RegionArrived))) next (all_owed actors)) mine.region_is
+      subst
+      (λ (n : Rid). KeepsWords w (with_region_word m n RegionArrived (one_more (word_of_region m n RegionArrived))) next (all_owed actors)) mine.region_is
       (arrives_keep w m listed (all_owed actors) (relisted behind mine.task) mine.region (relisted_words p w m events s actors i before (counter.Barrier c) at tt behind) there (omega (arith, within, size, place)) (omega (arith, all, most)))
 
   -- ---- the thread
@@ -133,17 +139,21 @@ module _ (p : Program) (w : List ℕ) (m : Memory) (events : List (ℕ × Event)
   bodies_listed : KeepsBodies p listed i a.context a.stack
   bodies_listed =
       let o = stands p w m events s actors i before (counter.Barrier c) at tt in
-      bodies_kept p s listed i a.context.task changes a.context a.stack (own_below p s i a o events before.rule.reached) o.bodies
+      bodies_kept p s listed i a.context.task changes a.context a.stack
+      (own_below p s i a o events before.rule.reached) o.bodies
 
   bodies_after : KeepsBodies p next i after.context a.stack
   bodies_after =
-      bodies_arrive p listed i mine.task.region mine.task.number a.context (sym mine.region_is) (sym mine.number)
+      bodies_arrive p listed i mine.task.region mine.task.number a.context (sym mine.region_is)
+      (sym mine.number)
       (λ r found. sizes r (subst (λ (n : Rid). region_of s n ≡ Some r) mine.region_is found)) events s before.rule.reached is_implicit a.stack
-      (own p w m events s actors i before (counter.Barrier c) at tt).fits.bodies (stands p w m events s actors i before (counter.Barrier c) at tt).bodies bodies_listed
+      (own p w m events s actors i before (counter.Barrier c) at tt).fits.bodies
+      (stands p w m events s actors i before (counter.Barrier c) at tt).bodies bodies_listed
 
   sees_after : encounter_of next after.context ≡ At
   sees_after =
-      encounter_stays p listed i mine.task.region mine.task.number a.context (context_kept p s listed i a.context.task changes a.context mine)
+      encounter_stays p listed i mine.task.region mine.task.number a.context
+      (context_kept p s listed i a.context.task changes a.context mine)
       ∙ encounter_kept p s listed i a.context.task changes a.context mine
 
   stands_after : Stands p next i after
@@ -154,7 +164,9 @@ module _ (p : Program) (w : List ℕ) (m : Memory) (events : List (ℕ × Event)
         current = (stands p w m events s actors i before (counter.Barrier c) at tt).current;
         bodies = bodies_after;
         ahead = λ t live.
-            relisted_ahead p s i a (stands p w m events s actors i before (counter.Barrier c) at tt) behind next refl (λ xs. xs ≡ Ahead.arrived p (encounter_of next after.context) a.stack b)
+            relisted_ahead p s i a
+            (stands p w m events s actors i before (counter.Barrier c) at tt) behind next refl
+            (λ xs. xs ≡ Ahead.arrived p (encounter_of next after.context) a.stack b)
             (ap (λ (x : Encounter). Ahead.arrived p x a.stack b) (sym sees_after)) t live;
       })
 
@@ -194,7 +206,8 @@ module _ (p : Program) (w : List ℕ) (m : Memory) (events : List (ℕ × Event)
   arrive_keeps = (
     on_arrived,
     record { there = region_word p w m events s actors i before (counter.Barrier c) at tt RegionArrived refl; address = refl },
-    plain_event_keeps p w m events s actors i before (op.Add (of_current w a RegionArrived) 1) on_arrived (after, outcome.Event event.Arrive) event.Arrive next (λ no_object. no_object) refl step
+    plain_event_keeps p w m events s actors i before (op.Add (of_current w a RegionArrived) 1) on_arrived
+        (after, outcome.Event event.Arrive) event.Arrive next (λ no_object. no_object) refl step
         (a.context.task, mine.task, current, ap (λ n. op.Add (of_region w n RegionArrived) 1) (sym mine.region_is))
         (none_new p w m events s actors i before (counter.Barrier c) at tt event.Arrive item.Arrive behind next taken step (λ f e. absurd (cc e)))
         (moves_keep w (with_region_word m a.context.region RegionArrived (one_more (word_of_region m a.context.region RegionArrived))) next actors i after words (sym (owes_now p w m events s actors i before (counter.Barrier c) at tt)))

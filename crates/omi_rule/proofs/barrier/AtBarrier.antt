@@ -13,7 +13,9 @@ use Rattle.omi_rule.specs.Rows.{KeepsBarrierRow}
 use Rattle.omi_rule.proofs.Assembly.{Before}
 use Rattle.omi_rule.proofs.barrier.AtCounter.{ahead_is, fits_counter, here, row_is, sees}
 
-module _ (p : Program) (w : List ℕ) (m : Memory) (events : List (ℕ × Event)) (s : State) (actors : ℕ → Actor) (i : ℕ) (before : Before p w m events s actors i) (c : BarrierCounter) (at : (actors i).counter ≡ counter.Barrier c) where
+module _ (p : Program) (w : List ℕ) (m : Memory) (events : List (ℕ × Event)) (s : State) (actors : ℕ → Actor)
+    (i : ℕ) (before : Before p w m events s actors i) (c : BarrierCounter)
+    (at : (actors i).counter ≡ counter.Barrier c) where
   pub fits_barrier : FitsBarrier p (actors i) c
   fits_barrier = fits_counter p w m events s actors i before (counter.Barrier c) at tt
 

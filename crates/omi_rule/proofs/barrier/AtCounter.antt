@@ -58,7 +58,9 @@ IsOfMember (counter.Look c) = Unit {0}
 IsOfMember (counter.Finish c) = Unit {0}
 IsOfMember x = ⊥
 
-module _ (p : Program) (w : List ℕ) (m : Memory) (events : List (ℕ × Event)) (s : State) (actors : ℕ → Actor) (i : ℕ) (before : Before p w m events s actors i) (x : Counter) (at : (actors i).counter ≡ x) (of_member : IsOfMember x) where
+module _ (p : Program) (w : List ℕ) (m : Memory) (events : List (ℕ × Event)) (s : State) (actors : ℕ → Actor)
+    (i : ℕ) (before : Before p w m events s actors i) (x : Counter) (at : (actors i).counter ≡ x)
+    (of_member : IsOfMember x) where
   abbrev pub a : Actor
   a = actors i
 
@@ -113,7 +115,8 @@ module _ (p : Program) (w : List ℕ) (m : Memory) (events : List (ℕ × Event)
   pub region_there : region_of s here.task.region ≡ Some here.region
   region_there = ap (region_of s) here.region_is ∙ here.found
 
-  pub of_own_region : (P : Task → Region → Type 0) → P here.task here.region → OfCurrentRegion s i (λ k t r. P t r)
+  pub of_own_region : (P : Task → Region → Type 0) → P here.task here.region
+      → OfCurrentRegion s i (λ k t r. P t r)
   of_own_region P o = (a.context.task, here.task, here.region, is_current p s i a stands, region_there, o)
 
   pub wide : (f : ℕ) → 0 < width w f
@@ -126,7 +129,8 @@ module _ (p : Program) (w : List ℕ) (m : Memory) (events : List (ℕ × Event)
   abbrev pub word_of : Field → RecordWord
   word_of f = record { creator = a.context.region.0.creator; slot = a.context.region.0.slot; field = f; place = 0 }
 
-  pub region_word : (f : Field) → kind_of (number f) ≡ regions → IsRecordWord w a.context.region.0.creator a.context.region.0.slot (number f) 0
+  pub region_word : (f : Field) → kind_of (number f) ≡ regions
+      → IsRecordWord w a.context.region.0.creator a.context.region.0.slot (number f) 0
   region_word f kind = record {
     field = numbered_field f;
     record_slot = subst (λ q. IsSlot w q a.context.region.0.creator a.context.region.0.slot) (sym kind) context_placed.region;
@@ -141,8 +145,10 @@ module _ (p : Program) (w : List ℕ) (m : Memory) (events : List (ℕ × Event)
   keeps_region =
       let n : Rid = a.context.region in
       let within = before.rule.within.regions n.0.creator n.0.slot n.0.generation here.region here.found in
-      let maker : n.0.creator < s.count = subst (λ k. n.0.creator < k) (sym before.rule.within.count) within.maker in
-      let named : region_in n.0.creator n.0.slot (s.regions n.0.creator n.0.slot) ≡ n = ap (λ x. record { 0 = x }) (name_of_slot s.regions n.0 here.region here.found) in
+      let maker : n.0.creator < s.count =
+      subst (λ k. n.0.creator < k) (sym before.rule.within.count) within.maker in
+      let named : region_in n.0.creator n.0.slot (s.regions n.0.creator n.0.slot) ≡ n =
+      ap (λ x. record { 0 = x }) (name_of_slot s.regions n.0 here.region here.found) in
       subst (λ (q : Rid). KeepsRegion w s (all_owed actors) q region_record here.region) named
       (((before.rule.words.made n.0.creator maker).regions n.0.slot within.place).live here.region (found_live n.0.generation (s.regions n.0.creator n.0.slot) here.region here.found))
 
@@ -165,25 +171,38 @@ module _ (p : Program) (w : List ℕ) (m : Memory) (events : List (ℕ × Event)
     pub row : KeepsRow p w n s i (at_counter to a) to
     pub ended : HasEnded events i to
 
-  pub thread_with : (n : Memory) (to : Counter) → StandsAt n to → KeepsThread p w n events s i (at_counter to a)
+  pub thread_with : (n : Memory) (to : Counter) → StandsAt n to
+      → KeepsThread p w n events s i (at_counter to a)
   thread_with n to goes =
       let (f, fs, is_stack, o) = body in
       same_bodies p w m events s i a own f fs is_stack o n to a.gathered own.fits.variables goes.fits goes.placed
       (λ t live. subst (λ (v : Task). IsAhead p sees a.stack to v.list) (some_same here.live live) goes.ahead) goes.row goes.ended
 
   thread_at : (to : Counter) → GoesTo to → KeepsThread p w m events s i (at_counter to a)
-  thread_at to goes = thread_with m to (record { fits = goes.fits; placed = goes.placed; ahead = goes.ahead; row = goes.row; ended = goes.ended })
+  thread_at to goes =
+      thread_with m to
+      (record { fits = goes.fits; placed = goes.placed; ahead = goes.ahead; row = goes.row; ended = goes.ended })
 
   owes_at : (to : Counter) → GoesTo to → owed (at_counter to a) ≡ owed a
   owes_at to goes = goes.owes ∙ sym owes_now
 
   -- an operation that leaves the memory and leads to another counter
-  pub same_quiet : (o : Op) (y : RecordWord) (to : Counter) → left_in m o y ≡ m → GoesTo to → KeepsRule p w m events s actors i o y (at_counter to a, outcome.Quiet)
-  same_quiet o y to same goes = quiet_stays p w m events s actors i before o y (at_counter to a) same (owes_at to goes) (thread_at to goes)
+  pub same_quiet : (o : Op) (y : RecordWord) (to : Counter) → left_in m o y ≡ m → GoesTo to
+      → KeepsRule p w m events s actors i o y (at_counter to a, outcome.Quiet)
+  same_quiet o y to same goes =
+      quiet_stays p w m events s actors i before o y (at_counter to a) same (owes_at to goes)
+      (thread_at to goes)
 
-  pub load_quiet : (address : ℕ) (y : RecordWord) (to : Counter) → GoesTo to → KeepsRule p w m events s actors i (op.Load address) y (at_counter to a, outcome.Quiet)
-  load_quiet address y to goes = load_stays p w m events s actors i before address y (at_counter to a) (owes_at to goes) (thread_at to goes)
+  pub load_quiet : (address : ℕ) (y : RecordWord) (to : Counter) → GoesTo to
+      → KeepsRule p w m events s actors i (op.Load address) y (at_counter to a, outcome.Quiet)
+  load_quiet address y to goes =
+      load_stays p w m events s actors i before address y (at_counter to a) (owes_at to goes)
+      (thread_at to goes)
 
   -- and one at which the thread waits
-  pub load_waits : (address : ℕ) (y : RecordWord) (to : Counter) → GoesTo to → Waits w s i address (found_in m y) → KeepsRule p w m events s actors i (op.Load address) y (at_counter to a, outcome.NotReady address (found_in m y))
-  load_waits address y to goes waits = Assembly.load_waits p w m events s actors i before address y (at_counter to a) waits (owes_at to goes) (thread_at to goes)
+  pub load_waits : (address : ℕ) (y : RecordWord) (to : Counter) → GoesTo to
+      → Waits w s i address (found_in m y)
+      → KeepsRule p w m events s actors i (op.Load address) y (at_counter to a, outcome.NotReady address (found_in m y))
+  load_waits address y to goes waits =
+      Assembly.load_waits p w m events s actors i before address y (at_counter to a) waits (owes_at to goes)
+      (thread_at to goes)

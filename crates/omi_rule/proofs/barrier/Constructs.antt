@@ -14,10 +14,13 @@ use Rattle.omi_rule.specs.Ahead.{leaving}
 use Rattle.omi_rule.specs.Ahead as Ahead
 use Rattle.omi_rule.proofs.barrier.AtCounter.{at_counter}
 
-pub at_construct : (p : Program) (a : Actor) (f : Frame) (fs : List Frame) (x : Stmt) → a.stack ≡ f ∷ fs → IsAt p a.stack x → (worked p a ≡ at_counter (counter.Plain plain.Leave) a) × ((e : Encounter) → Ahead.worked p e a.stack ≡ leaving p e a.stack)
+pub at_construct : (p : Program) (a : Actor) (f : Frame) (fs : List Frame) (x : Stmt) → a.stack ≡ f ∷ fs
+    → IsAt p a.stack x
+    → (worked p a ≡ at_counter (counter.Plain plain.Leave) a) × ((e : Encounter) → Ahead.worked p e a.stack ≡ leaving p e a.stack)
 at_construct p a f fs x is there = by f.next refl (subst (λ (xs : List Frame). IsAt p xs x) is there)
   where
-    by : (n : ℕ) → f.next ≡ n → statement_before (body_in p f) f.next ≡ Some x → (worked p a ≡ at_counter (counter.Plain plain.Leave) a) × ((e : Encounter) → Ahead.worked p e a.stack ≡ leaving p e a.stack)
+    by : (n : ℕ) → f.next ≡ n → statement_before (body_in p f) f.next ≡ Some x
+        → (worked p a ≡ at_counter (counter.Plain plain.Leave) a) × ((e : Encounter) → Ahead.worked p e a.stack ≡ leaving p e a.stack)
     by zero e some = absurd (cc (subst (λ n. statement_before (body_in p f) n ≡ Some x) e some))
     by (suc n) e some = (
       ap (λ (xs : List Frame). worked_in p xs a) is ∙ ap (λ k. worked_at p k a) e,

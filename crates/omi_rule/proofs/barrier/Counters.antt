@@ -17,11 +17,19 @@ use Rattle.omi_rule.proofs.barrier.Passes.{load_released_keeps}
 use Rattle.omi_rule.proofs.barrier.Releases.{release_keeps}
 use Rattle.omi_rule.proofs.barrier.States.{state_keeps}
 
-pub barrier_keeps : (p : Program) (w : List ℕ) (m : Memory) (events : List (ℕ × Event)) (s : State) (actors : ℕ → Actor) (i : ℕ) → Before p w m events s actors i → (c : BarrierCounter) → (actors i).counter ≡ counter.Barrier c
-    → StepKeeps p w m events s actors i (barrier_next w (actors i) c) (λ old. (barrier_moved p (actors i) c old, barrier_outcome w (actors i) c old))
-barrier_keeps p w m events s actors i before (barrier.State b) at = state_keeps p w m events s actors i before b at
-barrier_keeps p w m events s actors i before (barrier.Arrive b) at = arrive_keeps p w m events s actors i before b at
-barrier_keeps p w m events s actors i before (barrier.LoadArrived b) at = load_arrived_keeps p w m events s actors i before b at
-barrier_keeps p w m events s actors i before (barrier.LoadPending b) at = load_pending_keeps p w m events s actors i before b at
-barrier_keeps p w m events s actors i before (barrier.Release b) at = release_keeps p w m events s actors i before b at
-barrier_keeps p w m events s actors i before (barrier.LoadReleased b) at = load_released_keeps p w m events s actors i before b at
+pub barrier_keeps : (p : Program) (w : List ℕ) (m : Memory) (events : List (ℕ × Event)) (s : State) (actors : ℕ → Actor) (i : ℕ)
+    → Before p w m events s actors i → (c : BarrierCounter) → (actors i).counter ≡ counter.Barrier c
+    → StepKeeps p w m events s actors i (barrier_next w (actors i) c)
+    (λ old. (barrier_moved p (actors i) c old, barrier_outcome w (actors i) c old))
+barrier_keeps p w m events s actors i before (barrier.State b) at =
+    state_keeps p w m events s actors i before b at
+barrier_keeps p w m events s actors i before (barrier.Arrive b) at =
+    arrive_keeps p w m events s actors i before b at
+barrier_keeps p w m events s actors i before (barrier.LoadArrived b) at =
+    load_arrived_keeps p w m events s actors i before b at
+barrier_keeps p w m events s actors i before (barrier.LoadPending b) at =
+    load_pending_keeps p w m events s actors i before b at
+barrier_keeps p w m events s actors i before (barrier.Release b) at =
+    release_keeps p w m events s actors i before b at
+barrier_keeps p w m events s actors i before (barrier.LoadReleased b) at =
+    load_released_keeps p w m events s actors i before b at

@@ -46,26 +46,40 @@ use Rattle.omi_rule.proofs.Named.{task_named}
 
 -- ---- lists
 
-pub first_arrives : (p : Program) (at : Encounter) (fs : List Frame) (b : Barrier) → at.number ≡ 0 → Ahead.arrived p at fs b ≡ item.Tasks (barrier_state b) ∷ item.Release ∷ passing p at fs b
-first_arrives p at fs b first = ap (λ (x : Bool). item.Tasks (barrier_state b) ∷ (if x then item.Release ∷ passing p at fs b else passing p at fs b)) (eq-eqb at.number 0 first)
+pub first_arrives : (p : Program) (at : Encounter) (fs : List Frame) (b : Barrier) → at.number ≡ 0
+    → Ahead.arrived p at fs b ≡ item.Tasks (barrier_state b) ∷ item.Release ∷ passing p at fs b
+first_arrives p at fs b first =
+    ap
+    (λ (x : Bool). item.Tasks (barrier_state b) ∷ (if x then item.Release ∷ passing p at fs b else passing p at fs b))
+    (eq-eqb at.number 0 first)
 
-pub other_arrives : (p : Program) (at : Encounter) (fs : List Frame) (b : Barrier) → at.number ≢ 0 → Ahead.arrived p at fs b ≡ item.Tasks (barrier_state b) ∷ passing p at fs b
-other_arrives p at fs b other = ap (λ (x : Bool). item.Tasks (barrier_state b) ∷ (if x then item.Release ∷ passing p at fs b else passing p at fs b)) (ne_eqb at.number 0 other)
+pub other_arrives : (p : Program) (at : Encounter) (fs : List Frame) (b : Barrier) → at.number ≢ 0
+    → Ahead.arrived p at fs b ≡ item.Tasks (barrier_state b) ∷ passing p at fs b
+other_arrives p at fs b other =
+    ap
+    (λ (x : Bool). item.Tasks (barrier_state b) ∷ (if x then item.Release ∷ passing p at fs b else passing p at fs b))
+    (ne_eqb at.number 0 other)
 
-pub first_released : (p : Program) (at : Encounter) (fs : List Frame) (b : Barrier) → at.number ≡ 0 → Ahead.released p at fs b ≡ passing p at fs b
-first_released p at fs b first = ap (λ (x : Bool). if x then passing p at fs b else Ahead.arrived p at fs b) (eq-eqb at.number 0 first)
+pub first_released : (p : Program) (at : Encounter) (fs : List Frame) (b : Barrier) → at.number ≡ 0
+    → Ahead.released p at fs b ≡ passing p at fs b
+first_released p at fs b first =
+    ap (λ (x : Bool). if x then passing p at fs b else Ahead.arrived p at fs b) (eq-eqb at.number 0 first)
 
-pub other_released : (p : Program) (at : Encounter) (fs : List Frame) (b : Barrier) → at.number ≢ 0 → Ahead.released p at fs b ≡ Ahead.arrived p at fs b
-other_released p at fs b other = ap (λ (x : Bool). if x then passing p at fs b else Ahead.arrived p at fs b) (ne_eqb at.number 0 other)
+pub other_released : (p : Program) (at : Encounter) (fs : List Frame) (b : Barrier) → at.number ≢ 0
+    → Ahead.released p at fs b ≡ Ahead.arrived p at fs b
+other_released p at fs b other =
+    ap (λ (x : Bool). if x then passing p at fs b else Ahead.arrived p at fs b) (ne_eqb at.number 0 other)
 
 -- a finished task
-over_by_count : (q : Progress) (im in_region : Bool) → (t : Task) → t.progress ≡ q → t.implicit ≡ false → in_region ≡ true → one (is_unfinished t && in_region) ≤ 0 → q ≡ progress.Finished
+over_by_count : (q : Progress) (im in_region : Bool) → (t : Task) → t.progress ≡ q → t.implicit ≡ false
+    → in_region ≡ true → one (is_unfinished t && in_region) ≤ 0 → q ≡ progress.Finished
 over_by_count progress.Finished im in_region t is ex there few = refl
 over_by_count progress.Deferred im in_region t is ex there few = absurd (grind (arith, is, ex, there, few))
 over_by_count progress.NotBegun im in_region t is ex there few = absurd (grind (arith, is, ex, there, few))
 over_by_count progress.Begun im in_region t is ex there few = absurd (grind (arith, is, ex, there, few))
 
-module _ (p : Program) (w : List ℕ) (m : Memory) (events : List (ℕ × Event)) (s : State) (actors : ℕ → Actor) (i : ℕ) (before : Before p w m events s actors i) where
+module _ (p : Program) (w : List ℕ) (m : Memory) (events : List (ℕ × Event)) (s : State) (actors : ℕ → Actor)
+    (i : ℕ) (before : Before p w m events s actors i) where
   abbrev a : Actor
   a = actors i
 
@@ -76,46 +90,69 @@ module _ (p : Program) (w : List ℕ) (m : Memory) (events : List (ℕ × Event)
     At = sees p w m events s actors i before (counter.Barrier c) at tt
 
     -- a member that has arrived looks at the slots
-    pub looks : (b : Barrier) → IsMemberAt p a b → (here p w m events s actors i before (counter.Barrier c) at tt).task.list ≡ Ahead.arrived p At a.stack b → GoesTo p w m events s actors i before (counter.Barrier c) at tt (counter.Look (LoadRow (wait.Barrier b) 0))
+    pub looks : (b : Barrier) → IsMemberAt p a b
+        → (here p w m events s actors i before (counter.Barrier c) at tt).task.list ≡ Ahead.arrived p At a.stack b
+        → GoesTo p w m events s actors i before (counter.Barrier c) at tt (counter.Look (LoadRow (wait.Barrier b) 0))
     looks b member is =
         let some = (is_context p w m events s actors i before (counter.Barrier c) at tt).size.0 in
         record { fits = ((member, omega (arith, some)), refl); placed = tt; ahead = is; owes = refl; row = tt; ended = tt }
 
     -- the arrivals of member 0 before its release
-    pub one_more : (b : Barrier) → IsMemberAt p a b → a.context.number ≡ 0 → (here p w m events s actors i before (counter.Barrier c) at tt).task.list ≡ Ahead.arrived p At a.stack b → a.context.arrivals ≡ (here p w m events s actors i before (counter.Barrier c) at tt).region.released + 1
+    pub one_more : (b : Barrier) → IsMemberAt p a b → a.context.number ≡ 0
+        → (here p w m events s actors i before (counter.Barrier c) at tt).task.list ≡ Ahead.arrived p At a.stack b
+        → a.context.arrivals ≡ (here p w m events s actors i before (counter.Barrier c) at tt).region.released + 1
     one_more b member first is =
         let o = here p w m events s actors i before (counter.Barrier c) at tt in
-        let sees_first : At.number ≡ 0 = sees_number p w m events s actors i before (counter.Barrier c) at tt ∙ first in
-        let is_one = before_release p events s before.rule.reached a.context.task o.task o.region (barrier_state b) (passing p At a.stack b) o.live (o.implicit ∙ member.1) (region_there p w m events s actors i before (counter.Barrier c) at tt) (o.number ∙ first) (is ∙ first_arrives p At a.stack b sees_first) in
+        let sees_first : At.number ≡ 0 =
+        sees_number p w m events s actors i before (counter.Barrier c) at tt ∙ first in
+        let is_one =
+        before_release p events s before.rule.reached a.context.task o.task o.region (barrier_state b)
+        (passing p At a.stack b) o.live (o.implicit ∙ member.1)
+        (region_there p w m events s actors i before (counter.Barrier c) at tt) (o.number ∙ first)
+        (is ∙ first_arrives p At a.stack b sees_first) in
         sym o.arrivals ∙ ap (λ j. slice_index o.region.arrivals j) (sym o.number) ∙ is_one
 
-    pub has_release : (b : Barrier) → a.context.number ≡ 0 → (here p w m events s actors i before (counter.Barrier c) at tt).task.list ≡ Ahead.arrived p At a.stack b → releases_next (here p w m events s actors i before (counter.Barrier c) at tt).task.list
-    has_release b first is = subst releases_next (sym (is ∙ first_arrives p At a.stack b (sees_number p w m events s actors i before (counter.Barrier c) at tt ∙ first))) tt
+    pub has_release : (b : Barrier) → a.context.number ≡ 0
+        → (here p w m events s actors i before (counter.Barrier c) at tt).task.list ≡ Ahead.arrived p At a.stack b
+        → releases_next (here p w m events s actors i before (counter.Barrier c) at tt).task.list
+    has_release b first is =
+        subst releases_next
+        (sym (is ∙ first_arrives p At a.stack b (sees_number p w m events s actors i before (counter.Barrier c) at tt ∙ first))) tt
 
     -- no explicit task of the region is unfinished where its word is 0
-    pub all_finished : region_record p w m events s actors i before (counter.Barrier c) at tt (number RegionPending) 0 ≡ 0 → AreFinished s a.context.region
+    pub all_finished : region_record p w m events s actors i before (counter.Barrier c) at tt (number RegionPending) 0 ≡ 0
+        → AreFinished s a.context.region
     all_finished none x k t live ex same =
         let n : Rid = a.context.region in
         let f : Task → ℕ = λ u. one (is_unfinished u && is_region n u.region) in
         let pending = (keeps_region p w m events s actors i before (counter.Barrier c) at tt).pending in
         let few : unfinished_in w s n ≤ 0 = omega (arith, none, pending) in
         let name = task_named p events s before.rule.reached x k t live in
-        let within = before.rule.within.tasks name.name.0.creator name.name.0.slot name.name.0.generation t name.live in
-        let maker : x < s.count = subst (λ y. y < s.count) name.creator (subst (λ y. name.name.0.creator < y) (sym before.rule.within.count) within.maker) in
+        let within =
+        before.rule.within.tasks name.name.0.creator name.name.0.slot name.name.0.generation t name.live in
+        let maker : x < s.count =
+        subst (λ y. y < s.count) name.creator
+        (subst (λ y. name.name.0.creator < y) (sym before.rule.within.count) within.maker) in
         let place : k < per_thread w tasks = subst (λ y. y < per_thread w tasks) name.slot within.place in
-        let row = part_below s.count x (λ y. sum_below (per_thread w tasks) (λ z. of_live f (s.tasks y z).live)) maker in
+        let row =
+        part_below s.count x (λ y. sum_below (per_thread w tasks) (λ z. of_live f (s.tasks y z).live)) maker in
         let slot = part_below (per_thread w tasks) k (λ z. of_live f (s.tasks x z).live) place in
         let here_few : of_live f (s.tasks x k).live ≤ 0 = omega (arith, few, row, slot) in
-        over_by_count t.progress t.implicit (is_region n t.region) t refl ex (subst (λ (r : Rid). is_region n r ≡ true) (sym same) (is_own_id n.0)) (subst (λ (o : Option Task). of_live f o ≤ 0) live here_few)
+        over_by_count t.progress t.implicit (is_region n t.region) t refl ex
+        (subst (λ (r : Rid). is_region n r ≡ true) (sym same) (is_own_id n.0))
+        (subst (λ (o : Option Task). of_live f o ≤ 0) live here_few)
 
   -- ---- the counters
 
   module _ (b : Barrier) (at : (actors i).counter ≡ counter.Barrier (barrier.LoadArrived b)) where
     abbrev arrived_word : ℕ
-    arrived_word = region_record p w m events s actors i before (counter.Barrier (barrier.LoadArrived b)) at tt (number RegionArrived) 0
+    arrived_word =
+        region_record p w m events s actors i before (counter.Barrier (barrier.LoadArrived b)) at tt
+        (number RegionArrived) 0
 
     abbrev on_arrived : RecordWord
-    on_arrived = word_of p w m events s actors i before (counter.Barrier (barrier.LoadArrived b)) at tt RegionArrived
+    on_arrived =
+        word_of p w m events s actors i before (counter.Barrier (barrier.LoadArrived b)) at tt RegionArrived
 
     by_arrivals : (d : Bool) → some_missing a arrived_word ≡ d
         → KeepsRule p w m events s actors i (op.Load (of_current w a RegionArrived)) on_arrived
@@ -125,8 +162,10 @@ module _ (p : Program) (w : List ℕ) (m : Memory) (events : List (ℕ × Event)
         let is = list_is p w m events s actors i before (barrier.LoadArrived b) at in
         let o = here p w m events s actors i before (counter.Barrier (barrier.LoadArrived b)) at tt in
         let more = one_more (barrier.LoadArrived b) at b member first is in
-        let less : arrived_word < a.context.size * a.context.arrivals = ltb-true arrived_word (a.context.size * a.context.arrivals) missing in
-        load_waits p w m events s actors i before (counter.Barrier (barrier.LoadArrived b)) at tt (of_current w a RegionArrived) on_arrived (counter.Look (LoadRow (wait.Barrier b) 0))
+        let less : arrived_word < a.context.size * a.context.arrivals =
+        ltb-true arrived_word (a.context.size * a.context.arrivals) missing in
+        load_waits p w m events s actors i before (counter.Barrier (barrier.LoadArrived b)) at tt
+        (of_current w a RegionArrived) on_arrived (counter.Look (LoadRow (wait.Barrier b) 0))
         (looks (barrier.LoadArrived b) at b member is)
         (Waits.ForArrivals
         (of_own_region p w m events s actors i before (counter.Barrier (barrier.LoadArrived b)) at tt (λ t r. releases_next t.list × (of_current w a RegionArrived ≡ of_region w t.region RegionArrived) × (arrived_word < length r.team * (r.released + 1))) (
@@ -139,10 +178,13 @@ module _ (p : Program) (w : List ℕ) (m : Memory) (events : List (ℕ × Event)
         let is = list_is p w m events s actors i before (barrier.LoadArrived b) at in
         let o = here p w m events s actors i before (counter.Barrier (barrier.LoadArrived b)) at tt in
         let more = one_more (barrier.LoadArrived b) at b member first is in
-        let enough : a.context.size * a.context.arrivals ≤ arrived_word = ltb-false arrived_word (a.context.size * a.context.arrivals) missing in
+        let enough : a.context.size * a.context.arrivals ≤ arrived_word =
+        ltb-false arrived_word (a.context.size * a.context.arrivals) missing in
         let whole : a.context.size * (o.region.released + 1) ≤ sum o.region.arrivals =
-        subst (λ n. a.context.size * n ≤ sum o.region.arrivals) more (subst (λ n. a.context.size * a.context.arrivals ≤ n) ((keeps_region p w m events s actors i before (counter.Barrier (barrier.LoadArrived b)) at tt).codes RegionArrived 0 _ refl) enough) in
-        load_quiet p w m events s actors i before (counter.Barrier (barrier.LoadArrived b)) at tt (of_current w a RegionArrived) on_arrived (counter.Barrier (barrier.LoadPending b))
+        subst (λ n. a.context.size * n ≤ sum o.region.arrivals) more
+        (subst (λ n. a.context.size * a.context.arrivals ≤ n) ((keeps_region p w m events s actors i before (counter.Barrier (barrier.LoadArrived b)) at tt).codes RegionArrived 0 _ refl) enough) in
+        load_quiet p w m events s actors i before (counter.Barrier (barrier.LoadArrived b)) at tt
+        (of_current w a RegionArrived) on_arrived (counter.Barrier (barrier.LoadPending b))
         (record {
           fits = (member, first);
           placed = tt;
@@ -153,21 +195,26 @@ module _ (p : Program) (w : List ℕ) (m : Memory) (events : List (ℕ × Event)
         })
 
     pub load_arrived_keeps : StepKeeps p w m events s actors i (barrier_next w (actors i) (barrier.LoadArrived b)) (λ old. (barrier_moved p (actors i) (barrier.LoadArrived b) old, barrier_outcome w (actors i) (barrier.LoadArrived b) old))
-    load_arrived_keeps = (on_arrived, record { there = region_word p w m events s actors i before (counter.Barrier (barrier.LoadArrived b)) at tt RegionArrived refl; address = refl }, by_arrivals (some_missing a arrived_word) refl)
+    load_arrived_keeps =
+        (on_arrived, record { there = region_word p w m events s actors i before (counter.Barrier (barrier.LoadArrived b)) at tt RegionArrived refl; address = refl }, by_arrivals (some_missing a arrived_word) refl)
 
   module _ (b : Barrier) (at : (actors i).counter ≡ counter.Barrier (barrier.LoadPending b)) where
     abbrev pending_word : ℕ
-    pending_word = region_record p w m events s actors i before (counter.Barrier (barrier.LoadPending b)) at tt (number RegionPending) 0
+    pending_word =
+        region_record p w m events s actors i before (counter.Barrier (barrier.LoadPending b)) at tt
+        (number RegionPending) 0
 
     abbrev on_pending : RecordWord
-    on_pending = word_of p w m events s actors i before (counter.Barrier (barrier.LoadPending b)) at tt RegionPending
+    on_pending =
+        word_of p w m events s actors i before (counter.Barrier (barrier.LoadPending b)) at tt RegionPending
 
     by_pending : (d : Bool) → pending_word == 0 ≡ d
         → KeepsRule p w m events s actors i (op.Load (of_current w a RegionPending)) on_pending
         (if d then at_counter (counter.Barrier (barrier.Release b)) a else looking b a, if d then outcome.Quiet else outcome.NotReady (of_current w a RegionPending) pending_word)
     by_pending true none =
         let (member, first) = fits_barrier p w m events s actors i before (barrier.LoadPending b) at in
-        load_quiet p w m events s actors i before (counter.Barrier (barrier.LoadPending b)) at tt (of_current w a RegionPending) on_pending (counter.Barrier (barrier.Release b))
+        load_quiet p w m events s actors i before (counter.Barrier (barrier.LoadPending b)) at tt
+        (of_current w a RegionPending) on_pending (counter.Barrier (barrier.Release b))
         (record {
           fits = (member, first);
           placed = tt;
@@ -180,39 +227,51 @@ module _ (p : Program) (w : List ℕ) (m : Memory) (events : List (ℕ × Event)
         let (member, first) = fits_barrier p w m events s actors i before (barrier.LoadPending b) at in
         let is = list_is p w m events s actors i before (barrier.LoadPending b) at in
         let o = here p w m events s actors i before (counter.Barrier (barrier.LoadPending b)) at tt in
-        load_waits p w m events s actors i before (counter.Barrier (barrier.LoadPending b)) at tt (of_current w a RegionPending) on_pending (counter.Look (LoadRow (wait.Barrier b) 0))
+        load_waits p w m events s actors i before (counter.Barrier (barrier.LoadPending b)) at tt
+        (of_current w a RegionPending) on_pending (counter.Look (LoadRow (wait.Barrier b) 0))
         (looks (barrier.LoadPending b) at b member is)
         (Waits.ForTasks
         (of_own_region p w m events s actors i before (counter.Barrier (barrier.LoadPending b)) at tt (λ t r. releases_next t.list × (of_current w a RegionPending ≡ of_region w t.region RegionPending) × (pending_word ≢ 0))
         (has_release (barrier.LoadPending b) at b first is, ap (λ n. of_region w n RegionPending) (sym o.region_is), λ e. cc (sym some, eq-eqb pending_word 0 e))))
 
     pub load_pending_keeps : StepKeeps p w m events s actors i (barrier_next w (actors i) (barrier.LoadPending b)) (λ old. (barrier_moved p (actors i) (barrier.LoadPending b) old, barrier_outcome w (actors i) (barrier.LoadPending b) old))
-    load_pending_keeps = (on_pending, record { there = region_word p w m events s actors i before (counter.Barrier (barrier.LoadPending b)) at tt RegionPending refl; address = refl }, by_pending (pending_word == 0) refl)
+    load_pending_keeps =
+        (on_pending, record { there = region_word p w m events s actors i before (counter.Barrier (barrier.LoadPending b)) at tt RegionPending refl; address = refl }, by_pending (pending_word == 0) refl)
 
   module _ (b : Barrier) (at : (actors i).counter ≡ counter.Barrier (barrier.LoadReleased b)) where
     abbrev pub released_word : ℕ
-    released_word = region_record p w m events s actors i before (counter.Barrier (barrier.LoadReleased b)) at tt (number RegionReleased) 0
+    released_word =
+        region_record p w m events s actors i before (counter.Barrier (barrier.LoadReleased b)) at tt
+        (number RegionReleased) 0
 
     abbrev pub on_released : RecordWord
-    on_released = word_of p w m events s actors i before (counter.Barrier (barrier.LoadReleased b)) at tt RegionReleased
+    on_released =
+        word_of p w m events s actors i before (counter.Barrier (barrier.LoadReleased b)) at tt RegionReleased
 
     -- a member other than member 0, before the release
     by_number : released_word < a.context.arrivals → (n : ℕ) → a.context.number ≡ n → HasReleased s a n
-        → KeepsRule p w m events s actors i (op.Load (of_current w a RegionReleased)) on_released (looking b a, outcome.NotReady (of_current w a RegionReleased) released_word)
+        → KeepsRule p w m events s actors i (op.Load (of_current w a RegionReleased)) on_released
+        (looking b a, outcome.NotReady (of_current w a RegionReleased) released_word)
     by_number less zero first (r, there, is) =
         let o = here p w m events s actors i before (counter.Barrier (barrier.LoadReleased b)) at tt in
         let one : o.region ≡ r = some_same o.found there in
-        let word = (keeps_region p w m events s actors i before (counter.Barrier (barrier.LoadReleased b)) at tt).codes RegionReleased 0 _ refl in
+        let word =
+        (keeps_region p w m events s actors i before (counter.Barrier (barrier.LoadReleased b)) at tt).codes RegionReleased 0 _ refl in
         let all : o.region.released ≡ a.context.arrivals = ap (λ (x : Region). x.released) one ∙ is in
         absurd (omega (arith, word, all, less))
     by_number less (suc n) later o_row =
         let member = fits_barrier p w m events s actors i before (barrier.LoadReleased b) at in
         let o = here p w m events s actors i before (counter.Barrier (barrier.LoadReleased b)) at tt in
-        let at_member : Encounter = sees p w m events s actors i before (counter.Barrier (barrier.LoadReleased b)) at tt in
-        let number_is : at_member.number ≡ suc n = sees_number p w m events s actors i before (counter.Barrier (barrier.LoadReleased b)) at tt ∙ later in
+        let at_member : Encounter =
+        sees p w m events s actors i before (counter.Barrier (barrier.LoadReleased b)) at tt in
+        let number_is : at_member.number ≡ suc n =
+        sees_number p w m events s actors i before (counter.Barrier (barrier.LoadReleased b)) at tt ∙ later in
         let other : at_member.number ≢ 0 = λ z. omega (arith, z, number_is) in
-        let is = list_is p w m events s actors i before (barrier.LoadReleased b) at ∙ other_released p at_member a.stack b other in
-        load_waits p w m events s actors i before (counter.Barrier (barrier.LoadReleased b)) at tt (of_current w a RegionReleased) on_released (counter.Look (LoadRow (wait.Barrier b) 0))
+        let is =
+        list_is p w m events s actors i before (barrier.LoadReleased b) at
+        ∙ other_released p at_member a.stack b other in
+        load_waits p w m events s actors i before (counter.Barrier (barrier.LoadReleased b)) at tt
+        (of_current w a RegionReleased) on_released (counter.Look (LoadRow (wait.Barrier b) 0))
         (looks (barrier.LoadReleased b) at b member is)
         (Waits.ForRelease
         (of_own_region p w m events s actors i before (counter.Barrier (barrier.LoadReleased b)) at tt (λ t r. passes_next t.list × (of_current w a RegionReleased ≡ of_region w t.region RegionReleased) × (released_word < slice_index r.arrivals t.number)) (
@@ -222,5 +281,8 @@ module _ (p : Program) (w : List ℕ) (m : Memory) (events : List (ℕ × Event)
         )))
 
     pub closed_keeps : is_closed a released_word ≡ true
-        → KeepsRule p w m events s actors i (op.Load (of_current w a RegionReleased)) on_released (looking b a, outcome.NotReady (of_current w a RegionReleased) released_word)
-    closed_keeps closed = by_number (ltb-true released_word a.context.arrivals closed) a.context.number refl (row p w m events s actors i before (barrier.LoadReleased b) at)
+        → KeepsRule p w m events s actors i (op.Load (of_current w a RegionReleased)) on_released
+        (looking b a, outcome.NotReady (of_current w a RegionReleased) released_word)
+    closed_keeps closed =
+        by_number (ltb-true released_word a.context.arrivals closed) a.context.number refl
+        (row p w m events s actors i before (barrier.LoadReleased b) at)

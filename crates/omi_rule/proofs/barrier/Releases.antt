@@ -46,7 +46,9 @@ use Rattle.omi_rule.proofs.barrier.AtCounter.{at_counter, here, region_there, re
 use Rattle.omi_rule.proofs.barrier.Events.{event_leads_to, relisted_changes, relisted_state, relisted_words, steps}
 use Rattle.omi_rule.proofs.barrier.Loads.{first_arrives, first_released}
 
-module _ (p : Program) (w : List ℕ) (m : Memory) (events : List (ℕ × Event)) (s : State) (actors : ℕ → Actor) (i : ℕ) (before : Before p w m events s actors i) (b : Barrier) (at : (actors i).counter ≡ counter.Barrier (barrier.Release b)) where
+module _ (p : Program) (w : List ℕ) (m : Memory) (events : List (ℕ × Event)) (s : State) (actors : ℕ → Actor)
+    (i : ℕ) (before : Before p w m events s actors i) (b : Barrier)
+    (at : (actors i).counter ≡ counter.Barrier (barrier.Release b)) where
   abbrev a : Actor
   a = actors i
 
@@ -81,39 +83,51 @@ module _ (p : Program) (w : List ℕ) (m : Memory) (events : List (ℕ × Event)
   there = region_there p w m events s actors i before (counter.Barrier c) at tt
 
   all_arrived : HaveArrived own.region
-  all_arrived = let ((r, found, all), finished) = row p w m events s actors i before c at in subst HaveArrived (some_same found own.found) all
+  all_arrived =
+      let ((r, found, all), finished) = row p w m events s actors i before c at in subst HaveArrived (some_same found own.found) all
 
   none_left : AreFinished s own.task.region
-  none_left = let (arrived, finished) = row p w m events s actors i before c at in subst (AreFinished s) (sym own.region_is) finished
+  none_left =
+      let (arrived, finished) = row p w m events s actors i before c at in subst (AreFinished s) (sym own.region_is) finished
 
   -- the barrier at which member 0 waits is the next that is released
   arrivals_are : a.context.arrivals ≡ own.region.released + 1
   arrivals_are =
-      let sizes = (members_known p events s before.rule.reached).regions a.context.region own.region own.found in
-      let within : a.context.number < length own.region.team = slice_get_within own.region.team a.context.number (a.context.row, i) own.row in
+      let sizes =
+      (members_known p events s before.rule.reached).regions a.context.region own.region own.found in
+      let within : a.context.number < length own.region.team =
+      slice_get_within own.region.team a.context.number (a.context.row, i) own.row in
       sym own.arrivals ∙ all_arrived a.context.number 0 (omega (arith, within, sizes.arrivals))
 
   takes_release : take_item p At event.Release own.task.list ≡ Some (item.Release, behind)
-  takes_release = ap (λ xs. take_item p At event.Release xs) (list_is p w m events s actors i before c at ∙ first_arrives p At a.stack b sees_first)
+  takes_release =
+      ap (λ xs. take_item p At event.Release xs)
+      (list_is p w m events s actors i before c at ∙ first_arrives p At a.stack b sees_first)
 
   current : IsCurrent s i a.context.task own.task
   current = is_current p s i a (stands p w m events s actors i before (counter.Barrier c) at tt)
 
   step : Step p s i event.Release next
   step =
-      steps p w m events s actors i before (counter.Barrier c) at tt event.Release item.Release behind next takes_release
+      steps p w m events s actors i before
+      (counter.Barrier c) at tt event.Release item.Release behind next takes_release
       (a.context.task, own.task, own.region, current, there, record { first = own.number ∙ first; arrived = all_arrived; finished = none_left }) refl
       (at_current listed i a.context.task (relisted behind own.task) (λ k t. released listed t) (current_moved s i a.context.task current.name behind a.context.task own.task current))
 
   words : KeepsWords w (with_region_word m a.context.region RegionReleased a.context.arrivals) next (all_owed actors)
   words =
-      subst (λ (n : Rid). KeepsWords w (with_region_word m n RegionReleased a.context.arrivals) next (all_owed actors)) own.region_is
+      subst
+      (λ (n : Rid). KeepsWords w (with_region_word m n RegionReleased a.context.arrivals) next (all_owed actors)) own.region_is
       (subst (λ k. KeepsWords w (with_region_word m own.task.region RegionReleased k) next (all_owed actors)) (sym arrivals_are)
       (releases_keep w m listed (all_owed actors) (relisted behind own.task) own.region (relisted_words p w m events s actors i before (counter.Barrier c) at tt behind) there))
 
-  regions_go_on : (n : Rid) (r : Region) → region_of s n ≡ Some r → (q : Region) × (region_of next n ≡ Some q) × (q.team ≡ r.team) × (q.levels ≡ r.levels) × (q.arrivals ≡ r.arrivals)
+  regions_go_on : (n : Rid) (r : Region) → region_of s n ≡ Some r
+      → (q : Region) × (region_of next n ≡ Some q) × (q.team ≡ r.team) × (q.levels ≡ r.levels) × (q.arrivals ≡ r.arrivals)
   regions_go_on n r live =
-      let (q, found, same) = changed s.regions own.task.region once_more (λ x y. (y.team ≡ x.team) × (y.levels ≡ x.levels) × (y.arrivals ≡ x.arrivals)) n r live (λ _. (refl, refl, refl)) (λ _. (refl, refl, refl)) in
+      let (q, found, same) =
+      changed s.regions own.task.region once_more
+      (λ x y. (y.team ≡ x.team) × (y.levels ≡ x.levels) × (y.arrivals ≡ x.arrivals)) n r live
+      (λ _. (refl, refl, refl)) (λ _. (refl, refl, refl)) in
       (q, found, same.0, same.1, same.2)
 
   changes : ChangesTask s next i a.context.task
@@ -133,7 +147,9 @@ module _ (p : Program) (w : List ℕ) (m : Memory) (events : List (ℕ × Event)
   release_keeps = (
     on_released,
     record { there = region_word p w m events s actors i before (counter.Barrier c) at tt RegionReleased refl; address = refl },
-    event_leads_to p w m events s actors i before (counter.Barrier c) at tt refl (op.Store (of_current w a RegionReleased) a.context.arrivals) on_released (counter.Barrier (barrier.LoadReleased b)) (outcome.Event event.Release) event.Release
+    event_leads_to p w m events s actors i before (counter.Barrier c) at tt refl
+        (op.Store (of_current w a RegionReleased) a.context.arrivals) on_released
+        (counter.Barrier (barrier.LoadReleased b)) (outcome.Event event.Release) event.Release
         item.Release behind next refl (λ no_object. no_object) (λ f e. absurd (cc e)) takes_release step
         (a.context.task, own.task, current, (a.context.arrivals, ap (λ n. op.Store (of_region w n RegionReleased) a.context.arrivals) (sym own.region_is)))
         words

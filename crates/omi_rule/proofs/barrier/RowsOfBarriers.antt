@@ -66,7 +66,8 @@ not_outside n (item.Pass ∷ xs) o h = h
 not_outside n (item.Do s ∷ xs) o h = wrong n xs o
 not_outside n (x ∷ xs) o h = not_outside n xs o h
 
-inside : (n : ℕ) (xs : List Item) → order n phase.Waiting xs ≡ true → (stage : Stage) → IsInOrder n stage xs → IsInside n xs
+inside : (n : ℕ) (xs : List Item) → order n phase.Waiting xs ≡ true → (stage : Stage) → IsInOrder n stage xs
+    → IsInside n xs
 inside n xs o Outside h = absurd (not_outside n xs o h)
 inside n xs o Arrived h = inl h
 inside n xs o Waiting h = inr (inl h)
@@ -111,7 +112,9 @@ waits phase.Wrong n a r h e = absurd h
 begun_over : progress.Begun ≡ progress.Finished → ⊥
 begun_over h = cc
 
-module _ (p : Program) (events : List (ℕ × Event)) (s : State) (reached : Reached p events s) (i : ℕ) (e : Event) (next : State) (step : Step p s i e next) (n : Rid) (r : Region) (found : region_of s n ≡ Some r) (arrived : HaveArrived r) where
+module _ (p : Program) (events : List (ℕ × Event)) (s : State) (reached : Reached p events s) (i : ℕ)
+    (e : Event) (next : State) (step : Step p s i e next) (n : Rid) (r : Region)
+    (found : region_of s n ≡ Some r) (arrived : HaveArrived r) where
   m : IsMove p s i e next
   m = move_of p s i e next step
 
@@ -119,44 +122,59 @@ module _ (p : Program) (events : List (ℕ × Event)) (s : State) (reached : Rea
   reached_next = leads_on p (opening p) events s (i, e) next reached step
 
   -- the arrivals of a member of the region
-  member_arrived : (k : Tid) (t : Task) → task_of s k ≡ Some t → t.implicit ≡ true → t.region ≡ n → (t.number < length r.arrivals) × (slice_index r.arrivals t.number ≡ r.released + 1)
+  member_arrived : (k : Tid) (t : Task) → task_of s k ≡ Some t → t.implicit ≡ true → t.region ≡ n
+      → (t.number < length r.arrivals) × (slice_index r.arrivals t.number ≡ r.released + 1)
   member_arrived k t live im same =
       let known = members_known p events s reached in
       let (q, found_q, at) = known.tasks k t live im in
       let one : q ≡ r = some_same found_q (ap (region_of s) same ∙ found) in
       let sizes = known.regions n r found in
       let within : t.number < length q.team = slice_get_within q.team t.number (k, t.thread) at in
-      let below : t.number < length r.arrivals = omega (arith, subst (λ (x : Region). t.number < length x.team) one within, sizes.arrivals) in
+      let below : t.number < length r.arrivals =
+      omega (arith, subst (λ (x : Region). t.number < length x.team) one within, sizes.arrivals) in
       (below, arrived t.number 0 below)
 
   -- a member of the region takes an item of its barrier
-  takes_inside : (k : Tid) (t : Task) → IsCurrent s i k t → t.implicit ≡ true → t.region ≡ n → IsInside t.number (m.item ∷ m.behind)
+  takes_inside : (k : Tid) (t : Task) → IsCurrent s i k t → t.implicit ≡ true → t.region ≡ n
+      → IsInside t.number (m.item ∷ m.behind)
   takes_inside k t is im same =
       let (q, found_q, member) = ((placed p events s reached).places k t is.live).0 im in
       let one : q ≡ r = some_same found_q (ap (region_of s) same ∙ found) in
-      let here : slice_index q.arrivals t.number ≡ q.released + 1 = subst (λ (x : Region). slice_index x.arrivals t.number ≡ x.released + 1) (sym one) (member_arrived k t is.live im same).1 in
-      let in_barrier : member.phase ≡ phase.Waiting = waits member.phase t.number (slice_index q.arrivals t.number) q.released member.stands here in
+      let here : slice_index q.arrivals t.number ≡ q.released + 1 =
+      subst (λ (x : Region). slice_index x.arrivals t.number ≡ x.released + 1) (sym one)
+      (member_arrived k t is.live im same).1 in
+      let in_barrier : member.phase ≡ phase.Waiting =
+      waits member.phase t.number (slice_index q.arrivals t.number) q.released member.stands here in
       let (stage, in_order) = (barriers_ordered p events s reached k t is.live).member im in
-      take_keeps p (encounter s i) (IsInside t.number) (drops t.number) (λ x xs h. no_statement t.number x xs _ h) e t.list m.item m.behind
+      take_keeps p (encounter s i) (IsInside t.number) (drops t.number)
+      (λ x xs h. no_statement t.number x xs _ h) e t.list m.item m.behind
       (ap (take_item p (encounter s i) e) (sym (list_of_current s i k t is)) ∙ m.taken)
       (inside t.number t.list (subst (λ (ph : phase.Phase). order t.number ph t.list ≡ true) in_barrier member.ready.in_order) stage in_order)
 
   -- ---- arrivals
 
   -- no member arrives again
-  none_arrives : (k : Tid) (t : Task) → IsCurrent s i k t → t.implicit ≡ true → t.region ≡ n → (q : Region) → region_of next n ≡ Some q → q.arrivals ≡ slice_set r.arrivals t.number (slice_index r.arrivals t.number + 1) → q.released ≡ r.released → ⊥
+  none_arrives : (k : Tid) (t : Task) → IsCurrent s i k t → t.implicit ≡ true → t.region ≡ n → (q : Region)
+      → region_of next n ≡ Some q
+      → q.arrivals ≡ slice_set r.arrivals t.number (slice_index r.arrivals t.number + 1)
+      → q.released ≡ r.released → ⊥
   none_arrives k t is im same q found_q set released =
       let (below, was) = member_arrived k t is.live im same in
       let (v, live, alike) = (stays_step p s i e next step).tasks k t is.live in
       let begun = (current_begun p events s reached i k t is.name is.live).0 in
       let region : v.region ≡ n = alike.region ∙ same in
       let place : v.number ≡ t.number = alike.number (λ d. cc (sym begun, d)) in
-      let near = arrivals_near p (events ++ (i, e) ∷ []) next reached_next k v q live (alike.implicit ∙ im) (ap (region_of next) region ∙ found_q) in
+      let near =
+      arrivals_near p (events ++ (i, e) ∷ []) next reached_next k v q live (alike.implicit ∙ im)
+      (ap (region_of next) region ∙ found_q) in
       let now : slice_index q.arrivals v.number ≡ slice_index r.arrivals t.number + 1 =
-      ap (λ j. slice_index q.arrivals j) place ∙ ap (λ xs. slice_index xs t.number) set ∙ get_or-set_same r.arrivals t.number (slice_index r.arrivals t.number + 1) 0 below in
+      ap (λ j. slice_index q.arrivals j) place
+      ∙ ap (λ xs. slice_index xs t.number) set
+      ∙ get_or-set_same r.arrivals t.number (slice_index r.arrivals t.number + 1) 0 below in
       let most = near.1 in omega (arith, most, now, was, released)
 
-  arrivals_stay : (of : Event) (y : Item) → Lawful s i of y → (q : Region) → region_of next n ≡ Some q → Changes s i of n r q → q.arrivals ≡ r.arrivals
+  arrivals_stay : (of : Event) (y : Item) → Lawful s i of y → (q : Region) → region_of next n ≡ Some q
+      → Changes s i of n r q → q.arrivals ≡ r.arrivals
   arrivals_stay event.Arrive y (k, t, r0, is, found0, im) q found_q change = go (same_or_not t.region.0 n.0)
     where
       go : (t.region.0 ≡ n.0) ⊎ (t.region.0 ≡ n.0 → ⊥) → q.arrivals ≡ r.arrivals
@@ -171,8 +189,10 @@ module _ (p : Program) (events : List (ℕ × Event)) (s : State) (reached : Rea
   still_arrived q found_q released =
       let (w, found_w, change) = region_changed p s i e next m n r found in
       let one : w ≡ q = some_same found_w found_q in
-      let same : q.arrivals ≡ r.arrivals = arrivals_stay e m.item m.rule q found_q (subst (λ (x : Region). Changes s i e n r x) one change) in
-      subst (λ (xs : List ℕ). All (λ x. x ≡ q.released + 1) xs) (sym same) (subst (λ c. All (λ x. x ≡ c + 1) r.arrivals) (sym released) arrived)
+      let same : q.arrivals ≡ r.arrivals =
+      arrivals_stay e m.item m.rule q found_q (subst (λ (x : Region). Changes s i e n r x) one change) in
+      subst (λ (xs : List ℕ). All (λ x. x ≡ q.released + 1) xs) (sym same)
+      (subst (λ c. All (λ x. x ≡ c + 1) r.arrivals) (sym released) arrived)
 
   -- ---- explicit tasks
 
@@ -181,13 +201,15 @@ module _ (p : Program) (events : List (ℕ × Event)) (s : State) (reached : Rea
     IsOver k t = t.implicit ≡ false → t.region ≡ n → t.progress ≡ progress.Finished
 
     over : EachTask IsOver s
-    over k t live = finished k.0.creator k.0.slot t (found_live k.0.generation (s.tasks k.0.creator k.0.slot) t live)
+    over k t live =
+        finished k.0.creator k.0.slot t (found_live k.0.generation (s.tasks k.0.creator k.0.slot) t live)
 
     abbrev middle : State
     middle = moved_on s i e m.item m.behind
 
     -- a task of the region makes none
-    makes_none : (y : Item) → ((j : ℕ) → IsInside j (y ∷ m.behind) → ⊥) → m.item ≡ y → (k : Tid) (t : Task) → IsCurrent middle i k t → t.region ≡ n → ⊥
+    makes_none : (y : Item) → ((j : ℕ) → IsInside j (y ∷ m.behind) → ⊥) → m.item ≡ y → (k : Tid) (t : Task)
+        → IsCurrent middle i k t → t.region ≡ n → ⊥
     makes_none y never of k t is same =
         let before = is_relisted s i _ in
         let (v, xs, live, alike) = before.tasks k t is.live in
@@ -195,12 +217,20 @@ module _ (p : Program) (events : List (ℕ × Event)) (s : State) (reached : Rea
         go v current (ap (λ (x : Task). x.region) (sym alike) ∙ same) v.implicit refl
       where
         go : (v : Task) → IsCurrent s i k v → v.region ≡ n → (kind : Bool) → v.implicit ≡ kind → ⊥
-        go v current region true im = never v.number (subst (λ (x : Item). IsInside v.number (x ∷ m.behind)) of (takes_inside k v current im region))
-        go v current region false ex = begun_over (sym (current_begun p events s reached i k v current.name current.live).0 ∙ over k v current.live ex region)
+        go v current region true im =
+            never v.number
+            (subst (λ (x : Item). IsInside v.number (x ∷ m.behind)) of (takes_inside k v current im region))
+        go v current region false ex =
+            begun_over
+            (sym (current_begun p events s reached i k v current.name current.live).0 ∙ over k v current.live ex region)
 
-    none_now : (f : ℕ) (final : Bool) (k : Tid) (t : Task) → IsCurrent middle i k t → (m.item ≡ item.StartNow f final) ⊎ ((seen : ℕ) × (m.item ≡ item.Defer seen f final)) → t.region ≡ n → ⊥
-    none_now f final k t is (inl of) same = makes_none (item.StartNow f final) (λ j h. no_start j f final m.behind h) of k t is same
-    none_now f final k t is (inr (seen, of)) same = makes_none (item.Defer seen f final) (λ j h. no_defer j seen f final m.behind h) of k t is same
+    none_now : (f : ℕ) (final : Bool) (k : Tid) (t : Task) → IsCurrent middle i k t
+        → (m.item ≡ item.StartNow f final) ⊎ ((seen : ℕ) × (m.item ≡ item.Defer seen f final)) → t.region ≡ n
+        → ⊥
+    none_now f final k t is (inl of) same =
+        makes_none (item.StartNow f final) (λ j h. no_start j f final m.behind h) of k t is same
+    none_now f final k t is (inr (seen, of)) same =
+        makes_none (item.Defer seen f final) (λ j h. no_defer j seen f final m.behind h) of k t is same
 
     law : EachTask IsOver middle → IsTaskLaw p middle i e m.item next IsOver
     law of_tasks = record {
@@ -218,11 +248,14 @@ module _ (p : Program) (events : List (ℕ × Event)) (s : State) (reached : Rea
     pub still_finished : AreFinished next n
     still_finished c k t live ex same =
         let o = task_named p (events ++ (i, e) ∷ []) next reached_next c k t live in
-        task_step_from p IsOver IsOver s i e next m (λ j u is taken h. h) (λ j u other there h. h) law over o.name t o.live ex same
+        task_step_from p IsOver IsOver s i e next m (λ j u is taken h. h)
+        (λ j u other there h. h) law over o.name t o.live ex same
 
 -- ---- the rows
 
-module _ (p : Program) (w : List ℕ) (m : Memory) (events : List (ℕ × Event)) (s : State) (actors : ℕ → Actor) (rule : Rule p w m events s actors) (i : ℕ) (e : Event) (u : State) (step : Step p s i e u) (j : ℕ) (known : j < s.count) (other : j ≢ i) where
+module _ (p : Program) (w : List ℕ) (m : Memory) (events : List (ℕ × Event)) (s : State) (actors : ℕ → Actor)
+    (rule : Rule p w m events s actors) (i : ℕ) (e : Event) (u : State) (step : Step p s i e u) (j : ℕ)
+    (known : j < s.count) (other : j ≢ i) where
   leaves : LeavesOthers s u i
   leaves = events_leave_others p events s rule.reached i e u step
 
@@ -230,37 +263,48 @@ module _ (p : Program) (w : List ℕ) (m : Memory) (events : List (ℕ × Event)
   top c at = context_of p s j (actors j) (λ d f. cc (sym at, f)) (rule.threads j known).stands
 
   -- only the thread of member 0 releases
-  still_released : (c : BarrierCounter) → (actors j).counter ≡ counter.Barrier c → (actors j).context.number ≡ 0 → (r q : Region) → region_of s (actors j).context.region ≡ Some r → IsSameForOthers i r q → q.released ≡ r.released
+  still_released : (c : BarrierCounter) → (actors j).counter ≡ counter.Barrier c
+      → (actors j).context.number ≡ 0 → (r q : Region) → region_of s (actors j).context.region ≡ Some r
+      → IsSameForOthers i r q → q.released ≡ r.released
   still_released c at first r q found same =
       let o = top c at in
       let one : o.region ≡ r = some_same o.found found in
-      same.released ((actors j).context.row, j) (ap (λ h. slice_get r.team h) (sym first) ∙ ap (λ (x : Region). slice_get x.team (actors j).context.number) (sym one) ∙ o.row) other
+      same.released ((actors j).context.row, j)
+      (ap (λ h. slice_get r.team h) (sym first) ∙ ap (λ (x : Region). slice_get x.team (actors j).context.number) (sym one) ∙ o.row) other
 
-  fits : (c : BarrierCounter) → (actors j).counter ≡ counter.Barrier c → FitsCounter p (actors j) (counter.Barrier c)
+  fits : (c : BarrierCounter) → (actors j).counter ≡ counter.Barrier c
+      → FitsCounter p (actors j) (counter.Barrier c)
   fits c at = subst (FitsCounter p (actors j)) at (rule.threads j known).fits.counter
 
-  arrived_stays : (c : BarrierCounter) → (actors j).counter ≡ counter.Barrier c → (actors j).context.number ≡ 0 → OfRegion s (actors j) HaveArrived → OfRegion u (actors j) HaveArrived
+  arrived_stays : (c : BarrierCounter) → (actors j).counter ≡ counter.Barrier c
+      → (actors j).context.number ≡ 0 → OfRegion s (actors j) HaveArrived → OfRegion u (actors j) HaveArrived
   arrived_stays c at first (r, found, all) =
       let (q, now, same) = leaves.regions (actors j).context.region r found in
       (q, now, still_arrived p events s rule.reached i e u step (actors j).context.region r found all q now (still_released c at first r q found same))
 
-  released_stays : (c : BarrierCounter) → (actors j).counter ≡ counter.Barrier c → (h : ℕ) → (actors j).context.number ≡ h → HasReleased s (actors j) h → HasReleased u (actors j) h
+  released_stays : (c : BarrierCounter) → (actors j).counter ≡ counter.Barrier c → (h : ℕ)
+      → (actors j).context.number ≡ h → HasReleased s (actors j) h → HasReleased u (actors j) h
   released_stays c at zero first (r, found, is) =
       let (q, now, same) = leaves.regions (actors j).context.region r found in
       (q, now, still_released c at first r q found same ∙ is)
   released_stays c at (suc h) first o = tt
 
-  pub row_of_barrier_stays : (c : BarrierCounter) → (actors j).counter ≡ counter.Barrier c → KeepsBarrierRow s (actors j) c → KeepsBarrierRow u (actors j) c
+  pub row_of_barrier_stays : (c : BarrierCounter) → (actors j).counter ≡ counter.Barrier c
+      → KeepsBarrierRow s (actors j) c → KeepsBarrierRow u (actors j) c
   row_of_barrier_stays (barrier.State b) at o = tt
   row_of_barrier_stays (barrier.Arrive b) at o = tt
   row_of_barrier_stays (barrier.LoadArrived b) at o = tt
-  row_of_barrier_stays (barrier.LoadPending b) at o = arrived_stays (barrier.LoadPending b) at (fits (barrier.LoadPending b) at).1 o
+  row_of_barrier_stays (barrier.LoadPending b) at o =
+      arrived_stays (barrier.LoadPending b) at (fits (barrier.LoadPending b) at).1 o
   row_of_barrier_stays (barrier.Release b) at ((r, found, all), finished) = (
     arrived_stays (barrier.Release b) at (fits (barrier.Release b) at).1 (r, found, all),
     still_finished p events s rule.reached i e u step (actors j).context.region r found all finished,
   )
-  row_of_barrier_stays (barrier.LoadReleased b) at o = released_stays (barrier.LoadReleased b) at (actors j).context.number refl o
+  row_of_barrier_stays (barrier.LoadReleased b) at o =
+      released_stays (barrier.LoadReleased b) at (actors j).context.number refl o
 
-pub barrier_rows_stay : (p : Program) (w : List ℕ) (m : Memory) (events : List (ℕ × Event)) (s : State) (actors : ℕ → Actor) → Rule p w m events s actors → (i : ℕ) → i < s.count → (e : Event) (u : State) → Step p s i e u
+pub barrier_rows_stay : (p : Program) (w : List ℕ) (m : Memory) (events : List (ℕ × Event)) (s : State) (actors : ℕ → Actor)
+    → Rule p w m events s actors → (i : ℕ) → i < s.count → (e : Event) (u : State) → Step p s i e u
     → (j : ℕ) → j < s.count → j ≢ i → (c : BarrierCounter) → (actors j).counter ≡ counter.Barrier c → KeepsBarrierRow s (actors j) c → KeepsBarrierRow u (actors j) c
-barrier_rows_stay p w m events s actors rule i there e u step j known other c at o = row_of_barrier_stays p w m events s actors rule i e u step j known other c at o
+barrier_rows_stay p w m events s actors rule i there e u step j known other c at o =
+    row_of_barrier_stays p w m events s actors rule i e u step j known other c at o

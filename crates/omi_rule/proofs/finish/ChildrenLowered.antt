@@ -36,7 +36,9 @@ use Rattle.omi_rule.proofs.KeptObjects.{task_kept}
 use Rattle.omi_rule.proofs.Owing.{owed_after}
 use Rattle.omi_rule.proofs.barrier.AtCounter.{StandsAt, ahead_is, at_counter, fits_counter, owes_now, placed_counter, row_is, thread_with, wide}
 
-module _ (p : Program) (w : List ℕ) (m : Memory) (events : List (ℕ × Event)) (s : State) (actors : ℕ → Actor) (i : ℕ) (before : Before p w m events s actors i) (v : Option Wait) (t : Tid) (place : Place) (at : (actors i).counter ≡ counter.Finish (finish.SubtractChildren v t place)) where
+module _ (p : Program) (w : List ℕ) (m : Memory) (events : List (ℕ × Event)) (s : State) (actors : ℕ → Actor)
+    (i : ℕ) (before : Before p w m events s actors i) (v : Option Wait) (t : Tid) (place : Place)
+    (at : (actors i).counter ≡ counter.Finish (finish.SubtractChildren v t place)) where
   abbrev a : Actor
   a = actors i
 
@@ -65,7 +67,8 @@ module _ (p : Program) (w : List ℕ) (m : Memory) (events : List (ℕ × Event)
   n = with_task_word m g TaskChildren (one_less (word_of_task m g TaskChildren))
 
   maker : (u : Task) × (task_of s g ≡ Some u)
-  maker = let (u, live, started) = ((names_live p events s before.rule.reached).tasks t ended.task ended.live).generating ended.generating ended.made_by in (u, live)
+  maker =
+      let (u, live, started) = ((names_live p events s before.rule.reached).tasks t ended.task ended.live).generating ended.generating ended.made_by in (u, live)
 
   few : word_of_task m g TaskChildren < 2 ^ 64
   few =
@@ -78,7 +81,8 @@ module _ (p : Program) (w : List ℕ) (m : Memory) (events : List (ℕ × Event)
 
   words : KeepsWords w n s (all_owed (replace_at actors i (at_counter to a)))
   words =
-      owed_after w n s actors i (at_counter to a) (record (owed a) { lowered = None }) (ap (λ (o : Owed). record o { lowered = None }) (sym owes))
+      owed_after w n s actors i (at_counter to a) (record (owed a) { lowered = None })
+      (ap (λ (o : Owed). record o { lowered = None }) (sym owes))
       (children_subtracts_keep w m s (all_owed actors) i t g before.rule.words before.known (ap (λ (o : Owed). o.lowered) owes) (ap (λ o. option_and_then (λ x. x.generating) o) ended.live ∙ ended.made_by) few)
 
   stands_at : StandsAt p w m events s actors i before standing at tt n to
@@ -86,7 +90,8 @@ module _ (p : Program) (w : List ℕ) (m : Memory) (events : List (ℕ × Event)
 
   lowered : KeepsRule p w m events s actors i (op.Sub (of_place w (place_of g.0) TaskChildren) 1) (on_children (place_of g.0)) (at_counter to a, outcome.Quiet)
   lowered =
-      quiet_keeps p w m events s actors i before (op.Sub (of_place w (place_of g.0) TaskChildren) 1) (on_children (place_of g.0)) (at_counter to a, outcome.Quiet) refl words
+      quiet_keeps p w m events s actors i before (op.Sub (of_place w (place_of g.0) TaskChildren) 1)
+      (on_children (place_of g.0)) (at_counter to a, outcome.Quiet) refl words
       (λ j other. spares_task m s g maker.0 TaskChildren 0 (one_less (word_of_task m g TaskChildren)) j (actors j) maker.1 (inl (λ same. omega (arith, same))) (λ f of field deferred known is. place_apart f TaskChildren of refl field))
       (thread_with p w m events s actors i before standing at tt n to stands_at)
 

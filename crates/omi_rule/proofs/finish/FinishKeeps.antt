@@ -17,10 +17,17 @@ use Rattle.omi_rule.proofs.finish.Finished.{finish_keeps}
 use Rattle.omi_rule.proofs.finish.ChildrenLowered.{subtract_children_keeps}
 use Rattle.omi_rule.proofs.finish.PendingLowered.{subtract_pending_keeps}
 
-pub finish_steps_keep : (p : Program) (w : List ℕ) (m : Memory) (events : List (ℕ × Event)) (s : State) (actors : ℕ → Actor) (i : ℕ) → Before p w m events s actors i → (c : FinishCounter) → IsFinishKept c → (actors i).counter ≡ counter.Finish c
-    → StepKeeps p w m events s actors i (finish_next w (actors i) c) (λ old. (finish_moved p w (actors i) c old, finish_outcome (actors i) c))
-finish_steps_keep p w m events s actors i before finish.Finish kept at = finish_keeps p w m events s actors i before at
-finish_steps_keep p w m events s actors i before (finish.LoadGenerating v t) kept at = load_generating_keeps p w m events s actors i before v t at
-finish_steps_keep p w m events s actors i before (finish.SubtractChildren v t place) kept at = subtract_children_keeps p w m events s actors i before v t place at
-finish_steps_keep p w m events s actors i before (finish.SubtractPending v) kept at = subtract_pending_keeps p w m events s actors i before v at
+pub finish_steps_keep : (p : Program) (w : List ℕ) (m : Memory) (events : List (ℕ × Event)) (s : State) (actors : ℕ → Actor) (i : ℕ)
+    → Before p w m events s actors i → (c : FinishCounter) → IsFinishKept c
+    → (actors i).counter ≡ counter.Finish c
+    → StepKeeps p w m events s actors i (finish_next w (actors i) c)
+    (λ old. (finish_moved p w (actors i) c old, finish_outcome (actors i) c))
+finish_steps_keep p w m events s actors i before finish.Finish kept at =
+    finish_keeps p w m events s actors i before at
+finish_steps_keep p w m events s actors i before (finish.LoadGenerating v t) kept at =
+    load_generating_keeps p w m events s actors i before v t at
+finish_steps_keep p w m events s actors i before (finish.SubtractChildren v t place) kept at =
+    subtract_children_keeps p w m events s actors i before v t place at
+finish_steps_keep p w m events s actors i before (finish.SubtractPending v) kept at =
+    subtract_pending_keeps p w m events s actors i before v at
 finish_steps_keep p w m events s actors i before c kept at = absurd kept

@@ -28,7 +28,9 @@ use Rattle.omi_rule.proofs.Assembly.{Before}
 use Rattle.omi_rule.proofs.KeptObjects.{task_kept, task_there}
 use Rattle.omi_rule.proofs.barrier.AtCounter.{GoesTo, ahead_is, fits_counter, load_quiet, placed_counter, row_is, wide}
 
-module _ (p : Program) (w : List ℕ) (m : Memory) (events : List (ℕ × Event)) (s : State) (actors : ℕ → Actor) (i : ℕ) (before : Before p w m events s actors i) (v : Option Wait) (t : Tid) (at : (actors i).counter ≡ counter.Finish (finish.LoadGenerating v t)) where
+module _ (p : Program) (w : List ℕ) (m : Memory) (events : List (ℕ × Event)) (s : State) (actors : ℕ → Actor)
+    (i : ℕ) (before : Before p w m events s actors i) (v : Option Wait) (t : Tid)
+    (at : (actors i).counter ≡ counter.Finish (finish.LoadGenerating v t)) where
   abbrev a : Actor
   a = actors i
 
@@ -53,14 +55,17 @@ module _ (p : Program) (w : List ℕ) (m : Memory) (events : List (ℕ × Event)
   -- the generating task is live
   maker_there : HasTask w ended.generating
   maker_there =
-      let (u, live, started) = ((names_live p events s before.rule.reached).tasks t ended.task ended.live).generating ended.generating ended.made_by in
+      let (u, live, started) =
+      ((names_live p events s before.rule.reached).tasks t ended.task ended.live).generating ended.generating ended.made_by in
       task_there p w m events s actors before.rule ended.generating u live
 
   read_back : task_place w word ≡ place_of ended.generating.0
   read_back =
-      ap (task_place w) ((task_kept p w m events s actors before.rule t ended.task ended.live).environment TaskGenerating 0 _ refl refl)
+      ap (task_place w)
+      ((task_kept p w m events s actors before.rule t ended.task ended.live).environment TaskGenerating 0 _ refl refl)
       ∙ ap (λ (o : Option Tid). task_place w (task_word w o)) ended.made_by
-      ∙ places_back w tasks ended.generating.0.creator ended.generating.0.slot before.valid (record { from = omega arith; to = omega arith }) maker_there
+      ∙ places_back w tasks ended.generating.0.creator ended.generating.0.slot before.valid
+      (record { from = omega arith; to = omega arith }) maker_there
 
   there : IsRecordWord w t.0.creator t.0.slot (number TaskGenerating) 0
   there = record { field = numbered_field TaskGenerating; record_slot = has_task; within = wide p w m events s actors i before standing at tt (number TaskGenerating) }

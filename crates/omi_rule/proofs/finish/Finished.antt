@@ -70,7 +70,9 @@ use Rattle.omi_rule.proofs.Owing.{owed_after}
 use Rattle.omi_rule.proofs.RelistedState.{within_relisted}
 use Rattle.omi_rule.proofs.Settling.{last_item, none_behind}
 
-module _ (p : Program) (w : List ℕ) (m : Memory) (events : List (ℕ × Event)) (s : State) (actors : ℕ → Actor) (i : ℕ) (before : Before p w m events s actors i) (at : (actors i).counter ≡ counter.Finish finish.Finish) where
+module _ (p : Program) (w : List ℕ) (m : Memory) (events : List (ℕ × Event)) (s : State) (actors : ℕ → Actor)
+    (i : ℕ) (before : Before p w m events s actors i)
+    (at : (actors i).counter ≡ counter.Finish finish.Finish) where
   abbrev a : Actor
   a = actors i
 
@@ -117,30 +119,45 @@ module _ (p : Program) (w : List ℕ) (m : Memory) (events : List (ℕ × Event)
   later = events ++ (i, event.Finish a.context.task) ∷ []
 
   abbrev Goes : Actor → Type 0
-  Goes b = KeepsRule p w m events s actors i (op.Store (of_thread w a.thread ThreadCurrent) (task_address w (task_under a))) on_current (b, outcome.Event (event.Finish a.context.task))
+  Goes b =
+      KeepsRule p w m events s actors i
+      (op.Store (of_thread w a.thread ThreadCurrent) (task_address w (task_under a))) on_current
+      (b, outcome.Event (event.Finish a.context.task))
 
   is_on : IsOn w (op.Store (of_thread w a.thread ThreadCurrent) (task_address w (task_under a))) on_current
   is_on = store_on p w m events s actors i before ThreadCurrent (task_address w (task_under a)) refl
 
   -- ---- with the bodies of the stack
 
-  module _ (f : Frame) (fs : List Frame) (stack : a.stack ≡ f ∷ fs) (end : f.next ≡ length (body_in p f)) (v : Option Wait) (saved : Context) (how : f.opened ≡ opened.Task v saved) (starts : StartsAt p saved f.function fs v) (of : IsExplicitOf saved a.context)
-      (from : IsScheduledFrom s saved a.context) (suspended : IsSuspended s saved (resuming p (encounter_of s saved) fs v)) (under : KeepsBodies p s i saved fs)
-      (open_under : AreOpen p saved fs) (placed_under : AreContextsPlaced w saved fs) (apart : saved.task ≡ a.context.task → ⊥) (below : AreBelow a.context.task fs) where
+  module _ (f : Frame) (fs : List Frame) (stack : a.stack ≡ f ∷ fs) (end : f.next ≡ length (body_in p f))
+      (v : Option Wait) (saved : Context) (how : f.opened ≡ opened.Task v saved)
+      (starts : StartsAt p saved f.function fs v) (of : IsExplicitOf saved a.context)
+      (from : IsScheduledFrom s saved a.context)
+      (suspended : IsSuspended s saved (resuming p (encounter_of s saved) fs v))
+      (under : KeepsBodies p s i saved fs)
+      (open_under : AreOpen p saved fs) (placed_under : AreContextsPlaced w saved fs)
+      (apart : saved.task ≡ a.context.task → ⊥) (below : AreBelow a.context.task fs) where
     -- the thread behind the end of the task
     abbrev back : Actor
-    back = record a { context = saved; stack = fs; counter = counter.Finish (finish.LoadGenerating v a.context.task) }
+    back =
+        record a { context = saved; stack = fs; counter = counter.Finish (finish.LoadGenerating v a.context.task) }
 
     runs_under : RunsFunctions s saved fs
-    runs_under = subst (λ (o : Opened). RunsFunctions s (context_under a.context o) fs) how (subst (RunsFunctions s a.context) stack (own p w m events s actors i before x at tt).runs).1
+    runs_under =
+        subst (λ (o : Opened). RunsFunctions s (context_under a.context o) fs) how
+        (subst (RunsFunctions s a.context) stack (own p w m events s actors i before x at tt).runs).1
 
     closed_is : closed a ≡ record a { context = saved; stack = fs }
-    closed_is = ap (λ (xs : List Frame). closed_in a xs) stack ∙ ap (λ (o : Opened). record a { context = context_under a.context o; stack = fs }) how
+    closed_is =
+        ap (λ (xs : List Frame). closed_in a xs) stack
+        ∙ ap (λ (o : Opened). record a { context = context_under a.context o; stack = fs }) how
 
     finished_is : FinishSteps.past_finish a ≡ back
     finished_is =
-        ap (λ (xs : List Frame). to_finish (finish.LoadGenerating (wait_in xs) a.context.task) (closed_in a xs)) stack
-        ∙ ap (λ (o : Opened). record a { context = context_under a.context o; stack = fs; counter = counter.Finish (finish.LoadGenerating (wait_by o) a.context.task) }) how
+        ap
+        (λ (xs : List Frame). to_finish (finish.LoadGenerating (wait_in xs) a.context.task) (closed_in a xs)) stack
+        ∙ ap
+        (λ (o : Opened). record a { context = context_under a.context o; stack = fs; counter = counter.Finish (finish.LoadGenerating (wait_by o) a.context.task) }) how
 
     explicit : mine.task.implicit ≡ false
     explicit = mine.implicit ∙ of.implicit
@@ -156,7 +173,8 @@ module _ (p : Program) (w : List ℕ) (m : Memory) (events : List (ℕ × Event)
     list_is : mine.task.list ≡ item.Finish ∷ []
     list_is =
         ahead_is p w m events s actors i before x at tt ∙ ap (λ (xs : List Frame). ahead p At xs) stack
-        ∙ last_item (body_in p f) f.next (behind_body At f.opened f.function (ahead p At fs)) (none_behind (body_in p f) f.next end)
+        ∙ last_item (body_in p f) f.next (behind_body At f.opened f.function (ahead p At fs))
+        (none_behind (body_in p f) f.next end)
         ∙ ap (λ (o : Opened). behind_body At o f.function (ahead p At fs)) how
 
     taken : take_item p At (event.Finish a.context.task) mine.task.list ≡ Some (item.Finish, [])
@@ -170,12 +188,15 @@ module _ (p : Program) (w : List ℕ) (m : Memory) (events : List (ℕ × Event)
 
     -- the task that made it
     maker : (g : Tid) × (mine.task.generating ≡ Some g)
-    maker = let (g, u, by, there, less) = made_by_larger p events s before.rule.reached a.context.task mine.task mine.live explicit in (g, by)
+    maker =
+        let (g, u, by, there, less) = made_by_larger p events s before.rule.reached a.context.task mine.task mine.live explicit in (g, by)
 
     -- ---- words
 
     names : AreNamesLive listed
-    names = subst AreNamesLive (list_moved p s i a (stands p w m events s actors i before x at tt) []) (names_stay_live s i [] (names_live p events s before.rule.reached))
+    names =
+        subst AreNamesLive (list_moved p s i a (stands p w m events s actors i before x at tt) [])
+        (names_stay_live s i [] (names_live p events s before.rule.reached))
 
     word_is : task_word w mine.task.scheduling ≡ task_address w (task_under a)
     word_is = ap (task_word w) met ∙ sym (ap (λ (b : Actor). task_address w b.context.task) closed_is)
@@ -188,9 +209,11 @@ module _ (p : Program) (w : List ℕ) (m : Memory) (events : List (ℕ × Event)
 
     words : KeepsWords w stored next (put (all_owed actors) i lowers)
     words =
-        subst (λ v. KeepsWords w (with_word m i threads 0 (number ThreadCurrent) 0 v) next (put (all_owed actors) i lowers)) word_is
+        subst
+        (λ v. KeepsWords w (with_word m i threads 0 (number ThreadCurrent) 0 v) next (put (all_owed actors) i lowers)) word_is
         (finishes_keep w m listed (all_owed actors) i a.context.task maker.0 ended_task (relisted_words p w m events s actors i before x at tt [])
-        (within_relisted s a.context.task [] w before.rule.within) names before.known (owes_now p w m events s actors i before x at tt)
+        (within_relisted s a.context.task [] w before.rule.within) names before.known
+        (owes_now p w m events s actors i before x at tt)
         (record { live = current_listed.live; explicit = explicit; progress = mine.begun }) maker.1)
 
     -- ---- the thread
@@ -209,7 +232,8 @@ module _ (p : Program) (w : List ℕ) (m : Memory) (events : List (ℕ × Event)
           current = ap (λ (h : Thread). h.current) (put_same s.threads i (record (s.threads i) { current = mine.task.scheduling })) ∙ met;
           bodies = under_kept p s next i a.context.task leaves saved fs apart below under;
           ahead = λ t live.
-              let one : suspended.task ≡ t = some_same suspended.live (sym (task_kept p s next i a.context.task leaves saved apart) ∙ live) in
+              let one : suspended.task ≡ t =
+              some_same suspended.live (sym (task_kept p s next i a.context.task leaves saved apart) ∙ live) in
               subst (λ (e : Encounter). IsAhead p e fs back.counter t.list) (sym sees_same) (ap (λ (u : Task). u.list) (sym one) ∙ suspended.list_is);
         }
 
@@ -265,23 +289,33 @@ module _ (p : Program) (w : List ℕ) (m : Memory) (events : List (ℕ × Event)
   pub finish_keeps : StepKeeps p w m events s actors i (finish_next w (actors i) finish.Finish) (λ old. (finish_moved p w (actors i) finish.Finish old, finish_outcome (actors i) finish.Finish))
   finish_keeps = (on_current, is_on, with_bodies)
     where
-      by : (f : Frame) (fs : List Frame) → a.stack ≡ f ∷ fs → f.next ≡ length (body_in p f) → (o : Opened) → f.opened ≡ o → IsExplicit o → StandsOn p a.context f.function fs o → KeepsBody p s a.context o fs → KeepsBodies p s i (context_under a.context o) fs
+      by : (f : Frame) (fs : List Frame) → a.stack ≡ f ∷ fs → f.next ≡ length (body_in p f) → (o : Opened)
+          → f.opened ≡ o → IsExplicit o → StandsOn p a.context f.function fs o → KeepsBody p s a.context o fs
+          → KeepsBodies p s i (context_under a.context o) fs
           → AreOpen p (context_under a.context o) fs → AreContextsPlaced w (context_under a.context o) fs → AreBelow a.context.task (f ∷ fs) → Goes (FinishSteps.past_finish a)
       by f fs is end (opened.Task v saved) how task_body (starts, of) (from, suspended) under open_under placed_under (apart, below) =
-          goes f fs is end v saved how starts of from suspended under open_under placed_under (subst (IsBelow a.context.task) how apart) below
+          goes f fs is end v saved how starts of from suspended under open_under placed_under
+          (subst (IsBelow a.context.task) how apart) below
       by f fs is end opened.Main how task_body on keeps under open_under placed_under below = absurd task_body
-      by f fs is end opened.Worker how task_body on keeps under open_under placed_under below = absurd task_body
-      by f fs is end (opened.Master saved) how task_body on keeps under open_under placed_under below = absurd task_body
+      by f fs is end opened.Worker how task_body on keeps under open_under placed_under below =
+          absurd task_body
+      by f fs is end (opened.Master saved) how task_body on keeps under open_under placed_under below =
+          absurd task_body
       by f fs is end opened.Call how task_body on keeps under open_under placed_under below = absurd task_body
-      by f fs is end (opened.Repeat left) how task_body on keeps under open_under placed_under below = absurd task_body
-      by f fs is end (opened.Critical k) how task_body on keeps under open_under placed_under below = absurd task_body
+      by f fs is end (opened.Repeat left) how task_body on keeps under open_under placed_under below =
+          absurd task_body
+      by f fs is end (opened.Critical k) how task_body on keeps under open_under placed_under below =
+          absurd task_body
 
       with_bodies : Goes (FinishSteps.past_finish a)
       with_bodies =
           let (f, fs, is, task) = body p w m events s actors i before x at tt in
           let o = own p w m events s actors i before x at tt in
           let (open_body, open_rest) = subst (AreOpen p a.context) is o.fits.bodies in
-          let (top, keeps, rest) = subst (KeepsBodies p s i a.context) is (stands p w m events s actors i before x at tt).bodies in
+          let (top, keeps, rest) =
+          subst (KeepsBodies p s i a.context) is (stands p w m events s actors i before x at tt).bodies in
           let placed = subst (AreContextsPlaced w a.context) is o.placed.bodies in
-          let (end, task_body) = subst (IsAtEnd p IsExplicit) is (fits_counter p w m events s actors i before x at tt) in
-          by f fs is end f.opened refl task_body open_body.stands keeps rest open_rest placed.1 (subst (AreBelow a.context.task) is (own_below p s i a (stands p w m events s actors i before x at tt) events before.rule.reached))
+          let (end, task_body) =
+          subst (IsAtEnd p IsExplicit) is (fits_counter p w m events s actors i before x at tt) in
+          by f fs is end f.opened refl task_body open_body.stands keeps rest open_rest placed.1
+          (subst (AreBelow a.context.task) is (own_below p s i a (stands p w m events s actors i before x at tt) events before.rule.reached))

@@ -38,7 +38,9 @@ use Rattle.omi_rule.proofs.CountsFew.{pending_few}
 use Rattle.omi_rule.proofs.Owing.{owed_after}
 use Rattle.omi_rule.proofs.barrier.AtCounter.{StandsAt, ahead_is, at_counter, fits_counter, here, is_context, keeps_region, owes_now, region_word, sees, sees_debug, thread_with, word_of}
 
-module _ (p : Program) (w : List ℕ) (m : Memory) (events : List (ℕ × Event)) (s : State) (actors : ℕ → Actor) (i : ℕ) (before : Before p w m events s actors i) (v : Option Wait) (at : (actors i).counter ≡ counter.Finish (finish.SubtractPending v)) where
+module _ (p : Program) (w : List ℕ) (m : Memory) (events : List (ℕ × Event)) (s : State) (actors : ℕ → Actor)
+    (i : ℕ) (before : Before p w m events s actors i) (v : Option Wait)
+    (at : (actors i).counter ≡ counter.Finish (finish.SubtractPending v)) where
   abbrev a : Actor
   a = actors i
 
@@ -52,7 +54,9 @@ module _ (p : Program) (w : List ℕ) (m : Memory) (events : List (ℕ × Event)
   list = (here p w m events s actors i before standing at tt).task.list
 
   abbrev n : Memory
-  n = with_region_word m a.context.region RegionPending (one_less (word_of_region m a.context.region RegionPending))
+  n =
+      with_region_word m a.context.region RegionPending
+      (one_less (word_of_region m a.context.region RegionPending))
 
   few : word_of_region m a.context.region RegionPending < 2 ^ 64
   few =
@@ -65,15 +69,21 @@ module _ (p : Program) (w : List ℕ) (m : Memory) (events : List (ℕ × Event)
 
   words : KeepsWords w n s (replace_at (all_owed actors) i nothing)
   words =
-      subst (λ (o : Owed). KeepsWords w n s (replace_at (all_owed actors) i o)) (ap (λ (o : Owed). record o { pending = None }) owes)
+      subst (λ (o : Owed). KeepsWords w n s (replace_at (all_owed actors) i o))
+      (ap (λ (o : Owed). record o { pending = None }) owes)
       (pending_subtracts_keep w m s (all_owed actors) i a.context.region before.rule.words before.known (ap (λ (o : Owed). o.pending) owes) few)
 
   abbrev Goes : Counter → Type 0
-  Goes to = KeepsRule p w m events s actors i (op.Sub (of_region w a.context.region RegionPending) 1) (word_of p w m events s actors i before standing at tt RegionPending) (at_counter to a, outcome.Quiet)
+  Goes to =
+      KeepsRule p w m events s actors i (op.Sub (of_region w a.context.region RegionPending) 1)
+      (word_of p w m events s actors i before standing at tt RegionPending) (at_counter to a, outcome.Quiet)
 
-  leads : (to : Counter) → owed (at_counter to a) ≡ nothing → StandsAt p w m events s actors i before standing at tt n to → Goes to
+  leads : (to : Counter) → owed (at_counter to a) ≡ nothing
+      → StandsAt p w m events s actors i before standing at tt n to → Goes to
   leads to idle stands =
-      quiet_keeps p w m events s actors i before (op.Sub (of_region w a.context.region RegionPending) 1) (word_of p w m events s actors i before standing at tt RegionPending) (at_counter to a, outcome.Quiet) refl
+      quiet_keeps p w m events s actors i before (op.Sub (of_region w a.context.region RegionPending) 1)
+      (word_of p w m events s actors i before standing at tt RegionPending)
+      (at_counter to a, outcome.Quiet) refl
       (owed_after w n s actors i (at_counter to a) nothing idle words)
       (λ j other. spares_region m s a.context.region (here p w m events s actors i before standing at tt).region RegionPending 0 (one_less (word_of_region m a.context.region RegionPending)) j (actors j) (here p w m events s actors i before standing at tt).found (inl (λ same. omega (arith, same))))
       (thread_with p w m events s actors i before standing at tt n to stands)
@@ -84,13 +94,15 @@ module _ (p : Program) (w : List ℕ) (m : Memory) (events : List (ℕ × Event)
   enters _ is = absurd is
 
   some_slot : 0 < 4 * a.context.size
-  some_slot = let some = (is_context p w m events s actors i before standing at tt).size.0 in omega (arith, some)
+  some_slot =
+      let some = (is_context p w m events s actors i before standing at tt).size.0 in omega (arith, some)
 
   -- the wait goes on. Its state is stored first where states are kept
   abbrev by_debug : Wait → Bool → Counter
   by_debug x b = counter.Look (if b then look.State x else look.LoadRow x 0)
 
-  barrier_waits : (x : Barrier) (b : Bool) → p.env.debug ≡ b → IsBack p a (Some (wait.Barrier x)) → list ≡ resuming p At a.stack (Some (wait.Barrier x)) → Goes (by_debug (wait.Barrier x) b)
+  barrier_waits : (x : Barrier) (b : Bool) → p.env.debug ≡ b → IsBack p a (Some (wait.Barrier x))
+      → list ≡ resuming p At a.stack (Some (wait.Barrier x)) → Goes (by_debug (wait.Barrier x) b)
   barrier_waits x true e back is =
       leads (counter.Look (look.State (wait.Barrier x))) refl
       (record { fits = (back, tt); placed = tt; ahead = is ∙ ap (λ (d : Bool). if d then item.State (Ahead.barrier_state x) 0 ∷ Ahead.arrived p At a.stack x else Ahead.arrived p At a.stack x) (sees_debug p w m events s actors i before standing at tt ∙ e); row = tt; ended = tt })
@@ -98,7 +110,8 @@ module _ (p : Program) (w : List ℕ) (m : Memory) (events : List (ℕ × Event)
       leads (counter.Look (look.LoadRow (wait.Barrier x) 0)) refl
       (record { fits = ((back, some_slot), refl); placed = tt; ahead = is ∙ ap (λ (d : Bool). if d then item.State (Ahead.barrier_state x) 0 ∷ Ahead.arrived p At a.stack x else Ahead.arrived p At a.stack x) (sees_debug p w m events s actors i before standing at tt ∙ e); row = tt; ended = tt })
 
-  task_waits : (b : Bool) → p.env.debug ≡ b → IsBack p a (Some wait.Taskwait) → list ≡ resuming p At a.stack (Some wait.Taskwait) → Goes (by_debug wait.Taskwait b)
+  task_waits : (b : Bool) → p.env.debug ≡ b → IsBack p a (Some wait.Taskwait)
+      → list ≡ resuming p At a.stack (Some wait.Taskwait) → Goes (by_debug wait.Taskwait b)
   task_waits true e back is =
       leads (counter.Look (look.State wait.Taskwait)) refl
       (record { fits = (back, tt); placed = tt; ahead = is ∙ ap (λ (d : Bool). if d then item.State WAIT_TASKWAIT 0 ∷ Ahead.waiting p At a.stack wait.Taskwait else Ahead.waiting p At a.stack wait.Taskwait) (sees_debug p w m events s actors i before standing at tt ∙ e); row = tt; ended = tt })
@@ -106,13 +119,18 @@ module _ (p : Program) (w : List ℕ) (m : Memory) (events : List (ℕ × Event)
       leads (counter.Look (look.LoadRow wait.Taskwait 0)) refl
       (record { fits = ((back, some_slot), refl); placed = tt; ahead = is ∙ ap (λ (d : Bool). if d then item.State WAIT_TASKWAIT 0 ∷ Ahead.waiting p At a.stack wait.Taskwait else Ahead.waiting p At a.stack wait.Taskwait) (sees_debug p w m events s actors i before standing at tt ∙ e); row = tt; ended = tt })
 
-  waits : (x : Wait) → IsBack p a (Some x) → list ≡ resuming p At a.stack (Some x) → Goes (behind_finish p (Some x))
+  waits : (x : Wait) → IsBack p a (Some x) → list ≡ resuming p At a.stack (Some x)
+      → Goes (behind_finish p (Some x))
   waits (wait.Barrier x) back is = barrier_waits x p.env.debug refl back is
   waits wait.Taskwait back is = task_waits p.env.debug refl back is
-  waits wait.Taskyield back is = leads (counter.Look (look.Yield 0)) refl (record { fits = (back, inl refl); placed = tt; ahead = inr is; row = tt; ended = tt })
+  waits wait.Taskyield back is =
+      leads (counter.Look (look.Yield 0)) refl
+      (record { fits = (back, inl refl); placed = tt; ahead = inr is; row = tt; ended = tt })
 
   back_at : (x : Option Wait) → IsBack p a x → list ≡ resuming p At a.stack x → Goes (behind_finish p x)
-  back_at None (y, is_at, task) is = leads (counter.Plain plain.Leave) refl (record { fits = (y, is_at, enters y task); placed = tt; ahead = is; row = tt; ended = tt })
+  back_at None (y, is_at, task) is =
+      leads (counter.Plain plain.Leave) refl
+      (record { fits = (y, is_at, enters y task); placed = tt; ahead = is; row = tt; ended = tt })
   back_at (Some x) back is = waits x back is
 
   pub subtract_pending_keeps : StepKeeps p w m events s actors i (finish_next w (actors i) (finish.SubtractPending v)) (λ old. (finish_moved p w (actors i) (finish.SubtractPending v) old, finish_outcome (actors i) (finish.SubtractPending v)))

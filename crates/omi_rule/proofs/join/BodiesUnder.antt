@@ -25,11 +25,13 @@ use Rattle.omi_rule.proofs.Own.{AreBelow, IsBelow}
 pub record LeavesUnder (s u : State) (k : Tid) : Type 0 where
   pub environment : u.environment ≡ s.environment
   pub others : (n : Tid) → (n.0 ≡ k.0 → ⊥) → task_of u n ≡ task_of s n
-  pub regions : (n : Rid) (r : Region) → region_of s n ≡ Some r → (q : Region) × (region_of u n ≡ Some q) × (q.team ≡ r.team) × (q.levels ≡ r.levels) × (q.arrivals ≡ r.arrivals)
+  pub regions : (n : Rid) (r : Region) → region_of s n ≡ Some r
+      → (q : Region) × (region_of u n ≡ Some q) × (q.team ≡ r.team) × (q.levels ≡ r.levels) × (q.arrivals ≡ r.arrivals)
 
 module _ (p : Program) (s u : State) (i : ℕ) (k : Tid) (leaves : LeavesUnder s u k) where
   pub task_kept : (c : Context) → (c.task ≡ k → ⊥) → task_of u c.task ≡ task_of s c.task
-  task_kept c apart = leaves.others c.task (λ (e : c.task.0 ≡ k.0). apart (ap (λ (d : Id). record { 0 = d }) e))
+  task_kept c apart =
+      leaves.others c.task (λ (e : c.task.0 ≡ k.0). apart (ap (λ (d : Id). record { 0 = d }) e))
 
   context_kept : (c : Context) → (c.task ≡ k → ⊥) → KeepsContext s i c → KeepsContext u i c
   context_kept c apart o =
@@ -51,21 +53,29 @@ module _ (p : Program) (s u : State) (i : ℕ) (k : Tid) (leaves : LeavesUnder s
         arrivals = ap (λ (xs : List ℕ). slice_index xs c.number) arrivals ∙ o.arrivals;
       }
 
-  pub encounter_kept : (c : Context) → (c.task ≡ k → ⊥) → KeepsContext s i c → encounter_of u c ≡ encounter_of s c
+  pub encounter_kept : (c : Context) → (c.task ≡ k → ⊥) → KeepsContext s i c
+      → encounter_of u c ≡ encounter_of s c
   encounter_kept c apart o =
       let found_task : region_of s o.task.region ≡ Some o.region = ap (region_of s) o.region_is ∙ o.found in
       let (q, found, team, levels, arrivals) = leaves.regions o.task.region o.region found_task in
       let level : level_of u o.task.region ≡ level_of s o.task.region =
-      ap (λ (x : Option Region). option_map_or (λ r. r.levels) x 0) found ∙ levels ∙ sym (ap (λ (x : Option Region). option_map_or (λ r. r.levels) x 0) found_task) in
+      ap (λ (x : Option Region). option_map_or (λ r. r.levels) x 0) found
+      ∙ levels
+      ∙ sym (ap (λ (x : Option Region). option_map_or (λ r. r.levels) x 0) found_task) in
       ap (encounter_by u) (task_kept c apart ∙ o.live)
-      ∙ ap (λ (b : Bool). record { debug = b; number = o.task.number; level = level_of u o.task.region; is_final = o.task.is_final }) (ap (λ (e : Env). e.debug) leaves.environment)
-      ∙ ap (λ l. record { debug = s.environment.debug; number = o.task.number; level = l; is_final = o.task.is_final }) level
+      ∙ ap
+      (λ (b : Bool). record { debug = b; number = o.task.number; level = level_of u o.task.region; is_final = o.task.is_final })
+      (ap (λ (e : Env). e.debug) leaves.environment)
+      ∙ ap
+      (λ l. record { debug = s.environment.debug; number = o.task.number; level = l; is_final = o.task.is_final }) level
       ∙ sym (ap (encounter_by s) o.live)
 
-  scheduled_kept : (saved c : Context) → (c.task ≡ k → ⊥) → IsScheduledFrom s saved c → IsScheduledFrom u saved c
+  scheduled_kept : (saved c : Context) → (c.task ≡ k → ⊥) → IsScheduledFrom s saved c
+      → IsScheduledFrom u saved c
   scheduled_kept saved c apart x = record { task = x.task; live = task_kept c apart ∙ x.live; scheduling = x.scheduling }
 
-  suspended_kept : (c : Context) (list new : List Item) → (c.task ≡ k → ⊥) → new ≡ list → IsSuspended s c list → IsSuspended u c new
+  suspended_kept : (c : Context) (list new : List Item) → (c.task ≡ k → ⊥) → new ≡ list → IsSuspended s c list
+      → IsSuspended u c new
   suspended_kept c list new apart same x = record { task = x.task; live = task_kept c apart ∙ x.live; list_is = x.list_is ∙ sym same }
 
   -- the task under a body is not the one that has ended
@@ -78,7 +88,8 @@ module _ (p : Program) (s u : State) (i : ℕ) (k : Tid) (leaves : LeavesUnder s
   under_apart c (opened.Repeat left) apart below = apart
   under_apart c (opened.Critical lock) apart below = apart
 
-  body_kept : (c : Context) (o : Opened) (fs : List Frame) → (c.task ≡ k → ⊥) → IsBelow k o → KeepsContext s i (context_under c o) → KeepsBody p s c o fs → KeepsBody p u c o fs
+  body_kept : (c : Context) (o : Opened) (fs : List Frame) → (c.task ≡ k → ⊥) → IsBelow k o
+      → KeepsContext s i (context_under c o) → KeepsBody p s c o fs → KeepsBody p u c o fs
   body_kept c opened.Main fs apart below l keeps = keeps
   body_kept c (opened.Master saved) fs apart below l (from, suspended) =
       (scheduled_kept saved c apart from, suspended_kept saved _ _ below (ap (λ at. working at (leaving p at fs)) (encounter_kept saved below l)) suspended)
@@ -89,7 +100,8 @@ module _ (p : Program) (s u : State) (i : ℕ) (k : Tid) (leaves : LeavesUnder s
   body_kept c (opened.Repeat left) fs apart below l keeps = tt
   body_kept c (opened.Critical lock) fs apart below l keeps = tt
 
-  pub under_kept : (c : Context) (fs : List Frame) → (c.task ≡ k → ⊥) → AreBelow k fs → KeepsBodies p s i c fs → KeepsBodies p u i c fs
+  pub under_kept : (c : Context) (fs : List Frame) → (c.task ≡ k → ⊥) → AreBelow k fs → KeepsBodies p s i c fs
+      → KeepsBodies p u i c fs
   under_kept c [] apart below o = context_kept c apart o
   under_kept c (f ∷ fs) apart (here, below) (o, body, rest) = (
     context_kept c apart o,

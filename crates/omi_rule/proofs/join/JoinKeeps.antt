@@ -19,17 +19,28 @@ use Rattle.omi_rule.proofs.barrier.AtCounter.{row_is}
 use Rattle.omi_rule.proofs.join.Joined.{join_from}
 use Rattle.omi_rule.proofs.join.LoadsLeft.{load_left_keeps, none_owes, others_ended}
 
-join_keeps : (p : Program) (w : List ℕ) (m : Memory) (events : List (ℕ × Event)) (s : State) (actors : ℕ → Actor) (i : ℕ) → Before p w m events s actors i → (actors i).counter ≡ counter.Join join.Join
-    → StepKeeps p w m events s actors i (join_next w (actors i) join.Join) (λ old. (join_moved p w (actors i) join.Join old, join_outcome w (actors i) join.Join old))
+join_keeps : (p : Program) (w : List ℕ) (m : Memory) (events : List (ℕ × Event)) (s : State) (actors : ℕ → Actor) (i : ℕ)
+    → Before p w m events s actors i → (actors i).counter ≡ counter.Join join.Join
+    → StepKeeps p w m events s actors i (join_next w (actors i) join.Join)
+    (λ old. (join_moved p w (actors i) join.Join old, join_outcome w (actors i) join.Join old))
 join_keeps p w m events s actors i before at =
     let (maker, enough) = row_is p w m events s actors i before (counter.Join join.Join) at tt in
-    let full = subst (λ k. (actors i).context.size - 1 ≤ m k regions (actors i).context.region.0.slot (number RegionLeft) 0) (sym maker) enough in
-    join_from p w m events s actors i before at (others_ended p w m events s actors i before join.Join at full) (none_owes p w m events s actors i before join.Join at full)
+    let full =
+    subst
+    (λ k. (actors i).context.size - 1 ≤ m k regions (actors i).context.region.0.slot (number RegionLeft) 0)
+    (sym maker) enough in
+    join_from p w m events s actors i before at
+    (others_ended p w m events s actors i before join.Join at full)
+    (none_owes p w m events s actors i before join.Join at full)
 
-pub join_steps_keep : (p : Program) (w : List ℕ) (m : Memory) (events : List (ℕ × Event)) (s : State) (actors : ℕ → Actor) (i : ℕ) → Before p w m events s actors i → (c : JoinCounter) → IsJoinKept c → (actors i).counter ≡ counter.Join c
-    → StepKeeps p w m events s actors i (join_next w (actors i) c) (λ old. (join_moved p w (actors i) c old, join_outcome w (actors i) c old))
-join_steps_keep p w m events s actors i before join.LoadLeft kept at = load_left_keeps p w m events s actors i before at
-join_steps_keep p w m events s actors i before join.Join kept at = join_keeps p w m events s actors i before at
+pub join_steps_keep : (p : Program) (w : List ℕ) (m : Memory) (events : List (ℕ × Event)) (s : State) (actors : ℕ → Actor) (i : ℕ)
+    → Before p w m events s actors i → (c : JoinCounter) → IsJoinKept c → (actors i).counter ≡ counter.Join c
+    → StepKeeps p w m events s actors i (join_next w (actors i) c)
+    (λ old. (join_moved p w (actors i) c old, join_outcome w (actors i) c old))
+join_steps_keep p w m events s actors i before join.LoadLeft kept at =
+    load_left_keeps p w m events s actors i before at
+join_steps_keep p w m events s actors i before join.Join kept at =
+    join_keeps p w m events s actors i before at
 join_steps_keep p w m events s actors i before (join.LoadMember r size member) kept at = absurd kept
 join_steps_keep p w m events s actors i before (join.LoadLife r size member t) kept at = absurd kept
 join_steps_keep p w m events s actors i before (join.FreeTask r size member t) kept at = absurd kept

@@ -72,7 +72,8 @@ use Rattle.omi_model.proofs.StaysKept.{stays_step}
 use Rattle.omi_rule.specs.Chains.{RunsFunctions}
 use Rattle.omi_rule.proofs.Runs.{bodies_run}
 
-module _ (p : Program) (w : List ℕ) (m : Memory) (events : List (ℕ × Event)) (s : State) (actors : ℕ → Actor) (i : ℕ) (before : Before p w m events s actors i) (at : (actors i).counter ≡ counter.Join join.Join) where
+module _ (p : Program) (w : List ℕ) (m : Memory) (events : List (ℕ × Event)) (s : State) (actors : ℕ → Actor)
+    (i : ℕ) (before : Before p w m events s actors i) (at : (actors i).counter ≡ counter.Join join.Join) where
   abbrev a : Actor
   a = actors i
 
@@ -107,13 +108,19 @@ module _ (p : Program) (w : List ℕ) (m : Memory) (events : List (ℕ × Event)
   current_listed = current_moved s i a.context.task current.name [] a.context.task mine.task current
 
   taken : take_item p At (event.Join a.context.region) mine.task.list ≡ Some (item.Join, [])
-  taken = ap (λ xs. take_item p At (event.Join a.context.region) xs) (ahead_is p w m events s actors i before x at tt)
+  taken =
+      ap (λ xs. take_item p At (event.Join a.context.region) xs)
+      (ahead_is p w m events s actors i before x at tt)
 
   -- ---- what stays
 
-  regions_go_on : (n : Rid) (r : Region) → region_of s n ≡ Some r → (q : Region) × (region_of next n ≡ Some q) × (q.team ≡ r.team) × (q.levels ≡ r.levels) × (q.arrivals ≡ r.arrivals)
+  regions_go_on : (n : Rid) (r : Region) → region_of s n ≡ Some r
+      → (q : Region) × (region_of next n ≡ Some q) × (q.team ≡ r.team) × (q.levels ≡ r.levels) × (q.arrivals ≡ r.arrivals)
   regions_go_on n r live =
-      let (q, found, same) = changed s.regions mine.task.region is_over (λ x y. (y.team ≡ x.team) × (y.levels ≡ x.levels) × (y.arrivals ≡ x.arrivals)) n r live (λ _. (refl, refl, refl)) (λ _. (refl, refl, refl)) in
+      let (q, found, same) =
+      changed s.regions mine.task.region is_over
+      (λ x y. (y.team ≡ x.team) × (y.levels ≡ x.levels) × (y.arrivals ≡ x.arrivals)) n r live
+      (λ _. (refl, refl, refl)) (λ _. (refl, refl, refl)) in
       (q, found, same.0, same.1, same.2)
 
   leaves : LeavesUnder s next a.context.task
@@ -132,26 +139,39 @@ module _ (p : Program) (w : List ℕ) (m : Memory) (events : List (ℕ × Event)
   later = events ++ (i, event.Join a.context.region) ∷ []
 
   abbrev Goes : Actor → Type 0
-  Goes b = KeepsRule p w m events s actors i (op.Store (of_thread w a.thread ThreadCurrent) (task_address w (task_under a))) on_current (b, outcome.Event (event.Join a.context.region))
+  Goes b =
+      KeepsRule p w m events s actors i
+      (op.Store (of_thread w a.thread ThreadCurrent) (task_address w (task_under a))) on_current
+      (b, outcome.Event (event.Join a.context.region))
 
   is_on : IsOn w (op.Store (of_thread w a.thread ThreadCurrent) (task_address w (task_under a))) on_current
   is_on = store_on p w m events s actors i before ThreadCurrent (task_address w (task_under a)) refl
 
   -- ---- with the bodies of the stack
 
-  module _ (f : Frame) (fs : List Frame) (stack : a.stack ≡ f ∷ fs) (saved : Context) (how : f.opened ≡ opened.Master saved) (num : Option ℕ) (at_construct : IsAt p fs (stmt.Parallel f.function num)) (master : IsMasterOf saved a.context)
-      (from : IsScheduledFrom s saved a.context) (suspended : IsSuspended s saved (working_row (encounter_of s saved) (leaving p (encounter_of s saved) fs))) (under : KeepsBodies p s i saved fs)
-      (open_under : AreOpen p saved fs) (placed_under : AreContextsPlaced w saved fs) (apart : saved.task ≡ a.context.task → ⊥) (below : AreBelow a.context.task fs)
-      (ended : All (λ b. b ≡ true) (drop 1 mine.region.ended)) (none_owes : (j : ℕ) → j < s.count → (all_owed actors j).left ≢ Some a.context.region) where
+  module _ (f : Frame) (fs : List Frame) (stack : a.stack ≡ f ∷ fs) (saved : Context)
+      (how : f.opened ≡ opened.Master saved) (num : Option ℕ)
+      (at_construct : IsAt p fs (stmt.Parallel f.function num)) (master : IsMasterOf saved a.context)
+      (from : IsScheduledFrom s saved a.context)
+      (suspended : IsSuspended s saved (working_row (encounter_of s saved) (leaving p (encounter_of s saved) fs)))
+      (under : KeepsBodies p s i saved fs)
+      (open_under : AreOpen p saved fs) (placed_under : AreContextsPlaced w saved fs)
+      (apart : saved.task ≡ a.context.task → ⊥) (below : AreBelow a.context.task fs)
+      (ended : All (λ b. b ≡ true) (drop 1 mine.region.ended))
+      (none_owes : (j : ℕ) → j < s.count → (all_owed actors j).left ≢ Some a.context.region) where
     -- the thread behind the join
     abbrev back : Actor
     back = record a { context = saved; stack = fs }
 
     runs_under : RunsFunctions s saved fs
-    runs_under = subst (λ (o : Opened). RunsFunctions s (context_under a.context o) fs) how (subst (RunsFunctions s a.context) stack (own p w m events s actors i before x at tt).runs).1
+    runs_under =
+        subst (λ (o : Opened). RunsFunctions s (context_under a.context o) fs) how
+        (subst (RunsFunctions s a.context) stack (own p w m events s actors i before x at tt).runs).1
 
     closed_is : closed a ≡ back
-    closed_is = ap (λ (xs : List Frame). closed_in a xs) stack ∙ ap (λ (o : Opened). record a { context = context_under a.context o; stack = fs }) how
+    closed_is =
+        ap (λ (xs : List Frame). closed_in a xs) stack
+        ∙ ap (λ (o : Opened). record a { context = context_under a.context o; stack = fs }) how
 
     met : mine.region.encountering ≡ Some saved.task
     met = met_by p events s before.rule.reached i saved a.context mine master from
@@ -169,7 +189,8 @@ module _ (p : Program) (w : List ℕ) (m : Memory) (events : List (ℕ × Event)
 
     words : KeepsWords w (with_word m i threads 0 (number ThreadCurrent) 0 (task_address w (task_under a))) next (all_owed actors)
     words =
-        subst (λ v. KeepsWords w (with_word m i threads 0 (number ThreadCurrent) 0 v) next (all_owed actors)) word_is
+        subst
+        (λ v. KeepsWords w (with_word m i threads 0 (number ThreadCurrent) 0 v) next (all_owed actors)) word_is
         (joins_keep w m listed (all_owed actors) i a.context.task ended_task mine.region (relisted_words p w m events s actors i before x at tt []) before.known
         (record { live = current_listed.live; implicit = mine.implicit ∙ master.implicit; progress = mine.begun; region = there })
         (λ j known owes. none_owes j known (owes ∙ ap (λ (n : Rid). Some n) mine.region_is)))
@@ -185,28 +206,38 @@ module _ (p : Program) (w : List ℕ) (m : Memory) (events : List (ℕ × Event)
     abbrev goes_on : List Item
     goes_on = working_row (encounter_of s saved) (leaving p (encounter_of s saved) fs)
 
-    stands_back : (y : Counter) → IsAhead p (encounter_of s saved) fs y goes_on → Stands p next i (record back { counter = y })
+    stands_back : (y : Counter) → IsAhead p (encounter_of s saved) fs y goes_on
+        → Stands p next i (record back { counter = y })
     stands_back y ahead = by fs refl
       where
-        in_task : (g : Frame) (gs : List Frame) → fs ≡ g ∷ gs → StandsWith p next i (record back { counter = y }) (g ∷ gs)
+        in_task : (g : Frame) (gs : List Frame) → fs ≡ g ∷ gs
+            → StandsWith p next i (record back { counter = y }) (g ∷ gs)
         in_task g gs is = record {
           current = ap (λ (h : Thread). h.current) (put_same s.threads i (record (s.threads i) { current = mine.region.encountering })) ∙ met;
           bodies = under_kept p s next i a.context.task leaves saved fs apart below under;
           ahead = λ t live.
-              let one : suspended.task ≡ t = some_same suspended.live (sym (task_kept p s next i a.context.task leaves saved apart) ∙ live) in
+              let one : suspended.task ≡ t =
+              some_same suspended.live (sym (task_kept p s next i a.context.task leaves saved apart) ∙ live) in
               subst (λ (e : Encounter). IsAhead p e fs y t.list) (sym sees_same)
               (subst (λ (xs : List Item). IsAhead p (encounter_of s saved) fs y xs) (sym suspended.list_is ∙ ap (λ (v : Task). v.list) one) ahead);
         }
 
         by : (xs : List Frame) → fs ≡ xs → StandsWith p next i (record back { counter = y }) xs
-        by [] is = absurd (cc (subst (λ (xs : List Frame). IsAt p xs (stmt.Parallel f.function num)) is at_construct))
+        by [] is =
+            absurd
+            (cc (subst (λ (xs : List Frame). IsAt p xs (stmt.Parallel f.function num)) is at_construct))
         by (g ∷ gs) is = in_task g gs is
 
-    leads_to : (y : PlainCounter) → FitsPlain p (record back { counter = counter.Plain y }) y → IsAhead p (encounter_of s saved) fs (counter.Plain y) goes_on → HasEnded later i (counter.Plain y) → Goes (record back { counter = counter.Plain y })
+    leads_to : (y : PlainCounter) → FitsPlain p (record back { counter = counter.Plain y }) y
+        → IsAhead p (encounter_of s saved) fs (counter.Plain y) goes_on → HasEnded later i (counter.Plain y)
+        → Goes (record back { counter = counter.Plain y })
     leads_to y fits ahead over =
         let o = own p w m events s actors i before x at tt in
         let v = task_address w (task_under a) in
-        plain_event_keeps p w m events s actors i before (op.Store (of_thread w a.thread ThreadCurrent) v) on_current (record back { counter = counter.Plain y }, outcome.Event (event.Join a.context.region)) (event.Join a.context.region) next
+        plain_event_keeps p w m events s actors i before
+        (op.Store (of_thread w a.thread ThreadCurrent) v) on_current
+        (record back { counter = counter.Plain y }, outcome.Event (event.Join a.context.region))
+        (event.Join a.context.region) next
         (λ no_object. no_object) refl step (v, ap (λ j. op.Store (of_thread w j ThreadCurrent) v) o.thread)
         (none_new p w m events s actors i before x at tt (event.Join a.context.region) item.Join [] next taken step (λ g e. absurd (cc e)))
         (moves_keep w (with_word m i threads 0 (number ThreadCurrent) 0 v) next actors i (record back { counter = counter.Plain y }) words (sym (owes_now p w m events s actors i before x at tt)))
@@ -231,7 +262,9 @@ module _ (p : Program) (w : List ℕ) (m : Memory) (events : List (ℕ × Event)
     goes : Goes (rejoined p a)
     goes = subst Goes (sym (ap (λ (b : Actor). back_to_work p b) closed_is)) (of_frame fs refl at_construct)
       where
-        by : (d : Bool) → p.env.debug ≡ d → worked p back ≡ record back { counter = counter.Plain plain.Leave } → Ahead.worked p (encounter_of s saved) fs ≡ leaving p (encounter_of s saved) fs
+        by : (d : Bool) → p.env.debug ≡ d
+            → worked p back ≡ record back { counter = counter.Plain plain.Leave }
+            → Ahead.worked p (encounter_of s saved) fs ≡ leaving p (encounter_of s saved) fs
             → Goes (if d then record back { counter = counter.Plain plain.WorkState } else worked p back)
         by true e leave ahead =
             leads_to plain.WorkState (inr (stmt.Parallel f.function num, at_construct, tt))
@@ -243,26 +276,35 @@ module _ (p : Program) (w : List ℕ) (m : Memory) (events : List (ℕ × Event)
             (leads_to plain.Leave (stmt.Parallel f.function num, at_construct, tt)
             (ap (λ (b : Bool). if b then item.State (work_state (encounter_of s saved).level) 0 ∷ leaving p (encounter_of s saved) fs else leaving p (encounter_of s saved) fs) (debug_is ∙ e)) tt)
 
-        of_next : (g : Frame) (gs : List Frame) → fs ≡ g ∷ gs → (n : ℕ) → g.next ≡ n → statement_before (body_in p g) n ≡ Some (stmt.Parallel f.function num) → Goes (back_to_work p back)
+        of_next : (g : Frame) (gs : List Frame) → fs ≡ g ∷ gs → (n : ℕ) → g.next ≡ n
+            → statement_before (body_in p g) n ≡ Some (stmt.Parallel f.function num)
+            → Goes (back_to_work p back)
         of_next g gs is zero e none = absurd (cc none)
         of_next g gs is (suc n) e some =
-            by p.env.debug refl (ap (λ (xs : List Frame). worked_in p xs back) is ∙ ap (λ j. worked_at p j back) e)
+            by p.env.debug refl
+            (ap (λ (xs : List Frame). worked_in p xs back) is ∙ ap (λ j. worked_at p j back) e)
             (ap (λ (xs : List Frame). Ahead.worked p (encounter_of s saved) xs) is ∙ ap (λ j. Ahead.working_at p (encounter_of s saved) j (g ∷ gs)) e ∙ ap (leaving p (encounter_of s saved)) (sym is))
 
-        of_frame : (xs : List Frame) → fs ≡ xs → IsAt p xs (stmt.Parallel f.function num) → Goes (back_to_work p back)
+        of_frame : (xs : List Frame) → fs ≡ xs → IsAt p xs (stmt.Parallel f.function num)
+            → Goes (back_to_work p back)
         of_frame [] is none = absurd (cc none)
         of_frame (g ∷ gs) is some = of_next g gs is g.next refl some
 
   -- ---- the step, where all have left
 
-  pub join_from : All (λ b. b ≡ true) (drop 1 mine.region.ended) → ((j : ℕ) → j < s.count → (all_owed actors j).left ≢ Some a.context.region)
-      → StepKeeps p w m events s actors i (join_next w (actors i) join.Join) (λ old. (join_moved p w (actors i) join.Join old, join_outcome w (actors i) join.Join old))
+  pub join_from : All (λ b. b ≡ true) (drop 1 mine.region.ended)
+      → ((j : ℕ) → j < s.count → (all_owed actors j).left ≢ Some a.context.region)
+      → StepKeeps p w m events s actors i (join_next w (actors i) join.Join)
+      (λ old. (join_moved p w (actors i) join.Join old, join_outcome w (actors i) join.Join old))
   join_from ended none_owes = (on_current, is_on, with_bodies)
     where
-      by : (f : Frame) (fs : List Frame) → a.stack ≡ f ∷ fs → (o : Opened) → f.opened ≡ o → IsMaster o → StandsOn p a.context f.function fs o → KeepsBody p s a.context o fs → KeepsBodies p s i (context_under a.context o) fs
+      by : (f : Frame) (fs : List Frame) → a.stack ≡ f ∷ fs → (o : Opened) → f.opened ≡ o → IsMaster o
+          → StandsOn p a.context f.function fs o → KeepsBody p s a.context o fs
+          → KeepsBodies p s i (context_under a.context o) fs
           → AreOpen p (context_under a.context o) fs → AreContextsPlaced w (context_under a.context o) fs → AreBelow a.context.task (f ∷ fs) → Goes (rejoined p a)
       by f fs is (opened.Master saved) how master (num, construct, master_of) (from, suspended) under open_under placed_under (apart, below) =
-          goes f fs is saved how num construct master_of from suspended under open_under placed_under (subst (IsBelow a.context.task) how apart) below ended none_owes
+          goes f fs is saved how num construct master_of from suspended under open_under placed_under
+          (subst (IsBelow a.context.task) how apart) below ended none_owes
       by f fs is opened.Main how master on keeps under open_under placed_under below = absurd master
       by f fs is opened.Worker how master on keeps under open_under placed_under below = absurd master
       by f fs is (opened.Task y saved) how master on keeps under open_under placed_under below = absurd master
@@ -275,7 +317,10 @@ module _ (p : Program) (w : List ℕ) (m : Memory) (events : List (ℕ × Event)
           let (f, fs, is, task) = body p w m events s actors i before x at tt in
           let o = own p w m events s actors i before x at tt in
           let (open_body, open_rest) = subst (AreOpen p a.context) is o.fits.bodies in
-          let (top, keeps, rest) = subst (KeepsBodies p s i a.context) is (stands p w m events s actors i before x at tt).bodies in
+          let (top, keeps, rest) =
+          subst (KeepsBodies p s i a.context) is (stands p w m events s actors i before x at tt).bodies in
           let placed = subst (AreContextsPlaced w a.context) is o.placed.bodies in
-          let (end, master) = subst (IsAtEnd p IsMaster) is (fits_counter p w m events s actors i before x at tt) in
-          by f fs is f.opened refl master open_body.stands keeps rest open_rest placed.1 (subst (AreBelow a.context.task) is (own_below p s i a (stands p w m events s actors i before x at tt) events before.rule.reached))
+          let (end, master) =
+          subst (IsAtEnd p IsMaster) is (fits_counter p w m events s actors i before x at tt) in
+          by f fs is f.opened refl master open_body.stands keeps rest open_rest placed.1
+          (subst (AreBelow a.context.task) is (own_below p s i a (stands p w m events s actors i before x at tt) events before.rule.reached))

@@ -32,16 +32,19 @@ use Rattle.omi_rule.proofs.Assembly.{Before}
 use Rattle.omi_rule.proofs.barrier.AtCounter.{GoesTo, ahead_is, at_counter, body, fits_counter, here, keeps_region, load_quiet, load_waits, of_own_region, own, region_record, region_word, word_of}
 use Rattle.omi_rule.proofs.join.Departures.{all_ended, ended_few}
 
-module _ (p : Program) (w : List ℕ) (m : Memory) (events : List (ℕ × Event)) (s : State) (actors : ℕ → Actor) (i : ℕ) (before : Before p w m events s actors i) where
+module _ (p : Program) (w : List ℕ) (m : Memory) (events : List (ℕ × Event)) (s : State) (actors : ℕ → Actor)
+    (i : ℕ) (before : Before p w m events s actors i) where
   abbrev a : Actor
   a = actors i
 
   -- what is known where the word is full
-  module _ (c : JoinCounter) (at : (actors i).counter ≡ counter.Join c) (full : (actors i).context.size - 1 ≤ region_record p w m events s actors i before (counter.Join c) at tt (number RegionLeft) 0) where
+  module _ (c : JoinCounter) (at : (actors i).counter ≡ counter.Join c)
+      (full : (actors i).context.size - 1 ≤ region_record p w m events s actors i before (counter.Join c) at tt (number RegionLeft) 0) where
     word_is : region_record p w m events s actors i before (counter.Join c) at tt (number RegionLeft) 0 ≡ ended_members (here p w m events s actors i before (counter.Join c) at tt).region
     word_is =
         let o = here p w m events s actors i before (counter.Join c) at tt in
-        let sizes = (members_known p events s before.rule.reached).regions a.context.region o.region o.found in
+        let sizes =
+        (members_known p events s before.rule.reached).regions a.context.region o.region o.found in
         let few = ended_few o.region.ended in
         let count = (keeps_region p w m events s actors i before (counter.Join c) at tt).left in
         let size = o.size in
@@ -50,7 +53,8 @@ module _ (p : Program) (w : List ℕ) (m : Memory) (events : List (ℕ × Event)
     pub others_ended : All (λ b. b ≡ true) (drop 1 (here p w m events s actors i before (counter.Join c) at tt).region.ended)
     others_ended =
         let o = here p w m events s actors i before (counter.Join c) at tt in
-        let sizes = (members_known p events s before.rule.reached).regions a.context.region o.region o.found in
+        let sizes =
+        (members_known p events s before.rule.reached).regions a.context.region o.region o.found in
         let is = word_is in
         let size = o.size in
         let ends = sizes.ended in all_ended o.region.ended (omega (arith, full, is, size, ends))
@@ -58,20 +62,26 @@ module _ (p : Program) (w : List ℕ) (m : Memory) (events : List (ℕ × Event)
     pub none_owes : (j : ℕ) → j < s.count → (all_owed actors j).left ≢ Some a.context.region
     none_owes j known =
         let o = here p w m events s actors i before (counter.Join c) at tt in
-        let within = before.rule.within.regions a.context.region.0.creator a.context.region.0.slot a.context.region.0.generation o.region o.found in
-        all_have_left w m s (all_owed actors) a.context.region o.region before.rule.words o.found (subst (λ n. a.context.region.0.creator < n) (sym before.rule.within.count) within.maker) within.place word_is j known
+        let within =
+        before.rule.within.regions a.context.region.0.creator a.context.region.0.slot a.context.region.0.generation o.region o.found in
+        all_have_left w m s (all_owed actors) a.context.region o.region before.rule.words o.found
+        (subst (λ n. a.context.region.0.creator < n) (sym before.rule.within.count) within.maker) within.place word_is j known
 
   -- member 0 made the record of its region
-  made_here : (c : JoinCounter) → (actors i).counter ≡ counter.Join c → IsAtEnd p IsMaster (actors i).stack → (actors i).context.region.0.creator ≡ i
+  made_here : (c : JoinCounter) → (actors i).counter ≡ counter.Join c → IsAtEnd p IsMaster (actors i).stack
+      → (actors i).context.region.0.creator ≡ i
   made_here c at end =
       let (f, fs, is, task) = body p w m events s actors i before (counter.Join c) at tt in
       let o = here p w m events s actors i before (counter.Join c) at tt in
       let (at_end, master) = subst (IsAtEnd p IsMaster) is end in
-      let (open_body, rest) = subst (AreOpen p a.context) is (own p w m events s actors i before (counter.Join c) at tt).fits.bodies in
+      let (open_body, rest) =
+      subst (AreOpen p a.context) is (own p w m events s actors i before (counter.Join c) at tt).fits.bodies in
       let first = first_of f fs f.opened master open_body.stands in
-      sym (((encounters p events s before.rule.reached).named a.context.region o.region o.found).first (a.context.row, i) (ap (λ j. slice_get o.region.team j) (sym first) ∙ o.row))
+      sym
+      (((encounters p events s before.rule.reached).named a.context.region o.region o.found).first (a.context.row, i) (ap (λ j. slice_get o.region.team j) (sym first) ∙ o.row))
     where
-      first_of : (f : Frame) (fs : List Frame) (x : Opened) → IsMaster x → StandsOn p a.context f.function fs x → a.context.number ≡ 0
+      first_of : (f : Frame) (fs : List Frame) (x : Opened) → IsMaster x
+          → StandsOn p a.context f.function fs x → a.context.number ≡ 0
       first_of f fs (opened.Master saved) master (num, construct, is) = is.number
       first_of f fs opened.Main master on = absurd master
       first_of f fs opened.Worker master on = absurd master
@@ -82,7 +92,8 @@ module _ (p : Program) (w : List ℕ) (m : Memory) (events : List (ℕ × Event)
 
   module _ (at : (actors i).counter ≡ counter.Join join.LoadLeft) where
     abbrev left_word : ℕ
-    left_word = region_record p w m events s actors i before (counter.Join join.LoadLeft) at tt (number RegionLeft) 0
+    left_word =
+        region_record p w m events s actors i before (counter.Join join.LoadLeft) at tt (number RegionLeft) 0
 
     abbrev on_left : RecordWord
     on_left = word_of p w m events s actors i before (counter.Join join.LoadLeft) at tt RegionLeft
@@ -104,11 +115,13 @@ module _ (p : Program) (w : List ℕ) (m : Memory) (events : List (ℕ × Event)
     }
 
     by_left : (d : Bool) → some_inside a left_word ≡ d
-        → KeepsRule p w m events s actors i (op.Load left_address) on_left (if d then a else at_counter (counter.Join join.Join) a, if d then outcome.NotReady left_address left_word else outcome.Quiet)
+        → KeepsRule p w m events s actors i (op.Load left_address) on_left
+        (if d then a else at_counter (counter.Join join.Join) a, if d then outcome.NotReady left_address left_word else outcome.Quiet)
     by_left true inside =
         let o = here p w m events s actors i before (counter.Join join.LoadLeft) at tt in
         let less : left_word < a.context.size - 1 = ltb-true left_word (a.context.size - 1) inside in
-        subst (λ (x : Actor). KeepsRule p w m events s actors i (op.Load left_address) on_left (x, outcome.NotReady left_address left_word)) stays_there
+        subst
+        (λ (x : Actor). KeepsRule p w m events s actors i (op.Load left_address) on_left (x, outcome.NotReady left_address left_word)) stays_there
         (load_waits p w m events s actors i before (counter.Join join.LoadLeft) at tt left_address on_left (counter.Join join.LoadLeft) goes_to
         (Waits.ForMembers
         (of_own_region p w m events s actors i before (counter.Join join.LoadLeft) at tt (λ t r. joins_next t.list × (left_address ≡ of_region w t.region RegionLeft) × (left_word < length r.team - 1)) (
@@ -118,8 +131,11 @@ module _ (p : Program) (w : List ℕ) (m : Memory) (events : List (ℕ × Event)
         ))))
     by_left false inside =
         let enough : a.context.size - 1 ≤ left_word = ltb-false left_word (a.context.size - 1) inside in
-        let maker = made_here join.LoadLeft at (fits_counter p w m events s actors i before (counter.Join join.LoadLeft) at tt) in
-        load_quiet p w m events s actors i before (counter.Join join.LoadLeft) at tt left_address on_left (counter.Join join.Join)
+        let maker =
+        made_here join.LoadLeft at
+        (fits_counter p w m events s actors i before (counter.Join join.LoadLeft) at tt) in
+        load_quiet p w m events s actors i before (counter.Join join.LoadLeft) at tt left_address on_left
+        (counter.Join join.Join)
         (record {
           fits = fits_counter p w m events s actors i before (counter.Join join.LoadLeft) at tt;
           placed = tt;
@@ -130,4 +146,5 @@ module _ (p : Program) (w : List ℕ) (m : Memory) (events : List (ℕ × Event)
         })
 
     pub load_left_keeps : StepKeeps p w m events s actors i (join_next w (actors i) join.LoadLeft) (λ old. (join_moved p w (actors i) join.LoadLeft old, join_outcome w (actors i) join.LoadLeft old))
-    load_left_keeps = (on_left, record { there = region_word p w m events s actors i before (counter.Join join.LoadLeft) at tt RegionLeft refl; address = refl }, by_left (some_inside a left_word) refl)
+    load_left_keeps =
+        (on_left, record { there = region_word p w m events s actors i before (counter.Join join.LoadLeft) at tt RegionLeft refl; address = refl }, by_left (some_inside a left_word) refl)

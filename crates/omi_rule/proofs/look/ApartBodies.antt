@@ -32,4 +32,5 @@ module _ (p : Program) (s : State) (i : ℕ) (k : Tid) (t : Task) (is : IsDeferr
 
   pub are_below : (c : Context) (fs : List Frame) → KeepsBodies p s i c fs → AreBelow k fs
   are_below c [] o = tt
-  are_below c (f ∷ fs) (o, body, rest) = (is_below c f.opened (of_innermost p s i (context_under c f.opened) fs rest), are_below (context_under c f.opened) fs rest)
+  are_below c (f ∷ fs) (o, body, rest) =
+      (is_below c f.opened (of_innermost p s i (context_under c f.opened) fs rest), are_below (context_under c f.opened) fs rest)

@@ -57,7 +57,8 @@ place_word w a (suc (suc (suc (suc zero)))) below = record { field = refl; first
 place_word w a (suc (suc (suc (suc (suc k))))) below = absurd (omega (arith, below))
 
 -- their fields rise
-place_rises : (w : List ℕ) (a : Actor) (j k : ℕ) → j < k → k < START_WORDS → rank (start_plan w a j) < rank (start_plan w a k)
+place_rises : (w : List ℕ) (a : Actor) (j k : ℕ) → j < k → k < START_WORDS
+    → rank (start_plan w a j) < rank (start_plan w a k)
 place_rises w a j zero less below = absurd (omega (arith, less))
 place_rises w a zero (suc zero) less below = omega arith
 place_rises w a (suc j) (suc zero) less below = absurd (omega (arith, less))
@@ -72,10 +73,13 @@ place_rises w a zero (suc (suc (suc (suc zero)))) less below = omega arith
 place_rises w a (suc zero) (suc (suc (suc (suc zero)))) less below = omega arith
 place_rises w a (suc (suc zero)) (suc (suc (suc (suc zero)))) less below = omega arith
 place_rises w a (suc (suc (suc zero))) (suc (suc (suc (suc zero)))) less below = omega arith
-place_rises w a (suc (suc (suc (suc j)))) (suc (suc (suc (suc zero)))) less below = absurd (omega (arith, less))
+place_rises w a (suc (suc (suc (suc j)))) (suc (suc (suc (suc zero)))) less below =
+    absurd (omega (arith, less))
 place_rises w a j (suc (suc (suc (suc (suc k))))) less below = absurd (omega (arith, below))
 
-module _ (p : Program) (w : List ℕ) (m : Memory) (events : List (ℕ × Event)) (s : State) (actors : ℕ → Actor) (i : ℕ) (before : Before p w m events s actors i) (v : Wait) (n code : ℕ) (t : Tid) (f : ℕ) (final : Bool) (word : ℕ) (at : (actors i).counter ≡ counter.Look (look.Fill v n code t f final word)) where
+module _ (p : Program) (w : List ℕ) (m : Memory) (events : List (ℕ × Event)) (s : State) (actors : ℕ → Actor)
+    (i : ℕ) (before : Before p w m events s actors i) (v : Wait) (n code : ℕ) (t : Tid) (f : ℕ) (final : Bool)
+    (word : ℕ) (at : (actors i).counter ≡ counter.Look (look.Fill v n code t f final word)) where
   abbrev a : Actor
   a = actors i
 
@@ -89,7 +93,9 @@ module _ (p : Program) (w : List ℕ) (m : Memory) (events : List (ℕ × Event)
   on_word = record { creator = t.0.creator; slot = t.0.slot; field = (start_plan w (actors i) word).field; place = (start_plan w (actors i) word).at }
 
   abbrev after_store : Memory
-  after_store = with_word m t.0.creator tasks t.0.slot (number (start_plan w (actors i) word).field) (start_plan w (actors i) word).at (start_plan w (actors i) word).value
+  after_store =
+      with_word m t.0.creator tasks t.0.slot (number (start_plan w (actors i) word).field)
+      (start_plan w (actors i) word).at (start_plan w (actors i) word).value
 
   abbrev Known : Task → Type 0
   Known u = (u.function ≡ f) × (u.is_final ≡ final)
@@ -110,37 +116,46 @@ module _ (p : Program) (w : List ℕ) (m : Memory) (events : List (ℕ × Event)
   owes = owes_now p w m events s actors i before standing at tt
 
   left_is : left_in m (filling w t.0 Word) on_word ≡ after_store
-  left_is = ap (λ kind. with_word m t.0.creator kind t.0.slot (number Word.field) Word.at Word.value) is_word.kind
+  left_is =
+      ap (λ kind. with_word m t.0.creator kind t.0.slot (number Word.field) Word.at Word.value) is_word.kind
 
   filled : IsFilled (after_store t.0.creator tasks t.0.slot) (start_plan w a) (word + 1)
   filled =
-      fill_next (m t.0.creator tasks t.0.slot) (after_store t.0.creator tasks t.0.slot) (start_plan w a) word START_WORDS
+      fill_next (m t.0.creator tasks t.0.slot) (after_store t.0.creator tasks t.0.slot)
+      (start_plan w a) word START_WORDS
       (word_read m t.0.creator tasks t.0.slot (number Word.field) Word.at Word.value)
       (λ g k apart. word_stays m t.0.creator tasks t.0.slot (number Word.field) Word.at Word.value t.0.creator tasks t.0.slot g k (λ _ _ _ field place. apart field place))
       (place_rises w a) fits.1 hand.1
 
   spares : (j : ℕ) → j ≢ i → Spares m after_store s j (actors j)
   spares j other =
-      spares_task m s t hand.0.task Word.field Word.at Word.value j (actors j) hand.0.is.live (inl (place_apart Word.field TaskSlots is_word.field refl))
+      spares_task m s t hand.0.task Word.field Word.at Word.value j (actors j) hand.0.is.live
+      (inl (place_apart Word.field TaskSlots is_word.field refl))
       (λ g of same deferred known its. one_hand p w m events s actors before.rule i j before.known known other t hand.0.task hand.0.is (ap (λ (o : Owed). o.hand) owes) its)
 
   abbrev Goes : Counter → Type 0
-  Goes to = KeepsRule p w m events s actors i (filling w t.0 (start_plan w (actors i) word)) on_word (at_counter to a, outcome.Quiet)
+  Goes to =
+      KeepsRule p w m events s actors i (filling w t.0 (start_plan w (actors i) word)) on_word
+      (at_counter to a, outcome.Quiet)
 
-  leads : (to : Counter) → owed (at_counter to a) ≡ record nothing { hand = Some t } → StandsAt p w m events s actors i before standing at tt after_store to → Goes to
+  leads : (to : Counter) → owed (at_counter to a) ≡ record nothing { hand = Some t }
+      → StandsAt p w m events s actors i before standing at tt after_store to → Goes to
   leads to same stands =
-      quiet_keeps p w m events s actors i before (filling w t.0 Word) on_word (at_counter to a, outcome.Quiet) refl
+      quiet_keeps p w m events s actors i before (filling w t.0 Word) on_word
+      (at_counter to a, outcome.Quiet) refl
       (subst (λ (h : Memory). KeepsWords w h s (all_owed (replace_at actors i (at_counter to a)))) (sym left_is)
       (moves_keep w after_store s actors i (at_counter to a) (place_stores_keep w m s (all_owed actors) t hand.0.task Word.field Word.at Word.value before.rule.words hand.0.is is_word.field) (same ∙ sym owes)))
       (λ j other. subst (λ (h : Memory). Spares m h s j (actors j)) (sym left_is) (spares j other))
       (subst (λ (h : Memory). KeepsThread p w h events s i (at_counter to a)) (sym left_is) (thread_with p w m events s actors i before standing at tt after_store to stands))
 
-  by_count : (d : Bool) → nat_lt (word + 1) START_WORDS ≡ d → Goes (counter.Look (if d then look.Fill v n code t f final (word + 1) else look.Start v n code t f final))
+  by_count : (d : Bool) → nat_lt (word + 1) START_WORDS ≡ d
+      → Goes (counter.Look (if d then look.Fill v n code t f final (word + 1) else look.Start v n code t f final))
   by_count true more =
       leads (counter.Look (look.Fill v n code t f final (word + 1))) refl
       (record { fits = (fits.0, ltb-true (word + 1) START_WORDS more); placed = has_task; ahead = ahead_is p w m events s actors i before standing at tt; row = (hand_at s a (counter.Look (look.Fill v n code t f final (word + 1))) v t Known Known hand.0 hand.0.knows, filled); ended = tt })
   by_count false none =
-      let whole : word + 1 ≡ START_WORDS = (let below = fits.1 in let over = ltb-false (word + 1) START_WORDS none in omega (arith, below, over)) in
+      let whole : word + 1 ≡ START_WORDS =
+      (let below = fits.1 in let over = ltb-false (word + 1) START_WORDS none in omega (arith, below, over)) in
       leads (counter.Look (look.Start v n code t f final)) refl
       (record { fits = fits.0; placed = has_task; ahead = ahead_is p w m events s actors i before standing at tt; row = (hand_at s a (counter.Look (look.Start v n code t f final)) v t Known Known hand.0 hand.0.knows, subst (IsFilled (after_store t.0.creator tasks t.0.slot) (start_plan w a)) whole filled); ended = tt })
 

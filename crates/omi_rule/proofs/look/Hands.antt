@@ -40,7 +40,8 @@ use Rattle.omi_rule.proofs.barrier.AtCounter.{GoesTo, ahead_is, body, fits_count
 use Rattle.omi_rule.proofs.look.InHand.{hand_at}
 use Rattle.omi_rule.proofs.look.TaskFunctions.{RunsTask, runs_task}
 
-module _ (p : Program) (w : List ℕ) (m : Memory) (events : List (ℕ × Event)) (s : State) (actors : ℕ → Actor) (i : ℕ) (before : Before p w m events s actors i) where
+module _ (p : Program) (w : List ℕ) (m : Memory) (events : List (ℕ × Event)) (s : State) (actors : ℕ → Actor)
+    (i : ℕ) (before : Before p w m events s actors i) where
   abbrev a : Actor
   a = actors i
 
@@ -48,12 +49,14 @@ module _ (p : Program) (w : List ℕ) (m : Memory) (events : List (ℕ × Event)
   on_word t f = record { creator = t.0.creator; slot = t.0.slot; field = f; place = 0 }
 
   -- the words of a deferred task are its codes
-  environment : (v : Wait) (t : Tid) (known : Task → Type 0) (o : IsInHand s a v t known) → KeepsEnvironment w (m t.0.creator tasks t.0.slot) o.task
+  environment : (v : Wait) (t : Tid) (known : Task → Type 0) (o : IsInHand s a v t known)
+      → KeepsEnvironment w (m t.0.creator tasks t.0.slot) o.task
   environment v t known o = (task_kept p w m events s actors before.rule t o.task o.is.live).environment
 
   -- ---- the function
 
-  module _ (v : Wait) (n code : ℕ) (t : Tid) (at : (actors i).counter ≡ counter.Look (look.LoadFunction v n code t)) where
+  module _ (v : Wait) (n code : ℕ) (t : Tid)
+      (at : (actors i).counter ≡ counter.Look (look.LoadFunction v n code t)) where
     abbrev standing : Counter
     standing = counter.Look (look.LoadFunction v n code t)
 
@@ -76,17 +79,25 @@ module _ (p : Program) (w : List ℕ) (m : Memory) (events : List (ℕ × Event)
     runs =
         let (f, fs, is, task) = body p w m events s actors i before standing at tt in
         let o = own p w m events s actors i before standing at tt in
-        runs_task p s a.stack a.context mine.task o.fits.bodies o.runs (subst (λ (xs : List Frame). 0 < length xs) (sym is) (omega arith)) mine.live
+        runs_task p s a.stack a.context mine.task o.fits.bodies o.runs
+        (subst (λ (xs : List Frame). 0 < length xs) (sym is) (omega arith)) mine.live
 
     -- it is smaller than that of the current task
-    smaller : (x : Wait) → IsBack p a (Some x) → MayStartIn x a hand.task → hand.task.function < mine.task.function
+    smaller : (x : Wait) → IsBack p a (Some x) → MayStartIn x a hand.task
+        → hand.task.function < mine.task.function
     smaller (wait.Barrier b) waits may =
-        let found : region_of s hand.task.region ≡ Some mine.region = ap (region_of s) hand.region ∙ mine.found in
-        let less = below_members p events s before.rule.reached t hand.task mine.region hand.is.live hand.is.explicit found in
-        let same = member_function p events s before.rule.reached a.context.task mine.task mine.region mine.live (mine.implicit ∙ waits.1) (region_there p w m events s actors i before standing at tt) in
+        let found : region_of s hand.task.region ≡ Some mine.region =
+        ap (region_of s) hand.region ∙ mine.found in
+        let less =
+        below_members p events s before.rule.reached t hand.task mine.region hand.is.live hand.is.explicit found in
+        let same =
+        member_function p events s before.rule.reached a.context.task mine.task mine.region mine.live
+        (mine.implicit ∙ waits.1) (region_there p w m events s actors i before standing at tt) in
         omega (arith, less, same)
-    smaller wait.Taskwait waits may = tasks_descend p events s before.rule.reached t hand.task hand.is.live hand.is.explicit a.context.task mine.task may mine.live
-    smaller wait.Taskyield waits may = tasks_descend p events s before.rule.reached t hand.task hand.is.live hand.is.explicit a.context.task mine.task may mine.live
+    smaller wait.Taskwait waits may =
+        tasks_descend p events s before.rule.reached t hand.task hand.is.live hand.is.explicit a.context.task mine.task may mine.live
+    smaller wait.Taskyield waits may =
+        tasks_descend p events s before.rule.reached t hand.task hand.is.live hand.is.explicit a.context.task mine.task may mine.live
 
     less : hand.task.function < task_function a.stack
     less = let below = smaller v fits.0.0 hand.may in let same = runs.function in omega (arith, below, same)
@@ -96,7 +107,8 @@ module _ (p : Program) (w : List ℕ) (m : Memory) (events : List (ℕ × Event)
         let below = less in
         let known = runs.known in
         let few = (Rules-from_accepted p).functions in
-        ap function_at (environment v t (λ u. Unit {0}) hand TaskFunction 0 _ refl refl) ∙ functions_back hand.task.function (omega (arith, below, known, few))
+        ap function_at (environment v t (λ u. Unit {0}) hand TaskFunction 0 _ refl refl)
+        ∙ functions_back hand.task.function (omega (arith, below, known, few))
 
     goes : GoesTo p w m events s actors i before standing at tt (counter.Look (look.LoadFinal v n code t (function_at word)))
     goes = record {
@@ -117,7 +129,8 @@ module _ (p : Program) (w : List ℕ) (m : Memory) (events : List (ℕ × Event)
 
   -- ---- the final flag
 
-  module _ (v : Wait) (n code : ℕ) (t : Tid) (f : ℕ) (at : (actors i).counter ≡ counter.Look (look.LoadFinal v n code t f)) where
+  module _ (v : Wait) (n code : ℕ) (t : Tid) (f : ℕ)
+      (at : (actors i).counter ≡ counter.Look (look.LoadFinal v n code t f)) where
     abbrev final_at : Counter
     final_at = counter.Look (look.LoadFinal v n code t f)
 
@@ -135,7 +148,10 @@ module _ (p : Program) (w : List ℕ) (m : Memory) (events : List (ℕ × Event)
     read_flag false = refl
 
     is_final : known_hand.task.is_final ≡ not (final_word == 0)
-    is_final = sym (read_flag known_hand.task.is_final) ∙ ap (λ x. not (x == 0)) (sym (environment v t (λ u. u.function ≡ f) known_hand TaskFinal 0 _ refl refl))
+    is_final =
+        sym (read_flag known_hand.task.is_final)
+        ∙ ap (λ x. not (x == 0))
+        (sym (environment v t (λ u. u.function ≡ f) known_hand TaskFinal 0 _ refl refl))
 
     filling_goes : GoesTo p w m events s actors i before final_at at tt (counter.Look (look.Fill v n code t f (not (final_word == 0)) 0))
     filling_goes = record {

@@ -27,8 +27,12 @@ use Rattle.omi_rule.proofs.Assembly.{Before}
 use Rattle.omi_rule.proofs.barrier.AtCounter.{GoesTo, IsOfMember, here, sees, sees_number}
 use Rattle.omi_rule.proofs.barrier.Loads.{other_released}
 
-module _ (p : Program) (w : List ℕ) (m : Memory) (events : List (ℕ × Event)) (s : State) (actors : ℕ → Actor) (i : ℕ) (before : Before p w m events s actors i) (standing : Counter) (at : (actors i).counter ≡ standing) (of_member : IsOfMember standing)
-    (idle : owed_at (actors i).context (actors i).gathered.team standing ≡ nothing) (v : Wait) (n : ℕ) (row : Place) (fits : LooksAt p (actors i) v n row) (has_row : HasTaskPlace w row) (row_of : OfRegion s (actors i) (IsRowOf row n))
+module _ (p : Program) (w : List ℕ) (m : Memory) (events : List (ℕ × Event)) (s : State) (actors : ℕ → Actor)
+    (i : ℕ) (before : Before p w m events s actors i) (standing : Counter)
+    (at : (actors i).counter ≡ standing) (of_member : IsOfMember standing)
+    (idle : owed_at (actors i).context (actors i).gathered.team standing ≡ nothing) (v : Wait) (n : ℕ)
+    (row : Place) (fits : LooksAt p (actors i) v n row) (has_row : HasTaskPlace w row)
+    (row_of : OfRegion s (actors i) (IsRowOf row n))
     (list_is : (here p w m events s actors i before standing at of_member).task.list ≡ Ahead.waiting p (sees p w m events s actors i before standing at of_member) (actors i).stack v) where
   abbrev a : Actor
   a = actors i
@@ -49,7 +53,9 @@ module _ (p : Program) (w : List ℕ) (m : Memory) (events : List (ℕ × Event)
   no_release zero other = absurd (other refl)
   no_release (suc k) other = tt
 
-  waits_again : (b : Barrier) → IsBack p a (Some (wait.Barrier b)) → list ≡ Ahead.arrived p At a.stack b → (d : Bool) → a.context.number == 0 ≡ d → Goes (counter.Barrier (if d then barrier.LoadArrived b else barrier.LoadReleased b))
+  waits_again : (b : Barrier) → IsBack p a (Some (wait.Barrier b)) → list ≡ Ahead.arrived p At a.stack b
+      → (d : Bool) → a.context.number == 0 ≡ d
+      → Goes (counter.Barrier (if d then barrier.LoadArrived b else barrier.LoadReleased b))
   waits_again b waits is true first = record {
     fits = (waits, eqb-true a.context.number 0 first);
     placed = tt;
@@ -60,7 +66,8 @@ module _ (p : Program) (w : List ℕ) (m : Memory) (events : List (ℕ × Event)
   }
   waits_again b waits is false later =
       let other : a.context.number ≢ 0 = λ e. cc (sym later, eq-eqb a.context.number 0 e) in
-      let number_is : At.number ≡ a.context.number = sees_number p w m events s actors i before standing at of_member in
+      let number_is : At.number ≡ a.context.number =
+      sees_number p w m events s actors i before standing at of_member in
       record {
         fits = waits;
         placed = tt;
@@ -80,7 +87,8 @@ module _ (p : Program) (w : List ℕ) (m : Memory) (events : List (ℕ × Event)
   same_member : (n + 1) % OWN_SLOTS ≢ 0 → member_at n ≡ member_at (n + 1)
   same_member inside = omega (arith, inside)
 
-  looks_on : n + 1 < slots_of a → (d : Bool) → (n + 1) % OWN_SLOTS == 0 ≡ d → Goes (counter.Look (if d then look.LoadRow v (n + 1) else look.LoadSlot v (n + 1) row))
+  looks_on : n + 1 < slots_of a → (d : Bool) → (n + 1) % OWN_SLOTS == 0 ≡ d
+      → Goes (counter.Look (if d then look.LoadRow v (n + 1) else look.LoadSlot v (n + 1) row))
   looks_on within true first = record {
     fits = ((fits.0.0, within), eqb-true ((n + 1) % OWN_SLOTS) 0 first);
     placed = tt;
@@ -101,7 +109,8 @@ module _ (p : Program) (w : List ℕ) (m : Memory) (events : List (ℕ × Event)
         ended = tt;
       }
 
-  by_count : (d : Bool) → nat_lt (n + 1) (slots_of a) ≡ d → Goes (if d then counter.Look (look_at v (n + 1) row) else behind_look a v)
+  by_count : (d : Bool) → nat_lt (n + 1) (slots_of a) ≡ d
+      → Goes (if d then counter.Look (look_at v (n + 1) row) else behind_look a v)
   by_count true within = looks_on (ltb-true (n + 1) (slots_of a) within) ((n + 1) % OWN_SLOTS == 0) refl
   by_count false past = behind v fits.0.0 list_is
 

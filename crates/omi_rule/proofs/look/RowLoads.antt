@@ -36,7 +36,9 @@ use Rattle.omi_rule.proofs.Assembly.{Before}
 use Rattle.omi_rule.proofs.KeptObjects.{task_there}
 use Rattle.omi_rule.proofs.barrier.AtCounter.{GoesTo, ahead_is, context_placed, fits_counter, here, is_context, keeps_region, load_quiet}
 
-module _ (p : Program) (w : List ℕ) (m : Memory) (events : List (ℕ × Event)) (s : State) (actors : ℕ → Actor) (i : ℕ) (before : Before p w m events s actors i) (v : Wait) (n : ℕ) (at : (actors i).counter ≡ counter.Look (look.LoadRow v n)) where
+module _ (p : Program) (w : List ℕ) (m : Memory) (events : List (ℕ × Event)) (s : State) (actors : ℕ → Actor)
+    (i : ℕ) (before : Before p w m events s actors i) (v : Wait) (n : ℕ)
+    (at : (actors i).counter ≡ counter.Look (look.LoadRow v n)) where
   abbrev a : Actor
   a = actors i
 
@@ -63,18 +65,24 @@ module _ (p : Program) (w : List ℕ) (m : Memory) (events : List (ℕ × Event)
   member = get_or known.region.team (member_at n) (no_task, 0)
 
   member_there : slice_get known.region.team (member_at n) ≡ Some member
-  member_there = slice_get-get_or known.region.team (member_at n) (no_task, 0) (let size = known.size in let below = of_team in omega (arith, size, below))
+  member_there =
+      slice_get-get_or known.region.team (member_at n) (no_task, 0)
+      (let size = known.size in let below = of_team in omega (arith, size, below))
 
   member_task : IsMemberTask s a.context.region (member_at n) member
-  member_task = ((names_live p events s before.rule.reached).regions a.context.region known.region known.found).team (member_at n) member member_there
+  member_task =
+      ((names_live p events s before.rule.reached).regions a.context.region known.region known.found).team
+      (member_at n) member member_there
 
   has_task : HasTask w member.0
   has_task = task_there p w m events s actors before.rule member.0 member_task.task member_task.live
 
   read_back : task_place w row_word ≡ place_of member.0.0
   read_back =
-      ap (task_place w) ((keeps_region p w m events s actors i before standing at tt).codes RegionTeam (member_at n) _ (member_code w (region_told (here p w m events s actors i before standing at tt).region) (member_at n) member member_there))
-      ∙ places_back w tasks member.0.0.creator member.0.0.slot before.valid (record { from = omega arith; to = omega arith }) has_task
+      ap (task_place w)
+      ((keeps_region p w m events s actors i before standing at tt).codes RegionTeam (member_at n) _ (member_code w (region_told (here p w m events s actors i before standing at tt).region) (member_at n) member member_there))
+      ∙ places_back w tasks member.0.0.creator member.0.0.slot before.valid
+      (record { from = omega arith; to = omega arith }) has_task
 
   maker : member.0.0.creator < p.threads
   maker = subst (λ k. member.0.0.creator < k) (sym before.suits.threads) has_task.made_by

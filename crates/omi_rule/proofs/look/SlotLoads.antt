@@ -52,7 +52,8 @@ pub record IsRowTask (s : State) (a : Actor) (row : Place) : Type 0 where
   pub implicit : task.implicit ≡ true
   pub region : task.region ≡ a.context.region
 
-pub row_task : (p : Program) (events : List (ℕ × Event)) (s : State) (a : Actor) (row : Place) (n : ℕ) → Reached p events s → OfRegion s a (IsRowOf row n) → IsRowTask s a row
+pub row_task : (p : Program) (events : List (ℕ × Event)) (s : State) (a : Actor) (row : Place) (n : ℕ)
+    → Reached p events s → OfRegion s a (IsRowOf row n) → IsRowTask s a row
 row_task p events s a row n reached (r, found, (x, there, is)) =
     let o = ((names_live p events s reached).regions a.context.region r found).team (member_at n) x there in
     record { name = x.0; place = is; task = o.task; live = o.live; implicit = o.implicit; region = o.region }
@@ -63,10 +64,15 @@ pub record IsCoded (w : List ℕ) (s : State) (a : Actor) (row : Task) (place co
   pub there : IsDeferredIn s row place name
   pub is : code ≡ slot_word w name
 
-module _ (p : Program) (w : List ℕ) (m : Memory) (events : List (ℕ × Event)) (s : State) (actors : ℕ → Actor) (rule : Rule p w m events s actors) (valid : IsValid w) where
+module _ (p : Program) (w : List ℕ) (m : Memory) (events : List (ℕ × Event)) (s : State) (actors : ℕ → Actor)
+    (rule : Rule p w m events s actors) (valid : IsValid w) where
   -- a word of a row that is not 0 is such a code
-  pub code_there : (a : Actor) (row : Place) (o : IsRowTask s a row) (place : ℕ) → place < width w (number TaskSlots) → m o.name.0.creator tasks o.name.0.slot (number TaskSlots) place ≢ 0 → IsCoded w s a o.task place (m o.name.0.creator tasks o.name.0.slot (number TaskSlots) place)
-  code_there a row o place within some = by ((task_kept p w m events s actors rule o.name o.task o.live).slots o.implicit place within)
+  pub code_there : (a : Actor) (row : Place) (o : IsRowTask s a row) (place : ℕ)
+      → place < width w (number TaskSlots)
+      → m o.name.0.creator tasks o.name.0.slot (number TaskSlots) place ≢ 0
+      → IsCoded w s a o.task place (m o.name.0.creator tasks o.name.0.slot (number TaskSlots) place)
+  code_there a row o place within some =
+      by ((task_kept p w m events s actors rule o.name o.task o.live).slots o.implicit place within)
     where
       by : (m o.name.0.creator tasks o.name.0.slot (number TaskSlots) place ≡ 0) ⊎ ((k : Tid) × IsDeferredIn s o.task place k × (m o.name.0.creator tasks o.name.0.slot (number TaskSlots) place ≡ slot_word w k))
           → IsCoded w s a o.task place (m o.name.0.creator tasks o.name.0.slot (number TaskSlots) place)
@@ -75,14 +81,20 @@ module _ (p : Program) (w : List ℕ) (m : Memory) (events : List (ℕ × Event)
 
   -- and is read back
   pub code_back : (k : Tid) (t : Task) → task_of s k ≡ Some t → coded_task w (slot_word w k) ≡ k
-  code_back k t live = codes_back w k valid (task_there p w m events s actors rule k t live) ((generations_below p events s rule.reached).tasks k t live)
+  code_back k t live =
+      codes_back w k valid (task_there p w m events s actors rule k t live)
+      ((generations_below p events s rule.reached).tasks k t live)
 
-  pub made_by_code : (code : ℕ) (k : Tid) (t : Task) → code ≡ slot_word w k → task_of s k ≡ Some t → WasMade w s code
+  pub made_by_code : (code : ℕ) (k : Tid) (t : Task) → code ≡ slot_word w k → task_of s k ≡ Some t
+      → WasMade w s code
   made_by_code code k t is live =
       let back : coded_task w code ≡ k = ap (coded_task w) is ∙ code_back k t live in
-      subst (λ (h : Tid). h.0.generation < (s.tasks h.0.creator h.0.slot).generations) (sym back) (let made = found_generations k.0.generation (s.tasks k.0.creator k.0.slot) t live in omega (arith, made))
+      subst (λ (h : Tid). h.0.generation < (s.tasks h.0.creator h.0.slot).generations) (sym back)
+      (let made = found_generations k.0.generation (s.tasks k.0.creator k.0.slot) t live in omega (arith, made))
 
-module _ (p : Program) (w : List ℕ) (m : Memory) (events : List (ℕ × Event)) (s : State) (actors : ℕ → Actor) (i : ℕ) (before : Before p w m events s actors i) (v : Wait) (n : ℕ) (row : Place) (at : (actors i).counter ≡ counter.Look (look.LoadSlot v n row)) where
+module _ (p : Program) (w : List ℕ) (m : Memory) (events : List (ℕ × Event)) (s : State) (actors : ℕ → Actor)
+    (i : ℕ) (before : Before p w m events s actors i) (v : Wait) (n : ℕ) (row : Place)
+    (at : (actors i).counter ≡ counter.Look (look.LoadSlot v n row)) where
   abbrev a : Actor
   a = actors i
 
@@ -116,21 +128,31 @@ module _ (p : Program) (w : List ℕ) (m : Memory) (events : List (ℕ × Event)
   was_made : code ≢ 0 → WasMade w s code
   was_made some =
       let o = row_task p events s a row n before.rule.reached row_of in
-      let same : m o.name.0.creator tasks o.name.0.slot (number TaskSlots) (n % OWN_SLOTS) ≡ code = ap (λ (q : Place). m q.creator tasks q.slot (number TaskSlots) (n % OWN_SLOTS)) o.place in
-      let coded = code_there p w m events s actors before.rule before.valid a row o (n % OWN_SLOTS) (omega arith) (λ none. some (sym same ∙ none)) in
-      made_by_code p w m events s actors before.rule before.valid code coded.name coded.there.task (sym same ∙ coded.is) coded.there.live
+      let same : m o.name.0.creator tasks o.name.0.slot (number TaskSlots) (n % OWN_SLOTS) ≡ code =
+      ap (λ (q : Place). m q.creator tasks q.slot (number TaskSlots) (n % OWN_SLOTS)) o.place in
+      let coded =
+      code_there p w m events s actors before.rule before.valid a row o (n % OWN_SLOTS) (omega arith)
+      (λ none. some (sym same ∙ none)) in
+      made_by_code p w m events s actors before.rule before.valid code coded.name coded.there.task
+      (sym same ∙ coded.is) coded.there.live
 
   -- a task is found. Where only children may start it is tested
-  finds : (x : Wait) → LooksAt p a x n row → (here p w m events s actors i before standing at tt).task.list ≡ Ahead.waiting p (sees p w m events s actors i before standing at tt) a.stack x → code ≢ 0 → Goes (counter.Look (behind_code x n row code))
+  finds : (x : Wait) → LooksAt p a x n row
+      → (here p w m events s actors i before standing at tt).task.list ≡ Ahead.waiting p (sees p w m events s actors i before standing at tt) a.stack x
+      → code ≢ 0 → Goes (counter.Look (behind_code x n row code))
   finds (wait.Barrier b) at_slot is some = record { fits = (at_slot, some); placed = has_row; ahead = is; owes = refl; row = (row_of, tt); ended = tt }
   finds wait.Taskwait at_slot is some = record { fits = (at_slot, some, tt); placed = has_row; ahead = is; owes = refl; row = (row_of, was_made some); ended = tt }
   finds wait.Taskyield at_slot is some = record { fits = (at_slot, some, tt); placed = has_row; ahead = is; owes = refl; row = (row_of, was_made some); ended = tt }
 
-  by_slot : (d : Bool) → code == 0 ≡ d → KeepsRule p w m events s actors i (op.Load (of_slot w row n)) on_slot (if d then looking_on v n row a else to_look (behind_code v n row code) a, outcome.Quiet)
+  by_slot : (d : Bool) → code == 0 ≡ d
+      → KeepsRule p w m events s actors i (op.Load (of_slot w row n)) on_slot (if d then looking_on v n row a else to_look (behind_code v n row code) a, outcome.Quiet)
   by_slot true none =
-      load_quiet p w m events s actors i before standing at tt (of_slot w row n) on_slot (next_look a v (n + 1) row) (goes_next p w m events s actors i before standing at tt refl v n row fits has_row row_of list_is)
+      load_quiet p w m events s actors i before standing at tt (of_slot w row n) on_slot
+      (next_look a v (n + 1) row)
+      (goes_next p w m events s actors i before standing at tt refl v n row fits has_row row_of list_is)
   by_slot false some =
-      load_quiet p w m events s actors i before standing at tt (of_slot w row n) on_slot (counter.Look (behind_code v n row code)) (finds v fits list_is (λ e. cc (sym some, eq-eqb code 0 e)))
+      load_quiet p w m events s actors i before standing at tt (of_slot w row n) on_slot
+      (counter.Look (behind_code v n row code)) (finds v fits list_is (λ e. cc (sym some, eq-eqb code 0 e)))
 
   pub load_slot_keeps : StepKeeps p w m events s actors i (look_next w (actors i) (look.LoadSlot v n row)) (λ old. (look_moved p w (actors i) (look.LoadSlot v n row) old, look_outcome w (actors i) (look.LoadSlot v n row) old))
   load_slot_keeps = (on_slot, record { there = slot_there; address = refl }, by_slot (code == 0) refl)

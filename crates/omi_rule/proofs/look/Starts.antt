@@ -84,7 +84,9 @@ use Rattle.omi_rule.proofs.join.BodiesUnder as BodiesUnder
 use Rattle.omi_rule.proofs.look.ApartBodies.{are_below, other_task}
 use Rattle.omi_rule.proofs.plain.OwnEvents.{environment_stays}
 
-module _ (p : Program) (w : List ℕ) (m : Memory) (events : List (ℕ × Event)) (s : State) (actors : ℕ → Actor) (i : ℕ) (before : Before p w m events s actors i) (v : Wait) (n code : ℕ) (t : Tid) (f : ℕ) (final : Bool) (at : (actors i).counter ≡ counter.Look (look.Start v n code t f final)) where
+module _ (p : Program) (w : List ℕ) (m : Memory) (events : List (ℕ × Event)) (s : State) (actors : ℕ → Actor)
+    (i : ℕ) (before : Before p w m events s actors i) (v : Wait) (n code : ℕ) (t : Tid) (f : ℕ) (final : Bool)
+    (at : (actors i).counter ≡ counter.Look (look.Start v n code t f final)) where
   abbrev a : Actor
   a = actors i
 
@@ -141,10 +143,18 @@ module _ (p : Program) (w : List ℕ) (m : Memory) (events : List (ℕ × Event)
   exit_is = let is = mine.exit in omega (arith, is)
 
   placed_here : KeepsPlace w (m t.0.creator tasks t.0.slot) (scheduled i K T U)
-  placed_here TaskThread zero x _ told = hand.1 0 (omega arith) ∙ ap (thread_address w) (own p w m events s actors i before standing at tt).thread ∙ same_word _ _ told
+  placed_here TaskThread zero x _ told =
+      hand.1 0 (omega arith)
+      ∙ ap (thread_address w) (own p w m events s actors i before standing at tt).thread
+      ∙ same_word _ _ told
   placed_here TaskNumber zero x _ told = hand.1 1 (omega arith) ∙ sym mine.number ∙ same_word _ _ told
   placed_here TaskScheduling zero x _ told = hand.1 2 (omega arith) ∙ same_word _ _ told
-  placed_here TaskExit zero x _ told = hand.1 3 (omega arith) ∙ ap (λ j. exit_frame j (a.context.depth + 1)) (own p w m events s actors i before standing at tt).thread ∙ sym exit_is ∙ same_word _ _ told
+  placed_here TaskExit zero x _ told =
+      hand.1 3 (omega arith)
+      ∙ ap (λ j. exit_frame j (a.context.depth + 1))
+      (own p w m events s actors i before standing at tt).thread
+      ∙ sym exit_is
+      ∙ same_word _ _ told
   placed_here TaskEnter zero x _ told = hand.1 4 (omega arith) ∙ same_word _ _ told
   placed_here f at x place told = absurd (cc)
 
@@ -178,13 +188,16 @@ module _ (p : Program) (w : List ℕ) (m : Memory) (events : List (ℕ × Event)
   abbrev next_of : (List Item → List Item) → State
   next_of F = with_current (on_task listed t (starting F)) i (Some t)
 
-  takes : (x : Wait) → take_item p At (event.Start t) (Ahead.waiting p At a.stack x) ≡ Some (item_of x, rest_of x)
+  takes : (x : Wait)
+      → take_item p At (event.Start t) (Ahead.waiting p At a.stack x) ≡ Some (item_of x, rest_of x)
   takes (wait.Barrier b) = refl
   takes wait.Taskwait = refl
   takes wait.Taskyield = refl
 
   taken : take_item p At (event.Start t) mine.task.list ≡ Some (item_of v, rest_of v)
-  taken = ap (λ xs. take_item p At (event.Start t) xs) (ahead_is p w m events s actors i before standing at tt) ∙ takes v
+  taken =
+      ap (λ xs. take_item p At (event.Start t) xs) (ahead_is p w m events s actors i before standing at tt)
+      ∙ takes v
 
   stay : (x : Wait) → stays At (event.Start t) (item_of x) (rest_of x) ≡ Ahead.entering_wait p At a.stack x
   stay (wait.Barrier b) = refl
@@ -203,9 +216,15 @@ module _ (p : Program) (w : List ℕ) (m : Memory) (events : List (ℕ × Event)
   effect_is wait.Taskyield = at_current listed i K T (started_alone listed i t) current_listed
 
   words_of : (x : Wait) → KeepsWords w stored (next_of (in_front x)) (λ j. put (all_owed actors) i nothing j)
-  words_of (wait.Barrier b) = starts_keep w m listed (all_owed actors) i t U K T (relisted_words p w m events s actors i before standing at tt waits_on) before.known ready
-  words_of wait.Taskwait = starts_keep w m listed (all_owed actors) i t U K T (relisted_words p w m events s actors i before standing at tt waits_on) before.known ready
-  words_of wait.Taskyield = starts_alone_keep w m listed (all_owed actors) i t U K T (relisted_words p w m events s actors i before standing at tt waits_on) before.known ready
+  words_of (wait.Barrier b) =
+      starts_keep w m listed (all_owed actors) i t U K T
+      (relisted_words p w m events s actors i before standing at tt waits_on) before.known ready
+  words_of wait.Taskwait =
+      starts_keep w m listed (all_owed actors) i t U K T
+      (relisted_words p w m events s actors i before standing at tt waits_on) before.known ready
+  words_of wait.Taskyield =
+      starts_alone_keep w m listed (all_owed actors) i t U K T
+      (relisted_words p w m events s actors i before standing at tt waits_on) before.known ready
 
   no_fork : (x : Wait) (g : ℕ) → item_of x ≡ item.Fork g → ⊥
   no_fork (wait.Barrier b) g e = absurd (cc e)
@@ -222,8 +241,10 @@ module _ (p : Program) (w : List ℕ) (m : Memory) (events : List (ℕ × Event)
 
   step : Step p s i (event.Start t) next
   step =
-      steps_to p w m events s actors i before standing at tt (event.Start t) (item_of v) (rest_of v) waits_on next taken
-      (K, mine.task, current, record { new = U; live = hand.0.is.live; explicit = hand.0.is.explicit; deferred = hand.0.is.progress; allowed = allowed v hand.0.may }) (stay v) (effect_is v)
+      steps_to p w m events s actors i before standing at tt (event.Start t) (item_of v)
+      (rest_of v) waits_on next taken
+      (K, mine.task, current, record { new = U; live = hand.0.is.live; explicit = hand.0.is.explicit; deferred = hand.0.is.progress; allowed = allowed v hand.0.may })
+      (stay v) (effect_is v)
 
   abbrev New : Task
   New = starting F U
@@ -240,17 +261,24 @@ module _ (p : Program) (w : List ℕ) (m : Memory) (events : List (ℕ × Event)
   changes = relisted_changes p w m events s actors i before standing at tt waits_on
 
   bodies_moved : KeepsBodies p listed i a.context a.stack
-  bodies_moved = bodies_kept p s listed i K changes a.context a.stack (own_below p s i a (stands p w m events s actors i before standing at tt) events before.rule.reached) (stands p w m events s actors i before standing at tt).bodies
+  bodies_moved =
+      bodies_kept p s listed i K changes a.context a.stack
+      (own_below p s i a (stands p w m events s actors i before standing at tt) events before.rule.reached)
+      (stands p w m events s actors i before standing at tt).bodies
 
   top_moved : KeepsContext listed i a.context
   top_moved = of_innermost p listed i a.context a.stack bodies_moved
 
   bodies_under : KeepsBodies p next i a.context a.stack
-  bodies_under = under_kept p listed next i t leaves a.context a.stack (other_task p listed i t U deferred a.context top_moved) (are_below p listed i t U deferred a.context a.stack bodies_moved) bodies_moved
+  bodies_under =
+      under_kept p listed next i t leaves a.context a.stack
+      (other_task p listed i t U deferred a.context top_moved)
+      (are_below p listed i t U deferred a.context a.stack bodies_moved) bodies_moved
 
   same_encounter : encounter_of next a.context ≡ At
   same_encounter =
-      BodiesUnder.encounter_kept p listed next i t leaves a.context (other_task p listed i t U deferred a.context top_moved) top_moved
+      BodiesUnder.encounter_kept p listed next i t leaves a.context
+      (other_task p listed i t U deferred a.context top_moved) top_moved
       ∙ Own.encounter_kept p s listed i K changes a.context mine
 
   abbrev context : Context
@@ -298,7 +326,8 @@ module _ (p : Program) (w : List ℕ) (m : Memory) (events : List (ℕ × Event)
       )
 
   now_current : (next.threads i).current ≡ Some t
-  now_current = ap (λ (h : Thread). h.current) (put_same s.threads i (record (s.threads i) { current = Some t }))
+  now_current =
+      ap (λ (h : Thread). h.current) (put_same s.threads i (record (s.threads i) { current = Some t }))
 
   -- ---- what is ahead
 
@@ -306,24 +335,34 @@ module _ (p : Program) (w : List ℕ) (m : Memory) (events : List (ℕ × Event)
   Seen = encounter_of next context
 
   seen_debug : Seen.debug ≡ p.env.debug
-  seen_debug = ap (λ (o : Option Task). (encounter_by next o).debug) live_next ∙ ap (λ (e : Env). e.debug) (environment_stays p events s before.rule.reached)
+  seen_debug =
+      ap (λ (o : Option Task). (encounter_by next o).debug) live_next
+      ∙ ap (λ (e : Env). e.debug) (environment_stays p events s before.rule.reached)
 
   list_is : U.list ≡ task_items p f
-  list_is = (lists_right p events s before.rule.reached t U hand.0.is.live).deferred hand.0.is.progress ∙ ap (task_items p) hand.0.knows.0
+  list_is =
+      (lists_right p events s before.rule.reached t U hand.0.is.live).deferred hand.0.is.progress
+      ∙ ap (task_items p) hand.0.knows.0
 
   -- the state in front is the one that the thread stores
   same_front : (xs : List Item) → working (encounter listed i) xs ≡ working Seen xs
   same_front xs =
-      ap (λ (o : Option Tid). working (encounter_by listed (option_and_then (task_of listed) o)) xs) current_listed.name
+      ap
+      (λ (o : Option Tid). working (encounter_by listed (option_and_then (task_of listed) o)) xs) current_listed.name
       ∙ ap (λ (o : Option Task). working (encounter_by listed o) xs) current_listed.live
-      ∙ ap (λ (r : Rid). working (record { debug = s.environment.debug; number = 0; level = level_of s r; is_final = false }) xs) (mine.region_is ∙ sym hand.0.region)
+      ∙ ap
+      (λ (r : Rid). working (record { debug = s.environment.debug; number = 0; level = level_of s r; is_final = false }) xs)
+      (mine.region_is ∙ sym hand.0.region)
       ∙ ap (λ (o : Option Task). working (encounter_by next o) xs) (sym live_next)
 
   open_bodies : AreOpen p context (frame ∷ a.stack)
-  open_bodies = start_opens p a v t f final body_opens (own p w m events s actors i before standing at tt).fits fits.0.0.0 fits.0.1 fits.1
+  open_bodies =
+      start_opens p a v t f final body_opens
+      (own p w m events s actors i before standing at tt).fits fits.0.0.0 fits.0.1 fits.1
 
   has : HasSomeTask p b
-  has = let o = own p w m events s actors i before standing at tt in record { thread = o.fits.thread; variables = o.fits.variables; bodies = open_bodies; some = omega arith }
+  has =
+      let o = own p w m events s actors i before standing at tt in record { thread = o.fits.thread; variables = o.fits.variables; bodies = open_bodies; some = omega arith }
 
   contexts_placed : AreContextsPlaced w context (frame ∷ a.stack)
   contexts_placed =
@@ -342,13 +381,19 @@ module _ (p : Program) (w : List ℕ) (m : Memory) (events : List (ℕ × Event)
   is_on = store_on p w m events s actors i before ThreadCurrent (task_address w t) refl
 
   abbrev Goes : Actor → Type 0
-  Goes c = KeepsRule p w m events s actors i (op.Store (of_thread w a.thread ThreadCurrent) (task_address w t)) on_current (c, outcome.Event (event.Start t))
+  Goes c =
+      KeepsRule p w m events s actors i
+      (op.Store (of_thread w a.thread ThreadCurrent) (task_address w t)) on_current
+      (c, outcome.Event (event.Start t))
 
   leads_to : (c : Actor) → owed c ≡ nothing → KeepsThread p w stored later next i c → Goes c
   leads_to c idle thread =
       let o = own p w m events s actors i before standing at tt in
-      plain_event_keeps p w m events s actors i before (op.Store (of_thread w a.thread ThreadCurrent) (task_address w t)) on_current (c, outcome.Event (event.Start t)) (event.Start t) next
-      (λ no_object. no_object) refl step (task_address w t, ap (λ j. op.Store (of_thread w j ThreadCurrent) (task_address w t)) o.thread)
+      plain_event_keeps p w m events s actors i before
+      (op.Store (of_thread w a.thread ThreadCurrent) (task_address w t)) on_current
+      (c, outcome.Event (event.Start t)) (event.Start t) next
+      (λ no_object. no_object) refl step
+      (task_address w t, ap (λ j. op.Store (of_thread w j ThreadCurrent) (task_address w t)) o.thread)
       (none_new p w m events s actors i before standing at tt (event.Start t) (item_of v) (rest_of v) next taken step (no_fork v))
       (owed_after w stored next actors i c nothing idle (words_of v))
       (λ j other. spares_threads m s i ThreadCurrent (task_address w t) j (actors j) (λ same. omega (arith, same)))

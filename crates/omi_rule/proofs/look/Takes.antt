@@ -46,7 +46,9 @@ use Rattle.omi_rule.proofs.look.InHand.{hand_at}
 use Rattle.omi_rule.proofs.look.LooksOn.{goes_next}
 use Rattle.omi_rule.proofs.look.SlotLoads.{IsCoded, IsRowTask, code_back, code_there, row_task}
 
-module _ (p : Program) (w : List ℕ) (m : Memory) (events : List (ℕ × Event)) (s : State) (actors : ℕ → Actor) (i : ℕ) (before : Before p w m events s actors i) (v : Wait) (n : ℕ) (row : Place) (code : ℕ) (at : (actors i).counter ≡ counter.Look (look.Take v n row code)) where
+module _ (p : Program) (w : List ℕ) (m : Memory) (events : List (ℕ × Event)) (s : State) (actors : ℕ → Actor)
+    (i : ℕ) (before : Before p w m events s actors i) (v : Wait) (n : ℕ) (row : Place) (code : ℕ)
+    (at : (actors i).counter ≡ counter.Look (look.Take v n row code)) where
   abbrev a : Actor
   a = actors i
 
@@ -84,13 +86,19 @@ module _ (p : Program) (w : List ℕ) (m : Memory) (events : List (ℕ × Event)
     o = row_task p events s a row n before.rule.reached found_row.0
 
     found_there : m o.name.0.creator tasks o.name.0.slot (number TaskSlots) (n % OWN_SLOTS) ≡ code
-    found_there = ap (λ (q : Place). m q.creator tasks q.slot (number TaskSlots) (n % OWN_SLOTS)) o.place ∙ same
+    found_there =
+        ap (λ (q : Place). m q.creator tasks q.slot (number TaskSlots) (n % OWN_SLOTS)) o.place ∙ same
 
     coded : IsCoded w s a o.task (n % OWN_SLOTS) (m o.name.0.creator tasks o.name.0.slot (number TaskSlots) (n % OWN_SLOTS))
-    coded = code_there p w m events s actors before.rule before.valid a row o (n % OWN_SLOTS) (omega arith) (λ none. fits.1 (sym found_there ∙ none))
+    coded =
+        code_there p w m events s actors before.rule before.valid a row o (n % OWN_SLOTS) (omega arith)
+        (λ none. fits.1 (sym found_there ∙ none))
 
     named : coded.name ≡ k
-    named = sym (code_back p w m events s actors before.rule before.valid coded.name coded.there.task coded.there.live) ∙ ap (coded_task w) (sym coded.is ∙ found_there)
+    named =
+        sym
+        (code_back p w m events s actors before.rule before.valid coded.name coded.there.task coded.there.live)
+        ∙ ap (coded_task w) (sym coded.is ∙ found_there)
 
     deferred : IsDeferredIn s o.task (n % OWN_SLOTS) k
     deferred = subst (IsDeferredIn s o.task (n % OWN_SLOTS)) named coded.there
@@ -99,7 +107,9 @@ module _ (p : Program) (w : List ℕ) (m : Memory) (events : List (ℕ × Event)
     explicit = by deferred.task.implicit refl
       where
         by : (b : Bool) → deferred.task.implicit ≡ b → deferred.task.implicit ≡ false
-        by true im = absurd (undeferred p events s before.rule.reached k deferred.task deferred.live im deferred.progress)
+        by true im =
+            absurd
+            (undeferred p events s before.rule.reached k deferred.task deferred.live im deferred.progress)
         by false ex = ex
 
     may_start : (x : Wait) → HasTested w s a x code → MayStartIn x a deferred.task
@@ -121,8 +131,11 @@ module _ (p : Program) (w : List ℕ) (m : Memory) (events : List (ℕ × Event)
 
     left_is : left_in m (op.Cas (of_slot w row n) code 0) on_slot ≡ taken
     left_is =
-        ap (λ (b : Bool). with_word m row.creator tasks row.slot (number TaskSlots) (n % OWN_SLOTS) (if b then 0 else found)) (eq-eqb found code same)
-        ∙ ap (λ (q : Place). with_word m q.creator tasks q.slot (number TaskSlots) (n % OWN_SLOTS) 0) (sym o.place)
+        ap
+        (λ (b : Bool). with_word m row.creator tasks row.slot (number TaskSlots) (n % OWN_SLOTS) (if b then 0 else found))
+        (eq-eqb found code same)
+        ∙ ap (λ (q : Place). with_word m q.creator tasks q.slot (number TaskSlots) (n % OWN_SLOTS) 0)
+        (sym o.place)
 
     words : KeepsWords w taken s (all_owed (replace_at actors i (at_counter to a)))
     words =
@@ -134,16 +147,19 @@ module _ (p : Program) (w : List ℕ) (m : Memory) (events : List (ℕ × Event)
 
     takes : KeepsRule p w m events s actors i (op.Cas (of_slot w row n) code 0) on_slot (at_counter to a, outcome.Quiet)
     takes =
-        quiet_keeps p w m events s actors i before (op.Cas (of_slot w row n) code 0) on_slot (at_counter to a, outcome.Quiet) refl
+        quiet_keeps p w m events s actors i before (op.Cas (of_slot w row n) code 0) on_slot
+        (at_counter to a, outcome.Quiet) refl
         (subst (λ (h : Memory). KeepsWords w h s (all_owed (replace_at actors i (at_counter to a)))) (sym left_is) words)
         (λ j other. subst (λ (h : Memory). Spares m h s j (actors j)) (sym left_is)
         (spares_task m s o.name o.task TaskSlots (n % OWN_SLOTS) 0 j (actors j) o.live (inr (inr refl)) (λ g of field _ _ _. place_apart g TaskSlots of refl field)))
         (subst (λ (h : Memory). KeepsThread p w h events s i (at_counter to a)) (sym left_is) (thread_with p w m events s actors i before standing at tt taken to stands_at))
 
-  by_exchange : (d : Bool) → found == code ≡ d → KeepsRule p w m events s actors i (op.Cas (of_slot w row n) code 0) on_slot (if d then to_look (look.LoadFunction v n code k) a else looking_on v n row a, outcome.Quiet)
+  by_exchange : (d : Bool) → found == code ≡ d
+      → KeepsRule p w m events s actors i (op.Cas (of_slot w row n) code 0) on_slot (if d then to_look (look.LoadFunction v n code k) a else looking_on v n row a, outcome.Quiet)
   by_exchange true same = takes (eqb-true found code same)
   by_exchange false other =
-      same_quiet p w m events s actors i before standing at tt (op.Cas (of_slot w row n) code 0) on_slot (next_look a v (n + 1) row)
+      same_quiet p w m events s actors i before standing at tt (op.Cas (of_slot w row n) code 0) on_slot
+      (next_look a v (n + 1) row)
       (ap (λ (b : Bool). with_word m row.creator tasks row.slot (number TaskSlots) (n % OWN_SLOTS) (if b then 0 else found)) other ∙ word_back m row.creator tasks row.slot (number TaskSlots) (n % OWN_SLOTS))
       (goes_next p w m events s actors i before standing at tt refl v n row fits.0 has_row found_row.0 list_is)
 

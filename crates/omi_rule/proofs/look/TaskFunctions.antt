@@ -19,10 +19,12 @@ pub record RunsTask (p : Program) (t : Task) (fs : List Frame) : Type 0 where
 
 module _ (p : Program) (s : State) where
   abbrev Under : List Frame → Type 0
-  Under fs = (c : Context) (t : Task) → AreOpen p c fs → RunsFunctions s c fs → 0 < length fs → task_of s c.task ≡ Some t → RunsTask p t fs
+  Under fs =
+      (c : Context) (t : Task) → AreOpen p c fs → RunsFunctions s c fs → 0 < length fs → task_of s c.task ≡ Some t → RunsTask p t fs
 
   -- below a body that a statement opened there is another one
-  some_under : (c : Context) (f : ℕ) (o : Opened) (fs : List Frame) → opens_task o ≡ false → StandsOn p c f fs o → 0 < length fs
+  some_under : (c : Context) (f : ℕ) (o : Opened) (fs : List Frame) → opens_task o ≡ false
+      → StandsOn p c f fs o → 0 < length fs
   some_under c f o (g ∷ gs) called on = omega arith
   some_under c f opened.Main [] called on = absurd (cc called)
   some_under c f opened.Worker [] called on = absurd (cc called)
@@ -48,12 +50,17 @@ module _ (p : Program) (s : State) where
     where
       by : Under fs → (b : Bool) → opens_task f.opened ≡ b → RunsTask p t (f ∷ fs)
       by inside true opens =
-          let is : task_function (f ∷ fs) ≡ f.function = ap (λ (b : Bool). if b then f.function else task_function fs) opens in
+          let is : task_function (f ∷ fs) ≡ f.function =
+          ap (λ (b : Bool). if b then f.function else task_function fs) opens in
           let function = here.frame.function in
           record { function = is ∙ sym (runs opens t live); known = omega (arith, is, function) }
       by inside false called =
-          let is : task_function (f ∷ fs) ≡ task_function fs = ap (λ (b : Bool). if b then f.function else task_function fs) called in
+          let is : task_function (f ∷ fs) ≡ task_function fs =
+          ap (λ (b : Bool). if b then f.function else task_function fs) called in
           let same : context_under c f.opened ≡ c = same_context c f.opened called in
-          let o = inside c t (subst (λ (d : Context). AreOpen p d fs) same rest) (subst (λ (d : Context). RunsFunctions s d fs) same under) (some_under c f.function f.opened fs called here.stands) live in
+          let o =
+          inside c t (subst (λ (d : Context). AreOpen p d fs) same rest)
+          (subst (λ (d : Context). RunsFunctions s d fs) same under)
+          (some_under c f.function f.opened fs called here.stands) live in
           let known = o.known in
           record { function = is ∙ o.function; known = omega (arith, is, known) }

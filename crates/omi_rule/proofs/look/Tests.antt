@@ -45,15 +45,20 @@ use Rattle.omi_rule.proofs.look.LooksOn.{goes_next}
 
 -- whatever task a code names, the layout has its record
 pub coded_there : (w : List ℕ) → IsValid w → (code : ℕ) → HasTask w (coded_task w code)
-coded_there w valid code = go (slot_by w tasks (code % 2 ^ 24)) (mod_below (code % 2 ^ 24) (per_thread w tasks) (some_tasks w valid)) (nat_lt (slot_by w tasks (code % 2 ^ 24)).creator (makers w tasks)) refl
+coded_there w valid code =
+    go (slot_by w tasks (code % 2 ^ 24)) (mod_below (code % 2 ^ 24) (per_thread w tasks) (some_tasks w valid))
+    (nat_lt (slot_by w tasks (code % 2 ^ 24)).creator (makers w tasks)) refl
   where
-    go : (x : Place) → x.slot < per_thread w tasks → (b : Bool) → nat_lt x.creator (makers w tasks) ≡ b → IsSlot w tasks (if b then x else initial_place).creator (if b then x else initial_place).slot
+    go : (x : Place) → x.slot < per_thread w tasks → (b : Bool) → nat_lt x.creator (makers w tasks) ≡ b
+        → IsSlot w tasks (if b then x else initial_place).creator (if b then x else initial_place).slot
     go x below true made = record { made_by = ltb-true x.creator (makers w tasks) made; within = below }
     go x below false made = record { made_by = some_threads w valid; within = some_tasks w valid }
 
-module _ (p : Program) (w : List ℕ) (m : Memory) (events : List (ℕ × Event)) (s : State) (actors : ℕ → Actor) (rule : Rule p w m events s actors) where
+module _ (p : Program) (w : List ℕ) (m : Memory) (events : List (ℕ × Event)) (s : State) (actors : ℕ → Actor)
+    (rule : Rule p w m events s actors) where
   -- the word of a live task tells the task that made it
-  pub maker_told : (valid : IsValid w) (k g : Tid) (t u : Task) → task_of s k ≡ Some t → task_of s g ≡ Some u → m k.0.creator tasks k.0.slot (number TaskGenerating) 0 ≡ task_address w g → t.generating ≡ Some g
+  pub maker_told : (valid : IsValid w) (k g : Tid) (t u : Task) → task_of s k ≡ Some t → task_of s g ≡ Some u
+      → m k.0.creator tasks k.0.slot (number TaskGenerating) 0 ≡ task_address w g → t.generating ≡ Some g
   maker_told valid k g t u live there word = by t.generating refl
     where
       stands : m k.0.creator tasks k.0.slot (number TaskGenerating) 0 ≡ task_word w t.generating
@@ -64,13 +69,20 @@ module _ (p : Program) (w : List ℕ) (m : Memory) (events : List (ℕ × Event)
       by (Some h) e =
           let (x, made, started) = ((names_live p events s rule.reached).tasks k t live).generating h e in
           let one : task_address w h ≡ task_address w g = ap (task_word w) (sym e) ∙ sym stands ∙ word in
-          let first : task_place w (task_address w h) ≡ place_of h.0 = places_back w tasks h.0.creator h.0.slot valid (record { from = omega arith; to = omega arith }) (task_there p w m events s actors rule h x made) in
-          let second : task_place w (task_address w g) ≡ place_of g.0 = places_back w tasks g.0.creator g.0.slot valid (record { from = omega arith; to = omega arith }) (task_there p w m events s actors rule g u there) in
+          let first : task_place w (task_address w h) ≡ place_of h.0 =
+          places_back w tasks h.0.creator h.0.slot valid (record { from = omega arith; to = omega arith })
+          (task_there p w m events s actors rule h x made) in
+          let second : task_place w (task_address w g) ≡ place_of g.0 =
+          places_back w tasks g.0.creator g.0.slot valid (record { from = omega arith; to = omega arith })
+          (task_there p w m events s actors rule g u there) in
           let place : place_of h.0 ≡ place_of g.0 = sym first ∙ ap (task_place w) one ∙ second in
-          let name = (same_name s g h u x there made (ap (λ (q : Place). q.creator) place) (ap (λ (q : Place). q.slot) place)).0 in
+          let name =
+          (same_name s g h u x there made (ap (λ (q : Place). q.creator) place) (ap (λ (q : Place). q.slot) place)).0 in
           e ∙ ap (λ (n : Tid). Some n) name
 
-module _ (p : Program) (w : List ℕ) (m : Memory) (events : List (ℕ × Event)) (s : State) (actors : ℕ → Actor) (i : ℕ) (before : Before p w m events s actors i) (v : Wait) (n : ℕ) (row : Place) (code : ℕ) (at : (actors i).counter ≡ counter.Look (look.LoadGenerating v n row code)) where
+module _ (p : Program) (w : List ℕ) (m : Memory) (events : List (ℕ × Event)) (s : State) (actors : ℕ → Actor)
+    (i : ℕ) (before : Before p w m events s actors i) (v : Wait) (n : ℕ) (row : Place) (code : ℕ)
+    (at : (actors i).counter ≡ counter.Look (look.LoadGenerating v n row code)) where
   abbrev a : Actor
   a = actors i
 
@@ -104,16 +116,21 @@ module _ (p : Program) (w : List ℕ) (m : Memory) (events : List (ℕ × Event)
   -- a task that passes is a child of the current one, where it lives
   tested : word ≡ task_address w a.context.task → (x : Wait) → TestsChildren x → HasTested w s a x code
   tested same (wait.Barrier b) tests = absurd tests
-  tested same wait.Taskwait tests = (found_row.1, λ t live. let o = here p w m events s actors i before standing at tt in maker_told p w m events s actors before.rule before.valid k a.context.task t o.task live o.live same)
-  tested same wait.Taskyield tests = (found_row.1, λ t live. let o = here p w m events s actors i before standing at tt in maker_told p w m events s actors before.rule before.valid k a.context.task t o.task live o.live same)
+  tested same wait.Taskwait tests =
+      (found_row.1, λ t live. let o = here p w m events s actors i before standing at tt in maker_told p w m events s actors before.rule before.valid k a.context.task t o.task live o.live same)
+  tested same wait.Taskyield tests =
+      (found_row.1, λ t live. let o = here p w m events s actors i before standing at tt in maker_told p w m events s actors before.rule before.valid k a.context.task t o.task live o.live same)
 
   by_maker : (d : Bool) → word == task_address w a.context.task ≡ d
-      → KeepsRule p w m events s actors i (op.Load (of_task w k TaskGenerating)) on_generating (if d then to_look (look.Take v n row code) a else looking_on v n row a, outcome.Quiet)
+      → KeepsRule p w m events s actors i (op.Load (of_task w k TaskGenerating)) on_generating
+      (if d then to_look (look.Take v n row code) a else looking_on v n row a, outcome.Quiet)
   by_maker true same =
-      load_quiet p w m events s actors i before standing at tt (of_task w k TaskGenerating) on_generating (counter.Look (look.Take v n row code))
+      load_quiet p w m events s actors i before standing at tt (of_task w k TaskGenerating) on_generating
+      (counter.Look (look.Take v n row code))
       (record { fits = (fits.0, fits.1); placed = has_row; ahead = list_is; owes = refl; row = (found_row.0, tested (eqb-true word (task_address w a.context.task) same) v fits.2); ended = tt })
   by_maker false other =
-      load_quiet p w m events s actors i before standing at tt (of_task w k TaskGenerating) on_generating (next_look a v (n + 1) row)
+      load_quiet p w m events s actors i before standing at tt (of_task w k TaskGenerating) on_generating
+      (next_look a v (n + 1) row)
       (goes_next p w m events s actors i before standing at tt refl v n row fits.0 has_row found_row.0 list_is)
 
   pub load_maker_keeps : StepKeeps p w m events s actors i (look_next w (actors i) (look.LoadGenerating v n row code)) (λ old. (look_moved p w (actors i) (look.LoadGenerating v n row code) old, look_outcome w (actors i) (look.LoadGenerating v n row code) old))

@@ -48,7 +48,8 @@ use Rattle.omi_rule.proofs.barrier.Events.{IsReadyAt, event_leads_to, relisted_c
 use Rattle.omi_rule.proofs.barrier.Constructs.{at_construct}
 use Rattle.omi_rule.proofs.plain.Loads.{native, native_on}
 
-module _ (p : Program) (w : List ℕ) (m : Memory) (events : List (ℕ × Event)) (s : State) (actors : ℕ → Actor) (i : ℕ) (before : Before p w m events s actors i) where
+module _ (p : Program) (w : List ℕ) (m : Memory) (events : List (ℕ × Event)) (s : State) (actors : ℕ → Actor)
+    (i : ℕ) (before : Before p w m events s actors i) where
   abbrev a : Actor
   a = actors i
 
@@ -89,7 +90,8 @@ module _ (p : Program) (w : List ℕ) (m : Memory) (events : List (ℕ × Event)
     current = is_current p s i a (stands p w m events s actors i before standing at tt)
 
     some_slot : 0 < slots_of a
-    some_slot = let some = (is_context p w m events s actors i before standing at tt).size.0 in omega (arith, some)
+    some_slot =
+        let some = (is_context p w m events s actors i before standing at tt).size.0 in omega (arith, some)
 
     taken : take_item p At event.WaitDone mine.task.list ≡ Some (item.WaitDone, behind)
     taken = ap (λ xs. take_item p At event.WaitDone xs) list_is
@@ -106,34 +108,46 @@ module _ (p : Program) (w : List ℕ) (m : Memory) (events : List (ℕ × Event)
     abbrev Goes : Actor → Type 0
     Goes b = KeepsRule p w m events s actors i (op.Load load) on_children (b, outcome.Event event.WaitDone)
 
-    done : word ≡ 0 → (y : Counter) → ((n : Memory) → IsReadyAt p w n (events ++ (i, event.WaitDone) ∷ []) next i At a y behind) → Goes (at_counter y a)
+    done : word ≡ 0 → (y : Counter)
+        → ((n : Memory) → IsReadyAt p w n (events ++ (i, event.WaitDone) ∷ []) next i At a y behind)
+        → Goes (at_counter y a)
     done none y ready =
         let same = of_load p w m events s actors i before load on_children in
-        event_leads_to p w m events s actors i before standing at tt refl (op.Load load) on_children y (outcome.Event event.WaitDone) event.WaitDone item.WaitDone behind next refl (λ no_object. no_object) (λ f e. absurd (cc e)) taken (step none)
+        event_leads_to p w m events s actors i before standing at tt refl (op.Load load) on_children y
+        (outcome.Event event.WaitDone) event.WaitDone item.WaitDone behind next refl (λ no_object. no_object)
+        (λ f e. absurd (cc e)) taken (step none)
         (a.context.task, mine.task, current, refl)
         (subst (λ (n : Memory). KeepsWords w n next (all_owed actors)) (sym same) (relisted_words p w m events s actors i before standing at tt behind))
         (λ j other. subst (λ (n : Memory). Spares m n s j (actors j)) (sym same) (spares_none m s j (actors j)))
         (relisted_changes p w m events s actors i before standing at tt behind) refl (ready _)
 
-    works : word ≡ 0 → (d : Bool) → p.env.debug ≡ d → (worked p a ≡ at_counter (counter.Plain plain.Leave) a) → Ahead.worked p At a.stack ≡ leaving p At a.stack → Goes (if d then at_counter (counter.Plain plain.WorkState) a else worked p a)
+    works : word ≡ 0 → (d : Bool) → p.env.debug ≡ d → (worked p a ≡ at_counter (counter.Plain plain.Leave) a)
+        → Ahead.worked p At a.stack ≡ leaving p At a.stack
+        → Goes (if d then at_counter (counter.Plain plain.WorkState) a else worked p a)
     works none true e leaves ahead =
         done none (counter.Plain plain.WorkState)
         (λ n. record { fits = inr (stmt.Taskwait, waits, tt); placed = tt; ahead = list_of true e ∙ ap (λ xs. item.State (work_state At.level) 0 ∷ xs) (sym ahead); owes = refl; row = tt; ended = tt })
       where
-        list_of : (d : Bool) → p.env.debug ≡ d → behind ≡ (if d then item.State (work_state At.level) 0 ∷ leaving p At a.stack else leaving p At a.stack)
-        list_of d e = ap (λ (x : Bool). if x then item.State (work_state At.level) 0 ∷ leaving p At a.stack else leaving p At a.stack) (sees_debug p w m events s actors i before standing at tt ∙ e)
+        list_of : (d : Bool) → p.env.debug ≡ d
+            → behind ≡ (if d then item.State (work_state At.level) 0 ∷ leaving p At a.stack else leaving p At a.stack)
+        list_of d e =
+            ap
+            (λ (x : Bool). if x then item.State (work_state At.level) 0 ∷ leaving p At a.stack else leaving p At a.stack)
+            (sees_debug p w m events s actors i before standing at tt ∙ e)
     works none false e leaves ahead =
         subst Goes (sym leaves)
         (done none (counter.Plain plain.Leave)
         (λ n. record { fits = (stmt.Taskwait, waits, tt); placed = tt; ahead = ap (λ (x : Bool). if x then item.State (work_state At.level) 0 ∷ leaving p At a.stack else leaving p At a.stack) (sees_debug p w m events s actors i before standing at tt ∙ e); owes = refl; row = tt; ended = tt }))
 
-    by_word : (d : Bool) → word == 0 ≡ d → KeepsRule p w m events s actors i (op.Load load) on_children (if d then back_to_work p a else to_look (look.LoadRow wait.Taskwait 0) a, if d then outcome.Event event.WaitDone else outcome.NotReady load word)
+    by_word : (d : Bool) → word == 0 ≡ d
+        → KeepsRule p w m events s actors i (op.Load load) on_children (if d then back_to_work p a else to_look (look.LoadRow wait.Taskwait 0) a, if d then outcome.Event event.WaitDone else outcome.NotReady load word)
     by_word true none =
         let (f, fs, is, task) = body p w m events s actors i before standing at tt in
         let (leaves, ahead) = at_construct p a f fs stmt.Taskwait is waits in
         works (eqb-true word 0 none) p.env.debug refl leaves (ahead At)
     by_word false some =
-        load_waits p w m events s actors i before standing at tt load on_children (counter.Look (look.LoadRow wait.Taskwait 0))
+        load_waits p w m events s actors i before standing at tt load on_children
+        (counter.Look (look.LoadRow wait.Taskwait 0))
         (record { fits = ((waits, some_slot), refl); placed = tt; ahead = list_is; owes = refl; row = tt; ended = tt })
         (Waits.ForChildren (a.context.task, mine.task, current, (subst children_next (sym list_is) tt, refl, λ e. cc (sym some, eq-eqb word 0 e))))
 
@@ -162,7 +176,8 @@ module _ (p : Program) (w : List ℕ) (m : Memory) (events : List (ℕ × Event)
     abbrev after_yield : State
     after_yield = relisted_state p w m events s actors i before yielding at tt leaves
 
-    takes_yield : (own_list ≡ Ahead.waiting p Sees a.stack wait.Taskyield) ⊎ (own_list ≡ Ahead.entering_wait p Sees a.stack wait.Taskyield) → take_item p Sees event.Yield own_list ≡ Some (item.Yield, leaves)
+    takes_yield : (own_list ≡ Ahead.waiting p Sees a.stack wait.Taskyield) ⊎ (own_list ≡ Ahead.entering_wait p Sees a.stack wait.Taskyield)
+        → take_item p Sees event.Yield own_list ≡ Some (item.Yield, leaves)
     takes_yield (inl is) = ap (λ xs. take_item p Sees event.Yield xs) is
     takes_yield (inr is) = ap (λ xs. take_item p Sees event.Yield xs) is
 
@@ -177,7 +192,10 @@ module _ (p : Program) (w : List ℕ) (m : Memory) (events : List (ℕ × Event)
         let same = of_load p w m events s actors i before load_native (native p w m events s actors i before) in (
           native p w m events s actors i before,
           native_on p w m events s actors i before,
-          event_leads_to p w m events s actors i before yielding at tt refl (op.Load load_native) (native p w m events s actors i before) (counter.Plain plain.Leave) (outcome.Event event.Yield) event.Yield item.Yield leaves after_yield refl (λ no_object. no_object) (λ f e. absurd (cc e)) taken_yield
+          event_leads_to p w m events s actors i before yielding at tt refl (op.Load load_native)
+              (native p w m events s actors i before) (counter.Plain plain.Leave)
+              (outcome.Event event.Yield) event.Yield item.Yield leaves after_yield refl (λ no_object. no_object)
+              (λ f e. absurd (cc e)) taken_yield
               (steps p w m events s actors i before yielding at tt event.Yield item.Yield leaves after_yield taken_yield tt refl refl)
               (ap (λ j. op.Load (of_thread w j ThreadNative)) (before.rule.threads i before.known).thread)
               (subst (λ (k : Memory). KeepsWords w k after_yield (all_owed actors)) (sym same) (relisted_words p w m events s actors i before yielding at tt leaves))

@@ -24,7 +24,9 @@ use Rattle.omi_rule.proofs.Assembly.{Before}
 use Rattle.omi_rule.proofs.barrier.AtCounter.{ahead_is, fits_counter, here, is_context, sees}
 use Rattle.omi_rule.proofs.barrier.StateStores.{is_on, on_state, stores_state}
 
-module _ (p : Program) (w : List ℕ) (m : Memory) (events : List (ℕ × Event)) (s : State) (actors : ℕ → Actor) (i : ℕ) (before : Before p w m events s actors i) (v : Wait) (at : (actors i).counter ≡ counter.Look (look.State v)) where
+module _ (p : Program) (w : List ℕ) (m : Memory) (events : List (ℕ × Event)) (s : State) (actors : ℕ → Actor)
+    (i : ℕ) (before : Before p w m events s actors i) (v : Wait)
+    (at : (actors i).counter ≡ counter.Look (look.State v)) where
   abbrev a : Actor
   a = actors i
 
@@ -40,22 +42,28 @@ module _ (p : Program) (w : List ℕ) (m : Memory) (events : List (ℕ × Event)
   fits : IsBack p a (Some v) × StoresWait v
   fits = fits_counter p w m events s actors i before standing at tt
 
-  take_state : (x : Wait) → StoresWait x → take_item p At (event.State (wait_state x) 0) (Ahead.showing_wait p At a.stack x) ≡ Some (item.State (wait_state x) 0, Ahead.waiting p At a.stack x)
+  take_state : (x : Wait) → StoresWait x
+      → take_item p At (event.State (wait_state x) 0) (Ahead.showing_wait p At a.stack x) ≡ Some (item.State (wait_state x) 0, Ahead.waiting p At a.stack x)
   take_state (wait.Barrier Explicit) stores = refl
   take_state (wait.Barrier Implicit) stores = refl
   take_state wait.Taskwait stores = refl
   take_state wait.Taskyield stores = absurd stores
 
   taken : take_item p At (event.State (wait_state v) 0) (here p w m events s actors i before standing at tt).task.list ≡ Some (item.State (wait_state v) 0, behind)
-  taken = ap (λ xs. take_item p At (event.State (wait_state v) 0) xs) (ahead_is p w m events s actors i before standing at tt) ∙ take_state v fits.1
+  taken =
+      ap (λ xs. take_item p At (event.State (wait_state v) 0) xs)
+      (ahead_is p w m events s actors i before standing at tt)
+      ∙ take_state v fits.1
 
   some_slot : 0 < slots_of a
-  some_slot = let some = (is_context p w m events s actors i before standing at tt).size.0 in omega (arith, some)
+  some_slot =
+      let some = (is_context p w m events s actors i before standing at tt).size.0 in omega (arith, some)
 
   pub wait_state_keeps : StepKeeps p w m events s actors i (look_next w (actors i) (look.State v)) (λ old. (look_moved p w (actors i) (look.State v) old, look_outcome w (actors i) (look.State v) old))
   wait_state_keeps = (
     on_state p w m events s actors i before standing at tt refl (wait_state v) behind (counter.Look (look.LoadRow v 0)),
     is_on p w m events s actors i before standing at tt refl (wait_state v) behind (counter.Look (look.LoadRow v 0)),
-    stores_state p w m events s actors i before standing at tt refl (wait_state v) behind (counter.Look (look.LoadRow v 0)) taken
+    stores_state p w m events s actors i before standing at tt refl (wait_state v) behind
+        (counter.Look (look.LoadRow v 0)) taken
         (record { fits = ((fits.0, some_slot), refl); placed = tt; ahead = refl; owes = refl; row = tt; ended = tt }),
   )

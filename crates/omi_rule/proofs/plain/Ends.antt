@@ -36,18 +36,23 @@ use Rattle.omi_rule.proofs.plain.OwnEvents.{GoesOn, fits_counter}
 use Rattle.omi_rule.proofs.plain.Loads.{here, load_keeps, loads_native, native, native_on, on_ground, sees}
 
 -- the initial task runs on thread 0
-first_runs : (p : Program) (events : List (ℕ × Event)) (s : State) → Reached p events s → (t : Task) → task_of s initial_task ≡ Some t → t.thread ≡ 0
+first_runs : (p : Program) (events : List (ℕ × Event)) (s : State) → Reached p events s → (t : Task)
+    → task_of s initial_task ≡ Some t → t.thread ≡ 0
 first_runs p events s reached t live =
-    let (v, now, same) = (stay p [] events (opening p) s refl reached).tasks initial_task (opening_task p) refl in
+    let (v, now, same) =
+    (stay p [] events (opening p) s refl reached).tasks initial_task (opening_task p) refl in
     ap (λ (x : Task). x.thread) (some_same live now) ∙ same.thread (λ e. cc e)
 
-module _ (p : Program) (w : List ℕ) (m : Memory) (events : List (ℕ × Event)) (s : State) (actors : ℕ → Actor) (i : ℕ) (before : Before p w m events s actors i) where
+module _ (p : Program) (w : List ℕ) (m : Memory) (events : List (ℕ × Event)) (s : State) (actors : ℕ → Actor)
+    (i : ℕ) (before : Before p w m events s actors i) where
   -- the body of `main` is that of the initial task
-  of_main : (fs : List Frame) → IsAtEnd p IsMain fs → KeepsBodies p s i (actors i).context fs → (actors i).context.task ≡ initial_task
+  of_main : (fs : List Frame) → IsAtEnd p IsMain fs → KeepsBodies p s i (actors i).context fs
+      → (actors i).context.task ≡ initial_task
   of_main [] end all = absurd end
   of_main (f ∷ fs) end all = go f.opened end.1 all.1
     where
-      go : (x : Opened) → IsMain x → KeepsBody p s (actors i).context x fs → (actors i).context.task ≡ initial_task
+      go : (x : Opened) → IsMain x → KeepsBody p s (actors i).context x fs
+          → (actors i).context.task ≡ initial_task
       go bodies.Main main keeps = keeps.0
       go _ main keeps = absurd main
 
@@ -55,11 +60,15 @@ module _ (p : Program) (w : List ℕ) (m : Memory) (events : List (ℕ × Event)
   main_is_first at_counter =
       let o = here p w m events s actors i before plain.Done at_counter in
       let t = top p s i (actors i) o in
-      let is : (actors i).context.task ≡ initial_task = of_main (actors i).stack (fits_counter p w m events s actors i before plain.Done at_counter) o.bodies in
-      sym t.thread ∙ first_runs p events s before.rule.reached t.task (subst (λ (k : Tid). task_of s k ≡ Some t.task) is t.live)
+      let is : (actors i).context.task ≡ initial_task =
+      of_main (actors i).stack (fits_counter p w m events s actors i before plain.Done at_counter) o.bodies in
+      sym t.thread
+      ∙ first_runs p events s before.rule.reached t.task
+      (subst (λ (k : Tid). task_of s k ≡ Some t.task) is t.live)
 
   pub done_keeps : (actors i).counter ≡ counter.Plain plain.Done
-      → StepKeeps p w m events s actors i (plain_next p w (actors i) plain.Done) (λ old. (plain_moved p (actors i) plain.Done old, plain_outcome p w (actors i) plain.Done old))
+      → StepKeeps p w m events s actors i (plain_next p w (actors i) plain.Done)
+      (λ old. (plain_moved p (actors i) plain.Done old, plain_outcome p w (actors i) plain.Done old))
   done_keeps at_counter =
       let own = before.rule.threads i before.known in
       let goes : GoesOn p w i (sees p w m events s actors i before plain.Done at_counter) (actors i) (goes_to plain.Ended (actors i)) [] = record {
@@ -75,14 +84,17 @@ module _ (p : Program) (w : List ℕ) (m : Memory) (events : List (ℕ × Event)
       } in (
         native p w m events s actors i before,
         native_on p w m events s actors i before,
-        load_keeps p w m events s actors i before plain.Done at_counter (goes_to plain.Ended (actors i)) (outcome.Event event.Done) event.Done item.Done [] refl (λ x. x) (λ f e. absurd (cc e))
-            refl (main_is_first at_counter) refl (λ z. refl) (loads_native p w m events s actors i before) goes
+        load_keeps p w m events s actors i before plain.Done at_counter (goes_to plain.Ended (actors i))
+            (outcome.Event event.Done) event.Done item.Done [] refl (λ x. x) (λ f e. absurd (cc e))
+            refl (main_is_first at_counter) refl (λ z. refl)
+            (loads_native p w m events s actors i before) goes
             (Contains-append_right events ((i, event.Done) ∷ []) (i, event.Done) (0, lit< tt, refl)),
       )
 
   -- nothing is left to do
   pub ended_keeps : (actors i).counter ≡ counter.Plain plain.Ended
-      → StepKeeps p w m events s actors i (plain_next p w (actors i) plain.Ended) (λ old. (plain_moved p (actors i) plain.Ended old, plain_outcome p w (actors i) plain.Ended old))
+      → StepKeeps p w m events s actors i (plain_next p w (actors i) plain.Ended)
+      (λ old. (plain_moved p (actors i) plain.Ended old, plain_outcome p w (actors i) plain.Ended old))
   ended_keeps at_counter =
       let own = before.rule.threads i before.known in
       let x = native p w m events s actors i before in

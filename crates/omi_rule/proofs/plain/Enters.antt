@@ -74,15 +74,19 @@ module _ (p : Program) (at : Encounter) (fs : List Frame) where
   of_wait xs = item.Tasks WAIT_TASKWAIT ∷ item.WaitDone ∷ Rows.working at xs
 
   abbrev of_barrier : List Item → List Item
-  of_barrier xs = item.Arrive ∷ item.Tasks WAIT_BARRIER_EXPLICIT ∷ (if at.number == 0 then item.Release ∷ item.Pass ∷ Rows.working at xs else item.Pass ∷ Rows.working at xs)
+  of_barrier xs =
+      item.Arrive ∷ item.Tasks WAIT_BARRIER_EXPLICIT ∷ (if at.number == 0 then item.Release ∷ item.Pass ∷ Rows.working at xs else item.Pass ∷ Rows.working at xs)
 
   abbrev of_lock : ℕ → List Item → List Item
   of_lock l xs = item.Lock l ∷ Rows.working at xs
 
-  task_ahead : (f : ℕ) (undeferred given final : Bool) → at.is_final ≡ final → IsAt p fs (stmt.Task f undeferred given)
+  task_ahead : (f : ℕ) (undeferred given final : Bool) → at.is_final ≡ final
+      → IsAt p fs (stmt.Task f undeferred given)
       → IsAhead p at fs (task_counter (undeferred || final)) (behind p at (stmt.Task f undeferred given) rest)
   task_ahead f undeferred given final is_final is =
-      subst (λ (b : Bool). IsAhead p at fs (task_counter (undeferred || b)) (behind p at (stmt.Task f undeferred given) rest)) is_final (go (undeferred || at.is_final) refl)
+      subst
+      (λ (b : Bool). IsAhead p at fs (task_counter (undeferred || b)) (behind p at (stmt.Task f undeferred given) rest)) is_final
+      (go (undeferred || at.is_final) refl)
     where
       start : Item
       start = item.StartNow f (given || at.is_final)
@@ -90,33 +94,42 @@ module _ (p : Program) (at : Encounter) (fs : List Frame) where
       deferred : ℕ → Item
       deferred n = item.Defer n f (given || at.is_final)
 
-      go : (b : Bool) → undeferred || at.is_final ≡ b → IsAhead p at fs (task_counter b) (behind p at (stmt.Task f undeferred given) rest)
+      go : (b : Bool) → undeferred || at.is_final ≡ b
+          → IsAhead p at fs (task_counter b) (behind p at (stmt.Task f undeferred given) rest)
       go true e =
           ap (λ (b : Bool). (if b then start else deferred 0) ∷ item.Leave ∷ rest) e
           ∙ ap (λ (b : Bool). (if b then start else deferred 4) ∷ item.Leave ∷ rest) (sym e)
-          ∙ ap (λ (xs : List Item). (if undeferred || at.is_final then start else deferred 4) ∷ xs) (leaves (stmt.Task f undeferred given) is)
-          ∙ sym (in_work_is p fs (stmt.Task f undeferred given) (λ y. task_item at None y (leaving p at fs)) is)
+          ∙ ap (λ (xs : List Item). (if undeferred || at.is_final then start else deferred 4) ∷ xs)
+          (leaves (stmt.Task f undeferred given) is)
+          ∙ sym
+          (in_work_is p fs (stmt.Task f undeferred given) (λ y. task_item at None y (leaving p at fs)) is)
       go false e =
-          ap (λ (xs : List Item). (if undeferred || at.is_final then start else deferred 0) ∷ xs) (leaves (stmt.Task f undeferred given) is)
-          ∙ sym (in_work_is p fs (stmt.Task f undeferred given) (λ y. task_item at (Some 0) y (leaving p at fs)) is)
+          ap (λ (xs : List Item). (if undeferred || at.is_final then start else deferred 0) ∷ xs)
+          (leaves (stmt.Task f undeferred given) is)
+          ∙ sym
+          (in_work_is p fs (stmt.Task f undeferred given) (λ y. task_item at (Some 0) y (leaving p at fs)) is)
 
-  enter_ahead : (d : Bool) → at.debug ≡ d → (final : Bool) → at.is_final ≡ final → (x : Stmt) → IsAt p fs x → Enters x → IsAhead p at fs (behind_enter d final (Some x)) (behind p at x rest)
+  enter_ahead : (d : Bool) → at.debug ≡ d → (final : Bool) → at.is_final ≡ final → (x : Stmt) → IsAt p fs x
+      → Enters x → IsAhead p at fs (behind_enter d final (Some x)) (behind p at x rest)
   enter_ahead true e final is_final (stmt.Parallel f num) is enters =
       ap (λ (b : Bool). with_state b OVERHEAD 0 (of_team f num (item.Leave ∷ rest))) e
       ∙ ap (λ (xs : List Item). item.State OVERHEAD 0 ∷ of_team f num xs) (leaves (stmt.Parallel f num) is)
-      ∙ ap (λ (xs : List Item). item.State OVERHEAD 0 ∷ xs) (sym (in_work_is p fs (stmt.Parallel f num) (wanting_in p at fs) is))
+      ∙ ap (λ (xs : List Item). item.State OVERHEAD 0 ∷ xs)
+      (sym (in_work_is p fs (stmt.Parallel f num) (wanting_in p at fs) is))
   enter_ahead false e final is_final (stmt.Parallel f num) is enters =
       ap (λ (b : Bool). with_state b OVERHEAD 0 (of_team f num (item.Leave ∷ rest))) e
       ∙ ap (λ (xs : List Item). of_team f num xs) (leaves (stmt.Parallel f num) is)
       ∙ sym (in_work_is p fs (stmt.Parallel f num) (wanting_in p at fs) is)
-  enter_ahead d e final is_final (stmt.Task f undeferred given) is enters = task_ahead f undeferred given final is_final is
+  enter_ahead d e final is_final (stmt.Task f undeferred given) is enters =
+      task_ahead f undeferred given final is_final is
   enter_ahead true e final is_final stmt.Taskwait is enters =
       ap (λ (b : Bool). with_state b WAIT_TASKWAIT 0 (of_wait (item.Leave ∷ rest))) e
       ∙ ap (λ (xs : List Item). item.State WAIT_TASKWAIT 0 ∷ of_wait xs) (leaves stmt.Taskwait is)
   enter_ahead false e final is_final stmt.Taskwait is enters =
       ap (λ (b : Bool). with_state b WAIT_TASKWAIT 0 (of_wait (item.Leave ∷ rest))) e
       ∙ ap (λ (xs : List Item). of_wait xs) (leaves stmt.Taskwait is)
-  enter_ahead d e final is_final stmt.Taskyield is enters = ap (λ (xs : List Item). item.OneTask ∷ item.Yield ∷ xs) (leaves stmt.Taskyield is)
+  enter_ahead d e final is_final stmt.Taskyield is enters =
+      ap (λ (xs : List Item). item.OneTask ∷ item.Yield ∷ xs) (leaves stmt.Taskyield is)
   enter_ahead true e final is_final stmt.Barrier is enters =
       ap (λ (b : Bool). with_state b WAIT_BARRIER_EXPLICIT 0 (of_barrier (item.Leave ∷ rest))) e
       ∙ ap (λ (xs : List Item). item.State WAIT_BARRIER_EXPLICIT 0 ∷ of_barrier xs) (leaves stmt.Barrier is)
@@ -124,16 +137,21 @@ module _ (p : Program) (at : Encounter) (fs : List Frame) where
       ap (λ (b : Bool). with_state b WAIT_BARRIER_EXPLICIT 0 (of_barrier (item.Leave ∷ rest))) e
       ∙ ap (λ (xs : List Item). of_barrier xs) (leaves stmt.Barrier is)
   enter_ahead true e final is_final (stmt.Critical l f) is enters =
-      ap (λ (b : Bool). with_state b WAIT_CRITICAL (l + 1) (of_lock l (item.Leave ∷ item.Call f ∷ call_items p f (item.Unlock l ∷ rest)))) e
-      ∙ ap (λ (xs : List Item). item.State WAIT_CRITICAL (l + 1) ∷ of_lock l xs) (leaves (stmt.Critical l f) is)
-      ∙ sym (in_work_is p fs (stmt.Critical l f) (λ y. item.State WAIT_CRITICAL (lock_of y + 1) ∷ locking_in p at fs y) is)
+      ap
+      (λ (b : Bool). with_state b WAIT_CRITICAL (l + 1) (of_lock l (item.Leave ∷ item.Call f ∷ call_items p f (item.Unlock l ∷ rest)))) e
+      ∙ ap (λ (xs : List Item). item.State WAIT_CRITICAL (l + 1) ∷ of_lock l xs)
+      (leaves (stmt.Critical l f) is)
+      ∙ sym
+      (in_work_is p fs (stmt.Critical l f) (λ y. item.State WAIT_CRITICAL (lock_of y + 1) ∷ locking_in p at fs y) is)
   enter_ahead false e final is_final (stmt.Critical l f) is enters =
-      ap (λ (b : Bool). with_state b WAIT_CRITICAL (l + 1) (of_lock l (item.Leave ∷ item.Call f ∷ call_items p f (item.Unlock l ∷ rest)))) e
+      ap
+      (λ (b : Bool). with_state b WAIT_CRITICAL (l + 1) (of_lock l (item.Leave ∷ item.Call f ∷ call_items p f (item.Unlock l ∷ rest)))) e
       ∙ ap (λ (xs : List Item). of_lock l xs) (leaves (stmt.Critical l f) is)
       ∙ sym (in_work_is p fs (stmt.Critical l f) (locking_in p at fs) is)
   enter_ahead d e final is_final _ is enters = absurd enters
 
-  enter_item : (x : Stmt) → Enters x → ◌≡◌ {A = Item × List Item} (opened p at (item.Do x) rest) (item.Enter, behind p at x rest)
+  enter_item : (x : Stmt) → Enters x
+      → ◌≡◌ {A = Item × List Item} (opened p at (item.Do x) rest) (item.Enter, behind p at x rest)
   enter_item (stmt.Parallel f num) enters = refl
   enter_item (stmt.Task f undeferred given) enters = refl
   enter_item stmt.Taskwait enters = refl
@@ -154,27 +172,40 @@ entered_first : (p : Program) (a : Actor) (x : Counter) → IsFirst x → IsEnte
 entered_first p a x first = record { owes = first.owes; row = λ w m s i o. first.row p w m s i a; ended = first.ended }
 
 -- the making of a task begins with a look at the first slot where it may be deferred
-task_entered : (p : Program) (a : Actor) (f : ℕ) (undeferred given : Bool) → IsAt p a.stack (stmt.Task f undeferred given) → (b final : Bool) → undeferred ≡ b → a.context.is_final ≡ final → IsEntered p a (task_counter (b || final))
+task_entered : (p : Program) (a : Actor) (f : ℕ) (undeferred given : Bool)
+    → IsAt p a.stack (stmt.Task f undeferred given) → (b final : Bool) → undeferred ≡ b
+    → a.context.is_final ≡ final → IsEntered p a (task_counter (b || final))
 task_entered p a f undeferred given is true final e q = record { owes = λ c ms. refl; row = λ w m s i o. (tt, (o.task, o.live, λ j below. absurd (omega (arith, below)))); ended = λ events i. tt }
 task_entered p a f undeferred given is false true e q = record { owes = λ c ms. refl; row = λ w m s i o. (tt, (o.task, o.live, λ j below. absurd (omega (arith, below)))); ended = λ events i. tt }
 task_entered p a f undeferred given is false false e q = record { owes = λ c ms. refl; row = λ w m s i o. (f, given, subst (λ (b : Bool). IsAt p a.stack (stmt.Task f b given)) e is, q); ended = λ events i. tt }
 
-enter_first : (p : Program) (a : Actor) (d : Bool) (x : Stmt) → IsAt p a.stack x → Enters x → IsEntered p a (behind_enter d a.context.is_final (Some x))
-enter_first p a true (stmt.Parallel f num) is enters = entered_first p a _ (record { owes = λ c ms. refl; row = λ q w m s i b. tt; ended = λ events i. tt })
-enter_first p a false (stmt.Parallel f num) is enters = entered_first p a _ (record { owes = λ c ms. refl; row = λ q w m s i b. tt; ended = λ events i. tt })
-enter_first p a d (stmt.Task f undeferred given) is enters = task_entered p a f undeferred given is undeferred a.context.is_final refl refl
-enter_first p a true stmt.Taskwait is enters = entered_first p a _ (record { owes = λ c ms. refl; row = λ q w m s i b. tt; ended = λ events i. tt })
-enter_first p a false stmt.Taskwait is enters = entered_first p a _ (record { owes = λ c ms. refl; row = λ q w m s i b. tt; ended = λ events i. tt })
-enter_first p a d stmt.Taskyield is enters = entered_first p a _ (record { owes = λ c ms. refl; row = λ q w m s i b. tt; ended = λ events i. tt })
-enter_first p a true stmt.Barrier is enters = entered_first p a _ (record { owes = λ c ms. refl; row = λ q w m s i b. tt; ended = λ events i. tt })
-enter_first p a false stmt.Barrier is enters = entered_first p a _ (record { owes = λ c ms. refl; row = λ q w m s i b. tt; ended = λ events i. tt })
+enter_first : (p : Program) (a : Actor) (d : Bool) (x : Stmt) → IsAt p a.stack x → Enters x
+    → IsEntered p a (behind_enter d a.context.is_final (Some x))
+enter_first p a true (stmt.Parallel f num) is enters =
+    entered_first p a _ (record { owes = λ c ms. refl; row = λ q w m s i b. tt; ended = λ events i. tt })
+enter_first p a false (stmt.Parallel f num) is enters =
+    entered_first p a _ (record { owes = λ c ms. refl; row = λ q w m s i b. tt; ended = λ events i. tt })
+enter_first p a d (stmt.Task f undeferred given) is enters =
+    task_entered p a f undeferred given is undeferred a.context.is_final refl refl
+enter_first p a true stmt.Taskwait is enters =
+    entered_first p a _ (record { owes = λ c ms. refl; row = λ q w m s i b. tt; ended = λ events i. tt })
+enter_first p a false stmt.Taskwait is enters =
+    entered_first p a _ (record { owes = λ c ms. refl; row = λ q w m s i b. tt; ended = λ events i. tt })
+enter_first p a d stmt.Taskyield is enters =
+    entered_first p a _ (record { owes = λ c ms. refl; row = λ q w m s i b. tt; ended = λ events i. tt })
+enter_first p a true stmt.Barrier is enters =
+    entered_first p a _ (record { owes = λ c ms. refl; row = λ q w m s i b. tt; ended = λ events i. tt })
+enter_first p a false stmt.Barrier is enters =
+    entered_first p a _ (record { owes = λ c ms. refl; row = λ q w m s i b. tt; ended = λ events i. tt })
 enter_first p a true (stmt.Critical l f) is enters = entered_first p a _ (plain_first plain.LockState tt)
 enter_first p a false (stmt.Critical l f) is enters = entered_first p a _ (plain_first plain.Lock tt)
 enter_first p a d _ is enters = absurd enters
 
 -- ---- the step
 
-module _ (p : Program) (w : List ℕ) (m : Memory) (events : List (ℕ × Event)) (s : State) (actors : ℕ → Actor) (i : ℕ) (before : Before p w m events s actors i) (at_counter : (actors i).counter ≡ counter.Plain plain.Enter) where
+module _ (p : Program) (w : List ℕ) (m : Memory) (events : List (ℕ × Event)) (s : State) (actors : ℕ → Actor)
+    (i : ℕ) (before : Before p w m events s actors i)
+    (at_counter : (actors i).counter ≡ counter.Plain plain.Enter) where
   abbrev a : Actor
   a = actors i
 
@@ -197,15 +228,18 @@ module _ (p : Program) (w : List ℕ) (m : Memory) (events : List (ℕ × Event)
   abbrev after_enter : Stmt → State
   after_enter x = on_task (middle p w m events s actors i before plain.Enter at_counter (zs x)) k shown
 
-  takes : (x : Stmt) → IsAt p a.stack x → Enters x → take_item p at event.Enter (plain_ahead p at a.stack plain.Enter) ≡ Some (item.Enter, zs x)
+  takes : (x : Stmt) → IsAt p a.stack x → Enters x
+      → take_item p at event.Enter (plain_ahead p at a.stack plain.Enter) ≡ Some (item.Enter, zs x)
   takes x is enters =
       ap (take_item p at event.Enter) (in_work_is p a.stack x (λ y. item.Do y ∷ ahead p at a.stack) is)
-      ∙ takes_head p at event.Enter (item.Do x) (ahead p at a.stack) item.Enter (zs x) (enter_item p at a.stack x enters) refl
+      ∙ takes_head p at event.Enter (item.Do x) (ahead p at a.stack) item.Enter (zs x)
+      (enter_item p at a.stack x enters) refl
 
   enter_step : (x : Stmt) → IsAt p a.stack x → Enters x → Step p s i event.Enter (after_enter x)
   enter_step x is enters =
       let z : State = middle p w m events s actors i before plain.Enter at_counter (zs x) in
-      steps p w m events s actors i before plain.Enter at_counter event.Enter item.Enter (zs x) (after_enter x) (takes x is enters)
+      steps p w m events s actors i before plain.Enter at_counter event.Enter item.Enter (zs x)
+      (after_enter x) (takes x is enters)
       (k, t, now_current p w m events s actors i before plain.Enter at_counter, tt) refl
       (at_current z i k (relisted (zs x) t) (Settings.entered z) (middle_current p w m events s actors i before plain.Enter at_counter (zs x)))
 
@@ -214,9 +248,13 @@ module _ (p : Program) (w : List ℕ) (m : Memory) (events : List (ℕ × Event)
   implicit_at_barrier is = go a.context.implicit refl
     where
       reached : Reached p (events ++ (i, event.Enter) ∷ []) (after_enter stmt.Barrier)
-      reached = leads_on p (opening p) events s (i, event.Enter) (after_enter stmt.Barrier) before.rule.reached (enter_step stmt.Barrier is tt)
+      reached =
+          leads_on p (opening p) events s (i, event.Enter) (after_enter stmt.Barrier) before.rule.reached
+          (enter_step stmt.Barrier is tt)
 
-      has_one : (b : Bool) (xs : List Item) → HasNoBarrier (if b then item.State WAIT_BARRIER_EXPLICIT 0 ∷ item.Arrive ∷ xs else item.Arrive ∷ xs) → ⊥
+      has_one : (b : Bool) (xs : List Item)
+          → HasNoBarrier (if b then item.State WAIT_BARRIER_EXPLICIT 0 ∷ item.Arrive ∷ xs else item.Arrive ∷ xs)
+          → ⊥
       has_one true xs none = none
       has_one false xs none = none
 
@@ -224,17 +262,24 @@ module _ (p : Program) (w : List ℕ) (m : Memory) (events : List (ℕ × Event)
       go true e = e
       go false e =
           let order : AreBarriersInOrder (shown (relisted (zs stmt.Barrier) t)) =
-          barriers_ordered p (events ++ (i, event.Enter) ∷ []) (after_enter stmt.Barrier) reached k (shown (relisted (zs stmt.Barrier) t))
+          barriers_ordered p (events ++ (i, event.Enter) ∷ []) (after_enter stmt.Barrier) reached k
+          (shown (relisted (zs stmt.Barrier) t))
           (twice p w m events s actors i before plain.Enter at_counter (zs stmt.Barrier) shown t (own_task p w m events s actors i before plain.Enter at_counter).live) in
-          absurd (has_one at.debug _ (order.explicit ((own_task p w m events s actors i before plain.Enter at_counter).implicit ∙ e)))
+          absurd
+          (has_one at.debug _ (order.explicit ((own_task p w m events s actors i before plain.Enter at_counter).implicit ∙ e)))
 
   enter_goes : (x : Stmt) → IsAt p a.stack x → Enters x → GoesOn p w i at a (past_enter p a) (zs x)
   enter_goes x is enters =
       let own = before.rule.threads i before.known in
       let o = own_task p w m events s actors i before plain.Enter at_counter in
-      let final : at.is_final ≡ a.context.is_final = ap (λ (q : Option Task). (encounter_by s q).is_final) o.live ∙ o.final in
-      let first : IsEntered p (past_enter p a) (past_enter p a).counter = subst (λ (q : Option Stmt). IsEntered p (past_enter p a) (behind_enter p.env.debug a.context.is_final q)) (sym is) (enter_first p (past_enter p a) p.env.debug x is enters) in
-      goes_to_row p w m events s actors i before plain.Enter at_counter (past_enter p a) (zs x) (record { thread = refl; context = refl; gathered = refl })
+      let final : at.is_final ≡ a.context.is_final =
+      ap (λ (q : Option Task). (encounter_by s q).is_final) o.live ∙ o.final in
+      let first : IsEntered p (past_enter p a) (past_enter p a).counter =
+      subst
+      (λ (q : Option Stmt). IsEntered p (past_enter p a) (behind_enter p.env.debug a.context.is_final q))
+      (sym is) (enter_first p (past_enter p a) p.env.debug x is enters) in
+      goes_to_row p w m events s actors i before plain.Enter at_counter (past_enter p a) (zs x)
+      (record { thread = refl; context = refl; gathered = refl })
       (steps_fit p a plain.Enter 0 own.fits at_counter implicit_at_barrier)
       (steps_stay_placed p w a plain.Enter 0 own.placed at_counter)
       (on_ground p w m events s actors i before plain.Enter at_counter)
@@ -249,18 +294,23 @@ module _ (p : Program) (w : List ℕ) (m : Memory) (events : List (ℕ × Event)
       let o = own_task p w m events s actors i before plain.Enter at_counter in
       let (x, is, enters) = fits_counter p w m events s actors i before plain.Enter at_counter in
       let word : ℕ = enter_word a in
-      let word_is : word ≡ enter_frame t.exit = ap enter_frame (ap (λ j. exit_frame j a.context.depth) own.thread ∙ sym o.exit) in
+      let word_is : word ≡ enter_frame t.exit =
+      ap enter_frame (ap (λ j. exit_frame j a.context.depth) own.thread ∙ sym o.exit) in
       let z : State = middle p w m events s actors i before plain.Enter at_counter (zs x) in
       let first : IsEntered p (past_enter p a) (past_enter p a).counter = subst (λ (q : Option Stmt). IsEntered p (past_enter p a) (behind_enter p.env.debug a.context.is_final q)) (sym is) (enter_first p (past_enter p a) p.env.debug x is enters) in (
         task_word_at p w m events s actors i before plain.Enter at_counter TaskEnter,
         task_on p w m events s actors i before plain.Enter at_counter TaskEnter word refl,
-        task_event p w m events s actors i before plain.Enter at_counter (zs x) TaskEnter word shown refl enter_of_task
+        task_event p w m events s actors i before plain.Enter at_counter
+            (zs x) TaskEnter word shown refl enter_of_task
             (λ v. record { implicit = refl; region = refl; thread = refl; number = refl; scheduling = refl; exit = refl; final = refl; progress = refl })
-            (λ v. refl) (record { implicit = refl; region = refl; thread = refl; generating = refl; progress = refl; place = refl })
+            (λ v. refl)
+            (record { implicit = refl; region = refl; thread = refl; generating = refl; progress = refl; place = refl })
             (enter_stored w (m (actors i).context.task.0.creator tasks (actors i).context.task.0.slot) t word (enter_frame t.exit) (zs x) word_is (has_codes p w m events s actors i before plain.Enter at_counter))
-            (past_enter p a) (outcome.Event event.Enter) event.Enter item.Enter refl (λ q. q) (λ n e. absurd (cc e)) (takes x is enters)
+            (past_enter p a) (outcome.Event event.Enter) event.Enter item.Enter refl (λ q. q)
+            (λ n e. absurd (cc e)) (takes x is enters)
             (k, t, now_current p w m events s actors i before plain.Enter at_counter, tt) refl
             (at_current z i k (relisted (zs x) t) (Settings.entered z) (middle_current p w m events s actors i before plain.Enter at_counter (zs x)))
-            (k, t, now_current p w m events s actors i before plain.Enter at_counter, (word, refl)) (enter_goes x is enters)
+            (k, t, now_current p w m events s actors i before plain.Enter at_counter, (word, refl))
+            (enter_goes x is enters)
             (first.ended (events ++ (i, event.Enter) ∷ []) i),
       )

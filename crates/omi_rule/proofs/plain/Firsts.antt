@@ -92,7 +92,8 @@ some_at : (p : Program) (fs : List Frame) (s : Stmt) → IsAt p fs s → 0 < len
 some_at p [] s at = absurd (cc)
 some_at p (f ∷ fs) s at = omega arith
 
-some_under : (p : Program) (c : Context) (g : ℕ) (fs : List Frame) (o : Opened) → IsCalled o → StandsOn p c g fs o → 0 < length fs
+some_under : (p : Program) (c : Context) (g : ℕ) (fs : List Frame) (o : Opened) → IsCalled o
+    → StandsOn p c g fs o → 0 < length fs
 some_under p c g fs opened.Main called on = absurd (cc called)
 some_under p c g fs opened.Worker called on = absurd (cc called)
 some_under p c g fs (opened.Master saved) called on = absurd (cc called)
@@ -104,4 +105,5 @@ some_under p c g fs (opened.Critical k) called at = some_at p fs (stmt.Critical 
 
 pub grounded : (p : Program) (c : Context) (fs : List Frame) → AreOpen p c fs → 0 < length fs → IsGrounded fs
 grounded p c [] bodies some = absurd (omega (arith, some))
-grounded p c (f ∷ fs) (o, rest) some = λ called. grounded p _ fs rest (some_under p c f.function fs f.opened called o.stands)
+grounded p c (f ∷ fs) (o, rest) some =
+    λ called. grounded p _ fs rest (some_under p c f.function fs f.opened called o.stands)

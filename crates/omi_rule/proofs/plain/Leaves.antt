@@ -52,20 +52,25 @@ tool_of_task = record { life = λ e. absurd (omega (arith, e)); children = λ e.
 -- ---- the record
 
 -- an enter frame is stored
-pub enter_stored : (w : List ℕ) (r : Rec) (t : Task) (word enter : ℕ) (zs : List Item) → word ≡ enter → HasCodes (task_code w (task_told t)) r
-    → HasCodes (task_code w (task_told (record t { list = zs; enter = enter }))) (with_word_in r (number TaskEnter) 0 word)
+pub enter_stored : (w : List ℕ) (r : Rec) (t : Task) (word enter : ℕ) (zs : List Item) → word ≡ enter
+    → HasCodes (task_code w (task_told t)) r
+    → HasCodes (task_code w (task_told (record t { list = zs; enter = enter })))
+    (with_word_in r (number TaskEnter) 0 word)
 enter_stored w r t word enter zs is o TaskEnter zero x told = is ∙ same_word _ _ told
 enter_stored w r t word enter zs is o TaskEnter (suc at) x told = absurd (cc)
 enter_stored w r t word enter zs is o f at x told = o f at x told
 
 -- a tool word is stored
-tool_stored : (w : List ℕ) (r : Rec) (t : Task) (word : ℕ) (zs : List Item) → HasCodes (task_code w (task_told t)) r
-    → HasCodes (task_code w (task_told (record t { list = zs; tool = word }))) (with_word_in r (number TaskTool) 0 word)
+tool_stored : (w : List ℕ) (r : Rec) (t : Task) (word : ℕ) (zs : List Item)
+    → HasCodes (task_code w (task_told t)) r
+    → HasCodes (task_code w (task_told (record t { list = zs; tool = word })))
+    (with_word_in r (number TaskTool) 0 word)
 tool_stored w r t word zs o TaskTool zero x told = same_word _ _ told
 tool_stored w r t word zs o TaskTool (suc at) x told = absurd (cc)
 tool_stored w r t word zs o f at x told = o f at x told
 
-module _ (p : Program) (w : List ℕ) (m : Memory) (events : List (ℕ × Event)) (s : State) (actors : ℕ → Actor) (i : ℕ) (before : Before p w m events s actors i) where
+module _ (p : Program) (w : List ℕ) (m : Memory) (events : List (ℕ × Event)) (s : State) (actors : ℕ → Actor)
+    (i : ℕ) (before : Before p w m events s actors i) where
   abbrev a : Actor
   a = actors i
 
@@ -93,10 +98,13 @@ module _ (p : Program) (w : List ℕ) (m : Memory) (events : List (ℕ × Event)
           bodies = call_opens p a.context a.stack (stmt.Critical l f) f (bodies.Critical l) o.bodies is refl is refl;
           counter = (refl, refl);
         })
-        placed (λ called. on_ground p w m events s actors i before plain.Leave at_counter) (plain_first plain.Call tt)
+        placed (λ called. on_ground p w m events s actors i before plain.Leave at_counter)
+        (plain_first plain.Call tt)
         (λ P laws all.
         let (g, gs, stack, rest) = body p w m events s actors i before plain.Leave at_counter in
-        subst (λ (y : List Frame). P a.context (record { function = f; next = 0; opened = bodies.Critical l } ∷ y)) (sym stack)
+        subst
+        (λ (y : List Frame). P a.context (record { function = f; next = 0; opened = bodies.Critical l } ∷ y))
+        (sym stack)
         (laws.calls a.context f (bodies.Critical l) g gs refl (subst (λ (y : List Frame). P a.context y) stack all)))
         refl
     leaves_by x is placed = settles placed
@@ -111,17 +119,22 @@ module _ (p : Program) (w : List ℕ) (m : Memory) (events : List (ℕ × Event)
         let (x, is, enters) = fits_counter p w m events s actors i before plain.Leave at_counter in
         let zs : List Item = behind_leave p x (ahead p at a.stack) in
         let t : Task = (own_task p w m events s actors i before plain.Leave at_counter).task in
-        let placed : IsPlaced w (past_leave p a) = steps_stay_placed p w a plain.Leave 0 own.placed at_counter in
+        let placed : IsPlaced w (past_leave p a) =
+        steps_stay_placed p w a plain.Leave 0 own.placed at_counter in
         let goes : GoesOn p w i at a (past_leave p a) zs =
-        subst (λ (o : Option Stmt). GoesOn p w i at a (left_behind p o a) zs) (sym is) (leaves_by x is (subst (λ (o : Option Stmt). IsPlaced w (left_behind p o a)) is placed)) in
+        subst (λ (o : Option Stmt). GoesOn p w i at a (left_behind p o a) zs) (sym is)
+        (leaves_by x is (subst (λ (o : Option Stmt). IsPlaced w (left_behind p o a)) is placed)) in
         let first : IsFirst (past_leave p a).counter = subst (λ (o : Option Stmt). IsFirst (left_behind p o a).counter) (sym is) (left_first x) in (
           task_word_at p w m events s actors i before plain.Leave at_counter TaskEnter,
           task_on p w m events s actors i before plain.Leave at_counter TaskEnter 0 refl,
-          task_event p w m events s actors i before plain.Leave at_counter zs TaskEnter 0 (λ u. record u { enter = 0 }) refl enter_of_task
+          task_event p w m events s actors i before plain.Leave at_counter zs TaskEnter 0
+              (λ u. record u { enter = 0 }) refl enter_of_task
               (λ v. record { implicit = refl; region = refl; thread = refl; number = refl; scheduling = refl; exit = refl; final = refl; progress = refl })
-              (λ v. refl) (record { implicit = refl; region = refl; thread = refl; generating = refl; progress = refl; place = refl })
+              (λ v. refl)
+              (record { implicit = refl; region = refl; thread = refl; generating = refl; progress = refl; place = refl })
               (enter_stored w (m (actors i).context.task.0.creator tasks (actors i).context.task.0.slot) t 0 0 zs refl (has_codes p w m events s actors i before plain.Leave at_counter))
-              (past_leave p a) (outcome.Event event.Leave) event.Leave item.Leave refl (λ q. q) (λ n e. absurd (cc e))
+              (past_leave p a) (outcome.Event event.Leave) event.Leave item.Leave refl (λ q. q)
+              (λ n e. absurd (cc e))
               (ap (take_item p at event.Leave) (in_work_is p a.stack x (λ y. item.Leave ∷ behind_leave p y (ahead p at a.stack)) is))
               (a.context.task, t, now_current p w m events s actors i before plain.Leave at_counter, tt) refl
               (at_current (middle p w m events s actors i before plain.Leave at_counter zs) i a.context.task (relisted zs t) (Settings.left (middle p w m events s actors i before plain.Leave at_counter zs)) (middle_current p w m events s actors i before plain.Leave at_counter zs))
@@ -131,7 +144,8 @@ module _ (p : Program) (w : List ℕ) (m : Memory) (events : List (ℕ × Event)
   -- ---- the tool word
 
   pub tool_keeps : (actors i).counter ≡ counter.Plain plain.Tool
-      → StepKeeps p w m events s actors i (plain_next p w (actors i) plain.Tool) (λ old. (plain_moved p (actors i) plain.Tool old, plain_outcome p w (actors i) plain.Tool old))
+      → StepKeeps p w m events s actors i (plain_next p w (actors i) plain.Tool)
+      (λ old. (plain_moved p (actors i) plain.Tool old, plain_outcome p w (actors i) plain.Tool old))
   tool_keeps at_counter =
       let own = before.rule.threads i before.known in
       let at : Encounter = sees p w m events s actors i before plain.Tool at_counter in
@@ -144,11 +158,14 @@ module _ (p : Program) (w : List ℕ) (m : Memory) (events : List (ℕ × Event)
       let z : State = middle p w m events s actors i before plain.Tool at_counter zs in (
         task_word_at p w m events s actors i before plain.Tool at_counter TaskTool,
         task_on p w m events s actors i before plain.Tool at_counter TaskTool word refl,
-        task_event p w m events s actors i before plain.Tool at_counter zs TaskTool word (λ u. record u { tool = word }) refl tool_of_task
+        task_event p w m events s actors i before plain.Tool at_counter zs TaskTool word
+            (λ u. record u { tool = word }) refl tool_of_task
             (λ v. record { implicit = refl; region = refl; thread = refl; number = refl; scheduling = refl; exit = refl; final = refl; progress = refl })
-            (λ v. refl) (record { implicit = refl; region = refl; thread = refl; generating = refl; progress = refl; place = refl })
+            (λ v. refl)
+            (record { implicit = refl; region = refl; thread = refl; generating = refl; progress = refl; place = refl })
             (tool_stored w (m (actors i).context.task.0.creator tasks (actors i).context.task.0.slot) t word zs (has_codes p w m events s actors i before plain.Tool at_counter))
-            (settled p a) (outcome.Event (event.SetTool word)) (event.SetTool word) (item.SetTool x) refl (λ q. q) (λ n e. absurd (cc e))
+            (settled p a) (outcome.Event (event.SetTool word)) (event.SetTool word) (item.SetTool x) refl
+            (λ q. q) (λ n e. absurd (cc e))
             (ap (take_item p at (event.SetTool word)) (in_work_is p a.stack (stmt.Tool x) (λ y. item.Do y ∷ ahead p at a.stack) is)
             ∙ takes_head p at (event.SetTool word) (item.Do (stmt.Tool x)) zs (item.SetTool x) zs refl (eq-eqb word x word_is))
             (a.context.task, t, now_current p w m events s actors i before plain.Tool at_counter, tt) refl

@@ -60,12 +60,15 @@ use Rattle.omi_pc.proofs.NextCounters.{IsBefore}
 -- ---- the head of a list
 
 -- an event takes the head, once a statement is replaced by its row
-pub takes_head : (p : Program) (at : Encounter) (e : Event) (x : Item) (xs : List Item) (y : Item) (zs : List Item) → opened p at x xs ≡ (y, zs) → fits e y ≡ true → take_item p at e (x ∷ xs) ≡ Some (y, zs)
+pub takes_head : (p : Program) (at : Encounter) (e : Event) (x : Item) (xs : List Item) (y : Item) (zs : List Item)
+    → opened p at x xs ≡ (y, zs) → fits e y ≡ true → take_item p at e (x ∷ xs) ≡ Some (y, zs)
 takes_head p at e x xs y zs is fit =
-    ap (λ (h : Item × List Item). if fits e h.0 then Some h else (if may_drop x then take_item p at e xs else None)) is
+    ap
+    (λ (h : Item × List Item). if fits e h.0 then Some h else (if may_drop x then take_item p at e xs else None)) is
     ∙ ap (λ (b : Bool). if b then Some (y, zs) else (if may_drop x then take_item p at e xs else None)) fit
 
-module _ (p : Program) (w : List ℕ) (m : Memory) (events : List (ℕ × Event)) (s : State) (actors : ℕ → Actor) (i : ℕ) (before : Before p w m events s actors i) where
+module _ (p : Program) (w : List ℕ) (m : Memory) (events : List (ℕ × Event)) (s : State) (actors : ℕ → Actor)
+    (i : ℕ) (before : Before p w m events s actors i) where
   -- the load of the native id
   abbrev pub native : RecordWord
   native = thread_word i ThreadNative
@@ -84,15 +87,18 @@ module _ (p : Program) (w : List ℕ) (m : Memory) (events : List (ℕ × Event)
     sees = encounter_of s (actors i).context
 
     -- an event without an effect
-    pub load_keeps : (b : Actor) (out : Outcome) (e : Event) (y : Item) (zs : List Item) → out ≡ outcome.Event e → (Makes e → ⊥) → ((f : ℕ) → y ≡ item.Fork f → ⊥)
+    pub load_keeps : (b : Actor) (out : Outcome) (e : Event) (y : Item) (zs : List Item)
+        → out ≡ outcome.Event e → (Makes e → ⊥) → ((f : ℕ) → y ≡ item.Fork f → ⊥)
         → take_item p sees e (plain_ahead p sees (actors i).stack c) ≡ Some (y, zs) → Rule s i e y → stays sees e y zs ≡ zs → ((z : State) → effect p z i e y ≡ Some z)
         → CommitsAt w s i e (loading_native w (actors i)) → GoesOn p w i sees (actors i) b zs → HasEnded (events ++ (i, e) ∷ []) i b.counter
         → KeepsRule p w m events s actors i (loading_native w (actors i)) native (b, out)
     load_keeps b out e y zs is not none taken rule stay none_done commits goes ended =
         let k = (actors i).context.task in
         let u : State = on_task s k (relisted zs) in
-        let same : left_in m (loading_native w (actors i)) native ≡ m = of_load p w m events s actors i before (of_thread w (actors i).thread ThreadNative) native in
-        own_event p w m events s actors i before c at_counter (loading_native w (actors i)) native b out e y zs u is not none taken
+        let same : left_in m (loading_native w (actors i)) native ≡ m =
+        of_load p w m events s actors i before (of_thread w (actors i).thread ThreadNative) native in
+        own_event p w m events s actors i before c at_counter
+        (loading_native w (actors i)) native b out e y zs u is not none taken
         (steps p w m events s actors i before c at_counter e y zs u taken rule stay (none_done u)) commits
         (subst (λ (n : Memory). KeepsWords w n u (all_owed actors)) (sym same)
         (subst (λ (z : State). KeepsWords w m z (all_owed actors)) (list_moved p s i (actors i) here zs)
@@ -109,19 +115,24 @@ module _ (p : Program) (w : List ℕ) (m : Memory) (events : List (ℕ × Event)
         subst (λ (xs : List Frame). 0 < length xs) (sym is) (omega arith)
 
     pub has_task : HasTask p (actors i)
-    has_task = let o = (before.rule.threads i before.known).fits in record { thread = o.thread; variables = o.variables; bodies = o.bodies; some = some_body }
+    has_task =
+        let o = (before.rule.threads i before.known).fits in record { thread = o.thread; variables = o.variables; bodies = o.bodies; some = some_body }
 
     pub on_ground : IsGrounded (actors i).stack
-    on_ground = grounded p (actors i).context (actors i).stack (before.rule.threads i before.known).fits.bodies some_body
+    on_ground =
+        grounded p (actors i).context (actors i).stack
+        (before.rule.threads i before.known).fits.bodies some_body
 
     pub was_first : IsBefore c → IsFirst (actors i).counter
     was_first b = subst IsFirst (sym at_counter) (plain_first c b)
 
     -- what moves between the bodies of a task leaves what holds of open bodies
     abbrev MovesTo : Actor → Type 1
-    MovesTo b = (P : Context → List Frame → Type 0) → IsOfBodies P → P (actors i).context (actors i).stack → P b.context b.stack
+    MovesTo b =
+        (P : Context → List Frame → Type 0) → IsOfBodies P → P (actors i).context (actors i).stack → P b.context b.stack
 
-    pub goes_to_row : (b : Actor) (list : List Item) → DifferInBodies (actors i) b → Fits p b → IsPlaced w b → IsGrounded b.stack → owed b ≡ nothing
+    pub goes_to_row : (b : Actor) (list : List Item) → DifferInBodies (actors i) b → Fits p b → IsPlaced w b
+        → IsGrounded b.stack → owed b ≡ nothing
         → ((n : Memory) (u : State) → KeepsContext u i (actors i).context → KeepsRow p w n u i b b.counter) → MovesTo b → IsAhead p sees b.stack b.counter list → GoesOn p w i sees (actors i) b list
     goes_to_row b list differs fits placed ground owes row all is = record {
       differs = differs;
@@ -135,14 +146,19 @@ module _ (p : Program) (w : List ℕ) (m : Memory) (events : List (ℕ × Event)
       ahead = is;
     }
 
-    pub goes_on : (b : Actor) (list : List Item) → DifferInBodies (actors i) b → Fits p b → IsPlaced w b → IsGrounded b.stack → IsFirst b.counter → MovesTo b → IsAhead p sees b.stack b.counter list → GoesOn p w i sees (actors i) b list
+    pub goes_on : (b : Actor) (list : List Item) → DifferInBodies (actors i) b → Fits p b → IsPlaced w b
+        → IsGrounded b.stack → IsFirst b.counter → MovesTo b → IsAhead p sees b.stack b.counter list
+        → GoesOn p w i sees (actors i) b list
     goes_on b list differs fits placed ground first all is =
-        goes_to_row b list differs fits placed ground (first.owes b.context b.gathered.team) (λ n u o. first.row p w n u i b) all is
+        goes_to_row b list differs fits placed ground (first.owes b.context b.gathered.team)
+        (λ n u o. first.row p w n u i b) all is
 
-    pub settled_goes : IsBefore c → IsPlaced w (settled p (actors i)) → GoesOn p w i sees (actors i) (settled p (actors i)) (ahead p sees (actors i).stack)
+    pub settled_goes : IsBefore c → IsPlaced w (settled p (actors i))
+        → GoesOn p w i sees (actors i) (settled p (actors i)) (ahead p sees (actors i).stack)
     settled_goes b placed =
         let (f, fs, is, o) = body p w m events s actors i before c at_counter in
-        goes_on (settled p (actors i)) (ahead p sees (actors i).stack) (settled_differs p (actors i)) (settled_fits p (actors i) has_task) placed
+        goes_on (settled p (actors i)) (ahead p sees (actors i).stack) (settled_differs p (actors i))
+        (settled_fits p (actors i) has_task) placed
         (settled_of (λ d gs. IsGrounded gs) grounds_are_of_bodies p (actors i) on_ground)
         (settled_first p (actors i) (was_first b))
         (λ P laws. settled_of P laws p (actors i))
@@ -151,7 +167,8 @@ module _ (p : Program) (w : List ℕ) (m : Memory) (events : List (ℕ × Event)
   -- ---- work
 
   pub work_keeps : (actors i).counter ≡ counter.Plain plain.Work
-      → StepKeeps p w m events s actors i (plain_next p w (actors i) plain.Work) (λ old. (plain_moved p (actors i) plain.Work old, plain_outcome p w (actors i) plain.Work old))
+      → StepKeeps p w m events s actors i (plain_next p w (actors i) plain.Work)
+      (λ old. (plain_moved p (actors i) plain.Work old, plain_outcome p w (actors i) plain.Work old))
   work_keeps at_counter =
       let at : Encounter = sees plain.Work at_counter in
       let rest : List Item = ahead p at (actors i).stack in
@@ -159,7 +176,8 @@ module _ (p : Program) (w : List ℕ) (m : Memory) (events : List (ℕ × Event)
       let first = settled_first p (actors i) (was_first plain.Work at_counter tt) in (
         native,
         native_on,
-        load_keeps plain.Work at_counter (settled p (actors i)) (outcome.Event event.Work) event.Work item.Work rest refl (λ x. x) (λ f e. absurd (cc e))
+        load_keeps plain.Work at_counter (settled p (actors i))
+            (outcome.Event event.Work) event.Work item.Work rest refl (λ x. x) (λ f e. absurd (cc e))
             (ap (take_item p at event.Work) (in_work_is p (actors i).stack stmt.Work (λ x. item.Do x ∷ rest) (fits_counter p w m events s actors i before plain.Work at_counter)))
             tt refl (λ z. refl) loads_native
             (settled_goes plain.Work at_counter tt (steps_stay_placed p w (actors i) plain.Work 0 own.placed at_counter))

@@ -79,14 +79,21 @@ use Rattle.omi_rule.proofs.plain.TaskWords.{middle, middle_words, now_current, o
 -- ---- the runtime record
 
 -- the word of a lock is that of its holder
-lock_kept : (w : List ℕ) (r : Rec) (s : State) (l word : ℕ) (holder : Option ℕ) → word ≡ lock_word holder → KeepsRuntime w r s
-    → KeepsRuntime w (with_word_in r (number RuntimeLocks) l word) (with_runtime s s.max_active (put s.locks l holder))
-lock_kept w r s l word holder is o RuntimeLocks j x told = go (nat_lt j (width w (number RuntimeLocks))) refl (j == l) told
+lock_kept : (w : List ℕ) (r : Rec) (s : State) (l word : ℕ) (holder : Option ℕ) → word ≡ lock_word holder
+    → KeepsRuntime w r s
+    → KeepsRuntime w (with_word_in r (number RuntimeLocks) l word)
+    (with_runtime s s.max_active (put s.locks l holder))
+lock_kept w r s l word holder is o RuntimeLocks j x told =
+    go (nat_lt j (width w (number RuntimeLocks))) refl (j == l) told
   where
-    go : (low : Bool) → nat_lt j (width w (number RuntimeLocks)) ≡ low → (b : Bool) → (if low then Some (lock_word (if b then holder else s.locks j)) else None) ≡ Some x
+    go : (low : Bool) → nat_lt j (width w (number RuntimeLocks)) ≡ low → (b : Bool)
+        → (if low then Some (lock_word (if b then holder else s.locks j)) else None) ≡ Some x
         → (if b then word else r (number RuntimeLocks) j) ≡ x
     go true within true some = is ∙ same_word _ _ some
-    go true within false some = o RuntimeLocks j _ (lock_code w (runtime_told s) j (ltb-true j (width w (number RuntimeLocks)) within)) ∙ same_word _ _ some
+    go true within false some =
+        o RuntimeLocks j _
+        (lock_code w (runtime_told s) j (ltb-true j (width w (number RuntimeLocks)) within))
+        ∙ same_word _ _ some
     go false past b none = absurd (cc)
 lock_kept w r s l word holder is o f at x told = o f at x told
 
@@ -95,16 +102,21 @@ nobody : (o : Option ℕ) → lock_word o ≡ 0 → o ≡ None
 nobody None e = refl
 nobody (Some j) e = absurd (omega (arith, e))
 
-module _ (p : Program) (w : List ℕ) (m : Memory) (events : List (ℕ × Event)) (s : State) (actors : ℕ → Actor) (i : ℕ) (before : Before p w m events s actors i) (c : PlainCounter) (at_counter : (actors i).counter ≡ counter.Plain c) where
+module _ (p : Program) (w : List ℕ) (m : Memory) (events : List (ℕ × Event)) (s : State) (actors : ℕ → Actor)
+    (i : ℕ) (before : Before p w m events s actors i) (c : PlainCounter)
+    (at_counter : (actors i).counter ≡ counter.Plain c) where
   -- an event that stores a word of the runtime record
-  pub runtime_event : (zs : List Item) (o : Op) (f : Field) (place word max_active : ℕ) (locks : ℕ → Option ℕ) → left_in m o (record { creator = 0; slot = 0; field = f; place = place }) ≡ with_word m 0 runtime 0 (number f) place word
-      → KeepsRuntime w (with_word_in (m 0 runtime 0) (number f) place word) (with_runtime (middle p w m events s actors i before c at_counter zs) max_active locks)
+  pub runtime_event : (zs : List Item) (o : Op) (f : Field) (place word max_active : ℕ) (locks : ℕ → Option ℕ)
+      → left_in m o (record { creator = 0; slot = 0; field = f; place = place }) ≡ with_word m 0 runtime 0 (number f) place word
+      → KeepsRuntime w (with_word_in (m 0 runtime 0) (number f) place word)
+      (with_runtime (middle p w m events s actors i before c at_counter zs) max_active locks)
       → (b : Actor) (out : Outcome) (e : Event) (y : Item) → out ≡ outcome.Event e → (Makes e → ⊥) → ((n : ℕ) → y ≡ item.Fork n → ⊥)
       → take_item p (sees p w m events s actors i before c at_counter) e (plain_ahead p (sees p w m events s actors i before c at_counter) (actors i).stack c) ≡ Some (y, zs)
       → Rule s i e y → stays (sees p w m events s actors i before c at_counter) e y zs ≡ zs
       → effect p (middle p w m events s actors i before c at_counter zs) i e y ≡ Some (with_runtime (middle p w m events s actors i before c at_counter zs) max_active locks)
       → CommitsAt w s i e o → GoesOn p w i (sees p w m events s actors i before c at_counter) (actors i) b zs → HasEnded (events ++ (i, e) ∷ []) i b.counter
-      → KeepsRule p w m events s actors i o (record { creator = 0; slot = 0; field = f; place = place }) (b, out)
+      → KeepsRule p w m events s actors i o (record { creator = 0; slot = 0; field = f; place = place })
+      (b, out)
   runtime_event zs o f place word max_active locks stored runtime_is b out e y is not none taken rule stay done commits goes ended =
       let z : State = middle p w m events s actors i before c at_counter zs in
       let u : State = with_runtime z max_active locks in
@@ -127,7 +139,8 @@ module _ (p : Program) (w : List ℕ) (m : Memory) (events : List (ℕ × Event)
   critical_is (stmt.Critical l f) is = (l, f, refl)
   critical_is _ is = absurd is
 
-  pub at_critical : IsAtSome p (actors i) IsCritical → (f : ℕ) × IsAt p (actors i).stack (stmt.Critical lock f)
+  pub at_critical : IsAtSome p (actors i) IsCritical
+      → (f : ℕ) × IsAt p (actors i).stack (stmt.Critical lock f)
   at_critical (x, is, critical) =
       let (l, f, same) = critical_is x critical in
       let there : IsAt p (actors i).stack (stmt.Critical l f) = is ∙ ap Some same in
@@ -142,14 +155,16 @@ module _ (p : Program) (w : List ℕ) (m : Memory) (events : List (ℕ × Event)
       let few : lock ≤ MAX_LOCK = lock_in_range p (actors i).stack lock f (Rules-from_accepted p) is in
       record { field = numbered_field RuntimeLocks; record_slot = record { made_by = omega arith; within = omega arith }; within = omega (arith, few) }
 
-module _ (p : Program) (w : List ℕ) (m : Memory) (events : List (ℕ × Event)) (s : State) (actors : ℕ → Actor) (i : ℕ) (before : Before p w m events s actors i) where
+module _ (p : Program) (w : List ℕ) (m : Memory) (events : List (ℕ × Event)) (s : State) (actors : ℕ → Actor)
+    (i : ℕ) (before : Before p w m events s actors i) where
   abbrev a : Actor
   a = actors i
 
   -- ---- unlock
 
   -- a task that is about to give a lock back holds it
-  holds : (t : Task) (l : ℕ) (xs : List Item) → task_of s a.context.task ≡ Some t → t.thread ≡ i → t.list ≡ item.Unlock l ∷ xs → s.locks l ≡ Some i
+  holds : (t : Task) (l : ℕ) (xs : List Item) → task_of s a.context.task ≡ Some t → t.thread ≡ i
+      → t.list ≡ item.Unlock l ∷ xs → s.locks l ≡ Some i
   holds t l xs live thread list = go held.0 held.1
     where
       held : (holder : Option Tid) × IsHeldBy s l holder
@@ -157,17 +172,23 @@ module _ (p : Program) (w : List ℕ) (m : Memory) (events : List (ℕ × Event)
 
       gives_none : gives_back l t.list 0 ≡ true → ⊥
       gives_none is =
-          false≢true (sym (ap (λ (ys : List Item). gives_back l ys 0) list ∙ ap (λ (b : Bool). if b then false else gives_back l xs 0) (eq-eqb l l refl)) ∙ is)
+          false≢true
+          (sym (ap (λ (ys : List Item). gives_back l ys 0) list ∙ ap (λ (b : Bool). if b then false else gives_back l xs 0) (eq-eqb l l refl)) ∙ is)
 
       go : (holder : Option Tid) → IsHeldBy s l holder → s.locks l ≡ Some i
       go None o = absurd (gives_none (o.others a.context.task t live (λ e. cc e)))
       go (Some n) o = by (same_or_not n.0 a.context.task.0) o.thread
         where
-          by : (n.0 ≡ a.context.task.0) ⊎ (n.0 ≡ a.context.task.0 → ⊥) → (u : Task) × (task_of s n ≡ Some u) × (s.locks l ≡ Some u.thread) × (gives_back l u.list 1 ≡ true) → s.locks l ≡ Some i
+          by : (n.0 ≡ a.context.task.0) ⊎ (n.0 ≡ a.context.task.0 → ⊥)
+              → (u : Task) × (task_of s n ≡ Some u) × (s.locks l ≡ Some u.thread) × (gives_back l u.list 1 ≡ true)
+              → s.locks l ≡ Some i
           by (inl same) (u, found, is, gives) =
-              let both : u ≡ t = some_same (subst (λ (d : Id). task_of s (record { 0 = d }) ≡ Some u) same found) live in
+              let both : u ≡ t =
+              some_same (subst (λ (d : Id). task_of s (record { 0 = d }) ≡ Some u) same found) live in
               is ∙ ap (λ (x : Task). Some x.thread) both ∙ ap Some thread
-          by (inr ne) o2 = absurd (gives_none (o.others a.context.task t live (λ e. ne (ap (λ (d : Tid). d.0) (some_same refl e)))))
+          by (inr ne) o2 =
+              absurd
+              (gives_none (o.others a.context.task t live (λ e. ne (ap (λ (d : Tid). d.0) (some_same refl e)))))
 
   module _ (at_counter : (actors i).counter ≡ counter.Plain plain.Unlock) where
     abbrev at : Encounter
@@ -178,7 +199,9 @@ module _ (p : Program) (w : List ℕ) (m : Memory) (events : List (ℕ × Event)
 
     unlock_ahead : plain_ahead p at a.stack plain.Unlock ≡ item.Unlock l ∷ ahead p at a.stack
     unlock_ahead =
-        let (f, is) = at_critical p w m events s actors i before plain.Unlock at_counter (fits_counter p w m events s actors i before plain.Unlock at_counter) in
+        let (f, is) =
+        at_critical p w m events s actors i before plain.Unlock at_counter
+        (fits_counter p w m events s actors i before plain.Unlock at_counter) in
         in_work_is p a.stack (stmt.Critical l f) (λ x. item.Unlock (lock_of x) ∷ ahead p at a.stack) is
 
     pub unlock_keeps : StepKeeps p w m events s actors i (plain_next p w (actors i) plain.Unlock) (λ old. (plain_moved p (actors i) plain.Unlock old, plain_outcome p w (actors i) plain.Unlock old))
@@ -190,9 +213,11 @@ module _ (p : Program) (w : List ℕ) (m : Memory) (events : List (ℕ × Event)
         let first = settled_first p a (was_first p w m events s actors i before plain.Unlock at_counter tt) in (
           lock_at p w m events s actors i before plain.Unlock at_counter,
           record { there = lock_there p w m events s actors i before plain.Unlock at_counter (fits_counter p w m events s actors i before plain.Unlock at_counter); address = refl },
-          runtime_event p w m events s actors i before plain.Unlock at_counter zs (op.Store (of_lock w l) 0) RuntimeLocks l 0 z.max_active (put z.locks l None) refl
+          runtime_event p w m events s actors i before plain.Unlock at_counter zs
+              (op.Store (of_lock w l) 0) RuntimeLocks l 0 z.max_active (put z.locks l None) refl
               (lock_kept w (m 0 runtime 0) z l 0 None refl (middle_words p w m events s actors i before plain.Unlock at_counter zs).runtime_record)
-              (settled p a) (outcome.Event (event.Unlock l)) (event.Unlock l) (item.Unlock l) refl (λ q. q) (λ n e. absurd (cc e))
+              (settled p a) (outcome.Event (event.Unlock l)) (event.Unlock l) (item.Unlock l) refl (λ q. q)
+              (λ n e. absurd (cc e))
               (ap (take_item p at (event.Unlock l)) unlock_ahead ∙ takes_head p at (event.Unlock l) (item.Unlock l) zs (item.Unlock l) zs refl (eq-eqb l l refl))
               (holds o.task l zs o.live o.thread (list_is p w m events s actors i before plain.Unlock at_counter ∙ unlock_ahead)) refl refl refl
               (settled_goes p w m events s actors i before plain.Unlock at_counter tt (steps_stay_placed p w a plain.Unlock 0 own.placed at_counter))
@@ -202,11 +227,13 @@ module _ (p : Program) (w : List ℕ) (m : Memory) (events : List (ℕ × Event)
   -- ---- lock
 
   -- a statement is in work, so the task leaves the runtime
-  worked_leaves : (at : Encounter) (fs : List Frame) (x : Stmt) → IsAt p fs x → Ahead.worked p at fs ≡ leaving p at fs
+  worked_leaves : (at : Encounter) (fs : List Frame) (x : Stmt) → IsAt p fs x
+      → Ahead.worked p at fs ≡ leaving p at fs
   worked_leaves at [] x is = absurd (cc is)
   worked_leaves at (f ∷ fs) x is = go f.next is
     where
-      go : (n : ℕ) → statement_before (body_in p f) n ≡ Some x → Ahead.working_at p at n (f ∷ fs) ≡ leaving p at (f ∷ fs)
+      go : (n : ℕ) → statement_before (body_in p f) n ≡ Some x
+          → Ahead.working_at p at n (f ∷ fs) ≡ leaving p at (f ∷ fs)
       go zero e = absurd (cc e)
       go (suc n) e = refl
 
@@ -245,7 +272,8 @@ module _ (p : Program) (w : List ℕ) (m : Memory) (events : List (ℕ × Event)
         let (f, is) = at_critical p w m events s actors i before plain.Lock at_counter critical in
         let (g, gs, stack, rest) = body p w m events s actors i before plain.Lock at_counter in
         let debug = at_debug p w m events s actors i before plain.Lock at_counter in
-        goes_on p w m events s actors i before plain.Lock at_counter (back_to_work p a) behind_lock (working_differs p a)
+        goes_on p w m events s actors i before plain.Lock at_counter (back_to_work p a) behind_lock
+        (working_differs p a)
         (working_fits p a (has_task p w m events s actors i before plain.Lock at_counter) works_again)
         (steps_stay_placed p w a plain.Lock 0 own.placed at_counter)
         (working_of (λ d fs. IsGrounded fs) grounds_are_of_bodies p a (on_ground p w m events s actors i before plain.Lock at_counter))
@@ -261,30 +289,40 @@ module _ (p : Program) (w : List ℕ) (m : Memory) (events : List (ℕ × Event)
     holder_is : found ≡ lock_word (s.locks taken)
     holder_is =
         let there = lock_there p w m events s actors i before plain.Lock at_counter critical in
-        before.rule.words.runtime_record RuntimeLocks taken _ (lock_code w (runtime_told s) taken there.within)
+        before.rule.words.runtime_record RuntimeLocks taken _
+        (lock_code w (runtime_told s) taken there.within)
 
     -- nobody holds it
-    lock_taken : found ≡ 0 → KeepsRule p w m events s actors i exchange at_lock (back_to_work p a, outcome.Event (event.Lock taken))
+    lock_taken : found ≡ 0
+        → KeepsRule p w m events s actors i exchange at_lock (back_to_work p a, outcome.Event (event.Lock taken))
     lock_taken free =
         let own = before.rule.threads i before.known in
         let z : State = middle p w m events s actors i before plain.Lock at_counter behind_lock in
         let first = working_first p a (was_first p w m events s actors i before plain.Lock at_counter tt) in
-        runtime_event p w m events s actors i before plain.Lock at_counter behind_lock exchange RuntimeLocks taken (a.thread + 1) z.max_active (put z.locks taken (Some i))
+        runtime_event p w m events s actors i before plain.Lock at_counter behind_lock exchange RuntimeLocks taken
+        (a.thread + 1) z.max_active (put z.locks taken (Some i))
         (ap (λ (b : Bool). with_word m 0 runtime 0 (number RuntimeLocks) taken (if b then a.thread + 1 else found)) (eq-eqb found 0 free))
         (lock_kept w (m 0 runtime 0) z taken (a.thread + 1) (Some i) (ap (λ n. n + 1) own.thread) (middle_words p w m events s actors i before plain.Lock at_counter behind_lock).runtime_record)
-        (back_to_work p a) (outcome.Event (event.Lock taken)) (event.Lock taken) (item.Lock taken) refl (λ q. q) (λ n e. absurd (cc e))
+        (back_to_work p a) (outcome.Event (event.Lock taken)) (event.Lock taken) (item.Lock taken) refl
+        (λ q. q) (λ n e. absurd (cc e))
         (ap (take_item p sees_here (event.Lock taken)) lock_ahead ∙ takes_head p sees_here (event.Lock taken) (item.Lock taken) behind_lock (item.Lock taken) behind_lock refl (eq-eqb taken taken refl))
-        (nobody (s.locks taken) (sym holder_is ∙ free)) refl refl (ap (λ n. op.Cas (of_lock w taken) 0 (n + 1)) own.thread) lock_goes
+        (nobody (s.locks taken) (sym holder_is ∙ free)) refl refl
+        (ap (λ n. op.Cas (of_lock w taken) 0 (n + 1)) own.thread) lock_goes
         (first.ended (events ++ (i, event.Lock taken) ∷ []) i)
 
     -- a thread does: the same step is made again
-    lock_waits : found == 0 ≡ false → KeepsRule p w m events s actors i exchange at_lock (a, outcome.NotReady (of_lock w taken) found)
+    lock_waits : found == 0 ≡ false
+        → KeepsRule p w m events s actors i exchange at_lock (a, outcome.NotReady (of_lock w taken) found)
     lock_waits held =
         let own = before.rule.threads i before.known in
         let o = own_task p w m events s actors i before plain.Lock at_counter in
         let same : left_in m exchange at_lock ≡ m =
-        ap (λ (b : Bool). with_word m 0 runtime 0 (number RuntimeLocks) taken (if b then a.thread + 1 else found)) held ∙ word_back m 0 runtime 0 (number RuntimeLocks) taken in
-        let next : locks_next taken o.task.list = subst (locks_next taken) (sym (list_is p w m events s actors i before plain.Lock at_counter ∙ lock_ahead)) refl in
+        ap
+        (λ (b : Bool). with_word m 0 runtime 0 (number RuntimeLocks) taken (if b then a.thread + 1 else found)) held
+        ∙ word_back m 0 runtime 0 (number RuntimeLocks) taken in
+        let next : locks_next taken o.task.list =
+        subst (locks_next taken)
+        (sym (list_is p w m events s actors i before plain.Lock at_counter ∙ lock_ahead)) refl in
         waits_stay p w m events s actors i before exchange at_lock a same refl own (of_lock w taken)
         (ForLock taken (a.context.task, o.task, now_current p w m events s actors i before plain.Lock at_counter, next) refl (λ e. false≢true (sym held ∙ eq-eqb found 0 e))) tt refl
 
@@ -295,6 +333,7 @@ module _ (p : Program) (w : List ℕ) (m : Memory) (events : List (ℕ × Event)
       go (found == 0) refl,
     )
       where
-        go : (b : Bool) → found == 0 ≡ b → KeepsRule p w m events s actors i exchange at_lock ((if b then back_to_work p a else a), (if b then outcome.Event (event.Lock taken) else outcome.NotReady (of_lock w taken) found))
+        go : (b : Bool) → found == 0 ≡ b
+            → KeepsRule p w m events s actors i exchange at_lock ((if b then back_to_work p a else a), (if b then outcome.Event (event.Lock taken) else outcome.NotReady (of_lock w taken) found))
         go true e = lock_taken (eqb-true found 0 e)
         go false e = lock_waits e

@@ -53,9 +53,12 @@ use Rattle.omi_model.proofs.StaysKept.{stays_step}
 use Rattle.omi_rule.proofs.Runs.{stack_runs}
 
 -- the environment of a reached state is the program's
-pub environment_stays : (p : Program) (events : List (ℕ × Event)) (s : State) → Reached p events s → s.environment ≡ p.env
+pub environment_stays : (p : Program) (events : List (ℕ × Event)) (s : State) → Reached p events s
+    → s.environment ≡ p.env
 environment_stays p events s reached =
-    over_reached p (λ v. v.environment ≡ p.env) (λ before u was i e next step h. (events_leave_others p before u was i e next step).environment ∙ h) [] (opening p) refl events s reached refl
+    over_reached p (λ v. v.environment ≡ p.env)
+    (λ before u was i e next step h. (events_leave_others p before u was i e next step).environment ∙ h) []
+    (opening p) refl events s reached refl
 
 -- where a thread goes on from a plain counter: with this ahead of its task
 pub record GoesOn (p : Program) (w : List ℕ) (i : ℕ) (at : Encounter) (a b : Actor) (list : List Item) : Type 0 where
@@ -69,7 +72,9 @@ pub record GoesOn (p : Program) (w : List ℕ) (i : ℕ) (at : Encounter) (a b :
   pub runs : (u : State) → RunsFunctions u a.context a.stack → RunsFunctions u a.context b.stack
   pub ahead : IsAhead p at b.stack b.counter list
 
-module _ (p : Program) (w : List ℕ) (m : Memory) (events : List (ℕ × Event)) (s : State) (actors : ℕ → Actor) (i : ℕ) (before : Before p w m events s actors i) (c : PlainCounter) (at_counter : (actors i).counter ≡ counter.Plain c) where
+module _ (p : Program) (w : List ℕ) (m : Memory) (events : List (ℕ × Event)) (s : State) (actors : ℕ → Actor)
+    (i : ℕ) (before : Before p w m events s actors i) (c : PlainCounter)
+    (at_counter : (actors i).counter ≡ counter.Plain c) where
   abbrev pub a : Actor
   a = actors i
 
@@ -93,7 +98,9 @@ module _ (p : Program) (w : List ℕ) (m : Memory) (events : List (ℕ × Event)
   fits_counter = subst (λ (d : Counter). FitsCounter p a d) at_counter own.fits.counter
 
   pub list_is : (top p s i a stands).task.list ≡ plain_ahead p at a.stack c
-  list_is = subst (λ (d : Counter). IsAhead p at a.stack d (top p s i a stands).task.list) at_counter (own_ahead p s i a stands)
+  list_is =
+      subst (λ (d : Counter). IsAhead p at a.stack d (top p s i a stands).task.list) at_counter
+      (own_ahead p s i a stands)
 
   pub at_debug : at.debug ≡ p.env.debug
   at_debug =
@@ -106,25 +113,30 @@ module _ (p : Program) (w : List ℕ) (m : Memory) (events : List (ℕ × Event)
   -- ---- the event is legal
 
   -- the list that the event takes its item from
-  pub takes : (e : Event) (y : Item) (zs : List Item) → take_item p at e (plain_ahead p at a.stack c) ≡ Some (y, zs) → taken_by p s i e ≡ Some (y, zs)
+  pub takes : (e : Event) (y : Item) (zs : List Item)
+      → take_item p at e (plain_ahead p at a.stack c) ≡ Some (y, zs) → taken_by p s i e ≡ Some (y, zs)
   takes e y zs taken =
       ap (λ (x : Encounter). take_item p x e (list_of s i)) (own_encounter p s i a stands)
       ∙ ap (λ (xs : List Item). take_item p at e xs) (own_list p s i a stands ∙ list_is) ∙ taken
 
-  pub steps : (e : Event) (y : Item) (zs : List Item) (u : State) → take_item p at e (plain_ahead p at a.stack c) ≡ Some (y, zs) → Rule s i e y → stays at e y zs ≡ zs
+  pub steps : (e : Event) (y : Item) (zs : List Item) (u : State)
+      → take_item p at e (plain_ahead p at a.stack c) ≡ Some (y, zs) → Rule s i e y → stays at e y zs ≡ zs
       → effect p (on_task s a.context.task (relisted zs)) i e y ≡ Some u → Step p s i e u
   steps e y zs u taken rule stay is = record {
     legal = record { known = before.known; item = y; behind = zs; taken = takes e y zs taken; rule = rule };
     after_is =
         ap (option_and_then (moved p s i e)) (takes e y zs taken)
-        ∙ ap (λ (x : Encounter). effect p (with_list s i (stays x e y zs)) i e y) (own_encounter p s i a stands)
+        ∙ ap (λ (x : Encounter). effect p (with_list s i (stays x e y zs)) i e y)
+        (own_encounter p s i a stands)
         ∙ ap (λ (xs : List Item). effect p (with_list s i xs) i e y) stay
         ∙ ap (λ (z : State). effect p z i e y) (list_moved p s i a stands zs)
         ∙ is;
   }
 
   -- a task that waits for its thread is not made here
-  pub none_new : (e : Event) (y : Item) (zs : List Item) (u : State) → take_item p at e (plain_ahead p at a.stack c) ≡ Some (y, zs) → Step p s i e u → ((f : ℕ) → y ≡ item.Fork f → ⊥) → AreNewMembers p u
+  pub none_new : (e : Event) (y : Item) (zs : List Item) (u : State)
+      → take_item p at e (plain_ahead p at a.stack c) ≡ Some (y, zs) → Step p s i e u
+      → ((f : ℕ) → y ≡ item.Fork f → ⊥) → AreNewMembers p u
   none_new e y zs u taken step none =
       waiting_step p s i e u step
       (λ x is f fork. absurd (none f (sym (ap (λ (q : Item × List Item). q.0) (some_same is (takes e y zs taken))) ∙ fork)))
@@ -132,7 +144,8 @@ module _ (p : Program) (w : List ℕ) (m : Memory) (events : List (ℕ × Event)
 
   -- ---- the thread afterwards
 
-  pub own_after : (n : Memory) (later : List (ℕ × Event)) (u : State) (b : Actor) (zs : List Item) → Stays s u → ChangesTask s u i a.context.task → ((t : Task) → task_of u a.context.task ≡ Some t → t.list ≡ zs)
+  pub own_after : (n : Memory) (later : List (ℕ × Event)) (u : State) (b : Actor) (zs : List Item) → Stays s u
+      → ChangesTask s u i a.context.task → ((t : Task) → task_of u a.context.task ≡ Some t → t.list ≡ zs)
       → GoesOn p w i at a b zs → HasEnded later i b.counter → KeepsThread p w n later u i b
   own_after n later u b zs stay changes list goes ended =
       let (f, fs, is_open) = some_frame b.stack goes.grounded in
@@ -151,11 +164,13 @@ module _ (p : Program) (w : List ℕ) (m : Memory) (events : List (ℕ × Event)
 
   -- ---- the step
 
-  pub own_event : (o : Op) (x : RecordWord) (b : Actor) (out : Outcome) (e : Event) (y : Item) (zs : List Item) (u : State) → out ≡ outcome.Event e → (Makes e → ⊥) → ((f : ℕ) → y ≡ item.Fork f → ⊥)
+  pub own_event : (o : Op) (x : RecordWord) (b : Actor) (out : Outcome) (e : Event) (y : Item) (zs : List Item) (u : State)
+      → out ≡ outcome.Event e → (Makes e → ⊥) → ((f : ℕ) → y ≡ item.Fork f → ⊥)
       → take_item p at e (plain_ahead p at a.stack c) ≡ Some (y, zs) → Step p s i e u → CommitsAt w s i e o → KeepsWords w (left_in m o x) u (all_owed actors)
       → ((j : ℕ) → j ≢ i → Spares m (left_in m o x) s j (actors j)) → ChangesTask s u i a.context.task → ((t : Task) → task_of u a.context.task ≡ Some t → t.list ≡ zs)
       → GoesOn p w i at a b zs → HasEnded (events ++ (i, e) ∷ []) i b.counter → KeepsRule p w m events s actors i o x (b, out)
   own_event o x b out e y zs u is not none taken step commits words spares changes list goes ended =
-      plain_event_keeps p w m events s actors i before o x (b, out) e u not is step commits (none_new e y zs u taken step none)
+      plain_event_keeps p w m events s actors i before o x (b, out) e u not is step commits
+      (none_new e y zs u taken step none)
       (moves_keep w (left_in m o x) u actors i b words (goes.owes ∙ sym owes_nothing)) spares
       (own_after (left_in m o x) (events ++ (i, e) ∷ []) u b zs (stays_step p s i e u step) changes list goes ended)

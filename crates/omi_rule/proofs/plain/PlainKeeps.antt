@@ -20,9 +20,11 @@ use Rattle.omi_rule.proofs.plain.Locks.{lock_keeps, unlock_keeps}
 use Rattle.omi_rule.proofs.plain.States.{lock_state_keeps, work_state_keeps}
 use Rattle.omi_rule.proofs.plain.Variables.{set_keeps}
 
-module _ (p : Program) (w : List ℕ) (m : Memory) (events : List (ℕ × Event)) (s : State) (actors : ℕ → Actor) (i : ℕ) (before : Before p w m events s actors i) where
+module _ (p : Program) (w : List ℕ) (m : Memory) (events : List (ℕ × Event)) (s : State) (actors : ℕ → Actor)
+    (i : ℕ) (before : Before p w m events s actors i) where
   pub plain_keeps : (c : PlainCounter) → (actors i).counter ≡ counter.Plain c
-      → StepKeeps p w m events s actors i (plain_next p w (actors i) c) (λ old. (plain_moved p (actors i) c old, plain_outcome p w (actors i) c old))
+      → StepKeeps p w m events s actors i (plain_next p w (actors i) c)
+      (λ old. (plain_moved p (actors i) c old, plain_outcome p w (actors i) c old))
   plain_keeps plain.Work at = work_keeps p w m events s actors i before at
   plain_keeps plain.Call at = call_keeps p w m events s actors i before at
   plain_keeps plain.Skip at = skip_keeps p w m events s actors i before at

@@ -73,12 +73,14 @@ use Rattle.omi_rule.proofs.plain.TaskWords.{middle, middle_words, own_task}
 -- ---- the state of a thread that works
 
 -- the initial region alone is at level 0
-initial_level : (p : Program) (events : List (ℕ × Event)) (s : State) → Reached p events s → (n : Rid) (r : Region) → region_of s n ≡ Some r → is_initial n ≡ (r.levels == 0)
+initial_level : (p : Program) (events : List (ℕ × Event)) (s : State) → Reached p events s
+    → (n : Rid) (r : Region) → region_of s n ≡ Some r → is_initial n ≡ (r.levels == 0)
 initial_level p events s reached n r live = go (is_initial n) refl
   where
     first_level : region_of s initial_region ≡ Some r → r.levels ≡ 0
     first_level there =
-        let (q, now, same) = (stay p [] events (opening p) s refl reached).regions initial_region (opening_region p) refl in
+        let (q, now, same) =
+        (stay p [] events (opening p) s refl reached).regions initial_region (opening_region p) refl in
         ap (λ (x : Region). x.levels) (some_same there now) ∙ same.levels
 
     is_first : is_initial n ≡ true → n ≡ initial_region
@@ -89,20 +91,28 @@ initial_level p events s reached n r live = go (is_initial n) refl
         ap (λ (d : Id). record { 0 = d }) (id_same n.0 initial_region.0 creator slot generation)
 
     deeper : (o : Option Tid) → r.encountering ≡ o → is_initial n ≡ false → r.levels == 0 ≡ false
-    deeper None e other = absurd (false≢true (sym other ∙ ap is_initial ((encounters p events s reached).initial n r live e)))
+    deeper None e other =
+        absurd (false≢true (sym other ∙ ap is_initial ((encounters p events s reached).initial n r live e)))
     deeper (Some k) e other =
         let o = (encounters p events s reached).encountered n r k live e in
         let chain : MatchOption (Some o.task.region) ((r.levels ≡ 0) × (r.active ≡ 0)) (λ x. (q : Region) × (region_of s x ≡ Some q) × IsEnclosedIn r q) =
-        subst (λ (x : Option Rid). MatchOption x ((r.levels ≡ 0) × (r.active ≡ 0)) (λ y. (q : Region) × (region_of s y ≡ Some q) × IsEnclosedIn r q)) o.enclosing (levels_count p events s reached n r live).levels in
+        subst
+        (λ (x : Option Rid). MatchOption x ((r.levels ≡ 0) × (r.active ≡ 0)) (λ y. (q : Region) × (region_of s y ≡ Some q) × IsEnclosedIn r q)) o.enclosing
+        (levels_count p events s reached n r live).levels in
         let (q, found, inside) = chain in
         let more : r.levels ≡ q.levels + 1 = inside.levels in
         ne_eqb r.levels 0 (λ none. omega (arith, more, none))
 
     go : (b : Bool) → is_initial n ≡ b → is_initial n ≡ (r.levels == 0)
-    go true e = e ∙ sym (eq-eqb r.levels 0 (first_level (subst (λ (x : Rid). region_of s x ≡ Some r) (is_first e) live)))
+    go true e =
+        e
+        ∙ sym
+        (eq-eqb r.levels 0 (first_level (subst (λ (x : Rid). region_of s x ≡ Some r) (is_first e) live)))
     go false e = e ∙ sym (deeper r.encountering refl e)
 
-module _ (p : Program) (w : List ℕ) (m : Memory) (events : List (ℕ × Event)) (s : State) (actors : ℕ → Actor) (i : ℕ) (before : Before p w m events s actors i) (c : PlainCounter) (at_counter : (actors i).counter ≡ counter.Plain c) where
+module _ (p : Program) (w : List ℕ) (m : Memory) (events : List (ℕ × Event)) (s : State) (actors : ℕ → Actor)
+    (i : ℕ) (before : Before p w m events s actors i) (c : PlainCounter)
+    (at_counter : (actors i).counter ≡ counter.Plain c) where
   abbrev at : Encounter
   at = sees p w m events s actors i before c at_counter
 
@@ -110,8 +120,11 @@ module _ (p : Program) (w : List ℕ) (m : Memory) (events : List (ℕ × Event)
   work_state_is =
       let o = own_task p w m events s actors i before c at_counter in
       let level : at.level ≡ o.region.levels =
-      ap (λ (x : Option Task). (encounter_by s x).level) o.live ∙ ap (level_of s) o.region_is ∙ ap (λ (x : Option Region). option_map_or (λ r. r.levels) x 0) o.found in
-      ap (λ (b : Bool). if b then WORK_SERIAL else WORK_PARALLEL) (initial_level p events s before.rule.reached (actors i).context.region o.region o.found)
+      ap (λ (x : Option Task). (encounter_by s x).level) o.live
+      ∙ ap (level_of s) o.region_is
+      ∙ ap (λ (x : Option Region). option_map_or (λ r. r.levels) x 0) o.found in
+      ap (λ (b : Bool). if b then WORK_SERIAL else WORK_PARALLEL)
+      (initial_level p events s before.rule.reached (actors i).context.region o.region o.found)
       ∙ ap Rows.work_state (sym level)
 
   abbrev state_at : RecordWord
@@ -121,8 +134,11 @@ module _ (p : Program) (w : List ℕ) (m : Memory) (events : List (ℕ × Event)
   shows state wait = op.Store (of_thread w (actors i).thread ThreadState) (state_word state wait)
 
   -- the thread shows a state
-  pub state_event : (state wait : ℕ) (zs : List Item) → plain_ahead p at (actors i).stack c ≡ item.State state wait ∷ zs → (b : Actor) → GoesOn p w i at (actors i) b zs → HasEnded (events ++ (i, event.State state wait) ∷ []) i b.counter
-      → StepKeeps p w m events s actors i (shows state wait) (λ old. (b, outcome.Event (event.State state wait)))
+  pub state_event : (state wait : ℕ) (zs : List Item)
+      → plain_ahead p at (actors i).stack c ≡ item.State state wait ∷ zs → (b : Actor)
+      → GoesOn p w i at (actors i) b zs → HasEnded (events ++ (i, event.State state wait) ∷ []) i b.counter
+      → StepKeeps p w m events s actors i (shows state wait)
+      (λ old. (b, outcome.Event (event.State state wait)))
   state_event state wait zs list b goes ended =
       let own = before.rule.threads i before.known in
       let stand = here p w m events s actors i before c at_counter in
@@ -135,8 +151,10 @@ module _ (p : Program) (w : List ℕ) (m : Memory) (events : List (ℕ × Event)
       ap (take_item p at e) list ∙ takes_head p at e y zs y zs refl (ap (λ (b : Bool). b && (wait == wait)) (eq-eqb state state refl) ∙ eq-eqb wait wait refl) in (
         state_at,
         store_on p w m events s actors i before ThreadState (state_word state wait) refl,
-        own_event p w m events s actors i before c at_counter (shows state wait) state_at b (outcome.Event e) e y zs u refl (λ q. q) (λ n q. absurd (cc q)) taken
-            (steps p w m events s actors i before c at_counter e y zs u taken tt refl refl) (state_word state wait, ap (λ j. op.Store (of_thread w j ThreadState) (state_word state wait)) own.thread)
+        own_event p w m events s actors i before c at_counter (shows state wait) state_at b
+            (outcome.Event e) e y zs u refl (λ q. q) (λ n q. absurd (cc q)) taken
+            (steps p w m events s actors i before c at_counter e y zs u taken tt refl refl)
+            (state_word state wait, ap (λ j. op.Store (of_thread w j ThreadState) (state_word state wait)) own.thread)
             (thread_stores_keep w m z (all_owed actors) i h ThreadState (state_word state wait) (middle_words p w m events s actors i before c at_counter zs) (λ q. absurd (omega (arith, q)))
             (state_stored w i (m i threads 0) (thread_told (s.threads i)) (before.rule.words.made i before.known).thread state wait))
             (λ j other. spares_threads m s i ThreadState (state_word state wait) j (actors j) (λ q. absurd (omega (arith, q))))
@@ -144,14 +162,17 @@ module _ (p : Program) (w : List ℕ) (m : Memory) (events : List (ℕ × Event)
             (relisted_ahead p s i (actors i) stand zs u refl (λ xs. xs ≡ zs) refl) goes ended,
       )
 
-module _ (p : Program) (w : List ℕ) (m : Memory) (events : List (ℕ × Event)) (s : State) (actors : ℕ → Actor) (i : ℕ) (before : Before p w m events s actors i) where
+module _ (p : Program) (w : List ℕ) (m : Memory) (events : List (ℕ × Event)) (s : State) (actors : ℕ → Actor)
+    (i : ℕ) (before : Before p w m events s actors i) where
   pub work_state_keeps : (actors i).counter ≡ counter.Plain plain.WorkState
-      → StepKeeps p w m events s actors i (plain_next p w (actors i) plain.WorkState) (λ old. (plain_moved p (actors i) plain.WorkState old, plain_outcome p w (actors i) plain.WorkState old))
+      → StepKeeps p w m events s actors i (plain_next p w (actors i) plain.WorkState)
+      (λ old. (plain_moved p (actors i) plain.WorkState old, plain_outcome p w (actors i) plain.WorkState old))
   work_state_keeps at_counter =
       let own = before.rule.threads i before.known in
       let sees_here : Encounter = sees p w m events s actors i before plain.WorkState at_counter in
       let (f, fs, stack, rest) = body p w m events s actors i before plain.WorkState at_counter in
-      let first = worked_first p (actors i) (was_first p w m events s actors i before plain.WorkState at_counter tt) in
+      let first =
+      worked_first p (actors i) (was_first p w m events s actors i before plain.WorkState at_counter tt) in
       let zs : List Item = Ahead.worked p sees_here (actors i).stack in
       let debug = at_debug p w m events s actors i before plain.WorkState at_counter in
       state_event p w m events s actors i before plain.WorkState at_counter (actor_work_state (actors i)) 0 zs
@@ -166,7 +187,8 @@ module _ (p : Program) (w : List ℕ) (m : Memory) (events : List (ℕ × Event)
       (first.ended (events ++ (i, event.State (actor_work_state (actors i)) 0) ∷ []) i)
 
   pub lock_state_keeps : (actors i).counter ≡ counter.Plain plain.LockState
-      → StepKeeps p w m events s actors i (plain_next p w (actors i) plain.LockState) (λ old. (plain_moved p (actors i) plain.LockState old, plain_outcome p w (actors i) plain.LockState old))
+      → StepKeeps p w m events s actors i (plain_next p w (actors i) plain.LockState)
+      (λ old. (plain_moved p (actors i) plain.LockState old, plain_outcome p w (actors i) plain.LockState old))
   lock_state_keeps at_counter =
       let own = before.rule.threads i before.known in
       let sees_here : Encounter = sees p w m events s actors i before plain.LockState at_counter in
@@ -175,9 +197,12 @@ module _ (p : Program) (w : List ℕ) (m : Memory) (events : List (ℕ × Event)
       let (f, is) = at_critical p w m events s actors i before plain.LockState at_counter critical in
       let zs : List Item = in_work p (actors i).stack (locking_in p sees_here (actors i).stack) in
       let rows : in_work p (actors i).stack (λ x. item.State WAIT_CRITICAL (lock_of x + 1) ∷ locking_in p sees_here (actors i).stack x) ≡ item.State WAIT_CRITICAL (l + 1) ∷ zs =
-      in_work_is p (actors i).stack (stmt.Critical l f) (λ x. item.State WAIT_CRITICAL (lock_of x + 1) ∷ locking_in p sees_here (actors i).stack x) is
-      ∙ ap (λ (xs : List Item). item.State WAIT_CRITICAL (l + 1) ∷ xs) (sym (in_work_is p (actors i).stack (stmt.Critical l f) (locking_in p sees_here (actors i).stack) is)) in
-      state_event p w m events s actors i before plain.LockState at_counter WAIT_CRITICAL (lock_wait l) zs rows (goes_to plain.Lock (actors i))
+      in_work_is p (actors i).stack (stmt.Critical l f)
+      (λ x. item.State WAIT_CRITICAL (lock_of x + 1) ∷ locking_in p sees_here (actors i).stack x) is
+      ∙ ap (λ (xs : List Item). item.State WAIT_CRITICAL (l + 1) ∷ xs)
+      (sym (in_work_is p (actors i).stack (stmt.Critical l f) (locking_in p sees_here (actors i).stack) is)) in
+      state_event p w m events s actors i before plain.LockState at_counter WAIT_CRITICAL
+      (lock_wait l) zs rows (goes_to plain.Lock (actors i))
       (goes_on p w m events s actors i before plain.LockState at_counter (goes_to plain.Lock (actors i)) zs
       (record { thread = refl; context = refl; gathered = refl })
       (record { thread = own.fits.thread; variables = own.fits.variables; bodies = own.fits.bodies; counter = critical })

@@ -54,7 +54,9 @@ use Rattle.omi_rule.proofs.RowsStay.{Spares}
 use Rattle.omi_rule.proofs.plain.OwnEvents.{GoesOn, own_event, steps}
 use Rattle.omi_rule.proofs.plain.Loads.{here, sees}
 
-module _ (p : Program) (w : List ℕ) (m : Memory) (events : List (ℕ × Event)) (s : State) (actors : ℕ → Actor) (i : ℕ) (before : Before p w m events s actors i) (c : PlainCounter) (at_counter : (actors i).counter ≡ counter.Plain c) where
+module _ (p : Program) (w : List ℕ) (m : Memory) (events : List (ℕ × Event)) (s : State) (actors : ℕ → Actor)
+    (i : ℕ) (before : Before p w m events s actors i) (c : PlainCounter)
+    (at_counter : (actors i).counter ≡ counter.Plain c) where
   abbrev pub own_task : KeepsContext s i (actors i).context
   own_task = top p s i (actors i) (here p w m events s actors i before c at_counter)
 
@@ -78,7 +80,8 @@ module _ (p : Program) (w : List ℕ) (m : Memory) (events : List (ℕ × Event)
   abbrev pub task_word_at : Field → RecordWord
   task_word_at f = record { creator = k.0.creator; slot = k.0.slot; field = f; place = 0 }
 
-  pub task_on : (f : Field) (word : ℕ) → kind_of (number f) ≡ tasks → IsOn w (op.Store (of_task w k f) word) (task_word_at f)
+  pub task_on : (f : Field) (word : ℕ) → kind_of (number f) ≡ tasks
+      → IsOn w (op.Store (of_task w k f) word) (task_word_at f)
   task_on f word kind = record {
     there = record {
       field = numbered_field f;
@@ -93,8 +96,10 @@ module _ (p : Program) (w : List ℕ) (m : Memory) (events : List (ℕ × Event)
 
   own_name : task_in k.0.creator k.0.slot (s.tasks k.0.creator k.0.slot) ≡ k
   own_name =
-      let made = found_generations k.0.generation (s.tasks k.0.creator k.0.slot) own_task.task own_task.live in
-      ap (λ (n : Id). record { 0 = n }) (id_same (task_in k.0.creator k.0.slot (s.tasks k.0.creator k.0.slot)).0 k.0 refl refl (omega (arith, made)))
+      let made =
+      found_generations k.0.generation (s.tasks k.0.creator k.0.slot) own_task.task own_task.live in
+      ap (λ (n : Id). record { 0 = n })
+      (id_same (task_in k.0.creator k.0.slot (s.tasks k.0.creator k.0.slot)).0 k.0 refl refl (omega (arith, made)))
 
   own_words : KeepsTask w s (all_owed actors) (task_in k.0.creator k.0.slot (s.tasks k.0.creator k.0.slot)) (m k.0.creator tasks k.0.slot) own_task.task
   own_words =
@@ -102,7 +107,9 @@ module _ (p : Program) (w : List ℕ) (m : Memory) (events : List (ℕ × Event)
       (found_live k.0.generation (s.tasks k.0.creator k.0.slot) own_task.task own_task.live)
 
   pub has_codes : HasCodes (task_code w (task_told own_task.task)) (m k.0.creator tasks k.0.slot)
-  has_codes = all_codes w (m k.0.creator tasks k.0.slot) own_task.task own_words.environment (own_words.place (λ _ deferred. begun_undeferred own_task.task own_task.begun deferred))
+  has_codes =
+      all_codes w (m k.0.creator tasks k.0.slot) own_task.task own_words.environment
+      (own_words.place (λ _ deferred. begun_undeferred own_task.task own_task.begun deferred))
 
   -- ---- the list moves on
 
@@ -116,17 +123,21 @@ module _ (p : Program) (w : List ℕ) (m : Memory) (events : List (ℕ × Event)
 
   pub middle_words : (zs : List Item) → KeepsWords w m (middle zs) (all_owed actors)
   middle_words zs =
-      subst (λ (z : State). KeepsWords w m z (all_owed actors)) (list_moved p s i (actors i) (here p w m events s actors i before c at_counter) zs)
+      subst (λ (z : State). KeepsWords w m z (all_owed actors))
+      (list_moved p s i (actors i) (here p w m events s actors i before c at_counter) zs)
       (list_moves_keep w m s (all_owed actors) i zs before.rule.words before.known)
 
   -- ---- the task is another
 
-  pub twice : (zs : List Item) (g : Task → Task) (t : Task) → task_of s k ≡ Some t → task_of (on_task (middle zs) k g) k ≡ Some (g (relisted zs t))
+  pub twice : (zs : List Item) (g : Task → Task) (t : Task) → task_of s k ≡ Some t
+      → task_of (on_task (middle zs) k g) k ≡ Some (g (relisted zs t))
   twice zs g t live =
       on_same (on s.tasks k.0 (relisted zs)) k.0 g
-      ∙ ap (λ (x : Option Task). option_map g x) (on_same s.tasks k.0 (relisted zs) ∙ ap (λ (x : Option Task). option_map (relisted zs) x) live)
+      ∙ ap (λ (x : Option Task). option_map g x)
+      (on_same s.tasks k.0 (relisted zs) ∙ ap (λ (x : Option Task). option_map (relisted zs) x) live)
 
-  changes_task : (zs : List Item) (g : Task → Task) → ((v : Task) → IsAlike v (g (relisted zs v))) → ChangesTask s (on_task (middle zs) k g) i k
+  changes_task : (zs : List Item) (g : Task → Task) → ((v : Task) → IsAlike v (g (relisted zs v)))
+      → ChangesTask s (on_task (middle zs) k g) i k
   changes_task zs g alike = record {
     environment = refl;
     current = refl;
@@ -135,9 +146,11 @@ module _ (p : Program) (w : List ℕ) (m : Memory) (events : List (ℕ × Event)
     regions = λ n r live. (r, live, refl, refl, refl);
   }
 
-  pub task_event : (zs : List Item) (f : Field) (word : ℕ) (g : Task → Task) → kind_of (number f) ≡ tasks → IsOfTask f → ((v : Task) → IsAlike v (g (relisted zs v))) → ((v : Task) → (g v).list ≡ v.list)
+  pub task_event : (zs : List Item) (f : Field) (word : ℕ) (g : Task → Task) → kind_of (number f) ≡ tasks
+      → IsOfTask f → ((v : Task) → IsAlike v (g (relisted zs v))) → ((v : Task) → (g v).list ≡ v.list)
       → IsSameTask (relisted zs own_task.task) (g (relisted zs own_task.task))
-      → HasCodes (task_code w (task_told (g (relisted zs own_task.task)))) (with_word_in (m k.0.creator tasks k.0.slot) (number f) 0 word)
+      → HasCodes (task_code w (task_told (g (relisted zs own_task.task))))
+      (with_word_in (m k.0.creator tasks k.0.slot) (number f) 0 word)
       → (b : Actor) (out : Outcome) (e : Event) (y : Item) → out ≡ outcome.Event e → (Makes e → ⊥) → ((n : ℕ) → y ≡ item.Fork n → ⊥)
       → take_item p at e (plain_ahead p at (actors i).stack c) ≡ Some (y, zs) → Rule s i e y → stays at e y zs ≡ zs → effect p (middle zs) i e y ≡ Some (on_task (middle zs) k g)
       → CommitsAt w s i e (op.Store (of_task w k f) word) → GoesOn p w i at (actors i) b zs → HasEnded (events ++ (i, e) ∷ []) i b.counter
@@ -146,7 +159,8 @@ module _ (p : Program) (w : List ℕ) (m : Memory) (events : List (ℕ × Event)
       let u : State = on_task (middle zs) k g in
       let stored : left_in m (op.Store (of_task w k f) word) (task_word_at f) ≡ with_word m k.0.creator tasks k.0.slot (number f) 0 word =
       ap (λ q. with_word m k.0.creator q k.0.slot (number f) 0 word) kind in
-      own_event p w m events s actors i before c at_counter (op.Store (of_task w k f) word) (task_word_at f) b out e y zs u is not none taken
+      own_event p w m events s actors i before c at_counter (op.Store (of_task w k f) word)
+      (task_word_at f) b out e y zs u is not none taken
       (steps p w m events s actors i before c at_counter e y zs u taken rule stay done) commits
       (subst (λ (n : Memory). KeepsWords w n u (all_owed actors)) (sym stored)
       (task_stores_keep w m (middle zs) (all_owed actors) k (relisted zs own_task.task) g f 0 word (middle_words zs) (middle_current zs).live same of codes))

@@ -67,10 +67,13 @@ head_length n [] = refl
 head_length n (x ∷ xs) = refl
 
 -- the first element is another
-head_kept : (r : ℕ → ℕ) (n : ℕ) (xs : List ℕ) → ((j d : ℕ) → slice_get xs j ≡ Some d → r j ≡ d) → (j d : ℕ) → slice_get (with_head n xs) j ≡ Some d → (if j == 0 then n else r j) ≡ d
+head_kept : (r : ℕ → ℕ) (n : ℕ) (xs : List ℕ) → ((j d : ℕ) → slice_get xs j ≡ Some d → r j ≡ d) → (j d : ℕ)
+    → slice_get (with_head n xs) j ≡ Some d → (if j == 0 then n else r j) ≡ d
 head_kept r n [] all j d e = absurd (cc e)
 head_kept r n (x ∷ xs) all zero d e = cc e
-head_kept r n (x ∷ xs) all (suc j) d e = ap (λ (b : Bool). if b then n else r (suc j)) (ne_eqb (suc j) 0 (λ same. omega (arith, same))) ∙ all (suc j) d e
+head_kept r n (x ∷ xs) all (suc j) d e =
+    ap (λ (b : Bool). if b then n else r (suc j)) (ne_eqb (suc j) 0 (λ same. omega (arith, same)))
+    ∙ all (suc j) d e
 
 abbrev with_variables : Task → List Item → Variables → Task
 with_variables t zs v = record t { list = zs; variables = v }
@@ -95,12 +98,17 @@ module _ (w : List ℕ) (r : Rec) (t : Task) (zs : List Item) (o : HasCodes (tas
   device_kept x TaskDevice (suc at) word is = absurd (cc)
   device_kept x f at word is = o f at word is
 
-  nthreads_kept : (x : ℕ) → Stored TaskNthreads x (record t.variables { nthreads = with_head x t.variables.nthreads })
-  nthreads_kept x TaskNthreadsLength zero word is = o TaskNthreadsLength 0 _ refl ∙ sym (head_length x t.variables.nthreads) ∙ same_word _ _ is
-  nthreads_kept x TaskNthreads at word is = head_kept (r (number TaskNthreads)) x t.variables.nthreads (o TaskNthreads) at word is
+  nthreads_kept : (x : ℕ)
+      → Stored TaskNthreads x (record t.variables { nthreads = with_head x t.variables.nthreads })
+  nthreads_kept x TaskNthreadsLength zero word is =
+      o TaskNthreadsLength 0 _ refl ∙ sym (head_length x t.variables.nthreads) ∙ same_word _ _ is
+  nthreads_kept x TaskNthreads at word is =
+      head_kept (r (number TaskNthreads)) x t.variables.nthreads (o TaskNthreads) at word is
   nthreads_kept x f at word is = o f at word is
 
-module _ (p : Program) (w : List ℕ) (m : Memory) (events : List (ℕ × Event)) (s : State) (actors : ℕ → Actor) (i : ℕ) (before : Before p w m events s actors i) (at_counter : (actors i).counter ≡ counter.Plain plain.Set) where
+module _ (p : Program) (w : List ℕ) (m : Memory) (events : List (ℕ × Event)) (s : State) (actors : ℕ → Actor)
+    (i : ℕ) (before : Before p w m events s actors i)
+    (at_counter : (actors i).counter ≡ counter.Plain plain.Set) where
   abbrev a : Actor
   a = actors i
 
@@ -120,66 +128,87 @@ module _ (p : Program) (w : List ℕ) (m : Memory) (events : List (ℕ × Event)
   t = (own_task p w m events s actors i before plain.Set at_counter).task
 
   goes : GoesOn p w i at a (settled p a) rest
-  goes = settled_goes p w m events s actors i before plain.Set at_counter tt (steps_stay_placed p w a plain.Set 0 (before.rule.threads i before.known).placed at_counter)
+  goes =
+      settled_goes p w m events s actors i before plain.Set at_counter tt
+      (steps_stay_placed p w a plain.Set 0 (before.rule.threads i before.known).placed at_counter)
 
   first : IsFirst (settled p a).counter
   first = settled_first p a (was_first p w m events s actors i before plain.Set at_counter tt)
 
   -- the event takes the item of the statement in work
-  set_takes : (x : Stmt) (icv value : ℕ) → IsAt p a.stack x → opened p at (item.Do x) rest ≡ (item.Set icv value, rest) → take_item p at (event.Set icv value) (plain_ahead p at a.stack plain.Set) ≡ Some (item.Set icv value, rest)
+  set_takes : (x : Stmt) (icv value : ℕ) → IsAt p a.stack x
+      → opened p at (item.Do x) rest ≡ (item.Set icv value, rest)
+      → take_item p at (event.Set icv value) (plain_ahead p at a.stack plain.Set) ≡ Some (item.Set icv value, rest)
   set_takes x icv value is row =
       ap (take_item p at (event.Set icv value)) (in_work_is p a.stack x (λ y. item.Do y ∷ rest) is)
-      ∙ takes_head p at (event.Set icv value) (item.Do x) rest (item.Set icv value) rest row (ap (λ (b : Bool). b && (value == value)) (eq-eqb icv icv refl) ∙ eq-eqb value value refl)
+      ∙ takes_head p at (event.Set icv value) (item.Do x) rest (item.Set icv value) rest row
+      (ap (λ (b : Bool). b && (value == value)) (eq-eqb icv icv refl) ∙ eq-eqb value value refl)
 
   -- a variable of the current task
-  set_effect : (icv value : ℕ) (v : Variables) → with_variable icv value t.variables ≡ Some v → with_task_variable z i icv value ≡ Some (on_task z k (λ u. record u { variables = v }))
+  set_effect : (icv value : ℕ) (v : Variables) → with_variable icv value t.variables ≡ Some v
+      → with_task_variable z i icv value ≡ Some (on_task z k (λ u. record u { variables = v }))
   set_effect icv value v is =
       let current = middle_current p w m events s actors i before plain.Set at_counter rest in
-      ap (option_and_then (λ (n : Tid). option_and_then (with_variable_of z icv value n) (task_of z n))) current.name
+      ap
+      (option_and_then (λ (n : Tid). option_and_then (with_variable_of z icv value n) (task_of z n))) current.name
       ∙ ap (option_and_then (with_variable_of z icv value k)) current.live
       ∙ ap (option_map (λ (q : Variables). on_task z k (λ u. record u { variables = q }))) is
 
   abbrev own_record : Rec
   own_record = m (actors i).context.task.0.creator tasks (actors i).context.task.0.slot
 
-  variable_event : (x : Stmt) (f : Field) (icv value : ℕ) (v : Variables) → IsAt p a.stack x → opened p at (item.Do x) rest ≡ (item.Set icv value, rest) → kind_of (number f) ≡ tasks → IsOfTask f
+  variable_event : (x : Stmt) (f : Field) (icv value : ℕ) (v : Variables) → IsAt p a.stack x
+      → opened p at (item.Do x) rest ≡ (item.Set icv value, rest) → kind_of (number f) ≡ tasks → IsOfTask f
       → with_variable icv value t.variables ≡ Some v → with_set z i icv value ≡ with_task_variable z i icv value
       → HasCodes (task_code w (task_told (with_variables t rest v))) (with_word_in own_record (number f) 0 value) → IsVariableField icv f
-      → StepKeeps p w m events s actors i (op.Store (of_task w k f) value) (λ old. (settled p a, outcome.Event (event.Set icv value)))
+      → StepKeeps p w m events s actors i (op.Store (of_task w k f) value)
+      (λ old. (settled p a, outcome.Event (event.Set icv value)))
   variable_event x f icv value v is row kind of set is_task codes field = (
     task_word_at p w m events s actors i before plain.Set at_counter f,
     task_on p w m events s actors i before plain.Set at_counter f value kind,
-    task_event p w m events s actors i before plain.Set at_counter rest f value (λ u. record u { variables = v }) kind of
+    task_event p w m events s actors i before plain.Set at_counter rest f value
+        (λ u. record u { variables = v }) kind of
         (λ q. record { implicit = refl; region = refl; thread = refl; number = refl; scheduling = refl; exit = refl; final = refl; progress = refl })
-        (λ q. refl) (record { implicit = refl; region = refl; thread = refl; generating = refl; progress = refl; place = refl }) codes
-        (settled p a) (outcome.Event (event.Set icv value)) (event.Set icv value) (item.Set icv value) refl (λ q. q) (λ n e. absurd (cc e))
-        (set_takes x icv value is row) (k, t, now_current p w m events s actors i before plain.Set at_counter, tt) refl (is_task ∙ set_effect icv value v set)
+        (λ q. refl)
+        (record { implicit = refl; region = refl; thread = refl; generating = refl; progress = refl; place = refl }) codes
+        (settled p a) (outcome.Event (event.Set icv value)) (event.Set icv value) (item.Set icv value) refl
+        (λ q. q) (λ n e. absurd (cc e))
+        (set_takes x icv value is row)
+        (k, t, now_current p w m events s actors i before plain.Set at_counter, tt) refl
+        (is_task ∙ set_effect icv value v set)
         (inr (f, field, (k, t, now_current p w m events s actors i before plain.Set at_counter, (value, refl)))) goes (first.ended (events ++ (i, event.Set icv value) ∷ []) i),
   )
 
   -- the variable of the whole program
-  max_active_stored : (n : ℕ) → KeepsRuntime w (m 0 runtime 0) z → KeepsRuntime w (with_word_in (m 0 runtime 0) (number RuntimeMaxActive) 0 n) (with_runtime z n z.locks)
+  max_active_stored : (n : ℕ) → KeepsRuntime w (m 0 runtime 0) z
+      → KeepsRuntime w (with_word_in (m 0 runtime 0) (number RuntimeMaxActive) 0 n) (with_runtime z n z.locks)
   max_active_stored n o RuntimeMaxActive zero word told = same_word _ _ told
   max_active_stored n o RuntimeMaxActive (suc at) word told = absurd (cc)
   max_active_stored n o f at word told = o f at word told
 
   max_active_event : (n : ℕ) → IsAt p a.stack (stmt.SetMaxActive n)
-      → StepKeeps p w m events s actors i (op.Store (of_runtime w RuntimeMaxActive) n) (λ old. (settled p a, outcome.Event (event.Set MAX_ACTIVE_LEVELS_VAR n)))
+      → StepKeeps p w m events s actors i (op.Store (of_runtime w RuntimeMaxActive) n)
+      (λ old. (settled p a, outcome.Event (event.Set MAX_ACTIVE_LEVELS_VAR n)))
   max_active_event n is =
       let o = (middle_words p w m events s actors i before plain.Set at_counter rest).runtime_record in (
         record { creator = 0; slot = 0; field = RuntimeMaxActive; place = 0 },
         record { there = record { field = numbered_field RuntimeMaxActive; record_slot = record { made_by = omega arith; within = omega arith }; within = omega arith }; address = refl },
-        runtime_event p w m events s actors i before plain.Set at_counter rest (op.Store (of_runtime w RuntimeMaxActive) n) RuntimeMaxActive 0 n n z.locks refl
+        runtime_event p w m events s actors i before plain.Set at_counter rest
+            (op.Store (of_runtime w RuntimeMaxActive) n) RuntimeMaxActive 0 n n z.locks refl
             (max_active_stored n o)
-            (settled p a) (outcome.Event (event.Set MAX_ACTIVE_LEVELS_VAR n)) (event.Set MAX_ACTIVE_LEVELS_VAR n) (item.Set MAX_ACTIVE_LEVELS_VAR n) refl (λ q. q) (λ q e. absurd (cc e))
-            (set_takes (stmt.SetMaxActive n) MAX_ACTIVE_LEVELS_VAR n is refl) (k, t, now_current p w m events s actors i before plain.Set at_counter, tt) refl refl
+            (settled p a) (outcome.Event (event.Set MAX_ACTIVE_LEVELS_VAR n))
+            (event.Set MAX_ACTIVE_LEVELS_VAR n) (item.Set MAX_ACTIVE_LEVELS_VAR n) refl (λ q. q)
+            (λ q e. absurd (cc e))
+            (set_takes (stmt.SetMaxActive n) MAX_ACTIVE_LEVELS_VAR n is refl)
+            (k, t, now_current p w m events s actors i before plain.Set at_counter, tt) refl refl
             (inl (refl, (n, refl))) goes (first.ended (events ++ (i, event.Set MAX_ACTIVE_LEVELS_VAR n) ∷ []) i),
       )
 
   codes : HasCodes (task_code w (task_told t)) own_record
   codes = has_codes p w m events s actors i before plain.Set at_counter
 
-  sets_by : (x : Stmt) → IsAt p a.stack x → Sets x → StepKeeps p w m events s actors i (op.Store (set_address w a (Some x)) (set_word (Some x))) (λ old. (settled p a, set_outcome (Some x)))
+  sets_by : (x : Stmt) → IsAt p a.stack x → Sets x
+      → StepKeeps p w m events s actors i (op.Store (set_address w a (Some x)) (set_word (Some x))) (λ old. (settled p a, set_outcome (Some x)))
   sets_by (stmt.SetNumThreads n) is sets =
       variable_event (stmt.SetNumThreads n) TaskNthreads NTHREADS_VAR n _ is refl refl
       (record { life = λ e. absurd (omega (arith, e)); children = λ e. absurd (omega (arith, e)); references = λ e. absurd (omega (arith, e)); slots = λ e. absurd (omega (arith, e)) })
@@ -202,4 +231,6 @@ module _ (p : Program) (w : List ℕ) (m : Memory) (events : List (ℕ × Event)
   pub set_keeps : StepKeeps p w m events s actors i (plain_next p w (actors i) plain.Set) (λ old. (plain_moved p (actors i) plain.Set old, plain_outcome p w (actors i) plain.Set old))
   set_keeps =
       let (x, is, sets) = fits_counter p w m events s actors i before plain.Set at_counter in
-      subst (λ (o : Option Stmt). StepKeeps p w m events s actors i (op.Store (set_address w a o) (set_word o)) (λ old. (settled p a, set_outcome o))) (sym is) (sets_by x is sets)
+      subst
+      (λ (o : Option Stmt). StepKeeps p w m events s actors i (op.Store (set_address w a o) (set_word o)) (λ old. (settled p a, set_outcome o)))
+      (sym is) (sets_by x is sets)

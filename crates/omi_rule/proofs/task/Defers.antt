@@ -56,7 +56,9 @@ use Rattle.omi_rule.proofs.task.Making.{IsReady, IsTaskNext, bodies_grown, chang
 use Rattle.omi_rule.proofs.task.NewTasks.{record_is_filled}
 use Rattle.omi_rule.proofs.task.Within.{context, context_placed, fits, list_is, own, own_slots, owes, placed, row, standing, stands, task_few}
 
-module _ (p : Program) (w : List ℕ) (m : Memory) (events : List (ℕ × Event)) (s : State) (actors : ℕ → Actor) (i : ℕ) (before : Before p w m events s actors i) (place : ℕ) (t : Tid) (at : (actors i).counter ≡ counter.Task (task.Defer place t)) where
+module _ (p : Program) (w : List ℕ) (m : Memory) (events : List (ℕ × Event)) (s : State) (actors : ℕ → Actor)
+    (i : ℕ) (before : Before p w m events s actors i) (place : ℕ) (t : Tid)
+    (at : (actors i).counter ≡ counter.Task (task.Defer place t)) where
   abbrev C : TaskCounter
   C = task.Defer place t
 
@@ -124,7 +126,8 @@ module _ (p : Program) (w : List ℕ) (m : Memory) (events : List (ℕ × Event)
   taken : take_item p At (event.Defer t) (task_ahead p At (actors i).stack C) ≡ Some (item.Defer place f final, rest)
   taken =
       let few : nat_lt place 4 ≡ true = grind (arith, nat_tests, within) in
-      ap (take_item p At (event.Defer t)) (making_is p At (actors i).stack (Some place) f false next.final false next.is not_final)
+      ap (take_item p At (event.Defer t))
+      (making_is p At (actors i).stack (Some place) f false next.final false next.is not_final)
       ∙ ap (λ (b : Bool). if b then Some (item.Defer place f final, rest) else None) few
 
   -- its place is that of the item that is next
@@ -134,7 +137,9 @@ module _ (p : Program) (w : List ℕ) (m : Memory) (events : List (ℕ × Event)
       (sym (list_is p w m events s actors i before C at ∙ making_is p At (actors i).stack (Some place) f false next.final false next.is not_final)) refl
 
   ready : IsReady p w m s (all_owed actors) i (actors i) t Maker Z
-  ready = is_ready p w m events s actors i before C at t rest (owes p w m events s actors i before C at) there (Some place) filled
+  ready =
+      is_ready p w m events s actors i before C at t rest (owes p w m events s actors i before C at) there
+      (Some place) filled
 
   done : Step p s i (event.Defer t) U
   done =
@@ -148,18 +153,22 @@ module _ (p : Program) (w : List ℕ) (m : Memory) (events : List (ℕ × Event)
   made_is = made_as p (actors i) next
 
   final_is : makes_final p (actors i) ≡ final
-  final_is = final_as p (actors i) next ∙ ap (λ (x : Bool). next.final || x) (sym (sees_final p w m events s actors i before C at))
+  final_is =
+      final_as p (actors i) next
+      ∙ ap (λ (x : Bool). next.final || x) (sym (sees_final p w m events s actors i before C at))
 
   row_moved : IsRow Z i (actors i).context.row Maker
   row_moved =
       let o = own_slots p w m events s actors i before C at in
-      let (v, live, same) = goes_on p s Z i K (changes p w m events s actors i before C at t rest) R o.task o.live in
+      let (v, live, same) =
+      goes_on p s Z i K (changes p w m events s actors i before C at t rest) R o.task o.live in
       record { task = v; live = live; implicit = same.implicit ∙ o.implicit; region = same.region ∙ o.region; thread = same.thread ∙ o.thread }
 
   words : KeepsWords w N U (replace_at (all_owed actors) i nothing)
   words =
       let o = context p w m events s actors i before C at in
-      defers_keep p w m Z (all_owed actors) i t f final place K Maker R (words_moved p w m events s actors i before C at rest) ready.within ready.names before.valid before.known ready.owes row_moved within filled.0.0.1
+      defers_keep p w m Z (all_owed actors) i t f final place K Maker R
+      (words_moved p w m events s actors i before C at rest) ready.within ready.names before.valid before.known ready.owes row_moved within filled.0.0.1
       (record_is_filled p w (actors i) f final place Maker (m i tasks t.0.slot) made_is final_is o.region_is ready.filled (task_few p w m events s actors i before C at) ready.variables)
 
   -- ---- the thread afterwards
@@ -204,7 +213,8 @@ module _ (p : Program) (w : List ℕ) (m : Memory) (events : List (ℕ × Event)
           (K, o.task, o.region, is_current p s i (actors i) (stands p w m events s actors i before C at), ap (region_of s) o.region_is ∙ o.found, (R, ap (slice_get o.region.team) o.number ∙ o.row, (slot_word w t, refl))),
         )
             filled.0.0.1
-            before.rule.within.regions (tasks_within p w m s (all_owed actors) i (actors i) t Maker Z ready New U refl refl refl)
+            before.rule.within.regions
+            (tasks_within p w m s (all_owed actors) i (actors i) t Maker Z ready New U refl refl refl)
             (none_new p w m events s actors i before C at (event.Defer t) (item.Defer place f final) rest U taken done (λ g e. cc e))
             (owed_after w N U actors i (goes_to plain.Leave (actors i)) nothing refl words)
             (λ j other. spares_task m s R slots.task TaskSlots place (slot_word w t) j (actors j) slots.live (inr (inl (λ same. other (sym same ∙ slots.thread)))) (λ g of same deferred known is. place_apart g TaskSlots of refl same))

@@ -43,20 +43,25 @@ use Rattle.omi_rule.proofs.task.Searches.{loaded_goes}
 use Rattle.omi_rule.proofs.task.Within.{fits, going, goes_on, own, own_slots, owes, placed, row}
 use Rattle.omi_rule.proofs.team.Plans.{IsPlannedWord, fill_next, planned_there, task_planned}
 
-module _ (p : Program) (w : List ℕ) (m : Memory) (events : List (ℕ × Event)) (s : State) (actors : ℕ → Actor) (i : ℕ) (before : Before p w m events s actors i) (place : Option ℕ) (t : Tid) where
+module _ (p : Program) (w : List ℕ) (m : Memory) (events : List (ℕ × Event)) (s : State) (actors : ℕ → Actor)
+    (i : ℕ) (before : Before p w m events s actors i) (place : Option ℕ) (t : Tid) where
   -- ---- the record of a live task has no word stored, so a slot in it stays as it is
 
-  module _ (C : TaskCounter) (at : (actors i).counter ≡ counter.Task C) (empty : (s.tasks i t.0.slot).live ≡ None) (f k v : ℕ) where
-    place_stays : (q : Option ℕ) → HasPlace p m (actors i) q → HasPlace p (with_word m i tasks t.0.slot f k v) (actors i) q
+  module _ (C : TaskCounter) (at : (actors i).counter ≡ counter.Task C)
+      (empty : (s.tasks i t.0.slot).live ≡ None) (f k v : ℕ) where
+    place_stays : (q : Option ℕ) → HasPlace p m (actors i) q
+        → HasPlace p (with_word m i tasks t.0.slot f k v) (actors i) q
     place_stays None o = tt
     place_stays (Some j) (defers, none) =
         let slots = own_slots p w m events s actors i before C at in (
           defers,
-          word_stays m i tasks t.0.slot f k v (actors i).context.row.0.creator tasks (actors i).context.row.0.slot (number TaskSlots) j
+          word_stays m i tasks t.0.slot f k v (actors i).context.row.0.creator tasks
+              (actors i).context.row.0.slot (number TaskSlots) j
               (λ c _ q _ _. none_some (subst (λ x. (s.tasks x (actors i).context.row.0.slot).live ≡ None) (sym c) (subst (λ x. (s.tasks i x).live ≡ None) (sym q) empty)) (found_live (actors i).context.row.0.generation (s.tasks (actors i).context.row.0.creator (actors i).context.row.0.slot) slots.task slots.live)) ∙ none,
         )
 
-    loaded_stays : HasLoaded p m s (actors i) place → HasLoaded p (with_word m i tasks t.0.slot f k v) s (actors i) place
+    loaded_stays : HasLoaded p m s (actors i) place
+        → HasLoaded p (with_word m i tasks t.0.slot f k v) s (actors i) place
     loaded_stays (o, variables) = (place_stays place o, variables)
 
   -- ---- a record is taken
@@ -93,7 +98,8 @@ module _ (p : Program) (w : List ℕ) (m : Memory) (events : List (ℕ × Event)
             there = record { field = record { from = omega arith; to = omega arith }; record_slot = subst (λ j. IsSlot w tasks j t.0.slot) fresh.creator there; within = omega arith };
             address = ap (λ j. word_address w j t.0.slot (number TaskLife) 0) fresh.creator;
           },
-          quiet_keeps p w m events s actors i before (op.Store (of_task w t TaskLife) (used_word t.0)) X (Then, outcome.Quiet) refl taken
+          quiet_keeps p w m events s actors i before (op.Store (of_task w t TaskLife) (used_word t.0)) X
+              (Then, outcome.Quiet) refl taken
               (λ j other. spares_own m s i tasks t.0.slot (number TaskLife) 0 (2 * t.0.generation + 1) j (actors j) other (λ _. fresh.empty))
               (goes_on p w m events s actors i before C at N (task.Fill place t 0) (actors i).gathered (own p w m events s actors i before C at).fits.variables refl
               (fits p w m events s actors i before C at, omega arith) there
@@ -113,7 +119,9 @@ module _ (p : Program) (w : List ℕ) (m : Memory) (events : List (ℕ × Event)
     Y = record { creator = i; slot = t.0.slot; field = (task_plan w (new_task p (actors i)) word).field; place = (task_plan w (new_task p (actors i)) word).at }
 
     abbrev After : Memory
-    After = with_word m i tasks t.0.slot (number (task_plan w (new_task p (actors i)) word).field) (task_plan w (new_task p (actors i)) word).at (task_plan w (new_task p (actors i)) word).value
+    After =
+        with_word m i tasks t.0.slot (number (task_plan w (new_task p (actors i)) word).field)
+        (task_plan w (new_task p (actors i)) word).at (task_plan w (new_task p (actors i)) word).value
 
     below : word < TASK_WORDS
     below = (fits p w m events s actors i before D at).1
@@ -123,7 +131,9 @@ module _ (p : Program) (w : List ℕ) (m : Memory) (events : List (ℕ × Event)
 
     making : IsInTheMaking i (s.tasks i) t.0
     making =
-        let made = subst (KeepsMaking s i) (owes p w m events s actors i before D at) (before.rule.words.made i before.known).making in
+        let made =
+        subst (KeepsMaking s i) (owes p w m events s actors i before D at)
+        (before.rule.words.made i before.known).making in
         All-head (λ (k : Tid). IsInTheMaking i (s.tasks i) k.0) t [] made.tasks
 
     left : left_in m (filling w t.0 Word) Y ≡ After
@@ -131,7 +141,8 @@ module _ (p : Program) (w : List ℕ) (m : Memory) (events : List (ℕ × Event)
 
     words_filled : IsFilled (After t.0.creator tasks t.0.slot) (task_plan w (new_task p (actors i))) (word + 1)
     words_filled =
-        subst (λ c. IsFilled (After c tasks t.0.slot) (task_plan w (new_task p (actors i))) (word + 1)) (sym making.maker)
+        subst (λ c. IsFilled (After c tasks t.0.slot) (task_plan w (new_task p (actors i))) (word + 1))
+        (sym making.maker)
         (fill_next (m i tasks t.0.slot) (After i tasks t.0.slot) (task_plan w (new_task p (actors i))) word TASK_WORDS
         (word_read m i tasks t.0.slot (number Word.field) Word.at Word.value)
         (λ f k apart. word_stays m i tasks t.0.slot (number Word.field) Word.at Word.value i tasks t.0.slot f k (λ _ _ _ field same. apart field same))
@@ -140,7 +151,8 @@ module _ (p : Program) (w : List ℕ) (m : Memory) (events : List (ℕ × Event)
 
     stored : (b : Actor) → owed b ≡ owed (actors i) → KeepsWords w After s (all_owed (replace_at actors i b))
     stored b same =
-        moves_keep w After s actors i b (task_fills_keep w m s (all_owed actors) i t.0.slot Word.field Word.at Word.value before.rule.words making.free (let above = planned.above in λ life. absurd (omega (arith, above, life)))) same
+        moves_keep w After s actors i b
+        (task_fills_keep w m s (all_owed actors) i t.0.slot Word.field Word.at Word.value before.rule.words making.free (let above = planned.above in λ life. absurd (omega (arith, above, life)))) same
 
     pub fill_keeps : StepKeeps p w m events s actors i (making_next p w (actors i) D) (λ old. (making_moved p w (actors i) D old, making_outcome w (actors i) D old))
     fill_keeps = (
@@ -152,7 +164,8 @@ module _ (p : Program) (w : List ℕ) (m : Memory) (events : List (ℕ × Event)
       go (nat_lt (word + 1) TASK_WORDS) refl,
     )
       where
-        step : (b : Actor) → owed b ≡ owed (actors i) → KeepsThread p w After events s i b → KeepsRule p w m events s actors i (filling w t.0 Word) Y (b, outcome.Quiet)
+        step : (b : Actor) → owed b ≡ owed (actors i) → KeepsThread p w After events s i b
+            → KeepsRule p w m events s actors i (filling w t.0 Word) Y (b, outcome.Quiet)
         step b same thread =
             quiet_keeps p w m events s actors i before (filling w t.0 Word) Y (b, outcome.Quiet) refl
             (subst (λ (n : Memory). KeepsWords w n s (all_owed (replace_at actors i b))) (sym left) (stored b same))
@@ -160,14 +173,18 @@ module _ (p : Program) (w : List ℕ) (m : Memory) (events : List (ℕ × Event)
             (subst (λ (n : Memory). KeepsThread p w n events s i b) (sym left) thread)
 
         stays_loaded : (d : TaskCounter) → HasLoaded p After s (going d (actors i).gathered (actors i)) place
-        stays_loaded d = loaded_goes p After s (actors i) d place (loaded_stays D at making.free (number Word.field) Word.at Word.value (row p w m events s actors i before D at).0)
+        stays_loaded d =
+            loaded_goes p After s (actors i) d place
+            (loaded_stays D at making.free (number Word.field) Word.at Word.value (row p w m events s actors i before D at).0)
 
-        go : (b : Bool) → nat_lt (word + 1) TASK_WORDS ≡ b → KeepsRule p w m events s actors i (filling w t.0 Word) Y (to_task (if b then task.Fill place t (word + 1) else task.AddPending place t) (actors i), outcome.Quiet)
+        go : (b : Bool) → nat_lt (word + 1) TASK_WORDS ≡ b
+            → KeepsRule p w m events s actors i (filling w t.0 Word) Y (to_task (if b then task.Fill place t (word + 1) else task.AddPending place t) (actors i), outcome.Quiet)
         go true e =
             let d : TaskCounter = task.Fill place t (word + 1) in
             step (to_task d (actors i)) (sym (owes p w m events s actors i before D at))
             (goes_on p w m events s actors i before D at After d (actors i).gathered (own p w m events s actors i before D at).fits.variables refl
-            ((fits p w m events s actors i before D at).0, ltb-true (word + 1) TASK_WORDS e) (placed p w m events s actors i before D at)
+            ((fits p w m events s actors i before D at).0, ltb-true (word + 1) TASK_WORDS e)
+            (placed p w m events s actors i before D at)
             (stays_loaded d, (row p w m events s actors i before D at).1, words_filled))
         go false e =
             let all : word + 1 ≡ TASK_WORDS = grind (arith, nat_tests, below) in

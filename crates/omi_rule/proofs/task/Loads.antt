@@ -30,11 +30,14 @@ use Rattle.omi_rule.proofs.task.Within.{context, context_placed, fits, going, go
 use Rattle.omi_rule.proofs.team.Loads.{variable_field, variable_is, variable_word, variables_more}
 
 -- the slot into which the task goes stays empty where the thread goes on within its construct
-pub place_goes : (p : Program) (m : Memory) (a : Actor) (d : TaskCounter) (g : Gathered) (place : Option ℕ) → HasPlace p m a place → HasPlace p m (going d g a) place
+pub place_goes : (p : Program) (m : Memory) (a : Actor) (d : TaskCounter) (g : Gathered) (place : Option ℕ)
+    → HasPlace p m a place → HasPlace p m (going d g a) place
 place_goes p m a d g None o = tt
 place_goes p m a d g (Some k) o = o
 
-module _ (p : Program) (w : List ℕ) (m : Memory) (events : List (ℕ × Event)) (s : State) (actors : ℕ → Actor) (i : ℕ) (before : Before p w m events s actors i) (place : Option ℕ) (word : ℕ) (at : (actors i).counter ≡ counter.Task (task.LoadVariable place word)) where
+module _ (p : Program) (w : List ℕ) (m : Memory) (events : List (ℕ × Event)) (s : State) (actors : ℕ → Actor)
+    (i : ℕ) (before : Before p w m events s actors i) (place : Option ℕ) (word : ℕ)
+    (at : (actors i).counter ≡ counter.Task (task.LoadVariable place word)) where
   abbrev C : TaskCounter
   C = task.LoadVariable place word
 
@@ -45,7 +48,8 @@ module _ (p : Program) (w : List ℕ) (m : Memory) (events : List (ℕ × Event)
   X = record { creator = (actors i).context.task.0.creator; slot = (actors i).context.task.0.slot; field = (variable_at word).0; place = (variable_at word).1 }
 
   abbrev Then : Gathered
-  Then = record (actors i).gathered { variables = slice_set (actors i).gathered.variables word (found_in m X) }
+  Then =
+      record (actors i).gathered { variables = slice_set (actors i).gathered.variables word (found_in m X) }
 
   below : word < VARIABLE_WORDS
   below = (fits p w m events s actors i before C at).1
@@ -62,7 +66,9 @@ module _ (p : Program) (w : List ℕ) (m : Memory) (events : List (ℕ × Event)
       let (empty, (t, live, are)) = row p w m events s actors i before C at in
       let o = context p w m events s actors i before C at in
       let same : o.task ≡ t = some_same o.live live in
-      let found : found_in m X ≡ m Name.creator tasks Name.slot (number (variable_at word).0) (variable_at word).1 = ap (λ kind. m Name.creator kind Name.slot (number (variable_at word).0) (variable_at word).1) (variable_field word below) in
+      let found : found_in m X ≡ m Name.creator tasks Name.slot (number (variable_at word).0) (variable_at word).1 =
+      ap (λ kind. m Name.creator kind Name.slot (number (variable_at word).0) (variable_at word).1)
+      (variable_field word below) in
       let here : IsVariable t.variables word (found_in m X) =
       subst (IsVariable t.variables word) (sym found)
       (subst (λ (v : Task). IsVariable v.variables word (m Name.creator tasks Name.slot (number (variable_at word).0) (variable_at word).1)) same
@@ -76,17 +82,20 @@ module _ (p : Program) (w : List ℕ) (m : Memory) (events : List (ℕ × Event)
     go (nat_lt (word + 1) VARIABLE_WORDS) refl,
   )
     where
-      go : (b : Bool) → nat_lt (word + 1) VARIABLE_WORDS ≡ b → KeepsRule p w m events s actors i (op.Load (of_variable w Name word)) X (to_task (if b then task.LoadVariable place (word + 1) else task.LoadLife place 0) (with_loaded_variable word (found_in m X) (actors i)), outcome.Quiet)
+      go : (b : Bool) → nat_lt (word + 1) VARIABLE_WORDS ≡ b
+          → KeepsRule p w m events s actors i (op.Load (of_variable w Name word)) X (to_task (if b then task.LoadVariable place (word + 1) else task.LoadLife place 0) (with_loaded_variable word (found_in m X) (actors i)), outcome.Quiet)
       go true e =
           let d : TaskCounter = task.LoadVariable place (word + 1) in
-          load_stays p w m events s actors i before (of_variable w Name word) X (going d Then (actors i)) (sym (owes p w m events s actors i before C at))
+          load_stays p w m events s actors i before (of_variable w Name word) X (going d Then (actors i))
+          (sym (owes p w m events s actors i before C at))
           (goes_on p w m events s actors i before C at m d Then variables refl
           ((fits p w m events s actors i before C at).0, ltb-true (word + 1) VARIABLE_WORDS e) tt
           (place_goes p m (actors i) d Then place (row p w m events s actors i before C at).0, known d))
       go false e =
           let all : word + 1 ≡ VARIABLE_WORDS = grind (arith, nat_tests, below) in
           let d : TaskCounter = task.LoadLife place 0 in
-          load_stays p w m events s actors i before (of_variable w Name word) X (going d Then (actors i)) (sym (owes p w m events s actors i before C at))
+          load_stays p w m events s actors i before (of_variable w Name word) X (going d Then (actors i))
+          (sym (owes p w m events s actors i before C at))
           (goes_on p w m events s actors i before C at m d Then variables refl
           (fits p w m events s actors i before C at).0 (some_tasks w before.valid)
           (place_goes p m (actors i) d Then place (row p w m events s actors i before C at).0, subst (KnowsVariables s (going d Then (actors i))) all (known d)))

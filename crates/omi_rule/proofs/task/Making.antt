@@ -68,7 +68,8 @@ task_next p a (s, is, is_task) = go s is is_task
 pub made_as : (p : Program) (a : Actor) (next : IsTaskNext p a.stack) → made_function p a ≡ next.function
 made_as p a next = ap explicit_function next.is
 
-pub final_as : (p : Program) (a : Actor) (next : IsTaskNext p a.stack) → makes_final p a ≡ next.final || a.context.is_final
+pub final_as : (p : Program) (a : Actor) (next : IsTaskNext p a.stack)
+    → makes_final p a ≡ next.final || a.context.is_final
 final_as p a next = ap (λ (o : Option Stmt). final_in o || a.context.is_final) next.is
 
 -- ---- before the event
@@ -86,7 +87,9 @@ pub record IsReady (p : Program) (w : List ℕ) (m : Memory) (s : State) (owing 
   pub bodies : KeepsBodies p z i a.context a.stack
   pub sees : encounter_of z a.context ≡ encounter_of s a.context
 
-module _ (p : Program) (w : List ℕ) (m : Memory) (events : List (ℕ × Event)) (s : State) (actors : ℕ → Actor) (i : ℕ) (before : Before p w m events s actors i) (c : TaskCounter) (at : (actors i).counter ≡ counter.Task c) (t : Tid) (zs : List Item) where
+module _ (p : Program) (w : List ℕ) (m : Memory) (events : List (ℕ × Event)) (s : State) (actors : ℕ → Actor)
+    (i : ℕ) (before : Before p w m events s actors i) (c : TaskCounter)
+    (at : (actors i).counter ≡ counter.Task c) (t : Tid) (zs : List Item) where
   abbrev K : Tid
   K = (actors i).context.task
 
@@ -95,16 +98,23 @@ module _ (p : Program) (w : List ℕ) (m : Memory) (events : List (ℕ × Event)
 
   -- the task that makes it is the same but for its list
   pub changes : ChangesTask s (on_task s (actors i).context.task (relisted zs)) i (actors i).context.task
-  changes = own_changes p s i (actors i) (stands p w m events s actors i before c at) (relisted zs) Z (λ x live. relisted_alike zs x) refl refl refl refl
+  changes =
+      own_changes p s i (actors i) (stands p w m events s actors i before c at) (relisted zs) Z
+      (λ x live. relisted_alike zs x) refl refl refl refl
 
-  pub is_ready : owed (actors i) ≡ with_raises (actors i).context t → HasTask w t → (place : Option ℕ) → HasFilledTask p w m s (actors i) place t TASK_WORDS
-      → IsReady p w m s (all_owed actors) i (actors i) t (relisted zs (context p w m events s actors i before c at).task) (on_task s (actors i).context.task (relisted zs))
+  pub is_ready : owed (actors i) ≡ with_raises (actors i).context t → HasTask w t → (place : Option ℕ)
+      → HasFilledTask p w m s (actors i) place t TASK_WORDS
+      → IsReady p w m s (all_owed actors) i (actors i) t
+      (relisted zs (context p w m events s actors i before c at).task)
+      (on_task s (actors i).context.task (relisted zs))
   is_ready raises there place ((slots, variables), below, filled) =
       let o = context p w m events s actors i before c at in
       let making : IsInTheMaking i (s.tasks i) t.0 =
-      All-head (λ (k : Tid). IsInTheMaking i (s.tasks i) k.0) t [] (subst (λ (ks : List Tid). All (λ k. IsInTheMaking i (s.tasks i) k.0) ks) (ap (λ (x : Owed). x.tasks) raises) (before.rule.words.made i before.known).making.tasks) in
+      All-head (λ (k : Tid). IsInTheMaking i (s.tasks i) k.0) t []
+      (subst (λ (ks : List Tid). All (λ k. IsInTheMaking i (s.tasks i) k.0) ks) (ap (λ (x : Owed). x.tasks) raises) (before.rule.words.made i before.known).making.tasks) in
       let fresh : IsFresh s.tasks i t.0 = record { creator = making.maker; empty = making.free; next = making.next; below = below } in
-      let live : task_of Z K ≡ Some (relisted zs o.task) = on_same s.tasks K.0 (relisted zs) ∙ ap (option_map (relisted zs)) o.live in
+      let live : task_of Z K ≡ Some (relisted zs o.task) =
+      on_same s.tasks K.0 (relisted zs) ∙ ap (option_map (relisted zs)) o.live in
       record {
         fresh = fresh;
         fresh_moved = on_fresh s.tasks K.0 (relisted zs) i t.0 fresh;
@@ -118,13 +128,18 @@ module _ (p : Program) (w : List ℕ) (m : Memory) (events : List (ℕ × Event)
         sees = encounter_kept p s Z i K changes (actors i).context o;
       }
     where
-      known : KnowsVariables s (actors i) 8 → (j : ℕ) → j < 8 → IsVariable (context p w m events s actors i before c at).task.variables j (slice_index (actors i).gathered.variables j)
-      known (v, live, are) j within = subst (λ (x : Task). IsVariable x.variables j (slice_index (actors i).gathered.variables j)) (some_same live (context p w m events s actors i before c at).live) (are j within)
+      known : KnowsVariables s (actors i) 8 → (j : ℕ) → j < 8
+          → IsVariable (context p w m events s actors i before c at).task.variables j (slice_index (actors i).gathered.variables j)
+      known (v, live, are) j within =
+          subst (λ (x : Task). IsVariable x.variables j (slice_index (actors i).gathered.variables j))
+          (some_same live (context p w m events s actors i before c at).live) (are j within)
 
 -- ---- behind the event
 
-module _ (p : Program) (w : List ℕ) (m : Memory) (s : State) (owing : ℕ → Owed) (i : ℕ) (a : Actor) (t : Tid) (maker : Task) (z : State) (ready : IsReady p w m s owing i a t maker z) (new : Task) (u : State)
-    (environment : u.environment ≡ z.environment) (same : u.tasks ≡ made z.tasks t.0 new) (regions : u.regions ≡ z.regions) where
+module _ (p : Program) (w : List ℕ) (m : Memory) (s : State) (owing : ℕ → Owed) (i : ℕ) (a : Actor) (t : Tid)
+    (maker : Task) (z : State) (ready : IsReady p w m s owing i a t maker z) (new : Task) (u : State)
+    (environment : u.environment ≡ z.environment) (same : u.tasks ≡ made z.tasks t.0 new)
+    (regions : u.regions ≡ z.regions) where
   -- the state has grown by the new task
   pub larger : IsLarger z u
   larger = record {
@@ -140,12 +155,16 @@ module _ (p : Program) (w : List ℕ) (m : Memory) (s : State) (owing : ℕ → 
   bodies_grown = bodies_grow p z u i larger a.context a.stack ready.bodies
 
   pub sees_grown : encounter_of u a.context ≡ encounter_of s a.context
-  sees_grown = encounter_grows p z u i larger a.context (of_innermost p z i a.context a.stack ready.bodies) ∙ ready.sees
+  sees_grown =
+      encounter_grows p z u i larger a.context (of_innermost p z i a.context a.stack ready.bodies)
+      ∙ ready.sees
 
   -- the layout has its record
   pub tasks_within : AreWithin w tasks u.tasks
   tasks_within creator slot g x e =
-      each_made (λ (n : Id) (y : Task). record { maker : n.creator < thread_count w; place : n.slot < per_thread w tasks }) z.tasks t.0 new
+      each_made
+      (λ (n : Id) (y : Task). record { maker : n.creator < thread_count w; place : n.slot < per_thread w tasks }) z.tasks t.0 new
       (λ n y live. ready.within.tasks n.creator n.slot n.generation y live)
       (record { maker = ready.owes.made_by.made_by; place = ready.owes.made_by.within })
-      (record { creator = creator; slot = slot; generation = g }) x (sym (ap (λ (y : Slots Task). named y (record { creator = creator; slot = slot; generation = g })) same) ∙ e)
+      (record { creator = creator; slot = slot; generation = g }) x
+      (sym (ap (λ (y : Slots Task). named y (record { creator = creator; slot = slot; generation = g })) same) ∙ e)

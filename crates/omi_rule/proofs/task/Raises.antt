@@ -47,15 +47,21 @@ use Rattle.omi_rule.proofs.task.Searches.{loaded_goes}
 use Rattle.omi_rule.proofs.task.Within.{context, context_placed, fits, going, goes_on, own, owes, placed, row}
 
 -- what is filled stays so where the thread goes on within its construct, and where another record has a word stored
-pub filled_goes : (p : Program) (w : List ℕ) (m n : Memory) (s : State) (a : Actor) (d : TaskCounter) (place : Option ℕ) (t : Tid) (k : ℕ) → ((q : Option ℕ) → HasPlace p m a q → HasPlace p n a q) → n t.0.creator tasks t.0.slot ≡ m t.0.creator tasks t.0.slot
+pub filled_goes : (p : Program) (w : List ℕ) (m n : Memory) (s : State) (a : Actor) (d : TaskCounter) (place : Option ℕ) (t : Tid) (k : ℕ)
+    → ((q : Option ℕ) → HasPlace p m a q → HasPlace p n a q)
+    → n t.0.creator tasks t.0.slot ≡ m t.0.creator tasks t.0.slot
     → HasFilledTask p w m s a place t k → HasFilledTask p w n s (going d a.gathered a) place t k
 filled_goes p w m n s a d place t k slots same ((o, variables), below, filled) =
     (loaded_goes p n s a d place (slots place o, variables), below, subst (λ (r : Rec). (j : ℕ) → j < k → r (number (task_plan w (new_task p a) j).field) (task_plan w (new_task p a) j).at ≡ (task_plan w (new_task p a) j).value) (sym same) filled)
 
-module _ (p : Program) (w : List ℕ) (m : Memory) (events : List (ℕ × Event)) (s : State) (actors : ℕ → Actor) (i : ℕ) (before : Before p w m events s actors i) (place : Option ℕ) (t : Tid) where
+module _ (p : Program) (w : List ℕ) (m : Memory) (events : List (ℕ × Event)) (s : State) (actors : ℕ → Actor)
+    (i : ℕ) (before : Before p w m events s actors i) (place : Option ℕ) (t : Tid) where
   -- the words of a record in the making
-  making : (C : TaskCounter) → (actors i).counter ≡ counter.Task C → (owed (actors i)).tasks ≡ t ∷ [] → IsInTheMaking i (s.tasks i) t.0
-  making C at is = All-head (λ (k : Tid). IsInTheMaking i (s.tasks i) k.0) t [] (subst (λ (ks : List Tid). All (λ k. IsInTheMaking i (s.tasks i) k.0) ks) is (before.rule.words.made i before.known).making.tasks)
+  making : (C : TaskCounter) → (actors i).counter ≡ counter.Task C → (owed (actors i)).tasks ≡ t ∷ []
+      → IsInTheMaking i (s.tasks i) t.0
+  making C at is =
+      All-head (λ (k : Tid). IsInTheMaking i (s.tasks i) k.0) t []
+      (subst (λ (ks : List Tid). All (λ k. IsInTheMaking i (s.tasks i) k.0) ks) is (before.rule.words.made i before.known).making.tasks)
 
   -- ---- in the region
 
@@ -73,7 +79,9 @@ module _ (p : Program) (w : List ℕ) (m : Memory) (events : List (ℕ × Event)
     Then = going (task.AddChildren place t) (actors i).gathered (actors i)
 
     abbrev N : Memory
-    N = with_region_word m (actors i).context.region RegionPending (one_more (word_of_region m (actors i).context.region RegionPending))
+    N =
+        with_region_word m (actors i).context.region RegionPending
+        (one_more (word_of_region m (actors i).context.region RegionPending))
 
     words : KeepsWords w N s (all_owed (replace_at actors i Then))
     words =
@@ -91,7 +99,8 @@ module _ (p : Program) (w : List ℕ) (m : Memory) (events : List (ℕ × Event)
         let here = context p w m events s actors i before C at in (
           X,
           record { there = record { field = record { from = omega arith; to = omega arith }; record_slot = (context_placed p w m events s actors i before C at).region; within = omega arith }; address = refl },
-          quiet_keeps p w m events s actors i before (op.Add (of_region w n RegionPending) 1) X (Then, outcome.Quiet) refl words
+          quiet_keeps p w m events s actors i before (op.Add (of_region w n RegionPending) 1) X
+              (Then, outcome.Quiet) refl words
               (λ j other. spares_region m s n here.region RegionPending 0 (one_more (word_of_region m n RegionPending)) j (actors j) here.found (inl (λ same. absurd (omega (arith, same)))))
               (goes_on p w m events s actors i before C at N (task.AddChildren place t) (actors i).gathered (own p w m events s actors i before C at).fits.variables refl
               (fits p w m events s actors i before C at) (placed p w m events s actors i before C at)
@@ -118,11 +127,15 @@ module _ (p : Program) (w : List ℕ) (m : Memory) (events : List (ℕ × Event)
     Y = record { creator = (actors i).context.task.0.creator; slot = (actors i).context.task.0.slot; field = TaskChildren; place = 0 }
 
     abbrev After : Memory
-    After = with_task_word m (actors i).context.task TaskChildren (one_more (word_of_task m (actors i).context.task TaskChildren))
+    After =
+        with_task_word m (actors i).context.task TaskChildren
+        (one_more (word_of_task m (actors i).context.task TaskChildren))
 
-    raised : (b : Actor) → owed b ≡ with_raises (actors i).context t → KeepsWords w After s (all_owed (replace_at actors i b))
+    raised : (b : Actor) → owed b ≡ with_raises (actors i).context t
+        → KeepsWords w After s (all_owed (replace_at actors i b))
     raised b is =
-        let o : owed (actors i) ≡ record (in_the_making t) { pending = Some (actors i).context.region } = owes p w m events s actors i before D at in
+        let o : owed (actors i) ≡ record (in_the_making t) { pending = Some (actors i).context.region } =
+        owes p w m events s actors i before D at in
         let here = context p w m events s actors i before D at in
         let counted = (task_kept p w m events s actors before.rule k here.task here.live).counts.children in
         let most = children_few w s before.valid before.rule.within.count (all_owed actors) k in
@@ -140,7 +153,8 @@ module _ (p : Program) (w : List ℕ) (m : Memory) (events : List (ℕ × Event)
     record_same =
         let here = context p w m events s actors i before D at in
         let free = making D at (ap (λ (x : Owed). x.tasks) (owes p w m events s actors i before D at)) in
-        record_stays m k.0.creator tasks k.0.slot (number TaskChildren) 0 (one_more (word_of_task m k TaskChildren)) t.0.creator tasks t.0.slot
+        record_stays m k.0.creator tasks k.0.slot (number TaskChildren) 0
+        (one_more (word_of_task m k TaskChildren)) t.0.creator tasks t.0.slot
         (λ c _ slot. none_some (subst (λ x. (s.tasks x k.0.slot).live ≡ None) (sym free.maker ∙ c) (subst (λ x. (s.tasks i x).live ≡ None) slot free.free)) (found_live k.0.generation (s.tasks k.0.creator k.0.slot) here.task here.live))
 
     pub children_keeps : StepKeeps p w m events s actors i (making_next p w (actors i) D) (λ old. (making_moved p w (actors i) D old, making_outcome w (actors i) D old))
@@ -150,23 +164,34 @@ module _ (p : Program) (w : List ℕ) (m : Memory) (events : List (ℕ × Event)
       go place refl,
     )
       where
-        step : (d : TaskCounter) → owed (going d (actors i).gathered (actors i)) ≡ with_raises (actors i).context t → task_ahead p (encounter_of s (actors i).context) (actors i).stack d ≡ task_ahead p (encounter_of s (actors i).context) (actors i).stack D
+        step : (d : TaskCounter)
+            → owed (going d (actors i).gathered (actors i)) ≡ with_raises (actors i).context t
+            → task_ahead p (encounter_of s (actors i).context) (actors i).stack d ≡ task_ahead p (encounter_of s (actors i).context) (actors i).stack D
             → FitsTask p (going d (actors i).gathered (actors i)) d → IsPlacedTask w d → KeepsTaskRow p w After s i (going d (actors i).gathered (actors i)) d → KeepsRule p w m events s actors i (op.Add (of_task w k TaskChildren) 1) Y (to_task d (actors i), outcome.Quiet)
         step d is ahead fits_there placed_there row_there =
             let here = context p w m events s actors i before D at in
-            quiet_keeps p w m events s actors i before (op.Add (of_task w k TaskChildren) 1) Y (to_task d (actors i), outcome.Quiet) refl (raised (to_task d (actors i)) is)
+            quiet_keeps p w m events s actors i before (op.Add (of_task w k TaskChildren) 1) Y
+            (to_task d (actors i), outcome.Quiet) refl (raised (to_task d (actors i)) is)
             (λ j other. spares_begun m s k here.task TaskChildren 0 (one_more (word_of_task m k TaskChildren)) i j (actors j) here.live here.begun here.thread other)
             (goes_on p w m events s actors i before D at After d (actors i).gathered (own p w m events s actors i before D at).fits.variables ahead fits_there placed_there row_there)
 
-        now : (d : TaskCounter) → HasFilledTask p w After s (going d (actors i).gathered (actors i)) place t TASK_WORDS
-        now d = filled_goes p w m After s (actors i) d place t TASK_WORDS slots_stay record_same (row p w m events s actors i before D at)
+        now : (d : TaskCounter)
+            → HasFilledTask p w After s (going d (actors i).gathered (actors i)) place t TASK_WORDS
+        now d =
+            filled_goes p w m After s (actors i) d place t TASK_WORDS slots_stay record_same
+            (row p w m events s actors i before D at)
 
-        go : (q : Option ℕ) → place ≡ q → KeepsRule p w m events s actors i (op.Add (of_task w k TaskChildren) 1) Y (to_task (behind_raises q t) (actors i), outcome.Quiet)
+        go : (q : Option ℕ) → place ≡ q
+            → KeepsRule p w m events s actors i (op.Add (of_task w k TaskChildren) 1) Y (to_task (behind_raises q t) (actors i), outcome.Quiet)
         go None e =
-            step (task.StartNow t) refl (ap (Ahead.making p (encounter_of s (actors i).context) (actors i).stack) (sym e))
-            (subst (λ (q : Option ℕ). IsTaskGot p (actors i) q t) e (fits p w m events s actors i before D at)) (placed p w m events s actors i before D at)
+            step (task.StartNow t) refl
+            (ap (Ahead.making p (encounter_of s (actors i).context) (actors i).stack) (sym e))
+            (subst (λ (q : Option ℕ). IsTaskGot p (actors i) q t) e (fits p w m events s actors i before D at))
+            (placed p w m events s actors i before D at)
             (subst (λ (q : Option ℕ). HasFilledTask p w After s (going (task.StartNow t) (actors i).gathered (actors i)) q t TASK_WORDS) e (now (task.StartNow t)))
         go (Some j) e =
-            step (task.Defer j t) refl (ap (Ahead.making p (encounter_of s (actors i).context) (actors i).stack) (sym e))
-            (subst (λ (q : Option ℕ). IsTaskGot p (actors i) q t) e (fits p w m events s actors i before D at)) (placed p w m events s actors i before D at)
+            step (task.Defer j t) refl
+            (ap (Ahead.making p (encounter_of s (actors i).context) (actors i).stack) (sym e))
+            (subst (λ (q : Option ℕ). IsTaskGot p (actors i) q t) e (fits p w m events s actors i before D at))
+            (placed p w m events s actors i before D at)
             (subst (λ (q : Option ℕ). HasFilledTask p w After s (going (task.Defer j t) (actors i).gathered (actors i)) q t TASK_WORDS) e (now (task.Defer j t)))

@@ -47,22 +47,29 @@ use Rattle.omi_rule.proofs.SlotGenerations.{slots_few}
 use Rattle.omi_rule.proofs.team.Records.{free_slot, next_within, taken_slot}
 
 -- the making of a task is next, whatever place it is for
-pub making_is_next : (p : Program) (at : Encounter) (fs : List Frame) (place : Option ℕ) (s : Stmt) → IsAt p fs s → IsTask s → makes_next (making p at fs place)
-making_is_next p at fs place (stmt.Task f undeferred final) is o = subst makes_next (sym (in_work_is p fs (stmt.Task f undeferred final) _ is)) (go (undeferred || at.is_final))
+pub making_is_next : (p : Program) (at : Encounter) (fs : List Frame) (place : Option ℕ) (s : Stmt)
+    → IsAt p fs s → IsTask s → makes_next (making p at fs place)
+making_is_next p at fs place (stmt.Task f undeferred final) is o =
+    subst makes_next (sym (in_work_is p fs (stmt.Task f undeferred final) _ is))
+    (go (undeferred || at.is_final))
   where
     rest : List Item
     rest = Ahead.leaving p at fs
 
-    go : (b : Bool) → makes_next ((if b then item.StartNow f (final || at.is_final) else item.Defer (unwrap_or place 4) f (final || at.is_final)) ∷ rest)
+    go : (b : Bool)
+        → makes_next ((if b then item.StartNow f (final || at.is_final) else item.Defer (unwrap_or place 4) f (final || at.is_final)) ∷ rest)
     go true = tt
     go false = tt
 making_is_next p at fs place s is o = absurd o
 
 -- what was loaded is still known where the thread goes on
-pub loaded_goes : (p : Program) (m : Memory) (s : State) (a : Actor) (d : TaskCounter) (place : Option ℕ) → HasLoaded p m s a place → HasLoaded p m s (going d a.gathered a) place
+pub loaded_goes : (p : Program) (m : Memory) (s : State) (a : Actor) (d : TaskCounter) (place : Option ℕ)
+    → HasLoaded p m s a place → HasLoaded p m s (going d a.gathered a) place
 loaded_goes p m s a d place (o, variables) = (place_goes p m a d a.gathered place o, variables)
 
-module _ (p : Program) (w : List ℕ) (m : Memory) (events : List (ℕ × Event)) (s : State) (actors : ℕ → Actor) (i : ℕ) (before : Before p w m events s actors i) (place : Option ℕ) (slot : ℕ) (at : (actors i).counter ≡ counter.Task (task.LoadLife place slot)) where
+module _ (p : Program) (w : List ℕ) (m : Memory) (events : List (ℕ × Event)) (s : State) (actors : ℕ → Actor)
+    (i : ℕ) (before : Before p w m events s actors i) (place : Option ℕ) (slot : ℕ)
+    (at : (actors i).counter ≡ counter.Task (task.LoadLife place slot)) where
   abbrev C : TaskCounter
   C = task.LoadLife place slot
 
@@ -76,7 +83,10 @@ module _ (p : Program) (w : List ℕ) (m : Memory) (events : List (ℕ × Event)
   within = placed p w m events s actors i before C at
 
   life : KeepsLife (m (actors i).thread tasks slot) TaskLife (s.tasks i slot) (has_slot slot (owed (actors i)).tasks)
-  life = subst (λ j. KeepsLife (m j tasks slot) TaskLife (s.tasks i slot) (has_slot slot (owed (actors i)).tasks)) (sym same_thread) (((before.rule.words.made i before.known).tasks slot within).life)
+  life =
+      subst
+      (λ j. KeepsLife (m j tasks slot) TaskLife (s.tasks i slot) (has_slot slot (owed (actors i)).tasks))
+      (sym same_thread) (((before.rule.words.made i before.known).tasks slot within).life)
 
   there : IsSlot w tasks (actors i).thread slot
   there = record { made_by = thread_there p w m events s actors i before C at; within = within }
@@ -100,14 +110,18 @@ module _ (p : Program) (w : List ℕ) (m : Memory) (events : List (ℕ × Event)
       go true free =
           let t : Tid = record { 0 = object_in (own_place (actors i) slot) (found_in m X) } in
           let next : TaskCounter = task.Take place t in
-          let (fresh, none) = free_slot s.tasks i (actors i).thread slot TaskLife (m (actors i).thread tasks slot) (has_slot slot (owed (actors i)).tasks) same_thread life free in
-          load_stays p w m events s actors i before (of_place w (own_place (actors i) slot) TaskLife) X (to_task next (actors i)) (sym (owes p w m events s actors i before C at))
+          let (fresh, none) =
+          free_slot s.tasks i (actors i).thread slot TaskLife (m (actors i).thread tasks slot)
+          (has_slot slot (owed (actors i)).tasks) same_thread life free in
+          load_stays p w m events s actors i before (of_place w (own_place (actors i) slot) TaskLife) X
+          (to_task next (actors i)) (sym (owes p w m events s actors i before C at))
           (goes_on p w m events s actors i before C at m next (actors i).gathered (own p w m events s actors i before C at).fits.variables refl
           (fits p w m events s actors i before C at, refl) there
           (loaded_goes p m s (actors i) next place (row p w m events s actors i before C at), fresh))
       go false taken =
           let next : TaskCounter = task.LoadLife place (next_slot w tasks slot) in
-          load_waits p w m events s actors i before (of_place w (own_place (actors i) slot) TaskLife) X (to_task next (actors i))
+          load_waits p w m events s actors i before (of_place w (own_place (actors i) slot) TaskLife) X
+          (to_task next (actors i))
           (Waits.ForTaskRecord (inr makes)
           (record {
             slot = slot;

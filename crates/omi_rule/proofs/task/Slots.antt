@@ -55,17 +55,21 @@ use Rattle.omi_rule.proofs.task.Events.{making_is, none_new, sees_final, step, w
 use Rattle.omi_rule.proofs.task.Within.{context, context_placed, fits, going, goes_on, own, own_slots, owes, row, standing, stands}
 
 -- a deferred task is explicit
-pub deferred_explicit : (p : Program) (events : List (ℕ × Event)) (s : State) → Reached p events s → (k : Tid) (t : Task) → task_of s k ≡ Some t → t.progress ≡ Deferred → t.implicit ≡ false
+pub deferred_explicit : (p : Program) (events : List (ℕ × Event)) (s : State) → Reached p events s
+    → (k : Tid) (t : Task) → task_of s k ≡ Some t → t.progress ≡ Deferred → t.implicit ≡ false
 deferred_explicit p events s reached k t live is = go t.implicit refl
   where
     go : (b : Bool) → t.implicit ≡ b → t.implicit ≡ false
     go false e = e
     go true e =
         let (r, found, there) = (members_known p events s reached).tasks k t live e in
-        let member = ((names_live p events s reached).regions t.region r found).team t.number (k, t.thread) there in
+        let member =
+        ((names_live p events s reached).regions t.region r found).team t.number (k, t.thread) there in
         absurd (member.undeferred (ap (λ (x : Task). x.progress) (some_same member.live live) ∙ is))
 
-module _ (p : Program) (w : List ℕ) (m : Memory) (events : List (ℕ × Event)) (s : State) (actors : ℕ → Actor) (i : ℕ) (before : Before p w m events s actors i) (place : ℕ) (at : (actors i).counter ≡ counter.Task (task.LoadSlot place)) where
+module _ (p : Program) (w : List ℕ) (m : Memory) (events : List (ℕ × Event)) (s : State) (actors : ℕ → Actor)
+    (i : ℕ) (before : Before p w m events s actors i) (place : ℕ)
+    (at : (actors i).counter ≡ counter.Task (task.LoadSlot place)) where
   abbrev C : TaskCounter
   C = task.LoadSlot place
 
@@ -89,11 +93,13 @@ module _ (p : Program) (w : List ℕ) (m : Memory) (events : List (ℕ × Event)
 
   -- ---- a slot is empty
 
-  empty_keeps : found_in m X ≡ 0 → KeepsRule p w m events s actors i (op.Load O) X (to_task (task.LoadVariable (Some place) 0) (actors i), outcome.Quiet)
+  empty_keeps : found_in m X ≡ 0
+      → KeepsRule p w m events s actors i (op.Load O) X (to_task (task.LoadVariable (Some place) 0) (actors i), outcome.Quiet)
   empty_keeps none =
       let o = context p w m events s actors i before C at in
       let d : TaskCounter = task.LoadVariable (Some place) 0 in
-      load_stays p w m events s actors i before O X (to_task d (actors i)) (sym (owes p w m events s actors i before C at))
+      load_stays p w m events s actors i before O X (to_task d (actors i))
+      (sym (owes p w m events s actors i before C at))
       (goes_on p w m events s actors i before C at m d (actors i).gathered (own p w m events s actors i before C at).fits.variables refl
       (fits p w m events s actors i before C at, omega arith) tt
       ((defers, none), (o.task, o.live, λ j below. absurd (omega (arith, below)))))
@@ -113,7 +119,8 @@ module _ (p : Program) (w : List ℕ) (m : Memory) (events : List (ℕ × Event)
   not_final = sees_final p w m events s actors i before C at ∙ defers.3
 
   -- the making of the task, into whichever slot
-  ahead : (q : Option ℕ) → making p (encounter_of s (actors i).context) (actors i).stack q ≡ item.Defer (unwrap_or q 4) f final ∷ rest
+  ahead : (q : Option ℕ)
+      → making p (encounter_of s (actors i).context) (actors i).stack q ≡ item.Defer (unwrap_or q 4) f final ∷ rest
   ahead q = making_is p At (actors i).stack q f false defers.1 false defers.2 not_final
 
   abbrev zs : List Item
@@ -126,14 +133,17 @@ module _ (p : Program) (w : List ℕ) (m : Memory) (events : List (ℕ × Event)
   taken =
       let few : nat_lt place 4 ≡ true = grind (arith, nat_tests, within) in
       ap (take_item p At (event.Seen place)) (ahead (Some place))
-      ∙ ap (λ (b : Bool). if b then Some (item.Defer place f final, rest) else None) (ap (λ (b : Bool). b && nat_lt place 4) (eq-eqb place place refl) ∙ few)
+      ∙ ap (λ (b : Bool). if b then Some (item.Defer place f final, rest) else None)
+      (ap (λ (b : Bool). b && nat_lt place 4) (eq-eqb place place refl) ∙ few)
 
   is_taken : found_in m X ≢ 0 → IsTaken s i (context p w m events s actors i before C at).task.region place
   is_taken some =
       let slots = own_slots p w m events s actors i before C at in
-      go slots.task slots.region slots.thread ((task_kept p w m events s actors before.rule (actors i).context.row slots.task slots.live).slots slots.implicit place within)
+      go slots.task slots.region slots.thread
+      ((task_kept p w m events s actors before.rule (actors i).context.row slots.task slots.live).slots slots.implicit place within)
     where
-      go : (x : Task) → x.region ≡ (context p w m events s actors i before C at).task.region → x.thread ≡ i → Has (m (actors i).context.row.0.creator tasks (actors i).context.row.0.slot) TaskSlots place 0 ⊎ ((k : Tid) × IsDeferredIn s x place k × Has (m (actors i).context.row.0.creator tasks (actors i).context.row.0.slot) TaskSlots place (slot_word w k))
+      go : (x : Task) → x.region ≡ (context p w m events s actors i before C at).task.region → x.thread ≡ i
+          → Has (m (actors i).context.row.0.creator tasks (actors i).context.row.0.slot) TaskSlots place 0 ⊎ ((k : Tid) × IsDeferredIn s x place k × Has (m (actors i).context.row.0.creator tasks (actors i).context.row.0.slot) TaskSlots place (slot_word w k))
           → IsTaken s i (context p w m events s actors i before C at).task.region place
       go x same mine (inl none) = absurd (some none)
       go x same mine (inr (k, o, word)) = record {
@@ -153,16 +163,23 @@ module _ (p : Program) (w : List ℕ) (m : Memory) (events : List (ℕ × Event)
       ((actors i).context.task, o.task, is_current p s i (actors i) (stands p w m events s actors i before C at), is_taken some) refl refl
 
   changes : ChangesTask s u i (actors i).context.task
-  changes = own_changes p s i (actors i) (stands p w m events s actors i before C at) (relisted zs) u (λ t live. relisted_alike zs t) refl refl refl refl
+  changes =
+      own_changes p s i (actors i) (stands p w m events s actors i before C at) (relisted zs) u
+      (λ t live. relisted_alike zs t) refl refl refl refl
 
-  seen_keeps : found_in m X ≢ 0 → (d : TaskCounter) → owed (going d (actors i).gathered (actors i)) ≡ nothing → zs ≡ task_ahead p At (actors i).stack d → FitsTask p (actors i) d → IsPlacedTask w d → KeepsTaskRow p w m u i (going d (actors i).gathered (actors i)) d
-      → KeepsRule p w m events s actors i (op.Load O) X (to_task d (actors i), outcome.Event (event.Seen place))
+  seen_keeps : found_in m X ≢ 0 → (d : TaskCounter) → owed (going d (actors i).gathered (actors i)) ≡ nothing
+      → zs ≡ task_ahead p At (actors i).stack d → FitsTask p (actors i) d → IsPlacedTask w d
+      → KeepsTaskRow p w m u i (going d (actors i).gathered (actors i)) d
+      → KeepsRule p w m events s actors i (op.Load O) X
+      (to_task d (actors i), outcome.Event (event.Seen place))
   seen_keeps some d owes_none next fits_there placed_there row_there =
       let mine = own p w m events s actors i before C at in
       let o = context p w m events s actors i before C at in
       let (g, gs, stack, inside) = standing p w m events s actors i before C at in
       let same : left_in m (op.Load O) X ≡ m = of_load p w m events s actors i before O X in
-      plain_event_keeps p w m events s actors i before (op.Load O) X (to_task d (actors i), outcome.Event (event.Seen place)) (event.Seen place) u (λ none. none) refl (done some)
+      plain_event_keeps p w m events s actors i before (op.Load O) X
+      (to_task d (actors i), outcome.Event (event.Seen place)) (event.Seen place) u (λ none. none) refl
+      (done some)
       ((actors i).context.task, o.task, o.region, is_current p s i (actors i) (stands p w m events s actors i before C at), ap (region_of s) o.region_is ∙ o.found, ((actors i).context.row, ap (slice_get o.region.team) o.number ∙ o.row, refl))
       (none_new p w m events s actors i before C at (event.Seen place) (item.Defer place f final) rest u taken (done some) (λ h e. absurd (cc e)))
       (subst (λ (n : Memory). KeepsWords w n u (all_owed (replace_at actors i (to_task d (actors i))))) (sym same)
@@ -174,21 +191,27 @@ module _ (p : Program) (w : List ℕ) (m : Memory) (events : List (ℕ × Event)
         fits = record { thread = mine.fits.thread; variables = mine.fits.variables; bodies = mine.fits.bodies; counter = fits_there };
         placed = record { bodies = mine.placed.bodies; counter = placed_there };
         stands =
-            own_stands p s i (actors i) (stands p w m events s actors i before C at) events before.rule.reached u changes (to_task d (actors i)) g gs stack refl (λ b. b)
+            own_stands p s i (actors i)
+            (stands p w m events s actors i before C at) events before.rule.reached u changes
+            (to_task d (actors i)) g gs stack refl (λ b. b)
             (relisted_ahead p s i (actors i) (stands p w m events s actors i before C at) zs u refl (λ xs. xs ≡ task_ahead p At (actors i).stack d) next);
         runs = stack_runs p s u i (stays_step p s i (event.Seen place) u (done some)) (actors i) mine.stands mine.runs;
         row = row_there;
         ended = tt;
       }))
 
-  taken_keeps : found_in m X ≢ 0 → (b : Bool) → nat_lt (place + 1) OWN_SLOTS ≡ b → KeepsRule p w m events s actors i (op.Load O) X (to_task (if b then task.LoadSlot (place + 1) else task.LoadVariable None 0) (actors i), outcome.Event (event.Seen place))
+  taken_keeps : found_in m X ≢ 0 → (b : Bool) → nat_lt (place + 1) OWN_SLOTS ≡ b
+      → KeepsRule p w m events s actors i (op.Load O) X (to_task (if b then task.LoadSlot (place + 1) else task.LoadVariable None 0) (actors i), outcome.Event (event.Seen place))
   taken_keeps some true e =
       seen_keeps some (task.LoadSlot (place + 1)) refl (sym (ahead (Some (place + 1))))
       ((fits p w m events s actors i before C at).0, ltb-true (place + 1) OWN_SLOTS e) tt defers
   taken_keeps some false e =
       let last : place + 1 ≡ 4 = grind (arith, nat_tests, within) in
-      let o = context_kept p s u i (actors i).context.task changes (actors i).context (context p w m events s actors i before C at) in
-      seen_keeps some (task.LoadVariable None 0) refl (ap (λ n. item.Defer n f final ∷ rest) last ∙ sym (ahead None))
+      let o =
+      context_kept p s u i (actors i).context.task changes (actors i).context
+      (context p w m events s actors i before C at) in
+      seen_keeps some (task.LoadVariable None 0) refl
+      (ap (λ n. item.Defer n f final ∷ rest) last ∙ sym (ahead None))
       (((fits p w m events s actors i before C at).0, tt), omega arith) tt
       (tt, (o.task, o.live, λ j below. absurd (omega (arith, below))))
 
@@ -203,4 +226,5 @@ module _ (p : Program) (w : List ℕ) (m : Memory) (events : List (ℕ × Event)
           → KeepsRule p w m events s actors i (op.Load O) X
           (to_task (if b then task.LoadVariable (Some place) 0 else (if nat_lt (place + 1) OWN_SLOTS then task.LoadSlot (place + 1) else task.LoadVariable None 0)) (actors i), if b then outcome.Quiet else outcome.Event (event.Seen place))
       go true e = empty_keeps (eqb-true (found_in m X) 0 e)
-      go false e = taken_keeps (λ same. cc (sym e, eq-eqb (found_in m X) 0 same)) (nat_lt (place + 1) OWN_SLOTS) refl
+      go false e =
+          taken_keeps (λ same. cc (sym e, eq-eqb (found_in m X) 0 same)) (nat_lt (place + 1) OWN_SLOTS) refl

@@ -66,7 +66,9 @@ use Rattle.omi_rule.proofs.task.Making.{IsReady, IsTaskNext, bodies_grown, final
 use Rattle.omi_rule.proofs.task.NewTasks.{place_is_filled, record_is_filled}
 use Rattle.omi_rule.proofs.task.Within.{context, context_placed, fits, own, owes, placed, row, stands, task_few}
 
-module _ (p : Program) (w : List ℕ) (m : Memory) (events : List (ℕ × Event)) (s : State) (actors : ℕ → Actor) (i : ℕ) (before : Before p w m events s actors i) (t : Tid) (at : (actors i).counter ≡ counter.Task (task.StartNow t)) where
+module _ (p : Program) (w : List ℕ) (m : Memory) (events : List (ℕ × Event)) (s : State) (actors : ℕ → Actor)
+    (i : ℕ) (before : Before p w m events s actors i) (t : Tid)
+    (at : (actors i).counter ≡ counter.Task (task.StartNow t)) where
   abbrev C : TaskCounter
   C = task.StartNow t
 
@@ -125,26 +127,38 @@ module _ (p : Program) (w : List ℕ) (m : Memory) (events : List (ℕ × Event)
   undeferred = next.undeferred || (encounter_of s (actors i).context).is_final
 
   taken : take_item p At (event.StartNow t) (task_ahead p At (actors i).stack C) ≡ Some (made_item undeferred, rest)
-  taken = ap (take_item p At (event.StartNow t)) (making_is p At (actors i).stack None f next.undeferred next.final undeferred next.is refl) ∙ go undeferred
+  taken =
+      ap (take_item p At (event.StartNow t))
+      (making_is p At (actors i).stack None f next.undeferred next.final undeferred next.is refl)
+      ∙ go undeferred
     where
       go : (b : Bool) → take_item p At (event.StartNow t) (made_item b ∷ rest) ≡ Some (made_item b, rest)
       go true = refl
       go false = refl
 
   ready : IsReady p w m s (all_owed actors) i (actors i) t Maker Z
-  ready = is_ready p w m events s actors i before C at t rest (owes p w m events s actors i before C at) there None filled
+  ready =
+      is_ready p w m events s actors i before C at t rest
+      (owes p w m events s actors i before C at) there None filled
 
   done : Step p s i (event.StartNow t) U
   done = go undeferred taken
     where
       legal : Rules.Rule s i (event.StartNow t) (made_item undeferred)
-      legal = (K, (context p w m events s actors i before C at).task, is_current p s i (actors i) (stands p w m events s actors i before C at), ready.fresh)
+      legal =
+          (K, (context p w m events s actors i before C at).task, is_current p s i (actors i) (stands p w m events s actors i before C at), ready.fresh)
 
-      go : (b : Bool) → take_item p At (event.StartNow t) (task_ahead p At (actors i).stack C) ≡ Some (made_item b, rest) → Step p s i (event.StartNow t) U
+      go : (b : Bool)
+          → take_item p At (event.StartNow t) (task_ahead p At (actors i).stack C) ≡ Some (made_item b, rest)
+          → Step p s i (event.StartNow t) U
       go true is =
-          step p w m events s actors i before C at (event.StartNow t) (item.StartNow f final) rest rest U is legal refl (at_current Z i K Maker (started_now p Z i t f final) ready.current)
+          step p w m events s actors i before C at (event.StartNow t)
+          (item.StartNow f final) rest rest U is legal refl
+          (at_current Z i K Maker (started_now p Z i t f final) ready.current)
       go false is =
-          step p w m events s actors i before C at (event.StartNow t) (item.Defer 4 f final) rest rest U is legal refl (at_current Z i K Maker (started_now p Z i t f final) ready.current)
+          step p w m events s actors i before C at (event.StartNow t)
+          (item.Defer 4 f final) rest rest U is legal refl
+          (at_current Z i K Maker (started_now p Z i t f final) ready.current)
 
   -- ---- words
 
@@ -152,12 +166,15 @@ module _ (p : Program) (w : List ℕ) (m : Memory) (events : List (ℕ × Event)
   made_is = made_as p (actors i) next
 
   final_is : makes_final p (actors i) ≡ final
-  final_is = final_as p (actors i) next ∙ ap (λ (x : Bool). next.final || x) (sym (sees_final p w m events s actors i before C at))
+  final_is =
+      final_as p (actors i) next
+      ∙ ap (λ (x : Bool). next.final || x) (sym (sees_final p w m events s actors i before C at))
 
   words : KeepsWords w N U (replace_at (all_owed actors) i nothing)
   words =
       let o = context p w m events s actors i before C at in
-      starts_now_keep p w m Z (all_owed actors) i t f final K Maker (words_moved p w m events s actors i before C at rest) ready.within ready.names before.valid before.known ready.owes
+      starts_now_keep p w m Z (all_owed actors) i t f final K Maker
+      (words_moved p w m events s actors i before C at rest) ready.within ready.names before.valid before.known ready.owes
       (record_is_filled p w (actors i) f final 0 Maker (m i tasks t.0.slot) made_is final_is o.region_is ready.filled (task_few p w m events s actors i before C at) ready.variables)
       (place_is_filled p w (actors i) f final 0 Maker (m i tasks t.0.slot) made_is final_is o.region_is ready.filled i (own p w m events s actors i before C at).thread o.number o.exit)
 
@@ -178,7 +195,9 @@ module _ (p : Program) (w : List ℕ) (m : Memory) (events : List (ℕ × Event)
   frame = at_start (made_function p (actors i)) (opened.Task None (actors i).context)
 
   abbrev b : Actor
-  b = begun_explicit (made_function p (actors i)) None (task_context (actors i) t (makes_final p (actors i))) (actors i)
+  b =
+      begun_explicit (made_function p (actors i)) None (task_context (actors i) t (makes_final p (actors i)))
+      (actors i)
 
   kept : KeepsContext U i c
   kept =
@@ -220,9 +239,12 @@ module _ (p : Program) (w : List ℕ) (m : Memory) (events : List (ℕ × Event)
       (λ opens x live. ap (λ (y : Task). y.function) (some_same live new_lives) ∙ sym made_is, stack_runs p s U i (stays_step p s i (event.StartNow t) U done) (actors i) mine.stands mine.runs)
 
   debug : (encounter_of U c).debug ≡ p.env.debug
-  debug = ap (λ (o : Option Task). (encounter_by U o).debug) new_lives ∙ ap (λ (e : Env). e.debug) (environment_stays p events s before.rule.reached)
+  debug =
+      ap (λ (o : Option Task). (encounter_by U o).debug) new_lives
+      ∙ ap (λ (e : Env). e.debug) (environment_stays p events s before.rule.reached)
 
-  ahead : (x : Task) → task_of U t ≡ Some x → x.list ≡ Ahead.ahead p (encounter_of U c) (frame ∷ (actors i).stack)
+  ahead : (x : Task) → task_of U t ≡ Some x
+      → x.list ≡ Ahead.ahead p (encounter_of U c) (frame ∷ (actors i).stack)
   ahead x live = ap (λ (y : Task). y.list) (some_same live new_lives) ∙ ap (λ g. task_items p g) (sym made_is)
 
   -- ---- the thread afterwards
@@ -231,7 +253,9 @@ module _ (p : Program) (w : List ℕ) (m : Memory) (events : List (ℕ × Event)
   Later = events ++ (i, event.StartNow t) ∷ []
 
   open_bodies : AreOpen p c (frame ∷ (actors i).stack)
-  open_bodies = start_now_opens p (actors i) t body_opens (own p w m events s actors i before C at).fits (fits p w m events s actors i before C at)
+  open_bodies =
+      start_now_opens p (actors i) t body_opens (own p w m events s actors i before C at).fits
+      (fits p w m events s actors i before C at)
 
   contexts_placed : AreContextsPlaced w c (frame ∷ (actors i).stack)
   contexts_placed =
@@ -241,7 +265,8 @@ module _ (p : Program) (w : List ℕ) (m : Memory) (events : List (ℕ × Event)
   thread_now : KeepsThread p w N Later U i (settled p b)
   thread_now =
       let mine = own p w m events s actors i before C at in
-      settles p w N Later U i b frame (actors i).stack refl mine.thread (record { thread = mine.fits.thread; variables = mine.fits.variables; bodies = open_bodies; some = omega arith }) contexts_placed debug current bodies runs ahead
+      settles p w N Later U i b frame (actors i).stack refl mine.thread
+      (record { thread = mine.fits.thread; variables = mine.fits.variables; bodies = open_bodies; some = omega arith }) contexts_placed debug current bodies runs ahead
 
   -- ---- the step
 
@@ -249,9 +274,12 @@ module _ (p : Program) (w : List ℕ) (m : Memory) (events : List (ℕ × Event)
   start_now_keeps = (
     X,
     store_on p w m events s actors i before ThreadCurrent (task_address w t) refl,
-    event_keeps p w m events s actors i before (op.Store (of_thread w (actors i).thread ThreadCurrent) (task_address w t)) X (settled p b, outcome.Event (event.StartNow t)) (event.StartNow t) U refl done
+    event_keeps p w m events s actors i before
+        (op.Store (of_thread w (actors i).thread ThreadCurrent) (task_address w t)) X
+        (settled p b, outcome.Event (event.StartNow t)) (event.StartNow t) U refl done
         (task_address w t, ap (λ j. op.Store (of_thread w j ThreadCurrent) (task_address w t)) (own p w m events s actors i before C at).thread)
-        tt before.rule.within.regions (tasks_within p w m s (all_owed actors) i (actors i) t Maker Z ready New U refl refl refl)
+        tt before.rule.within.regions
+        (tasks_within p w m s (all_owed actors) i (actors i) t Maker Z ready New U refl refl refl)
         (none_new p w m events s actors i before C at (event.StartNow t) (made_item undeferred) rest U taken done (no_fork undeferred))
         (owed_after w N U actors i (settled p b) nothing ((settled_is_first p b frame (actors i).stack refl).owes (settled p b).context (settled p b).gathered.team) words)
         (λ j other. spares_threads m s i ThreadCurrent (task_address w t) j (actors j) (λ same. absurd (omega (arith, same))))

@@ -20,10 +20,13 @@ use Rattle.omi_rule.proofs.task.Searches.{search_keeps}
 use Rattle.omi_rule.proofs.task.Slots.{slot_keeps}
 use Rattle.omi_rule.proofs.task.StartsNow.{start_now_keeps}
 
-module _ (p : Program) (w : List ℕ) (m : Memory) (events : List (ℕ × Event)) (s : State) (actors : ℕ → Actor) (i : ℕ) (before : Before p w m events s actors i) where
-  pub task_keeps : (c : TaskCounter) → IsTaskKept c → (actors i).counter ≡ counter.Task c → StepKeeps p w m events s actors i (making_next p w (actors i) c) (λ old. (making_moved p w (actors i) c old, making_outcome w (actors i) c old))
+module _ (p : Program) (w : List ℕ) (m : Memory) (events : List (ℕ × Event)) (s : State) (actors : ℕ → Actor)
+    (i : ℕ) (before : Before p w m events s actors i) where
+  pub task_keeps : (c : TaskCounter) → IsTaskKept c → (actors i).counter ≡ counter.Task c
+      → StepKeeps p w m events s actors i (making_next p w (actors i) c) (λ old. (making_moved p w (actors i) c old, making_outcome w (actors i) c old))
   task_keeps (task.LoadSlot place) kept at = slot_keeps p w m events s actors i before place at
-  task_keeps (task.LoadVariable place word) kept at = variable_keeps p w m events s actors i before place word at
+  task_keeps (task.LoadVariable place word) kept at =
+      variable_keeps p w m events s actors i before place word at
   task_keeps (task.LoadLife place slot) kept at = search_keeps p w m events s actors i before place slot at
   task_keeps (task.Take place t) kept at = take_keeps p w m events s actors i before place t at
   task_keeps (task.Fill place t word) kept at = fill_keeps p w m events s actors i before place t word at

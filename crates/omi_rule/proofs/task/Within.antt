@@ -37,7 +37,9 @@ use Rattle.omi_rule.proofs.SameBodies.{same_bodies}
 abbrev pub going : TaskCounter → Gathered → Actor → Actor
 going d g a = record a { counter = counter.Task d; gathered = g }
 
-module _ (p : Program) (w : List ℕ) (m : Memory) (events : List (ℕ × Event)) (s : State) (actors : ℕ → Actor) (i : ℕ) (before : Before p w m events s actors i) (c : TaskCounter) (at : (actors i).counter ≡ counter.Task c) where
+module _ (p : Program) (w : List ℕ) (m : Memory) (events : List (ℕ × Event)) (s : State) (actors : ℕ → Actor)
+    (i : ℕ) (before : Before p w m events s actors i) (c : TaskCounter)
+    (at : (actors i).counter ≡ counter.Task c) where
   pub own : KeepsThread p w m events s i (actors i)
   own = before.rule.threads i before.known
 
@@ -67,10 +69,14 @@ module _ (p : Program) (w : List ℕ) (m : Memory) (events : List (ℕ × Event)
   At = encounter_of s (actors i).context
 
   pub list_is : context.task.list ≡ task_ahead p (encounter_of s (actors i).context) (actors i).stack c
-  list_is = subst (λ (x : Counter). IsAhead p (encounter_of s (actors i).context) (actors i).stack x context.task.list) at (own_ahead p s i (actors i) stands)
+  list_is =
+      subst
+      (λ (x : Counter). IsAhead p (encounter_of s (actors i).context) (actors i).stack x context.task.list) at
+      (own_ahead p s i (actors i) stands)
 
   pub context_placed : IsContextPlaced w (actors i).context
-  context_placed = let (f, fs, stack, o) = standing in (subst (AreContextsPlaced w (actors i).context) stack own.placed.bodies).0
+  context_placed =
+      let (f, fs, stack, o) = standing in (subst (AreContextsPlaced w (actors i).context) stack own.placed.bodies).0
 
   -- the implicit task on whose slots this thread defers
   pub own_slots : IsRow s i (actors i).context.row context.task
@@ -83,7 +89,8 @@ module _ (p : Program) (w : List ℕ) (m : Memory) (events : List (ℕ × Event)
 
   -- the thread is one of the layout
   pub thread_there : (actors i).thread < thread_count w
-  thread_there = let known = before.known in let count = before.rule.within.count in let same = own.thread in omega (arith, same, known, count)
+  thread_there =
+      let known = before.known in let count = before.rule.within.count in let same = own.thread in omega (arith, same, known, count)
 
   -- ---- the thread
 
@@ -93,7 +100,8 @@ module _ (p : Program) (w : List ℕ) (m : Memory) (events : List (ℕ × Event)
       → KeepsThread p w n events s i (going d g (actors i))
   goes_on n d g variables same fits_there placed_there row_there =
       let (f, fs, stack, o) = standing in
-      same_bodies p w m events s i (actors i) own f fs stack o n (counter.Task d) g variables fits_there placed_there
+      same_bodies p w m events s i (actors i) own f fs stack o n
+      (counter.Task d) g variables fits_there placed_there
       (λ t live. subst (λ (x : Counter). IsAhead p (encounter_of s (actors i).context) (actors i).stack x t.list) at (o.ahead t live) ∙ sym same) row_there tt
 
   -- ---- the task that makes another
@@ -102,6 +110,8 @@ module _ (p : Program) (w : List ℕ) (m : Memory) (events : List (ℕ × Event)
   pub task_few : length (context.task).variables.nthreads ≤ 4
   task_few =
       let formed = reached_well_formed p events s before.rule.reached in
-      let seen : IsVisibleTask s (actors i).context.task = formed.currents i (actors i).context.task before.known stands.current in
+      let seen : IsVisibleTask s (actors i).context.task =
+      formed.currents i (actors i).context.task before.known stands.current in
       let same : seen.task ≡ context.task = some_same seen.live context.live in
-      subst (λ (t : Task). length t.variables.nthreads ≤ 4) same (formed.tasks (actors i).context.task seen).variables.few
+      subst (λ (t : Task). length t.variables.nthreads ≤ 4) same
+      (formed.tasks (actors i).context.task seen).variables.few

@@ -42,17 +42,20 @@ pub others_there : (i n v : ℕ) → v < n → v ≢ i → Contains (others_belo
 others_there i zero v below other = absurd (omega (arith, below))
 others_there i (suc n) v below other = go (λ less. others_there i n v less other) (v == n) refl
   where
-    go : (v < n → Contains (others_below i n) v) → (b : Bool) → v == n ≡ b → Contains (others_below i n ++ (if n == i then [] else n ∷ [])) v
+    go : (v < n → Contains (others_below i n) v) → (b : Bool) → v == n ≡ b
+        → Contains (others_below i n ++ (if n == i then [] else n ∷ [])) v
     go before true e =
         let same : v ≡ n = eqb-true v n e in
         Contains-append_right (others_below i n) (if n == i then [] else n ∷ []) v
         (subst (λ (b : Bool). Contains (if b then [] else n ∷ []) v) (sym (ne_eqb n i (λ own. other (same ∙ own)))) (0, omega arith, sym same))
     go before false e =
         let apart : v ≢ n = (λ same. cc (sym (eq-eqb v n same), e)) in
-        Contains-append_left (others_below i n) (if n == i then [] else n ∷ []) v (before (omega (arith, below, apart)))
+        Contains-append_left (others_below i n) (if n == i then [] else n ∷ []) v
+        (before (omega (arith, below, apart)))
 
 pub others_next : (i n : ℕ) → n ≢ i → others_below i n ++ n ∷ [] ≡ others_below i (suc n)
-others_next i n other = ap (λ (b : Bool). others_below i n ++ (if b then [] else n ∷ [])) (sym (ne_eqb n i other))
+others_next i n other =
+    ap (λ (b : Bool). others_below i n ++ (if b then [] else n ∷ [])) (sym (ne_eqb n i other))
 
 pub others_skip : (i n : ℕ) → others_below i (but_own i n) ≡ others_below i n
 others_skip i n = go (n == i) refl
@@ -61,7 +64,10 @@ others_skip i n = go (n == i) refl
     more = omega arith
 
     go : (b : Bool) → n == i ≡ b → others_below i (if b then n + 1 else n) ≡ others_below i n
-    go true e = ap (others_below i) more ∙ ap (λ (b : Bool). others_below i n ++ (if b then [] else n ∷ [])) e ∙ append-nil (others_below i n)
+    go true e =
+        ap (others_below i) more
+        ∙ ap (λ (b : Bool). others_below i n ++ (if b then [] else n ∷ [])) e
+        ∙ append-nil (others_below i n)
     go false e = refl
 
 pub skip_other : (i n : ℕ) → but_own i n ≢ i
@@ -82,20 +88,26 @@ others_few : (i n : ℕ) → length (others_below i n) ≤ n
 others_few i zero = omega arith
 others_few i (suc n) = go (others_few i n) (n == i)
   where
-    go : length (others_below i n) ≤ n → (b : Bool) → length (others_below i n ++ (if b then [] else n ∷ [])) ≤ suc n
-    go before true = let long : length (others_below i n ++ []) ≡ length (others_below i n) + 0 = length-append (others_below i n) [] in omega (arith, before, long)
-    go before false = let long : length (others_below i n ++ n ∷ []) ≡ length (others_below i n) + 1 = length-append (others_below i n) (n ∷ []) in omega (arith, before, long)
+    go : length (others_below i n) ≤ n → (b : Bool)
+        → length (others_below i n ++ (if b then [] else n ∷ [])) ≤ suc n
+    go before true =
+        let long : length (others_below i n ++ []) ≡ length (others_below i n) + 0 = length-append (others_below i n) [] in omega (arith, before, long)
+    go before false =
+        let long : length (others_below i n ++ n ∷ []) ≡ length (others_below i n) + 1 = length-append (others_below i n) (n ∷ []) in omega (arith, before, long)
 
 others_fewer : (i n : ℕ) → i < n → length (others_below i n) + 1 ≤ n
 others_fewer i zero within = absurd (omega (arith, within))
 others_fewer i (suc n) within = go (λ less. others_fewer i n less) (n == i) refl
   where
-    go : (i < n → length (others_below i n) + 1 ≤ n) → (b : Bool) → n == i ≡ b → length (others_below i n ++ (if b then [] else n ∷ [])) + 1 ≤ suc n
-    go rest true e = let before = others_few i n in let long : length (others_below i n ++ []) ≡ length (others_below i n) + 0 = length-append (others_below i n) [] in omega (arith, before, long)
+    go : (i < n → length (others_below i n) + 1 ≤ n) → (b : Bool) → n == i ≡ b
+        → length (others_below i n ++ (if b then [] else n ∷ [])) + 1 ≤ suc n
+    go rest true e =
+        let before = others_few i n in let long : length (others_below i n ++ []) ≡ length (others_below i n) + 0 = length-append (others_below i n) [] in omega (arith, before, long)
     go rest false e =
         let apart : i ≢ n = (λ same. cc (sym (eq-eqb n i (sym same)), e)) in
         let before = rest (omega (arith, within, apart)) in
-        let long : length (others_below i n ++ n ∷ []) ≡ length (others_below i n) + 1 = length-append (others_below i n) (n ∷ []) in
+        let long : length (others_below i n ++ n ∷ []) ≡ length (others_below i n) + 1 =
+        length-append (others_below i n) (n ∷ []) in
         omega (arith, before, long)
 
 -- with the one they are no more than there are
@@ -104,7 +116,8 @@ others_and_own i n count own few = go (nat_lt i n) refl
   where
     go : (b : Bool) → nat_lt i n ≡ b → length (others_below i n) + 1 ≤ count
     go true e = let less = others_fewer i n (ltb-true i n e) in omega (arith, less, few)
-    go false e = let less = others_few i n in let past : n ≤ i = grind (arith, nat_tests) in omega (arith, less, past, own)
+    go false e =
+        let less = others_few i n in let past : n ≤ i = grind (arith, nat_tests) in omega (arith, less, past, own)
 
 got_short : (asks : List (ℕ × Bool)) → length (got_threads asks) ≤ length asks
 got_short [] = omega arith
@@ -114,11 +127,14 @@ got_short ((v, false) ∷ asks) = let rest = got_short asks in omega (arith, res
 -- ---- what is asked
 
 -- the row says the same at another counter
-pub asked_goes : (u : State) (i : ℕ) (a : Actor) (c d : TeamCounter) (g : Gathered) → HasAsked u i (going c g a) → HasAsked u i (going d g a)
+pub asked_goes : (u : State) (i : ℕ) (a : Actor) (c d : TeamCounter) (g : Gathered)
+    → HasAsked u i (going c g a) → HasAsked u i (going d g a)
 asked_goes u i a c d g o = record { knows = record { region = o.knows.region; task = o.knows.task }; wanted = o.wanted; joined = o.joined; asked = o.asked; few = o.few }
 
 -- the levels and the data environment are known after an event that moves the list of the task on
-pub knows_then : (s u : State) (a : Actor) (d : TeamCounter) (g : Gathered) (zs : List Item) → g.variables ≡ a.gathered.variables → g.levels ≡ a.gathered.levels → g.active ≡ a.gathered.active → u.tasks ≡ on s.tasks a.context.task.0 (relisted zs) → u.regions ≡ s.regions
+pub knows_then : (s u : State) (a : Actor) (d : TeamCounter) (g : Gathered) (zs : List Item)
+    → g.variables ≡ a.gathered.variables → g.levels ≡ a.gathered.levels → g.active ≡ a.gathered.active
+    → u.tasks ≡ on s.tasks a.context.task.0 (relisted zs) → u.regions ≡ s.regions
     → Knows s a → Knows u (going d g a)
 knows_then s u a d g zs variables levels active tasks regions k =
     let (r, found, its_levels, its_active) = k.region in
@@ -138,26 +154,34 @@ module _ (u : State) (i : ℕ) (a : Actor) (o : HasAsked u i a) where
 
   pub team_few : i < u.count → length a.gathered.team ≤ u.count
   team_few known =
-      let asks : length (u.threads i).asks ≡ length (others_below i a.gathered.asked) = sym (length-map (u.threads i).asks (λ (x : ℕ × Bool). x.0)) ∙ ap length o.asked in
+      let asks : length (u.threads i).asks ≡ length (others_below i a.gathered.asked) =
+      sym (length-map (u.threads i).asks (λ (x : ℕ × Bool). x.0)) ∙ ap length o.asked in
       let got = got_short (u.threads i).asks in
       let size = team_size_is in
       let most = others_and_own i a.gathered.asked u.count known o.few in
       omega (arith, asks, got, size, most)
 
   -- no more threads are asked
-  pub asks_over : length a.gathered.team ≤ a.gathered.wanted → (nat_lt (length a.gathered.team) a.gathered.wanted && nat_lt a.gathered.asked u.count) ≡ false → AreAsksOver u i
+  pub asks_over : length a.gathered.team ≤ a.gathered.wanted
+      → (nat_lt (length a.gathered.team) a.gathered.wanted && nat_lt a.gathered.asked u.count) ≡ false
+      → AreAsksOver u i
   asks_over few = go (nat_lt (length a.gathered.team) a.gathered.wanted) refl
     where
-      go : (b : Bool) → nat_lt (length a.gathered.team) a.gathered.wanted ≡ b → (b && nat_lt a.gathered.asked u.count) ≡ false → AreAsksOver u i
+      go : (b : Bool) → nat_lt (length a.gathered.team) a.gathered.wanted ≡ b
+          → (b && nat_lt a.gathered.asked u.count) ≡ false → AreAsksOver u i
       go false e none =
           let whole : length a.gathered.team ≡ a.gathered.wanted = grind (arith, nat_tests, few) in
           inl (sym team_size_is ∙ whole ∙ o.wanted)
       go true e none =
           let all : a.gathered.asked ≡ u.count = (let most = o.few in grind (arith, nat_tests, most)) in
-          inr (λ v known other. subst (λ xs. Contains xs v) (sym o.asked) (others_there i a.gathered.asked v (omega (arith, known, all)) other))
+          inr
+          (λ v known other. subst (λ xs. Contains xs v) (sym o.asked) (others_there i a.gathered.asked v (omega (arith, known, all)) other))
 
-module _ (p : Program) (w : List ℕ) (m : Memory) (events : List (ℕ × Event)) (s : State) (actors : ℕ → Actor) (i : ℕ) (before : Before p w m events s actors i) where
-  pub ready_behind : (n : Memory) (u : State) (g : Gathered) → u.count ≡ s.count → HasAsked u i (going team.Ask g (actors i)) → length g.variables ≡ VARIABLE_WORDS → length g.team ≤ g.wanted → g.asked ≢ i → IsAtParallel p (actors i)
+module _ (p : Program) (w : List ℕ) (m : Memory) (events : List (ℕ × Event)) (s : State) (actors : ℕ → Actor)
+    (i : ℕ) (before : Before p w m events s actors i) where
+  pub ready_behind : (n : Memory) (u : State) (g : Gathered) → u.count ≡ s.count
+      → HasAsked u i (going team.Ask g (actors i)) → length g.variables ≡ VARIABLE_WORDS
+      → length g.team ≤ g.wanted → g.asked ≢ i → IsAtParallel p (actors i)
       → (b : Bool) → (nat_lt (length g.team) g.wanted && nat_lt g.asked p.threads) ≡ b → IsReady p w n u i (actors i) (if b then team.Ask else team.LoadRegionLife 0) g
   ready_behind n u g count o variables few other parallel = go
     where
@@ -173,7 +197,8 @@ module _ (p : Program) (w : List ℕ) (m : Memory) (events : List (ℕ × Event)
       most : length g.team ≤ p.threads
       most = let size = team_few u i (going team.Ask g (actors i)) o known in omega (arith, size, threads)
 
-      go : (b : Bool) → (nat_lt (length g.team) g.wanted && nat_lt g.asked p.threads) ≡ b → IsReady p w n u i (actors i) (if b then team.Ask else team.LoadRegionLife 0) g
+      go : (b : Bool) → (nat_lt (length g.team) g.wanted && nat_lt g.asked p.threads) ≡ b
+          → IsReady p w n u i (actors i) (if b then team.Ask else team.LoadRegionLife 0) g
       go true e = record {
         variables = variables;
         fits = (

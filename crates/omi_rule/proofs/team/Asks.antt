@@ -64,10 +64,12 @@ use Rattle.omi_rule.proofs.team.Events.{IsReady, stands, step, team_event, words
 use Rattle.omi_rule.proofs.team.Within.{fits, going, own, owes, row}
 
 -- the asks are next
-pub asks_are_next : (p : Program) (at : Encounter) (a : Actor) → IsAtParallel p a → (f : ℕ) × (forking p at a.stack ≡ item.Asks ∷ item.Fork f ∷ working at (leaving p at a.stack))
+pub asks_are_next : (p : Program) (at : Encounter) (a : Actor) → IsAtParallel p a
+    → (f : ℕ) × (forking p at a.stack ≡ item.Asks ∷ item.Fork f ∷ working at (leaving p at a.stack))
 asks_are_next p at a (s, is, parallel) = go s is parallel
   where
-    go : (s : Stmt) → IsAt p a.stack s → IsParallel s → (f : ℕ) × (forking p at a.stack ≡ item.Asks ∷ item.Fork f ∷ working at (leaving p at a.stack))
+    go : (s : Stmt) → IsAt p a.stack s → IsParallel s
+        → (f : ℕ) × (forking p at a.stack ≡ item.Asks ∷ item.Fork f ∷ working at (leaving p at a.stack))
     go (stmt.Parallel f num) is o = (f, in_work_is p a.stack (stmt.Parallel f num) _ is)
     go _ is o = absurd o
 
@@ -84,15 +86,23 @@ busy_claim c e same = cc (sym (ap (λ (x : Claim). claim_word x == 1) same), e)
 abbrev team_then : Bool → ℕ → List (Tid × ℕ) → List (Tid × ℕ)
 team_then got v team = if got then joined_by v team else team
 
-joined_then : (got : Bool) (v i : ℕ) (team : List (Tid × ℕ)) (asks : List (ℕ × Bool)) → map (λ m. m.1) team ≡ i ∷ got_threads asks → map (λ m. m.1) (team_then got v team) ≡ i ∷ got_threads (asks ++ (v, got) ∷ [])
-joined_then true v i team asks is = map-append (λ (m : Tid × ℕ). m.1) team ((no_task, v) ∷ []) ∙ ap (λ xs. xs ++ v ∷ []) is ∙ ap (λ xs. i ∷ xs) (sym (got_last asks v true))
-joined_then false v i team asks is = is ∙ ap (λ xs. i ∷ xs) (sym (got_last asks v false ∙ append-nil (got_threads asks)))
+joined_then : (got : Bool) (v i : ℕ) (team : List (Tid × ℕ)) (asks : List (ℕ × Bool))
+    → map (λ m. m.1) team ≡ i ∷ got_threads asks
+    → map (λ m. m.1) (team_then got v team) ≡ i ∷ got_threads (asks ++ (v, got) ∷ [])
+joined_then true v i team asks is =
+    map-append (λ (m : Tid × ℕ). m.1) team ((no_task, v) ∷ [])
+    ∙ ap (λ xs. xs ++ v ∷ []) is
+    ∙ ap (λ xs. i ∷ xs) (sym (got_last asks v true))
+joined_then false v i team asks is =
+    is ∙ ap (λ xs. i ∷ xs) (sym (got_last asks v false ∙ append-nil (got_threads asks)))
 
 size_then : (got : Bool) (v : ℕ) (team : List (Tid × ℕ)) → length (team_then got v team) ≤ length team + 1
-size_then true v team = let long : length (team ++ (no_task, v) ∷ []) ≡ length team + 1 = length-append team ((no_task, v) ∷ []) in omega (arith, long)
+size_then true v team =
+    let long : length (team ++ (no_task, v) ∷ []) ≡ length team + 1 = length-append team ((no_task, v) ∷ []) in omega (arith, long)
 size_then false v team = omega arith
 
-module _ (p : Program) (w : List ℕ) (m : Memory) (events : List (ℕ × Event)) (s : State) (actors : ℕ → Actor) (i : ℕ) (before : Before p w m events s actors i) (at : (actors i).counter ≡ counter.Team team.Ask) where
+module _ (p : Program) (w : List ℕ) (m : Memory) (events : List (ℕ × Event)) (s : State) (actors : ℕ → Actor)
+    (i : ℕ) (before : Before p w m events s actors i) (at : (actors i).counter ≡ counter.Team team.Ask) where
   abbrev C : TeamCounter
   C = team.Ask
 
@@ -109,13 +119,16 @@ module _ (p : Program) (w : List ℕ) (m : Memory) (events : List (ℕ × Event)
   list = forking p (encounter_of s (actors i).context) (actors i).stack
 
   abbrev z : State
-  z = on_task s (actors i).context.task (relisted (forking p (encounter_of s (actors i).context) (actors i).stack))
+  z =
+      on_task s (actors i).context.task
+      (relisted (forking p (encounter_of s (actors i).context) (actors i).stack))
 
   fit : FitsTeam p (actors i) C
   fit = fits p w m events s actors i before C at
 
   known : V < s.count
-  known = let few = fit.2 in let same = before.suits.threads in let count = before.rule.within.count in omega (arith, few, same, count)
+  known =
+      let few = fit.2 in let same = before.suits.threads in let count = before.rule.within.count in omega (arith, few, same, count)
 
   other : V ≢ i
   other = subst (λ j. V ≢ j) (own p w m events s actors i before C at).thread fit.3
@@ -137,12 +150,15 @@ module _ (p : Program) (w : List ℕ) (m : Memory) (events : List (ℕ × Event)
     busy = λ no. busy_claim (s.threads V).claim (ap (λ n. n == 1) (sym found_is) ∙ is ∙ no);
   }
 
-  taken : (got : Bool) → take_item p At (event.Ask V got) list ≡ Some (item.Asks, item.Fork (asks_are_next p At (actors i) fit.0.0).0 ∷ working At (leaving p At (actors i).stack))
+  taken : (got : Bool)
+      → take_item p At (event.Ask V got) list ≡ Some (item.Asks, item.Fork (asks_are_next p At (actors i) fit.0.0).0 ∷ working At (leaving p At (actors i).stack))
   taken got = ap (take_item p At (event.Ask V got)) (asks_are_next p At (actors i) fit.0.0).1
 
   steps : (got : Bool) → found_in m X == 1 ≡ got → Step p s i (event.Ask V got) (asked z i V got)
   steps got is =
-      step p w m events s actors i before C at (event.Ask V got) item.Asks (item.Fork (asks_are_next p At (actors i) fit.0.0).0 ∷ working At (leaving p At (actors i).stack)) list (asked z i V got)
+      step p w m events s actors i before C at (event.Ask V got) item.Asks
+      (item.Fork (asks_are_next p At (actors i) fit.0.0).0 ∷ working At (leaving p At (actors i).stack)) list
+      (asked z i V got)
       (taken got) (may got is) (sym (asks_are_next p At (actors i) fit.0.0).1) refl
 
   -- what the thread is afterwards
@@ -152,19 +168,26 @@ module _ (p : Program) (w : List ℕ) (m : Memory) (events : List (ℕ × Event)
   -- ---- the thread goes on
 
   abbrev Then : Bool → Gathered
-  Then got = record (actors i).gathered { asked = but_own (actors i).thread ((actors i).gathered.asked + 1); team = if got then joined_by (actors i).gathered.asked (actors i).gathered.team else (actors i).gathered.team }
+  Then got =
+      record
+      (actors i).gathered { asked = but_own (actors i).thread ((actors i).gathered.asked + 1); team = if got then joined_by (actors i).gathered.asked (actors i).gathered.team else (actors i).gathered.team }
 
   mine : (actors i).thread ≡ i
   mine = (own p w m events s actors i before C at).thread
 
-  asked_then : (got : Bool) (u : State) → u.count ≡ s.count → u.tasks ≡ on s.tasks (actors i).context.task.0 (relisted list) → u.regions ≡ s.regions → u.threads i ≡ listed got → HasAsked u i (going team.Ask (Then got) (actors i))
+  asked_then : (got : Bool) (u : State) → u.count ≡ s.count
+      → u.tasks ≡ on s.tasks (actors i).context.task.0 (relisted list) → u.regions ≡ s.regions
+      → u.threads i ≡ listed got → HasAsked u i (going team.Ask (Then got) (actors i))
   asked_then got u count tasks regions thread =
       record {
         knows = knows_then s u (actors i) team.Ask (Then got) list refl refl refl tasks regions asks.knows;
         wanted = asks.wanted ∙ sym (ap (λ (h : Thread). h.wanted) thread);
         joined = joined_then got V i (actors i).gathered.team (s.threads i).asks asks.joined ∙ sym (ap (λ (h : Thread). i ∷ got_threads h.asks) thread);
         asked =
-            ap (λ (h : Thread). map (λ x. x.0) h.asks) thread ∙ map-append (λ (x : ℕ × Bool). x.0) (s.threads i).asks ((V, got) ∷ []) ∙ ap (λ xs. xs ++ V ∷ []) asks.asked ∙ others_next i V other
+            ap (λ (h : Thread). map (λ x. x.0) h.asks) thread
+            ∙ map-append (λ (x : ℕ × Bool). x.0) (s.threads i).asks ((V, got) ∷ [])
+            ∙ ap (λ xs. xs ++ V ∷ []) asks.asked
+            ∙ others_next i V other
             ∙ ap (others_below i) one_more ∙ sym (others_skip i (V + 1)) ∙ ap (λ j. others_below i (but_own j (V + 1))) (sym mine);
         few = subst (λ c. but_own (actors i).thread (V + 1) ≤ c) (sym count) (subst (λ j. but_own j (V + 1) ≤ s.count) (sym mine) (skip_known i (V + 1) s.count before.known (omega (arith, known))));
       }
@@ -172,38 +195,64 @@ module _ (p : Program) (w : List ℕ) (m : Memory) (events : List (ℕ × Event)
       one_more : suc V ≡ V + 1
       one_more = omega arith
 
-  finish : (got : Bool) (u : State) → found_in m X == 1 ≡ got → Step p s i (event.Ask V got) u → u.environment ≡ s.environment → u.count ≡ s.count → u.tasks ≡ on s.tasks (actors i).context.task.0 (relisted list) → u.regions ≡ s.regions → u.threads i ≡ listed got
+  finish : (got : Bool) (u : State) → found_in m X == 1 ≡ got → Step p s i (event.Ask V got) u
+      → u.environment ≡ s.environment → u.count ≡ s.count
+      → u.tasks ≡ on s.tasks (actors i).context.task.0 (relisted list) → u.regions ≡ s.regions
+      → u.threads i ≡ listed got
       → KeepsWords w (left_in m (op.Cas (of_thread w V ThreadClaim) 1 (2 + (actors i).thread)) X) u (all_owed actors) → ((j : ℕ) → j ≢ i → Spares m (left_in m (op.Cas (of_thread w V ThreadClaim) 1 (2 + (actors i).thread)) X) s j (actors j))
-      → KeepsRule p w m events s actors i (op.Cas (of_thread w V ThreadClaim) 1 (2 + (actors i).thread)) X (asking p (V + 1) (gathering (record (actors i).gathered { team = if got then joined_by V (actors i).gathered.team else (actors i).gathered.team }) (actors i)), outcome.Event (event.Ask V got))
-  finish got u is done environment count tasks regions thread words spares = go (nat_lt (length (Then got).team) (Then got).wanted && nat_lt (Then got).asked p.threads) refl
+      → KeepsRule p w m events s actors i (op.Cas (of_thread w V ThreadClaim) 1 (2 + (actors i).thread)) X
+      (asking p (V + 1) (gathering (record (actors i).gathered { team = if got then joined_by V (actors i).gathered.team else (actors i).gathered.team }) (actors i)), outcome.Event (event.Ask V got))
+  finish got u is done environment count tasks regions thread words spares =
+      go (nat_lt (length (Then got).team) (Then got).wanted && nat_lt (Then got).asked p.threads) refl
     where
       changes : ChangesTask s u i (actors i).context.task
-      changes = own_changes p s i (actors i) (stands p w m events s actors i before C at) (relisted list) u (λ t live. relisted_alike list t) environment (ap (λ (h : Thread). h.current) thread) tasks regions
+      changes =
+          own_changes p s i (actors i) (stands p w m events s actors i before C at) (relisted list) u
+          (λ t live. relisted_alike list t) environment (ap (λ (h : Thread). h.current) thread) tasks regions
 
       few : length (Then got).team ≤ (Then got).wanted
-      few = let size = size_then got V (actors i).gathered.team in let less = fit.1 in omega (arith, size, less)
+      few =
+          let size = size_then got V (actors i).gathered.team in let less = fit.1 in omega (arith, size, less)
 
-      ready : (b : Bool) → (nat_lt (length (Then got).team) (Then got).wanted && nat_lt (Then got).asked p.threads) ≡ b → IsReady p w (left_in m (op.Cas (of_thread w V ThreadClaim) 1 (2 + (actors i).thread)) X) u i (actors i) (if b then team.Ask else team.LoadRegionLife 0) (Then got)
+      ready : (b : Bool)
+          → (nat_lt (length (Then got).team) (Then got).wanted && nat_lt (Then got).asked p.threads) ≡ b
+          → IsReady p w (left_in m (op.Cas (of_thread w V ThreadClaim) 1 (2 + (actors i).thread)) X) u i (actors i) (if b then team.Ask else team.LoadRegionLife 0) (Then got)
       ready =
-          ready_behind p w m events s actors i before (left_in m (op.Cas (of_thread w V ThreadClaim) 1 (2 + (actors i).thread)) X) u (Then got) count (asked_then got u count tasks regions thread) (own p w m events s actors i before C at).fits.variables few
+          ready_behind p w m events s actors i before
+          (left_in m (op.Cas (of_thread w V ThreadClaim) 1 (2 + (actors i).thread)) X) u (Then got) count
+          (asked_then got u count tasks regions thread)
+          (own p w m events s actors i before C at).fits.variables few
           (subst (λ j. but_own j (V + 1) ≢ i) (sym mine) (skip_other i (V + 1))) fit.0.0
 
-      event_to : (d : TeamCounter) → owed (going d (Then got) (actors i)) ≡ owed (actors i) → list ≡ team_ahead p At (actors i).stack d → IsReady p w (left_in m (op.Cas (of_thread w V ThreadClaim) 1 (2 + (actors i).thread)) X) u i (actors i) d (Then got)
-          → KeepsRule p w m events s actors i (op.Cas (of_thread w V ThreadClaim) 1 (2 + (actors i).thread)) X (going d (Then got) (actors i), outcome.Event (event.Ask V got))
+      event_to : (d : TeamCounter) → owed (going d (Then got) (actors i)) ≡ owed (actors i)
+          → list ≡ team_ahead p At (actors i).stack d
+          → IsReady p w (left_in m (op.Cas (of_thread w V ThreadClaim) 1 (2 + (actors i).thread)) X) u i (actors i) d (Then got)
+          → KeepsRule p w m events s actors i (op.Cas (of_thread w V ThreadClaim) 1 (2 + (actors i).thread)) X
+          (going d (Then got) (actors i), outcome.Event (event.Ask V got))
       event_to d same ahead now =
-          team_event p w m events s actors i before C at (op.Cas (of_thread w V ThreadClaim) 1 (2 + (actors i).thread)) X d (Then got) (event.Ask V got) item.Asks (item.Fork (asks_are_next p At (actors i) fit.0.0).0 ∷ working At (leaving p At (actors i).stack)) list u
-          (λ none. none) (λ f e. absurd (cc e)) (taken got) done (ap (λ j. op.Cas (of_thread w V ThreadClaim) 1 (2 + j)) mine) words same spares changes tasks ahead now
+          team_event p w m events s actors i before C at
+          (op.Cas (of_thread w V ThreadClaim) 1 (2 + (actors i).thread)) X d (Then got)
+          (event.Ask V got) item.Asks
+          (item.Fork (asks_are_next p At (actors i) fit.0.0).0 ∷ working At (leaving p At (actors i).stack)) list u
+          (λ none. none) (λ f e. absurd (cc e)) (taken got) done
+          (ap (λ j. op.Cas (of_thread w V ThreadClaim) 1 (2 + j)) mine) words same spares changes tasks ahead now
 
-      go : (b : Bool) → (nat_lt (length (Then got).team) (Then got).wanted && nat_lt (Then got).asked p.threads) ≡ b
-          → KeepsRule p w m events s actors i (op.Cas (of_thread w V ThreadClaim) 1 (2 + (actors i).thread)) X (going (if b then team.Ask else team.LoadRegionLife 0) (Then got) (actors i), outcome.Event (event.Ask V got))
+      go : (b : Bool)
+          → (nat_lt (length (Then got).team) (Then got).wanted && nat_lt (Then got).asked p.threads) ≡ b
+          → KeepsRule p w m events s actors i (op.Cas (of_thread w V ThreadClaim) 1 (2 + (actors i).thread)) X
+          (going (if b then team.Ask else team.LoadRegionLife 0) (Then got) (actors i), outcome.Event (event.Ask V got))
       go true e = event_to team.Ask (sym (owes p w m events s actors i before C at)) refl (ready true e)
-      go false e = event_to (team.LoadRegionLife 0) (sym (owes p w m events s actors i before C at)) refl (ready false e)
+      go false e =
+          event_to (team.LoadRegionLife 0) (sym (owes p w m events s actors i before C at)) refl
+          (ready false e)
 
   -- ---- words
 
-  asks_listed : (got : Bool) → KeepsWords w m (record z { threads = put s.threads i (listed got) }) (all_owed actors)
+  asks_listed : (got : Bool)
+      → KeepsWords w m (record z { threads = put s.threads i (listed got) }) (all_owed actors)
   asks_listed got =
-      thread_changes_keep w m z (all_owed actors) i (listed got) (words_moved p w m events s actors i before C at list) (before.rule.words.made i before.known).thread
+      thread_changes_keep w m z (all_owed actors) i (listed got)
+      (words_moved p w m events s actors i before C at list) (before.rule.words.made i before.known).thread
 
   pub ask_keeps : StepKeeps p w m events s actors i (team_next p w (actors i) C) (λ old. (team_moved p w (actors i) C old, team_outcome p w (actors i) C old))
   ask_keeps = (
@@ -216,11 +265,15 @@ module _ (p : Program) (w : List ℕ) (m : Memory) (events : List (ℕ × Event)
   )
     where
       go : (b : Bool) → found_in m X == 1 ≡ b
-          → KeepsRule p w m events s actors i (op.Cas (of_thread w V ThreadClaim) 1 (2 + (actors i).thread)) X (asking p (V + 1) (gathering (record (actors i).gathered { team = if b then joined_by V (actors i).gathered.team else (actors i).gathered.team }) (actors i)), outcome.Event (event.Ask V b))
+          → KeepsRule p w m events s actors i (op.Cas (of_thread w V ThreadClaim) 1 (2 + (actors i).thread)) X
+          (asking p (V + 1) (gathering (record (actors i).gathered { team = if b then joined_by V (actors i).gathered.team else (actors i).gathered.team }) (actors i)), outcome.Event (event.Ask V b))
       go true e =
           let left : left_in m (op.Cas (of_thread w V ThreadClaim) 1 (2 + (actors i).thread)) X ≡ with_word m V threads 0 (number ThreadClaim) 0 (2 + i) =
-          ap (λ (b : Bool). with_word m V threads 0 (number ThreadClaim) 0 (if b then 2 + (actors i).thread else found_in m X)) e ∙ ap (λ j. with_word m V threads 0 (number ThreadClaim) 0 (2 + j)) mine in
-          let listed_words : KeepsWords w m (record z { threads = put s.threads i (listed true) }) (all_owed actors) = asks_listed true in
+          ap
+          (λ (b : Bool). with_word m V threads 0 (number ThreadClaim) 0 (if b then 2 + (actors i).thread else found_in m X)) e
+          ∙ ap (λ j. with_word m V threads 0 (number ThreadClaim) 0 (2 + j)) mine in
+          let listed_words : KeepsWords w m (record z { threads = put s.threads i (listed true) }) (all_owed actors) =
+          asks_listed true in
           let u : State = asked z i V true in
           finish true u e (steps true e) refl refl refl refl
           (put_other (put s.threads i (listed true)) V i (record (put s.threads i (listed true) V) { claim = claim.By i }) (λ same. other (sym same)) ∙ put_same s.threads i (listed true))
@@ -230,7 +283,9 @@ module _ (p : Program) (w : List ℕ) (m : Memory) (events : List (ℕ × Event)
           (λ j ne. subst (λ (n : Memory). Spares m n s j (actors j)) (sym left) (spares_threads m s V ThreadClaim (2 + i) j (actors j) (λ same. absurd (omega (arith, same)))))
       go false e =
           let left : left_in m (op.Cas (of_thread w V ThreadClaim) 1 (2 + (actors i).thread)) X ≡ m =
-          ap (λ (b : Bool). with_word m V threads 0 (number ThreadClaim) 0 (if b then 2 + (actors i).thread else found_in m X)) e ∙ word_back m V threads 0 (number ThreadClaim) 0 in
+          ap
+          (λ (b : Bool). with_word m V threads 0 (number ThreadClaim) 0 (if b then 2 + (actors i).thread else found_in m X)) e
+          ∙ word_back m V threads 0 (number ThreadClaim) 0 in
           let u : State = asked z i V false in
           finish false u e (steps false e) refl refl refl refl (put_same s.threads i (listed false))
           (subst (λ (n : Memory). KeepsWords w n u (all_owed actors)) (sym left) (asks_listed false))

@@ -86,7 +86,9 @@ master_starts (f ∷ fs) (first, is) = (first, go f.opened is)
     go (opened.Repeat left) o = absurd o
     go (opened.Critical k) o = absurd o
 
-module _ (p : Program) (w : List ℕ) (m : Memory) (events : List (ℕ × Event)) (s : State) (actors : ℕ → Actor) (i : ℕ) (before : Before p w m events s actors i) (member : ℕ) (at : (actors i).counter ≡ counter.Team (team.Assign member)) where
+module _ (p : Program) (w : List ℕ) (m : Memory) (events : List (ℕ × Event)) (s : State) (actors : ℕ → Actor)
+    (i : ℕ) (before : Before p w m events s actors i) (member : ℕ)
+    (at : (actors i).counter ≡ counter.Team (team.Assign member)) where
   abbrev C : TeamCounter
   C = team.Assign member
 
@@ -106,19 +108,25 @@ module _ (p : Program) (w : List ℕ) (m : Memory) (events : List (ℕ × Event)
   X = record { creator = (member_of (actors i).gathered.team member).1; slot = 0; field = ThreadAssign; place = 0 }
 
   abbrev N : Memory
-  N = with_word m (member_of (actors i).gathered.team member).1 threads 0 (number ThreadAssign) 0 (task_address w (member_of (actors i).gathered.team member).0)
+  N =
+      with_word m (member_of (actors i).gathered.team member).1 threads 0 (number ThreadAssign) 0
+      (task_address w (member_of (actors i).gathered.team member).0)
 
   fit : FitsTeam p (actors i) C
   fit = fits p w m events s actors i before C at
 
   to_known : To < s.count
-  to_known = let there = (placed p w m events s actors i before C at).0 member fit.2 in let count = before.rule.within.count in omega (arith, there, count)
+  to_known =
+      let there = (placed p w m events s actors i before C at).0 member fit.2 in let count = before.rule.within.count in omega (arith, there, count)
 
   assigns : (owed (actors i)).assigns ≡ (Task, To) ∷ Rest
-  assigns = ap (λ (x : Owed). x.assigns) (owes p w m events s actors i before C at) ∙ from_member Team member fit.2
+  assigns =
+      ap (λ (x : Owed). x.assigns) (owes p w m events s actors i before C at) ∙ from_member Team member fit.2
 
   waits : WaitsFor s To Task
-  waits = All-head (λ (y : Tid × ℕ). WaitsFor s y.1 y.0) (member_of Team member) Rest (subst (All (λ (y : Tid × ℕ). WaitsFor s y.1 y.0)) assigns (before.rule.words.made i before.known).objects.assigns)
+  waits =
+      All-head (λ (y : Tid × ℕ). WaitsFor s y.1 y.0) (member_of Team member) Rest
+      (subst (All (λ (y : Tid × ℕ). WaitsFor s y.1 y.0)) assigns (before.rule.words.made i before.known).objects.assigns)
 
   meant : (k : Tid) → WaitsFor s To k → IsMeantFor s k To
   meant k o = record { task = o.task; live = o.live; waiting = o.progress; thread = o.thread }
@@ -126,7 +134,8 @@ module _ (p : Program) (w : List ℕ) (m : Memory) (events : List (ℕ × Event)
   alone : (k : Tid) → WaitsFor s To k → k ≡ Task
   alone k o = ((claims_kept p events s before.rule.reached To).meant Task (meant Task waits)).2 k (meant k o)
 
-  words : (b : Actor) → owed b ≡ record nothing { assigns = Rest } → KeepsWords w N s (all_owed (replace_at actors i b))
+  words : (b : Actor) → owed b ≡ record nothing { assigns = Rest }
+      → KeepsWords w N s (all_owed (replace_at actors i b))
   words b is =
       owed_after w N s actors i b (record nothing { assigns = Rest }) is
       (subst (λ (x : Owed). KeepsWords w N s (replace_at (all_owed actors) i (record x { assigns = Rest }))) (owes p w m events s actors i before C at)
@@ -143,17 +152,26 @@ module _ (p : Program) (w : List ℕ) (m : Memory) (events : List (ℕ × Event)
     left_kept = λ k. not_less (m j regions k) (N j regions k) (number RegionLeft) 0 (record_stays m To threads 0 (number ThreadAssign) 0 (task_address w Task) j regions k (λ _ kind _. absurd (omega (arith, kind))));
   }
     where
-      go : (t : Place) → (actors j).counter ≡ counter.Worker (worker.ClearAssign t) → (b : Bool) → j == To ≡ b → N j threads 0 (number ThreadAssign) 0 ≡ m j threads 0 (number ThreadAssign) 0
-      go t is false e = word_stays m To threads 0 (number ThreadAssign) 0 (task_address w Task) j threads 0 (number ThreadAssign) 0 (λ maker _ _ _ _. cc (sym (eq-eqb j To maker), e))
+      go : (t : Place) → (actors j).counter ≡ counter.Worker (worker.ClearAssign t) → (b : Bool) → j == To ≡ b
+          → N j threads 0 (number ThreadAssign) 0 ≡ m j threads 0 (number ThreadAssign) 0
+      go t is false e =
+          word_stays m To threads 0 (number ThreadAssign) 0 (task_address w Task) j threads 0
+          (number ThreadAssign) 0 (λ maker _ _ _ _. cc (sym (eq-eqb j To maker), e))
       go t is true e =
           let same : j ≡ To = eqb-true j To e in
-          let (k, other, place, word) = subst (λ (x : Counter). KeepsRow p w m s j (actors j) x) is (before.rule.threads j (subst (λ n. n < s.count) (sym same) to_known)).row in
-          subst (λ n. N n threads 0 (number ThreadAssign) 0 ≡ m j threads 0 (number ThreadAssign) 0) (sym same)
+          let (k, other, place, word) =
+          subst (λ (x : Counter). KeepsRow p w m s j (actors j) x) is
+          (before.rule.threads j (subst (λ n. n < s.count) (sym same) to_known)).row in
+          subst (λ n. N n threads 0 (number ThreadAssign) 0 ≡ m j threads 0 (number ThreadAssign) 0)
+          (sym same)
           (word_read m To threads 0 (number ThreadAssign) 0 (task_address w Task) ∙ ap (task_address w) (sym (alone k (subst (λ n. WaitsFor s n k) same other))) ∙ sym word)
 
-  step : (b : Actor) → owed b ≡ record nothing { assigns = Rest } → KeepsThread p w N events s i b → KeepsRule p w m events s actors i (op.Store (of_thread w To ThreadAssign) (task_address w Task)) X (b, outcome.Quiet)
+  step : (b : Actor) → owed b ≡ record nothing { assigns = Rest } → KeepsThread p w N events s i b
+      → KeepsRule p w m events s actors i (op.Store (of_thread w To ThreadAssign) (task_address w Task)) X (b, outcome.Quiet)
   step b is thread =
-      quiet_keeps p w m events s actors i before (op.Store (of_thread w To ThreadAssign) (task_address w Task)) X (b, outcome.Quiet) refl (words b is) (λ j other. spared j) thread
+      quiet_keeps p w m events s actors i before
+      (op.Store (of_thread w To ThreadAssign) (task_address w Task)) X (b, outcome.Quiet) refl (words b is)
+      (λ j other. spared j) thread
 
   -- the last task was assigned, and member 0 works
   working_now : KeepsThread p w N events s i (back_to_work p (actors i))
@@ -178,7 +196,8 @@ module _ (p : Program) (w : List ℕ) (m : Memory) (events : List (ℕ × Event)
   )
     where
       go : (b : Bool) → nat_lt (member + 1) (team_size (actors i)) ≡ b
-          → KeepsRule p w m events s actors i (op.Store (of_thread w To ThreadAssign) (task_address w Task)) X (if b then to_team (team.Assign (member + 1)) (actors i) else back_to_work p (actors i), outcome.Quiet)
+          → KeepsRule p w m events s actors i (op.Store (of_thread w To ThreadAssign) (task_address w Task)) X
+          (if b then to_team (team.Assign (member + 1)) (actors i) else back_to_work p (actors i), outcome.Quiet)
       go true e =
           let next : TeamCounter = team.Assign (member + 1) in
           step (to_team next (actors i)) refl

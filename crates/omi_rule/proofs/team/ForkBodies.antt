@@ -48,19 +48,25 @@ module _ (p : Program) (s u : State) (i : ℕ) (larger : IsLarger s u) where
   encounter_grows c o =
       let there : region_of s o.task.region ≡ Some o.region = ap (region_of s) o.region_is ∙ o.found in
       let level : level_of u o.task.region ≡ level_of s o.task.region =
-      ap (λ (x : Option Region). option_map_or (λ r. r.levels) x 0) (larger.regions o.task.region o.region there) ∙ sym (ap (λ (x : Option Region). option_map_or (λ r. r.levels) x 0) there) in
+      ap (λ (x : Option Region). option_map_or (λ r. r.levels) x 0)
+      (larger.regions o.task.region o.region there)
+      ∙ sym (ap (λ (x : Option Region). option_map_or (λ r. r.levels) x 0) there) in
       ap (encounter_by u) (larger.tasks c.task o.task o.live)
-      ∙ ap (λ (e : Env). record { debug = e.debug; number = o.task.number; level = level_of u o.task.region; is_final = o.task.is_final }) larger.environment
-      ∙ ap (λ l. record { debug = s.environment.debug; number = o.task.number; level = l; is_final = o.task.is_final }) level
+      ∙ ap
+      (λ (e : Env). record { debug = e.debug; number = o.task.number; level = level_of u o.task.region; is_final = o.task.is_final }) larger.environment
+      ∙ ap
+      (λ l. record { debug = s.environment.debug; number = o.task.number; level = l; is_final = o.task.is_final }) level
       ∙ sym (ap (encounter_by s) o.live)
 
   scheduled_grows : (saved c : Context) → IsScheduledFrom s saved c → IsScheduledFrom u saved c
   scheduled_grows saved c x = record { task = x.task; live = larger.tasks c.task x.task x.live; scheduling = x.scheduling }
 
-  suspended_grows : (c : Context) (list new : List Item) → new ≡ list → IsSuspended s c list → IsSuspended u c new
+  suspended_grows : (c : Context) (list new : List Item) → new ≡ list → IsSuspended s c list
+      → IsSuspended u c new
   suspended_grows c list new same x = record { task = x.task; live = larger.tasks c.task x.task x.live; list_is = x.list_is ∙ sym same }
 
-  body_grows : (c : Context) (o : Opened) (fs : List Frame) → KeepsContext s i (context_under c o) → KeepsBody p s c o fs → KeepsBody p u c o fs
+  body_grows : (c : Context) (o : Opened) (fs : List Frame) → KeepsContext s i (context_under c o)
+      → KeepsBody p s c o fs → KeepsBody p u c o fs
   body_grows c opened.Main fs l keeps = keeps
   body_grows c (opened.Master saved) fs l (from, suspended) =
       (scheduled_grows saved c from, suspended_grows saved _ _ (ap (λ at. working at (leaving p at fs)) (encounter_grows saved l)) suspended)

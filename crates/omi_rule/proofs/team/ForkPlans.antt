@@ -37,8 +37,10 @@ member_is (x ∷ xs) (suc j) y e = member_is xs j y e
 -- the thread of an encountering task, in its current region, with what it gathered
 module _ (p : Program) (w : List ℕ) (a : Actor) (n : Rid) (f : ℕ) (t : Task) (r : Region)
     (function : TeamParts.region_function p a ≡ f) (region_is : t.region ≡ a.context.region) where
-  pub region_filled : (q : Rec) → r.levels ≡ a.gathered.levels → r.active ≡ a.gathered.active → r.levels < 2 ^ 63 → r.active < 2 ^ 63
-      → ((j : ℕ) → j < length a.gathered.team → q (number RegionTeam) j ≡ task_address w (member_of a.gathered.team j).0)
+  pub region_filled : (q : Rec) → r.levels ≡ a.gathered.levels → r.active ≡ a.gathered.active
+      → r.levels < 2 ^ 63 → r.active < 2 ^ 63
+      →
+      ((j : ℕ) → j < length a.gathered.team → q (number RegionTeam) j ≡ task_address w (member_of a.gathered.team j).0)
       → IsFilled q (region_plan w (TeamParts.planned_region p a)) REGION_WORDS → RegionIsFilled w q (new_region a.context.task t r a.gathered.team f)
   region_filled q levels active low few team o = record { codes = codes; pending = o 8 (omega arith); left = o 9 (omega arith) }
     where
@@ -51,21 +53,33 @@ module _ (p : Program) (w : List ℕ) (a : Actor) (n : Rid) (f : ℕ) (t : Task)
 
       codes : HasCodes (region_code w (region_told (new_region a.context.task t r a.gathered.team f))) q
       codes RegionFunction zero x told = o 0 (omega arith) ∙ ap entry_address function ∙ same_word _ _ told
-      codes RegionEnclosing zero x told = o 1 (omega arith) ∙ ap (region_address w) (sym region_is) ∙ same_word _ _ told
+      codes RegionEnclosing zero x told =
+          o 1 (omega arith) ∙ ap (region_address w) (sym region_is) ∙ same_word _ _ told
       codes RegionEncountering zero x told = o 2 (omega arith) ∙ same_word _ _ told
       codes RegionSize zero x told = o 3 (omega arith) ∙ same_word _ _ told
-      codes RegionLevels zero x told = o 4 (omega arith) ∙ ap (λ k. plus k 1) (sym levels) ∙ small r.levels 1 low (omega arith) ∙ same_word _ _ told
+      codes RegionLevels zero x told =
+          o 4 (omega arith)
+          ∙ ap (λ k. plus k 1) (sym levels)
+          ∙ small r.levels 1 low (omega arith)
+          ∙ same_word _ _ told
       codes RegionActive zero x told =
-          o 5 (omega arith) ∙ ap (λ k. plus k (if nat_lt 1 (length a.gathered.team) then 1 else 0)) (sym active) ∙ small r.active _ few (one (nat_lt 1 (length a.gathered.team)))
+          o 5 (omega arith)
+          ∙ ap (λ k. plus k (if nat_lt 1 (length a.gathered.team) then 1 else 0)) (sym active)
+          ∙ small r.active _ few (one (nat_lt 1 (length a.gathered.team)))
           ∙ same_word _ _ told
       codes RegionReleased zero x told = o 6 (omega arith) ∙ same_word _ _ told
-      codes RegionArrived zero x told = o 7 (omega arith) ∙ sym (no_arrivals (length a.gathered.team)) ∙ same_word _ _ told
+      codes RegionArrived zero x told =
+          o 7 (omega arith) ∙ sym (no_arrivals (length a.gathered.team)) ∙ same_word _ _ told
       codes RegionTeam j x told =
           let m = member_of_code w (region_told (new_region a.context.task t r a.gathered.team f)) j x told in
-          team j (slice_get_within a.gathered.team j m.member m.is) ∙ ap (λ (y : Tid × ℕ). task_address w y.0) (member_is a.gathered.team j m.member m.is) ∙ m.code
+          team j (slice_get_within a.gathered.team j m.member m.is)
+          ∙ ap (λ (y : Tid × ℕ). task_address w y.0) (member_is a.gathered.team j m.member m.is)
+          ∙ m.code
       codes g at x told = absurd (cc)
 
-  pub member_filled : (q : Rec) (j : ℕ) (m : Tid × ℕ) → member_of a.gathered.team j ≡ m → (j ≡ 0 → t.exit ≡ exit_frame m.1 a.context.depth) → Inherits (inherited_words a.gathered.variables) t.variables → length t.variables.nthreads ≤ 4
+  pub member_filled : (q : Rec) (j : ℕ) (m : Tid × ℕ) → member_of a.gathered.team j ≡ m
+      → (j ≡ 0 → t.exit ≡ exit_frame m.1 a.context.depth)
+      → Inherits (inherited_words a.gathered.variables) t.variables → length t.variables.nthreads ≤ 4
       → IsFilled q (task_plan w (new_member p a n j)) TASK_WORDS → MemberIsFilled w q (member_task p n a.context.task t r f j m.1)
   member_filled q j m at exit inherits few o = record { codes = codes; children = o 15 (omega arith); references = o 16 (omega arith); slots = slots }
     where
@@ -75,7 +89,8 @@ module _ (p : Program) (w : List ℕ) (a : Actor) (n : Rid) (f : ℕ) (t : Task)
       elements (suc (suc zero)) x there = o 19 (omega arith) ∙ inherits.elements 2 x there
       elements (suc (suc (suc zero))) x there = o 20 (omega arith) ∙ inherits.elements 3 x there
       elements (suc (suc (suc (suc k)))) x there =
-          let within : suc (suc (suc (suc k))) < length (shortened t.variables.nthreads) = slice_get_within (shortened t.variables.nthreads) (suc (suc (suc (suc k)))) x there in
+          let within : suc (suc (suc (suc k))) < length (shortened t.variables.nthreads) =
+          slice_get_within (shortened t.variables.nthreads) (suc (suc (suc (suc k)))) x there in
           let most = shortened_few t.variables.nthreads few in
           absurd (omega (arith, within, most))
 
@@ -86,19 +101,25 @@ module _ (p : Program) (w : List ℕ) (a : Actor) (n : Rid) (f : ℕ) (t : Task)
       slots (suc (suc (suc zero))) within = o 24 (omega arith)
       slots (suc (suc (suc (suc k)))) within = absurd (omega (arith, within))
 
-      go : (b : Bool) → j == 0 ≡ b → exit_frame m.1 (if b then a.context.depth + 1 else 1) ≡ (if b then exit_below t.exit else exit_frame m.1 1)
+      go : (b : Bool) → j == 0 ≡ b
+          → exit_frame m.1 (if b then a.context.depth + 1 else 1) ≡ (if b then exit_below t.exit else exit_frame m.1 1)
       go true e = let is = exit (eqb-true j 0 e) in omega (arith, is)
       go false e = refl
 
       codes : HasCodes (task_code w (task_told (member_task p n a.context.task t r f j m.1))) q
       codes TaskImplicit zero x told = o 0 (omega arith) ∙ same_word _ _ told
       codes TaskRegion zero x told = o 1 (omega arith) ∙ same_word _ _ told
-      codes TaskThread zero x told = o 2 (omega arith) ∙ ap (λ (y : Tid × ℕ). thread_address w y.1) at ∙ same_word _ _ told
+      codes TaskThread zero x told =
+          o 2 (omega arith) ∙ ap (λ (y : Tid × ℕ). thread_address w y.1) at ∙ same_word _ _ told
       codes TaskNumber zero x told = o 3 (omega arith) ∙ same_word _ _ told
       codes TaskGenerating zero x told = o 4 (omega arith) ∙ same_word _ _ told
       codes TaskScheduling zero x told = o 5 (omega arith) ∙ same_word _ _ told
       codes TaskFunction zero x told = o 6 (omega arith) ∙ ap entry_address function ∙ same_word _ _ told
-      codes TaskExit zero x told = o 7 (omega arith) ∙ ap (λ (y : Tid × ℕ). exit_frame y.1 (TeamParts.member_depth a j)) at ∙ go (j == 0) refl ∙ same_word _ _ told
+      codes TaskExit zero x told =
+          o 7 (omega arith)
+          ∙ ap (λ (y : Tid × ℕ). exit_frame y.1 (TeamParts.member_depth a j)) at
+          ∙ go (j == 0) refl
+          ∙ same_word _ _ told
       codes TaskEnter zero x told = o 8 (omega arith) ∙ same_word _ _ told
       codes TaskDynamic zero x told = o 9 (omega arith) ∙ inherits.dynamic ∙ same_word _ _ told
       codes TaskNthreadsLength zero x told = o 10 (omega arith) ∙ inherits.size ∙ same_word _ _ told

@@ -85,7 +85,9 @@ fork_next p at a (s, is, parallel) = go s is parallel
     go (stmt.Parallel f num) is o = record { function = f; num = num; is = is; ahead = in_work_is p a.stack (stmt.Parallel f num) _ is }
     go _ is o = absurd o
 
-module _ (p : Program) (w : List ℕ) (m : Memory) (events : List (ℕ × Event)) (s : State) (actors : ℕ → Actor) (i : ℕ) (before : Before p w m events s actors i) (r : Rid) (at : (actors i).counter ≡ counter.Team (team.Fork r)) where
+module _ (p : Program) (w : List ℕ) (m : Memory) (events : List (ℕ × Event)) (s : State) (actors : ℕ → Actor)
+    (i : ℕ) (before : Before p w m events s actors i) (r : Rid)
+    (at : (actors i).counter ≡ counter.Team (team.Fork r)) where
   abbrev C : TeamCounter
   C = team.Fork r
 
@@ -99,10 +101,14 @@ module _ (p : Program) (w : List ℕ) (m : Memory) (events : List (ℕ × Event)
   K = (actors i).context.task
 
   abbrev pub list : List Item
-  list = working (encounter_of s (actors i).context) (leaving p (encounter_of s (actors i).context) (actors i).stack)
+  list =
+      working (encounter_of s (actors i).context)
+      (leaving p (encounter_of s (actors i).context) (actors i).stack)
 
   abbrev pub z : State
-  z = on_task s (actors i).context.task (relisted (working (encounter_of s (actors i).context) (leaving p (encounter_of s (actors i).context) (actors i).stack)))
+  z =
+      on_task s (actors i).context.task
+      (relisted (working (encounter_of s (actors i).context) (leaving p (encounter_of s (actors i).context) (actors i).stack)))
 
   pub fit : FitsTeam p (actors i) (team.Fork r)
   fit = fits p w m events s actors i before C at
@@ -129,26 +135,32 @@ module _ (p : Program) (w : List ℕ) (m : Memory) (events : List (ℕ × Event)
   -- ---- new objects
 
   made : KeepsMaking s i (record nothing { region = Some r; tasks = tasks_of (actors i).gathered.team })
-  made = subst (KeepsMaking s i) (owes p w m events s actors i before C at) (before.rule.words.made i before.known).making
+  made =
+      subst (KeepsMaking s i) (owes p w m events s actors i before C at)
+      (before.rule.words.made i before.known).making
 
   region_making : IsInTheMaking i (s.regions i) r.0
   region_making = made.region r refl
 
   task_making : (j : ℕ) → j < length Team → IsInTheMaking i (s.tasks i) (member_of Team j).0.0
   task_making j within =
-      of_members (λ (k : Tid). IsInTheMaking i (s.tasks i) k.0) Team (length Team) j (subst (All (λ (k : Tid). IsInTheMaking i (s.tasks i) k.0)) (sym (all_taken Team)) made.tasks) within within
+      of_members (λ (k : Tid). IsInTheMaking i (s.tasks i) k.0) Team (length Team) j
+      (subst (All (λ (k : Tid). IsInTheMaking i (s.tasks i) k.0)) (sym (all_taken Team)) made.tasks) within within
 
   pub fresh_region : IsFresh s.regions i r.0
   fresh_region = record { creator = region_making.maker; empty = region_making.free; next = region_making.next; below = filled.below }
 
   fresh_task : (j : ℕ) → j < length Team → IsFresh s.tasks i (member_of Team j).0.0
-  fresh_task j within = let o = task_making j within in record { creator = o.maker; empty = o.free; next = o.next; below = filled.tasks_below j within }
+  fresh_task j within =
+      let o = task_making j within in record { creator = o.maker; empty = o.free; next = o.next; below = filled.tasks_below j within }
 
   distinct : AreDistinct (map (λ m. m.0) Team)
   distinct = apart_distinct Team made.apart
 
   pub news : AreNew z.tasks i (actors i).gathered.team
-  news = new_team z.tasks i Team (each_is (λ x. IsFresh z.tasks i x.0.0) Team (λ j within. on_fresh s.tasks K.0 (relisted list) i (member_of Team j).0.0 (fresh_task j within))) distinct
+  news =
+      new_team z.tasks i Team
+      (each_is (λ x. IsFresh z.tasks i x.0.0) Team (λ j within. on_fresh s.tasks K.0 (relisted list) i (member_of Team j).0.0 (fresh_task j within))) distinct
 
   -- ---- the step
 
@@ -179,10 +191,16 @@ module _ (p : Program) (w : List ℕ) (m : Memory) (events : List (ℕ × Event)
   function_is = ap parallel_function next.is
 
   region_is : IsFilled (m i regions r.0.slot) (region_plan w (TeamParts.planned_region p (actors i))) REGION_WORDS
-  region_is = subst (λ c. IsFilled (m c regions r.0.slot) (region_plan w (TeamParts.planned_region p (actors i))) REGION_WORDS) region_making.maker filled.region
+  region_is =
+      subst
+      (λ c. IsFilled (m c regions r.0.slot) (region_plan w (TeamParts.planned_region p (actors i))) REGION_WORDS) region_making.maker filled.region
 
-  member_filled_at : (j : ℕ) → j < length Team → IsFilled (m i tasks (member_of Team j).0.0.slot) (task_plan w (new_member p (actors i) r j)) TASK_WORDS
-  member_filled_at j within = subst (λ c. IsFilled (m c tasks (member_of Team j).0.0.slot) (task_plan w (new_member p (actors i) r j)) TASK_WORDS) (task_making j within).maker (filled.tasks j within)
+  member_filled_at : (j : ℕ) → j < length Team
+      → IsFilled (m i tasks (member_of Team j).0.0.slot) (task_plan w (new_member p (actors i) r j)) TASK_WORDS
+  member_filled_at j within =
+      subst
+      (λ c. IsFilled (m c tasks (member_of Team j).0.0.slot) (task_plan w (new_member p (actors i) r j)) TASK_WORDS)
+      (task_making j within).maker (filled.tasks j within)
 
   pub own_member : (member_of (actors i).gathered.team 0).1 ≡ i
   own_member = first_thread Team i (got_threads (s.threads i).asks) has_team.asks.joined
@@ -201,13 +219,17 @@ module _ (p : Program) (w : List ℕ) (m : Memory) (events : List (ℕ × Event)
       let low_active = low.1 in
       record {
         region_record =
-            region_filled p w (actors i) r next.function moved here.region function_is here.region_is (m i regions r.0.slot)
-            (ap (λ (x : Region). x.levels) same_region ∙ levels) (ap (λ (x : Region). x.active) same_region ∙ active) (omega (arith, low_levels, few)) (omega (arith, low_active, few))
+            region_filled p w (actors i) r next.function moved here.region function_is here.region_is
+            (m i regions r.0.slot)
+            (ap (λ (x : Region). x.levels) same_region ∙ levels)
+            (ap (λ (x : Region). x.active) same_region ∙ active) (omega (arith, low_levels, few))
+            (omega (arith, low_active, few))
             (λ j within. subst (λ c. m c regions r.0.slot (number RegionTeam) j ≡ task_address w (member_of Team j).0) region_making.maker (filled.team j within)) region_is;
         members = λ j y there.
             let within : j < length Team = slice_get_within Team j y there in
             let is : member_of Team j ≡ y = member_is Team j y there in
-            member_filled p w (actors i) r next.function moved here.region function_is here.region_is (m i tasks y.0.0.slot) j y is
+            member_filled p w (actors i) r next.function moved here.region function_is here.region_is
+            (m i tasks y.0.0.slot) j y is
             (λ first. here.exit ∙ ap (λ h. exit_frame h (actors i).context.depth) (sym own_member ∙ ap (λ n. (member_of Team n).1) (sym first) ∙ ap (λ (x : Tid × ℕ). x.1) is))
             (inherits here.task.variables (actors i).gathered.variables (task_few p w m events s actors i before C at) (λ n below. subst (λ (x : Task). IsVariable x.variables n (slice_index (actors i).gathered.variables n)) (sym same_task) (are n below)))
             (task_few p w m events s actors i before C at)
@@ -218,16 +240,20 @@ module _ (p : Program) (w : List ℕ) (m : Memory) (events : List (ℕ × Event)
 
   meant : (v : ℕ) (k : Tid) → WaitsFor z v k → IsMeantFor s k v
   meant v k o =
-      let was : IsRelisted s z = subst (λ (x : State). IsRelisted s x) (list_moved p s i (actors i) (stands p w m events s actors i before C at) list) (is_relisted s i list) in
+      let was : IsRelisted s z =
+      subst (λ (x : State). IsRelisted s x)
+      (list_moved p s i (actors i) (stands p w m events s actors i before C at) list) (is_relisted s i list) in
       let (t, xs, live, same) = was.tasks k o.task o.live in
       record { task = t; live = live; waiting = ap (λ (x : Task). x.progress) (sym same) ∙ o.progress; thread = ap (λ (x : Task). x.thread) (sym same) ∙ o.thread }
 
   forking_now : IsForking s i
   forking_now = is_forking p w m events s actors i before C at refl fit.0.0
 
-  joined_idle : (v : ℕ) → v < s.count → Contains (s.threads i).asks (v, true) → HasNoTask z (all_owed actors) v
+  joined_idle : (v : ℕ) → v < s.count → Contains (s.threads i).asks (v, true)
+      → HasNoTask z (all_owed actors) v
   joined_idle v known there =
-      let (waits, by, none) = (claims_kept p events s before.rule.reached v).got i (record { forking = forking_now; joined = there }) in
+      let (waits, by, none) =
+      (claims_kept p events s before.rule.reached v).got i (record { forking = forking_now; joined = there }) in
       record {
         waits = λ k o. none k (meant v k o);
         met = unmet p w m s v (actors v) (before.rule.threads v known).row (λ k o. none k (record { task = o.task; live = o.live; waiting = o.progress; thread = o.thread }));
@@ -240,9 +266,13 @@ module _ (p : Program) (w : List ℕ) (m : Memory) (events : List (ℕ × Event)
       (got_each (λ v. HasNoTask z (all_owed actors) v) s.count (s.threads i).asks (subst (All (λ v. v < s.count)) (sym o.asked) (others_known i (actors i).gathered.asked s.count o.few)) joined_idle)
 
   names : AreNamesLive z
-  names = subst AreNamesLive (list_moved p s i (actors i) (stands p w m events s actors i before C at) list) (names_stay_live s i list (names_live p events s before.rule.reached))
+  names =
+      subst AreNamesLive (list_moved p s i (actors i) (stands p w m events s actors i before C at) list)
+      (names_stay_live s i list (names_live p events s before.rule.reached))
 
   pub words : KeepsWords w (with_word m i threads 0 (number ThreadCurrent) 0 (task_address w (member_of (actors i).gathered.team 0).0)) u (replace_at (all_owed actors) i (record nothing { assigns = drop 1 (actors i).gathered.team }))
   words =
-      subst (λ v. KeepsWords w (with_word m i threads 0 (number ThreadCurrent) 0 v) u (replace_at (all_owed actors) i (record nothing { assigns = drop 1 Team }))) (ap (task_word w) (first_master Team fit.0.1))
+      subst
+      (λ v. KeepsWords w (with_word m i threads 0 (number ThreadCurrent) 0 v) u (replace_at (all_owed actors) i (record nothing { assigns = drop 1 Team })))
+      (ap (task_word w) (first_master Team fit.0.1))
       (forks_keep p w m z (all_owed actors) i r Team next.function K moved here.region (words_moved p w m events s actors i before C at list) before.known (owes p w m events s actors i before C at) records idle names before.valid)

@@ -79,7 +79,9 @@ use Rattle.omi_model.proofs.StaysKept.{stays_step}
 use Rattle.omi_rule.specs.Chains.{RunsFunctions}
 use Rattle.omi_rule.proofs.Runs.{stack_runs}
 
-module _ (p : Program) (w : List ℕ) (m : Memory) (events : List (ℕ × Event)) (s : State) (actors : ℕ → Actor) (i : ℕ) (before : Before p w m events s actors i) (r : Rid) (at : (actors i).counter ≡ counter.Team (team.Fork r)) where
+module _ (p : Program) (w : List ℕ) (m : Memory) (events : List (ℕ × Event)) (s : State) (actors : ℕ → Actor)
+    (i : ℕ) (before : Before p w m events s actors i) (r : Rid)
+    (at : (actors i).counter ≡ counter.Team (team.Fork r)) where
   abbrev C : TeamCounter
   C = team.Fork r
 
@@ -109,16 +111,24 @@ module _ (p : Program) (w : List ℕ) (m : Memory) (events : List (ℕ × Event)
   Outer = (here p w m events s actors i before r at).region
 
   abbrev Master : Task
-  Master = member_task p r (actors i).context.task (moved p w m events s actors i before r at) (here p w m events s actors i before r at).region (next p w m events s actors i before r at).function 0 (member_of (actors i).gathered.team 0).1
+  Master =
+      member_task p r (actors i).context.task (moved p w m events s actors i before r at)
+      (here p w m events s actors i before r at).region (next p w m events s actors i before r at).function 0
+      (member_of (actors i).gathered.team 0).1
 
   abbrev New : Region
-  New = new_region (actors i).context.task (moved p w m events s actors i before r at) (here p w m events s actors i before r at).region (actors i).gathered.team (next p w m events s actors i before r at).function
+  New =
+      new_region (actors i).context.task (moved p w m events s actors i before r at)
+      (here p w m events s actors i before r at).region (actors i).gathered.team
+      (next p w m events s actors i before r at).function
 
   abbrev X : RecordWord
   X = thread_word i ThreadCurrent
 
   abbrev N : Memory
-  N = with_word m i threads 0 (number ThreadCurrent) 0 (task_address w (member_of (actors i).gathered.team 0).0)
+  N =
+      with_word m i threads 0 (number ThreadCurrent) 0
+      (task_address w (member_of (actors i).gathered.team 0).0)
 
   some : 1 ≤ length Members
   some = (fit p w m events s actors i before r at).0.1
@@ -133,13 +143,19 @@ module _ (p : Program) (w : List ℕ) (m : Memory) (events : List (ℕ × Event)
   }
 
   live_first : task_of U First ≡ Some Master
-  live_first = members_found (member_task p r K Encountering Outer f) Members Z.tasks i (news p w m events s actors i before r at) 0 (member_of Members 0) (there_at Members 0 (let h = some in omega (arith, h)))
+  live_first =
+      members_found (member_task p r K Encountering Outer f) Members Z.tasks i
+      (news p w m events s actors i before r at) 0 (member_of Members 0)
+      (there_at Members 0 (let h = some in omega (arith, h)))
 
   found_new : region_of U r ≡ Some New
   found_new = made_same s.regions r.0 New
 
   current : (U.threads i).current ≡ Some First
-  current = ap (λ (h : Thread). h.current) (put_same s.threads i (record (s.threads i) { current = master_of Members })) ∙ first_master Members some
+  current =
+      ap (λ (h : Thread). h.current)
+      (put_same s.threads i (record (s.threads i) { current = master_of Members }))
+      ∙ first_master Members some
 
   -- ---- the bodies
 
@@ -168,14 +184,21 @@ module _ (p : Program) (w : List ℕ) (m : Memory) (events : List (ℕ × Event)
   }
 
   changes : ChangesTask s Z i (actors i).context.task
-  changes = own_changes p s i (actors i) (stands p w m events s actors i before C at) (relisted (list p w m events s actors i before r at)) Z (λ t live. relisted_alike (list p w m events s actors i before r at) t) refl refl refl refl
+  changes =
+      own_changes p s i (actors i) (stands p w m events s actors i before C at)
+      (relisted (list p w m events s actors i before r at)) Z
+      (λ t live. relisted_alike (list p w m events s actors i before r at) t) refl refl refl refl
 
   bodies_moved : KeepsBodies p Z i (actors i).context (actors i).stack
-  bodies_moved = bodies_kept p s Z i K changes (actors i).context (actors i).stack (own_below p s i (actors i) (stands p w m events s actors i before C at) events before.rule.reached) (stands p w m events s actors i before C at).bodies
+  bodies_moved =
+      bodies_kept p s Z i K changes (actors i).context (actors i).stack
+      (own_below p s i (actors i) (stands p w m events s actors i before C at) events before.rule.reached)
+      (stands p w m events s actors i before C at).bodies
 
   same_encounter : encounter_of U (actors i).context ≡ encounter_of s (actors i).context
   same_encounter =
-      encounter_grows p Z U i larger (actors i).context (of_innermost p Z i (actors i).context (actors i).stack bodies_moved)
+      encounter_grows p Z U i larger (actors i).context
+      (of_innermost p Z i (actors i).context (actors i).stack bodies_moved)
       ∙ encounter_kept p s Z i K changes (actors i).context (here p w m events s actors i before r at)
 
   bodies : KeepsBodies p U i context (at_start (region_function p (actors i)) (opened.Master (actors i).context) ∷ (actors i).stack)
@@ -204,15 +227,20 @@ module _ (p : Program) (w : List ℕ) (m : Memory) (events : List (ℕ × Event)
   seen : encounter_of U context ≡ record { debug = p.env.debug; number = 0; level = Outer.levels + 1; is_final = false }
   seen =
       ap (encounter_by U) live_first
-      ∙ ap (λ (e : Env). record { debug = e.debug; number = 0; level = level_of U r; is_final = false }) (environment_stays p events s before.rule.reached)
-      ∙ ap (λ (x : Option Region). record { debug = p.env.debug; number = 0; level = option_map_or (λ q. q.levels) x 0; is_final = false }) found_new
+      ∙ ap (λ (e : Env). record { debug = e.debug; number = 0; level = level_of U r; is_final = false })
+      (environment_stays p events s before.rule.reached)
+      ∙ ap
+      (λ (x : Option Region). record { debug = p.env.debug; number = 0; level = option_map_or (λ q. q.levels) x 0; is_final = false }) found_new
 
   list_first : Master.list ≡ working (encounter_of U context) (Ahead.worked p (encounter_of U context) b.stack)
   list_first =
-      ap (λ g. member_items p (record { debug = p.env.debug; number = 0; level = Outer.levels + 1; is_final = false }) g) (sym (function_is p w m events s actors i before r at))
+      ap
+      (λ g. member_items p (record { debug = p.env.debug; number = 0; level = Outer.levels + 1; is_final = false }) g)
+      (sym (function_is p w m events s actors i before r at))
       ∙ ap (λ (e : Encounter). working e (Ahead.worked p e b.stack)) (sym seen)
 
-  ahead : (t : Task) → task_of U First ≡ Some t → t.list ≡ working (encounter_of U context) (Ahead.worked p (encounter_of U context) b.stack)
+  ahead : (t : Task) → task_of U First ≡ Some t
+      → t.list ≡ working (encounter_of U context) (Ahead.worked p (encounter_of U context) b.stack)
   ahead t live = ap (λ (x : Task). x.list) (some_same live live_first) ∙ list_first
 
   -- ---- the thread afterwards
@@ -233,7 +261,8 @@ module _ (p : Program) (w : List ℕ) (m : Memory) (events : List (ℕ × Event)
   works_now : KeepsThread p w N Later U i (Moves.back_to_work p b)
   works_now =
       let mine = own p w m events s actors i before C at in
-      works p w N Later U i b (at_start (region_function p (actors i)) (opened.Master (actors i).context)) (actors i).stack refl mine.thread
+      works p w N Later U i b (at_start (region_function p (actors i)) (opened.Master (actors i).context))
+      (actors i).stack refl mine.thread
       (record { thread = mine.fits.thread; variables = mine.fits.variables; bodies = open_bodies; some = omega arith })
       (inl (refl, tt)) contexts_placed (ap (λ (e : Encounter). e.debug) seen) current bodies runs ahead
 
@@ -261,7 +290,8 @@ module _ (p : Program) (w : List ℕ) (m : Memory) (events : List (ℕ × Event)
 
   regions_within : AreWithin w regions U.regions
   regions_within creator slot g x e =
-      each_made (λ (n : Id) (y : Region). record { maker : n.creator < thread_count w; place : n.slot < per_thread w regions }) s.regions r.0 New
+      each_made
+      (λ (n : Id) (y : Region). record { maker : n.creator < thread_count w; place : n.slot < per_thread w regions }) s.regions r.0 New
       (λ n y live. before.rule.within.regions n.creator n.slot n.generation y live)
       (let there = (placed p w m events s actors i before C at).0 in record { maker = there.made_by; place = there.within })
       (record { creator = creator; slot = slot; generation = g }) x e
@@ -273,7 +303,9 @@ module _ (p : Program) (w : List ℕ) (m : Memory) (events : List (ℕ × Event)
 
   tasks_within : AreWithin w tasks U.tasks
   tasks_within creator slot g x e =
-      members_each (λ (n : Id) (y : Task). record { maker : n.creator < thread_count w; place : n.slot < per_thread w tasks }) (member_task p r K Encountering Outer f) 0 Members Z.tasks
+      members_each
+      (λ (n : Id) (y : Task). record { maker : n.creator < thread_count w; place : n.slot < per_thread w tasks })
+      (member_task p r K Encountering Outer f) 0 Members Z.tasks
       (λ n y live. tasks_moved n.creator n.slot n.generation y live)
       (λ j within t. let there = (filled p w m events s actors i before r at).slots j within in record { maker = there.made_by; place = there.within })
       (record { creator = creator; slot = slot; generation = g }) x e
@@ -282,7 +314,9 @@ module _ (p : Program) (w : List ℕ) (m : Memory) (events : List (ℕ × Event)
   waiting =
       waiting_step p s i (event.Fork r Members) U (done p w m events s actors i before r at)
       (λ y there g fork.
-      let same : (item.Fork f, list p w m events s actors i before r at) ≡ y = some_same (takes p w m events s actors i before C at (event.Fork r Members) (item.Fork f) (list p w m events s actors i before r at) (taken p w m events s actors i before r at)) there in
+      let same : (item.Fork f, list p w m events s actors i before r at) ≡ y =
+      some_same
+      (takes p w m events s actors i before C at (event.Fork r Members) (item.Fork f) (list p w m events s actors i before r at) (taken p w m events s actors i before r at)) there in
       let is : item.Fork f ≡ item.Fork g = ap (λ (q : Item × List Item). q.0) same ∙ fork in
       let number_is : f ≡ g = cc is in
       subst (λ n. n < length p.funcs) number_is
@@ -291,13 +325,19 @@ module _ (p : Program) (w : List ℕ) (m : Memory) (events : List (ℕ × Event)
 
   -- ---- the step
 
-  step : (a : Actor) → owed a ≡ record nothing { assigns = drop 1 (actors i).gathered.team } → KeepsThread p w N Later U i a
-      → KeepsRule p w m events s actors i (op.Store (of_thread w (actors i).thread ThreadCurrent) (task_address w (member_of (actors i).gathered.team 0).0)) X (a, outcome.Event (event.Fork r (actors i).gathered.team))
+  step : (a : Actor) → owed a ≡ record nothing { assigns = drop 1 (actors i).gathered.team }
+      → KeepsThread p w N Later U i a
+      → KeepsRule p w m events s actors i
+      (op.Store (of_thread w (actors i).thread ThreadCurrent) (task_address w (member_of (actors i).gathered.team 0).0)) X
+      (a, outcome.Event (event.Fork r (actors i).gathered.team))
   step a is thread =
-      event_keeps p w m events s actors i before (op.Store (of_thread w (actors i).thread ThreadCurrent) (task_address w First)) X (a, outcome.Event (event.Fork r Members)) (event.Fork r Members) U refl
+      event_keeps p w m events s actors i before
+      (op.Store (of_thread w (actors i).thread ThreadCurrent) (task_address w First)) X
+      (a, outcome.Event (event.Fork r Members)) (event.Fork r Members) U refl
       (done p w m events s actors i before r at)
       (task_address w First, ap (λ j. op.Store (of_thread w j ThreadCurrent) (task_address w First)) (own p w m events s actors i before C at).thread)
-      tt regions_within tasks_within waiting (owed_after w N U actors i a (record nothing { assigns = drop 1 Members }) is (words p w m events s actors i before r at))
+      tt regions_within tasks_within waiting
+      (owed_after w N U actors i a (record nothing { assigns = drop 1 Members }) is (words p w m events s actors i before r at))
       (λ j other. spares_threads m s i ThreadCurrent (task_address w First) j (actors j) (λ same. absurd (omega (arith, same))))
       thread
 
@@ -309,7 +349,9 @@ module _ (p : Program) (w : List ℕ) (m : Memory) (events : List (ℕ × Event)
   )
     where
       go : (d : Bool) → nat_lt 1 (team_size (actors i)) ≡ d
-          → KeepsRule p w m events s actors i (op.Store (of_thread w (actors i).thread ThreadCurrent) (task_address w (member_of (actors i).gathered.team 0).0)) X (if d then to_team (team.Assign 1) b else Moves.back_to_work p b, outcome.Event (event.Fork r (actors i).gathered.team))
+          → KeepsRule p w m events s actors i
+          (op.Store (of_thread w (actors i).thread ThreadCurrent) (task_address w (member_of (actors i).gathered.team 0).0)) X
+          (if d then to_team (team.Assign 1) b else Moves.back_to_work p b, outcome.Event (event.Fork r (actors i).gathered.team))
       go true e = step (to_team (team.Assign 1) b) refl (assigns_now (ltb-true 1 (team_size (actors i)) e))
       go false e =
           let alone : 1 ≡ length Members = (let h = some in grind (arith, nat_tests, h)) in

@@ -25,7 +25,8 @@ shortened_few [] few = few
 shortened_few (n ∷ []) few = few
 shortened_few (n ∷ k ∷ ns) few = omega (arith, few)
 
-module _ (v : Variables) (words : List ℕ) (few : length v.nthreads ≤ 4) (known : (j : ℕ) → j < 8 → IsVariable v j (slice_index words j)) where
+module _ (v : Variables) (words : List ℕ) (few : length v.nthreads ≤ 4)
+    (known : (j : ℕ) → j < 8 → IsVariable v j (slice_index words j)) where
   -- the list behind its first element
   behind : (n k : ℕ) (ns : List ℕ) → v.nthreads ≡ n ∷ k ∷ ns → (j x : ℕ) → slice_get (k ∷ ns) j ≡ Some x
       → slice_index (slice_index words 0 ∷ (slice_index words 1 - 1) ∷ slice_index words 2 ∷ slice_index words 3 ∷ slice_index words 5 ∷ slice_index words 6 ∷ slice_index words 7 ∷ 0 ∷ []) (4 + j) ≡ x
@@ -33,7 +34,8 @@ module _ (v : Variables) (words : List ℕ) (few : length v.nthreads ≤ 4) (kno
   behind n k ns is (suc zero) x there = known 6 (omega arith) x (ap (λ xs. slice_get xs 2) is ∙ there)
   behind n k ns is (suc (suc zero)) x there = known 7 (omega arith) x (ap (λ xs. slice_get xs 3) is ∙ there)
   behind n k ns is (suc (suc (suc j))) x there =
-      let within : suc (suc (suc j)) < length (k ∷ ns) = slice_get_within (k ∷ ns) (suc (suc (suc j))) x there in
+      let within : suc (suc (suc j)) < length (k ∷ ns) =
+      slice_get_within (k ∷ ns) (suc (suc (suc j))) x there in
       let long : length v.nthreads ≡ suc (suc (length ns)) = ap length is in
       absurd (omega (arith, within, long, few))
 
@@ -61,9 +63,12 @@ module _ (v : Variables) (words : List ℕ) (few : length v.nthreads ≤ 4) (kno
       }
 
       go : (ns : List ℕ) → v.nthreads ≡ ns → (b : Bool) → nat_lt 1 (slice_index words 1) ≡ b
-          → Inherits (if b then slice_index words 0 ∷ (slice_index words 1 - 1) ∷ slice_index words 2 ∷ slice_index words 3 ∷ slice_index words 5 ∷ slice_index words 6 ∷ slice_index words 7 ∷ 0 ∷ [] else words) v
-      go [] is true e = let long : length v.nthreads ≡ 0 = ap length is in let more = ltb-true 1 (slice_index words 1) e in absurd (omega (arith, long, size, more))
-      go (n ∷ []) is true e = let long : length v.nthreads ≡ 1 = ap length is in let more = ltb-true 1 (slice_index words 1) e in absurd (omega (arith, long, size, more))
+          → Inherits
+          (if b then slice_index words 0 ∷ (slice_index words 1 - 1) ∷ slice_index words 2 ∷ slice_index words 3 ∷ slice_index words 5 ∷ slice_index words 6 ∷ slice_index words 7 ∷ 0 ∷ [] else words) v
+      go [] is true e =
+          let long : length v.nthreads ≡ 0 = ap length is in let more = ltb-true 1 (slice_index words 1) e in absurd (omega (arith, long, size, more))
+      go (n ∷ []) is true e =
+          let long : length v.nthreads ≡ 1 = ap length is in let more = ltb-true 1 (slice_index words 1) e in absurd (omega (arith, long, size, more))
       go (n ∷ k ∷ ns) is true e =
           let long : length v.nthreads ≡ suc (suc (length ns)) = ap length is in
           record {

@@ -31,7 +31,8 @@ use Rattle.omi_rule.specs.Steps.{KeepsRule, RecordWord, StepKeeps, found_in}
 use Rattle.omi_rule.proofs.Assembly.{Before, load_stays}
 use Rattle.omi_rule.proofs.team.Within.{context, fits, going, goes_on, own, owes, region_record, region_slot, row, task_record, task_slot}
 
-module _ (p : Program) (w : List ℕ) (m : Memory) (events : List (ℕ × Event)) (s : State) (actors : ℕ → Actor) (i : ℕ) (before : Before p w m events s actors i) where
+module _ (p : Program) (w : List ℕ) (m : Memory) (events : List (ℕ × Event)) (s : State) (actors : ℕ → Actor)
+    (i : ℕ) (before : Before p w m events s actors i) where
   abbrev a : Actor
   a = actors i
 
@@ -39,7 +40,8 @@ module _ (p : Program) (w : List ℕ) (m : Memory) (events : List (ℕ × Event)
   g = (actors i).gathered
 
   pub levels_keep : (actors i).counter ≡ counter.Team team.LoadLevels
-      → StepKeeps p w m events s actors i (team_next p w (actors i) team.LoadLevels) (λ old. (team_moved p w (actors i) team.LoadLevels old, team_outcome p w (actors i) team.LoadLevels old))
+      → StepKeeps p w m events s actors i (team_next p w (actors i) team.LoadLevels)
+      (λ old. (team_moved p w (actors i) team.LoadLevels old, team_outcome p w (actors i) team.LoadLevels old))
   levels_keep at =
       let n = (actors i).context.region in
       let x : RecordWord = record { creator = n.0.creator; slot = n.0.slot; field = RegionLevels; place = 0 } in
@@ -47,24 +49,30 @@ module _ (p : Program) (w : List ℕ) (m : Memory) (events : List (ℕ × Event)
       let word : found_in m x ≡ o.region.levels = (region_record p w m events s actors i before team.LoadLevels at).codes RegionLevels 0 _ refl in (
         x,
         record { there = record { field = record { from = omega arith; to = omega arith }; record_slot = region_slot p w m events s actors i before team.LoadLevels at; within = omega arith }; address = refl },
-        load_stays p w m events s actors i before (of_region w n RegionLevels) x (going team.LoadActive (record g { levels = found_in m x }) a) (sym (owes p w m events s actors i before team.LoadLevels at))
+        load_stays p w m events s actors i before (of_region w n RegionLevels) x
+            (going team.LoadActive (record g { levels = found_in m x }) a)
+            (sym (owes p w m events s actors i before team.LoadLevels at))
             (goes_on p w m events s actors i before team.LoadLevels at m team.LoadActive (record g { levels = found_in m x }) (own p w m events s actors i before team.LoadLevels at).fits.variables refl
             (fits p w m events s actors i before team.LoadLevels at) tt (o.region, o.found, sym word)),
       )
 
   pub active_keeps : (actors i).counter ≡ counter.Team team.LoadActive
-      → StepKeeps p w m events s actors i (team_next p w (actors i) team.LoadActive) (λ old. (team_moved p w (actors i) team.LoadActive old, team_outcome p w (actors i) team.LoadActive old))
+      → StepKeeps p w m events s actors i (team_next p w (actors i) team.LoadActive)
+      (λ old. (team_moved p w (actors i) team.LoadActive old, team_outcome p w (actors i) team.LoadActive old))
   active_keeps at =
       let n = (actors i).context.region in
       let x : RecordWord = record { creator = n.0.creator; slot = n.0.slot; field = RegionActive; place = 0 } in
       let o = context p w m events s actors i before team.LoadActive at in
       let (r, found, levels) = row p w m events s actors i before team.LoadActive at in
       let same : o.region ≡ r = some_same o.found found in
-      let word : found_in m x ≡ o.region.active = (region_record p w m events s actors i before team.LoadActive at).codes RegionActive 0 _ refl in
+      let word : found_in m x ≡ o.region.active =
+      (region_record p w m events s actors i before team.LoadActive at).codes RegionActive 0 _ refl in
       let fits_now = fits p w m events s actors i before team.LoadActive at in (
         x,
         record { there = record { field = record { from = omega arith; to = omega arith }; record_slot = region_slot p w m events s actors i before team.LoadActive at; within = omega arith }; address = refl },
-        load_stays p w m events s actors i before (of_region w n RegionActive) x (going (team.LoadVariable 0) (record g { active = found_in m x }) a) (sym (owes p w m events s actors i before team.LoadActive at))
+        load_stays p w m events s actors i before (of_region w n RegionActive) x
+            (going (team.LoadVariable 0) (record g { active = found_in m x }) a)
+            (sym (owes p w m events s actors i before team.LoadActive at))
             (goes_on p w m events s actors i before team.LoadActive at m (team.LoadVariable 0) (record g { active = found_in m x }) (own p w m events s actors i before team.LoadActive at).fits.variables refl
             (fits_now, omega arith) tt
             ((r, found, levels, sym (word ∙ ap (λ (y : Region). y.active) same)), (o.task, o.live, λ j below. absurd (omega (arith, below))))),
@@ -84,7 +92,8 @@ variable_field (suc (suc (suc (suc (suc (suc zero)))))) below = refl
 variable_field (suc (suc (suc (suc (suc (suc (suc zero))))))) below = refl
 variable_field (suc (suc (suc (suc (suc (suc (suc (suc n)))))))) below = absurd (omega (arith, below))
 
-pub variable_word : (w : List ℕ) (k : Id) (word : ℕ) → word < VARIABLE_WORDS → IsSlot w tasks k.creator k.slot → IsRecordWord w k.creator k.slot (number (variable_at word).0) (variable_at word).1
+pub variable_word : (w : List ℕ) (k : Id) (word : ℕ) → word < VARIABLE_WORDS → IsSlot w tasks k.creator k.slot
+    → IsRecordWord w k.creator k.slot (number (variable_at word).0) (variable_at word).1
 variable_word w k zero below o = record { field = record { from = omega arith; to = omega arith }; record_slot = o; within = omega arith }
 variable_word w k (suc zero) below o = record { field = record { from = omega arith; to = omega arith }; record_slot = o; within = omega arith }
 variable_word w k (suc (suc zero)) below o = record { field = record { from = omega arith; to = omega arith }; record_slot = o; within = omega arith }
@@ -96,7 +105,9 @@ variable_word w k (suc (suc (suc (suc (suc (suc (suc zero))))))) below o = recor
 variable_word w k (suc (suc (suc (suc (suc (suc (suc (suc n)))))))) below o = absurd (omega (arith, below))
 
 -- they are the codes of it
-pub variable_is : (w : List ℕ) (r : Rec) (t : Task) (word : ℕ) → word < VARIABLE_WORDS → KeepsEnvironment w r t → IsVariable t.variables word (r (number (variable_at word).0) (variable_at word).1)
+pub variable_is : (w : List ℕ) (r : Rec) (t : Task) (word : ℕ) → word < VARIABLE_WORDS
+    → KeepsEnvironment w r t
+    → IsVariable t.variables word (r (number (variable_at word).0) (variable_at word).1)
 variable_is w r t zero below o = o TaskDynamic 0 _ refl refl
 variable_is w r t (suc zero) below o = o TaskNthreadsLength 0 _ refl refl
 variable_is w r t (suc (suc zero)) below o = o TaskSchedule 0 _ refl refl
@@ -104,23 +115,30 @@ variable_is w r t (suc (suc (suc zero))) below o = o TaskDevice 0 _ refl refl
 variable_is w r t (suc (suc (suc (suc zero)))) below o = λ n there. o TaskNthreads 0 n refl there
 variable_is w r t (suc (suc (suc (suc (suc zero))))) below o = λ n there. o TaskNthreads 1 n refl there
 variable_is w r t (suc (suc (suc (suc (suc (suc zero)))))) below o = λ n there. o TaskNthreads 2 n refl there
-variable_is w r t (suc (suc (suc (suc (suc (suc (suc zero))))))) below o = λ n there. o TaskNthreads 3 n refl there
+variable_is w r t (suc (suc (suc (suc (suc (suc (suc zero))))))) below o =
+    λ n there. o TaskNthreads 3 n refl there
 variable_is w r t (suc (suc (suc (suc (suc (suc (suc (suc n)))))))) below o = absurd (omega (arith, below))
 
 -- one word more of it is gathered
-pub variables_more : (t : Task) (old : List ℕ) (word value : ℕ) → length old ≡ VARIABLE_WORDS → word < VARIABLE_WORDS → ((j : ℕ) → j < word → IsVariable t.variables j (slice_index old j)) → IsVariable t.variables word value
+pub variables_more : (t : Task) (old : List ℕ) (word value : ℕ) → length old ≡ VARIABLE_WORDS
+    → word < VARIABLE_WORDS → ((j : ℕ) → j < word → IsVariable t.variables j (slice_index old j))
+    → IsVariable t.variables word value
     → (j : ℕ) → j < word + 1 → IsVariable t.variables j (slice_index (slice_set old word value) j)
 variables_more t old word value whole below are here j within = go (j == word) refl
   where
     go : (b : Bool) → j == word ≡ b → IsVariable t.variables j (slice_index (slice_set old word value) j)
     go true e =
         let same : j ≡ word = eqb-true j word e in
-        subst (λ k. IsVariable t.variables k (slice_index (slice_set old word value) k)) (sym same) (subst (IsVariable t.variables word) (sym (get_or-set_same old word value 0 (omega (arith, below, whole)))) here)
+        subst (λ k. IsVariable t.variables k (slice_index (slice_set old word value) k)) (sym same)
+        (subst (IsVariable t.variables word) (sym (get_or-set_same old word value 0 (omega (arith, below, whole)))) here)
     go false e =
         let apart : j ≢ word = λ same. cc (sym (eq-eqb j word same), e) in
-        subst (IsVariable t.variables j) (sym (get_or-set_other old word j value 0 apart)) (are j (omega (arith, within, apart)))
+        subst (IsVariable t.variables j) (sym (get_or-set_other old word j value 0 apart))
+        (are j (omega (arith, within, apart)))
 
-module _ (p : Program) (w : List ℕ) (m : Memory) (events : List (ℕ × Event)) (s : State) (actors : ℕ → Actor) (i : ℕ) (before : Before p w m events s actors i) (word : ℕ) (at : (actors i).counter ≡ counter.Team (team.LoadVariable word)) where
+module _ (p : Program) (w : List ℕ) (m : Memory) (events : List (ℕ × Event)) (s : State) (actors : ℕ → Actor)
+    (i : ℕ) (before : Before p w m events s actors i) (word : ℕ)
+    (at : (actors i).counter ≡ counter.Team (team.LoadVariable word)) where
   abbrev Name : Id
   Name = (actors i).context.task.0
 
@@ -128,13 +146,16 @@ module _ (p : Program) (w : List ℕ) (m : Memory) (events : List (ℕ × Event)
   X = record { creator = (actors i).context.task.0.creator; slot = (actors i).context.task.0.slot; field = (variable_at word).0; place = (variable_at word).1 }
 
   abbrev Then : Gathered
-  Then = record (actors i).gathered { variables = slice_set (actors i).gathered.variables word (found_in m X) }
+  Then =
+      record (actors i).gathered { variables = slice_set (actors i).gathered.variables word (found_in m X) }
 
   below : word < VARIABLE_WORDS
   below = (fits p w m events s actors i before (team.LoadVariable word) at).1
 
   variables : length Then.variables ≡ VARIABLE_WORDS
-  variables = length-set (actors i).gathered.variables word (found_in m X) ∙ (own p w m events s actors i before (team.LoadVariable word) at).fits.variables
+  variables =
+      length-set (actors i).gathered.variables word (found_in m X)
+      ∙ (own p w m events s actors i before (team.LoadVariable word) at).fits.variables
 
   -- one word more is known
   known : KnowsVariables s (going team.Want Then (actors i)) (word + 1)
@@ -142,7 +163,9 @@ module _ (p : Program) (w : List ℕ) (m : Memory) (events : List (ℕ × Event)
       let (active, (t, live, are)) = row p w m events s actors i before (team.LoadVariable word) at in
       let o = context p w m events s actors i before (team.LoadVariable word) at in
       let same : o.task ≡ t = some_same o.live live in
-      let found : found_in m X ≡ m Name.creator tasks Name.slot (number (variable_at word).0) (variable_at word).1 = ap (λ kind. m Name.creator kind Name.slot (number (variable_at word).0) (variable_at word).1) (variable_field word below) in
+      let found : found_in m X ≡ m Name.creator tasks Name.slot (number (variable_at word).0) (variable_at word).1 =
+      ap (λ kind. m Name.creator kind Name.slot (number (variable_at word).0) (variable_at word).1)
+      (variable_field word below) in
       let here : IsVariable t.variables word (found_in m X) =
       subst (IsVariable t.variables word) (sym found)
       (subst (λ (v : Task). IsVariable v.variables word (m Name.creator tasks Name.slot (number (variable_at word).0) (variable_at word).1)) same
@@ -156,16 +179,21 @@ module _ (p : Program) (w : List ℕ) (m : Memory) (events : List (ℕ × Event)
     go (nat_lt (word + 1) VARIABLE_WORDS) refl,
   )
     where
-      go : (b : Bool) → nat_lt (word + 1) VARIABLE_WORDS ≡ b → KeepsRule p w m events s actors i (op.Load (of_variable w Name word)) X (to_team (if b then team.LoadVariable (word + 1) else team.Want) (with_loaded_variable word (found_in m X) (actors i)), outcome.Quiet)
+      go : (b : Bool) → nat_lt (word + 1) VARIABLE_WORDS ≡ b
+          → KeepsRule p w m events s actors i (op.Load (of_variable w Name word)) X (to_team (if b then team.LoadVariable (word + 1) else team.Want) (with_loaded_variable word (found_in m X) (actors i)), outcome.Quiet)
       go true e =
           let next : word + 1 < VARIABLE_WORDS = ltb-true (word + 1) VARIABLE_WORDS e in
           let (active, others) = row p w m events s actors i before (team.LoadVariable word) at in
-          load_stays p w m events s actors i before (of_variable w Name word) X (going (team.LoadVariable (word + 1)) Then (actors i)) (sym (owes p w m events s actors i before (team.LoadVariable word) at))
+          load_stays p w m events s actors i before (of_variable w Name word) X
+          (going (team.LoadVariable (word + 1)) Then (actors i))
+          (sym (owes p w m events s actors i before (team.LoadVariable word) at))
           (goes_on p w m events s actors i before (team.LoadVariable word) at m (team.LoadVariable (word + 1)) Then variables refl
           ((fits p w m events s actors i before (team.LoadVariable word) at).0, next) tt (active, known))
       go false e =
           let all : word + 1 ≡ VARIABLE_WORDS = grind (arith, nat_tests, below) in
           let (active, others) = row p w m events s actors i before (team.LoadVariable word) at in
-          load_stays p w m events s actors i before (of_variable w Name word) X (going team.Want Then (actors i)) (sym (owes p w m events s actors i before (team.LoadVariable word) at))
+          load_stays p w m events s actors i before (of_variable w Name word) X
+          (going team.Want Then (actors i))
+          (sym (owes p w m events s actors i before (team.LoadVariable word) at))
           (goes_on p w m events s actors i before (team.LoadVariable word) at m team.Want Then variables refl
           (fits p w m events s actors i before (team.LoadVariable word) at).0 tt (record { region = active; task = subst (KnowsVariables s (going team.Want Then (actors i))) all known }))

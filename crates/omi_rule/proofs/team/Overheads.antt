@@ -39,7 +39,9 @@ use Rattle.omi_rule.proofs.OwnTask.{own_changes, relisted_alike}
 use Rattle.omi_rule.proofs.team.Events.{stands, step, team_event, words_moved}
 use Rattle.omi_rule.proofs.team.Within.{fits, own, owes}
 
-module _ (p : Program) (w : List ℕ) (m : Memory) (events : List (ℕ × Event)) (s : State) (actors : ℕ → Actor) (i : ℕ) (before : Before p w m events s actors i) (at : (actors i).counter ≡ counter.Team team.OverheadState) where
+module _ (p : Program) (w : List ℕ) (m : Memory) (events : List (ℕ × Event)) (s : State) (actors : ℕ → Actor)
+    (i : ℕ) (before : Before p w m events s actors i)
+    (at : (actors i).counter ≡ counter.Team team.OverheadState) where
   abbrev C : TeamCounter
   C = team.OverheadState
 
@@ -47,7 +49,9 @@ module _ (p : Program) (w : List ℕ) (m : Memory) (events : List (ℕ × Event)
   behind = wanting p (encounter_of s (actors i).context) (actors i).stack
 
   abbrev next : State
-  next = with_state (on_task s (actors i).context.task (relisted (wanting p (encounter_of s (actors i).context) (actors i).stack))) i OVERHEAD 0
+  next =
+      with_state
+      (on_task s (actors i).context.task (relisted (wanting p (encounter_of s (actors i).context) (actors i).stack))) i OVERHEAD 0
 
   abbrev word : ℕ
   word = state_word OVERHEAD 0
@@ -57,12 +61,16 @@ module _ (p : Program) (w : List ℕ) (m : Memory) (events : List (ℕ × Event)
 
   words : KeepsWords w (with_word m i threads 0 (number ThreadState) 0 word) next (all_owed actors)
   words =
-      thread_stores_keep w m (on_task s (actors i).context.task (relisted behind)) (all_owed actors) i (record (s.threads i) { state = OVERHEAD; wait = 0 }) ThreadState word (words_moved p w m events s actors i before C at behind)
-      (λ same. omega (arith, same)) (state_stored w i (m i threads 0) (thread_told (s.threads i)) (before.rule.words.made i before.known).thread OVERHEAD 0)
+      thread_stores_keep w m (on_task s (actors i).context.task (relisted behind)) (all_owed actors) i
+      (record (s.threads i) { state = OVERHEAD; wait = 0 }) ThreadState word
+      (words_moved p w m events s actors i before C at behind)
+      (λ same. omega (arith, same))
+      (state_stored w i (m i threads 0) (thread_told (s.threads i)) (before.rule.words.made i before.known).thread OVERHEAD 0)
 
   changes : ChangesTask s next i (actors i).context.task
   changes =
-      own_changes p s i (actors i) (stands p w m events s actors i before C at) (relisted behind) next (λ t live. relisted_alike behind t) refl
+      own_changes p s i (actors i) (stands p w m events s actors i before C at) (relisted behind) next
+      (λ t live. relisted_alike behind t) refl
       (ap (λ (h : Thread). h.current) (put_same s.threads i (record (s.threads i) { state = OVERHEAD; wait = 0 }))) refl refl
 
   pub overhead_keeps : StepKeeps p w m events s actors i (team_next p w (actors i) C) (λ old. (team_moved p w (actors i) C old, team_outcome p w (actors i) C old))
@@ -74,10 +82,13 @@ module _ (p : Program) (w : List ℕ) (m : Memory) (events : List (ℕ × Event)
           there = record { field = record { from = omega arith; to = omega arith }; record_slot = record { made_by = known; within = omega arith }; within = omega arith };
           address = ap (λ j. of_thread w j ThreadState) thread;
         },
-        team_event p w m events s actors i before C at (op.Store (of_thread w (actors i).thread ThreadState) word) X team.LoadLevels (actors i).gathered (event.State OVERHEAD 0) (item.State OVERHEAD 0) behind behind next
+        team_event p w m events s actors i before C at
+            (op.Store (of_thread w (actors i).thread ThreadState) word) X team.LoadLevels (actors i).gathered
+            (event.State OVERHEAD 0) (item.State OVERHEAD 0) behind behind next
             (λ none. none) (λ f e. absurd (cc e)) refl
             (step p w m events s actors i before C at (event.State OVERHEAD 0) (item.State OVERHEAD 0) behind behind next refl tt refl refl)
-            (word, ap (λ j. op.Store (of_thread w j ThreadState) word) thread) words (sym (owes p w m events s actors i before C at))
+            (word, ap (λ j. op.Store (of_thread w j ThreadState) word) thread) words
+            (sym (owes p w m events s actors i before C at))
             (λ j other. spares_threads m s i ThreadState word j (actors j) (λ same. omega (arith, same)))
             changes refl refl
             (record { variables = (own p w m events s actors i before C at).fits.variables; fits = fits p w m events s actors i before C at; placed = tt; row = tt }),

@@ -43,7 +43,8 @@ use Rattle.omi_rule.proofs.team.Plans.{IsPlannedWord, fill_next, planned_there, 
 use Rattle.omi_rule.proofs.team.Records.{team_goes}
 use Rattle.omi_rule.proofs.team.Within.{fits, going, goes_on, own, owes, placed, row}
 
-module _ (p : Program) (w : List ℕ) (m : Memory) (events : List (ℕ × Event)) (s : State) (actors : ℕ → Actor) (i : ℕ) (before : Before p w m events s actors i) where
+module _ (p : Program) (w : List ℕ) (m : Memory) (events : List (ℕ × Event)) (s : State) (actors : ℕ → Actor)
+    (i : ℕ) (before : Before p w m events s actors i) where
   module _ (r : Rid) (at : (actors i).counter ≡ counter.Team (team.TakeRegion r)) where
     abbrev C : TeamCounter
     C = team.TakeRegion r
@@ -75,7 +76,8 @@ module _ (p : Program) (w : List ℕ) (m : Memory) (events : List (ℕ × Event)
             there = record { field = record { from = omega arith; to = omega arith }; record_slot = subst (λ j. IsSlot w regions j r.0.slot) fresh.creator there; within = omega arith };
             address = ap (λ j. word_address w j r.0.slot (number RegionLife) 0) fresh.creator;
           },
-          quiet_keeps p w m events s actors i before (op.Store (of_region w r RegionLife) (used_word r.0)) X (Then, outcome.Quiet) refl taken
+          quiet_keeps p w m events s actors i before (op.Store (of_region w r RegionLife) (used_word r.0)) X
+              (Then, outcome.Quiet) refl taken
               (λ j other. spares_own m s i regions r.0.slot (number RegionLife) 0 (2 * r.0.generation + 1) j (actors j) other (λ kind. absurd (omega (arith, kind))))
               (goes_on p w m events s actors i before C at N (team.FillRegion r 0) (actors i).gathered (own p w m events s actors i before C at).fits.variables refl
               (fits p w m events s actors i before C at, omega arith)
@@ -94,7 +96,10 @@ module _ (p : Program) (w : List ℕ) (m : Memory) (events : List (ℕ × Event)
     Y = record { creator = i; slot = r.0.slot; field = (region_plan w (planned_region p (actors i)) word).field; place = (region_plan w (planned_region p (actors i)) word).at }
 
     abbrev After : Memory
-    After = with_word m i regions r.0.slot (number (region_plan w (planned_region p (actors i)) word).field) (region_plan w (planned_region p (actors i)) word).at (region_plan w (planned_region p (actors i)) word).value
+    After =
+        with_word m i regions r.0.slot (number (region_plan w (planned_region p (actors i)) word).field)
+        (region_plan w (planned_region p (actors i)) word).at
+        (region_plan w (planned_region p (actors i)) word).value
 
     below : word < REGION_WORDS
     below = (fits p w m events s actors i before D at).1
@@ -103,14 +108,18 @@ module _ (p : Program) (w : List ℕ) (m : Memory) (events : List (ℕ × Event)
     planned = region_planned w (planned_region p (actors i)) word below
 
     making : IsInTheMaking i (s.regions i) r.0
-    making = (before.rule.words.made i before.known).making.region r (ap (λ (x : Owed). x.region) (owes p w m events s actors i before D at))
+    making =
+        (before.rule.words.made i before.known).making.region r
+        (ap (λ (x : Owed). x.region) (owes p w m events s actors i before D at))
 
     left : left_in m (filling w r.0 Word) Y ≡ After
     left = ap (λ kind. with_word m i kind r.0.slot (number Word.field) Word.at Word.value) planned.kind_is
 
     filled : IsRegionFilled p w After (actors i) r (word + 1)
     filled =
-        subst (λ c. IsFilled (After c regions r.0.slot) (region_plan w (planned_region p (actors i))) (word + 1)) (sym making.maker)
+        subst
+        (λ c. IsFilled (After c regions r.0.slot) (region_plan w (planned_region p (actors i))) (word + 1))
+        (sym making.maker)
         (fill_next (m i regions r.0.slot) (After i regions r.0.slot) (region_plan w (planned_region p (actors i))) word REGION_WORDS
         (word_read m i regions r.0.slot (number Word.field) Word.at Word.value)
         (λ f k apart. word_stays m i regions r.0.slot (number Word.field) Word.at Word.value i regions r.0.slot f k (λ _ _ _ field place. apart field place))
@@ -119,7 +128,8 @@ module _ (p : Program) (w : List ℕ) (m : Memory) (events : List (ℕ × Event)
 
     stored : (b : Actor) → owed b ≡ owed (actors i) → KeepsWords w After s (all_owed (replace_at actors i b))
     stored b same =
-        moves_keep w After s actors i b (region_fills_keep w m s (all_owed actors) i r.0.slot Word.field Word.at Word.value before.rule.words making.free (let above = planned.above in λ life. absurd (omega (arith, above, life)))) same
+        moves_keep w After s actors i b
+        (region_fills_keep w m s (all_owed actors) i r.0.slot Word.field Word.at Word.value before.rule.words making.free (let above = planned.above in λ life. absurd (omega (arith, above, life)))) same
 
     pub region_fill_keeps : StepKeeps p w m events s actors i (team_next p w (actors i) D) (λ old. (team_moved p w (actors i) D old, team_outcome p w (actors i) D old))
     region_fill_keeps = (
@@ -137,14 +147,16 @@ module _ (p : Program) (w : List ℕ) (m : Memory) (events : List (ℕ × Event)
         asks : HasTeam s i (actors i)
         asks = (row p w m events s actors i before D at).0
 
-        step : (b : Actor) → owed b ≡ owed (actors i) → KeepsThread p w After events s i b → KeepsRule p w m events s actors i (filling w r.0 Word) Y (b, outcome.Quiet)
+        step : (b : Actor) → owed b ≡ owed (actors i) → KeepsThread p w After events s i b
+            → KeepsRule p w m events s actors i (filling w r.0 Word) Y (b, outcome.Quiet)
         step b same thread =
             quiet_keeps p w m events s actors i before (filling w r.0 Word) Y (b, outcome.Quiet) refl
             (subst (λ (n : Memory). KeepsWords w n s (all_owed (replace_at actors i b))) (sym left) (stored b same))
             (λ j other. subst (λ (n : Memory). Spares m n s j (actors j)) (sym left) (spares_own m s i regions r.0.slot (number Word.field) Word.at Word.value j (actors j) other (λ kind. absurd (omega (arith, kind)))))
             (subst (λ (n : Memory). KeepsThread p w n events s i b) (sym left) thread)
 
-        go : (b : Bool) → nat_lt (word + 1) REGION_WORDS ≡ b → KeepsRule p w m events s actors i (filling w r.0 Word) Y (to_team (if b then team.FillRegion r (word + 1) else team.LoadTaskLife r 0 0) (actors i), outcome.Quiet)
+        go : (b : Bool) → nat_lt (word + 1) REGION_WORDS ≡ b
+            → KeepsRule p w m events s actors i (filling w r.0 Word) Y (to_team (if b then team.FillRegion r (word + 1) else team.LoadTaskLife r 0 0) (actors i), outcome.Quiet)
         go true e =
             let next : TeamCounter = team.FillRegion r (word + 1) in
             step (to_team next (actors i)) (sym (owes p w m events s actors i before D at))

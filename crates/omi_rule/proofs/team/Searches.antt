@@ -30,7 +30,8 @@ use Rattle.omi_rule.proofs.SlotGenerations.{slots_few}
 use Rattle.omi_rule.proofs.team.Records.{filled_as_before, free_slot, is_forking, next_within, taken_slot, team_goes}
 use Rattle.omi_rule.proofs.team.Within.{fits, goes_on, own, owes, placed, row}
 
-module _ (p : Program) (w : List ℕ) (m : Memory) (events : List (ℕ × Event)) (s : State) (actors : ℕ → Actor) (i : ℕ) (before : Before p w m events s actors i) where
+module _ (p : Program) (w : List ℕ) (m : Memory) (events : List (ℕ × Event)) (s : State) (actors : ℕ → Actor)
+    (i : ℕ) (before : Before p w m events s actors i) where
   -- the thread is one of the layout
   makes : (actors i).thread ≡ i → (actors i).thread < s.count
   makes same = let known = before.known in omega (arith, same, known)
@@ -46,7 +47,11 @@ module _ (p : Program) (w : List ℕ) (m : Memory) (events : List (ℕ × Event)
     mine = (own p w m events s actors i before C at).thread
 
     life : KeepsLife (m (actors i).thread regions slot) RegionLife (s.regions i slot) (has_region_slot slot (owed (actors i)).region)
-    life = subst (λ j. KeepsLife (m j regions slot) RegionLife (s.regions i slot) (has_region_slot slot (owed (actors i)).region)) (sym mine) (((before.rule.words.made i before.known).regions slot (placed p w m events s actors i before C at)).life)
+    life =
+        subst
+        (λ j. KeepsLife (m j regions slot) RegionLife (s.regions i slot) (has_region_slot slot (owed (actors i)).region))
+        (sym mine)
+        (((before.rule.words.made i before.known).regions slot (placed p w m events s actors i before C at)).life)
 
     pub region_search_keeps : StepKeeps p w m events s actors i (team_next p w (actors i) C) (λ old. (team_moved p w (actors i) C old, team_outcome p w (actors i) C old))
     region_search_keeps = (
@@ -63,18 +68,23 @@ module _ (p : Program) (w : List ℕ) (m : Memory) (events : List (ℕ × Event)
     )
       where
         go : (b : Bool) → is_free (found_in m X) ≡ b
-            → KeepsRule p w m events s actors i (op.Load (of_place w (own_place (actors i) slot) RegionLife)) X
+            → KeepsRule p w m events s actors i
+            (op.Load (of_place w (own_place (actors i) slot) RegionLife)) X
             (to_team (if b then team.TakeRegion (record { 0 = object_in (own_place (actors i) slot) (found_in m X) }) else team.LoadRegionLife (next_slot w regions slot)) (actors i), if b then outcome.Quiet else outcome.NotReady (of_place w (own_place (actors i) slot) RegionLife) (found_in m X))
         go true free =
             let r : Rid = record { 0 = object_in (own_place (actors i) slot) (found_in m X) } in
-            let (fresh, none) = free_slot s.regions i (actors i).thread slot RegionLife (m (actors i).thread regions slot) (has_region_slot slot (owed (actors i)).region) mine life free in
-            load_stays p w m events s actors i before (of_place w (own_place (actors i) slot) RegionLife) X (to_team (team.TakeRegion r) (actors i)) (sym (owes p w m events s actors i before C at))
+            let (fresh, none) =
+            free_slot s.regions i (actors i).thread slot RegionLife (m (actors i).thread regions slot)
+            (has_region_slot slot (owed (actors i)).region) mine life free in
+            load_stays p w m events s actors i before (of_place w (own_place (actors i) slot) RegionLife) X
+            (to_team (team.TakeRegion r) (actors i)) (sym (owes p w m events s actors i before C at))
             (goes_on p w m events s actors i before C at m (team.TakeRegion r) (actors i).gathered (own p w m events s actors i before C at).fits.variables refl
             (fits p w m events s actors i before C at, refl)
             (record { made_by = (let known = before.known in let count = before.rule.within.count in let same = mine in omega (arith, same, known, count)); within = placed p w m events s actors i before C at })
             (team_goes s i (actors i) (team.TakeRegion r) (actors i).gathered.team refl (row p w m events s actors i before C at), fresh))
         go false taken =
-            load_waits p w m events s actors i before (of_place w (own_place (actors i) slot) RegionLife) X (to_team (team.LoadRegionLife (next_slot w regions slot)) (actors i))
+            load_waits p w m events s actors i before (of_place w (own_place (actors i) slot) RegionLife) X
+            (to_team (team.LoadRegionLife (next_slot w regions slot)) (actors i))
             (Waits.ForRegion (is_forking p w m events s actors i before C at refl (fits p w m events s actors i before C at).0, (row p w m events s actors i before C at).over)
             (record {
               slot = slot;
@@ -88,7 +98,8 @@ module _ (p : Program) (w : List ℕ) (m : Memory) (events : List (ℕ × Event)
             (next_within w regions slot (placed p w m events s actors i before C at))
             (team_goes s i (actors i) (team.LoadRegionLife (next_slot w regions slot)) (actors i).gathered.team refl (row p w m events s actors i before C at)))
 
-  module _ (r : Rid) (member slot : ℕ) (at : (actors i).counter ≡ counter.Team (team.LoadTaskLife r member slot)) where
+  module _ (r : Rid) (member slot : ℕ)
+      (at : (actors i).counter ≡ counter.Team (team.LoadTaskLife r member slot)) where
     abbrev D : TeamCounter
     D = team.LoadTaskLife r member slot
 
@@ -99,7 +110,11 @@ module _ (p : Program) (w : List ℕ) (m : Memory) (events : List (ℕ × Event)
     same_thread = (own p w m events s actors i before D at).thread
 
     task_life : KeepsLife (m (actors i).thread tasks slot) TaskLife (s.tasks i slot) (has_slot slot (owed (actors i)).tasks)
-    task_life = subst (λ j. KeepsLife (m j tasks slot) TaskLife (s.tasks i slot) (has_slot slot (owed (actors i)).tasks)) (sym same_thread) (((before.rule.words.made i before.known).tasks slot (placed p w m events s actors i before D at).1).life)
+    task_life =
+        subst
+        (λ j. KeepsLife (m j tasks slot) TaskLife (s.tasks i slot) (has_slot slot (owed (actors i)).tasks))
+        (sym same_thread)
+        (((before.rule.words.made i before.known).tasks slot (placed p w m events s actors i before D at).1).life)
 
     there : IsSlot w tasks (actors i).thread slot
     there = record { made_by = (let known = before.known in let count = before.rule.within.count in let same = same_thread in omega (arith, same, known, count)); within = (placed p w m events s actors i before D at).1 }
@@ -123,16 +138,20 @@ module _ (p : Program) (w : List ℕ) (m : Memory) (events : List (ℕ × Event)
         go true free =
             let t : Tid = record { 0 = object_in (own_place (actors i) slot) (found_in m Y) } in
             let next : TeamCounter = team.TakeTask r member t in
-            let (fresh, none) = free_slot s.tasks i (actors i).thread slot TaskLife (m (actors i).thread tasks slot) (has_slot slot (owed (actors i)).tasks) same_thread task_life free in
+            let (fresh, none) =
+            free_slot s.tasks i (actors i).thread slot TaskLife (m (actors i).thread tasks slot)
+            (has_slot slot (owed (actors i)).tasks) same_thread task_life free in
             let mine = fits p w m events s actors i before D at in
-            load_stays p w m events s actors i before (of_place w (own_place (actors i) slot) TaskLife) Y (to_team next (actors i)) (sym (owes p w m events s actors i before D at))
+            load_stays p w m events s actors i before (of_place w (own_place (actors i) slot) TaskLife) Y
+            (to_team next (actors i)) (sym (owes p w m events s actors i before D at))
             (goes_on p w m events s actors i before D at m next (actors i).gathered (own p w m events s actors i before D at).fits.variables refl
             (mine.0, mine.1, refl)
             ((placed p w m events s actors i before D at).0, there)
             (team_goes s i (actors i) next (actors i).gathered.team refl asks, filled_as_before p w m (actors i) r member next filled, fresh, ap (λ (o : Owed). has_slot slot o.tasks) (sym (owes p w m events s actors i before D at)) ∙ none))
         go false taken =
             let next : TeamCounter = team.LoadTaskLife r member (next_slot w tasks slot) in
-            load_waits p w m events s actors i before (of_place w (own_place (actors i) slot) TaskLife) Y (to_team next (actors i))
+            load_waits p w m events s actors i before (of_place w (own_place (actors i) slot) TaskLife) Y
+            (to_team next (actors i))
             (Waits.ForTaskRecord (inl (is_forking p w m events s actors i before D at refl (fits p w m events s actors i before D at).0.0.0, asks.over))
             (record {
               slot = slot;

@@ -46,28 +46,38 @@ sizes_of_head value (n ∷ ns) is (first, rest) = (is, rest)
 
 all_sizes : (ns : List ℕ) → ((k : ℕ) → k < length ns → IsSize (slice_index ns k)) → AreSizes ns
 all_sizes [] each = tt
-all_sizes (n ∷ ns) each = (each 0 (omega arith), all_sizes ns (λ k within. each (suc k) (omega (arith, within))))
+all_sizes (n ∷ ns) each =
+    (each 0 (omega arith), all_sizes ns (λ k within. each (suc k) (omega (arith, within))))
 
-size_item : (icv value : ℕ) (y : Item) → fits (event.Set icv value) y ≡ true → IsItemRight y → icv ≡ NTHREADS_VAR → IsSize value
+size_item : (icv value : ℕ) (y : Item) → fits (event.Set icv value) y ≡ true → IsItemRight y
+    → icv ≡ NTHREADS_VAR → IsSize value
 size_item icv value (item.Set v x) fit is at =
     let icv_is = eqb-true icv v (and_left (icv == v) (value == x) fit) in
     subst IsSize (sym (eqb-true value x (and_right (icv == v) (value == x) fit))) (is.1 (sym icv_is ∙ at))
 size_item icv value y fit is at = absurd (false_true fit)
 
-sizes_step : (p : Program) (events : List (ℕ × Event)) (s : State) → Reached p events s → (i : ℕ) (e : Event) (next : State) → Step p s i e next → EachTask HasSizes s → EachTask HasSizes next
-sizes_step p events s reached i e next step all = task_step p HasSizes s i e next step (λ k t y ys is taken q. q) law all
+sizes_step : (p : Program) (events : List (ℕ × Event)) (s : State) → Reached p events s
+    → (i : ℕ) (e : Event) (next : State) → Step p s i e next → EachTask HasSizes s → EachTask HasSizes next
+sizes_step p events s reached i e next step all =
+    task_step p HasSizes s i e next step (λ k t y ys is taken q. q) law all
   where
-    of_set : (icv value : ℕ) (v u : Variables) → with_variable icv value v ≡ Some u → e ≡ event.Set icv value → AreSizes v.nthreads → AreSizes u.nthreads
+    of_set : (icv value : ℕ) (v u : Variables) → with_variable icv value v ≡ Some u → e ≡ event.Set icv value
+        → AreSizes v.nthreads → AreSizes u.nthreads
     of_set icv value v u f at_set o = go (set_nthreads icv value v u f)
       where
-        go : (u.nthreads ≡ v.nthreads) ⊎ ((icv ≡ NTHREADS_VAR) × (u.nthreads ≡ with_head value v.nthreads)) → AreSizes u.nthreads
+        go : (u.nthreads ≡ v.nthreads) ⊎ ((icv ≡ NTHREADS_VAR) × (u.nthreads ≡ with_head value v.nthreads))
+            → AreSizes u.nthreads
         go (inl same) = subst AreSizes (sym same) o
         go (inr (at, same)) =
             let tables = in_tables p events s reached in
-            let size = size_item icv value (m p s i e next step tables).item (subst (λ (x : Event). fits x (m p s i e next step tables).item ≡ true) at_set (item_fits p s i e next step tables)) (item_right p s i e next step tables) at in
+            let size =
+            size_item icv value (m p s i e next step tables).item
+            (subst (λ (x : Event). fits x (m p s i e next step tables).item ≡ true) at_set (item_fits p s i e next step tables))
+            (item_right p s i e next step tables) at in
             subst AreSizes (sym same) (sizes_of_head value v.nthreads size o)
 
-    law : (middle : State) (y : Item) → IsRelisted s middle → Stays middle next → EachTask HasSizes middle → IsTaskLaw p middle i e y next HasSizes
+    law : (middle : State) (y : Item) → IsRelisted s middle → Stays middle next → EachTask HasSizes middle
+        → IsTaskLaw p middle i e y next HasSizes
     law middle y before later of_tasks = record {
       shows = λ k t x q. q;
       tools = λ k t x q. q;
@@ -80,7 +90,10 @@ sizes_step p events s reached i e next step all = task_step p HasSizes s i e nex
       made = λ task f final k t is of fresh by. of_tasks k t is.live;
     }
 
-pub have_sizes : (p : Program) (events : List (ℕ × Event)) (s : State) → Reached p events s → EachTask HasSizes s
+pub have_sizes : (p : Program) (events : List (ℕ × Event)) (s : State) → Reached p events s
+    → EachTask HasSizes s
 have_sizes p events s reached =
-    over_reached p (EachTask HasSizes) (λ first u was i e next step h. sizes_step p first u was i e next step h) [] (opening p) refl events s reached
+    over_reached p (EachTask HasSizes)
+    (λ first u was i e next step h. sizes_step p first u was i e next step h) []
+    (opening p) refl events s reached
     (each_first_task p HasSizes (all_sizes p.env.nthreads (Rules-from_accepted p).sizes))

@@ -52,11 +52,15 @@ use Rattle.omi_rule.proofs.team.Records.{filled_goes, team_goes}
 use Rattle.omi_rule.proofs.team.Within.{fits, going, goes_on, own, owes, placed, row}
 
 -- the tasks of the first members stay where another record of a task has a word stored
-tasks_stay : (m : Memory) (i slot f at v creator other : ℕ) → other ≢ slot → with_word m i tasks slot f at v creator tasks other ≡ m creator tasks other
-tasks_stay m i slot f at v creator other apart = record_stays m i tasks slot f at v creator tasks other (λ _ _ same. apart same)
+tasks_stay : (m : Memory) (i slot f at v creator other : ℕ) → other ≢ slot
+    → with_word m i tasks slot f at v creator tasks other ≡ m creator tasks other
+tasks_stay m i slot f at v creator other apart =
+    record_stays m i tasks slot f at v creator tasks other (λ _ _ same. apart same)
 
 -- the record of the next member's task stands filled, and its word in the team
-filled_more : (p : Program) (w : List ℕ) (m : Memory) (a : Actor) (r : Rid) (k : ℕ) → HasFilled p w m a r k → IsTaskFilled p w m a r k (member_of a.gathered.team k).0 TASK_WORDS → HasGeneration (member_of a.gathered.team k).0.0 → HasTask w (member_of a.gathered.team k).0
+filled_more : (p : Program) (w : List ℕ) (m : Memory) (a : Actor) (r : Rid) (k : ℕ) → HasFilled p w m a r k
+    → IsTaskFilled p w m a r k (member_of a.gathered.team k).0 TASK_WORDS
+    → HasGeneration (member_of a.gathered.team k).0.0 → HasTask w (member_of a.gathered.team k).0
     → m r.0.creator regions r.0.slot (number RegionTeam) k ≡ task_address w (member_of a.gathered.team k).0 → HasFilled p w m a r (k + 1)
 filled_more p w m a r k o last below slot word = record {
   below = o.below;
@@ -72,9 +76,11 @@ filled_more p w m a r k o last below slot word = record {
       where
         go : (b : Bool) → j == k ≡ b → P j
         go true e = subst P (sym (eqb-true j k e)) here
-        go false e = let apart : j ≢ k = (λ same. cc (sym (eq-eqb j k same), e)) in before j (omega (arith, less, apart))
+        go false e =
+            let apart : j ≢ k = (λ same. cc (sym (eq-eqb j k same), e)) in before j (omega (arith, less, apart))
 
-module _ (p : Program) (w : List ℕ) (m : Memory) (events : List (ℕ × Event)) (s : State) (actors : ℕ → Actor) (i : ℕ) (before : Before p w m events s actors i) (r : Rid) (member : ℕ) (t : Tid) where
+module _ (p : Program) (w : List ℕ) (m : Memory) (events : List (ℕ × Event)) (s : State) (actors : ℕ → Actor)
+    (i : ℕ) (before : Before p w m events s actors i) (r : Rid) (member : ℕ) (t : Tid) where
   module _ (at : (actors i).counter ≡ counter.Team (team.TakeTask r member t)) where
     abbrev C : TeamCounter
     C = team.TakeTask r member t
@@ -89,7 +95,9 @@ module _ (p : Program) (w : List ℕ) (m : Memory) (events : List (ℕ × Event)
     Got = record (actors i).gathered { team = with_task t member (actors i).gathered.team }
 
     abbrev Then : Actor
-    Then = going (team.FillTask r member t 0) (record (actors i).gathered { team = with_task t member (actors i).gathered.team }) (actors i)
+    Then =
+        going (team.FillTask r member t 0)
+        (record (actors i).gathered { team = with_task t member (actors i).gathered.team }) (actors i)
 
     abbrev N : Memory
     N = with_word m i tasks t.0.slot (number TaskLife) 0 (2 * t.0.generation + 1)
@@ -102,8 +110,10 @@ module _ (p : Program) (w : List ℕ) (m : Memory) (events : List (ℕ × Event)
 
     taken : KeepsWords w N s (all_owed (replace_at actors i Then))
     taken =
-        let o : owed (actors i) ≡ record nothing { region = Some r; tasks = take member (tasks_of (actors i).gathered.team) } = owes p w m events s actors i before C at in
-        owed_after w N s actors i Then (record nothing { region = Some r; tasks = take member (tasks_of (actors i).gathered.team) ++ t ∷ [] })
+        let o : owed (actors i) ≡ record nothing { region = Some r; tasks = take member (tasks_of (actors i).gathered.team) } =
+        owes p w m events s actors i before C at in
+        owed_after w N s actors i Then
+        (record nothing { region = Some r; tasks = take member (tasks_of (actors i).gathered.team) ++ t ∷ [] })
         (ap (λ ks. record nothing { region = Some r; tasks = ks }) (with_task_taken t member (actors i).gathered.team got.1))
         (subst (λ (x : Owed). KeepsWords w N s (replace_at (all_owed actors) i (record x { tasks = x.tasks ++ t ∷ [] }))) o
         (task_takes_keep w m s (all_owed actors) i t before.rule.words (record { maker = fresh.creator; free = fresh.empty; next = fresh.next })
@@ -119,7 +129,8 @@ module _ (p : Program) (w : List ℕ) (m : Memory) (events : List (ℕ × Event)
             there = record { field = record { from = omega arith; to = omega arith }; record_slot = subst (λ j. IsSlot w tasks j t.0.slot) fresh.creator there; within = omega arith };
             address = ap (λ j. word_address w j t.0.slot (number TaskLife) 0) fresh.creator;
           },
-          quiet_keeps p w m events s actors i before (op.Store (of_task w t TaskLife) (used_word t.0)) X (Then, outcome.Quiet) refl taken
+          quiet_keeps p w m events s actors i before (op.Store (of_task w t TaskLife) (used_word t.0)) X
+              (Then, outcome.Quiet) refl taken
               (λ j other. spares_own m s i tasks t.0.slot (number TaskLife) 0 (2 * t.0.generation + 1) j (actors j) other (λ _. fresh.empty))
               (goes_on p w m events s actors i before C at N (team.FillTask r member t 0) Got (own p w m events s actors i before C at).fits.variables refl
               (((((got.0.0.0, (let h = got.0.0.1 in omega (arith, h, size)), (let h = got.0.0.2 in omega (arith, h, size))), got.0.1), (let h = got.1 in omega (arith, h, size)), got.2)), omega arith) (
@@ -131,7 +142,8 @@ module _ (p : Program) (w : List ℕ) (m : Memory) (events : List (ℕ × Event)
                     subst (λ c. (member_of Team j).1 < c) count (threads_known i (actors i).gathered.asked s.count (s.threads i).asks Team known asks.asks.few asks.asks.asked (with_task_threads t member (actors i).gathered.team ∙ asks.asks.joined) j within),
               ) (
                 team_goes s i (actors i) (team.FillTask r member t 0) Team (with_task_threads t member (actors i).gathered.team) asks,
-                filled_goes p w m N (actors i) r member (team.FillTask r member t 0) Team size (λ j below. with_task_other t member (actors i).gathered.team j below)
+                filled_goes p w m N (actors i) r member (team.FillTask r member t 0) Team size
+                    (λ j below. with_task_other t member (actors i).gathered.team j below)
                     (λ j below. let kind = (region_planned w (planned_region p (actors i)) j below).kind_is in word_stays m i tasks t.0.slot (number TaskLife) 0 (2 * t.0.generation + 1) r.0.creator regions r.0.slot _ _ (λ _ other _ _ _. absurd (omega (arith, other))))
                     (λ j below. tasks_stay m i t.0.slot (number TaskLife) 0 (2 * t.0.generation + 1) _ _ (no_slot t.0.slot member (actors i).gathered.team j (row p w m events s actors i before C at).3 below (let h = got.1 in omega (arith, h, below))))
                     (λ j below. word_stays m i tasks t.0.slot (number TaskLife) 0 (2 * t.0.generation + 1) r.0.creator regions r.0.slot (number RegionTeam) j (λ _ other _ _ _. absurd (omega (arith, other))))
@@ -153,7 +165,10 @@ module _ (p : Program) (w : List ℕ) (m : Memory) (events : List (ℕ × Event)
     Y = record { creator = i; slot = t.0.slot; field = (task_plan w (new_member p (actors i) r member) word).field; place = (task_plan w (new_member p (actors i) r member) word).at }
 
     abbrev After : Memory
-    After = with_word m i tasks t.0.slot (number (task_plan w (new_member p (actors i) r member) word).field) (task_plan w (new_member p (actors i) r member) word).at (task_plan w (new_member p (actors i) r member) word).value
+    After =
+        with_word m i tasks t.0.slot (number (task_plan w (new_member p (actors i) r member) word).field)
+        (task_plan w (new_member p (actors i) r member) word).at
+        (task_plan w (new_member p (actors i) r member) word).value
 
     fill_got : IsMemberGot p (actors i) r member t
     fill_got = (fits p w m events s actors i before D at).0
@@ -165,24 +180,32 @@ module _ (p : Program) (w : List ℕ) (m : Memory) (events : List (ℕ × Event)
     planned = task_planned w (new_member p (actors i) r member) word below
 
     made : KeepsMaking s i (record nothing { region = Some r; tasks = take (member + 1) (tasks_of (actors i).gathered.team) })
-    made = subst (KeepsMaking s i) (owes p w m events s actors i before D at) (before.rule.words.made i before.known).making
+    made =
+        subst (KeepsMaking s i) (owes p w m events s actors i before D at)
+        (before.rule.words.made i before.known).making
 
     -- it is the task of this member
     is_its : (member_of (actors i).gathered.team member).0 ≡ t
     is_its = (row p w m events s actors i before D at).2
 
     making : IsInTheMaking i (s.tasks i) t.0
-    making = subst (λ (k : Tid). IsInTheMaking i (s.tasks i) k.0) is_its (of_members (λ (k : Tid). IsInTheMaking i (s.tasks i) k.0) (actors i).gathered.team (member + 1) member made.tasks (omega arith) fill_got.1)
+    making =
+        subst (λ (k : Tid). IsInTheMaking i (s.tasks i) k.0) is_its
+        (of_members (λ (k : Tid). IsInTheMaking i (s.tasks i) k.0) (actors i).gathered.team (member + 1) member made.tasks (omega arith) fill_got.1)
 
     others_apart : (j : ℕ) → j < member → (member_of (actors i).gathered.team j).0.0.slot ≢ t.0.slot
-    others_apart j less = subst (λ (k : Tid). (member_of (actors i).gathered.team j).0.0.slot ≢ k.0.slot) is_its (slots_apart member (actors i).gathered.team j made.apart less fill_got.1)
+    others_apart j less =
+        subst (λ (k : Tid). (member_of (actors i).gathered.team j).0.0.slot ≢ k.0.slot) is_its
+        (slots_apart member (actors i).gathered.team j made.apart less fill_got.1)
 
     left : left_in m (filling w t.0 Word) Y ≡ After
     left = ap (λ kind. with_word m i kind t.0.slot (number Word.field) Word.at Word.value) planned.kind_is
 
     words_filled : IsTaskFilled p w After (actors i) r member t (word + 1)
     words_filled =
-        subst (λ c. IsFilled (After c tasks t.0.slot) (task_plan w (new_member p (actors i) r member)) (word + 1)) (sym making.maker)
+        subst
+        (λ c. IsFilled (After c tasks t.0.slot) (task_plan w (new_member p (actors i) r member)) (word + 1))
+        (sym making.maker)
         (fill_next (m i tasks t.0.slot) (After i tasks t.0.slot) (task_plan w (new_member p (actors i) r member)) word TASK_WORDS
         (word_read m i tasks t.0.slot (number Word.field) Word.at Word.value)
         (λ f k apart. word_stays m i tasks t.0.slot (number Word.field) Word.at Word.value i tasks t.0.slot f k (λ _ _ _ field place. apart field place))
@@ -191,9 +214,11 @@ module _ (p : Program) (w : List ℕ) (m : Memory) (events : List (ℕ × Event)
 
     stored : (b : Actor) → owed b ≡ owed (actors i) → KeepsWords w After s (all_owed (replace_at actors i b))
     stored b same =
-        moves_keep w After s actors i b (task_fills_keep w m s (all_owed actors) i t.0.slot Word.field Word.at Word.value before.rule.words making.free (let above = planned.above in λ life. absurd (omega (arith, above, life)))) same
+        moves_keep w After s actors i b
+        (task_fills_keep w m s (all_owed actors) i t.0.slot Word.field Word.at Word.value before.rule.words making.free (let above = planned.above in λ life. absurd (omega (arith, above, life)))) same
 
-    others_filled : (next : TeamCounter) → HasFilled p w After (going next (actors i).gathered (actors i)) r member
+    others_filled : (next : TeamCounter)
+        → HasFilled p w After (going next (actors i).gathered (actors i)) r member
     others_filled next =
         filled_goes p w m After (actors i) r member next (actors i).gathered.team refl (λ j less. refl)
         (λ j less. word_stays m i tasks t.0.slot (number Word.field) Word.at Word.value r.0.creator regions r.0.slot _ _ (λ _ other _ _ _. absurd (omega (arith, other))))
@@ -214,14 +239,16 @@ module _ (p : Program) (w : List ℕ) (m : Memory) (events : List (ℕ × Event)
         asks : HasTeam s i (actors i)
         asks = (row p w m events s actors i before D at).0
 
-        step : (b : Actor) → owed b ≡ owed (actors i) → KeepsThread p w After events s i b → KeepsRule p w m events s actors i (filling w t.0 Word) Y (b, outcome.Quiet)
+        step : (b : Actor) → owed b ≡ owed (actors i) → KeepsThread p w After events s i b
+            → KeepsRule p w m events s actors i (filling w t.0 Word) Y (b, outcome.Quiet)
         step b same thread =
             quiet_keeps p w m events s actors i before (filling w t.0 Word) Y (b, outcome.Quiet) refl
             (subst (λ (n : Memory). KeepsWords w n s (all_owed (replace_at actors i b))) (sym left) (stored b same))
             (λ j other. subst (λ (n : Memory). Spares m n s j (actors j)) (sym left) (spares_own m s i tasks t.0.slot (number Word.field) Word.at Word.value j (actors j) other (λ _. making.free)))
             (subst (λ (n : Memory). KeepsThread p w n events s i b) (sym left) thread)
 
-        go : (b : Bool) → nat_lt (word + 1) TASK_WORDS ≡ b → KeepsRule p w m events s actors i (filling w t.0 Word) Y (to_team (if b then team.FillTask r member t (word + 1) else team.StoreMember r member t) (actors i), outcome.Quiet)
+        go : (b : Bool) → nat_lt (word + 1) TASK_WORDS ≡ b
+            → KeepsRule p w m events s actors i (filling w t.0 Word) Y (to_team (if b then team.FillTask r member t (word + 1) else team.StoreMember r member t) (actors i), outcome.Quiet)
         go true e =
             let next : TeamCounter = team.FillTask r member t (word + 1) in
             step (to_team next (actors i)) (sym (owes p w m events s actors i before D at))
@@ -255,10 +282,13 @@ module _ (p : Program) (w : List ℕ) (m : Memory) (events : List (ℕ × Event)
     its = (row p w m events s actors i before E at).2
 
     region_making : IsInTheMaking i (s.regions i) r.0
-    region_making = (before.rule.words.made i before.known).making.region r (ap (λ (x : Owed). x.region) (owes p w m events s actors i before E at))
+    region_making =
+        (before.rule.words.made i before.known).making.region r
+        (ap (λ (x : Owed). x.region) (owes p w m events s actors i before E at))
 
     -- the words of all members so far
-    now_filled : (next : TeamCounter) → HasFilled p w Stored (going next (actors i).gathered (actors i)) r (member + 1)
+    now_filled : (next : TeamCounter)
+        → HasFilled p w Stored (going next (actors i).gathered (actors i)) r (member + 1)
     now_filled next =
         filled_more p w Stored (going next (actors i).gathered (actors i)) r member
         (filled_goes p w m Stored (actors i) r member next (actors i).gathered.team refl (λ j less. refl)
@@ -274,9 +304,11 @@ module _ (p : Program) (w : List ℕ) (m : Memory) (events : List (ℕ × Event)
         (subst (λ (k : Tid). Stored r.0.creator regions r.0.slot (number RegionTeam) member ≡ task_address w k) (sym its)
         (subst (λ c. Stored c regions r.0.slot (number RegionTeam) member ≡ task_address w t) (sym region_making.maker) (word_read m i regions r.0.slot (number RegionTeam) member (task_address w t))))
 
-    member_stored : (b : Actor) → owed b ≡ owed (actors i) → KeepsWords w Stored s (all_owed (replace_at actors i b))
+    member_stored : (b : Actor) → owed b ≡ owed (actors i)
+        → KeepsWords w Stored s (all_owed (replace_at actors i b))
     member_stored b same =
-        moves_keep w Stored s actors i b (region_fills_keep w m s (all_owed actors) i r.0.slot RegionTeam member (task_address w t) before.rule.words region_making.free (λ life. absurd (omega (arith, life)))) same
+        moves_keep w Stored s actors i b
+        (region_fills_keep w m s (all_owed actors) i r.0.slot RegionTeam member (task_address w t) before.rule.words region_making.free (λ life. absurd (omega (arith, life)))) same
 
     pub member_store_keeps : StepKeeps p w m events s actors i (team_next p w (actors i) E) (λ old. (team_moved p w (actors i) E old, team_outcome p w (actors i) E old))
     member_store_keeps = (
@@ -298,13 +330,17 @@ module _ (p : Program) (w : List ℕ) (m : Memory) (events : List (ℕ × Event)
         asks : HasTeam s i (actors i)
         asks = (row p w m events s actors i before E at).0
 
-        step : (b : Actor) → owed b ≡ owed (actors i) → KeepsThread p w Stored events s i b → KeepsRule p w m events s actors i (op.Store (of_member w r member) (task_address w t)) Z (b, outcome.Quiet)
+        step : (b : Actor) → owed b ≡ owed (actors i) → KeepsThread p w Stored events s i b
+            → KeepsRule p w m events s actors i (op.Store (of_member w r member) (task_address w t)) Z (b, outcome.Quiet)
         step b same thread =
-            quiet_keeps p w m events s actors i before (op.Store (of_member w r member) (task_address w t)) Z (b, outcome.Quiet) refl
-            (member_stored b same) (λ j other. spares_own m s i regions r.0.slot (number RegionTeam) member (task_address w t) j (actors j) other (λ kind. absurd (omega (arith, kind)))) thread
+            quiet_keeps p w m events s actors i before (op.Store (of_member w r member) (task_address w t)) Z
+            (b, outcome.Quiet) refl
+            (member_stored b same)
+            (λ j other. spares_own m s i regions r.0.slot (number RegionTeam) member (task_address w t) j (actors j) other (λ kind. absurd (omega (arith, kind)))) thread
 
         go : (b : Bool) → nat_lt (member + 1) (team_size (actors i)) ≡ b
-            → KeepsRule p w m events s actors i (op.Store (of_member w r member) (task_address w t)) Z (to_team (if b then team.LoadTaskLife r (member + 1) 0 else team.Fork r) (actors i), outcome.Quiet)
+            → KeepsRule p w m events s actors i (op.Store (of_member w r member) (task_address w t)) Z
+            (to_team (if b then team.LoadTaskLife r (member + 1) 0 else team.Fork r) (actors i), outcome.Quiet)
         go true e =
             let next : TeamCounter = team.LoadTaskLife r (member + 1) 0 in
             step (to_team next (actors i)) (sym (owes p w m events s actors i before E at))
@@ -313,7 +349,8 @@ module _ (p : Program) (w : List ℕ) (m : Memory) (events : List (ℕ × Event)
             (there, some_tasks w before.valid)
             (team_goes s i (actors i) next (actors i).gathered.team refl asks, now_filled next))
         go false e =
-            let all : member + 1 ≡ length (actors i).gathered.team = (let h = store_got.1 in grind (arith, nat_tests, h)) in
+            let all : member + 1 ≡ length (actors i).gathered.team =
+            (let h = store_got.1 in grind (arith, nat_tests, h)) in
             let next : TeamCounter = team.Fork r in
             step (to_team next (actors i))
             (ap (λ ks. record nothing { region = Some r; tasks = ks }) (sym (ap (λ k. take k (tasks_of (actors i).gathered.team)) all ∙ all_taken (actors i).gathered.team)) ∙ sym (owes p w m events s actors i before E at))

@@ -21,8 +21,10 @@ use Rattle.omi_rule.proofs.team.Searches.{region_search_keeps, task_search_keeps
 use Rattle.omi_rule.proofs.team.Tasks.{member_store_keeps, task_fill_keeps, task_take_keeps}
 use Rattle.omi_rule.proofs.team.Wants.{want_keeps}
 
-module _ (p : Program) (w : List ℕ) (m : Memory) (events : List (ℕ × Event)) (s : State) (actors : ℕ → Actor) (i : ℕ) (before : Before p w m events s actors i) where
-  pub team_keeps : (c : TeamCounter) → (actors i).counter ≡ counter.Team c → StepKeeps p w m events s actors i (team_next p w (actors i) c) (λ old. (team_moved p w (actors i) c old, team_outcome p w (actors i) c old))
+module _ (p : Program) (w : List ℕ) (m : Memory) (events : List (ℕ × Event)) (s : State) (actors : ℕ → Actor)
+    (i : ℕ) (before : Before p w m events s actors i) where
+  pub team_keeps : (c : TeamCounter) → (actors i).counter ≡ counter.Team c
+      → StepKeeps p w m events s actors i (team_next p w (actors i) c) (λ old. (team_moved p w (actors i) c old, team_outcome p w (actors i) c old))
   team_keeps team.OverheadState at = overhead_keeps p w m events s actors i before at
   team_keeps team.LoadLevels at = levels_keep p w m events s actors i before at
   team_keeps team.LoadActive at = active_keeps p w m events s actors i before at
@@ -32,9 +34,12 @@ module _ (p : Program) (w : List ℕ) (m : Memory) (events : List (ℕ × Event)
   team_keeps (team.LoadRegionLife slot) at = region_search_keeps p w m events s actors i before slot at
   team_keeps (team.TakeRegion r) at = region_take_keeps p w m events s actors i before r at
   team_keeps (team.FillRegion r word) at = region_fill_keeps p w m events s actors i before r word at
-  team_keeps (team.LoadTaskLife r member slot) at = task_search_keeps p w m events s actors i before r member slot at
+  team_keeps (team.LoadTaskLife r member slot) at =
+      task_search_keeps p w m events s actors i before r member slot at
   team_keeps (team.TakeTask r member t) at = task_take_keeps p w m events s actors i before r member t at
-  team_keeps (team.FillTask r member t word) at = task_fill_keeps p w m events s actors i before r member t word at
-  team_keeps (team.StoreMember r member t) at = member_store_keeps p w m events s actors i before r member t at
+  team_keeps (team.FillTask r member t word) at =
+      task_fill_keeps p w m events s actors i before r member t word at
+  team_keeps (team.StoreMember r member t) at =
+      member_store_keeps p w m events s actors i before r member t at
   team_keeps (team.Fork r) at = fork_keeps p w m events s actors i before r at
   team_keeps (team.Assign member) at = assign_keeps p w m events s actors i before member at

@@ -76,7 +76,8 @@ finish_unmet c (finish.LoadLife w generating next) = refl
 finish_unmet c (finish.SubtractGenerating w generating explicit) = refl
 finish_unmet c (finish.SubtractPending w) = refl
 
-worker_unmet : (w : List ℕ) (m : Memory) (s : State) (j : ℕ) (c : WorkerCounter) → KeepsWorkerRow w m s j c → ((k : Tid) → WaitsFor s j k → ⊥) → (by_worker c).met ≡ false
+worker_unmet : (w : List ℕ) (m : Memory) (s : State) (j : ℕ) (c : WorkerCounter) → KeepsWorkerRow w m s j c
+    → ((k : Tid) → WaitsFor s j k → ⊥) → (by_worker c).met ≡ false
 worker_unmet w m s j worker.Begin o none = refl
 worker_unmet w m s j worker.Offer o none = refl
 worker_unmet w m s j worker.LoadAssign o none = refl
@@ -92,7 +93,8 @@ worker_unmet w m s j worker.ImplicitEnd o none = refl
 worker_unmet w m s j (worker.AddLeft r) o none = refl
 worker_unmet w m s j worker.IdleState o none = refl
 
-pub unmet : (p : Program) (w : List ℕ) (m : Memory) (s : State) (j : ℕ) (a : Actor) → KeepsRow p w m s j a a.counter → ((k : Tid) → WaitsFor s j k → ⊥) → (owed a).met ≡ false
+pub unmet : (p : Program) (w : List ℕ) (m : Memory) (s : State) (j : ℕ) (a : Actor)
+    → KeepsRow p w m s j a a.counter → ((k : Tid) → WaitsFor s j k → ⊥) → (owed a).met ≡ false
 unmet p w m s j a row none = go a.counter row
   where
     go : (c : Counter) → KeepsRow p w m s j a c → (owed_at a.context a.gathered.team c).met ≡ false

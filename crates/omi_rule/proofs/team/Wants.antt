@@ -75,14 +75,19 @@ wants_next p at a (s, is, parallel) = go s is parallel
 -- a size that a clause asks for is in range
 clause_in_range : (p : Program) (fs : List Frame) (f n : ℕ) → IsAt p fs (stmt.Parallel f (Some n)) → IsSize n
 clause_in_range p [] f n at = absurd (cc at)
-clause_in_range p (g ∷ gs) f n at = (Rules-from_accepted p).ranges g.function (stmt.Parallel f (Some n)) (before_stands (body_of p.funcs g.function) g.next (stmt.Parallel f (Some n)) at)
+clause_in_range p (g ∷ gs) f n at =
+    (Rules-from_accepted p).ranges g.function (stmt.Parallel f (Some n))
+    (before_stands (body_of p.funcs g.function) g.next (stmt.Parallel f (Some n)) at)
 
 -- the first element of nthreads-var, as it was loaded
-first_loaded : (ns : List ℕ) (word : ℕ) → 1 ≤ length ns → AreSizes ns → ((n : ℕ) → slice_get ns 0 ≡ Some n → word ≡ n) → (word % 256 ≡ get_or ns 0 0) × (1 ≤ word % 256)
+first_loaded : (ns : List ℕ) (word : ℕ) → 1 ≤ length ns → AreSizes ns
+    → ((n : ℕ) → slice_get ns 0 ≡ Some n → word ≡ n) → (word % 256 ≡ get_or ns 0 0) × (1 ≤ word % 256)
 first_loaded [] word some sizes is = absurd (omega (arith, some))
-first_loaded (n ∷ ns) word some ((low, high), rest) is = let same : word ≡ n = is n refl in (omega (arith, same, high), omega (arith, same, low, high))
+first_loaded (n ∷ ns) word some ((low, high), rest) is =
+    let same : word ≡ n = is n refl in (omega (arith, same, high), omega (arith, same, low, high))
 
-module _ (p : Program) (w : List ℕ) (m : Memory) (events : List (ℕ × Event)) (s : State) (actors : ℕ → Actor) (i : ℕ) (before : Before p w m events s actors i) (at : (actors i).counter ≡ counter.Team team.Want) where
+module _ (p : Program) (w : List ℕ) (m : Memory) (events : List (ℕ × Event)) (s : State) (actors : ℕ → Actor)
+    (i : ℕ) (before : Before p w m events s actors i) (at : (actors i).counter ≡ counter.Team team.Want) where
   abbrev C : TeamCounter
   C = team.Want
 
@@ -96,7 +101,9 @@ module _ (p : Program) (w : List ℕ) (m : Memory) (events : List (ℕ × Event)
   list = forking p (encounter_of s (actors i).context) (actors i).stack
 
   abbrev z : State
-  z = on_task s (actors i).context.task (relisted (forking p (encounter_of s (actors i).context) (actors i).stack))
+  z =
+      on_task s (actors i).context.task
+      (relisted (forking p (encounter_of s (actors i).context) (actors i).stack))
 
   abbrev Size : ℕ
   Size = size_to_want p (actors i) (found_in m X)
@@ -116,7 +123,8 @@ module _ (p : Program) (w : List ℕ) (m : Memory) (events : List (ℕ × Event)
       let (t, live, are) = knows.task in
       let same : o.task ≡ t = some_same o.live live in
       let ranges = task_in_range p w m events s actors i before C at in
-      first_loaded o.task.variables.nthreads (slice_index (actors i).gathered.variables 4) ranges (have_sizes p events s before.rule.reached (actors i).context.task o.task o.live)
+      first_loaded o.task.variables.nthreads (slice_index (actors i).gathered.variables 4) ranges
+      (have_sizes p events s before.rule.reached (actors i).context.task o.task o.live)
       (λ n is. are 4 (omega arith) n (ap (λ (x : Task). slice_get x.variables.nthreads 0) (sym same) ∙ is))
 
   -- by the clause
@@ -127,9 +135,13 @@ module _ (p : Program) (w : List ℕ) (m : Memory) (events : List (ℕ × Event)
       let (r, found, levels, active) = knows.region in
       let same : o.region ≡ r = some_same o.found found in
       let bound : Size ≡ (if nat_le s.max_active o.region.active then 1 else unwrap_or num (first_nthreads (actors i))) =
-      ap (λ (q : Option ℕ). if nat_le (found_in m X) (actors i).gathered.active then 1 else unwrap_or q (first_nthreads (actors i))) (ap requested_in is)
-      ∙ ap (λ k. if nat_le k (actors i).gathered.active then 1 else unwrap_or num (first_nthreads (actors i))) found_is
-      ∙ ap (λ k. if nat_le s.max_active k then 1 else unwrap_or num (first_nthreads (actors i))) (sym active ∙ ap (λ (x : Region). x.active) (sym same)) in
+      ap
+      (λ (q : Option ℕ). if nat_le (found_in m X) (actors i).gathered.active then 1 else unwrap_or q (first_nthreads (actors i)))
+      (ap requested_in is)
+      ∙ ap
+      (λ k. if nat_le k (actors i).gathered.active then 1 else unwrap_or num (first_nthreads (actors i))) found_is
+      ∙ ap (λ k. if nat_le s.max_active k then 1 else unwrap_or num (first_nthreads (actors i)))
+      (sym active ∙ ap (λ (x : Region). x.active) (sym same)) in
       let (equal, some) = go num is o.task o.region loaded.0 loaded.1 in
       (bound ∙ equal, subst (λ k. 1 ≤ k) (sym bound) some)
     where
@@ -137,10 +149,14 @@ module _ (p : Program) (w : List ℕ) (m : Memory) (events : List (ℕ × Event)
       by true n some = omega arith
       by false n some = some
 
-      go : (num : Option ℕ) → IsAt p (actors i).stack (stmt.Parallel here.function num) → (t : Task) (r : Region) → first_nthreads (actors i) ≡ get_or t.variables.nthreads 0 0 → 1 ≤ first_nthreads (actors i)
+      go : (num : Option ℕ) → IsAt p (actors i).stack (stmt.Parallel here.function num)
+          → (t : Task) (r : Region) → first_nthreads (actors i) ≡ get_or t.variables.nthreads 0 0
+          → 1 ≤ first_nthreads (actors i)
           → ((if nat_le s.max_active r.active then 1 else unwrap_or num (first_nthreads (actors i))) ≡ Teams.wanted_size s t r num) × (1 ≤ (if nat_le s.max_active r.active then 1 else unwrap_or num (first_nthreads (actors i))))
-      go None is t r first some = (ap (λ n. if nat_le s.max_active r.active then 1 else n) first, by (nat_le s.max_active r.active) (first_nthreads (actors i)) some)
-      go (Some n) is t r first some = (refl, by (nat_le s.max_active r.active) n (clause_in_range p (actors i).stack here.function n is).0)
+      go None is t r first some =
+          (ap (λ n. if nat_le s.max_active r.active then 1 else n) first, by (nat_le s.max_active r.active) (first_nthreads (actors i)) some)
+      go (Some n) is t r first some =
+          (refl, by (nat_le s.max_active r.active) n (clause_in_range p (actors i).stack here.function n is).0)
 
   abbrev wanted_now : Thread
   wanted_now = record (s.threads i) { wanted = size_to_want p (actors i) (found_in m X); asks = [] }
@@ -160,7 +176,9 @@ module _ (p : Program) (w : List ℕ) (m : Memory) (events : List (ℕ × Event)
   -- ---- the thread goes on
 
   abbrev Then : Gathered
-  Then = record (actors i).gathered { wanted = size_to_want p (actors i) (found_in m X); asked = but_own (actors i).thread 0; team = alone (actors i).thread }
+  Then =
+      record
+      (actors i).gathered { wanted = size_to_want p (actors i) (found_in m X); asked = but_own (actors i).thread 0; team = alone (actors i).thread }
 
   mine : (actors i).thread ≡ i
   mine = (own p w m events s actors i before C at).thread
@@ -191,25 +209,41 @@ module _ (p : Program) (w : List ℕ) (m : Memory) (events : List (ℕ × Event)
 
       words : KeepsWords w m u (all_owed actors)
       words =
-          thread_changes_keep w m z (all_owed actors) i wanted_now (words_moved p w m events s actors i before C at list) (before.rule.words.made i before.known).thread
+          thread_changes_keep w m z (all_owed actors) i wanted_now
+          (words_moved p w m events s actors i before C at list)
+          (before.rule.words.made i before.known).thread
 
       changes : ChangesTask s u i (actors i).context.task
       changes =
-          own_changes p s i (actors i) (stands p w m events s actors i before C at) (relisted list) u (λ t live. relisted_alike list t) refl (ap (λ (h : Thread). h.current) (put_same s.threads i wanted_now)) refl refl
+          own_changes p s i (actors i) (stands p w m events s actors i before C at) (relisted list) u
+          (λ t live. relisted_alike list t) refl
+          (ap (λ (h : Thread). h.current) (put_same s.threads i wanted_now)) refl refl
 
-      ready : (b : Bool) → (nat_lt (length Then.team) Then.wanted && nat_lt Then.asked p.threads) ≡ b → IsReady p w (left_in m (op.Load (of_runtime w RuntimeMaxActive)) X) u i (actors i) (if b then team.Ask else team.LoadRegionLife 0) Then
+      ready : (b : Bool) → (nat_lt (length Then.team) Then.wanted && nat_lt Then.asked p.threads) ≡ b
+          → IsReady p w (left_in m (op.Load (of_runtime w RuntimeMaxActive)) X) u i (actors i) (if b then team.Ask else team.LoadRegionLife 0) Then
       ready =
-          ready_behind p w m events s actors i before (left_in m (op.Load (of_runtime w RuntimeMaxActive)) X) u Then refl asked_then (own p w m events s actors i before C at).fits.variables (asks_for here.num here.is).1
-          (subst (λ j. but_own j 0 ≢ i) (sym mine) (skip_other i 0)) (fits p w m events s actors i before C at)
+          ready_behind p w m events s actors i before
+          (left_in m (op.Load (of_runtime w RuntimeMaxActive)) X) u Then refl asked_then
+          (own p w m events s actors i before C at).fits.variables (asks_for here.num here.is).1
+          (subst (λ j. but_own j 0 ≢ i) (sym mine) (skip_other i 0))
+          (fits p w m events s actors i before C at)
 
-      event_to : (d : TeamCounter) → owed (going d Then (actors i)) ≡ owed (actors i) → list ≡ team_ahead p At (actors i).stack d → IsReady p w (left_in m (op.Load (of_runtime w RuntimeMaxActive)) X) u i (actors i) d Then
-          → KeepsRule p w m events s actors i (op.Load (of_runtime w RuntimeMaxActive)) X (going d Then (actors i), outcome.Event (event.Want Size))
+      event_to : (d : TeamCounter) → owed (going d Then (actors i)) ≡ owed (actors i)
+          → list ≡ team_ahead p At (actors i).stack d
+          → IsReady p w (left_in m (op.Load (of_runtime w RuntimeMaxActive)) X) u i (actors i) d Then
+          → KeepsRule p w m events s actors i (op.Load (of_runtime w RuntimeMaxActive)) X
+          (going d Then (actors i), outcome.Event (event.Want Size))
       event_to d same ahead now =
-          team_event p w m events s actors i before C at (op.Load (of_runtime w RuntimeMaxActive)) X d Then (event.Want Size) (item.Want here.num) list list u
-          (λ none. none) (λ f e. absurd (cc e)) taken done refl (subst (λ (n : Memory). KeepsWords w n u (all_owed actors)) (sym stays) words) same
+          team_event p w m events s actors i before C at (op.Load (of_runtime w RuntimeMaxActive)) X d Then
+          (event.Want Size) (item.Want here.num) list list u
+          (λ none. none) (λ f e. absurd (cc e)) taken done refl
+          (subst (λ (n : Memory). KeepsWords w n u (all_owed actors)) (sym stays) words) same
           (λ j ne. subst (λ (n : Memory). Spares m n s j (actors j)) (sym stays) (spares_none m s j (actors j))) changes refl ahead now
 
       go : (b : Bool) → (nat_lt (length Then.team) Then.wanted && nat_lt Then.asked p.threads) ≡ b
-          → KeepsRule p w m events s actors i (op.Load (of_runtime w RuntimeMaxActive)) X (going (if b then team.Ask else team.LoadRegionLife 0) Then (actors i), outcome.Event (event.Want Size))
+          → KeepsRule p w m events s actors i (op.Load (of_runtime w RuntimeMaxActive)) X
+          (going (if b then team.Ask else team.LoadRegionLife 0) Then (actors i), outcome.Event (event.Want Size))
       go true e = event_to team.Ask (sym (owes p w m events s actors i before C at)) refl (ready true e)
-      go false e = event_to (team.LoadRegionLife 0) (sym (owes p w m events s actors i before C at)) refl (ready false e)
+      go false e =
+          event_to (team.LoadRegionLife 0) (sym (owes p w m events s actors i before C at)) refl
+          (ready false e)

@@ -35,7 +35,9 @@ use Rattle.omi_rule.proofs.SameBodies.{same_bodies}
 abbrev pub going : TeamCounter → Gathered → Actor → Actor
 going d g a = record a { counter = counter.Team d; gathered = g }
 
-module _ (p : Program) (w : List ℕ) (m : Memory) (events : List (ℕ × Event)) (s : State) (actors : ℕ → Actor) (i : ℕ) (before : Before p w m events s actors i) (c : TeamCounter) (at : (actors i).counter ≡ counter.Team c) where
+module _ (p : Program) (w : List ℕ) (m : Memory) (events : List (ℕ × Event)) (s : State) (actors : ℕ → Actor)
+    (i : ℕ) (before : Before p w m events s actors i) (c : TeamCounter)
+    (at : (actors i).counter ≡ counter.Team c) where
   abbrev a : Actor
   a = actors i
 
@@ -62,14 +64,16 @@ module _ (p : Program) (w : List ℕ) (m : Memory) (events : List (ℕ × Event)
   context = let (f, fs, stack, o) = standing in top p s i (actors i) o
 
   pub context_placed : IsContextPlaced w (actors i).context
-  context_placed = let (f, fs, stack, o) = standing in (subst (AreContextsPlaced w (actors i).context) stack own.placed.bodies).0
+  context_placed =
+      let (f, fs, stack, o) = standing in (subst (AreContextsPlaced w (actors i).context) stack own.placed.bodies).0
 
   -- its nthreads-var has one to four elements
   variables_in_range : AreInRange context.task.variables
   variables_in_range =
       let (f, fs, stack, o) = standing in
       let formed = reached_well_formed p events s before.rule.reached in
-      let seen : IsVisibleTask s (actors i).context.task = formed.currents i (actors i).context.task before.known o.current in
+      let seen : IsVisibleTask s (actors i).context.task =
+      formed.currents i (actors i).context.task before.known o.current in
       let same : seen.task ≡ context.task = some_same seen.live context.live in
       subst (λ (t : Task). AreInRange t.variables) same (formed.tasks (actors i).context.task seen).variables
 
@@ -87,7 +91,8 @@ module _ (p : Program) (w : List ℕ) (m : Memory) (events : List (ℕ × Event)
       → KeepsThread p w n events s i (going d g (actors i))
   goes_on n d g variables same fits_there placed_there row_there =
       let (f, fs, stack, o) = standing in
-      same_bodies p w m events s i (actors i) own f fs stack o n (counter.Team d) g variables fits_there placed_there
+      same_bodies p w m events s i (actors i) own f fs stack o n
+      (counter.Team d) g variables fits_there placed_there
       (λ t live. subst (λ (x : Counter). IsAhead p (encounter_of s (actors i).context) (actors i).stack x t.list) at (o.ahead t live) ∙ sym same) row_there tt
 
   -- ---- records
@@ -97,7 +102,8 @@ module _ (p : Program) (w : List ℕ) (m : Memory) (events : List (ℕ × Event)
   region_slot = context_placed.region
 
   pub region_record : KeepsRegion w s (all_owed actors) (actors i).context.region (m (actors i).context.region.0.creator regions (actors i).context.region.0.slot) context.region
-  region_record = region_kept p w m events s actors before.rule (actors i).context.region context.region context.found
+  region_record =
+      region_kept p w m events s actors before.rule (actors i).context.region context.region context.found
 
   pub task_slot : IsSlot w tasks (actors i).context.task.0.creator (actors i).context.task.0.slot
   task_slot = context_placed.task

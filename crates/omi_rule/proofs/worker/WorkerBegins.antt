@@ -71,8 +71,11 @@ use Rattle.omi_rule.proofs.worker.WorkerEvents.{fits_worker, owes_now, row_is, s
 use Rattle.omi_rule.proofs.worker.WorkerLoads.{implicit_is, one_waits}
 use Rattle.omi_rule.specs.Chains.{RunsFunctions}
 
-module _ (p : Program) (w : List ℕ) (m : Memory) (events : List (ℕ × Event)) (s : State) (actors : ℕ → Actor) (i : ℕ) (before : Before p w m events s actors i)
-    (k : Tid) (f : ℕ) (q : Rid) (size n : ℕ) (at : (actors i).counter ≡ counter.Worker (worker.ImplicitBegin k f q size n)) (o : WaitsFor s i k) (f_is : o.task.function ≡ f) (q_is : o.task.region ≡ q) (n_is : o.task.number ≡ n)
+module _ (p : Program) (w : List ℕ) (m : Memory) (events : List (ℕ × Event)) (s : State) (actors : ℕ → Actor)
+    (i : ℕ) (before : Before p w m events s actors i)
+    (k : Tid) (f : ℕ) (q : Rid) (size n : ℕ)
+    (at : (actors i).counter ≡ counter.Worker (worker.ImplicitBegin k f q size n)) (o : WaitsFor s i k)
+    (f_is : o.task.function ≡ f) (q_is : o.task.region ≡ q) (n_is : o.task.number ≡ n)
     (r : Region) (found : region_of s q ≡ Some r) (sized : length r.team ≡ size) where
   abbrev c : WorkerCounter
   c = worker.ImplicitBegin k f q size n
@@ -98,7 +101,8 @@ module _ (p : Program) (w : List ℕ) (m : Memory) (events : List (ℕ × Event)
 
   step : Step p s i (event.ImplicitBegin k) u
   step =
-      step_of p s i (event.ImplicitBegin k) u item.Serve [] before.known (ap (take_item p (encounter s i) (event.ImplicitBegin k)) (taken_list p w m events s actors i before c at alone))
+      step_of p s i (event.ImplicitBegin k) u item.Serve [] before.known
+      (ap (take_item p (encounter s i) (event.ImplicitBegin k)) (taken_list p w m events s actors i before c at alone))
       (record { idle = none; member = o.task; live = o.live; waiting = o.progress; mine = o.thread })
       (ap (λ (x : State). Some (task_begun x i k)) (idle_moved s i rest none))
 
@@ -114,7 +118,8 @@ module _ (p : Program) (w : List ℕ) (m : Memory) (events : List (ℕ × Event)
   words =
       begins_keep w m z (all_owed actors) i k
       (subst (λ (x : State). KeepsWords w m x (all_owed actors)) (idle_moved s i rest none) (list_moves_keep w m s (all_owed actors) i rest before.rule.words before.known))
-      before.known (owes_now p w m events s actors i before c at) (record { task = o.task; live = o.live; progress = o.progress; thread = o.thread })
+      before.known (owes_now p w m events s actors i before c at)
+      (record { task = o.task; live = o.live; progress = o.progress; thread = o.thread })
       (λ t x. one_waits p w m events s actors i before k o t (waits_still t x))
       (λ t live. ap (λ (x : Task). x.implicit) (sym (some_same o.live live)) ∙ implicit_is p w m events s actors i before k o)
 
@@ -124,14 +129,18 @@ module _ (p : Program) (w : List ℕ) (m : Memory) (events : List (ℕ × Event)
   begun = record o.task { progress = progress.Begun }
 
   live : task_of u k ≡ Some begun
-  live = on_same z.tasks k.0 (λ t. record t { progress = progress.Begun }) ∙ ap (λ (x : Option Task). option_map {T = Task} (λ t. record t { progress = progress.Begun }) x) o.live
+  live =
+      on_same z.tasks k.0 (λ t. record t { progress = progress.Begun })
+      ∙ ap (λ (x : Option Task). option_map {T = Task} (λ t. record t { progress = progress.Begun }) x) o.live
 
   abbrev context : Context
   context = member_context k q size n
 
   -- the member, as its region says
   known : (x : Region) × (region_of s o.task.region ≡ Some x) × (slice_get x.team o.task.number ≡ Some (k, o.task.thread))
-  known = (members_known p events s before.rule.reached).tasks k o.task o.live (implicit_is p w m events s actors i before k o)
+  known =
+      (members_known p events s before.rule.reached).tasks k o.task o.live
+      (implicit_is p w m events s actors i before k o)
 
   same_region : known.0 ≡ r
   same_region = some_same known.1 (subst (λ (x : Rid). region_of s x ≡ Some r) (sym q_is) found)
@@ -146,7 +155,8 @@ module _ (p : Program) (w : List ℕ) (m : Memory) (events : List (ℕ × Event)
 
   arrivals : slice_index r.arrivals n ≡ 0
   arrivals =
-      let waits = ((members_in_step p events s before.rule.reached).members k o.task r o.live (implicit_is p w m events s actors i before k o) (subst (λ (x : Rid). region_of s x ≡ Some r) (sym q_is) found)).waiting o.progress in
+      let waits =
+      ((members_in_step p events s before.rule.reached).members k o.task r o.live (implicit_is p w m events s actors i before k o) (subst (λ (x : Rid). region_of s x ≡ Some r) (sym q_is) found)).waiting o.progress in
       ap (λ h. slice_index r.arrivals h) (sym n_is) ∙ waits.1
 
   new : IsNewMember p o.task
@@ -172,7 +182,9 @@ module _ (p : Program) (w : List ℕ) (m : Memory) (events : List (ℕ × Event)
 
   -- what the rows of its statements see
   level : level_of u begun.region ≡ r.levels
-  level = ap (λ (x : Rid). level_of s x) q_is ∙ ap (λ (x : Option Region). option_map_or (λ y. y.levels) x 0) found
+  level =
+      ap (λ (x : Rid). level_of s x) q_is
+      ∙ ap (λ (x : Option Region). option_map_or (λ y. y.levels) x 0) found
 
   debug : s.environment ≡ p.env
   debug = environment_stays p events s before.rule.reached
@@ -180,9 +192,13 @@ module _ (p : Program) (w : List ℕ) (m : Memory) (events : List (ℕ × Event)
   seen : encounter_of u context ≡ record { debug = p.env.debug; number = o.task.number; level = r.levels; is_final = false }
   seen =
       ap (encounter_by u) live
-      ∙ ap (λ (b : Bool). record { debug = b; number = o.task.number; level = level_of u begun.region; is_final = o.task.is_final }) (ap (λ (e : Env). e.debug) debug)
-      ∙ ap (λ l. record { debug = p.env.debug; number = o.task.number; level = l; is_final = o.task.is_final }) level
-      ∙ ap (λ (b : Bool). record { debug = p.env.debug; number = o.task.number; level = r.levels; is_final = b }) new.final
+      ∙ ap
+      (λ (b : Bool). record { debug = b; number = o.task.number; level = level_of u begun.region; is_final = o.task.is_final })
+      (ap (λ (e : Env). e.debug) debug)
+      ∙ ap
+      (λ l. record { debug = p.env.debug; number = o.task.number; level = l; is_final = o.task.is_final }) level
+      ∙ ap
+      (λ (b : Bool). record { debug = p.env.debug; number = o.task.number; level = r.levels; is_final = b }) new.final
 
   -- ---- the thread afterwards
 
@@ -193,22 +209,34 @@ module _ (p : Program) (w : List ℕ) (m : Memory) (events : List (ℕ × Event)
   stack = ap (λ (x : List Frame). at_start f opened.Worker ∷ x) alone
 
   function_is : r.function ≡ f
-  function_is = member_function p events s before.rule.reached k o.task r o.live (implicit_is p w m events s actors i before k o) (subst (λ (y : Rid). region_of s y ≡ Some r) (sym q_is) found) ∙ f_is
+  function_is =
+      member_function p events s before.rule.reached k o.task r o.live
+      (implicit_is p w m events s actors i before k o)
+      (subst (λ (y : Rid). region_of s y ≡ Some r) (sym q_is) found)
+      ∙ f_is
 
   list : o.task.list ≡ working (encounter_of u context) (Ahead.worked p (encounter_of u context) b.stack)
   list =
-      (lists_right p events s before.rule.reached k o.task o.live).waiting o.progress r (subst (λ (y : Rid). region_of s y ≡ Some r) (sym q_is) found)
-      ∙ ap (λ g. member_items p (record { debug = p.env.debug; number = o.task.number; level = r.levels; is_final = false }) g) function_is
+      (lists_right p events s before.rule.reached k o.task o.live).waiting o.progress r
+      (subst (λ (y : Rid). region_of s y ≡ Some r) (sym q_is) found)
+      ∙ ap
+      (λ g. member_items p (record { debug = p.env.debug; number = o.task.number; level = r.levels; is_final = false }) g) function_is
       ∙ last
       ∙ ap (λ (e : Encounter). working e (Ahead.worked p e (at_start f opened.Worker ∷ []))) (sym seen)
-      ∙ ap (λ (x : List Frame). working (encounter_of u context) (Ahead.worked p (encounter_of u context) x)) (sym stack)
+      ∙ ap (λ (x : List Frame). working (encounter_of u context) (Ahead.worked p (encounter_of u context) x))
+      (sym stack)
     where
       last : member_items p (record { debug = p.env.debug; number = o.task.number; level = r.levels; is_final = false }) f
-          ≡ working (record { debug = p.env.debug; number = o.task.number; level = r.levels; is_final = false }) (Ahead.worked p (record { debug = p.env.debug; number = o.task.number; level = r.levels; is_final = false }) (at_start f opened.Worker ∷ []))
+          ≡ working
+          (record { debug = p.env.debug; number = o.task.number; level = r.levels; is_final = false })
+          (Ahead.worked p (record { debug = p.env.debug; number = o.task.number; level = r.levels; is_final = false }) (at_start f opened.Worker ∷ []))
       last = go (o.task.number == 0) refl
         where
-          go : (x : Bool) → o.task.number == 0 ≡ x → member_items p (record { debug = p.env.debug; number = o.task.number; level = r.levels; is_final = false }) f
-              ≡ working (record { debug = p.env.debug; number = o.task.number; level = r.levels; is_final = false }) (Ahead.worked p (record { debug = p.env.debug; number = o.task.number; level = r.levels; is_final = false }) (at_start f opened.Worker ∷ []))
+          go : (x : Bool) → o.task.number == 0 ≡ x
+              → member_items p (record { debug = p.env.debug; number = o.task.number; level = r.levels; is_final = false }) f
+              ≡ working
+              (record { debug = p.env.debug; number = o.task.number; level = r.levels; is_final = false })
+              (Ahead.worked p (record { debug = p.env.debug; number = o.task.number; level = r.levels; is_final = false }) (at_start f opened.Worker ∷ []))
           go true e = absurd (other (sym n_is ∙ eqb-true o.task.number 0 e))
           go false e =
               ap (λ (x : Bool). working (record { debug = p.env.debug; number = o.task.number; level = r.levels; is_final = false })
@@ -226,7 +254,9 @@ module _ (p : Program) (w : List ℕ) (m : Memory) (events : List (ℕ × Event)
   }
 
   bodies : AreOpen p context (at_start f opened.Worker ∷ [])
-  bodies = body_opens p context f opened.Worker [] fit.0.0.0.1 in_range (refl, record { implicit = refl; depth = refl }, other) tt
+  bodies =
+      body_opens p context f opened.Worker [] fit.0.0.0.1 in_range
+      (refl, record { implicit = refl; depth = refl }, other) tt
 
   has : HasTask p b
   has = record {
@@ -238,7 +268,8 @@ module _ (p : Program) (w : List ℕ) (m : Memory) (events : List (ℕ × Event)
 
   own : KeepsThread p w stored (events ++ (i, event.ImplicitBegin k) ∷ []) u i (Moves.back_to_work p b)
   own =
-      works p w stored (events ++ (i, event.ImplicitBegin k) ∷ []) u i b (at_start f opened.Worker) [] stack (before.rule.threads i before.known).thread has
+      works p w stored (events ++ (i, event.ImplicitBegin k) ∷ []) u i b (at_start f opened.Worker) [] stack
+      (before.rule.threads i before.known).thread has
       (inl (subst (IsAtStart StartsWorking) (sym stack) (refl, tt)))
       (subst (AreContextsPlaced w context) (sym stack) (record { task = task_there p w m events s actors before.rule k o.task o.live; region = region_there p w m events s actors before.rule q r found; row = task_there p w m events s actors before.rule k o.task o.live }, tt))
       (ap (λ (e : Encounter). e.debug) seen)
@@ -249,7 +280,10 @@ module _ (p : Program) (w : List ℕ) (m : Memory) (events : List (ℕ × Event)
 
   pub begins_task : KeepsRule p w m events s actors i (op.Store (of_thread w (actors i).thread ThreadCurrent) (task_address w k)) (thread_word i ThreadCurrent) (Moves.back_to_work p b, outcome.Event (event.ImplicitBegin k))
   begins_task =
-      plain_event_keeps p w m events s actors i before (op.Store (of_thread w (actors i).thread ThreadCurrent) (task_address w k)) (thread_word i ThreadCurrent) (Moves.back_to_work p b, outcome.Event (event.ImplicitBegin k)) (event.ImplicitBegin k) u (λ x. x) refl step
+      plain_event_keeps p w m events s actors i before
+      (op.Store (of_thread w (actors i).thread ThreadCurrent) (task_address w k))
+      (thread_word i ThreadCurrent) (Moves.back_to_work p b, outcome.Event (event.ImplicitBegin k))
+      (event.ImplicitBegin k) u (λ x. x) refl step
       (task_address w k, ap (λ x. op.Store x (task_address w k)) (own_thread p w m events s actors i before ThreadCurrent))
       (waiting_step p s i (event.ImplicitBegin k) u step
       (λ y there h fork. let same : item.Serve ≡ y.0 = ap (λ (x : Item × List Item). x.0) (some_same (ap (take_item p (encounter s i) (event.ImplicitBegin k)) (taken_list p w m events s actors i before c at alone)) there) in absurd (cc (same, fork))) before.rule.waiting)
@@ -258,12 +292,18 @@ module _ (p : Program) (w : List ℕ) (m : Memory) (events : List (ℕ × Event)
       own
 
 -- at the counter
-pub begins_implicit : (p : Program) (w : List ℕ) (m : Memory) (events : List (ℕ × Event)) (s : State) (actors : ℕ → Actor) (i : ℕ) → Before p w m events s actors i → (k : Tid) (f : ℕ) (q : Rid) (size n : ℕ) → (actors i).counter ≡ counter.Worker (worker.ImplicitBegin k f q size n)
-    → StepKeeps p w m events s actors i (worker_next w (actors i) (worker.ImplicitBegin k f q size n)) (λ old. (worker_moved p w (actors i) (worker.ImplicitBegin k f q size n) old, worker_outcome w (actors i) (worker.ImplicitBegin k f q size n) old))
-begins_implicit p w m events s actors i before k f q size n at = go (row_is p w m events s actors i before (worker.ImplicitBegin k f q size n) at)
+pub begins_implicit : (p : Program) (w : List ℕ) (m : Memory) (events : List (ℕ × Event)) (s : State) (actors : ℕ → Actor) (i : ℕ)
+    → Before p w m events s actors i → (k : Tid) (f : ℕ) (q : Rid) (size n : ℕ)
+    → (actors i).counter ≡ counter.Worker (worker.ImplicitBegin k f q size n)
+    → StepKeeps p w m events s actors i (worker_next w (actors i) (worker.ImplicitBegin k f q size n))
+    (λ old. (worker_moved p w (actors i) (worker.ImplicitBegin k f q size n) old, worker_outcome w (actors i) (worker.ImplicitBegin k f q size n) old))
+begins_implicit p w m events s actors i before k f q size n at =
+    go (row_is p w m events s actors i before (worker.ImplicitBegin k f q size n) at)
   where
     go : ((o : WaitsFor s i k) × ((o.task.function ≡ f) × (o.task.region ≡ q) × (o.task.number ≡ n))) × HasSize s q size
-        → StepKeeps p w m events s actors i (op.Store (of_thread w (actors i).thread ThreadCurrent) (task_address w k)) (λ old. (Moves.back_to_work p (begun_worker f (member_context k q size n) (actors i)), outcome.Event (event.ImplicitBegin k)))
+        → StepKeeps p w m events s actors i
+        (op.Store (of_thread w (actors i).thread ThreadCurrent) (task_address w k))
+        (λ old. (Moves.back_to_work p (begun_worker f (member_context k q size n) (actors i)), outcome.Event (event.ImplicitBegin k)))
     go ((o, (is_f, is_q, is_n)), (r, found, sized)) = (
       thread_word i ThreadCurrent,
       store_on p w m events s actors i before ThreadCurrent (task_address w k) refl,

@@ -77,17 +77,21 @@ use Rattle.omi_rule.specs.Chains.{RunsFunctions}
 
 -- behind the stored state, or without one
 idle_ahead : (p : Program) (s : State) → s.environment ≡ p.env → idling s ≡ worker_ahead s (idle_counter p)
-idle_ahead p s same = ap (λ (e : Env). if e.debug then item.State IDLE 0 ∷ offering else offering) same ∙ go p.env.debug
+idle_ahead p s same =
+    ap (λ (e : Env). if e.debug then item.State IDLE 0 ∷ offering else offering) same ∙ go p.env.debug
   where
-    go : (d : Bool) → (if d then item.State IDLE 0 ∷ offering else offering) ≡ worker_ahead s (if d then worker.IdleState else worker.Offer)
+    go : (d : Bool)
+        → (if d then item.State IDLE 0 ∷ offering else offering) ≡ worker_ahead s (if d then worker.IdleState else worker.Offer)
     go true = refl
     go false = refl
 
 -- ---- the addition to the members that have left
 
-module _ (p : Program) (w : List ℕ) (m : Memory) (events : List (ℕ × Event)) (s : State) (actors : ℕ → Actor) (i : ℕ) (before : Before p w m events s actors i) where
+module _ (p : Program) (w : List ℕ) (m : Memory) (events : List (ℕ × Event)) (s : State) (actors : ℕ → Actor)
+    (i : ℕ) (before : Before p w m events s actors i) where
   pub leaves : (q : Rid) → (actors i).counter ≡ counter.Worker (worker.AddLeft q)
-      → StepKeeps p w m events s actors i (worker_next w (actors i) (worker.AddLeft q)) (λ old. (worker_moved p w (actors i) (worker.AddLeft q) old, worker_outcome w (actors i) (worker.AddLeft q) old))
+      → StepKeeps p w m events s actors i (worker_next w (actors i) (worker.AddLeft q))
+      (λ old. (worker_moved p w (actors i) (worker.AddLeft q) old, worker_outcome w (actors i) (worker.AddLeft q) old))
   leaves q at = go ((before.rule.words.made i before.known).objects.left q (ap (λ (o : Owed). o.left) owes))
     where
       owes : all_owed actors i ≡ record nothing { left = Some q }
@@ -96,11 +100,13 @@ module _ (p : Program) (w : List ℕ) (m : Memory) (events : List (ℕ × Event)
       fit : IsAlone (actors i) × (q.0.creator < p.threads)
       fit = fits_worker p w m events s actors i before (worker.AddLeft q) at
 
-      go : (r : Region) × (region_of s q ≡ Some r) × (r.joined ≡ false) → StepKeeps p w m events s actors i (op.Add (of_region w q RegionLeft) 1) (λ old. (to_worker (idle_counter p) (actors i), outcome.Quiet))
+      go : (r : Region) × (region_of s q ≡ Some r) × (r.joined ≡ false)
+          → StepKeeps p w m events s actors i (op.Add (of_region w q RegionLeft) 1) (λ old. (to_worker (idle_counter p) (actors i), outcome.Quiet))
       go (r, found, not_joined) = (
         task_word q.0 RegionLeft,
         record { there = record { field = record { from = omega arith; to = omega arith }; record_slot = region_there p w m events s actors before.rule q r found; within = omega arith }; address = refl },
-        quiet_keeps p w m events s actors i before (op.Add (of_region w q RegionLeft) 1) (task_word q.0 RegionLeft) (to_worker (idle_counter p) (actors i), outcome.Quiet) refl words
+        quiet_keeps p w m events s actors i before (op.Add (of_region w q RegionLeft) 1)
+            (task_word q.0 RegionLeft) (to_worker (idle_counter p) (actors i), outcome.Quiet) refl words
             (λ j other. spares_region m s q r RegionLeft 0 ((m q.0.creator regions q.0.slot (number RegionLeft) 0 + 1) % 2 ^ 64) j (actors j) found (inr (let more : m q.0.creator regions q.0.slot (number RegionLeft) 0 ≤ (m q.0.creator regions q.0.slot (number RegionLeft) 0 + 1) % 2 ^ 64 = omega (arith, few) in more)))
             (by_debug p.env.debug refl),
       )
@@ -108,17 +114,22 @@ module _ (p : Program) (w : List ℕ) (m : Memory) (events : List (ℕ × Event)
           few : m q.0.creator regions q.0.slot (number RegionLeft) 0 + 1 < 2 ^ 64
           few =
               let left = (region_kept p w m events s actors before.rule q r found).left in
-              let part : left_owed q (all_owed actors i) ≤ sum_of_owed s (all_owed actors) (left_owed q) = part_below s.count i (λ j. left_owed q (all_owed actors j)) before.known in
-              let mine : left_owed q (all_owed actors i) ≡ 1 = ap (left_owed q) owes ∙ ap one (is_region_same q) in
+              let part : left_owed q (all_owed actors i) ≤ sum_of_owed s (all_owed actors) (left_owed q) =
+              part_below s.count i (λ j. left_owed q (all_owed actors j)) before.known in
+              let mine : left_owed q (all_owed actors i) ≡ 1 =
+              ap (left_owed q) owes ∙ ap one (is_region_same q) in
               let most = ended_few r.ended in
               let ends = ((members_known p events s before.rule.reached).regions q r found).ended in
               let team = (are_manned p events s before.rule.reached).regions q r found in
               let threads = (Rules-from_accepted p).threads.1 in
-              omega (arith, left, part, mine, most, ends, team, before.rule.within.count, before.suits.threads, threads)
+              omega
+              (arith, left, part, mine, most, ends, team, before.rule.within.count, before.suits.threads, threads)
 
           words : KeepsWords w (left_in m (op.Add (of_region w q RegionLeft) 1) (task_word q.0 RegionLeft)) s (all_owed (replace_at actors i (to_worker (idle_counter p) (actors i))))
           words =
-              subst (λ v. KeepsWords w (with_word m q.0.creator regions q.0.slot (number RegionLeft) 0 v) s (all_owed (replace_at actors i (to_worker (idle_counter p) (actors i))))) (sym (mod-eq_of_lt few))
+              subst
+              (λ v. KeepsWords w (with_word m q.0.creator regions q.0.slot (number RegionLeft) 0 v) s (all_owed (replace_at actors i (to_worker (idle_counter p) (actors i)))))
+              (sym (mod-eq_of_lt few))
               (owed_after w (with_word m q.0.creator regions q.0.slot (number RegionLeft) 0 (m q.0.creator regions q.0.slot (number RegionLeft) 0 + 1)) s actors i (to_worker (idle_counter p) (actors i)) (record (all_owed actors i) { left = None }) (idle_owes p.env.debug ∙ ap (λ (o : Owed). record o { left = None }) (sym owes))
               (leaves_keep w m s (all_owed actors) i q before.rule.words before.known (ap (λ (o : Owed). o.left) owes)))
             where
@@ -126,23 +137,38 @@ module _ (p : Program) (w : List ℕ) (m : Memory) (events : List (ℕ × Event)
               idle_owes true = refl
               idle_owes false = refl
 
-          by_debug : (d : Bool) → p.env.debug ≡ d → KeepsThread p w (left_in m (op.Add (of_region w q RegionLeft) 1) (task_word q.0 RegionLeft)) events s i (to_worker (idle_counter p) (actors i))
-          by_debug d e = subst (λ (c : WorkerCounter). KeepsThread p w (left_in m (op.Add (of_region w q RegionLeft) 1) (task_word q.0 RegionLeft)) events s i (to_worker c (actors i))) (ap (λ (b : Bool). if b then worker.IdleState else worker.Offer) (sym e)) (here d e)
+          by_debug : (d : Bool) → p.env.debug ≡ d
+              → KeepsThread p w (left_in m (op.Add (of_region w q RegionLeft) 1) (task_word q.0 RegionLeft)) events s i (to_worker (idle_counter p) (actors i))
+          by_debug d e =
+              subst
+              (λ (c : WorkerCounter). KeepsThread p w (left_in m (op.Add (of_region w q RegionLeft) 1) (task_word q.0 RegionLeft)) events s i (to_worker c (actors i)))
+              (ap (λ (b : Bool). if b then worker.IdleState else worker.Offer) (sym e)) (here d e)
             where
-              list : (d : Bool) → p.env.debug ≡ d → (s.threads i).list ≡ worker_ahead s (if d then worker.IdleState else worker.Offer)
+              list : (d : Bool) → p.env.debug ≡ d
+                  → (s.threads i).list ≡ worker_ahead s (if d then worker.IdleState else worker.Offer)
               list d e =
-                  worker_list p w m events s actors i before (worker.AddLeft q) at fit.0 ∙ idle_ahead p s (environment_stays p events s before.rule.reached)
+                  worker_list p w m events s actors i before (worker.AddLeft q) at fit.0
+                  ∙ idle_ahead p s (environment_stays p events s before.rule.reached)
                   ∙ ap (λ (b : Bool). worker_ahead s (if b then worker.IdleState else worker.Offer)) e
 
-              here : (d : Bool) → p.env.debug ≡ d → KeepsThread p w (left_in m (op.Add (of_region w q RegionLeft) 1) (task_word q.0 RegionLeft)) events s i (to_worker (if d then worker.IdleState else worker.Offer) (actors i))
+              here : (d : Bool) → p.env.debug ≡ d
+                  → KeepsThread p w (left_in m (op.Add (of_region w q RegionLeft) 1) (task_word q.0 RegionLeft)) events s i (to_worker (if d then worker.IdleState else worker.Offer) (actors i))
               here true e =
-                  alone_after p w m events s actors i before (worker.AddLeft q) at fit.0 (left_in m (op.Add (of_region w q RegionLeft) 1) (task_word q.0 RegionLeft)) events s worker.IdleState fit.0 tt (stands_alone p w m events s actors i before (worker.AddLeft q) at fit.0).current (list true e) tt
+                  alone_after p w m events s actors i before (worker.AddLeft q) at fit.0
+                  (left_in m (op.Add (of_region w q RegionLeft) 1) (task_word q.0 RegionLeft)) events s worker.IdleState fit.0 tt
+                  (stands_alone p w m events s actors i before (worker.AddLeft q) at fit.0).current
+                  (list true e) tt
               here false e =
-                  alone_after p w m events s actors i before (worker.AddLeft q) at fit.0 (left_in m (op.Add (of_region w q RegionLeft) 1) (task_word q.0 RegionLeft)) events s worker.Offer fit.0 tt (stands_alone p w m events s actors i before (worker.AddLeft q) at fit.0).current (list false e) tt
+                  alone_after p w m events s actors i before (worker.AddLeft q) at fit.0
+                  (left_in m (op.Add (of_region w q RegionLeft) 1) (task_word q.0 RegionLeft)) events s worker.Offer fit.0 tt
+                  (stands_alone p w m events s actors i before (worker.AddLeft q) at fit.0).current
+                  (list false e) tt
 
 -- ---- the end of the task
 
-module _ (p : Program) (w : List ℕ) (m : Memory) (events : List (ℕ × Event)) (s : State) (actors : ℕ → Actor) (i : ℕ) (before : Before p w m events s actors i) (at : (actors i).counter ≡ counter.Worker worker.ImplicitEnd)
+module _ (p : Program) (w : List ℕ) (m : Memory) (events : List (ℕ × Event)) (s : State) (actors : ℕ → Actor)
+    (i : ℕ) (before : Before p w m events s actors i)
+    (at : (actors i).counter ≡ counter.Worker worker.ImplicitEnd)
     (f : Frame) (fs : List Frame) (stack : (actors i).stack ≡ f ∷ fs) where
   abbrev a : Actor
   a = actors i
@@ -167,12 +193,14 @@ module _ (p : Program) (w : List ℕ) (m : Memory) (events : List (ℕ × Event)
   bodies = subst (AreOpen p (actors i).context) stack (before.rule.threads i before.known).fits.bodies
 
   is_worker : IsWorker f.opened
-  is_worker = (subst (IsAtEnd p IsWorker) stack (fits_worker p w m events s actors i before worker.ImplicitEnd at)).1
+  is_worker =
+      (subst (IsAtEnd p IsWorker) stack (fits_worker p w m events s actors i before worker.ImplicitEnd at)).1
 
   last : (fs ≡ []) × IsFirstTask (actors i).context × ((actors i).context.number ≢ 0) × (f.opened ≡ opened.Worker)
   last = go f.opened is_worker bodies.0.stands refl
     where
-      go : (o : Opened) → IsWorker o → StandsOn p (actors i).context f.function fs o → f.opened ≡ o → (fs ≡ []) × IsFirstTask (actors i).context × ((actors i).context.number ≢ 0) × (f.opened ≡ opened.Worker)
+      go : (o : Opened) → IsWorker o → StandsOn p (actors i).context f.function fs o → f.opened ≡ o
+          → (fs ≡ []) × IsFirstTask (actors i).context × ((actors i).context.number ≢ 0) × (f.opened ≡ opened.Worker)
       go opened.Worker is (none, first, other) e = (none, first, other, e)
       go opened.Main is on e = absurd is
       go (opened.Master saved) is on e = absurd is
@@ -202,14 +230,20 @@ module _ (p : Program) (w : List ℕ) (m : Memory) (events : List (ℕ × Event)
   u = task_ended z i k (relisted [] t)
 
   live : task_of z k ≡ Some (relisted [] t)
-  live = on_same s.tasks k.0 (relisted []) ∙ ap (λ (x : Option Task). option_map {T = Task} (relisted []) x) ctx.live
+  live =
+      on_same s.tasks k.0 (relisted [])
+      ∙ ap (λ (x : Option Task). option_map {T = Task} (relisted []) x) ctx.live
 
   list : list_of s i ≡ item.ImplicitEnd ∷ []
-  list = own_list p s i (actors i) stands ∙ subst (λ c. IsAhead p (encounter_of s (actors i).context) (actors i).stack c t.list) at (own_ahead p s i (actors i) stands)
+  list =
+      own_list p s i (actors i) stands
+      ∙ subst (λ c. IsAhead p (encounter_of s (actors i).context) (actors i).stack c t.list) at
+      (own_ahead p s i (actors i) stands)
 
   step : Step p s i (event.ImplicitEnd k) u
   step =
-      step_of p s i (event.ImplicitEnd k) u item.ImplicitEnd [] before.known (ap (take_item p (encounter s i) (event.ImplicitEnd k)) list)
+      step_of p s i (event.ImplicitEnd k) u item.ImplicitEnd [] before.known
+      (ap (take_item p (encounter s i) (event.ImplicitEnd k)) list)
       (k, t, r, current, found, record { current = refl; implicit = implicit; other = other })
       (ap (λ (x : State). effect p x i (event.ImplicitEnd k) item.ImplicitEnd) (list_moved p s i (actors i) stands [])
       ∙ at_current z i k (relisted [] t) (task_ended z i) (record { name = current.name; live = live }))
@@ -223,13 +257,16 @@ module _ (p : Program) (w : List ℕ) (m : Memory) (events : List (ℕ × Event)
   stored = with_word m i threads 0 (number ThreadCurrent) 0 0
 
   going : (slice_get r.ended t.number ≡ Some false) × (r.joined ≡ false)
-  going = ((members_in_step p events s before.rule.reached).members k t r ctx.live implicit found).going (λ over. cc (sym ctx.begun, over))
+  going =
+      ((members_in_step p events s before.rule.reached).members k t r ctx.live implicit found).going
+      (λ over. cc (sym ctx.begun, over))
 
   words : KeepsWords w stored u (replace_at (all_owed actors) i (record nothing { left = Some t.region }))
   words =
       ends_keep w m z (all_owed actors) i k (relisted [] t) r
       (subst (λ (x : State). KeepsWords w m x (all_owed actors)) (list_moved p s i (actors i) stands []) (list_moves_keep w m s (all_owed actors) i [] before.rule.words before.known))
-      before.known owes (record { live = live; implicit = implicit; progress = ctx.begun; region = found }) other going.0 going.1
+      before.known owes
+      (record { live = live; implicit = implicit; progress = ctx.begun; region = found }) other going.0 going.1
 
   -- ---- the thread
 
@@ -254,7 +291,8 @@ module _ (p : Program) (w : List ℕ) (m : Memory) (events : List (ℕ × Event)
   -- thread 0 always has a task
   first : i ≢ 0
   first same =
-      let always = ((claims_kept p (events ++ (i, event.ImplicitEnd k) ∷ []) u (leads_on p (opening p) events s (i, event.ImplicitEnd k) u before.rule.reached step) i).first same).1 in
+      let always =
+      ((claims_kept p (events ++ (i, event.ImplicitEnd k) ∷ []) u (leads_on p (opening p) events s (i, event.ImplicitEnd k) u before.rule.reached step) i).first same).1 in
       let never : IsSome {T = Tid} None = subst (λ (x : Option Tid). IsSome x) none_now always in
       absurd (cc never)
 
@@ -272,7 +310,9 @@ module _ (p : Program) (w : List ℕ) (m : Memory) (events : List (ℕ × Event)
         placed = record { bodies = subst (AreContextsPlaced w (closed (actors i)).context) (sym stack_is) tt; counter = region_there p w m events s actors before.rule (actors i).context.region r ctx.found };
         stands = subst (StandsWith p u i b) (sym stack_is) (record {
           current = none_now;
-          ahead = ap (λ (h : Thread). h.list) (put_same z.threads i (record (z.threads i) { current = None })) ∙ worker_lists p events s before.rule.reached i k current.name first
+          ahead =
+              ap (λ (h : Thread). h.list) (put_same z.threads i (record (z.threads i) { current = None }))
+              ∙ worker_lists p events s before.rule.reached i k current.name first
               ∙ ap (λ (e : Env). if e.debug then item.State IDLE 0 ∷ offering else offering) (sym (environment_stays p events s before.rule.reached));
         });
         runs = subst (RunsFunctions u (closed (actors i)).context) (sym stack_is) tt;
@@ -282,7 +322,9 @@ module _ (p : Program) (w : List ℕ) (m : Memory) (events : List (ℕ × Event)
 
   pub ends_rule : KeepsRule p w m events s actors i (op.Store (of_thread w (actors i).thread ThreadCurrent) 0) (thread_word i ThreadCurrent) (b, outcome.Event (event.ImplicitEnd k))
   ends_rule =
-      plain_event_keeps p w m events s actors i before (op.Store (of_thread w (actors i).thread ThreadCurrent) 0) (thread_word i ThreadCurrent) (b, outcome.Event (event.ImplicitEnd k)) (event.ImplicitEnd k) u (λ x. x) refl step
+      plain_event_keeps p w m events s actors i before
+      (op.Store (of_thread w (actors i).thread ThreadCurrent) 0) (thread_word i ThreadCurrent)
+      (b, outcome.Event (event.ImplicitEnd k)) (event.ImplicitEnd k) u (λ x. x) refl step
       (ap (λ x. op.Store x 0) (own_thread p w m events s actors i before ThreadCurrent))
       (waiting_step p s i (event.ImplicitEnd k) u step
       (λ y there h fork. let same : item.ImplicitEnd ≡ y.0 = ap (λ (x : Item × List Item). x.0) (some_same (ap (take_item p (encounter s i) (event.ImplicitEnd k)) list) there) in absurd (cc (same, fork))) before.rule.waiting)
@@ -290,12 +332,16 @@ module _ (p : Program) (w : List ℕ) (m : Memory) (events : List (ℕ × Event)
       (λ j apart. spares_threads m s i ThreadCurrent 0 j (actors j) (λ same. absurd (omega (arith, same))))
       own
 
-pub ends_implicit : (p : Program) (w : List ℕ) (m : Memory) (events : List (ℕ × Event)) (s : State) (actors : ℕ → Actor) (i : ℕ) → Before p w m events s actors i → (actors i).counter ≡ counter.Worker worker.ImplicitEnd
-    → StepKeeps p w m events s actors i (worker_next w (actors i) worker.ImplicitEnd) (λ old. (worker_moved p w (actors i) worker.ImplicitEnd old, worker_outcome w (actors i) worker.ImplicitEnd old))
-ends_implicit p w m events s actors i before at = go (actors i).stack refl (fits_worker p w m events s actors i before worker.ImplicitEnd at)
+pub ends_implicit : (p : Program) (w : List ℕ) (m : Memory) (events : List (ℕ × Event)) (s : State) (actors : ℕ → Actor) (i : ℕ)
+    → Before p w m events s actors i → (actors i).counter ≡ counter.Worker worker.ImplicitEnd
+    → StepKeeps p w m events s actors i (worker_next w (actors i) worker.ImplicitEnd)
+    (λ old. (worker_moved p w (actors i) worker.ImplicitEnd old, worker_outcome w (actors i) worker.ImplicitEnd old))
+ends_implicit p w m events s actors i before at =
+    go (actors i).stack refl (fits_worker p w m events s actors i before worker.ImplicitEnd at)
   where
     go : (xs : List Frame) → (actors i).stack ≡ xs → IsAtEnd p IsWorker xs
-        → StepKeeps p w m events s actors i (worker_next w (actors i) worker.ImplicitEnd) (λ old. (worker_moved p w (actors i) worker.ImplicitEnd old, worker_outcome w (actors i) worker.ImplicitEnd old))
+        → StepKeeps p w m events s actors i (worker_next w (actors i) worker.ImplicitEnd)
+        (λ old. (worker_moved p w (actors i) worker.ImplicitEnd old, worker_outcome w (actors i) worker.ImplicitEnd old))
     go [] is none = absurd none
     go (f ∷ fs) is end = (
       thread_word i ThreadCurrent,

@@ -12,5 +12,6 @@ returns-in_err-task-clause-answer g c = refused_then _ c.in_err-task.ensures.ans
 pub returns-clause-answer : goal.returns-clause-answer
 unfolding current_region
 returns-clause-answer g c =
-    asked_on _ (λ w task. follow w Region task.addr TaskRegion 0) c.in_ok-task.task c.current_task.ensures.same.table.same c.current_task.ensures.same.layout
+    asked_on _
+    (λ w task. follow w Region task.addr TaskRegion 0) c.in_ok-task.task c.current_task.ensures.same.table.same c.current_task.ensures.same.layout
     c.in_ok-task.ensures.answer c.follow.ensures.answer

@@ -8,7 +8,9 @@ use Rattle.omi_ask.proofs.threads.begun.Goals as goal
 pub returns-clause-named : goal.returns-clause-named
 returns-clause-named c = record {
   named = record {
-    place = subst (λ (a : ℕ). is_some (slot_at c.args.layout.now.table threads a) ≡ true) (sym c.thread_at.ensures.address)
+    place =
+        subst (λ (a : ℕ). is_some (slot_at c.args.layout.now.table threads a) ≡ true)
+        (sym c.thread_at.ensures.address)
         (slot_begins c.args.layout.now.table threads c.args.i 0 (record { made_by = c.requires; within = omega arith }));
     live = refl;
   };

@@ -19,11 +19,14 @@ next_range : (i n : ℕ) → i < n → range_with_len i (n - i) ≡ i ∷ range_
 next_range i n below = let one : n - i ≡ suc (n - (i + 1)) = omega (arith, below) in ap (range_with_len i) one
 
 -- what the next thread and those after it answer is what the threads that are left answer
-more : {C F : Type 0} (told : C → Told) (asked : C → ℕ) (s last : Opened C F) (w : List ℕ) (native i n : ℕ) (result : Result Held Rc) → i < n
-    → Answers told asked s last result (then_reads (has_id w native i) (λ is. cond is (Answer (Ok (begun w i))) (first_with w native (range_with_len (i + 1) (n - (i + 1))))))
+more : {C F : Type 0} (told : C → Told) (asked : C → ℕ) (s last : Opened C F) (w : List ℕ) (native i n : ℕ) (result : Result Held Rc)
+    → i < n
+    → Answers told asked s last result
+    (then_reads (has_id w native i) (λ is. cond is (Answer (Ok (begun w i))) (first_with w native (range_with_len (i + 1) (n - (i + 1))))))
     → Answers told asked s last result (first_with w native (range_with_len i (n - i)))
 unfolding first_with
-more told asked s last w native i n result below h = subst (λ list. Answers told asked s last result (first_with w native list)) (sym (next_range i n below)) h
+more told asked s last w native i n result below h =
+    subst (λ list. Answers told asked s last result (first_with w native list)) (sym (next_range i n below)) h
 
 pub loop-i-init : goal.loop-i-init
 loop-i-init g c = record {
@@ -66,6 +69,7 @@ loop-i-preserved g c = record {
 pub returns-clause-answer : goal.returns-clause-answer
 unfolding first_with
 returns-clause-answer g c =
-    let none : thread_count c.args.s.now.layout - c.loop-i.i ≡ 0 = omega (arith, c.loop-i.invariant.bound, c.loop-i-test.false) in
+    let none : thread_count c.args.s.now.layout - c.loop-i.i ≡ 0 =
+    omega (arith, c.loop-i.invariant.bound, c.loop-i-test.false) in
     c.loop-i.invariant.rest _ (Err Unavailable)
     (subst (λ n. Answers g.C.Callbacks.told g.C.Callbacks.asked c.loop-i.s c.loop-i.s (Err Unavailable) (first_with c.args.s.now.layout c.args.native (range_with_len c.loop-i.i n))) (sym none) (asked_answer refl))

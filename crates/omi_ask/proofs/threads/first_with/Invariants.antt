@@ -16,6 +16,7 @@ invariant-loop-i g l = record {
   later : g.C.Callbacks.faults l.initial.s.table.calls ≤ g.C.Callbacks.faults l.s.table.calls;
   bound : l.i-end ≡ thread_count l.initial.s.layout;
   rest : (last : Opened _ _) (result : Result Held Rc)
-      → Answers g.C.Callbacks.told g.C.Callbacks.asked l.s last result (first_with l.initial.s.layout l.native (range_with_len l.i (thread_count l.initial.s.layout - l.i)))
+      → Answers g.C.Callbacks.told g.C.Callbacks.asked l.s last result
+      (first_with l.initial.s.layout l.native (range_with_len l.i (thread_count l.initial.s.layout - l.i)))
       → Answers g.C.Callbacks.told g.C.Callbacks.asked l.initial.s last result (first_with l.initial.s.layout l.native (range_with_len 0 (thread_count l.initial.s.layout)));
 }

@@ -11,7 +11,8 @@ use Rattle.omi_ask.proofs.threads.get_thread_id.Goals as goal
 
 pub returns-in_err-thread-clause-answer : goal.returns-in_err-thread-clause-answer
 unfolding native_id
-returns-in_err-thread-clause-answer g c = refused_then _ (asked_answer c.in_err-thread.ensures.value) c.from_residual.ensures.1
+returns-in_err-thread-clause-answer g c =
+    refused_then _ (asked_answer c.in_err-thread.ensures.value) c.from_residual.ensures.1
 
 pub returns-then-kind-ne0-clause-answer : goal.returns-then-kind-ne0-clause-answer
 unfolding native_id
@@ -36,10 +37,12 @@ returns-clause-answer g c =
 
 pub returns-in_err-thread-2-clause-shown : goal.returns-in_err-thread-2-clause-shown
 returns-in_err-thread-2-clause-shown g c = λ s shown t.
-    given_value (g.C.Callbacks.told c.args.s.now.table.calls) c.args.s.now.layout s shown _ (native_id c.args.s.now.layout c.args.kind _) _ (returns-in_err-thread-2-clause-answer g c).is
+    given_value (g.C.Callbacks.told c.args.s.now.table.calls) c.args.s.now.layout s shown _
+    (native_id c.args.s.now.layout c.args.kind _) _ (returns-in_err-thread-2-clause-answer g c).is
     (native_id_told (g.C.Callbacks.told c.args.s.now.table.calls) c.args.s.now.layout s shown c.args.kind _ t)
 
 pub returns-clause-shown : goal.returns-clause-shown
 returns-clause-shown g c = λ s shown t.
-    given_value (g.C.Callbacks.told c.args.s.now.table.calls) c.args.s.now.layout s shown _ (native_id c.args.s.now.layout c.args.kind _) _ (returns-clause-answer g c).is
+    given_value (g.C.Callbacks.told c.args.s.now.table.calls) c.args.s.now.layout s shown _
+    (native_id c.args.s.now.layout c.args.kind _) _ (returns-clause-answer g c).is
     (native_id_told (g.C.Callbacks.told c.args.s.now.table.calls) c.args.s.now.layout s shown c.args.kind _ t)

@@ -12,15 +12,21 @@ use Rattle.omi_ask.proofs.threads.has_id.Goals as goal
 pub returns-in_err-life-clause-answer : goal.returns-in_err-life-clause-answer
 unfolding has_id
 returns-in_err-life-clause-answer g c =
-    let at : c.thread_at-addr.result ≡ thread_address c.args.s.now.layout c.args.i = c.thread_at-addr.ensures.address ∙ ap (λ w. thread_address w c.args.i) c.layout.ensures in
-    let life = subst (λ a. Answers g.C.Callbacks.told g.C.Callbacks.asked c.args.s.now c.word.new.s (Err c.in_err-life.field-0.0) (word_of c.args.s.now.layout a ThreadLife 0)) at c.in_err-life.ensures.answer in
+    let at : c.thread_at-addr.result ≡ thread_address c.args.s.now.layout c.args.i =
+    c.thread_at-addr.ensures.address ∙ ap (λ w. thread_address w c.args.i) c.layout.ensures in
+    let life =
+    subst
+    (λ a. Answers g.C.Callbacks.told g.C.Callbacks.asked c.args.s.now c.word.new.s (Err c.in_err-life.field-0.0) (word_of c.args.s.now.layout a ThreadLife 0)) at c.in_err-life.ensures.answer in
     refused_then _ life c.from_residual.ensures.1
 
 pub returns-then-life-ne1-clause-answer : goal.returns-then-life-ne1-clause-answer
 unfolding has_id
 returns-then-life-ne1-clause-answer g c =
-    let at : c.thread_at-addr.result ≡ thread_address c.args.s.now.layout c.args.i = c.thread_at-addr.ensures.address ∙ ap (λ w. thread_address w c.args.i) c.layout.ensures in
-    let life = subst (λ a. Answers g.C.Callbacks.told g.C.Callbacks.asked c.args.s.now c.word.new.s (Ok c.in_ok-life.life) (word_of c.args.s.now.layout a ThreadLife 0)) at c.in_ok-life.ensures.answer in
+    let at : c.thread_at-addr.result ≡ thread_address c.args.s.now.layout c.args.i =
+    c.thread_at-addr.ensures.address ∙ ap (λ w. thread_address w c.args.i) c.layout.ensures in
+    let life =
+    subst
+    (λ a. Answers g.C.Callbacks.told g.C.Callbacks.asked c.args.s.now c.word.new.s (Ok c.in_ok-life.life) (word_of c.args.s.now.layout a ThreadLife 0)) at c.in_ok-life.ensures.answer in
     let other : c.in_ok-life.life == 1 ≡ false = grind (arith, nat_tests, c.if-life-ne1.true) in
     asked_then c.word.new.s _ c.in_ok-life.life c.word.ensures.same.table.same life
     (asked_false _ other (asked_answer refl))
@@ -28,8 +34,11 @@ returns-then-life-ne1-clause-answer g c =
 pub returns-in_err-id-clause-answer : goal.returns-in_err-id-clause-answer
 unfolding has_id
 returns-in_err-id-clause-answer g c =
-    let at : c.thread_at-addr.result ≡ thread_address c.args.s.now.layout c.args.i = c.thread_at-addr.ensures.address ∙ ap (λ w. thread_address w c.args.i) c.layout.ensures in
-    let life = subst (λ a. Answers g.C.Callbacks.told g.C.Callbacks.asked c.args.s.now c.word.new.s (Ok c.in_ok-life.life) (word_of c.args.s.now.layout a ThreadLife 0)) at c.in_ok-life.ensures.answer in
+    let at : c.thread_at-addr.result ≡ thread_address c.args.s.now.layout c.args.i =
+    c.thread_at-addr.ensures.address ∙ ap (λ w. thread_address w c.args.i) c.layout.ensures in
+    let life =
+    subst
+    (λ a. Answers g.C.Callbacks.told g.C.Callbacks.asked c.args.s.now c.word.new.s (Ok c.in_ok-life.life) (word_of c.args.s.now.layout a ThreadLife 0)) at c.in_ok-life.ensures.answer in
     let id = subst (λ a. Answers g.C.Callbacks.told g.C.Callbacks.asked c.word.new.s c.word-2.new.s (Err c.in_err-id.field-0.0) (word_of c.args.s.now.layout a ThreadNative 0)) at
     (subst (λ w. Answers g.C.Callbacks.told g.C.Callbacks.asked c.word.new.s c.word-2.new.s (Err c.in_err-id.field-0.0) (word_of w c.thread_at-addr.result ThreadNative 0)) c.word.ensures.same.layout c.in_err-id.ensures.answer) in
     asked_then c.word.new.s _ c.in_ok-life.life c.word.ensures.same.table.same life
@@ -38,8 +47,11 @@ returns-in_err-id-clause-answer g c =
 pub returns-clause-answer : goal.returns-clause-answer
 unfolding has_id
 returns-clause-answer g c =
-    let at : c.thread_at-addr.result ≡ thread_address c.args.s.now.layout c.args.i = c.thread_at-addr.ensures.address ∙ ap (λ w. thread_address w c.args.i) c.layout.ensures in
-    let life = subst (λ a. Answers g.C.Callbacks.told g.C.Callbacks.asked c.args.s.now c.word.new.s (Ok c.in_ok-life.life) (word_of c.args.s.now.layout a ThreadLife 0)) at c.in_ok-life.ensures.answer in
+    let at : c.thread_at-addr.result ≡ thread_address c.args.s.now.layout c.args.i =
+    c.thread_at-addr.ensures.address ∙ ap (λ w. thread_address w c.args.i) c.layout.ensures in
+    let life =
+    subst
+    (λ a. Answers g.C.Callbacks.told g.C.Callbacks.asked c.args.s.now c.word.new.s (Ok c.in_ok-life.life) (word_of c.args.s.now.layout a ThreadLife 0)) at c.in_ok-life.ensures.answer in
     let id = subst (λ a. Answers g.C.Callbacks.told g.C.Callbacks.asked c.word.new.s c.word-2.new.s (Ok c.in_ok-id.id) (word_of c.args.s.now.layout a ThreadNative 0)) at
     (subst (λ w. Answers g.C.Callbacks.told g.C.Callbacks.asked c.word.new.s c.word-2.new.s (Ok c.in_ok-id.id) (word_of w c.thread_at-addr.result ThreadNative 0)) c.word.ensures.same.layout c.in_ok-id.ensures.answer) in
     asked_then c.word.new.s _ c.in_ok-life.life c.word.ensures.same.table.same life

@@ -6,7 +6,8 @@ use Rattle.omi_ask.proofs.threads.thread_with.Goals as goal
 
 pub returns-then-kind-eq0-clause-answer : goal.returns-then-kind-eq0-clause-answer
 unfolding thread_with
-returns-then-kind-eq0-clause-answer g c = asked_true _ (eq-eqb _ _ c.if-kind-eq0.true) c.first_with.ensures.answer
+returns-then-kind-eq0-clause-answer g c =
+    asked_true _ (eq-eqb _ _ c.if-kind-eq0.true) c.first_with.ensures.answer
 
 pub returns-else-kind-eq0-clause-answer : goal.returns-else-kind-eq0-clause-answer
 unfolding thread_with

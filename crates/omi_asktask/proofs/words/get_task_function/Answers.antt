@@ -13,15 +13,18 @@ returns-in_err-task-clause-answer g c = refused_then _ c.in_err-task.ensures.ans
 pub returns-clause-answer : goal.returns-clause-answer
 unfolding function
 returns-clause-answer g c =
-    asked_on _ (λ w task. word_of w task.addr TaskFunction 0) c.in_ok-task.task c.object.ensures.same.table.same c.object.ensures.same.layout
+    asked_on _
+    (λ w task. word_of w task.addr TaskFunction 0) c.in_ok-task.task c.object.ensures.same.table.same c.object.ensures.same.layout
     c.in_ok-task.ensures.answer c.word.ensures.answer
 
 pub returns-in_err-task-clause-shown : goal.returns-in_err-task-clause-shown
 returns-in_err-task-clause-shown g c = λ s shown t.
-    given_value (g.C.Callbacks.told c.args.s.now.table.calls) c.args.s.now.layout s shown _ (function c.args.s.now.layout _) _ (returns-in_err-task-clause-answer g c).is
+    given_value (g.C.Callbacks.told c.args.s.now.table.calls) c.args.s.now.layout s shown _
+    (function c.args.s.now.layout _) _ (returns-in_err-task-clause-answer g c).is
     (function_told (g.C.Callbacks.told c.args.s.now.table.calls) c.args.s.now.layout s shown _ t)
 
 pub returns-clause-shown : goal.returns-clause-shown
 returns-clause-shown g c = λ s shown t.
-    given_value (g.C.Callbacks.told c.args.s.now.table.calls) c.args.s.now.layout s shown _ (function c.args.s.now.layout _) _ (returns-clause-answer g c).is
+    given_value (g.C.Callbacks.told c.args.s.now.table.calls) c.args.s.now.layout s shown _
+    (function c.args.s.now.layout _) _ (returns-clause-answer g c).is
     (function_told (g.C.Callbacks.told c.args.s.now.table.calls) c.args.s.now.layout s shown _ t)

@@ -15,7 +15,9 @@ returns c =
 pub loop-thread-preserved : goal.loop-thread-preserved
 loop-thread-preserved c = record {
   count =
-      let added = ap length c.in_ok-push.ensures.items ∙ length-append c.loop-thread.actors.items (c.in_ok-opening.field-0 ∷ []) in
+      let added =
+      ap length c.in_ok-push.ensures.items
+      ∙ length-append c.loop-thread.actors.items (c.in_ok-opening.field-0 ∷ []) in
       let before = c.loop-thread.invariant.count in
       omega (arith, added, before);
   each = one_more_actor (opening_actor c.args.p.now) c.loop-thread.actors.items c.push.new.self.items c.in_ok-opening.field-0 c.loop-thread.thread c.in_ok-push.ensures.items c.in_ok-opening.ensures c.loop-thread.invariant.count c.loop-thread.invariant.each;

@@ -7,7 +7,8 @@ use Rattle.omi_corefile.proofs.decoding.segments.Goals as goal
 pub returns-in_err-segment : goal.returns-in_err-segment
 returns-in_err-segment c =
     let p = err_from_is_err_and c.from_residual.result c.from_residual.ensures.1 in
-    rw (p.1, p.2) (row_fails c.in_err-segment.field-0.0 (segment_at c.args.len) left_after c.loop.segments c.args.count c.loop.counter (c.loop.least, c.loop.room) c.loop.rest.now (segments_at c.args.len c.args.count c.args.bytes.now) c.loop-test.true c.in_err-segment.ensures.read c.loop.invariant.read)
+    rw (p.1, p.2)
+    (row_fails c.in_err-segment.field-0.0 (segment_at c.args.len) left_after c.loop.segments c.args.count c.loop.counter (c.loop.least, c.loop.room) c.loop.rest.now (segments_at c.args.len c.args.count c.args.bytes.now) c.loop-test.true c.in_err-segment.ensures.read c.loop.invariant.read)
 
 pub loop-preserved : goal.loop-preserved
 loop-preserved c =
@@ -17,4 +18,7 @@ loop-preserved c =
     }
 
 pub returns : goal.returns
-returns c = row_ends (segment_at c.args.len) left_after c.loop.segments c.args.count c.loop.counter (c.loop.least, c.loop.room) c.loop.rest.now (segments_at c.args.len c.args.count c.args.bytes.now) c.loop-test.false c.loop.invariant.read
+returns c =
+    row_ends (segment_at c.args.len) left_after c.loop.segments c.args.count c.loop.counter
+    (c.loop.least, c.loop.room) c.loop.rest.now
+    (segments_at c.args.len c.args.count c.args.bytes.now) c.loop-test.false c.loop.invariant.read

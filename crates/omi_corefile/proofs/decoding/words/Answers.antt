@@ -8,7 +8,8 @@ use Rattle.omi_corefile.proofs.decoding.words.Goals as goal
 pub returns-in_err-word-clause-read : goal.returns-in_err-word-clause-read
 returns-in_err-word-clause-read c =
     let p = err_from_is_err_and c.from_residual.result c.from_residual.ensures.1 in
-    rw (p.1, p.2) (row_fails c.in_err-word.field-0.0 (λ (s : ℕ). number_at w64 c.args.len) (λ (s word : ℕ). s) c.loop.words c.args.count c.loop.counter 0 c.loop.rest.now (words_at c.args.len c.args.count c.args.bytes.now) c.loop-test.true c.in_err-word.ensures c.loop.invariant.read)
+    rw (p.1, p.2)
+    (row_fails c.in_err-word.field-0.0 (λ (s : ℕ). number_at w64 c.args.len) (λ (s word : ℕ). s) c.loop.words c.args.count c.loop.counter 0 c.loop.rest.now (words_at c.args.len c.args.count c.args.bytes.now) c.loop-test.true c.in_err-word.ensures c.loop.invariant.read)
 
 pub loop-preserved : goal.loop-preserved
 loop-preserved c =
@@ -18,4 +19,7 @@ loop-preserved c =
     }
 
 pub returns-clause-read : goal.returns-clause-read
-returns-clause-read c = row_ends (λ (s : ℕ). number_at w64 c.args.len) (λ (s word : ℕ). s) c.loop.words c.args.count c.loop.counter 0 c.loop.rest.now (words_at c.args.len c.args.count c.args.bytes.now) c.loop-test.false c.loop.invariant.read
+returns-clause-read c =
+    row_ends (λ (s : ℕ). number_at w64 c.args.len)
+    (λ (s word : ℕ). s) c.loop.words c.args.count c.loop.counter 0 c.loop.rest.now
+    (words_at c.args.len c.args.count c.args.bytes.now) c.loop-test.false c.loop.invariant.read

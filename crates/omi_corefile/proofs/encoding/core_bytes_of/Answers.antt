@@ -8,7 +8,9 @@ use Rattle.omi_corefile.proofs.encoding.core_bytes_of.Goals as goal
 
 pub returns-clause-value : goal.returns-clause-value
 returns-clause-value c = λ some.
-    let same : spelling c.in_ok-core.core ≡ core_bytes c.args.contexts.now c.args.image.now = rw (c.in_ok-core.ensures.order, c.in_ok-core.ensures.contexts, c.in_ok-core.ensures.segments) (one_segment c.args.contexts.now c.args.image.now some) in
+    let same : spelling c.in_ok-core.core ≡ core_bytes c.args.contexts.now c.args.image.now =
+    rw (c.in_ok-core.ensures.order, c.in_ok-core.ensures.contexts, c.in_ok-core.ensures.segments)
+    (one_segment c.args.contexts.now c.args.image.now some) in
     subst (λ fields. IfOk c.encode.result (λ bytes. bytes.items ≡ fields)) same c.encode.ensures
 
 pub returns-clause-core : goal.returns-clause-core
@@ -20,7 +22,8 @@ returns-clause-core c = λ some.
     } in
     holding c.args.contexts.now c.args.image.now c.encode.result c.in_ok-core.core holds c.encode.ensures
   where
-    holding : {E : Type 0} (contexts words : List ℕ) (r : Result (Vec ℕ) E) (d : CoreImage) → HoldsImage contexts words d → IfOk r (λ bytes. Core bytes.items d)
+    holding : {E : Type 0} (contexts words : List ℕ) (r : Result (Vec ℕ) E) (d : CoreImage)
+        → HoldsImage contexts words d → IfOk r (λ bytes. Core bytes.items d)
         → IfOk r (λ bytes. (x : CoreImage) × Core bytes.items x × HoldsImage contexts words x)
     holding contexts words (Ok bytes) d holds is = (d, is, holds)
     holding contexts words (Err e) d holds is = tt

@@ -33,5 +33,8 @@ loop-at-preserved c =
 
 pub returns : goal.returns
 returns c =
-    let all = ap total_words (take_all c.loop-at.at c.args.c.now.segments (omega (arith, c.loop-at-test.false, c.len-at-end.ensures))) in
-    omega (arith, all, c.loop-at.invariant, length-spelling_of c.args.c.now.order c.args.c.now.contexts c.args.c.now.segments)
+    let all =
+    ap total_words
+    (take_all c.loop-at.at c.args.c.now.segments (omega (arith, c.loop-at-test.false, c.len-at-end.ensures))) in
+    omega
+    (arith, all, c.loop-at.invariant, length-spelling_of c.args.c.now.order c.args.c.now.contexts c.args.c.now.segments)

@@ -33,12 +33,15 @@ returns-in-Err-clause-answer g c =
 
 pub returns-in_err-words-clause-shown : goal.returns-in_err-words-clause-shown
 returns-in_err-words-clause-shown g c = λ s shown.
-    display_given (g.C.Callbacks.told c.args.s.now.table.calls) c.args.s.now.layout s shown _ (returns-in_err-words-clause-answer g c).is
+    display_given (g.C.Callbacks.told c.args.s.now.table.calls) c.args.s.now.layout s shown _
+    (returns-in_err-words-clause-answer g c).is
 
 pub returns-in-Ok-clause-shown : goal.returns-in-Ok-clause-shown
 returns-in-Ok-clause-shown g c = λ s shown.
-    display_given (g.C.Callbacks.told c.args.s.now.table.calls) c.args.s.now.layout s shown (Ok (map string_bytes c.in-Ok.texts.items)) (returns-in-Ok-clause-answer g c).is
+    display_given (g.C.Callbacks.told c.args.s.now.table.calls) c.args.s.now.layout s shown
+    (Ok (map string_bytes c.in-Ok.texts.items)) (returns-in-Ok-clause-answer g c).is
 
 pub returns-in-Err-clause-shown : goal.returns-in-Err-clause-shown
 returns-in-Err-clause-shown g c = λ s shown.
-    display_given (g.C.Callbacks.told c.args.s.now.table.calls) c.args.s.now.layout s shown (Err NoMem) (returns-in-Err-clause-answer g c).is
+    display_given (g.C.Callbacks.told c.args.s.now.table.calls) c.args.s.now.layout s shown (Err NoMem)
+    (returns-in-Err-clause-answer g c).is

@@ -10,7 +10,8 @@ use Rattle.omi_icv.proofs.icv.get_icv_from_scope.Goals as goal
 
 pub returns-in_err-address-clause-answer : goal.returns-in_err-address-clause-answer
 unfolding icv_from_scope
-returns-in_err-address-clause-answer g c = refused_then _ c.in_err-address.ensures.answer c.from_residual.ensures.1
+returns-in_err-address-clause-answer g c =
+    refused_then _ c.in_err-address.ensures.answer c.from_residual.ensures.1
 
 pub returns-in_err-variable-clause-answer : goal.returns-in_err-variable-clause-answer
 unfolding icv_from_scope
@@ -29,12 +30,15 @@ returns-clause-answer g c =
 
 pub returns-in_err-address-clause-shown : goal.returns-in_err-address-clause-shown
 returns-in_err-address-clause-shown g c =
-    number_given (g.C.Callbacks.told c.args.s.now.table.calls) c.args.s.now.layout (get c.args.s.now.handles.held) c.args.of c.args.icv _ (returns-in_err-address-clause-answer g c).is
+    number_given (g.C.Callbacks.told c.args.s.now.table.calls) c.args.s.now.layout
+    (get c.args.s.now.handles.held) c.args.of c.args.icv _ (returns-in_err-address-clause-answer g c).is
 
 pub returns-in_err-variable-clause-shown : goal.returns-in_err-variable-clause-shown
 returns-in_err-variable-clause-shown g c =
-    number_given (g.C.Callbacks.told c.args.s.now.table.calls) c.args.s.now.layout (get c.args.s.now.handles.held) c.args.of c.args.icv _ (returns-in_err-variable-clause-answer g c).is
+    number_given (g.C.Callbacks.told c.args.s.now.table.calls) c.args.s.now.layout
+    (get c.args.s.now.handles.held) c.args.of c.args.icv _ (returns-in_err-variable-clause-answer g c).is
 
 pub returns-clause-shown : goal.returns-clause-shown
 returns-clause-shown g c =
-    number_given (g.C.Callbacks.told c.args.s.now.table.calls) c.args.s.now.layout (get c.args.s.now.handles.held) c.args.of c.args.icv _ (returns-clause-answer g c).is
+    number_given (g.C.Callbacks.told c.args.s.now.table.calls) c.args.s.now.layout
+    (get c.args.s.now.handles.held) c.args.of c.args.icv _ (returns-clause-answer g c).is

@@ -22,26 +22,33 @@ returns-in_err-value-clause-answer g c =
 pub returns-in-Ok-clause-answer : goal.returns-in-Ok-clause-answer
 unfolding icv_string_from_scope
 returns-in-Ok-clause-answer g c =
-    let text : string_bytes c.in-Ok.text ≡ value_text c.in_ok-value.value.spelling c.in_ok-value.value.numbers = c.in-Ok.ensures ∙ ap (value_text c.in_ok-value.value.spelling) c.as_slice.ensures in
-    written_text _ _ _ _ (string_bytes c.in-Ok.text) (icv_string_from_scope c.args.s.now.layout (get c.args.s.now.handles.held) c.args.of c.args.icv)
+    let text : string_bytes c.in-Ok.text ≡ value_text c.in_ok-value.value.spelling c.in_ok-value.value.numbers =
+    c.in-Ok.ensures ∙ ap (value_text c.in_ok-value.value.spelling) c.as_slice.ensures in
+    written_text _ _ _ _ (string_bytes c.in-Ok.text)
+    (icv_string_from_scope c.args.s.now.layout (get c.args.s.now.handles.held) c.args.of c.args.icv)
     (asked_then c.icv_value.new.s _ c.in_ok-value.value c.icv_value.ensures.same.table.same c.in_ok-value.ensures.answer
     (asked_answer (ap Ok text)))
 
 pub returns-in-Err-clause-answer : goal.returns-in-Err-clause-answer
 unfolding icv_string_from_scope
 returns-in-Err-clause-answer g c =
-    written_full _ _ _ _ (value_text c.in_ok-value.value.spelling c.in_ok-value.value.numbers) (icv_string_from_scope c.args.s.now.layout (get c.args.s.now.handles.held) c.args.of c.args.icv)
+    written_full _ _ _ _ (value_text c.in_ok-value.value.spelling c.in_ok-value.value.numbers)
+    (icv_string_from_scope c.args.s.now.layout (get c.args.s.now.handles.held) c.args.of c.args.icv)
     (asked_then c.icv_value.new.s _ c.in_ok-value.value c.icv_value.ensures.same.table.same c.in_ok-value.ensures.answer
     (asked_answer refl))
 
 pub returns-in_err-value-clause-shown : goal.returns-in_err-value-clause-shown
 returns-in_err-value-clause-shown g c =
-    text_given (g.C.Callbacks.told c.args.s.now.table.calls) c.args.s.now.layout (get c.args.s.now.handles.held) c.args.of c.args.icv _ (returns-in_err-value-clause-answer g c).is
+    text_given (g.C.Callbacks.told c.args.s.now.table.calls) c.args.s.now.layout
+    (get c.args.s.now.handles.held) c.args.of c.args.icv _ (returns-in_err-value-clause-answer g c).is
 
 pub returns-in-Ok-clause-shown : goal.returns-in-Ok-clause-shown
 returns-in-Ok-clause-shown g c =
-    text_given (g.C.Callbacks.told c.args.s.now.table.calls) c.args.s.now.layout (get c.args.s.now.handles.held) c.args.of c.args.icv (Ok (string_bytes c.in-Ok.text)) (returns-in-Ok-clause-answer g c).is
+    text_given (g.C.Callbacks.told c.args.s.now.table.calls) c.args.s.now.layout
+    (get c.args.s.now.handles.held) c.args.of c.args.icv (Ok (string_bytes c.in-Ok.text))
+    (returns-in-Ok-clause-answer g c).is
 
 pub returns-in-Err-clause-shown : goal.returns-in-Err-clause-shown
 returns-in-Err-clause-shown g c =
-    text_given (g.C.Callbacks.told c.args.s.now.table.calls) c.args.s.now.layout (get c.args.s.now.handles.held) c.args.of c.args.icv (Err NoMem) (returns-in-Err-clause-answer g c).is
+    text_given (g.C.Callbacks.told c.args.s.now.table.calls) c.args.s.now.layout
+    (get c.args.s.now.handles.held) c.args.of c.args.icv (Err NoMem) (returns-in-Err-clause-answer g c).is

@@ -9,7 +9,8 @@ use Rattle.omi_icv.proofs.icv_text.icv_value.Goals as goal
 
 pub returns-in_err-address-clause-answer : goal.returns-in_err-address-clause-answer
 unfolding icv_value
-returns-in_err-address-clause-answer g c = refused_then _ c.in_err-address.ensures.answer c.from_residual.ensures.1
+returns-in_err-address-clause-answer g c =
+    refused_then _ c.in_err-address.ensures.answer c.from_residual.ensures.1
 
 pub returns-in_err-variable-clause-answer : goal.returns-in_err-variable-clause-answer
 unfolding icv_value
@@ -22,7 +23,9 @@ pub returns-in_err-numbers-clause-answer : goal.returns-in_err-numbers-clause-an
 unfolding icv_value
 returns-in_err-numbers-clause-answer g c =
     let known = c.in_ok-variable.ensures ∙ ap (λ o. variable_in o c.args.icv) c.scope.ensures in
-    let numbers = subst (λ w. Answers g.C.Callbacks.told g.C.Callbacks.asked c.record_of.new.s c.numbers.new.s (Err c.in_err-numbers.field-0.0) (numbers_in w c.in_ok-variable.variable.source c.in_ok-address.address)) c.record_of.ensures.same.layout c.in_err-numbers.ensures.answer in
+    let numbers =
+    subst
+    (λ w. Answers g.C.Callbacks.told g.C.Callbacks.asked c.record_of.new.s c.numbers.new.s (Err c.in_err-numbers.field-0.0) (numbers_in w c.in_ok-variable.variable.source c.in_ok-address.address)) c.record_of.ensures.same.layout c.in_err-numbers.ensures.answer in
     asked_then c.record_of.new.s _ c.in_ok-address.address c.record_of.ensures.same.table.same c.in_ok-address.ensures.answer
     (asked_then c.record_of.new.s _ c.in_ok-variable.variable refl (asked_answer known)
     (refused_then _ numbers c.from_residual-in_err-numbers.ensures.1))
@@ -31,7 +34,9 @@ pub returns-clause-answer : goal.returns-clause-answer
 unfolding icv_value
 returns-clause-answer g c =
     let known = c.in_ok-variable.ensures ∙ ap (λ o. variable_in o c.args.icv) c.scope.ensures in
-    let numbers = subst (λ w. Answers g.C.Callbacks.told g.C.Callbacks.asked c.record_of.new.s c.numbers.new.s (Ok c.in_ok-numbers.numbers) (numbers_in w c.in_ok-variable.variable.source c.in_ok-address.address)) c.record_of.ensures.same.layout c.in_ok-numbers.ensures.answer in
+    let numbers =
+    subst
+    (λ w. Answers g.C.Callbacks.told g.C.Callbacks.asked c.record_of.new.s c.numbers.new.s (Ok c.in_ok-numbers.numbers) (numbers_in w c.in_ok-variable.variable.source c.in_ok-address.address)) c.record_of.ensures.same.layout c.in_ok-numbers.ensures.answer in
     asked_then c.record_of.new.s _ c.in_ok-address.address c.record_of.ensures.same.table.same c.in_ok-address.ensures.answer
     (asked_then c.record_of.new.s _ c.in_ok-variable.variable refl (asked_answer known)
     (asked_then c.numbers.new.s _ c.in_ok-numbers.numbers c.numbers.ensures.same.table.same numbers

@@ -15,25 +15,31 @@ use Rattle.omi_icv.proofs.tool.get_tool_data.Goals as goal
 
 pub returns-in_err-address-clause-answer : goal.returns-in_err-address-clause-answer
 unfolding tool_data
-returns-in_err-address-clause-answer g c = refused_then _ c.in_err-address.ensures.answer c.from_residual.ensures.1
+returns-in_err-address-clause-answer g c =
+    refused_then _ c.in_err-address.ensures.answer c.from_residual.ensures.1
 
 pub returns-in_err-address-clause-shown : goal.returns-in_err-address-clause-shown
 returns-in_err-address-clause-shown g c =
-    tool_given (g.C.Callbacks.told c.args.s.now.table.calls) c.args.s.now.layout (get c.args.s.now.handles.held) c.args.of _ (returns-in_err-address-clause-answer g c).is
+    tool_given (g.C.Callbacks.told c.args.s.now.table.calls) c.args.s.now.layout
+    (get c.args.s.now.handles.held) c.args.of _ (returns-in_err-address-clause-answer g c).is
 
 pub returns-in-Task-clause-answer : goal.returns-in-Task-clause-answer
 unfolding tool_data
 returns-in-Task-clause-answer g c =
-    let tool = subst (λ w. Answers g.C.Callbacks.told g.C.Callbacks.asked c.record_of.new.s c.word.new.s c.word.result (word_of w c.in_ok-address.address TaskTool 0)) c.record_of.ensures.same.layout c.word.ensures.answer in
+    let tool =
+    subst
+    (λ w. Answers g.C.Callbacks.told g.C.Callbacks.asked c.record_of.new.s c.word.new.s c.word.result (word_of w c.in_ok-address.address TaskTool 0)) c.record_of.ensures.same.layout c.word.ensures.answer in
     asked_then c.record_of.new.s _ c.in_ok-address.address c.record_of.ensures.same.table.same c.in_ok-address.ensures.answer
     (subst (λ of. Answers g.C.Callbacks.told g.C.Callbacks.asked c.record_of.new.s c.word.new.s c.word.result (tool_word c.args.s.now.layout of c.in_ok-address.address)) (sym c.in-Task.is) tool)
 
 pub returns-in-Task-clause-shown : goal.returns-in-Task-clause-shown
 returns-in-Task-clause-shown g c =
-    tool_given (g.C.Callbacks.told c.args.s.now.table.calls) c.args.s.now.layout (get c.args.s.now.handles.held) c.args.of _ (returns-in-Task-clause-answer g c).is
+    tool_given (g.C.Callbacks.told c.args.s.now.table.calls) c.args.s.now.layout
+    (get c.args.s.now.handles.held) c.args.of _ (returns-in-Task-clause-answer g c).is
 
 -- nothing else has a tool word
-none_unless : (w : List ℕ) (address : ℕ) (of : Scoped) → ((k : TaskHandle) → of ≡ Task k → ⊥) → Answer (Err Unsupported) ≡ tool_word w of address
+none_unless : (w : List ℕ) (address : ℕ) (of : Scoped) → ((k : TaskHandle) → of ≡ Task k → ⊥)
+    → Answer (Err Unsupported) ≡ tool_word w of address
 none_unless w address Space other = refl
 none_unless w address (Thread t) other = refl
 none_unless w address (Parallel r) other = refl

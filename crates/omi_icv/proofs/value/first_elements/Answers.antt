@@ -33,7 +33,9 @@ loop-at-preserved g c = record {
   later = omega (arith, c.loop-at.invariant.later, c.word.ensures.cause.later);
   many = grind (arith, common_steps, c.push.ensures, c.loop-at.invariant.many);
   read =
-      let element = subst (λ w. Answers g.C.Callbacks.told g.C.Callbacks.asked c.loop-at.s c.word.new.s (Ok c.in_ok-element.element) (word_of w c.args.address TaskNthreads c.loop-at.at)) c.loop-at.invariant.same.layout c.in_ok-element.ensures.answer in
+      let element =
+      subst
+      (λ w. Answers g.C.Callbacks.told g.C.Callbacks.asked c.loop-at.s c.word.new.s (Ok c.in_ok-element.element) (word_of w c.args.address TaskNthreads c.loop-at.at)) c.loop-at.invariant.same.layout c.in_ok-element.ensures.answer in
       let more = one_more _ _ c.args.s.now c.loop-at.s _ c.args.s.now.layout c.args.address c.loop-at.at c.loop-at.numbers c.in_ok-element.element
       c.loop-at.invariant.same.table.same c.word.ensures.same.table.same c.loop-at.invariant.read element in
       subst (λ ns. Answers g.C.Callbacks.told g.C.Callbacks.asked c.args.s.now c.word.new.s (Ok ns) (first_elements c.args.s.now.layout c.args.address (c.loop-at.at + 1))) (sym c.push.ensures) more;

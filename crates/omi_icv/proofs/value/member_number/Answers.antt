@@ -11,5 +11,6 @@ returns-in_err-task-clause-answer g c = refused_then _ c.in_err-task.ensures.ans
 pub returns-clause-answer : goal.returns-clause-answer
 unfolding member_number
 returns-clause-answer g c =
-    asked_on _ (λ w task. word_of w task.addr TaskNumber 0) c.in_ok-task.task c.follow_some.ensures.same.table.same c.follow_some.ensures.same.layout
+    asked_on _
+    (λ w task. word_of w task.addr TaskNumber 0) c.in_ok-task.task c.follow_some.ensures.same.table.same c.follow_some.ensures.same.layout
     c.in_ok-task.ensures.answer c.word.ensures.answer

@@ -6,7 +6,8 @@ use Rattle.omi_icv.proofs.value.number_alone.Goals as goal
 
 pub returns-in_err-number-clause-answer : goal.returns-in_err-number-clause-answer
 unfolding alone
-returns-in_err-number-clause-answer g c = refused_then _ c.in_err-number.ensures.answer c.from_residual.ensures.1
+returns-in_err-number-clause-answer g c =
+    refused_then _ c.in_err-number.ensures.answer c.from_residual.ensures.1
 
 pub returns-clause-answer : goal.returns-clause-answer
 unfolding alone

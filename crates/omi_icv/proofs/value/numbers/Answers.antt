@@ -6,7 +6,8 @@ use Rattle.omi_icv.specs.Values.{alone, number_in, numbers_in}
 use Rattle.omi_icv.proofs.value.numbers.Goals as goal
 
 -- a value that is no list is one number alone
-alone_unless : (w : List ℕ) (address : ℕ) (source : Source) → (source ≡ Elements → ⊥) → alone (number_in w source address) ≡ numbers_in w source address
+alone_unless : (w : List ℕ) (address : ℕ) (source : Source) → (source ≡ Elements → ⊥)
+    → alone (number_in w source address) ≡ numbers_in w source address
 alone_unless w address (Word field) other = refl
 alone_unless w address TeamSize other = refl
 alone_unless w address Elements other = absurd (other refl)

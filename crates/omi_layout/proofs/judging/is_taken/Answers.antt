@@ -15,4 +15,5 @@ pub extent-requires-clause-few : goal.extent-requires-clause-few
 extent-requires-clause-few c =
     let w = c.args.w.now in
     let q = c.args.q in
-    few w q c.requires.is (counted w q (c.requires.below q c.requires.is c.if-q-p.true)) (λ r is order. c.requires.below r is (omega arith))
+    few w q c.requires.is (counted w q (c.requires.below q c.requires.is c.if-q-p.true))
+    (λ r is order. c.requires.below r is (omega arith))

@@ -6,4 +6,6 @@ use Rattle.std.proofs.lemmas.Iterator.Search.{all_from_yields_List}
 use Rattle.omi_line.proofs.numbers.has_only_digits.Goals as goal
 
 pub returns : goal.returns
-returns c = all_from_yields_List is_ascii_digit _ _ _ c.all.ensures.ran (YieldsList-from_slice c.args.bytes.now (cc)) (λ x b q k. search (rules, tests))
+returns c =
+    all_from_yields_List is_ascii_digit _ _ _ c.all.ensures.ran (YieldsList-from_slice c.args.bytes.now (cc))
+    (λ x b q k. search (rules, tests))

@@ -5,11 +5,14 @@ use Rattle.omi_line.proofs.Digits.{number_past, numeral_is_text}
 use Rattle.omi_line.proofs.numbers.number.Goals as goal
 
 pub returns-in_default : goal.returns-in_default
-returns-in_default c = absurd (c.in_default.ensures.cases.0 (numeral_is_text c.bytes-bytes.result.now (sym c.if-not-is_numeral.ensures)))
+returns-in_default c =
+    absurd
+    (c.in_default.ensures.cases.0 (numeral_is_text c.bytes-bytes.result.now (sym c.if-not-is_numeral.ensures)))
 
 pub returns-in_default-parse : goal.returns-in_default-parse
 returns-in_default-parse c =
     let same : c.in-Ok.text.now ≡ c.args.t.now = c.in-Ok.ensures.cases.0 ∙ c.bytes-bytes.ensures in
-    let is : is_decimal_text c.args.t.now ≡ true = ap is_decimal_text (sym c.bytes-bytes.ensures) ∙ sym c.if-not-is_numeral.ensures in
+    let is : is_decimal_text c.args.t.now ≡ true =
+    ap is_decimal_text (sym c.bytes-bytes.ensures) ∙ sym c.if-not-is_numeral.ensures in
     number_past c.args.t.now c.args.least c.args.most is c.ranges.most.fits
     (subst (λ (text : List ℕ). IsNumeral 10 (without_leading_plus text) × (digits_value 10 (without_leading_plus text) < 2 ^ 64) → ⊥) same c.in_default-parse.ensures.value.0)

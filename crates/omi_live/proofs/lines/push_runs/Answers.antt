@@ -16,4 +16,5 @@ loop-thread-preserved c =
     slice_get-get_or c.args.runs.now thread run (omega (arith, before, count))
     ∙ ap (λ (rs : List ThreadRun). Some (get_or rs thread run)) (sym c.as_slice.ensures)
     ∙ ap Some (sym c.index-as_slice-thread.is) in
-    one_run_more (string_bytes c.loop-thread.text) (string_bytes c.push_run.new.text) _ c.args.runs.now thread run there c.in_ok-push_run.ensures c.loop-thread.invariant
+    one_run_more (string_bytes c.loop-thread.text)
+    (string_bytes c.push_run.new.text) _ c.args.runs.now thread run there c.in_ok-push_run.ensures c.loop-thread.invariant

@@ -5,4 +5,5 @@ use Rattle.omi_live.proofs.lines.push_runs.Given as goal
 
 -- the lines so far, and those of the threads that are left
 abbrev pub invariant-loop-thread : goal.invariant-loop-thread
-invariant-loop-thread l = string_bytes l.text ++ runs_lines l.thread (drop l.thread l.runs) ≡ string_bytes l.fn.text ++ runs_lines 0 l.runs
+invariant-loop-thread l =
+    string_bytes l.text ++ runs_lines l.thread (drop l.thread l.runs) ≡ string_bytes l.fn.text ++ runs_lines 0 l.runs

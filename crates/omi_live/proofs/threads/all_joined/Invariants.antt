@@ -13,7 +13,9 @@ invariant-loop-ended g = record {
   none : g.seat.me.1 ≡ [];
   count : vec_len g.all + length g.runs ≡ vec_len g.fn.all;
   left : (i : ℕ) (e : Runner) → slice_get g.all.items i ≡ Some e → slice_get g.fn.all.items i ≡ Some e;
-  known : (p : Program) (l : Layout) (budget : ℕ) (on : Option Break) → HaveEnded p l g.words.table_id budget on (vec_len g.fn.all) g.fn.all.items → AreRunsKnown p l budget on g.seat.me.0 g.runs;
+  known : (p : Program) (l : Layout) (budget : ℕ) (on : Option Break)
+      → HaveEnded p l g.words.table_id budget on (vec_len g.fn.all) g.fn.all.items
+      → AreRunsKnown p l budget on g.seat.me.0 g.runs;
 }
 
 abbrev pub decreases-loop-ended : goal.decreases-loop-ended

@@ -11,7 +11,8 @@ loop-at-preserved c =
     let below = c.loop-at-test.true in
     let count = c.len-count.ensures in
     let long = now.long in
-    let there : c.apply.new.self ≡ slice_set c.loop-at.image c.loop-at.at c.word.result = c.apply.ensures.after ∙ ap (λ k. slice_set c.loop-at.image k c.word.result) (place-address c.loop-at.at) in
+    let there : c.apply.new.self ≡ slice_set c.loop-at.image c.loop-at.at c.word.result =
+    c.apply.ensures.after ∙ ap (λ k. slice_set c.loop-at.image k c.word.result) (place-address c.loop-at.at) in
     record {
       long = ap length there ∙ length-set c.loop-at.image c.loop-at.at c.word.result ∙ long;
       same = λ k within. ap (λ (ws : List ℕ). slice_index ws k) there
@@ -27,4 +28,5 @@ returns c words stop is =
     let long = now.long in
     let counts = (slots_counts c.args.closed.now.words).0 in
     let whole = c.requires.long in
-    front_is c.loop-at.image words (slots_items c.args.closed.now.words) stop is (omega (arith, long, whole, counts)) (λ k below. now.same k (omega (arith, below, end, count, long)))
+    front_is c.loop-at.image words (slots_items c.args.closed.now.words) stop is
+    (omega (arith, long, whole, counts)) (λ k below. now.same k (omega (arith, below, end, count, long)))

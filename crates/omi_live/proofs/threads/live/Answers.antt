@@ -16,7 +16,8 @@ use Rattle.omi_live.proofs.threads.live.Goals as goal
 pub of_words-requires : goal.of_words-requires
 of_words-requires g c =
     let words = c.deref.ensures.value ∙ c.in_ok-opening.ensures in
-    subst (λ (z : Program × Layout × List ℕ). Keeps z.0 z.1 c.args.on (opening z.2 [] (first_parts z.0 z.1))) (λ k. (sym c.of.ensures k, sym c.of-2.ensures k, sym words k))
+    subst (λ (z : Program × Layout × List ℕ). Keeps z.0 z.1 c.args.on (opening z.2 [] (first_parts z.0 z.1)))
+    (λ k. (sym c.of.ensures k, sym c.of-2.ensures k, sym words k))
     (opening_keeps c.args.p.now c.args.l.now c.in_ok-first.first c.requires.suits c.in_ok-first.ensures c.args.on)
 
 pub all_worked-requires-clause-begin : goal.all_worked-requires-clause-begin
@@ -29,7 +30,9 @@ all_joined-requires-clause-theirs g c i e got =
     let within = get_within c.all_worked.new.workers.items e i got in
     let long = c.all_worked.new.workers.ok.0 in
     let threads = c.all_worked.ensures.threads in
-    let ended = c.all_worked.ensures.ended i (vec_len c.in_ok-workers.workers - (i + 1)) e got (omega (arith, within, long, threads)) in
+    let ended =
+    c.all_worked.ensures.ended i (vec_len c.in_ok-workers.workers - (i + 1)) e got
+    (omega (arith, within, long, threads)) in
     (ended.work.table, ap (λ (m : Seated Part). m.1) ended.work.knows)
 
 pub returns : goal.returns
@@ -42,7 +45,9 @@ returns g c =
     subst (λ (z : Program × Layout). Keeps z.0 z.1 c.args.on s) (λ k. (c.of.ensures k, c.of-2.ensures k))
     (subst (λ (z : Given). Keeps z.program.value z.layout.value z.on s) key seen.0) in
     let all = c.all_worked.ensures.threads in
-    let ended : HaveEnded c.args.p.now c.args.l.now c.in_ok-table.table.shared.table_id c.args.budget c.args.on (vec_len c.all_worked.new.workers) c.all_worked.new.workers.items = λ i thread e got at. c.all_worked.ensures.ended i thread e got (at ∙ all) in
+    let ended : HaveEnded c.args.p.now c.args.l.now c.in_ok-table.table.shared.table_id c.args.budget c.args.on (vec_len c.all_worked.new.workers) c.all_worked.new.workers.items =
+    λ i thread e got at. c.all_worked.ensures.ended i thread e got (at ∙ all) in
     let known = c.in_ok-runs.ensures.known c.args.p.now c.args.l.now c.args.budget c.args.on ended in
     is_live c.args.p.now c.args.l.now c.args.budget c.args.on s h c.all_joined.new.seat.id c.all_joined.new.seat.me.0 seen.1 c.in_ok-runs.runs known
-    (c.in_ok-runs.ensures.threads ∙ all ∙ c.in_ok-workers.ensures.threads) c.image_of-image.result (c.image_of-image.ensures h.behind.run.words h.stop (sym values.2.2 ∙ h.behind.are))
+    (c.in_ok-runs.ensures.threads ∙ all ∙ c.in_ok-workers.ensures.threads) c.image_of-image.result
+    (c.image_of-image.ensures h.behind.run.words h.stop (sym values.2.2 ∙ h.behind.are))

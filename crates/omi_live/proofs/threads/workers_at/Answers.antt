@@ -17,11 +17,14 @@ split_seat-own-requires c =
     let key = c.args.words.now.key in
     let now = c.loop-made.invariant in
     let below = c.loop-made-test.true in
-    let left : c.args.p.now.threads - c.loop-made.made ≡ suc (c.args.p.now.threads - c.loop-made.made - 1) = omega (arith, below) in
+    let left : c.args.p.now.threads - c.loop-made.made ≡ suc (c.args.p.now.threads - c.loop-made.made - 1) =
+    omega (arith, below) in
     let knows : c.loop-made.seat.me.0 ≡ all_below (first_part c.args.p.now c.args.l.now) (suc (c.args.p.now.threads - c.loop-made.made - 1)) = ap (λ (m : Seated Part). m.0) now.knows ∙ ap (all_below (first_part c.args.p.now c.args.l.now)) left in (
       now.seated,
       c.requires.count,
-      subst (λ (v : List Part). Splits (Keeps key.program.value key.layout.value key.on) c.loop-made.seat.id v (without_first v) (first_alone v)) (sym knows)
+      subst
+          (λ (v : List Part). Splits (Keeps key.program.value key.layout.value key.on) c.loop-made.seat.id v (without_first v) (first_alone v))
+          (sym knows)
           (split_allowed key.program.value key.layout.value key.on c.args.p.now c.args.l.now c.loop-made.seat.id (c.args.p.now.threads - c.loop-made.made - 1)),
     )
 
@@ -29,12 +32,16 @@ pub loop-made-preserved : goal.loop-made-preserved
 loop-made-preserved c =
     let now = c.loop-made.invariant in
     let below = c.loop-made-test.true in
-    let left : c.args.p.now.threads - c.loop-made.made ≡ suc (c.args.p.now.threads - (c.loop-made.made + 1)) = omega (arith, below) in
-    let knows : c.loop-made.seat.me ≡ (all_below (first_part c.args.p.now c.args.l.now) (suc (c.args.p.now.threads - (c.loop-made.made + 1))), []) = now.knows ∙ ap (λ n. (all_below (first_part c.args.p.now c.args.l.now) n, [])) left in
+    let left : c.args.p.now.threads - c.loop-made.made ≡ suc (c.args.p.now.threads - (c.loop-made.made + 1)) =
+    omega (arith, below) in
+    let knows : c.loop-made.seat.me ≡ (all_below (first_part c.args.p.now c.args.l.now) (suc (c.args.p.now.threads - (c.loop-made.made + 1))), []) =
+    now.knows ∙ ap (λ n. (all_below (first_part c.args.p.now c.args.l.now) n, [])) left in
     let split = c.split_seat-own.ensures in
-    let count : length c.loop-made.workers.items ≡ c.loop-made.made = sym c.loop-made.workers.ok.0 ∙ now.count in
+    let count : length c.loop-made.workers.items ≡ c.loop-made.made =
+    sym c.loop-made.workers.ok.0 ∙ now.count in
     let one : Runner = record { worker = c.in_ok-worker.worker; until = until.Budget } in
-    let own : c.split_seat-own.result.me ≡ (first_part c.args.p.now c.args.l.now (c.args.p.now.threads - (c.loop-made.made + 1)) ∷ [], []) = split.4 ∙ ap (λ (m : Seated Part). (first_alone m.0, [])) knows in
+    let own : c.split_seat-own.result.me ≡ (first_part c.args.p.now c.args.l.now (c.args.p.now.threads - (c.loop-made.made + 1)) ∷ [], []) =
+    split.4 ∙ ap (λ (m : Seated Part). (first_alone m.0, [])) knows in
     record {
       seated = split.0 ∙ now.seated;
       knows = split.2 ∙ ap (λ (m : Seated Part). (without_first m.0, m.1)) knows;
@@ -44,7 +51,8 @@ loop-made-preserved c =
           let r_is = last.1 in
           let at = last.0 in
           let thread = c.in_ok-worker.ensures.thread in (
-            subst (λ (x : Runner). IsToBegin c.args.p.now c.args.l.now c.args.words.now.table_id c.args.budget x.worker) r_is
+            subst
+                (λ (x : Runner). IsToBegin c.args.p.now c.args.l.now c.args.words.now.table_id c.args.budget x.worker) r_is
                 (subst (λ id. IsToBegin c.args.p.now c.args.l.now id c.args.budget c.in_ok-worker.worker) (split.3 ∙ now.seated)
                 (c.in_ok-worker.ensures.begin c.args.l.now (own ∙ ap (λ n. (first_part c.args.p.now c.args.l.now n ∷ [], [])) (omega (arith, below))))),
             subst (λ (x : Runner). x.worker.thread + i + 1 ≡ c.args.p.now.threads) r_is (omega (arith, thread, at, count, below)),

@@ -17,7 +17,8 @@ returns-in-Ok g c =
       out_of_memory = λ is. inr (c.print.ensures.want.failed is);
       left =
           λ content told.
-          ok_left (asked c.args.request) _ _ _ (g.K.Sink.told c.args.out.now) (g.K.Sink.told c.print.new.out) content c.in-Ok.text c.print.result
+          ok_left (asked c.args.request) _ _ _ (g.K.Sink.told c.args.out.now)
+          (g.K.Sink.told c.print.new.out) content c.in-Ok.text c.print.result
           (c.in-Ok.ensures.answer content told) printed (λ done. rw (← c.deref.ensures.value) (c.print.ensures.success done)) (rw (← c.deref.ensures.value) c.print.ensures.cut);
       unwritten = λ is. absurd (printing_writes c.print.result printed is);
       others = c.in-Ok.ensures.others;
@@ -38,7 +39,8 @@ returns-in-Err g c =
       out_of_memory = λ is. inl (unsaid _ _ c.in-Err.refusal _ (g.K.Sink.told c.args.out.now) (g.K.Sink.told c.refuse.new.out) c.refuse.ensures.line is);
       left =
           λ content told.
-          err_left (asked c.args.request) _ _ _ (g.K.Sink.told c.args.out.now) (g.K.Sink.told c.refuse.new.out) content c.in-Err.refusal
+          err_left (asked c.args.request) _ _ _ (g.K.Sink.told c.args.out.now)
+          (g.K.Sink.told c.refuse.new.out) content c.in-Err.refusal
           (c.in-Err.ensures.answer content told) c.refuse.ensures.line;
       unwritten = c.in-Err.ensures.unwritten;
       others = c.in-Err.ensures.others;

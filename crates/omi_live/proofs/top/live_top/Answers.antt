@@ -7,18 +7,24 @@ use Rattle.omi_live.proofs.top.live_top.Goals as goal
 
 pub returns-in-Some-clause-no_file : goal.returns-in-Some-clause-no_file
 returns-in-Some-clause-no_file g c = λ command content is told.
-    let same = one_command (asked c.in-Some.request) command (c.in-Some.ensures.asked ∙ ap (option_and_then live_command_by) c.in-Ok.ensures.line ∙ is) in
+    let same =
+    one_command (asked c.in-Some.request) command
+    (c.in-Some.ensures.asked ∙ ap (option_and_then live_command_by) c.in-Ok.ensures.line ∙ is) in
     no_file command _ _ _ _ _ content c.carry_out.result
     (left_of (asked c.in-Some.request) command c.carry_out.result (g.F.Files.told c.args.files.now) (g.F.Files.told c.carry_out.new.files) _ _ _ content same c.carry_out.ensures.left told)
 
 pub returns-in-Some-clause-script : goal.returns-in-Some-clause-script
 returns-in-Some-clause-script g c = λ command bytes is told.
-    let same = one_command (asked c.in-Some.request) command (c.in-Some.ensures.asked ∙ ap (option_and_then live_command_by) c.in-Ok.ensures.line ∙ is) in
+    let same =
+    one_command (asked c.in-Some.request) command
+    (c.in-Some.ensures.asked ∙ ap (option_and_then live_command_by) c.in-Ok.ensures.line ∙ is) in
     script_refused command _ _ _ _ _ bytes c.carry_out.result
     (left_of (asked c.in-Some.request) command c.carry_out.result (g.F.Files.told c.args.files.now) (g.F.Files.told c.carry_out.new.files) _ _ _ (Some bytes) same c.carry_out.ensures.left told)
 
 pub returns-in-Some-clause-success : goal.returns-in-Some-clause-success
 returns-in-Some-clause-success g c = λ command bytes is told done.
-    let same = one_command (asked c.in-Some.request) command (c.in-Some.ensures.asked ∙ ap (option_and_then live_command_by) c.in-Ok.ensures.line ∙ is) in
+    let same =
+    one_command (asked c.in-Some.request) command
+    (c.in-Some.ensures.asked ∙ ap (option_and_then live_command_by) c.in-Ok.ensures.line ∙ is) in
     success command _ _ _ _ _ bytes c.carry_out.result done
     (left_of (asked c.in-Some.request) command c.carry_out.result (g.F.Files.told c.args.files.now) (g.F.Files.told c.carry_out.new.files) _ _ _ (Some bytes) same c.carry_out.ensures.left told)

@@ -12,7 +12,8 @@ use Rattle.omi_live.proofs.top.perform.Goals as goal
 pub returns-in_err-p-clause-answer : goal.returns-in_err-p-clause-answer
 returns-in_err-p-clause-answer g c = λ content told.
     let p = err_from_is_err_and c.from_residual.result c.from_residual.ensures.1 in
-    rw (p.1, p.2) (inl (c.in_err-p.ensures.refused content told, ap (λ (t : List ℕ → Told). t c.args.request.names.core.now) c.in_err-p.ensures.same))
+    rw (p.1, p.2)
+    (inl (c.in_err-p.ensures.refused content told, ap (λ (t : List ℕ → Told). t c.args.request.names.core.now) c.in_err-p.ensures.same))
 
 pub returns-in_err-p-clause-kind : goal.returns-in_err-p-clause-kind
 returns-in_err-p-clause-kind g c =
@@ -58,7 +59,8 @@ returns-in_err-write_whole-clause-write g c =
     }
 
 pub returns-in_err-write_whole-clause-others : goal.returns-in_err-write_whole-clause-others
-returns-in_err-write_whole-clause-others g c = λ other not. c.in_err-write_whole.ensures.others other not ∙ ap (λ (t : List ℕ → Told). t other) c.in_ok-p.ensures.same
+returns-in_err-write_whole-clause-others g c =
+    λ other not. c.in_err-write_whole.ensures.others other not ∙ ap (λ (t : List ℕ → Told). t other) c.in_ok-p.ensures.same
 
 pub returns-in_err-write_whole-clause-unwritten : goal.returns-in_err-write_whole-clause-unwritten
 returns-in_err-write_whole-clause-unwritten g c =
@@ -68,7 +70,8 @@ returns-in_err-write_whole-clause-unwritten g c =
 pub returns-clause-answer : goal.returns-clause-answer
 returns-clause-answer g c = λ content told.
     let core : List ℕ = c.args.request.names.core.now in
-    done_answered (asked c.args.request) content _ _ c.in_ok-p.p (c.in_ok-p.ensures.program content told) c.in_ok-core.core.items c.into_bytes.result
+    done_answered (asked c.args.request) content _ _ c.in_ok-p.p
+    (c.in_ok-p.ensures.program content told) c.in_ok-core.core.items c.into_bytes.result
     (subst (λ (v : Vec ℕ). IsLiveRun c.in_ok-p.p c.args.request.plan c.in_ok-core.core.items v.items) (sym c.into_bytes.ensures.value) c.in_ok-core.ensures)
     ((rw (← c.deref.ensures.value) c.in_ok-write_whole.ensures.written) ∙ ap (λ (t : List ℕ → Told). holding (t core) c.in_ok-core.core.items) c.in_ok-p.ensures.same)
 
@@ -85,4 +88,5 @@ returns-clause-write g c =
     record { later = omega (arith, same, later); failed = λ is. cc }
 
 pub returns-clause-others : goal.returns-clause-others
-returns-clause-others g c = λ other not. c.in_ok-write_whole.ensures.others other not ∙ ap (λ (t : List ℕ → Told). t other) c.in_ok-p.ensures.same
+returns-clause-others g c =
+    λ other not. c.in_ok-write_whole.ensures.others other not ∙ ap (λ (t : List ℕ → Told). t other) c.in_ok-p.ensures.same

@@ -13,11 +13,19 @@ pub returns-clause-after : goal.returns-clause-after
 returns-clause-after c =
     let t : Task = c.in-Some.t in
     let took = c.in-Some.ensures in
-    let back = c.put_live.ensures ∙ ap (λ (list : List Item). with_slot c.take_live.new.slots c.args.k.0 (record { generations = c.args.k.0.generation + 1; live = Some (record t { list = list }) })) c.replace-old.ensures.after in
-    slots_changed c.args.tasks.now c.take_live.new.slots c.put_live.new.slots c.args.k.0 _ (λ t. record t { list = c.args.list }) t took.kept took.found took.taken back
+    let back =
+    c.put_live.ensures
+    ∙ ap
+    (λ (list : List Item). with_slot c.take_live.new.slots c.args.k.0 (record { generations = c.args.k.0.generation + 1; live = Some (record t { list = list }) })) c.replace-old.ensures.after in
+    slots_changed c.args.tasks.now c.take_live.new.slots c.put_live.new.slots c.args.k.0 _
+    (λ t. record t { list = c.args.list }) t took.kept took.found took.taken back
 
 pub returns-clause-back : goal.returns-clause-back
 returns-clause-back c =
     let t : Task = c.in-Some.t in
-    ap (λ (m : ℕ → ℕ → Slot Task). on m c.args.k.0 (λ t. record t { list = c.replace-old.result })) (returns-clause-after c)
-    ∙ on_back (slots_of c.args.tasks.now) c.args.k.0 (λ t. record t { list = c.args.list }) t c.in-Some.ensures.found (λ t. record t { list = c.replace-old.result }) (ap (λ (old : List Item). record t { list = old }) c.replace-old.ensures.value)
+    ap (λ (m : ℕ → ℕ → Slot Task). on m c.args.k.0 (λ t. record t { list = c.replace-old.result }))
+    (returns-clause-after c)
+    ∙ on_back (slots_of c.args.tasks.now) c.args.k.0
+    (λ t. record t { list = c.args.list }) t c.in-Some.ensures.found
+    (λ t. record t { list = c.replace-old.result })
+    (ap (λ (old : List Item). record t { list = old }) c.replace-old.ensures.value)

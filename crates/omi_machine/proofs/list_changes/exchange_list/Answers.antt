@@ -6,4 +6,5 @@ use Rattle.omi_machine.proofs.list_changes.exchange_list.Goals as goal
 
 pub returns-in-None-clause-back : goal.returns-in-None-clause-back
 returns-in-None-clause-back c =
-    list_back (state_of c.args.s.now) _ c.args.i c.args.list _ (ap (λ (h : Thread). h.current) (sym c.thread.ensures) ∙ c.in-None.is) c.exchange_in_thread.ensures.after c.exchange_in_thread.ensures.back
+    list_back (state_of c.args.s.now) _ c.args.i c.args.list _
+    (ap (λ (h : Thread). h.current) (sym c.thread.ensures) ∙ c.in-None.is) c.exchange_in_thread.ensures.after c.exchange_in_thread.ensures.back

@@ -16,5 +16,6 @@ returns-clause-done c =
     c.make.ensures.made
     ∙ ap (λ (m : ℕ → ℕ → Slot Task). made m task.0 c.in_ok-new.new) c.in_ok-keep_slot.ensures.same
     ∙ ap (made (slots_of c.args.s.now.tasks) task.0) c.in_ok-new.ensures in
-    by_current_is s c.args.i c.in-Some.k c.in-Some.t.now (deferred c.args.p.now s task c.args.f c.args.is_final c.args.place) c.in-Some.ensures.found
+    by_current_is s c.args.i c.in-Some.k c.in-Some.t.now
+    (deferred c.args.p.now s task c.args.f c.args.is_final c.args.place) c.in-Some.ensures.found
     ∙ ap (λ (m : ℕ → ℕ → Slot Task). Some (record s { tasks = m })) (sym makes)

@@ -19,6 +19,8 @@ returns-clause-done c =
     let makes =
     c.make.ensures.made
     ∙ ap (λ (m : ℕ → ℕ → Slot Task). made m task.0 c.scheduled_from-new.result) c.in_ok-keep_slot.ensures.same
-    ∙ ap (made (slots_of c.args.s.now.tasks) task.0) (c.scheduled_from-new.ensures ∙ ap (scheduled i k t) c.in_ok-deferred.ensures) in
+    ∙ ap (made (slots_of c.args.s.now.tasks) task.0)
+    (c.scheduled_from-new.ensures ∙ ap (scheduled i k t) c.in_ok-deferred.ensures) in
     by_current_is s i k t (started_now c.args.p.now s i task c.args.f c.args.is_final) c.in-Some.ensures.found
-    ∙ ap (λ (x : State). Some x) (sym (c.set_current.ensures ∙ ap (λ (m : ℕ → ℕ → Slot Task). with_current (record s { tasks = m }) i (Some task)) makes))
+    ∙ ap (λ (x : State). Some x)
+    (sym (c.set_current.ensures ∙ ap (λ (m : ℕ → ℕ → Slot Task). with_current (record s { tasks = m }) i (Some task)) makes))

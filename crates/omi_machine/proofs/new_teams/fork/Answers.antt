@@ -26,11 +26,18 @@ returns-clause-done c =
     c.make.ensures.made
     ∙ ap (λ (m : ℕ → ℕ → Slot Region). made m region.0 c.in_ok-new.new) c.in_ok-keep_slot.ensures.same
     ∙ ap (made (slots_of c.args.s.now.regions) region.0) c.in_ok-new.ensures in
-    let tasks = c.make_members.ensures task c.in_ok-tasks.ensures ∙ ap (with_members task 0 team) c.in_ok-keep_team.ensures.same in
+    let tasks =
+    c.make_members.ensures task c.in_ok-tasks.ensures
+    ∙ ap (with_members task 0 team) c.in_ok-keep_team.ensures.same in
     let new : Region = new_region k t r team c.args.f in
     let whole =
     c.set_current.ensures
-    ∙ ap (λ (m : ℕ → ℕ → Slot Region). with_current (record s { regions = m; tasks = slots_of c.make_members.new.slots }) i c.first_task.result) regions
-    ∙ ap (λ (m : ℕ → ℕ → Slot Task). with_current (record s { regions = made s.regions region.0 new; tasks = m }) i c.first_task.result) tasks
-    ∙ ap (with_current (record s { regions = made s.regions region.0 new; tasks = with_members task 0 team s.tasks }) i) c.first_task.ensures in
-    by_region_is s i k t r (forked p s i region team c.args.f) c.in-Some.ensures.found.0 c.in-Some.ensures.found.1 ∙ ap (λ (x : State). Some x) (sym whole)
+    ∙ ap
+    (λ (m : ℕ → ℕ → Slot Region). with_current (record s { regions = m; tasks = slots_of c.make_members.new.slots }) i c.first_task.result) regions
+    ∙ ap
+    (λ (m : ℕ → ℕ → Slot Task). with_current (record s { regions = made s.regions region.0 new; tasks = m }) i c.first_task.result) tasks
+    ∙ ap
+    (with_current (record s { regions = made s.regions region.0 new; tasks = with_members task 0 team s.tasks }) i) c.first_task.ensures in
+    by_region_is s i k t r
+    (forked p s i region team c.args.f) c.in-Some.ensures.found.0 c.in-Some.ensures.found.1
+    ∙ ap (λ (x : State). Some x) (sym whole)

@@ -6,7 +6,8 @@ use Rattle.omi_machine.proofs.new_teams.make_members.Goals as goal
 
 pub returns-in_default : goal.returns-in_default
 returns-in_default c task is =
-    absurd (some_left task c.loop-at.at c.args.team.now c.loop-at.new (slots_of c.loop-at.slots) (slots_of c.args.slots.now) (omega arith) (c.in_default.ensures.none refl) (c.loop-at.invariant.making task is))
+    absurd
+    (some_left task c.loop-at.at c.args.team.now c.loop-at.new (slots_of c.loop-at.slots) (slots_of c.args.slots.now) (omega arith) (c.in_default.ensures.none refl) (c.loop-at.invariant.making task is))
 
 pub loop-at-preserved : goal.loop-at-preserved
 loop-at-preserved c = record {

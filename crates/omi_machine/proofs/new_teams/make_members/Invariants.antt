@@ -10,5 +10,6 @@ use Rattle.omi_machine.proofs.new_teams.make_members.Given as goal
 abbrev pub invariant-loop-at : goal.invariant-loop-at
 invariant-loop-at l = record {
   kept : AreKept l.slots l.team;
-  making : (task : ℕ → ℕ → Task) → l.fn.new ≡ tasks_back task 0 l.team → IsMaking task l.at l.new l.team (slots_of l.slots) (slots_of l.fn.slots);
+  making : (task : ℕ → ℕ → Task) → l.fn.new ≡ tasks_back task 0 l.team
+      → IsMaking task l.at l.new l.team (slots_of l.slots) (slots_of l.fn.slots);
 }

@@ -5,4 +5,5 @@ use Rattle.omi_machine.proofs.new_teams.new_members.Given as goal
 
 -- the tasks of the last members
 abbrev pub invariant-loop-done : goal.invariant-loop-done
-invariant-loop-done l = l.new ≡ tasks_back (member_task l.p l.region l.k l.t l.r l.f) (length l.team - l.done) (drop (length l.team - l.done) l.team)
+invariant-loop-done l =
+    l.new ≡ tasks_back (member_task l.p l.region l.k l.t l.r l.f) (length l.team - l.done) (drop (length l.team - l.done) l.team)

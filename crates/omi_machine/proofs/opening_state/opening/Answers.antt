@@ -11,6 +11,9 @@ use Rattle.omi_machine.proofs.opening_state.opening.Goals as goal
 pub returns : goal.returns
 returns c =
     let p = c.args.p.now in
-    let regions : slots_of {A = Region} c.in_ok-first_slot.field-0 ≡ first_alone (opening_region p) = c.in_ok-first_slot.ensures ∙ ap (first_alone {A = Region}) c.in_ok-initial_region.ensures in
-    let tasks : slots_of {A = Task} c.in_ok-first_slot-2.field-0 ≡ first_alone (opening_task p) = c.in_ok-first_slot-2.ensures ∙ ap (first_alone {A = Task}) c.in_ok-initial_task.ensures in
-    opening_kept p c.in_ok-same.field-0 c.new.result c.in_ok-threads.field-0 c.in_ok-first_slot.field-0 c.in_ok-first_slot-2.field-0 (Rules-from_accepted p).threads.0 c.in_ok-same.ensures c.new.ensures c.in_ok-threads.ensures regions tasks
+    let regions : slots_of {A = Region} c.in_ok-first_slot.field-0 ≡ first_alone (opening_region p) =
+    c.in_ok-first_slot.ensures ∙ ap (first_alone {A = Region}) c.in_ok-initial_region.ensures in
+    let tasks : slots_of {A = Task} c.in_ok-first_slot-2.field-0 ≡ first_alone (opening_task p) =
+    c.in_ok-first_slot-2.ensures ∙ ap (first_alone {A = Task}) c.in_ok-initial_task.ensures in
+    opening_kept p c.in_ok-same.field-0 c.new.result c.in_ok-threads.field-0 c.in_ok-first_slot.field-0 c.in_ok-first_slot-2.field-0
+    (Rules-from_accepted p).threads.0 c.in_ok-same.ensures c.new.ensures c.in_ok-threads.ensures regions tasks

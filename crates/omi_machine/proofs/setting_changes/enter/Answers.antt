@@ -11,5 +11,9 @@ returns c =
     let k = c.in-Some.k in
     let t : Task = c.in-Some-take_live.t in
     let name = ap (λ (h : Thread). h.current) (sym c.thread.ensures) ∙ c.in-Some.is in
-    let back = c.put_live.ensures ∙ ap (λ (e : ℕ). with_slot c.take_live.new.slots k.0 (record { generations = k.0.generation + 1; live = Some (record t { enter = e }) })) c.enter_frame-enter.ensures in
-    current_changed c.args.s.now c.take_live.new.slots c.put_live.new.slots c.args.i k _ (λ k t u. record u { enter = enter_frame t.exit }) t name c.in-Some-take_live.ensures.kept c.in-Some-take_live.ensures.found c.in-Some-take_live.ensures.taken back
+    let back =
+    c.put_live.ensures
+    ∙ ap
+    (λ (e : ℕ). with_slot c.take_live.new.slots k.0 (record { generations = k.0.generation + 1; live = Some (record t { enter = e }) })) c.enter_frame-enter.ensures in
+    current_changed c.args.s.now c.take_live.new.slots c.put_live.new.slots c.args.i k _
+    (λ k t u. record u { enter = enter_frame t.exit }) t name c.in-Some-take_live.ensures.kept c.in-Some-take_live.ensures.found c.in-Some-take_live.ensures.taken back

@@ -8,7 +8,8 @@ use Rattle.omi_machine.proofs.slot_changes.keep_creators.Goals as goal
 pub loop-preserved : goal.loop-preserved
 loop-preserved g c =
     let slots : List (List (Slot g.row.T.Denot)) = c.loop.slots in
-    let more : c.push.new.self ≡ slots ++ [] ∷ [] = c.in_ok-push.ensures.added ∙ ap (λ (row : List (Slot g.row.T.Denot)). slots ++ row ∷ []) c.new.ensures in
+    let more : c.push.new.self ≡ slots ++ [] ∷ [] =
+    c.in_ok-push.ensures.added ∙ ap (λ (row : List (Slot g.row.T.Denot)). slots ++ row ∷ []) c.new.ensures in
     record {
       same = ap (λ (s : List (List (Slot g.row.T.Denot))). slots_of s) more ∙ slots_more slots ∙ c.loop.invariant.same;
       keeps = λ n kept. subst (λ (s : List (List (Slot g.row.T.Denot))). IsKept s n) (sym more) (kept_more slots n (c.loop.invariant.keeps n kept));

@@ -17,6 +17,9 @@ returns c =
     let t : Task = c.in-Some-take_live.t in
     let took = c.in-Some-take_live.ensures in
     let name = ap (λ (h : Thread). h.current) (sym c.thread.ensures) ∙ c.in-Some.is in
-    let task = task_changed s c.take_live.new.slots c.put_live.new.slots k _ (λ u. record u { progress = Finished }) t took.kept took.found took.taken c.put_live.ensures in
+    let task =
+    task_changed s c.take_live.new.slots c.put_live.new.slots k _
+    (λ u. record u { progress = Finished }) t took.kept took.found took.taken c.put_live.ensures in
     let whole = c.set_current.ensures ∙ ap (λ (x : State). with_current x i t.scheduling) task in
-    by_current_is (state_of s) i k t (finished (state_of s) i) (record { name = name; live = took.found }) ∙ ap (λ (x : State). Some x) (sym whole)
+    by_current_is (state_of s) i k t (finished (state_of s) i) (record { name = name; live = took.found })
+    ∙ ap (λ (x : State). Some x) (sym whole)

@@ -29,10 +29,16 @@ returns-then-is_err-clause-refused c =
     let task = c.args.task in
     let u : Task = c.in-Some-take_live.u in
     let took = c.in-Some-take_live.ensures in
-    let same : c.push_working.new.list ≡ u.list = when_err c.push_working.result (sym c.is_err.ensures.value ∙ c.if-is_err.true) c.push_working.ensures.refused in
-    let back = c.put_live.ensures ∙ ap (λ (list : List Item). with_slot c.take_live.new.slots task.0 (record { generations = task.0.generation + 1; live = Some (record u { list = list }) })) same in
+    let same : c.push_working.new.list ≡ u.list =
+    when_err c.push_working.result
+    (sym c.is_err.ensures.value ∙ c.if-is_err.true) c.push_working.ensures.refused in
+    let back =
+    c.put_live.ensures
+    ∙ ap
+    (λ (list : List Item). with_slot c.take_live.new.slots task.0 (record { generations = task.0.generation + 1; live = Some (record u { list = list }) })) same in
     let slots : slots_of c.put_live.new.slots ≡ slots_of s.tasks =
-    slots_changed s.tasks c.take_live.new.slots c.put_live.new.slots task.0 _ (λ t. t) u took.kept took.found took.taken back
+    slots_changed s.tasks c.take_live.new.slots c.put_live.new.slots task.0 _
+    (λ t. t) u took.kept took.found took.taken back
     ∙ on_same (slots_of s.tasks) task.0 (λ t. t) u took.found refl in
     ap (λ (m : ℕ → ℕ → Slot Task). record (state_of s) { tasks = m }) slots
 
@@ -45,12 +51,20 @@ returns-clause-done c =
     let t : Task = c.in-Some.t.now in
     let u : Task = c.in-Some-take_live.u in
     let took = c.in-Some-take_live.ensures in
-    let added : c.push_working.new.list ≡ working c.encounter-at.result u.list = when_ok c.push_working.result (sym c.is_err.ensures.value ∙ c.if-is_err.false) c.push_working.ensures.added in
-    let list : c.push_working.new.list ≡ working (encounter (state_of s) i) u.list = added ∙ ap (λ (at : Encounter). working at u.list) c.encounter-at.ensures in
+    let added : c.push_working.new.list ≡ working c.encounter-at.result u.list =
+    when_ok c.push_working.result
+    (sym c.is_err.ensures.value ∙ c.if-is_err.false) c.push_working.ensures.added in
+    let list : c.push_working.new.list ≡ working (encounter (state_of s) i) u.list =
+    added ∙ ap (λ (at : Encounter). working at u.list) c.encounter-at.ensures in
     let back =
     c.put_live-2.ensures
-    ∙ ap (λ (e : ℕ). with_slot c.take_live.new.slots task.0 (record { generations = task.0.generation + 1; live = Some (record (scheduled i k t u) { exit = e; list = c.push_working.new.list }) })) c.exit_below-exit.ensures
-    ∙ ap (λ (l : List Item). with_slot c.take_live.new.slots task.0 (record { generations = task.0.generation + 1; live = Some (record (scheduled i k t u) { list = l }) })) list in
-    let starts = task_changed s c.take_live.new.slots c.put_live-2.new.slots task _ (λ u. record (scheduled i k t u) { list = working (encounter (state_of s) i) u.list }) u took.kept took.found took.taken back in
+    ∙ ap
+    (λ (e : ℕ). with_slot c.take_live.new.slots task.0 (record { generations = task.0.generation + 1; live = Some (record (scheduled i k t u) { exit = e; list = c.push_working.new.list }) })) c.exit_below-exit.ensures
+    ∙ ap
+    (λ (l : List Item). with_slot c.take_live.new.slots task.0 (record { generations = task.0.generation + 1; live = Some (record (scheduled i k t u) { list = l }) })) list in
+    let starts =
+    task_changed s c.take_live.new.slots c.put_live-2.new.slots task _
+    (λ u. record (scheduled i k t u) { list = working (encounter (state_of s) i) u.list }) u took.kept took.found took.taken back in
     let whole = c.set_current.ensures ∙ ap (λ (x : State). with_current x i (Some task)) starts in
-    by_current_is (state_of s) i k t (started (state_of s) i task) c.in-Some.ensures.found ∙ ap (λ (x : State). Some x) (sym whole)
+    by_current_is (state_of s) i k t (started (state_of s) i task) c.in-Some.ensures.found
+    ∙ ap (λ (x : State). Some x) (sym whole)

@@ -23,4 +23,6 @@ returns c =
     c.take_live-2.new.slots c.put_live-2.new.slots t.region _ (λ n. record n { joined = true }) r _
     took.kept took.found took.taken c.put_live.ensures region_took.kept region_took.found region_took.taken c.put_live-2.ensures refl in
     let whole = c.set_current.ensures ∙ ap (λ (x : State). with_current x i seen.encountering) both in
-    by_region_is (state_of s) i k t seen (joined (state_of s) i) c.in-Some.ensures.found.0 c.in-Some.ensures.found.1 ∙ ap (λ (x : State). Some x) (sym whole)
+    by_region_is (state_of s) i k t seen
+    (joined (state_of s) i) c.in-Some.ensures.found.0 c.in-Some.ensures.found.1
+    ∙ ap (λ (x : State). Some x) (sym whole)

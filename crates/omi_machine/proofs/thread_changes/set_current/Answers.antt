@@ -2,4 +2,6 @@ use Rattle.omi_machine.proofs.StateChanges.{thread_changed}
 use Rattle.omi_machine.proofs.thread_changes.set_current.Goals as goal
 
 pub returns : goal.returns
-returns c = thread_changed c.args.s.now _ _ c.args.i _ _ (λ h. record h { current = c.args.current }) c.requires c.exchange-h.ensures.before c.exchange-h.ensures.after c.exchange.ensures.after
+returns c =
+    thread_changed c.args.s.now _ _ c.args.i _ _
+    (λ h. record h { current = c.args.current }) c.requires c.exchange-h.ensures.before c.exchange-h.ensures.after c.exchange.ensures.after

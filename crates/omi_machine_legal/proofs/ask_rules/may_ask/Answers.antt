@@ -14,7 +14,9 @@ IsSmaller h = suc (length (got_threads h.asks)) < h.wanted
 pub returns-then-is_next : goal.returns-then-is_next
 returns-then-is_next c =
     let s : State = state_of c.args.s.now in
-    let next : IsNext (s.threads c.args.i) c.args.i c.args.w = subst (λ (h : Thread). IsNext h c.args.i c.args.w) c.thread-h.ensures (c.is_next.ensures.0 c.if-is_next.true) in
+    let next : IsNext (s.threads c.args.i) c.args.i c.args.w =
+    subst (λ (h : Thread). IsNext h c.args.i c.args.w) c.thread-h.ensures
+    (c.is_next.ensures.0 c.if-is_next.true) in
     let answer : IsAnswer (s.threads c.args.w) c.args.got = subst (λ (h : Thread). IsAnswer h c.args.got) c.thread.ensures (c.is_answer.ensures.0 c.if-not-is_answer.false) in (
       λ small. record {
         known = omega arith;

@@ -6,4 +6,5 @@ use Rattle.omi_machine.specs.Kept.{state_of}
 use Rattle.omi_machine_legal.proofs.fork_rules.are_members_fresh.Given as goal
 
 abbrev pub invariant-loop-at : goal.invariant-loop-at
-invariant-loop-at l = (k : ℕ) → k < l.at → IfSome (slice_get l.team k) (λ (m : Tid × ℕ). IsFresh (state_of l.s).tasks l.i m.0.0)
+invariant-loop-at l =
+    (k : ℕ) → k < l.at → IfSome (slice_get l.team k) (λ (m : Tid × ℕ). IsFresh (state_of l.s).tasks l.i m.0.0)

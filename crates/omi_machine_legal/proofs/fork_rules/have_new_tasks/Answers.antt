@@ -12,11 +12,17 @@ use Rattle.omi_machine_legal.proofs.fork_rules.have_new_tasks.Goals as goal
 abbrev tasks : List (Tid × ℕ) → List Tid
 tasks team = map (λ (m : Tid × ℕ). m.0) team
 
-distinct : (team : List (Tid × ℕ)) → ((k : ℕ) → k < length team → IsNewAt (tasks team) k) → AreDistinct (tasks team)
-distinct team new = distinct_from_new (tasks team) (λ k within. new k (subst (λ (n : ℕ). k < n) (length-map team (λ (m : Tid × ℕ). m.0)) within))
+distinct : (team : List (Tid × ℕ)) → ((k : ℕ) → k < length team → IsNewAt (tasks team) k)
+    → AreDistinct (tasks team)
+distinct team new =
+    distinct_from_new (tasks team)
+    (λ k within. new k (subst (λ (n : ℕ). k < n) (length-map team (λ (m : Tid × ℕ). m.0)) within))
 
-new_at : (team : List (Tid × ℕ)) → AreDistinct (tasks team) → (k : ℕ) → k < length team → IsNewAt (tasks team) k
-new_at team apart k within = new_from_distinct (tasks team) apart k (subst (λ (n : ℕ). k < n) (sym (length-map team (λ (m : Tid × ℕ). m.0))) within)
+new_at : (team : List (Tid × ℕ)) → AreDistinct (tasks team) → (k : ℕ) → k < length team
+    → IsNewAt (tasks team) k
+new_at team apart k within =
+    new_from_distinct (tasks team) apart k
+    (subst (λ (n : ℕ). k < n) (sym (length-map team (λ (m : Tid × ℕ). m.0))) within)
 
 pub returns-then-are_members_fresh : goal.returns-then-are_members_fresh
 returns-then-are_members_fresh c = (

@@ -9,8 +9,10 @@ use Rattle.omi_machine_legal.proofs.fork_rules.is_asked_team.Goals as goal
 
 pub returns-then-are_asks_over : goal.returns-then-are_asks_over
 returns-then-are_asks_over c =
-    let AreThreads : Thread → Type 0 = λ h. map (λ (m : Tid × ℕ). m.1) c.args.team.now ≡ c.args.i ∷ got_threads h.asks in
-    let over : AreAsksOverOf c.thread-h.result.now c.args.i c.count.result = c.are_asks_over.ensures.0 c.if-are_asks_over.true in
+    let AreThreads : Thread → Type 0 =
+    λ h. map (λ (m : Tid × ℕ). m.1) c.args.team.now ≡ c.args.i ∷ got_threads h.asks in
+    let over : AreAsksOverOf c.thread-h.result.now c.args.i c.count.result =
+    c.are_asks_over.ensures.0 c.if-are_asks_over.true in
     let here : AreAsksOverOf ((state_of c.args.s.now).threads c.args.i) c.args.i c.count.result = subst (λ (h : Thread). AreAsksOverOf h c.args.i c.count.result) c.thread-h.ensures over in (
       λ is. (subst (λ (n : ℕ). AreAsksOverOf ((state_of c.args.s.now).threads c.args.i) c.args.i n) c.count.ensures here, subst AreThreads c.thread-h.ensures (c.are_team_threads.ensures.0 is)),
       λ both. c.are_team_threads.ensures.1 (subst AreThreads (sym c.thread-h.ensures) both.1),

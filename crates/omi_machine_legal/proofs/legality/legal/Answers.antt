@@ -7,7 +7,8 @@ use Rattle.omi_model.specs.Rules.{Rule, taken_by}
 use Rattle.omi_machine_legal.proofs.legality.legal.Goals as goal
 
 -- an item that was found, with what stands behind it
-with_rest : (o : Option (Item × List Item)) (x : Item) → option_map (λ (t : Item × List Item). t.0) o ≡ Some x → (rest : List Item) × (o ≡ Some (x, rest))
+with_rest : (o : Option (Item × List Item)) (x : Item) → option_map (λ (t : Item × List Item). t.0) o ≡ Some x
+    → (rest : List Item) × (o ≡ Some (x, rest))
 with_rest None x is = absurd (none-some x is)
 with_rest (Some (y, rest)) x is = (rest, ap (λ (z : Item). Some (z, rest)) (same_Some y x is))
 

@@ -22,7 +22,8 @@ loop-n-init c =
     }
 
 pub next_live-requires : goal.next_live-requires
-next_live-requires c = λ n x is. c.loop-n.invariant.places n x (ap (λ m. named m n) c.tasks-in-loop-n.ensures ∙ is)
+next_live-requires c =
+    λ n x is. c.loop-n.invariant.places n x (ap (λ m. named m n) c.tasks-in-loop-n.ensures ∙ is)
 
 pub loop-n-preserved : goal.loop-n-preserved
 loop-n-preserved c =
@@ -33,8 +34,11 @@ loop-n-preserved c =
     let t = c.in-Some.t.now in
     let row : c.loop-n.rows ++ task_row c.args.i (task_name n) t ∷ [] ≡ c.push.new.self =
     ap (λ r. c.loop-n.rows ++ r ∷ []) (sym c.in_ok-task_row.ensures) ∙ sym c.in_ok-push.ensures.added in
-    let live : task_of s (task_name n) ≡ Some t = ap (λ m. named m n) c.tasks-in-loop-n.ensures ∙ found.live in
-    let walked = walk_more s c.args.i c.args.rows.now c.loop-n.rows c.loop-n.marks.met.items c.loop-n.at before.walked c.next_live.new.marks.met.items n t (sym c.id_of.ensures ∙ found.next) live found.marked.only in
+    let live : task_of s (task_name n) ≡ Some t =
+    ap (λ m. named m n) c.tasks-in-loop-n.ensures ∙ found.live in
+    let walked =
+    walk_more s c.args.i c.args.rows.now c.loop-n.rows c.loop-n.marks.met.items c.loop-n.at before.walked c.next_live.new.marks.met.items n t
+    (sym c.id_of.ensures ∙ found.next) live found.marked.only in
     record {
       places = places_stay s.tasks c.loop-n.marks c.next_live.new.marks n found.marked before.places;
       walked = subst (λ rows. IsWalked s c.args.i c.args.rows.now rows c.next_live.new.marks.met.items t.scheduling) row walked;
@@ -43,5 +47,7 @@ loop-n-preserved c =
 pub returns : goal.returns
 returns c right =
     let s = state_of c.args.s.now in
-    let stops = stop_at s.tasks (slots_of c.tasks-in-loop-n.result.now) c.loop-n.marks.met.items c.id_of.result (option_map (λ k. k.0) c.loop-n.at) c.tasks-in-loop-n.ensures c.id_of.ensures c.in_default.ensures.stops in
+    let stops =
+    stop_at s.tasks (slots_of c.tasks-in-loop-n.result.now) c.loop-n.marks.met.items c.id_of.result
+    (option_map (λ k. k.0) c.loop-n.at) c.tasks-in-loop-n.ensures c.id_of.ensures c.in_default.ensures.stops in
     walk_ends s c.args.i c.args.rows.now c.loop-n.rows c.loop-n.marks.met.items c.loop-n.at c.loop-n.invariant.walked stops right

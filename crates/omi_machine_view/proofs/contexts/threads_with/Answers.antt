@@ -11,9 +11,13 @@ loop-at-preserved c =
     let contexts = c.args.contexts.now in
     elim c.match-thread_with.branch [
       | in-Some+in_ok-narrow+in_ok-push w ↦
-          w.threads-is ∙ w.in_ok-push.ensures.added ∙ ap (λ threads. threads ++ w.in_ok-narrow.field-0 ∷ []) c.loop-at.invariant
-          ∙ sym (made_more (thread_with s) contexts c.loop-at.at c.get.result.now w.in_ok-narrow.field-0 c.get.ensures (sym c.thread_with.ensures ∙ w.in-Some.is ∙ ap Some (sym w.in_ok-narrow.ensures)))
+          w.threads-is
+          ∙ w.in_ok-push.ensures.added
+          ∙ ap (λ threads. threads ++ w.in_ok-narrow.field-0 ∷ []) c.loop-at.invariant
+          ∙ sym
+          (made_more (thread_with s) contexts c.loop-at.at c.get.result.now w.in_ok-narrow.field-0 c.get.ensures (sym c.thread_with.ensures ∙ w.in-Some.is ∙ ap Some (sym w.in_ok-narrow.ensures)))
       | in_default w ↦
           w.threads-is ∙ c.loop-at.invariant
-          ∙ sym (none_more (thread_with s) contexts c.loop-at.at c.get.result.now c.get.ensures (sym c.thread_with.ensures ∙ w.in_default.is))
+          ∙ sym
+          (none_more (thread_with s) contexts c.loop-at.at c.get.result.now c.get.ensures (sym c.thread_with.ensures ∙ w.in_default.is))
     ]

@@ -37,6 +37,10 @@ loop-r-preserved c =
 pub returns-clause-met : goal.returns-clause-met
 returns-clause-met c threads are =
     let s = state_of c.args.s.now in
-    let stops = stop_at s.regions (slots_of c.regions.result.now) c.loop-r.marks.met.items c.id_of.result (option_map (λ k. k.0) c.loop-r.at) c.regions.ensures c.id_of.ensures c.in_default.ensures.stops in
-    let met = walk_ends s threads c.args.i c.loop-r.marks.met.items c.loop-r.at (c.loop-r.invariant.met threads are) stops in
+    let stops =
+    stop_at s.regions (slots_of c.regions.result.now) c.loop-r.marks.met.items c.id_of.result
+    (option_map (λ k. k.0) c.loop-r.at) c.regions.ensures c.id_of.ensures c.in_default.ensures.stops in
+    let met =
+    walk_ends s threads c.args.i c.loop-r.marks.met.items c.loop-r.at
+    (c.loop-r.invariant.met threads are) stops in
     subst (λ m. AreMet s (threads ++ c.args.i ∷ []) m.met.items) (sym c.in_default.ensures.same) met

@@ -17,7 +17,8 @@ loop-at-init c = record {
 }
 
 pub meet_regions-requires-clause-known : goal.meet_regions-requires-clause-known
-meet_regions-requires-clause-known c = c.requires c.get.result.now (element c.args.threads.now c.loop-at.at c.get.result.now c.get.ensures)
+meet_regions-requires-clause-known c =
+    c.requires c.get.result.now (element c.args.threads.now c.loop-at.at c.get.result.now c.get.ensures)
 
 pub loop-at-preserved : goal.loop-at-preserved
 loop-at-preserved c =
@@ -25,7 +26,9 @@ loop-at-preserved c =
     let i = c.get.result.now in
     record {
       places = c.meet_regions.ensures.places;
-      met = subst (λ front. AreMet s front c.meet_regions.new.marks.met.items) (sym (one_more c.args.threads.now c.loop-at.at i c.get.ensures))
+      met =
+          subst (λ front. AreMet s front c.meet_regions.new.marks.met.items)
+          (sym (one_more c.args.threads.now c.loop-at.at i c.get.ensures))
           (c.meet_regions.ensures.met (take c.loop-at.at c.args.threads.now) c.loop-at.invariant.met);
     }
 
@@ -36,4 +39,5 @@ returns c right =
     let marks = c.loop-at.marks in
     let whole = take_all c.loop-at.at threads (omega arith) in
     let are = subst (λ front. AreMet s front marks.met.items) whole c.loop-at.invariant.met in
-    subst (AreRegions s threads) (sym c.in_ok-rows.ensures) (regions_met s threads marks.met.items right c.requires are marks.creators marks.width marks.placed)
+    subst (AreRegions s threads) (sym c.in_ok-rows.ensures)
+    (regions_met s threads marks.met.items right c.requires are marks.creators marks.width marks.placed)

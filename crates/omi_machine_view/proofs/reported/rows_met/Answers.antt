@@ -15,8 +15,14 @@ loop-met-preserved c =
     let at = slice_get-get_or met i None inside in
     elim c.match-branch-2.branch [
       | in-Some+in_ok-push w ↦
-          w.rows-is ∙ w.in_ok-push.ensures.added ∙ ap (λ rows. rows ++ w.in-Some.row ∷ []) c.loop-met.invariant
-          ∙ sym (made_more (row_met s) met i (get_or met i None) w.in-Some.row at (sym c.in_ok-row.ensures ∙ w.in-Some.is))
+          w.rows-is
+          ∙ w.in_ok-push.ensures.added
+          ∙ ap (λ rows. rows ++ w.in-Some.row ∷ []) c.loop-met.invariant
+          ∙ sym
+          (made_more (row_met s) met i (get_or met i None) w.in-Some.row at (sym c.in_ok-row.ensures ∙ w.in-Some.is))
       | in_default w ↦
-          w.rows-is ∙ c.loop-met.invariant ∙ sym (none_more (row_met s) met i (get_or met i None) at (sym c.in_ok-row.ensures ∙ w.in_default.is))
+          w.rows-is
+          ∙ c.loop-met.invariant
+          ∙ sym
+          (none_more (row_met s) met i (get_or met i None) at (sym c.in_ok-row.ensures ∙ w.in_default.is))
     ]

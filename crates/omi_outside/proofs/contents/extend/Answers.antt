@@ -9,5 +9,6 @@ returns-in-Some-clause-others c = λ other ne. grind (arith, text_keys)
 
 pub returns-in-Some-clause-refused : goal.returns-in-Some-clause-refused
 returns-in-Some-clause-refused c = on_err c.extend_from_slice.result _ (λ e is.
-    let same : (other : List ℕ) → told_by (c.get_mut.follows.lender c.extend_from_slice.new.self) other ≡ told_by c.args.held.now other = λ other. grind (arith, text_keys) in
+    let same : (other : List ℕ) → told_by (c.get_mut.follows.lender c.extend_from_slice.new.self) other ≡ told_by c.args.held.now other =
+    λ other. grind (arith, text_keys) in
     λ i other. same other i)

@@ -6,11 +6,13 @@ use Rattle.omi_page.proofs.keeping.used_word.Goals as goal
 
 pub returns-in_err-items-clause-others : goal.returns-in_err-items-clause-others
 returns-in_err-items-clause-others c = λ other items contained.
-    Contains-promoted (nat_eq c.args.page) c.args.kept.now.entries (other, items) (subst (λ k. Contains k.entries (other, items)) c.get.follows.holds-at-none contained)
+    Contains-promoted (nat_eq c.args.page) c.args.kept.now.entries (other, items)
+    (subst (λ k. Contains k.entries (other, items)) c.get.follows.holds-at-none contained)
 
 pub word_of-requires : goal.word_of-requires
 word_of-requires c =
-    let found = looked_up c.args.kept.now.entries c.args.page c.in_ok-items.items.now (sym c.in_ok-items.ensures.value) in
+    let found =
+    looked_up c.args.kept.now.entries c.args.page c.in_ok-items.items.now (sym c.in_ok-items.ensures.value) in
     let long = c.requires.long c.args.page c.in_ok-items.items.now found in
     omega (arith, long, ap length c.deref.ensures.value, c.requires.within)
 
@@ -23,7 +25,8 @@ returns-clause-word c = (
 
 pub returns-clause-others : goal.returns-clause-others
 returns-clause-others c = λ other items contained.
-    Contains-promoted (nat_eq c.args.page) c.args.kept.now.entries (other, items) (subst (λ k. Contains k.entries (other, items)) c.get.follows.holds-at-none contained)
+    Contains-promoted (nat_eq c.args.page) c.args.kept.now.entries (other, items)
+    (subst (λ k. Contains k.entries (other, items)) c.get.follows.holds-at-none contained)
 
 pub returns-in_err-items-clause-places : goal.returns-in_err-items-clause-places
 returns-in_err-items-clause-places c = ap (λ k. k.cap) c.get.follows.holds-at-none

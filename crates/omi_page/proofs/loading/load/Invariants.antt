@@ -6,7 +6,8 @@ use Rattle.omi_page.proofs.loading.load.Given as goal
 
 abbrev pub invariant-loop-left : goal.invariant-loop-left
 invariant-loop-left g l = record {
-  so_far : (bytes : List ℕ) → Holds (g.F.Files.told l.fn.files l.name) bytes → (offset at : ℕ) → offset % 8 ≡ 0 → offset < PAGE_BYTES
+  so_far : (bytes : List ℕ) → Holds (g.F.Files.told l.fn.files l.name) bytes → (offset at : ℕ)
+      → offset % 8 ≡ 0 → offset < PAGE_BYTES
       → place_in (drop l.left l.spans) (l.base + offset) ≡ Some at → eight_at l.buffer offset ≡ eight_at bytes at;
   long : length l.buffer ≡ length l.fn.buffer;
   within : l.left ≤ length l.spans;

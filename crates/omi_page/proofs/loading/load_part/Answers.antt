@@ -5,7 +5,9 @@ use Rattle.omi_page.proofs.loading.load_part.Goals as goal
 
 pub returns-clause-here : goal.returns-clause-here
 returns-clause-here g c = λ bytes told.
-    let long = part_length c.args.base c.max-low.result c.min-high.result c.args.buffer.now (omega (arith, c.max-low.ensures)) (omega (arith, c.min-high.ensures)) c.requires.length in
+    let long =
+    part_length c.args.base c.max-low.result c.min-high.result c.args.buffer.now
+    (omega (arith, c.max-low.ensures)) (omega (arith, c.min-high.ensures)) c.requires.length in
     on_ok c.fill.result _ _ (λ read offset at aligned within there.
     part_here c.args.span.now c.args.base c.max-low.result c.min-high.result c.args.buffer.now c.fill.new.to bytes offset at
     (record { aligned = c.requires.aligned; low_is = c.max-low.ensures; high_is = c.min-high.ensures; some = c.if-low-high.false; room = c.requires.length; fits = c.fill.ensures.length ∙ long })
@@ -13,7 +15,9 @@ returns-clause-here g c = λ bytes told.
 
 pub returns-clause-others : goal.returns-clause-others
 returns-clause-others g c = λ offset aligned within none.
-    let long = part_length c.args.base c.max-low.result c.min-high.result c.args.buffer.now (omega (arith, c.max-low.ensures)) (omega (arith, c.min-high.ensures)) c.requires.length in
+    let long =
+    part_length c.args.base c.max-low.result c.min-high.result c.args.buffer.now
+    (omega (arith, c.max-low.ensures)) (omega (arith, c.min-high.ensures)) c.requires.length in
     part_others c.args.span.now c.args.base c.max-low.result c.min-high.result c.args.buffer.now c.fill.new.to offset
     (record { aligned = c.requires.aligned; low_is = c.max-low.ensures; high_is = c.min-high.ensures; some = c.if-low-high.false; room = c.requires.length; fits = c.fill.ensures.length ∙ long })
     aligned within none

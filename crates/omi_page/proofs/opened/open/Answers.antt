@@ -6,7 +6,8 @@ use Rattle.omi_page.proofs.opened.open.Goals as goal
 pub returns-in_err-contents-clause-accepts : goal.returns-in_err-contents-clause-accepts
 returns-in_err-contents-clause-accepts g c = λ bytes core holds is.
     let p = err_from_is_err_and c.from_residual.result c.from_residual.ensures.1 in
-    rw (p.1, p.2) (core_opens c.in_err-contents.field-0.0 bytes core _ (c.in_err-contents.ensures.read bytes holds) is)
+    rw (p.1, p.2)
+    (core_opens c.in_err-contents.field-0.0 bytes core _ (c.in_err-contents.ensures.read bytes holds) is)
 
 pub returns-in_err-contents-clause-fault : goal.returns-in_err-contents-clause-fault
 returns-in_err-contents-clause-fault g c = λ bytes holds.
@@ -15,10 +16,12 @@ returns-in_err-contents-clause-fault g c = λ bytes holds.
 
 pub returns-clause-contexts : goal.returns-clause-contexts
 returns-clause-contexts g c = λ bytes core holds is.
-    ap (λ p. p.contexts) (same_parts bytes _ _ (c.in_ok-contents.ensures.read bytes holds) (read_core bytes core is))
+    ap (λ p. p.contexts)
+    (same_parts bytes _ _ (c.in_ok-contents.ensures.read bytes holds) (read_core bytes core is))
 
 pub returns-clause-core : goal.returns-clause-core
-returns-clause-core g c = λ bytes holds. file_is_core bytes _ (c.in_ok-contents.ensures.are_bytes bytes holds) (c.in_ok-contents.ensures.read bytes holds)
+returns-clause-core g c =
+    λ bytes holds. file_is_core bytes _ (c.in_ok-contents.ensures.are_bytes bytes holds) (c.in_ok-contents.ensures.read bytes holds)
 
 pub returns-clause-opened : goal.returns-clause-opened
 returns-clause-opened g c =

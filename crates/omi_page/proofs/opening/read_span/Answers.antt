@@ -15,7 +15,9 @@ returns-in_err-start-clause-read g c = λ bytes told.
 pub returns-then-count-len-clause-read : goal.returns-then-count-len-clause-read
 returns-then-count-len-clause-read g c = λ bytes told.
     let long = c.requires.len (Some bytes) told in
-    let all : c.in_ok-read.read ≡ 16 = omega (arith, c.in_ok-start.ensures.long, c.in_ok-read.ensures.count, length-take c.in_ok-read.read c.front.new.to) in
+    let all : c.in_ok-read.read ≡ 16 =
+    omega
+    (arith, c.in_ok-start.ensures.long, c.in_ok-read.ensures.count, length-take c.in_ok-read.read c.front.new.to) in
     rw (c.into.ensures, c.short.ensures)
     (segment_short c.args.len (c.args.least, c.args.room) bytes c.args.at c.in_ok-start.start c.in_ok-start.count (omega (arith, long, c.in_ok-read.ensures.count)) (omega (arith, long, c.in_ok-read.ensures.count, c.if-count-len.true))
     (front_value 16 (λ len. bounds_at len (c.args.least, c.args.room)) _ (local_bounds (c.args.least, c.args.room)) bytes c.front.new.to _ c.args.len c.args.at c.in_ok-read.read (c.args.at + c.in_ok-read.read) _
@@ -25,8 +27,12 @@ returns-then-count-len-clause-read g c = λ bytes told.
 pub returns-clause-read : goal.returns-clause-read
 returns-clause-read g c = λ bytes told.
     let long = c.requires.len (Some bytes) told in
-    let all : c.in_ok-read.read ≡ 16 = omega (arith, c.in_ok-start.ensures.long, c.in_ok-read.ensures.count, length-take c.in_ok-read.read c.front.new.to) in
-    segment_whole c.args.len (c.args.least, c.args.room) bytes c.args.at (c.args.at + c.in_ok-read.read) c.in_ok-start.start c.in_ok-start.count (omega arith) (omega (arith, long, c.in_ok-read.ensures.count))
+    let all : c.in_ok-read.read ≡ 16 =
+    omega
+    (arith, c.in_ok-start.ensures.long, c.in_ok-read.ensures.count, length-take c.in_ok-read.read c.front.new.to) in
+    segment_whole c.args.len (c.args.least, c.args.room) bytes c.args.at
+    (c.args.at + c.in_ok-read.read) c.in_ok-start.start c.in_ok-start.count (omega arith)
+    (omega (arith, long, c.in_ok-read.ensures.count))
     (front_value 16 (λ len. bounds_at len (c.args.least, c.args.room)) _ (local_bounds (c.args.least, c.args.room)) bytes c.front.new.to _ c.args.len c.args.at c.in_ok-read.read (c.args.at + c.in_ok-read.read) _
     (record { length_is = long; within = c.requires.within; counted = omega (arith, c.in_ok-read.ensures.count); ends = omega arith; is = c.in_ok-read.ensures.bytes bytes told })
     c.in_ok-start.ensures.read)

@@ -4,7 +4,8 @@ use Rattle.omi_page.proofs.reading.fill.Given as goal
 
 abbrev pub invariant-loop-done : goal.invariant-loop-done
 invariant-loop-done g l = record {
-  so_far : (bytes : List ℕ) → Holds (g.F.Files.told l.fn.files l.name) bytes → take l.done l.to ≡ take l.done (drop l.at bytes);
+  so_far : (bytes : List ℕ) → Holds (g.F.Files.told l.fn.files l.name) bytes
+      → take l.done l.to ≡ take l.done (drop l.at bytes);
   as_long : length l.to ≡ length l.fn.to;
   within : l.done ≤ length l.fn.to;
   same : g.F.Files.told l.files ≡ g.F.Files.told l.fn.files;

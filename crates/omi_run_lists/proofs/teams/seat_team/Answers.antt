@@ -12,7 +12,8 @@ loop-at-preserved c =
     let within : at < length team = omega arith in
     let one_more : take (at + 1) team ≡ take at team ++ member ∷ [] =
     take_more team at member within
-    ∙ ap (λ (m : Tid × ℕ). take at team ++ m ∷ []) (get_or_from_slice_get team at member member c.get.ensures) in
+    ∙ ap (λ (m : Tid × ℕ). take at team ++ m ∷ [])
+    (get_or_from_slice_get team at member member c.get.ensures) in
     record {
       items = rw (c.push_reserved.ensures.items, c.loop-at.invariant.items, one_more)
           (append_assoc c.args.members.now.items (take at team) (member ∷ []));

@@ -15,4 +15,5 @@ returns-in-Ok-clause-none c =
     (parse_digits numerals 64 c.args.word.now c.parse.result (rw c.in-Ok.ensures.cases.0 at c.parse.ensures.value.0) c.requires.digits) c.ok.ensures.value
 
 pub returns-in-Err-clause-none : goal.returns-in-Err-clause-none
-returns-in-Err-clause-none c = absurd (c.in-Err.ensures.cases.0 (IsUtf8-from_digits c.args.word.now c.requires.digits))
+returns-in-Err-clause-none c =
+    absurd (c.in-Err.ensures.cases.0 (IsUtf8-from_digits c.args.word.now c.requires.digits))

@@ -7,5 +7,7 @@ use Rattle.omi_script.proofs.reach.greatest_depth.Goals.{then-greatest-depth, el
 
 pub loop-statement-preserved : goal.loop-statement-preserved
 loop-statement-preserved c =
-    let more = greatest_more (depth_of c.args.above.now) c.args.body.now c.loop-statement.statement-index (Parallel 0 None) c.loop-statement-test.true in
+    let more =
+    greatest_more (depth_of c.args.above.now) c.args.body.now c.loop-statement.statement-index
+    (Parallel 0 None) c.loop-statement-test.true in
     elim c.if-greatest-depth.branch [ then-greatest-depth w ↦ omega arith | else-greatest-depth w ↦ omega arith ]

@@ -29,5 +29,7 @@ lines-preserved c =
 
 pub program-requires : goal.program-requires
 program-requires c =
-    let none : lines c.lines.rest.now ≡ [] = lines_none c.lines.rest.now (sym c.is_empty.ensures ∙ c.lines-test.false) in
-    may_end c.args.bytes.now c.lines.number c.lines.parser.state (sym (ap (judge c.lines.number c.lines.parser.state) none) ∙ c.lines.invariant.judged)
+    let none : lines c.lines.rest.now ≡ [] =
+    lines_none c.lines.rest.now (sym c.is_empty.ensures ∙ c.lines-test.false) in
+    may_end c.args.bytes.now c.lines.number c.lines.parser.state
+    (sym (ap (judge c.lines.number c.lines.parser.state) none) ∙ c.lines.invariant.judged)

@@ -7,7 +7,8 @@ use Rattle.omi_session.proofs.asking.follow_some.Goals as goal
 
 pub returns-in_err-pointer-clause-answer : goal.returns-in_err-pointer-clause-answer
 unfolding follow_some
-returns-in_err-pointer-clause-answer g c = refused_then _ c.in_err-pointer.ensures.answer c.from_residual.ensures.1
+returns-in_err-pointer-clause-answer g c =
+    refused_then _ c.in_err-pointer.ensures.answer c.from_residual.ensures.1
 
 pub returns-then-pointer-eq0-clause-answer : goal.returns-then-pointer-eq0-clause-answer
 unfolding follow_some

@@ -25,9 +25,16 @@ returns-in-Some-clause-answer g c = record {
   is = λ memory t ne.
       let some : c.is_place.result ≡ true = grind arith in
       let front : c.from-front.result ≡ offset c.args.s.now.layout (number (life_of (record_kind c.args.kind))) =
-      c.from-front.ensures ∙ c.offset.ensures ∙ (λ i. offset (c.layout-2.ensures i) ((c.number-2.ensures.value ∙ ap number c.life_field.ensures) i)) in
-      ap (λ (b : Bool). ok_or (cond b (Some (record { kind = c.args.kind; addr = c.args.pointer; life = c.in-Some.life })) None) (Error c.args.pointer (number c.args.field))) (sym c.if-is_live.true ∙ c.is_live.ensures)
-      ∙ ap (λ o. ok_or (option_and_then (object c.args.kind c.args.pointer) o) (Error c.args.pointer (number c.args.field))) (sym c.in-Some.is)
+      c.from-front.ensures
+      ∙ c.offset.ensures
+      ∙
+      (λ i. offset (c.layout-2.ensures i) ((c.number-2.ensures.value ∙ ap number c.life_field.ensures) i)) in
+      ap
+      (λ (b : Bool). ok_or (cond b (Some (record { kind = c.args.kind; addr = c.args.pointer; life = c.in-Some.life })) None) (Error c.args.pointer (number c.args.field)))
+      (sym c.if-is_live.true ∙ c.is_live.ensures)
+      ∙ ap
+      (λ o. ok_or (option_and_then (object c.args.kind c.args.pointer) o) (Error c.args.pointer (number c.args.field)))
+      (sym c.in-Some.is)
       ∙ lead_somewhere c.args.s.now.layout memory c.args.kind c.args.field c.args.pointer c.from-front.result c.in-Ok.found
       (ap (λ w. is_some (slot_at w (record_kind c.args.kind) c.args.pointer)) (sym c.layout.ensures) ∙ sym c.is_place.ensures.value ∙ some) front (c.in-Ok.ensures.word memory t);
   most = λ memory t.
@@ -45,10 +52,17 @@ returns-in_default-found-clause-answer g c = record {
   is = λ memory t ne.
       let some : c.is_place.result ≡ true = grind arith in
       let front : c.from-front.result ≡ offset c.args.s.now.layout (number (life_of (record_kind c.args.kind))) =
-      c.from-front.ensures ∙ c.offset.ensures ∙ (λ i. offset (c.layout-2.ensures i) ((c.number-2.ensures.value ∙ ap number c.life_field.ensures) i)) in
+      c.from-front.ensures
+      ∙ c.offset.ensures
+      ∙
+      (λ i. offset (c.layout-2.ensures i) ((c.number-2.ensures.value ∙ ap number c.life_field.ensures) i)) in
       ap (λ n. Err (Error c.args.pointer n)) c.number.ensures.value
-      ∙ ap (λ (b : Bool). ok_or (cond b (Some (record { kind = c.args.kind; addr = c.args.pointer; life = c.in-Some.life })) None) (Error c.args.pointer (number c.args.field))) (sym c.if-is_live.false ∙ c.is_live.ensures)
-      ∙ ap (λ o. ok_or (option_and_then (object c.args.kind c.args.pointer) o) (Error c.args.pointer (number c.args.field))) (sym c.in-Some.is)
+      ∙ ap
+      (λ (b : Bool). ok_or (cond b (Some (record { kind = c.args.kind; addr = c.args.pointer; life = c.in-Some.life })) None) (Error c.args.pointer (number c.args.field)))
+      (sym c.if-is_live.false ∙ c.is_live.ensures)
+      ∙ ap
+      (λ o. ok_or (option_and_then (object c.args.kind c.args.pointer) o) (Error c.args.pointer (number c.args.field)))
+      (sym c.in-Some.is)
       ∙ lead_somewhere c.args.s.now.layout memory c.args.kind c.args.field c.args.pointer c.from-front.result c.in-Ok.found
       (ap (λ w. is_some (slot_at w (record_kind c.args.kind) c.args.pointer)) (sym c.layout.ensures) ∙ sym c.is_place.ensures.value ∙ some) front (c.in-Ok.ensures.word memory t);
   most = λ memory t.
@@ -66,9 +80,14 @@ returns-in_default-found-2-clause-answer g c = record {
   is = λ memory t ne.
       let some : c.is_place.result ≡ true = grind arith in
       let front : c.from-front.result ≡ offset c.args.s.now.layout (number (life_of (record_kind c.args.kind))) =
-      c.from-front.ensures ∙ c.offset.ensures ∙ (λ i. offset (c.layout-2.ensures i) ((c.number-2.ensures.value ∙ ap number c.life_field.ensures) i)) in
+      c.from-front.ensures
+      ∙ c.offset.ensures
+      ∙
+      (λ i. offset (c.layout-2.ensures i) ((c.number-2.ensures.value ∙ ap number c.life_field.ensures) i)) in
       ap (λ n. Err (Error c.args.pointer n)) c.number.ensures.value
-      ∙ ap (λ o. ok_or (option_and_then (object c.args.kind c.args.pointer) o) (Error c.args.pointer (number c.args.field))) (sym c.in_default-found.is)
+      ∙ ap
+      (λ o. ok_or (option_and_then (object c.args.kind c.args.pointer) o) (Error c.args.pointer (number c.args.field)))
+      (sym c.in_default-found.is)
       ∙ lead_somewhere c.args.s.now.layout memory c.args.kind c.args.field c.args.pointer c.from-front.result c.in-Ok.found
       (ap (λ w. is_some (slot_at w (record_kind c.args.kind) c.args.pointer)) (sym c.layout.ensures) ∙ sym c.is_place.ensures.value ∙ some) front (c.in-Ok.ensures.word memory t);
   most = λ memory t.

@@ -5,9 +5,11 @@ use Rattle.omi_session.proofs.asking.object.Goals as goal
 
 pub returns-in_err-held-clause-answer : goal.returns-in_err-held-clause-answer
 unfolding object_of
-returns-in_err-held-clause-answer g c = refused_then _ (asked_answer c.in_err-held.ensures.value) c.from_residual.ensures.1
+returns-in_err-held-clause-answer g c =
+    refused_then _ (asked_answer c.in_err-held.ensures.value) c.from_residual.ensures.1
 
 pub returns-clause-answer : goal.returns-clause-answer
 unfolding object_of
 returns-clause-answer g c =
-    asked_then c.args.s.now _ c.in_ok-held.held refl (asked_answer c.in_ok-held.ensures.value) c.unchanged.ensures.answer
+    asked_then c.args.s.now _ c.in_ok-held.held refl
+    (asked_answer c.in_ok-held.ensures.value) c.unchanged.ensures.answer

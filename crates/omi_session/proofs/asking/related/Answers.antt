@@ -7,5 +7,6 @@ returns-in_err-from-clause-answer g c = refused_then _ c.in_err-from.ensures.ans
 
 pub returns-clause-answer : goal.returns-clause-answer
 returns-clause-answer g c =
-    asked_on _ (λ w from. follow_some w c.args.other from.addr c.args.field) c.in_ok-from.from c.object.ensures.same.table.same c.object.ensures.same.layout
+    asked_on _
+    (λ w from. follow_some w c.args.other from.addr c.args.field) c.in_ok-from.from c.object.ensures.same.table.same c.object.ensures.same.layout
     c.in_ok-from.ensures.answer c.follow_some.ensures.answer

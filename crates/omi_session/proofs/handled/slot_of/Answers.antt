@@ -16,10 +16,12 @@ returns-in-Task c =
 
 pub returns-in_err-i-in-Thread : goal.returns-in_err-i-in-Thread
 returns-in_err-i-in-Thread c =
-    c.from_residual.ensures ∙ sym (thread_slot c.args.layout.now.table c.args.addr None c.in_err-i-in-Thread.ensures)
+    c.from_residual.ensures
+    ∙ sym (thread_slot c.args.layout.now.table c.args.addr None c.in_err-i-in-Thread.ensures)
     ∙ ap (λ kind. slot_at c.args.layout.now.table (record_kind kind) c.args.addr) (sym c.in-Thread.is)
 
 pub returns-in_ok-i-in-Thread : goal.returns-in_ok-i-in-Thread
 returns-in_ok-i-in-Thread c =
-    sym (thread_slot c.args.layout.now.table c.args.addr (Some c.in_ok-i-in-Thread.i) c.in_ok-i-in-Thread.ensures)
+    sym
+    (thread_slot c.args.layout.now.table c.args.addr (Some c.in_ok-i-in-Thread.i) c.in_ok-i-in-Thread.ensures)
     ∙ ap (λ kind. slot_at c.args.layout.now.table (record_kind kind) c.args.addr) (sym c.in-Thread.is)

@@ -11,7 +11,8 @@ use Rattle.omi_session.proofs.members.member.Goals as goal
 
 pub returns-in_err-region-clause-answer : goal.returns-in_err-region-clause-answer
 unfolding member
-returns-in_err-region-clause-answer g c = refused_then _ c.in_err-region.ensures.answer c.from_residual.ensures.1
+returns-in_err-region-clause-answer g c =
+    refused_then _ c.in_err-region.ensures.answer c.from_residual.ensures.1
 
 pub returns-in_err-size-clause-answer : goal.returns-in_err-size-clause-answer
 unfolding member
@@ -24,7 +25,8 @@ returns-in_err-size-clause-answer g c =
 pub returns-then-num-size-clause-answer : goal.returns-then-num-size-clause-answer
 unfolding member
 returns-then-num-size-clause-answer g c =
-    let below : nat_lt c.args.num c.in_ok-size.size ≡ true = grind (arith, nat_tests, c.if-num-size.true, c.from-num.ensures) in
+    let below : nat_lt c.args.num c.in_ok-size.size ≡ true =
+    grind (arith, nat_tests, c.if-num-size.true, c.from-num.ensures) in
     let layout = c.team_size.ensures.same.layout ∙ c.object.ensures.same.layout in
     asked_then c.object.new.s _ c.in_ok-region.region c.object.ensures.same.table.same c.in_ok-region.ensures.answer
     (asked_then c.team_size.new.s _ c.in_ok-size.size c.team_size.ensures.same.table.same
@@ -36,7 +38,8 @@ returns-then-num-size-clause-answer g c =
 pub returns-else-num-size-clause-answer : goal.returns-else-num-size-clause-answer
 unfolding member
 returns-else-num-size-clause-answer g c =
-    let past : nat_lt c.args.num c.in_ok-size.size ≡ false = grind (arith, nat_tests, c.if-num-size.false, c.from-num.ensures) in
+    let past : nat_lt c.args.num c.in_ok-size.size ≡ false =
+    grind (arith, nat_tests, c.if-num-size.false, c.from-num.ensures) in
     asked_then c.object.new.s _ c.in_ok-region.region c.object.ensures.same.table.same c.in_ok-region.ensures.answer
     (asked_then c.team_size.new.s _ c.in_ok-size.size c.team_size.ensures.same.table.same
     (subst (λ w. Answers g.C.Callbacks.told g.C.Callbacks.asked c.object.new.s c.team_size.new.s (Ok c.in_ok-size.size) (team_size w c.in_ok-region.region.addr)) c.object.ensures.same.layout c.in_ok-size.ensures.answer)

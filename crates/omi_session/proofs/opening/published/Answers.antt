@@ -22,9 +22,12 @@ returns-in-NoSuch-clause-words g c = λ memory t sizes ne. record {
 
 pub returns-in_err-words-clause-words : goal.returns-in_err-words-clause-words
 returns-in_err-words-clause-words g c = λ memory t sizes.
-    let symbol : symbol_in memory (codes "omi_layout") ≡ Some c.in-At.address = subst (λ (m : Words). symbol_in m (codes "omi_layout") ≡ Some c.in-At.address) (sym t.is) (c.in-At.ensures.table t.words t.words_told) in
+    let symbol : symbol_in memory (codes "omi_layout") ≡ Some c.in-At.address =
+    subst (λ (m : Words). symbol_in m (codes "omi_layout") ≡ Some c.in-At.address) (sym t.is)
+    (c.in-At.ensures.table t.words t.words_told) in
     let p = err_from_is_err_and c.from_residual.result c.from_residual.ensures.1 in
-    rw (p.1, p.2) (stopped memory c.in-At.address symbol _ (c.in_err-words.ensures.words memory (still_tells _ _ memory c.symbol_addr_lookup.ensures.same t)))
+    rw (p.1, p.2)
+    (stopped memory c.in-At.address symbol _ (c.in_err-words.ensures.words memory (still_tells _ _ memory c.symbol_addr_lookup.ensures.same t)))
 
 pub returns-in-Ok-clause-words : goal.returns-in-Ok-clause-words
 returns-in-Ok-clause-words g c = λ memory t sizes. record {

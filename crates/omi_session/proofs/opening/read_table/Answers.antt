@@ -22,7 +22,9 @@ next_read memory address at word table long within before is =
 
 pub returns-in_default-found-clause-words : goal.returns-in_default-found-clause-words
 returns-in_default-found-clause-words g c = λ memory t.
-    let found : c.in-Ok.found ≡ memory (table_address c.args.address c.loop-at.at) = as_told _ (g.C.Callbacks.told c.loop-at.table.calls) memory c.loop-at.invariant.same.same t (λ m. c.in-Ok.found ≡ m (table_address c.args.address c.loop-at.at)) c.in-Ok.ensures.word in
+    let found : c.in-Ok.found ≡ memory (table_address c.args.address c.loop-at.at) =
+    as_told _ (g.C.Callbacks.told c.loop-at.table.calls) memory c.loop-at.invariant.same.same t
+    (λ m. c.in-Ok.found ≡ m (table_address c.args.address c.loop-at.at)) c.in-Ok.ensures.word in
     let none : c.in-Ok.found ≡ None = c.in_default-found.is in (
       record {
         at = c.loop-at.at;
@@ -40,9 +42,11 @@ loop-at-preserved g c = record {
   same = keeps_then _ _ _ _ c.loop-at.invariant.same (record { same = c.word.ensures.same; order = c.word.ensures.order; to_host = c.word.ensures.to_host });
   later = omega (arith, c.loop-at.invariant.later, c.word.ensures.cause.later);
   asked = omega (arith, c.loop-at.invariant.asked, c.word.ensures.asked);
-  read = λ memory t. next_read memory c.args.address c.loop-at.at c.in-Some.word c.loop-at.words c.loop-at.invariant.words (omega arith) (c.loop-at.invariant.read memory t)
+  read =
+      λ memory t. next_read memory c.args.address c.loop-at.at c.in-Some.word c.loop-at.words c.loop-at.invariant.words (omega arith) (c.loop-at.invariant.read memory t)
       (sym c.in-Some.is ∙ as_told _ (g.C.Callbacks.told c.loop-at.table.calls) memory c.loop-at.invariant.same.same t (λ m. c.in-Ok.found ≡ m (table_address c.args.address c.loop-at.at)) c.in-Ok.ensures.word);
 }
 
 pub returns-clause-words : goal.returns-clause-words
-returns-clause-words g c = λ memory t. table_read memory c.args.address c.loop-at.words c.loop-at.invariant.words (λ j h. c.loop-at.invariant.read memory t j (omega arith))
+returns-clause-words g c =
+    λ memory t. table_read memory c.args.address c.loop-at.words c.loop-at.invariant.words (λ j h. c.loop-at.invariant.read memory t j (omega arith))

@@ -7,7 +7,8 @@ pub returns-in-Some : goal.returns-in-Some
 returns-in-Some c =
     let w = c.args.l.now.table in
     let some = positive w c.args.l.now.valid.inside 4 (record { from = omega arith; to = omega arith }) in
-    sym (found_place w 4 c.args.address c.in-Some.creator c.in-Some.slot some c.in-Some.ensures.is.0 c.in-Some.ensures.is.1)
+    sym
+    (found_place w 4 c.args.address c.in-Some.creator c.in-Some.slot some c.in-Some.ensures.is.0 c.in-Some.ensures.is.1)
 
 pub returns-in-None : goal.returns-in-None
 returns-in-None c =

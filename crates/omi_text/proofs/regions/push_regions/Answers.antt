@@ -5,5 +5,6 @@ use Rattle.omi_text.proofs.regions.push_regions.Goals as goal
 
 pub loop-at-preserved : goal.loop-at-preserved
 loop-at-preserved c =
-    flat_map_further region_lines (string_bytes c.loop-at.text) c.args.rows.now c.loop-at.at c.get.result.now _ _
+    flat_map_further region_lines
+    (string_bytes c.loop-at.text) c.args.rows.now c.loop-at.at c.get.result.now _ _
     c.get.ensures c.in_ok-push_region_lines.ensures c.loop-at.invariant

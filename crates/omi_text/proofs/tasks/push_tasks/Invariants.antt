@@ -6,4 +6,5 @@ use Rattle.omi_text.proofs.tasks.push_tasks.Given as goal
 
 -- the lines so far, and those of the rows that are left
 abbrev pub invariant-loop-at : goal.invariant-loop-at
-invariant-loop-at l = string_bytes l.text ++ flat_map task_lines (drop l.at l.rows) ≡ string_bytes l.fn.text ++ flat_map task_lines l.rows
+invariant-loop-at l =
+    string_bytes l.text ++ flat_map task_lines (drop l.at l.rows) ≡ string_bytes l.fn.text ++ flat_map task_lines l.rows

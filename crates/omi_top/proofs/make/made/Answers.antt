@@ -13,7 +13,8 @@ use Rattle.omi_top.proofs.make.made.Goals as goal
 
 pub returns : goal.returns
 returns c =
-    let tasks : c.tasks_started.result ≡ count_of TaskBegin c.in_ok-ran.ran.core.events.items = c.tasks_started.ensures ∙ ap (λ (events : Events). count_of TaskBegin events.items) c.events.ensures in
+    let tasks : c.tasks_started.result ≡ count_of TaskBegin c.in_ok-ran.ran.core.events.items =
+    c.tasks_started.ensures ∙ ap (λ (events : Events). count_of TaskBegin events.items) c.events.ensures in
     IfOk-weaker c.made_line.result
     (λ (line : String Global). string_bytes line ≡ made_line c.args.nodes c.tasks_started.result c.in_ok-ran.ran.why)
     (λ (line : String Global). (p : Program) × Grammar c.args.text.now p × IsMade c.args.nodes p (string_bytes line))

@@ -31,9 +31,11 @@ returns-in_err-write_whole-clause-write g c =
 
 pub returns-clause-answer : goal.returns-clause-answer
 returns-clause-answer g c = λ (told : List ℕ → Told).
-    done_answered c.args.nodes c.args.script.now told (string_bytes c.in_ok-text.text) (string_bytes c.in_ok-line.line) c.in_ok-text.ensures
+    done_answered c.args.nodes c.args.script.now told (string_bytes c.in_ok-text.text)
+    (string_bytes c.in_ok-line.line) c.in_ok-text.ensures
     (subst (λ (bytes : List ℕ). (q : Program) × Grammar bytes q × IsMade c.args.nodes q (string_bytes c.in_ok-line.line)) c.as_bytes.ensures.value c.in_ok-line.ensures)
-    c.into_bytes.result _ _ (ap (λ (v : Vec ℕ). v.items) c.into_bytes.ensures.value) (rw (← c.as_bytes-2.ensures.value) c.in_ok-write_whole.ensures.written)
+    c.into_bytes.result _ _ (ap (λ (v : Vec ℕ). v.items) c.into_bytes.ensures.value)
+    (rw (← c.as_bytes-2.ensures.value) c.in_ok-write_whole.ensures.written)
 
 pub returns-clause-write : goal.returns-clause-write
 returns-clause-write g c = record { later = c.in_ok-write_whole.ensures.cause.later; failed = λ is. cc }

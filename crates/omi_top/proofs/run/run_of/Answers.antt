@@ -12,7 +12,10 @@ listed None threads steps = tt
 listed (Some seed) threads steps = tt
 
 pub run-requires-clause-listed : goal.run-requires-clause-listed
-run-requires-clause-listed c = subst (λ (how : Schedule). IsListed how c.in_ok-core.core.program.threads c.args.plan.stop.steps) (sym c.schedule.ensures) (listed c.args.plan.seed c.in_ok-core.core.program.threads c.args.plan.stop.steps)
+run-requires-clause-listed c =
+    subst (λ (how : Schedule). IsListed how c.in_ok-core.core.program.threads c.args.plan.stop.steps)
+    (sym c.schedule.ensures)
+    (listed c.args.plan.seed c.in_ok-core.core.program.threads c.args.plan.stop.steps)
 
 pub returns : goal.returns
 returns c = record {

@@ -17,9 +17,12 @@ returns-in_err-report-clause-answer g c =
     rw (p.1, p.2)
     (λ ((text, told), (content, back)).
     let shown : IsAnswered (Show c.args.core.now) (g.F.Files.told c.args.files.now) (Err c.in_err-report.field-0.0) before before =
-    subst (λ (t : List ℕ → Told). AreTold (Show c.args.core.now) t → IsAnswered (Show c.args.core.now) t (Err c.in_err-report.field-0.0) before before) stopped.stays.files_told
+    subst
+    (λ (t : List ℕ → Told). AreTold (Show c.args.core.now) t → IsAnswered (Show c.args.core.now) t (Err c.in_err-report.field-0.0) before before) stopped.stays.files_told
     (c.in_err-report.ensures.answer before) (content, back) in
-    show_failed c.args.plan c.args.script.now c.args.core.now (g.F.Files.told c.args.files.now) content back c.in_ok-text.text before (g.W.Files.told c.stop.new.dest c.args.core.now)
+    show_failed c.args.plan c.args.script.now c.args.core.now
+    (g.F.Files.told c.args.files.now) content back c.in_ok-text.text before
+    (g.W.Files.told c.stop.new.dest c.args.core.now)
     c.in_err-report.field-0.0 before before (stopped.answer (text, told)) shown)
 
 pub returns-in_err-report-clause-read : goal.returns-in_err-report-clause-read
@@ -61,7 +64,9 @@ returns-in_err-extend_from_slice-clause-answer g c =
     let p = err_from_is_err_and c.from_residual-in_err-extend_from_slice.result c.from_residual-in_err-extend_from_slice.ensures.1 in
     rw (p.1, p.2)
     (λ ((text, told), (content, back)).
-    no_memory c.args.plan c.args.script.now c.args.core.now (g.F.Files.told c.args.files.now) content back c.in_ok-text.text (g.W.Files.told c.args.dest.now c.args.core.now)
+    no_memory c.args.plan c.args.script.now c.args.core.now
+    (g.F.Files.told c.args.files.now) content back c.in_ok-text.text
+    (g.W.Files.told c.args.dest.now c.args.core.now)
     (g.W.Files.told c.stop.new.dest c.args.core.now) (c.in_ok-text.ensures.performed.answer (text, told)))
 
 pub returns-in_err-extend_from_slice-clause-read : goal.returns-in_err-extend_from_slice-clause-read
@@ -99,11 +104,15 @@ returns-clause-answer g c =
     let stopped = c.in_ok-text.ensures.performed in
     λ ((text, told), (content, back)).
     let shown : IsAnswered (Show c.args.core.now) (g.F.Files.told c.args.files.now) (Ok c.in_ok-report.report) before before =
-    subst (λ (t : List ℕ → Told). AreTold (Show c.args.core.now) t → IsAnswered (Show c.args.core.now) t (Ok c.in_ok-report.report) before before) stopped.stays.files_told
+    subst
+    (λ (t : List ℕ → Told). AreTold (Show c.args.core.now) t → IsAnswered (Show c.args.core.now) t (Ok c.in_ok-report.report) before before) stopped.stays.files_told
     (c.in_ok-report.ensures.answer before) (content, back) in
-    shown_behind c.args.plan c.args.script.now c.args.core.now (g.F.Files.told c.args.files.now) content back c.in_ok-text.text before (g.W.Files.told c.stop.new.dest c.args.core.now)
+    shown_behind c.args.plan c.args.script.now c.args.core.now
+    (g.F.Files.told c.args.files.now) content back c.in_ok-text.text before
+    (g.W.Files.told c.stop.new.dest c.args.core.now)
     c.in_ok-report.report c.extend_from_slice.new.self before before
-    (c.in_ok-extend_from_slice.ensures.items ∙ ap (λ (xs : List ℕ). c.in_ok-text.text.items ++ xs) c.deref.ensures.value) (stopped.answer (text, told)) shown
+    (c.in_ok-extend_from_slice.ensures.items ∙ ap (λ (xs : List ℕ). c.in_ok-text.text.items ++ xs) c.deref.ensures.value)
+    (stopped.answer (text, told)) shown
 
 pub returns-clause-read : goal.returns-clause-read
 returns-clause-read g c = record { later = omega (arith, c.in_ok-text.ensures.performed.read.later, c.in_ok-report.ensures.read.later); failed = λ is. absurd is }

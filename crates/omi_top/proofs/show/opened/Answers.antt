@@ -6,5 +6,9 @@ use Rattle.omi_top.proofs.show.opened.Goals as goal
 
 pub returns-in-Err-clause-refused : goal.returns-in-Err-clause-refused
 returns-in-Err-clause-refused g c = λ core is.
-    let told : g.C.Callbacks.told c.in-Ok.library.calls ≡ told_by core = ap (λ (k : Kept _ _). g.C.Callbacks.told k.calls) c.in-Ok.ensures.kept ∙ ap g.C.Callbacks.told c.new-table.ensures.calls ∙ is in
-    rw c.refusal_of_code.ensures (open_refused core (g.C.Callbacks.told c.in-Ok.library.calls) c.in-Err.rc told c.in-Err.ensures.words)
+    let told : g.C.Callbacks.told c.in-Ok.library.calls ≡ told_by core =
+    ap (λ (k : Kept _ _). g.C.Callbacks.told k.calls) c.in-Ok.ensures.kept
+    ∙ ap g.C.Callbacks.told c.new-table.ensures.calls
+    ∙ is in
+    rw c.refusal_of_code.ensures
+    (open_refused core (g.C.Callbacks.told c.in-Ok.library.calls) c.in-Err.rc told c.in-Err.ensures.words)

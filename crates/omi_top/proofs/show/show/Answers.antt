@@ -8,9 +8,12 @@ use Rattle.omi_top.proofs.show.show.Goals as goal
 use Rattle.omi_top.proofs.show.show.Goals.{After-view_of-view}
 
 -- what comes of the words of the file that was opened
-viewed : (g : _) (c : After-view_of-view g) (content : Option (List ℕ)) → g.F.Files.told c.args.files.now c.args.core.now ≡ Some content → IsViewedFile content c.view_of-view.result.0
+viewed : (g : _) (c : After-view_of-view g) (content : Option (List ℕ))
+    → g.F.Files.told c.args.files.now c.args.core.now ≡ Some content
+    → IsViewedFile content c.view_of-view.result.0
 viewed g c content told =
-    file_viewed (g.F.Files.told c.args.files.now c.args.core.now) (g.F.Files.told c.of-pages.result.files.now c.of-pages.result.name.now) content c.in_ok-contexts.contexts c.view_of-view.result.0 told
+    file_viewed (g.F.Files.told c.args.files.now c.args.core.now)
+    (g.F.Files.told c.of-pages.result.files.now c.of-pages.result.name.now) content c.in_ok-contexts.contexts c.view_of-view.result.0 told
     ((λ i. g.F.Files.told (c.of-pages.ensures.same i) (c.of-pages.ensures.same_name i)) ∙ ap (λ t. t c.args.core.now) c.in-Ok.ensures.same)
     (λ none. let never = c.in-Ok.ensures.missing none in absurd cc)
     c.in-Ok.ensures.core
@@ -27,4 +30,6 @@ returns-in_err-view-clause-answer g c = λ old (content, told).
 pub returns-clause-answer : goal.returns-clause-answer
 returns-clause-answer g c = λ old (content, told).
     let file = viewed g (goal.at.returns-clause-answer g c).After-view_of-view content told in
-    show_reported c.args.core.now (g.F.Files.told c.args.files.now) content told c.in_ok-view.view c.in_ok-text.text old (subst (λ (x : Result View Refusal). IsViewedFile content x) c.in_ok-view.was file) c.in_ok-text.ensures
+    show_reported c.args.core.now
+    (g.F.Files.told c.args.files.now) content told c.in_ok-view.view c.in_ok-text.text old
+    (subst (λ (x : Result View Refusal). IsViewedFile content x) c.in_ok-view.was file) c.in_ok-text.ensures

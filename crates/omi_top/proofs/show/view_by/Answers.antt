@@ -5,7 +5,8 @@ use Rattle.omi_top.proofs.Opening.{unopened_viewed, walked, walk_viewed}
 use Rattle.omi_top.proofs.show.view_by.Goals as goal
 
 pub returns-in-Err-clause-viewed : goal.returns-in-Err-clause-viewed
-returns-in-Err-clause-viewed g c = λ core is same. unopened_viewed core c.in-Err.refusal (c.in-Err.ensures.refused core is)
+returns-in-Err-clause-viewed g c =
+    λ core is same. unopened_viewed core c.in-Err.refusal (c.in-Err.ensures.refused core is)
 
 pub returns-clause-viewed : goal.returns-clause-viewed
 unfolding Looks

@@ -43,7 +43,8 @@ returns-in_err-write_whole-clause-performed g c =
     (record {
       answer =
           λ (content, told).
-          partly_answered c.args.plan c.args.script.now c.args.core.now (g.F.Files.told c.args.files.now) content told c.in_ok-p.p (c.in_ok-p.ensures.program content told)
+          partly_answered c.args.plan c.args.script.now c.args.core.now
+          (g.F.Files.told c.args.files.now) content told c.in_ok-p.p (c.in_ok-p.ensures.program content told)
           c.in_ok-image.image.items (string_bytes c.in_ok-image.text) c.in_err-write_whole.field-0.0 _ _ c.in_ok-image.ensures (rw (← c.deref.ensures.value) c.in_err-write_whole.ensures.cut);
       read = record { later = c.in_ok-p.ensures.cause.later; failed = λ is. absurd (write_not_read c.in_err-write_whole.field-0.0 is) };
       write =
@@ -77,8 +78,10 @@ pub returns-clause-performed : goal.returns-clause-performed
 returns-clause-performed g c = record {
   answer =
       λ (content, told).
-      done_answered c.args.plan c.args.script.now c.args.core.now (g.F.Files.told c.args.files.now) content told c.in_ok-p.p (c.in_ok-p.ensures.program content told)
-      c.in_ok-image.image.items c.into_bytes.result _ _ (subst (λ (v : Vec ℕ). IsStopped c.in_ok-p.p c.args.plan c.in_ok-image.image.items v.items) (sym c.into_bytes.ensures.value) c.in_ok-image.ensures)
+      done_answered c.args.plan c.args.script.now c.args.core.now
+      (g.F.Files.told c.args.files.now) content told c.in_ok-p.p (c.in_ok-p.ensures.program content told)
+      c.in_ok-image.image.items c.into_bytes.result _ _
+      (subst (λ (v : Vec ℕ). IsStopped c.in_ok-p.p c.args.plan c.in_ok-image.image.items v.items) (sym c.into_bytes.ensures.value) c.in_ok-image.ensures)
       (rw (← c.deref.ensures.value) c.in_ok-write_whole.ensures.written);
   read = record { later = c.in_ok-p.ensures.cause.later; failed = λ is. absurd is };
   write = record { later = c.in_ok-write_whole.ensures.cause.later; failed = λ is. cc };

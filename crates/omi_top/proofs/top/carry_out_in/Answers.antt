@@ -20,7 +20,8 @@ returns-in-Ok g c =
       out_of_memory = λ is. inr (c.print.ensures.want.failed is);
       left =
           λ told.
-          ok_left (asked c.args.request) (g.F.Files.told c.args.files.now) _ _ _ (g.K.Sink.told c.args.out.now) (g.K.Sink.told c.print.new.out) c.in-Ok.text c.print.result
+          ok_left (asked c.args.request) (g.F.Files.told c.args.files.now) _ _ _
+          (g.K.Sink.told c.args.out.now) (g.K.Sink.told c.print.new.out) c.in-Ok.text c.print.result
           (performed.answer told) printed (λ done. rw (← c.deref.ensures.value) (c.print.ensures.success done)) (rw (← c.deref.ensures.value) c.print.ensures.cut);
       unwritten = λ is. absurd (printing_writes (asked c.args.request) c.print.result printed is);
       stays = performed.stays;
@@ -32,7 +33,9 @@ returns-in-Ok g c =
 
 pub returns-in-Err : goal.returns-in-Err
 returns-in-Err g c =
-    let counted : Type 0 = IsCounted (g.K.Sink.faults c.args.out.now) (g.K.Sink.faults c.refuse.new.out) (g.K.Sink.wants c.args.out.now) (g.K.Sink.wants c.refuse.new.out) in
+    let counted : Type 0 =
+    IsCounted (g.K.Sink.faults c.args.out.now) (g.K.Sink.faults c.refuse.new.out)
+    (g.K.Sink.wants c.args.out.now) (g.K.Sink.wants c.refuse.new.out) in
     let performed = c.in-Err.ensures.performed in
     rw c.refuse.ensures.status
     (record {
@@ -43,7 +46,8 @@ returns-in-Err g c =
       out_of_memory = λ is. inl (unsaid _ _ c.in-Err.refusal _ (g.K.Sink.told c.args.out.now) (g.K.Sink.told c.refuse.new.out) c.refuse.ensures.line is);
       left =
           λ told.
-          err_left (asked c.args.request) (g.F.Files.told c.args.files.now) _ _ _ (g.K.Sink.told c.args.out.now) (g.K.Sink.told c.refuse.new.out) c.in-Err.refusal
+          err_left (asked c.args.request) (g.F.Files.told c.args.files.now) _ _ _
+          (g.K.Sink.told c.args.out.now) (g.K.Sink.told c.refuse.new.out) c.in-Err.refusal
           (performed.answer told)
           (subst (λ (z : List ℕ × List ℕ). IsSaid (refusal_line z.0 z.1 c.in-Err.refusal) counted (g.K.Sink.told c.args.out.now) (g.K.Sink.told c.refuse.new.out))
           (λ k. (c.names_of.ensures.script k, c.names_of.ensures.core k)) c.refuse.ensures.line);

@@ -9,7 +9,8 @@ use Rattle.omi_top.proofs.Causes.{late_not_read, late_writes}
 use Rattle.omi_top.proofs.top.perform.Goals as goal
 
 -- what stays is as before, whatever the result is
-same_told : {A : Type 0} (x : A) (P : Refusal → Type 0) (r : Result (Vec ℕ) Refusal) → IfErr r (λ e. P e → x ≡ x)
+same_told : {A : Type 0} (x : A) (P : Refusal → Type 0) (r : Result (Vec ℕ) Refusal)
+    → IfErr r (λ e. P e → x ≡ x)
 same_told x P (Ok text) = tt
 same_told x P (Err r) = λ is. refl
 
@@ -41,7 +42,8 @@ returns-in-Show-clause-performed g c =
 pub returns-in-Run-clause-performed : goal.returns-in-Run-clause-performed
 returns-in-Run-clause-performed g c =
     let run = c.run_and_show.ensures in
-    rw c.in-Run.is (record { answer = run.answer; read = run.read; write = run.write; unwritten = run.unwritten; stays = run.stays })
+    rw c.in-Run.is
+    (record { answer = run.answer; read = run.read; write = run.write; unwritten = run.unwritten; stays = run.stays })
 
 pub returns-in-Faulty-clause-performed : goal.returns-in-Faulty-clause-performed
 returns-in-Faulty-clause-performed g c =
@@ -55,7 +57,8 @@ returns-in-Faulty-clause-performed g c =
     })
 
 -- whatever the result is, the command prints a report
-by_show : {C : Type 0} (r : Result (Vec ℕ) Refusal) → ((x : Refusal) → IsOfCore (status_of x) → C) → IfErr r (λ x. IsOfCore (status_of x) → C)
+by_show : {C : Type 0} (r : Result (Vec ℕ) Refusal) → ((x : Refusal) → IsOfCore (status_of x) → C)
+    → IfErr r (λ x. IsOfCore (status_of x) → C)
 by_show (Ok text) one = tt
 by_show (Err x) one = one x
 

@@ -17,115 +17,155 @@ use Rattle.omi_top.proofs.top.run_top.Goals.{Joined-line}
 
 -- the sink counted why a line isn't put
 abbrev counted : (g : given.Over) (c : Joined-line g) → Type 0
-counted g c = IsCounted (g.K.Sink.faults c.args.out.now) (g.K.Sink.faults c.carry_out.new.out) (g.K.Sink.wants c.args.out.now) (g.K.Sink.wants c.carry_out.new.out)
+counted g c =
+    IsCounted (g.K.Sink.faults c.args.out.now) (g.K.Sink.faults c.carry_out.new.out)
+    (g.K.Sink.wants c.args.out.now) (g.K.Sink.wants c.carry_out.new.out)
 
 -- the request is the words' command
 asked_is : (g : given.Over) (c : Joined-line g) → asked c.request_of.result ≡ command_in c.args.words.now
 asked_is g c = c.request_of.ensures.asked ∙ ap command_by c.in-Ok.ensures.line
 
 -- what the call leaves, by its command
-left_of : (g : given.Over) (c : Joined-line g) (command : Command) → asked c.request_of.result ≡ command → AreTold command (g.F.Files.told c.args.files.now)
-    → IsLeft command (g.F.Files.told c.args.files.now) c.carry_out.result (g.W.Files.told c.args.dest.now (written_name command)) (g.W.Files.told c.carry_out.new.dest (written_name command)) (counted g c) (g.K.Sink.told c.args.out.now) (g.K.Sink.told c.carry_out.new.out)
+left_of : (g : given.Over) (c : Joined-line g) (command : Command) → asked c.request_of.result ≡ command
+    → AreTold command (g.F.Files.told c.args.files.now)
+    → IsLeft command (g.F.Files.told c.args.files.now) c.carry_out.result
+    (g.W.Files.told c.args.dest.now (written_name command))
+    (g.W.Files.told c.carry_out.new.dest (written_name command)) (counted g c) (g.K.Sink.told c.args.out.now)
+    (g.K.Sink.told c.carry_out.new.out)
 left_of g c command is =
-    left_by (asked c.request_of.result) command c.carry_out.result (g.F.Files.told c.args.files.now) (g.W.Files.told c.args.dest.now) (g.W.Files.told c.carry_out.new.dest) (counted g c) (g.K.Sink.told c.args.out.now) (g.K.Sink.told c.carry_out.new.out)
+    left_by (asked c.request_of.result) command c.carry_out.result (g.F.Files.told c.args.files.now)
+    (g.W.Files.told c.args.dest.now) (g.W.Files.told c.carry_out.new.dest) (counted g c)
+    (g.K.Sink.told c.args.out.now) (g.K.Sink.told c.carry_out.new.out)
     is c.carry_out.ensures.concluded.left
 
 pub returns-in-Ok-clause-left : goal.returns-in-Ok-clause-left
 returns-in-Ok-clause-left g c = left_of g c _ (asked_is g c)
 
 pub returns-in-Ok-clause-no_file : goal.returns-in-Ok-clause-no_file
-returns-in-Ok-clause-no_file g c = λ plan name core content command told. no_file plan name core (g.F.Files.told c.args.files.now) _ _ _ _ _ _ content told (left_of g c (Stop plan name core) (asked_is g c ∙ command) (content, told))
+returns-in-Ok-clause-no_file g c =
+    λ plan name core content command told. no_file plan name core (g.F.Files.told c.args.files.now) _ _ _ _ _ _ content told (left_of g c (Stop plan name core) (asked_is g c ∙ command) (content, told))
 
 pub returns-in-Ok-clause-script : goal.returns-in-Ok-clause-script
-returns-in-Ok-clause-script g c = λ plan name core bytes command told. script_refused plan name core (g.F.Files.told c.args.files.now) _ _ _ _ _ _ bytes told (left_of g c (Stop plan name core) (asked_is g c ∙ command) (Some bytes, told))
+returns-in-Ok-clause-script g c =
+    λ plan name core bytes command told. script_refused plan name core (g.F.Files.told c.args.files.now) _ _ _ _ _ _ bytes told (left_of g c (Stop plan name core) (asked_is g c ∙ command) (Some bytes, told))
 
 pub returns-in-Ok-clause-success : goal.returns-in-Ok-clause-success
-returns-in-Ok-clause-success g c = λ plan name core bytes command told done. success plan name core (g.F.Files.told c.args.files.now) _ _ _ _ _ _ bytes told done (left_of g c (Stop plan name core) (asked_is g c ∙ command) (Some bytes, told))
+returns-in-Ok-clause-success g c =
+    λ plan name core bytes command told done. success plan name core (g.F.Files.told c.args.files.now) _ _ _ _ _ _ bytes told done (left_of g c (Stop plan name core) (asked_is g c ∙ command) (Some bytes, told))
 
 pub returns-in-Ok-clause-stops : goal.returns-in-Ok-clause-stops
-returns-in-Ok-clause-stops g c = λ plan name core bytes command told p grammar. stops plan name core (g.F.Files.told c.args.files.now) _ _ _ _ _ _ bytes told p grammar (left_of g c (Stop plan name core) (asked_is g c ∙ command) (Some bytes, told))
+returns-in-Ok-clause-stops g c =
+    λ plan name core bytes command told p grammar. stops plan name core (g.F.Files.told c.args.files.now) _ _ _ _ _ _ bytes told p grammar (left_of g c (Stop plan name core) (asked_is g c ∙ command) (Some bytes, told))
 
 pub returns-in-Ok-clause-made : goal.returns-in-Ok-clause-made
-returns-in-Ok-clause-made g c = λ n name command done. made n name (g.F.Files.told c.args.files.now) _ _ _ _ _ _ done (left_of g c (Make n name) (asked_is g c ∙ command) tt)
+returns-in-Ok-clause-made g c =
+    λ n name command done. made n name (g.F.Files.told c.args.files.now) _ _ _ _ _ _ done (left_of g c (Make n name) (asked_is g c ∙ command) tt)
 
 pub returns-in-Ok-clause-makes : goal.returns-in-Ok-clause-makes
-returns-in-Ok-clause-makes g c = λ n name command. writing n name (g.F.Files.told c.args.files.now) _ _ _ _ _ _ (left_of g c (Make n name) (asked_is g c ∙ command) tt)
+returns-in-Ok-clause-makes g c =
+    λ n name command. writing n name (g.F.Files.told c.args.files.now) _ _ _ _ _ _ (left_of g c (Make n name) (asked_is g c ∙ command) tt)
 
 pub returns-in-Ok-clause-no_core : goal.returns-in-Ok-clause-no_core
-returns-in-Ok-clause-no_core g c = λ core content command told. no_core core (g.F.Files.told c.args.files.now) _ _ _ _ _ _ content told (left_of g c (Show core) (asked_is g c ∙ command) (content, told))
+returns-in-Ok-clause-no_core g c =
+    λ core content command told. no_core core (g.F.Files.told c.args.files.now) _ _ _ _ _ _ content told (left_of g c (Show core) (asked_is g c ∙ command) (content, told))
 
 pub returns-in-Ok-clause-core : goal.returns-in-Ok-clause-core
-returns-in-Ok-clause-core g c = λ core bytes command told. core_refused core (g.F.Files.told c.args.files.now) _ _ _ _ _ _ bytes told (left_of g c (Show core) (asked_is g c ∙ command) (Some bytes, told))
+returns-in-Ok-clause-core g c =
+    λ core bytes command told. core_refused core (g.F.Files.told c.args.files.now) _ _ _ _ _ _ bytes told (left_of g c (Show core) (asked_is g c ∙ command) (Some bytes, told))
 
 pub returns-in-Ok-clause-incompatible : goal.returns-in-Ok-clause-incompatible
-returns-in-Ok-clause-incompatible g c = λ core bytes command told. incompatible core (g.F.Files.told c.args.files.now) _ _ _ _ _ _ bytes told (left_of g c (Show core) (asked_is g c ∙ command) (Some bytes, told))
+returns-in-Ok-clause-incompatible g c =
+    λ core bytes command told. incompatible core (g.F.Files.told c.args.files.now) _ _ _ _ _ _ bytes told (left_of g c (Show core) (asked_is g c ∙ command) (Some bytes, told))
 
 pub returns-in-Ok-clause-damaged : goal.returns-in-Ok-clause-damaged
-returns-in-Ok-clause-damaged g c = λ core bytes command told. damaged core (g.F.Files.told c.args.files.now) _ _ _ _ _ _ bytes told (left_of g c (Show core) (asked_is g c ∙ command) (Some bytes, told))
+returns-in-Ok-clause-damaged g c =
+    λ core bytes command told. damaged core (g.F.Files.told c.args.files.now) _ _ _ _ _ _ bytes told (left_of g c (Show core) (asked_is g c ∙ command) (Some bytes, told))
 
 pub returns-in-Ok-clause-report : goal.returns-in-Ok-clause-report
-returns-in-Ok-clause-report g c = λ core bytes command told done. report_put core (g.F.Files.told c.args.files.now) _ _ _ _ _ _ bytes told done (left_of g c (Show core) (asked_is g c ∙ command) (Some bytes, told))
+returns-in-Ok-clause-report g c =
+    λ core bytes command told done. report_put core (g.F.Files.told c.args.files.now) _ _ _ _ _ _ bytes told done (left_of g c (Show core) (asked_is g c ∙ command) (Some bytes, told))
 
 pub returns-in-Ok-clause-shows : goal.returns-in-Ok-clause-shows
-returns-in-Ok-clause-shows g c = λ core bytes text command told report_is. shows core (g.F.Files.told c.args.files.now) _ _ _ _ _ _ bytes text told report_is (left_of g c (Show core) (asked_is g c ∙ command) (Some bytes, told))
+returns-in-Ok-clause-shows g c =
+    λ core bytes text command told report_is. shows core (g.F.Files.told c.args.files.now) _ _ _ _ _ _ bytes text told report_is (left_of g c (Show core) (asked_is g c ∙ command) (Some bytes, told))
 
 pub returns-in-Ok-clause-shown : goal.returns-in-Ok-clause-shown
-returns-in-Ok-clause-shown g c = λ core bytes command told image spelled s shows. shown core (g.F.Files.told c.args.files.now) _ _ _ _ _ bytes told image spelled s shows _ (left_of g c (Show core) (asked_is g c ∙ command) (Some bytes, told))
+returns-in-Ok-clause-shown g c =
+    λ core bytes command told image spelled s shows. shown core (g.F.Files.told c.args.files.now) _ _ _ _ _ bytes told image spelled s shows _ (left_of g c (Show core) (asked_is g c ∙ command) (Some bytes, told))
 
 pub returns-in-Ok-clause-shown_again : goal.returns-in-Ok-clause-shown_again
-returns-in-Ok-clause-shown_again g c = λ core bytes command told p plan text run. shown_again core (g.F.Files.told c.args.files.now) _ _ _ _ _ _ bytes told p plan text run (left_of g c (Show core) (asked_is g c ∙ command) (Some bytes, told))
+returns-in-Ok-clause-shown_again g c =
+    λ core bytes command told p plan text run. shown_again core (g.F.Files.told c.args.files.now) _ _ _ _ _ _ bytes told p plan text run (left_of g c (Show core) (asked_is g c ∙ command) (Some bytes, told))
 
 pub returns-in-Ok-clause-shown_reached : goal.returns-in-Ok-clause-shown_reached
-returns-in-Ok-clause-shown_reached g c = λ core bytes command told p ids s reached. shown_reached core (g.F.Files.told c.args.files.now) _ _ _ _ _ _ bytes told p ids s reached (left_of g c (Show core) (asked_is g c ∙ command) (Some bytes, told))
+returns-in-Ok-clause-shown_reached g c =
+    λ core bytes command told p ids s reached. shown_reached core (g.F.Files.told c.args.files.now) _ _ _ _ _ _ bytes told p ids s reached (left_of g c (Show core) (asked_is g c ∙ command) (Some bytes, told))
 
 pub returns-in-Ok-clause-run_script : goal.returns-in-Ok-clause-run_script
-returns-in-Ok-clause-run_script g c = λ plan script core bytes content command told back. run_script_refused plan script core (g.F.Files.told c.args.files.now) _ _ _ _ _ _ bytes content told back (left_of g c (Run plan script core) (asked_is g c ∙ command) ((Some bytes, told), (content, back)))
+returns-in-Ok-clause-run_script g c =
+    λ plan script core bytes content command told back. run_script_refused plan script core (g.F.Files.told c.args.files.now) _ _ _ _ _ _ bytes content told back (left_of g c (Run plan script core) (asked_is g c ∙ command) ((Some bytes, told), (content, back)))
 
 pub returns-in-Ok-clause-run_no_file : goal.returns-in-Ok-clause-run_no_file
-returns-in-Ok-clause-run_no_file g c = λ plan script core text content command told back. run_no_file plan script core (g.F.Files.told c.args.files.now) _ _ _ _ _ text content told back _ (left_of g c (Run plan script core) (asked_is g c ∙ command) ((text, told), (content, back)))
+returns-in-Ok-clause-run_no_file g c =
+    λ plan script core text content command told back. run_no_file plan script core (g.F.Files.told c.args.files.now) _ _ _ _ _ text content told back _ (left_of g c (Run plan script core) (asked_is g c ∙ command) ((text, told), (content, back)))
 
 pub returns-in-Ok-clause-run_core : goal.returns-in-Ok-clause-run_core
-returns-in-Ok-clause-run_core g c = λ plan script core bytes text command told back. run_core_refused plan script core (g.F.Files.told c.args.files.now) _ _ _ _ _ text bytes told back _ (left_of g c (Run plan script core) (asked_is g c ∙ command) ((text, told), (Some bytes, back)))
+returns-in-Ok-clause-run_core g c =
+    λ plan script core bytes text command told back. run_core_refused plan script core (g.F.Files.told c.args.files.now) _ _ _ _ _ text bytes told back _ (left_of g c (Run plan script core) (asked_is g c ∙ command) ((text, told), (Some bytes, back)))
 
 pub returns-in-Ok-clause-run_incompatible : goal.returns-in-Ok-clause-run_incompatible
-returns-in-Ok-clause-run_incompatible g c = λ plan script core bytes text command told back. run_incompatible plan script core (g.F.Files.told c.args.files.now) _ _ _ _ _ text bytes told back _ (left_of g c (Run plan script core) (asked_is g c ∙ command) ((text, told), (Some bytes, back)))
+returns-in-Ok-clause-run_incompatible g c =
+    λ plan script core bytes text command told back. run_incompatible plan script core (g.F.Files.told c.args.files.now) _ _ _ _ _ text bytes told back _ (left_of g c (Run plan script core) (asked_is g c ∙ command) ((text, told), (Some bytes, back)))
 
 pub returns-in-Ok-clause-run_damaged : goal.returns-in-Ok-clause-run_damaged
-returns-in-Ok-clause-run_damaged g c = λ plan script core bytes text command told back. run_damaged plan script core (g.F.Files.told c.args.files.now) _ _ _ _ _ text bytes told back _ (left_of g c (Run plan script core) (asked_is g c ∙ command) ((text, told), (Some bytes, back)))
+returns-in-Ok-clause-run_damaged g c =
+    λ plan script core bytes text command told back. run_damaged plan script core (g.F.Files.told c.args.files.now) _ _ _ _ _ text bytes told back _ (left_of g c (Run plan script core) (asked_is g c ∙ command) ((text, told), (Some bytes, back)))
 
 pub returns-in-Ok-clause-run_written : goal.returns-in-Ok-clause-run_written
-returns-in-Ok-clause-run_written g c = λ plan script core bytes content command told back read_back. wrote plan script core (g.F.Files.told c.args.files.now) _ _ _ _ _ bytes content told back _ read_back (left_of g c (Run plan script core) (asked_is g c ∙ command) ((Some bytes, told), (content, back)))
+returns-in-Ok-clause-run_written g c =
+    λ plan script core bytes content command told back read_back. wrote plan script core (g.F.Files.told c.args.files.now) _ _ _ _ _ bytes content told back _ read_back (left_of g c (Run plan script core) (asked_is g c ∙ command) ((Some bytes, told), (content, back)))
 
 pub returns-in-Ok-clause-run_report : goal.returns-in-Ok-clause-run_report
-returns-in-Ok-clause-run_report g c = λ plan script core text bytes command told back done. put_report plan script core (g.F.Files.told c.args.files.now) _ _ _ _ _ text bytes told back _ done (left_of g c (Run plan script core) (asked_is g c ∙ command) ((Some text, told), (Some bytes, back)))
+returns-in-Ok-clause-run_report g c =
+    λ plan script core text bytes command told back done. put_report plan script core (g.F.Files.told c.args.files.now) _ _ _ _ _ text bytes told back _ done (left_of g c (Run plan script core) (asked_is g c ∙ command) ((Some text, told), (Some bytes, back)))
 
 pub returns-in-Ok-clause-runs : goal.returns-in-Ok-clause-runs
-returns-in-Ok-clause-runs g c = λ plan script core text bytes shown command told back p grammar report_is. runs plan script core (g.F.Files.told c.args.files.now) _ _ _ _ _ text bytes told back shown _ p grammar report_is (left_of g c (Run plan script core) (asked_is g c ∙ command) ((Some text, told), (Some bytes, back)))
+returns-in-Ok-clause-runs g c =
+    λ plan script core text bytes shown command told back p grammar report_is. runs plan script core (g.F.Files.told c.args.files.now) _ _ _ _ _ text bytes told back shown _ p grammar report_is (left_of g c (Run plan script core) (asked_is g c ∙ command) ((Some text, told), (Some bytes, back)))
 
 pub returns-in-Ok-clause-run_shown : goal.returns-in-Ok-clause-run_shown
-returns-in-Ok-clause-run_shown g c = λ plan script core text bytes command told back same. run_shown plan script core (g.F.Files.told c.args.files.now) _ _ _ _ _ text bytes told back same _ (left_of g c (Run plan script core) (asked_is g c ∙ command) ((Some text, told), (Some bytes, back)))
+returns-in-Ok-clause-run_shown g c =
+    λ plan script core text bytes command told back same. run_shown plan script core (g.F.Files.told c.args.files.now) _ _ _ _ _ text bytes told back same _ (left_of g c (Run plan script core) (asked_is g c ∙ command) ((Some text, told), (Some bytes, back)))
 
 pub returns-in-Ok-clause-promise : goal.returns-in-Ok-clause-promise
 returns-in-Ok-clause-promise g c = λ plan script core text bytes command told back same done.
-    let shown = run_shown plan script core (g.F.Files.told c.args.files.now) _ _ _ _ _ text bytes told back same _ (left_of g c (Run plan script core) (asked_is g c ∙ command) ((Some text, told), (Some bytes, back))) in
-    promised text plan bytes c.carry_out.result (g.K.Sink.told c.args.out.now) (g.K.Sink.told c.carry_out.new.out) done shown
+    let shown =
+    run_shown plan script core (g.F.Files.told c.args.files.now) _ _ _ _ _ text bytes told back same _
+    (left_of g c (Run plan script core) (asked_is g c ∙ command) ((Some text, told), (Some bytes, back))) in
+    promised text plan bytes c.carry_out.result (g.K.Sink.told c.args.out.now)
+    (g.K.Sink.told c.carry_out.new.out) done shown
 
 -- ---- the causes, of the words' command
 
 -- what is said of the request is said of the words' command
-of_words : (g : given.Over) (c : Joined-line g) (P : Command → Type 0) → P (asked c.request_of.result) → P (command_in c.args.words.now)
+of_words : (g : given.Over) (c : Joined-line g) (P : Command → Type 0) → P (asked c.request_of.result)
+    → P (command_in c.args.words.now)
 of_words g c P is = subst P (asked_is g c) is
 
 pub returns-in-Ok-clause-of_core : goal.returns-in-Ok-clause-of_core
-returns-in-Ok-clause-of_core g c = of_words g c (λ k. IsOfCore c.carry_out.result → ReadsCore k) c.carry_out.ensures.concluded.of_core
+returns-in-Ok-clause-of_core g c =
+    of_words g c (λ k. IsOfCore c.carry_out.result → ReadsCore k) c.carry_out.ensures.concluded.of_core
 
 pub returns-in-Ok-clause-usage : goal.returns-in-Ok-clause-usage
-returns-in-Ok-clause-usage g c = of_words g c (λ k. c.carry_out.result ≡ status.Usage → k ≡ Faulty) c.carry_out.ensures.concluded.usage
+returns-in-Ok-clause-usage g c =
+    of_words g c (λ k. c.carry_out.result ≡ status.Usage → k ≡ Faulty) c.carry_out.ensures.concluded.usage
 
 pub returns-in-Ok-clause-unwritten : goal.returns-in-Ok-clause-unwritten
 returns-in-Ok-clause-unwritten g c =
-    of_words g c (λ k. IsUnwritten k c.carry_out.result → g.W.Files.told c.carry_out.new.dest ≡ g.W.Files.told c.args.dest.now) c.carry_out.ensures.concluded.unwritten
+    of_words g c
+    (λ k. IsUnwritten k c.carry_out.result → g.W.Files.told c.carry_out.new.dest ≡ g.W.Files.told c.args.dest.now) c.carry_out.ensures.concluded.unwritten
 
 pub returns-in-Ok-clause-others : goal.returns-in-Ok-clause-others
 returns-in-Ok-clause-others g c =
-    of_words g c (λ k. (other : List ℕ) → (Writes k other → ⊥) → g.W.Files.told c.carry_out.new.dest other ≡ g.W.Files.told c.args.dest.now other) c.carry_out.ensures.concluded.stays.others
+    of_words g c
+    (λ k. (other : List ℕ) → (Writes k other → ⊥) → g.W.Files.told c.carry_out.new.dest other ≡ g.W.Files.told c.args.dest.now other) c.carry_out.ensures.concluded.stays.others

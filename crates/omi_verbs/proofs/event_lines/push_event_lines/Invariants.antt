@@ -5,4 +5,5 @@ use Rattle.omi_verbs.proofs.event_lines.push_event_lines.Given as goal
 
 -- the lines so far, and those of the events that are left
 abbrev pub invariant-loop-at : goal.invariant-loop-at
-invariant-loop-at l = string_bytes l.text ++ event_lines (drop l.at l.events.items) ≡ string_bytes l.fn.text ++ event_lines l.events.items
+invariant-loop-at l =
+    string_bytes l.text ++ event_lines (drop l.at l.events.items) ≡ string_bytes l.fn.text ++ event_lines l.events.items

@@ -3,7 +3,8 @@ use Rattle.omi_verbs.proofs.FieldNames.{no_name, short}
 use Rattle.omi_verbs.proofs.refusal_line.name_of.Goals as goal
 
 pub returns-then-field-le-FIELDS-clause-short : goal.returns-then-field-le-FIELDS-clause-short
-returns-then-field-le-FIELDS-clause-short c = subst (λ (name : List ℕ). length name ≤ 32) (sym c.field_name.ensures) (short c.args.field)
+returns-then-field-le-FIELDS-clause-short c =
+    subst (λ (name : List ℕ). length name ≤ 32) (sym c.field_name.ensures) (short c.args.field)
 
 pub returns-else-field-le-FIELDS-clause-name : goal.returns-else-field-le-FIELDS-clause-name
 returns-else-field-le-FIELDS-clause-name c = sym (no_name c.args.field (omega arith))

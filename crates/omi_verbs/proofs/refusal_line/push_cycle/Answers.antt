@@ -10,7 +10,8 @@ returns c =
     let digits : List ℕ = digits_onto 16 16 false c.args.addr [] in
     let tail : List ℕ = 10 ∷ [] in
     let first : string_bytes c.push_all.new.room ≡ old ++ front = c.push_all.ensures.added in
-    let second : string_bytes c.push_digits.new.room ≡ (old ++ front) ++ digits = c.push_digits.ensures.added ∙ ap (λ (xs : List ℕ). xs ++ digits) first in
+    let second : string_bytes c.push_digits.new.room ≡ (old ++ front) ++ digits =
+    c.push_digits.ensures.added ∙ ap (λ (xs : List ℕ). xs ++ digits) first in
     let third : string_bytes c.push_all-2.new.room ≡ ((old ++ front) ++ digits) ++ tail =
     c.push_all-2.ensures.added ∙ ap (λ (xs : List ℕ). xs ++ tail) second in
     third

@@ -11,7 +11,8 @@ returns c =
     let digits : List ℕ = digits_onto 16 16 false c.args.addr [] in
     let tail : List ℕ = 32 ∷ (field_text c.args.field ++ 10 ∷ []) in
     let first : string_bytes c.push_all.new.room ≡ old ++ front = c.push_all.ensures.added in
-    let second : string_bytes c.push_digits.new.room ≡ (old ++ front) ++ digits = c.push_digits.ensures.added ∙ ap (λ (xs : List ℕ). xs ++ digits) first in
+    let second : string_bytes c.push_digits.new.room ≡ (old ++ front) ++ digits =
+    c.push_digits.ensures.added ∙ ap (λ (xs : List ℕ). xs ++ digits) first in
     let third : string_bytes c.push_all-2.new.room ≡ ((old ++ front) ++ digits) ++ tail =
     c.push_all-2.ensures.added
     ∙ ap (λ (xs : List ℕ). string_bytes c.push_digits.new.room ++ 32 ∷ (xs ++ 10 ∷ [])) c.name_of.ensures.name
@@ -19,4 +20,5 @@ returns c =
     third
     ∙ append_assoc (old ++ front) digits tail
     ∙ append_assoc old front (digits ++ tail)
-    ∙ ap (λ (xs : List ℕ). old ++ (codes "damaged " ++ (xs ++ tail))) (hexadecimal_is c.args.addr (omega arith))
+    ∙ ap (λ (xs : List ℕ). old ++ (codes "damaged " ++ (xs ++ tail)))
+    (hexadecimal_is c.args.addr (omega arith))

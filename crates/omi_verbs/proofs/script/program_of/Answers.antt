@@ -16,9 +16,11 @@ returns-in_err-bytes-clause-kind g c =
 pub returns-clause-program : goal.returns-clause-program
 returns-clause-program g c = λ content told.
     let read = c.in_ok-bytes.ensures.bytes content told in
-    all_accepted content c.deref.result.now read.0 read.1 (c.deref.ensures.value ∙ read.2) c.parsed.result c.parsed.ensures.accepted
+    all_accepted content c.deref.result.now read.0 read.1
+    (c.deref.ensures.value ∙ read.2) c.parsed.result c.parsed.ensures.accepted
 
 pub returns-clause-refused : goal.returns-clause-refused
 returns-clause-refused g c = λ content told.
     let read = c.in_ok-bytes.ensures.bytes content told in
-    all_refused content c.deref.result.now read.0 read.1 (c.deref.ensures.value ∙ read.2) c.parsed.result c.parsed.ensures.refused
+    all_refused content c.deref.result.now read.0 read.1
+    (c.deref.ensures.value ∙ read.2) c.parsed.result c.parsed.ensures.refused

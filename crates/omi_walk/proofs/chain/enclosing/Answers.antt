@@ -22,10 +22,13 @@ use Rattle.omi_walk.proofs.Goes.{goes_unsaid, walks_ok, walks_err}
 use Rattle.omi_walk.proofs.chain.enclosing.Goals as goal
 
 -- the next region was asked for
-walked_enclosed : {C F : Type 0} (told : C → Told) (asked : C → ℕ) (s t : Opened C F) (known : ℕ → Bool) (r : Met) (next : Option Met) → Walks told asked s t (Ok next) (ask_outward s.layout known (Some r.held))
+walked_enclosed : {C F : Type 0} (told : C → Told) (asked : C → ℕ) (s t : Opened C F) (known : ℕ → Bool) (r : Met) (next : Option Met)
+    → Walks told asked s t (Ok next) (ask_outward s.layout known (Some r.held))
     → Walks told asked s t (Ok (r, next)) (ask_enclosed s.layout known r)
 unfolding ask_enclosed
-walked_enclosed told asked s t known r next walks = walks_ok told asked s t (λ next. (r, next)) next (r, next) (ask_outward s.layout known (Some r.held)) refl walks
+walked_enclosed told asked s t known r next walks =
+    walks_ok told asked s t (λ next. (r, next)) next (r, next)
+    (ask_outward s.layout known (Some r.held)) refl walks
 
 pub loop-init : goal.loop-init
 loop-init g c =
@@ -38,7 +41,9 @@ loop-init g c =
       current = c.requires.met;
       chain = rw c.new-chain.ensures (All-nil (IsMet g.C.Callbacks.told c.args.s.now Region));
       goes =
-          chain_begin g.C.Callbacks.told g.C.Callbacks.asked c.args.s.now ask_enclosed (records c.args.s.now.layout regions) (Some c.args.first) c.new-chain.result (contains nat_cmp c.new-met.result) (c.region_count-end.result - 0) c.new-chain.ensures
+          chain_begin g.C.Callbacks.told g.C.Callbacks.asked c.args.s.now ask_enclosed
+          (records c.args.s.now.layout regions) (Some c.args.first) c.new-chain.result
+          (contains nat_cmp c.new-met.result) (c.region_count-end.result - 0) c.new-chain.ensures
           (λ address. rw c.new-met.ensures.empty refl) (omega (arith, count));
     }
 
@@ -60,7 +65,11 @@ loop-preserved g c = record {
       let asked = g.C.Callbacks.asked in
       let s = c.args.s.now in
       let region = c.in-Some.region in
-      let so = goes_on (λ left o. ChainGoes g.C.Callbacks.told g.C.Callbacks.asked s ask_enclosed (records s.layout regions) (Some c.args.first) c.loop.s c.loop.chain left (contains nat_cmp c.loop.met) o) _ (suc (c.region_count-end.result - (c.loop.counter + 1))) _ region c.in-Some.is (omega (arith, c.loop-test.true)) c.loop.invariant.goes in
+      let so =
+      goes_on
+      (λ left o. ChainGoes g.C.Callbacks.told g.C.Callbacks.asked s ask_enclosed (records s.layout regions) (Some c.args.first) c.loop.s c.loop.chain left (contains nat_cmp c.loop.met) o) _
+      (suc (c.region_count-end.result - (c.loop.counter + 1))) _ region c.in-Some.is
+      (omega (arith, c.loop-test.true)) c.loop.invariant.goes in
       rw c.in_ok-push.ensures.added (asked_chain.chain_next told asked s ask_enclosed (records s.layout regions) (Some c.args.first) c.loop.s c.onward.new.s c.loop.chain (contains nat_cmp c.loop.met) (contains nat_cmp c.insert.new.self) _ region
       (also_met c.loop.met c.insert.new.self region.held.addr c.in_ok-insert.ensures.updates) so _ region c.in_ok-current.current c.onward.ensures.leaves
       (walked_enclosed g.C.Callbacks.told g.C.Callbacks.asked c.loop.s c.onward.new.s (contains nat_cmp c.insert.new.self) region c.in_ok-current.current c.in_ok-current.ensures.reads));
@@ -73,7 +82,8 @@ returns-in_default-clause-reads g c =
     let told = g.C.Callbacks.told in
     let asked = g.C.Callbacks.asked in
     let s = c.args.s.now in
-    chain_end told asked s ask_enclosed (records s.layout regions) (Some c.args.first) c.loop.s c.loop.chain (contains nat_cmp c.loop.met) (c.region_count-end.result - c.loop.counter)
+    chain_end told asked s ask_enclosed (records s.layout regions) (Some c.args.first) c.loop.s c.loop.chain
+    (contains nat_cmp c.loop.met) (c.region_count-end.result - c.loop.counter)
     (subst (λ o. ChainGoes g.C.Callbacks.told g.C.Callbacks.asked s ask_enclosed (records s.layout regions) (Some c.args.first) c.loop.s c.loop.chain (c.region_count-end.result - c.loop.counter) (contains nat_cmp c.loop.met) o) c.in_default.is c.loop.invariant.goes)
 
 pub returns-in_err-insert-clause-reads : goal.returns-in_err-insert-clause-reads
@@ -89,9 +99,15 @@ returns-in_err-current-clause-reads g c =
     let asked = g.C.Callbacks.asked in
     let s = c.args.s.now in
     let region = c.in-Some.region in
-    let so = goes_on (λ left o. ChainGoes g.C.Callbacks.told g.C.Callbacks.asked s ask_enclosed (records s.layout regions) (Some c.args.first) c.loop.s c.loop.chain left (contains nat_cmp c.loop.met) o) _ (suc (c.region_count-end.result - (c.loop.counter + 1))) _ region c.in-Some.is (omega (arith, c.loop-test.true)) c.loop.invariant.goes in
+    let so =
+    goes_on
+    (λ left o. ChainGoes g.C.Callbacks.told g.C.Callbacks.asked s ask_enclosed (records s.layout regions) (Some c.args.first) c.loop.s c.loop.chain left (contains nat_cmp c.loop.met) o) _
+    (suc (c.region_count-end.result - (c.loop.counter + 1))) _ region c.in-Some.is
+    (omega (arith, c.loop-test.true)) c.loop.invariant.goes in
     let same = also_met c.loop.met c.insert.new.self region.held.addr c.in_ok-insert.ensures.updates in
-    asked_chain.chain_stop told asked s ask_enclosed (records s.layout regions) (Some c.args.first) c.loop.s c.onward.new.s c.loop.chain (contains nat_cmp c.loop.met) (contains nat_cmp c.insert.new.self) _ region same so c.in_err-current.field-0.0 _
+    asked_chain.chain_stop told asked s ask_enclosed (records s.layout regions)
+    (Some c.args.first) c.loop.s c.onward.new.s c.loop.chain (contains nat_cmp c.loop.met)
+    (contains nat_cmp c.insert.new.self) _ region same so c.in_err-current.field-0.0 _
     (walks_err told asked c.loop.s c.onward.new.s (λ next. (region, next)) c.in_err-current.field-0.0 (ask_outward c.loop.s.layout (contains nat_cmp c.insert.new.self) (Some region.held)) c.in_err-current.ensures.reads)
     c.from_residual-in_err-current.ensures.1
 
@@ -101,7 +117,11 @@ returns-in_err-push-clause-reads g c =
     let asked = g.C.Callbacks.asked in
     let s = c.args.s.now in
     let region = c.in-Some.region in
-    let so = goes_on (λ left o. ChainGoes g.C.Callbacks.told g.C.Callbacks.asked s ask_enclosed (records s.layout regions) (Some c.args.first) c.loop.s c.loop.chain left (contains nat_cmp c.loop.met) o) _ (suc (c.region_count-end.result - (c.loop.counter + 1))) _ region c.in-Some.is (omega (arith, c.loop-test.true)) c.loop.invariant.goes in
+    let so =
+    goes_on
+    (λ left o. ChainGoes g.C.Callbacks.told g.C.Callbacks.asked s ask_enclosed (records s.layout regions) (Some c.args.first) c.loop.s c.loop.chain left (contains nat_cmp c.loop.met) o) _
+    (suc (c.region_count-end.result - (c.loop.counter + 1))) _ region c.in-Some.is
+    (omega (arith, c.loop-test.true)) c.loop.invariant.goes in
     let same = also_met c.loop.met c.insert.new.self region.held.addr c.in_ok-insert.ensures.updates in
     goes_unsaid told asked s c.onward.new.s _ _ _
     (asked_chain.chain_next told asked s ask_enclosed (records s.layout regions) (Some c.args.first) c.loop.s c.onward.new.s c.loop.chain (contains nat_cmp c.loop.met) (contains nat_cmp c.insert.new.self) _ region same so _ region c.in_ok-current.current c.onward.ensures.leaves
@@ -113,7 +133,8 @@ returns-in-None-clause-reads g c =
     let told = g.C.Callbacks.told in
     let asked = g.C.Callbacks.asked in
     let s = c.args.s.now in
-    chain_end told asked s ask_enclosed (records s.layout regions) (Some c.args.first) c.loop.s c.loop.chain (contains nat_cmp c.loop.met) (c.region_count-end.result - c.loop.counter)
+    chain_end told asked s ask_enclosed (records s.layout regions) (Some c.args.first) c.loop.s c.loop.chain
+    (contains nat_cmp c.loop.met) (c.region_count-end.result - c.loop.counter)
     (subst (λ o. ChainGoes g.C.Callbacks.told g.C.Callbacks.asked s ask_enclosed (records s.layout regions) (Some c.args.first) c.loop.s c.loop.chain (c.region_count-end.result - c.loop.counter) (contains nat_cmp c.loop.met) o) c.in-None.is c.loop.invariant.goes)
 
 pub returns-clause-reads : goal.returns-clause-reads
@@ -122,5 +143,6 @@ returns-clause-reads g c =
     let asked = g.C.Callbacks.asked in
     let s = c.args.s.now in
     let region = c.in-Some-current.region in
-    chain_cycle told asked s ask_enclosed (records s.layout regions) (Some c.args.first) c.loop.s c.loop.chain (contains nat_cmp c.loop.met) region
+    chain_cycle told asked s ask_enclosed (records s.layout regions) (Some c.args.first) c.loop.s c.loop.chain
+    (contains nat_cmp c.loop.met) region
     (goes_on (λ left o. ChainGoes g.C.Callbacks.told g.C.Callbacks.asked s ask_enclosed (records s.layout regions) (Some c.args.first) c.loop.s c.loop.chain left (contains nat_cmp c.loop.met) o) _ 0 _ region c.in-Some-current.is (omega (arith, c.loop-test.false)) c.loop.invariant.goes)

@@ -14,5 +14,6 @@ use Rattle.omi_walk.proofs.head.version_of.Goals as goal
 pub returns-clause-reads : goal.returns-clause-reads
 unfolding ask_version
 returns-clause-reads g c =
-    of_answers g.C.Callbacks.told g.C.Callbacks.asked c.args.s.now _ c.get_omp_version-answer.result _ (walked None) (word_of c.args.s.now.layout (runtime_address c.args.s.now.layout) RuntimeVersion 0)
+    of_answers g.C.Callbacks.told g.C.Callbacks.asked c.args.s.now _ c.get_omp_version-answer.result _
+    (walked None) (word_of c.args.s.now.layout (runtime_address c.args.s.now.layout) RuntimeVersion 0)
     refl c.walked_from.ensures c.get_omp_version-answer.ensures.answer

@@ -28,8 +28,11 @@ loop-i-preserved c = record {
 
 pub returns-clause-first : goal.returns-clause-first
 returns-clause-first c = λ before has.
-    subst (λ met. HasFirst c.loop-i.index (before ++ met)) (take_all c.loop-i.i c.args.met.now (omega (arith, c.loop-i-test.false, c.loop-i.invariant.bound)))
+    subst (λ met. HasFirst c.loop-i.index (before ++ met))
+    (take_all c.loop-i.i c.args.met.now (omega (arith, c.loop-i-test.false, c.loop-i.invariant.bound)))
     (c.loop-i.invariant.first before has)
 
 pub returns-clause-small : goal.returns-clause-small
-returns-clause-small c = subst AreSmall (take_all c.loop-i.i c.args.met.now (omega (arith, c.loop-i-test.false, c.loop-i.invariant.bound))) c.loop-i.invariant.small
+returns-clause-small c =
+    subst AreSmall
+    (take_all c.loop-i.i c.args.met.now (omega (arith, c.loop-i-test.false, c.loop-i.invariant.bound))) c.loop-i.invariant.small

@@ -27,7 +27,8 @@ loop-num-preserved g c = record {
   bound = c.loop-num.invariant.bound;
   goes =
       let pair = region_pair c.args.r in
-      let below : c.loop-num.num < c.args.size = omega (arith, c.loop-num.invariant.bound, c.loop-num-test.true) in
+      let below : c.loop-num.num < c.args.size =
+      omega (arith, c.loop-num.invariant.bound, c.loop-num-test.true) in
       let so = subst (λ left. EachGoes g.C.Callbacks.told g.C.Callbacks.asked c.args.s.now pair (λ w k num. ask_member w k num) (range_with_len 0 c.args.size) c.loop-num.s c.loop-num.rows left)
       (next_range c.loop-num.num c.args.size below) c.loop-num.invariant.goes in
       rw c.in_ok-push.ensures.added (asks_next g.C.Callbacks.told g.C.Callbacks.asked c.args.s.now pair (λ w k num. ask_member w k num) (range_with_len 0 c.args.size) c.loop-num.s c.member.new.s c.loop-num.rows
@@ -42,10 +43,12 @@ returns-in_err-row-clause-reads g c =
     let asked = g.C.Callbacks.asked in
     let s = c.args.s.now in
     let pair = region_pair c.args.r in
-    let below : c.loop-num.num < c.args.size = omega (arith, c.loop-num.invariant.bound, c.loop-num-test.true) in
+    let below : c.loop-num.num < c.args.size =
+    omega (arith, c.loop-num.invariant.bound, c.loop-num-test.true) in
     let so = subst (λ left. EachGoes told asked s pair (λ w k num. ask_member w k num) (range_with_len 0 c.args.size) c.loop-num.s c.loop-num.rows left)
     (next_range c.loop-num.num c.args.size below) c.loop-num.invariant.goes in
-    asks_stop told asked s pair (λ w k num. ask_member w k num) (range_with_len 0 c.args.size) c.loop-num.s c.member.new.s c.loop-num.rows c.loop-num.num _ c.in_err-row.field-0.0 _ so c.in_err-row.ensures.reads c.from_residual.ensures.1
+    asks_stop told asked s pair (λ w k num. ask_member w k num)
+    (range_with_len 0 c.args.size) c.loop-num.s c.member.new.s c.loop-num.rows c.loop-num.num _ c.in_err-row.field-0.0 _ so c.in_err-row.ensures.reads c.from_residual.ensures.1
 
 pub returns-in_err-push-clause-reads : goal.returns-in_err-push-clause-reads
 returns-in_err-push-clause-reads g c =
@@ -53,7 +56,8 @@ returns-in_err-push-clause-reads g c =
     let asked = g.C.Callbacks.asked in
     let s = c.args.s.now in
     let pair = region_pair c.args.r in
-    let below : c.loop-num.num < c.args.size = omega (arith, c.loop-num.invariant.bound, c.loop-num-test.true) in
+    let below : c.loop-num.num < c.args.size =
+    omega (arith, c.loop-num.invariant.bound, c.loop-num-test.true) in
     let so = subst (λ left. EachGoes told asked s pair (λ w k num. ask_member w k num) (range_with_len 0 c.args.size) c.loop-num.s c.loop-num.rows left)
     (next_range c.loop-num.num c.args.size below) c.loop-num.invariant.goes in
     goes_unsaid told asked s c.member.new.s _ _ _
@@ -66,6 +70,7 @@ returns-clause-reads g c =
     let asked = g.C.Callbacks.asked in
     let s = c.args.s.now in
     let pair = region_pair c.args.r in
-    asks_end told asked s pair (λ w k num. ask_member w k num) (range_with_len 0 c.args.size) c.loop-num.s c.loop-num.rows
+    asks_end told asked s pair (λ w k num. ask_member w k num)
+    (range_with_len 0 c.args.size) c.loop-num.s c.loop-num.rows
     (subst (λ (left : List ℕ). EachGoes told asked s pair (λ w k num. ask_member w k num) (range_with_len 0 c.args.size) c.loop-num.s c.loop-num.rows left)
     (no_more c.loop-num.num c.args.size (omega (arith, c.loop-num.invariant.bound, c.loop-num-test.false))) c.loop-num.invariant.goes)

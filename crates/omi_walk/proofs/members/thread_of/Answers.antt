@@ -31,7 +31,8 @@ returns-in-Ok-clause-reads g c =
     let mid = c.get_thread_in_parallel.new.s in
     let found = get s.handles.held (region_pair c.args.r) in
     let h = c.let_go.result.held in
-    let name = ap (λ w. name_of w h) (sym c.get_thread_in_parallel.ensures.stays.layout) ∙ c.let_go.ensures.name in
+    let name =
+    ap (λ w. name_of w h) (sym c.get_thread_in_parallel.ensures.stays.layout) ∙ c.let_go.ensures.name in
     walks_ok told asked s _ (met w) h _ _ (met_is w c.let_go.result name)
     (of_made_ok told asked s mid _ (thread_pair c.in-Ok.found) h (thread_of_member w found c.args.num) (of_member found) h c.in-Ok.ensures.answer c.let_go.ensures.object refl c.let_go.ensures.table)
 

@@ -29,11 +29,15 @@ returns-in_default-clause-reads g c =
     let asked = g.C.Callbacks.asked in
     let s = c.args.s.now in
     let none : get nat_cmp c.args.index.now (slot_key c.args.slot.0 c.args.slot.1) ≡ None =
-    ap (get nat_cmp c.args.index.now) (sym c.slot_key.ensures) ∙ sym c.get.ensures.value ∙ ap option_copied c.in_default.is in
+    ap (get nat_cmp c.args.index.now) (sym c.slot_key.ensures)
+    ∙ sym c.get.ensures.value
+    ∙ ap option_copied c.in_default.is in
     record {
       rows = [];
       is = sym (append-nil c.args.rows.now);
-      walks = subst (λ (xs : List Met). Walks told asked s s (Ok []) (ask_each (ask_region s.layout) xs)) (sym (none_found c.args.index.now c.args.slot.0 c.args.slot.1 none))
+      walks =
+          subst (λ (xs : List Met). Walks told asked s s (Ok []) (ask_each (ask_region s.layout) xs))
+          (sym (none_found c.args.index.now c.args.slot.0 c.args.slot.1 none))
           (asks_end told asked s (0, 0) (λ w k m. ask_region w m) [] s [] (asks_begin told asked s (0, 0) (λ w k m. ask_region w m) []));
     }
 
@@ -44,7 +48,9 @@ returns-in_err-row-clause-reads g c =
     let p = err_from_is_err_and c.from_residual.result c.from_residual.ensures.1 in
     let s = c.args.s.now in
     let some : get nat_cmp c.args.index.now (slot_key c.args.slot.0 c.args.slot.1) ≡ Some c.in-Some.region.now =
-    ap (get nat_cmp c.args.index.now) (sym c.slot_key.ensures) ∙ sym c.get.ensures.value ∙ ap option_copied c.in-Some.is in
+    ap (get nat_cmp c.args.index.now) (sym c.slot_key.ensures)
+    ∙ sym c.get.ensures.value
+    ∙ ap option_copied c.in-Some.is in
     let m = c.in-Some.region.now in
     let there = sym (one_found c.args.index.now c.args.slot.0 c.args.slot.1 m some) in
     rw (p.1, p.2) (subst (λ (xs : List Met). Walks told asked s c.region_row.new.s (Err c.in_err-row.field-0.0) (ask_each (ask_region s.layout) xs)) there
@@ -57,7 +63,9 @@ returns-in_err-push-clause-reads g c =
     let p = err_from_is_err_and c.from_residual-in_err-push.result c.from_residual-in_err-push.ensures.1 in
     let s = c.args.s.now in
     let some : get nat_cmp c.args.index.now (slot_key c.args.slot.0 c.args.slot.1) ≡ Some c.in-Some.region.now =
-    ap (get nat_cmp c.args.index.now) (sym c.slot_key.ensures) ∙ sym c.get.ensures.value ∙ ap option_copied c.in-Some.is in
+    ap (get nat_cmp c.args.index.now) (sym c.slot_key.ensures)
+    ∙ sym c.get.ensures.value
+    ∙ ap option_copied c.in-Some.is in
     let m = c.in-Some.region.now in
     let there = sym (one_found c.args.index.now c.args.slot.0 c.args.slot.1 m some) in
     rw (p.1, p.2) (subst (λ (xs : List Met). Walks told asked s c.region_row.new.s (Err OutOfMemory) (ask_each (ask_region s.layout) xs)) there
@@ -70,13 +78,17 @@ returns-clause-reads g c =
     let asked = g.C.Callbacks.asked in
     let s = c.args.s.now in
     let some : get nat_cmp c.args.index.now (slot_key c.args.slot.0 c.args.slot.1) ≡ Some c.in-Some.region.now =
-    ap (get nat_cmp c.args.index.now) (sym c.slot_key.ensures) ∙ sym c.get.ensures.value ∙ ap option_copied c.in-Some.is in
+    ap (get nat_cmp c.args.index.now) (sym c.slot_key.ensures)
+    ∙ sym c.get.ensures.value
+    ∙ ap option_copied c.in-Some.is in
     let m = c.in-Some.region.now in
     let there = sym (one_found c.args.index.now c.args.slot.0 c.args.slot.1 m some) in
     record {
       rows = c.in_ok-row.row ∷ [];
       is = c.in_ok-push.ensures.added;
-      walks = subst (λ (xs : List Met). Walks told asked s c.region_row.new.s (Ok (c.in_ok-row.row ∷ [])) (ask_each (ask_region s.layout) xs)) there
+      walks =
+          subst
+          (λ (xs : List Met). Walks told asked s c.region_row.new.s (Ok (c.in_ok-row.row ∷ [])) (ask_each (ask_region s.layout) xs)) there
           (asks_end told asked s (0, 0) (λ w k m. ask_region w m) (m ∷ []) c.region_row.new.s (c.in_ok-row.row ∷ [])
           (asks_next told asked s (0, 0) (λ w k m. ask_region w m) (m ∷ []) s c.region_row.new.s [] _ m [] c.in_ok-row.row (asks_begin told asked s (0, 0) (λ w k m. ask_region w m) (m ∷ [])) c.region_row.ensures.leaves c.in_ok-row.ensures.reads));
     }

@@ -31,7 +31,9 @@ loop-slot-init g c = record {
   goes =
       let n = per_thread c.args.s.now.layout regions in
       let none : n - 0 ≡ n = omega arith in
-      subst (λ k. EachGoes g.C.Callbacks.told g.C.Callbacks.asked c.args.s.now (0, 0) (λ w k m. ask_region w m) (filter_map (met_in_slot c.args.index.now) (own_slots c.args.s.now.layout c.args.creator)) c.args.s.now [] (filter_map (met_in_slot c.args.index.now) (map (λ slot. (c.args.creator, slot)) (range_with_len 0 k)))) (sym none)
+      subst
+      (λ k. EachGoes g.C.Callbacks.told g.C.Callbacks.asked c.args.s.now (0, 0) (λ w k m. ask_region w m) (filter_map (met_in_slot c.args.index.now) (own_slots c.args.s.now.layout c.args.creator)) c.args.s.now [] (filter_map (met_in_slot c.args.index.now) (map (λ slot. (c.args.creator, slot)) (range_with_len 0 k))))
+      (sym none)
       (asks_begin g.C.Callbacks.told g.C.Callbacks.asked c.args.s.now (0, 0) (λ w k m. ask_region w m) (filter_map (met_in_slot c.args.index.now) (own_slots c.args.s.now.layout c.args.creator)));
 }
 
@@ -43,10 +45,12 @@ loop-slot-preserved g c = record {
   few = c.loop-slot.invariant.few;
   walked = c.loop-slot.invariant.walked ++ c.in_ok-add_row.ensures.reads.rows;
   walked_is =
-      c.in_ok-add_row.ensures.reads.is ∙ ap (λ rows. rows ++ c.in_ok-add_row.ensures.reads.rows) c.loop-slot.invariant.walked_is
+      c.in_ok-add_row.ensures.reads.is
+      ∙ ap (λ rows. rows ++ c.in_ok-add_row.ensures.reads.rows) c.loop-slot.invariant.walked_is
       ∙ append_assoc c.args.rows.now c.loop-slot.invariant.walked c.in_ok-add_row.ensures.reads.rows;
   goes =
-      asks_part g.C.Callbacks.told g.C.Callbacks.asked c.args.s.now (0, 0) (λ w k m. ask_region w m) (filter_map (met_in_slot c.args.index.now) (own_slots c.args.s.now.layout c.args.creator)) c.loop-slot.s c.add_row.new.s c.loop-slot.invariant.walked _
+      asks_part g.C.Callbacks.told g.C.Callbacks.asked c.args.s.now (0, 0) (λ w k m. ask_region w m)
+      (filter_map (met_in_slot c.args.index.now) (own_slots c.args.s.now.layout c.args.creator)) c.loop-slot.s c.add_row.new.s c.loop-slot.invariant.walked _
       (filter_map (met_in_slot c.args.index.now) ((c.args.creator, c.loop-slot.slot) ∷ [])) _ c.in_ok-add_row.ensures.reads.rows
       (subst (λ left. EachGoes g.C.Callbacks.told g.C.Callbacks.asked c.args.s.now (0, 0) (λ w k m. ask_region w m) (filter_map (met_in_slot c.args.index.now) (own_slots c.args.s.now.layout c.args.creator)) c.loop-slot.s c.loop-slot.invariant.walked left)
       (ap (λ slots. filter_map (met_in_slot c.args.index.now) (map (λ slot. (c.args.creator, slot)) slots))
@@ -64,7 +68,8 @@ returns-in_err-add_row-clause-reads g c =
     let p = err_from_is_err_and c.from_residual.result c.from_residual.ensures.1 in
     let s = c.args.s.now in
     rw (p.1, p.2) (part_stop told asked s (0, 0) (λ w k m. ask_region w m) (filter_map (met_in_slot c.args.index.now) (own_slots c.args.s.now.layout c.args.creator)) c.loop-slot.s c.add_row.new.s c.loop-slot.invariant.walked
-    (filter_map (met_in_slot c.args.index.now) ((c.args.creator, c.loop-slot.slot) ∷ [])) _ c.in_err-add_row.field-0.0 (Err c.in_err-add_row.field-0.0)
+    (filter_map (met_in_slot c.args.index.now) ((c.args.creator, c.loop-slot.slot) ∷ [])) _ c.in_err-add_row.field-0.0
+    (Err c.in_err-add_row.field-0.0)
     (subst (λ left. EachGoes told asked s (0, 0) (λ w k m. ask_region w m) (filter_map (met_in_slot c.args.index.now) (own_slots c.args.s.now.layout c.args.creator)) c.loop-slot.s c.loop-slot.invariant.walked left)
     (ap (λ slots. filter_map (met_in_slot c.args.index.now) (map (λ slot. (c.args.creator, slot)) slots))
     (next_range c.loop-slot.slot (per_thread s.layout regions) (omega (arith, c.loop-slot.invariant.bound, c.loop-slot-test.true)))
@@ -78,7 +83,9 @@ returns-clause-reads g c =
     record {
       rows = c.loop-slot.invariant.walked;
       is = c.loop-slot.invariant.walked_is;
-      walks = asks_end told asked s (0, 0) (λ w k m. ask_region w m) (filter_map (met_in_slot c.args.index.now) (own_slots c.args.s.now.layout c.args.creator)) c.loop-slot.s c.loop-slot.invariant.walked
+      walks =
+          asks_end told asked s (0, 0) (λ w k m. ask_region w m)
+          (filter_map (met_in_slot c.args.index.now) (own_slots c.args.s.now.layout c.args.creator)) c.loop-slot.s c.loop-slot.invariant.walked
           (subst (λ (slots : List ℕ). EachGoes told asked s (0, 0) (λ w k m. ask_region w m) (filter_map (met_in_slot c.args.index.now) (own_slots c.args.s.now.layout c.args.creator)) c.loop-slot.s c.loop-slot.invariant.walked (filter_map (met_in_slot c.args.index.now) (map (λ slot. (c.args.creator, slot)) slots)))
           (no_more c.loop-slot.slot (per_thread s.layout regions) (omega (arith, c.loop-slot.invariant.bound, c.loop-slot-test.false))) c.loop-slot.invariant.goes);
     }

@@ -84,7 +84,9 @@ returns-clause-reads g c = λ met first small.
     let told = g.C.Callbacks.told in
     let asked = g.C.Callbacks.asked in
     let s = c.args.s.now in
-    subst (λ (xs : List Met). Walks told asked s c.loop-creator.s (Ok c.loop-creator.rows) (ask_each (ask_region s.layout) xs)) (sym (first_in_slots c.args.index.now met first small s.layout (omega (arith, c.loop-creator.invariant.few))))
+    subst
+    (λ (xs : List Met). Walks told asked s c.loop-creator.s (Ok c.loop-creator.rows) (ask_each (ask_region s.layout) xs))
+    (sym (first_in_slots c.args.index.now met first small s.layout (omega (arith, c.loop-creator.invariant.few))))
     (asks_end told asked s (0, 0) (λ w k m. ask_region w m) (filter_map (met_in_slot c.args.index.now) (slot_list c.args.s.now.layout regions)) c.loop-creator.s c.loop-creator.rows
     (subst (λ (creators : List ℕ). EachGoes told asked s (0, 0) (λ w k m. ask_region w m) (filter_map (met_in_slot c.args.index.now) (slot_list c.args.s.now.layout regions)) c.loop-creator.s c.loop-creator.rows (filter_map (met_in_slot c.args.index.now) (flat_map (own_slots s.layout) creators)))
     (no_more c.loop-creator.creator (thread_count s.layout) (omega (arith, c.loop-creator.invariant.bound, c.loop-creator-test.false))) c.loop-creator.invariant.goes))
@@ -93,7 +95,8 @@ returns-clause-reads g c = λ met first small.
 
 pub returns-in_err-add_rows-clause-leaves : goal.returns-in_err-add_rows-clause-leaves
 returns-in_err-add_rows-clause-leaves g c =
-    leaves_then g.C.Callbacks.told _ _ _ _ _ _ (omega (arith, c.loop-creator.invariant.threads, c.loop-creator.invariant.bound, c.loop-creator-test.true)) c.loop-creator.invariant.leaves c.add_rows.ensures.leaves
+    leaves_then g.C.Callbacks.told _ _ _ _ _ _
+    (omega (arith, c.loop-creator.invariant.threads, c.loop-creator.invariant.bound, c.loop-creator-test.true)) c.loop-creator.invariant.leaves c.add_rows.ensures.leaves
 
 pub returns-clause-leaves : goal.returns-clause-leaves
 returns-clause-leaves g c =

@@ -56,7 +56,8 @@ returns-in_err-func-clause-reads g c =
     let pair = region_pair c.args.r in
     let all = ask_row s.layout c.args.region (get s.handles.held pair) in
     let so0 = goes_begin told asked s all in
-    goes_stop told asked s s _ pair all (λ w k. ask_entry w k) _ so0 c.in_err-func.field-0.0 _ c.in_err-func.ensures.reads c.from_residual.ensures.1
+    goes_stop told asked s s _ pair all
+    (λ w k. ask_entry w k) _ so0 c.in_err-func.field-0.0 _ c.in_err-func.ensures.reads c.from_residual.ensures.1
 
 pub returns-in_err-levels-clause-reads : goal.returns-in_err-levels-clause-reads
 unfolding ask_row row_with
@@ -67,8 +68,11 @@ returns-in_err-levels-clause-reads g c =
     let pair = region_pair c.args.r in
     let all = ask_row s.layout c.args.region (get s.handles.held pair) in
     let so0 = goes_begin told asked s all in
-    let so1 = goes_on told asked s s c.entry_of.new.s pair all (λ w k. ask_entry w k) _ so0 _ c.in_ok-func.func c.entry_of.ensures.leaves c.in_ok-func.ensures.reads in
-    goes_stop told asked s c.entry_of.new.s _ pair all (λ w k. ask_region_variable w LEVELS_VAR k) _ so1 c.in_err-levels.field-0.0 _ c.in_err-levels.ensures.reads c.from_residual-in_err-levels.ensures.1
+    let so1 =
+    goes_on told asked s s c.entry_of.new.s pair all
+    (λ w k. ask_entry w k) _ so0 _ c.in_ok-func.func c.entry_of.ensures.leaves c.in_ok-func.ensures.reads in
+    goes_stop told asked s c.entry_of.new.s _ pair all
+    (λ w k. ask_region_variable w LEVELS_VAR k) _ so1 c.in_err-levels.field-0.0 _ c.in_err-levels.ensures.reads c.from_residual-in_err-levels.ensures.1
 
 pub returns-in_err-active-clause-reads : goal.returns-in_err-active-clause-reads
 unfolding ask_row row_with
@@ -79,9 +83,14 @@ returns-in_err-active-clause-reads g c =
     let pair = region_pair c.args.r in
     let all = ask_row s.layout c.args.region (get s.handles.held pair) in
     let so0 = goes_begin told asked s all in
-    let so1 = goes_on told asked s s c.entry_of.new.s pair all (λ w k. ask_entry w k) _ so0 _ c.in_ok-func.func c.entry_of.ensures.leaves c.in_ok-func.ensures.reads in
-    let so2 = goes_on told asked s c.entry_of.new.s c.region_variable.new.s pair all (λ w k. ask_region_variable w LEVELS_VAR k) _ so1 _ c.in_ok-levels.levels c.region_variable.ensures.leaves c.in_ok-levels.ensures.reads in
-    goes_stop told asked s c.region_variable.new.s _ pair all (λ w k. ask_region_variable w ACTIVE_LEVELS_VAR k) _ so2 c.in_err-active.field-0.0 _ c.in_err-active.ensures.reads c.from_residual-in_err-active.ensures.1
+    let so1 =
+    goes_on told asked s s c.entry_of.new.s pair all
+    (λ w k. ask_entry w k) _ so0 _ c.in_ok-func.func c.entry_of.ensures.leaves c.in_ok-func.ensures.reads in
+    let so2 =
+    goes_on told asked s c.entry_of.new.s c.region_variable.new.s pair all
+    (λ w k. ask_region_variable w LEVELS_VAR k) _ so1 _ c.in_ok-levels.levels c.region_variable.ensures.leaves c.in_ok-levels.ensures.reads in
+    goes_stop told asked s c.region_variable.new.s _ pair all
+    (λ w k. ask_region_variable w ACTIVE_LEVELS_VAR k) _ so2 c.in_err-active.field-0.0 _ c.in_err-active.ensures.reads c.from_residual-in_err-active.ensures.1
 
 pub returns-in_err-size-clause-reads : goal.returns-in_err-size-clause-reads
 unfolding ask_row row_with
@@ -92,10 +101,17 @@ returns-in_err-size-clause-reads g c =
     let pair = region_pair c.args.r in
     let all = ask_row s.layout c.args.region (get s.handles.held pair) in
     let so0 = goes_begin told asked s all in
-    let so1 = goes_on told asked s s c.entry_of.new.s pair all (λ w k. ask_entry w k) _ so0 _ c.in_ok-func.func c.entry_of.ensures.leaves c.in_ok-func.ensures.reads in
-    let so2 = goes_on told asked s c.entry_of.new.s c.region_variable.new.s pair all (λ w k. ask_region_variable w LEVELS_VAR k) _ so1 _ c.in_ok-levels.levels c.region_variable.ensures.leaves c.in_ok-levels.ensures.reads in
-    let so3 = goes_on told asked s c.region_variable.new.s c.region_variable-2.new.s pair all (λ w k. ask_region_variable w ACTIVE_LEVELS_VAR k) _ so2 _ c.in_ok-active.active c.region_variable-2.ensures.leaves c.in_ok-active.ensures.reads in
-    goes_stop told asked s c.region_variable-2.new.s _ pair all (λ w k. ask_region_variable w TEAM_SIZE_VAR k) _ so3 c.in_err-size.field-0.0 _ c.in_err-size.ensures.reads c.from_residual-in_err-size.ensures.1
+    let so1 =
+    goes_on told asked s s c.entry_of.new.s pair all
+    (λ w k. ask_entry w k) _ so0 _ c.in_ok-func.func c.entry_of.ensures.leaves c.in_ok-func.ensures.reads in
+    let so2 =
+    goes_on told asked s c.entry_of.new.s c.region_variable.new.s pair all
+    (λ w k. ask_region_variable w LEVELS_VAR k) _ so1 _ c.in_ok-levels.levels c.region_variable.ensures.leaves c.in_ok-levels.ensures.reads in
+    let so3 =
+    goes_on told asked s c.region_variable.new.s c.region_variable-2.new.s pair all
+    (λ w k. ask_region_variable w ACTIVE_LEVELS_VAR k) _ so2 _ c.in_ok-active.active c.region_variable-2.ensures.leaves c.in_ok-active.ensures.reads in
+    goes_stop told asked s c.region_variable-2.new.s _ pair all
+    (λ w k. ask_region_variable w TEAM_SIZE_VAR k) _ so3 c.in_err-size.field-0.0 _ c.in_err-size.ensures.reads c.from_residual-in_err-size.ensures.1
 
 pub returns-in_err-enclosing-clause-reads : goal.returns-in_err-enclosing-clause-reads
 unfolding ask_row row_with
@@ -106,11 +122,20 @@ returns-in_err-enclosing-clause-reads g c =
     let pair = region_pair c.args.r in
     let all = ask_row s.layout c.args.region (get s.handles.held pair) in
     let so0 = goes_begin told asked s all in
-    let so1 = goes_on told asked s s c.entry_of.new.s pair all (λ w k. ask_entry w k) _ so0 _ c.in_ok-func.func c.entry_of.ensures.leaves c.in_ok-func.ensures.reads in
-    let so2 = goes_on told asked s c.entry_of.new.s c.region_variable.new.s pair all (λ w k. ask_region_variable w LEVELS_VAR k) _ so1 _ c.in_ok-levels.levels c.region_variable.ensures.leaves c.in_ok-levels.ensures.reads in
-    let so3 = goes_on told asked s c.region_variable.new.s c.region_variable-2.new.s pair all (λ w k. ask_region_variable w ACTIVE_LEVELS_VAR k) _ so2 _ c.in_ok-active.active c.region_variable-2.ensures.leaves c.in_ok-active.ensures.reads in
-    let so4 = goes_on told asked s c.region_variable-2.new.s c.size_of.new.s pair all (λ w k. ask_region_variable w TEAM_SIZE_VAR k) _ so3 _ c.in_ok-size.size c.size_of.ensures.leaves c.in_ok-size.ensures.reads in
-    goes_stop told asked s c.size_of.new.s _ pair all (λ w k. ask_enclosing w k) _ so4 c.in_err-enclosing.field-0.0 _ c.in_err-enclosing.ensures.reads c.from_residual-in_err-enclosing.ensures.1
+    let so1 =
+    goes_on told asked s s c.entry_of.new.s pair all
+    (λ w k. ask_entry w k) _ so0 _ c.in_ok-func.func c.entry_of.ensures.leaves c.in_ok-func.ensures.reads in
+    let so2 =
+    goes_on told asked s c.entry_of.new.s c.region_variable.new.s pair all
+    (λ w k. ask_region_variable w LEVELS_VAR k) _ so1 _ c.in_ok-levels.levels c.region_variable.ensures.leaves c.in_ok-levels.ensures.reads in
+    let so3 =
+    goes_on told asked s c.region_variable.new.s c.region_variable-2.new.s pair all
+    (λ w k. ask_region_variable w ACTIVE_LEVELS_VAR k) _ so2 _ c.in_ok-active.active c.region_variable-2.ensures.leaves c.in_ok-active.ensures.reads in
+    let so4 =
+    goes_on told asked s c.region_variable-2.new.s c.size_of.new.s pair all
+    (λ w k. ask_region_variable w TEAM_SIZE_VAR k) _ so3 _ c.in_ok-size.size c.size_of.ensures.leaves c.in_ok-size.ensures.reads in
+    goes_stop told asked s c.size_of.new.s _ pair all
+    (λ w k. ask_enclosing w k) _ so4 c.in_err-enclosing.field-0.0 _ c.in_err-enclosing.ensures.reads c.from_residual-in_err-enclosing.ensures.1
 
 pub returns-in_err-members-clause-reads : goal.returns-in_err-members-clause-reads
 unfolding ask_row row_with
@@ -121,11 +146,21 @@ returns-in_err-members-clause-reads g c =
     let pair = region_pair c.args.r in
     let all = ask_row s.layout c.args.region (get s.handles.held pair) in
     let so0 = goes_begin told asked s all in
-    let so1 = goes_on told asked s s c.entry_of.new.s pair all (λ w k. ask_entry w k) _ so0 _ c.in_ok-func.func c.entry_of.ensures.leaves c.in_ok-func.ensures.reads in
-    let so2 = goes_on told asked s c.entry_of.new.s c.region_variable.new.s pair all (λ w k. ask_region_variable w LEVELS_VAR k) _ so1 _ c.in_ok-levels.levels c.region_variable.ensures.leaves c.in_ok-levels.ensures.reads in
-    let so3 = goes_on told asked s c.region_variable.new.s c.region_variable-2.new.s pair all (λ w k. ask_region_variable w ACTIVE_LEVELS_VAR k) _ so2 _ c.in_ok-active.active c.region_variable-2.ensures.leaves c.in_ok-active.ensures.reads in
-    let so4 = goes_on told asked s c.region_variable-2.new.s c.size_of.new.s pair all (λ w k. ask_region_variable w TEAM_SIZE_VAR k) _ so3 _ c.in_ok-size.size c.size_of.ensures.leaves c.in_ok-size.ensures.reads in
-    let so5 = goes_on told asked s c.size_of.new.s c.related_of.new.s pair all (λ w k. ask_enclosing w k) _ so4 _ c.in_ok-enclosing.enclosing c.related_of.ensures.leaves c.in_ok-enclosing.ensures.reads in
+    let so1 =
+    goes_on told asked s s c.entry_of.new.s pair all
+    (λ w k. ask_entry w k) _ so0 _ c.in_ok-func.func c.entry_of.ensures.leaves c.in_ok-func.ensures.reads in
+    let so2 =
+    goes_on told asked s c.entry_of.new.s c.region_variable.new.s pair all
+    (λ w k. ask_region_variable w LEVELS_VAR k) _ so1 _ c.in_ok-levels.levels c.region_variable.ensures.leaves c.in_ok-levels.ensures.reads in
+    let so3 =
+    goes_on told asked s c.region_variable.new.s c.region_variable-2.new.s pair all
+    (λ w k. ask_region_variable w ACTIVE_LEVELS_VAR k) _ so2 _ c.in_ok-active.active c.region_variable-2.ensures.leaves c.in_ok-active.ensures.reads in
+    let so4 =
+    goes_on told asked s c.region_variable-2.new.s c.size_of.new.s pair all
+    (λ w k. ask_region_variable w TEAM_SIZE_VAR k) _ so3 _ c.in_ok-size.size c.size_of.ensures.leaves c.in_ok-size.ensures.reads in
+    let so5 =
+    goes_on told asked s c.size_of.new.s c.related_of.new.s pair all
+    (λ w k. ask_enclosing w k) _ so4 _ c.in_ok-enclosing.enclosing c.related_of.ensures.leaves c.in_ok-enclosing.ensures.reads in
     let so5m = goes_told told asked s c.related_of.new.s all (then_reads (ask_each (ask_member s.layout (get s.handles.held pair)) (range_with_len 0 c.in_ok-size.size)) (row_with c.args.region c.in_ok-func.func c.in_ok-levels.levels c.in_ok-active.active c.in_ok-size.size c.in_ok-enclosing.enclosing))
     (then_reads (ask_each (ask_member s.layout (get s.handles.held pair)) (range_with_len 0 c.bounded.result)) (row_with c.args.region c.in_ok-func.func c.in_ok-levels.levels c.in_ok-active.active c.in_ok-size.size c.in_ok-enclosing.enclosing))
     (λ memory tells. ap (λ n. then_reads (ask_each (ask_member s.layout (get s.handles.held pair)) (range_with_len 0 n)) (row_with c.args.region c.in_ok-func.func c.in_ok-levels.levels c.in_ok-active.active c.in_ok-size.size c.in_ok-enclosing.enclosing))
@@ -133,9 +168,14 @@ returns-in_err-members-clause-reads g c =
     let t = c.region_variable-2.new.s in
     let known = size_within t.layout memory (get t.handles.held pair) c.in_ok-size.size
     (c.in_ok-size.ensures.reads.is memory (still_tells (told s.table.calls) (told t.table.calls) memory so3.stays.table.same tells) (λ e. cc) (λ e. cc)) in
-    let bound : c.from-most.result ≡ thread_count t.layout = c.from-most.ensures ∙ c.threads.ensures ∙ ap thread_count (c.layout.ensures ∙ c.related_of.ensures.leaves.stays.layout ∙ c.size_of.ensures.leaves.stays.layout) in
+    let bound : c.from-most.result ≡ thread_count t.layout =
+    c.from-most.ensures
+    ∙ c.threads.ensures
+    ∙ ap thread_count
+    (c.layout.ensures ∙ c.related_of.ensures.leaves.stays.layout ∙ c.size_of.ensures.leaves.stays.layout) in
     omega (arith, known, bound))))) so5 in
-    goes_stop told asked s c.related_of.new.s _ pair all (λ w k. ask_each (ask_member w k) (range_with_len 0 c.bounded.result)) _ so5m c.in_err-members.field-0.0 _ c.in_err-members.ensures.reads c.from_residual-in_err-members.ensures.1
+    goes_stop told asked s c.related_of.new.s _ pair all
+    (λ w k. ask_each (ask_member w k) (range_with_len 0 c.bounded.result)) _ so5m c.in_err-members.field-0.0 _ c.in_err-members.ensures.reads c.from_residual-in_err-members.ensures.1
 
 pub returns-clause-reads : goal.returns-clause-reads
 unfolding ask_row row_with
@@ -146,11 +186,21 @@ returns-clause-reads g c =
     let pair = region_pair c.args.r in
     let all = ask_row s.layout c.args.region (get s.handles.held pair) in
     let so0 = goes_begin told asked s all in
-    let so1 = goes_on told asked s s c.entry_of.new.s pair all (λ w k. ask_entry w k) _ so0 _ c.in_ok-func.func c.entry_of.ensures.leaves c.in_ok-func.ensures.reads in
-    let so2 = goes_on told asked s c.entry_of.new.s c.region_variable.new.s pair all (λ w k. ask_region_variable w LEVELS_VAR k) _ so1 _ c.in_ok-levels.levels c.region_variable.ensures.leaves c.in_ok-levels.ensures.reads in
-    let so3 = goes_on told asked s c.region_variable.new.s c.region_variable-2.new.s pair all (λ w k. ask_region_variable w ACTIVE_LEVELS_VAR k) _ so2 _ c.in_ok-active.active c.region_variable-2.ensures.leaves c.in_ok-active.ensures.reads in
-    let so4 = goes_on told asked s c.region_variable-2.new.s c.size_of.new.s pair all (λ w k. ask_region_variable w TEAM_SIZE_VAR k) _ so3 _ c.in_ok-size.size c.size_of.ensures.leaves c.in_ok-size.ensures.reads in
-    let so5 = goes_on told asked s c.size_of.new.s c.related_of.new.s pair all (λ w k. ask_enclosing w k) _ so4 _ c.in_ok-enclosing.enclosing c.related_of.ensures.leaves c.in_ok-enclosing.ensures.reads in
+    let so1 =
+    goes_on told asked s s c.entry_of.new.s pair all
+    (λ w k. ask_entry w k) _ so0 _ c.in_ok-func.func c.entry_of.ensures.leaves c.in_ok-func.ensures.reads in
+    let so2 =
+    goes_on told asked s c.entry_of.new.s c.region_variable.new.s pair all
+    (λ w k. ask_region_variable w LEVELS_VAR k) _ so1 _ c.in_ok-levels.levels c.region_variable.ensures.leaves c.in_ok-levels.ensures.reads in
+    let so3 =
+    goes_on told asked s c.region_variable.new.s c.region_variable-2.new.s pair all
+    (λ w k. ask_region_variable w ACTIVE_LEVELS_VAR k) _ so2 _ c.in_ok-active.active c.region_variable-2.ensures.leaves c.in_ok-active.ensures.reads in
+    let so4 =
+    goes_on told asked s c.region_variable-2.new.s c.size_of.new.s pair all
+    (λ w k. ask_region_variable w TEAM_SIZE_VAR k) _ so3 _ c.in_ok-size.size c.size_of.ensures.leaves c.in_ok-size.ensures.reads in
+    let so5 =
+    goes_on told asked s c.size_of.new.s c.related_of.new.s pair all
+    (λ w k. ask_enclosing w k) _ so4 _ c.in_ok-enclosing.enclosing c.related_of.ensures.leaves c.in_ok-enclosing.ensures.reads in
     let so5m = goes_told told asked s c.related_of.new.s all (then_reads (ask_each (ask_member s.layout (get s.handles.held pair)) (range_with_len 0 c.in_ok-size.size)) (row_with c.args.region c.in_ok-func.func c.in_ok-levels.levels c.in_ok-active.active c.in_ok-size.size c.in_ok-enclosing.enclosing))
     (then_reads (ask_each (ask_member s.layout (get s.handles.held pair)) (range_with_len 0 c.bounded.result)) (row_with c.args.region c.in_ok-func.func c.in_ok-levels.levels c.in_ok-active.active c.in_ok-size.size c.in_ok-enclosing.enclosing))
     (λ memory tells. ap (λ n. then_reads (ask_each (ask_member s.layout (get s.handles.held pair)) (range_with_len 0 n)) (row_with c.args.region c.in_ok-func.func c.in_ok-levels.levels c.in_ok-active.active c.in_ok-size.size c.in_ok-enclosing.enclosing))
@@ -158,7 +208,13 @@ returns-clause-reads g c =
     let t = c.region_variable-2.new.s in
     let known = size_within t.layout memory (get t.handles.held pair) c.in_ok-size.size
     (c.in_ok-size.ensures.reads.is memory (still_tells (told s.table.calls) (told t.table.calls) memory so3.stays.table.same tells) (λ e. cc) (λ e. cc)) in
-    let bound : c.from-most.result ≡ thread_count t.layout = c.from-most.ensures ∙ c.threads.ensures ∙ ap thread_count (c.layout.ensures ∙ c.related_of.ensures.leaves.stays.layout ∙ c.size_of.ensures.leaves.stays.layout) in
+    let bound : c.from-most.result ≡ thread_count t.layout =
+    c.from-most.ensures
+    ∙ c.threads.ensures
+    ∙ ap thread_count
+    (c.layout.ensures ∙ c.related_of.ensures.leaves.stays.layout ∙ c.size_of.ensures.leaves.stays.layout) in
     omega (arith, known, bound))))) so5 in
-    let so6 = goes_on told asked s c.related_of.new.s c.members.new.s pair all (λ w k. ask_each (ask_member w k) (range_with_len 0 c.bounded.result)) _ so5m _ c.in_ok-members.members c.members.ensures.leaves c.in_ok-members.ensures.reads in
+    let so6 =
+    goes_on told asked s c.related_of.new.s c.members.new.s pair all
+    (λ w k. ask_each (ask_member w k) (range_with_len 0 c.bounded.result)) _ so5m _ c.in_ok-members.members c.members.ensures.leaves c.in_ok-members.ensures.reads in
     goes_end told asked s c.members.new.s all _ _ (rw c.region_name.ensures refl) so6

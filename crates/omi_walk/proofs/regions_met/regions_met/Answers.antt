@@ -60,7 +60,8 @@ loop-at-preserved g c = record {
       sym (flat_map_more (λ (chain : List Met). chain) [] c.loop-at.invariant.all c.in_ok-chain.chain)
       ∙ ap (λ met. met ++ c.in_ok-chain.chain) c.loop-at.invariant.flat;
   goes =
-      asks_next g.C.Callbacks.told g.C.Callbacks.asked c.args.s.now (0, 0) (λ w k f. ask_regions w f) c.args.found.now c.loop-at.s c.regions_of.new.s c.loop-at.invariant.all _ c.get.result.now _ c.in_ok-chain.chain
+      asks_next g.C.Callbacks.told g.C.Callbacks.asked c.args.s.now (0, 0)
+      (λ w k f. ask_regions w f) c.args.found.now c.loop-at.s c.regions_of.new.s c.loop-at.invariant.all _ c.get.result.now _ c.in_ok-chain.chain
       (subst (λ left. EachGoes g.C.Callbacks.told g.C.Callbacks.asked c.args.s.now (0, 0) (λ w k f. ask_regions w f) c.args.found.now c.loop-at.s c.loop-at.invariant.all left)
       (next_found c.args.found.now c.loop-at.at c.get.result.now c.get.ensures) c.loop-at.invariant.goes) c.regions_of.ensures.leaves c.in_ok-chain.ensures.reads;
 }
@@ -76,7 +77,8 @@ returns-in_err-chain-clause-reads g c =
     let f = c.get.result.now in
     let so = subst (λ left. EachGoes g.C.Callbacks.told g.C.Callbacks.asked s (0, 0) (λ w k f. ask_regions w f) c.args.found.now c.loop-at.s c.loop-at.invariant.all left)
     (next_found c.args.found.now c.loop-at.at f c.get.ensures) c.loop-at.invariant.goes in
-    rw (p.1, p.2) (asks_stop told asked s (0, 0) (λ w k f. ask_regions w f) c.args.found.now c.loop-at.s c.regions_of.new.s c.loop-at.invariant.all f _ c.in_err-chain.field-0.0 (Err c.in_err-chain.field-0.0) so c.in_err-chain.ensures.reads refl)
+    rw (p.1, p.2)
+    (asks_stop told asked s (0, 0) (λ w k f. ask_regions w f) c.args.found.now c.loop-at.s c.regions_of.new.s c.loop-at.invariant.all f _ c.in_err-chain.field-0.0 (Err c.in_err-chain.field-0.0) so c.in_err-chain.ensures.reads refl)
 
 pub returns-in_err-index_all-clause-reads : goal.returns-in_err-index_all-clause-reads
 returns-in_err-index_all-clause-reads g c =
@@ -97,7 +99,9 @@ returns-clause-reads g c =
     let s = c.args.s.now in
     record {
       met = c.loop-at.invariant.all;
-      walks = asks_end told asked s (0, 0) (λ w k f. ask_regions w f) c.args.found.now c.loop-at.s c.loop-at.invariant.all
+      walks =
+          asks_end told asked s (0, 0)
+          (λ w k f. ask_regions w f) c.args.found.now c.loop-at.s c.loop-at.invariant.all
           (subst (λ (left : List Found). EachGoes g.C.Callbacks.told g.C.Callbacks.asked s (0, 0) (λ w k f. ask_regions w f) c.args.found.now c.loop-at.s c.loop-at.invariant.all left)
           (drop_all c.loop-at.at c.args.found.now (omega (arith, c.loop-at.invariant.bound, c.loop-at-test.false))) c.loop-at.invariant.goes);
       first = subst (HasFirst c.loop-at.index) (sym c.loop-at.invariant.flat) c.loop-at.invariant.first;

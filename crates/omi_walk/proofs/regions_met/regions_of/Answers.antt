@@ -30,7 +30,8 @@ returns-in_err-first-clause-reads g c =
     let s = c.args.s.now in
     let task = c.in-Some.task in
     let all = ask_regions_of s.layout (Some task) in
-    subst (λ o. Walks told asked s c.innermost.new.s c.from_residual.result (ask_regions_of s.layout o)) (sym c.in-Some.is)
+    subst (λ o. Walks told asked s c.innermost.new.s c.from_residual.result (ask_regions_of s.layout o))
+    (sym c.in-Some.is)
     (goes_stop told asked s s c.innermost.new.s (0, 0) all (λ w k. ask_region_of w (Some task.held)) _ (goes_begin told asked s all) c.in_err-first.field-0.0 c.from_residual.result c.in_err-first.ensures.reads c.from_residual.ensures.1)
 
 pub returns-clause-reads : goal.returns-clause-reads
@@ -41,6 +42,9 @@ returns-clause-reads g c =
     let s = c.args.s.now in
     let task = c.in-Some.task in
     let all = ask_regions_of s.layout (Some task) in
-    let so1 = goes_on told asked s s c.innermost.new.s (0, 0) all (λ w k. ask_region_of w (Some task.held)) _ (goes_begin told asked s all) _ c.in_ok-first.first c.innermost.ensures.leaves c.in_ok-first.ensures.reads in
-    subst (λ o. Walks told asked s c.enclosing.new.s c.enclosing.result (ask_regions_of s.layout o)) (sym c.in-Some.is)
+    let so1 =
+    goes_on told asked s s c.innermost.new.s (0, 0) all (λ w k. ask_region_of w (Some task.held)) _
+    (goes_begin told asked s all) _ c.in_ok-first.first c.innermost.ensures.leaves c.in_ok-first.ensures.reads in
+    subst (λ o. Walks told asked s c.enclosing.new.s c.enclosing.result (ask_regions_of s.layout o))
+    (sym c.in-Some.is)
     (goes_last told asked s c.innermost.new.s c.enclosing.new.s (0, 0) all (λ w k. ask_outwards w c.in_ok-first.first) c.enclosing.result so1 c.enclosing.ensures.reads)

@@ -22,12 +22,15 @@ pub returns-in-Ok-clause-met : goal.returns-in-Ok-clause-met
 unfolding region_of_task
 returns-in-Ok-clause-met g c =
     found_met g.C.Callbacks.told c.args.s.now c.get_task_parallel_handle.new.s c.let_go.new.s Region _ c.in-Ok.ensures.handles c.get_task_parallel_handle.ensures.stays
-    c.let_go.ensures.layout c.let_go.ensures.table c.let_go.result (region_of_task c.args.s.now.layout (get c.args.s.now.handles.held (task_pair c.args.k)))
+    c.let_go.ensures.layout c.let_go.ensures.table c.let_go.result
+    (region_of_task c.args.s.now.layout (get c.args.s.now.handles.held (task_pair c.args.k)))
     c.let_go.ensures.object c.let_go.ensures.kind c.let_go.ensures.place c.let_go.ensures.name c.in-Ok.ensures.answer.is
     (λ memory o is. lives c.args.s.now.layout (get c.args.s.now.handles.held (task_pair c.args.k)) memory o is)
   where
-    lives : (w : List ℕ) (found : Option Held) (memory : Words) (o : Held) → answer_on memory (region_of_task w found) ≡ Ok o → answer_on memory (unchanged w o) ≡ Ok o
-    lives w found memory o is = followed_lives w memory (object_of w Task found) Region TaskRegion 0 (λ x. x.addr) o is
+    lives : (w : List ℕ) (found : Option Held) (memory : Words) (o : Held)
+        → answer_on memory (region_of_task w found) ≡ Ok o → answer_on memory (unchanged w o) ≡ Ok o
+    lives w found memory o is =
+        followed_lives w memory (object_of w Task found) Region TaskRegion 0 (λ x. x.addr) o is
 
 pub returns-in-Ok-clause-leaves : goal.returns-in-Ok-clause-leaves
 returns-in-Ok-clause-leaves g c =
@@ -46,7 +49,8 @@ returns-in-Ok-clause-reads g c =
     let mid = c.get_task_parallel_handle.new.s in
     let found = get s.handles.held (task_pair c.args.k) in
     let h = c.let_go.result.held in
-    let name = ap (λ w. name_of w h) (sym c.get_task_parallel_handle.ensures.stays.layout) ∙ c.let_go.ensures.name in
+    let name =
+    ap (λ w. name_of w h) (sym c.get_task_parallel_handle.ensures.stays.layout) ∙ c.let_go.ensures.name in
     walks_ok told asked s _ (met w) h _ _ (met_is w c.let_go.result name)
     (of_made_ok told asked s mid _ (region_pair c.in-Ok.found) h (region_of_task w found) (walked found) h c.in-Ok.ensures.answer c.let_go.ensures.object refl c.let_go.ensures.table)
 

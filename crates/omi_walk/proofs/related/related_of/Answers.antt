@@ -20,14 +20,18 @@ pub returns-in-Ok-clause-met : goal.returns-in-Ok-clause-met
 returns-in-Ok-clause-met g c =
     let w = c.args.s.now.layout in
     let found = get c.args.s.now.handles.held (pair_of c.args.relation) in
-    found_met g.C.Callbacks.told c.args.s.now c.made.new.s c.let_go.new.s (kind_to c.args.relation) _ c.in-Ok.ensures.handles c.made.ensures.stays
-    c.let_go.ensures.layout c.let_go.ensures.table c.let_go.result (related w (kind_from c.args.relation) found (kind_to c.args.relation) (field_of c.args.relation))
-    c.let_go.ensures.object (c.let_go.ensures.kind ∙ c.kind.ensures) c.let_go.ensures.place c.let_go.ensures.name c.in-Ok.ensures.answer.is
+    found_met g.C.Callbacks.told c.args.s.now c.made.new.s c.let_go.new.s
+    (kind_to c.args.relation) _ c.in-Ok.ensures.handles c.made.ensures.stays
+    c.let_go.ensures.layout c.let_go.ensures.table c.let_go.result
+    (related w (kind_from c.args.relation) found (kind_to c.args.relation) (field_of c.args.relation))
+    c.let_go.ensures.object
+    (c.let_go.ensures.kind ∙ c.kind.ensures) c.let_go.ensures.place c.let_go.ensures.name c.in-Ok.ensures.answer.is
     (λ memory. optional_lives w memory (object_of w (kind_from c.args.relation) found) (kind_to c.args.relation) (field_of c.args.relation) (λ x. x.addr))
 
 pub returns-in-Ok-clause-leaves : goal.returns-in-Ok-clause-leaves
 returns-in-Ok-clause-leaves g c =
-    found_leaves g.C.Callbacks.told c.args.s.now c.made.new.s c.let_go.new.s (kind_to c.args.relation) _ c.in-Ok.ensures.handles c.made.ensures.stays
+    found_leaves g.C.Callbacks.told c.args.s.now c.made.new.s c.let_go.new.s
+    (kind_to c.args.relation) _ c.in-Ok.ensures.handles c.made.ensures.stays
     c.let_go.ensures.layout c.let_go.ensures.table c.let_go.ensures.removed c.let_go.ensures.made
 
 -- reads: what was asked
@@ -58,7 +62,9 @@ returns-in-Err-clause-reads g c =
     let mid = c.made.new.s in
     let rc = c.in-Err.rc in
     let found = get s.handles.held (pair_of c.args.relation) in
-    let here = ap (λ p. get mid.handles.held p) c.pair.ensures ∙ ap (λ held. get held (pair_of c.args.relation)) c.in-Err.ensures.handles.keeps.held in
+    let here =
+    ap (λ p. get mid.handles.held p) c.pair.ensures
+    ∙ ap (λ held. get held (pair_of c.args.relation)) c.in-Err.ensures.handles.keeps.held in
     walks_map told asked s mid (option_map (met w)) (absent {A = Held} found rc) _ _
     (c.absent.ensures ∙ ap (λ (o : Option Held). absent {A = Met} o rc) here ∙ absent_map (met w) found rc)
     (of_made_err told asked s mid rc (inquiry_of w c.args.relation found) (maybe_absent found) (absent {A = Held} found rc) refl refl refl

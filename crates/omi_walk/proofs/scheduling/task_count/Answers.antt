@@ -7,6 +7,7 @@ returns-clause-few c =
     let threads = threads_of_valid c.args.layout.now.table c.args.layout.now.valid in
     let slots = tasks_of_valid c.args.layout.now.table c.args.layout.now.valid in
     let first : c.from.result ≤ 64 = omega (arith, threads, c.from.ensures, c.threads.ensures) in
-    let second : c.from-2.result ≤ 4096 = omega (arith, slots, c.from-2.ensures, c.tasks_per_thread.ensures) in
+    let second : c.from-2.result ≤ 4096 =
+    omega (arith, slots, c.from-2.ensures, c.tasks_per_thread.ensures) in
     let most : c.from.result * c.from-2.result ≤ 64 * 4096 = mul-le-mul first second in
     omega (arith, most)

@@ -43,7 +43,8 @@ loop-at-preserved g c = record {
       c.in_ok-task_chain.ensures.reads.is ∙ ap (λ old. old ++ rows) c.loop-at.invariant.walked_is
       ∙ flat_map_more (λ (r : List TaskRow). r) [] c.loop-at.invariant.walked rows;
   goes =
-      asks_next g.C.Callbacks.told g.C.Callbacks.asked c.args.s.now (0, 0) (λ w k f. ask_tasks w f) c.args.found.now c.loop-at.s c.task_chain.new.s c.loop-at.invariant.walked _ c.get-f.result.now _ c.in_ok-task_chain.ensures.reads.rows
+      asks_next g.C.Callbacks.told g.C.Callbacks.asked c.args.s.now (0, 0)
+      (λ w k f. ask_tasks w f) c.args.found.now c.loop-at.s c.task_chain.new.s c.loop-at.invariant.walked _ c.get-f.result.now _ c.in_ok-task_chain.ensures.reads.rows
       (subst (λ left. EachGoes g.C.Callbacks.told g.C.Callbacks.asked c.args.s.now (0, 0) (λ w k f. ask_tasks w f) c.args.found.now c.loop-at.s c.loop-at.invariant.walked left)
       (next_found c.args.found.now c.loop-at.at c.get-f.result.now c.get-f.ensures) c.loop-at.invariant.goes) c.task_chain.ensures.leaves c.in_ok-task_chain.ensures.reads.walks;
 }
@@ -69,7 +70,8 @@ returns-clause-reads g c =
     let told = g.C.Callbacks.told in
     let asked = g.C.Callbacks.asked in
     let s = c.args.s.now in
-    walks_ok told asked s c.loop-at.s (flat_map (λ (rows : List TaskRow). rows)) c.loop-at.invariant.walked c.loop-at.rows _ c.loop-at.invariant.walked_is
+    walks_ok told asked s c.loop-at.s
+    (flat_map (λ (rows : List TaskRow). rows)) c.loop-at.invariant.walked c.loop-at.rows _ c.loop-at.invariant.walked_is
     (asks_end told asked s (0, 0) (λ w k f. ask_tasks w f) c.args.found.now c.loop-at.s c.loop-at.invariant.walked
     (subst (λ (left : List Found). EachGoes g.C.Callbacks.told g.C.Callbacks.asked s (0, 0) (λ w k f. ask_tasks w f) c.args.found.now c.loop-at.s c.loop-at.invariant.walked left)
     (drop_all c.loop-at.at c.args.found.now (omega (arith, c.loop-at.invariant.bound, c.loop-at-test.false))) c.loop-at.invariant.goes))

@@ -21,7 +21,8 @@ returns-in_err-dyn_var-clause-reads g c =
     let pair = task_pair c.args.k in
     let all = ask_environment s.layout (get s.handles.held pair) in
     let so0 = goes_begin told asked s all in
-    goes_stop told asked s s _ pair all (λ w k. ask_task_variable w DYN_VAR k) _ so0 c.in_err-dyn_var.field-0.0 _ c.in_err-dyn_var.ensures.reads c.from_residual.ensures.1
+    goes_stop told asked s s _ pair all
+    (λ w k. ask_task_variable w DYN_VAR k) _ so0 c.in_err-dyn_var.field-0.0 _ c.in_err-dyn_var.ensures.reads c.from_residual.ensures.1
 
 pub returns-in_err-nthreads-clause-reads : goal.returns-in_err-nthreads-clause-reads
 unfolding ask_environment
@@ -32,8 +33,11 @@ returns-in_err-nthreads-clause-reads g c =
     let pair = task_pair c.args.k in
     let all = ask_environment s.layout (get s.handles.held pair) in
     let so0 = goes_begin told asked s all in
-    let so1 = goes_on told asked s s c.task_variable.new.s pair all (λ w k. ask_task_variable w DYN_VAR k) _ so0 _ c.in_ok-dyn_var.dyn_var c.task_variable.ensures.leaves c.in_ok-dyn_var.ensures.reads in
-    goes_stop told asked s c.task_variable.new.s _ pair all (λ w k. ask_nthreads w k) _ so1 c.in_err-nthreads.field-0.0 _ c.in_err-nthreads.ensures.reads c.from_residual-in_err-nthreads.ensures.1
+    let so1 =
+    goes_on told asked s s c.task_variable.new.s pair all
+    (λ w k. ask_task_variable w DYN_VAR k) _ so0 _ c.in_ok-dyn_var.dyn_var c.task_variable.ensures.leaves c.in_ok-dyn_var.ensures.reads in
+    goes_stop told asked s c.task_variable.new.s _ pair all
+    (λ w k. ask_nthreads w k) _ so1 c.in_err-nthreads.field-0.0 _ c.in_err-nthreads.ensures.reads c.from_residual-in_err-nthreads.ensures.1
 
 pub returns-in_err-sched-clause-reads : goal.returns-in_err-sched-clause-reads
 unfolding ask_environment
@@ -44,9 +48,14 @@ returns-in_err-sched-clause-reads g c =
     let pair = task_pair c.args.k in
     let all = ask_environment s.layout (get s.handles.held pair) in
     let so0 = goes_begin told asked s all in
-    let so1 = goes_on told asked s s c.task_variable.new.s pair all (λ w k. ask_task_variable w DYN_VAR k) _ so0 _ c.in_ok-dyn_var.dyn_var c.task_variable.ensures.leaves c.in_ok-dyn_var.ensures.reads in
-    let so2 = goes_on told asked s c.task_variable.new.s c.nthreads_of.new.s pair all (λ w k. ask_nthreads w k) _ so1 _ c.in_ok-nthreads.nthreads c.nthreads_of.ensures.leaves c.in_ok-nthreads.ensures.reads in
-    goes_stop told asked s c.nthreads_of.new.s _ pair all (λ w k. ask_task_variable w RUN_SCHED_VAR k) _ so2 c.in_err-sched.field-0.0 _ c.in_err-sched.ensures.reads c.from_residual-in_err-sched.ensures.1
+    let so1 =
+    goes_on told asked s s c.task_variable.new.s pair all
+    (λ w k. ask_task_variable w DYN_VAR k) _ so0 _ c.in_ok-dyn_var.dyn_var c.task_variable.ensures.leaves c.in_ok-dyn_var.ensures.reads in
+    let so2 =
+    goes_on told asked s c.task_variable.new.s c.nthreads_of.new.s pair all
+    (λ w k. ask_nthreads w k) _ so1 _ c.in_ok-nthreads.nthreads c.nthreads_of.ensures.leaves c.in_ok-nthreads.ensures.reads in
+    goes_stop told asked s c.nthreads_of.new.s _ pair all
+    (λ w k. ask_task_variable w RUN_SCHED_VAR k) _ so2 c.in_err-sched.field-0.0 _ c.in_err-sched.ensures.reads c.from_residual-in_err-sched.ensures.1
 
 pub returns-in_err-device-clause-reads : goal.returns-in_err-device-clause-reads
 unfolding ask_environment
@@ -57,10 +66,17 @@ returns-in_err-device-clause-reads g c =
     let pair = task_pair c.args.k in
     let all = ask_environment s.layout (get s.handles.held pair) in
     let so0 = goes_begin told asked s all in
-    let so1 = goes_on told asked s s c.task_variable.new.s pair all (λ w k. ask_task_variable w DYN_VAR k) _ so0 _ c.in_ok-dyn_var.dyn_var c.task_variable.ensures.leaves c.in_ok-dyn_var.ensures.reads in
-    let so2 = goes_on told asked s c.task_variable.new.s c.nthreads_of.new.s pair all (λ w k. ask_nthreads w k) _ so1 _ c.in_ok-nthreads.nthreads c.nthreads_of.ensures.leaves c.in_ok-nthreads.ensures.reads in
-    let so3 = goes_on told asked s c.nthreads_of.new.s c.task_variable-2.new.s pair all (λ w k. ask_task_variable w RUN_SCHED_VAR k) _ so2 _ c.in_ok-sched.sched c.task_variable-2.ensures.leaves c.in_ok-sched.ensures.reads in
-    goes_stop told asked s c.task_variable-2.new.s _ pair all (λ w k. ask_task_variable w DEFAULT_DEVICE_VAR k) _ so3 c.in_err-device.field-0.0 _ c.in_err-device.ensures.reads c.from_residual-in_err-device.ensures.1
+    let so1 =
+    goes_on told asked s s c.task_variable.new.s pair all
+    (λ w k. ask_task_variable w DYN_VAR k) _ so0 _ c.in_ok-dyn_var.dyn_var c.task_variable.ensures.leaves c.in_ok-dyn_var.ensures.reads in
+    let so2 =
+    goes_on told asked s c.task_variable.new.s c.nthreads_of.new.s pair all
+    (λ w k. ask_nthreads w k) _ so1 _ c.in_ok-nthreads.nthreads c.nthreads_of.ensures.leaves c.in_ok-nthreads.ensures.reads in
+    let so3 =
+    goes_on told asked s c.nthreads_of.new.s c.task_variable-2.new.s pair all
+    (λ w k. ask_task_variable w RUN_SCHED_VAR k) _ so2 _ c.in_ok-sched.sched c.task_variable-2.ensures.leaves c.in_ok-sched.ensures.reads in
+    goes_stop told asked s c.task_variable-2.new.s _ pair all
+    (λ w k. ask_task_variable w DEFAULT_DEVICE_VAR k) _ so3 c.in_err-device.field-0.0 _ c.in_err-device.ensures.reads c.from_residual-in_err-device.ensures.1
 
 pub returns-in_err-final_task-clause-reads : goal.returns-in_err-final_task-clause-reads
 unfolding ask_environment
@@ -71,11 +87,20 @@ returns-in_err-final_task-clause-reads g c =
     let pair = task_pair c.args.k in
     let all = ask_environment s.layout (get s.handles.held pair) in
     let so0 = goes_begin told asked s all in
-    let so1 = goes_on told asked s s c.task_variable.new.s pair all (λ w k. ask_task_variable w DYN_VAR k) _ so0 _ c.in_ok-dyn_var.dyn_var c.task_variable.ensures.leaves c.in_ok-dyn_var.ensures.reads in
-    let so2 = goes_on told asked s c.task_variable.new.s c.nthreads_of.new.s pair all (λ w k. ask_nthreads w k) _ so1 _ c.in_ok-nthreads.nthreads c.nthreads_of.ensures.leaves c.in_ok-nthreads.ensures.reads in
-    let so3 = goes_on told asked s c.nthreads_of.new.s c.task_variable-2.new.s pair all (λ w k. ask_task_variable w RUN_SCHED_VAR k) _ so2 _ c.in_ok-sched.sched c.task_variable-2.ensures.leaves c.in_ok-sched.ensures.reads in
-    let so4 = goes_on told asked s c.task_variable-2.new.s c.task_variable-3.new.s pair all (λ w k. ask_task_variable w DEFAULT_DEVICE_VAR k) _ so3 _ c.in_ok-device.device c.task_variable-3.ensures.leaves c.in_ok-device.ensures.reads in
-    goes_stop told asked s c.task_variable-3.new.s _ pair all (λ w k. ask_task_variable w FINAL_TASK_VAR k) _ so4 c.in_err-final_task.field-0.0 _ c.in_err-final_task.ensures.reads c.from_residual-in_err-final_task.ensures.1
+    let so1 =
+    goes_on told asked s s c.task_variable.new.s pair all
+    (λ w k. ask_task_variable w DYN_VAR k) _ so0 _ c.in_ok-dyn_var.dyn_var c.task_variable.ensures.leaves c.in_ok-dyn_var.ensures.reads in
+    let so2 =
+    goes_on told asked s c.task_variable.new.s c.nthreads_of.new.s pair all
+    (λ w k. ask_nthreads w k) _ so1 _ c.in_ok-nthreads.nthreads c.nthreads_of.ensures.leaves c.in_ok-nthreads.ensures.reads in
+    let so3 =
+    goes_on told asked s c.nthreads_of.new.s c.task_variable-2.new.s pair all
+    (λ w k. ask_task_variable w RUN_SCHED_VAR k) _ so2 _ c.in_ok-sched.sched c.task_variable-2.ensures.leaves c.in_ok-sched.ensures.reads in
+    let so4 =
+    goes_on told asked s c.task_variable-2.new.s c.task_variable-3.new.s pair all
+    (λ w k. ask_task_variable w DEFAULT_DEVICE_VAR k) _ so3 _ c.in_ok-device.device c.task_variable-3.ensures.leaves c.in_ok-device.ensures.reads in
+    goes_stop told asked s c.task_variable-3.new.s _ pair all
+    (λ w k. ask_task_variable w FINAL_TASK_VAR k) _ so4 c.in_err-final_task.field-0.0 _ c.in_err-final_task.ensures.reads c.from_residual-in_err-final_task.ensures.1
 
 pub returns-clause-reads : goal.returns-clause-reads
 unfolding ask_environment
@@ -86,9 +111,19 @@ returns-clause-reads g c =
     let pair = task_pair c.args.k in
     let all = ask_environment s.layout (get s.handles.held pair) in
     let so0 = goes_begin told asked s all in
-    let so1 = goes_on told asked s s c.task_variable.new.s pair all (λ w k. ask_task_variable w DYN_VAR k) _ so0 _ c.in_ok-dyn_var.dyn_var c.task_variable.ensures.leaves c.in_ok-dyn_var.ensures.reads in
-    let so2 = goes_on told asked s c.task_variable.new.s c.nthreads_of.new.s pair all (λ w k. ask_nthreads w k) _ so1 _ c.in_ok-nthreads.nthreads c.nthreads_of.ensures.leaves c.in_ok-nthreads.ensures.reads in
-    let so3 = goes_on told asked s c.nthreads_of.new.s c.task_variable-2.new.s pair all (λ w k. ask_task_variable w RUN_SCHED_VAR k) _ so2 _ c.in_ok-sched.sched c.task_variable-2.ensures.leaves c.in_ok-sched.ensures.reads in
-    let so4 = goes_on told asked s c.task_variable-2.new.s c.task_variable-3.new.s pair all (λ w k. ask_task_variable w DEFAULT_DEVICE_VAR k) _ so3 _ c.in_ok-device.device c.task_variable-3.ensures.leaves c.in_ok-device.ensures.reads in
-    let so5 = goes_on told asked s c.task_variable-3.new.s c.task_variable-4.new.s pair all (λ w k. ask_task_variable w FINAL_TASK_VAR k) _ so4 _ c.in_ok-final_task.final_task c.task_variable-4.ensures.leaves c.in_ok-final_task.ensures.reads in
+    let so1 =
+    goes_on told asked s s c.task_variable.new.s pair all
+    (λ w k. ask_task_variable w DYN_VAR k) _ so0 _ c.in_ok-dyn_var.dyn_var c.task_variable.ensures.leaves c.in_ok-dyn_var.ensures.reads in
+    let so2 =
+    goes_on told asked s c.task_variable.new.s c.nthreads_of.new.s pair all
+    (λ w k. ask_nthreads w k) _ so1 _ c.in_ok-nthreads.nthreads c.nthreads_of.ensures.leaves c.in_ok-nthreads.ensures.reads in
+    let so3 =
+    goes_on told asked s c.nthreads_of.new.s c.task_variable-2.new.s pair all
+    (λ w k. ask_task_variable w RUN_SCHED_VAR k) _ so2 _ c.in_ok-sched.sched c.task_variable-2.ensures.leaves c.in_ok-sched.ensures.reads in
+    let so4 =
+    goes_on told asked s c.task_variable-2.new.s c.task_variable-3.new.s pair all
+    (λ w k. ask_task_variable w DEFAULT_DEVICE_VAR k) _ so3 _ c.in_ok-device.device c.task_variable-3.ensures.leaves c.in_ok-device.ensures.reads in
+    let so5 =
+    goes_on told asked s c.task_variable-3.new.s c.task_variable-4.new.s pair all
+    (λ w k. ask_task_variable w FINAL_TASK_VAR k) _ so4 _ c.in_ok-final_task.final_task c.task_variable-4.ensures.leaves c.in_ok-final_task.ensures.reads in
     goes_end told asked s c.task_variable-4.new.s all _ _ refl so5

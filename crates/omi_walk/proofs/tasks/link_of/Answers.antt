@@ -22,9 +22,11 @@ returns-in_err-seen-clause-reads g c =
     let asked = g.C.Callbacks.asked in
     let s = c.args.s.now in
     let pair = task_pair c.args.k in
-    let all = ask_link s.layout (contains nat_cmp c.args.met.now) c.args.thread c.args.task (get s.handles.held pair) in
+    let all =
+    ask_link s.layout (contains nat_cmp c.args.met.now) c.args.thread c.args.task (get s.handles.held pair) in
     let so0 = goes_begin told asked s all in
-    goes_stop told asked s s _ pair all (λ w k. ask_relations w (contains nat_cmp c.args.met.now) k) _ so0 c.in_err-seen.field-0.0 _ c.in_err-seen.ensures.reads c.from_residual.ensures.1
+    goes_stop told asked s s _ pair all
+    (λ w k. ask_relations w (contains nat_cmp c.args.met.now) k) _ so0 c.in_err-seen.field-0.0 _ c.in_err-seen.ensures.reads c.from_residual.ensures.1
 
 pub returns-in_err-exit-clause-reads : goal.returns-in_err-exit-clause-reads
 unfolding ask_link
@@ -33,10 +35,14 @@ returns-in_err-exit-clause-reads g c =
     let asked = g.C.Callbacks.asked in
     let s = c.args.s.now in
     let pair = task_pair c.args.k in
-    let all = ask_link s.layout (contains nat_cmp c.args.met.now) c.args.thread c.args.task (get s.handles.held pair) in
+    let all =
+    ask_link s.layout (contains nat_cmp c.args.met.now) c.args.thread c.args.task (get s.handles.held pair) in
     let so0 = goes_begin told asked s all in
-    let so1 = goes_on told asked s s c.relations_of.new.s pair all (λ w k. ask_relations w (contains nat_cmp c.args.met.now) k) _ so0 _ c.in_ok-seen.seen c.relations_of.ensures.leaves c.in_ok-seen.ensures.reads in
-    goes_stop told asked s c.relations_of.new.s _ pair all (λ w k. ask_frames w k) _ so1 c.in_err-exit.field-0.0 _ c.in_err-exit.ensures.reads c.from_residual-in_err-exit.ensures.1
+    let so1 =
+    goes_on told asked s s c.relations_of.new.s pair all
+    (λ w k. ask_relations w (contains nat_cmp c.args.met.now) k) _ so0 _ c.in_ok-seen.seen c.relations_of.ensures.leaves c.in_ok-seen.ensures.reads in
+    goes_stop told asked s c.relations_of.new.s _ pair all
+    (λ w k. ask_frames w k) _ so1 c.in_err-exit.field-0.0 _ c.in_err-exit.ensures.reads c.from_residual-in_err-exit.ensures.1
 
 pub returns-in_err-tool-clause-reads : goal.returns-in_err-tool-clause-reads
 unfolding ask_link
@@ -45,11 +51,17 @@ returns-in_err-tool-clause-reads g c =
     let asked = g.C.Callbacks.asked in
     let s = c.args.s.now in
     let pair = task_pair c.args.k in
-    let all = ask_link s.layout (contains nat_cmp c.args.met.now) c.args.thread c.args.task (get s.handles.held pair) in
+    let all =
+    ask_link s.layout (contains nat_cmp c.args.met.now) c.args.thread c.args.task (get s.handles.held pair) in
     let so0 = goes_begin told asked s all in
-    let so1 = goes_on told asked s s c.relations_of.new.s pair all (λ w k. ask_relations w (contains nat_cmp c.args.met.now) k) _ so0 _ c.in_ok-seen.seen c.relations_of.ensures.leaves c.in_ok-seen.ensures.reads in
-    let so2 = goes_on told asked s c.relations_of.new.s c.frames_of.new.s pair all (λ w k. ask_frames w k) _ so1 _ (c.in_ok-exit.exit, c.in_ok-exit.enter) c.frames_of.ensures.leaves c.in_ok-exit.ensures.reads in
-    goes_stop told asked s c.frames_of.new.s _ pair all (λ w k. ask_tool w k) _ so2 c.in_err-tool.field-0.0 _ c.in_err-tool.ensures.reads c.from_residual-in_err-tool.ensures.1
+    let so1 =
+    goes_on told asked s s c.relations_of.new.s pair all
+    (λ w k. ask_relations w (contains nat_cmp c.args.met.now) k) _ so0 _ c.in_ok-seen.seen c.relations_of.ensures.leaves c.in_ok-seen.ensures.reads in
+    let so2 =
+    goes_on told asked s c.relations_of.new.s c.frames_of.new.s pair all (λ w k. ask_frames w k) _ so1 _
+    (c.in_ok-exit.exit, c.in_ok-exit.enter) c.frames_of.ensures.leaves c.in_ok-exit.ensures.reads in
+    goes_stop told asked s c.frames_of.new.s _ pair all
+    (λ w k. ask_tool w k) _ so2 c.in_err-tool.field-0.0 _ c.in_err-tool.ensures.reads c.from_residual-in_err-tool.ensures.1
 
 pub returns-in_err-environment-clause-reads : goal.returns-in_err-environment-clause-reads
 unfolding ask_link
@@ -58,12 +70,20 @@ returns-in_err-environment-clause-reads g c =
     let asked = g.C.Callbacks.asked in
     let s = c.args.s.now in
     let pair = task_pair c.args.k in
-    let all = ask_link s.layout (contains nat_cmp c.args.met.now) c.args.thread c.args.task (get s.handles.held pair) in
+    let all =
+    ask_link s.layout (contains nat_cmp c.args.met.now) c.args.thread c.args.task (get s.handles.held pair) in
     let so0 = goes_begin told asked s all in
-    let so1 = goes_on told asked s s c.relations_of.new.s pair all (λ w k. ask_relations w (contains nat_cmp c.args.met.now) k) _ so0 _ c.in_ok-seen.seen c.relations_of.ensures.leaves c.in_ok-seen.ensures.reads in
-    let so2 = goes_on told asked s c.relations_of.new.s c.frames_of.new.s pair all (λ w k. ask_frames w k) _ so1 _ (c.in_ok-exit.exit, c.in_ok-exit.enter) c.frames_of.ensures.leaves c.in_ok-exit.ensures.reads in
-    let so3 = goes_on told asked s c.frames_of.new.s c.tool_of.new.s pair all (λ w k. ask_tool w k) _ so2 _ c.in_ok-tool.tool c.tool_of.ensures.leaves c.in_ok-tool.ensures.reads in
-    goes_stop told asked s c.tool_of.new.s _ pair all (λ w k. ask_environment w k) _ so3 c.in_err-environment.field-0.0 _ c.in_err-environment.ensures.reads c.from_residual-in_err-environment.ensures.1
+    let so1 =
+    goes_on told asked s s c.relations_of.new.s pair all
+    (λ w k. ask_relations w (contains nat_cmp c.args.met.now) k) _ so0 _ c.in_ok-seen.seen c.relations_of.ensures.leaves c.in_ok-seen.ensures.reads in
+    let so2 =
+    goes_on told asked s c.relations_of.new.s c.frames_of.new.s pair all (λ w k. ask_frames w k) _ so1 _
+    (c.in_ok-exit.exit, c.in_ok-exit.enter) c.frames_of.ensures.leaves c.in_ok-exit.ensures.reads in
+    let so3 =
+    goes_on told asked s c.frames_of.new.s c.tool_of.new.s pair all
+    (λ w k. ask_tool w k) _ so2 _ c.in_ok-tool.tool c.tool_of.ensures.leaves c.in_ok-tool.ensures.reads in
+    goes_stop told asked s c.tool_of.new.s _ pair all
+    (λ w k. ask_environment w k) _ so3 c.in_err-environment.field-0.0 _ c.in_err-environment.ensures.reads c.from_residual-in_err-environment.ensures.1
 
 pub returns-clause-reads : goal.returns-clause-reads
 unfolding ask_link
@@ -72,10 +92,19 @@ returns-clause-reads g c =
     let asked = g.C.Callbacks.asked in
     let s = c.args.s.now in
     let pair = task_pair c.args.k in
-    let all = ask_link s.layout (contains nat_cmp c.args.met.now) c.args.thread c.args.task (get s.handles.held pair) in
+    let all =
+    ask_link s.layout (contains nat_cmp c.args.met.now) c.args.thread c.args.task (get s.handles.held pair) in
     let so0 = goes_begin told asked s all in
-    let so1 = goes_on told asked s s c.relations_of.new.s pair all (λ w k. ask_relations w (contains nat_cmp c.args.met.now) k) _ so0 _ c.in_ok-seen.seen c.relations_of.ensures.leaves c.in_ok-seen.ensures.reads in
-    let so2 = goes_on told asked s c.relations_of.new.s c.frames_of.new.s pair all (λ w k. ask_frames w k) _ so1 _ (c.in_ok-exit.exit, c.in_ok-exit.enter) c.frames_of.ensures.leaves c.in_ok-exit.ensures.reads in
-    let so3 = goes_on told asked s c.frames_of.new.s c.tool_of.new.s pair all (λ w k. ask_tool w k) _ so2 _ c.in_ok-tool.tool c.tool_of.ensures.leaves c.in_ok-tool.ensures.reads in
-    let so4 = goes_on told asked s c.tool_of.new.s c.environment_of.new.s pair all (λ w k. ask_environment w k) _ so3 _ c.in_ok-environment.environment c.environment_of.ensures.leaves c.in_ok-environment.ensures.reads in
+    let so1 =
+    goes_on told asked s s c.relations_of.new.s pair all
+    (λ w k. ask_relations w (contains nat_cmp c.args.met.now) k) _ so0 _ c.in_ok-seen.seen c.relations_of.ensures.leaves c.in_ok-seen.ensures.reads in
+    let so2 =
+    goes_on told asked s c.relations_of.new.s c.frames_of.new.s pair all (λ w k. ask_frames w k) _ so1 _
+    (c.in_ok-exit.exit, c.in_ok-exit.enter) c.frames_of.ensures.leaves c.in_ok-exit.ensures.reads in
+    let so3 =
+    goes_on told asked s c.frames_of.new.s c.tool_of.new.s pair all
+    (λ w k. ask_tool w k) _ so2 _ c.in_ok-tool.tool c.tool_of.ensures.leaves c.in_ok-tool.ensures.reads in
+    let so4 =
+    goes_on told asked s c.tool_of.new.s c.environment_of.new.s pair all
+    (λ w k. ask_environment w k) _ so3 _ c.in_ok-environment.environment c.environment_of.ensures.leaves c.in_ok-environment.ensures.reads in
     goes_end told asked s c.environment_of.new.s all _ _ refl so4

@@ -23,9 +23,11 @@ returns-in_err-next-clause-reads g c =
     let s = c.args.s.now in
     let pair = task_pair c.args.k in
     let all = ask_next s.layout (contains nat_cmp c.args.met.now) (get s.handles.held pair) in
-    goes_stop told asked s s _ pair all (λ w k. ask_scheduling w k) _ (goes_begin told asked s all) c.in_err-next.field-0.0 _ c.in_err-next.ensures.reads c.from_residual.ensures.1
+    goes_stop told asked s s _ pair all (λ w k. ask_scheduling w k) _
+    (goes_begin told asked s all) c.in_err-next.field-0.0 _ c.in_err-next.ensures.reads c.from_residual.ensures.1
 
 pub returns-clause-reads : goal.returns-clause-reads
 unfolding ask_next
 returns-clause-reads g c =
-    walks_judged g.C.Callbacks.told g.C.Callbacks.asked c.args.s.now _ (unmet (contains nat_cmp c.args.met.now)) c.in_ok-next.next _ _ c.unmet.ensures c.in_ok-next.ensures.reads
+    walks_judged g.C.Callbacks.told g.C.Callbacks.asked c.args.s.now _
+    (unmet (contains nat_cmp c.args.met.now)) c.in_ok-next.next _ _ c.unmet.ensures c.in_ok-next.ensures.reads

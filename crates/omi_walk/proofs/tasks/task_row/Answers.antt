@@ -12,7 +12,8 @@ use Rattle.omi_walk.proofs.tasks.task_row.Goals as goal
 pub returns-clause-leaves : goal.returns-clause-leaves
 returns-clause-leaves g c =
     lent_leaves g.C.Callbacks.told c.args.s.now c.hand.new.s Task c.args.task _ c.in_ok-key.ensures.handed c.hand.ensures.stays
-    c.link_of-link.new.s c.release.new.self 3 4 (omega arith) c.link_of-link.ensures.leaves c.release.ensures.removed c.release.ensures.made c.release.ensures.layout c.release.ensures.table
+    c.link_of-link.new.s c.release.new.self 3 4
+    (omega arith) c.link_of-link.ensures.leaves c.release.ensures.removed c.release.ensures.made c.release.ensures.layout c.release.ensures.table
 
 -- reads: what was asked
 
@@ -21,12 +22,14 @@ returns-in_err-key-clause-reads g c =
     let told = g.C.Callbacks.told in
     let asked = g.C.Callbacks.asked in
     let s = c.args.s.now in
-    goes_unmade told asked s s _ _ _ _ _ (goes_begin told asked s _) c.hand.ensures.table c.from_residual.ensures.1 c.in_err-key.ensures.memory
+    goes_unmade told asked s s _ _ _ _ _
+    (goes_begin told asked s _) c.hand.ensures.table c.from_residual.ensures.1 c.in_err-key.ensures.memory
 
 pub returns-clause-reads : goal.returns-clause-reads
 returns-clause-reads g c =
     let told = g.C.Callbacks.told in
     let asked = g.C.Callbacks.asked in
     let s = c.args.s.now in
-    lent_walks told asked s c.hand.new.s c.link_of-link.new.s _ _ c.args.task.held _ (λ w k. ask_link w (contains nat_cmp c.args.met.now) c.args.thread c.args.task.name k)
+    lent_walks told asked s c.hand.new.s c.link_of-link.new.s _ _ c.args.task.held _
+    (λ w k. ask_link w (contains nat_cmp c.args.met.now) c.args.thread c.args.task.name k)
     c.hand.ensures.table c.hand.ensures.stays.layout c.in_ok-key.ensures.handed.found c.release.ensures.table c.link_of-link.ensures.reads

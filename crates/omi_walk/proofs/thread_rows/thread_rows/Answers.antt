@@ -38,14 +38,18 @@ loop-native-preserved g c = record {
   few = rw c.in_ok-add_found.ensures (found_few c.loop-native.found c.in_ok-seen.seen.row.found c.in_ok-seen.seen.current c.loop-native.native-index c.loop-native.invariant.few);
   seen = c.loop-native.invariant.seen ++ c.in_ok-seen.seen ∷ [];
   rows_are =
-      c.in_ok-push.ensures.added ∙ ap (λ rows. rows ++ c.in_ok-seen.seen.row ∷ []) c.loop-native.invariant.rows_are
+      c.in_ok-push.ensures.added
+      ∙ ap (λ rows. rows ++ c.in_ok-seen.seen.row ∷ []) c.loop-native.invariant.rows_are
       ∙ sym (map-append (λ (x : SeenThread). x.row) c.loop-native.invariant.seen (c.in_ok-seen.seen ∷ []));
   found_are =
-      c.in_ok-add_found.ensures ∙ ap (λ found. found ++ found_in c.in_ok-seen.seen.row.found c.in_ok-seen.seen.current) c.loop-native.invariant.found_are
+      c.in_ok-add_found.ensures
+      ∙ ap
+      (λ found. found ++ found_in c.in_ok-seen.seen.row.found c.in_ok-seen.seen.current) c.loop-native.invariant.found_are
       ∙ flat_map_more (λ (x : SeenThread). found_in x.row.found x.current) [] c.loop-native.invariant.seen c.in_ok-seen.seen;
   goes =
       let contexts = c.as_slice-native-items.result.now in
-      asks_next g.C.Callbacks.told g.C.Callbacks.asked c.args.s.now (0, 0) (λ w k native. ask_thread w native) contexts c.loop-native.s c.thread_row.new.s c.loop-native.invariant.seen _ _ _ c.in_ok-seen.seen
+      asks_next g.C.Callbacks.told g.C.Callbacks.asked c.args.s.now (0, 0)
+      (λ w k native. ask_thread w native) contexts c.loop-native.s c.thread_row.new.s c.loop-native.invariant.seen _ _ _ c.in_ok-seen.seen
       (subst (λ left. EachGoes g.C.Callbacks.told g.C.Callbacks.asked c.args.s.now (0, 0) (λ w k native. ask_thread w native) contexts c.loop-native.s c.loop-native.invariant.seen left)
       (next_left contexts c.loop-native.native-index c.loop-native-test.true) c.loop-native.invariant.goes) c.thread_row.ensures.leaves c.in_ok-seen.ensures.reads;
 }
@@ -62,7 +66,8 @@ returns-in_err-seen-clause-reads g c =
     let so = subst (λ left. EachGoes told asked s (0, 0) (λ w k native. ask_thread w native) contexts c.loop-native.s c.loop-native.invariant.seen left)
     (next_left contexts c.loop-native.native-index c.loop-native-test.true) c.loop-native.invariant.goes in
     let r = c.from_residual.result in
-    subst (λ xs. Walks told asked s c.thread_row.new.s r (ask_threads s.layout xs)) c.as_slice-native-items.ensures
+    subst
+    (λ xs. Walks told asked s c.thread_row.new.s r (ask_threads s.layout xs)) c.as_slice-native-items.ensures
     (walks_as told asked s c.thread_row.new.s c.in_err-seen.field-0.0 r _ c.from_residual.ensures.1
     (walks_err told asked s c.thread_row.new.s all_seen c.in_err-seen.field-0.0 _
     (asks_stop told asked s (0, 0) (λ w k native. ask_thread w native) contexts c.loop-native.s c.thread_row.new.s c.loop-native.invariant.seen _ _ c.in_err-seen.field-0.0 (Err c.in_err-seen.field-0.0) so c.in_err-seen.ensures.reads refl)))
@@ -77,7 +82,8 @@ returns-in_err-push-clause-reads g c =
     let so = subst (λ left. EachGoes told asked s (0, 0) (λ w k native. ask_thread w native) contexts c.loop-native.s c.loop-native.invariant.seen left)
     (next_left contexts c.loop-native.native-index c.loop-native-test.true) c.loop-native.invariant.goes in
     let r = c.from_residual-in_err-push.result in
-    subst (λ xs. Walks told asked s c.thread_row.new.s r (ask_threads s.layout xs)) c.as_slice-native-items.ensures
+    subst
+    (λ xs. Walks told asked s c.thread_row.new.s r (ask_threads s.layout xs)) c.as_slice-native-items.ensures
     (walks_unsaid told asked s c.thread_row.new.s all_seen (Err OutOfMemory) r _
     (goes_unsaid told asked s c.thread_row.new.s _ _ (Err OutOfMemory)
     (asks_next told asked s (0, 0) (λ w k native. ask_thread w native) contexts c.loop-native.s c.thread_row.new.s c.loop-native.invariant.seen _ _ _ c.in_ok-seen.seen so c.thread_row.ensures.leaves c.in_ok-seen.ensures.reads) refl)
@@ -93,7 +99,8 @@ returns-in_err-add_found-clause-reads g c =
     let so = subst (λ left. EachGoes told asked s (0, 0) (λ w k native. ask_thread w native) contexts c.loop-native.s c.loop-native.invariant.seen left)
     (next_left contexts c.loop-native.native-index c.loop-native-test.true) c.loop-native.invariant.goes in
     let r = c.from_residual-in_err-add_found.result in
-    subst (λ xs. Walks told asked s c.thread_row.new.s r (ask_threads s.layout xs)) c.as_slice-native-items.ensures
+    subst
+    (λ xs. Walks told asked s c.thread_row.new.s r (ask_threads s.layout xs)) c.as_slice-native-items.ensures
     (walks_unsaid told asked s c.thread_row.new.s all_seen (Err OutOfMemory) r _
     (goes_unsaid told asked s c.thread_row.new.s _ _ (Err OutOfMemory)
     (asks_next told asked s (0, 0) (λ w k native. ask_thread w native) contexts c.loop-native.s c.thread_row.new.s c.loop-native.invariant.seen _ _ _ c.in_ok-seen.seen so c.thread_row.ensures.leaves c.in_ok-seen.ensures.reads) refl)
@@ -106,7 +113,8 @@ returns-clause-reads g c =
     let asked = g.C.Callbacks.asked in
     let s = c.args.s.now in
     let contexts = c.as_slice-native-items.result.now in
-    subst (λ xs. Walks told asked s c.loop-native.s (Ok (record { rows = c.loop-native.rows; found = c.loop-native.found })) (ask_threads s.layout xs)) c.as_slice-native-items.ensures
+    subst
+    (λ xs. Walks told asked s c.loop-native.s (Ok (record { rows = c.loop-native.rows; found = c.loop-native.found })) (ask_threads s.layout xs)) c.as_slice-native-items.ensures
     (walks_ok told asked s c.loop-native.s all_seen c.loop-native.invariant.seen (record { rows = c.loop-native.rows; found = c.loop-native.found }) _
     (λ i. record { rows = c.loop-native.invariant.rows_are i; found = c.loop-native.invariant.found_are i })
     (asks_end told asked s (0, 0) (λ w k native. ask_thread w native) contexts c.loop-native.s c.loop-native.invariant.seen

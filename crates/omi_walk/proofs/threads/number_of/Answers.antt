@@ -23,7 +23,9 @@ returns-in-Ok-clause-reads g c =
     let asked = g.C.Callbacks.asked in
     let s = c.args.s.now in
     let pair = thread_pair c.args.t in
-    of_answers told asked s _ (Ok c.in-Ok.number) (Ok (Some c.in-Ok.number)) (maybe_absent (get s.handles.held pair)) (icv_from_scope s.layout (get s.handles.held) (scoped.Thread c.args.t) THREAD_NUM_VAR) refl refl c.in-Ok.ensures.answer
+    of_answers told asked s _ (Ok c.in-Ok.number) (Ok (Some c.in-Ok.number))
+    (maybe_absent (get s.handles.held pair))
+    (icv_from_scope s.layout (get s.handles.held) (scoped.Thread c.args.t) THREAD_NUM_VAR) refl refl c.in-Ok.ensures.answer
 
 pub returns-in-Err-clause-reads : goal.returns-in-Err-clause-reads
 unfolding ask_number icv_from_scope
@@ -32,5 +34,6 @@ returns-in-Err-clause-reads g c =
     let asked = g.C.Callbacks.asked in
     let s = c.args.s.now in
     let pair = thread_pair c.args.t in
-    of_answers told asked s _ (Err c.in-Err.rc) _ (maybe_absent (get s.handles.held pair)) (icv_from_scope s.layout (get s.handles.held) (scoped.Thread c.args.t) THREAD_NUM_VAR) refl
+    of_answers told asked s _ (Err c.in-Err.rc) _ (maybe_absent (get s.handles.held pair))
+    (icv_from_scope s.layout (get s.handles.held) (scoped.Thread c.args.t) THREAD_NUM_VAR) refl
     (c.absent.ensures ∙ ap (λ (l : Ledger). absent (get l.held pair) c.in-Err.rc) c.get_icv_from_scope.ensures.same.handles) c.in-Err.ensures.answer

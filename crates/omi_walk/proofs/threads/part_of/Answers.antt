@@ -24,7 +24,8 @@ returns-in_err-state-clause-reads g c =
     let pair = thread_pair c.args.t in
     let all = ask_part s.layout c.args.thread (get s.handles.held pair) in
     let so0 = goes_begin told asked s all in
-    goes_stop told asked s s _ pair all (λ w k. ask_state w k) _ so0 c.in_err-state.field-0.0 _ c.in_err-state.ensures.reads c.from_residual.ensures.1
+    goes_stop told asked s s _ pair all
+    (λ w k. ask_state w k) _ so0 c.in_err-state.field-0.0 _ c.in_err-state.ensures.reads c.from_residual.ensures.1
 
 pub returns-in_err-current-clause-reads : goal.returns-in_err-current-clause-reads
 unfolding ask_part
@@ -35,8 +36,11 @@ returns-in_err-current-clause-reads g c =
     let pair = thread_pair c.args.t in
     let all = ask_part s.layout c.args.thread (get s.handles.held pair) in
     let so0 = goes_begin told asked s all in
-    let so1 = goes_on told asked s s c.state_of.new.s pair all (λ w k. ask_state w k) _ so0 _ c.in_ok-state.state c.state_of.ensures.leaves c.in_ok-state.ensures.reads in
-    goes_stop told asked s c.state_of.new.s _ pair all (λ w k. ask_current w k) _ so1 c.in_err-current.field-0.0 _ c.in_err-current.ensures.reads c.from_residual-in_err-current.ensures.1
+    let so1 =
+    goes_on told asked s s c.state_of.new.s pair all
+    (λ w k. ask_state w k) _ so0 _ c.in_ok-state.state c.state_of.ensures.leaves c.in_ok-state.ensures.reads in
+    goes_stop told asked s c.state_of.new.s _ pair all
+    (λ w k. ask_current w k) _ so1 c.in_err-current.field-0.0 _ c.in_err-current.ensures.reads c.from_residual-in_err-current.ensures.1
 
 pub returns-in_err-number-clause-reads : goal.returns-in_err-number-clause-reads
 unfolding ask_part
@@ -47,9 +51,14 @@ returns-in_err-number-clause-reads g c =
     let pair = thread_pair c.args.t in
     let all = ask_part s.layout c.args.thread (get s.handles.held pair) in
     let so0 = goes_begin told asked s all in
-    let so1 = goes_on told asked s s c.state_of.new.s pair all (λ w k. ask_state w k) _ so0 _ c.in_ok-state.state c.state_of.ensures.leaves c.in_ok-state.ensures.reads in
-    let so2 = goes_on told asked s c.state_of.new.s c.related_of.new.s pair all (λ w k. ask_current w k) _ so1 _ c.in_ok-current.current c.related_of.ensures.leaves c.in_ok-current.ensures.reads in
-    goes_stop told asked s c.related_of.new.s _ pair all (λ w k. ask_number w k) _ so2 c.in_err-number.field-0.0 _ c.in_err-number.ensures.reads c.from_residual-in_err-number.ensures.1
+    let so1 =
+    goes_on told asked s s c.state_of.new.s pair all
+    (λ w k. ask_state w k) _ so0 _ c.in_ok-state.state c.state_of.ensures.leaves c.in_ok-state.ensures.reads in
+    let so2 =
+    goes_on told asked s c.state_of.new.s c.related_of.new.s pair all
+    (λ w k. ask_current w k) _ so1 _ c.in_ok-current.current c.related_of.ensures.leaves c.in_ok-current.ensures.reads in
+    goes_stop told asked s c.related_of.new.s _ pair all
+    (λ w k. ask_number w k) _ so2 c.in_err-number.field-0.0 _ c.in_err-number.ensures.reads c.from_residual-in_err-number.ensures.1
 
 pub returns-clause-reads : goal.returns-clause-reads
 unfolding ask_part
@@ -60,7 +69,13 @@ returns-clause-reads g c =
     let pair = thread_pair c.args.t in
     let all = ask_part s.layout c.args.thread (get s.handles.held pair) in
     let so0 = goes_begin told asked s all in
-    let so1 = goes_on told asked s s c.state_of.new.s pair all (λ w k. ask_state w k) _ so0 _ c.in_ok-state.state c.state_of.ensures.leaves c.in_ok-state.ensures.reads in
-    let so2 = goes_on told asked s c.state_of.new.s c.related_of.new.s pair all (λ w k. ask_current w k) _ so1 _ c.in_ok-current.current c.related_of.ensures.leaves c.in_ok-current.ensures.reads in
-    let so3 = goes_on told asked s c.related_of.new.s c.number_of.new.s pair all (λ w k. ask_number w k) _ so2 _ c.in_ok-number.number c.number_of.ensures.leaves c.in_ok-number.ensures.reads in
+    let so1 =
+    goes_on told asked s s c.state_of.new.s pair all
+    (λ w k. ask_state w k) _ so0 _ c.in_ok-state.state c.state_of.ensures.leaves c.in_ok-state.ensures.reads in
+    let so2 =
+    goes_on told asked s c.state_of.new.s c.related_of.new.s pair all
+    (λ w k. ask_current w k) _ so1 _ c.in_ok-current.current c.related_of.ensures.leaves c.in_ok-current.ensures.reads in
+    let so3 =
+    goes_on told asked s c.related_of.new.s c.number_of.new.s pair all
+    (λ w k. ask_number w k) _ so2 _ c.in_ok-number.number c.number_of.ensures.leaves c.in_ok-number.ensures.reads in
     goes_end told asked s c.number_of.new.s all _ _ (rw c.task_name.ensures refl) so3

@@ -21,7 +21,9 @@ returns-in-Ok-clause-reads g c =
     let asked = g.C.Callbacks.asked in
     let s = c.args.s.now in
     let pair = thread_pair c.args.t in
-    of_answers told asked s _ (Ok c.in-Ok.state) (Ok (Some c.in-Ok.state)) (maybe_untracked (get s.handles.held pair)) (state s.layout (get s.handles.held pair)) refl refl c.in-Ok.ensures.answer
+    of_answers told asked s _ (Ok c.in-Ok.state) (Ok (Some c.in-Ok.state))
+    (maybe_untracked (get s.handles.held pair))
+    (state s.layout (get s.handles.held pair)) refl refl c.in-Ok.ensures.answer
 
 pub returns-in-Err-clause-reads : goal.returns-in-Err-clause-reads
 unfolding ask_state
@@ -30,5 +32,6 @@ returns-in-Err-clause-reads g c =
     let asked = g.C.Callbacks.asked in
     let s = c.args.s.now in
     let pair = thread_pair c.args.t in
-    of_answers told asked s _ (Err c.in-Err.rc) _ (maybe_untracked (get s.handles.held pair)) (state s.layout (get s.handles.held pair)) refl
+    of_answers told asked s _ (Err c.in-Err.rc) _ (maybe_untracked (get s.handles.held pair))
+    (state s.layout (get s.handles.held pair)) refl
     (c.untracked.ensures ∙ ap (λ (l : Ledger). untracked (get l.held pair) c.in-Err.rc) c.get_state.ensures.same.handles) c.in-Err.ensures.answer

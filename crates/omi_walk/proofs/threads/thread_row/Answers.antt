@@ -40,7 +40,8 @@ returns-in_err-t-clause-reads g c =
     let asked = g.C.Callbacks.asked in
     let s = c.args.s.now in
     let all = ask_thread s.layout c.args.native in
-    goes_stop told asked s s _ (0, 0) all (λ w k. ask_thread_with w c.args.native) _ (goes_begin told asked s all) c.in_err-t.field-0.0 _ c.in_err-t.ensures.reads c.from_residual.ensures.1
+    goes_stop told asked s s _ (0, 0) all (λ w k. ask_thread_with w c.args.native) _
+    (goes_begin told asked s all) c.in_err-t.field-0.0 _ c.in_err-t.ensures.reads c.from_residual.ensures.1
 
 pub returns-in_default-clause-reads : goal.returns-in_default-clause-reads
 unfolding ask_thread ask_found
@@ -77,7 +78,8 @@ returns-in_err-seen-clause-reads g c =
     let all = ask_thread s.layout c.args.native in
     let so1 = goes_on told asked s s t (0, 0) all (λ w k. ask_thread_with w c.args.native) (ask_found s.layout c.args.native) (goes_begin told asked s all) _ (Some m) c.thread_with.ensures.leaves
     (subst (λ o. Walks told asked s t (Ok o) (ask_thread_with s.layout c.args.native)) c.in-Some.is c.in_ok-t.ensures.reads) in
-    goes_stop told asked s t _ (0, 0) all (λ w k. ask_part w m.name.creator (Some m.held)) _ so1 c.in_err-seen.field-0.0 _
+    goes_stop told asked s t _ (0, 0) all
+    (λ w k. ask_part w m.name.creator (Some m.held)) _ so1 c.in_err-seen.field-0.0 _
     (lent_walks told asked t c.hand.new.s c.part_of-seen.new.s c.release.new.self _ m.held _ (λ w k. ask_part w m.name.creator k)
     c.hand.ensures.table c.hand.ensures.stays.layout c.in_ok-key.ensures.handed.found c.release.ensures.table c.in_err-seen.ensures.reads) c.from_residual-in_err-seen.ensures.1
 

@@ -18,7 +18,8 @@ use Rattle.omi_walk.proofs.threads.thread_with.Goals as goal
 
 pub returns-in-Ok-clause-met : goal.returns-in-Ok-clause-met
 returns-in-Ok-clause-met g c =
-    thread_lives g.C.Callbacks.told c.args.s.now c.get_thread_handle.new.s c.let_go.new.s c.args.native _ (subst (λ w. IsValid w) c.layout-layout.ensures c.layout-layout.result.now.valid)
+    thread_lives g.C.Callbacks.told c.args.s.now c.get_thread_handle.new.s c.let_go.new.s c.args.native _
+    (subst (λ w. IsValid w) c.layout-layout.ensures c.layout-layout.result.now.valid)
     c.get_thread_handle.ensures.stays c.let_go.ensures.layout c.let_go.ensures.table c.let_go.result
     c.let_go.ensures.object c.let_go.ensures.kind c.let_go.ensures.place c.let_go.ensures.name c.in-Ok.ensures.answer.is
 
@@ -51,5 +52,6 @@ returns-in-Err-clause-reads g c =
     let w = s.layout in
     let mid = c.get_thread_handle.new.s in
     let rc = c.in-Err.rc in
-    walks_map told asked s mid (option_map (met w)) (absent {A = Held} None rc) _ _ (c.absent_from.ensures ∙ absent_map (met w) None rc)
+    walks_map told asked s mid (option_map (met w)) (absent {A = Held} None rc) _ _
+    (c.absent_from.ensures ∙ absent_map (met w) None rc)
     (of_made_err told asked s mid rc (thread_with w 0 c.args.native) (maybe_absent None) (absent {A = Held} None rc) refl refl refl c.in-Err.ensures.answer)

@@ -21,5 +21,7 @@ returns-clause-reads g c =
     let asked = g.C.Callbacks.asked in
     let s = c.args.s.now in
     let pair = task_pair c.args.k in
-    of_answers told asked s _ c.get_task_function-answer.result _ (walked (get s.handles.held pair)) (function s.layout (get s.handles.held pair))
-    refl (c.walked.ensures ∙ ap (λ (l : Ledger). walked (get l.held pair) c.get_task_function-answer.result) c.get_task_function-answer.ensures.same.handles) c.get_task_function-answer.ensures.answer
+    of_answers told asked s _ c.get_task_function-answer.result _ (walked (get s.handles.held pair))
+    (function s.layout (get s.handles.held pair))
+    refl
+    (c.walked.ensures ∙ ap (λ (l : Ledger). walked (get l.held pair) c.get_task_function-answer.result) c.get_task_function-answer.ensures.same.handles) c.get_task_function-answer.ensures.answer

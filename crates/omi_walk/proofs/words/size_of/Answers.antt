@@ -20,5 +20,7 @@ returns-clause-reads g c =
     let asked = g.C.Callbacks.asked in
     let s = c.args.s.now in
     let pair = region_pair c.args.r in
-    of_answers told asked s _ c.get_icv_from_scope-answer.result _ (walked (get s.handles.held pair)) (icv_from_scope s.layout (get s.handles.held) (scoped.Parallel c.args.r) TEAM_SIZE_VAR)
-    refl (c.walked.ensures ∙ ap (λ (l : Ledger). walked (get l.held pair) c.get_icv_from_scope-answer.result) c.get_icv_from_scope-answer.ensures.same.handles) c.get_icv_from_scope-answer.ensures.answer
+    of_answers told asked s _ c.get_icv_from_scope-answer.result _ (walked (get s.handles.held pair))
+    (icv_from_scope s.layout (get s.handles.held) (scoped.Parallel c.args.r) TEAM_SIZE_VAR)
+    refl
+    (c.walked.ensures ∙ ap (λ (l : Ledger). walked (get l.held pair) c.get_icv_from_scope-answer.result) c.get_icv_from_scope-answer.ensures.same.handles) c.get_icv_from_scope-answer.ensures.answer

@@ -13,5 +13,6 @@ use Rattle.omi_walk.proofs.words.space_variable.Goals as goal
 pub returns-clause-reads : goal.returns-clause-reads
 unfolding ask_space icv_from_scope
 returns-clause-reads g c =
-    of_answers g.C.Callbacks.told g.C.Callbacks.asked c.args.s.now _ c.get_icv_from_scope-answer.result _ (walked None) (icv_from_scope c.args.s.now.layout (get c.args.s.now.handles.held) scoped.Space c.args.icv)
+    of_answers g.C.Callbacks.told g.C.Callbacks.asked c.args.s.now _ c.get_icv_from_scope-answer.result _
+    (walked None) (icv_from_scope c.args.s.now.layout (get c.args.s.now.handles.held) scoped.Space c.args.icv)
     refl c.walked_from.ensures c.get_icv_from_scope-answer.ensures.answer

@@ -19,5 +19,7 @@ returns-clause-reads g c =
     let asked = g.C.Callbacks.asked in
     let s = c.args.s.now in
     let pair = task_pair c.args.k in
-    of_answers told asked s _ c.get_tool_data-answer.result _ (walked (get s.handles.held pair)) (tool_data s.layout (get s.handles.held) (scoped.Task c.args.k))
-    refl (c.walked.ensures ∙ ap (λ (l : Ledger). walked (get l.held pair) c.get_tool_data-answer.result) c.get_tool_data-answer.ensures.same.handles) c.get_tool_data-answer.ensures.answer
+    of_answers told asked s _ c.get_tool_data-answer.result _ (walked (get s.handles.held pair))
+    (tool_data s.layout (get s.handles.held) (scoped.Task c.args.k))
+    refl
+    (c.walked.ensures ∙ ap (λ (l : Ledger). walked (get l.held pair) c.get_tool_data-answer.result) c.get_tool_data-answer.ensures.same.handles) c.get_tool_data-answer.ensures.answer

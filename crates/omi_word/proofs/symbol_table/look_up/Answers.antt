@@ -5,7 +5,8 @@ use Rattle.omi_word.proofs.symbol_table.look_up.Goals as goal
 pub returns-in_err-words : goal.returns-in_err-words
 returns-in_err-words g c =
     c.from_residual-in_err-words.ensures
-    ∙ not_mapped (g.M.WordMemory.words c.args.memory.now) c.args.name.now c.in_ok-count.count (sym c.word.ensures ∙ c.in_ok-count.was) (omega arith)
+    ∙ not_mapped (g.M.WordMemory.words c.args.memory.now) c.args.name.now c.in_ok-count.count
+    (sym c.word.ensures ∙ c.in_ok-count.was) (omega arith)
     (unmapped_table (g.M.WordMemory.words c.args.memory.now) 65544 (65544 + 40 * (c.loop-left.left - 1)) (c.loop-left.left - 1) c.in_ok-count.count (omega arith) (omega arith) (sym c.five_words.ensures ∙ c.in_err-words.was))
 
 pub loop-left-preserved : goal.loop-left-preserved

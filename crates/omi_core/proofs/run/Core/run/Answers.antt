@@ -14,13 +14,16 @@ loop-step-init c = (
 pub returns-in_err-make_room-clause-run : goal.returns-in_err-make_room-clause-run
 returns-in_err-make_room-clause-run c =
     let p = err_from_is_err_and c.from_residual.result c.from_residual.ensures.1 in
-    rw (p.1) (refused c.args.self.now c.args.how.now c.args.stop _ _ _ c.make_room.new.self p.0 (roomier c.args.self.now c.args.how.now c.args.stop _ _ _ c.loop-step.self c.make_room.new.self c.loop-step.invariant.0 c.in_err-make_room.ensures.run))
+    rw (p.1)
+    (refused c.args.self.now c.args.how.now c.args.stop _ _ _ c.make_room.new.self p.0 (roomier c.args.self.now c.args.how.now c.args.stop _ _ _ c.loop-step.self c.make_room.new.self c.loop-step.invariant.0 c.in_err-make_room.ensures.run))
 
 pub end_at-requires : goal.end_at-requires
-end_at-requires c = fewer c.args.self.now c.args.how.now c.args.stop c.loop-step.step c.loop-step.met c.loop-step.draw c.loop-step.self c.loop-step.invariant.0
+end_at-requires c =
+    fewer c.args.self.now c.args.how.now c.args.stop c.loop-step.step c.loop-step.met c.loop-step.draw c.loop-step.self c.loop-step.invariant.0
 
 pub met_at-met-requires : goal.met_at-met-requires
-met_at-met-requires c = fewer c.args.self.now c.args.how.now c.args.stop c.loop-step.step c.loop-step.met c.loop-step.draw c.loop-step.self c.loop-step.invariant.0
+met_at-met-requires c =
+    fewer c.args.self.now c.args.how.now c.args.stop c.loop-step.step c.loop-step.met c.loop-step.draw c.loop-step.self c.loop-step.invariant.0
 
 pub returns-in-Some-clause-run : goal.returns-in-Some-clause-run
 returns-in-Some-clause-run c =
@@ -38,7 +41,9 @@ loop-step-preserved c =
     c.loop-step-test.true c.step-entry.ensures.entry
     (c.thread_at.ensures ∙ ap (λ threads. thread_at c.args.how.now threads c.loop-step.step) c.threads-threads.ensures.threads)
     none in (
-      subst (λ met. SoFar c.args.self.now c.args.how.now c.args.stop (c.loop-step.step + 1) met c.next_number-draw.result c.step-entry.new.self) (sym c.met_at-met.ensures)
+      subst
+          (λ met. SoFar c.args.self.now c.args.how.now c.args.stop (c.loop-step.step + 1) met c.next_number-draw.result c.step-entry.new.self)
+          (sym c.met_at-met.ensures)
           (subst (λ draw. SoFar c.args.self.now c.args.how.now c.args.stop (c.loop-step.step + 1) (met_at c.args.stop.on c.loop-step.met c.step-entry.result.outcome) draw c.step-entry.new.self) (sym c.next_number-draw.ensures) more),
       c.step-entry.ensures.rule,
     )
@@ -51,4 +56,5 @@ returns-clause-run c =
 -- ---- the rule
 
 pub returns-in_err-make_room-clause-rule : goal.returns-in_err-make_room-clause-rule
-returns-in_err-make_room-clause-rule c = rule_roomier c.loop-step.self c.make_room.new.self c.in_err-make_room.ensures.run c.loop-step.invariant.1
+returns-in_err-make_room-clause-rule c =
+    rule_roomier c.loop-step.self c.make_room.new.self c.in_err-make_room.ensures.run c.loop-step.invariant.1

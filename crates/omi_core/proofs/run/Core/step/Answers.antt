@@ -20,35 +20,55 @@ use Rattle.omi_core.proofs.run.Core.step.Goals as goal
 pub next-op-requires-clause-fits : goal.next-op-requires-clause-fits
 next-op-requires-clause-fits c =
     let thread = subst (λ (z : Run). c.args.i < z.program.threads) (sym c.self.view_is) c.requires.thread in
-    let here = c.index.ensures ∙ actor_is c.self.inside.actors.items c.args.i c.index.result.now (subst (λ n. c.args.i < n) (sym c.self.invariant.run.actors) thread) in
-    subst (λ (b : Actor). Fits c.self.inside.program b) (sym here) (own _ c.self.invariant.run c.args.i thread).fits
+    let here =
+    c.index.ensures
+    ∙ actor_is c.self.inside.actors.items c.args.i c.index.result.now
+    (subst (λ n. c.args.i < n) (sym c.self.invariant.run.actors) thread) in
+    subst (λ (b : Actor). Fits c.self.inside.program b) (sym here)
+    (own _ c.self.invariant.run c.args.i thread).fits
 
 pub next-op-requires-clause-placed : goal.next-op-requires-clause-placed
 next-op-requires-clause-placed c =
     let thread = subst (λ (z : Run). c.args.i < z.program.threads) (sym c.self.view_is) c.requires.thread in
-    let here = c.index.ensures ∙ actor_is c.self.inside.actors.items c.args.i c.index.result.now (subst (λ n. c.args.i < n) (sym c.self.invariant.run.actors) thread) in
-    subst (λ (b : Actor). IsPlaced c.self.inside.layout.table b) (sym here) (own _ c.self.invariant.run c.args.i thread).placed
+    let here =
+    c.index.ensures
+    ∙ actor_is c.self.inside.actors.items c.args.i c.index.result.now
+    (subst (λ n. c.args.i < n) (sym c.self.invariant.run.actors) thread) in
+    subst (λ (b : Actor). IsPlaced c.self.inside.layout.table b) (sym here)
+    (own _ c.self.invariant.run c.args.i thread).placed
 
 pub apply-found-requires : goal.apply-found-requires
 apply-found-requires c =
     let thread = subst (λ (z : Run). c.args.i < z.program.threads) (sym c.self.view_is) c.requires.thread in
     let spare = subst (λ (z : Run). 1 ≤ spare_in z) (sym c.self.view_is) c.requires.spare in
     let kept = c.self.invariant.goes_on c.args.i thread in
-    let here = c.index.ensures ∙ actor_is c.self.inside.actors.items c.args.i c.index.result.now (subst (λ n. c.args.i < n) (sym c.self.invariant.run.actors) thread) in
-    subst (λ (o : Op). IsWordOf c.self.inside.image (address_of o)) (sym (c.next-op.ensures ∙ ap (λ (b : Actor). next_of c.self.inside.program c.self.inside.layout.table b) here))
+    let here =
+    c.index.ensures
+    ∙ actor_is c.self.inside.actors.items c.args.i c.index.result.now
+    (subst (λ n. c.args.i < n) (sym c.self.invariant.run.actors) thread) in
+    subst (λ (o : Op). IsWordOf c.self.inside.image (address_of o))
+    (sym (c.next-op.ensures ∙ ap (λ (b : Actor). next_of c.self.inside.program c.self.inside.layout.table b) here))
     (inside _ c.self.invariant.run c.args.i thread spare kept)
 
 pub resume-outcome-requires-clause-fits : goal.resume-outcome-requires-clause-fits
 resume-outcome-requires-clause-fits c =
     let thread = subst (λ (z : Run). c.args.i < z.program.threads) (sym c.self.view_is) c.requires.thread in
-    let here = c.index_mut.ensures.value ∙ actor_is c.self.inside.actors.items c.args.i c.index_mut.result.now (subst (λ n. c.args.i < n) (sym c.self.invariant.run.actors) thread) in
-    subst (λ (b : Actor). Fits c.self.inside.program b) (sym here) (own _ c.self.invariant.run c.args.i thread).fits
+    let here =
+    c.index_mut.ensures.value
+    ∙ actor_is c.self.inside.actors.items c.args.i c.index_mut.result.now
+    (subst (λ n. c.args.i < n) (sym c.self.invariant.run.actors) thread) in
+    subst (λ (b : Actor). Fits c.self.inside.program b) (sym here)
+    (own _ c.self.invariant.run c.args.i thread).fits
 
 pub resume-outcome-requires-clause-placed : goal.resume-outcome-requires-clause-placed
 resume-outcome-requires-clause-placed c =
     let thread = subst (λ (z : Run). c.args.i < z.program.threads) (sym c.self.view_is) c.requires.thread in
-    let here = c.index_mut.ensures.value ∙ actor_is c.self.inside.actors.items c.args.i c.index_mut.result.now (subst (λ n. c.args.i < n) (sym c.self.invariant.run.actors) thread) in
-    subst (λ (b : Actor). IsPlaced c.self.inside.layout.table b) (sym here) (own _ c.self.invariant.run c.args.i thread).placed
+    let here =
+    c.index_mut.ensures.value
+    ∙ actor_is c.self.inside.actors.items c.args.i c.index_mut.result.now
+    (subst (λ n. c.args.i < n) (sym c.self.invariant.run.actors) thread) in
+    subst (λ (b : Actor). IsPlaced c.self.inside.layout.table b) (sym here)
+    (own _ c.self.invariant.run c.args.i thread).placed
 
 pub list_event-requires-clause-seats : goal.list_event-requires-clause-seats
 list_event-requires-clause-seats c =
@@ -56,10 +76,15 @@ list_event-requires-clause-seats c =
     let spare = subst (λ (z : Run). 1 ≤ spare_in z) (sym c.self.view_is) c.requires.spare in
     let kept = c.self.invariant.goes_on c.args.i thread in
     let within = subst (λ n. c.args.i < n) (sym c.self.invariant.run.actors) thread in
-    let found = c.apply-found.ensures.old ∙ ap (λ (o : Op). word_at c.self.inside.image (address_of o)) (c.next-op.ensures ∙ ap (λ (b : Actor). next_of c.self.inside.program c.self.inside.layout.table b) (c.index.ensures ∙ actor_is c.self.inside.actors.items c.args.i c.index.result.now within)) in
+    let found =
+    c.apply-found.ensures.old
+    ∙ ap (λ (o : Op). word_at c.self.inside.image (address_of o))
+    (c.next-op.ensures ∙ ap (λ (b : Actor). next_of c.self.inside.program c.self.inside.layout.table b) (c.index.ensures ∙ actor_is c.self.inside.actors.items c.args.i c.index.result.now within)) in
     seats_for _ c.self.invariant.run c.args.i thread spare kept c.resume-outcome.result
     (c.resume-outcome.ensures.outcome
-    ∙ ap (λ (b : Actor). (resumed_at c.self.inside.program c.self.inside.layout.table b b.counter c.apply-found.result.old).1) (c.index_mut.ensures.value ∙ actor_is c.self.inside.actors.items c.args.i c.index_mut.result.now within)
+    ∙ ap
+    (λ (b : Actor). (resumed_at c.self.inside.program c.self.inside.layout.table b b.counter c.apply-found.result.old).1)
+    (c.index_mut.ensures.value ∙ actor_is c.self.inside.actors.items c.args.i c.index_mut.result.now within)
     ∙ ap (λ n. (resumed_at c.self.inside.program c.self.inside.layout.table (actors_in c.self.inside.actors.items c.args.i) (actors_in c.self.inside.actors.items c.args.i).counter n).1) found)
 
 -- ---- behind the step
@@ -67,7 +92,8 @@ list_event-requires-clause-seats c =
 threads_known : (c : goal.After-list_event) → c.args.i < c.self.inside.program.threads
 threads_known c = subst (λ (z : Run). c.args.i < z.program.threads) (sym c.self.view_is) c.requires.thread
 
-some_spare : (c : goal.After-list_event) → 1 ≤ spare_in (record { program = c.self.inside.program; table = c.self.inside.layout.table; words = c.self.inside.image; actors = c.self.inside.actors.items; events = c.self.inside.events; made = c.self.inside.made })
+some_spare : (c : goal.After-list_event)
+    → 1 ≤ spare_in (record { program = c.self.inside.program; table = c.self.inside.layout.table; words = c.self.inside.image; actors = c.self.inside.actors.items; events = c.self.inside.events; made = c.self.inside.made })
 some_spare c = subst (λ (z : Run). 1 ≤ spare_in z) (sym c.self.view_is) c.requires.spare
 
 is_kept : (c : goal.After-list_event) → IsKept (actors_in c.self.inside.actors.items c.args.i).counter
@@ -77,21 +103,39 @@ in_list : (c : goal.After-list_event) → c.args.i < length c.self.inside.actors
 in_list c = subst (λ n. c.args.i < n) (sym c.self.invariant.run.actors) (threads_known c)
 
 -- the operation, and the word that it found
-op_is : (c : goal.After-list_event) → c.next-op.result ≡ next_of c.self.inside.program c.self.inside.layout.table (actors_in c.self.inside.actors.items c.args.i)
-op_is c = c.next-op.ensures ∙ ap (λ (b : Actor). next_of c.self.inside.program c.self.inside.layout.table b) (c.index.ensures ∙ actor_is c.self.inside.actors.items c.args.i c.index.result.now (in_list c))
+op_is : (c : goal.After-list_event)
+    → c.next-op.result ≡ next_of c.self.inside.program c.self.inside.layout.table (actors_in c.self.inside.actors.items c.args.i)
+op_is c =
+    c.next-op.ensures
+    ∙ ap (λ (b : Actor). next_of c.self.inside.program c.self.inside.layout.table b)
+    (c.index.ensures ∙ actor_is c.self.inside.actors.items c.args.i c.index.result.now (in_list c))
 
-found_is : (c : goal.After-list_event) → c.apply-found.result.old ≡ word_at c.self.inside.image (address_of (next_of c.self.inside.program c.self.inside.layout.table (actors_in c.self.inside.actors.items c.args.i)))
+found_is : (c : goal.After-list_event)
+    → c.apply-found.result.old ≡ word_at c.self.inside.image (address_of (next_of c.self.inside.program c.self.inside.layout.table (actors_in c.self.inside.actors.items c.args.i)))
 found_is c = c.apply-found.ensures.old ∙ ap (λ (o : Op). word_at c.self.inside.image (address_of o)) (op_is c)
 
 -- the actor behind it, and the outcome
-actor_now : (c : goal.After-list_event) → c.index_mut.result.now ≡ actors_in c.self.inside.actors.items c.args.i
-actor_now c = c.index_mut.ensures.value ∙ actor_is c.self.inside.actors.items c.args.i c.index_mut.result.now (in_list c)
+actor_now : (c : goal.After-list_event)
+    → c.index_mut.result.now ≡ actors_in c.self.inside.actors.items c.args.i
+actor_now c =
+    c.index_mut.ensures.value
+    ∙ actor_is c.self.inside.actors.items c.args.i c.index_mut.result.now (in_list c)
 
-moved_is : (c : goal.After-list_event) → c.resume-outcome.new.a ≡ (resumed_at c.self.inside.program c.self.inside.layout.table (actors_in c.self.inside.actors.items c.args.i) (actors_in c.self.inside.actors.items c.args.i).counter c.apply-found.result.old).0
-moved_is c = c.resume-outcome.ensures.moved ∙ ap (λ (b : Actor). (resumed_at c.self.inside.program c.self.inside.layout.table b b.counter c.apply-found.result.old).0) (actor_now c)
+moved_is : (c : goal.After-list_event)
+    → c.resume-outcome.new.a ≡ (resumed_at c.self.inside.program c.self.inside.layout.table (actors_in c.self.inside.actors.items c.args.i) (actors_in c.self.inside.actors.items c.args.i).counter c.apply-found.result.old).0
+moved_is c =
+    c.resume-outcome.ensures.moved
+    ∙ ap
+    (λ (b : Actor). (resumed_at c.self.inside.program c.self.inside.layout.table b b.counter c.apply-found.result.old).0)
+    (actor_now c)
 
-outcome_is : (c : goal.After-list_event) → c.resume-outcome.result ≡ (resumed_at c.self.inside.program c.self.inside.layout.table (actors_in c.self.inside.actors.items c.args.i) (actors_in c.self.inside.actors.items c.args.i).counter c.apply-found.result.old).1
-outcome_is c = c.resume-outcome.ensures.outcome ∙ ap (λ (b : Actor). (resumed_at c.self.inside.program c.self.inside.layout.table b b.counter c.apply-found.result.old).1) (actor_now c)
+outcome_is : (c : goal.After-list_event)
+    → c.resume-outcome.result ≡ (resumed_at c.self.inside.program c.self.inside.layout.table (actors_in c.self.inside.actors.items c.args.i) (actors_in c.self.inside.actors.items c.args.i).counter c.apply-found.result.old).1
+outcome_is c =
+    c.resume-outcome.ensures.outcome
+    ∙ ap
+    (λ (b : Actor). (resumed_at c.self.inside.program c.self.inside.layout.table b b.counter c.apply-found.result.old).1)
+    (actor_now c)
 
 -- the run before and behind the step, and what it answers
 abbrev run_before : goal.After-list_event → Run
@@ -123,19 +167,30 @@ is_step c = record {
   table = refl;
 }
 
-outcome_found : (c : goal.After-list_event) → c.resume-outcome.result ≡ (resumed_at c.self.inside.program c.self.inside.layout.table (actors_in c.self.inside.actors.items c.args.i) (actors_in c.self.inside.actors.items c.args.i).counter
+outcome_found : (c : goal.After-list_event)
+    → c.resume-outcome.result ≡ (resumed_at c.self.inside.program c.self.inside.layout.table (actors_in c.self.inside.actors.items c.args.i) (actors_in c.self.inside.actors.items c.args.i).counter
     (word_at c.self.inside.image (address_of (next_of c.self.inside.program c.self.inside.layout.table (actors_in c.self.inside.actors.items c.args.i))))).1
-outcome_found c = outcome_is c ∙ ap (λ n. (resumed_at c.self.inside.program c.self.inside.layout.table (actors_in c.self.inside.actors.items c.args.i) (actors_in c.self.inside.actors.items c.args.i).counter n).1) (found_is c)
+outcome_found c =
+    outcome_is c
+    ∙ ap
+    (λ n. (resumed_at c.self.inside.program c.self.inside.layout.table (actors_in c.self.inside.actors.items c.args.i) (actors_in c.self.inside.actors.items c.args.i).counter n).1)
+    (found_is c)
 
 -- the actors behind the step, by the word that it found
-actors_are : (c : goal.After-list_event) → (run_now c).actors ≡ slice_set (run_before c).actors c.args.i (resumed_at c.self.inside.program c.self.inside.layout.table (actors_in c.self.inside.actors.items c.args.i) (actors_in c.self.inside.actors.items c.args.i).counter
+actors_are : (c : goal.After-list_event)
+    → (run_now c).actors ≡ slice_set (run_before c).actors c.args.i (resumed_at c.self.inside.program c.self.inside.layout.table (actors_in c.self.inside.actors.items c.args.i) (actors_in c.self.inside.actors.items c.args.i).counter
     (word_at c.self.inside.image (address_of (next_of c.self.inside.program c.self.inside.layout.table (actors_in c.self.inside.actors.items c.args.i))))).0
-actors_are c = (is_step c).actors ∙ ap (λ n. slice_set c.self.inside.actors.items c.args.i (resumed_at c.self.inside.program c.self.inside.layout.table (actors_in c.self.inside.actors.items c.args.i) (actors_in c.self.inside.actors.items c.args.i).counter n).0) (found_is c)
+actors_are c =
+    (is_step c).actors
+    ∙ ap
+    (λ n. slice_set c.self.inside.actors.items c.args.i (resumed_at c.self.inside.program c.self.inside.layout.table (actors_in c.self.inside.actors.items c.args.i) (actors_in c.self.inside.actors.items c.args.i).counter n).0)
+    (found_is c)
 
 keeps_run : (c : goal.After-list_event) → KeepsRun (run_now c)
 keeps_run c =
     let step = is_step c in
-    run_after (run_before c) c.self.invariant.run c.args.i (threads_known c) (some_spare c) (is_kept c) _ (entry_of c) (op_is c) (found_is c) (outcome_found c) refl refl step.words
+    run_after (run_before c) c.self.invariant.run c.args.i (threads_known c) (some_spare c) (is_kept c) _
+    (entry_of c) (op_is c) (found_is c) (outcome_found c) refl refl step.words
     (actors_are c) step.made step.events
 
 pub invariant_of-self : goal.invariant_of-self
@@ -145,10 +200,13 @@ invariant_of-self c = record {
 }
 
 pub returns-clause-entry : goal.returns-clause-entry
-returns-clause-entry c = subst (λ (z : Run). IsStep z c.args.i (entry_of c) (run_now c)) c.self.view_is (is_step c)
+returns-clause-entry c =
+    subst (λ (z : Run). IsStep z c.args.i (entry_of c) (run_now c)) c.self.view_is (is_step c)
 
 pub returns-clause-right : goal.returns-clause-right
-returns-clause-right c = subst (λ (z : Run). IsRight z c.args.i (record { op = c.next-op.result; old = c.apply-found.result.old; outcome = c.resume-outcome.result })) c.self.view_is
+returns-clause-right c =
+    subst
+    (λ (z : Run). IsRight z c.args.i (record { op = c.next-op.result; old = c.apply-found.result.old; outcome = c.resume-outcome.result })) c.self.view_is
     (right (record { program = c.self.inside.program; table = c.self.inside.layout.table; words = c.self.inside.image; actors = c.self.inside.actors.items; events = c.self.inside.events; made = c.self.inside.made })
     c.self.invariant.run c.args.i (threads_known c) (some_spare c) (is_kept c) _ (op_is c) (found_is c) (outcome_found c))
 

@@ -15,10 +15,13 @@ returns-clause-unheld c =
 
 pub returns-clause-found : goal.returns-clause-found
 returns-clause-found c =
-    ap (λ m. get m (c.in_ok-key.key, c.self.inside.made)) (held_more c.self.inside.entries _ _ _ c.in_ok-key.ensures.was_vacant c.in_ok-key.ensures.updates)
+    ap (λ m. get m (c.in_ok-key.key, c.self.inside.made))
+    (held_more c.self.inside.entries _ _ _ c.in_ok-key.ensures.was_vacant c.in_ok-key.ensures.updates)
     ∙ found_inserted _ _ _
 
 pub returns-clause-kept : goal.returns-clause-kept
 returns-clause-kept c = λ pair held is.
-    ap (λ m. get m pair) (held_more c.self.inside.entries _ _ _ c.in_ok-key.ensures.was_vacant c.in_ok-key.ensures.updates)
-    ∙ kept_inserted _ _ _ (vacant_held c.self.inside.entries _ _ c.in_ok-key.ensures.was_vacant) pair held (ap (λ l. get l.held pair) c.self.view_is ∙ is)
+    ap (λ m. get m pair)
+    (held_more c.self.inside.entries _ _ _ c.in_ok-key.ensures.was_vacant c.in_ok-key.ensures.updates)
+    ∙ kept_inserted _ _ _ (vacant_held c.self.inside.entries _ _ c.in_ok-key.ensures.was_vacant) pair held
+    (ap (λ l. get l.held pair) c.self.view_is ∙ is)

@@ -59,13 +59,17 @@ returns-clause-opens c =
       slots = λ j. ap (λ (r : Rec). r 44 j) here ∙ none 44 j;
     }
   where
-    elements : (j : ℕ) → memory_of c.args.self.now.table c.fill.new.image 0 4 0 43 j ≡ slice_index c.args.p.now.env.nthreads j
+    elements : (j : ℕ)
+        → memory_of c.args.self.now.table c.fill.new.image 0 4 0 43 j ≡ slice_index c.args.p.now.env.nthreads j
     elements zero = ap (λ (r : Rec). r 43 0) c.fill.ensures.here ∙ c.element.ensures
     elements (suc zero) = ap (λ (r : Rec). r 43 1) c.fill.ensures.here ∙ c.element-2.ensures
     elements (suc (suc zero)) = ap (λ (r : Rec). r 43 2) c.fill.ensures.here ∙ c.element-3.ensures
     elements (suc (suc (suc zero))) = ap (λ (r : Rec). r 43 3) c.fill.ensures.here ∙ c.element-4.ensures
     elements (suc (suc (suc (suc j)))) =
         ap (λ (r : Rec). r 43 (suc (suc (suc (suc j))))) c.fill.ensures.here
-        ∙ past_four (memory_of c.args.self.now.table c.args.image.now 0 4 0 43) c.element.result c.element-2.result c.element-3.result c.element-4.result (suc (suc (suc (suc j)))) (omega arith)
+        ∙ past_four
+        (memory_of c.args.self.now.table c.args.image.now 0 4 0 43) c.element.result c.element-2.result c.element-3.result c.element-4.result
+        (suc (suc (suc (suc j)))) (omega arith)
         ∙ c.requires.zero 43 (suc (suc (suc (suc j))))
-        ∙ sym (get_or_past c.args.p.now.env.nthreads (suc (suc (suc (suc j)))) 0 (omega (arith, (Rules-from_accepted c.args.p.now).count.1)))
+        ∙ sym
+        (get_or_past c.args.p.now.env.nthreads (suc (suc (suc (suc j)))) 0 (omega (arith, (Rules-from_accepted c.args.p.now).count.1)))

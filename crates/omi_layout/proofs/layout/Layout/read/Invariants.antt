@@ -6,5 +6,6 @@ use Rattle.omi_layout.proofs.layout.Layout.read.Given as goal
 abbrev pub invariant-loop-at : goal.invariant-loop-at
 invariant-loop-at g l = record {
   words : length l.table ≡ 56;
-  read : (j : ℕ) → j < l.at → g.M.WordMemory.words l.memory (table_address l.address j) ≡ Some (slice_index l.table j);
+  read : (j : ℕ) → j < l.at
+      → g.M.WordMemory.words l.memory (table_address l.address j) ≡ Some (slice_index l.table j);
 }

@@ -7,7 +7,8 @@ small : (c : Start) → c.args.creator * slice_index_or c.args.self.now.table 11
 small c =
     let w = c.args.self.now.table in
     let v = c.args.self.now.valid in
-    index_few w 4 c.args.creator c.args.slot (omega arith) (threads_of_valid w v) (omega (arith, tasks_of_valid w v)) c.requires
+    index_few w 4 c.args.creator c.args.slot (omega arith) (threads_of_valid w v)
+    (omega (arith, tasks_of_valid w v)) c.requires
 
 pub overflow_mul-index : goal.overflow_mul-index
 overflow_mul-index c = omega (arith, small (goal.at.overflow_mul-index c).Start)

@@ -14,12 +14,15 @@ pub load-requires : goal.load-requires
 load-requires c =
     let alone = c.requires.alone in
     let key = c.args.words.now.key in
-    let at : c.image_words.result ≡ image_words key.layout.value.table = c.image_words.ensures ∙ ap (λ (z : Layout). image_words z.table) (sym c.requires.layout) in
+    let at : c.image_words.result ≡ image_words key.layout.value.table =
+    c.image_words.ensures ∙ ap (λ (z : Layout). image_words z.table) (sym c.requires.layout) in
     let count = c.requires.count in
     let is = c.image_words.ensures in (
       c.requires.seated,
       omega (arith, count, is),
-      subst (λ n. Allows (Keeps key.program.value key.layout.value key.on) c.args.words.now.table_id.slots c.args.self.now.seat.id c.args.self.now.seat.me n (λ found. found) (looked (step 0 0 0 0 none) c.args.self.now.seat.me)) (sym at)
+      subst
+          (λ n. Allows (Keeps key.program.value key.layout.value key.on) c.args.words.now.table_id.slots c.args.self.now.seat.id c.args.self.now.seat.me n (λ found. found) (looked (step 0 0 0 0 none) c.args.self.now.seat.me))
+          (sym at)
           (subst (λ (m : Seated Part). Allows (Keeps key.program.value key.layout.value key.on) c.args.words.now.table_id.slots c.args.self.now.seat.id m (image_words key.layout.value.table) (λ found. found) (looked (step 0 0 0 0 none) m)) (sym alone.1)
           (look_allowed key.program.value key.layout.value key.on c.args.words.now.table_id.slots c.args.self.now.seat.id alone.0 (step 0 0 0 0 none))),
     )

@@ -30,7 +30,9 @@ apply-old-requires-clause-able c =
 pub overflow_add-step : goal.overflow_add-step
 overflow_add-step c =
     let ready = c.requires.ready in
-    let count = c.len.ensures ∙ count_is c.args.p.now c.args.l.now c.args.words.now.table_id ready.0 c.args.self.now ready.1.work in
+    let count =
+    c.len.ensures
+    ∙ count_is c.args.p.now c.args.l.now c.args.words.now.table_id ready.0 c.args.self.now ready.1.work in
     let few = ready.1.few in
     omega (arith, count, few)
 
@@ -45,15 +47,19 @@ list_event-requires-clause-seats c =
     let ready = c.requires.ready in
     let work = ready.1.work in
     let found = c.apply-old.ensures.found ready.0 work.knows in
-    let few : seats_of c.resume-outcome.result ≤ claims_known ready.0.known + 1 = subst (λ (o : Outcome). seats_of o ≤ claims_known ready.0.known + 1) (sym (outcome_is c.args.p.now c.args.l.now c.args.words.now.table_id ready.0 c.args.self.now work c.apply-old.result c.resume-outcome.result c.resume-outcome.ensures.outcome)) found.seats in
+    let few : seats_of c.resume-outcome.result ≤ claims_known ready.0.known + 1 =
+    subst (λ (o : Outcome). seats_of o ≤ claims_known ready.0.known + 1)
+    (sym (outcome_is c.args.p.now c.args.l.now c.args.words.now.table_id ready.0 c.args.self.now work c.apply-old.result c.resume-outcome.result c.resume-outcome.ensures.outcome)) found.seats in
     let room = ready.1.room.events in
     omega (arith, few, room)
 
 pub returns-clause-stepped : goal.returns-clause-stepped
 returns-clause-stepped c x work =
     let found = c.apply-old.ensures.found x work.knows in
-    let out = outcome_is c.args.p.now c.args.l.now c.args.words.now.table_id x c.args.self.now work c.apply-old.result c.resume-outcome.result c.resume-outcome.ensures.outcome in
-    let count = c.len.ensures ∙ count_is c.args.p.now c.args.l.now c.args.words.now.table_id x c.args.self.now work in
+    let out =
+    outcome_is c.args.p.now c.args.l.now c.args.words.now.table_id x c.args.self.now work c.apply-old.result c.resume-outcome.result c.resume-outcome.ensures.outcome in
+    let count =
+    c.len.ensures ∙ count_is c.args.p.now c.args.l.now c.args.words.now.table_id x c.args.self.now work in
     record {
       found = c.apply-old.result;
       work = record {
@@ -65,7 +71,8 @@ returns-clause-stepped c x work =
         knows = found.knows;
         actor =
             c.resume-outcome.ensures.moved
-            ∙ ap (λ (z : Actor × Outcome). z.0) (resumed_is c.args.p.now c.args.l.now c.args.words.now.table_id x c.args.self.now work c.apply-old.result)
+            ∙ ap (λ (z : Actor × Outcome). z.0)
+            (resumed_is c.args.p.now c.args.l.now c.args.words.now.table_id x c.args.self.now work c.apply-old.result)
             ∙ sym (actor_one_more x.known c.apply-old.result);
         made =
             c.push_reserved.ensures.added
@@ -79,11 +86,14 @@ returns-clause-stepped c x work =
       };
       came = out;
       room = λ m room.
-          let fits : seats_of c.resume-outcome.result ≤ claims_known x.known + 1 = subst (λ (o : Outcome). seats_of o ≤ claims_known x.known + 1) (sym out) found.seats in
+          let fits : seats_of c.resume-outcome.result ≤ claims_known x.known + 1 =
+          subst (λ (o : Outcome). seats_of o ≤ claims_known x.known + 1) (sym out) found.seats in
           let made = room.made in
           let fewer = c.push_reserved.ensures.spare in
           let claims : claims_at (claims_known x.known) c.resume-outcome.result ≡ claims_known (finds c.apply-old.result x.known) =
-          ap (claims_at (claims_known x.known)) out ∙ sym (claims_more 0 (steps_known x.known) (entry_known x.known c.apply-old.result)) ∙ ap (claims_from 0) (sym (steps_one_more x.known c.apply-old.result)) in
+          ap (claims_at (claims_known x.known)) out
+          ∙ sym (claims_more 0 (steps_known x.known) (entry_known x.known c.apply-old.result))
+          ∙ ap (claims_from 0) (sym (steps_one_more x.known c.apply-old.result)) in
           record {
             made = omega (arith, made, fewer);
             events = subst (λ n. m ≤ room_for_steps c.list_event.new.events n) claims
@@ -93,4 +103,5 @@ returns-clause-stepped c x work =
     }
   where
     op_is : c.next-op.result ≡ (entry_known x.known c.apply-old.result).op
-    op_is = c.next-op.ensures ∙ next_is c.args.p.now c.args.l.now c.args.words.now.table_id x c.args.self.now work
+    op_is =
+        c.next-op.ensures ∙ next_is c.args.p.now c.args.l.now c.args.words.now.table_id x c.args.self.now work

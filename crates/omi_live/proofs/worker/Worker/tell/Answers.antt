@@ -14,12 +14,15 @@ pub store-requires : goal.store-requires
 store-requires c =
     let stops = c.requires.stops in
     let key = c.args.words.now.key in
-    let at : c.image_words.result ≡ image_words key.layout.value.table = c.image_words.ensures ∙ ap (λ (z : Layout). image_words z.table) (sym c.requires.layout) in
+    let at : c.image_words.result ≡ image_words key.layout.value.table =
+    c.image_words.ensures ∙ ap (λ (z : Layout). image_words z.table) (sym c.requires.layout) in
     let count = c.requires.count in
     let is = c.image_words.ensures in (
       c.requires.seated,
       omega (arith, count, is),
-      subst (λ n. Allows (Keeps key.program.value key.layout.value key.on) c.args.words.now.table_id.slots c.args.self.now.seat.id c.args.self.now.seat.me n (λ found. 1) (λ found. raised (step 0 0 0 0 none) c.args.self.now.seat.me 1)) (sym at)
+      subst
+          (λ n. Allows (Keeps key.program.value key.layout.value key.on) c.args.words.now.table_id.slots c.args.self.now.seat.id c.args.self.now.seat.me n (λ found. 1) (λ found. raised (step 0 0 0 0 none) c.args.self.now.seat.me 1))
+          (sym at)
           (subst (λ (m : Seated Part). Allows (Keeps key.program.value key.layout.value key.on) c.args.words.now.table_id.slots c.args.self.now.seat.id m (image_words key.layout.value.table) (λ found. 1) (λ found. raised (step 0 0 0 0 none) m 1)) (sym stops.1)
           (raise_allowed key.program.value key.layout.value key.on c.args.words.now.table_id.slots c.args.self.now.seat.id stops.0 (step 0 0 0 0 none) stops.2)),
     )

@@ -15,7 +15,8 @@ use Rattle.omi_live.proofs.worker.Worker.work.Goals.{then-stops_at, else-stops_a
 use Rattle.omi_live.proofs.worker.Worker.work.Goals as goal
 
 pub loop-step-init : goal.loop-step-init
-loop-step-init g c = not_begun c.args.p.now c.args.l.now c.args.words.now.table_id c.args.on c.args.budget c.args.self.now c.requires.start c.requires.room
+loop-step-init g c =
+    not_begun c.args.p.now c.args.l.now c.args.words.now.table_id c.args.on c.args.budget c.args.self.now c.requires.start c.requires.room
 
 pub returns-then-is_told-clause-worked : goal.returns-then-is_told-clause-worked
 returns-then-is_told-clause-worked g c =
@@ -70,7 +71,8 @@ pub tell-requires-clause-seated : goal.tell-requires-clause-seated
 tell-requires-clause-seated g c =
     let now = c.loop-step.invariant in
     let b = stepped_on c.args.p.now c.args.l.now c.args.words.now.table_id c.args.on c.args.budget c.loop-step.step c.args.self.now.thread c.loop-step.self c.is_told.new.self c.step-outcome.new.self c.is_told.result c.step-outcome.result
-    now (c.is_told.ensures.looked now.part now.work.knows) c.is_told.ensures.same c.if-is_told.false c.loop-step-test.true c.step-outcome.ensures.stepped c.step-outcome.ensures.thread in
+    now
+    (c.is_told.ensures.looked now.part now.work.knows) c.is_told.ensures.same c.if-is_told.false c.loop-step-test.true c.step-outcome.ensures.stepped c.step-outcome.ensures.thread in
     b.work.table
 
 pub tell-requires-clause-stops : goal.tell-requires-clause-stops
@@ -88,15 +90,20 @@ pub loop-step-preserved : goal.loop-step-preserved
 loop-step-preserved g c =
     let now = c.loop-step.invariant in
     let b = stepped_on c.args.p.now c.args.l.now c.args.words.now.table_id c.args.on c.args.budget c.loop-step.step c.args.self.now.thread c.loop-step.self c.is_told.new.self c.step-outcome.new.self c.is_told.result c.step-outcome.result
-    now (c.is_told.ensures.looked now.part now.work.knows) c.is_told.ensures.same c.if-is_told.false c.loop-step-test.true c.step-outcome.ensures.stepped c.step-outcome.ensures.thread in
+    now
+    (c.is_told.ensures.looked now.part now.work.knows) c.is_told.ensures.same c.if-is_told.false c.loop-step-test.true c.step-outcome.ensures.stepped c.step-outcome.ensures.thread in
     let not_done : ends_at c.step-outcome.result ≡ false = sym c.ends_at.ensures ∙ c.if-ends_at.false in
     elim c.if-stops_at.branch [
       | then-stops_at w ↦
-          subst (λ (worker : Worker). IsWorking c.args.p.now c.args.l.now c.args.words.now.table_id c.args.on c.args.budget (c.loop-step.step + 1) c.args.self.now.thread worker) (sym w.self-is)
+          subst
+          (λ (worker : Worker). IsWorking c.args.p.now c.args.l.now c.args.words.now.table_id c.args.on c.args.budget (c.loop-step.step + 1) c.args.self.now.thread worker)
+          (sym w.self-is)
           (behind_told c.args.p.now c.args.l.now c.args.words.now.table_id c.args.on c.args.budget c.loop-step.step c.args.self.now.thread c.step-outcome.new.self w.tell.new.self c.step-outcome.result not_done (sym c.stops_at.ensures ∙ w.if-stops_at.true) b
           (w.tell.ensures.told b.part b.work.knows) w.tell.ensures.same)
       | else-stops_at w ↦
-          subst (λ (worker : Worker). IsWorking c.args.p.now c.args.l.now c.args.words.now.table_id c.args.on c.args.budget (c.loop-step.step + 1) c.args.self.now.thread worker) (sym w.self-is)
+          subst
+          (λ (worker : Worker). IsWorking c.args.p.now c.args.l.now c.args.words.now.table_id c.args.on c.args.budget (c.loop-step.step + 1) c.args.self.now.thread worker)
+          (sym w.self-is)
           (behind_goes c.args.p.now c.args.l.now c.args.words.now.table_id c.args.on c.args.budget c.loop-step.step c.args.self.now.thread c.step-outcome.new.self c.step-outcome.result not_done (sym c.stops_at.ensures ∙ w.if-stops_at.false) b)
     ]
 

@@ -9,5 +9,6 @@ returns c =
     let a = c.self.inside in
     let len = length-view a.len a.tasks a.threads c.self.invariant in
     let whole = ap length c.self.view_is in
-    subst (λ (ms : List (Tid × ℕ)). slice_get ms c.args.at ≡ Some (get_or a.tasks c.args.at no_task, get_or a.threads c.args.at 0)) c.self.view_is
+    subst
+    (λ (ms : List (Tid × ℕ)). slice_get ms c.args.at ≡ Some (get_or a.tasks c.args.at no_task, get_or a.threads c.args.at 0)) c.self.view_is
     (member_at a.len c.args.at no_task a.tasks a.threads (omega (arith, len, whole)) (omega (arith, len, whole, c.self.invariant.limit, c.self.invariant.tasks.whole)) (c.self.invariant.tasks.whole ∙ sym c.self.invariant.threads.whole))

@@ -13,17 +13,22 @@ abbrev back : List (Tid × ℕ) → Inside
 back ms = record { len = length ms; tasks = padded no_task (tasks_of ms); threads = padded 0 (threads_of ms) }
 
 abbrev same : Inside → Inside → Bool
-same x y = (eqb x.len y.len && pointwise (tid.eq-value).it x.tasks y.tasks) && pointwise eqb x.threads y.threads
+same x y =
+    (eqb x.len y.len && pointwise (tid.eq-value).it x.tasks y.tasks) && pointwise eqb x.threads y.threads
 
 grouped : (a b c : Bool) → ((a && b) && c) ≡ (a && (b && c))
 grouped true b c = refl
 grouped false b c = refl
 
-by_field : (x y : Inside) → same x y ≡ (eqb x.len y.len && (pointwise (tid.eq-value).it x.tasks y.tasks && pointwise eqb x.threads y.threads))
-by_field x y = grouped (eqb x.len y.len) (pointwise (tid.eq-value).it x.tasks y.tasks) (pointwise eqb x.threads y.threads)
+by_field : (x y : Inside)
+    → same x y ≡ (eqb x.len y.len && (pointwise (tid.eq-value).it x.tasks y.tasks && pointwise eqb x.threads y.threads))
+by_field x y =
+    grouped (eqb x.len y.len) (pointwise (tid.eq-value).it x.tasks y.tasks)
+    (pointwise eqb x.threads y.threads)
 
 pub returns : goal.returns
 returns c =
     let left = sym (team_back c.t1-1.inside c.t1-1.invariant) ∙ ap back c.t1-1.view_is in
     let right = sym (team_back c.t2-1.inside c.t2-1.invariant) ∙ ap back c.t2-1.view_is in
-    rw (c.and_eq-2.ensures, c.and_eq.ensures, c.eq.ensures) (ap₂ same left right ∙ by_field (back c.args.self.now) (back c.args.other.now))
+    rw (c.and_eq-2.ensures, c.and_eq.ensures, c.eq.ensures)
+    (ap₂ same left right ∙ by_field (back c.args.self.now) (back c.args.other.now))

@@ -10,4 +10,6 @@ returns-clause-words g c = λ words told.
     let fifth = ap (λ t. t.words) c.in_ok-fourth.ensures.same ∙ fourth in
     c.all_of.ensures
     ∙ five_are words c.args.at c.in_ok-first.first c.in_ok-second.second c.in_ok-third.third c.in_ok-fourth.fourth c.in_ok-fifth.fifth
-    (c.in_ok-first.ensures.word words told) (c.in_ok-second.ensures.word words second) (c.in_ok-third.ensures.word words third) (c.in_ok-fourth.ensures.word words fourth) (c.in_ok-fifth.ensures.word words fifth)
+    (c.in_ok-first.ensures.word words told) (c.in_ok-second.ensures.word words second)
+    (c.in_ok-third.ensures.word words third) (c.in_ok-fourth.ensures.word words fourth)
+    (c.in_ok-fifth.ensures.word words fifth)

@@ -9,7 +9,8 @@ returns-in_err-opened-clause-accepts g c = λ bytes core holds is.
     rw (p.1, p.2) (c.in_err-opened.ensures.accepts bytes core holds is)
 
 pub returns-clause-contexts : goal.returns-clause-contexts
-returns-clause-contexts g c = λ bytes core holds is. c.of.ensures.contexts ∙ c.in_ok-opened.ensures.contexts bytes core holds is
+returns-clause-contexts g c =
+    λ bytes core holds is. c.of.ensures.contexts ∙ c.in_ok-opened.ensures.contexts bytes core holds is
 
 pub returns-clause-told : goal.returns-clause-told
 returns-clause-told g c = λ bytes core holds is.

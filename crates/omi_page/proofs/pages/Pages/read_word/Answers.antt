@@ -27,12 +27,14 @@ invariant_of-self-in-Some-1 g c = record {
 
 pub returns-in-Some-clause-mapped : goal.returns-in-Some-clause-mapped
 returns-in-Some-clause-mapped g c = λ words told.
-    mapped _ c.args.self.now.contexts c.args.self.now.spans words c.args.addr told c.args.self.now.parts c.if-addr-ne0.false (sym c.stands.ensures.stands ∙ c.if-not-stands.false)
+    mapped _ c.args.self.now.contexts c.args.self.now.spans words c.args.addr told c.args.self.now.parts c.if-addr-ne0.false
+    (sym c.stands.ensures.stands ∙ c.if-not-stands.false)
 
 pub returns-in-Some-clause-bytes : goal.returns-in-Some-clause-bytes
 returns-in-Some-clause-bytes g c = λ words order told told_order got.
     let word = c.in-Some.ensures.word in
-    in_page _ c.args.self.now.contexts c.args.self.now.spans words order c.args.addr c.in-Some.word word.0.items told told_order c.args.self.now.parts c.if-addr-ne0.false (sym c.stands.ensures.stands ∙ c.if-not-stands.false)
+    in_page _ c.args.self.now.contexts c.args.self.now.spans words order c.args.addr c.in-Some.word word.0.items told told_order c.args.self.now.parts c.if-addr-ne0.false
+    (sym c.stands.ensures.stands ∙ c.if-not-stands.false)
     (λ bytes holds. c.args.self.now.pages bytes holds _ word.0 word.1) word.2
 
 pub invariant_of-self-then-is_err : goal.invariant_of-self-then-is_err
@@ -52,8 +54,10 @@ invariant_of-self-then-is_err g c =
 pub invariant_of-self-2 : goal.invariant_of-self-2
 invariant_of-self-2 g c =
     let before = sym (ap (λ t. t c.args.self.now.name.now) c.load-loaded.ensures.same) in
-    let room : c.args.self.now.buffer.len ≡ length c.load-loaded.new.buffer = sym (c.load-loaded.ensures.length ∙ c.deref_mut.ensures.len) in
-    let whole = c.deref.ensures.value ∙ lent_whole c.args.self.now.buffer.len c.load-loaded.new.buffer _ room in
+    let room : c.args.self.now.buffer.len ≡ length c.load-loaded.new.buffer =
+    sym (c.load-loaded.ensures.length ∙ c.deref_mut.ensures.len) in
+    let whole =
+    c.deref.ensures.value ∙ lent_whole c.args.self.now.buffer.len c.load-loaded.new.buffer _ room in
     record {
       room = c.args.self.now.room;
       length = λ content told. c.args.self.now.length content (before ∙ told);
@@ -76,12 +80,16 @@ invariant_of-self-2 g c =
 
 pub returns-clause-mapped : goal.returns-clause-mapped
 returns-clause-mapped g c = λ words told.
-    mapped _ c.args.self.now.contexts c.args.self.now.spans words c.args.addr told c.args.self.now.parts c.if-addr-ne0.false (sym c.stands.ensures.stands ∙ c.if-not-stands.false)
+    mapped _ c.args.self.now.contexts c.args.self.now.spans words c.args.addr told c.args.self.now.parts c.if-addr-ne0.false
+    (sym c.stands.ensures.stands ∙ c.if-not-stands.false)
 
 pub returns-clause-bytes : goal.returns-clause-bytes
 returns-clause-bytes g c = λ words order told told_order got.
-    let room : c.args.self.now.buffer.len ≡ length c.load-loaded.new.buffer = sym (c.load-loaded.ensures.length ∙ c.deref_mut.ensures.len) in
-    let whole = c.deref-2.ensures.value ∙ lent_whole c.args.self.now.buffer.len c.load-loaded.new.buffer _ room in
-    in_page _ c.args.self.now.contexts c.args.self.now.spans words order c.args.addr c.word_of.result c.load-loaded.new.buffer told told_order c.args.self.now.parts c.if-addr-ne0.false (sym c.stands.ensures.stands ∙ c.if-not-stands.false)
+    let room : c.args.self.now.buffer.len ≡ length c.load-loaded.new.buffer =
+    sym (c.load-loaded.ensures.length ∙ c.deref_mut.ensures.len) in
+    let whole =
+    c.deref-2.ensures.value ∙ lent_whole c.args.self.now.buffer.len c.load-loaded.new.buffer _ room in
+    in_page _ c.args.self.now.contexts c.args.self.now.spans words order c.args.addr c.word_of.result c.load-loaded.new.buffer told told_order c.args.self.now.parts c.if-addr-ne0.false
+    (sym c.stands.ensures.stands ∙ c.if-not-stands.false)
     (λ bytes holds. not_err c.load-loaded.result _ (sym c.is_err.ensures.value ∙ c.if-is_err.false) (c.load-loaded.ensures.page bytes holds))
     (c.word_of.ensures ∙ ap (λ items. eight_at items (c.args.addr % 4096)) whole)

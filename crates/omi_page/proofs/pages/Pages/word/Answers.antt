@@ -4,5 +4,6 @@ use Rattle.omi_page.proofs.pages.Pages.word.Goals as goal
 
 pub returns-in-Bytes-clause-word : goal.returns-in-Bytes-clause-word
 returns-in-Bytes-clause-word g c = λ words told.
-    let order = told_order _ c.args.self.now.contexts c.args.self.now.spans words told c.args.self.now.parts in
+    let order =
+    told_order _ c.args.self.now.contexts c.args.self.now.spans words told c.args.self.now.parts in
     ap (λ n. Some n) c.from_le_bytes.ensures ∙ sym (c.in-Bytes.ensures.bytes words 0 told order refl)

@@ -11,7 +11,8 @@ invariant_of-self c =
     let ms = c.self.inside.members.items in
     let team = team_in c.args.e.2 in
     let le : length ms ≤ length (ms ++ team) = omega (arith, length-append ms team) in
-    let whole : length (ms ++ team) ≡ c.len.result + length team = omega (arith, length-append ms team, c.self.inside.members.ok.0) in
+    let whole : length (ms ++ team) ≡ c.len.result + length team =
+    omega (arith, length-append ms team, c.self.inside.members.ok.0) in
     rw (c.push_reserved.ensures.items, c.seat.ensures.items)
     (seated_more (length ms) (length (ms ++ team)) c.self.inside.rows.items _ le c.self.invariant record {
       limit = c.team_size-size.ensures.limit;

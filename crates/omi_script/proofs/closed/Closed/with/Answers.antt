@@ -4,11 +4,15 @@ use Rattle.omi_script.proofs.ReachLemmas.{shallow_closed, known_more}
 use Rattle.omi_script.proofs.closed.Closed.with.Goals as goal
 
 pub reach_of-reach-requires : goal.reach_of-reach-requires
-reach_of-reach-requires c = shallow_closed c.self.inside.funcs c.deref.result.now (c.deref.ensures.value ∙ c.self.invariant)
+reach_of-reach-requires c =
+    shallow_closed c.self.inside.funcs c.deref.result.now (c.deref.ensures.value ∙ c.self.invariant)
 
 pub invariant_of-result : goal.invariant_of-result
 invariant_of-result c =
-    let reach = c.reach_of-reach.ensures ∙ ap (reach_of c.deref.result.now) c.as_slice.ensures ∙ ap (λ ks. reach_of ks c.args.f.body) c.deref.ensures.value in
+    let reach =
+    c.reach_of-reach.ensures
+    ∙ ap (reach_of c.deref.result.now) c.as_slice.ensures
+    ∙ ap (λ ks. reach_of ks c.args.f.body) c.deref.ensures.value in
     c.in_ok-push.ensures.items
     ∙ ap (λ r. c.self.inside.known.items ++ r ∷ []) reach
     ∙ sym (known_more c.self.inside.known.items c.self.inside.funcs c.args.f c.self.invariant)

@@ -13,8 +13,13 @@ returns-else-eq-clause-words g c = λ memory t sizes ne. inr (record {
     layout = c.in-Ok.layout.table;
     gives = c.in-Ok.ensures.words memory t sizes;
     differs = λ same.
-        let mine : c.in-Ok.layout.table ≡ c.self.inside.layout.table = same ∙ sym (ap (λ s. s.layout) c.self.view_is) in
-        let clash : true ≡ false = sym (same_words c.in-Ok.layout.table) ∙ ap (pointwise eqb c.in-Ok.layout.table) mine ∙ sym c.eq.ensures ∙ c.if-eq.false in
+        let mine : c.in-Ok.layout.table ≡ c.self.inside.layout.table =
+        same ∙ sym (ap (λ s. s.layout) c.self.view_is) in
+        let clash : true ≡ false =
+        sym (same_words c.in-Ok.layout.table)
+        ∙ ap (pointwise eqb c.in-Ok.layout.table) mine
+        ∙ sym c.eq.ensures
+        ∙ c.if-eq.false in
         cc;
   };
   is = refl;

@@ -5,4 +5,6 @@ use Rattle.omi_session.proofs.session.Session.peek.Goals as goal
 
 pub returns-clause-word : goal.returns-clause-word
 returns-clause-word g c = λ memory t.
-    as_told _ (g.C.Callbacks.told c.self.inside.table.calls) memory (ap (λ s. g.C.Callbacks.told s.table.calls) c.self.view_is) t (λ m. IfOk c.word.result (λ word. word ≡ m c.args.addr)) c.word.ensures.word
+    as_told _ (g.C.Callbacks.told c.self.inside.table.calls) memory
+    (ap (λ s. g.C.Callbacks.told s.table.calls) c.self.view_is) t
+    (λ m. IfOk c.word.result (λ word. word ≡ m c.args.addr)) c.word.ensures.word
