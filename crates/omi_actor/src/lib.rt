@@ -3,4 +3,4 @@
 
 mod steps;
 
-pub use steps::{next, resume};
+pub use steps::{advance, next, outcome, resume};

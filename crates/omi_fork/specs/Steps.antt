@@ -27,14 +27,18 @@ IsForkNext p w a (counter.Barrier c) next = next ≡ barrier_next w a c
 IsForkNext p w a (counter.Join c) next = next ≡ join_next w a c
 IsForkNext p w a _ next = ⊥
 
--- where the operation found a word at such a counter: the actor afterwards, and the outcome
-abbrev pub IsForkResumed : Program → List ℕ → Actor → Counter → ℕ → Actor × Outcome → Type 0
-IsForkResumed p w a (counter.Worker c) old to =
-    (to.0 ≡ worker_moved p w a c old) × (to.1 ≡ worker_outcome w a c old)
-IsForkResumed p w a (counter.Team c) old to =
-    (to.0 ≡ team_moved p w a c old) × (to.1 ≡ team_outcome p w a c old)
-IsForkResumed p w a (counter.Barrier c) old to =
-    (to.0 ≡ barrier_moved p a c old) × (to.1 ≡ barrier_outcome w a c old)
-IsForkResumed p w a (counter.Join c) old to =
-    (to.0 ≡ join_moved p w a c old) × (to.1 ≡ join_outcome w a c old)
-IsForkResumed p w a _ old to = ⊥
+-- where the operation found a word at such a counter: the outcome
+abbrev pub IsForkOutcome : Program → List ℕ → Actor → Counter → ℕ → Outcome → Type 0
+IsForkOutcome p w a (counter.Worker c) old o = o ≡ worker_outcome w a c old
+IsForkOutcome p w a (counter.Team c) old o = o ≡ team_outcome p w a c old
+IsForkOutcome p w a (counter.Barrier c) old o = o ≡ barrier_outcome w a c old
+IsForkOutcome p w a (counter.Join c) old o = o ≡ join_outcome w a c old
+IsForkOutcome p w a _ old o = ⊥
+
+-- and the actor afterwards
+abbrev pub IsForkMoved : Program → List ℕ → Actor → Counter → ℕ → Actor → Type 0
+IsForkMoved p w a (counter.Worker c) old to = to ≡ worker_moved p w a c old
+IsForkMoved p w a (counter.Team c) old to = to ≡ team_moved p w a c old
+IsForkMoved p w a (counter.Barrier c) old to = to ≡ barrier_moved p a c old
+IsForkMoved p w a (counter.Join c) old to = to ≡ join_moved p w a c old
+IsForkMoved p w a _ old to = ⊥

@@ -10,18 +10,18 @@ ghost use Rattle.omi_pc.specs.declared.counter.Counter.TheVariants as counter;
 ghost use Rattle.omi_fork.specs.BarrierSteps;
 ghost use Rattle.omi_fork.specs.BarrierSteps.{past_arrive, barrier_moved, barrier_next, barrier_outcome, barrier_state, behind_member_end, ended_in, looking, passed};
 ghost use Rattle.omi_step_words.specs.Moving.{to_barrier};
+ghost use Rattle.omi_step_words.specs.Outcomes.{outcome_of};
 ghost use Rattle.omi_step_words.specs.Placed.{IsPlaced};
 
 use omi_layout::{Field, Layout};
-use omi_model::Event;
 use omi_numbers::{WAIT_BARRIER_EXPLICIT, WAIT_BARRIER_IMPLICIT_PARALLEL, state_word};
 use omi_pc::{
     Actor, Barrier, BarrierCounter, Counter, JoinCounter, LookCounter, Opened, PlainCounter, Wait,
     WorkerCounter,
 };
-use omi_rep::Outcome;
+use omi_run_lists::CompactEvent;
 use omi_script::Program;
-use omi_step_words::{load, of_region, of_thread, store};
+use omi_step_words::{CompactOutcome, load, of_region, of_thread, store};
 use omi_word::Op;
 
 /// The state of a member that waits at a barrier.
@@ -149,7 +149,7 @@ fn pass(p: &Program, a: &mut Actor, barrier: Barrier)
 }
 
 /// Moves a member on, behind the operation of its counter.
-fn barrier_move(p: &Program, a: &mut Actor, c: BarrierCounter, old: u64)
+pub fn barrier_move(p: &Program, a: &mut Actor, c: BarrierCounter, old: u64)
     requires fits { Fits p.now a.old }
     requires at { a.old.counter ≡ counter.Barrier c }
     ensures { a.new ≡ barrier_moved p.now a.old c old }
@@ -188,61 +188,47 @@ fn barrier_move(p: &Program, a: &mut Actor, c: BarrierCounter, old: u64)
 }
 
 /// What a step at a barrier answers, by the word that it found.
-fn barrier_outcome(p: &Program, l: &Layout, a: &Actor, c: BarrierCounter, old: u64) -> Outcome
+pub fn barrier_outcome(
+    p: &Program,
+    l: &Layout,
+    a: &Actor,
+    c: BarrierCounter,
+    old: u64,
+) -> CompactOutcome
     requires fits { Fits p.now a.now }
     requires threads { p.now.threads ≡ thread_count l.now.table }
     requires placed { IsPlaced l.now.table a.now }
     requires at { a.now.counter ≡ counter.Barrier c }
-    ensures { result ≡ barrier_outcome l.now.table a.now c old }
+    ensures { outcome_of a.now result ≡ barrier_outcome l.now.table a.now c old }
 {
     let region = a.context.region;
     match c {
-        BarrierCounter::State { barrier } => Outcome::Event(Event::State {
+        BarrierCounter::State { barrier } => CompactOutcome::Event(CompactEvent::State {
             state: barrier_state(barrier),
             wait: 0,
         }),
-        BarrierCounter::Arrive { .. } => Outcome::Event(Event::Arrive),
+        BarrierCounter::Arrive { .. } => CompactOutcome::Event(CompactEvent::Arrive),
         BarrierCounter::LoadArrived { .. } => {
             if !some_missing(p, a, old) {
-                return Outcome::Quiet;
+                return CompactOutcome::Quiet;
             }
             let addr = of_region(l, region, Field::RegionArrived);
-            Outcome::NotReady { addr, word: old }
+            CompactOutcome::NotReady { addr, word: old }
         }
         BarrierCounter::LoadPending { .. } => {
             if old == 0 {
-                return Outcome::Quiet;
+                return CompactOutcome::Quiet;
             }
             let addr = of_region(l, region, Field::RegionPending);
-            Outcome::NotReady { addr, word: old }
+            CompactOutcome::NotReady { addr, word: old }
         }
-        BarrierCounter::Release { .. } => Outcome::Event(Event::Release),
+        BarrierCounter::Release { .. } => CompactOutcome::Event(CompactEvent::Release),
         BarrierCounter::LoadReleased { .. } => {
             if !is_closed(a, old) {
-                return Outcome::Event(Event::Pass);
+                return CompactOutcome::Event(CompactEvent::Pass);
             }
             let addr = of_region(l, region, Field::RegionReleased);
-            Outcome::NotReady { addr, word: old }
+            CompactOutcome::NotReady { addr, word: old }
         }
     }
-}
-
-/// Takes the word that a member's operation at a barrier found: moves the member on, and answers what came of the step.
-pub fn barrier_resume(
-    p: &Program,
-    l: &Layout,
-    a: &mut Actor,
-    c: BarrierCounter,
-    old: u64,
-) -> Outcome
-    requires fits { Fits p.now a.old }
-    requires threads { p.now.threads ≡ thread_count l.now.table }
-    requires placed { IsPlaced l.now.table a.old }
-    requires at { a.old.counter ≡ counter.Barrier c }
-    ensures moved { a.new ≡ barrier_moved p.now a.old c old }
-    ensures outcome { result ≡ barrier_outcome l.now.table a.old c old }
-{
-    let outcome = barrier_outcome(p, l, a, c, old);
-    barrier_move(p, a, c, old);
-    outcome
 }

@@ -8,15 +8,17 @@ ghost use Rattle.omi_pc.specs.declared.counter.Counter.TheVariants as counter;
 ghost use Rattle.omi_fork.specs.JoinSteps;
 ghost use Rattle.omi_fork.specs.JoinSteps.{behind_free, join_moved, join_next, join_outcome, past_join};
 ghost use Rattle.omi_step_words.specs.Moving.{to_join};
+ghost use Rattle.omi_step_words.specs.Outcomes.{outcome_of};
 ghost use Rattle.omi_step_words.specs.Placed.{IsPlaced};
 
 use omi_layout::{Field, Layout};
-use omi_model::{Event, Rid, Tid};
+use omi_model::{Rid, Tid};
 use omi_pc::{Actor, Counter, JoinCounter, bodies_stand};
-use omi_rep::Outcome;
+use omi_run_lists::CompactEvent;
 use omi_script::Program;
 use omi_step_words::{
-    load, object_in, of_place, of_region, of_task, store, store_under, task_place, unused_word,
+    CompactOutcome, load, object_in, of_place, of_region, of_task, store, store_under, task_place,
+    unused_word,
 };
 use omi_word::Op;
 
@@ -89,7 +91,7 @@ fn behind_free(region: Rid, size: u64, member: u8) -> JoinCounter
 }
 
 /// Moves member 0 on, behind the operation of its counter.
-fn join_move(p: &Program, l: &Layout, a: &mut Actor, c: JoinCounter, old: u64)
+pub fn join_move(p: &Program, l: &Layout, a: &mut Actor, c: JoinCounter, old: u64)
     requires fits { Fits p.now a.old }
     requires at { a.old.counter ≡ counter.Join c }
     ensures { a.new ≡ join_moved p.now l.now.table a.old c old }
@@ -145,39 +147,29 @@ fn join_move(p: &Program, l: &Layout, a: &mut Actor, c: JoinCounter, old: u64)
 }
 
 /// What a step of a join answers, by the word that it found.
-fn join_outcome(p: &Program, l: &Layout, a: &Actor, c: JoinCounter, old: u64) -> Outcome
+pub fn join_outcome(p: &Program, l: &Layout, a: &Actor, c: JoinCounter, old: u64) -> CompactOutcome
     requires fits { Fits p.now a.now }
     requires threads { p.now.threads ≡ thread_count l.now.table }
     requires placed { IsPlaced l.now.table a.now }
     requires at { a.now.counter ≡ counter.Join c }
-    ensures { result ≡ join_outcome l.now.table a.now c old }
+    ensures { outcome_of a.now result ≡ join_outcome l.now.table a.now c old }
 {
     let region = a.context.region;
     match c {
         JoinCounter::LoadLeft => {
             if !some_inside(a, old) {
-                return Outcome::Quiet;
+                return CompactOutcome::Quiet;
             }
             let addr = of_region(l, region, Field::RegionLeft);
-            Outcome::NotReady { addr, word: old }
+            CompactOutcome::NotReady { addr, word: old }
         }
-        JoinCounter::Join => Outcome::Event(Event::Join { region }),
-        JoinCounter::FreeTask { task, .. } => Outcome::Event(Event::FreeTask { task }),
-        JoinCounter::FreeRegion { region, .. } => Outcome::Event(Event::FreeRegion { region }),
-        _ => Outcome::Quiet,
+        JoinCounter::Join => CompactOutcome::Event(CompactEvent::Join { region }),
+        JoinCounter::FreeTask { task, .. } => CompactOutcome::Event(CompactEvent::FreeTask {
+            task,
+        }),
+        JoinCounter::FreeRegion { region, .. } => CompactOutcome::Event(CompactEvent::FreeRegion {
+            region,
+        }),
+        _ => CompactOutcome::Quiet,
     }
-}
-
-/// Takes the word that the operation of a join found: moves member 0 on, and answers what came of the step.
-pub fn join_resume(p: &Program, l: &Layout, a: &mut Actor, c: JoinCounter, old: u64) -> Outcome
-    requires fits { Fits p.now a.old }
-    requires threads { p.now.threads ≡ thread_count l.now.table }
-    requires placed { IsPlaced l.now.table a.old }
-    requires at { a.old.counter ≡ counter.Join c }
-    ensures moved { a.new ≡ join_moved p.now l.now.table a.old c old }
-    ensures outcome { result ≡ join_outcome l.now.table a.old c old }
-{
-    let outcome = join_outcome(p, l, a, c, old);
-    join_move(p, l, a, c, old);
-    outcome
 }

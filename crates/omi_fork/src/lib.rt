@@ -9,9 +9,9 @@ mod team_moves;
 mod team_parts;
 mod worker;
 
-pub use barrier::{barrier_next, barrier_resume};
-pub use join::{join_next, join_resume};
-pub use steps::{fork_next, fork_resume};
-pub use team::team_next;
-pub use team_moves::team_resume;
-pub use worker::{worker_next, worker_resume};
+pub use barrier::{barrier_move, barrier_next, barrier_outcome};
+pub use join::{join_move, join_next, join_outcome};
+pub use steps::{fork_move, fork_next, fork_outcome};
+pub use team::{team_next, team_outcome};
+pub use team_moves::team_move;
+pub use worker::{worker_move, worker_next, worker_outcome};

@@ -3,17 +3,18 @@
 ghost use Rattle.std.specs.Prelude.{◌≡◌};
 ghost use Rattle.omi_layout.specs.Table.{thread_count};
 ghost use Rattle.omi_pc.specs.Fits.{Fits};
+ghost use Rattle.omi_step_words.specs.Outcomes.{outcome_of};
 ghost use Rattle.omi_step_words.specs.Placed.{IsPlaced};
-ghost use Rattle.omi_fork.specs.Steps.{IsForkCounter, IsForkNext, IsForkResumed};
+ghost use Rattle.omi_fork.specs.Steps.{IsForkCounter, IsForkMoved, IsForkNext, IsForkOutcome};
 
 use crate::{
-    barrier_next, barrier_resume, join_next, join_resume, team_next, team_resume, worker_next,
-    worker_resume,
+    barrier_move, barrier_next, barrier_outcome, join_move, join_next, join_outcome, team_move,
+    team_next, team_outcome, worker_move, worker_next, worker_outcome,
 };
 use omi_layout::Layout;
 use omi_pc::{Actor, Counter};
-use omi_rep::Outcome;
 use omi_script::Program;
+use omi_step_words::CompactOutcome;
 use omi_word::{Op, Res};
 
 /// The operation that an actor makes next, at a counter of this crate. Takes no memory.
@@ -33,20 +34,36 @@ pub fn fork_next(p: &Program, l: &Layout, a: &Actor) -> Op
     }
 }
 
-/// Takes the word that an actor's operation found, at a counter of this crate: moves the actor on, and answers what came of the
-/// step. Takes no memory.
-pub fn fork_resume(p: &Program, l: &Layout, a: &mut Actor, r: Res) -> Outcome
+/// What came of the operation of a counter of this crate, by the word that it found. Takes no memory.
+pub fn fork_outcome(p: &Program, l: &Layout, a: &Actor, r: Res) -> CompactOutcome
+    requires fits { Fits p.now a.now }
+    requires threads { p.now.threads ≡ thread_count l.now.table }
+    requires placed { IsPlaced l.now.table a.now }
+    requires counter { IsForkCounter a.now.counter }
+    ensures { IsForkOutcome p.now l.now.table a.now a.now.counter r.old (outcome_of a.now result) }
+{
+    match a.counter {
+        Counter::Worker(c) => worker_outcome(l, a, c, r.old),
+        Counter::Team(c) => team_outcome(p, l, a, c, r.old),
+        Counter::Barrier(c) => barrier_outcome(p, l, a, c, r.old),
+        Counter::Join(c) => join_outcome(p, l, a, c, r.old),
+        _ => unreachable!(),
+    }
+}
+
+/// Moves an actor on, behind the operation of a counter of this crate, by the word that it found. Takes no memory.
+pub fn fork_move(p: &Program, l: &Layout, a: &mut Actor, r: Res)
     requires fits { Fits p.now a.old }
     requires threads { p.now.threads ≡ thread_count l.now.table }
     requires placed { IsPlaced l.now.table a.old }
     requires counter { IsForkCounter a.old.counter }
-    ensures { IsForkResumed p.now l.now.table a.old a.old.counter r.old (a.new, result) }
+    ensures { IsForkMoved p.now l.now.table a.old a.old.counter r.old a.new }
 {
     match a.counter {
-        Counter::Worker(c) => worker_resume(p, l, a, c, r.old),
-        Counter::Team(c) => team_resume(p, l, a, c, r.old),
-        Counter::Barrier(c) => barrier_resume(p, l, a, c, r.old),
-        Counter::Join(c) => join_resume(p, l, a, c, r.old),
+        Counter::Worker(c) => worker_move(p, l, a, c, r.old),
+        Counter::Team(c) => team_move(p, l, a, c, r.old),
+        Counter::Barrier(c) => barrier_move(p, a, c, r.old),
+        Counter::Join(c) => join_move(p, l, a, c, r.old),
         _ => unreachable!(),
     }
 }

@@ -7,20 +7,21 @@ ghost use Rattle.omi_layout.specs.Table.{thread_count};
 ghost use Rattle.omi_pc.specs.Fits.{Fits};
 ghost use Rattle.omi_pc.specs.declared.limits.TheConstants.{TASK_WORDS};
 ghost use Rattle.omi_pc.specs.declared.counter.Counter.TheVariants as counter;
+ghost use Rattle.omi_step_words.specs.Outcomes.{outcome_of};
 ghost use Rattle.omi_step_words.specs.Placed.{HasOptionalTask, HasRegion, HasTask, IsPlaced};
 ghost use Rattle.omi_step_words.specs.Plan.{filling, task_plan};
 ghost use Rattle.omi_fork.specs.TeamSteps.{team_next, team_outcome};
 
 use crate::team_parts::{member_of, new_member, new_region, wanted_size};
 use omi_layout::{Field, Layout};
-use omi_model::{Event, Id};
+use omi_model::Id;
 use omi_numbers::{FREE_CLAIM, OVERHEAD, claimed_word, state_word};
 use omi_pc::{Actor, TeamCounter};
-use omi_rep::Outcome;
+use omi_run_lists::CompactEvent;
 use omi_script::Program;
 use omi_step_words::{
-    NewTask, fill, is_free, load, of_place, of_region, of_runtime, of_task, of_thread, of_variable,
-    own_place, region_plan, search_outcome, store, task_plan, used_word,
+    CompactOutcome, NewTask, fill, is_free, load, of_place, of_region, of_runtime, of_task,
+    of_thread, of_variable, own_place, region_plan, search_outcome, store, task_plan, used_word,
 };
 use omi_word::Op;
 
@@ -106,22 +107,22 @@ pub fn team_next(p: &Program, l: &Layout, a: &Actor, c: TeamCounter) -> Op
 }
 
 /// What a step of a `parallel` construct answers, by the word that it found.
-pub fn team_outcome(p: &Program, l: &Layout, a: &Actor, c: TeamCounter, old: u64) -> Outcome
+pub fn team_outcome(p: &Program, l: &Layout, a: &Actor, c: TeamCounter, old: u64) -> CompactOutcome
     requires fits { Fits p.now a.now }
     requires threads { p.now.threads ≡ thread_count l.now.table }
     requires placed { IsPlaced l.now.table a.now }
     requires at { a.now.counter ≡ counter.Team c }
-    ensures { result ≡ team_outcome p.now l.now.table a.now c old }
+    ensures { outcome_of a.now result ≡ team_outcome p.now l.now.table a.now c old }
 {
     match c {
-        TeamCounter::OverheadState => Outcome::Event(Event::State {
+        TeamCounter::OverheadState => CompactOutcome::Event(CompactEvent::State {
             state: OVERHEAD,
             wait: 0,
         }),
-        TeamCounter::Want => Outcome::Event(Event::Want {
+        TeamCounter::Want => CompactOutcome::Event(CompactEvent::Want {
             n: wanted_size(p, a, old),
         }),
-        TeamCounter::Ask => Outcome::Event(Event::Ask {
+        TeamCounter::Ask => CompactOutcome::Event(CompactEvent::Ask {
             w: a.gathered.asked,
             got: old == FREE_CLAIM,
         }),
@@ -129,10 +130,7 @@ pub fn team_outcome(p: &Program, l: &Layout, a: &Actor, c: TeamCounter, old: u64
             search_outcome(l, a, slot, Field::RegionLife, old)
         }
         TeamCounter::LoadTaskLife { slot, .. } => search_outcome(l, a, slot, Field::TaskLife, old),
-        TeamCounter::Fork { region } => Outcome::Event(Event::Fork {
-            region,
-            team: a.gathered.team,
-        }),
-        _ => Outcome::Quiet,
+        TeamCounter::Fork { region } => CompactOutcome::Event(CompactEvent::Fork { region }),
+        _ => CompactOutcome::Quiet,
     }
 }

@@ -20,7 +20,6 @@ use omi_model::{Id, Rid, Team, Tid};
 use omi_numbers::FREE_CLAIM;
 use omi_pc::limits::{REGION_WORDS, TASK_WORDS, VARIABLE_WORDS};
 use omi_pc::{Actor, Counter, TeamCounter, bodies_stand, stacks_have_room};
-use omi_rep::Outcome;
 use omi_script::Program;
 use omi_step_words::{is_free, next_region_slot, next_task_slot, object_in, own_place};
 
@@ -224,7 +223,7 @@ fn fork(p: &Program, l: &Layout, a: &mut Actor, region: Rid)
 }
 
 /// Moves a thread on, behind the operation of its counter.
-fn team_move(p: &Program, l: &Layout, a: &mut Actor, c: TeamCounter, old: u64)
+pub fn team_move(p: &Program, l: &Layout, a: &mut Actor, c: TeamCounter, old: u64)
     requires fits { Fits p.now a.old }
     requires threads { p.now.threads ≡ thread_count l.now.table }
     requires placed { IsPlaced l.now.table a.old }
@@ -289,18 +288,4 @@ fn team_move(p: &Program, l: &Layout, a: &mut Actor, c: TeamCounter, old: u64)
         TeamCounter::Fork { region } => fork(p, l, a, region),
         TeamCounter::Assign { member } => assign_from(p, a, member + 1),
     }
-}
-
-/// Takes the word that the operation of a `parallel` construct found: moves the thread on, and answers what came of the step.
-pub fn team_resume(p: &Program, l: &Layout, a: &mut Actor, c: TeamCounter, old: u64) -> Outcome
-    requires fits { Fits p.now a.old }
-    requires threads { p.now.threads ≡ thread_count l.now.table }
-    requires placed { IsPlaced l.now.table a.old }
-    requires at { a.old.counter ≡ counter.Team c }
-    ensures moved { a.new ≡ team_moved p.now l.now.table a.old c old }
-    ensures outcome { result ≡ team_outcome p.now l.now.table a.old c old }
-{
-    let outcome = team_outcome(p, l, a, c, old);
-    team_move(p, l, a, c, old);
-    outcome
 }

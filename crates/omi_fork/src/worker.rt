@@ -4,17 +4,19 @@ ghost use Rattle.std.specs.Prelude.{◌≡◌, ◌<◌};
 ghost use Rattle.omi_layout.specs.Table.{thread_count};
 ghost use Rattle.omi_pc.specs.Fits.{Fits};
 ghost use Rattle.omi_pc.specs.declared.counter.Counter.TheVariants as counter;
+ghost use Rattle.omi_step_words.specs.Outcomes.{outcome_of};
 ghost use Rattle.omi_step_words.specs.Placed.{IsPlaced};
 ghost use Rattle.omi_fork.specs.WorkerSteps.{idle_counter, member_context, worker_moved, worker_next, worker_outcome};
 
 use omi_layout::{Field, Layout};
-use omi_model::{Event, Rid, Tid};
+use omi_model::{Rid, Tid};
 use omi_numbers::{FREE_CLAIM, IDLE, function_at, state_word};
 use omi_pc::{Actor, Context, Counter, WorkerCounter};
-use omi_rep::Outcome;
+use omi_run_lists::CompactEvent;
 use omi_script::Program;
 use omi_step_words::{
-    load, object_in, of_place, of_region, of_task, of_thread, region_place, store, task_place,
+    CompactOutcome, load, object_in, of_place, of_region, of_task, of_thread, region_place, store,
+    task_place,
 };
 use omi_word::Op;
 
@@ -84,7 +86,7 @@ pub fn worker_next(p: &Program, l: &Layout, a: &Actor, c: WorkerCounter) -> Op
 }
 
 /// Moves a worker on, behind the operation of its counter.
-fn worker_move(p: &Program, l: &Layout, a: &mut Actor, c: WorkerCounter, old: u64)
+pub fn worker_move(p: &Program, l: &Layout, a: &mut Actor, c: WorkerCounter, old: u64)
     requires fits { Fits p.now a.old }
     requires at { a.old.counter ≡ counter.Worker c }
     ensures { a.new ≡ worker_moved p.now l.now.table a.old c old }
@@ -167,43 +169,32 @@ fn worker_move(p: &Program, l: &Layout, a: &mut Actor, c: WorkerCounter, old: u6
 }
 
 /// What a step of a worker answers, by the word that it found.
-fn worker_outcome(l: &Layout, a: &Actor, c: WorkerCounter, old: u64) -> Outcome
+pub fn worker_outcome(l: &Layout, a: &Actor, c: WorkerCounter, old: u64) -> CompactOutcome
     requires thread { a.now.thread < thread_count l.now.table }
-    ensures { result ≡ worker_outcome l.now.table a.now c old }
+    ensures { outcome_of a.now result ≡ worker_outcome l.now.table a.now c old }
 {
     match c {
-        WorkerCounter::Begin => Outcome::Event(Event::Begin),
-        WorkerCounter::Offer => Outcome::Event(Event::Offer),
+        WorkerCounter::Begin => CompactOutcome::Event(CompactEvent::Begin),
+        WorkerCounter::Offer => CompactOutcome::Event(CompactEvent::Offer),
         WorkerCounter::LoadAssign => {
             if old != 0 {
-                return Outcome::Quiet;
+                return CompactOutcome::Quiet;
             }
-            Outcome::NotReady {
+            CompactOutcome::NotReady {
                 addr: of_thread(l, a.thread, Field::ThreadAssign),
                 word: old,
             }
         }
-        WorkerCounter::ImplicitBegin { task, .. } => Outcome::Event(Event::ImplicitBegin { task }),
-        WorkerCounter::ImplicitEnd => Outcome::Event(Event::ImplicitEnd {
+        WorkerCounter::ImplicitBegin { task, .. } => CompactOutcome::Event(
+            CompactEvent::ImplicitBegin { task },
+        ),
+        WorkerCounter::ImplicitEnd => CompactOutcome::Event(CompactEvent::ImplicitEnd {
             task: a.context.task,
         }),
-        WorkerCounter::IdleState => Outcome::Event(Event::State {
+        WorkerCounter::IdleState => CompactOutcome::Event(CompactEvent::State {
             state: IDLE,
             wait: 0,
         }),
-        _ => Outcome::Quiet,
+        _ => CompactOutcome::Quiet,
     }
-}
-
-/// Takes the word that a worker's operation found: moves the worker on, and answers what came of the step.
-pub fn worker_resume(p: &Program, l: &Layout, a: &mut Actor, c: WorkerCounter, old: u64) -> Outcome
-    requires fits { Fits p.now a.old }
-    requires threads { p.now.threads ≡ thread_count l.now.table }
-    requires at { a.old.counter ≡ counter.Worker c }
-    ensures moved { a.new ≡ worker_moved p.now l.now.table a.old c old }
-    ensures outcome { result ≡ worker_outcome l.now.table a.old c old }
-{
-    let outcome = worker_outcome(l, a, c, old);
-    worker_move(p, l, a, c, old);
-    outcome
 }

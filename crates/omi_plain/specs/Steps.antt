@@ -18,8 +18,12 @@ abbrev pub IsPlainNext : Program → List ℕ → Actor → Counter → Op → T
 IsPlainNext p w a (counter.Plain c) next = next ≡ plain_next p w a c
 IsPlainNext p w a _ next = ⊥
 
--- where the operation found a word at such a counter: the actor afterwards, and the outcome
-abbrev pub IsPlainResumed : Program → List ℕ → Actor → Counter → ℕ → Actor × Outcome → Type 0
-IsPlainResumed p w a (counter.Plain c) old to =
-    (to.0 ≡ plain_moved p a c old) × (to.1 ≡ plain_outcome p w a c old)
-IsPlainResumed p w a _ old to = ⊥
+-- where the operation found a word at such a counter: the outcome
+abbrev pub IsPlainOutcome : Program → List ℕ → Actor → Counter → ℕ → Outcome → Type 0
+IsPlainOutcome p w a (counter.Plain c) old o = o ≡ plain_outcome p w a c old
+IsPlainOutcome p w a _ old o = ⊥
+
+-- and the actor afterwards
+abbrev pub IsPlainMoved : Program → List ℕ → Actor → Counter → ℕ → Actor → Type 0
+IsPlainMoved p w a (counter.Plain c) old to = to ≡ plain_moved p a c old
+IsPlainMoved p w a _ old to = ⊥

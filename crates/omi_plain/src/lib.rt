@@ -9,4 +9,4 @@ mod statements;
 mod steps;
 
 pub use laws::{plain_steps_fit, variables_are_set_as_rows_say};
-pub use steps::{plain_next, plain_resume};
+pub use steps::{plain_move, plain_next, plain_outcome};

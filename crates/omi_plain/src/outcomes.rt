@@ -1,21 +1,23 @@
 //! What the steps of this crate answer.
 
-ghost use Rattle.std.specs.Prelude.{◌≡◌, ◌≤◌};
+ghost use Rattle.std.specs.Prelude.{◌≡◌, ◌≤◌, ℕ, List};
 ghost use Rattle.omi_layout.specs.Table.{thread_count};
+ghost use Rattle.omi_model.specs.declared.id.Tid.{Tid};
 ghost use Rattle.omi_pc.specs.Fits.{Fits};
 ghost use Rattle.omi_pc.specs.Stacks.{function_of};
 ghost use Rattle.omi_pc.specs.declared.counter.Counter.TheVariants as counter;
 ghost use Rattle.omi_plain.specs.PlainSteps.{lock_outcome, plain_outcome, set_outcome};
 ghost use Rattle.omi_script.specs.declared.limits.TheConstants.{MAX_LOCK};
+ghost use Rattle.omi_step_words.specs.Outcomes.{outcome_of, outcome_with};
 
 use crate::operations::{of_lock, work_state};
 use crate::statements::{lock, set_number, set_word, tool_word};
 use omi_layout::Layout;
-use omi_model::Event;
 use omi_numbers::{WAIT_CRITICAL, lock_wait};
 use omi_pc::{Actor, PlainCounter};
-use omi_rep::Outcome;
+use omi_run_lists::CompactEvent;
 use omi_script::{Program, Stmt};
+use omi_step_words::CompactOutcome;
 
 /// The function of the innermost body, and 0 where none is open.
 fn function_of(a: &Actor) -> u8
@@ -28,24 +30,24 @@ fn function_of(a: &Actor) -> u8
 }
 
 /// What the store of a variable answers.
-fn set_outcome(s: Option<Stmt>) -> Outcome
-    ensures { result ≡ set_outcome s }
+fn set_outcome(s: Option<Stmt>) -> CompactOutcome
+    ensures { (team : List (Tid × ℕ)) → outcome_with team result ≡ set_outcome s }
 {
-    Outcome::Event(Event::Set {
+    CompactOutcome::Event(CompactEvent::Set {
         icv: set_number(s),
         value: set_word(s),
     })
 }
 
 /// What the exchange on the word of a lock answers, by the word that it found.
-fn lock_outcome(l: &Layout, k: u8, old: u64) -> Outcome
+fn lock_outcome(l: &Layout, k: u8, old: u64) -> CompactOutcome
     requires { k ≤ MAX_LOCK }
-    ensures { result ≡ lock_outcome l.now.table k old }
+    ensures { (team : List (Tid × ℕ)) → outcome_with team result ≡ lock_outcome l.now.table k old }
 {
     if old == 0 {
-        Outcome::Event(Event::Lock { k })
+        CompactOutcome::Event(CompactEvent::Lock { k })
     } else {
-        Outcome::NotReady {
+        CompactOutcome::NotReady {
             addr: of_lock(l, k),
             word: old,
         }
@@ -53,31 +55,31 @@ fn lock_outcome(l: &Layout, k: u8, old: u64) -> Outcome
 }
 
 /// What a step at a counter answers, by the word that it found.
-pub fn outcome_at(p: &Program, l: &Layout, a: &Actor, c: PlainCounter, old: u64) -> Outcome
+pub fn outcome_at(p: &Program, l: &Layout, a: &Actor, c: PlainCounter, old: u64) -> CompactOutcome
     requires fits { Fits p.now a.now }
     requires at { a.now.counter ≡ counter.Plain c }
-    ensures { result ≡ plain_outcome p.now l.now.table a.now c old }
+    ensures { outcome_of a.now result ≡ plain_outcome p.now l.now.table a.now c old }
 {
     match c {
-        PlainCounter::Work => Outcome::Event(Event::Work),
-        PlainCounter::Call => Outcome::Event(Event::Call { f: function_of(a) }),
-        PlainCounter::Skip => Outcome::Event(Event::Skip),
-        PlainCounter::Return => Outcome::Event(Event::Ret),
+        PlainCounter::Work => CompactOutcome::Event(CompactEvent::Work),
+        PlainCounter::Call => CompactOutcome::Event(CompactEvent::Call { f: function_of(a) }),
+        PlainCounter::Skip => CompactOutcome::Event(CompactEvent::Skip),
+        PlainCounter::Return => CompactOutcome::Event(CompactEvent::Ret),
         PlainCounter::Set => set_outcome(a.statement(p)),
-        PlainCounter::Tool => Outcome::Event(Event::SetTool { x: tool_word(p, a) }),
-        PlainCounter::Enter => Outcome::Event(Event::Enter),
-        PlainCounter::Leave => Outcome::Event(Event::Leave),
-        PlainCounter::WorkState => Outcome::Event(Event::State {
+        PlainCounter::Tool => CompactOutcome::Event(CompactEvent::SetTool { x: tool_word(p, a) }),
+        PlainCounter::Enter => CompactOutcome::Event(CompactEvent::Enter),
+        PlainCounter::Leave => CompactOutcome::Event(CompactEvent::Leave),
+        PlainCounter::WorkState => CompactOutcome::Event(CompactEvent::State {
             state: work_state(a),
             wait: 0,
         }),
-        PlainCounter::LockState => Outcome::Event(Event::State {
+        PlainCounter::LockState => CompactOutcome::Event(CompactEvent::State {
             state: WAIT_CRITICAL,
             wait: lock_wait(lock(p, a)),
         }),
         PlainCounter::Lock => lock_outcome(l, lock(p, a), old),
-        PlainCounter::Unlock => Outcome::Event(Event::Unlock { k: lock(p, a) }),
-        PlainCounter::Done => Outcome::Event(Event::Done),
-        PlainCounter::Ended => Outcome::Ended,
+        PlainCounter::Unlock => CompactOutcome::Event(CompactEvent::Unlock { k: lock(p, a) }),
+        PlainCounter::Done => CompactOutcome::Event(CompactEvent::Done),
+        PlainCounter::Ended => CompactOutcome::Ended,
     }
 }

@@ -3,7 +3,8 @@
 ghost use Rattle.std.specs.Prelude.{◌≡◌};
 ghost use Rattle.omi_layout.specs.Table.{thread_count};
 ghost use Rattle.omi_pc.specs.Fits.{Fits};
-ghost use Rattle.omi_plain.specs.Steps.{IsPlainCounter, IsPlainNext, IsPlainResumed};
+ghost use Rattle.omi_plain.specs.Steps.{IsPlainCounter, IsPlainMoved, IsPlainNext, IsPlainOutcome};
+ghost use Rattle.omi_step_words.specs.Outcomes.{outcome_of};
 ghost use Rattle.omi_step_words.specs.Placed.{IsPlaced};
 
 use crate::moves::move_on;
@@ -11,8 +12,8 @@ use crate::operations::next_at;
 use crate::outcomes::outcome_at;
 use omi_layout::Layout;
 use omi_pc::{Actor, Counter};
-use omi_rep::Outcome;
 use omi_script::Program;
+use omi_step_words::CompactOutcome;
 use omi_word::{Op, Res};
 
 /// The operation that an actor makes next, at a counter of this crate. Takes no memory.
@@ -29,21 +30,30 @@ pub fn plain_next(p: &Program, l: &Layout, a: &Actor) -> Op
     }
 }
 
-/// Takes the word that an actor's operation found, at a counter of this crate: moves the actor on, and answers what came of the
-/// step. Takes no memory.
-pub fn plain_resume(p: &Program, l: &Layout, a: &mut Actor, r: Res) -> Outcome
+/// What came of the operation of a counter of this crate, by the word that it found. Takes no memory.
+pub fn plain_outcome(p: &Program, l: &Layout, a: &Actor, r: Res) -> CompactOutcome
+    requires fits { Fits p.now a.now }
+    requires threads { p.now.threads ≡ thread_count l.now.table }
+    requires placed { IsPlaced l.now.table a.now }
+    requires counter { IsPlainCounter a.now.counter }
+    ensures { IsPlainOutcome p.now l.now.table a.now a.now.counter r.old (outcome_of a.now result) }
+{
+    match a.counter {
+        Counter::Plain(c) => outcome_at(p, l, a, c, r.old),
+        _ => unreachable!(),
+    }
+}
+
+/// Moves an actor on, behind the operation of a counter of this crate, by the word that it found. Takes no memory.
+pub fn plain_move(p: &Program, l: &Layout, a: &mut Actor, r: Res)
     requires fits { Fits p.now a.old }
     requires threads { p.now.threads ≡ thread_count l.now.table }
     requires placed { IsPlaced l.now.table a.old }
     requires counter { IsPlainCounter a.old.counter }
-    ensures { IsPlainResumed p.now l.now.table a.old a.old.counter r.old (a.new, result) }
+    ensures { IsPlainMoved p.now l.now.table a.old a.old.counter r.old a.new }
 {
     match a.counter {
-        Counter::Plain(c) => {
-            let outcome = outcome_at(p, l, a, c, r.old);
-            move_on(p, a, c, r.old);
-            outcome
-        }
+        Counter::Plain(c) => move_on(p, a, c, r.old),
         _ => unreachable!(),
     }
 }

@@ -1,5 +1,6 @@
 -- What contracts see of the two lists.
 pub mod Events
+pub mod Compact
 pub mod Steps
 -- How many steps find room.
 pub mod StepRoom

@@ -1,6 +1,7 @@
 //! The lists that a run fills: the events that were committed and the steps that were made, in little room.
 #![tactic(auto)]
 
+mod compact;
 mod event_list;
 mod kept;
 mod laws;
@@ -8,6 +9,7 @@ mod made;
 mod made_list;
 mod teams;
 
+pub use compact::CompactEvent;
 pub use event_list::EventList;
 pub use laws::steps_have_room;
 pub use made::{Made, Turn};

@@ -5,6 +5,7 @@
 mod laws;
 mod moving;
 mod ops;
+mod outcomes;
 mod plan;
 mod searches;
 mod words;
@@ -14,6 +15,7 @@ pub use moving::{store_under, task_under};
 pub use ops::{
     fill, load, of_place, of_region, of_runtime, of_task, of_thread, of_variable, store,
 };
+pub use outcomes::CompactOutcome;
 pub use plan::{NewRegion, NewTask, Planned, inherited_words, region_plan, task_plan, variable_at};
 pub use searches::{next_region_slot, next_task_slot, own_place, search_outcome};
 pub use words::{

@@ -4,13 +4,13 @@ ghost use Rattle.std.specs.Prelude.{◌≡◌};
 ghost use Rattle.omi_layout.specs.Field.{regions, tasks};
 ghost use Rattle.omi_layout.specs.Memory.{IsRecordWord};
 ghost use Rattle.omi_layout.specs.Named.{number};
+ghost use Rattle.omi_step_words.specs.Outcomes.{outcome_of};
 ghost use Rattle.omi_step_words.specs.Placed.{Searches};
 ghost use Rattle.omi_step_words.specs.Searches.{next_slot, own_place, search_outcome};
 
-use crate::{is_free, of_place};
+use crate::{CompactOutcome, is_free, of_place};
 use omi_layout::{Field, Layout};
 use omi_pc::{Actor, Place};
-use omi_rep::Outcome;
 
 /// A slot of an actor's thread.
 pub fn own_place(a: &Actor, slot: u16) -> Place
@@ -47,14 +47,14 @@ pub fn next_task_slot(l: &Layout, slot: u16) -> u16
 }
 
 /// What the look at the life word of a slot answers in a search.
-pub fn search_outcome(l: &Layout, a: &Actor, slot: u16, life: Field, old: u64) -> Outcome
+pub fn search_outcome(l: &Layout, a: &Actor, slot: u16, life: Field, old: u64) -> CompactOutcome
     requires { IsRecordWord l.now.table a.now.thread slot (number life) 0 }
-    ensures { result ≡ search_outcome l.now.table a.now life slot old }
+    ensures { outcome_of a.now result ≡ search_outcome l.now.table a.now life slot old }
 {
     if is_free(old) {
-        Outcome::Quiet
+        CompactOutcome::Quiet
     } else {
-        Outcome::NotReady {
+        CompactOutcome::NotReady {
             addr: of_place(l, own_place(a, slot), life),
             word: old,
         }

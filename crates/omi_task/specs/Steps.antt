@@ -24,12 +24,16 @@ IsTaskNext p w a (counter.Look c) next = next ≡ look_next w a c
 IsTaskNext p w a (counter.Finish c) next = next ≡ finish_next w a c
 IsTaskNext p w a _ next = ⊥
 
--- where the operation found a word at such a counter: the actor afterwards, and the outcome
-abbrev pub IsTaskResumed : Program → List ℕ → Actor → Counter → ℕ → Actor × Outcome → Type 0
-IsTaskResumed p w a (counter.Task c) old to =
-    (to.0 ≡ making_moved p w a c old) × (to.1 ≡ making_outcome w a c old)
-IsTaskResumed p w a (counter.Look c) old to =
-    (to.0 ≡ look_moved p w a c old) × (to.1 ≡ look_outcome w a c old)
-IsTaskResumed p w a (counter.Finish c) old to =
-    (to.0 ≡ finish_moved p w a c old) × (to.1 ≡ finish_outcome a c)
-IsTaskResumed p w a _ old to = ⊥
+-- where the operation found a word at such a counter: the outcome
+abbrev pub IsTaskOutcome : Program → List ℕ → Actor → Counter → ℕ → Outcome → Type 0
+IsTaskOutcome p w a (counter.Task c) old o = o ≡ making_outcome w a c old
+IsTaskOutcome p w a (counter.Look c) old o = o ≡ look_outcome w a c old
+IsTaskOutcome p w a (counter.Finish c) old o = o ≡ finish_outcome a c
+IsTaskOutcome p w a _ old o = ⊥
+
+-- and the actor afterwards
+abbrev pub IsTaskMoved : Program → List ℕ → Actor → Counter → ℕ → Actor → Type 0
+IsTaskMoved p w a (counter.Task c) old to = to ≡ making_moved p w a c old
+IsTaskMoved p w a (counter.Look c) old to = to ≡ look_moved p w a c old
+IsTaskMoved p w a (counter.Finish c) old to = to ≡ finish_moved p w a c old
+IsTaskMoved p w a _ old to = ⊥

@@ -5,16 +5,18 @@ ghost use Rattle.omi_layout.specs.Table.{thread_count};
 ghost use Rattle.omi_pc.specs.Fits.{Fits};
 ghost use Rattle.omi_pc.specs.declared.counter.Counter.TheVariants as counter;
 ghost use Rattle.omi_step_words.specs.Moving.{to_finish};
+ghost use Rattle.omi_step_words.specs.Outcomes.{outcome_of};
 ghost use Rattle.omi_step_words.specs.Placed.{IsPlaced};
 ghost use Rattle.omi_task.specs.FinishSteps.{behind_finish, behind_references, finish_moved, finish_next, finish_outcome, past_finish, wait_in};
 
 use omi_layout::{Field, Layout};
-use omi_model::{Event, Tid};
+use omi_model::Tid;
 use omi_pc::{Actor, Ancestor, Counter, FinishCounter, LookCounter, Opened, PlainCounter, Wait};
-use omi_rep::Outcome;
+use omi_run_lists::CompactEvent;
 use omi_script::Program;
 use omi_step_words::{
-    load, object_in, of_place, of_region, of_task, store, store_under, task_place, unused_word,
+    CompactOutcome, load, object_in, of_place, of_region, of_task, store, store_under, task_place,
+    unused_word,
 };
 use omi_word::Op;
 
@@ -122,7 +124,7 @@ fn behind_finish(p: &Program, wait: Option<Wait>) -> Counter
 }
 
 /// Moves a thread on, behind the operation of its counter.
-fn finish_move(p: &Program, l: &Layout, a: &mut Actor, c: FinishCounter, old: u64)
+pub fn finish_move(p: &Program, l: &Layout, a: &mut Actor, c: FinishCounter, old: u64)
     ensures { a.new ≡ finish_moved p.now l.now.table a.old c old }
 {
     let next = match c {
@@ -196,24 +198,14 @@ fn finish_move(p: &Program, l: &Layout, a: &mut Actor, c: FinishCounter, old: u6
 }
 
 /// What a step of the end of an explicit task answers.
-fn finish_outcome(a: &Actor, c: FinishCounter) -> Outcome
-    ensures { result ≡ finish_outcome a.now c }
+pub fn finish_outcome(a: &Actor, c: FinishCounter) -> CompactOutcome
+    ensures { outcome_of a.now result ≡ finish_outcome a.now c }
 {
     match c {
-        FinishCounter::Finish => Outcome::Event(Event::Finish {
+        FinishCounter::Finish => CompactOutcome::Event(CompactEvent::Finish {
             task: a.context.task,
         }),
-        FinishCounter::Free { task, .. } => Outcome::Event(Event::FreeTask { task }),
-        _ => Outcome::Quiet,
+        FinishCounter::Free { task, .. } => CompactOutcome::Event(CompactEvent::FreeTask { task }),
+        _ => CompactOutcome::Quiet,
     }
-}
-
-/// Takes the word that the operation of a task's end found: moves the thread on, and answers what came of the step.
-pub fn finish_resume(p: &Program, l: &Layout, a: &mut Actor, c: FinishCounter, old: u64) -> Outcome
-    ensures moved { a.new ≡ finish_moved p.now l.now.table a.old c old }
-    ensures outcome { result ≡ finish_outcome a.old c }
-{
-    let outcome = finish_outcome(a, c);
-    finish_move(p, l, a, c, old);
-    outcome
 }

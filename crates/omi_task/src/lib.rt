@@ -11,10 +11,10 @@ mod slots;
 mod starts;
 mod steps;
 
-pub use finish::{finish_next, finish_resume};
+pub use finish::{finish_move, finish_next, finish_outcome};
 pub use laws::codes_are_read_back;
-pub use look::look_next;
-pub use look_moves::look_resume;
-pub use making::making_next;
-pub use making_moves::making_resume;
-pub use steps::{task_next, task_resume};
+pub use look::{look_next, look_outcome};
+pub use look_moves::look_move;
+pub use making::{making_next, making_outcome};
+pub use making_moves::making_move;
+pub use steps::{task_move, task_next, task_outcome};

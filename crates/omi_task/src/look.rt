@@ -5,20 +5,20 @@ ghost use Rattle.omi_numbers.specs.declared.words.TheConstants.{WAIT_PLACE};
 ghost use Rattle.omi_layout.specs.Table.{thread_count};
 ghost use Rattle.omi_pc.specs.Fits.{Fits};
 ghost use Rattle.omi_pc.specs.declared.counter.Counter.TheVariants as counter;
+ghost use Rattle.omi_step_words.specs.Outcomes.{outcome_of};
 ghost use Rattle.omi_step_words.specs.Placed.{HasTaskPlace, IsPlaced};
 ghost use Rattle.omi_task.specs.LookSteps.{look_next, look_outcome, of_slot, wait_state};
 
 use crate::slots::coded_task;
 use crate::starts::start_plan;
 use omi_layout::{Field, Layout};
-use omi_model::Event;
 use omi_numbers::{
     OWN_SLOTS, WAIT_BARRIER_EXPLICIT, WAIT_BARRIER_IMPLICIT_PARALLEL, WAIT_TASKWAIT, state_word,
 };
 use omi_pc::{Actor, Barrier, LookCounter, Place, Wait};
-use omi_rep::Outcome;
+use omi_run_lists::CompactEvent;
 use omi_script::Program;
-use omi_step_words::{fill, load, of_task, of_thread, store};
+use omi_step_words::{CompactOutcome, fill, load, of_task, of_thread, store};
 use omi_word::Op;
 
 /// The state of a thread that waits, and 0 for a wait in which it stores none.
@@ -93,27 +93,27 @@ pub fn look_next(p: &Program, l: &Layout, a: &Actor, c: LookCounter) -> Op
 }
 
 /// What a step of a wait answers, by the word that it found.
-pub fn look_outcome(p: &Program, l: &Layout, a: &Actor, c: LookCounter, old: u64) -> Outcome
+pub fn look_outcome(p: &Program, l: &Layout, a: &Actor, c: LookCounter, old: u64) -> CompactOutcome
     requires fits { Fits p.now a.now }
     requires threads { p.now.threads ≡ thread_count l.now.table }
     requires placed { IsPlaced l.now.table a.now }
     requires at { a.now.counter ≡ counter.Look c }
-    ensures { result ≡ look_outcome l.now.table a.now c old }
+    ensures { outcome_of a.now result ≡ look_outcome l.now.table a.now c old }
 {
     match c {
-        LookCounter::State { wait } => Outcome::Event(Event::State {
+        LookCounter::State { wait } => CompactOutcome::Event(CompactEvent::State {
             state: wait_state(wait),
             wait: 0,
         }),
-        LookCounter::Start { task, .. } => Outcome::Event(Event::Start { task }),
+        LookCounter::Start { task, .. } => CompactOutcome::Event(CompactEvent::Start { task }),
         LookCounter::LoadChildren => {
             if old == 0 {
-                return Outcome::Event(Event::WaitDone);
+                return CompactOutcome::Event(CompactEvent::WaitDone);
             }
             let addr = of_task(l, a.context.task, Field::TaskChildren);
-            Outcome::NotReady { addr, word: old }
+            CompactOutcome::NotReady { addr, word: old }
         }
-        LookCounter::Yield { .. } => Outcome::Event(Event::Yield),
-        _ => Outcome::Quiet,
+        LookCounter::Yield { .. } => CompactOutcome::Event(CompactEvent::Yield),
+        _ => CompactOutcome::Quiet,
     }
 }

@@ -22,7 +22,6 @@ use omi_pc::{
     Actor, BarrierCounter, Counter, LookCounter, Place, PlainCounter, Wait, bodies_stand,
     stacks_have_room,
 };
-use omi_rep::Outcome;
 use omi_script::Program;
 use omi_step_words::task_place;
 
@@ -161,7 +160,7 @@ fn start(p: &Program, a: &mut Actor, wait: Wait, task: Tid, function: u8, is_fin
 }
 
 /// Moves a thread on, behind the operation of its counter.
-fn look_move(p: &Program, l: &Layout, a: &mut Actor, c: LookCounter, old: u64)
+pub fn look_move(p: &Program, l: &Layout, a: &mut Actor, c: LookCounter, old: u64)
     requires fits { Fits p.now a.old }
     requires threads { p.now.threads ≡ thread_count l.now.table }
     requires placed { IsPlaced l.now.table a.old }
@@ -290,18 +289,4 @@ fn look_move(p: &Program, l: &Layout, a: &mut Actor, c: LookCounter, old: u64)
         }
         LookCounter::Yield { .. } => a.go_to(PlainCounter::Leave),
     }
-}
-
-/// Takes the word that the operation of a wait found: moves the thread on, and answers what came of the step.
-pub fn look_resume(p: &Program, l: &Layout, a: &mut Actor, c: LookCounter, old: u64) -> Outcome
-    requires fits { Fits p.now a.old }
-    requires threads { p.now.threads ≡ thread_count l.now.table }
-    requires placed { IsPlaced l.now.table a.old }
-    requires at { a.old.counter ≡ counter.Look c }
-    ensures moved { a.new ≡ look_moved p.now l.now.table a.old c old }
-    ensures outcome { result ≡ look_outcome l.now.table a.old c old }
-{
-    let outcome = look_outcome(p, l, a, c, old);
-    look_move(p, l, a, c, old);
-    outcome
 }

@@ -8,6 +8,7 @@ ghost use Rattle.omi_pc.specs.Fits.{Fits};
 ghost use Rattle.omi_pc.specs.declared.counter.Counter.TheVariants as counter;
 ghost use Rattle.omi_numbers.specs.declared.limits.TheConstants.{OWN_SLOTS};
 ghost use Rattle.omi_pc.specs.declared.limits.TheConstants.{TASK_WORDS};
+ghost use Rattle.omi_step_words.specs.Outcomes.{outcome_of};
 ghost use Rattle.omi_step_words.specs.Placed.{HasOptionalTask, HasRegion, HasTask, IsPlaced};
 ghost use Rattle.omi_step_words.specs.Plan.{filling, task_plan};
 ghost use Rattle.omi_task.specs.MakingSteps;
@@ -15,14 +16,14 @@ ghost use Rattle.omi_task.specs.MakingSteps.{making_next, making_outcome, new_ta
 
 use crate::slots::slot_word;
 use omi_layout::{Field, Layout};
-use omi_model::{Event, Id};
+use omi_model::Id;
 use omi_numbers::exit_frame;
 use omi_pc::{Actor, TaskCounter};
-use omi_rep::Outcome;
+use omi_run_lists::CompactEvent;
 use omi_script::{Program, Stmt};
 use omi_step_words::{
-    NewTask, fill, load, of_place, of_region, of_task, of_thread, of_variable, own_place,
-    search_outcome, store, task_plan, used_word,
+    CompactOutcome, NewTask, fill, load, of_place, of_region, of_task, of_thread, of_variable,
+    own_place, search_outcome, store, task_plan, used_word,
 };
 use omi_word::Op;
 
@@ -132,24 +133,30 @@ pub fn making_next(p: &Program, l: &Layout, a: &Actor, c: TaskCounter) -> Op
 }
 
 /// What a step of a `task` construct answers, by the word that it found.
-pub fn making_outcome(p: &Program, l: &Layout, a: &Actor, c: TaskCounter, old: u64) -> Outcome
+pub fn making_outcome(
+    p: &Program,
+    l: &Layout,
+    a: &Actor,
+    c: TaskCounter,
+    old: u64,
+) -> CompactOutcome
     requires fits { Fits p.now a.now }
     requires threads { p.now.threads ≡ thread_count l.now.table }
     requires placed { IsPlaced l.now.table a.now }
     requires at { a.now.counter ≡ counter.Task c }
-    ensures { result ≡ making_outcome l.now.table a.now c old }
+    ensures { outcome_of a.now result ≡ making_outcome l.now.table a.now c old }
 {
     match c {
         TaskCounter::LoadSlot { place } => {
             if old == 0 {
-                Outcome::Quiet
+                CompactOutcome::Quiet
             } else {
-                Outcome::Event(Event::Seen { j: place })
+                CompactOutcome::Event(CompactEvent::Seen { j: place })
             }
         }
         TaskCounter::LoadLife { slot, .. } => search_outcome(l, a, slot, Field::TaskLife, old),
-        TaskCounter::Defer { task, .. } => Outcome::Event(Event::Defer { task }),
-        TaskCounter::StartNow { task } => Outcome::Event(Event::StartNow { task }),
-        _ => Outcome::Quiet,
+        TaskCounter::Defer { task, .. } => CompactOutcome::Event(CompactEvent::Defer { task }),
+        TaskCounter::StartNow { task } => CompactOutcome::Event(CompactEvent::StartNow { task }),
+        _ => CompactOutcome::Quiet,
     }
 }

@@ -20,7 +20,6 @@ use omi_model::Tid;
 use omi_numbers::OWN_SLOTS;
 use omi_pc::limits::{TASK_WORDS, VARIABLE_WORDS};
 use omi_pc::{Actor, Counter, PlainCounter, TaskCounter, bodies_stand, stacks_have_room};
-use omi_rep::Outcome;
 use omi_script::Program;
 use omi_step_words::{is_free, next_task_slot, object_in, own_place};
 
@@ -135,7 +134,7 @@ fn start_now(p: &Program, a: &mut Actor, task: Tid)
 }
 
 /// Moves a thread on, behind the operation of its counter.
-fn making_move(p: &Program, l: &Layout, a: &mut Actor, c: TaskCounter, old: u64)
+pub fn making_move(p: &Program, l: &Layout, a: &mut Actor, c: TaskCounter, old: u64)
     requires fits { Fits p.now a.old }
     requires threads { p.now.threads ≡ thread_count l.now.table }
     requires placed { IsPlaced l.now.table a.old }
@@ -170,18 +169,4 @@ fn making_move(p: &Program, l: &Layout, a: &mut Actor, c: TaskCounter, old: u64)
         TaskCounter::Defer { .. } => a.go_to(PlainCounter::Leave),
         TaskCounter::StartNow { task } => start_now(p, a, task),
     }
-}
-
-/// Takes the word that the operation of a `task` construct found: moves the thread on, and answers what came of the step.
-pub fn making_resume(p: &Program, l: &Layout, a: &mut Actor, c: TaskCounter, old: u64) -> Outcome
-    requires fits { Fits p.now a.old }
-    requires threads { p.now.threads ≡ thread_count l.now.table }
-    requires placed { IsPlaced l.now.table a.old }
-    requires at { a.old.counter ≡ counter.Task c }
-    ensures moved { a.new ≡ making_moved p.now l.now.table a.old c old }
-    ensures outcome { result ≡ making_outcome l.now.table a.old c old }
-{
-    let outcome = making_outcome(p, l, a, c, old);
-    making_move(p, l, a, c, old);
-    outcome
 }

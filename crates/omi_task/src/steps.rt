@@ -3,14 +3,18 @@
 ghost use Rattle.std.specs.Prelude.{◌≡◌};
 ghost use Rattle.omi_layout.specs.Table.{thread_count};
 ghost use Rattle.omi_pc.specs.Fits.{Fits};
+ghost use Rattle.omi_step_words.specs.Outcomes.{outcome_of};
 ghost use Rattle.omi_step_words.specs.Placed.{IsPlaced};
-ghost use Rattle.omi_task.specs.Steps.{IsTaskCounter, IsTaskNext, IsTaskResumed};
+ghost use Rattle.omi_task.specs.Steps.{IsTaskCounter, IsTaskMoved, IsTaskNext, IsTaskOutcome};
 
-use crate::{finish_next, finish_resume, look_next, look_resume, making_next, making_resume};
+use crate::{
+    finish_move, finish_next, finish_outcome, look_move, look_next, look_outcome, making_move,
+    making_next, making_outcome,
+};
 use omi_layout::Layout;
 use omi_pc::{Actor, Counter};
-use omi_rep::Outcome;
 use omi_script::Program;
+use omi_step_words::CompactOutcome;
 use omi_word::{Op, Res};
 
 /// The operation that an actor makes next, at a counter of this crate. Takes no memory.
@@ -29,19 +33,34 @@ pub fn task_next(p: &Program, l: &Layout, a: &Actor) -> Op
     }
 }
 
-/// Takes the word that an actor's operation found, at a counter of this crate: moves the actor on, and answers what came of the
-/// step. Takes no memory.
-pub fn task_resume(p: &Program, l: &Layout, a: &mut Actor, r: Res) -> Outcome
+/// What came of the operation of a counter of this crate, by the word that it found. Takes no memory.
+pub fn task_outcome(p: &Program, l: &Layout, a: &Actor, r: Res) -> CompactOutcome
+    requires fits { Fits p.now a.now }
+    requires threads { p.now.threads ≡ thread_count l.now.table }
+    requires placed { IsPlaced l.now.table a.now }
+    requires counter { IsTaskCounter a.now.counter }
+    ensures { IsTaskOutcome p.now l.now.table a.now a.now.counter r.old (outcome_of a.now result) }
+{
+    match a.counter {
+        Counter::Task(c) => making_outcome(p, l, a, c, r.old),
+        Counter::Look(c) => look_outcome(p, l, a, c, r.old),
+        Counter::Finish(c) => finish_outcome(a, c),
+        _ => unreachable!(),
+    }
+}
+
+/// Moves an actor on, behind the operation of a counter of this crate, by the word that it found. Takes no memory.
+pub fn task_move(p: &Program, l: &Layout, a: &mut Actor, r: Res)
     requires fits { Fits p.now a.old }
     requires threads { p.now.threads ≡ thread_count l.now.table }
     requires placed { IsPlaced l.now.table a.old }
     requires counter { IsTaskCounter a.old.counter }
-    ensures { IsTaskResumed p.now l.now.table a.old a.old.counter r.old (a.new, result) }
+    ensures { IsTaskMoved p.now l.now.table a.old a.old.counter r.old a.new }
 {
     match a.counter {
-        Counter::Task(c) => making_resume(p, l, a, c, r.old),
-        Counter::Look(c) => look_resume(p, l, a, c, r.old),
-        Counter::Finish(c) => finish_resume(p, l, a, c, r.old),
+        Counter::Task(c) => making_move(p, l, a, c, r.old),
+        Counter::Look(c) => look_move(p, l, a, c, r.old),
+        Counter::Finish(c) => finish_move(p, l, a, c, r.old),
         _ => unreachable!(),
     }
 }

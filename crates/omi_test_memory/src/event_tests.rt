@@ -1,7 +1,8 @@
 //! The text of each event.
 
 use omi_model::{Event, Id, Rid, Team, Tid};
-use omi_text::event_text;
+use omi_run_lists::CompactEvent;
+use omi_text::{event_text, push_compact_line};
 use std::alloc::{AllocError, Global};
 use std::process::Abort;
 use std::test::*;
@@ -49,6 +50,45 @@ fn a_fork(rt: HostRuntime) -> Result<(), Fail> {
     };
     let text = "fork r1.4.2 size 2 team k1.5.2@1 k1.6.2@63";
     expect_texts(&rt, rt.alloc(), &[(event, text)])?;
+    Ok(())
+}
+
+#[test]
+fn lines_of_events_without_their_teams(rt: HostRuntime) -> Result<(), Fail> {
+    let mut team = Team::new();
+    team.push(task(5), 1);
+    team.push(task(6), 63);
+    let mut text = String::new(rt.alloc());
+    push_compact_line(&mut text, 1, 0, CompactEvent::Begin, &team)?;
+    push_compact_line(
+        &mut text,
+        20,
+        15,
+        CompactEvent::Fork { region: REGION },
+        &team,
+    )?;
+    push_compact_line(
+        &mut text,
+        300,
+        63,
+        CompactEvent::Ask { w: 3, got: false },
+        &team,
+    )?;
+    push_compact_line(
+        &mut text,
+        u64::MAX,
+        7,
+        CompactEvent::SetTool { x: u64::MAX },
+        &team,
+    )?;
+    push_compact_line(&mut text, 5, 1, CompactEvent::Start { task: TASK }, &team)?;
+    let wanted = "1 t0 begin
+20 t15 fork r1.4.2 size 2 team k1.5.2@1 k1.6.2@63
+300 t63 ask 3 busy
+18446744073709551615 t7 tool 18446744073709551615
+5 t1 start k1.30.2
+";
+    assert_eq!(rt; text.as_str(), wanted);
     Ok(())
 }
 

@@ -4,4 +4,6 @@
 #[cfg(test)]
 mod actor_tests;
 #[cfg(test)]
+mod compact_tests;
+#[cfg(test)]
 mod event_list_tests;

@@ -1,6 +1,7 @@
 //! The lines of events.
 
 ghost use Rattle.std.specs.Prelude.{◌≡◌, ◌++◌, ◌∷◌, [], IfOk, OnOk, codes, map, string_bytes};
+ghost use Rattle.std.specs.Fmt.{decimal};
 ghost use Rattle.std.specs.List.{flat_map};
 ghost use Rattle.omi_text.specs.Events.{event_line, event_words, is_settable, joined_word, member_word, value_text, variable_text};
 ghost use Rattle.omi_text.specs.Ids.{region_id, task_id};
@@ -9,13 +10,13 @@ ghost use Rattle.omi_text.specs.Lines.{line};
 use crate::OutOfMemory;
 use crate::ids::{push_region, push_task};
 use crate::names::push_state;
+use crate::numbers::push_decimal;
 use crate::tasks::push_schedule;
 use omi_model::{Event, Rid, Team, Tid};
 use omi_numbers::{
     DEFAULT_DEVICE_VAR, DYN_VAR, MAX_ACTIVE_LEVELS_VAR, NTHREADS_VAR, RUN_SCHED_VAR, variable_name,
 };
 use std::alloc::Global;
-use std::fmt::Write;
 
 /// Whether an event may set a variable.
 fn is_settable(icv: u32) -> bool
@@ -34,7 +35,7 @@ fn push_variable(text: &mut String, icv: u32) -> Result<(), OutOfMemory>
 {
     match variable_name(icv) {
         Some(name) if is_settable(icv) => text.push_str(name),
-        _ => write!(text, "{icv}"),
+        _ => push_decimal(text, u64::from(icv)),
     }
 }
 
@@ -46,12 +47,12 @@ fn push_value(text: &mut String, icv: u32, value: u64) -> Result<(), OutOfMemory
     if icv == RUN_SCHED_VAR {
         push_schedule(text, value)
     } else {
-        write!(text, "{value}")
+        push_decimal(text, value)
     }
 }
 
 /// Adds the words of `set`, and ends the line.
-fn push_set(text: &mut String, icv: u32, value: u64) -> Result<(), OutOfMemory>
+pub fn push_set(text: &mut String, icv: u32, value: u64) -> Result<(), OutOfMemory>
     ensures { OnOk result (string_bytes text.new
         ≡ string_bytes text.old ++ line (event_words (Event.Set icv value))) }
 {
@@ -62,8 +63,19 @@ fn push_set(text: &mut String, icv: u32, value: u64) -> Result<(), OutOfMemory>
     text.push_str("\n")
 }
 
+/// Adds a word and a number, and ends the line.
+pub fn push_of_number(text: &mut String, word: &str, number: u64) -> Result<(), OutOfMemory>
+    ensures { OnOk result (string_bytes text.new
+        ≡ string_bytes text.old ++ line (word.now ∷ decimal number ∷ [])) }
+{
+    text.push_str(word)?;
+    text.push_str(" ")?;
+    push_decimal(text, number)?;
+    text.push_str("\n")
+}
+
 /// Adds a word and the name of a task, and ends the line.
-fn push_of_task(text: &mut String, word: &str, task: Tid) -> Result<(), OutOfMemory>
+pub fn push_of_task(text: &mut String, word: &str, task: Tid) -> Result<(), OutOfMemory>
     ensures { OnOk result (string_bytes text.new
         ≡ string_bytes text.old ++ line (word.now ∷ task_id task ∷ [])) }
 {
@@ -74,7 +86,7 @@ fn push_of_task(text: &mut String, word: &str, task: Tid) -> Result<(), OutOfMem
 }
 
 /// Adds a word and the name of a region, and ends the line.
-fn push_of_region(text: &mut String, word: &str, region: Rid) -> Result<(), OutOfMemory>
+pub fn push_of_region(text: &mut String, word: &str, region: Rid) -> Result<(), OutOfMemory>
     ensures { OnOk result (string_bytes text.new
         ≡ string_bytes text.old ++ line (word.now ∷ region_id region ∷ [])) }
 {
@@ -92,7 +104,8 @@ fn push_member(text: &mut String, task: Tid, thread: u8) -> Result<(), OutOfMemo
 {
     text.push_str(" ")?;
     push_task(text, task)?;
-    write!(text, "@{thread}")
+    text.push_str("@")?;
+    push_decimal(text, u64::from(thread))
 }
 
 /// Adds each member behind a space.
@@ -126,36 +139,42 @@ fn push_team_line(text: &mut String, team: &Team) -> Result<(), OutOfMemory>
 }
 
 /// Adds the words of `fork`, and ends the line.
-fn push_fork(text: &mut String, region: Rid, team: &Team) -> Result<(), OutOfMemory>
+pub fn push_fork(text: &mut String, region: Rid, team: &Team) -> Result<(), OutOfMemory>
     ensures { OnOk result (string_bytes text.new
         ≡ string_bytes text.old ++ line (event_words (Event.Fork region team.now))) }
 {
     text.push_str("fork ")?;
     push_region(text, region)?;
-    write!(text, " size {} ", team.len())?;
+    text.push_str(" size ")?;
+    push_decimal(text, team.len() as u64)?;
+    text.push_str(" ")?;
     push_team_line(text, team)
 }
 
 /// Adds the words of an ask, and ends the line.
-fn push_ask(text: &mut String, thread: u8, got: bool) -> Result<(), OutOfMemory>
+pub fn push_ask(text: &mut String, thread: u8, got: bool) -> Result<(), OutOfMemory>
     ensures { OnOk result (string_bytes text.new
         ≡ string_bytes text.old ++ line (event_words (Event.Ask thread got))) }
 {
+    text.push_str("ask ")?;
+    push_decimal(text, u64::from(thread))?;
     if got {
-        write!(text, "ask {thread} got\n")
+        text.push_str(" got\n")
     } else {
-        write!(text, "ask {thread} busy\n")
+        text.push_str(" busy\n")
     }
 }
 
 /// Adds the words of a state, and ends the line.
-fn push_shown(text: &mut String, state: u32, wait: u64) -> Result<(), OutOfMemory>
+pub fn push_shown(text: &mut String, state: u32, wait: u64) -> Result<(), OutOfMemory>
     ensures { OnOk result (string_bytes text.new
         ≡ string_bytes text.old ++ line (event_words (Event.State state wait))) }
 {
     text.push_str("state ")?;
     push_state(text, state)?;
-    write!(text, " {wait}\n")
+    text.push_str(" ")?;
+    push_decimal(text, wait)?;
+    text.push_str("\n")
 }
 
 /// Adds the words of an event, and ends the line.
@@ -166,7 +185,7 @@ fn push_event(text: &mut String, event: &Event) -> Result<(), OutOfMemory>
     match event {
         Event::Begin => text.push_str("begin\n"),
         Event::Offer => text.push_str("offer\n"),
-        Event::Want { n } => write!(text, "want {n}\n"),
+        Event::Want { n } => push_of_number(text, "want", u64::from(*n)),
         Event::Ask { w, got } => push_ask(text, *w, *got),
         Event::Fork { region, team } => push_fork(text, *region, team),
         Event::ImplicitBegin { task } => push_of_task(text, "implicit_begin", *task),
@@ -180,7 +199,7 @@ fn push_event(text: &mut String, event: &Event) -> Result<(), OutOfMemory>
         Event::Join { region } => push_of_region(text, "join", *region),
         Event::FreeTask { task } => push_of_task(text, "free", *task),
         Event::FreeRegion { region } => push_of_region(text, "free", *region),
-        Event::Seen { j } => write!(text, "seen {j}\n"),
+        Event::Seen { j } => push_of_number(text, "seen", u64::from(*j)),
         Event::Defer { task } => push_of_task(text, "defer", *task),
         Event::StartNow { task } => push_of_task(text, "start_now", *task),
         Event::Start { task } => push_of_task(text, "start", *task),
@@ -188,15 +207,26 @@ fn push_event(text: &mut String, event: &Event) -> Result<(), OutOfMemory>
         Event::WaitDone => text.push_str("wait_done\n"),
         Event::Yield => text.push_str("yield\n"),
         Event::Set { icv, value } => push_set(text, *icv, *value),
-        Event::SetTool { x } => write!(text, "tool {x}\n"),
-        Event::Lock { k } => write!(text, "lock {k}\n"),
-        Event::Unlock { k } => write!(text, "unlock {k}\n"),
+        Event::SetTool { x } => push_of_number(text, "tool", *x),
+        Event::Lock { k } => push_of_number(text, "lock", u64::from(*k)),
+        Event::Unlock { k } => push_of_number(text, "unlock", u64::from(*k)),
         Event::Work => text.push_str("work\n"),
-        Event::Call { f } => write!(text, "call {f}\n"),
+        Event::Call { f } => push_of_number(text, "call", u64::from(*f)),
         Event::Skip => text.push_str("skip\n"),
         Event::Ret => text.push_str("ret\n"),
         Event::Done => text.push_str("done\n"),
     }
+}
+
+/// Adds what stands in front of an event: the number of its step, and its thread.
+pub fn push_front(text: &mut String, step: u64, thread: u8) -> Result<(), OutOfMemory>
+    ensures { OnOk result (string_bytes text.new
+        ≡ string_bytes text.old ++ (decimal step ++ 32 ∷ 116 ∷ decimal thread ++ 32 ∷ [])) }
+{
+    push_decimal(text, step)?;
+    text.push_str(" t")?;
+    push_decimal(text, u64::from(thread))?;
+    text.push_str(" ")
 }
 
 /// Adds the line of an event: the number of its step, its thread and the event, ended by a line
@@ -210,7 +240,7 @@ pub fn push_event_line(
     ensures { OnOk result (string_bytes text.new
         ≡ string_bytes text.old ++ event_line step thread event.now) }
 {
-    write!(text, "{step} t{thread} ")?;
+    push_front(text, step, thread)?;
     push_event(text, event)
 }
 

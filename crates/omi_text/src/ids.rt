@@ -5,15 +5,19 @@ ghost use Rattle.omi_text.specs.Ids.{id_text, region_id, task_id};
 ghost use Rattle.omi_text.specs.Lines.{or_none};
 
 use crate::OutOfMemory;
+use crate::numbers::push_decimal;
 use omi_model::{Id, Rid, Tid};
-use std::fmt::Write;
 
 /// Adds creator, slot and generation.
 #[tactic(auto, unfolding(crate::specs::Ids::id_text))]
 fn push_id(text: &mut String, id: Id) -> Result<(), OutOfMemory>
     ensures { OnOk result (string_bytes text.new ≡ string_bytes text.old ++ id_text id) }
 {
-    write!(text, "{}.{}.{}", id.creator, id.slot, id.generation)
+    push_decimal(text, u64::from(id.creator))?;
+    text.push_str(".")?;
+    push_decimal(text, u64::from(id.slot))?;
+    text.push_str(".")?;
+    push_decimal(text, u64::from(id.generation))
 }
 
 /// Adds the name of a region.

@@ -1,6 +1,7 @@
 //! The texts that are printed: a report of a state, line by line, and the line of an event.
 #![tactic(auto)]
 
+mod compact;
 mod events;
 mod head;
 mod ids;
@@ -11,6 +12,7 @@ mod report;
 mod tasks;
 mod threads;
 
+pub use compact::push_compact_line;
 pub use events::{event_text, push_event_line};
 pub use head::debug_word;
 pub use report::report_text;

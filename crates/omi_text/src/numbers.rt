@@ -1,11 +1,21 @@
 //! Numbers and lists of numbers.
 
 ghost use Rattle.std.specs.Prelude.{◌≡◌, ◌++◌, OnOk, string_bytes, drop};
+ghost use Rattle.std.specs.Fmt.{decimal};
 ghost use Rattle.omi_text.specs.Numbers.{hexadecimal, decimals, after_commas};
 
 use crate::OutOfMemory;
+use itoa::Buffer;
 use omi_script::NumList;
 use std::fmt::Write;
+
+/// Adds a number in decimal, without a formatter.
+pub fn push_decimal(text: &mut String, number: u64) -> Result<(), OutOfMemory>
+    ensures { OnOk result (string_bytes text.new ≡ string_bytes text.old ++ decimal number) }
+{
+    let mut buffer = Buffer::new();
+    text.push_str(buffer.format(number))
+}
 
 /// Adds a number in hexadecimal, as addresses are printed.
 #[tactic(auto, unfolding(crate::specs::Numbers::hexadecimal))]
