@@ -9,3 +9,4 @@ pub mod Histories
 pub mod ScheduledSteps
 pub mod KeptCounters
 pub mod DeferSlots
+pub mod RecordedRuns

@@ -6,9 +6,11 @@ pub mod Steps
 pub mod Found
 pub mod Histories
 pub mod Kept
+pub mod RecordedSteps
 -- A run by a schedule: which thread makes each step, and where the run ends
 pub mod Schedules
 pub mod Ends
 pub mod ScheduledRuns
+pub mod Recorded
 -- The laws
 pub mod DeferLaws

@@ -1,10 +1,15 @@
 //! Where a run ends.
 
-ghost use Rattle.std.specs.Prelude.{◌≡◌};
+ghost use Rattle.std.specs.Prelude.{◌≡◌, ℕ, List};
 ghost use Rattle.omi_core.specs.Ends.{IsBelow, end_at, end_of_kind, is_done, is_of_kind, met_at};
+ghost use Rattle.omi_model.specs.declared.id.Tid.{Tid};
+ghost use Rattle.omi_run_lists.specs.Compact.{with_team};
+ghost use Rattle.omi_step_words.specs.Outcomes.{outcome_with};
 
 use omi_model::Event;
 use omi_rep::Outcome;
+use omi_run_lists::CompactEvent;
+use omi_step_words::CompactOutcome;
 
 /// A kind of event at which a run may stop: those that a debugger's breakpoints stand for.
 #[derive(Clone, Copy, Debug, PartialEq, Eq)]
@@ -97,6 +102,70 @@ pub fn met_at(on: Option<(Break, u32)>, met: u32, outcome: &Outcome) -> u32
     };
     match on {
         Some((kind, _)) if is_of_kind(kind, event) => met + 1,
+        _ => met,
+    }
+}
+
+/// `is_of_kind` of an event without its team.
+fn is_compact_of_kind(kind: Break, event: CompactEvent) -> bool
+    ensures { (team : List (Tid × ℕ)) → result ≡ is_of_kind kind (with_team team event) }
+{
+    match kind {
+        Break::ParallelBegin => matches!(event, CompactEvent::Fork { .. }),
+        Break::ParallelEnd => matches!(event, CompactEvent::Join { .. }),
+        Break::TaskBegin => matches!(
+            event,
+            CompactEvent::Start { .. } | CompactEvent::StartNow { .. }
+        ),
+        Break::TaskEnd => matches!(event, CompactEvent::Finish { .. }),
+        Break::ThreadBegin => matches!(event, CompactEvent::Begin),
+    }
+}
+
+/// `end_of_kind` of an event without its team.
+fn compact_end_of_kind(on: Option<(Break, u32)>, met: u32, event: CompactEvent) -> Option<End>
+    requires { IsBelow on met }
+    ensures { (team : List (Tid × ℕ)) → result ≡ end_of_kind on met (with_team team event) }
+{
+    let (kind, count) = on?;
+    if is_compact_of_kind(kind, event) && met + 1 == count {
+        Some(End::Break)
+    } else {
+        None
+    }
+}
+
+/// `end_at` of an outcome without its team.
+pub fn compact_end_at(on: Option<(Break, u32)>, met: u32, outcome: CompactOutcome) -> Option<End>
+    requires { IsBelow on met }
+    ensures { (team : List (Tid × ℕ)) → result ≡ end_at on met (outcome_with team outcome) }
+{
+    let CompactOutcome::Event(event) = outcome else {
+        return None;
+    };
+    if is_compact_done(event) {
+        return Some(End::Done);
+    }
+    compact_end_of_kind(on, met, event)
+}
+
+/// `is_done` of an event without its team.
+fn is_compact_done(event: CompactEvent) -> bool
+    ensures { (team : List (Tid × ℕ)) → result ≡ is_done (with_team team event) }
+{
+    matches!(event, CompactEvent::Done)
+}
+
+/// `met_at` of an outcome without its team.
+pub fn compact_met_at(on: Option<(Break, u32)>, met: u32, outcome: CompactOutcome) -> u32
+    requires { IsBelow on met }
+    ensures { (team : List (Tid × ℕ)) → result ≡ met_at on met (outcome_with team outcome) }
+{
+    let CompactOutcome::Event(event) = outcome else {
+        return met;
+    };
+    match on {
+        Some((kind, _)) if is_compact_of_kind(kind, event) => met + 1,
         _ => met,
     }
 }

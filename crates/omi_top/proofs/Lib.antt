@@ -1,4 +1,3 @@
-pub mod EventCounts
 pub mod OneRun
 pub mod Running
 pub mod Stopping

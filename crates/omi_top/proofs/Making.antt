@@ -1,5 +1,5 @@
 -- The exits of `make`: what each result is an answer to.
-use Rattle.std.proofs.Common.{◌≡◌, inl, inr, ℕ, List, Some, Ok, Err, refl, sym, ◌∙◌, ap, subst}
+use Rattle.std.proofs.Common.{◌≡◌, inl, inr, ℕ, List, Some, Ok, Err, refl, sym, subst}
 use Rattle.std.specs.Global.{Vec}
 use Rattle.omi_outside.specs.Outside.{Told, holding, IsCut}
 use Rattle.omi_outside.specs.declared.files.Refused.{Refused as RefusedWrite}
@@ -11,7 +11,8 @@ use Rattle.omi_core.specs.Ends.{count_of}
 use Rattle.omi_top.specs.Answer.{Gives, IsAnswer, IsAnswered}
 use Rattle.omi_top.specs.Command.{Make}
 use Rattle.omi_top.specs.Make.{IsMade, made_line, make_plan, make_text}
-use Rattle.omi_top.specs.declared.run.Ran.{Ran}
+use Rattle.omi_core.specs.declared.stop.End.{End}
+use Rattle.omi_core.specs.Steps.{events_behind}
 use Rattle.omi_top.specs.Ran.{IsRanBy}
 use Rattle.omi_verbs.specs.Refusal.{refusal_of_write}
 use Rattle.omi_verbs.specs.declared.refusal.Refusal.TheVariants as refusal
@@ -19,20 +20,20 @@ use Rattle.omi_top.proofs.Running.{made_run}
 use Rattle.omi_verbs.proofs.Elsewhere.{late}
 
 -- a run that was made, and its line
-pub made : (n : ℕ) (p : Program) (ran : Ran) (line : List ℕ) → IsRanBy p make_plan ran
-    → line ≡ made_line n (count_of TaskBegin ran.core.events.items) ran.why
-    → IsMade n p line
-made n p ran line by is =
-    let run = made_run p make_plan ran by in
+pub made : (n : ℕ) (p : Program) (tells : List (ℕ × ℕ × Event) → Type 0) (words : List ℕ) (steps : ℕ) (why : End) (line : List ℕ)
+    → IsRanBy p make_plan tells words steps why
+    → ((es : List (ℕ × ℕ × Event)) → tells es → line ≡ made_line n (count_of TaskBegin es) why) → IsMade n p line
+made n p tells words steps why line by is =
+    let run = made_run p make_plan tells words steps why by in
     record {
       w = by.w;
       family = by.family;
       entries = run.entries;
-      end = ran.why;
-      words = ran.core.words;
+      end = why;
+      words = words;
       state = run.state;
       run = run.run;
-      line_is = is ∙ ap (λ (es : List (ℕ × ℕ × Event)). made_line n (count_of TaskBegin es) ran.why) run.events;
+      line_is = is (events_behind 0 run.entries) run.told;
     }
 
 module _ (n : ℕ) (script : List ℕ) (told : List ℕ → Told) where

@@ -17,7 +17,6 @@ use Rattle.omi_core.specs.Schedules.{threads_by}
 use Rattle.omi_core.specs.Steps.{AreStepsOf, events_behind, made_of_steps, steps_of, threads_of_steps}
 use Rattle.omi_core.proofs.History.{made_length}
 use Rattle.omi_top.specs.declared.plan.Plan.{Plan}
-use Rattle.omi_top.specs.declared.run.Ran.{Ran}
 use Rattle.omi_top.specs.Ran.{IsRanBy}
 use Rattle.omi_top.specs.Run.{IsRun, thread_schedule}
 
@@ -25,31 +24,32 @@ kept_threads : (xs : List (ℕ × Entry)) → map (λ (m : Made). m.thread) (mad
 kept_threads [] = refl
 kept_threads (x ∷ xs) = ap (λ ns. x.0 ∷ ns) (kept_threads xs)
 
--- its steps, and what it keeps of them
-pub record MadeRun (w : List ℕ) (p : Program) (plan : Plan) (ran : Ran) : Type 0 where
+-- its steps, and what is told of them
+pub record MadeRun (w : List ℕ) (p : Program) (plan : Plan) (tells : List (ℕ × ℕ × Event) → Type 0) (words : List ℕ) (steps : ℕ) (why : End) : Type 0 where
   pub entries : List (ℕ × Entry)
   pub state : State
-  pub run : IsRun w p plan entries ran.why ran.core.words state
-  pub events : ran.core.events.items ≡ events_behind 0 entries
-  pub many : ran.steps ≡ length entries
-  pub some : 0 < length ran.core.words
+  pub run : IsRun w p plan entries why words state
+  pub told : tells (events_behind 0 entries)
+  pub many : steps ≡ length entries
+  pub some : 0 < length words
 
-pub made_run : (p : Program) (plan : Plan) (ran : Ran) (r : IsRanBy p plan ran) → MadeRun r.w p plan ran
-made_run p plan ran r =
-    let last : Run = ran.core in
-    let why : End = ran.why in
+pub made_run : (p : Program) (plan : Plan) (tells : List (ℕ × ℕ × Event) → Type 0) (words : List ℕ) (steps : ℕ) (why : End) (by : IsRanBy p plan tells words steps why)
+    → MadeRun by.w p plan tells words steps why
+made_run p plan tells words steps why by =
+    let r = by.recorded in
+    let last : Run = r.last in
     let (xs, s, h) = r.history in
     let (added, ends) = r.run in
     let program : last.program ≡ p = added.program ∙ r.opens.program in
-    let table : last.table ≡ r.w = added.table ∙ r.opens.table in
+    let table : last.table ≡ by.w = added.table ∙ r.opens.table in
     let all : last.made.items ≡ added.made =
     added.made_are ∙ ap (λ (ms : List Made). ms ++ added.made) r.opens.made in
     let many : length added.made ≡ length xs = ap length (sym all ∙ h.made_by.made) ∙ made_length xs in
     let events : added.events ≡ events_behind 0 xs =
     sym (added.events_are ∙ ap (λ (es : List (ℕ × ℕ × Event)). es ++ added.events) r.opens.events)
     ∙ h.made_by.events in
-    let steps : AreStepsOf p r.w xs last.words s =
-    subst (λ (q : Program). AreStepsOf q r.w xs last.words s) program
+    let steps_now : AreStepsOf p by.w xs last.words s =
+    subst (λ (q : Program). AreStepsOf q by.w xs last.words s) program
     (subst (λ t. AreStepsOf last.program t xs last.words s) table h.made_by.steps) in
     let reached : Reached p (events_in (events_behind 0 xs)) s =
     subst (λ (es : List (ℕ × ℕ × Event)). Reached p (events_in es) s) h.made_by.events
@@ -59,8 +59,8 @@ made_run p plan ran r =
       entries = xs;
       state = s;
       run = record {
-        steps = steps;
-        follow = λ i. subst (λ (q : Program). MakeNext q r.w i (steps_of i xs)) program (subst (λ t. MakeNext last.program t i (steps_of i xs)) table (h.follow i));
+        steps = subst (λ (ws : List ℕ). AreStepsOf p by.w xs ws s) (sym r.words_are) steps_now;
+        follow = λ i. subst (λ (q : Program). MakeNext q by.w i (steps_of i xs)) program (subst (λ t. MakeNext last.program t i (steps_of i xs)) table (h.follow i));
         threads =
             sym (kept_threads xs)
             ∙ ap (map (λ (m : Made). m.thread)) (sym (sym all ∙ h.made_by.made))
@@ -74,10 +74,10 @@ made_run p plan ran r =
             (subst (λ n. IsEnded plan.stop n (length xs) added.events why) many
             (subst (λ n. IsEnded plan.stop (length added.made) n added.events why) (ap length all ∙ many) ends));
         reached = reached;
-        shows = subst (λ t. Shows t (words_of last.words) s) table h.shows;
-        counts = subst (λ t. Counts t last.words s) table h.counts;
+        shows = subst (λ (ws : List ℕ). Shows by.w (words_of ws) s) (sym r.words_are) (subst (λ t. Shows t (words_of last.words) s) table h.shows);
+        counts = subst (λ (ws : List ℕ). Counts by.w ws s) (sym r.words_are) (subst (λ t. Counts t last.words s) table h.counts);
       };
-      events = h.made_by.events;
-      many = r.steps ∙ ap length all ∙ many;
-      some = omega (arith, long);
+      told = subst tells h.made_by.events r.told;
+      many = r.steps_are ∙ ap length all ∙ many;
+      some = subst (λ (ws : List ℕ). 0 < length ws) (sym r.words_are) (omega (arith, long));
     }

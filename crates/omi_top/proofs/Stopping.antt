@@ -13,7 +13,7 @@ use Rattle.omi_verbs.specs.Scripts.{IsProgramIn, IsScriptRefusal}
 use Rattle.omi_top.specs.Command.{Command, Stop as StopCommand}
 use Rattle.omi_verbs.specs.Cores.{IsCoreOf, thread_ids}
 use Rattle.omi_top.specs.Lines.{run_text}
-use Rattle.omi_top.specs.declared.run.Ran.{Ran}
+use Rattle.omi_core.specs.declared.stop.End.{End}
 use Rattle.omi_top.specs.Ran.{IsRanBy}
 use Rattle.omi_top.proofs.Running.{made_run}
 use Rattle.omi_top.specs.declared.plan.Plan.{Plan}
@@ -61,27 +61,24 @@ module _ (plan : Plan) (script core : List ℕ) (told : List ℕ → Told) (cont
 -- ---- a run that was made
 
 -- with its core and its text
-pub made_stopped : (p : Program) (plan : Plan) (ran : Ran) (core text : List ℕ) → IsRanBy p plan ran
-    → (0 < length ran.core.words → core ≡ core_bytes (thread_ids p.threads) ran.core.words) → (0 < length ran.core.words → IsCoreOf (thread_ids p.threads) core ran.core.words)
-    → text ≡ run_text ran.core.events.items ran.steps ran.why → IsStopped p plan core text
-made_stopped p plan ran core text by bytes image lines =
-    let made = made_run p plan ran by in
-    let run = made.run in
+pub made_stopped : (p : Program) (plan : Plan) (tells : List (ℕ × ℕ × Event) → Type 0) (words : List ℕ) (steps : ℕ) (why : End) (core text : List ℕ)
+    → IsRanBy p plan tells words steps why
+    → (0 < length words → core ≡ core_bytes (thread_ids p.threads) words) → (0 < length words → IsCoreOf (thread_ids p.threads) core words)
+    → ((es : List (ℕ × ℕ × Event)) → tells es → text ≡ run_text es steps why) → IsStopped p plan core text
+made_stopped p plan tells words steps why core text by bytes image lines =
+    let made = made_run p plan tells words steps why by in
     record {
       w = by.w;
       valid = by.valid;
       family = by.family;
       entries = made.entries;
-      end = ran.why;
-      words = ran.core.words;
+      end = why;
+      words = words;
       state = made.state;
-      run = run;
+      run = made.run;
       core_is = bytes made.some;
       core_of = image made.some;
-      text_is =
-          lines
-          ∙ ap (λ (es : List (ℕ × ℕ × Event)). run_text es ran.steps ran.why) made.events
-          ∙ ap (λ n. run_text (events_behind 0 made.entries) n ran.why) made.many;
+      text_is = lines (events_behind 0 made.entries) made.told ∙ ap (λ n. run_text (events_behind 0 made.entries) n why) made.many;
     }
 
 -- a refused write is no refusal after which nothing was written

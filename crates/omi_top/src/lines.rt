@@ -1,13 +1,11 @@
 //! What a run prints.
 
-ghost use Rattle.std.specs.Prelude.{◌≡◌, ◌++◌, ◌≤◌, IfOk, OnOk, string_bytes};
-ghost use Rattle.omi_verbs.specs.EventLines.{event_lines};
-ghost use Rattle.omi_top.specs.Lines.{end_word, end_line, run_text};
+ghost use Rattle.std.specs.Prelude.{◌≡◌, ◌++◌, IfOk, string_bytes};
+ghost use Rattle.omi_top.specs.Lines.{end_word, end_line};
 
 use omi_core::End;
-use omi_run_lists::EventList;
-use omi_verbs::push_event_lines;
-use std::alloc::{AllocError, Global};
+use omi_verbs::Lines;
+use std::alloc::AllocError;
 use std::fmt::Write;
 
 /// The word for why a run ended.
@@ -21,18 +19,13 @@ pub fn word_of(why: End) -> &'static str
     }
 }
 
-/// All that a run of so many steps prints: a line for each event, and the end line.
-pub fn text_of(
-    alloc: Global,
-    events: &EventList,
-    steps: u64,
-    why: End,
-) -> Result<String, AllocError>
-    ensures { IfOk result (λ text. string_bytes text ≡ run_text events.now.items steps why) }
+/// All that a run of so many steps prints: the lines of its events, and the end line.
+pub fn text_of(lines: Lines, steps: u64, why: End) -> Result<String, AllocError>
+    ensures { IfOk result (λ text. string_bytes text
+        ≡ string_bytes lines.text ++ end_line steps lines.count why) }
 {
-    let mut text = String::new(alloc);
-    push_event_lines(&mut text, events)?;
-    let count = events.len();
+    let Lines { text, count } = lines;
+    let mut text = text;
     let why = word_of(why);
     write!(text, "end steps {steps} events {count} by {why}\n")?;
     Ok(text)

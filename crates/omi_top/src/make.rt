@@ -2,6 +2,8 @@
 
 ghost use Rattle.std.specs.Prelude.{◌≡◌, ◌≢◌, List, ℕ, IfOk, IfErr, IsErrOf, string_bytes};
 ghost use Rattle.omi_core.specs.Ends.{count_of, is_of_kind};
+ghost use Rattle.omi_model.specs.declared.id.Tid.{Tid};
+ghost use Rattle.omi_run_lists.specs.Compact.{with_team};
 ghost use Rattle.omi_outside.specs.Outside.{HasCause, Told};
 ghost use Rattle.omi_script.specs.Grammar.{Grammar};
 ghost use Rattle.omi_top.specs.Answer.{IsAnswered};
@@ -14,10 +16,10 @@ use crate::limits::MOST_STEPS;
 use crate::lines::word_of;
 use crate::plan::Plan;
 use crate::run::run_of;
-use omi_core::{Break, End, Stop};
-use omi_model::Event;
+use omi_core::{Break, End, Recorder, Stop};
+use omi_model::Team;
 use omi_outside::{Files, write_whole};
-use omi_run_lists::EventList;
+use omi_run_lists::CompactEvent;
 use omi_script::{Program, ScriptError, parse};
 use omi_verbs::Refusal;
 use omi_word::OutOfMemory;
@@ -70,28 +72,47 @@ fn program(alloc: Global, text: &[u8]) -> Result<Program, OutOfMemory>
 }
 
 /// Whether an event starts an explicit task.
-fn starts_task(event: &Event) -> bool
-    ensures { result ≡ is_of_kind Break.TaskBegin event.now }
+fn starts_task(event: CompactEvent) -> bool
+    ensures { (team : List (Tid × ℕ)) → result
+        ≡ is_of_kind Break.TaskBegin (with_team team event) }
 {
-    matches!(event, Event::Start { .. } | Event::StartNow { .. })
+    matches!(
+        event,
+        CompactEvent::Start { .. } | CompactEvent::StartNow { .. }
+    )
 }
 
-/// How many explicit tasks started.
-fn tasks_started(events: &EventList) -> usize
-    ensures { result ≡ count_of Break.TaskBegin events.now.items }
-{
-    let mut tasks = 0;
-    for at in 0..events.len() {
-        let (_, _, event) = events.get(at);
-        if starts_task(&event) {
-            tasks += 1;
+/// A recorder that counts the explicit tasks that started.
+#[derive(Drop)]
+pub struct Starts {
+    pub count: u64,
+}
+
+impl Recorder for Starts {
+    ghost use Rattle.omi_core.specs.declared.stop.Break.TheVariants.{TaskBegin};
+
+    ghost tells = { λ starts items. starts.count ≡ count_of TaskBegin items };
+
+    fn record_event(
+        &mut self,
+        _step: u64,
+        _thread: u8,
+        event: CompactEvent,
+        _team: &Team,
+    ) -> Result<(), AllocError> {
+        if !starts_task(event) {
+            return Ok(());
         }
+        let Some(count) = self.count.checked_add(1) else {
+            return Err(AllocError);
+        };
+        self.count = count;
+        Ok(())
     }
-    tasks
 }
 
 /// What `make` prints of a run that ended so.
-fn made_line(alloc: Global, nodes: u8, tasks: usize, why: End) -> Result<String, AllocError>
+fn made_line(alloc: Global, nodes: u8, tasks: u64, why: End) -> Result<String, AllocError>
     ensures { IfOk result (λ line. string_bytes line ≡ made_line nodes tasks why) }
 {
     let why = word_of(why);
@@ -106,8 +127,8 @@ fn made(alloc: Global, nodes: u8, text: &[u8]) -> Result<String, OutOfMemory>
         (λ line. (p : Program) × Grammar text.now p × IsMade nodes p (string_bytes line)) }
 {
     let p = program(alloc, text)?;
-    let ran = run_of(alloc, p, RUN)?;
-    made_line(alloc, nodes, tasks_started(ran.core.events()), ran.why)
+    let ran = run_of(alloc, p, RUN, Starts { count: 0 })?;
+    made_line(alloc, nodes, ran.recorder.count, ran.why)
 }
 
 /// Makes a workload, runs it, writes its text, and answers what is printed of the run.

@@ -12,9 +12,10 @@ ghost use Rattle.omi_verbs.specs.Refusal.{status_of};
 use crate::lines::text_of;
 use crate::plan::Plan;
 use crate::run::run_of;
+use omi_core::Recorded;
 use omi_outside::{Files, write_whole};
 use omi_script::Program;
-use omi_verbs::{Refusal, core_file_of, program_of};
+use omi_verbs::{Lines, Refusal, core_file_of, program_of};
 use omi_word::OutOfMemory;
 use std::alloc::Global;
 
@@ -24,9 +25,15 @@ fn stopped(alloc: Global, p: Program, plan: Plan) -> Result<(Vec<u8>, String), O
     ensures { IfOk result (λ made. IsStopped p plan made.0.items (string_bytes made.1)) }
 {
     let threads = p.threads;
-    let ran = run_of(alloc, p, plan)?;
-    let bytes = core_file_of(alloc, ran.core.image(), threads)?;
-    let text = text_of(alloc, ran.core.events(), ran.steps, ran.why)?;
+    let ran = run_of(alloc, p, plan, Lines::new(alloc))?;
+    let bytes = core_file_of(alloc, &ran.image, threads)?;
+    let Recorded {
+        image: _image,
+        steps,
+        why,
+        recorder,
+    } = ran;
+    let text = text_of(recorder, steps, why)?;
     Ok((bytes, text))
 }
 

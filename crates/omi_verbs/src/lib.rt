@@ -5,6 +5,7 @@
 mod cores;
 mod event_lines;
 pub mod limits;
+mod lines;
 mod names;
 mod options;
 mod program;
@@ -17,6 +18,7 @@ mod words;
 
 pub use cores::core_file_of;
 pub use event_lines::push_event_lines;
+pub use lines::Lines;
 pub use names::Names;
 pub use options::{break_named, layout_of};
 pub use program::{handed_over, words_of};
