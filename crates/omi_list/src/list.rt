@@ -31,6 +31,13 @@ impl<E: Drop> List<E> {
         }
     }
 
+    /// The elements of a vector, in its order. Takes no memory.
+    pub fn from_vec(items: Vec<E>) -> List<E>
+        ensures { result ≡ items.items }
+    {
+        List { items }
+    }
+
     /// The number of elements.
     pub fn len(&self) -> usize
         ensures { result ≡ length self.now }

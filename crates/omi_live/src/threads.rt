@@ -1,6 +1,6 @@
 //! A run of a program by threads of their own, over one table of words.
 
-ghost use Rattle.std.specs.Prelude.{◌≡◌, ◌+◌, ◌<◌, ◌≤◌, ◌++◌, ℕ, List, [], ◌∷◌, length, slice_get, vec_len, IfOk, Option, Some};
+ghost use Rattle.std.specs.Prelude.{◌≡◌, ◌+◌, ◌<◌, ◌≤◌, ◌++◌, ℕ, List, [], ◌∷◌, length, slice_get, vec_capacity, vec_len, IfOk, Option, Some};
 ghost use Rattle.atomic_table.specs.Table.{Final, Seen};
 ghost use Rattle.std.specs.Mem.Slots.{IsFull, slots_items, slots_len};
 ghost use Rattle.omi_layout.specs.Place.{image_words};
@@ -148,29 +148,29 @@ fn joined(words: &Words, seat: &mut Seat<(), List<Part>>, ended: Runner) -> Thre
     }
 }
 
-/// What the workers made, in the order of their threads.
+/// What the workers made, in the order of their threads, in a vector that has room for it. Takes no memory.
 fn all_joined(
-    alloc: Global,
     words: &Words,
     seat: &mut Seat<(), List<Part>>,
     mut all: Vec<Runner>,
-) -> Result<RunList, OutOfMemory>
+    mut runs: Vec<ThreadRun>,
+) -> RunList
+    requires empty { runs.items ≡ [] }
+    requires room { vec_len all ≤ vec_capacity runs }
     requires count { 0 < words.now.table_id.words }
     requires seated { seat.old.table_id ≡ words.now.table_id }
     requires nothing { seat.old.me ≡ ([], []) }
     requires theirs { AreSeatedAt words.now.table_id all.items }
     ensures seated { seat.new.table_id ≡ words.now.table_id }
-    ensures threads { IfOk result (λ runs. length runs ≡ vec_len all) }
+    ensures threads { length result ≡ vec_len all }
     ensures known { (p : Program) (l : Layout) (budget : ℕ) (on : Option Break)
         → HaveEnded p l words.now.table_id budget on (vec_len all) all.items
-        → IfOk result (λ runs. AreRunsKnown p l budget on seat.new.me.0 runs) }
+        → AreRunsKnown p l budget on seat.new.me.0 result }
 {
-    let mut runs = RunList::new(alloc);
     while let Some(ended) = all.pop() {
-        let run = joined(words, seat, ended);
-        runs.push(run)?;
+        runs.push_reserved(joined(words, seat, ended));
     }
-    Ok(runs)
+    RunList::from_vec(runs)
 }
 
 /// The words of a table that no thread shares any more, but for the last one, in place of those of an image.
@@ -225,7 +225,7 @@ fn all_worked<R: Threads + Sync, G: Gate>(
 
 /// Runs a program in a layout that suits it, each thread as work of its own over one table of words, for at most `budget` steps of each
 /// thread. Where an event of the kind `on` was committed, all threads are told to stop. `gate` is passed before each step. Where no thread
-/// can be made, the threads work one after another. All room but for the list that is answered is taken before the first step.
+/// can be made, the threads work one after another. All room is taken before the first step.
 pub fn live<R: Threads + Sync, G: Gate>(
     rt: &R,
     alloc: Global,
@@ -249,9 +249,10 @@ pub fn live<R: Threads + Sync, G: Gate>(
     let (table, mut seat) = Table::of_words(alloc, &opening, &given)?;
     drop(opening);
     let mut workers = workers_at(alloc, p, l, budget, &table.shared, &mut seat)?;
+    let room = Vec::with_capacity(alloc, workers.len())?;
     gate.open(p.threads, budget);
     all_worked(rt, p, l, &table.shared, budget, on, gate, &mut workers);
-    let runs = all_joined(alloc, &table.shared, &mut seat, workers)?;
+    let runs = all_joined(&table.shared, &mut seat, workers, room);
     let closed = table.close_with(seat);
     let image = image_of(first, &closed);
     closed.free();

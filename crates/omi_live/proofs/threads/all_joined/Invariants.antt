@@ -1,4 +1,4 @@
-use Rattle.std.proofs.Common.{◌≡◌, ◌+◌, ℕ, [], length, slice_get, vec_len, Option, Some}
+use Rattle.std.proofs.Common.{◌≡◌, ◌+◌, ◌≤◌, ℕ, [], slice_get, vec_capacity, vec_len, Option, Some}
 use Rattle.omi_script.specs.declared.program.Program.{Program}
 use Rattle.omi_layout.specs.declared.layout.Layout.{Layout}
 use Rattle.omi_core.specs.declared.stop.Break.{Break}
@@ -11,11 +11,12 @@ abbrev pub invariant-loop-ended : goal.invariant-loop-ended
 invariant-loop-ended g = record {
   seated : g.seat.table_id ≡ g.words.table_id;
   none : g.seat.me.1 ≡ [];
-  count : vec_len g.all + length g.runs ≡ vec_len g.fn.all;
+  room : vec_len g.all + vec_len g.runs ≤ vec_capacity g.runs;
+  count : vec_len g.all + vec_len g.runs ≡ vec_len g.fn.all;
   left : (i : ℕ) (e : Runner) → slice_get g.all.items i ≡ Some e → slice_get g.fn.all.items i ≡ Some e;
   known : (p : Program) (l : Layout) (budget : ℕ) (on : Option Break)
       → HaveEnded p l g.words.table_id budget on (vec_len g.fn.all) g.fn.all.items
-      → AreRunsKnown p l budget on g.seat.me.0 g.runs;
+      → AreRunsKnown p l budget on g.seat.me.0 g.runs.items;
 }
 
 abbrev pub decreases-loop-ended : goal.decreases-loop-ended

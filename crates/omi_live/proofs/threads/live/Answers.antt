@@ -25,8 +25,8 @@ all_worked-requires-clause-begin g c κs held i worker got =
     let begin = c.in_ok-workers.ensures.begin i worker got in
     (begin.0, begin.1 ∙ sym c.in_ok-workers.ensures.threads)
 
-pub all_joined-requires-clause-theirs : goal.all_joined-requires-clause-theirs
-all_joined-requires-clause-theirs g c i e got =
+pub all_joined-runs-requires-clause-theirs : goal.all_joined-runs-requires-clause-theirs
+all_joined-runs-requires-clause-theirs g c i e got =
     let within = get_within c.all_worked.new.workers.items e i got in
     let long = c.all_worked.new.workers.ok.0 in
     let threads = c.all_worked.ensures.threads in
@@ -47,7 +47,7 @@ returns g c =
     let all = c.all_worked.ensures.threads in
     let ended : HaveEnded c.args.p.now c.args.l.now c.in_ok-table.table.shared.table_id c.args.budget c.args.on (vec_len c.all_worked.new.workers) c.all_worked.new.workers.items =
     λ i thread e got at. c.all_worked.ensures.ended i thread e got (at ∙ all) in
-    let known = c.in_ok-runs.ensures.known c.args.p.now c.args.l.now c.args.budget c.args.on ended in
-    is_live c.args.p.now c.args.l.now c.args.budget c.args.on s h c.all_joined.new.seat.id c.all_joined.new.seat.me.0 seen.1 c.in_ok-runs.runs known
-    (c.in_ok-runs.ensures.threads ∙ all ∙ c.in_ok-workers.ensures.threads) c.image_of-image.result
+    let known = c.all_joined-runs.ensures.known c.args.p.now c.args.l.now c.args.budget c.args.on ended in
+    is_live c.args.p.now c.args.l.now c.args.budget c.args.on s h c.all_joined-runs.new.seat.id c.all_joined-runs.new.seat.me.0 seen.1 c.all_joined-runs.result known
+    (c.all_joined-runs.ensures.threads ∙ all ∙ c.in_ok-workers.ensures.threads) c.image_of-image.result
     (c.image_of-image.ensures h.behind.run.words h.stop (sym values.2.2 ∙ h.behind.are))
