@@ -25,6 +25,25 @@ use Rattle.omi_corefile.proofs.RowLaws.{contexts_taken, Reads-contexts, segments
 
 -- ---- the header
 
+-- what follows each part of it: the format's name, its version, the order, and the two counts
+abbrev pub behind_counts : ℕ → ℕ → ℕ × List ℕ → ReadStep Header
+behind_counts order contexts segments =
+    Ok (record { order = order; contexts = contexts; segments = segments.0 }, segments.1)
+
+abbrev pub behind_contexts : ℕ → ℕ → ℕ → List ℕ → ReadStep Header
+behind_contexts len order contexts bytes =
+    segment_count_at len bytes >>= behind_counts order contexts
+
+abbrev pub behind_order : ℕ → ℕ → List ℕ → ReadStep Header
+behind_order len order bytes =
+    context_count_at len bytes >>= λ contexts. behind_contexts len order contexts.0 contexts.1
+
+abbrev pub behind_version : ℕ → List ℕ → ReadStep Header
+behind_version len bytes = order_at len bytes >>= λ order. behind_order len order.0 order.1
+
+abbrev pub behind_name : ℕ → List ℕ → ReadStep Header
+behind_name len bytes = version_at len bytes >>= λ version. behind_version len version.1
+
 -- what is read of a header
 pub record TakesHeader (bytes : List ℕ) (counts : Header) (rest : List ℕ) : Type 0 where
   pub taken : Takes bytes (header counts.order counts.contexts counts.segments) rest
@@ -36,21 +55,11 @@ pub header_taken : (len : ℕ) (bytes : List ℕ) (x : Header × List ℕ) → A
     → header_at len bytes ≡ Ok x → TakesHeader bytes x.0 x.1
 unfolding header_at
 header_taken len bytes x are e =
-    let a =
-    bind_ok (magic_at len bytes)
-    (λ magic. version_at len magic >>= λ version. order_at len version.1 >>= λ order. context_count_at len order.1 >>= λ contexts. segment_count_at len contexts.1 >>= λ segments. Ok (record { order = order.0; contexts = contexts.0; segments = segments.0 }, segments.1)) x e in
-    let b =
-    bind_ok (version_at len a.0)
-    (λ version. order_at len version.1 >>= λ order. context_count_at len order.1 >>= λ contexts. segment_count_at len contexts.1 >>= λ segments. Ok (record { order = order.0; contexts = contexts.0; segments = segments.0 }, segments.1)) x a.2 in
-    let c =
-    bind_ok (order_at len b.0.1)
-    (λ order. context_count_at len order.1 >>= λ contexts. segment_count_at len contexts.1 >>= λ segments. Ok (record { order = order.0; contexts = contexts.0; segments = segments.0 }, segments.1)) x b.2 in
-    let d =
-    bind_ok (context_count_at len c.0.1)
-    (λ contexts. segment_count_at len contexts.1 >>= λ segments. Ok (record { order = c.0.0; contexts = contexts.0; segments = segments.0 }, segments.1)) x c.2 in
-    let f =
-    bind_ok (segment_count_at len d.0.1)
-    (λ segments. Ok (record { order = c.0.0; contexts = d.0.0; segments = segments.0 }, segments.1)) x d.2 in
+    let a = bind_ok (magic_at len bytes) (behind_name len) x e in
+    let b = bind_ok (version_at len a.0) (λ version. behind_version len version.1) x a.2 in
+    let c = bind_ok (order_at len b.0.1) (λ order. behind_order len order.0 order.1) x b.2 in
+    let d = bind_ok (context_count_at len c.0.1) (λ contexts. behind_contexts len c.0.0 contexts.0 contexts.1) x c.2 in
+    let f = bind_ok (segment_count_at len d.0.1) (behind_counts c.0.0 d.0.0) x d.2 in
     let magic_is = magic_taken len bytes a.0 are a.1 in
     let version_judged =
     judged_taken (λ v. eqb v 1) (λ v at. Version v) (place_in_file len a.0) (byte_at len a.0) b.0 b.1 in
@@ -70,14 +79,13 @@ header_taken len bytes x are e =
     number_taken w32 (2 ^ 32) width32 len d.0.1 f.0 contexts_are.0.rest_are_bytes segments_judged.0 in
     let one_version : Takes a.0 (1 ∷ []) b.0.1 =
     subst (λ (v : ℕ). Takes a.0 (v ∷ []) b.0.1) (eqb-true b.0.0 1 version_judged.1) version_is in
-    let upto_version = Takes-then bytes (codes "OMPDCOR1") a.0 (1 ∷ []) b.0.1 magic_is one_version in
-    let upto_order =
-    Takes-then bytes (codes "OMPDCOR1" ++ 1 ∷ []) b.0.1 (c.0.0 ∷ []) c.0.1 upto_version order_was in
+    let name : List ℕ = codes "OMPDCOR1" in
+    let upto_version = Takes-then bytes name a.0 (1 ∷ []) b.0.1 magic_is one_version in
+    let upto_order = Takes-then bytes (name ++ 1 ∷ []) b.0.1 (c.0.0 ∷ []) c.0.1 upto_version order_was in
     let upto_contexts =
-    Takes-then bytes (codes "OMPDCOR1" ++ 1 ∷ c.0.0 ∷ []) c.0.1
-    (to_le_bytes w16 d.0.0) d.0.1 upto_order contexts_are.0 in
+    Takes-then bytes (name ++ 1 ∷ c.0.0 ∷ []) c.0.1 (to_le_bytes w16 d.0.0) d.0.1 upto_order contexts_are.0 in
     let whole =
-    Takes-then bytes (codes "OMPDCOR1" ++ 1 ∷ c.0.0 ∷ to_le_bytes w16 d.0.0) d.0.1
+    Takes-then bytes (name ++ 1 ∷ c.0.0 ∷ to_le_bytes w16 d.0.0) d.0.1
     (to_le_bytes w32 f.0.0) f.0.1 upto_contexts segments_are.0 in
     let made : Header × List ℕ = (record { order = c.0.0; contexts = d.0.0; segments = f.0.0 }, f.0.1) in
     subst (λ (y : Header × List ℕ). TakesHeader bytes y.0 y.1) {x = made} (ok_is made x f.2) (record {
@@ -92,58 +100,67 @@ magic_short : (len : ℕ) (bytes : List ℕ) → length bytes < 8 → magic_at l
 unfolding magic_at
 magic_short len bytes below = let too_short = lt-ltb (length bytes) 8 below in rw too_short refl
 
+-- the number of contexts is read
+pub Reads-context_count : (len contexts : ℕ) → contexts ≤ MOST_CONTEXTS
+    → Reads len (context_count_at len) (to_le_bytes w16 contexts) contexts
+Reads-context_count len contexts few =
+    Reads-judged len (λ n. leb n MOST_CONTEXTS) (λ n at. BadContext at) (place_in_file len)
+    (number_at w16 len) (to_le_bytes w16 contexts) contexts
+    (Reads-number w16 (2 ^ 16) width16 len contexts (omega (arith, few)))
+    (le-leb contexts MOST_CONTEXTS few)
+
 pub Reads-header : (len contexts segments : ℕ) → contexts ≤ MOST_CONTEXTS → segments ≤ MOST_SEGMENTS
-    → Reads len (header_at len) (header 0 contexts segments) (record { order = 0; contexts = contexts; segments = segments })
+    → Reads len (header_at len) (header 0 contexts segments)
+    (record { order = 0; contexts = contexts; segments = segments })
 unfolding header_at
 Reads-header len contexts segments few_contexts few_segments =
-    let made : ℕ → ℕ → ℕ → Header = λ o c s. record { order = o; contexts = c; segments = s } in
+    let made : Header = record { order = 0; contexts = contexts; segments = segments } in
     let name : List ℕ = codes "OMPDCOR1" in
+    let counts : List ℕ = to_le_bytes w16 contexts ++ to_le_bytes w32 segments in
+    let text : List ℕ = 1 ∷ 0 ∷ counts in
     let version_is =
     Reads-judged len (λ v. eqb v 1) (λ v at. Version v) (place_in_file len) (byte_at len) (1 ∷ []) 1
     (Reads-byte len 1) refl in
     let order_is =
     Reads-judged len (λ b. eqb b 0) (λ b at. Order b) (place_in_file len) (byte_at len) (0 ∷ []) 0
     (Reads-byte len 0) refl in
-    let contexts_are =
-    Reads-judged len (λ n. leb n MOST_CONTEXTS) (λ n at. BadContext at) (place_in_file len)
-    (number_at w16 len) (to_le_bytes w16 contexts) contexts
-    (Reads-number w16 (2 ^ 16) width16 len contexts (omega arith))
-    (le-leb contexts MOST_CONTEXTS few_contexts) in
+    let contexts_are = Reads-context_count len contexts few_contexts in
+    let segments_number = Reads-number w32 (2 ^ 32) width32 len segments (omega arith) in
     let segments_are =
     Reads-judged len (λ n. leb n MOST_SEGMENTS) (λ n at. SegmentOrder at) (place_in_file len)
     (number_at w32 len) (to_le_bytes w32 segments) segments
-    (Reads-number w32 (2 ^ 32) width32 len segments (omega arith))
-    (le-leb segments MOST_SEGMENTS few_segments) in
+    segments_number (le-leb segments MOST_SEGMENTS few_segments) in
     let from_segments =
-    Reads-map len (segment_count_at len) (made 0 contexts) (to_le_bytes w32 segments) segments segments_are in
+    Reads-map len (segment_count_at len) (λ (s : ℕ). record { order = 0; contexts = contexts; segments = s })
+    (to_le_bytes w32 segments) segments segments_are in
     let from_contexts =
-    Reads-then len (context_count_at len)
-    (λ (c : ℕ) bytes. segment_count_at len bytes >>= λ s. Ok (made 0 c s.0, s.1)) (to_le_bytes w16 contexts)
-    (to_le_bytes w32 segments) contexts (made 0 contexts segments) contexts_are from_segments in
+    Reads-then len (context_count_at len) (λ (c : ℕ) bytes. behind_contexts len 0 c bytes)
+    (to_le_bytes w16 contexts) (to_le_bytes w32 segments)
+    contexts made contexts_are from_segments in
     let from_order =
-    Reads-then len (order_at len)
-    (λ (o : ℕ) bytes. context_count_at len bytes >>= λ c. segment_count_at len c.1 >>= λ s. Ok (made o c.0 s.0, s.1))
-    (0 ∷ []) (to_le_bytes w16 contexts ++ to_le_bytes w32 segments) 0
-    (made 0 contexts segments) order_is from_contexts in
-    let after_name : List ℕ → ReadStep Header =
-    λ bytes. version_at len bytes >>= λ v. order_at len v.1 >>= λ o. context_count_at len o.1 >>= λ c. segment_count_at len c.1 >>= λ s. Ok (made o.0 c.0 s.0, s.1) in
-    let text : List ℕ = 1 ∷ 0 ∷ to_le_bytes w16 contexts ++ to_le_bytes w32 segments in
-    let from_version : Reads len after_name text (made 0 contexts segments) =
-    Reads-then len (version_at len)
-    (λ (v : ℕ) bytes. order_at len bytes >>= λ o. context_count_at len o.1 >>= λ c. segment_count_at len c.1 >>= λ s. Ok (made o.0 c.0 s.0, s.1))
-    (1 ∷ []) (0 ∷ to_le_bytes w16 contexts ++ to_le_bytes w32 segments) 1
-    (made 0 contexts segments) version_is from_order in
+    Reads-then len (order_at len) (λ (o : ℕ) bytes. behind_order len o bytes)
+    (0 ∷ []) counts 0 made order_is from_contexts in
+    let from_version : Reads len (behind_name len) text made =
+    Reads-then len (version_at len) (λ (v : ℕ) bytes. behind_version len bytes) (1 ∷ [])
+    (0 ∷ counts) 1 made version_is from_order in
     record {
-      whole = λ rest. bind_again (magic_at len (name ++ (text ++ rest))) after_name (text ++ rest) (magic_again len (text ++ rest)) ∙ from_version.whole rest;
+      whole = λ rest.
+          bind_again (magic_at len (name ++ (text ++ rest))) (behind_name len) (text ++ rest)
+          (magic_again len (text ++ rest))
+          ∙ from_version.whole rest;
       cut = λ n below. elim (cases_lt n 8) [
-        | inl inside ↦ bind_failed (magic_at len (take n (name ++ text))) after_name (short len) (magic_short len (take n (name ++ text)) (omega (arith, length-take-le n (name ++ text) (omega (arith, below)))))
+        | inl inside ↦
+            let cut : List ℕ = take n (name ++ text) in
+            let long = length-take-le n (name ++ text) (omega (arith, below)) in
+            bind_failed (magic_at len cut) (behind_name len) (short len)
+            (magic_short len cut (omega (arith, long, inside)))
         | inr past ↦
             let m : ℕ = n - 8 in
             let split : n ≡ 8 + m = omega arith in
             let fronts : take n (name ++ text) ≡ name ++ take m text =
             ap (λ (k : ℕ). take k (name ++ text)) split ∙ take-append-add name text m in
             ap (header_at len) fronts
-            ∙ bind_again (magic_at len (name ++ take m text)) after_name (take m text)
+            ∙ bind_again (magic_at len (name ++ take m text)) (behind_name len) (take m text)
             (magic_again len (take m text))
             ∙ from_version.cut m (omega (arith, below))
       ];
@@ -151,20 +168,18 @@ Reads-header len contexts segments few_contexts few_segments =
 
 -- ---- the whole file
 
--- what follows a header
-abbrev pub after_header : ℕ → Header × List ℕ → ReadStep Parts
-after_header len counts =
-    contexts_at len counts.0.contexts counts.1 >>= λ contexts. segments_at len counts.0.segments contexts.1 >>= λ segments. Ok (record { order = counts.0.order; contexts = contexts.0; segments = segments.0 }, segments.1)
-
--- what follows the contexts
-abbrev pub after_contexts : ℕ → Header → List ℕ × List ℕ → ReadStep Parts
-after_contexts len counts contexts =
-    segments_at len counts.segments contexts.1 >>= λ segments. Ok (record { order = counts.order; contexts = contexts.0; segments = segments.0 }, segments.1)
-
--- what follows the segments
+-- what follows a header, the contexts, and the segments
 abbrev pub after_segments : Header → List ℕ → List Segment × List ℕ → ReadStep Parts
 after_segments counts contexts segments =
     Ok (record { order = counts.order; contexts = contexts; segments = segments.0 }, segments.1)
+
+abbrev pub after_contexts : ℕ → Header → List ℕ × List ℕ → ReadStep Parts
+after_contexts len counts contexts =
+    segments_at len counts.segments contexts.1 >>= after_segments counts contexts.0
+
+abbrev pub after_header : ℕ → Header × List ℕ → ReadStep Parts
+after_header len counts =
+    contexts_at len counts.0.contexts counts.1 >>= after_contexts len counts.0
 
 -- nothing follows the last segment
 abbrev pub ended : ℕ → Parts × List ℕ → Result Parts ReadRefusal
@@ -183,17 +198,22 @@ TakesParts bytes x =
 within : (order : ℕ) (contexts : List ℕ) (segments : List Segment) → Bounds order contexts segments
     → IsTrue (within_limits order contexts segments)
 within order contexts segments b =
-    let contexts_are =
-    and_from (leb (length contexts) MOST_CONTEXTS && rises_from 0 contexts) (are_words contexts)
-    (and_from (leb (length contexts) MOST_CONTEXTS) (rises_from 0 contexts) (le-leb (length contexts) MOST_CONTEXTS b.few_contexts) b.contexts_rise) b.contexts_are_words in
-    let segments_are =
-    and_from (leb (length segments) MOST_SEGMENTS && rise_apart_from FIRST_ADDRESS segments)
-    (leb (total_words segments) MOST_SEGMENT_WORDS)
-    (and_from (leb (length segments) MOST_SEGMENTS) (rise_apart_from FIRST_ADDRESS segments) (le-leb (length segments) MOST_SEGMENTS b.few_segments) b.segments_rise)
-    (le-leb (total_words segments) MOST_SEGMENT_WORDS b.few_words) in
-    let order_is : eqb order 0 ≡ true = ap (λ (n : ℕ). eqb n 0) b.order_is in
     and_from (eqb order 0 && are_contexts contexts) (are_segments segments)
-    (and_from (eqb order 0) (are_contexts contexts) order_is contexts_are) segments_are
+    (and_from (eqb order 0) (are_contexts contexts) (ap (λ (n : ℕ). eqb n 0) b.order_is) contexts_are) segments_are
+  where
+    contexts_are : are_contexts contexts ≡ true
+    contexts_are =
+        and_from (leb (length contexts) MOST_CONTEXTS && rises_from 0 contexts) (are_words contexts)
+        (and_from (leb (length contexts) MOST_CONTEXTS) (rises_from 0 contexts)
+        (le-leb (length contexts) MOST_CONTEXTS b.few_contexts) b.contexts_rise) b.contexts_are_words
+
+    segments_are : are_segments segments ≡ true
+    segments_are =
+        and_from (leb (length segments) MOST_SEGMENTS && rise_apart_from FIRST_ADDRESS segments)
+        (leb (total_words segments) MOST_SEGMENT_WORDS)
+        (and_from (leb (length segments) MOST_SEGMENTS) (rise_apart_from FIRST_ADDRESS segments)
+        (le-leb (length segments) MOST_SEGMENTS b.few_segments) b.segments_rise)
+        (le-leb (total_words segments) MOST_SEGMENT_WORDS b.few_words)
 
 parts_taken : (len : ℕ) (bytes : List ℕ) (x : Parts × List ℕ) → AreBytes bytes → parts_at len bytes ≡ Ok x
     → TakesParts bytes x
@@ -211,11 +231,11 @@ parts_taken len bytes x are e =
     let whole : Takes bytes text c.0.1 =
     Takes-then bytes (header_bytes ++ numbers b.0.0) b.0.1
     (flat_map segment_bytes c.0.0) c.0.1 front segments_are.0 in
+    let with_counts : ℕ → ℕ → List ℕ =
+    λ n m. (header a.0.0.order n m ++ numbers b.0.0) ++ flat_map segment_bytes c.0.0 in
     let counted : text ≡ spelling_of a.0.0.order b.0.0 c.0.0 =
-    ap (λ (n : ℕ). (header a.0.0.order n a.0.0.segments ++ numbers b.0.0) ++ flat_map segment_bytes c.0.0)
-    (sym contexts_are.1)
-    ∙ ap (λ (n : ℕ). (header a.0.0.order (length b.0.0) n ++ numbers b.0.0) ++ flat_map segment_bytes c.0.0)
-    (sym segments_are.1) in
+    ap (λ (n : ℕ). with_counts n a.0.0.segments) (sym contexts_are.1)
+    ∙ ap (with_counts (length b.0.0)) (sym segments_are.1) in
     let keeps = within a.0.0.order b.0.0 c.0.0 (record {
       order_is = header_is.order_is;
       few_contexts = omega (arith, contexts_are.1, header_is.few_contexts);
@@ -243,27 +263,26 @@ reading_taken bytes p are e =
     subst (IsFile bytes) no_more.1 (file.0, spelled)
 
 Reads-parts_at_zero : (len : ℕ) (contexts : List ℕ) (segments : List Segment) → Bounds 0 contexts segments
-    → Reads len (parts_at len) (spelling_of 0 contexts segments) (record { order = 0; contexts = contexts; segments = segments })
+    → Reads len (parts_at len) (spelling_of 0 contexts segments)
+    (record { order = 0; contexts = contexts; segments = segments })
 unfolding parts_at
 Reads-parts_at_zero len contexts segments b =
-    let made : ℕ → List ℕ → List Segment → Parts =
-    λ o c s. record { order = o; contexts = c; segments = s } in
     let counts : Header = record { order = 0; contexts = length contexts; segments = length segments } in
-    let parts : Parts = made 0 contexts segments in
+    let parts : Parts = record { order = 0; contexts = contexts; segments = segments } in
+    let header_is = Reads-header len (length contexts) (length segments) b.few_contexts b.few_segments in
+    let contexts_are = Reads-contexts len contexts b.contexts_rise b.contexts_are_words in
     let segments_are = Reads-segments len segments b.segments_rise b.few_words in
     let from_segments =
-    Reads-map len (segments_at len (length segments)) (made 0 contexts)
+    Reads-map len (segments_at len (length segments))
+    (λ (s : List Segment). record { order = 0; contexts = contexts; segments = s })
     (flat_map segment_bytes segments) segments segments_are in
     let from_contexts =
     Reads-then len (contexts_at len (length contexts))
-    (λ (c : List ℕ) bytes. segments_at len (length segments) bytes >>= λ s. Ok (made 0 c s.0, s.1))
-    (numbers contexts) (flat_map segment_bytes segments) contexts parts
-    (Reads-contexts len contexts b.contexts_rise b.contexts_are_words) from_segments in
-    Reads-then len (header_at len)
-    (λ (h : Header) bytes. contexts_at len h.contexts bytes >>= λ c. segments_at len h.segments c.1 >>= λ s. Ok (made h.order c.0 s.0, s.1))
+    (λ (c : List ℕ) bytes. after_contexts len counts (c, bytes))
+    (numbers contexts) (flat_map segment_bytes segments) contexts parts contexts_are from_segments in
+    Reads-then len (header_at len) (λ (h : Header) bytes. after_header len (h, bytes))
     (header 0 (length contexts) (length segments))
-    (numbers contexts ++ flat_map segment_bytes segments) counts parts
-    (Reads-header len (length contexts) (length segments) b.few_contexts b.few_segments) from_contexts
+    (numbers contexts ++ flat_map segment_bytes segments) counts parts header_is from_contexts
 
 -- what a core holds, without its limits
 abbrev pub parts_of : CoreImage → Parts
@@ -274,9 +293,10 @@ Reads-core len c =
     let b = bounds c in
     let at_zero : Bounds 0 c.contexts c.segments =
     subst (λ (n : ℕ). Bounds n c.contexts c.segments) b.order_is b in
-    subst
-    (λ (n : ℕ). Reads len (parts_at len) (spelling_of n c.contexts c.segments) (record { order = n; contexts = c.contexts; segments = c.segments }))
-    (sym b.order_is) (Reads-parts_at_zero len c.contexts c.segments at_zero)
+    let parts : ℕ → Parts = λ n. record { order = n; contexts = c.contexts; segments = c.segments } in
+    subst (λ (n : ℕ). Reads len (parts_at len) (spelling_of n c.contexts c.segments) (parts n))
+    (sym b.order_is)
+    (Reads-parts_at_zero len c.contexts c.segments at_zero)
 
 pub reading_again : (c : CoreImage) → reading (spelling c) ≡ Ok (parts_of c)
 unfolding reading

@@ -69,8 +69,8 @@ module _ (w : List ℕ) (memory : Words) (held : Handles) (of : Scoped) (icv add
 
 module _ (told : Told) (w : List ℕ) where
   -- what a call gives whose reads answer as the state does
-  written_given : {A : Type 0} (s : State) (shown : ShowsTold told w s) (result : Result A Rc) (reads : Reads A) (answer : Result A Rc)
-      → IsWrittenOf told result reads → answer_on shown.memory reads ≡ answer → IsWritten result answer
+  written_given : {A : Type 0} (s : State) (shown : ShowsTold told w s) (result : Result A Rc)
+      (reads : Reads A) (answer : Result A Rc) → IsWrittenOf told result reads → answer_on shown.memory reads ≡ answer → IsWritten result answer
   written_given s shown result reads answer written is =
       subst (IsWritten result) is (written shown.memory shown.tells)
 
@@ -82,12 +82,21 @@ module _ (told : Told) (w : List ℕ) where
       let globals = shown.shows.records.globals in
       answer_then shown.memory (space_words w) _
       ∙ ap (λ r. answer_on shown.memory (after r (λ words. Answer (Ok (display_texts words)))))
-      (then_answered shown.memory (word_of w (runtime_address w) RuntimeDebug 0) _ (flag s.environment.debug) (word_told w shown.memory (runtime_address w) RuntimeDebug 0 _ (globals RuntimeDebug 0 _ refl refl))
-      ∙ then_answered shown.memory (word_of w (runtime_address w) RuntimeProcs 0) _ s.environment.procs
-      (word_told w shown.memory (runtime_address w) RuntimeProcs 0 _ (globals RuntimeProcs 0 _ refl refl))
-      ∙ then_answered shown.memory (word_of w (runtime_address w) RuntimeMaxActive 0) _ s.max_active (word_told w shown.memory (runtime_address w) RuntimeMaxActive 0 _ (globals RuntimeMaxActive 0 _ refl refl)))
+      (then_answered shown.memory (word_of w (runtime_address w) RuntimeDebug 0) _
+      (flag s.environment.debug)
+      (word_told w shown.memory (runtime_address w) RuntimeDebug 0 _
+      (globals RuntimeDebug 0 _ refl refl))
+      ∙ then_answered shown.memory (word_of w (runtime_address w) RuntimeProcs 0) _
+      s.environment.procs
+      (word_told w shown.memory (runtime_address w) RuntimeProcs 0 _
+      (globals RuntimeProcs 0 _ refl refl))
+      ∙ then_answered shown.memory (word_of w (runtime_address w) RuntimeMaxActive 0) _ s.max_active
+      (word_told w shown.memory (runtime_address w) RuntimeMaxActive 0 _
+      (globals RuntimeMaxActive 0 _ refl refl)))
       ∙ ap
-      (λ text. Ok (named_value (name_of DEBUG_VAR) text ∷ named_value (name_of NUM_PROCS_VAR) (decimal s.environment.procs) ∷ named_value (name_of MAX_ACTIVE_LEVELS_VAR) (decimal s.max_active) ∷ []))
+      (λ debug. Ok (named_value (name_of DEBUG_VAR) debug
+      ∷ named_value (name_of NUM_PROCS_VAR) (decimal s.environment.procs)
+      ∷ named_value (name_of MAX_ACTIVE_LEVELS_VAR) (decimal s.max_active) ∷ []))
       (switch_text s.environment.debug)
 
   pub display_given : (s : State) (shown : ShowsTold told w s) (result : Result (List (List ℕ)) Rc)
@@ -121,7 +130,8 @@ module _ (told : Told) (w : List ℕ) (held : Handles) where
 
     -- the state of a thread
     state_of_word : (state wait : ℕ) → state < WAIT_PLACE
-        → ◌≡◌ {A = ℕ × ℕ} (state_word state wait % WAIT_PLACE, state_word state wait / WAIT_PLACE) (state, wait)
+        → (let word = state_word state wait in
+        ◌≡◌ {A = ℕ × ℕ} (word % WAIT_PLACE, word / WAIT_PLACE) (state, wait))
     state_of_word x y small =
         let low : state_word x y % WAIT_PLACE ≡ x = omega (arith, small) in
         let rest : state_word x y / WAIT_PLACE ≡ y = omega (arith, small) in
@@ -131,39 +141,73 @@ module _ (told : Told) (w : List ℕ) (held : Handles) where
         → answer_on shown.memory (state w found) ≡ state_of_thread s h.thread
     unfolding state
     state_told found h =
+        let debug = shown.shows.records.globals RuntimeDebug 0 _ refl refl in
         then_answered shown.memory (object_of w kind.Thread found) _ (held_thread w h.thread)
         (thread_object told w s shown found h)
         ∙ then_answered shown.memory (word_of w (runtime_address w) RuntimeDebug 0) _
         (flag s.environment.debug)
-        (word_told w shown.memory (runtime_address w) RuntimeDebug 0 _ (shown.shows.records.globals RuntimeDebug 0 _ refl refl))
+        (word_told w shown.memory (runtime_address w) RuntimeDebug 0 _ debug)
         ∙ go s.environment.debug
       where
+        kept : ℕ → Reads (ℕ × ℕ)
+        kept word = Answer (Ok (word % WAIT_PLACE, word / WAIT_PLACE))
+
+        -- the words of the thread, as the state has them
+        life : ℕ
+        life = (s.threads h.thread).state
+
+        wait : ℕ
+        wait = (s.threads h.thread).wait
+
         go : (b : Bool)
             → answer_on {A = ℕ × ℕ} shown.memory (cond (flag b == 0) (Answer (Err NeedsStateTracking))
-            (then_reads (word_of w (thread_address w h.thread) ThreadState 0) (λ word. Answer (Ok (word % WAIT_PLACE, word / WAIT_PLACE)))))
-            ≡ cond b (Ok ((s.threads h.thread).state, (s.threads h.thread).wait)) (Err NeedsStateTracking)
+            (then_reads (word_of w (thread_address w h.thread) ThreadState 0) kept))
+            ≡ cond b (Ok (life, wait)) (Err NeedsStateTracking)
         go true =
-            then_answered shown.memory (word_of w (thread_address w h.thread) ThreadState 0) _
-            (state_word (s.threads h.thread).state (s.threads h.thread).wait)
-            (word_told w shown.memory (thread_address w h.thread) ThreadState 0 _ (shown.shows.records.threads h.thread h.begun.known h.begun.begun ThreadState 0 _ refl refl))
-            ∙ ap Ok
-            (state_of_word (s.threads h.thread).state (s.threads h.thread).wait (small_state _ (shown.shows.within.well_formed.states h.thread h.begun.known)))
+            let word =
+            shown.shows.records.threads h.thread h.begun.known h.begun.begun ThreadState 0 _ refl refl in
+            let small = small_state _ (shown.shows.within.well_formed.states h.thread h.begun.known) in
+            then_answered shown.memory (word_of w (thread_address w h.thread) ThreadState 0) kept
+            (state_word life wait)
+            (word_told w shown.memory (thread_address w h.thread) ThreadState 0 _ word)
+            ∙ ap Ok (state_of_word life wait small)
         go false = refl
+
+  -- what a call gives whose reads are those of the state
+  pub state_given : (found : Option Held) (result : Result (ℕ × ℕ) Rc)
+      → IsAnswer told result (state w found) → (s : State) (shown : ShowsTold told w s)
+      (h : HoldsThread w s found) → IsGiven result (state_of_thread s h.thread)
+  state_given found result answers s shown h =
+      given_value told w s shown result (state w found) _ answers (state_told s shown found h)
 
   -- the record of what is asked about is found, and a variable read there agrees with its content in the state
   ReadsContent : Scoped → ℕ → State → Subject → Type 0
   ReadsContent of icv s subject = (shown : ShowsTold told w s)
-      → (address : ℕ) × (answer_on shown.memory (record_of w held of) ≡ Ok address) × Agrees w shown.memory address (variable_in (scope_of of) icv) (value_in (values_of s subject) icv)
+      → (address : ℕ) × (answer_on shown.memory (record_of w held of) ≡ Ok address)
+      × Agrees w shown.memory address (variable_in (scope_of of) icv)
+      (value_in (values_of s subject) icv)
 
   content_read : (of : Scoped) (icv : ℕ) → OfScoped told w held of (ReadsContent of icv)
   unfolding ReadsContent
   content_read Space icv = λ s _ shown. (runtime_address w, refl, space_agrees w s told shown icv)
   content_read (Thread t) icv =
-      λ s _ h shown. (thread_address w h.thread, thread_record s shown (held (thread_pair t)) h, thread_agrees w s told shown h.thread h.begun icv)
+      λ s _ h shown. (
+        thread_address w h.thread,
+        thread_record s shown (held (thread_pair t)) h,
+        thread_agrees w s told shown h.thread h.begun icv,
+      )
   content_read (Parallel r) icv =
-      λ s _ h shown. (region_address w h.name, region_record s shown (held (region_pair r)) h, region_agrees w s told shown h.name h.seen icv)
+      λ s _ h shown. (
+        region_address w h.name,
+        region_record s shown (held (region_pair r)) h,
+        region_agrees w s told shown h.name h.seen icv,
+      )
   content_read (Task k) icv =
-      λ s _ h shown. (task_address w h.name, task_record s shown (held (task_pair k)) h, task_agrees w s told shown h.name h.seen icv)
+      λ s _ h shown. (
+        task_address w h.name,
+        task_record s shown (held (task_pair k)) h,
+        task_agrees w s told shown h.name h.seen icv,
+      )
 
   -- what follows from a fact of each subject holds of it too
   of_scoped : (of : Scoped) (P Q : State → Subject → Type 0) → OfScoped told w held of P
@@ -181,7 +225,8 @@ module _ (told : Told) (w : List ℕ) (held : Handles) where
   unfolding ReadsContent
   number_given of icv result answers = of_scoped of _ _ (content_read of icv) (λ s subject shown read.
       let (address, there, agrees) = read shown in
-      given_value told w s shown result (icv_from_scope w held of icv) _ answers (number_read w shown.memory held of icv address _ there agrees))
+      given_value told w s shown result (icv_from_scope w held of icv) _ answers
+      (number_read w shown.memory held of icv address _ there agrees))
 
   -- and as a text
   pub text_given : (of : Scoped) (icv : ℕ) (result : Result (List ℕ) Rc)
@@ -190,7 +235,8 @@ module _ (told : Told) (w : List ℕ) (held : Handles) where
   unfolding ReadsContent
   text_given of icv result written = of_scoped of _ _ (content_read of icv) (λ s subject shown read.
       let (address, there, agrees) = read shown in
-      written_given told w s shown result (icv_string_from_scope w held of icv) _ written (string_read w shown.memory held of icv address _ there agrees))
+      written_given told w s shown result (icv_string_from_scope w held of icv) _ written
+      (string_read w shown.memory held of icv address _ there agrees))
 
   -- the tool word
   pub tool_given : (of : Scoped) (result : Result ℕ Rc) → IsAnswer told result (tool_data w held of)
@@ -201,11 +247,15 @@ module _ (told : Told) (w : List ℕ) (held : Handles) where
       (then_answered shown.memory (record_of w held Space) _ (runtime_address w) refl)
   tool_given (Thread t) result answers = λ s shown h.
       given_value told w s shown result (tool_data w held (Thread t)) _ answers
-      (then_answered shown.memory (record_of w held (Thread t)) _ (thread_address w h.thread) (thread_record s shown (held (thread_pair t)) h))
+      (then_answered shown.memory (record_of w held (Thread t)) _ (thread_address w h.thread)
+      (thread_record s shown (held (thread_pair t)) h))
   tool_given (Parallel r) result answers = λ s shown h.
       given_value told w s shown result (tool_data w held (Parallel r)) _ answers
-      (then_answered shown.memory (record_of w held (Parallel r)) _ (region_address w h.name) (region_record s shown (held (region_pair r)) h))
+      (then_answered shown.memory (record_of w held (Parallel r)) _ (region_address w h.name)
+      (region_record s shown (held (region_pair r)) h))
   tool_given (Task k) result answers = λ s shown h.
       given_value told w s shown result (tool_data w held (Task k)) _ answers
-      (then_answered shown.memory (record_of w held (Task k)) _ (task_address w h.name) (task_record s shown (held (task_pair k)) h)
-      ∙ word_told w shown.memory (task_address w h.name) TaskTool 0 _ (shown.shows.records.tasks h.name h.seen TaskTool 0 _ refl refl))
+      (then_answered shown.memory (record_of w held (Task k)) _ (task_address w h.name)
+      (task_record s shown (held (task_pair k)) h)
+      ∙ word_told w shown.memory (task_address w h.name) TaskTool 0 _
+      (shown.shows.records.tasks h.name h.seen TaskTool 0 _ refl refl))

@@ -58,9 +58,11 @@ ended_by (f ∷ g ∷ es) e = ended_by (g ∷ es) e
 -- the thread goes on, or it committed an event at which the run is to stop, and will be told so
 abbrev pub MayGoOn : Option Break → Part → Type 0
 MayGoOn on x =
-    GoesOn on (steps_known x.known) ⊎ ((x.told ≡ true) × (is_ended (steps_known x.known) ≡ false) × WentOn on (steps_known x.known))
+    GoesOn on (steps_known x.known)
+    ⊎ ((x.told ≡ true) × (is_ended (steps_known x.known) ≡ false) × WentOn on (steps_known x.known))
 
-pub record IsWorking (p : Program) (l : Layout) (id : TableId) (on : Option Break) (budget made thread : ℕ) (worker : Worker) : Type 0 where
+pub record IsWorking (p : Program) (l : Layout) (id : TableId) (on : Option Break) (budget made thread : ℕ)
+    (worker : Worker) : Type 0 where
   pub part : Part
   pub work : IsAtWork p l id part worker
   pub own : worker.thread ≡ thread
@@ -78,18 +80,18 @@ may_went on x (inl goes) = went on (steps_known x.known) goes
 may_went on x (inr was) = was.2
 
 -- a thread that looked and was not told goes on
-pub not_told : (on : Option Break) (x : Part) (raised : Bool) → MayGoOn on x → (x.told ≡ true → raised ≡ true)
-    → raised ≡ false → GoesOn on (steps_known x.known)
+pub not_told : (on : Option Break) (x : Part) (raised : Bool) → MayGoOn on x
+    → (x.told ≡ true → raised ≡ true) → raised ≡ false → GoesOn on (steps_known x.known)
 not_told on x raised (inl goes) told not = goes
 not_told on x raised (inr was) told not = absurd (false≢true (sym not ∙ told was.0))
 
 -- ---- a look
 
 -- what a look leaves of a worker
-pub looked_work : (p : Program) (l : Layout) (id : TableId) (x : Part) (raised : Bool) (old new : Worker)
+pub looked_work : {p : Program} {l : Layout} {id : TableId} {x : Part} {raised : Bool} {old new : Worker}
     → IsAtWork p l id x old → HasLooked x raised new → IsSameBut old new
     → IsAtWork p l id (looks raised x) new
-looked_work p l id x raised old new work looked same = record {
+looked_work work looked same = record {
   program = work.program;
   layout = work.layout;
   thread = same.thread ∙ work.thread;
@@ -105,7 +107,9 @@ pub same_room : (n : ℕ) (x y : Part) (old new : Worker) → claims_known x.kno
     → IsSameBut old new → HasRoom n x old → HasRoom n y new
 same_room n x y old new claims same room = record {
   made = subst (λ (m : Steps). n ≤ m.spare) (sym same.made) room.made;
-  events = subst (λ (z : Events × ℕ). n ≤ room_for_steps z.0 z.1) (λ k. (sym same.events k, claims k)) room.events;
+  events =
+      subst (λ (z : Events × ℕ). n ≤ room_for_steps z.0 z.1) (λ k. (sym same.events k, claims k))
+      room.events;
 }
 
 pub less_room : (n m : ℕ) (x : Part) (worker : Worker) → n ≤ m → HasRoom m x worker → HasRoom n x worker
@@ -117,7 +121,8 @@ less_room n m x worker less room =
 -- ---- one more step of a thread
 
 -- a thread that was not told makes a step
-pub record Behind (p : Program) (l : Layout) (id : TableId) (on : Option Break) (budget made thread : ℕ) (worker : Worker) (out : Outcome) : Type 0 where
+pub record Behind (p : Program) (l : Layout) (id : TableId) (on : Option Break) (budget made thread : ℕ)
+    (worker : Worker) (out : Outcome) : Type 0 where
   pub part : Part
   pub work : IsAtWork p l id part worker
   pub own : worker.thread ≡ thread
@@ -132,29 +137,40 @@ pub record Behind (p : Program) (l : Layout) (id : TableId) (on : Option Break) 
   pub room : HasRoom (budget - (made + 1)) part worker
   pub did : part.accesses ≡ (past ++ access.Look false ∷ []) ++ access.Step last ∷ []
 
-pub behind_step : (p : Program) (l : Layout) (id : TableId) (on : Option Break) (budget made thread : ℕ) (x : Part) (raised : Bool) (old new : Worker) (out : Outcome)
-    → length x.known.found ≡ made → GoesOn on (steps_known x.known) → x.accesses ≡ with_looks on (steps_known x.known) → raised ≡ false → made < budget → HasRoom (budget - made) (looks raised x) old → HasStepped p l id (looks raised x) old new out → new.thread ≡ thread → Behind p l id on budget made thread new out
-behind_step p l id on budget made thread x raised old new out count goes so_far not below room stepped own = record {
-  part = makes stepped.found (looks raised x);
-  work = stepped.work;
-  own = own;
-  count = length-append x.known.found (stepped.found ∷ []) ∙ ap (λ n. n + 1) count;
-  before = steps_known x.known;
-  goes = goes;
-  last = entry_known x.known stepped.found;
-  out_is = stepped.came;
-  steps = steps_one_more x.known stepped.found;
-  past = x.accesses;
-  so_far = so_far;
-  did = ap (λ (b : Bool). (x.accesses ++ access.Look b ∷ []) ++ access.Step (entry_known x.known stepped.found) ∷ []) not;
-  room = stepped.room (budget - (made + 1)) (subst (λ n. HasRoom n (looks raised x) old) (omega (arith, below)) room);
-}
+pub behind_step : {p : Program} {l : Layout} {id : TableId} {on : Option Break} {budget made thread : ℕ}
+    (x : Part) {raised : Bool} {old new : Worker} {out : Outcome}
+    → length x.known.found ≡ made → GoesOn on (steps_known x.known)
+    → x.accesses ≡ with_looks on (steps_known x.known) → raised ≡ false → made < budget
+    → HasRoom (budget - made) (looks raised x) old → HasStepped p l id (looks raised x) old new out
+    → new.thread ≡ thread → Behind p l id on budget made thread new out
+behind_step {budget = budget} {made = made} x {raised = raised} {old = old} =
+    λ count goes so_far not below room stepped own. record {
+      part = makes stepped.found (looks raised x);
+      work = stepped.work;
+      own = own;
+      count = length-append x.known.found (stepped.found ∷ []) ∙ ap (λ n. n + 1) count;
+      before = steps_known x.known;
+      goes = goes;
+      last = entry_known x.known stepped.found;
+      out_is = stepped.came;
+      steps = steps_one_more x.known stepped.found;
+      past = x.accesses;
+      so_far = so_far;
+      did =
+          ap
+          (λ (b : Bool). (x.accesses ++ access.Look b ∷ [])
+          ++ access.Step (entry_known x.known stepped.found) ∷ []) not;
+      room =
+          stepped.room (budget - (made + 1))
+          (subst (λ n. HasRoom n (looks raised x) old) (omega (arith, below)) room);
+    }
 
 -- it committed `done`
-pub behind_done : (p : Program) (l : Layout) (id : TableId) (on : Option Break) (budget made thread : ℕ) (worker : Worker) (out : Outcome)
+pub behind_done : {p : Program} {l : Layout} {id : TableId} {on : Option Break} {budget made thread : ℕ}
+    {worker : Worker} {out : Outcome}
     → made < budget → ends_at out ≡ true → (b : Behind p l id on budget made thread worker out)
     → HasWorked budget on b.part until.Ended
-behind_done p l id on budget made thread worker out below done b =
+behind_done {on = on} {made = made} below done b =
     let count : length (steps_known b.part.known) ≡ made + 1 = steps_found b.part.known ∙ b.count in
     record {
       reason = ap is_ended b.steps ∙ ended_by b.before b.last ∙ ap ends_at (sym b.out_is) ∙ done;
@@ -169,23 +185,27 @@ behind_done p l id on budget made thread worker out below done b =
           ∙ sym (append-nil (with_looks on (steps_known b.part.known)));
     }
 
-pub behind_not_ended : (p : Program) (l : Layout) (id : TableId) (on : Option Break) (budget made thread : ℕ) (worker : Worker) (out : Outcome)
+pub behind_not_ended : {p : Program} {l : Layout} {id : TableId} {on : Option Break} {budget made thread : ℕ}
+    {worker : Worker} {out : Outcome}
     → ends_at out ≡ false → (b : Behind p l id on budget made thread worker out)
     → is_ended (steps_known b.part.known) ≡ false
-behind_not_ended p l id on budget made thread worker out not b =
+behind_not_ended not b =
     ap is_ended b.steps ∙ ended_by b.before b.last ∙ ap ends_at (sym b.out_is) ∙ not
 
-pub behind_stops : (p : Program) (l : Layout) (id : TableId) (on : Option Break) (budget made thread : ℕ) (worker : Worker) (out : Outcome)
+pub behind_stops : {p : Program} {l : Layout} {id : TableId} {on : Option Break} {budget made thread : ℕ}
+    {worker : Worker} {out : Outcome}
     → stops_at on out ≡ true → (b : Behind p l id on budget made thread worker out)
     → some_stop on (steps_known b.part.known) ≡ true
-behind_stops p l id on budget made thread worker out stops b =
+behind_stops {on = on} stops b =
     ap (some_stop on) b.steps ∙ stops_last on b.before b.last (ap (stops_at on) (sym b.out_is) ∙ stops)
 
 -- it is told so
-pub behind_told : (p : Program) (l : Layout) (id : TableId) (on : Option Break) (budget made thread : ℕ) (old new : Worker) (out : Outcome)
+pub behind_told : {p : Program} {l : Layout} {id : TableId} {on : Option Break} {budget made thread : ℕ}
+    {old new : Worker} {out : Outcome}
     → ends_at out ≡ false → stops_at on out ≡ true → (b : Behind p l id on budget made thread old out)
-    → new.seat.me ≡ (raises b.part ∷ [], []) → IsSameBut old new → IsWorking p l id on budget (made + 1) thread new
-behind_told p l id on budget made thread old new out not stops b knows same = record {
+    → new.seat.me ≡ (raises b.part ∷ [], []) → IsSameBut old new
+    → IsWorking p l id on budget (made + 1) thread new
+behind_told {on = on} {budget = budget} {made = made} {old = old} {new = new} not stops b knows same = record {
   part = raises b.part;
   work = record {
     program = b.work.program;
@@ -201,7 +221,11 @@ behind_told p l id on budget made thread old new out not stops b knows same = re
   own = same.thread ∙ b.own;
   count = b.count;
   room = same_room (budget - (made + 1)) b.part (raises b.part) old new refl same b.room;
-  goes = inr (refl, behind_not_ended p l id on budget made thread old out not b, subst (WentOn on) (sym b.steps) (went_more on b.before b.last b.goes));
+  goes = inr (
+    refl,
+    behind_not_ended not b,
+    subst (WentOn on) (sym b.steps) (went_more on b.before b.last b.goes),
+  );
   did =
       ap (λ (ys : List Access). ys ++ access.Raise ∷ []) b.did
       ∙ with_raise on b.before b.last b.past b.so_far (ap (stops_at on) (sym b.out_is) ∙ stops)
@@ -209,23 +233,31 @@ behind_told p l id on budget made thread old new out not stops b knows same = re
 }
 
 -- or it goes on
-pub behind_goes : (p : Program) (l : Layout) (id : TableId) (on : Option Break) (budget made thread : ℕ) (worker : Worker) (out : Outcome)
+pub behind_goes : {p : Program} {l : Layout} {id : TableId} {on : Option Break} {budget made thread : ℕ}
+    {worker : Worker} {out : Outcome}
     → ends_at out ≡ false → stops_at on out ≡ false → (b : Behind p l id on budget made thread worker out)
     → IsWorking p l id on budget (made + 1) thread worker
-behind_goes p l id on budget made thread worker out not no_stop b = record {
+behind_goes {on = on} not no_stop b = record {
   part = b.part;
   work = b.work;
   own = b.own;
   count = b.count;
   room = b.room;
-  goes = inl (subst (GoesOn on) (sym b.steps) (goes_more on b.before b.last b.goes (ap ends_at (sym b.out_is) ∙ not) (ap (stops_at on) (sym b.out_is) ∙ no_stop)));
-  did = b.did ∙ without_raise on b.before b.last b.past b.so_far (ap (stops_at on) (sym b.out_is) ∙ no_stop) ∙ ap (with_looks on) (sym b.steps);
+  goes =
+      inl (subst (GoesOn on) (sym b.steps)
+      (goes_more on b.before b.last b.goes (ap ends_at (sym b.out_is) ∙ not)
+      (ap (stops_at on) (sym b.out_is) ∙ no_stop)));
+  did =
+      b.did
+      ∙ without_raise on b.before b.last b.past b.so_far (ap (stops_at on) (sym b.out_is) ∙ no_stop)
+      ∙ ap (with_looks on) (sym b.steps);
 }
 
 -- what a worker has before its first step
-pub not_begun : (p : Program) (l : Layout) (id : TableId) (on : Option Break) (budget : ℕ) (worker : Worker)
-    → IsAtWork p l id (first_part p l worker.thread) worker
-    → HasRoom budget (first_part p l worker.thread) worker → IsWorking p l id on budget 0 worker.thread worker
+pub not_begun : (p : Program) (l : Layout) (id : TableId) (on : Option Break) (budget : ℕ)
+    (worker : Worker) → IsAtWork p l id (first_part p l worker.thread) worker
+    → HasRoom budget (first_part p l worker.thread) worker
+    → IsWorking p l id on budget 0 worker.thread worker
 not_begun p l id on budget worker work room = record {
   part = first_part p l worker.thread;
   work = work;
@@ -237,12 +269,15 @@ not_begun p l id on budget worker work room = record {
 }
 
 -- a worker that looked, was not told and made a step
-pub stepped_on : (p : Program) (l : Layout) (id : TableId) (on : Option Break) (budget made thread : ℕ) (first looked next : Worker) (raised : Bool) (out : Outcome)
-    → (now : IsWorking p l id on budget made thread first) → HasLooked now.part raised looked → IsSameBut first looked → raised ≡ false → made < budget
-    → ((x : Part) → IsAtWork p l id x looked → HasStepped p l id x looked next out) → next.thread ≡ looked.thread → Behind p l id on budget made thread next out
-stepped_on p l id on budget made thread first looked next raised out now has same not below steps own =
-    behind_step p l id on budget made thread now.part raised looked next out now.count
-    (not_told on now.part raised now.goes has.told not) now.did not below
+pub stepped_on : {p : Program} {l : Layout} {id : TableId} {on : Option Break} {budget made thread : ℕ}
+    {first looked next : Worker} {raised : Bool} {out : Outcome}
+    (now : IsWorking p l id on budget made thread first) → HasLooked now.part raised looked
+    → IsSameBut first looked → raised ≡ false → made < budget
+    → ((x : Part) → IsAtWork p l id x looked → HasStepped p l id x looked next out)
+    → next.thread ≡ looked.thread → Behind p l id on budget made thread next out
+stepped_on {on = on} {budget = budget} {made = made} {first = first} {looked = looked} {raised = raised} =
+    λ now has same not below steps own.
+    behind_step now.part now.count (not_told on now.part raised now.goes has.told not) now.did not below
     (same_room (budget - made) now.part (looks raised now.part) first looked refl same now.room)
-    (steps (looks raised now.part) (looked_work p l id now.part raised first looked now.work has same))
+    (steps (looks raised now.part) (looked_work now.work has same))
     (own ∙ same.thread ∙ now.own)

@@ -9,12 +9,12 @@ use Rattle.omi_text.specs.Regions.{region_line}
 use Rattle.omi_text.specs.Tasks.{task_line, environment_line}
 
 -- what is told with a success, told otherwise
-pub on_ok : {T E : Type 0} (r : Result T E) (P Q : Type 0) → (P → Q) → OnOk r P → OnOk r Q
-on_ok (Ok x) P Q more told = more told
-on_ok (Err e) P Q more told = tt
+pub on_ok : {T E : Type 0} (r : Result T E) {P Q : Type 0} → (P → Q) → OnOk r P → OnOk r Q
+on_ok (Ok x) more told = more told
+on_ok (Err e) more told = tt
 
 -- three parts, one after the other
-pub three_parts : (old first second new a b c whole : List ℕ) → first ≡ old ++ a → second ≡ first ++ b
+three_parts : (old first second new a b c whole : List ℕ) → first ≡ old ++ a → second ≡ first ++ b
     → a ++ (b ++ c) ≡ whole → new ≡ second ++ c → new ≡ old ++ whole
 three_parts old first second new a b c whole is_first is_second are then =
     then
@@ -24,8 +24,9 @@ three_parts old first second new a b c whole is_first is_second are then =
     ∙ ap (λ (t : List ℕ). old ++ t) are
 
 -- four parts
-pub four_parts : (old first second third new a b c d whole : List ℕ) → first ≡ old ++ a → second ≡ first ++ b
-    → third ≡ second ++ c → a ++ (b ++ (c ++ d)) ≡ whole → new ≡ third ++ d → new ≡ old ++ whole
+four_parts : (old first second third new a b c d whole : List ℕ)
+    → first ≡ old ++ a → second ≡ first ++ b → third ≡ second ++ c
+    → a ++ (b ++ (c ++ d)) ≡ whole → new ≡ third ++ d → new ≡ old ++ whole
 four_parts old first second third new a b c d whole is_first is_second is_third are then =
     then
     ∙ ap (λ (t : List ℕ). t ++ d) is_third
@@ -45,23 +46,28 @@ joined : (ws us : List (List ℕ)) → 0 < length us → spaced ws ++ line us �
 joined ws [] some = absurd (omega (arith, some))
 joined ws (v ∷ vs) some = line_on ws v vs
 
-pub region_whole : (r : RegionRow)
-    → spaced (region_name r) ++ (spaced (region_variables r) ++ line (region_around r)) ≡ region_line r
+region_whole : (r : RegionRow)
+    → spaced (region_name r) ++ (spaced (region_variables r) ++ line (region_around r))
+    ≡ region_line r
 unfolding region_name region_variables region_around region_line
 region_whole r =
-    ap (λ (t : List ℕ). spaced (region_name r) ++ t) (joined (region_variables r) (region_around r) (lit< tt))
+    ap (λ (t : List ℕ). spaced (region_name r) ++ t)
+    (joined (region_variables r) (region_around r) (lit< tt))
     ∙ joined (region_name r) (region_variables r ++ region_around r) (lit< tt)
 
-pub environment_whole : (t : TaskRow)
-    → spaced (dynamic_variable t) ++ (spaced (list_variables t) ++ line (task_variables t)) ≡ environment_line t
+environment_whole : (t : TaskRow)
+    → spaced (dynamic_variable t) ++ (spaced (list_variables t) ++ line (task_variables t))
+    ≡ environment_line t
 unfolding dynamic_variable list_variables task_variables environment_line
 environment_whole t =
     ap (λ (x : List ℕ). spaced (dynamic_variable t) ++ x)
     (joined (list_variables t) (task_variables t) (lit< tt))
     ∙ joined (dynamic_variable t) (list_variables t ++ task_variables t) (lit< tt)
 
-pub task_whole : (t : TaskRow)
-    → spaced (task_name t) ++ (spaced (task_region t) ++ (spaced (task_ancestors t) ++ line (task_frames t))) ≡ task_line t
+task_whole : (t : TaskRow)
+    → spaced (task_name t)
+    ++ (spaced (task_region t) ++ (spaced (task_ancestors t) ++ line (task_frames t)))
+    ≡ task_line t
 unfolding task_name task_region task_ancestors task_frames task_line
 task_whole t =
     ap (λ (x : List ℕ). spaced (task_name t) ++ (spaced (task_region t) ++ x))
@@ -69,3 +75,28 @@ task_whole t =
     ∙ ap (λ (x : List ℕ). spaced (task_name t) ++ x)
     (joined (task_region t) (task_ancestors t ++ task_frames t) (lit< tt))
     ∙ joined (task_name t) (task_region t ++ (task_ancestors t ++ task_frames t)) (lit< tt)
+
+-- ---- a text after each part of a line was added to it
+
+pub region_added : (r : RegionRow) (old : List ℕ) {named told new : List ℕ}
+    → named ≡ old ++ spaced (region_name r) → told ≡ named ++ spaced (region_variables r)
+    → new ≡ told ++ line (region_around r) → new ≡ old ++ region_line r
+region_added r old {named = named} {told = told} {new = new} name variables around =
+    three_parts old named told new (spaced (region_name r)) (spaced (region_variables r))
+    (line (region_around r)) (region_line r) name variables (region_whole r) around
+
+pub environment_added : (t : TaskRow) (old : List ℕ) {first told new : List ℕ}
+    → first ≡ old ++ spaced (dynamic_variable t) → told ≡ first ++ spaced (list_variables t)
+    → new ≡ told ++ line (task_variables t) → new ≡ old ++ environment_line t
+environment_added t old {first = first} {told = told} {new = new} dynamic lists others =
+    three_parts old first told new (spaced (dynamic_variable t)) (spaced (list_variables t))
+    (line (task_variables t)) (environment_line t) dynamic lists (environment_whole t) others
+
+pub task_added : (t : TaskRow) (old : List ℕ) {named placed told new : List ℕ}
+    → named ≡ old ++ spaced (task_name t) → placed ≡ named ++ spaced (task_region t)
+    → told ≡ placed ++ spaced (task_ancestors t) → new ≡ told ++ line (task_frames t)
+    → new ≡ old ++ task_line t
+task_added t old {named = named} {placed = placed} {told = told} {new = new} name region ancestors frames =
+    four_parts old named placed told new (spaced (task_name t)) (spaced (task_region t))
+    (spaced (task_ancestors t)) (line (task_frames t)) (task_line t) name region ancestors
+    (task_whole t) frames

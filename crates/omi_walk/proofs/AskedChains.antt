@@ -1,7 +1,7 @@
 -- The chains of a walk are those of a plain look.
-use Rattle.std.proofs.Common.{◌≡◌, ℕ, zero, suc, Bool, List, [], ◌∷◌, Option, Some, None, refl, sym, ap, subst, ◌∙◌}
+use Rattle.std.proofs.Common.{◌≡◌, ℕ, zero, suc, Bool, List, [], ◌∷◌, Option, Some, None, refl, sym, ap, subst}
 use Rattle.std.specs.Option.{option_map}
-use Rattle.std.specs.Prelude.{Ok, Err}
+use Rattle.std.specs.Prelude.{Ok}
 use Rattle.omi_word.specs.Words.{Words}
 use Rattle.omi_handle.specs.declared.handle.Kind.TheVariants.{Region, Task}
 use Rattle.omi_layout.specs.declared.field.Field.TheVariants.{RegionEnclosing}
@@ -10,8 +10,8 @@ use Rattle.omi_layout.specs.Table.{records}
 use Rattle.omi_model.specs.declared.id.Id.{Id}
 use Rattle.omi_model.specs.declared.id.Tid.{Tid}
 use Rattle.omi_model.specs.declared.view.TaskRow.{TaskRow}
-use Rattle.omi_rep.specs.Look.{Look, and_then, mapped, id_address, was_met, look_object, look_optional, look_onward, optional}
-use Rattle.omi_rep.specs.LookView.{look_current, look_innermost, look_enclosing, look_regions, look_task, look_chain, look_tasks}
+use Rattle.omi_rep.specs.Look.{and_then, id_address, was_met, look_optional, look_onward}
+use Rattle.omi_rep.specs.LookView.{look_current, look_enclosing, look_regions, look_task, look_chain, look_tasks}
 use Rattle.omi_session.specs.Reads.{answer_on}
 use Rattle.omi_walk.specs.declared.fault.WalkFault.TheVariants.{Cycle}
 use Rattle.omi_walk.specs.declared.found.Found.{Found}

@@ -1,6 +1,5 @@
 -- What a walk asks is a plain look at the words: the parts of it, and one part after the other.
-use Rattle.std.proofs.Common.{◌≡◌, ◌==◌, ◌<◌, ◌+◌, ℕ, zero, suc, Bool, true, false, cond, List, [], ◌∷◌, Option, Some, None, refl, sym, ap, subst, ◌∙◌, eq-eqb, arith}
-use Rattle.std.specs.List.{range_with_len}
+use Rattle.std.proofs.Common.{◌≡◌, ℕ, Bool, cond, List, [], ◌∷◌, Option, Some, None, refl, sym, ap, subst, ◌∙◌, eq-eqb}
 use Rattle.std.specs.Option.{option_map, option_map_or}
 use Rattle.std.specs.Prelude.{Result, Ok, Err}
 use Rattle.omi_word.specs.Words.{Words}
@@ -12,23 +11,21 @@ use Rattle.omi_rep.specs.declared.fault.LookFault.{LookFault}
 use Rattle.omi_rep.specs.declared.fault.LookFault.TheVariants as look
 use Rattle.omi_rep.specs.Look.{Look, and_then, mapped, each, id_address, look_word, look_object, look_optional}
 use Rattle.omi_session.specs.declared.rc.Rc.{Rc}
-use Rattle.omi_session.specs.declared.rc.Rc.TheVariants.{Unavailable, BadInput, Error}
+use Rattle.omi_session.specs.declared.rc.Rc.TheVariants.{BadInput}
 use Rattle.omi_session.specs.Handles.{name_of}
 use Rattle.omi_session.specs.Inquiry.{object_of, live_handle, unchanged, word_of, follow, follow_some}
 use Rattle.omi_session.specs.Looked.{IsLook, IsOf, IsOptional, IsFault}
 use Rattle.omi_session.specs.Named.{record_kind}
 use Rattle.omi_session.specs.Reads.{Reads, Answer, answer_on, after, then_reads}
 use Rattle.omi_session.proofs.Asked.{answer_then}
-use Rattle.omi_session.proofs.LookedLaws.{word_is_looked, object_is_looked, optional_is_looked}
 use Rattle.omi_session.proofs.ShownParts.{then_answered}
 use Rattle.omi_walk.specs.declared.fault.WalkFault.{WalkFault}
-use Rattle.omi_walk.specs.declared.fault.WalkFault.TheVariants.{Damaged, Cycle}
 use Rattle.omi_walk.specs.declared.met.Met.{Met}
 use Rattle.omi_walk.specs.Asking.{Asks, answering, with_answer, ask_each, ask_object, ask_maybe, maybe_absent, met}
 use Rattle.omi_walk.specs.AskLooked.{as_fault}
 use Rattle.omi_walk.specs.Fault.{fault_of, walked}
 use Rattle.omi_walk.proofs.Goes.{answer_answering}
-use Rattle.omi_walk.proofs.Looked.{followed_lives, optional_lives}
+use Rattle.omi_walk.proofs.Looked.{look_by, optional_by, word_there, object_there, optional_there, followed_lives, optional_lives}
 use Rattle.omi_walk.proofs.MemberLooks.{follow_kind, some_kind}
 use Rattle.omi_walk.proofs.Names.{named_address}
 
@@ -255,10 +252,7 @@ module _ (w : List ℕ) (memory : Words) (kind : Kind) (h : Held) (n : Id) (st :
   pub word_looked : (f : Field) (at : ℕ)
       → IsLook {A = ℕ} {B = ℕ} (λ x y. x ≡ y) (answer_on memory (word_of w h.addr f at))
       (look_word w memory (id_address w (record_kind kind) n) f at)
-  word_looked f at =
-      subst
-      (λ a. IsLook {A = ℕ} {B = ℕ} (λ x y. x ≡ y) (answer_on memory (word_of w h.addr f at)) (look_word w memory a f at)) st.at
-      (word_is_looked w memory h.addr f at)
+  word_looked f at = word_there w memory f at st.at
 
   -- the object to which one points
   pub alike_follow : (target : Kind) (f : Field) (at : ℕ) (reads : Reads Held)
@@ -270,9 +264,14 @@ module _ (w : List ℕ) (memory : Words) (kind : Kind) (h : Held) (n : Id) (st :
       ap (answer_on memory) is ∙ after_object (λ o. follow w target o.addr f at) in
       alike_object w memory target (walked (Some h)) reads
       (look_object w memory (record_kind target) (id_address w (record_kind kind) n) f at)
-      (subst (λ (a : Result Held Rc). IsLook (IsOf w) a (look_object w memory (record_kind target) (id_address w (record_kind kind) n) f at)) (sym here)
-      (subst (λ a. IsLook (IsOf w) (answer_on memory (follow w target h.addr f at)) (look_object w memory (record_kind target) a f at)) st.at (object_is_looked w memory target h.addr f at)))
-      (λ o e. (followed_lives w memory (object_of w kind (Some h)) target f at (λ x. x.addr) o (sym (ap (answer_on memory) is) ∙ e), follow_kind w memory target h.addr f at o (sym here ∙ e)))
+      (look_by (IsOf w)
+      (look_object w memory (record_kind target) (id_address w (record_kind kind) n) f at) here
+      (object_there w memory target f at st.at))
+      (λ o e. (
+        followed_lives w memory (object_of w kind (Some h)) target f at (λ x. x.addr) o
+            (sym (ap (answer_on memory) is) ∙ e),
+        follow_kind w memory target h.addr f at o (sym here ∙ e),
+      ))
       (λ o. refl) (λ rc fault same. ap Err (fault_is (Some h) rc fault same))
 
   -- and one that there may be
@@ -285,6 +284,10 @@ module _ (w : List ℕ) (memory : Words) (kind : Kind) (h : Held) (n : Id) (st :
       ap (answer_on memory) is ∙ after_object (λ o. follow_some w target o.addr f) in
       alike_maybe w memory target (Some h) reads
       (look_optional w memory (record_kind target) (id_address w (record_kind kind) n) f 0)
-      (subst (λ (a : Result Held Rc). IsOptional w a (look_optional w memory (record_kind target) (id_address w (record_kind kind) n) f 0)) (sym here)
-      (subst (λ a. IsOptional w (answer_on memory (follow_some w target h.addr f)) (look_optional w memory (record_kind target) a f 0)) st.at (optional_is_looked w memory target h.addr f)))
-      (λ o e. (optional_lives w memory (object_of w kind (Some h)) target f (λ x. x.addr) o (sym (ap (answer_on memory) is) ∙ e), some_kind w memory target h.addr f o (sym here ∙ e)))
+      (optional_by w (look_optional w memory (record_kind target) (id_address w (record_kind kind) n) f 0)
+      here (optional_there w memory target f st.at))
+      (λ o e. (
+        optional_lives w memory (object_of w kind (Some h)) target f (λ x. x.addr) o
+            (sym (ap (answer_on memory) is) ∙ e),
+        some_kind w memory target h.addr f o (sym here ∙ e),
+      ))

@@ -15,11 +15,11 @@ use Rattle.omi_model.specs.declared.id.Id.{Id}
 use Rattle.omi_numbers.specs.declared.variables.TheConstants.{LEVELS_VAR, ACTIVE_LEVELS_VAR, TEAM_SIZE_VAR}
 use Rattle.omi_rep.specs.declared.fault.LookFault.{LookFault}
 use Rattle.omi_rep.specs.declared.fault.LookFault.TheVariants as look
-use Rattle.omi_rep.specs.Look.{Look, each, id_address, look_object, look_optional}
+use Rattle.omi_rep.specs.Look.{each, id_address, look_object, look_optional}
 use Rattle.omi_rep.specs.LookView.{look_within, look_member, look_region, read_region}
 use Rattle.omi_session.specs.declared.rc.Rc.{Rc}
 use Rattle.omi_session.specs.declared.rc.Rc.TheVariants.{BadInput}
-use Rattle.omi_session.specs.Inquiry.{team_size, follow, member, related}
+use Rattle.omi_session.specs.Inquiry.{team_size, follow, member}
 use Rattle.omi_session.specs.Looked.{IsLook, IsOf, IsFault}
 use Rattle.omi_session.specs.Named.{record_kind}
 use Rattle.omi_session.specs.Reads.{Answer, answer_on, then_reads}
@@ -32,7 +32,6 @@ use Rattle.omi_walk.specs.AskLooked.{as_fault}
 use Rattle.omi_walk.specs.Asking.{ask_each, of_member}
 use Rattle.omi_walk.specs.AskWords.{ask_entry, ask_region_variable}
 use Rattle.omi_walk.specs.AskRegions.{ask_enclosing, ask_member_task, ask_member_thread, ask_member, ask_row}
-use Rattle.omi_walk.specs.Fault.{member_fault}
 use Rattle.omi_walk.specs.Objects.{name_in}
 use Rattle.omi_walk.specs.Parts.{look_size}
 use Rattle.omi_walk.proofs.AskedLooks.{Alike, Same, AllAlike, Lives, IsObject, MaybeObject, alike_then, alike_on, alike_each, alike_object, alike_follow_some, after_object}

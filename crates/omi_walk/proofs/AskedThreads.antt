@@ -1,41 +1,36 @@
 -- What a walk asks about threads is a plain look at their records.
-use Rattle.std.proofs.Common.{◌≡◌, ◌==◌, ◌<◌, ◌+◌, ℕ, Bool, true, false, cond, List, [], ◌∷◌, ◌++◌, Option, Some, None, map, refl, sym, ap, subst, ◌∙◌, arith}
-use Rattle.std.specs.List.{range_with_len, flat_map, filter_map, cons_option}
+use Rattle.std.proofs.Common.{◌≡◌, ◌<◌, ℕ, List, [], ◌∷◌, ◌++◌, Option, Some, None, map, refl, sym, ap, subst, ◌∙◌, arith}
+use Rattle.std.specs.List.{range_with_len, flat_map, cons_option}
 use Rattle.std.specs.Option.{option_map}
 use Rattle.std.specs.Prelude.{Result, Ok, Err, is_some}
 use Rattle.std.proofs.lemmas.List.{map-append}
 use Rattle.omi_word.specs.Words.{Words}
-use Rattle.omi_numbers.specs.Words.{state_of, wait_of}
 use Rattle.omi_numbers.specs.declared.variables.TheConstants.{THREAD_NUM_VAR}
 use Rattle.omi_handle.specs.declared.handle.Kind.TheVariants.{Thread, Task}
 use Rattle.omi_handle.specs.declared.handle.Held.{Held}
+use Rattle.omi_icv.specs.declared.scoped.Scoped.{Scoped}
 use Rattle.omi_icv.specs.declared.scoped.Scoped.TheVariants as scoped
 use Rattle.omi_icv.specs.Icvs.{icv_from_scope}
 use Rattle.omi_icv.specs.StateWords.{state}
-use Rattle.omi_icv.specs.Values.{member_number}
-use Rattle.omi_layout.specs.declared.field.Field.TheVariants.{RuntimeDebug, ThreadLife, ThreadState, ThreadCurrent, TaskNumber}
-use Rattle.omi_layout.specs.Field.{threads, tasks}
+use Rattle.omi_layout.specs.declared.field.Field.TheVariants.{ThreadLife, ThreadCurrent, TaskNumber}
+use Rattle.omi_layout.specs.Field.{threads}
 use Rattle.omi_layout.specs.Table.{thread_count}
 use Rattle.omi_layout.specs.Valid.{IsValid}
 use Rattle.omi_model.specs.declared.id.Id.{Id}
-use Rattle.omi_model.specs.declared.id.Tid.{Tid}
 use Rattle.omi_model.specs.declared.view.ThreadPart.{ThreadPart}
 use Rattle.omi_model.specs.declared.view.ThreadRow.{ThreadRow}
 use Rattle.omi_rep.specs.declared.fault.LookFault.{LookFault}
 use Rattle.omi_rep.specs.declared.fault.LookFault.TheVariants as look
-use Rattle.omi_rep.specs.Look.{Look, and_then, mapped, each, optional, id_address, look_word, look_optional}
-use Rattle.omi_rep.specs.LookView.{look_for, look_state, look_current, look_part, look_thread, read_thread, read_task, read_runtime, found_threads}
-use Rattle.omi_rep.specs.Records.{runtime_address, thread_address}
+use Rattle.omi_rep.specs.Look.{Look, and_then, mapped, each, optional}
+use Rattle.omi_rep.specs.LookView.{look_for, look_state, look_current, look_part, look_thread, read_task, found_threads}
+use Rattle.omi_rep.specs.Records.{thread_address}
 use Rattle.omi_rep.proofs.Slots.{slot_found}
 use Rattle.omi_session.specs.declared.rc.Rc.{Rc}
 use Rattle.omi_session.specs.declared.rc.Rc.TheVariants.{Unavailable, NeedsStateTracking}
 use Rattle.omi_session.specs.Handles.{name_of}
-use Rattle.omi_session.specs.Inquiry.{place_of, word_of, follow_some, unchanged, current_task}
-use Rattle.omi_session.specs.Looked.{IsLook, IsFault, IsOptional}
-use Rattle.omi_session.specs.Named.{record_kind}
-use Rattle.omi_session.specs.Reads.{Reads, Answer, answer_on, after, then_reads}
-use Rattle.omi_session.proofs.Asked.{answer_then}
-use Rattle.omi_session.proofs.LookedLaws.{word_is_looked, optional_is_looked}
+use Rattle.omi_session.specs.Inquiry.{place_of, unchanged, current_task}
+use Rattle.omi_session.specs.Looked.{IsFault}
+use Rattle.omi_session.specs.Reads.{Reads, answer_on, after}
 use Rattle.omi_session.proofs.ShownParts.{unchanged_told}
 use Rattle.omi_session.proofs.Slots.{kind_is}
 use Rattle.omi_ask.specs.Threads.{begun, thread_with}
@@ -46,20 +41,16 @@ use Rattle.omi_walk.specs.declared.threads.SeenPart.{SeenPart}
 use Rattle.omi_walk.specs.declared.threads.SeenThread.{SeenThread}
 use Rattle.omi_walk.specs.declared.thread_rows.SeenThreads.{SeenThreads}
 use Rattle.omi_walk.specs.AskLooked.{as_fault}
-use Rattle.omi_walk.specs.Asking.{answering, ask_each, maybe_absent, maybe_untracked, met}
+use Rattle.omi_walk.specs.Asking.{ask_each, maybe_absent, maybe_untracked, met}
 use Rattle.omi_walk.specs.AskThreads.{all_seen, ask_thread_with, ask_state, ask_current, ask_number, ask_part, ask_found, ask_thread, ask_threads}
-use Rattle.omi_walk.specs.Fault.{absent, untracked}
-use Rattle.omi_walk.specs.Objects.{name_in}
+use Rattle.omi_walk.specs.Fault.{absent}
 use Rattle.omi_walk.specs.SeenThreads.{found_in}
-use Rattle.omi_walk.proofs.AskedLooks.{Alike, Same, AllAlike, Lives, IsObject, MaybeObject, fault_is, alike_then, alike_on, alike_map, alike_with, alike_each, alike_follow_some, found_object, some_met, maybe_answers, maybe_refused, after_object}
+use Rattle.omi_walk.proofs.AskedLooks.{Alike, Same, AllAlike, Lives, IsObject, MaybeObject, alike_then, alike_on, alike_map, alike_with, alike_each, alike_follow_some, found_object, some_met, maybe_answers, maybe_refused, object_answers}
 use Rattle.omi_walk.proofs.AskedChains.{FoundIs}
 use Rattle.omi_walk.proofs.AskedRows.{name_same}
 use Rattle.omi_walk.proofs.AskedWords.{record_answers}
 use Rattle.omi_walk.proofs.Goes.{answer_answering}
-use Rattle.omi_walk.proofs.MemberLooks.{some_kind}
-use Rattle.omi_walk.proofs.Names.{named_address}
-use Rattle.omi_walk.proofs.TaskChained.{named_back}
-use Rattle.omi_walk.proofs.ThreadLooks.{IsFound, IsMaybe, thread_found}
+use Rattle.omi_walk.proofs.ThreadLooks.{IsFound, IsMaybe, thread_found, maybe_by, state_there, number_there}
 use Rattle.omi_walk.proofs.WordLooks.{variable_answers}
 
 -- the name of a thread that has begun
@@ -70,7 +61,8 @@ thread_id i = record { creator = i; slot = 0; generation = 0 }
 
 maybe_fault : {A : Type 0} (none : Rc) (change : Result A Rc → Result (Option A) WalkFault)
     → ((rc : Rc) (fault : LookFault) → IsFault rc fault → change (Err rc) ≡ Err (as_fault fault))
-    → ((x : A) → change (Ok x) ≡ Ok (Some x)) → change (Err none) ≡ Ok None → (a : Result A Rc) (l : Look (Option A)) → IsMaybe none a l → Alike Same (change a) l
+    → ((x : A) → change (Ok x) ≡ Ok (Some x)) → change (Err none) ≡ Ok None
+    → (a : Result A Rc) (l : Look (Option A)) → IsMaybe none a l → Alike Same (change a) l
 maybe_fault none change refused given absent (Ok x) (Ok (Some y)) is =
     subst (λ a. Alike Same a (Ok (Some y))) (sym (given x)) (ap Some is)
 maybe_fault none change refused given absent (Ok x) (Ok None) is = absurd is
@@ -80,16 +72,19 @@ maybe_fault {A} none change refused given absent (Err rc) (Ok None) is =
     subst (λ (a : Result (Option A) WalkFault). Alike Same a (Ok None))
     (sym (ap (λ c. change (Err c)) is ∙ absent)) refl
 maybe_fault {A} none change refused given absent (Err rc) (Err fault) is =
-    subst (λ (a : Result (Option A) WalkFault). Alike Same a (Err fault)) (sym (refused rc fault is)) refl
+    subst (λ (a : Result (Option A) WalkFault). Alike Same a (Err fault))
+    (sym (refused rc fault is)) refl
 
 absent_fault : {A : Type 0} (found : Option Held) (rc : Rc) (fault : LookFault) → IsFault rc fault
     → maybe_absent {A = A} found (Err rc) ≡ Err (as_fault fault)
-absent_fault {A} found rc (look.Damaged addr field) is = ap (λ c. maybe_absent {A = A} found (Err c)) is
+absent_fault {A} found rc (look.Damaged addr field) is =
+    ap (λ c. maybe_absent {A = A} found (Err c)) is
 absent_fault found rc (look.Cycle addr) is = absurd is
 
 untracked_fault : {A : Type 0} (found : Option Held) (rc : Rc) (fault : LookFault) → IsFault rc fault
     → maybe_untracked {A = A} found (Err rc) ≡ Err (as_fault fault)
-untracked_fault {A} found rc (look.Damaged addr field) is = ap (λ c. maybe_untracked {A = A} found (Err c)) is
+untracked_fault {A} found rc (look.Damaged addr field) is =
+    ap (λ c. maybe_untracked {A = A} found (Err c)) is
 untracked_fault found rc (look.Cycle addr) is = absurd is
 
 module _ (w : List ℕ) (memory : Words) where
@@ -100,163 +95,104 @@ module _ (w : List ℕ) (memory : Words) where
       ap (option_map (λ (at : ℕ × ℕ). record { creator = at.0; slot = at.1; generation = 0 }))
       (slot_found w valid threads (kind_is Thread) i 0 (record { made_by = low; within = omega arith }))
 
+  -- the thread that was met is the one of this number
+  abbrev pub ThreadAs : Option Met → Option ℕ → Type 0
+  ThreadAs o i = MaybeObject w memory Thread o (option_map thread_id i)
+
   pub alike_thread_with : IsValid w → (native : ℕ)
-      → Alike (λ o i. MaybeObject w memory Thread o (option_map thread_id i))
-      (answer_on memory (ask_thread_with w native))
+      → Alike ThreadAs (answer_on memory (ask_thread_with w native))
       (look_for w memory native (range_with_len 0 (thread_count w)))
   alike_thread_with valid native =
-      subst
-      (λ (a : Result (Option Met) WalkFault). Alike (λ o i. MaybeObject w memory Thread o (option_map thread_id i)) a (look_for w memory native (range_with_len 0 (thread_count w))))
+      let l : Look (Option ℕ) = look_for w memory native (range_with_len 0 (thread_count w)) in
+      subst (λ (a : Result (Option Met) WalkFault). Alike ThreadAs a l)
       (sym (maybe_answers w memory Thread None (thread_with w 0 native)))
-      (go (answer_on memory (thread_with w 0 native)) (look_for w memory native (range_with_len 0 (thread_count w))) (thread_found w memory native))
+      (go (answer_on memory (thread_with w 0 native)) l (thread_found w memory native))
     where
+      -- what is met of an answer
+      met_of : Result Held Rc → Result (Option Met) WalkFault
+      met_of a = answer_on memory (after (maybe_absent None a) (some_met w memory Thread))
+
+      lives : (i : ℕ) → i < thread_count w
+          → memory (place_of w (thread_address w i) ThreadLife 0) ≡ Some 1
+          → answer_on memory (unchanged w (begun w i)) ≡ Ok (begun w i)
+      lives i low there =
+          let slot = slot_found w valid threads (kind_is Thread) i 0 (record {
+            made_by = low;
+            within = omega arith;
+          }) in
+          unchanged_told w memory Thread 1 (thread_address w i) (record {
+            place = ap (λ o. is_some o) slot;
+            word = there;
+            live = refl;
+          })
+
       go : (a : Result Held Rc) (l : Look (Option ℕ)) → IsFound w memory a l
-          → Alike (λ o i. MaybeObject w memory Thread o (option_map thread_id i))
-          (answer_on memory (after (maybe_absent None a) (some_met w memory Thread))) l
+          → Alike ThreadAs (met_of a) l
       go (Ok h) (Ok (Some i)) found =
           subst (λ h. IsObject w memory Thread (met w h) (thread_id i)) (sym found.0)
           (found_object w memory Thread (begun w i) (thread_id i) (thread_named valid i found.2)
-          (unchanged_told w memory Thread 1 (thread_address w i) (record {
-            place = ap (λ o. is_some o) (slot_found w valid threads (kind_is Thread) i 0 (record { made_by = found.2; within = omega arith }));
-            word = found.1;
-            live = refl;
-          })) refl)
+          (lives i found.2 found.1) refl)
       go (Ok h) (Ok None) found = absurd found
       go (Ok h) (Err fault) found = absurd found
       go (Err rc) (Ok (Some i)) found = absurd found
       go (Err rc) (Ok None) found =
-          subst
-          (λ c. Alike (λ o i. MaybeObject w memory Thread o (option_map thread_id i)) (answer_on memory (after (maybe_absent {A = Held} None (Err c)) (some_met w memory Thread))) (Ok None))
-          (sym found) tt
-      go (Err rc) (Err fault) found =
-          maybe_refused w memory Thread
-          (λ o i. MaybeObject w memory Thread o (option_map thread_id i)) None rc fault found
+          subst (λ c. Alike ThreadAs (met_of (Err c)) (Ok None)) (sym found) tt
+      go (Err rc) (Err fault) found = maybe_refused w memory Thread ThreadAs None rc fault found
 
   -- ---- a thread
 
   -- what is seen of the thread of this number, and its current task
   abbrev pub PartAs : ℕ → SeenPart → ThreadPart → Type 0
   PartAs i seen part =
-      (seen.part ≡ part) × (seen.part.thread ≡ i) × FoundIs w memory (record { thread = i; current = seen.current })
+      (seen.part ≡ part) × (seen.part.thread ≡ i)
+      × FoundIs w memory (record { thread = i; current = seen.current })
 
   module _ (h : Held) (i : ℕ) (st : Lives w memory Thread h (thread_id i)) where
-    state_looked : IsMaybe NeedsStateTracking (answer_on memory (state w (Some h))) (look_state w memory i)
-    unfolding state and_then
-    state_looked =
-        subst (λ (a : Result (ℕ × ℕ) Rc). IsMaybe NeedsStateTracking a (look_state w memory i))
-        (sym (after_object w memory Thread h (thread_id i) st (λ thread. then_reads (word_of w (runtime_address w) RuntimeDebug 0) (kept thread.addr))
-        ∙ answer_then memory (word_of w (runtime_address w) RuntimeDebug 0) (kept h.addr)))
-        (by_debug (answer_on memory (word_of w (runtime_address w) RuntimeDebug 0)) (read_runtime w memory RuntimeDebug) (word_is_looked w memory (runtime_address w) RuntimeDebug 0))
-      where
-        parted : ℕ → Reads (ℕ × ℕ)
-        parted word = Answer (Ok (state_of word, wait_of word))
-
-        kept : ℕ → ℕ → Reads (ℕ × ℕ)
-        kept address debug =
-            cond (debug == 0) (Answer (Err NeedsStateTracking))
-            (then_reads (word_of w address ThreadState 0) parted)
-
-        by_word : (a : Result ℕ Rc) (l : Look ℕ) → IsLook {A = ℕ} {B = ℕ} (λ x y. x ≡ y) a l
-            → IsMaybe NeedsStateTracking (answer_on memory (after a parted))
-            (and_then l (λ word. Ok (Some (state_of word, wait_of word))))
-        by_word (Ok x) (Ok y) same = ap (λ word. (state_of word, wait_of word)) same
-        by_word (Ok x) (Err fault) same = absurd same
-        by_word (Err rc) (Ok y) same = absurd same
-        by_word (Err rc) (Err fault) same = same
-
-        here : IsMaybe NeedsStateTracking (answer_on memory (then_reads (word_of w h.addr ThreadState 0) parted))
-            (and_then (read_thread w memory i ThreadState) (λ word. Ok (Some (state_of word, wait_of word))))
-        here =
-            subst
-            (λ (a : Result (ℕ × ℕ) Rc). IsMaybe NeedsStateTracking a (and_then (read_thread w memory i ThreadState) (λ word. Ok (Some (state_of word, wait_of word)))))
-            (sym (answer_then memory (word_of w h.addr ThreadState 0) parted))
-            (by_word (answer_on memory (word_of w h.addr ThreadState 0)) (read_thread w memory i ThreadState)
-            (subst (λ a. IsLook {A = ℕ} {B = ℕ} (λ x y. x ≡ y) (answer_on memory (word_of w h.addr ThreadState 0)) (look_word w memory a ThreadState 0)) st.at (word_is_looked w memory h.addr ThreadState 0)))
-
-        by_debug : (a : Result ℕ Rc) (l : Look ℕ) → IsLook {A = ℕ} {B = ℕ} (λ x y. x ≡ y) a l
-            → IsMaybe NeedsStateTracking (answer_on memory (after a (kept h.addr)))
-            (and_then l (λ debug. cond (debug == 0) (Ok None) (and_then (read_thread w memory i ThreadState) (λ word. Ok (Some (state_of word, wait_of word))))))
-        by_debug (Ok x) (Ok y) same =
-            subst
-            (λ z. IsMaybe NeedsStateTracking (answer_on memory (kept h.addr x)) (cond (z == 0) (Ok None) (and_then (read_thread w memory i ThreadState) (λ word. Ok (Some (state_of word, wait_of word)))))) same
-            (test (x == 0))
-          where
-            test : (b : Bool)
-                → IsMaybe NeedsStateTracking (answer_on memory (cond b (Answer (Err NeedsStateTracking)) (then_reads (word_of w h.addr ThreadState 0) parted)))
-                (cond b (Ok None) (and_then (read_thread w memory i ThreadState) (λ word. Ok (Some (state_of word, wait_of word)))))
-            test true = refl
-            test false = here
-        by_debug (Ok x) (Err fault) same = absurd same
-        by_debug (Err rc) (Ok y) same = absurd same
-        by_debug (Err rc) (Err fault) same = same
-
     pub alike_state : Alike Same (answer_on memory (ask_state w (Some h))) (look_state w memory i)
     unfolding ask_state
     alike_state =
+        let inquiry : Reads (ℕ × ℕ) = state w (Some h) in
+        let looked =
+        state_there w memory h i st.at (Some h) (object_answers w memory Thread h (thread_id i) st) in
         subst (λ (a : Result (Option (ℕ × ℕ)) WalkFault). Alike Same a (look_state w memory i))
-        (sym (answer_answering memory (maybe_untracked (Some h)) (state w (Some h))))
-        (maybe_fault NeedsStateTracking (maybe_untracked (Some h)) (untracked_fault (Some h)) (λ x. refl) refl (answer_on memory (state w (Some h))) (look_state w memory i) state_looked)
+        (sym (answer_answering memory (maybe_untracked (Some h)) inquiry))
+        (maybe_fault NeedsStateTracking (maybe_untracked (Some h)) (untracked_fault (Some h))
+        (λ x. refl) refl (answer_on memory inquiry) (look_state w memory i) looked)
 
-    pub alike_current : Alike (MaybeObject w memory Task) (answer_on memory (ask_current w (Some h))) (look_current w memory i)
+    pub alike_current : Alike (MaybeObject w memory Task) (answer_on memory (ask_current w (Some h)))
+        (look_current w memory i)
     unfolding current_task
     alike_current =
-        alike_follow_some w memory Thread h (thread_id i) st Task ThreadCurrent (current_task w (Some h)) refl
-
-    number_looked : (current : Option Id) → look_current w memory i ≡ Ok current
-        → IsMaybe Unavailable
-        (answer_on memory (icv_from_scope w (λ _. Some h) (scoped.Thread (record { key = 0; serial = 0 })) THREAD_NUM_VAR))
-        (optional (λ k. read_task w memory k TaskNumber) current)
-    unfolding member_number and_then
-    number_looked current now =
-        subst
-        (λ (a : Result ℕ Rc). IsMaybe Unavailable a (optional (λ k. read_task w memory k TaskNumber) current))
-        (sym (variable_answers w memory (λ _. Some h) (scoped.Thread (record { key = 0; serial = 0 })) THREAD_NUM_VAR h.addr _ (record_answers w memory Thread h (thread_id i) st) refl
-        ∙ answer_then memory (follow_some w Task h.addr ThreadCurrent) word))
-        (go (answer_on memory (follow_some w Task h.addr ThreadCurrent)) refl current
-        (subst (λ (l : Look (Option Id)). IsOptional w (answer_on memory (follow_some w Task h.addr ThreadCurrent)) l)
-        (ap (λ a. look_optional w memory tasks a ThreadCurrent 0) st.at ∙ now)
-        (optional_is_looked w memory Task h.addr ThreadCurrent)))
-      where
-        word : Held → Reads ℕ
-        word task = word_of w task.addr TaskNumber 0
-
-        value : (a : Result ℕ Rc) (l : Look ℕ) → IsLook {A = ℕ} {B = ℕ} (λ x y. x ≡ y) a l
-            → IsMaybe Unavailable a (and_then l (λ y. Ok (Some y)))
-        value (Ok x) (Ok y) same = same
-        value (Ok x) (Err fault) same = absurd same
-        value (Err rc) (Ok y) same = absurd same
-        value (Err rc) (Err fault) same = same
-
-        go : (a : Result Held Rc) → a ≡ answer_on memory (follow_some w Task h.addr ThreadCurrent)
-            → (current : Option Id) → IsOptional w a (Ok current)
-            → IsMaybe Unavailable (answer_on memory (after a word))
-            (optional (λ k. read_task w memory k TaskNumber) current)
-        go (Ok t) from (Some k) named =
-            let of_kind : t.kind ≡ Task = some_kind w memory Task h.addr ThreadCurrent t (sym from) in
-            let there : t.addr ≡ id_address w tasks k =
-            named_address w t k named ∙ ap (λ kind. id_address w (record_kind kind) k) of_kind in
-            value (answer_on memory (word_of w t.addr TaskNumber 0)) (read_task w memory k TaskNumber)
-            (subst (λ a. IsLook {A = ℕ} {B = ℕ} (λ x y. x ≡ y) (answer_on memory (word_of w t.addr TaskNumber 0)) (look_word w memory a TaskNumber 0)) there (word_is_looked w memory t.addr TaskNumber 0))
-        go (Ok t) from None named = absurd named
-        go (Err rc) from (Some k) named = absurd named
-        go (Err rc) from None named = named
+        alike_follow_some w memory Thread h (thread_id i) st Task ThreadCurrent
+        (current_task w (Some h)) refl
 
     pub alike_number : (current : Option Id) → look_current w memory i ≡ Ok current
-        → Alike Same (answer_on memory (ask_number w (Some h))) (optional (λ k. read_task w memory k TaskNumber) current)
+        → Alike Same (answer_on memory (ask_number w (Some h)))
+        (optional (λ k. read_task w memory k TaskNumber) current)
     unfolding ask_number
     alike_number current now =
-        subst
-        (λ (a : Result (Option ℕ) WalkFault). Alike Same a (optional (λ k. read_task w memory k TaskNumber) current))
-        (sym (answer_answering memory (maybe_absent (Some h)) (icv_from_scope w (λ _. Some h) (scoped.Thread (record { key = 0; serial = 0 })) THREAD_NUM_VAR)))
-        (maybe_fault Unavailable (maybe_absent (Some h)) (absent_fault (Some h)) (λ x. refl) refl _ _ (number_looked current now))
+        let this_thread : Scoped = scoped.Thread (record { key = 0; serial = 0 }) in
+        let inquiry : Reads ℕ = icv_from_scope w (λ _. Some h) this_thread THREAD_NUM_VAR in
+        let l : Look (Option ℕ) = optional (λ k. read_task w memory k TaskNumber) current in
+        let read =
+        variable_answers w memory (λ _. Some h) this_thread THREAD_NUM_VAR h.addr _
+        (record_answers w memory Thread h (thread_id i) st) refl in
+        let looked : IsMaybe Unavailable (answer_on memory inquiry) l =
+        maybe_by Unavailable l read (number_there w memory h i st.at current now) in
+        subst (λ (a : Result (Option ℕ) WalkFault). Alike Same a l)
+        (sym (answer_answering memory (maybe_absent (Some h)) inquiry))
+        (maybe_fault Unavailable (maybe_absent (Some h)) (absent_fault (Some h)) (λ x. refl) refl
+        (answer_on memory inquiry) l looked)
 
     pub alike_part : Alike (PartAs i) (answer_on memory (ask_part w i (Some h))) (look_part w memory i)
     unfolding ask_part
     alike_part =
         alike_on (PartAs i) memory (ask_state w (Some h)) _ (look_state w memory i) _ alike_state
-        (λ state e f. alike_then (MaybeObject w memory Task) (PartAs i) memory (ask_current w (Some h)) _ (look_current w memory i) _ alike_current
-        (λ current k e now is. alike_on (PartAs i) memory (ask_number w (Some h)) _ (optional (λ k. read_task w memory k TaskNumber) k) _ (alike_number k now)
-        (λ number e f. (
+        (λ state e f.
+        alike_then (MaybeObject w memory Task) (PartAs i) memory (ask_current w (Some h)) _
+        (look_current w memory i) _ alike_current (λ current k e now is.
+        alike_on (PartAs i) memory (ask_number w (Some h)) _
+        (optional (λ k. read_task w memory k TaskNumber) k) _ (alike_number k now) (λ number e f. (
           (λ j. record {
             thread = i;
             state = state;
@@ -281,8 +217,7 @@ module _ (w : List ℕ) (memory : Words) where
       → Alike RowAs (answer_on memory (ask_thread w native)) (look_thread w memory native)
   unfolding ask_thread ask_found and_then
   alike_thread valid native =
-      alike_then (λ o i. MaybeObject w memory Thread o (option_map thread_id i)) RowAs memory
-      (ask_thread_with w native) (ask_found w native)
+      alike_then ThreadAs RowAs memory (ask_thread_with w native) (ask_found w native)
       (look_for w memory native (range_with_len 0 (thread_count w))) _
       (alike_thread_with valid native) (λ o i e f is. go o i is)
     where
@@ -290,11 +225,12 @@ module _ (w : List ℕ) (memory : Words) where
       with_part part = record { native = native; found = part }
 
       rows : (l : Look ThreadPart)
-          → mapped with_part (mapped (λ (y : ThreadPart). Some y) l) ≡ mapped (λ (part : ThreadPart). with_part (Some part)) l
+          → mapped with_part (mapped (λ (y : ThreadPart). Some y) l)
+          ≡ mapped (λ (part : ThreadPart). with_part (Some part)) l
       rows (Ok part) = refl
       rows (Err fault) = refl
 
-      go : (o : Option Met) (i : Option ℕ) → MaybeObject w memory Thread o (option_map thread_id i)
+      go : (o : Option Met) (i : Option ℕ) → ThreadAs o i
           → Alike RowAs (answer_on memory (ask_found w native o))
           (mapped with_part (optional (look_part w memory) i))
       go None None is = (refl, tt)
@@ -302,13 +238,21 @@ module _ (w : List ℕ) (memory : Words) where
       go (Some m) None is = absurd is
       go (Some m) (Some i) is =
           let number : m.name.creator ≡ i = ap (λ (n : Id). n.creator) is.name in
+          let part =
+          subst
+          (λ c. Alike (PartAs i) (answer_on memory (ask_part w c (Some m.held))) (look_part w memory i))
+          (sym number) (alike_part m.held i is.lives) in
           subst (λ l. Alike RowAs (answer_on memory (ask_found w native (Some m))) l)
           (sym (rows (look_part w memory i)))
-          (alike_map (PartAs i) RowAs memory (ask_part w m.name.creator (Some m.held)) _ (look_part w memory i) _
-          (subst (λ c. Alike (PartAs i) (answer_on memory (ask_part w c (Some m.held))) (look_part w memory i)) (sym number)
-          (alike_part m.held i is.lives))
-          (λ seen part e f both.
-          ((λ j. record { native = native; found = Some (both.0 j) }), (subst (λ t. FoundIs w memory (record { thread = t; current = seen.current })) (sym both.1) both.2, tt))))
+          (alike_map (PartAs i) RowAs memory (ask_part w m.name.creator (Some m.held)) _
+          (look_part w memory i) _ part (λ seen part e f both. (
+            (λ j. record { native = native; found = Some (both.0 j) }),
+            (
+              subst (λ t. FoundIs w memory (record { thread = t; current = seen.current })) (sym both.1)
+                  both.2,
+              tt,
+            ),
+          )))
 
   pub all_rows : (seen : List SeenThread) (rows : List ThreadRow) → AllAlike RowAs seen rows
       → map (λ s. s.row) seen ≡ rows
@@ -329,9 +273,13 @@ module _ (w : List ℕ) (memory : Words) where
   all_found (x ∷ seen) (row ∷ rows) all =
       found_append (found_in x.row.found x.current) _ all.0.1 (all_found seen rows all.1)
 
+  -- the thread that a part of a row has
+  abbrev thread_in : Option ThreadPart → Option ℕ
+  thread_in o = option_map (λ (part : ThreadPart). part.thread) o
+
   -- they are the threads that the rows have
   number_in : (o : Option ThreadPart) (current : Option Met)
-      → map (λ (f : Found). f.thread) (found_in o current) ≡ cons_option (option_map (λ (part : ThreadPart). part.thread) o) []
+      → map (λ (f : Found). f.thread) (found_in o current) ≡ cons_option (thread_in o) []
   number_in None current = refl
   number_in (Some part) current = refl
 
@@ -340,18 +288,18 @@ module _ (w : List ℕ) (memory : Words) where
   cons_append (Some x) xs = refl
 
   pub all_threads : (seen : List SeenThread) (rows : List ThreadRow) → AllAlike RowAs seen rows
-      → map (λ (f : Found). f.thread) (flat_map (λ s. found_in s.row.found s.current) seen) ≡ found_threads w memory rows
+      → map (λ (f : Found). f.thread) (flat_map (λ s. found_in s.row.found s.current) seen)
+      ≡ found_threads w memory rows
   all_threads [] [] all = refl
   all_threads [] (row ∷ rows) all = absurd all
   all_threads (x ∷ seen) [] all = absurd all
   all_threads (x ∷ seen) (row ∷ rows) all =
+      let others : List ℕ = found_threads w memory rows in
       map-append (λ (f : Found). f.thread) (found_in x.row.found x.current)
       (flat_map (λ s. found_in s.row.found s.current) seen)
       ∙ (λ j. number_in x.row.found x.current j ++ all_threads seen rows all.1 j)
-      ∙ cons_append (option_map (λ (part : ThreadPart). part.thread) x.row.found)
-      (found_threads w memory rows)
-      ∙ ap
-      (λ (row : ThreadRow). cons_option (option_map (λ (part : ThreadPart). part.thread) row.found) (found_threads w memory rows)) all.0.0
+      ∙ cons_append (thread_in x.row.found) others
+      ∙ ap (λ (row : ThreadRow). cons_option (thread_in row.found) others) all.0.0
 
   -- all rows, and what was found
   pub record ThreadsAs (seen : SeenThreads) (rows : List ThreadRow) : Type 0 where
@@ -365,8 +313,14 @@ module _ (w : List ℕ) (memory : Words) where
   alike_threads valid contexts =
       alike_with (AllAlike RowAs) ThreadsAs memory (ask_each (ask_thread w) contexts) all_seen
       (each (look_thread w memory) contexts)
-      (alike_each Same RowAs memory (ask_thread w) (look_thread w memory) (λ x z same. subst (λ z. Alike RowAs (answer_on memory (ask_thread w x)) (look_thread w memory z)) same (alike_thread valid x)) contexts contexts (same_all contexts))
-      (λ seen rows e f all. record { rows_are = all_rows seen rows all; found = all_found seen rows all; threads = all_threads seen rows all })
+      (alike_each Same RowAs memory (ask_thread w) (look_thread w memory) (λ x z same.
+      subst (λ z. Alike RowAs (answer_on memory (ask_thread w x)) (look_thread w memory z)) same
+      (alike_thread valid x)) contexts contexts (same_all contexts))
+      (λ seen rows e f all. record {
+        rows_are = all_rows seen rows all;
+        found = all_found seen rows all;
+        threads = all_threads seen rows all;
+      })
     where
       same_all : (xs : List ℕ) → AllAlike Same xs xs
       same_all [] = tt

@@ -1,5 +1,5 @@
 -- The walk is the plain look at the words.
-use Rattle.std.proofs.Common.{◌≡◌, ◌==◌, ◌&&◌, ℕ, Bool, true, false, cond, List, [], ◌∷◌, ◌++◌, Option, Some, None, map, find, refl, sym, ap, subst, ◌∙◌}
+use Rattle.std.proofs.Common.{◌≡◌, ◌==◌, ◌&&◌, ℕ, Bool, true, false, cond, List, [], ◌∷◌, ◌++◌, Option, Some, None, map, refl, sym, ap, subst}
 use Rattle.std.specs.List.{flat_map, filter_map, cons_option}
 use Rattle.std.specs.Prelude.{Result, Ok, Err}
 use Rattle.omi_word.specs.Words.{Words}
@@ -8,7 +8,7 @@ use Rattle.omi_layout.specs.Field.{regions}
 use Rattle.omi_layout.specs.Valid.{IsValid}
 use Rattle.omi_model.specs.declared.id.Id.{Id}
 use Rattle.omi_model.specs.declared.view.TaskRow.{TaskRow}
-use Rattle.omi_rep.specs.Look.{Look, and_then, mapped, each, slot_list}
+use Rattle.omi_rep.specs.Look.{Look, each, slot_list}
 use Rattle.omi_rep.specs.LookView.{look_head, look_thread, look_regions, look_region, look_tasks, look_view, met_in, found_threads}
 use Rattle.omi_session.specs.Reads.{answer_on}
 use Rattle.omi_walk.specs.declared.found.Found.{Found}

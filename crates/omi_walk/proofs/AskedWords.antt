@@ -1,16 +1,14 @@
 -- What a walk asks about an object itself is a plain look at its record.
-use Rattle.std.proofs.Common.{◌≡◌, ◌≤◌, ℕ, List, Option, Some, None, refl, sym, ap, subst, ◌∙◌}
-use Rattle.std.specs.Prelude.{Result, Ok, Err}
+use Rattle.std.proofs.Common.{◌≡◌, ℕ, List, Some, None, refl, sym, ap, subst, ◌∙◌}
+use Rattle.std.specs.Prelude.{Result, Ok}
 use Rattle.omi_word.specs.Words.{Words}
 use Rattle.omi_handle.specs.declared.handle.Kind.{Kind}
 use Rattle.omi_handle.specs.declared.handle.Kind.TheVariants.{Region, Task}
 use Rattle.omi_handle.specs.declared.handle.Held.{Held}
-use Rattle.omi_asktask.specs.declared.words.Frames.{Frames}
-use Rattle.omi_asktask.specs.TaskWords.{function, frames}
-use Rattle.omi_icv.specs.declared.icv_text.Value.{Value}
+use Rattle.omi_asktask.specs.TaskWords.{function}
 use Rattle.omi_icv.specs.declared.scoped.Scoped.{Scoped}
 use Rattle.omi_icv.specs.declared.scoped.Scoped.TheVariants as scoped
-use Rattle.omi_icv.specs.declared.variable.Source.TheVariants.{Word, TeamSize}
+use Rattle.omi_icv.specs.declared.variable.Source.TheVariants.{Word}
 use Rattle.omi_icv.specs.declared.variable.Variable.{Variable}
 use Rattle.omi_icv.specs.Icvs.{icv_from_scope}
 use Rattle.omi_icv.specs.Records.{record_of, record_of_handle}
@@ -19,8 +17,7 @@ use Rattle.omi_icv.specs.StateWords.{tool_data, tool_word}
 use Rattle.omi_icv.specs.Table.{variable_in}
 use Rattle.omi_icv.specs.Values.{number_in}
 use Rattle.omi_layout.specs.declared.field.Field.{Field}
-use Rattle.omi_layout.specs.declared.field.Field.TheVariants.{RuntimeVersion, RuntimeDebug, RuntimeProcs, RuntimeMaxActive, RegionFunction, RegionSize, TaskFunction, TaskExit, TaskEnter, TaskTool}
-use Rattle.omi_layout.specs.Field.{regions, tasks}
+use Rattle.omi_layout.specs.declared.field.Field.TheVariants.{RuntimeVersion, RuntimeDebug, RuntimeProcs, RuntimeMaxActive, RegionFunction, RegionSize, TaskFunction, TaskTool}
 use Rattle.omi_layout.specs.Table.{thread_count}
 use Rattle.omi_model.specs.declared.id.Id.{Id}
 use Rattle.omi_numbers.specs.declared.variables.TheConstants.{TEAM_SIZE_VAR, DEBUG_VAR, NUM_PROCS_VAR, MAX_ACTIVE_LEVELS_VAR}
@@ -29,7 +26,6 @@ use Rattle.omi_rep.specs.LookView.{look_within, look_head, read_runtime, read_re
 use Rattle.omi_rep.specs.Records.{runtime_address}
 use Rattle.omi_session.specs.declared.rc.Rc.{Rc}
 use Rattle.omi_session.specs.Inquiry.{word_of, team_size}
-use Rattle.omi_session.specs.Looked.{IsLook}
 use Rattle.omi_session.specs.Named.{record_kind}
 use Rattle.omi_session.specs.Reads.{Answer, answer_on, then_reads}
 use Rattle.omi_session.proofs.LookedLaws.{word_is_looked}
@@ -40,10 +36,8 @@ use Rattle.omi_walk.specs.Fault.{walked}
 use Rattle.omi_walk.specs.Parts.{look_size}
 use Rattle.omi_walk.proofs.AskedLooks.{Alike, Same, Lives, alike_walked, alike_on, after_object, word_looked}
 use Rattle.omi_walk.proofs.MemberLooks.{size_looked}
+use Rattle.omi_walk.proofs.Looked.{ValueIs}
 use Rattle.omi_walk.proofs.WordLooks.{variable_answers}
-
-abbrev ValueIs : {A : Type 0} → Result A Rc → Look A → Type 0
-ValueIs {A} a l = IsLook {A = A} {B = A} (λ x y. x ≡ y) a l
 
 module _ (w : List ℕ) (memory : Words) (kind : Kind) (h : Held) (n : Id) (st : Lives w memory kind h n) where
   pub record_answers : answer_on memory (record_of_handle w kind (Some h)) ≡ Ok h.addr

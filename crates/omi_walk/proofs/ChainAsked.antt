@@ -44,8 +44,18 @@ module _ {A C F : Type 0} (told : C → Told) (asked : C → ℕ) (s : Opened C 
   chain_begin rows known n none empty all =
       goes_same told asked s s all_asked all_asked
       (with_answer (λ more. rows ++ more) (ask_chain (ask s.layout) n known first))
-      (sym (with_nothing all_asked) ∙ (λ i. with_answer (λ more. sym none i ++ more) (ask_chain (ask s.layout) (sym all i) (λ address. sym (empty address) i) first)))
+      (sym (with_nothing all_asked)
+      ∙ (λ i. with_answer (λ more. sym none i ++ more)
+      (ask_chain (ask s.layout) (sym all i) (λ address. sym (empty address) i) first)))
       (goes_begin told asked s all_asked)
+
+  -- the next object is known, and how many are left
+  pub chain_at : (t : Opened C F) (rows : List A) (known : ℕ → Bool) (left next : ℕ)
+      (current : Option Met) (m : Met) → current ≡ Some m → left ≡ next
+      → ChainGoes t rows left known current → ChainGoes t rows next known (Some m)
+  chain_at t rows known left next current m is same so =
+      subst (λ n. ChainGoes t rows n known (Some m)) same
+      (subst (λ o. ChainGoes t rows left known o) is so)
 
   module _ (t u : Opened C F) (rows : List A) (known now : ℕ → Bool) (left : ℕ) (m : Met)
       (same : (address : ℕ) → now address ≡ also m.held.addr known address)
@@ -53,15 +63,18 @@ module _ {A C F : Type 0} (told : C → Told) (asked : C → ℕ) (s : Opened C 
     -- the next one is asked about
     abbrev onward : A × Option Met → Asks (List A)
     onward found =
-        with_answer (λ more. (rows ++ found.0 ∷ []) ++ more) (ask_chain (ask s.layout) left now found.1)
+        with_answer (λ more. (rows ++ found.0 ∷ []) ++ more)
+        (ask_chain (ask s.layout) left now found.1)
 
     asked_next : Goes told asked s t all_asked (then_reads (ask s.layout now m) onward)
     unfolding ask_chain
     asked_next =
         goes_same told asked s t all_asked _ _
-        (with_before rows (ask s.layout (also m.held.addr known) m) (λ found. found.0) (λ found. ask_chain (ask s.layout) left (also m.held.addr known) found.1)
-        ∙ (λ i. then_reads (ask s.layout (λ address. sym (same address) i) m)
-        (λ found. with_answer (λ more. (rows ++ found.0 ∷ []) ++ more) (ask_chain (ask s.layout) left (λ address. sym (same address) i) found.1)))) so
+        (with_before rows (ask s.layout (also m.held.addr known) m) (λ found. found.0)
+        (λ found. ask_chain (ask s.layout) left (also m.held.addr known) found.1)
+        ∙ (λ i. then_reads (ask s.layout (λ address. sym (same address) i) m) (λ found.
+        with_answer (λ more. (rows ++ found.0 ∷ []) ++ more)
+        (ask_chain (ask s.layout) left (λ address. sym (same address) i) found.1)))) so
 
     pub chain_next : (n : ℕ) (row : A) (next : Option Met) → Leaves told n t u
         → Walks told asked t u (Ok (row, next)) (ask t.layout now m)
@@ -83,6 +96,12 @@ module _ {A C F : Type 0} (told : C → Told) (asked : C → ℕ) (s : Opened C 
         goes_end told asked s t all_asked (Ok rows) (Ok (rows ++ [])) (ap Ok (sym (append-nil rows))) so
     chain_end (suc left) so =
         goes_end told asked s t all_asked (Ok rows) (Ok (rows ++ [])) (ap Ok (sym (append-nil rows))) so
+
+    -- no object is left
+    pub chain_none : (left : ℕ) (current : Option Met) → current ≡ None
+        → ChainGoes t rows left known current → Walks told asked s t (Ok rows) all_asked
+    chain_none left current is so =
+        chain_end left (subst (λ o. ChainGoes t rows left known o) is so)
 
     pub chain_cycle : (m : Met) → ChainGoes t rows zero known (Some m)
         → Walks told asked s t (Err (Cycle m.held.addr)) all_asked

@@ -36,6 +36,51 @@ use Rattle.omi_walk.specs.Gives.{Gives}
 use Rattle.omi_walk.specs.Objects.{IsMet, Stands, names_met}
 use Rattle.omi_walk.proofs.Names.{named_address, restored}
 
+-- ---- answers and looks
+
+-- an answer is the value that a look gives
+abbrev pub ValueIs : {A : Type 0} → Result A Rc → Look A → Type 0
+ValueIs {A} answer l = IsLook {A = A} {B = A} (λ x y. x ≡ y) answer l
+
+-- an equal answer is the same look
+pub value_by : {A : Type 0} (l : Look A) {a b : Result A Rc} → a ≡ b → ValueIs b l → ValueIs a l
+value_by {A} l same looked = subst (λ (r : Result A Rc). ValueIs r l) (sym same) looked
+
+pub look_by : {A B : Type 0} (R : A → B → Type 0) (l : Look B) {a b : Result A Rc} → a ≡ b
+    → IsLook R b l → IsLook R a l
+look_by {A} R l same looked = subst (λ (r : Result A Rc). IsLook R r l) (sym same) looked
+
+pub optional_by : (w : List ℕ) (l : Look (Option Id)) {a b : Result Held Rc} → a ≡ b
+    → IsOptional w b l → IsOptional w a l
+optional_by w l same looked =
+    subst (λ (r : Result Held Rc). IsOptional w r l) (sym same) looked
+
+-- a word of the record that stands at an address, the object to which it points, and one that there may be
+module _ (w : List ℕ) (memory : Words) where
+  pub word_there : (f : Field) (at : ℕ) {there address : ℕ} → there ≡ address
+      → ValueIs (answer_on memory (word_of w there f at)) (look_word w memory address f at)
+  word_there f at {there} is =
+      subst (λ a. ValueIs (answer_on memory (word_of w there f at)) (look_word w memory a f at)) is
+      (word_is_looked w memory there f at)
+
+  pub object_there : (target : Kind) (f : Field) (at : ℕ) {there address : ℕ} → there ≡ address
+      → IsLook (IsOf w) (answer_on memory (follow w target there f at))
+      (look_object w memory (record_kind target) address f at)
+  object_there target f at {there} is =
+      subst
+      (λ a. IsLook (IsOf w) (answer_on memory (follow w target there f at))
+      (look_object w memory (record_kind target) a f at)) is
+      (object_is_looked w memory target there f at)
+
+  pub optional_there : (target : Kind) (f : Field) {there address : ℕ} → there ≡ address
+      → IsOptional w (answer_on memory (follow_some w target there f))
+      (look_optional w memory (record_kind target) address f 0)
+  optional_there target f {there} is =
+      subst
+      (λ a. IsOptional w (answer_on memory (follow_some w target there f))
+      (look_optional w memory (record_kind target) a f 0)) is
+      (optional_is_looked w memory target there f)
+
 -- ---- faults
 
 -- a refusal that is a look's fault is that fault to a walk
@@ -97,38 +142,39 @@ module _ {C F : Type 0} (told : C → Told) (s : Opened C F) (kind : Kind) (pair
 
     -- an inquiry for a word of its record
     pub word_looked : (f : Field) (at : ℕ)
-        → IsLook {A = ℕ} {B = ℕ} (λ x y. x ≡ y)
-        (answer_on memory (then_reads (object_of s.layout kind (get s.handles.held pair)) (λ o. word_of s.layout o.addr f at)))
+        → ValueIs
+        (answer_on memory (then_reads (object_of s.layout kind (get s.handles.held pair))
+        (λ o. word_of s.layout o.addr f at)))
         (look_word s.layout memory (id_address s.layout (record_kind kind) n) f at)
     word_looked f at =
-        subst
-        (λ (a : Result ℕ Rc). IsLook {A = ℕ} {B = ℕ} (λ x y. x ≡ y) a (look_word s.layout memory (id_address s.layout (record_kind kind) n) f at))
-        (sym (after_object (λ o. word_of s.layout o.addr f at)))
-        (subst (λ a. IsLook {A = ℕ} {B = ℕ} (λ x y. x ≡ y) (answer_on memory (word_of s.layout st.object.addr f at)) (look_word s.layout memory a f at)) stands_at
-        (word_is_looked s.layout memory st.object.addr f at))
+        value_by (look_word s.layout memory (id_address s.layout (record_kind kind) n) f at)
+        (after_object (λ o. word_of s.layout o.addr f at))
+        (word_there s.layout memory f at stands_at)
 
     -- an inquiry for the object to which a word of its record points
     pub object_looked : (target : Kind) (f : Field) (at : ℕ)
         → IsLook (IsOf s.layout)
-        (answer_on memory (then_reads (object_of s.layout kind (get s.handles.held pair)) (λ o. follow s.layout target o.addr f at)))
-        (look_object s.layout memory (record_kind target) (id_address s.layout (record_kind kind) n) f at)
+        (answer_on memory (then_reads (object_of s.layout kind (get s.handles.held pair))
+        (λ o. follow s.layout target o.addr f at)))
+        (look_object s.layout memory (record_kind target)
+        (id_address s.layout (record_kind kind) n) f at)
     object_looked target f at =
-        subst
-        (λ (a : Result Held Rc). IsLook (IsOf s.layout) a (look_object s.layout memory (record_kind target) (id_address s.layout (record_kind kind) n) f at))
-        (sym (after_object (λ o. follow s.layout target o.addr f at)))
-        (subst (λ a. IsLook (IsOf s.layout) (answer_on memory (follow s.layout target st.object.addr f at)) (look_object s.layout memory (record_kind target) a f at)) stands_at
-        (object_is_looked s.layout memory target st.object.addr f at))
+        let address : ℕ = id_address s.layout (record_kind kind) n in
+        look_by (IsOf s.layout) (look_object s.layout memory (record_kind target) address f at)
+        (after_object (λ o. follow s.layout target o.addr f at))
+        (object_there s.layout memory target f at stands_at)
 
     pub optional_looked : (target : Kind) (f : Field)
         → IsOptional s.layout
-        (answer_on memory (then_reads (object_of s.layout kind (get s.handles.held pair)) (λ o. follow_some s.layout target o.addr f)))
-        (look_optional s.layout memory (record_kind target) (id_address s.layout (record_kind kind) n) f 0)
+        (answer_on memory (then_reads (object_of s.layout kind (get s.handles.held pair))
+        (λ o. follow_some s.layout target o.addr f)))
+        (look_optional s.layout memory (record_kind target)
+        (id_address s.layout (record_kind kind) n) f 0)
     optional_looked target f =
-        subst
-        (λ (a : Result Held Rc). IsOptional s.layout a (look_optional s.layout memory (record_kind target) (id_address s.layout (record_kind kind) n) f 0))
-        (sym (after_object (λ o. follow_some s.layout target o.addr f)))
-        (subst (λ a. IsOptional s.layout (answer_on memory (follow_some s.layout target st.object.addr f)) (look_optional s.layout memory (record_kind target) a f 0)) stands_at
-        (optional_is_looked s.layout memory target st.object.addr f))
+        let address : ℕ = id_address s.layout (record_kind kind) n in
+        optional_by s.layout (look_optional s.layout memory (record_kind target) address f 0)
+        (after_object (λ o. follow_some s.layout target o.addr f))
+        (optional_there s.layout memory target f stands_at)
 
 -- ---- what was found
 

@@ -20,5 +20,7 @@ invariant-loop g l = record {
   few : l.end ≤ 4096;
   current : IfSome l.current (IsMet g.C.Callbacks.told l.s Region);
   chain : All (IsMet g.C.Callbacks.told l.s Region) l.chain;
-  goes : ChainGoes g.C.Callbacks.told g.C.Callbacks.asked l.initial.s ask_enclosed (records l.initial.s.layout regions) (Some l.fn.first) l.s l.chain (l.end - l.counter) (contains nat_cmp l.met) l.current;
+  goes : ChainGoes g.C.Callbacks.told g.C.Callbacks.asked l.initial.s ask_enclosed
+      (records l.initial.s.layout regions) (Some l.fn.first) l.s l.chain (l.end - l.counter)
+      (contains nat_cmp l.met) l.current;
 }

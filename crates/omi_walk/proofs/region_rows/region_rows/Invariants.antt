@@ -20,6 +20,8 @@ invariant-loop-creator g l = record {
   bound : l.creator-end ≡ thread_count l.initial.s.layout;
   few : per_thread l.initial.s.layout regions ≤ 64;
   threads : thread_count l.initial.s.layout ≤ 64;
-  goes : EachGoes g.C.Callbacks.told g.C.Callbacks.asked l.initial.s (0, 0) (λ w k m. ask_region w m) (filter_map (met_in_slot l.index) (slot_list l.initial.s.layout regions)) l.s l.rows
-      (filter_map (met_in_slot l.index) (flat_map (own_slots l.initial.s.layout) (range_with_len l.creator (thread_count l.initial.s.layout - l.creator))));
+  goes : EachGoes g.C.Callbacks.told g.C.Callbacks.asked l.initial.s (0, 0) (λ w k m. ask_region w m)
+      (filter_map (met_in_slot l.index) (slot_list l.initial.s.layout regions)) l.s l.rows
+      (filter_map (met_in_slot l.index) (flat_map (own_slots l.initial.s.layout)
+      (range_with_len l.creator (thread_count l.initial.s.layout - l.creator))));
 }

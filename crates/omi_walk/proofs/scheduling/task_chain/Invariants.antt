@@ -22,5 +22,7 @@ invariant-loop g l = record {
   met : IfSome l.current (IsMet g.C.Callbacks.told l.s Task);
   added : List TaskRow;
   is : l.rows ≡ l.initial.rows ++ added;
-  goes : ChainGoes g.C.Callbacks.told g.C.Callbacks.asked l.initial.s (λ w. ask_chained w l.thread) (records l.initial.s.layout tasks) l.fn.first l.s added (l.end - l.counter) (contains nat_cmp l.met) l.current;
+  goes : ChainGoes g.C.Callbacks.told g.C.Callbacks.asked l.initial.s (λ w. ask_chained w l.thread)
+      (records l.initial.s.layout tasks) l.fn.first l.s added (l.end - l.counter)
+      (contains nat_cmp l.met) l.current;
 }

@@ -1,4 +1,5 @@
-use Rattle.std.proofs.Common.{◌≡◌, ◌+◌, ◌-◌, ◌||◌, ◌++◌, Bool, true, false, List, [], ◌∷◌, length, refl, sym, ap, ◌∙◌, subst, arith}
+-- A thread at work: each turn of its loop looks, may be told to stop, and makes a step.
+use Rattle.std.proofs.Common.{◌≡◌, ℕ, ◌+◌, ◌-◌, ◌||◌, ◌++◌, Bool, true, false, List, [], ◌∷◌, length, refl, sym, ap, ◌∙◌, subst, arith}
 use Rattle.std.proofs.lemmas.List.{append-nil}
 use Rattle.omi_core.specs.declared.stop.Break.{Break}
 use Rattle.std.specs.Prelude.{Option}
@@ -6,8 +7,10 @@ use Rattle.omi_live.specs.declared.known.Access.{Access}
 use Rattle.omi_live.specs.declared.known.Access.TheVariants as access
 use Rattle.omi_live.specs.Accesses.{with_looks}
 use Rattle.omi_live.specs.Plays.{looks}
+use Rattle.omi_live.specs.Work.{HasRoom}
+use Rattle.omi_live.specs.declared.known.Part.{Part}
 use Rattle.omi_seat.specs.Known.{steps_known}
-use Rattle.omi_live.specs.Stops.{ends_at, some_stop}
+use Rattle.omi_live.specs.Stops.{ends_at, some_stop, stops_at}
 use Rattle.omi_live.specs.declared.worker.Worker.{Worker}
 use Rattle.omi_live.proofs.Going.{behind_done, behind_goes, behind_stops, behind_told, less_room, stepped_on, IsWorking, looked_work, may_not_ended, may_went, not_begun, same_room}
 use Rattle.omi_seat.proofs.Learnt.{steps_found}
@@ -16,24 +19,29 @@ use Rattle.omi_live.proofs.worker.Worker.work.Goals as goal
 
 pub loop-step-init : goal.loop-step-init
 loop-step-init g c =
-    not_begun c.args.p.now c.args.l.now c.args.words.now.table_id c.args.on c.args.budget c.args.self.now c.requires.start c.requires.room
+    not_begun c.args.p.now c.args.l.now c.args.words.now.table_id c.args.on c.args.budget
+    c.args.self.now c.requires.start c.requires.room
 
 pub returns-then-is_told-clause-worked : goal.returns-then-is_told-clause-worked
 returns-then-is_told-clause-worked g c =
     let now = c.loop-step.invariant in
+    let raised : Bool = c.is_told.result in
     let looked = c.is_told.ensures.looked now.part now.work.knows in
     let below = c.loop-step-test.true in
-    let count : length (steps_known now.part.known) ≡ c.loop-step.step = steps_found now.part.known ∙ now.count in (
-      looks c.is_told.result now.part,
-      looked_work c.args.p.now c.args.l.now c.args.words.now.table_id now.part c.is_told.result c.loop-step.self c.is_told.new.self now.work looked c.is_told.ensures.same,
+    let count : length (steps_known now.part.known) ≡ c.loop-step.step =
+    steps_found now.part.known ∙ now.count in
+    let so_far : List Access = with_looks c.args.on (steps_known now.part.known) in (
+      looks raised now.part,
+      looked_work now.work looked c.is_told.ensures.same,
       record {
         reason = (may_not_ended c.args.on now.part now.goes, omega (arith, count, below));
         most = omega (arith, count, below);
         went_on = may_went c.args.on now.part now.goes;
-        stopped = λ is. ap (λ (b : Bool). now.part.told || b) c.if-is_told.true ∙ was now.part.told;
+        stopped = λ is.
+            ap (λ (b : Bool). now.part.told || b) c.if-is_told.true ∙ was now.part.told;
         did =
-            ap (λ (ys : List Access). ys ++ access.Look c.is_told.result ∷ []) now.did
-            ∙ ap (λ (b : Bool). with_looks c.args.on (steps_known now.part.known) ++ access.Look b ∷ []) c.if-is_told.true;
+            ap (λ (ys : List Access). ys ++ access.Look raised ∷ []) now.did
+            ∙ ap (λ (b : Bool). so_far ++ access.Look b ∷ []) c.if-is_told.true;
       },
     )
   where
@@ -44,67 +52,81 @@ returns-then-is_told-clause-worked g c =
 pub step-outcome-requires-clause-ready : goal.step-outcome-requires-clause-ready
 step-outcome-requires-clause-ready g c =
     let now = c.loop-step.invariant in
+    let then : Part = looks c.is_told.result now.part in
     let looked = c.is_told.ensures.looked now.part now.work.knows in
+    let same = c.is_told.ensures.same in
     let below = c.loop-step-test.true in
     let most = c.requires.budget in
-    let count = now.count in (
-      looks c.is_told.result now.part,
+    let count = now.count in
+    let left : ℕ = c.args.budget - c.loop-step.step in
+    let one : HasRoom 1 now.part c.loop-step.self =
+    less_room 1 left now.part c.loop-step.self (omega (arith, below)) now.room in (
+      then,
       record {
-        work = looked_work c.args.p.now c.args.l.now c.args.words.now.table_id now.part c.is_told.result c.loop-step.self c.is_told.new.self now.work looked c.is_told.ensures.same;
+        work = looked_work now.work looked same;
         able = looked.able;
         few = omega (arith, count, below, most);
-        room = same_room 1 now.part (looks c.is_told.result now.part) c.loop-step.self c.is_told.new.self refl c.is_told.ensures.same (less_room 1 (c.args.budget - c.loop-step.step) now.part c.loop-step.self (omega (arith, below)) now.room);
+        room = same_room 1 now.part then c.loop-step.self c.is_told.new.self refl same one;
       },
     )
 
 pub returns-then-ends_at-clause-worked : goal.returns-then-ends_at-clause-worked
 returns-then-ends_at-clause-worked g c =
     let now = c.loop-step.invariant in
-    let b = stepped_on c.args.p.now c.args.l.now c.args.words.now.table_id c.args.on c.args.budget c.loop-step.step c.args.self.now.thread c.loop-step.self c.is_told.new.self c.step-outcome.new.self c.is_told.result c.step-outcome.result
-    now (c.is_told.ensures.looked now.part now.work.knows) c.is_told.ensures.same c.if-is_told.false c.loop-step-test.true c.step-outcome.ensures.stepped c.step-outcome.ensures.thread in (
-      b.part,
-      b.work,
-      behind_done c.args.p.now c.args.l.now c.args.words.now.table_id c.args.on c.args.budget c.loop-step.step c.args.self.now.thread c.step-outcome.new.self c.step-outcome.result c.loop-step-test.true (sym c.ends_at.ensures ∙ c.if-ends_at.true) b,
-    )
+    let looked = c.is_told.ensures.looked now.part now.work.knows in
+    let below = c.loop-step-test.true in
+    let stepped = c.step-outcome.ensures in
+    let b = stepped_on now looked c.is_told.ensures.same c.if-is_told.false below stepped.stepped
+    stepped.thread in
+    let done : ends_at c.step-outcome.result ≡ true = sym c.ends_at.ensures ∙ c.if-ends_at.true in
+    (b.part, b.work, behind_done below done b)
 
 pub tell-requires-clause-seated : goal.tell-requires-clause-seated
 tell-requires-clause-seated g c =
     let now = c.loop-step.invariant in
-    let b = stepped_on c.args.p.now c.args.l.now c.args.words.now.table_id c.args.on c.args.budget c.loop-step.step c.args.self.now.thread c.loop-step.self c.is_told.new.self c.step-outcome.new.self c.is_told.result c.step-outcome.result
-    now
-    (c.is_told.ensures.looked now.part now.work.knows) c.is_told.ensures.same c.if-is_told.false c.loop-step-test.true c.step-outcome.ensures.stepped c.step-outcome.ensures.thread in
+    let looked = c.is_told.ensures.looked now.part now.work.knows in
+    let stepped = c.step-outcome.ensures in
+    let b = stepped_on now looked c.is_told.ensures.same c.if-is_told.false c.loop-step-test.true
+    stepped.stepped stepped.thread in
     b.work.table
 
 pub tell-requires-clause-stops : goal.tell-requires-clause-stops
 tell-requires-clause-stops g c =
     let now = c.loop-step.invariant in
-    let b = stepped_on c.args.p.now c.args.l.now c.args.words.now.table_id c.args.on c.args.budget c.loop-step.step c.args.self.now.thread c.loop-step.self c.is_told.new.self c.step-outcome.new.self c.is_told.result c.step-outcome.result
-    now (c.is_told.ensures.looked now.part now.work.knows) c.is_told.ensures.same c.if-is_told.false c.loop-step-test.true c.step-outcome.ensures.stepped c.step-outcome.ensures.thread in (
+    let looked = c.is_told.ensures.looked now.part now.work.knows in
+    let stepped = c.step-outcome.ensures in
+    let b = stepped_on now looked c.is_told.ensures.same c.if-is_told.false c.loop-step-test.true
+    stepped.stepped stepped.thread in
+    let stops : stops_at c.args.on c.step-outcome.result ≡ true =
+    sym c.stops_at.ensures ∙ c.if-stops_at.true in (
       b.part,
       b.work.knows,
       ap (λ (on : Option Break). some_stop on (steps_known b.part.known)) c.requires.table.stops
-          ∙ behind_stops c.args.p.now c.args.l.now c.args.words.now.table_id c.args.on c.args.budget c.loop-step.step c.args.self.now.thread c.step-outcome.new.self c.step-outcome.result (sym c.stops_at.ensures ∙ c.if-stops_at.true) b,
+          ∙ behind_stops stops b,
     )
 
 pub loop-step-preserved : goal.loop-step-preserved
 loop-step-preserved g c =
     let now = c.loop-step.invariant in
-    let b = stepped_on c.args.p.now c.args.l.now c.args.words.now.table_id c.args.on c.args.budget c.loop-step.step c.args.self.now.thread c.loop-step.self c.is_told.new.self c.step-outcome.new.self c.is_told.result c.step-outcome.result
-    now
-    (c.is_told.ensures.looked now.part now.work.knows) c.is_told.ensures.same c.if-is_told.false c.loop-step-test.true c.step-outcome.ensures.stepped c.step-outcome.ensures.thread in
-    let not_done : ends_at c.step-outcome.result ≡ false = sym c.ends_at.ensures ∙ c.if-ends_at.false in
+    let looked = c.is_told.ensures.looked now.part now.work.knows in
+    let stepped = c.step-outcome.ensures in
+    let b = stepped_on now looked c.is_told.ensures.same c.if-is_told.false c.loop-step-test.true
+    stepped.stepped stepped.thread in
+    let not_done : ends_at c.step-outcome.result ≡ false =
+    sym c.ends_at.ensures ∙ c.if-ends_at.false in
+    let Works : Worker → Type 0 =
+    IsWorking c.args.p.now c.args.l.now c.args.words.now.table_id c.args.on c.args.budget
+    (c.loop-step.step + 1) c.args.self.now.thread in
     elim c.if-stops_at.branch [
       | then-stops_at w ↦
-          subst
-          (λ (worker : Worker). IsWorking c.args.p.now c.args.l.now c.args.words.now.table_id c.args.on c.args.budget (c.loop-step.step + 1) c.args.self.now.thread worker)
-          (sym w.self-is)
-          (behind_told c.args.p.now c.args.l.now c.args.words.now.table_id c.args.on c.args.budget c.loop-step.step c.args.self.now.thread c.step-outcome.new.self w.tell.new.self c.step-outcome.result not_done (sym c.stops_at.ensures ∙ w.if-stops_at.true) b
-          (w.tell.ensures.told b.part b.work.knows) w.tell.ensures.same)
+          let stops : stops_at c.args.on c.step-outcome.result ≡ true =
+          sym c.stops_at.ensures ∙ w.if-stops_at.true in
+          subst Works (sym w.self-is)
+          (behind_told not_done stops b (w.tell.ensures.told b.part b.work.knows) w.tell.ensures.same)
       | else-stops_at w ↦
-          subst
-          (λ (worker : Worker). IsWorking c.args.p.now c.args.l.now c.args.words.now.table_id c.args.on c.args.budget (c.loop-step.step + 1) c.args.self.now.thread worker)
-          (sym w.self-is)
-          (behind_goes c.args.p.now c.args.l.now c.args.words.now.table_id c.args.on c.args.budget c.loop-step.step c.args.self.now.thread c.step-outcome.new.self c.step-outcome.result not_done (sym c.stops_at.ensures ∙ w.if-stops_at.false) b)
+          let goes : stops_at c.args.on c.step-outcome.result ≡ false =
+          sym c.stops_at.ensures ∙ w.if-stops_at.false in
+          subst Works (sym w.self-is) (behind_goes not_done goes b)
     ]
 
 pub returns-clause-worked : goal.returns-clause-worked
@@ -112,7 +134,8 @@ returns-clause-worked g c =
     let now = c.loop-step.invariant in
     let end = c.loop-step-test.false in
     let most = c.loop-step.auto.step-end in
-    let count : length (steps_known now.part.known) ≡ c.loop-step.step = steps_found now.part.known ∙ now.count in (
+    let count : length (steps_known now.part.known) ≡ c.loop-step.step =
+    steps_found now.part.known ∙ now.count in (
       now.part,
       now.work,
       record {
