@@ -1,13 +1,5 @@
-//! Tests of running threads: the run itself, and the top call over it.
+//! Tests of the top call over running threads: what it prints and leaves, and its refusals.
 #![tactic(auto)]
 
-#[cfg(test)]
-mod calls;
-#[cfg(test)]
-mod gates;
-#[cfg(test)]
-mod live_tests;
-#[cfg(test)]
-mod team_tests;
 #[cfg(test)]
 mod top_tests;

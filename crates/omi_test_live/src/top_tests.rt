@@ -1,8 +1,7 @@
 //! Runs of threads through the top call, and each of its refusals.
 
-use crate::calls::{Done, call, call_past, inspect};
-use crate::gates::{Leading, Meeting};
 use omi_outside::{Call, Status};
+use omi_test_gates::{Done, Leading, Meeting, call, call_past, inspect};
 use omi_test_rows::{A_FULL_ROW, A_TEAM_OF_TWO};
 use std::alloc::Global;
 use std::process::Abort;

@@ -1,24 +1,14 @@
-//! Tests of omi_top: whole runs of `stop`, `make`, `show` and `run` through the top call, and what a program does before and behind it.
+//! Tests of omi_top: whole runs of `stop`, `make` and `run` through the top call, and what a program does before and behind it.
 #![tactic(auto)]
 
-#[cfg(test)]
-mod counted;
-#[cfg(test)]
-mod layout_tests;
 #[cfg(test)]
 mod make_tests;
 #[cfg(test)]
 mod order_tests;
 #[cfg(test)]
-mod paged_tests;
-#[cfg(test)]
 mod program_tests;
 #[cfg(test)]
 mod run_tests;
-#[cfg(test)]
-mod show_tests;
-#[cfg(test)]
-mod size_tests;
 #[cfg(test)]
 mod tests;
 #[cfg(test)]

@@ -1,9 +1,8 @@
 //! What a program does before and behind its top call: the words that it is started with, and what it hands over at its end.
 
-use crate::show_tests::{core_of, with_word};
-use crate::tests::{EMPTY, words};
 use omi_outside::{Call, DiskFiles, MemFiles, MemSink, Status};
 use omi_test_base::stand_in::Unruly;
+use omi_test_calls::{EMPTY, core_of, with_word, words};
 use omi_top::run_top;
 use omi_verbs::{handed_over, words_of};
 use std::alloc::{AllocError, Global};

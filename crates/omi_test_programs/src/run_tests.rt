@@ -1,8 +1,7 @@
 //! Runs of `run` through the top call: what it prints of the core that it reads back, and what it leaves.
 
-use crate::show_tests::{core_of, with_word};
-use crate::tests::{EMPTY, call};
 use omi_outside::{Call, Status};
+use omi_test_calls::{EMPTY, call, core_of, with_word};
 use omi_test_rows::{A_TEAM_OF_TWO, FORKED};
 use std::alloc::{AllocError, Global};
 use std::process::Abort;

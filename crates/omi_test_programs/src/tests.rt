@@ -1,62 +1,10 @@
 //! Runs of `stop` through the top call: words of its cores, failing calls, and refusals whose line can or can't be put.
 
-use crate::show_tests::core_of;
-use omi_outside::{Call, MemFiles, MemSink, Status};
-use omi_top::run_top;
+use omi_outside::{Call, Status};
+use omi_test_calls::{CHANGED, EMPTY, call, core_of, run};
 use std::alloc::{AllocError, Global};
 use std::process::Abort;
 use std::test::Fail;
-
-/// An empty program, and one that changes two variables.
-pub const EMPTY: &str = "func main\nend\n";
-
-pub const CHANGED: &str =
-    "threads 1\nenv num_threads 4,2\nfunc main\nset_num_threads 3\nset_dynamic 1\nwork\nend\n";
-
-/// The words of a line.
-pub fn words(alloc: Global, line: &[&str]) -> Result<Vec<String>, AllocError> {
-    let mut words = Vec::new(alloc);
-    for word in line {
-        words.push(String::from_str(alloc, word)?)?;
-    }
-    Ok(words)
-}
-
-/// What a call made and left.
-#[derive(Drop)]
-pub struct Done {
-    pub status: Status,
-    pub dest: MemFiles,
-    pub out: MemSink,
-}
-
-/// What a line leaves over a script under `s` and these bytes under `c`, if any, where these calls of reading, writing and putting fail.
-pub fn call(
-    alloc: Global,
-    line: &[&str],
-    files: (&str, Option<&[u8]>),
-    reads: &[(Call, u64)],
-    writes: &[(Call, u64)],
-    puts: &[u64],
-) -> Result<Done, AllocError> {
-    let (script, core) = files;
-    let mut files = MemFiles::new(alloc, reads.to_vec(alloc)?);
-    files.put("s", script.as_bytes())?;
-    if let Some(core) = core {
-        files.put("c", core)?;
-    }
-    let mut dest = MemFiles::new(alloc, writes.to_vec(alloc)?);
-    dest.put("other", b"stays")?;
-    let mut out = MemSink::new(alloc, puts.to_vec(alloc)?);
-    let line = words(alloc, line)?;
-    let status = run_top(alloc, &line, &mut files, &mut dest, &mut out);
-    Ok(Done { status, dest, out })
-}
-
-/// What a line leaves over a script, with no call that fails.
-pub fn run(alloc: Global, line: &[&str], script: &str) -> Result<Done, AllocError> {
-    call(alloc, line, (script, None), &[], &[], &[])
-}
 
 /// The word at a place of the one segment of a core with one context.
 fn word_at(core: &[u8], place: usize) -> Option<u64> {

@@ -1,7 +1,7 @@
 //! Runs of `show` through the top call, and each of its refusals.
 
-use crate::tests::{CHANGED, EMPTY, run, words};
 use omi_outside::{Call, MemFiles, MemSink, Status};
+use omi_test_calls::{CHANGED, EMPTY, core_of, with_word, words};
 use omi_top::run_top;
 use std::alloc::{AllocError, Global};
 use std::process::Abort;
@@ -64,15 +64,6 @@ member 0 thread 0 task k0.0.0
 task k0.0.0 thread 0 kind implicit region r0.0.0 function 0x400000 generating none scheduling none exit 0x7f00000fffc0 enter 0x0 tool 0
 icv dyn-var=0 nthreads-var=1 run-sched-var=static,0 default-device-var=0 final-task-var=0 implicit-task-var=1
 ";
-
-/// The core that `stop` writes.
-pub fn core_of(alloc: Global, steps: &str, script: &str) -> Result<Vec<u8>, AllocError> {
-    let done = run(alloc, &["stop", steps, "s", "c"], script)?;
-    match done.dest.bytes("c") {
-        Some(bytes) => bytes.to_vec(alloc),
-        None => Ok(Vec::new(alloc)),
-    }
-}
 
 /// A line over a core, with a read that may fail, ends with this status and puts this text, and the core that may be written
 /// stays.
@@ -203,21 +194,6 @@ const HOSTILE: [(usize, u64, &str); 4] = [
     (315, 0x90_0000, "damaged 0x900000 task.generating\n"),
     (114, 0x109b8, "damaged 0x109b8 thread.cur\n"),
 ];
-
-/// The core with another word at a place.
-pub fn with_word(
-    alloc: Global,
-    core: &[u8],
-    place: usize,
-    word: u64,
-) -> Result<Vec<u8>, AllocError> {
-    let mut changed = core.to_vec(alloc)?;
-    let at = place.wrapping_mul(8).wrapping_add(40);
-    if at <= changed.len() && changed.len() - at >= 8 {
-        changed[at..at + 8].copy_from_slice(&word.to_le_bytes());
-    }
-    Ok(changed)
-}
 
 #[test]
 fn words_that_were_changed(rt: HostRuntime) -> Result<(), Fail> {

@@ -1,9 +1,8 @@
 //! How much of a core `show` reads, and each of its reads failing.
 
 use crate::counted::Counted;
-use crate::show_tests::core_of;
-use crate::tests::{EMPTY, call, run, words};
 use omi_outside::{Call, MemFiles, MemSink, Status};
+use omi_test_calls::{EMPTY, call, core_of, run, words};
 use omi_test_rows::A_TEAM_OF_TWO;
 use omi_top::run_top;
 use std::alloc::{AllocError, Global};

@@ -4,13 +4,13 @@
 ghost use Rattle.std.specs.Prelude.{◌<◌};
 
 use crate::show_tests::{FINISHED, expect};
-use crate::tests::CHANGED;
 use omi_core::{Core, Schedule, Stop};
 use omi_corefile::core_bytes_of;
 use omi_layout::Layout;
 use omi_outside::Status;
 use omi_rep::suits;
 use omi_script::{Program, parse};
+use omi_test_calls::CHANGED;
 use omi_word::Natives;
 use std::alloc::{AllocError, Global};
 use std::test::Fail;

@@ -1,8 +1,8 @@
 //! Runs of threads that form teams, cut anywhere and at each kind of break.
 
-use crate::calls::{call_past, inspect};
 use omi_live::StartGate;
 use omi_outside::Status;
+use omi_test_gates::{call_past, inspect};
 use omi_test_rows::A_TEAM_OF_TWO;
 use std::test::Fail;
 

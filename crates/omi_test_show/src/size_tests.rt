@@ -2,9 +2,9 @@
 
 ghost use Rattle.std.specs.Prelude.{◌≤◌};
 
-use crate::show_tests::{OPENING, core_of, expect};
-use crate::tests::EMPTY;
+use crate::show_tests::{OPENING, expect};
 use omi_outside::Status;
+use omi_test_calls::{EMPTY, core_of};
 use std::alloc::{AllocError, Global};
 use std::test::Fail;
 

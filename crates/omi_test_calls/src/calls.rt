@@ -1,0 +1,80 @@
+//! Lines of the top call over files in memory, and what they leave.
+
+use omi_outside::{Call, MemFiles, MemSink, Status};
+use omi_top::run_top;
+use std::alloc::{AllocError, Global};
+
+/// An empty program, and one that changes two variables.
+pub const EMPTY: &str = "func main\nend\n";
+
+pub const CHANGED: &str =
+    "threads 1\nenv num_threads 4,2\nfunc main\nset_num_threads 3\nset_dynamic 1\nwork\nend\n";
+
+/// The words of a line.
+pub fn words(alloc: Global, line: &[&str]) -> Result<Vec<String>, AllocError> {
+    let mut words = Vec::new(alloc);
+    for word in line {
+        words.push(String::from_str(alloc, word)?)?;
+    }
+    Ok(words)
+}
+
+/// What a call made and left.
+#[derive(Drop)]
+pub struct Done {
+    pub status: Status,
+    pub dest: MemFiles,
+    pub out: MemSink,
+}
+
+/// What a line leaves over a script under `s` and these bytes under `c`, if any, where these calls of reading, writing and putting fail.
+pub fn call(
+    alloc: Global,
+    line: &[&str],
+    files: (&str, Option<&[u8]>),
+    reads: &[(Call, u64)],
+    writes: &[(Call, u64)],
+    puts: &[u64],
+) -> Result<Done, AllocError> {
+    let (script, core) = files;
+    let mut files = MemFiles::new(alloc, reads.to_vec(alloc)?);
+    files.put("s", script.as_bytes())?;
+    if let Some(core) = core {
+        files.put("c", core)?;
+    }
+    let mut dest = MemFiles::new(alloc, writes.to_vec(alloc)?);
+    dest.put("other", b"stays")?;
+    let mut out = MemSink::new(alloc, puts.to_vec(alloc)?);
+    let line = words(alloc, line)?;
+    let status = run_top(alloc, &line, &mut files, &mut dest, &mut out);
+    Ok(Done { status, dest, out })
+}
+
+/// What a line leaves over a script, with no call that fails.
+pub fn run(alloc: Global, line: &[&str], script: &str) -> Result<Done, AllocError> {
+    call(alloc, line, (script, None), &[], &[], &[])
+}
+
+/// The core that `stop` writes.
+pub fn core_of(alloc: Global, steps: &str, script: &str) -> Result<Vec<u8>, AllocError> {
+    let done = run(alloc, &["stop", steps, "s", "c"], script)?;
+    match done.dest.bytes("c") {
+        Some(bytes) => bytes.to_vec(alloc),
+        None => Ok(Vec::new(alloc)),
+    }
+}
+
+/// The core with another word at a place.
+pub fn with_word(
+    alloc: Global,
+    core: &[u8],
+    place: usize,
+    word: u64,
+) -> Result<Vec<u8>, AllocError> {
+    let mut changed = core.to_vec(alloc)?;
+    let at = place.wrapping_mul(8).wrapping_add(40);
+    if at <= changed.len() && changed.len() - at >= 8 {
+        changed[at..at + 8].copy_from_slice(&word.to_le_bytes());
+    }
+    Ok(changed)
+}

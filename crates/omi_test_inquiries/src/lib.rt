@@ -1,0 +1,11 @@
+//! Tests of inquiries and walks over the words of stopped runs: what they answer.
+#![tactic(auto)]
+
+#[cfg(test)]
+mod answers;
+#[cfg(test)]
+mod forks;
+#[cfg(test)]
+mod variables;
+#[cfg(test)]
+mod walks;

@@ -1,0 +1,13 @@
+//! Tests of `show` through the top call: reports of cores in many layouts and sizes, how much of a core is read, and its refusals.
+#![tactic(auto)]
+
+#[cfg(test)]
+mod counted;
+#[cfg(test)]
+mod layout_tests;
+#[cfg(test)]
+mod paged_tests;
+#[cfg(test)]
+mod show_tests;
+#[cfg(test)]
+mod size_tests;
